@@ -5,7 +5,7 @@ import os
 from concurrent.futures import ProcessPoolExecutor
 from typing import Any
 
-from fontTools.pens.boundsPen import BoundsPen
+from fontTools.pens.boundsPen import ControlBoundsPen
 
 from fontjson.numbers import Row, batches, is_value, rising
 from fontjson.source import Source
@@ -17,6 +17,7 @@ BATCH = 500
 MANY_OUTLINES = 4000
 
 Box = tuple[int, int, int, int]
+EMPTY: Box = (0, 0, 0, 0)
 
 
 def units_per_em(source: Source) -> int:
@@ -113,25 +114,36 @@ def horizontal_rows(source: Source) -> list[Row]:
 
 
 def vertical_rows(source: Source) -> list[Row]:
-    return advance_rows(source, "vmtx")
+    """Advances downwards; without a table for them each is the line's height, without rows where that is an em."""
+    if source.has("vmtx"):
+        return advance_rows(source, "vmtx")
+    height = ascender(source) - descender(source)
+    if height == units_per_em(source):
+        return []
+    if not 0 <= height <= 0xFFFF:
+        source.notes.left_out("v: a height of the line past 16 bits")
+        return []
+    return [[glyph, height] for glyph in range(len(source.font.getGlyphOrder()))]
 
 
 def name_rows(source: Source) -> list[Row]:
-    """The names that the font itself gives its glyphs."""
+    """The names that the font itself gives its glyphs; an empty one is none."""
     font = source.font
     if source.has("CFF ") and not hasattr(font["CFF "].cff.topDictIndex[0], "ROS"):
-        return [[glyph, name] for glyph, name in enumerate(font.getGlyphOrder())]
-    if not source.has("post") or font["post"].formatType not in (1.0, 2.0):
+        given = {}
+    elif source.has("post") and font["post"].formatType in (1.0, 2.0):
+        given = getattr(font["post"], "mapping", {})
+    else:
         return []
-    given = getattr(font["post"], "mapping", {})
-    return [[glyph, given.get(name, name)] for glyph, name in enumerate(font.getGlyphOrder())]
+    named = [[glyph, given.get(name, name)] for glyph, name in enumerate(font.getGlyphOrder())]
+    return [row for row in named if row[1]]
 
 
 # ---- extents
 
 
 def boxes(source: Source) -> dict[int, Box]:
-    """Least and greatest coordinates of each glyph with an outline."""
+    """Left, lower, right and upper side of each glyph; those of a glyph without an outline are 0."""
     if source.has("glyf"):
         return glyf_boxes(source)
     if source.has("CFF ") or source.has("CFF2"):
@@ -141,41 +153,41 @@ def boxes(source: Source) -> dict[int, Box]:
 
 
 def glyf_boxes(source: Source) -> dict[int, Box]:
-    """The boxes that the headers of the outlines name."""
+    """The boxes that the headers of the outlines name, moved to the left side bearing, where glyphs are drawn."""
     table = source.font["glyf"]
+    bearings = source.font["hmtx"].metrics if source.has("hmtx") else {}
     names = source.font.getGlyphOrder()
     found = {}
     for number, name in enumerate(names):
         if number % BATCH == 0:
             source.progress.step("outlines", number, len(names))
         glyph = table[name]
-        if glyph.numberOfContours != 0:
-            found[number] = (glyph.xMin, glyph.yMin, glyph.xMax, glyph.yMax)
+        if glyph.numberOfContours == 0:
+            found[number] = EMPTY
+        else:
+            left = bearings[name][1] if name in bearings else glyph.xMin
+            found[number] = (left, glyph.yMin, left + glyph.xMax - glyph.xMin, glyph.yMax)
     return found
 
 
 def cff_boxes(source: Source) -> dict[int, Box]:
-    """The boxes of the curves, drawn by fontTools' bounds pen."""
+    """The boxes of the outlines' points, those off the curves among them, as HarfBuzz has them."""
     names = source.font.getGlyphOrder()
     if len(names) < MANY_OUTLINES:
-        return dict(enumerate_boxes(source, draw_boxes(source.font, names)))
-    found: list[Box | None] = []
+        return dict(enumerate(draw_boxes(source.font, names)))
+    found: list[Box] = []
     parts = [(source.path, source.index, part) for part in batches(names, BATCH)]
     with ProcessPoolExecutor(os.cpu_count()) as pool:
         for part in pool.map(draw_part, parts):
             found.extend(part)
             source.progress.step("outlines", len(found), len(names))
-    return dict(enumerate_boxes(source, found))
-
-
-def enumerate_boxes(source: Source, found: list[Box | None]) -> list[tuple[int, Box]]:
-    return [(glyph, box) for glyph, box in enumerate(found) if box is not None]
+    return dict(enumerate(found))
 
 
 _opened: dict[tuple[str, int], Any] = {}
 
 
-def draw_part(part: tuple[str, int, list[str]]) -> list[Box | None]:
+def draw_part(part: tuple[str, int, list[str]]) -> list[Box]:
     """Draws some glyphs in a process of its own, which opens the font once."""
     from fontTools.ttLib import TTFont
 
@@ -185,18 +197,23 @@ def draw_part(part: tuple[str, int, list[str]]) -> list[Box | None]:
     return draw_boxes(_opened[path, index], names)
 
 
-def draw_boxes(font: Any, names: list[str]) -> list[Box | None]:
+def draw_boxes(font: Any, names: list[str]) -> list[Box]:
     glyphs = font.getGlyphSet()
     return [draw_box(glyphs, name) for name in names]
 
 
-def draw_box(glyphs: Any, name: str) -> Box | None:
-    pen = BoundsPen(glyphs)
+def draw_box(glyphs: Any, name: str) -> Box:
+    pen = ControlBoundsPen(glyphs)
     glyphs[name].draw(pen)
     if pen.bounds is None:
-        return None
-    left, bottom, right, top = pen.bounds
-    return math.floor(left), math.floor(bottom), math.ceil(right), math.ceil(top)
+        return EMPTY
+    left, bottom, right, top = map(nearest, pen.bounds)
+    return left, bottom, right, top
+
+
+def nearest(number: float) -> int:
+    """The nearest whole number, of two the one farther from 0."""
+    return int(math.copysign(math.floor(abs(number) + 0.5), number))
 
 
 def extent_rows(source: Source, found: dict[int, Box]) -> list[Row]:

@@ -1,37 +1,51 @@
-"""Values made once for a font file, beside it or in the user's cache folder."""
+"""Values made once for a font file, in the user's cache folder."""
 
+import contextlib
 import hashlib
 import json
 import os
 import tempfile
 from pathlib import Path
-from typing import Any, Callable
+from typing import Any, Callable, Iterator
 
 from common.writing import write_object
 
 TOOLS = Path(__file__).parent.parent
 SOURCES = ("common", "fontjson", "unicodejson", "syllables", "machines")
-ENDING = ".kuspveli.json"
-STAMP = "cache"
-# Others may read a kept value, as they may read the font.
-READABLE = 0o644
+ENDING = ".json"
+# The first key and the last one of a kept value: a file that was cut has not both.
+STAMP, END = "cache", "end"
 
 
-def user_folder() -> Path:
-    """The user's cache folder for this project, made where it is missing."""
-    base = os.environ.get("XDG_CACHE_HOME") or str(Path.home() / ".cache")
+@contextlib.contextmanager
+def cache_folder() -> Iterator[Path]:
+    """The folder where values are kept: the user's, or one for this run alone where that can't be written."""
+    kept = user_folder()
+    if kept is not None:
+        yield kept
+        return
+    with tempfile.TemporaryDirectory() as folder:
+        yield Path(folder)
+
+
+def user_folder() -> Path | None:
+    """The user's cache folder for this project, made where it is missing; None where it can't be."""
+    base = os.environ.get("XDG_CACHE_HOME") or os.path.expanduser("~/.cache")
+    if not os.path.isabs(base):
+        return None
     folder = Path(base) / "kuspveli"
-    folder.mkdir(parents=True, exist_ok=True)
-    return folder
+    try:
+        folder.mkdir(parents=True, exist_ok=True)
+        with tempfile.TemporaryFile(dir=folder):
+            return folder
+    except OSError:
+        return None
 
 
-def font_cache(font: Path, index: int) -> Path:
-    """Where a font's value is kept: beside the font, or where its folder can't be written in the cache folder."""
-    name = f"{font.name}.{index}{ENDING}"
-    if os.access(font.parent, os.W_OK):
-        return font.parent / name
+def font_name(font: Path, index: int) -> str:
+    """The name under which a font's value is kept: that of its file, with a sum of where it is."""
     where = hashlib.sha256(os.fsencode(font.resolve())).hexdigest()[:16]
-    return user_folder() / f"{where}-{name}"
+    return f"{where}-{font.name}.{index}{ENDING}"
 
 
 def fingerprint(*parts: object) -> str:
@@ -45,29 +59,40 @@ def fingerprint(*parts: object) -> str:
 
 
 def cached(path: Path, stamp: str, make: Callable[[], dict[str, Any]]) -> Path:
-    """The file with the value of that stamp, made where it is not there or has another stamp."""
+    """The file with the value of that stamp, made where it is not there, has another stamp, or was cut."""
     if not has_stamp(path, stamp):
-        write_whole(path, {STAMP: stamp, **make()})
+        write_whole(path, {STAMP: stamp, **make(), END: stamp})
     return path
 
 
 def has_stamp(path: Path, stamp: str) -> bool:
+    first, last = f"{{\n{json.dumps(STAMP)}:{json.dumps(stamp)}", f"{json.dumps(END)}:{json.dumps(stamp)}\n}}\n"
     try:
-        with open(path, encoding="utf-8") as file:
-            head = file.readline() + file.readline()
-    except (OSError, UnicodeDecodeError):
+        with open(path, "rb") as file:
+            head = file.read(len(first))
+            file.seek(-len(last), os.SEEK_END)
+            return head == first.encode() and file.read() == last.encode()
+    except OSError:
         return False
-    return head.startswith(f"{{\n{json.dumps(STAMP)}:{json.dumps(stamp)}")
 
 
 def write_whole(path: Path, value: dict[str, Any]) -> None:
-    """Writes a file under another name first, so that no half of it is ever read."""
+    """Writes a file under another name first, so that no half of it is ever read, whoever else writes it."""
     with tempfile.NamedTemporaryFile("w", dir=path.parent, suffix=ENDING, delete=False, encoding="utf-8") as file:
         try:
             write_object(value, file)
             file.close()
-            os.chmod(file.name, READABLE)
             os.replace(file.name, path)
         except BaseException:
             os.unlink(file.name)
             raise
+
+
+def part_of(path: Path, key: str, usual: Any) -> Any:
+    """One key of a value that was written with a key on each line; what is usual where it has none."""
+    start = f"{json.dumps(key)}:"
+    with open(path, encoding="utf-8") as file:
+        for line in file:
+            if line.startswith(start):
+                return json.loads(line.removeprefix(start).rstrip().rstrip(","))
+    return usual

@@ -1,90 +1,140 @@
 """The command line of shape."""
 
-import os
-import subprocess
+import json
 import sys
-import tempfile
 from pathlib import Path
 from typing import Any
 
-from common.faults import TEXT, WORDS, ToolFault
+from common.faults import DATA, WORDS, ToolFault, one_line
 from common.notes import Notes, Progress
 from fontjson.cli import read_font
 from fontjson.keep import Kept
-from shaping.cache import cached, fingerprint, font_cache, user_folder
+from shaping.cache import cache_folder, cached, fingerprint, font_name, part_of
+from shaping.glyphs import as_json, read_line
+from shaping.options import NAME, Given, read_words, usage
+from shaping.program import PROGRAM, Line, make_ready, run_all, told
+from shaping.texts import lack_notes, read_texts
 from unicodejson.cli import DEBIAN, MAKERS, make_tables
-
-NAME = "shape"
-PROGRAM = Path(__file__).parent.parent / "hb_shape"
-USAGE = """usage: shape FONT TEXT [--index N] [options of hb_shape]
-
-Shapes a text in a font file (.ttf, .otf, or a collection with an index), and prints the glyphs as hb_shape does. The
-program is built first where it is not built yet. The font is converted by font_to_json once and kept beside the font,
-as FONT.N.kuspveli.json, or in ~/.cache/kuspveli where that folder can't be written. Needs fontTools: Debian's
-python3-fonttools, under /usr/bin/python3. Marks, splits and mirror images are known where Debian's unicode-data is there."""
 
 # What is made of a font and, where Debian's unicode-data is there, of the Unicode Character Database.
 FONT_READ = Kept()
 TABLES_READ = list(MAKERS) if DEBIAN.is_dir() else []
+JSON_FONT = ".json"
+NUMBERS = "--no-glyph-names"
 
 
 def main(words: list[str]) -> int:
-    """Shapes; its status is the program's."""
-    if words and words[0] in ("-h", "--help"):
-        print(USAGE)
+    """Shapes; its status is the program's, of several texts that of the first fault."""
+    if "-h" in words or "--help" in words:
+        print(usage())
         return 0
-    if len(words) < 2 or words[0].startswith("-"):
-        raise ToolFault(WORDS, "FONT and TEXT come first: shape FONT TEXT [--index N] [options of hb_shape]")
-    text = checked_text(words[1])
-    index, options = take_index(words[2:])
-    font = font_file(Path(words[0]), index)
-    return run_program(tables_file(), font, text, options)
+    given = read_words(words)
+    if "svg" in given.own and is_json(given.font):
+        raise ToolFault(WORDS, f"--svg: {given.font} has no outlines: a picture is drawn from a font file")
+    texts = read_texts(given)
+    with cache_folder() as folder:
+        font = font_file(folder, given)
+        make_ready(PROGRAM)
+        tables = tables_file(folder)
+        characters = {row[0] for row in key_of(font, "cmap", [])}
+        for text in texts:
+            for note in lack_notes(text, characters):
+                tell(note)
+        options = [*given.program, NUMBERS] if needs_numbers(given) and NUMBERS not in given.program else given.program
+        lines = run_all(PROGRAM, tables, font, texts, options)
+        if any(line.status == DATA for line in lines) and heal(folder, given, tables, font):
+            lines = run_all(PROGRAM, tables, font, texts, options)
+        return show(lines, given, tables, font)
 
 
-def checked_text(text: str) -> bytes:
-    """The bytes of the text as they were given, which have to be UTF-8."""
-    given = os.fsencode(text)
-    try:
-        given.decode("utf-8")
-    except UnicodeDecodeError as error:
-        raise ToolFault(TEXT, f"the text is no UTF-8 at byte {error.start}") from error
-    return given
-
-
-def take_index(words: list[str]) -> tuple[int, list[str]]:
-    """The index of a font in a collection, 0 where none is told, and the words without it."""
-    index, others = "0", []
-    rest = iter(words)
-    for word in rest:
-        if word == "--index":
-            index = next(rest, "")
-        elif word.startswith("--index="):
-            index = word.removeprefix("--index=")
+def show(lines: list[Line], given: Given, tables: Path, font: Path) -> int:
+    """Prints each text's line, or its fault; the status of the first fault, else 0."""
+    names = dict(key_of(font, "names", [])) if "json" in given.own else {}
+    status = 0
+    for line in lines:
+        if line.status:
+            status = status or line.status
+            tell(told(line, tables, font))
+        elif "json" in given.own:
+            print(as_json(read_line(line.glyphs), names, given), flush=True)
+        elif "svg" in given.own and NUMBERS not in given.program:
+            print(with_names(line.glyphs, font), end="", flush=True)
         else:
-            others.append(word)
-    if not (index.isascii() and index.isdigit()):
-        raise ToolFault(WORDS, f"--index: no number: {index!r}")
-    return int(index), others
+            print(line.glyphs, end="", flush=True)
+    if "svg" in given.own:
+        draw(lines, given)
+    return status
 
 
-def font_file(path: Path, index: int) -> Path:
-    """The font's value as a file."""
+def draw(lines: list[Line], given: Given) -> None:
+    from shaping.picture import picture  # it needs fontTools
+
+    drawn = [(line.text.characters, read_line(line.glyphs)) for line in lines if not line.status]
+    Path(given.own["svg"]).write_text(picture(given.font, font_index(given), drawn), encoding="utf-8")
+
+
+def with_names(line: str, font: Path) -> str:
+    """A line of glyph numbers with the font's names in their place."""
+    names = dict(key_of(font, "names", []))
+    parts = []
+    for part in line.rstrip("\n").split("|") if line.strip() else []:
+        number = part[: len(part) - len(part.lstrip("0123456789"))]
+        parts.append(names.get(int(number), f"gid{number}") + part[len(number) :])
+    return "|".join(parts) + "\n"
+
+
+def tell(note: str) -> None:
+    print(f"{NAME}: {one_line(note)}", file=sys.stderr)
+
+
+def needs_numbers(given: Given) -> bool:
+    """Whether glyphs are read by their numbers: names may have any character."""
+    return "json" in given.own or "svg" in given.own
+
+
+def is_json(font: Path) -> bool:
+    return font.suffix == JSON_FONT
+
+
+def font_index(given: Given) -> int:
+    return int(given.own.get("font-index", "0"))
+
+
+def font_file(folder: Path, given: Given) -> Path:
+    """The font's value as a file: the file itself where it is one."""
+    if is_json(given.font):
+        given.font.stat()
+        return given.font
+    path, index = given.font, font_index(given)
     status = path.stat()
     stamp = fingerprint(str(path.resolve()), status.st_size, status.st_mtime_ns, index, FONT_READ)
-    return cached(font_cache(path, index), stamp, lambda: convert(path, index))
+    return cached(folder / font_name(path, index), stamp, lambda: convert(path, index))
 
 
 def convert(path: Path, index: int) -> dict[str, Any]:
     notes = Notes()
     value = read_font(str(path), index, FONT_READ, notes)
     for line in notes.lines():
-        print(f"{NAME}: {path}: {line}", file=sys.stderr)
+        tell(f"{path}: {line}")
     return value
 
 
-def tables_file() -> Path:
+def key_of(font: Path, key: str, usual: Any) -> Any:
+    """A key of a font's file; what is usual where the file, which the program refuses, has none of that shape."""
+    try:
+        if is_json(font):
+            value = json.loads(font.read_bytes())
+            found = value.get(key, usual)
+        else:
+            found = part_of(font, key, usual)
+        return found if all(isinstance(row, list) and len(row) >= 2 for row in found) else usual
+    except (AttributeError, TypeError, ValueError):
+        return usual
+
+
+def tables_file(folder: Path) -> Path:
     """The tables as a file."""
-    return cached(user_folder() / "tables.json", fingerprint(TABLES_READ), make_read_tables)
+    return cached(folder / "tables.json", fingerprint(TABLES_READ), make_read_tables)
 
 
 def make_read_tables() -> dict[str, Any]:
@@ -95,9 +145,20 @@ def make_read_tables() -> dict[str, Any]:
         progress.end()
 
 
-def run_program(tables: Path, font: Path, text: bytes, options: list[str]) -> int:
-    """Runs hb_shape on the files. It drops one line feed at the text's end, so it is given one more."""
-    with tempfile.NamedTemporaryFile() as file:
-        file.write(text + b"\n")
-        file.flush()
-        return subprocess.run([PROGRAM, *options, tables, font, file.name], check=False).returncode
+def heal(folder: Path, given: Given, tables: Path, font: Path) -> bool:
+    """Makes kept files anew that are no JSON, as by a fault of the disk; whether there were such."""
+    broken = [path for path in (tables, font) if path.parent == folder and not is_value(path)]
+    for path in broken:
+        path.unlink(missing_ok=True)
+    if broken:
+        tables_file(folder)
+        font_file(folder, given)
+    return bool(broken)
+
+
+def is_value(path: Path) -> bool:
+    try:
+        json.loads(path.read_bytes())
+    except (OSError, ValueError):
+        return False
+    return True

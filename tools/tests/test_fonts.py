@@ -1,14 +1,18 @@
 """Fonts of Debian's packages: valid by the format's rules, and the rows say again what fontTools says."""
 
 import itertools
+import json
 import random
+import shutil
+import subprocess
+import unicodedata
 import unittest
 from typing import Any, Callable
 
 from support import DEJAVU, DEVANAGARI, FONTS, NASKH, json_of
 
 from fontTools.ttLib import TTFont
-from format_rules import font_faults
+from formats.rules import font_faults
 
 
 def subtables(font: TTFont, tag: str) -> list[list[Any]]:
@@ -44,12 +48,31 @@ class Converted(unittest.TestCase):
             self.assertEqual([name for _, name in value["names"]], font.getGlyphOrder())
 
     def test_extents(self) -> None:
+        """Each glyph has the box of its outline, moved to its left side bearing; zeros where it has no outline."""
         for font, value in self.each():
-            self.assertEqual({g for g, *_ in value["extents"]}, outlined(font))
+            self.assertEqual([g for g, *_ in value["extents"]], list(range(len(font.getGlyphOrder()))))
+            drawn = outlined(font)
             for glyph, left, top, width, height in value["extents"]:
-                outline = font["glyf"][font.getGlyphName(glyph)]
-                self.assertEqual((left, top + height), (outline.xMin, outline.yMin))
-                self.assertEqual((left + width, top), (outline.xMax, outline.yMax))
+                name = font.getGlyphName(glyph)
+                outline = font["glyf"][name]
+                if glyph in drawn:
+                    self.assertEqual((left, top + height), (font["hmtx"][name][1], outline.yMin))
+                    self.assertEqual((width, top), (outline.xMax - outline.xMin, outline.yMax))
+                else:
+                    self.assertEqual((left, top, width, height), (0, 0, 0, 0))
+
+    @unittest.skipUnless(shutil.which("hb-shape"), "needs hb-shape (libharfbuzz-bin)")
+    def test_lines_downwards(self) -> None:
+        """Boxes, advances downwards and origins are those that hb-shape prints for single letters."""
+        for path, (_, value) in self.fonts.items():
+            boxes = {glyph: box for glyph, *box in value["extents"]}
+            heights, origins = dict(value["v"]), dict(value["origins"])
+            letters = [c for c, _ in value["cmap"] if unicodedata.category(chr(c)) in ("Lu", "Ll", "Lo", "Zs")][:200]
+            for glyph in printed(path, letters):
+                number = glyph["g"]
+                self.assertEqual([glyph[key] for key in ("xb", "yb", "w", "h")], boxes[number], (path, glyph))
+                origin = origins.get(number, value["ascender"])
+                self.assertEqual((-glyph["ay"], -glyph["dy"]), (heights[number], origin))
 
     def test_substitutions(self) -> None:
         """Plain substitutions hold the same mappings; contexts as many rules, inputs and records."""
@@ -114,6 +137,15 @@ class Converted(unittest.TestCase):
         self.assertIn("rphf", [tag for tag, _ in devanagari["gsub"]["features"]])
         self.assertEqual([tag for tag, *_ in devanagari["gsub"]["scripts"]], ["dev2", "deva"])
         self.assertEqual(dejavu["source"]["left_out"]["table kern"], 1)
+
+
+def printed(path: str, letters: list[int]) -> list[dict[str, int]]:
+    """The glyphs that hb-shape prints of letters on lines of their own, from top to bottom, where each is one glyph."""
+    words = ["--output-format=json", "--no-glyph-names", "--show-extents", "--direction=ttb", "--features=-vert"]
+    text = "".join(f"{chr(letter)}\n" for letter in letters)
+    ran = subprocess.run(["hb-shape", *words, path], input=text, capture_output=True, text=True, check=True)
+    lines = [json.loads(line) for line in ran.stdout.splitlines()]
+    return [line[0] for line in lines if len(line) == 1]
 
 
 def outlined(font: TTFont) -> set[int]:

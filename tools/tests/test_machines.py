@@ -15,6 +15,7 @@ from support import NOTO, TOOLS, json_of
 from fontTools.ttLib import TTFont
 from syllables.grammar import Category, Choice, Expression, GrammarFault, Repeat, read_grammar
 from syllables.machine import Machine, compile_grammar, syllables_of
+from unicodejson.lawful import Tables
 from unicodejson.lists import KINDS
 
 CIRCLE = 0x25CC
@@ -88,9 +89,9 @@ class Words(unittest.TestCase):
 
     @classmethod
     def setUpClass(cls) -> None:
-        tables = json_of("unicode_to_json", "--only", "indic,universal")
-        cls.indic = {row[0]: row[1] for row in tables["indic"]}
-        cls.universal = {row[0]: row[1] for row in tables["universal"]}
+        cls.tables = json_of("unicode_to_json", "--only", "splits,classes,indic,universal")
+        cls.indic = {row[0]: row[1] for row in cls.tables["indic"]}
+        cls.universal = {row[0]: row[1] for row in cls.tables["universal"]}
 
     def categories(self, shaper: str, text: str) -> list[str]:
         if shaper == "universal":
@@ -131,6 +132,28 @@ class Words(unittest.TestCase):
                 self.assertEqual(syllables(shaper, self.categories(shaper, text)), expected)
 
     @unittest.skipUnless(shutil.which("hb-shape"), "needs hb-shape (libharfbuzz-bin)")
+    def test_circles_of_ordered_marks(self) -> None:
+        """The same in scripts whose marks are put in the order of their classes, or spelled otherwise than drawn."""
+        cases = [
+            ("Sans", "NKo", "nkoo", "rtl", [*range(0x7CA, 0x7F4), 0x7FD]),
+            ("Sans", "Limbu", "limb", "ltr", [*range(0x1901, 0x191F), *range(0x1920, 0x192C), *range(0x1930, 0x193C)]),
+            ("Sans", "Chakma", "cakm", "ltr", [*range(0x11107, 0x11135), 0x11100, 0x11101, 0x11102]),
+            ("Sans", "Cham", "cham", "ltr", [*range(0xAA06, 0xAA37), *range(0xAA40, 0xAA4E)]),
+            ("Serif", "Tibetan", "tibt", "ltr", [*range(0xF40, 0xF43), *range(0xF71, 0xF85), *range(0xF90, 0xF93)]),
+            ("Sans", "Buginese", "bugi", "ltr", [*range(0x1A00, 0x1A1C)]),
+        ]
+        order = Tables(self.tables)
+        for family, name, script, direction, characters in cases:
+            path = f"{NOTO}Noto{family}{name}-Regular.ttf"
+            draw = random.Random(script)
+            texts = ["".join(chr(draw.choice(characters)) for _ in range(draw.randint(1, 4))) for _ in range(500)]
+            for text, circles in zip(texts, circles_of(path, script, texts, direction), strict=True):
+                split = order.order([piece for character in text for piece in order.expansion(ord(character))])
+                categories = self.categories("universal", "".join(map(chr, split)))
+                broken = sum(kind == "broken" for _, kind in syllables("universal", categories))
+                self.assertEqual(circles, broken, (script, [hex(ord(c)) for c in text]))
+
+    @unittest.skipUnless(shutil.which("hb-shape"), "needs hb-shape (libharfbuzz-bin)")
     def test_circles(self) -> None:
         """HarfBuzz puts a dotted circle into each broken syllable; so as many circles as broken syllables."""
         # Without independent vowels, before whose signs it puts circles of another kind.
@@ -157,12 +180,12 @@ def normalized(text: str) -> str:
     return unicodedata.normalize("NFD", split)
 
 
-def circles_of(path: str, script: str, texts: list[str]) -> list[int]:
+def circles_of(path: str, script: str, texts: list[str], direction: str = "ltr") -> list[int]:
     font = TTFont(path)
     glyph = str(font.getGlyphID(font.getBestCmap()[CIRCLE]))
     words = ["--no-glyph-names", "--no-positions", "--no-clusters", f"--script={script}", "--language=und"]
     lines = "\n".join(texts) + "\n"
-    command = ["hb-shape", *words, "--direction=ltr", path]
+    command = ["hb-shape", *words, f"--direction={direction}", path]
     result = subprocess.run(command, input=lines, capture_output=True, text=True, check=True)
     return [line.strip("[]").split("|").count(glyph) for line in result.stdout.splitlines()]
 

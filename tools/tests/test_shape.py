@@ -1,4 +1,4 @@
-"""From a font file to a line: what the program is given, the cache, and where it is built its line beside HarfBuzz's."""
+"""From a font file to a line: words, what the program is given, the cache, faults, and where it is built its lines."""
 
 import contextlib
 import io
@@ -7,28 +7,42 @@ import os
 import shutil
 import subprocess
 import tempfile
+import threading
 import unittest
+import xml.etree.ElementTree as tree
 from pathlib import Path
 from unittest import mock
 
-from support import DEJAVU, TOOLS, run
+from support import DEJAVU, NASKH, TOOLS, run
 
 from common.faults import ToolFault
-from format_rules import font_faults
+from formats.rules import font_faults
+from formats.where import font_fault, tables_fault
 from shaping import cli
+from shaping.glyphs import Glyph, as_json, read_line
+from shaping.options import OPTIONS, Given, read_words, usage
+from shaping.picture import clusters_of, picture, placed
+from shaping.program import is_old, make_ready
+from shaping.texts import Text, lack_notes, lacking
 
 PROGRAM = TOOLS.parent / "crates" / "hb_shape" / "out" / "hb_shape"
-# Writes down its words, keeps the text, and ends with a status of its own.
+# Writes down its words, keeps the text, and ends with a status and a fault of its own for texts that begin with 3 or 5.
 STAND_IN = """#!/bin/sh
-printf '%s\\n' "$@" > "$SHAPE_TEST/words"
 for text; do :; done
-cat "$text" > "$SHAPE_TEST/text"
-exit 5
+name=$(tr -d '\\n' < "$text")
+printf '%s\\n' "$@" > "$SHAPE_TEST/words"
+cp "$text" "$SHAPE_TEST/text"
+case "$name" in
+    3*) echo "hb_shape: U1 OutOfOrder" >&2; exit 3;;
+    5*) echo "hb_shape: S2 TooLong" >&2; exit 5;;
+esac
+echo "82=0+1253|5044=1@-3,4+1980,7#1<1,2,3,-4>"
 """
+LINE = "82=0+1253|5044=1@-3,4+1980,7#1<1,2,3,-4>\n"
 
 
-class Given(unittest.TestCase):
-    """What a stand-in for the program is given."""
+class Commands(unittest.TestCase):
+    """What a stand-in for the program is given, and what is made of what it prints."""
 
     def setUp(self) -> None:
         folder = tempfile.TemporaryDirectory()
@@ -37,59 +51,253 @@ class Given(unittest.TestCase):
         stand_in = self.folder / "hb_shape"
         stand_in.write_text(STAND_IN)
         stand_in.chmod(0o755)
-        self.font = self.folder / "font.ttf"
+        self.font = self.folder / "fonts" / "font.ttf"
+        self.font.parent.mkdir()
         shutil.copy(DEJAVU, self.font)
+        self.cache = self.folder / "cache" / "kuspveli"
         places = {"SHAPE_TEST": folder.name, "XDG_CACHE_HOME": str(self.folder / "cache")}
-        for patch in (mock.patch.object(cli, "PROGRAM", stand_in), mock.patch.dict(os.environ, places)):
+        patches = [mock.patch.object(cli, "PROGRAM", stand_in), mock.patch.object(cli, "TABLES_READ", ["thai"])]
+        for patch in (*patches, mock.patch.dict(os.environ, places)):
             patch.start()
             self.addCleanup(patch.stop)
 
-    def shape(self, *words: str) -> list[str]:
-        """The words that the program gets."""
-        with contextlib.redirect_stderr(io.StringIO()):
-            self.assertEqual(cli.main([str(self.font), *words]), 5)
+    def shape(self, *words: str) -> tuple[int, str, str]:
+        """The status, what is printed, and what is told."""
+        with contextlib.redirect_stderr(io.StringIO()) as told, contextlib.redirect_stdout(io.StringIO()) as shown:
+            status = cli.main([str(self.font), *words])
+        return status, shown.getvalue(), told.getvalue()
+
+    def words(self) -> list[str]:
+        """The words that the program got last."""
         return (self.folder / "words").read_text().splitlines()
 
+    def kept(self) -> Path:
+        [font] = self.cache.glob("*-font.ttf.0.json")
+        return font
+
     def test_words(self) -> None:
-        words = self.shape("-x\n", "--direction=r", "--index=0", "--features", "-liga")
-        cache = self.folder / "font.ttf.0.kuspveli.json"
-        self.assertEqual(words[:3], ["--direction=r", "--features", "-liga"])
-        self.assertEqual(words[3:5], [str(self.folder / "cache/kuspveli/tables.json"), str(cache)])
+        status, shown, _ = self.shape("-x\n", "--direction=r", "--index=0", "--features", "-liga", "--features=kern")
+        self.assertEqual((status, shown), (0, LINE))
+        self.assertEqual(self.words()[:3], ["--direction=r", "--features=-liga", "--features=kern"])
+        self.assertEqual(self.words()[3:5], [str(self.cache / "tables.json"), str(self.kept())])
         self.assertEqual((self.folder / "text").read_bytes(), b"-x\n\n")
+        self.shape("--language", "ur_PK.UTF-8", "--text=--bot")
+        self.assertEqual(self.words()[0], "--language=ur-PK")
+        self.assertEqual((self.folder / "text").read_bytes(), b"--bot\n")
 
     def test_font(self) -> None:
-        """The font is valid, and has the keys of the format, in their order."""
-        value = json.loads(Path(self.shape("a")[-2]).read_text())
+        """The font is valid, and has the keys of the format, in their order; nothing is written beside it."""
+        self.shape("a")
+        value = json.loads(self.kept().read_text())
         self.assertEqual(list(font_faults(value)), [])
-        self.assertEqual(list(value), ["cache", "source", *(key for key in cli.FONT_READ.keys if key in value)])
+        keys = [key for key in cli.FONT_READ.keys if key in value]
+        self.assertEqual(list(value), ["cache", "source", *keys, "end"])
         self.assertLessEqual({"cmap", "h", "gdef", "gsub", "gpos"}, set(value))
+        self.assertEqual(os.listdir(self.font.parent), ["font.ttf"])
+
+    def test_texts(self) -> None:
+        """Each line of a file is a text; a fault tells its line, and the others are shaped."""
+        texts = self.folder / "texts"
+        texts.write_bytes("a\n\n5long\nü".encode())
+        status, shown, told = self.shape(f"--text-file={texts}")
+        self.assertEqual((status, shown), (5, LINE * 3))
+        self.assertEqual(told.splitlines()[-1], f"shape: {texts}: line 3: S2 TooLong")
 
     def test_cache(self) -> None:
-        """Made once, anew where the font changes or the kept value is broken."""
-        cache = self.folder / "font.ttf.0.kuspveli.json"
+        """Made once; anew where the font changes, or the kept value is cut, is another, or no JSON."""
         self.shape("a")
+        cache = self.kept()
         made = cache.stat().st_ino
         self.shape("b")
         self.assertEqual(cache.stat().st_ino, made)
         os.utime(self.font, (1, 1))
         self.shape("a")
         self.assertNotEqual(cache.stat().st_ino, made)
-        for broken in (b"", b"{\n", b"\xff", b'{\n"cache":"x"}'):
+        whole = cache.read_bytes()
+        for broken in (b"", b"{\n", b"\xff", b'{\n"cache":"x"}', whole[: len(whole) // 2], whole[:-3]):
             cache.write_bytes(broken)
             self.shape("a")
             json.loads(cache.read_text())
-        self.assertEqual(sorted(self.folder.glob("*.json")), [cache])
+        cache.write_bytes(whole.replace(b'"upem":', b'"upem";'))
+        status, _, told = self.shape("3")
+        self.assertEqual(status, 3)
+        json.loads(cache.read_text())
+        self.assertEqual(sorted(self.cache.iterdir()), sorted([cache, self.cache / "tables.json"]))
 
-    def test_folder_that_is_closed(self) -> None:
-        """Beside a font that is not to be written to, nothing is written."""
-        with mock.patch("os.access", return_value=False):
-            words = self.shape("a")
-        self.assertTrue(words[-2].startswith(str(self.folder / "cache/kuspveli/")), words)
-        self.assertEqual(list(self.folder.glob("*.json")), [])
+    def test_two_runs(self) -> None:
+        """Runs at once make the same files, and leave no others."""
+        runs = [threading.Thread(target=cli.main, args=([str(self.font), "a"],)) for _ in range(3)]
+        with contextlib.redirect_stdout(io.StringIO()) as shown, contextlib.redirect_stderr(io.StringIO()):
+            for each in runs:
+                each.start()
+            for each in runs:
+                each.join()
+        self.assertEqual(shown.getvalue(), LINE * 3)
+        self.assertEqual(len(list(self.cache.iterdir())), 2)
+        json.loads(self.kept().read_text())
+
+    def test_no_folder(self) -> None:
+        """Without a folder that can be written, or a home, values are made for the run alone."""
+        for place in ("/proc/nothing", str(self.font), "relative"):
+            with mock.patch.dict(os.environ, {"XDG_CACHE_HOME": place}):
+                self.assertEqual(self.shape("a")[:2], (0, LINE))
+        with mock.patch.dict(os.environ), mock.patch("os.path.expanduser", side_effect=lambda path: path):
+            del os.environ["XDG_CACHE_HOME"]
+            self.assertEqual(self.shape("a")[:2], (0, LINE))
+        self.assertFalse(self.cache.exists())
+
+    def test_json(self) -> None:
+        status, shown, _ = self.shape("of", "--json")
+        self.assertIn("--no-glyph-names", self.words())
+        first = '{"g":"o","cl":0,"dx":0,"dy":0,"ax":1253,"ay":0}'
+        box = '"xb":1,"yb":2,"w":3,"h":-4'
+        self.assertEqual(shown, f'[{first},{{"g":"uniFB03","cl":1,"dx":-3,"dy":4,"ax":1980,"ay":7,{box}}}]\n')
+
+    def test_svg(self) -> None:
+        path = self.folder / "of.svg"
+        status, shown, _ = self.shape("of", f"--svg={path}")
+        self.assertEqual((status, shown), (0, "o=0+1253|uniFB03=1@-3,4+1980,7#1<1,2,3,-4>\n"))
+        titles = [each.text for each in tree.parse(path).iter("{http://www.w3.org/2000/svg}title")]
+        self.assertEqual(titles[0], "o (82), cluster 0, advance 1253,0")
+        self.assertIn("U+006F LATIN SMALL LETTER O", titles)
+
+    def test_lacking(self) -> None:
+        status, shown, told = self.shape("aक")
+        self.assertEqual((status, shown), (0, LINE))
+        self.assertIn("the text: the font lacks U+0915 DEVANAGARI LETTER KA (byte 1, character 2)\n", told)
+
+    def test_json_font(self) -> None:
+        """A font that is JSON is taken as it is; the fault of the program is told with its place."""
+        font = self.folder / "font.json"
+        font.write_text('{"upem":1000,\n"h":[[1,500],[1,600]]}\n')
+        with contextlib.redirect_stderr(io.StringIO()) as told, contextlib.redirect_stdout(io.StringIO()):
+            self.assertEqual(cli.main([str(font), "3"]), 3)
+        self.assertIn(f"shape: {font}: U1 OutOfOrder: h[1]: 1 is not above 1: [1, 600]\n", told.getvalue())
+        self.assertRaisesRegex(ToolFault, "no outlines", cli.main, [str(font), "a", "--svg=x"])
 
     def test_refused(self) -> None:
-        for words in ([], ["font"], ["--index", "1"], [DEJAVU, "a", "--index"], [DEJAVU, "a", "--index=-1"]):
-            self.assertRaises(ToolFault, cli.main, words)
+        """Words are read before anything is made; each fault names its word."""
+        cases = {
+            (): "the font is missing",
+            ("font",): "no text is given",
+            ("font", "a", "b"): "more than one text is given: 'a', 'b'",
+            ("font", "a", "--text-file=b"): "more than one text",
+            ("font", "a", "--foo"): "--foo: no such option",
+            ("font", "a", "--feature=kern"): "is --features meant?",
+            ("font", "a", "--features"): "--features: its value is missing",
+            ("font", "a", "--features=kern=1,toolong"): "no feature: 'toolong'",
+            ("font", "a", "--json=1"): "--json: it takes no value",
+            ("font", "a", "--direction=up"): "a direction begins with",
+            ("font", "a", "--script=Arabic"): "a tag of four letters",
+            ("font", "a", "--language="): "a language is a tag",
+            ("font", "a", "--cluster-level=3"): "a cluster level is 0, 1 or 2: '3'",
+            ("font", "a", "--index=-1"): "an index is a number",
+            ("font", "a", "--bot", "--bot"): "--bot: given twice",
+            ("font", "a", "--script=Latn", "--script=Arab"): "--script: given twice",
+        }
+        for words, says in cases.items():
+            with self.subTest(words=words):
+                self.assertRaisesRegex(ToolFault, says.replace("?", r"\?"), cli.main, list(words))
+        self.assertFalse(self.cache.exists())
+
+    def test_help(self) -> None:
+        for words in (["--help"], ["-h"], ["font", "--help"]):
+            with contextlib.redirect_stdout(io.StringIO()) as shown:
+                self.assertEqual(cli.main(words), 0)
+            self.assertEqual(shown.getvalue(), usage() + "\n")
+        self.assertTrue(all(f"--{option.name}" in usage() for option in OPTIONS))
+        self.assertIn("examples:\n", usage())
+
+    def test_no_program(self) -> None:
+        """A program that is missing is built; where that fails it is told, and nothing is shaped."""
+        with mock.patch("subprocess.run", return_value=subprocess.CompletedProcess([], 1)):
+            with contextlib.redirect_stderr(io.StringIO()) as told:
+                self.assertRaisesRegex(ToolFault, "was not built", make_ready, self.folder / "missing")
+        self.assertIn("is not there: tools/build proves and builds it first", told.getvalue())
+
+    def test_old_program(self) -> None:
+        """The program that is there is used also where sources are newer, and that is told."""
+        program = self.folder / "crates" / "hb_shape" / "out" / "hb_shape"
+        source = self.folder / "crates" / "low" / "src" / "lib.rt"
+        for path in (program, source):
+            path.parent.mkdir(parents=True)
+            path.write_text("")
+        program.chmod(0o755)
+        os.utime(source, (1, 1))
+        self.assertFalse(is_old(program))
+        os.utime(program, (0, 0))
+        with contextlib.redirect_stderr(io.StringIO()) as told:
+            make_ready(program)
+        self.assertIn("sources are newer than the program", told.getvalue())
+
+
+class Parts(unittest.TestCase):
+    """What the tool is made of."""
+
+    def test_words(self) -> None:
+        features = '-liga,"kern"[3;5] = 2'
+        given = read_words(["a.ttf", "b", "--face-index", "2", "--no-glyph-names", "--features", features])
+        self.assertEqual((given.font, given.text, given.own), (Path("a.ttf"), "b", {"font-index": "2"}))
+        self.assertEqual(given.program, ["--no-glyph-names", f"--features={features}"])
+
+    def test_text(self) -> None:
+        result = run("shape", DEJAVU, b"a\xc3(")
+        self.assertEqual(result.returncode, 4)
+        self.assertIn(b"the text is no UTF-8 at byte 1 (0xC3), after 1 characters, the last U+0061", result.stderr)
+
+    def test_lacking(self) -> None:
+        """Nothing lacks what is hidden, a space, a hyphen, or what splits or composes to characters of the font."""
+        has = set(map(ord, " ae\u0301é\u2010"))
+        for text in ("a\u200d\ufe0f", "\u00a0\u2003", "\u2011", "á", "e\u0301"):
+            self.assertEqual(list(lacking(text, has)), [], text)
+        self.assertEqual(list(lacking("e\u0301", set(map(ord, "eé")))), [])
+        self.assertEqual(list(lacking("a\u0301b", set(map(ord, "aéb")))), [(1, "\u0301")])
+        notes = list(lack_notes(Text("éxyzuvw".encode(), "here"), has))
+        self.assertEqual(notes[0], "here: the font lacks U+0078 LATIN SMALL LETTER X (byte 2, character 2)")
+        self.assertEqual(notes[5:], ["here: the font lacks 1 characters more"])
+
+    def test_glyphs(self) -> None:
+        glyphs = read_line("3=0@1,-2+5|4=7+0,-9#3<1,2,3,4>\n")
+        self.assertEqual(glyphs[0], Glyph(3, 0, 1, -2, 5, 0, 0, None))
+        self.assertEqual(glyphs[1], Glyph(4, 7, 0, 0, 0, -9, 3, (1, 2, 3, 4)))
+        self.assertEqual(read_line("\n"), [])
+        self.assertRaises(ToolFault, read_line, "o=0+1\n")
+        bare = Given(Path("f"), "t", {}, ["--no-glyph-names", "--no-clusters", "--no-positions"])
+        self.assertEqual(as_json(read_line("3|4"), {3: "three"}, bare), '[{"g":3},{"g":4}]')
+
+    def test_places(self) -> None:
+        """Where glyphs are drawn, and which characters each cluster has."""
+        glyphs = read_line("1=3+5|2=3@1,2+0|3=0+7")
+        self.assertEqual([(each.x, each.y) for each in placed(glyphs)], [(0, 0), (6, 2), (5, 0)])
+        self.assertEqual(clusters_of("aéb", glyphs), {0: "aé", 3: "b"})
+
+    def test_pictures(self) -> None:
+        """Every picture is well-formed, forward, backward and downward, without glyphs and with unknown numbers."""
+        lines = ["82=0+1253|5044=1+1980", "3=2+5|4=0+6", "82=0@-626,-1751+0,-2384", "", "65535=0+100"]
+        for line in lines:
+            drawn = tree.fromstring(picture(Path(DEJAVU), 0, [("o\u0001<", read_line(line))]))
+            self.assertEqual(drawn.tag, "{http://www.w3.org/2000/svg}svg")
+        self.assertTrue(picture(Path(NASKH), 0, [("سل", read_line("5=2+300|6=0+200"))]).startswith("<svg"))
+
+    def test_faults(self) -> None:
+        """A file's first fault with its key, row and value."""
+        cases = {
+            b'{"h":[[1,2],[1,3]]}': "h[1]: 1 is not above 1: [1, 3]",
+            b'{"cmap":[[97,70000]]}': "cmap[0]: shape or range of [97, 70000]",
+            b'{"h":[[1,2.5]]}': "h[0][1]: no whole number of 64 bits: 2.5",
+            b'{"upem":1000,\n"h":[1,}': "no JSON at line 2, column 8 (byte 21): Expecting value",
+            b'{"gdef":[]}': "gdef: another shape than the format's",
+            b"\xff": "no UTF-8 at byte 0",
+            b"[]": "no object at the top",
+            b'{"h":[[1,2]]}': None,
+        }
+        with tempfile.NamedTemporaryFile() as file:
+            path = Path(file.name)
+            for content, says in cases.items():
+                path.write_bytes(content)
+                self.assertEqual(font_fault(path), says)
+            path.write_bytes(b'{"classes":[[65,230]]}')
+            self.assertEqual(tables_fault(path), "unlawful: ClassOnNonMark at U+0041")
 
 
 @unittest.skipUnless(PROGRAM.exists(), "needs the program (tools/build)")
@@ -97,17 +305,21 @@ class Given(unittest.TestCase):
 class Shaped(unittest.TestCase):
     def test_lines(self) -> None:
         """DejaVu Sans has ligatures in the first two words, and kerns the last."""
-        for text, features, direction in (("office", "liga", "l"), ("fl", "-liga", "l"), ("ab", "-kern", "r"), ("AVA", "kern", "l")):
-            words = [f"--features={features}", f"--direction={direction}", "--no-glyph-names"]
-            self.assertEqual(run("shape", DEJAVU, text, *words).stdout.decode(), hb_shape(text, *words), text)
+        rows = (("office", "liga", "l"), ("fl", "-liga", "l"), ("ab", "-kern", "r"), ("AVA", "kern", "l"))
+        for text, features, direction in rows:
+            words = [f"--features={features}", f"--direction={direction}"]
+            for more in ("--no-glyph-names", "--show-extents", "--output-format=json"):
+                own = "--json" if "json" in more else more
+                shown = run("shape", DEJAVU, text, *words, own).stdout.decode()
+                self.assertEqual(shown, hb_shape(text, *words, more), (text, more))
         self.assertEqual(run("shape", DEJAVU, "a", "--foo").returncode, 2)
 
 
 def hb_shape(text: str, *options: str) -> str:
-    """HarfBuzz's line without its brackets."""
-    command = ["hb-shape", *options, DEJAVU, f"--text={text}"]
-    result = subprocess.run(command, capture_output=True, text=True, check=True)
-    return result.stdout.strip().strip("[]") + "\n"
+    """HarfBuzz's line; without its brackets where it is no JSON."""
+    command = ["hb-shape", "--utf8-clusters", *options, DEJAVU, f"--text={text}"]
+    line = subprocess.run(command, capture_output=True, text=True, check=True).stdout.strip()
+    return (line if line.startswith("[{") else line.strip("[]")) + "\n"
 
 
 if __name__ == "__main__":

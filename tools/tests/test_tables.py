@@ -7,7 +7,7 @@ from pathlib import Path
 
 from support import json_of
 
-from format_rules import tables_faults
+from formats.rules import tables_faults
 from unicodejson.cli import CRATE_VERSION, DEBIAN
 from unicodejson.lawful import Tables, law_fault
 from unicodejson.ucd import Ucd, version_of
@@ -44,6 +44,9 @@ KNOWN_ROWS = [
     ("indic", [0xB01, "SM", "BEFORE_SUB"]),
     ("indic", [0x17C1, "VPre", "PRE_C"]),
     ("indic", [0x1031, "VPre", "PRE_C"]),
+    ("indic", [0x1CE2, "A", "SMVD"]),
+    ("indic", [0x1CF1, "Symbol", "SMVD"]),
+    ("indic", [0xA8F7, "Symbol", "SMVD"]),
     ("universal", [0x1B13, "B"]),
     ("universal", [0x1B44, "H"]),
     ("universal", [0x1B3E, "VPre"]),
@@ -52,6 +55,24 @@ KNOWN_ROWS = [
     ("thai", [0xE48, "SD", 0xF70A, 0xF88B]),
     ("languages", ["en", ["ENG "]]),
 ]
+
+# Categories by which HarfBuzz puts its dotted circles, where the two files of the UCD alone would give another one.
+CIRCLED = {
+    "VMAbv": "07F2 07FD 193A 1CF8 1CF9 1E4EE",
+    "CMAbv": (
+        "0859 085A 085B 10AE6 10D27 10F46 10F47 10F48 10F49 10F4A 10F4B 10F4C 10F4D 10F4E 10F4F 10F50 "
+        "10F82 10F83 10F84 10F85"
+    ),
+    "VBlw": "0F72 0F7A 0F7B 0F7C 0F7D 0F80 11127 11128 11129 1112D 11130",
+    "VAbv": "0F74 18A9 1A18 1112A 1112B 11131 11132",
+    "FMBlw": "0FC6",
+    "GB": "1880 1881 1882 1883 1884",
+    "MPst": "A9BE 11942",
+    "MAbv": "AA35",
+    "VPst": "10A0C",
+    "VMBlw": "10A0D",
+    "CMBlw": "10A38",
+}
 
 
 class TheTables(unittest.TestCase):
@@ -93,6 +114,12 @@ class TheTables(unittest.TestCase):
         for key, row in KNOWN_ROWS:
             with self.subTest(key=key, row=row):
                 self.assertIn(row, self.tables[key])
+
+    def test_circled(self) -> None:
+        universal = dict(self.tables["universal"])
+        for category, characters in CIRCLED.items():
+            for code in characters.split():
+                self.assertEqual(universal.get(int(code, 16), "O"), category, code)
 
     def test_excluded(self) -> None:
         """No pair composes to a character that composition leaves out; Telugu's length marks have no class."""

@@ -12,7 +12,7 @@ from fontTools.fontBuilder import FontBuilder
 from fontTools.pens.ttGlyphPen import TTGlyphPen
 from fontTools.ttLib import TTFont
 from fontTools.ttLib.tables._c_m_a_p import CmapSubtable
-from format_rules import font_faults
+from formats.rules import font_faults
 
 # Glyphs from 0 on.
 GLYPHS = [".notdef", "a", "b", "c", "f", "i", "f_i", "acute", "grave", "a.alt", "x"]
@@ -113,8 +113,10 @@ class WrittenFont(unittest.TestCase):
             "variants": [[97, 0xFE00, A_ALT], [98, 0xFE01, B]],
             "h": [[glyph, 500] for glyph in range(len(GLYPHS)) if glyph not in (ACUTE, GRAVE)],
             "v": [[glyph, 900] for glyph in range(len(GLYPHS))],
-            "origins": [[glyph, 510] for glyph in boxed],
-            "extents": [[glyph, 10, 480, 100, -500] for glyph in boxed],
+            # The last glyph has no outline: its box is empty, and its origin stands at its bearing.
+            "origins": [*([glyph, 510] for glyph in boxed), [X, 30]],
+            # The outlines begin at 10, and are drawn at the bearing in hmtx.
+            "extents": [*([glyph, 0, 480, 100, -500] for glyph in boxed), [X, 0, 0, 0, 0]],
             "names": [[glyph, name] for glyph, name in enumerate(GLYPHS)],
         }
         for key, value in expected.items():

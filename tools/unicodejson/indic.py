@@ -43,7 +43,10 @@ OVERRIDES: dict[int, str] = {
     0x0A72: "C", 0x0A73: "C",  # Gurmukhi vowel bearers
     0x0AFB: "N", 0x0B55: "N",  # Gujarati and Oriya signs that sit as nuktas do
     **dict.fromkeys([0x0980, 0x09FC, 0x0C80, 0x0D04], "PLACEHOLDER"),  # letters that bear signs
-    0x1CED: "A",  # Vedic tiryak, a tone
+    **dict.fromkeys([*range(0x1CE2, 0x1CE9), 0x1CED], "A"),  # Vedic visarga signs and tiryak, which are tones
+    # Vedic nasalization signs and Devanagari signs for them, which take marks by themselves, as an avagraha does.
+    **dict.fromkeys([*range(0x1CE9, 0x1CED), *range(0x1CEE, 0x1CF2), *range(0xA8F2, 0xA8F8)], "Symbol"),
+    0x1CF5: "C", 0x1CF6: "C",  # Vedic jihvamuliya and upadhmaniya
     0x11301: "SM", 0x11302: "SM", 0x11303: "SM", 0x1133B: "N", 0x1133C: "N",  # Grantha signs in Tamil
     **dict.fromkeys(range(0xFE00, 0xFE10), "VS"),  # variation selectors, which Myanmar's syllables have
     # Bases by the Myanmar specification.

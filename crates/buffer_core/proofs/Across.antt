@@ -8,17 +8,17 @@ use Rattle.buffer_glyphs.specs.declared.info.hb_glyph_info_t.{hb_glyph_info_t}
 use Rattle.buffer_glyphs.specs.declared.level.BufferClusterLevel.TheVariants.{MonotoneGraphemes, MonotoneCharacters, Characters}
 use Rattle.buffer_glyphs.specs.declared.level.BufferClusterLevel.{BufferClusterLevel}
 use Rattle.buffer_glyphs.specs.Items.{strip, clusters}
-use Rattle.buffer_glyphs.specs.Parts.{stretch}
-use Rattle.buffer_glyphs.specs.Merges.{least_number, merged}
+use Rattle.buffer_glyphs.specs.Parts.{range_of}
+use Rattle.buffer_glyphs.specs.Merges.{least_number, merged_number}
 use Rattle.buffer_glyphs.specs.Levels.{InOutput, manner}
-use Rattle.buffer_glyphs.specs.Glyphs.{beside_merged_as, flagged, glyphs_flagged, glyphs_marked, glyphs_merged, in_cluster, marked_outside, tells_apart}
+use Rattle.buffer_glyphs.specs.Glyphs.{beside_merged_as, glyph_flagged, glyphs_flagged, glyphs_marked, glyphs_merged, in_cluster, marked_outside, has_several_numbers}
 use Rattle.buffer_glyphs.specs.Lemmas.Glyphs.{stretch_is, strip_merged}
 use Rattle.buffer_core.specs.declared.buffer.hb_buffer_t.TheInside.{Inside}
 use Rattle.buffer_lists.specs.declared.order.ClusterOrder.{ClusterOrder}
 use Rattle.buffer_core.specs.Inside.{sides_of}
 use Rattle.buffer_core.specs.Sides.{Sides, all_glyphs, items_of}
-use Rattle.buffer_core.specs.Merging.{output_merged_at, index_in_all, telling_flags, with_glyphs, with_output_merged}
-use Rattle.buffer_core.specs.Marking.{with_marked, with_flagged}
+use Rattle.buffer_core.specs.Merging.{output_merged_at, index_in_all, with_has_glyph_flags, with_glyphs, with_output_merged}
+use Rattle.buffer_core.specs.Marking.{with_flagged_apart, with_flagged}
 
 -- a range that goes over the end of the first of two lists
 slice_across : {X : Type 0} (xs ys : List X) (start n : ℕ) → start ≤ length xs → slice_range (xs ++ ys) start (length xs + n) ≡ drop start xs ++ take n ys
@@ -27,7 +27,7 @@ slice_across xs ys start n le =
     let wide : length xs + n - start ≡ length (drop start xs) + n = omega (arith, long, le) in
     rw (drop-append-le start xs ys le, wide) (take-append-add (drop start xs) ys n)
 
-stretch_across : (xs ys : List hb_glyph_info_t) (start n : ℕ) → start ≤ length xs → stretch start (length xs + n) (clusters (xs ++ ys)) ≡ clusters (drop start xs) ++ clusters (take n ys)
+stretch_across : (xs ys : List hb_glyph_info_t) (start n : ℕ) → start ≤ length xs → range_of start (length xs + n) (clusters (xs ++ ys)) ≡ clusters (drop start xs) ++ clusters (take n ys)
 stretch_across xs ys start n le =
     let cluster_of : hb_glyph_info_t → ℕ = λ g. g.cluster in
     stretch_is (xs ++ ys) start (length xs + n) ∙ ap clusters (slice_across xs ys start n le) ∙ map-append cluster_of (drop start xs) (take n ys)
@@ -60,8 +60,8 @@ ahead_is gs from end le = let there : from + (end - from) ≡ end = omega arith 
 pub marked_across_view : (b : Inside) (info out : Vec hb_glyph_info_t) (order : ClusterOrder) (bits start end flags : ℕ) → b.have_output ≡ true → start ≤ length b.out_info.items → b.idx ≤ end
     → out.items ≡ take start b.out_info.items ++ map (marked_outside bits (least_number (clusters (drop start b.out_info.items) ++ clusters (slice_range b.info.items b.idx end)))) (drop start b.out_info.items)
     → drop b.idx info.items ≡ map (marked_outside bits (least_number (clusters (drop start b.out_info.items) ++ clusters (slice_range b.info.items b.idx end)))) (slice_range b.info.items b.idx end) ++ drop end b.info.items
-    → flags ≡ telling_flags (tells_apart (clusters (drop start b.out_info.items) ++ clusters (slice_range b.info.items b.idx end))) b.scratch_flags
-    → sides_of (record b { info = info; out_info = out; scratch_flags = flags; order = order }) ≡ with_marked bits start (index_in_all end (sides_of b)) (sides_of b)
+    → flags ≡ with_has_glyph_flags (has_several_numbers (clusters (drop start b.out_info.items) ++ clusters (slice_range b.info.items b.idx end))) b.scratch_flags
+    → sides_of (record b { info = info; out_info = out; scratch_flags = flags; order = order }) ≡ with_flagged_apart bits start (index_in_all end (sides_of b)) (sides_of b)
 marked_across_view b info out order bits start end flags h le begins o i f =
     let behind = b.out_info.items in
     let ahead = drop b.idx b.info.items in
@@ -77,9 +77,9 @@ marked_across_view b info out order bits start end flags h le begins o i f =
     ∙ rw (place, all, range, f) refl
 
 pub flagged_across_view : (b : Inside) (info out : Vec hb_glyph_info_t) (order : ClusterOrder) (bits start end flags : ℕ) → b.have_output ≡ true → start ≤ length b.out_info.items → b.idx ≤ end
-    → out.items ≡ take start b.out_info.items ++ map (flagged bits) (drop start b.out_info.items)
-    → drop b.idx info.items ≡ map (flagged bits) (slice_range b.info.items b.idx end) ++ drop end b.info.items
-    → flags ≡ telling_flags (nat_lt start (length b.out_info.items + (end - b.idx))) b.scratch_flags
+    → out.items ≡ take start b.out_info.items ++ map (glyph_flagged bits) (drop start b.out_info.items)
+    → drop b.idx info.items ≡ map (glyph_flagged bits) (slice_range b.info.items b.idx end) ++ drop end b.info.items
+    → flags ≡ with_has_glyph_flags (nat_lt start (length b.out_info.items + (end - b.idx))) b.scratch_flags
     → sides_of (record b { info = info; out_info = out; scratch_flags = flags; order = order }) ≡ with_flagged bits start (index_in_all end (sides_of b)) (sides_of b)
 flagged_across_view b info out order bits start end flags h le begins o i f =
     let behind = b.out_info.items in
@@ -87,9 +87,9 @@ flagged_across_view b info out order bits start end flags h le begins o i f =
     let n = end - b.idx in
     let place : index_in_all end (sides_of b) ≡ length behind + n = rw h (omega (arith, begins)) in
     let all : all_glyphs (sides_of b) ≡ behind ++ ahead = rw h refl in
-    let long = ap length o ∙ changed_length (flagged bits) behind start in
+    let long = ap length o ∙ changed_length (glyph_flagged bits) behind start in
     let glyphs : glyphs_flagged bits start (length behind + n) (behind ++ ahead) ≡ out.items ++ drop b.idx info.items =
-    rw (o, i, ahead_is b.info.items b.idx end begins) (changed_across (flagged bits) behind ahead start n le) in
+    rw (o, i, ahead_is b.info.items b.idx end begins) (changed_across (glyph_flagged bits) behind ahead start n le) in
     both_view b info out order flags (glyphs_flagged bits start (length behind + n) (behind ++ ahead)) h long glyphs
     ∙ rw (place, all, f) refl
 
@@ -97,7 +97,7 @@ pub place_within : (start end : ℕ) (s : Sides) → start ≤ length s.behind �
 place_within start end s le begins = omega arith
 
 -- a range within the first of two lists
-stretch_first : (xs ys : List hb_glyph_info_t) (start end : ℕ) → start ≤ end → end ≤ length xs → stretch start end (clusters (xs ++ ys)) ≡ stretch start end (clusters xs)
+stretch_first : (xs ys : List hb_glyph_info_t) (start end : ℕ) → start ≤ end → end ≤ length xs → range_of start end (clusters (xs ++ ys)) ≡ range_of start end (clusters xs)
 stretch_first xs ys start end le within =
     let long = length-drop start xs in
     let few : end - start ≤ length (drop start xs) = omega (arith, long) in
@@ -105,13 +105,13 @@ stretch_first xs ys start end le within =
     stretch_is (xs ++ ys) start end ∙ ap clusters inner ∙ sym (stretch_is xs start end)
 
 united_both : (xs ys : List hb_glyph_info_t) (start end : ℕ) → start ≤ end → end ≤ length xs
-    → glyphs_merged (stretch start end (clusters (xs ++ ys))) (xs ++ ys) ≡ glyphs_merged (stretch start end (clusters xs)) xs ++ glyphs_merged (stretch start end (clusters xs)) ys
+    → glyphs_merged (range_of start end (clusters (xs ++ ys))) (xs ++ ys) ≡ glyphs_merged (range_of start end (clusters xs)) xs ++ glyphs_merged (range_of start end (clusters xs)) ys
 united_both xs ys start end le within =
-    let range = stretch start end (clusters xs) in
-    rw (stretch_first xs ys start end le within) (map-append (λ (g : hb_glyph_info_t). in_cluster (merged range g.cluster) g) xs ys)
+    let range = range_of start end (clusters xs) in
+    rw (stretch_first xs ys start end le within) (map-append (λ (g : hb_glyph_info_t). in_cluster (merged_number range g.cluster) g) xs ys)
 
 both_merged : (level : BufferClusterLevel) (xs ys : List hb_glyph_info_t) (start end : ℕ) → start ≤ end → end ≤ length xs
-    → output_merged_at level start end (xs ++ ys) ≡ output_merged_at level start end xs ++ beside_merged_as (manner InOutput level) (stretch start end (clusters xs)) ys
+    → output_merged_at level start end (xs ++ ys) ≡ output_merged_at level start end xs ++ beside_merged_as (manner InOutput level) (range_of start end (clusters xs)) ys
 both_merged MonotoneGraphemes xs ys start end le within = united_both xs ys start end le within
 both_merged MonotoneCharacters xs ys start end le within = united_both xs ys start end le within
 both_merged Characters xs ys start end le within = refl
@@ -128,7 +128,7 @@ length_beside_output MonotoneCharacters range gs = length-map gs _
 length_beside_output Characters range gs = refl
 
 pub output_merged_view : (b : Inside) (info out : Vec hb_glyph_info_t) (order : ClusterOrder) (start end : ℕ) → b.have_output ≡ true → start ≤ end → end ≤ length b.out_info.items
-    → out.items ≡ output_merged_at b.cluster_level start end b.out_info.items → drop b.idx info.items ≡ beside_merged_as (manner InOutput b.cluster_level) (stretch start end (clusters b.out_info.items)) (drop b.idx b.info.items)
+    → out.items ≡ output_merged_at b.cluster_level start end b.out_info.items → drop b.idx info.items ≡ beside_merged_as (manner InOutput b.cluster_level) (range_of start end (clusters b.out_info.items)) (drop b.idx b.info.items)
     → sides_of (record b { info = info; out_info = out; order = order }) ≡ with_output_merged start end (sides_of b)
 output_merged_view b info out order start end h le within o i =
     let behind = b.out_info.items in
@@ -143,8 +143,8 @@ pub all_output_merged : (start end : ℕ) (s : Sides) → all_glyphs (with_outpu
 all_output_merged start end s = take-append-drop (length s.behind) (output_merged_at s.level start end (all_glyphs s))
 
 strip_output_merged : (level : BufferClusterLevel) (start end : ℕ) (gs : List hb_glyph_info_t) → strip (output_merged_at level start end gs) ≡ strip gs
-strip_output_merged MonotoneGraphemes start end gs = strip_merged (stretch start end (clusters gs)) gs
-strip_output_merged MonotoneCharacters start end gs = strip_merged (stretch start end (clusters gs)) gs
+strip_output_merged MonotoneGraphemes start end gs = strip_merged (range_of start end (clusters gs)) gs
+strip_output_merged MonotoneCharacters start end gs = strip_merged (range_of start end (clusters gs)) gs
 strip_output_merged Characters start end gs = refl
 
 pub output_items : (start end : ℕ) (s : Sides) → items_of (with_output_merged start end s) ≡ items_of s

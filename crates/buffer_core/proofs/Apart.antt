@@ -9,23 +9,23 @@ use Rattle.buffer_glyphs.specs.declared.info.hb_glyph_info_t.{hb_glyph_info_t}
 use Rattle.buffer_glyphs.specs.Items.{item_of, strip}
 use Rattle.buffer_glyphs.specs.Parts.{first_of, last_of, or}
 use Rattle.buffer_glyphs.specs.Lists.{take_one}
-use Rattle.buffer_glyphs.specs.Replacements.{copied, glyph_numbered, glyphs_replaced, items_replaced}
+use Rattle.buffer_glyphs.specs.Replacements.{numbered_copies, glyph_numbered, glyphs_replaced, items_replaced}
 use Rattle.buffer_glyphs.specs.Lemmas.Replacements.{strip_replaced}
 use Rattle.buffer_core.specs.declared.buffer.hb_buffer_t.TheInside.{Inside}
 use Rattle.buffer_lists.specs.declared.order.ClusterOrder.{ClusterOrder}
 use Rattle.buffer_core.specs.Inside.{sides_of}
 use Rattle.buffer_core.specs.Sides.{Sides, all_glyphs, items_of, with_added, origins_of}
-use Rattle.buffer_core.specs.Merging.{with_copy, with_put, with_renumbered, with_skipped}
-use Rattle.buffer_core.specs.Text.{added_glyph, added_from, added_text, offsets_from, text_items, unflagged_origin, text_origins}
+use Rattle.buffer_core.specs.Merging.{with_output_glyph, with_output_info, with_replaced_glyph, with_glyph_skipped}
+use Rattle.buffer_core.specs.Text.{added_glyph, added_text_from, added_text, offsets_from, text_items, unflagged_origin, text_origins}
 use Rattle.buffer_core.proofs.Replaced.{all_copied}
 use Rattle.buffer_glyphs.specs.Origins.{origin_of, origins}
 
 -- a copy behind the cursor
-pub copied_view : (b : Inside) (out : Vec hb_glyph_info_t) (order : ClusterOrder) (n : ℕ) → b.have_output ≡ true → out.items ≡ b.out_info.items ++ copied glyph_numbered (or (first_of (drop b.idx b.info.items)) (last_of b.out_info.items)) (n ∷ [])
-    → sides_of (record b { out_info = out; order = order }) ≡ with_copy n (sides_of b)
+pub copied_view : (b : Inside) (out : Vec hb_glyph_info_t) (order : ClusterOrder) (n : ℕ) → b.have_output ≡ true → out.items ≡ b.out_info.items ++ numbered_copies glyph_numbered (or (first_of (drop b.idx b.info.items)) (last_of b.out_info.items)) (n ∷ [])
+    → sides_of (record b { out_info = out; order = order }) ≡ with_output_glyph n (sides_of b)
 copied_view b out order n h e = rw (h, e) refl
 
-pub copy_items : (n : ℕ) (s : Sides) → items_of (with_copy n s) ≡ items_replaced (length s.behind) 0 (n ∷ []) (items_of s)
+pub copy_items : (n : ℕ) (s : Sides) → items_of (with_output_glyph n s) ≡ items_replaced (length s.behind) 0 (n ∷ []) (items_of s)
 copy_items n s = ap strip (all_copied 0 (n ∷ []) s) ∙ strip_replaced (length s.behind) 0 (n ∷ []) (all_glyphs s)
 
 -- a glyph under another number
@@ -34,30 +34,30 @@ renumbered_all n behind [] lt = absurd (omega (arith, lt))
 renumbered_all n behind (g ∷ gs) lt = rw (take-append_seam behind (g ∷ gs), drop-append_seam behind (g ∷ gs), drop-append-add behind (g ∷ gs) 1) refl
 
 pub renumbered_view : (b : Inside) (out : Vec hb_glyph_info_t) (order : ClusterOrder) (n : ℕ) (g d : hb_glyph_info_t) → b.have_output ≡ true → b.idx < length b.info.items → g ≡ get_or b.info.items b.idx d → out.items ≡ b.out_info.items ++ glyph_numbered g n ∷ []
-    → sides_of (record b { out_info = out; idx = b.idx + 1; order = order }) ≡ with_renumbered n (sides_of b)
+    → sides_of (record b { out_info = out; idx = b.idx + 1; order = order }) ≡ with_replaced_glyph n (sides_of b)
 renumbered_view b out order n g d h lt is e = rw (h, e, ← drop-drop 1 b.idx b.info.items, take_one b.info.items b.idx d lt, is) refl
 
-pub renumbered_items : (n : ℕ) (s : Sides) → 0 < length s.ahead → items_of (with_renumbered n s) ≡ items_replaced (length s.behind) 1 (n ∷ []) (items_of s)
+pub renumbered_items : (n : ℕ) (s : Sides) → 0 < length s.ahead → items_of (with_replaced_glyph n s) ≡ items_replaced (length s.behind) 1 (n ∷ []) (items_of s)
 renumbered_items n s lt = ap strip (renumbered_all n s.behind s.ahead lt) ∙ strip_replaced (length s.behind) 1 (n ∷ []) (all_glyphs s)
 
 -- a glyph between both sides
 put_seen : {Y : Type 0} (v : hb_glyph_info_t → Y) (g : hb_glyph_info_t) (behind ahead : List hb_glyph_info_t) → map v ((behind ++ g ∷ []) ++ ahead) ≡ map v behind ++ v g ∷ map v ahead
 put_seen v g behind ahead = ap (map v) (append_assoc behind (g ∷ []) ahead) ∙ map-append v behind (g ∷ ahead)
 
-pub put_origins : (g : hb_glyph_info_t) (s : Sides) → origins_of (with_put g s) ≡ origins s.behind ++ origin_of g ∷ origins s.ahead
+pub put_origins : (g : hb_glyph_info_t) (s : Sides) → origins_of (with_output_info g s) ≡ origins s.behind ++ origin_of g ∷ origins s.ahead
 put_origins g s = put_seen origin_of g s.behind s.ahead
 
-pub put_items : (g : hb_glyph_info_t) (s : Sides) → items_of (with_put g s) ≡ strip s.behind ++ item_of g ∷ strip s.ahead
+pub put_items : (g : hb_glyph_info_t) (s : Sides) → items_of (with_output_info g s) ≡ strip s.behind ++ item_of g ∷ strip s.ahead
 put_items g s = put_seen item_of g s.behind s.ahead
 
 -- the glyph at the cursor gone
 skipped_seen : {Y : Type 0} (v : hb_glyph_info_t → Y) (behind ahead : List hb_glyph_info_t) → map v (behind ++ drop 1 ahead) ≡ map v behind ++ drop 1 (map v ahead)
 skipped_seen v behind ahead = map-append v behind (drop 1 ahead) ∙ ap (λ ys. map v behind ++ ys) (sym (drop-map v 1 ahead))
 
-pub skipped_view : (b : Inside) → b.have_output ≡ true → sides_of (record b { idx = b.idx + 1 }) ≡ with_skipped (sides_of b)
+pub skipped_view : (b : Inside) → b.have_output ≡ true → sides_of (record b { idx = b.idx + 1 }) ≡ with_glyph_skipped (sides_of b)
 skipped_view b h = rw (h, ← drop-drop 1 b.idx b.info.items) refl
 
-pub skipped_items : (s : Sides) → items_of (with_skipped s) ≡ strip s.behind ++ drop 1 (strip s.ahead)
+pub skipped_items : (s : Sides) → items_of (with_glyph_skipped s) ≡ strip s.behind ++ drop 1 (strip s.ahead)
 skipped_items s = skipped_seen item_of s.behind s.ahead
 
 -- glyphs at the end
@@ -71,14 +71,14 @@ pub added_items : (c k : ℕ) (s : Sides) → items_of (with_added (added_glyph 
 added_items c k s = added_seen item_of (added_glyph c k ∷ []) s
 
 -- the characters of a text at the end
-items_from : (at : ℕ) (cs : List ℕ) → strip (added_from at cs) ≡ map (λ c. item_of (added_glyph c 0)) cs
+items_from : (at : ℕ) (cs : List ℕ) → strip (added_text_from at cs) ≡ map (λ c. item_of (added_glyph c 0)) cs
 items_from at [] = refl
 items_from at (c ∷ cs) = ap (λ xs. item_of (added_glyph c 0) ∷ xs) (items_from (at + len_utf8 c) cs)
 
 pub text_added_items : (text : List ℕ) (s : Sides) → items_of (with_added (added_text text) s) ≡ items_of s ++ text_items text
 text_added_items text s = added_seen item_of (added_text text) s ∙ ap (λ xs. items_of s ++ xs) (items_from 0 (chars text))
 
-origins_from : (at : ℕ) (cs : List ℕ) → origins (added_from at cs) ≡ map unflagged_origin (offsets_from at cs)
+origins_from : (at : ℕ) (cs : List ℕ) → origins (added_text_from at cs) ≡ map unflagged_origin (offsets_from at cs)
 origins_from at [] = refl
 origins_from at (c ∷ cs) = ap (λ os. unflagged_origin at ∷ os) (origins_from (at + len_utf8 c) cs)
 

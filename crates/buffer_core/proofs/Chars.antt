@@ -6,7 +6,7 @@ use Rattle.std.proofs.lemmas.Str.{chars-nil, chars_past_char, IsUtf8-past_char, 
 use Rattle.std.proofs.lemmas.Grind.{common_steps}
 use Rattle.std.proofs.lemmas.Bool.Decides.{nat_tests}
 use Rattle.std.specs.Char.{len_utf8}
-use Rattle.buffer_core.specs.Text.{added_glyph, added_from, added_text, offsets_fit}
+use Rattle.buffer_core.specs.Text.{added_glyph, added_text_from, added_text, offsets_fit}
 
 empty : (bs : List ℕ) → length bs ≡ 0 → bs ≡ []
 empty [] e = refl
@@ -22,11 +22,11 @@ pub offsets_fit_step : (at next : ℕ) (bs rest : List ℕ) (c : ℕ) → IsUtf8
     → offsets_fit at (chars bs) ≡ (nat_le at 0xFFFF_FFFF && offsets_fit next (chars rest))
 offsets_fit_step at next bs rest c u e n = rw (chars_past_char bs rest c u e, n, length-encode) refl
 
-pub added_none : (at : ℕ) (bs : List ℕ) → length bs ≡ 0 → added_from at (chars bs) ≡ []
+pub added_none : (at : ℕ) (bs : List ℕ) → length bs ≡ 0 → added_text_from at (chars bs) ≡ []
 added_none at bs e = let nil : bs ≡ [] = empty bs e in rw (nil, chars-nil) refl
 
 pub added_step : (at next : ℕ) (bs rest : List ℕ) (c : ℕ) → IsUtf8 bs → bs ≡ encode_utf8 c ++ rest → next ≡ at + length (encode_utf8 c)
-    → added_from at (chars bs) ≡ added_glyph c at ∷ added_from next (chars rest)
+    → added_text_from at (chars bs) ≡ added_glyph c at ∷ added_text_from next (chars rest)
 added_step at next bs rest c u e n = rw (chars_past_char bs rest c u e, n, length-encode) refl
 
 pub count_step : (bs rest : List ℕ) (c : ℕ) → IsUtf8 bs → bs ≡ encode_utf8 c ++ rest → length (chars bs) ≡ length (chars rest) + 1
@@ -39,7 +39,7 @@ fit_step at next bs rest c u e n h =
     let here : (nat_le at 0xFFFF_FFFF && offsets_fit next (chars rest)) ≡ true = rw (offsets_fit_step at next bs rest c u e n) at h in
     (grind (arith, nat_tests, here), grind (arith, nat_tests, common_steps, here))
 
-length_from : (at : ℕ) (cs : List ℕ) → length (added_from at cs) ≡ length cs
+length_from : (at : ℕ) (cs : List ℕ) → length (added_text_from at cs) ≡ length cs
 length_from at [] = refl
 length_from at (c ∷ cs) = ap suc (length_from (at + len_utf8 c) cs)
 

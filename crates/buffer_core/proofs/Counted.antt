@@ -9,7 +9,7 @@ use Rattle.buffer_core.specs.declared.buffer.hb_buffer_t.TheInside.{Inside}
 use Rattle.buffer_lists.specs.declared.order.ClusterOrder.{ClusterOrder}
 use Rattle.buffer_core.specs.Inside.{sides_of}
 use Rattle.buffer_core.specs.Sides.{Sides, all_glyphs, items_of, origins_of}
-use Rattle.buffer_core.specs.Settings.{glyphs_counted, origins_counted, most_cluster, with_counted}
+use Rattle.buffer_core.specs.Settings.{glyphs_counted, origins_counted, most_cluster, with_reset_clusters}
 use Rattle.buffer_glyphs.specs.Origins.{origins}
 
 -- so many clusters from a number on
@@ -41,7 +41,7 @@ next_cluster i c e = omega arith
 
 -- all glyphs of the closed list were numbered
 pub counted_view : (b : Inside) (info : Vec hb_glyph_info_t) (order : ClusterOrder) → b.have_output ≡ false → b.idx ≤ length b.info.items → info.items ≡ glyphs_counted 0 b.info.items
-    → sides_of (record b { info = info; order = order }) ≡ with_counted (sides_of b)
+    → sides_of (record b { info = info; order = order }) ≡ with_reset_clusters (sides_of b)
 counted_view b info order h le i =
     let long = length-take-le b.idx b.info.items le in
     rw (h, i, long, take-append-drop b.idx b.info.items) refl
@@ -54,17 +54,17 @@ pub clusters_counted : (n : ℕ) (gs : List hb_glyph_info_t) → clusters (glyph
 clusters_counted n [] = refl
 clusters_counted n (g ∷ gs) = ap (λ ns. min n most_cluster ∷ ns) (clusters_counted (n + 1) gs)
 
-all_counted : (s : Sides) → all_glyphs (with_counted s) ≡ glyphs_counted 0 (all_glyphs s)
+all_counted : (s : Sides) → all_glyphs (with_reset_clusters s) ≡ glyphs_counted 0 (all_glyphs s)
 all_counted s = take-append-drop (length s.behind) (glyphs_counted 0 (all_glyphs s))
 
-pub counted_items : (s : Sides) → items_of (with_counted s) ≡ items_of s
+pub counted_items : (s : Sides) → items_of (with_reset_clusters s) ≡ items_of s
 counted_items s = ap strip (all_counted s) ∙ seen_counted _ (λ g c. refl) 0 (all_glyphs s)
 
 counted_each : (n : ℕ) (gs : List hb_glyph_info_t) → origins (glyphs_counted n gs) ≡ origins_counted n (origins gs)
 counted_each n [] = refl
 counted_each n (g ∷ gs) = ap (λ os. record { cluster = min n most_cluster; flags = glyph_flags g } ∷ os) (counted_each (n + 1) gs)
 
-pub counted_origins : (s : Sides) → origins_of (with_counted s) ≡ origins_counted 0 (origins_of s)
+pub counted_origins : (s : Sides) → origins_of (with_reset_clusters s) ≡ origins_counted 0 (origins_of s)
 counted_origins s = ap origins (all_counted s) ∙ counted_each 0 (all_glyphs s)
 
 all_least : (m n : ℕ) (gs : List hb_glyph_info_t) → m ≤ min n most_cluster → AllFrom (λ x y. x ≤ y) m (counted_from n gs)

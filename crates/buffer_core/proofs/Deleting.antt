@@ -11,7 +11,7 @@ use Rattle.buffer_core.specs.declared.buffer.hb_buffer_t.TheInside.{Inside}
 use Rattle.buffer_lists.specs.declared.order.ClusterOrder.{ClusterOrder}
 use Rattle.buffer_core.specs.Grouping.{with_deleted}
 use Rattle.buffer_core.specs.Inside.{sides_of}
-use Rattle.buffer_core.specs.Merging.{telling_flags}
+use Rattle.buffer_core.specs.Merging.{with_has_glyph_flags}
 use Rattle.buffer_core.specs.Sides.{Sides, items_of}
 use Rattle.buffer_core.specs.Moving.{zero_glyph}
 
@@ -20,7 +20,7 @@ pub deletes_same : (level : Level) (front ahead out new_out back new_back : List
 deletes_same level front ahead out new_out back new_back m e f gone = subst (λ (hs : List Glyph). Deletes level front ahead new_out hs m) f (subst (λ (hs : List Glyph). Deletes level front ahead hs back m) e gone)
 
 pub deleted_view : (b : Inside) (info out : Vec Glyph) (order : ClusterOrder) (flags : ℕ) (m : Bool) (g : Glyph) (back : List Glyph) → b.have_output ≡ true → drop b.idx b.info.items ≡ g ∷ back
-    → Deletes b.cluster_level b.out_info.items (drop b.idx b.info.items) out.items (drop (b.idx + 1) info.items) m → flags ≡ telling_flags m b.scratch_flags
+    → Deletes b.cluster_level b.out_info.items (drop b.idx b.info.items) out.items (drop (b.idx + 1) info.items) m → flags ≡ with_has_glyph_flags m b.scratch_flags
     → sides_of (record b { info = info; out_info = out; idx = b.idx + 1; scratch_flags = flags; order = order }) ≡ with_deleted g back (sides_of b)
 deleted_view b info out order flags m g back h e gone f =
     let one = gone.front_is g back e in

@@ -7,7 +7,7 @@ use Rattle.buffer_lists.specs.declared.order.ClusterOrder.{ClusterOrder}
 use Rattle.buffer_glyphs.specs.declared.info.hb_glyph_info_t.{hb_glyph_info_t}
 use Rattle.buffer_core.specs.declared.buffer.hb_buffer_t.TheInside.{Inside}
 use Rattle.buffer_core.specs.Inside.{sides_of}
-use Rattle.buffer_core.specs.Lending.{refilled, with_output_refilled}
+use Rattle.buffer_core.specs.Lending.{refilled_list, with_output_refilled}
 use Rattle.buffer_core.specs.Sides.{Sides, all_glyphs}
 
 -- what is written from the front on has at least as many elements as there were
@@ -15,7 +15,7 @@ front_long : (xs ws : List hb_glyph_info_t) → length xs ≤ length (ws ++ drop
 front_long xs ws = omega (arith, length-append ws (drop (length ws) xs), length-drop (length ws) xs)
 
 front_put : (n : ℕ) (xs ws : List hb_glyph_info_t) → n ≡ length xs
-    → take n ((ws ++ drop (length ws) xs) ++ drop (length (ws ++ drop (length ws) xs)) xs) ≡ refilled ws xs
+    → take n ((ws ++ drop (length ws) xs) ++ drop (length (ws ++ drop (length ws) xs)) xs) ≡ refilled_list ws xs
 front_put n xs ws e =
     take-append-le n (ws ++ drop (length ws) xs) (drop (length (ws ++ drop (length ws) xs)) xs) (omega (arith, e, front_long xs ws))
     ∙ ap (λ k. take k (ws ++ drop (length ws) xs)) e
@@ -30,13 +30,13 @@ passed_back b order ws closed le counted =
     rw (closed, long, all, front_put b.info.len gs ws counted) refl
 
 -- as many as were lent
-closed_back : (s : Sides) (gs : List hb_glyph_info_t) → length gs ≡ length s.behind → refilled gs (all_glyphs s) ≡ gs ++ s.ahead
+closed_back : (s : Sides) (gs : List hb_glyph_info_t) → length gs ≡ length s.behind → refilled_list gs (all_glyphs s) ≡ gs ++ s.ahead
 closed_back s gs e =
     let rest : drop (length gs) (all_glyphs s) ≡ s.ahead = ap (λ k. drop k (all_glyphs s)) e ∙ drop-append_seam s.behind s.ahead in
     let long : length (gs ++ s.ahead) ≡ length (all_glyphs s) = omega (arith, length-append gs s.ahead, length-append s.behind s.ahead, e) in
     ap (λ ys. take (length (all_glyphs s)) (gs ++ ys)) rest ∙ take_all (length (all_glyphs s)) (gs ++ s.ahead) (omega (arith, long))
 
-open_back : (old gs : List hb_glyph_info_t) → length gs ≡ length old → refilled gs old ≡ gs
+open_back : (old gs : List hb_glyph_info_t) → length gs ≡ length old → refilled_list gs old ≡ gs
 open_back old gs e = ap (λ k. take k (gs ++ drop (length gs) old)) (sym e) ∙ take-append_seam gs (drop (length gs) old)
 
 back : (is_open : Bool) (s : Sides) (gs : List hb_glyph_info_t) → is_open ≡ s.is_open → length gs ≡ length s.behind → with_output_refilled gs s ≡ record s { behind = gs }

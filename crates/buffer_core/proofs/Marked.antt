@@ -7,24 +7,24 @@ use Rattle.std.proofs.lemmas.List.{take-append-drop, length-take-le, length-map,
 use Rattle.std.proofs.Math.Seq.{take-append_seam, drop-append_seam}
 use Rattle.buffer_glyphs.specs.declared.info.hb_glyph_info_t.{hb_glyph_info_t}
 use Rattle.buffer_glyphs.specs.Items.{strip, clusters}
-use Rattle.buffer_glyphs.specs.Parts.{stretch}
-use Rattle.buffer_glyphs.specs.Glyphs.{glyphs_marked, glyphs_flagged, tells_apart}
+use Rattle.buffer_glyphs.specs.Parts.{range_of}
+use Rattle.buffer_glyphs.specs.Glyphs.{glyphs_marked, glyphs_flagged, has_several_numbers}
 use Rattle.buffer_glyphs.specs.Lemmas.Glyphs.{marked_beyond, flagged_beyond, stretch_beyond, strip_marked, strip_flagged, clusters_marked, clusters_flagged}
 use Rattle.buffer_core.specs.declared.buffer.hb_buffer_t.TheInside.{Inside}
 use Rattle.buffer_lists.specs.declared.order.ClusterOrder.{ClusterOrder}
 use Rattle.buffer_core.specs.Inside.{sides_of, start_of}
 use Rattle.buffer_core.specs.Sides.{Sides, all_glyphs, items_of}
-use Rattle.buffer_core.specs.Merging.{index_in_all, telling_flags}
-use Rattle.buffer_core.specs.Marking.{with_marked, with_flagged}
+use Rattle.buffer_core.specs.Merging.{index_in_all, with_has_glyph_flags}
+use Rattle.buffer_core.specs.Marking.{with_flagged_apart, with_flagged}
 
 pub marked_view : (b : Inside) (info : Vec hb_glyph_info_t) (order : ClusterOrder) (bits from start end flags : ℕ) → b.idx ≤ length b.info.items → start ≤ end → (b.have_output ≡ true → b.idx ≤ start)
     → from ≡ start_of b
     → drop from info.items ≡ glyphs_marked bits (start - from) (end - from) (drop from b.info.items)
-    → flags ≡ telling_flags (tells_apart (stretch (start - from) (end - from) (clusters (drop from b.info.items)))) b.scratch_flags
-    → sides_of (record b { info = info; scratch_flags = flags; order = order }) ≡ with_marked bits (index_in_all start (sides_of b)) (index_in_all end (sides_of b)) (sides_of b)
+    → flags ≡ with_has_glyph_flags (has_several_numbers (range_of (start - from) (end - from) (clusters (drop from b.info.items)))) b.scratch_flags
+    → sides_of (record b { info = info; scratch_flags = flags; order = order }) ≡ with_flagged_apart bits (index_in_all start (sides_of b)) (index_in_all end (sides_of b)) (sides_of b)
 marked_view b info order bits from start end flags le before unread begins i f = by_test b.have_output refl
   where
-    by_test : (t : Bool) → b.have_output ≡ t → sides_of (record b { info = info; scratch_flags = flags; order = order }) ≡ with_marked bits (index_in_all start (sides_of b)) (index_in_all end (sides_of b)) (sides_of b)
+    by_test : (t : Bool) → b.have_output ≡ t → sides_of (record b { info = info; scratch_flags = flags; order = order }) ≡ with_flagged_apart bits (index_in_all start (sides_of b)) (index_in_all end (sides_of b)) (sides_of b)
     by_test true e =
         let here : from ≡ b.idx = rw e at begins in
         let first = unread e in
@@ -52,7 +52,7 @@ same_lengths p q i j le lt e = grind (arith, nat_tests, common_steps, e)
 pub flagged_view : (b : Inside) (info : Vec hb_glyph_info_t) (order : ClusterOrder) (bits from start end flags : ℕ) → b.idx ≤ length b.info.items → start ≤ end → (b.have_output ≡ true → b.idx ≤ start)
     → from ≡ start_of b
     → drop from info.items ≡ glyphs_flagged bits (start - from) (end - from) (drop from b.info.items)
-    → flags ≡ telling_flags (nat_lt start end) b.scratch_flags
+    → flags ≡ with_has_glyph_flags (nat_lt start end) b.scratch_flags
     → sides_of (record b { info = info; scratch_flags = flags; order = order }) ≡ with_flagged bits (index_in_all start (sides_of b)) (index_in_all end (sides_of b)) (sides_of b)
 flagged_view b info order bits from start end flags le before unread begins i f = by_test b.have_output refl
   where
@@ -96,12 +96,12 @@ start_before b start unread = by_test b.have_output refl
     by_test false e = omega arith
 
 -- what a range of a list is in those from an index on
-pub stretch_rest : (start end n : ℕ) (gs : List hb_glyph_info_t) → n ≤ length gs → n ≤ start → start ≤ end → stretch start end (clusters gs) ≡ stretch (start - n) (end - n) (clusters (drop n gs))
+pub stretch_rest : (start end n : ℕ) (gs : List hb_glyph_info_t) → n ≤ length gs → n ≤ start → start ≤ end → range_of start end (clusters gs) ≡ range_of (start - n) (end - n) (clusters (drop n gs))
 stretch_rest start end n gs le before ordered =
     let long : length (take n gs) ≡ n = length-take-le n gs le in
     let at : start ≡ length (take n gs) + (start - n) = omega (arith, long, before) in
     let to : end ≡ length (take n gs) + (end - n) = omega (arith, long, before, ordered) in
-    ap (λ hs. stretch start end (clusters hs)) (sym (take-append-drop n gs)) ∙ ap (λ i. stretch i end (clusters (take n gs ++ drop n gs))) at ∙ ap (λ j. stretch (length (take n gs) + (start - n)) j (clusters (take n gs ++ drop n gs))) to
+    ap (λ hs. range_of start end (clusters hs)) (sym (take-append-drop n gs)) ∙ ap (λ i. range_of i end (clusters (take n gs ++ drop n gs))) at ∙ ap (λ j. range_of (length (take n gs) + (start - n)) j (clusters (take n gs ++ drop n gs))) to
     ∙ stretch_beyond (take n gs) (drop n gs) (start - n) (end - n)
 
 pub marked_rest : (bits start end n : ℕ) (gs : List hb_glyph_info_t) → n ≤ length gs → n ≤ start → start ≤ end → drop n (glyphs_marked bits start end gs) ≡ glyphs_marked bits (start - n) (end - n) (drop n gs)
@@ -130,7 +130,7 @@ flagged_length bits start end gs le =
     let v : hb_glyph_info_t → ℕ = λ g. g.cluster in
     sym (length-map (glyphs_flagged bits start end gs) v) ∙ ap length (clusters_flagged bits start end gs le) ∙ length-map gs v
 
-pub all_marked : (bits from to : ℕ) (s : Sides) → all_glyphs (with_marked bits from to s) ≡ glyphs_marked bits from to (all_glyphs s)
+pub all_marked : (bits from to : ℕ) (s : Sides) → all_glyphs (with_flagged_apart bits from to s) ≡ glyphs_marked bits from to (all_glyphs s)
 all_marked bits from to s = take-append-drop (length s.behind) (glyphs_marked bits from to (all_glyphs s))
 
 pub all_flagged : (bits from to : ℕ) (s : Sides) → all_glyphs (with_flagged bits from to s) ≡ glyphs_flagged bits from to (all_glyphs s)
@@ -139,7 +139,7 @@ all_flagged bits from to s = take-append-drop (length s.behind) (glyphs_flagged 
 pub places_order : (start end : ℕ) (s : Sides) → start ≤ end → index_in_all start s ≤ index_in_all end s
 places_order start end s le = omega arith
 
-pub marked_items : (bits from to : ℕ) (s : Sides) → bits < 8 → from ≤ to → items_of (with_marked bits from to s) ≡ items_of s
+pub marked_items : (bits from to : ℕ) (s : Sides) → bits < 8 → from ≤ to → items_of (with_flagged_apart bits from to s) ≡ items_of s
 marked_items bits from to s lt le = ap strip (all_marked bits from to s) ∙ strip_marked bits from to (all_glyphs s) lt le
 
 pub flagged_items : (bits from to : ℕ) (s : Sides) → bits < 8 → from ≤ to → items_of (with_flagged bits from to s) ≡ items_of s

@@ -7,14 +7,14 @@ use Rattle.std.proofs.Math.Seq.{take-append_seam, drop-append-add}
 use Rattle.buffer_glyphs.specs.declared.info.hb_glyph_info_t.{hb_glyph_info_t}
 use Rattle.buffer_glyphs.specs.declared.level.BufferClusterLevel.{BufferClusterLevel}
 use Rattle.buffer_glyphs.specs.declared.level.BufferClusterLevel.TheVariants.{MonotoneGraphemes, MonotoneCharacters, Characters}
-use Rattle.buffer_glyphs.specs.Parts.{first_of, last_of, or, copies, replaced_among, stretch}
+use Rattle.buffer_glyphs.specs.Parts.{first_of, last_of, or, copies, elements_replaced, range_of}
 use Rattle.buffer_glyphs.specs.Glyphs.{glyphs_merged_at}
-use Rattle.buffer_glyphs.specs.Merges.{least_number, merged}
-use Rattle.buffer_glyphs.specs.Origins.{Origin, origin_of, origins, numbers, cast, added_outside, InList, InOutput, Manner, Unites, Marks, Keeps, manner, merged_as}
+use Rattle.buffer_glyphs.specs.Merges.{least_number, merged_number}
+use Rattle.buffer_glyphs.specs.Origins.{Origin, origin_of, origins, numbers, cast, added_outside, InList, InOutput, Manner, Unites, Marks, Keeps, manner, origins_merged_as}
 use Rattle.buffer_glyphs.specs.Events.{Merge, Replace, Reverse}
 use Rattle.buffer_glyphs.specs.Lemmas.Origins.{cut_in_three, origins_of_merged_at, origins_of_replaced}
-use Rattle.buffer_core.specs.Sides.{Sides, all_glyphs, reversed, origins_of, origins_by}
-use Rattle.buffer_core.specs.Merging.{output_merged_at, with_output_merged, with_copy, with_skipped, with_merged, with_replaced, index_in_all}
+use Rattle.buffer_core.specs.Sides.{Sides, all_glyphs, after_reverse, origins_of, origins_by}
+use Rattle.buffer_core.specs.Merging.{output_merged_at, with_output_merged, with_output_glyph, with_glyph_skipped, with_merged, with_replaced, index_in_all}
 use Rattle.buffer_core.proofs.Kept.{map-reverse}
 use Rattle.buffer_core.proofs.Merged.{all_merged}
 use Rattle.buffer_core.proofs.Replaced.{all_replaced, all_copied}
@@ -34,13 +34,13 @@ map_same : {X : Type 0} (f : X → X) (xs : List X) → ((x : X) → f x ≡ x) 
 map_same f [] same = refl
 map_same f (x ∷ xs) same = rw (same x, map_same f xs same) refl
 
-no_range : (os : List Origin) → map (λ (o : Origin). cast (merged [] o.cluster) 0 o) os ≡ os
-no_range os = map_same (λ (o : Origin). cast (merged [] o.cluster) 0 o) os (λ o. cast_self o.cluster o refl)
+no_range : (os : List Origin) → map (λ (o : Origin). cast (merged_number [] o.cluster) 0 o) os ≡ os
+no_range os = map_same (λ (o : Origin). cast (merged_number [] o.cluster) 0 o) os (λ o. cast_self o.cluster o refl)
 
-one_range : (n : ℕ) (os : List Origin) → map (λ (o : Origin). cast (merged (n ∷ []) o.cluster) 0 o) os ≡ os
-one_range n os = map_same (λ (o : Origin). cast (merged (n ∷ []) o.cluster) 0 o) os (λ o. cast_self (merged (n ∷ []) o.cluster) o (alone n o.cluster (n == o.cluster) refl))
+one_range : (n : ℕ) (os : List Origin) → map (λ (o : Origin). cast (merged_number (n ∷ []) o.cluster) 0 o) os ≡ os
+one_range n os = map_same (λ (o : Origin). cast (merged_number (n ∷ []) o.cluster) 0 o) os (λ o. cast_self (merged_number (n ∷ []) o.cluster) o (alone n o.cluster (n == o.cluster) refl))
 
-short_range : (ns : List ℕ) (os : List Origin) → map (λ (o : Origin). cast (merged (take 1 ns) o.cluster) 0 o) os ≡ os
+short_range : (ns : List ℕ) (os : List Origin) → map (λ (o : Origin). cast (merged_number (take 1 ns) o.cluster) 0 o) os ≡ os
 short_range [] os = no_range os
 short_range (n ∷ ns) os = one_range n os
 
@@ -49,25 +49,25 @@ one_marked [] = refl
 one_marked (o ∷ os) = rw (itself o.cluster) refl
 
 -- one alone merges with none
-pub merged_alone : (m : Manner) (at : ℕ) (os : List Origin) → merged_as m at (at + 1) os ≡ os
+pub merged_alone : (m : Manner) (at : ℕ) (os : List Origin) → origins_merged_as m at (at + 1) os ≡ os
 merged_alone Unites at os = let one : at + 1 - at ≡ 1 = omega arith in rw one (short_range (drop at (numbers os)) os)
 merged_alone Marks at os =
     let one : at + 1 - at ≡ 1 = omega arith in
     let n : Origin → ℕ = λ o. o.cluster in
-    let low : stretch at (at + 1) (numbers os) ≡ take 1 (numbers (drop at os)) = ap (λ k. take k (drop at (numbers os))) one ∙ ap (take 1) (drop-map n at os) in
+    let low : range_of at (at + 1) (numbers os) ≡ take 1 (numbers (drop at os)) = ap (λ k. take k (drop at (numbers os))) one ∙ ap (take 1) (drop-map n at os) in
     let range : take (at + 1 - at) (drop at os) ≡ take 1 (drop at os) = ap (λ k. take k (drop at os)) one in
-    let same : map (added_outside 3 (least_number (stretch at (at + 1) (numbers os)))) (take (at + 1 - at) (drop at os)) ≡ take (at + 1 - at) (drop at os) =
+    let same : map (added_outside 3 (least_number (range_of at (at + 1) (numbers os)))) (take (at + 1 - at) (drop at os)) ≡ take (at + 1 - at) (drop at os) =
     ap (λ ns. map (added_outside 3 (least_number ns)) (take (at + 1 - at) (drop at os))) low ∙ ap (map (added_outside 3 (least_number (take 1 (numbers (drop at os)))))) range ∙ one_marked (drop at os) ∙ sym range in
     ap (λ xs. take at os ++ xs ++ drop (max at (at + 1)) os) same ∙ cut_in_three at (at + 1) os
 merged_alone Keeps at os = refl
 
 -- and none merge
-pub merged_none : (m : Manner) (at : ℕ) (os : List Origin) → merged_as m at (at + 0) os ≡ os
+pub merged_none : (m : Manner) (at : ℕ) (os : List Origin) → origins_merged_as m at (at + 0) os ≡ os
 merged_none Unites at os = let none : at + 0 - at ≡ 0 = omega arith in rw none (no_range os)
 merged_none Marks at os =
     let none : at + 0 - at ≡ 0 = omega arith in
     let range : take (at + 0 - at) (drop at os) ≡ [] = ap (λ k. take k (drop at os)) none in
-    ap (λ xs. take at os ++ map (added_outside 3 (least_number (stretch at (at + 0) (numbers os)))) xs ++ drop (max at (at + 0)) os) range
+    ap (λ xs. take at os ++ map (added_outside 3 (least_number (range_of at (at + 0) (numbers os)))) xs ++ drop (max at (at + 0)) os) range
     ∙ ap (λ xs. take at os ++ xs ++ drop (max at (at + 0)) os) (sym range) ∙ cut_in_three at (at + 0) os
 merged_none Keeps at os = refl
 
@@ -83,9 +83,9 @@ pub replaced_origins : (taken : ℕ) (given : List ℕ) (s : Sides) → origins_
 replaced_origins taken given s =
     let b = length s.behind in
     let gs = glyphs_merged_at s.level b (b + taken) (all_glyphs s) in
-    ap origins (all_replaced taken given s) ∙ origins_of_replaced b taken given gs ∙ ap (replaced_among b taken (length given)) (origins_of_merged_at s.level b (b + taken) (all_glyphs s) (omega arith))
+    ap origins (all_replaced taken given s) ∙ origins_of_replaced b taken given gs ∙ ap (elements_replaced b taken (length given)) (origins_of_merged_at s.level b (b + taken) (all_glyphs s) (omega arith))
 
-output_origins_at : (level : BufferClusterLevel) (from to : ℕ) (gs : List hb_glyph_info_t) → from ≤ to → origins (output_merged_at level from to gs) ≡ merged_as (manner InOutput level) from to (origins gs)
+output_origins_at : (level : BufferClusterLevel) (from to : ℕ) (gs : List hb_glyph_info_t) → from ≤ to → origins (output_merged_at level from to gs) ≡ origins_merged_as (manner InOutput level) from to (origins gs)
 output_origins_at MonotoneGraphemes from to gs le = origins_of_merged_at MonotoneGraphemes from to gs le
 output_origins_at MonotoneCharacters from to gs le = origins_of_merged_at MonotoneCharacters from to gs le
 output_origins_at Characters from to gs le = refl
@@ -95,23 +95,23 @@ pub output_origins : (from to : ℕ) (s : Sides) → from ≤ to → origins_of 
 output_origins from to s le = ap origins (all_output_merged from to s) ∙ output_origins_at s.level from to (all_glyphs s) le
 
 -- `output_glyph`
-pub copy_origins : (n : ℕ) (s : Sides) → origins_of (with_copy n s) ≡ origins_by (Replace (length s.behind) 0 1 ∷ []) s
-copy_origins n s = ap origins (all_copied 0 (n ∷ []) s) ∙ origins_of_replaced (length s.behind) 0 (n ∷ []) (all_glyphs s) ∙ ap (replaced_among (length s.behind) 0 1) (sym (merged_none (manner InList s.level) (length s.behind) (origins (all_glyphs s))))
+pub copy_origins : (n : ℕ) (s : Sides) → origins_of (with_output_glyph n s) ≡ origins_by (Replace (length s.behind) 0 1 ∷ []) s
+copy_origins n s = ap origins (all_copied 0 (n ∷ []) s) ∙ origins_of_replaced (length s.behind) 0 (n ∷ []) (all_glyphs s) ∙ ap (elements_replaced (length s.behind) 0 1) (sym (merged_none (manner InList s.level) (length s.behind) (origins (all_glyphs s))))
 
 no_copies : {X : Type 0} (o : Option X) → copies 0 o ≡ []
 no_copies None = refl
 no_copies (Some x) = refl
 
 -- `skip_glyph`
-pub skipped_origins : (s : Sides) → origins_of (with_skipped s) ≡ origins_by (Replace (length s.behind) 1 0 ∷ []) s
+pub skipped_origins : (s : Sides) → origins_of (with_glyph_skipped s) ≡ origins_by (Replace (length s.behind) 1 0 ∷ []) s
 skipped_origins s =
     let os = origins (all_glyphs s) in
     let b = length s.behind in
     let front : take b os ≡ origins s.behind = take-map origin_of b (all_glyphs s) ∙ ap origins (take-append_seam s.behind s.ahead) in
     let rest : drop (b + 1) os ≡ origins (drop 1 s.ahead) = drop-map origin_of (b + 1) (all_glyphs s) ∙ ap origins (drop-append-add s.behind s.ahead 1) in
     map-append origin_of s.behind (drop 1 s.ahead) ∙ ap (λ xs. xs ++ origins (drop 1 s.ahead)) (sym front) ∙ ap (λ xs. take b os ++ xs) (sym rest) ∙ ap (λ xs. xs ++ drop (b + 1) os) (sym (append-nil (take b os)))
-    ∙ ap (λ xs. take b os ++ xs ++ drop (b + 1) os) (sym (no_copies (or (first_of (drop b os)) (last_of (take b os))))) ∙ ap (replaced_among b 1 0) (sym (merged_alone (manner InList s.level) b os))
+    ∙ ap (λ xs. take b os ++ xs ++ drop (b + 1) os) (sym (no_copies (or (first_of (drop b os)) (last_of (take b os))))) ∙ ap (elements_replaced b 1 0) (sym (merged_alone (manner InList s.level) b os))
 
 -- `reverse`
-pub reversed_origins : (s : Sides) → origins_of (reversed s) ≡ origins_by (Reverse ∷ []) s
+pub reversed_origins : (s : Sides) → origins_of (after_reverse s) ≡ origins_by (Reverse ∷ []) s
 reversed_origins s = ap origins (take-append-drop s.read (reverse (all_glyphs s))) ∙ map-reverse origin_of (all_glyphs s)

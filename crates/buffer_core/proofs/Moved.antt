@@ -11,19 +11,19 @@ use Rattle.buffer_lists.specs.declared.order.ClusterOrder.{ClusterOrder}
 use Rattle.buffer_lists.specs.declared.order.KnownOrder.{KnownOrder}
 use Rattle.buffer_core.specs.Inside.{sides_of}
 use Rattle.buffer_lists.specs.Known.{HasOrder}
-use Rattle.buffer_core.specs.Moving.{moved_to, range_reversed, with_range_reversed, indices_reversed}
-use Rattle.buffer_core.specs.Sides.{Sides, all_glyphs, items_of, moved_on, origins_of, origins_by}
+use Rattle.buffer_core.specs.Moving.{after_move_to, range_reversed, with_range_reversed, indices_reversed}
+use Rattle.buffer_core.specs.Sides.{Sides, all_glyphs, items_of, after_next_glyphs, origins_of, origins_by}
 use Rattle.buffer_core.proofs.Ordered.{known_ahead, known_back}
 use Rattle.buffer_glyphs.specs.Origins.{origins}
 use Rattle.buffer_glyphs.specs.Events.{Arrange}
 use Rattle.buffer_groups.specs.Lemmas.ReversedEvents.{range_origins as reversed_range, range_seen}
 
 -- no glyph is deleted where the cursor moves
-pub moved_to_all : (i : ℕ) (s : Sides) → all_glyphs (moved_to i s) ≡ all_glyphs s
+pub moved_to_all : (i : ℕ) (s : Sides) → all_glyphs (after_move_to i s) ≡ all_glyphs s
 moved_to_all i s = take-append-drop i (all_glyphs s)
 
 -- forward it is the way over so many glyphs
-pub moved_forth : (i n : ℕ) (s : Sides) → i ≡ length s.behind + n → moved_on n s ≡ moved_to i s
+pub moved_forth : (i n : ℕ) (s : Sides) → i ≡ length s.behind + n → after_next_glyphs n s ≡ after_move_to i s
 moved_forth i n s e =
     let read : s.read + i - length s.behind ≡ s.read + n = omega (arith, e) in
     rw (read, e, take-append-add s.behind s.ahead n, drop-append-add s.behind s.ahead n) refl
@@ -31,7 +31,7 @@ moved_forth i n s e =
 -- a move back puts the end of the output before the input
 pub moved_back : (b : Inside) (info out : Vec hb_glyph_info_t) (order : ClusterOrder) (i first : ℕ) → b.have_output ≡ true → i ≤ length b.out_info.items → first ≡ b.idx - (length b.out_info.items - i)
     → drop first info.items ≡ drop i b.out_info.items ++ drop b.idx b.info.items → out.items ≡ take i b.out_info.items
-    → sides_of (record b { info = info; out_info = out; idx = first; order = order }) ≡ moved_to i (sides_of b)
+    → sides_of (record b { info = info; out_info = out; idx = first; order = order }) ≡ after_move_to i (sides_of b)
 moved_back b info out order i first h le f input output =
     let read : first ≡ b.idx + i - length b.out_info.items = omega (arith, f, le) in
     rw (h, input, output, take-append-le i b.out_info.items (drop b.idx b.info.items) le, drop-append-le i b.out_info.items (drop b.idx b.info.items) le, ← read) refl

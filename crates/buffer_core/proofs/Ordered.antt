@@ -3,7 +3,7 @@ use Rattle.std.proofs.Common.{take, Option, None, ℕ, ◌≡◌, ◌≤◌, ◌
 use Rattle.std.proofs.lemmas.List.{map-append, drop-map, drop-drop, take-append-drop, drop_more, append_assoc, map-set, set-set, set-get_or, get_or-map}
 use Rattle.buffer_glyphs.specs.declared.info.hb_glyph_info_t.{hb_glyph_info_t}
 use Rattle.buffer_glyphs.specs.Items.{clusters}
-use Rattle.buffer_glyphs.specs.Parts.{stretch}
+use Rattle.buffer_glyphs.specs.Parts.{range_of}
 use Rattle.buffer_glyphs.specs.Order.{IsOrdered}
 use Rattle.buffer_glyphs.specs.Lemmas.Drawn.{IsDrawn, past, drawn_second, drawn_drop, drawn_take}
 use Rattle.buffer_glyphs.specs.Lemmas.Parts.{order_drawn}
@@ -14,7 +14,7 @@ use Rattle.buffer_core.specs.Sides.{all_glyphs}
 use Rattle.buffer_lists.specs.declared.order.KnownOrder.{KnownOrder}
 use Rattle.buffer_lists.specs.declared.order.KnownOrder.TheVariants.{Unknown, Rising, Falling}
 use Rattle.buffer_lists.specs.declared.order.Lent.{Lent}
-use Rattle.buffer_lists.specs.Known.{HasOrder, is_known, put_back_ahead, put_back_behind}
+use Rattle.buffer_lists.specs.Known.{HasOrder, is_known, known_clusters_ahead, known_clusters_behind}
 use Rattle.buffer_lists.proofs.Ordered.{known_ordered}
 use Rattle.buffer_lists.specs.Masks.{glyph_masked}
 use Rattle.buffer_core.proofs.Kept.{map-reverse}
@@ -90,7 +90,7 @@ order_put o out info new n g e h =
     subst (HasOrder o) (ap (λ ns. clusters out ++ g.cluster ∷ ns) (sym (drop-map f n info)) ∙ sym (append_assoc (clusters out) (g.cluster ∷ []) (drop n (clusters info))) ∙ ap (λ ns. ns ++ drop n (clusters info)) (sym seen)) h
 
 -- where no glyph is lent
-pub none_lent : (o : KnownOrder) (l : Option Lent) (out info : List hb_glyph_info_t) (n : ℕ) → l ≡ None → HasOrder o (clusters out ++ drop n (clusters info)) → HasOrder o (put_back_behind l (clusters out) ++ drop n (put_back_ahead l (clusters info)))
+pub none_lent : (o : KnownOrder) (l : Option Lent) (out info : List hb_glyph_info_t) (n : ℕ) → l ≡ None → HasOrder o (clusters out ++ drop n (clusters info)) → HasOrder o (known_clusters_behind l (clusters out) ++ drop n (known_clusters_ahead l (clusters info)))
 none_lent o l out info n e h = rw e h
 
 drawn_pass : (xs ys : List ℕ) → IsDrawn (xs ++ ys) ys
@@ -98,13 +98,13 @@ drawn_pass [] ys = drawn_drop 0 ys
 drawn_pass (x ∷ xs) ys = past x (xs ++ ys) ys (drawn_pass xs ys)
 
 -- a range of what is left of the input is in order
-pub range_ordered : (o : KnownOrder) (start end n : ℕ) (out info : List hb_glyph_info_t) → n ≤ start → is_known o ≡ true → HasOrder o (clusters out ++ drop n (clusters info)) → IsOrdered (stretch start end (clusters info))
+pub range_ordered : (o : KnownOrder) (start end n : ℕ) (out info : List hb_glyph_info_t) → n ≤ start → is_known o ≡ true → HasOrder o (clusters out ++ drop n (clusters info)) → IsOrdered (range_of start end (clusters info))
 range_ordered o start end n out info le is h =
     let ns = clusters info in
     let left : HasOrder o (drop n ns) = order_drawn_known o (clusters out ++ drop n ns) (drop n ns) (drawn_pass (clusters out) (drop n ns)) h in
     let there : n + (start - n) ≡ start = omega (arith, le) in
     let from : HasOrder o (drop start ns) = subst (HasOrder o) (drop-drop (start - n) n ns ∙ ap (λ (k : ℕ). drop k ns) there) (order_drawn_known o (drop n ns) (drop (start - n) (drop n ns)) (drawn_drop (start - n) (drop n ns)) left) in
-    known_ordered o (stretch start end ns) is (order_drawn_known o (drop start ns) (take (end - start) (drop start ns)) (drawn_take (end - start) (drop start ns)) from)
+    known_ordered o (range_of start end ns) is (order_drawn_known o (drop start ns) (take (end - start) (drop start ns)) (drawn_take (end - start) (drop start ns)) from)
 
 -- the clusters of all glyphs, where both lists have them
 all_clusters_of : (is_open : Bool) (out info : List hb_glyph_info_t) (n : ℕ) → OnFalse is_open (out ≡ []) → clusters ((if is_open then out else take n info) ++ drop n info) ≡ clusters out ++ drop (if is_open then n else 0) (clusters info)

@@ -7,26 +7,26 @@ use Rattle.std.proofs.lemmas.List.{append-nil, length-map, drop-drop, length-tak
 use Rattle.std.proofs.Math.Seq.{take-append_seam, drop-append_seam, drop-append-add}
 use Rattle.buffer_glyphs.specs.declared.info.hb_glyph_info_t.{hb_glyph_info_t}
 use Rattle.buffer_glyphs.specs.Items.{strip, clusters}
-use Rattle.buffer_glyphs.specs.Parts.{first_of, last_of, or, stretch}
+use Rattle.buffer_glyphs.specs.Parts.{first_of, last_of, or, range_of}
 use Rattle.buffer_glyphs.specs.Glyphs.{glyphs_merged_at, beside_merged, is_marked_at}
-use Rattle.buffer_glyphs.specs.Replacements.{copied, glyph_numbered, glyphs_replaced, items_replaced}
+use Rattle.buffer_glyphs.specs.Replacements.{numbered_copies, glyph_numbered, glyphs_replaced, items_replaced}
 use Rattle.buffer_glyphs.specs.Lemmas.Glyphs.{strip_merged_at, length_merged_at}
 use Rattle.buffer_glyphs.specs.Lemmas.Replacements.{strip_replaced}
 use Rattle.buffer_core.specs.declared.buffer.hb_buffer_t.TheInside.{Inside}
 use Rattle.buffer_lists.specs.declared.order.ClusterOrder.{ClusterOrder}
 use Rattle.buffer_core.specs.Inside.{sides_of}
 use Rattle.buffer_core.specs.Sides.{Sides, all_glyphs, items_of}
-use Rattle.buffer_core.specs.Merging.{telling_flags, with_merged, with_copied, with_replaced}
+use Rattle.buffer_core.specs.Merging.{with_has_glyph_flags, with_merged, with_copied, with_replaced}
 use Rattle.buffer_core.proofs.Merged.{merged_sides, same_marks, all_merged}
 
 pub replaced_view : (b : Inside) (info out : Vec hb_glyph_info_t) (order : ClusterOrder) (taken flags : ℕ) (numbers : List ℕ) → b.have_output ≡ true
     → drop b.idx info.items ≡ glyphs_merged_at b.cluster_level 0 taken (drop b.idx b.info.items)
-    → out.items ≡ beside_merged b.cluster_level (stretch 0 taken (clusters (drop b.idx b.info.items))) b.out_info.items ++ copied glyph_numbered (or (first_of (drop b.idx info.items)) (last_of (beside_merged b.cluster_level (stretch 0 taken (clusters (drop b.idx b.info.items))) b.out_info.items))) numbers
-    → flags ≡ telling_flags (is_marked_at b.cluster_level 0 taken (clusters (drop b.idx b.info.items))) b.scratch_flags
+    → out.items ≡ beside_merged b.cluster_level (range_of 0 taken (clusters (drop b.idx b.info.items))) b.out_info.items ++ numbered_copies glyph_numbered (or (first_of (drop b.idx info.items)) (last_of (beside_merged b.cluster_level (range_of 0 taken (clusters (drop b.idx b.info.items))) b.out_info.items))) numbers
+    → flags ≡ with_has_glyph_flags (is_marked_at b.cluster_level 0 taken (clusters (drop b.idx b.info.items))) b.scratch_flags
     → sides_of (record b { info = info; out_info = out; idx = b.idx + taken; scratch_flags = flags; order = order }) ≡ with_replaced taken numbers (sides_of b)
 replaced_view b info out order taken flags numbers h i o f =
     let m = merged_sides b.cluster_level 0 taken (length b.out_info.items) (length b.out_info.items + taken) b.out_info.items (drop b.idx b.info.items) (omega arith) refl in
-    let marks = f ∙ ap (λ any. telling_flags any b.scratch_flags) (same_marks b.cluster_level 0 taken (length b.out_info.items) (length b.out_info.items + taken) (clusters (drop b.idx b.info.items)) (clusters (b.out_info.items ++ drop b.idx b.info.items)) m.range_is) in
+    let marks = f ∙ ap (λ any. with_has_glyph_flags any b.scratch_flags) (same_marks b.cluster_level 0 taken (length b.out_info.items) (length b.out_info.items + taken) (clusters (drop b.idx b.info.items)) (clusters (b.out_info.items ++ drop b.idx b.info.items)) m.range_is) in
     rw (h, o, ← drop-drop taken b.idx info.items, i, m.ahead_is, m.behind_is, marks) refl
 
 pub all_copied : (taken : ℕ) (numbers : List ℕ) (s : Sides) → all_glyphs (with_copied taken numbers s) ≡ glyphs_replaced (length s.behind) taken numbers (all_glyphs s)
@@ -52,7 +52,7 @@ replaced_items taken numbers s =
     ap strip (all_replaced taken numbers s) ∙ strip_replaced (length s.behind) taken numbers gs
     ∙ ap (items_replaced (length s.behind) taken numbers) (strip_merged_at s.level (length s.behind) (length s.behind + taken) (all_glyphs s) (omega arith))
 
-length_copied : (o : Option hb_glyph_info_t) (numbers : List ℕ) → length (copied glyph_numbered o numbers) ≤ length numbers
+length_copied : (o : Option hb_glyph_info_t) (numbers : List ℕ) → length (numbered_copies glyph_numbered o numbers) ≤ length numbers
 length_copied None numbers = omega arith
 length_copied (Some g) numbers = omega (arith, length-map numbers (glyph_numbered g))
 
@@ -68,7 +68,7 @@ or_cases false t e = inr e
 -- the output with its copies is within the limit
 pub replaced_within : (max_len n : ℕ) (behind ahead new_behind new_ahead : List hb_glyph_info_t) (numbers : List ℕ) → n ≡ length numbers → ((length (behind ++ ahead) == 0) || nat_le (length behind + n) max_len) ≡ true
     → length new_behind ≡ length behind → length new_ahead ≡ length ahead → length behind ≤ max_len
-    → length (new_behind ++ copied glyph_numbered (or (first_of new_ahead) (last_of new_behind)) numbers) ≤ max_len
+    → length (new_behind ++ numbered_copies glyph_numbered (or (first_of new_ahead) (last_of new_behind)) numbers) ≤ max_len
 replaced_within max_len n behind ahead new_behind new_ahead numbers given fits bl al le = elim (or_cases (length (behind ++ ahead) == 0) (nat_le (length behind + n) max_len) fits) [
   | inl none ↦
       let zero_all : length (behind ++ ahead) ≡ 0 = grind (arith, nat_tests, common_steps, none) in
@@ -77,7 +77,7 @@ replaced_within max_len n behind ahead new_behind new_ahead numbers given fits b
       rw (model, append-nil new_behind, bl) le
   | inr room ↦
       let fit : length behind + n ≤ max_len = grind (arith, nat_tests, room) in
-      let new = length-append new_behind (copied glyph_numbered (or (first_of new_ahead) (last_of new_behind)) numbers) in
+      let new = length-append new_behind (numbered_copies glyph_numbered (or (first_of new_ahead) (last_of new_behind)) numbers) in
       let few = length_copied (or (first_of new_ahead) (last_of new_behind)) numbers in
       omega (arith, fit, new, few, bl, given)
 ]

@@ -10,7 +10,7 @@ use Rattle.buffer_glyphs.specs.Lists.{take_one}
 use Rattle.buffer_lists.specs.declared.order.ClusterOrder.{ClusterOrder}
 use Rattle.buffer_core.specs.declared.buffer.hb_buffer_t.TheInside.{Inside}
 use Rattle.buffer_core.specs.Inside.{sides_of}
-use Rattle.buffer_core.specs.Sides.{synced, zero_positions}
+use Rattle.buffer_core.specs.Sides.{after_sync, zero_positions}
 
 -- an element is there
 pub some_ahead : (xs : List hb_glyph_info_t) (n : ℕ) → 0 < length (drop n xs) → n < length xs
@@ -47,7 +47,7 @@ joined_places out info new n positions e p = rw (p, e, length-replicate) (sym (j
 
 pub joined_view : (b : Inside) (info out : Vec hb_glyph_info_t) (positions : Vec GlyphPosition) (order : ClusterOrder) → b.have_output ≡ true → info.items ≡ b.out_info.items ++ drop b.idx b.info.items
     → positions.items ≡ zero_positions (length b.out_info.items + (length b.info.items - b.idx))
-    → sides_of (record b { info = info; pos = positions; out_info = out; idx = 0; have_output = false; order = order }) ≡ synced (sides_of b)
+    → sides_of (record b { info = info; pos = positions; out_info = out; idx = 0; have_output = false; order = order }) ≡ after_sync (sides_of b)
 joined_view b info out positions order h i p =
     let long = joined_length b.out_info.items b.info.items b.idx in
     rw (h, i, p, ← long) refl

@@ -12,7 +12,7 @@ use Rattle.buffer_glyphs.specs.Events.{Spread}
 use Rattle.buffer_core.specs.declared.buffer.hb_buffer_t.TheInside.{Inside}
 use Rattle.buffer_core.specs.Inside.{sides_of}
 use Rattle.buffer_core.specs.Merging.{with_glyphs}
-use Rattle.buffer_core.specs.Sides.{Sides, all_glyphs, asks_of, items_of, origins_by, origins_of}
+use Rattle.buffer_core.specs.Sides.{Sides, all_glyphs, flag_requests_of, items_of, origins_by, origins_of}
 
 -- the list is that of the input where no output is open
 pub all_closed : (b : Inside) (info : Vec Glyph) → b.have_output ≡ false → all_glyphs (sides_of (record b { info = info })) ≡ info.items
@@ -26,10 +26,10 @@ pub spread_items : (b : Inside) (info : Vec Glyph) (s : Sides) → sides_of b �
     → items_of (sides_of (record b { info = info })) ≡ map (item_masked 0) (items_of s)
 spread_items b info s view h e = ap strip (all_closed b info h) ∙ e ∙ ap (λ gs. map (item_masked 0) (strip gs)) (sym (all_closed b b.info h)) ∙ ap (λ (t : Sides). map (item_masked 0) (items_of t)) view
 
-pub spread_origins : (b : Inside) (info : Vec Glyph) (s : Sides) (asks : Asks) → sides_of b ≡ s → b.have_output ≡ false → asks ≡ asks_of s → origins info.items ≡ origins_spread asks (origins b.info.items)
+pub spread_origins : (b : Inside) (info : Vec Glyph) (s : Sides) (asks : Asks) → sides_of b ≡ s → b.have_output ≡ false → asks ≡ flag_requests_of s → origins info.items ≡ origins_spread asks (origins b.info.items)
     → origins_of (sides_of (record b { info = info })) ≡ origins_by (Spread ∷ []) s
 spread_origins b info s asks view h a e =
-    ap origins (all_closed b info h) ∙ e ∙ ap (λ k. origins_spread k (origins b.info.items)) a ∙ ap (λ gs. origins_spread (asks_of s) (origins gs)) (sym (all_closed b b.info h)) ∙ ap (λ (t : Sides). origins_spread (asks_of s) (origins_of t)) view
+    ap origins (all_closed b info h) ∙ e ∙ ap (λ k. origins_spread k (origins b.info.items)) a ∙ ap (λ gs. origins_spread (flag_requests_of s) (origins gs)) (sym (all_closed b b.info h)) ∙ ap (λ (t : Sides). origins_spread (flag_requests_of s) (origins_of t)) view
 
 -- clusters stay
 pub clusters_spread : (asks : Asks) (gs hs : List Glyph) → origins hs ≡ origins_spread asks (origins gs) → clusters hs ≡ clusters gs
@@ -38,5 +38,5 @@ clusters_spread asks gs hs e = sym (numbers_origins hs) ∙ ap numbers e ∙ num
 pub glyphs_same : (gs hs : List Glyph) → strip hs ≡ map (item_masked 0) (strip gs) → length hs ≡ length gs
 glyphs_same gs hs e = sym (length-map hs item_of) ∙ ap length e ∙ length-map (strip gs) (item_masked 0) ∙ length-map gs item_of
 
-pub asks_are : (s : Sides) (concat tatweel : Bool) → concat ≡ (bit_and s.flags.0 64 == 64) → tatweel ≡ (bit_and s.flags.0 128 == 128) → record { concat = concat; tatweel = tatweel } ≡ asks_of s
+pub asks_are : (s : Sides) (concat tatweel : Bool) → concat ≡ (bit_and s.flags.0 64 == 64) → tatweel ≡ (bit_and s.flags.0 128 == 128) → record { concat = concat; tatweel = tatweel } ≡ flag_requests_of s
 asks_are s concat tatweel c t = ap (λ (b : Bool). record { concat = b; tatweel = tatweel }) c ∙ ap (λ (b : Bool). record { concat = bit_and s.flags.0 64 == 64; tatweel = b }) t

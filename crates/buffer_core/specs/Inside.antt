@@ -3,8 +3,9 @@ use Rattle.std.specs.Prelude.{ℕ, ◌≤◌, ◌≡◌, ◌++◌, if◌then◌e
 use Rattle.std.specs.Bool.{OnFalse}
 use Rattle.buffer_core.specs.declared.buffer.hb_buffer_t.TheInside.{Inside}
 use Rattle.buffer_glyphs.specs.Items.{clusters}
-use Rattle.buffer_lists.specs.Known.{HasOrder, put_back_ahead, put_back_behind}
+use Rattle.buffer_lists.specs.Known.{HasOrder, known_clusters_ahead, known_clusters_behind}
 use Rattle.buffer_core.specs.Sides.{Sides}
+use Rattle.buffer_core.specs.Settings.{number_set}
 
 -- the sides that clients see, of a buffer's fields
 abbrev pub sides_of : Inside → Sides
@@ -24,8 +25,8 @@ sides_of b = record {
   language = b.language;
   pre_context = b.pre_context.items;
   post_context = b.post_context.items;
-  invisible = b.invisible;
-  not_found_variation_selector = b.not_found_variation_selector;
+  invisible = number_set b.invisible;
+  not_found_variation_selector = number_set b.not_found_variation_selector;
   scratch_flags = b.scratch_flags;
   flags = b.flags;
 }
@@ -36,7 +37,7 @@ start_of b = if b.have_output then b.idx else 0
 
 -- the clusters of all glyphs, with that of a lent glyph as it was
 abbrev pub known_clusters : Inside → List ℕ
-known_clusters b = put_back_behind b.order.lent (clusters b.out_info.items) ++ drop (start_of b) (put_back_ahead b.order.lent (clusters b.info.items))
+known_clusters b = known_clusters_behind b.order.lent (clusters b.out_info.items) ++ drop (start_of b) (known_clusters_ahead b.order.lent (clusters b.info.items))
 
 -- the invariant of a buffer's fields
 pub record IsSound (b : Inside) : Type 0 where

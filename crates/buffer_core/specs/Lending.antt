@@ -23,28 +23,28 @@ abbrev pub with_last_behind : hb_glyph_info_t → Sides → Sides
 with_last_behind g s = record s { behind = slice_set s.behind (length s.behind - 1) g }
 
 -- as many elements as there were: those that come back, and where they are fewer the last of the old ones
-abbrev pub refilled : {X : Type 0} → List X → List X → List X
-refilled new old = take (length old) (new ++ drop (length new) old)
+abbrev pub refilled_list : {X : Type 0} → List X → List X → List X
+refilled_list new old = take (length old) (new ++ drop (length new) old)
 
 -- all glyphs replaced by those that come back
 abbrev pub with_refilled : List hb_glyph_info_t → Sides → Sides
-with_refilled gs s = with_glyphs (refilled gs (all_glyphs s)) s
+with_refilled gs s = with_glyphs (refilled_list gs (all_glyphs s)) s
 
 -- the glyphs behind the cursor replaced by those that come back; with no output open, they are the first of all glyphs
 abbrev pub with_output_refilled : List hb_glyph_info_t → Sides → Sides
-with_output_refilled gs s = if s.is_open then record s { behind = refilled gs s.behind } else with_refilled gs s
+with_output_refilled gs s = if s.is_open then record s { behind = refilled_list gs s.behind } else with_refilled gs s
 
 -- all positions replaced by those that come back
 abbrev pub with_positions_refilled : List Position → Sides → Sides
-with_positions_refilled ps s = record s { positions = refilled ps s.positions }
+with_positions_refilled ps s = record s { positions = refilled_list ps s.positions }
 
 -- a borrow of the i-th glyph from the cursor on, out of a borrow of the buffer
 abbrev pub LendsGlyph : ℕ → MutBor Sides → MutBor hb_glyph_info_t → Fml
 LendsGlyph i s r = Lends the_row info_row s r (λ g. with_glyph_ahead i g s.now)
 
 -- a borrow of the position at the cursor, out of a borrow of the buffer
-abbrev pub LendsPlace : MutBor Sides → MutBor GlyphPosition → Fml
-LendsPlace s r = Lends the_row place_row s r (λ p. with_current_position p s.now)
+abbrev pub LendsPosition : MutBor Sides → MutBor GlyphPosition → Fml
+LendsPosition s r = Lends the_row place_row s r (λ p. with_current_position p s.now)
 
 -- a borrow of the last glyph behind the cursor, out of a borrow of the buffer
 abbrev pub LendsLast : MutBor Sides → MutBor hb_glyph_info_t → Fml
@@ -59,5 +59,5 @@ abbrev pub LendsOutput : MutBor Sides → MutBor (List hb_glyph_info_t) → Fml
 LendsOutput s r = Lends the_row (Array info_row 0) s r (λ gs. with_output_refilled gs s.now)
 
 -- a borrow of all positions, out of a borrow of the buffer
-abbrev pub LendsPlaces : MutBor Sides → MutBor (List GlyphPosition) → Fml
-LendsPlaces s r = Lends the_row (Array place_row 0) s r (λ ps. with_positions_refilled ps s.now)
+abbrev pub LendsPositions : MutBor Sides → MutBor (List GlyphPosition) → Fml
+LendsPositions s r = Lends the_row (Array place_row 0) s r (λ ps. with_positions_refilled ps s.now)

@@ -7,7 +7,7 @@ use Rattle.buffer_glyphs.specs.Items.{clusters}
 use Rattle.buffer_glyphs.specs.Parts.{first_of, last_of, or}
 use Rattle.buffer_glyphs.specs.Levels.{InOutput, manner}
 use Rattle.buffer_glyphs.specs.Glyphs.{glyphs_merged_as, glyphs_merged_at, is_marked_at}
-use Rattle.buffer_glyphs.specs.Replacements.{copied, glyph_numbered}
+use Rattle.buffer_glyphs.specs.Replacements.{numbered_copies, glyph_numbered}
 use Rattle.buffer_core.specs.Sides.{Sides, all_glyphs, has_output_room}
 
 -- the index among all glyphs of an index of the input; with no output open the input is all glyphs
@@ -19,12 +19,12 @@ abbrev pub with_glyphs : List hb_glyph_info_t → Sides → Sides
 with_glyphs gs s = record s { behind = take (length s.behind) gs; ahead = drop (length s.behind) gs }
 
 -- scratch flags, with HAS_GLYPH_FLAGS set where a glyph got one of the three flags
-abbrev pub telling_flags : Bool → ℕ → ℕ
-telling_flags any flags = if any then bit_or flags 32 else flags
+abbrev pub with_has_glyph_flags : Bool → ℕ → ℕ
+with_has_glyph_flags any flags = if any then bit_or flags 32 else flags
 
 -- the indices from `from` up to before `to` merged; at the level `Characters` they are flagged (`merge_clusters`)
 abbrev pub with_merged : ℕ → ℕ → Sides → Sides
-with_merged from to s = record (with_glyphs (glyphs_merged_at s.level from to (all_glyphs s)) s) { scratch_flags = telling_flags (is_marked_at s.level from to (clusters (all_glyphs s))) s.scratch_flags }
+with_merged from to s = record (with_glyphs (glyphs_merged_at s.level from to (all_glyphs s)) s) { scratch_flags = with_has_glyph_flags (is_marked_at s.level from to (clusters (all_glyphs s))) s.scratch_flags }
 
 -- such indices of the output merged at a level; at the level `Characters` nothing changes
 abbrev pub output_merged_at : BufferClusterLevel → ℕ → ℕ → List hb_glyph_info_t → List hb_glyph_info_t
@@ -40,7 +40,7 @@ model s = or (first_of s.ahead) (last_of s.behind)
 
 -- so many glyphs ahead replaced by a copy of the model for each number, with no merge
 abbrev pub with_copied : ℕ → List ℕ → Sides → Sides
-with_copied taken numbers s = record s { behind = s.behind ++ copied glyph_numbered (model s) numbers; ahead = drop taken s.ahead; read = s.read + taken }
+with_copied taken numbers s = record s { behind = s.behind ++ numbered_copies glyph_numbered (model s) numbers; ahead = drop taken s.ahead; read = s.read + taken }
 
 -- so many glyphs ahead merged, and then replaced by a copy of the model for each number (`replace_glyphs`)
 abbrev pub with_replaced : ℕ → List ℕ → Sides → Sides
@@ -51,17 +51,17 @@ abbrev pub fits_copies : ℕ → Sides → Bool
 fits_copies n s = (length (all_glyphs s) == 0) || has_output_room n s
 
 -- a glyph appended behind the cursor (`output_info`)
-abbrev pub with_put : hb_glyph_info_t → Sides → Sides
-with_put g s = record s { behind = s.behind ++ g ∷ [] }
+abbrev pub with_output_info : hb_glyph_info_t → Sides → Sides
+with_output_info g s = record s { behind = s.behind ++ g ∷ [] }
 
 -- a copy of the model under a number appended behind the cursor (`output_glyph`)
-abbrev pub with_copy : ℕ → Sides → Sides
-with_copy n s = record s { behind = s.behind ++ copied glyph_numbered (model s) (n ∷ []) }
+abbrev pub with_output_glyph : ℕ → Sides → Sides
+with_output_glyph n s = record s { behind = s.behind ++ numbered_copies glyph_numbered (model s) (n ∷ []) }
 
 -- the glyph at the cursor moved behind it under another number (`replace_glyph`)
-abbrev pub with_renumbered : ℕ → Sides → Sides
-with_renumbered n s = record s { behind = s.behind ++ map (λ (g : hb_glyph_info_t). glyph_numbered g n) (take 1 s.ahead); ahead = drop 1 s.ahead; read = s.read + 1 }
+abbrev pub with_replaced_glyph : ℕ → Sides → Sides
+with_replaced_glyph n s = record s { behind = s.behind ++ map (λ (g : hb_glyph_info_t). glyph_numbered g n) (take 1 s.ahead); ahead = drop 1 s.ahead; read = s.read + 1 }
 
 -- the glyph at the cursor deleted, with no merge (`skip_glyph`)
-abbrev pub with_skipped : Sides → Sides
-with_skipped s = record s { ahead = drop 1 s.ahead; read = s.read + 1 }
+abbrev pub with_glyph_skipped : Sides → Sides
+with_glyph_skipped s = record s { ahead = drop 1 s.ahead; read = s.read + 1 }

@@ -8,8 +8,8 @@ use Rattle.buffer_glyphs.specs.Items.{zero_position}
 use Rattle.buffer_core.specs.Text.{added_glyph}
 
 -- the cursor before the i-th of all glyphs; glyphs that move back to the input no longer count as read
-abbrev pub moved_to : ℕ → Sides → Sides
-moved_to i s = record s { behind = take i (all_glyphs s); ahead = drop i (all_glyphs s); read = s.read + i - length s.behind }
+abbrev pub after_move_to : ℕ → Sides → Sides
+after_move_to i s = record s { behind = take i (all_glyphs s); ahead = drop i (all_glyphs s); read = s.read + i - length s.behind }
 
 -- whether the input may have the glyphs behind the cursor from the i-th on too
 abbrev pub has_room_back : ℕ → Sides → Bool

@@ -22,7 +22,7 @@ pub record View : Type 0 where
   pub max_len : ℕ
   pub direction : Direction
   -- the scratch flags, without HAS_GLYPH_FLAGS
-  pub told : ℕ
+  pub scratch_flags : ℕ
 
 -- the view after a pipeline stage, and the events on the way to it at each level
 pub record Read : Type 0 where
@@ -64,21 +64,21 @@ abbrev pub always : (View → Read) → Stage
 always f v = Ok (f v)
 
 -- the state of a buffer as pipeline stages know it: view, origins, settings
-pub record Run : Type 0 where
+pub record BufferState : Type 0 where
   pub view : View
   pub origins : List Origin
   pub level : BufferClusterLevel
   pub asks : Asks
 
 -- the state after what was read
-abbrev pub run_after : Read → Run → Run
-run_after r run = record { view = r.view; origins = origins_after run.asks run.level (r.events run.level) run.origins; level = run.level; asks = run.asks }
+abbrev pub state_after : Read → BufferState → BufferState
+state_after r run = record { view = r.view; origins = origins_after run.asks run.level (r.events run.level) run.origins; level = run.level; asks = run.asks }
 
--- the new state is `run_after` of the reading and the old one; where the reading refuses, there is no new state
-abbrev pub Follows : Reading → Run → Run → Type 0
-Follows (Ok r) old new = new ≡ run_after r old
+-- the new state is `state_after` of the reading and the old one; where the reading refuses, there is no new state
+abbrev pub Follows : Reading → BufferState → BufferState → Type 0
+Follows (Ok r) old new = new ≡ state_after r old
 Follows (Err e) old new = ⊥
 
 -- a stage, at the view of a state
-abbrev pub read_of : Stage → Run → Reading
-read_of stage run = stage run.view
+abbrev pub reading_of : Stage → BufferState → Reading
+reading_of stage run = stage run.view

@@ -16,13 +16,13 @@ abbrev pub is_shared : Script → Bool
 is_shared s = is_among (COMMON ∷ INHERITED ∷ UNKNOWN ∷ []) s
 
 -- whether a number is a character with a script of its own
-abbrev pub tells_script : ℕ → Bool
-tells_script n = scalar n && not (is_shared (script_of n))
+abbrev pub has_own_script : ℕ → Bool
+has_own_script n = scalar n && not (is_shared (script_of n))
 
 -- the script of the first character that has one of its own
 abbrev pub first_script : List hb_glyph_info_t → Option Script
 first_script [] = None
-first_script (g ∷ gs) = if tells_script g.glyph_id then Some (script_of g.glyph_id) else first_script gs
+first_script (g ∷ gs) = if has_own_script g.glyph_id then Some (script_of g.glyph_id) else first_script gs
 
 -- the script that was set, else that of the characters
 abbrev pub guessed_script : Sides → Option Script
@@ -46,5 +46,5 @@ abbrev pub with_segment : Direction → Option Script → Sides → Sides
 with_segment d script s = record s { direction = d; script = script }
 
 -- script and direction guessed where none was set (`guess_segment_properties`)
-abbrev pub guessed : Sides → Sides
-guessed s = with_segment (guessed_direction s.direction (guessed_script s)) (guessed_script s) s
+abbrev pub after_guess_segment_properties : Sides → Sides
+after_guess_segment_properties s = with_segment (guessed_direction s.direction (guessed_script s)) (guessed_script s) s

@@ -1,6 +1,7 @@
 -- Limits, ligature numbers and the text around.
-use Rattle.std.specs.Prelude.{ℕ, ℤ, pos, ◌+◌, ◌*◌, nat_le, nat_lt, max, if◌then◌else◌, List, [], ◌∷◌, length, min, Option}
+use Rattle.std.specs.Prelude.{ℕ, ℤ, pos, ◌+◌, ◌*◌, nat_le, nat_lt, max, if◌then◌else◌, List, [], ◌∷◌, length, min, Option, Some, None}
 use Rattle.buffer_glyphs.specs.declared.info.hb_glyph_info_t.{hb_glyph_info_t}
+use Rattle.buffer_glyphs.specs.declared.names.GlyphId.{GlyphId}
 use Rattle.buffer_glyphs.specs.Origins.{Origin}
 use Rattle.buffer_common.specs.declared.language.Language.{Language}
 use Rattle.buffer_core.specs.Merging.{with_glyphs}
@@ -14,7 +15,11 @@ with_max_ops n s = record s { max_ops = n }
 abbrev pub with_language : Option Language → Sides → Sides
 with_language l s = record s { language = l }
 
--- a buffer with another glyph for invisible characters
+-- the number of a glyph, where one is set
+abbrev pub number_set : Option GlyphId → Option ℕ
+number_set None = None
+number_set (Some glyph) = Some glyph.0
+
 abbrev pub with_invisible : Option ℕ → Sides → Sides
 with_invisible g s = record s { invisible = g }
 
@@ -70,5 +75,5 @@ origins_counted n [] = []
 origins_counted n (o ∷ os) = record o { cluster = min n most_cluster } ∷ origins_counted (n + 1) os
 
 -- all glyphs in clusters from 0 on (`reset_clusters`)
-abbrev pub with_counted : Sides → Sides
-with_counted s = with_glyphs (glyphs_counted 0 (all_glyphs s)) s
+abbrev pub with_reset_clusters : Sides → Sides
+with_reset_clusters s = with_glyphs (glyphs_counted 0 (all_glyphs s)) s

@@ -7,7 +7,7 @@ pub use Rattle.buffer_glyphs.specs.Items.{flags_of}
 use Rattle.buffer_glyphs.specs.Items.{Item, Position, strip, zero_position}
 use Rattle.buffer_glyphs.specs.Origins.{Origin, origins, Asks}
 use Rattle.buffer_glyphs.specs.Events.{Event, origins_after}
-use Rattle.buffer_core.specs.Readings.{View, Run}
+use Rattle.buffer_core.specs.Readings.{View, BufferState}
 use Rattle.buffer_common.specs.declared.constants.BufferFlags.{BufferFlags}
 use Rattle.buffer_common.specs.declared.direction.Direction.{Direction}
 use Rattle.buffer_common.specs.declared.direction.Direction.TheVariants.{Invalid}
@@ -53,16 +53,16 @@ abbrev pub items_of : Sides → List Item
 items_of s = strip (all_glyphs s)
 
 -- the scratch flags without HAS_GLYPH_FLAGS
-abbrev pub told_of : ℕ → ℕ
-told_of flags = bit_and flags 0xFFFF_FFDF
+abbrev pub stage_flags : ℕ → ℕ
+stage_flags flags = bit_and flags 0xFFFF_FFDF
 
 -- what pipeline stages see of a buffer; each draws random numbers from the state 1
 abbrev pub view_of : Sides → View
-view_of s = record { items = items_of s; positions = s.positions; lig_id = s.lig_id; max_ops = s.max_ops; random = 1; max_len = s.max_len; direction = s.direction; told = told_of s.scratch_flags }
+view_of s = record { items = items_of s; positions = s.positions; lig_id = s.lig_id; max_ops = s.max_ops; random = 1; max_len = s.max_len; direction = s.direction; scratch_flags = stage_flags s.scratch_flags }
 
 -- the requests for glyph flags
-abbrev pub asks_of : Sides → Asks
-asks_of s = record { concat = bit_and s.flags.0 64 == 64; tatweel = bit_and s.flags.0 128 == 128 }
+abbrev pub flag_requests_of : Sides → Asks
+flag_requests_of s = record { concat = bit_and s.flags.0 64 == 64; tatweel = bit_and s.flags.0 128 == 128 }
 
 -- the clusters and glyph flags of all glyphs
 abbrev pub origins_of : Sides → List Origin
@@ -70,11 +70,11 @@ origins_of s = origins (all_glyphs s)
 
 -- the clusters and glyph flags after events
 abbrev pub origins_by : List Event → Sides → List Origin
-origins_by es s = origins_after (asks_of s) s.level es (origins_of s)
+origins_by es s = origins_after (flag_requests_of s) s.level es (origins_of s)
 
 -- the state of a buffer as pipeline stages know it
-abbrev pub run_of : Sides → Run
-run_of s = record { view = view_of s; origins = origins_of s; level = s.level; asks = asks_of s }
+abbrev pub state_of : Sides → BufferState
+state_of s = record { view = view_of s; origins = origins_of s; level = s.level; asks = flag_requests_of s }
 
 -- the settings of a text that no pipeline stage changes
 pub record Settings : Type 0 where
@@ -141,8 +141,8 @@ abbrev pub with_output : Sides → Sides
 with_output s = record s { behind = []; ahead = all_glyphs s; positions = []; is_open = true; read = 0 }
 
 -- the first n glyphs ahead moved behind the cursor
-abbrev pub moved_on : ℕ → Sides → Sides
-moved_on n s = record s { behind = s.behind ++ take n s.ahead; ahead = drop n s.ahead; read = s.read + n }
+abbrev pub after_next_glyphs : ℕ → Sides → Sides
+after_next_glyphs n s = record s { behind = s.behind ++ take n s.ahead; ahead = drop n s.ahead; read = s.read + n }
 
 -- whether the output may have so many more glyphs
 abbrev pub has_output_room : ℕ → Sides → Bool
@@ -153,24 +153,24 @@ abbrev pub fits_next : ℕ → Sides → Bool
 fits_next n s = if s.is_open then has_output_room n s else true
 
 -- the buffer after a refusal for length: no later `sync` succeeds
-abbrev pub refused : Sides → Sides
-refused s = record s { has_refused = true }
+abbrev pub after_refusal : Sides → Sides
+after_refusal s = record s { has_refused = true }
 
 -- whether both sides fit in one list, after no refusal
 abbrev pub fits_joined : Sides → Bool
 fits_joined s = not s.has_refused && has_room 0 s
 
 -- both sides joined to one list with zero positions, and the cursor at its front (`sync`)
-abbrev pub synced : Sides → Sides
-synced s = record s { behind = []; ahead = all_glyphs s; positions = zero_positions (length (all_glyphs s)); is_open = false; read = 0 }
+abbrev pub after_sync : Sides → Sides
+after_sync s = record s { behind = []; ahead = all_glyphs s; positions = zero_positions (length (all_glyphs s)); is_open = false; read = 0 }
 
 -- other glyphs and positions, as many as before; the cursor stays
 abbrev pub with_list : List hb_glyph_info_t → List Position → Sides → Sides
 with_list gs ps s = record s { behind = take s.read gs; ahead = drop s.read gs; positions = ps }
 
 -- glyphs and positions reversed (`reverse`)
-abbrev pub reversed : Sides → Sides
-reversed s = with_list (reverse (all_glyphs s)) (reverse s.positions) s
+abbrev pub after_reverse : Sides → Sides
+after_reverse s = with_list (reverse (all_glyphs s)) (reverse s.positions) s
 
 -- a buffer with another cluster level
 abbrev pub with_level : BufferClusterLevel → Sides → Sides

@@ -6,24 +6,24 @@ use Rattle.buffer_glyphs.specs.declared.cause.ShapeCause.{ShapeCause}
 use Rattle.buffer_glyphs.specs.declared.level.BufferClusterLevel.{BufferClusterLevel}
 use Rattle.buffer_glyphs.specs.Origins.{Origin, Asks}
 use Rattle.buffer_glyphs.specs.Events.{Event, origins_after_event, origins_after}
-use Rattle.buffer_core.specs.Readings.{View, Read, Reading, Stage, then_read, then_reading, and_then, with_events, as_it_is, always, Run, run_after, Follows, read_of}
+use Rattle.buffer_core.specs.Readings.{View, Read, Reading, Stage, then_read, then_reading, and_then, with_events, as_it_is, always, BufferState, state_after, Follows, reading_of}
 use Rattle.buffer_glyphs.specs.Lemmas.Origins.{origins_after_both}
 
-pub run_after_both : (r s : Read) (run : Run) → run_after s (run_after r run) ≡ run_after (then_read r s) run
+pub run_after_both : (r s : Read) (run : BufferState) → state_after s (state_after r run) ≡ state_after (then_read r s) run
 run_after_both r s run = ap (λ os. record { view = s.view; origins = os; level = run.level; asks = run.asks }) (sym (origins_after_both run.asks run.level (r.events run.level) (s.events run.level) run.origins))
 
-follows_then_reading : (r : Read) (s : Reading) (old new : Run) → Follows s (run_after r old) new → Follows (then_reading r s) old new
+follows_then_reading : (r : Read) (s : Reading) (old new : BufferState) → Follows s (state_after r old) new → Follows (then_reading r s) old new
 follows_then_reading r (Ok s) old new g = g ∙ run_after_both r s old
 follows_then_reading r (Err e) old new g = absurd g
 
 -- the state after a reading and a stage follows the stage after the reading
-pub follows_then : (r : Reading) (next : Stage) (old mid new : Run) → Follows r old mid → Follows (read_of next mid) mid new → Follows (and_then r next) old new
-follows_then (Ok r) next old mid new f g = let P : Run → Type 0 = λ m. Follows (read_of next m) m new in follows_then_reading r (next r.view) old new (subst P f g)
+pub follows_then : (r : Reading) (next : Stage) (old mid new : BufferState) → Follows r old mid → Follows (reading_of next mid) mid new → Follows (and_then r next) old new
+follows_then (Ok r) next old mid new f g = let P : BufferState → Type 0 = λ m. Follows (reading_of next m) m new in follows_then_reading r (next r.view) old new (subst P f g)
 follows_then (Err e) next old mid new f g = absurd f
 
 -- a refusal after a reading
-pub refused_then : (r : Reading) (next : Stage) (old mid : Run) (e : ShapeCause) → Follows r old mid → read_of next mid ≡ Err e → and_then r next ≡ Err e
-refused_then (Ok r) next old mid e f g = ap (then_reading r) (ap next (sym (ap (λ (m : Run). m.view) f)) ∙ g)
+pub refused_then : (r : Reading) (next : Stage) (old mid : BufferState) (e : ShapeCause) → Follows r old mid → reading_of next mid ≡ Err e → and_then r next ≡ Err e
+refused_then (Ok r) next old mid e f g = ap (then_reading r) (ap next (sym (ap (λ (m : BufferState). m.view) f)) ∙ g)
 refused_then (Err e') next old mid e f g = absurd f
 
 -- a refusal before a stage
@@ -31,7 +31,7 @@ pub refused_first : (r : Reading) (next : Stage) (e : ShapeCause) → r ≡ Err 
 refused_first r next e h = rw h refl
 
 -- the state after events alone, at whatever level, follows their reading
-pub follows_events : (es : List Event) (v : View) (old new : Run) → new.view ≡ v → new.origins ≡ origins_after old.asks old.level es old.origins → new.level ≡ old.level → new.asks ≡ old.asks
+pub follows_events : (es : List Event) (v : View) (old new : BufferState) → new.view ≡ v → new.origins ≡ origins_after old.asks old.level es old.origins → new.level ≡ old.level → new.asks ≡ old.asks
     → Follows (Ok (with_events es v)) old new
 follows_events es v old new view origins level asks =
     ap (λ w. record { view = w; origins = new.origins; level = new.level; asks = new.asks }) view ∙ ap (λ os. record { view = v; origins = os; level = new.level; asks = new.asks }) origins
@@ -39,11 +39,11 @@ follows_events es v old new view origins level asks =
     ∙ ap (λ a. record { view = v; origins = origins_after old.asks old.level es old.origins; level = old.level; asks = a }) asks
 
 -- a state that stays follows the reading that changes nothing
-pub follows_same : (run : Run) → Follows (read_of as_it_is run) run run
+pub follows_same : (run : BufferState) → Follows (reading_of as_it_is run) run run
 follows_same run = refl
 
 -- a stage that never refuses, after a reading
-pub then_follows : (r : Reading) (next : View → Read) (old mid new : Run) → Follows r old mid → new ≡ run_after (next mid.view) mid → Follows (and_then r (always next)) old new
+pub then_follows : (r : Reading) (next : View → Read) (old mid new : BufferState) → Follows r old mid → new ≡ state_after (next mid.view) mid → Follows (and_then r (always next)) old new
 then_follows r next old mid new f g = follows_then r (always next) old mid new f g
 
 then_reading_assoc : (r s : Read) (q : Reading) → then_reading r (then_reading s q) ≡ then_reading (then_read r s) q
@@ -73,7 +73,7 @@ then_as_it_is (Ok r) = simp append-nil
 then_as_it_is (Err e) = refl
 
 -- a reading that comes after some events
-pub follows_happened : (es : List Event) (v : View) (q : Reading) (old mid new : Run) → mid.origins ≡ origins_after old.asks old.level es old.origins → mid.level ≡ old.level → mid.asks ≡ old.asks → Follows q mid new → Follows (then_reading (with_events es v) q) old new
+pub follows_happened : (es : List Event) (v : View) (q : Reading) (old mid new : BufferState) → mid.origins ≡ origins_after old.asks old.level es old.origins → mid.level ≡ old.level → mid.asks ≡ old.asks → Follows q mid new → Follows (then_reading (with_events es v) q) old new
 follows_happened es v (Ok s) old mid new origins level asks f =
     f ∙ ap (λ l. record { view = s.view; origins = origins_after mid.asks l (s.events l) mid.origins; level = l; asks = mid.asks }) level
     ∙ ap (λ a. record { view = s.view; origins = origins_after a old.level (s.events old.level) mid.origins; level = old.level; asks = a }) asks
@@ -82,7 +82,7 @@ follows_happened es v (Ok s) old mid new origins level asks f =
 follows_happened es v (Err e) old mid new origins level asks f = absurd f
 
 -- a reading from one state is followed from another that differs only in its view
-pub follows_from : (q : Reading) (old other new : Run) → old.origins ≡ other.origins → old.level ≡ other.level → old.asks ≡ other.asks → Follows q old new → Follows q other new
+pub follows_from : (q : Reading) (old other new : BufferState) → old.origins ≡ other.origins → old.level ≡ other.level → old.asks ≡ other.asks → Follows q old new → Follows q other new
 follows_from (Ok s) old other new origins level asks f =
     f ∙ ap (λ l. record { view = s.view; origins = origins_after old.asks l (s.events l) old.origins; level = l; asks = old.asks }) level
     ∙ ap (λ a. record { view = s.view; origins = origins_after a other.level (s.events other.level) old.origins; level = other.level; asks = a }) asks
@@ -90,10 +90,10 @@ follows_from (Ok s) old other new origins level asks f =
 follows_from (Err e) old other new origins level asks f = absurd f
 
 -- a reading leaves one state
-pub follows_once : (r : Reading) (old new other : Run) → Follows r old new → Follows r old other → new ≡ other
+pub follows_once : (r : Reading) (old new other : BufferState) → Follows r old new → Follows r old other → new ≡ other
 follows_once (Ok r) old new other f g = f ∙ sym g
 follows_once (Err e) old new other f g = absurd f
 
 -- states with the same view have the same reading, whatever their clusters, levels and flags are
-pub seen_alike : (stage : Stage) (old other : Run) → old.view ≡ other.view → read_of stage old ≡ read_of stage other
+pub seen_alike : (stage : Stage) (old other : BufferState) → old.view ≡ other.view → reading_of stage old ≡ reading_of stage other
 seen_alike stage old other e = ap stage e

@@ -24,13 +24,13 @@ added_glyph c k = record {
 }
 
 -- the glyphs of characters from a byte on
-abbrev pub added_from : ℕ → List ℕ → List hb_glyph_info_t
-added_from at [] = []
-added_from at (c ∷ cs) = added_glyph c at ∷ added_from (at + len_utf8 c) cs
+abbrev pub added_text_from : ℕ → List ℕ → List hb_glyph_info_t
+added_text_from at [] = []
+added_text_from at (c ∷ cs) = added_glyph c at ∷ added_text_from (at + len_utf8 c) cs
 
 -- the glyphs of the characters of a text
 abbrev pub added_text : List ℕ → List hb_glyph_info_t
-added_text text = added_from 0 (chars text)
+added_text text = added_text_from 0 (chars text)
 
 -- the items of the characters of a text
 abbrev pub text_items : List ℕ → List Item

@@ -35,6 +35,7 @@ use buffer_common::language::Language;
 use buffer_common::script::Script;
 use buffer_glyphs::info::hb_glyph_info_t;
 use buffer_glyphs::level::BufferClusterLevel;
+use buffer_glyphs::names::GlyphId;
 use buffer_glyphs::position::GlyphPosition;
 use buffer_lists::order::{ClusterOrder, KnownOrder};
 use std::alloc::Global;
@@ -60,8 +61,8 @@ pub struct hb_buffer_t {
     language: Option<Language>,
     pre_context: ArrayVec<char, 5>,
     post_context: ArrayVec<char, 5>,
-    invisible: Option<u32>,
-    not_found_variation_selector: Option<u32>,
+    invisible: Option<GlyphId>,
+    not_found_variation_selector: Option<GlyphId>,
     scratch_flags: hb_buffer_scratch_flags_t,
     flags: BufferFlags,
     // What is known of the order of clusters, so that a merge need not walk the whole list.

@@ -11,8 +11,8 @@ use Rattle.buffer_features.specs.declared.feature.Feature.{Feature}
 use Rattle.std.proofs.lemmas.List.Folds.{length-prefix_len}
 use Rattle.std.proofs.lemmas.Bool.{eqb-true, ltb-true, leb-true}
 use Rattle.buffer_features.specs.TextParser.{after_run, after_spaces, is_quote, is_tag_byte, tag_in, natural_in, integer_in, decimal_value, bool_of_word, bool_in}
-use Rattle.buffer_features.specs.FeatureText.{no_end, sign_in, quoted_tag_in, text_after, closed, ended, maybe_ended, started, unstarted, bracketed, range_in, place_of_integer, setting_in, value_in, whole_request, valued, ranged, tagged, feature_of}
-use Rattle.buffer_features.specs.FeatureGrammar.{IsSign, IsTagName, BeginsWithout, IsTagText, IsNumber, IsInteger, IsPlace, IsEnd, IsRange, IsSetting, IsValue, IsRequest, no_sign, plus_sign, minus_sign, bare, in_quotes, numbered, switched_on, switched_off, by_sign, plain, after_equal, natural, positive, negative, open_end, placed_end, no_range, every_place, one_place, up_to, from, from_to}
+use Rattle.buffer_features.specs.FeatureText.{no_end, sign_in, quoted_tag_in, text_after, range_close, range_end, range_maybe_end, range_after_start, range_without_start, range_in_brackets, range_in, index_of_integer, setting_in, value_in, whole_request, feature_with_value, feature_with_range, feature_with_tag, feature_of}
+use Rattle.buffer_features.specs.FeatureGrammar.{IsSign, IsTagName, BeginsWithout, IsTagText, IsNumber, IsInteger, IsIndex, IsEnd, IsRange, IsSetting, IsValue, IsRequest, no_sign, plus_sign, minus_sign, bare, in_quotes, numbered, switched_on, switched_off, by_sign, plain, after_equal, natural, positive, negative, open_end, placed_end, no_range, every_place, one_place, up_to, from, from_to}
 use Rattle.buffer_features.proofs.Runs.{by_cases, both_true, list_all-run, run_and_rest, after_run-stops, after_run-none, list_all-whole}
 use Rattle.std.specs.Option.{option_map}
 use Rattle.buffer_features.proofs.Options.{chained, mapped, chosen, pair_parts, some_parts, some_is}
@@ -118,41 +118,41 @@ closed_parts start end text found (left, e, pair) =
     (sym ends.0, sym ends.1, after_read 93 text left e ∙ ap (λ t. 93 ∷ t) equal.1)
 
 pub closed_read : (start end : ℕ) (text : List ℕ) (found : (ℕ × ℕ) × List ℕ)
-    → closed start end text ≡ Some found
+    → range_close start end text ≡ Some found
     → (found.0.0 ≡ start) × (found.0.1 ≡ end) × (text ≡ 93 ∷ found.1)
 closed_read start end text found h =
     let f : List ℕ → (ℕ × ℕ) × List ℕ = λ left. ((start, end), left) in
     closed_parts start end text found (mapped f (text_after 93 text) found h)
 
-pub place_moved : (text : List ℕ) (place other : ℕ) → other ≡ place → IsPlace text place → IsPlace text other
+pub place_moved : (text : List ℕ) (place other : ℕ) → other ≡ place → IsIndex text place → IsIndex text other
 place_moved text place other e is_place = record { value = is_place.value; written = is_place.written; is = e ∙ is_place.is }
 
-pub place_is : (text : List ℕ) (value : ℤ) → IsInteger text value → IsPlace text (place_of_integer value)
+pub place_is : (text : List ℕ) (value : ℤ) → IsInteger text value → IsIndex text (index_of_integer value)
 place_is text value written = record { value = value; written = written; is = refl }
 
 -- a start, and the end of a range with the text after it
 abbrev pub Placed : ℕ → List ℕ → (ℕ × ℕ) × List ℕ → Type 0
-Placed start text found = (b : List ℕ) × IsPlace b found.0.1 × (found.0.0 ≡ start) × (text ≡ b ++ (93 ∷ found.1))
+Placed start text found = (b : List ℕ) × IsIndex b found.0.1 × (found.0.0 ≡ start) × (text ≡ b ++ (93 ∷ found.1))
 
 abbrev pub Ended : ℕ → List ℕ → (ℕ × ℕ) × List ℕ → Type 0
 Ended start text found = (end : List ℕ) × IsEnd end found.0.1 × (found.0.0 ≡ start) × (text ≡ end ++ found.1)
 
 placed_parts : (start : ℕ) (text : List ℕ) (found : (ℕ × ℕ) × List ℕ) (number : ℤ × List ℕ)
     → Integer text number
-    → (found.0.0 ≡ start) × (found.0.1 ≡ place_of_integer number.0) × (number.1 ≡ 93 ∷ found.1)
+    → (found.0.0 ≡ start) × (found.0.1 ≡ index_of_integer number.0) × (number.1 ≡ 93 ∷ found.1)
     → Placed start text found
 placed_parts start text found number (b, written, whole) (s, e, bracket) =
-    (b, place_moved b (place_of_integer number.0) found.0.1 e (place_is b number.0 written), s, whole ∙ ap (λ t. b ++ t) bracket)
+    (b, place_moved b (index_of_integer number.0) found.0.1 e (place_is b number.0 written), s, whole ∙ ap (λ t. b ++ t) bracket)
 
 placed_found : (start : ℕ) (text : List ℕ) (found : (ℕ × ℕ) × List ℕ)
-    → (number : ℤ × List ℕ) × (integer_in text ≡ Some number) × (closed start (place_of_integer number.0) number.1 ≡ Some found)
+    → (number : ℤ × List ℕ) × (integer_in text ≡ Some number) × (range_close start (index_of_integer number.0) number.1 ≡ Some found)
     → Placed start text found
 placed_found start text found (number, e, h) =
-    placed_parts start text found number (integer_read text number e) (closed_read start (place_of_integer number.0) number.1 found h)
+    placed_parts start text found number (integer_read text number e) (closed_read start (index_of_integer number.0) number.1 found h)
 
-pub ended_read : (start : ℕ) (text : List ℕ) (found : (ℕ × ℕ) × List ℕ) → ended start text ≡ Some found → Placed start text found
+pub ended_read : (start : ℕ) (text : List ℕ) (found : (ℕ × ℕ) × List ℕ) → range_end start text ≡ Some found → Placed start text found
 ended_read start text found h =
-    let f : ℤ × List ℕ → Option ((ℕ × ℕ) × List ℕ) = λ number. closed start (place_of_integer number.0) number.1 in
+    let f : ℤ × List ℕ → Option ((ℕ × ℕ) × List ℕ) = λ number. range_close start (index_of_integer number.0) number.1 in
     placed_found start text found (chained f (integer_in text) found h)
 
 ended_by : (start : ℕ) (text : List ℕ) (found : (ℕ × ℕ) × List ℕ) → Placed start text found → Ended start text found
@@ -164,22 +164,22 @@ ended_open : (start : ℕ) (text : List ℕ) (found : (ℕ × ℕ) × List ℕ)
 ended_open start text found (s, e, bracket) = (codes "]", open_end refl e, s, bracket)
 
 ended_either : (start : ℕ) (text : List ℕ) (found : (ℕ × ℕ) × List ℕ)
-    → ((number : ℤ × List ℕ) × (integer_in text ≡ Some number) × (closed start (place_of_integer number.0) number.1 ≡ Some found))
-    ⊎ ((integer_in text ≡ None) × (closed start no_end text ≡ Some found))
+    → ((number : ℤ × List ℕ) × (integer_in text ≡ Some number) × (range_close start (index_of_integer number.0) number.1 ≡ Some found))
+    ⊎ ((integer_in text ≡ None) × (range_close start no_end text ≡ Some found))
     → Ended start text found
 ended_either start text found (inl placed) = ended_by start text found (placed_found start text found placed)
 ended_either start text found (inr (none, h)) = ended_open start text found (closed_read start no_end text found h)
 
-pub maybe_ended_read : (start : ℕ) (text : List ℕ) (found : (ℕ × ℕ) × List ℕ) → maybe_ended start text ≡ Some found → Ended start text found
+pub maybe_ended_read : (start : ℕ) (text : List ℕ) (found : (ℕ × ℕ) × List ℕ) → range_maybe_end start text ≡ Some found → Ended start text found
 maybe_ended_read start text found h =
-    let f : ℤ × List ℕ → Option ((ℕ × ℕ) × List ℕ) = λ number. closed start (place_of_integer number.0) number.1 in
-    ended_either start text found (chosen f (integer_in text) (closed start no_end text) (Some found) h)
+    let f : ℤ × List ℕ → Option ((ℕ × ℕ) × List ℕ) = λ number. range_close start (index_of_integer number.0) number.1 in
+    ended_either start text found (chosen f (integer_in text) (range_close start no_end text) (Some found) h)
 
 -- the rest of a range in brackets that begins so
 abbrev pub Bracketed : List ℕ → List ℕ → (ℕ × ℕ) × List ℕ → Type 0
 Bracketed front text found = (tail : List ℕ) × IsRange (91 ∷ (front ++ tail)) found.0.0 found.0.1 × (text ≡ tail ++ found.1)
 
-one_place_read : (a : List ℕ) (start : ℕ) (rest : List ℕ) (found : (ℕ × ℕ) × List ℕ) → IsPlace a start
+one_place_read : (a : List ℕ) (start : ℕ) (rest : List ℕ) (found : (ℕ × ℕ) × List ℕ) → IsIndex a start
     → Some ((start, min (start + 1) no_end), rest) ≡ Some found → Bracketed a (93 ∷ rest) found
 one_place_read a start rest found place h =
     let equal = some_parts h in
@@ -189,12 +189,12 @@ one_place_read a start rest found place h =
       ap (λ t. 93 ∷ t) equal.1,
     )
 
-from_read : (a : List ℕ) (start : ℕ) (rest : List ℕ) (found : (ℕ × ℕ) × List ℕ) → IsPlace a start
+from_read : (a : List ℕ) (start : ℕ) (rest : List ℕ) (found : (ℕ × ℕ) × List ℕ) → IsIndex a start
     → Ended start rest found → Bracketed a (58 ∷ rest) found
 from_read a start rest found place (end, is_end, s, whole) =
     (58 ∷ end, from a end (place_moved a start found.0.0 s place) is_end refl, ap (λ t. 58 ∷ t) whole)
 
-from_to_read : (a : List ℕ) (start : ℕ) (rest : List ℕ) (found : (ℕ × ℕ) × List ℕ) → IsPlace a start
+from_to_read : (a : List ℕ) (start : ℕ) (rest : List ℕ) (found : (ℕ × ℕ) × List ℕ) → IsIndex a start
     → Placed start rest found → Bracketed a (59 ∷ rest) found
 from_to_read a start rest found place (b, is_place, s, whole) = (
   59 ∷ (b ++ codes "]"),
@@ -202,8 +202,8 @@ from_to_read a start rest found place (b, is_place, s, whole) = (
   ap (λ t. 59 ∷ t) (whole ∙ sym (append_assoc b (codes "]") found.1)),
 )
 
-pub started_read : (a : List ℕ) (start : ℕ) (text : List ℕ) (found : (ℕ × ℕ) × List ℕ) → IsPlace a start
-    → started start text ≡ Some found → Bracketed a text found
+pub started_read : (a : List ℕ) (start : ℕ) (text : List ℕ) (found : (ℕ × ℕ) × List ℕ) → IsIndex a start
+    → range_after_start start text ≡ Some found → Bracketed a text found
 started_read a start [] found place h = cc
 started_read a start (byte ∷ rest) found place h =
     by_cases (byte == 93)
@@ -223,7 +223,7 @@ every_place_read rest found h =
 up_to_read : (rest : List ℕ) (found : (ℕ × ℕ) × List ℕ) → Ended 0 rest found → Bracketed [] (58 ∷ rest) found
 up_to_read rest found (end, is_end, s, whole) = (58 ∷ end, up_to end is_end refl s, ap (λ t. 58 ∷ t) whole)
 
-pub unstarted_read : (text : List ℕ) (found : (ℕ × ℕ) × List ℕ) → unstarted text ≡ Some found → Bracketed [] text found
+pub unstarted_read : (text : List ℕ) (found : (ℕ × ℕ) × List ℕ) → range_without_start text ≡ Some found → Bracketed [] text found
 unstarted_read [] found h = cc
 unstarted_read (byte ∷ rest) found h =
     by_cases (byte == 93)
@@ -237,21 +237,21 @@ bracket_started text found a rest whole (tail, range, more) =
     (a ++ tail, range, whole ∙ ap (λ t. a ++ t) more ∙ sym (append_assoc a tail found.1))
 
 bracket_number : (text : List ℕ) (found : (ℕ × ℕ) × List ℕ) (number : ℤ × List ℕ)
-    → started (place_of_integer number.0) number.1 ≡ Some found → Integer text number → Bracketed [] text found
+    → range_after_start (index_of_integer number.0) number.1 ≡ Some found → Integer text number → Bracketed [] text found
 bracket_number text found number h (a, written, whole) =
-    bracket_started text found a number.1 whole (started_read a (place_of_integer number.0) number.1 found (place_is a number.0 written) h)
+    bracket_started text found a number.1 whole (started_read a (index_of_integer number.0) number.1 found (place_is a number.0 written) h)
 
 bracket_either : (text : List ℕ) (found : (ℕ × ℕ) × List ℕ)
-    → ((number : ℤ × List ℕ) × (integer_in text ≡ Some number) × (started (place_of_integer number.0) number.1 ≡ Some found))
-    ⊎ ((integer_in text ≡ None) × (unstarted text ≡ Some found))
+    → ((number : ℤ × List ℕ) × (integer_in text ≡ Some number) × (range_after_start (index_of_integer number.0) number.1 ≡ Some found))
+    ⊎ ((integer_in text ≡ None) × (range_without_start text ≡ Some found))
     → Bracketed [] text found
 bracket_either text found (inl (number, e, h)) = bracket_number text found number h (integer_read text number e)
 bracket_either text found (inr (none, h)) = unstarted_read text found h
 
-pub bracketed_read : (text : List ℕ) (found : (ℕ × ℕ) × List ℕ) → bracketed text ≡ Some found → Bracketed [] text found
+pub bracketed_read : (text : List ℕ) (found : (ℕ × ℕ) × List ℕ) → range_in_brackets text ≡ Some found → Bracketed [] text found
 bracketed_read text found h =
-    let f : ℤ × List ℕ → Option ((ℕ × ℕ) × List ℕ) = λ number. started (place_of_integer number.0) number.1 in
-    bracket_either text found (chosen f (integer_in text) (unstarted text) (Some found) h)
+    let f : ℤ × List ℕ → Option ((ℕ × ℕ) × List ℕ) = λ number. range_after_start (index_of_integer number.0) number.1 in
+    bracket_either text found (chosen f (integer_in text) (range_without_start text) (Some found) h)
 
 -- a range and the text after it
 abbrev pub Ranged : List ℕ → (ℕ × ℕ) × List ℕ → Type 0
@@ -464,10 +464,10 @@ whole_read tag range (value, []) feature h =
     (refl, ap (λ (f : Feature). f.tag) is, ap (λ (f : Feature). f.value) is, ap (λ (f : Feature). f.start) is, ap (λ (f : Feature). f.end) is)
 whole_read tag range (value, (byte ∷ rest)) feature h = cc
 
-request_built : (text : List ℕ) (feature : Feature) (signed : ℕ × List ℕ) (tagged : Tag × List ℕ) (ranged : (ℕ × ℕ) × List ℕ) (valued : ℕ × List ℕ)
-    → Signed (after_spaces text) signed → Tagged (after_spaces signed.1) tagged → Ranged (after_spaces tagged.1) ranged
-    → Valued signed.0 (after_spaces ranged.1) valued
-    → (after_spaces valued.1 ≡ []) × (tagged.0 ≡ feature.tag) × (valued.0 ≡ feature.value) × (ranged.0.0 ≡ feature.start) × (ranged.0.1 ≡ feature.end)
+request_built : (text : List ℕ) (feature : Feature) (signed : ℕ × List ℕ) (feature_with_tag : Tag × List ℕ) (feature_with_range : (ℕ × ℕ) × List ℕ) (feature_with_value : ℕ × List ℕ)
+    → Signed (after_spaces text) signed → Tagged (after_spaces signed.1) feature_with_tag → Ranged (after_spaces feature_with_tag.1) feature_with_range
+    → Valued signed.0 (after_spaces feature_with_range.1) feature_with_value
+    → (after_spaces feature_with_value.1 ≡ []) × (feature_with_tag.0 ≡ feature.tag) × (feature_with_value.0 ≡ feature.value) × (feature_with_range.0.0 ≡ feature.start) × (feature_with_range.0.1 ≡ feature.end)
     → IsRequest text feature
 request_built text feature (default, text1) (tag, text3) ((start, end), text5) (value, text7)
     (sign_text, is_sign, sign_whole) (tag_text, is_tag, tag_whole) (range_text, is_range, range_whole) (value_text, is_value, value_whole)
@@ -502,33 +502,33 @@ request_built text feature (default, text1) (tag, text3) ((start, end), text5) (
       value_is = subst V value_is is_value;
     }
 
-valued_found : (text : List ℕ) (feature : Feature) (signed : ℕ × List ℕ) (tagged : Tag × List ℕ) (ranged : (ℕ × ℕ) × List ℕ)
-    → Signed (after_spaces text) signed → Tagged (after_spaces signed.1) tagged → Ranged (after_spaces tagged.1) ranged
-    → (found : ℕ × List ℕ) × (value_in signed.0 (after_spaces ranged.1) ≡ Some found) × (valued tagged.0 ranged.0 found ≡ Some feature)
+valued_found : (text : List ℕ) (feature : Feature) (signed : ℕ × List ℕ) (feature_with_tag : Tag × List ℕ) (feature_with_range : (ℕ × ℕ) × List ℕ)
+    → Signed (after_spaces text) signed → Tagged (after_spaces signed.1) feature_with_tag → Ranged (after_spaces feature_with_tag.1) feature_with_range
+    → (found : ℕ × List ℕ) × (value_in signed.0 (after_spaces feature_with_range.1) ≡ Some found) × (feature_with_value feature_with_tag.0 feature_with_range.0 found ≡ Some feature)
     → IsRequest text feature
-valued_found text feature signed tagged ranged is_signed is_tagged is_ranged (found, e, h) =
-    request_built text feature signed tagged ranged found is_signed is_tagged is_ranged
-    (value_read signed.0 (after_spaces ranged.1) found (after_run-stops is_ascii_whitespace ranged.1) e)
-    (whole_read tagged.0 ranged.0 (found.0, after_spaces found.1) feature h)
+valued_found text feature signed feature_with_tag feature_with_range is_signed is_tagged is_ranged (found, e, h) =
+    request_built text feature signed feature_with_tag feature_with_range found is_signed is_tagged is_ranged
+    (value_read signed.0 (after_spaces feature_with_range.1) found (after_run-stops is_ascii_whitespace feature_with_range.1) e)
+    (whole_read feature_with_tag.0 feature_with_range.0 (found.0, after_spaces found.1) feature h)
 
-ranged_found : (text : List ℕ) (feature : Feature) (signed : ℕ × List ℕ) (tagged : Tag × List ℕ)
-    → Signed (after_spaces text) signed → Tagged (after_spaces signed.1) tagged
-    → (found : (ℕ × ℕ) × List ℕ) × (range_in (after_spaces tagged.1) ≡ Some found) × (ranged tagged.0 signed.0 found ≡ Some feature)
+ranged_found : (text : List ℕ) (feature : Feature) (signed : ℕ × List ℕ) (feature_with_tag : Tag × List ℕ)
+    → Signed (after_spaces text) signed → Tagged (after_spaces signed.1) feature_with_tag
+    → (found : (ℕ × ℕ) × List ℕ) × (range_in (after_spaces feature_with_tag.1) ≡ Some found) × (feature_with_range feature_with_tag.0 signed.0 found ≡ Some feature)
     → IsRequest text feature
-ranged_found text feature signed tagged is_signed is_tagged (found, e, h) =
-    valued_found text feature signed tagged found is_signed is_tagged (range_read (after_spaces tagged.1) found e)
-    (chained (valued tagged.0 found.0) (value_in signed.0 (after_spaces found.1)) feature h)
+ranged_found text feature signed feature_with_tag is_signed is_tagged (found, e, h) =
+    valued_found text feature signed feature_with_tag found is_signed is_tagged (range_read (after_spaces feature_with_tag.1) found e)
+    (chained (feature_with_value feature_with_tag.0 found.0) (value_in signed.0 (after_spaces found.1)) feature h)
 
 tagged_found : (text : List ℕ) (feature : Feature) (signed : ℕ × List ℕ)
     → Signed (after_spaces text) signed
-    → (found : Tag × List ℕ) × (quoted_tag_in (after_spaces signed.1) ≡ Some found) × (tagged signed.0 found ≡ Some feature)
+    → (found : Tag × List ℕ) × (quoted_tag_in (after_spaces signed.1) ≡ Some found) × (feature_with_tag signed.0 found ≡ Some feature)
     → IsRequest text feature
 tagged_found text feature signed is_signed (found, e, h) =
     ranged_found text feature signed found is_signed (quoted_tag_read (after_spaces signed.1) found e)
-    (chained (ranged found.0 signed.0) (range_in (after_spaces found.1)) feature h)
+    (chained (feature_with_range found.0 signed.0) (range_in (after_spaces found.1)) feature h)
 
 pub request_read : (text : List ℕ) (feature : Feature) → feature_of text ≡ Some feature → IsRequest text feature
 request_read text feature h =
     let signed : ℕ × List ℕ = sign_in (after_spaces text) in
     tagged_found text feature signed (sign_read (after_spaces text))
-    (chained (tagged signed.0) (quoted_tag_in (after_spaces signed.1)) feature h)
+    (chained (feature_with_tag signed.0) (quoted_tag_in (after_spaces signed.1)) feature h)

@@ -10,8 +10,8 @@ use Rattle.buffer_common.specs.declared.tag.Tag.{Tag}
 use Rattle.buffer_common.specs.Tag.{tag_of_text}
 use Rattle.buffer_features.specs.declared.feature.Feature.{Feature}
 use Rattle.buffer_features.specs.TextParser.{after_run, after_spaces, is_quote, is_tag_byte, tag_in, natural_in, integer_in, decimal_value, bool_of_word, bool_in}
-use Rattle.buffer_features.specs.FeatureText.{no_end, sign_in, quoted_tag_in, text_after, maybe_ended, range_in, place_of_integer, setting_in, value_in, valued, ranged, tagged, signed, feature_of}
-use Rattle.buffer_features.specs.FeatureGrammar.{AreSpaces, IsSign, IsTagName, BeginsWithout, IsTagText, IsNumber, IsInteger, IsPlace, IsEnd, IsRange, IsSetting, IsValue, IsRequest, no_sign, plus_sign, minus_sign, bare, in_quotes, numbered, switched_on, switched_off, by_sign, plain, after_equal, natural, positive, negative, open_end, placed_end, no_range, every_place, one_place, up_to, from, from_to}
+use Rattle.buffer_features.specs.FeatureText.{no_end, sign_in, quoted_tag_in, text_after, range_maybe_end, range_in, index_of_integer, setting_in, value_in, feature_with_value, feature_with_range, feature_with_tag, feature_with_sign, feature_of}
+use Rattle.buffer_features.specs.FeatureGrammar.{AreSpaces, IsSign, IsTagName, BeginsWithout, IsTagText, IsNumber, IsInteger, IsIndex, IsEnd, IsRange, IsSetting, IsValue, IsRequest, no_sign, plus_sign, minus_sign, bare, in_quotes, numbered, switched_on, switched_off, by_sign, plain, after_equal, natural, positive, negative, open_end, placed_end, no_range, every_place, one_place, up_to, from, from_to}
 use Rattle.buffer_features.proofs.Runs.{both_true, prefix_len-run, take_while-run, after_run-run, after_run-more, after_run-none, after_run-stops}
 use Rattle.buffer_features.proofs.Bytes.{IsPlain, tag_byte_is_plain, tag_byte-quote, quote_is_plain, quote-tag_byte, digit_is_plain, space-digit, space-letter, letter, letter_is_plain, letter-digit}
 
@@ -52,11 +52,11 @@ integer_written text value rest (natural number v) stops = rw v (unsigned_writte
 integer_written text value rest (positive digits number e v) stops = rw (e, v) (positive_written digits rest number stops)
 integer_written text value rest (negative digits number e v) stops = rw (e, v) (negative_written digits rest number stops)
 
-pub end_written : (start : ℕ) (text : List ℕ) (end : ℕ) (rest : List ℕ) → IsEnd text end → maybe_ended start (text ++ rest) ≡ Some ((start, end), rest)
+pub end_written : (start : ℕ) (text : List ℕ) (end : ℕ) (rest : List ℕ) → IsEnd text end → range_maybe_end start (text ++ rest) ≡ Some ((start, end), rest)
 end_written start text end rest (open_end e v) = rw (e, v) refl
 end_written start text end rest (placed_end b place e) =
     let found : integer_in (b ++ (93 ∷ rest)) ≡ Some (place.value, 93 ∷ rest) = integer_written b place.value (93 ∷ rest) place.written refl in
-    let is : end ≡ place_of_integer place.value = place.is in
+    let is : end ≡ index_of_integer place.value = place.is in
     rw (e, append_assoc b (codes "]") rest, found, is) refl
 
 -- a range in brackets is read whole
@@ -65,29 +65,29 @@ pub record IsRead (range : List ℕ) (start end : ℕ) : Type 0 where
   pub is : range ≡ 91 ∷ inside
   pub found : (rest : List ℕ) → range_in (range ++ rest) ≡ Some ((start, end), rest)
 
-one_place_written : (n : List ℕ) (start : ℕ) (rest : List ℕ) → IsPlace n start
+one_place_written : (n : List ℕ) (start : ℕ) (rest : List ℕ) → IsIndex n start
     → range_in (91 ∷ ((n ++ codes "]") ++ rest)) ≡ Some ((start, min (start + 1) no_end), rest)
 one_place_written n start rest place =
     let found : integer_in (n ++ (93 ∷ rest)) ≡ Some (place.value, 93 ∷ rest) = integer_written n place.value (93 ∷ rest) place.written refl in
-    let is : start ≡ place_of_integer place.value = place.is in
+    let is : start ≡ index_of_integer place.value = place.is in
     rw (append_assoc n (codes "]") rest, found, is) refl
 
-from_written : (a b : List ℕ) (start end : ℕ) (rest : List ℕ) → IsPlace a start → IsEnd b end
+from_written : (a b : List ℕ) (start end : ℕ) (rest : List ℕ) → IsIndex a start → IsEnd b end
     → range_in (91 ∷ ((a ++ (58 ∷ b)) ++ rest)) ≡ Some ((start, end), rest)
 from_written a b start end rest place is_end =
     let found : integer_in (a ++ (58 ∷ (b ++ rest))) ≡ Some (place.value, 58 ∷ (b ++ rest)) =
     integer_written a place.value (58 ∷ (b ++ rest)) place.written refl in
-    let is : start ≡ place_of_integer place.value = place.is in
-    rw (append_assoc a (58 ∷ b) rest, found, is) (end_written (place_of_integer place.value) b end rest is_end)
+    let is : start ≡ index_of_integer place.value = place.is in
+    rw (append_assoc a (58 ∷ b) rest, found, is) (end_written (index_of_integer place.value) b end rest is_end)
 
-from_to_written : (a b : List ℕ) (start end : ℕ) (rest : List ℕ) → IsPlace a start → IsPlace b end
+from_to_written : (a b : List ℕ) (start end : ℕ) (rest : List ℕ) → IsIndex a start → IsIndex b end
     → range_in (91 ∷ ((a ++ (59 ∷ (b ++ codes "]"))) ++ rest)) ≡ Some ((start, end), rest)
 from_to_written a b start end rest place last =
     let found_end : integer_in (b ++ (93 ∷ rest)) ≡ Some (last.value, 93 ∷ rest) = integer_written b last.value (93 ∷ rest) last.written refl in
     let found : integer_in (a ++ (59 ∷ (b ++ (93 ∷ rest)))) ≡ Some (place.value, 59 ∷ (b ++ (93 ∷ rest))) =
     integer_written a place.value (59 ∷ (b ++ (93 ∷ rest))) place.written refl in
-    let is : start ≡ place_of_integer place.value = place.is in
-    let end_is : end ≡ place_of_integer last.value = last.is in
+    let is : start ≡ index_of_integer place.value = place.is in
+    let end_is : end ≡ index_of_integer last.value = last.is in
     rw (append_assoc a (59 ∷ (b ++ codes "]")) rest, append_assoc b (codes "]") rest, found, found_end, is, end_is) refl
 
 pub range_written : (range : List ℕ) (start end : ℕ) → IsRange range start end
@@ -298,18 +298,18 @@ value_written default text value after (after_equal spaces setting between is e)
 
 -- the parts of a chain, each by what the one before it leaves
 whole_written : (feature : Feature) (left : List ℕ) → after_spaces left ≡ []
-    → valued feature.tag (feature.start, feature.end) (feature.value, left) ≡ Some feature
+    → feature_with_value feature.tag (feature.start, feature.end) (feature.value, left) ≡ Some feature
 whole_written feature left nothing = rw nothing refl
 
 value_step : (feature : Feature) (default : ℕ) (left : List ℕ) → ValueRead default (after_spaces left) feature.value
-    → ranged feature.tag default ((feature.start, feature.end), left) ≡ Some feature
+    → feature_with_range feature.tag default ((feature.start, feature.end), left) ≡ Some feature
 value_step feature default left read =
     let found : value_in default (after_spaces left) ≡ Some (feature.value, read.left) = read.found in
     rw found (whole_written feature read.left read.nothing)
 
 range_step : (feature : Feature) (default : ℕ) (text left : List ℕ)
     → range_in (after_spaces text) ≡ Some ((feature.start, feature.end), left) → ValueRead default (after_spaces left) feature.value
-    → tagged default (feature.tag, text) ≡ Some feature
+    → feature_with_tag default (feature.tag, text) ≡ Some feature
 range_step feature default text left found read = rw found (value_step feature default left read)
 
 unbracketed : (text : List ℕ) → BeginsWithout (λ byte. byte == 91) text → range_in text ≡ Some ((0, no_end), text)
@@ -317,7 +317,7 @@ unbracketed [] none = refl
 unbracketed (byte ∷ rest) none = rw none refl
 
 range_none : (feature : Feature) (default : ℕ) (text : List ℕ) → feature.start ≡ 0 → feature.end ≡ no_end
-    → ValueRead default (after_spaces text) feature.value → tagged default (feature.tag, text) ≡ Some feature
+    → ValueRead default (after_spaces text) feature.value → feature_with_tag default (feature.tag, text) ≡ Some feature
 range_none feature default text s e read =
     let again : after_spaces (after_spaces text) ≡ after_spaces text =
     after_run-none is_ascii_whitespace (after_spaces text) (after_run-stops is_ascii_whitespace text) in
@@ -329,7 +329,7 @@ range_none feature default text s e read =
 
 range_there : (feature : Feature) (default : ℕ) (between range after : List ℕ) → AreSpaces between
     → IsRead range feature.start feature.end → ValueRead default (after_spaces after) feature.value
-    → tagged default (feature.tag, between ++ (range ++ after)) ≡ Some feature
+    → feature_with_tag default (feature.tag, between ++ (range ++ after)) ≡ Some feature
 range_there feature default between range after all read value =
     let is : range ≡ 91 ∷ read.inside = read.is in
     let begins : after_spaces (between ++ (range ++ after)) ≡ range ++ after =
@@ -338,16 +338,16 @@ range_there feature default between range after all read value =
 
 signed_step : (feature : Feature) (found : ℕ × List ℕ) (default : ℕ) (text after : List ℕ)
     → found.0 ≡ default → after_spaces found.1 ≡ text → quoted_tag_in text ≡ Some (feature.tag, after)
-    → tagged default (feature.tag, after) ≡ Some feature → signed found ≡ Some feature
+    → feature_with_tag default (feature.tag, after) ≡ Some feature → feature_with_sign found ≡ Some feature
 signed_step feature (d, rest) default text after e begins read more = rw (e, begins, read) more
 
 tag_step : (feature : Feature) (sign : List ℕ) (default : ℕ) (between tag after : List ℕ) → IsSign sign default → AreSpaces between
     → Begins tag × (quoted_tag_in (tag ++ after) ≡ Some (feature.tag, after))
-    → tagged default (feature.tag, after) ≡ Some feature
-    → signed (sign_in (after_spaces (sign ++ (between ++ (tag ++ after))))) ≡ Some feature
+    → feature_with_tag default (feature.tag, after) ≡ Some feature
+    → feature_with_sign (sign_in (after_spaces (sign ++ (between ++ (tag ++ after))))) ≡ Some feature
 tag_step feature sign default between tag after is_sign all (begins, read) more =
     let is : tag ≡ begins.byte ∷ begins.bytes = begins.is in
-    let P : List ℕ → Type 0 = λ t. signed (sign_in (after_spaces (sign ++ (between ++ (t ++ after))))) ≡ Some feature in
+    let P : List ℕ → Type 0 = λ t. feature_with_sign (sign_in (after_spaces (sign ++ (between ++ (t ++ after))))) ≡ Some feature in
     let Q : List ℕ → Type 0 = λ t. quoted_tag_in (t ++ after) ≡ Some (feature.tag, after) in
     let parts = sign_written sign default between begins.byte (begins.bytes ++ after) is_sign all begins.is_plain in
     subst P (sym is)
@@ -357,7 +357,7 @@ tag_step feature sign default between tag after is_sign all (begins, read) more 
 range_step_either : (feature : Feature) (default : ℕ) (between range after : List ℕ) → AreSpaces between
     → IsRead range feature.start feature.end ⊎ ((range ≡ []) × (feature.start ≡ 0) × (feature.end ≡ no_end))
     → ValueRead default (after_spaces after) feature.value
-    → tagged default (feature.tag, between ++ (range ++ after)) ≡ Some feature
+    → feature_with_tag default (feature.tag, between ++ (range ++ after)) ≡ Some feature
 range_step_either feature default between range after all (inl read) value = range_there feature default between range after all read value
 range_step_either feature default between range after all (inr (e, s, l)) value =
     let more : after_spaces (between ++ after) ≡ after_spaces after = after_run-more is_ascii_whitespace between after all in
@@ -375,13 +375,13 @@ request_written text feature request =
     let read : ValueRead request.default (after_spaces value_text) feature.value =
     value_written request.default request.value feature.value request.after request.value_is all.4 in
     let V : List ℕ → Type 0 = λ t. ValueRead request.default t feature.value in
-    let ranged_is : tagged request.default (feature.tag, tag_text) ≡ Some feature =
+    let ranged_is : feature_with_tag request.default (feature.tag, tag_text) ≡ Some feature =
     range_step_either feature request.default request.after_tag request.range range_text all.2
     (range_written request.range feature.start feature.end request.range_is) (subst V (sym more) read) in
-    let signed_is : signed (sign_in (after_spaces sign_text)) ≡ Some feature =
+    let signed_is : feature_with_sign (sign_in (after_spaces sign_text)) ≡ Some feature =
     tag_step feature request.sign request.default request.after_sign request.tag tag_text request.sign_is all.1
     (tag_written request.tag feature.tag tag_text request.tag_is) ranged_is in
     let start : after_spaces (request.before ++ sign_text) ≡ after_spaces sign_text = after_run-more is_ascii_whitespace request.before sign_text all.0 in
-    let F : List ℕ → Type 0 = λ t. signed (sign_in t) ≡ Some feature in
+    let F : List ℕ → Type 0 = λ t. feature_with_sign (sign_in t) ≡ Some feature in
     let T : List ℕ → Type 0 = λ t. feature_of t ≡ Some feature in
     subst T (sym whole) (subst F (sym start) signed_is)

@@ -7,7 +7,7 @@ use Rattle.buffer_common.specs.Tag.{tag_of_text}
 use Rattle.buffer_features.specs.declared.feature.Feature.{Feature}
 use Rattle.buffer_features.specs.declared.feature.InvalidFeature.{InvalidFeature}
 use Rattle.buffer_features.specs.TextParser.{is_quote, is_tag_byte, decimal_value}
-use Rattle.buffer_features.specs.FeatureText.{no_end, place_of_integer, feature_of_text}
+use Rattle.buffer_features.specs.FeatureText.{no_end, index_of_integer, feature_of_text}
 
 -- white space of ASCII, or nothing
 abbrev pub AreSpaces : List ℕ → Type 0
@@ -49,24 +49,24 @@ pub data IsInteger (text : List ℕ) (value : ℤ) : Type 0 where
   negative : (digits : List ℕ) → IsNumber (2 ^ 31) digits → text ≡ 45 ∷ digits → value ≡ neg_ℤ (pos (decimal_value digits)) → IsInteger text value
 
 -- a bound of a range: such a number modulo 2^32
-pub record IsPlace (text : List ℕ) (place : ℕ) : Type 0 where
+pub record IsIndex (text : List ℕ) (place : ℕ) : Type 0 where
   pub value : ℤ
   pub written : IsInteger text value
-  pub is : place ≡ place_of_integer value
+  pub is : place ≡ index_of_integer value
 
 -- the end of a range: `]` or `b]`
 pub data IsEnd (text : List ℕ) (end : ℕ) : Type 0 where
   open_end : text ≡ codes "]" → end ≡ no_end → IsEnd text end
-  placed_end : (b : List ℕ) → IsPlace b end → text ≡ b ++ codes "]" → IsEnd text end
+  placed_end : (b : List ℕ) → IsIndex b end → text ≡ b ++ codes "]" → IsEnd text end
 
 -- a range: nothing, `[]`, `[n]`, `[:]`, `[:b]`, `[a:]`, `[a:b]` or `[a;b]`
 pub data IsRange (text : List ℕ) (start end : ℕ) : Type 0 where
   no_range : text ≡ [] → start ≡ 0 → end ≡ no_end → IsRange text start end
   every_place : text ≡ codes "[]" → start ≡ 0 → end ≡ no_end → IsRange text start end
-  one_place : (n : List ℕ) → IsPlace n start → text ≡ 91 ∷ (n ++ codes "]") → end ≡ min (start + 1) no_end → IsRange text start end
+  one_place : (n : List ℕ) → IsIndex n start → text ≡ 91 ∷ (n ++ codes "]") → end ≡ min (start + 1) no_end → IsRange text start end
   up_to : (b : List ℕ) → IsEnd b end → text ≡ 91 ∷ 58 ∷ b → start ≡ 0 → IsRange text start end
-  from : (a b : List ℕ) → IsPlace a start → IsEnd b end → text ≡ 91 ∷ (a ++ (58 ∷ b)) → IsRange text start end
-  from_to : (a b : List ℕ) → IsPlace a start → IsPlace b end → text ≡ 91 ∷ (a ++ (59 ∷ (b ++ codes "]"))) → IsRange text start end
+  from : (a b : List ℕ) → IsIndex a start → IsEnd b end → text ≡ 91 ∷ (a ++ (58 ∷ b)) → IsRange text start end
+  from_to : (a b : List ℕ) → IsIndex a start → IsIndex b end → text ≡ 91 ∷ (a ++ (59 ∷ (b ++ codes "]"))) → IsRange text start end
 
 -- a setting: a number below 2^32, or `on` for 1, or `off` for 0, in any case
 pub data IsSetting (text : List ℕ) (value : ℕ) : Type 0 where

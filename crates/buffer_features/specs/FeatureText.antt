@@ -32,47 +32,47 @@ quoted_tag_in (first ∷ rest) =
     else tag_in (first ∷ rest)
 
 -- a bound of a range, modulo 2^32
-abbrev pub place_of_integer : ℤ → ℕ
-place_of_integer number = cast_unsigned w32 number
+abbrev pub index_of_integer : ℤ → ℕ
+index_of_integer number = cast_unsigned w32 number
 
 -- the text after `]`
-abbrev pub closed : ℕ → ℕ → List ℕ → Option ((ℕ × ℕ) × List ℕ)
-closed start end text = option_map (λ left. ((start, end), left)) (text_after 93 text)
+abbrev pub range_close : ℕ → ℕ → List ℕ → Option ((ℕ × ℕ) × List ℕ)
+range_close start end text = option_map (λ left. ((start, end), left)) (text_after 93 text)
 
 -- the end of a range, `b]`
-abbrev pub ended : ℕ → List ℕ → Option ((ℕ × ℕ) × List ℕ)
-ended start text = option_and_then (λ found. closed start (place_of_integer found.0) found.1) (integer_in text)
+abbrev pub range_end : ℕ → List ℕ → Option ((ℕ × ℕ) × List ℕ)
+range_end start text = option_and_then (λ found. range_close start (index_of_integer found.0) found.1) (integer_in text)
 
 -- the end of a range, `b]` or `]`
-abbrev pub maybe_ended : ℕ → List ℕ → Option ((ℕ × ℕ) × List ℕ)
-maybe_ended start text =
-    option_map_or (λ found. closed start (place_of_integer found.0) found.1) (integer_in text) (closed start no_end text)
+abbrev pub range_maybe_end : ℕ → List ℕ → Option ((ℕ × ℕ) × List ℕ)
+range_maybe_end start text =
+    option_map_or (λ found. range_close start (index_of_integer found.0) found.1) (integer_in text) (range_close start no_end text)
 
 -- the rest of a range after its start: `]` for that index only, `:` with an end or none, `;` with an end
-abbrev pub started : ℕ → List ℕ → Option ((ℕ × ℕ) × List ℕ)
-started start [] = None
-started start (byte ∷ rest) =
+abbrev pub range_after_start : ℕ → List ℕ → Option ((ℕ × ℕ) × List ℕ)
+range_after_start start [] = None
+range_after_start start (byte ∷ rest) =
     if byte == 93 then Some ((start, min (start + 1) no_end), rest)
-    else if byte == 58 then maybe_ended start rest
-    else if byte == 59 then ended start rest
+    else if byte == 58 then range_maybe_end start rest
+    else if byte == 59 then range_end start rest
     else None
 
 -- a range without a start: `]`, or `:` with an end or none
-abbrev pub unstarted : List ℕ → Option ((ℕ × ℕ) × List ℕ)
-unstarted [] = None
-unstarted (byte ∷ rest) =
+abbrev pub range_without_start : List ℕ → Option ((ℕ × ℕ) × List ℕ)
+range_without_start [] = None
+range_without_start (byte ∷ rest) =
     if byte == 93 then Some ((0, no_end), rest)
-    else if byte == 58 then maybe_ended 0 rest
+    else if byte == 58 then range_maybe_end 0 rest
     else None
 
 -- the rest of a range after `[`
-abbrev pub bracketed : List ℕ → Option ((ℕ × ℕ) × List ℕ)
-bracketed text = option_map_or (λ found. started (place_of_integer found.0) found.1) (integer_in text) (unstarted text)
+abbrev pub range_in_brackets : List ℕ → Option ((ℕ × ℕ) × List ℕ)
+range_in_brackets text = option_map_or (λ found. range_after_start (index_of_integer found.0) found.1) (integer_in text) (range_without_start text)
 
 -- a range in brackets, or none for every index
 abbrev pub range_in : List ℕ → Option ((ℕ × ℕ) × List ℕ)
 range_in [] = Some ((0, no_end), [])
-range_in (byte ∷ rest) = if byte == 91 then bracketed rest else Some ((0, no_end), byte ∷ rest)
+range_in (byte ∷ rest) = if byte == 91 then range_in_brackets rest else Some ((0, no_end), byte ∷ rest)
 
 -- a number, or `on` for 1, or `off` for 0
 abbrev pub setting_in : List ℕ → Option (ℕ × List ℕ)
@@ -92,24 +92,24 @@ whole_request tag range (value, []) = Some (record { tag = tag; value = value; s
 whole_request tag range (value, (byte ∷ rest)) = None
 
 -- the request from its value on
-abbrev pub valued : Tag → ℕ × ℕ → ℕ × List ℕ → Option Feature
-valued tag range found = whole_request tag range (found.0, after_spaces found.1)
+abbrev pub feature_with_value : Tag → ℕ × ℕ → ℕ × List ℕ → Option Feature
+feature_with_value tag range found = whole_request tag range (found.0, after_spaces found.1)
 
 -- the request from the text after its range on
-abbrev pub ranged : Tag → ℕ → (ℕ × ℕ) × List ℕ → Option Feature
-ranged tag default found = option_and_then (valued tag found.0) (value_in default (after_spaces found.1))
+abbrev pub feature_with_range : Tag → ℕ → (ℕ × ℕ) × List ℕ → Option Feature
+feature_with_range tag default found = option_and_then (feature_with_value tag found.0) (value_in default (after_spaces found.1))
 
 -- the request from the text after its tag on
-abbrev pub tagged : ℕ → Tag × List ℕ → Option Feature
-tagged default found = option_and_then (ranged found.0 default) (range_in (after_spaces found.1))
+abbrev pub feature_with_tag : ℕ → Tag × List ℕ → Option Feature
+feature_with_tag default found = option_and_then (feature_with_range found.0 default) (range_in (after_spaces found.1))
 
 -- the request from the text after its sign on
-abbrev pub signed : ℕ × List ℕ → Option Feature
-signed found = option_and_then (tagged found.0) (quoted_tag_in (after_spaces found.1))
+abbrev pub feature_with_sign : ℕ × List ℕ → Option Feature
+feature_with_sign found = option_and_then (feature_with_tag found.0) (quoted_tag_in (after_spaces found.1))
 
 -- the request that the text writes
 abbrev pub feature_of : List ℕ → Option Feature
-feature_of text = signed (sign_in (after_spaces text))
+feature_of text = feature_with_sign (sign_in (after_spaces text))
 
 -- the request of a text, or an error
 abbrev pub feature_of_text : List ℕ → Result Feature InvalidFeature

@@ -1,7 +1,7 @@
 //! A request for a feature (rustybuzz: hb/common.rs, `Feature`).
 ghost use Rattle.std.specs.Prelude.{◌≡◌, Some, None, IfSome, IfNone};
-ghost use Rattle.buffer_features.specs.Feature.{place_of, start_of, end_of, is_global};
-ghost use Rattle.buffer_features.specs.FeatureText.{sign_in, quoted_tag_in, maybe_ended, started, unstarted, range_in, setting_in, value_in, feature_of};
+ghost use Rattle.buffer_features.specs.Feature.{bounded_index, start_of, end_of, is_global};
+ghost use Rattle.buffer_features.specs.FeatureText.{sign_in, quoted_tag_in, range_maybe_end, range_after_start, range_without_start, range_in, setting_in, value_in, feature_of};
 
 use crate::text_parser::TextParser;
 use buffer_common::tag::Tag;
@@ -65,7 +65,7 @@ impl Feature {
 }
 
 fn place(index: usize) -> u32
-    ensures { result ≡ place_of index }
+    ensures { result ≡ bounded_index index }
 {
     u32::try_from(index).unwrap_or(u32::MAX)
 }
@@ -148,8 +148,8 @@ fn consume_range(parser: &mut TextParser) -> Option<(u32, u32)>
 }
 
 fn consume_started(parser: &mut TextParser, start: u32) -> Option<(u32, u32)>
-    ensures found { IfSome result (λ range. started start parser.old ≡ Some (range, parser.new)) }
-    ensures absent { IfNone result (started start parser.old ≡ None) }
+    ensures found { IfSome result (λ range. range_after_start start parser.old ≡ Some (range, parser.new)) }
+    ensures absent { IfNone result (range_after_start start parser.old ≡ None) }
 {
     let separator = parser.curr_byte()?;
     parser.advance(1);
@@ -166,8 +166,8 @@ fn consume_started(parser: &mut TextParser, start: u32) -> Option<(u32, u32)>
 }
 
 fn consume_unstarted(parser: &mut TextParser) -> Option<(u32, u32)>
-    ensures found { IfSome result (λ range. unstarted parser.old ≡ Some (range, parser.new)) }
-    ensures absent { IfNone result (unstarted parser.old ≡ None) }
+    ensures found { IfSome result (λ range. range_without_start parser.old ≡ Some (range, parser.new)) }
+    ensures absent { IfNone result (range_without_start parser.old ≡ None) }
 {
     let separator = parser.curr_byte()?;
     parser.advance(1);
@@ -179,8 +179,8 @@ fn consume_unstarted(parser: &mut TextParser) -> Option<(u32, u32)>
 }
 
 fn consume_end(parser: &mut TextParser, start: u32) -> Option<(u32, u32)>
-    ensures found { IfSome result (λ range. maybe_ended start parser.old ≡ Some (range, parser.new)) }
-    ensures absent { IfNone result (maybe_ended start parser.old ≡ None) }
+    ensures found { IfSome result (λ range. range_maybe_end start parser.old ≡ Some (range, parser.new)) }
+    ensures absent { IfNone result (range_maybe_end start parser.old ≡ None) }
 {
     let Some(end) = parser.consume_i32() else {
         parser.consume_byte(b']')?;

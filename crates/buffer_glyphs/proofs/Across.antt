@@ -6,7 +6,7 @@ use Rattle.std.proofs.lemmas.List.Sums.{fold-append}
 use Rattle.buffer_glyphs.specs.declared.info.hb_glyph_info_t.{hb_glyph_info_t}
 use Rattle.buffer_glyphs.specs.Items.{clusters}
 use Rattle.buffer_glyphs.specs.Merges.{least_number}
-use Rattle.buffer_glyphs.specs.Glyphs.{tells_apart}
+use Rattle.buffer_glyphs.specs.Glyphs.{has_several_numbers}
 
 no_clusters : (gs : List hb_glyph_info_t) → length gs ≡ 0 → clusters gs ≡ []
 no_clusters [] e = refl
@@ -39,5 +39,5 @@ any_append p (m ∷ ms) ns = by_test (p m) (any_append p ms ns)
     by_test true e = refl
     by_test false e = e
 
-pub told_across : (ms ns : List ℕ) (low : ℕ) → low ≡ least_number (ms ++ ns) → (list_any (λ n. not (n == low)) ms || list_any (λ n. not (n == low)) ns) ≡ tells_apart (ms ++ ns)
+pub told_across : (ms ns : List ℕ) (low : ℕ) → low ≡ least_number (ms ++ ns) → (list_any (λ n. not (n == low)) ms || list_any (λ n. not (n == low)) ns) ≡ has_several_numbers (ms ++ ns)
 told_across ms ns low e = sym (any_append (λ n. not (n == low)) ms ns) ∙ ap (λ k. list_any (λ n. not (n == k)) (ms ++ ns)) e

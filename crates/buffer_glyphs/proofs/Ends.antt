@@ -7,8 +7,8 @@ use Rattle.std.proofs.lemmas.List.{map-append, take-append-drop, drop-drop, drop
 use Rattle.buffer_glyphs.specs.declared.info.hb_glyph_info_t.{hb_glyph_info_t}
 use Rattle.buffer_glyphs.specs.Items.{clusters}
 use Rattle.buffer_glyphs.specs.Order.{IsChain, IsOrdered, has_number}
-use Rattle.buffer_glyphs.specs.Merges.{least_number, merged}
-use Rattle.buffer_glyphs.specs.Glyphs.{in_cluster, glyphs_merged, renamed}
+use Rattle.buffer_glyphs.specs.Merges.{least_number, merged_number}
+use Rattle.buffer_glyphs.specs.Glyphs.{in_cluster, glyphs_merged, glyphs_renumbered}
 use Rattle.buffer_glyphs.specs.Lemmas.Parts.{Stands, stands_self}
 use Rattle.buffer_glyphs.specs.Lemmas.Ends.{from_first, from_has}
 use Rattle.buffer_glyphs.specs.Lemmas.Merges.{chain_left, chain_right, chain_across}
@@ -35,16 +35,16 @@ differ_test m n e same = let yes : (m == n) ≡ true = grind (arith, common_step
 apart_test : (m n : ℕ) → m ≢ n → (m == n) ≡ false
 apart_test m n ne = grind (arith, common_steps, ne)
 
-none_renamed : (c low : ℕ) (gs : List hb_glyph_info_t) → ((n : ℕ) → Has (clusters gs) n → n ≢ c) → renamed c low gs ≡ gs
+none_renamed : (c low : ℕ) (gs : List hb_glyph_info_t) → ((n : ℕ) → Has (clusters gs) n → n ≢ c) → glyphs_renumbered c low gs ≡ gs
 none_renamed c low [] none = refl
 none_renamed c low (g ∷ gs) none =
     let off : (g.cluster == c) ≡ false = apart_test g.cluster c (none g.cluster (has_here g.cluster (clusters gs))) in
     let rest = none_renamed c low gs (λ n h. none n (has_more g.cluster n (clusters gs) h)) in
     rw (off, rest) refl
 
-pub renamed_self : (c : ℕ) (gs : List hb_glyph_info_t) → renamed c c gs ≡ gs
+pub renamed_self : (c : ℕ) (gs : List hb_glyph_info_t) → glyphs_renumbered c c gs ≡ gs
 renamed_self c [] = refl
-renamed_self c (g ∷ gs) = ap (λ h. h ∷ renamed c c gs) (by_test (g.cluster == c) refl) ∙ ap (λ hs. g ∷ hs) (renamed_self c gs)
+renamed_self c (g ∷ gs) = ap (λ h. h ∷ glyphs_renumbered c c gs) (by_test (g.cluster == c) refl) ∙ ap (λ hs. g ∷ hs) (renamed_self c gs)
   where
     by_test : (t : Bool) → (g.cluster == c) ≡ t → (if t then in_cluster c g else g) ≡ g
     by_test true e = in_its_cluster c g e
@@ -52,7 +52,7 @@ renamed_self c (g ∷ gs) = ap (λ h. h ∷ renamed c c gs) (by_test (g.cluster 
 
 -- of the glyphs beyond an end of a range, a merge changes those of the end's cluster
 pub merged_end : (R : ℕ → ℕ → Type 0) → IsAnti R → (range : List ℕ) (e : ℕ) → Has range e → ((n : ℕ) → Has range n → R n e) → (gs : List hb_glyph_info_t) → ((n : ℕ) → Has (clusters gs) n → R e n)
-    → glyphs_merged range gs ≡ renamed e (least_number range) gs
+    → glyphs_merged range gs ≡ glyphs_renumbered e (least_number range) gs
 merged_end R anti range e among within [] beyond = refl
 merged_end R anti range e among within (g ∷ gs) beyond =
     ap (λ h. h ∷ glyphs_merged range gs) (by_test (g.cluster == e) refl)
@@ -65,7 +65,7 @@ merged_end R anti range e among within (g ∷ gs) beyond =
     absent false k d = refl
     absent true k d = absurd (differ_test g.cluster e d (anti g.cluster e (within g.cluster k) there))
 
-    by_test : (t : Bool) → (g.cluster == e) ≡ t → in_cluster (merged range g.cluster) g ≡ (if t then in_cluster (least_number range) g else g)
+    by_test : (t : Bool) → (g.cluster == e) ≡ t → in_cluster (merged_number range g.cluster) g ≡ (if t then in_cluster (least_number range) g else g)
     by_test true d =
         let same = equal_test g.cluster e d in
         let has : has_number range g.cluster ≡ true = rw same among in
@@ -92,7 +92,7 @@ turned_anti falls m n h k = stands_anti falls m n k h
 abbrev pub StopsBefore : ℕ → ℕ → List hb_glyph_info_t → Type 0
 StopsBefore c at gs = (d : hb_glyph_info_t) → 0 < at → (get_or gs (at - 1) d).cluster ≢ c
 
-front_stays : (c low at : ℕ) (gs : List hb_glyph_info_t) → at ≤ length gs → IsOrdered (clusters gs ++ c ∷ []) → StopsBefore c at gs → renamed c low (take at gs) ≡ take at gs
+front_stays : (c low at : ℕ) (gs : List hb_glyph_info_t) → at ≤ length gs → IsOrdered (clusters gs ++ c ∷ []) → StopsBefore c at gs → glyphs_renumbered c low (take at gs) ≡ take at gs
 front_stays c low zero gs le o stop = refl
 front_stays c low (suc i) [] le o stop = refl
 front_stays c low (suc i) (g ∷ gs) le o stop =
@@ -126,10 +126,10 @@ front_stays c low (suc i) (g ∷ gs) le o stop =
 abbrev pub StopsAt : ℕ → ℕ → List hb_glyph_info_t → Type 0
 StopsAt c at gs = (d : hb_glyph_info_t) → at < length gs → (get_or gs at d).cluster ≢ c
 
-back_stays : (c low at : ℕ) (gs : List hb_glyph_info_t) → IsOrdered (c ∷ clusters gs) → StopsAt c at gs → renamed c low (drop at gs) ≡ drop at gs
+back_stays : (c low at : ℕ) (gs : List hb_glyph_info_t) → IsOrdered (c ∷ clusters gs) → StopsAt c at gs → glyphs_renumbered c low (drop at gs) ≡ drop at gs
 back_stays c low at gs o stop = by_rest (drop at gs) refl
   where
-    by_rest : (rest : List hb_glyph_info_t) → drop at gs ≡ rest → renamed c low rest ≡ rest
+    by_rest : (rest : List hb_glyph_info_t) → drop at gs ≡ rest → glyphs_renumbered c low rest ≡ rest
     by_rest [] e = refl
     by_rest (d ∷ hs) e =
         let long : length (drop at gs) ≡ suc (length hs) = ap length e in
@@ -158,7 +158,7 @@ in_it c low g e = let yes : (g.cluster == c) ≡ true = grind (arith, common_ste
 
 -- one glyph more of the cluster, before those that were passed
 pub passed_back : (c low at i : ℕ) (gs : List hb_glyph_info_t) (d : hb_glyph_info_t) → i + 1 ≡ at → at ≤ length gs → (get_or gs i d).cluster ≡ c
-    → renamed c low (drop at gs) ≡ map (in_cluster low) (drop at gs) → renamed c low (drop i gs) ≡ map (in_cluster low) (drop i gs)
+    → glyphs_renumbered c low (drop at gs) ≡ map (in_cluster low) (drop at gs) → glyphs_renumbered c low (drop i gs) ≡ map (in_cluster low) (drop i gs)
 passed_back c low at i gs d one le e before =
     let lt : i < length gs = omega arith in
     let cut : drop i gs ≡ get_or gs i d ∷ drop at gs = drop_more gs i d lt ∙ ap (λ n. get_or gs i d ∷ drop n gs) one in
@@ -166,29 +166,29 @@ passed_back c low at i gs d one le e before =
 
 -- and after them
 pub passed_front : (c low at : ℕ) (gs : List hb_glyph_info_t) (d : hb_glyph_info_t) → at < length gs → (get_or gs at d).cluster ≡ c
-    → renamed c low (take at gs) ≡ map (in_cluster low) (take at gs) → renamed c low (take (at + 1) gs) ≡ map (in_cluster low) (take (at + 1) gs)
+    → glyphs_renumbered c low (take at gs) ≡ map (in_cluster low) (take at gs) → glyphs_renumbered c low (take (at + 1) gs) ≡ map (in_cluster low) (take (at + 1) gs)
 passed_front c low at gs d lt e before =
     let cut : take (at + 1) gs ≡ take at gs ++ get_or gs at d ∷ [] = take_more gs at d lt in
     let f : hb_glyph_info_t → hb_glyph_info_t = λ g. if g.cluster == c then in_cluster low g else g in
     rw cut (map-append f (take at gs) (get_or gs at d ∷ []) ∙ ap (λ hs. hs ++ f (get_or gs at d) ∷ []) before ∙ ap (λ h. map (in_cluster low) (take at gs) ++ h ∷ []) (in_it c low (get_or gs at d) e) ∙ sym (map-append (in_cluster low) (take at gs) (get_or gs at d ∷ [])))
 
-both_parts : (c low at : ℕ) (gs : List hb_glyph_info_t) → renamed c low gs ≡ renamed c low (take at gs) ++ renamed c low (drop at gs)
+both_parts : (c low at : ℕ) (gs : List hb_glyph_info_t) → glyphs_renumbered c low gs ≡ glyphs_renumbered c low (take at gs) ++ glyphs_renumbered c low (drop at gs)
 both_parts c low at gs =
     let f : hb_glyph_info_t → hb_glyph_info_t = λ g. if g.cluster == c then in_cluster low g else g in
     ap (map f) (sym (take-append-drop at gs)) ∙ map-append f (take at gs) (drop at gs)
 
 pub renamed_back : (c low at : ℕ) (gs tail : List hb_glyph_info_t) → at ≤ length gs → IsOrdered (clusters gs ++ c ∷ []) → StopsBefore c at gs
-    → renamed c low (drop at gs) ≡ map (in_cluster low) (drop at gs) → tail ≡ map (in_cluster low) (slice_range gs at (length gs))
-    → put_mid at (length gs - at) gs tail ≡ renamed c low gs
+    → glyphs_renumbered c low (drop at gs) ≡ map (in_cluster low) (drop at gs) → tail ≡ map (in_cluster low) (slice_range gs at (length gs))
+    → put_mid at (length gs - at) gs tail ≡ glyphs_renumbered c low gs
 renamed_back c low at gs tail le o stop passed e =
     let there : at + (length gs - at) ≡ length gs = omega arith in
     let none : drop (length gs - at) (drop at gs) ≡ [] = drop-drop (length gs - at) at gs ∙ ap (λ n. drop n gs) there ∙ drop_all (length gs) gs (omega arith) in
-    let is : tail ≡ renamed c low (drop at gs) = e ∙ ap (map (in_cluster low)) (take_rest gs at) ∙ sym passed in
+    let is : tail ≡ glyphs_renumbered c low (drop at gs) = e ∙ ap (map (in_cluster low)) (take_rest gs at) ∙ sym passed in
     rw (none, append-nil, both_parts c low at gs, front_stays c low at gs le o stop, is) refl
 
 pub renamed_front : (c low at : ℕ) (gs head : List hb_glyph_info_t) → IsOrdered (c ∷ clusters gs) → StopsAt c at gs
-    → renamed c low (take at gs) ≡ map (in_cluster low) (take at gs) → head ≡ map (in_cluster low) (take at gs)
-    → head ++ drop at gs ≡ renamed c low gs
+    → glyphs_renumbered c low (take at gs) ≡ map (in_cluster low) (take at gs) → head ≡ map (in_cluster low) (take at gs)
+    → head ++ drop at gs ≡ glyphs_renumbered c low gs
 renamed_front c low at gs head o stop passed e = rw (both_parts c low at gs, back_stays c low at gs o stop, passed, e) refl
 
 pub stops_before : (c at : ℕ) (gs : List hb_glyph_info_t) (d : hb_glyph_info_t) → at ≤ length gs → (get_or gs (at - 1) d).cluster ≢ c → StopsBefore c at gs

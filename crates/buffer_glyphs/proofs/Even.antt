@@ -5,10 +5,10 @@ use Rattle.std.proofs.Common.{ℕ, ◌≡◌, ◌≤◌, ◌<◌, ◌-◌, ◌==
 use Rattle.std.proofs.lemmas.Grind.{common_steps}
 use Rattle.buffer_glyphs.specs.declared.info.hb_glyph_info_t.{hb_glyph_info_t}
 use Rattle.buffer_glyphs.specs.Items.{clusters}
-use Rattle.buffer_glyphs.specs.Parts.{stretch, last_from}
+use Rattle.buffer_glyphs.specs.Parts.{range_of, last_from}
 use Rattle.buffer_glyphs.specs.Order.{IsOrdered}
 use Rattle.buffer_glyphs.specs.Merges.{least_number}
-use Rattle.buffer_glyphs.specs.Glyphs.{marked_outside, glyphs_marked, tells_apart}
+use Rattle.buffer_glyphs.specs.Glyphs.{marked_outside, glyphs_marked, has_several_numbers}
 use Rattle.buffer_glyphs.specs.Lemmas.Parts.{Stands, stands_self}
 use Rattle.buffer_glyphs.specs.Lemmas.Ends.{from_first, to_last}
 use Rattle.buffer_glyphs.specs.Lemmas.Glyphs.{cut_out, stretch_is}
@@ -31,7 +31,7 @@ all_alike x xs o e n h = by_order (x ∷ xs) o (λ falls chain.
     let to = subst (Stands falls n) (sym e) (to_last (Stands falls) (stands_self falls) x n xs chain h) in
     stands_anti falls n x to from)
 
-alike_even : (x : ℕ) (xs : List ℕ) → IsOrdered (x ∷ xs) → x ≡ last_from x xs → tells_apart (x ∷ xs) ≡ false
+alike_even : (x : ℕ) (xs : List ℕ) → IsOrdered (x ∷ xs) → x ≡ last_from x xs → has_several_numbers (x ∷ xs) ≡ false
 alike_even x xs o e =
     let low = least_number (x ∷ xs) in
     let least : low ≡ x = all_alike x xs o e low (least_number_is x xs).among in
@@ -40,14 +40,14 @@ alike_even x xs o e =
 equal_test : (m n : ℕ) → (m == n) ≡ true → m ≡ n
 equal_test m n e = grind (arith, common_steps, e)
 
-pub ends_even : (gs : List hb_glyph_info_t) (d : hb_glyph_info_t) → 0 < length gs → IsOrdered (clusters gs) → ((get_or gs 0 d).cluster == (get_or gs (length gs - 1) d).cluster) ≡ true → tells_apart (clusters gs) ≡ false
+pub ends_even : (gs : List hb_glyph_info_t) (d : hb_glyph_info_t) → 0 < length gs → IsOrdered (clusters gs) → ((get_or gs 0 d).cluster == (get_or gs (length gs - 1) d).cluster) ≡ true → has_several_numbers (clusters gs) ≡ false
 ends_even gs d some o same_ends =
     let same : (get_or gs 0 d).cluster ≡ (get_or gs (length gs - 1) d).cluster = equal_test (get_or gs 0 d).cluster (get_or gs (length gs - 1) d).cluster same_ends in
     by_range (clusters gs) (get_or gs 0 d).cluster (get_or gs (length gs - 1) d).cluster (first_cluster_is gs d some) (last_cluster_is gs d some) (λ xs is end.
     let first = (get_or gs 0 d).cluster in
-    subst (λ (ns : List ℕ). tells_apart ns ≡ false) (sym is) (alike_even first xs (subst IsOrdered is o) (same ∙ end)))
+    subst (λ (ns : List ℕ). has_several_numbers ns ≡ false) (sym is) (alike_even first xs (subst IsOrdered is o) (same ∙ end)))
 
-pub none_even : (gs : List hb_glyph_info_t) → length gs ≡ 0 → tells_apart (clusters gs) ≡ false
+pub none_even : (gs : List hb_glyph_info_t) → length gs ≡ 0 → has_several_numbers (clusters gs) ≡ false
 none_even [] e = refl
 none_even (g ∷ gs) e = absurd (omega (arith, e))
 
@@ -63,11 +63,11 @@ unmarked bits low (g ∷ gs) e = by_test (g.cluster == low) refl (λ f. unmarked
     by_test false is rest = let no : true ≡ false = sym (ap (λ (b : Bool). not b || list_any (λ n. not (n == low)) (clusters gs)) is) ∙ e in cc
 
 -- a range of one cluster stays as it is
-pub even_marked : (bits i j : ℕ) (gs : List hb_glyph_info_t) → i ≤ j → tells_apart (clusters (slice_range gs i j)) ≡ false → gs ≡ glyphs_marked bits i j gs
+pub even_marked : (bits i j : ℕ) (gs : List hb_glyph_info_t) → i ≤ j → has_several_numbers (clusters (slice_range gs i j)) ≡ false → gs ≡ glyphs_marked bits i j gs
 even_marked bits i j gs le e =
     let low = least_number (clusters (slice_range gs i j)) in
     let same = unmarked bits low (slice_range gs i j) e in
     rw (stretch_is gs i j, same) (sym (cut_out i j gs le))
 
-pub even_range : (i j : ℕ) (gs : List hb_glyph_info_t) → tells_apart (clusters (slice_range gs i j)) ≡ false → false ≡ tells_apart (stretch i j (clusters gs))
+pub even_range : (i j : ℕ) (gs : List hb_glyph_info_t) → has_several_numbers (clusters (slice_range gs i j)) ≡ false → false ≡ has_several_numbers (range_of i j (clusters gs))
 even_range i j gs e = rw (stretch_is gs i j) (sym e)

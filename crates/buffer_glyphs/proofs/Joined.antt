@@ -4,10 +4,10 @@ use Rattle.std.proofs.Common.{ℕ, zero, suc, ◌≡◌, ◌≤◌, ◌<◌, ◌
 use Rattle.std.proofs.lemmas.List.{map-append, drop-drop, length-map}
 use Rattle.buffer_glyphs.specs.declared.info.hb_glyph_info_t.{hb_glyph_info_t}
 use Rattle.buffer_glyphs.specs.Items.{clusters}
-use Rattle.buffer_glyphs.specs.Parts.{first_of, last_of, stretch, last_from}
+use Rattle.buffer_glyphs.specs.Parts.{first_of, last_of, range_of, last_from}
 use Rattle.buffer_glyphs.specs.Order.{IsChain, IsOrdered}
 use Rattle.buffer_glyphs.specs.Merges.{least_number}
-use Rattle.buffer_glyphs.specs.Glyphs.{in_cluster, glyphs_merged, renamed}
+use Rattle.buffer_glyphs.specs.Glyphs.{in_cluster, glyphs_merged, glyphs_renumbered}
 use Rattle.buffer_glyphs.specs.Lemmas.Parts.{Stands, stands_self}
 use Rattle.buffer_glyphs.specs.Lemmas.Ends.{from_first, to_last}
 use Rattle.buffer_glyphs.specs.Lemmas.Glyphs.{cut_out, nothing_merged}
@@ -81,7 +81,7 @@ by_first [] first f k = cc
 by_first (x ∷ xs) first f k = k xs (ap (λ n. n ∷ xs) (some_is f))
 
 -- the glyphs before a range
-pub merged_front : (range : List ℕ) (first : ℕ) (gs : List hb_glyph_info_t) → first_of range ≡ Some first → IsOrdered (clusters gs ++ range) → renamed first (least_number range) gs ≡ glyphs_merged range gs
+pub merged_front : (range : List ℕ) (first : ℕ) (gs : List hb_glyph_info_t) → first_of range ≡ Some first → IsOrdered (clusters gs ++ range) → glyphs_renumbered first (least_number range) gs ≡ glyphs_merged range gs
 merged_front range first gs f o = by_first range first f (λ xs is. by_order (clusters gs ++ range) o (λ falls chain.
     let whole = subst (λ (ns : List ℕ). IsChain (Stands falls) (clusters gs ++ ns)) is chain in
     let own = chain_right (Stands falls) (clusters gs) (first ∷ xs) whole in
@@ -94,11 +94,11 @@ order_beside range first ns f o = by_first range first f (λ xs is. by_order (ns
     let whole = subst (λ (ms : List ℕ). IsChain (Stands falls) (ns ++ ms)) is chain in
     ordered_from falls (ns ++ first ∷ []) (chain_left (Stands falls) (ns ++ first ∷ []) xs (subst (IsChain (Stands falls)) (sym (append_assoc ns (first ∷ []) xs)) whole))))
 
-pub renamed_beside : (range : List ℕ) (first low : ℕ) (gs hs : List hb_glyph_info_t) → first_of range ≡ Some first → low ≡ least_number range → IsOrdered (clusters gs ++ range) → hs ≡ renamed first low gs → hs ≡ glyphs_merged range gs
-renamed_beside range first low gs hs f is o e = e ∙ ap (λ n. renamed first n gs) is ∙ merged_front range first gs f o
+pub renamed_beside : (range : List ℕ) (first low : ℕ) (gs hs : List hb_glyph_info_t) → first_of range ≡ Some first → low ≡ least_number range → IsOrdered (clusters gs ++ range) → hs ≡ glyphs_renumbered first low gs → hs ≡ glyphs_merged range gs
+renamed_beside range first low gs hs f is o e = e ∙ ap (λ n. glyphs_renumbered first n gs) is ∙ merged_front range first gs f o
 
 -- and those after it
-merged_back : (range : List ℕ) (first last : ℕ) (gs : List hb_glyph_info_t) → first_of range ≡ Some first → last_of range ≡ Some last → IsOrdered (range ++ clusters gs) → renamed last (least_number range) gs ≡ glyphs_merged range gs
+merged_back : (range : List ℕ) (first last : ℕ) (gs : List hb_glyph_info_t) → first_of range ≡ Some first → last_of range ≡ Some last → IsOrdered (range ++ clusters gs) → glyphs_renumbered last (least_number range) gs ≡ glyphs_merged range gs
 merged_back range first last gs f l o = by_range range first last f l (λ xs is end. by_order (range ++ clusters gs) o (λ falls chain.
     let whole = subst (λ (ns : List ℕ). IsChain (Stands falls) (ns ++ clusters gs)) is chain in
     let own = chain_left (Stands falls) (first ∷ xs) (clusters gs) whole in
@@ -117,15 +117,15 @@ order_after range last ns l o = by_first_and_last range last l (λ first f. by_r
     let whole = subst (λ (ms : List ℕ). IsChain (Stands falls) (ms ++ ns)) is chain in
     ordered_from falls (last ∷ ns) (subst (λ (n : ℕ). IsChain (Stands falls) (n ∷ ns)) (sym end) (last_back (Stands falls) first xs ns whole)))))
 
-pub renamed_after : (range : List ℕ) (last low : ℕ) (gs hs : List hb_glyph_info_t) → last_of range ≡ Some last → low ≡ least_number range → IsOrdered (range ++ clusters gs) → hs ≡ renamed last low gs → hs ≡ glyphs_merged range gs
-renamed_after range last low gs hs l is o e = by_first_and_last range last l (λ first f. e ∙ ap (λ n. renamed last n gs) is ∙ merged_back range first last gs f l o)
+pub renamed_after : (range : List ℕ) (last low : ℕ) (gs hs : List hb_glyph_info_t) → last_of range ≡ Some last → low ≡ least_number range → IsOrdered (range ++ clusters gs) → hs ≡ glyphs_renumbered last low gs → hs ≡ glyphs_merged range gs
+renamed_after range last low gs hs l is o e = by_first_and_last range last l (λ first f. e ∙ ap (λ n. glyphs_renumbered last n gs) is ∙ merged_back range first last gs f l o)
 
 pub joined_parts : (gs : List hb_glyph_info_t) (i j low first last : ℕ) (front range back : List hb_glyph_info_t) → i ≤ j → IsOrdered (clusters gs)
     → first_of (clusters (slice_range gs i j)) ≡ Some first → last_of (clusters (slice_range gs i j)) ≡ Some last → low ≡ least_number (clusters (slice_range gs i j))
-    → front ≡ renamed first low (take i gs)
+    → front ≡ glyphs_renumbered first low (take i gs)
     → range ≡ map (in_cluster low) (slice_range gs i j)
-    → back ≡ renamed last low (drop (j - i) (drop i gs))
-    → front ++ (range ++ back) ≡ glyphs_merged (stretch i j (clusters gs)) gs
+    → back ≡ glyphs_renumbered last low (drop (j - i) (drop i gs))
+    → front ++ (range ++ back) ≡ glyphs_merged (range_of i j (clusters gs)) gs
 joined_parts gs i j low first last front range back le o f l is fe re be =
     let there : i + (j - i) ≡ j = omega arith in
     let beyond : drop (j - i) (drop i gs) ≡ drop j gs = drop-drop (j - i) i gs ∙ ap (λ n. drop n gs) there in
@@ -134,11 +134,11 @@ joined_parts gs i j low first last front range back le o f l is fe re be =
     let near : IsOrdered (clusters (take i gs) ++ ns) = by_order (clusters gs) o (λ falls chain. ordered_from falls (clusters (take i gs) ++ ns) (chain_left (Stands falls) (clusters (take i gs) ++ ns) (clusters (drop j gs)) (subst (IsChain (Stands falls)) (cut ∙ sym (append_assoc (clusters (take i gs)) ns (clusters (drop j gs)))) chain))) in
     let far : IsOrdered (ns ++ clusters (drop j gs)) = by_order (clusters gs) o (λ falls chain. ordered_from falls (ns ++ clusters (drop j gs)) (chain_right (Stands falls) (clusters (take i gs)) (ns ++ clusters (drop j gs)) (subst (IsChain (Stands falls)) cut chain))) in
     merged_parts gs i j front range back
-    (fe ∙ ap (λ n. renamed first n (take i gs)) is ∙ merged_front ns first (take i gs) f near)
+    (fe ∙ ap (λ n. glyphs_renumbered first n (take i gs)) is ∙ merged_front ns first (take i gs) f near)
     (re ∙ ap (λ n. map (in_cluster n) (slice_range gs i j)) is)
-    (be ∙ ap (λ n. renamed last n (drop (j - i) (drop i gs))) is ∙ ap (renamed last (least_number ns)) beyond ∙ merged_back ns first last (drop j gs) f l far ∙ ap (glyphs_merged ns) (sym beyond))
+    (be ∙ ap (λ n. glyphs_renumbered last n (drop (j - i) (drop i gs))) is ∙ ap (glyphs_renumbered last (least_number ns)) beyond ∙ merged_back ns first last (drop j gs) f l far ∙ ap (glyphs_merged ns) (sym beyond))
 
-pub none_merged : (i j : ℕ) (gs : List hb_glyph_info_t) → i ≡ j → gs ≡ glyphs_merged (stretch i j (clusters gs)) gs
+pub none_merged : (i j : ℕ) (gs : List hb_glyph_info_t) → i ≡ j → gs ≡ glyphs_merged (range_of i j (clusters gs)) gs
 none_merged i j gs e = let none : j - i ≡ 0 = omega arith in rw none (sym (nothing_merged gs))
 
 pub nothing_beside : (range gs : List hb_glyph_info_t) → length range ≡ 0 → gs ≡ glyphs_merged (clusters range) gs

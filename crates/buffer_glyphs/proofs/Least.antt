@@ -5,7 +5,7 @@ use Rattle.std.specs.List.{list_any}
 use Rattle.std.proofs.lemmas.Bool.Decides.{nat_tests}
 use Rattle.std.proofs.lemmas.Grind.{common_steps}
 use Rattle.std.proofs.lemmas.List.{drop-drop, take-append-drop, take-map, drop-map, map-id, map-append, append-nil}
-use Rattle.buffer_glyphs.specs.Parts.{PartEvent, JoinParts, ReplaceParts, DeletePart, CirclePart, ReverseParts, united, united_all, joined, stretch, last_from, first_of, last_of, or, copies, is_number, with_neighbour, united_if_last, before_deletion, without, replaced, after_part_event, after_part_events}
+use Rattle.buffer_glyphs.specs.Parts.{PartEvent, JoinParts, ReplaceParts, DeletePart, CirclePart, ReverseParts, united_number, united_numbers, joined_numbers, range_of, last_from, first_of, last_of, or, copies, is_number, with_neighbour, numbers_united_if_last, before_deletion, numbers_without, numbers_replaced, after_part_event, after_part_events}
 use Rattle.buffer_glyphs.specs.Order.{IsInOrder, IsOrdered, IsLeast, BringsNone, IsKept, shares_part, has_number, falls_after}
 use Rattle.buffer_glyphs.specs.Laws.{KeepsLeast, OriginsKeepOrder, OriginsKeepLeast}
 use Rattle.buffer_glyphs.specs.Origins.{Origin, numbers}
@@ -20,13 +20,13 @@ use Rattle.buffer_glyphs.specs.Lemmas.Parts.{order_drawn, keeps_order, event_kee
 use Rattle.buffer_glyphs.specs.Lemmas.Ends.{joined_alike}
 
 -- a union leaves the least number as it is
-united_least : (k m n : ℕ) → k ≤ m → k ≤ n → united (min m n) (max m n) k ≡ k
+united_least : (k m n : ℕ) → k ≤ m → k ≤ n → united_number (min m n) (max m n) k ≡ k
 united_least k m n hm hn = grind (arith, nat_tests, common_steps)
 
 least_unites : (k : ℕ) (ns : List ℕ) → IsLeast k ns → Unites (λ xs. Has xs k) ns
 least_unites k ns l = record {
   same = l.among;
-  union = λ m n hm hn. let P : ℕ → Type 0 = λ j. Has (united_all m n ns) j in subst P (united_least k m n (l.below m hm) (l.below n hn)) (map_has (united (min m n) (max m n)) k ns l.among);
+  union = λ m n hm hn. let P : ℕ → Type 0 = λ j. Has (united_numbers m n ns) j in subst P (united_least k m n (l.below m hm) (l.below n hn)) (map_has (united_number (min m n) (max m n)) k ns l.among);
 }
 
 has_at : (n at : ℕ) (ns : List ℕ) → Has ns n → Has (take at ns) n ⊎ Has (drop at ns) n
@@ -55,7 +55,7 @@ replaced_has_at at gone given n ns (m ∷ rest) e lt alike h = rw append_assoc (
 ])
 
 -- items that are all of one part are replaced by others of it: its number stays
-replaced_has : (at gone given n : ℕ) (ns : List ℕ) → 0 < given → (Has (take gone (drop at ns)) n → first_of (drop at ns) ≡ Some n) → Has ns n → Has (replaced at gone given ns) n
+replaced_has : (at gone given n : ℕ) (ns : List ℕ) → 0 < given → (Has (take gone (drop at ns)) n → first_of (drop at ns) ≡ Some n) → Has ns n → Has (numbers_replaced at gone given ns) n
 replaced_has at gone given n ns lt alike h = rw (← drop-drop gone at ns) (replaced_has_at at gone given n ns (drop at ns) refl lt alike h)
 
 first_taken : (f : ℕ → ℕ) (gone x : ℕ) (ds xs : List ℕ) → take gone ds ≡ x ∷ xs → first_of (map f ds) ≡ Some (f x)
@@ -63,10 +63,10 @@ first_taken f zero x ds xs e = cc
 first_taken f (suc gone) x [] xs e = cc
 first_taken f (suc gone) x (d ∷ ds) xs e = ap (λ ys. first_of (map f ys)) e
 
-stretch_alike : (falls : Bool) (at gone n : ℕ) (ns s : List ℕ) → take gone (drop at ns) ≡ s → IsInOrder falls s → Has (take gone (drop at (joined s ns))) n → first_of (drop at (joined s ns)) ≡ Some n
+stretch_alike : (falls : Bool) (at gone n : ℕ) (ns s : List ℕ) → take gone (drop at ns) ≡ s → IsInOrder falls s → Has (take gone (drop at (joined_numbers s ns))) n → first_of (drop at (joined_numbers s ns)) ≡ Some n
 stretch_alike falls at gone n ns [] e o h = let none = rw e at h in cc
 stretch_alike falls at gone n ns (x ∷ xs) e o h =
-    let f = united (min x (last_from x xs)) (max x (last_from x xs)) in
+    let f = united_number (min x (last_from x xs)) (max x (last_from x xs)) in
     let P : List ℕ → Type 0 = λ ys. Has ys n in
     let there : Has (map f (x ∷ xs)) n = subst P (ap (take gone) (drop-map f at ns) ∙ take-map f gone (drop at ns) ∙ ap (map f) e) h in
     let from = has_map f n (x ∷ xs) there in
@@ -79,8 +79,8 @@ stretch_order falls at gone ns h = order_drawn falls (drawn_take gone (drop at n
 replace_has : (falls : Bool) (at taken given k : ℕ) (ns : List ℕ) → 0 < given → IsInOrder falls ns → IsLeast k ns → Has (after_part_event ns (ReplaceParts at taken given)) k
 replace_has falls at taken given k ns lt o l =
     let wide : at + taken - at ≡ taken = omega arith in
-    let s = stretch at (at + taken) ns in
-    let mid = joined s ns in
+    let s = range_of at (at + taken) ns in
+    let mid = joined_numbers s ns in
     let cut : take taken (drop at ns) ≡ s = ap (λ n. take n (drop at ns)) (sym wide) in
     replaced_has at taken given k mid lt
     (stretch_alike falls at taken k ns s cut (subst (IsInOrder falls) cut (stretch_order falls at taken ns o)))
@@ -103,7 +103,7 @@ record IsLeft (ns others left : List ℕ) (n : ℕ) : Type 0 where
   beside : (others ≡ []) ⊎ ((p : ℕ) × Has others p × (f p ≡ f n))
   least : (k : ℕ) → IsLeast k ns → f k ≡ k
 
-united_ends : (m n : ℕ) → united (min m n) (max m n) m ≡ united (min m n) (max m n) n
+united_ends : (m n : ℕ) → united_number (min m n) (max m n) m ≡ united_number (min m n) (max m n) n
 united_ends m n = grind (arith, nat_tests, common_steps)
 
 same_left : (ns others : List ℕ) (n : ℕ) → Has others n → IsLeft ns others ns n
@@ -116,13 +116,13 @@ is_number_has (Some m) n others e h = let same : m ≡ n = grind (arith, common_
 with_left : (before after : Option ℕ) (n : ℕ) (ns others : List ℕ) → MayHave others before → MayHave others after → MayHave ns before → MayHave ns after → Has ns n → (before ≡ None → after ≡ None → others ≡ [])
     → IsLeft ns others (with_neighbour before after n ns) n
 with_left (Some p) after n ns others b a hb ha h none = record {
-  f = united (min p n) (max p n);
+  f = united_number (min p n) (max p n);
   is = refl;
   beside = inr (p, b, united_ends p n);
   least = λ k l. united_least k p n (l.below p hb) (l.below n h);
 }
 with_left None (Some q) n ns others b a hb ha h none = record {
-  f = united (min n q) (max n q);
+  f = united_number (min n q) (max n q);
   is = refl;
   beside = inr (q, a, sym (united_ends n q));
   least = λ k l. united_least k n q (l.below n h) (l.below q ha);
@@ -130,7 +130,7 @@ with_left None (Some q) n ns others b a hb ha h none = record {
 with_left None None n ns others b a hb ha h none = record { f = λ x. x; is = sym (map-id ns); beside = inl (none refl refl); least = λ k l. refl }
 
 if_last_left : (before after : Option ℕ) (n : ℕ) (ns others : List ℕ) → MayHave others before → MayHave others after → MayHave ns before → MayHave ns after → Has ns n → (before ≡ None → after ≡ None → others ≡ [])
-    → IsLeft ns others (united_if_last before after n ns) n
+    → IsLeft ns others (numbers_united_if_last before after n ns) n
 if_last_left before after n ns others b a hb ha h none = go (is_number before n) (is_number after n) refl refl
   where
     go : (s t : Bool) → is_number before n ≡ s → is_number after n ≡ t → IsLeft ns others (if s || t then ns else with_neighbour before after n ns) n
@@ -149,12 +149,12 @@ may_right (Some n) xs ys h = has_right n xs ys h
 none_beside : (xs ys : List ℕ) → last_of xs ≡ None → first_of ys ≡ None → xs ++ ys ≡ []
 none_beside xs ys e d = rw (no_last xs e, no_first ys d) refl
 
-left_at : (at n : ℕ) (ns rest : List ℕ) → drop at ns ≡ n ∷ rest → IsLeft ns (without at ns) (before_deletion at ns) n
+left_at : (at n : ℕ) (ns rest : List ℕ) → drop at ns ≡ n ∷ rest → IsLeft ns (numbers_without at ns) (before_deletion at ns) n
 left_at at n ns rest e =
     let before = last_of (take at ns) in
     let after = first_of (drop (at + 1) ns) in
     let here : Has ns n = has_drop n at ns (rw e (has_here n rest)) in
-    rw e (if_last_left before after n ns (without at ns)
+    rw e (if_last_left before after n ns (numbers_without at ns)
     (may_left before (take at ns) (drop (at + 1) ns) (has_last (take at ns)))
     (may_right after (take at ns) (drop (at + 1) ns) (has_first (drop (at + 1) ns)))
     (has_last_before at ns)
@@ -162,9 +162,9 @@ left_at at n ns rest e =
     here
     (none_beside (take at ns) (drop (at + 1) ns)))
 
-deleted_has : (at k : ℕ) (ns rest : List ℕ) → drop at ns ≡ rest → IsLeast k ns → without at (before_deletion at ns) ≢ [] → Has (without at (before_deletion at ns)) k
+deleted_has : (at k : ℕ) (ns rest : List ℕ) → drop at ns ≡ rest → IsLeast k ns → numbers_without at (before_deletion at ns) ≢ [] → Has (numbers_without at (before_deletion at ns)) k
 deleted_has at k ns [] e l some =
-    let P : List ℕ → Type 0 = λ ms. Has (without at ms) k in
+    let P : List ℕ → Type 0 = λ ms. Has (numbers_without at ms) k in
     let same : before_deletion at ns ≡ ns = rw e refl in
     subst P (sym same) (elim (has_at k at ns l.among) [
       | inl front ↦ has_left k (take at ns) (drop (at + 1) ns) front
@@ -172,9 +172,9 @@ deleted_has at k ns [] e l some =
     ])
 deleted_has at k ns (n ∷ rest) e l some =
     let left = left_at at n ns rest e in
-    let others = without at ns in
-    let after : without at (before_deletion at ns) ≡ map left.f others = ap (without at) left.is ∙ without_map left.f at ns in
-    let kept : (p : ℕ) → Has others p → left.f p ≡ k → Has (without at (before_deletion at ns)) k =
+    let others = numbers_without at ns in
+    let after : numbers_without at (before_deletion at ns) ≡ map left.f others = ap (numbers_without at) left.is ∙ without_map left.f at ns in
+    let kept : (p : ℕ) → Has others p → left.f p ≡ k → Has (numbers_without at (before_deletion at ns)) k =
     λ p h same. subst (λ (ms : List ℕ). Has ms k) (sym after) (subst (Has (map left.f others)) same (map_has left.f p others h)) in
     elim (has_at k at ns l.among) [
       | inl front ↦ kept k (has_left k (take at ns) (drop (at + 1) ns) front) (left.least k l)
@@ -204,15 +204,15 @@ no_copies None = refl
 no_copies (Some n) = refl
 
 -- a list whose range went
-gone_is : (at taken : ℕ) (ns : List ℕ) → replaced at taken 0 ns ≡ take at ns ++ drop (at + taken) ns
+gone_is : (at taken : ℕ) (ns : List ℕ) → numbers_replaced at taken 0 ns ≡ take at ns ++ drop (at + taken) ns
 gone_is at taken ns = ap (λ xs. take at ns ++ xs ++ drop (at + taken) ns) (no_copies (or (first_of (drop at ns)) (last_of (take at ns)))) ∙ ap (λ xs. xs ++ drop (at + taken) ns) (append-nil (take at ns))
 
 -- what a joined range shares with a part that stays it shares after the join
-shared_has : (falls : Bool) (at taken k : ℕ) (ns s : List ℕ) → stretch at (at + taken) ns ≡ s → IsInOrder falls s → list_any (has_number (take at ns ++ drop (at + taken) ns)) s ≡ true → Has (joined s ns) k
-    → Has (take at (joined s ns) ++ drop (at + taken) (joined s ns)) k
+shared_has : (falls : Bool) (at taken k : ℕ) (ns s : List ℕ) → range_of at (at + taken) ns ≡ s → IsInOrder falls s → list_any (has_number (take at ns ++ drop (at + taken) ns)) s ≡ true → Has (joined_numbers s ns) k
+    → Has (take at (joined_numbers s ns) ++ drop (at + taken) (joined_numbers s ns)) k
 shared_has falls at taken k ns [] e o h there = cc
 shared_has falls at taken k ns (x ∷ xs) e o h there =
-    let f = united (min x (last_from x xs)) (max x (last_from x xs)) in
+    let f = united_number (min x (last_from x xs)) (max x (last_from x xs)) in
     let others = take at ns ++ drop (at + taken) ns in
     let p = any_of (has_number others) (x ∷ xs) h in
     let from = has_map f k ns there in
@@ -231,10 +231,10 @@ shared_has falls at taken k ns (x ∷ xs) e o h there =
 
 gone_has : (falls : Bool) (at taken k : ℕ) (ns : List ℕ) → shares_part at taken ns ≡ true → IsInOrder falls ns → IsLeast k ns → Has (after_part_event ns (ReplaceParts at taken 0)) k
 gone_has falls at taken k ns h o l =
-    let s = stretch at (at + taken) ns in
+    let s = range_of at (at + taken) ns in
     let P : List ℕ → Type 0 = λ ys. Has ys k in
     let order : IsInOrder falls s = order_drawn falls (drawn_take (at + taken - at) (drop at ns)) (order_drawn falls (drawn_drop at ns) o) in
-    subst P (sym (gone_is at taken (joined s ns))) (shared_has falls at taken k ns s refl order h (joined_unites (λ xs. Has xs k) at (at + taken) ns (least_unites k ns l)))
+    subst P (sym (gone_is at taken (joined_numbers s ns))) (shared_has falls at taken k ns s refl order h (joined_unites (λ xs. Has xs k) at (at + taken) ns (least_unites k ns l)))
 
 kept_has : (falls : Bool) (at taken given k : ℕ) (ns : List ℕ) → (0 < given) ⊎ IsTrue (shares_part at taken ns) → IsInOrder falls ns → IsLeast k ns → Has (after_part_event ns (ReplaceParts at taken given)) k
 kept_has falls at taken zero k ns g o l = elim g [ inl some ↦ absurd (omega arith) | inr shares ↦ gone_has falls at taken k ns shares o l ]

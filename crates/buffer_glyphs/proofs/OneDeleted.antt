@@ -7,13 +7,13 @@ use Rattle.buffer_glyphs.specs.declared.level.BufferClusterLevel.{BufferClusterL
 use Rattle.buffer_glyphs.specs.declared.level.BufferClusterLevel.TheVariants.{MonotoneGraphemes, MonotoneCharacters, Characters}
 use Rattle.buffer_glyphs.specs.Items.{clusters}
 use Rattle.buffer_glyphs.specs.Parts.{DeletePart, first_of, last_of, last_from, is_number}
-use Rattle.buffer_glyphs.specs.Deletions.{deleted}
+use Rattle.buffer_glyphs.specs.Deletions.{number_deleted}
 use Rattle.buffer_glyphs.specs.Order.{IsInOrder, IsOrdered}
 use Rattle.buffer_glyphs.specs.Levels.{IsMonotone}
 use Rattle.buffer_glyphs.specs.Lemmas.Deletions.{deletion_is_event, last_is, no_last}
 use Rattle.buffer_glyphs.specs.Lemmas.Parts.{event_keeps_order}
 use Rattle.buffer_glyphs.specs.Deleted.{clusters_deleted}
-use Rattle.buffer_glyphs.specs.Deleting.{Left, end_recast, glyphs_deleted, deletion_marks, Deletes}
+use Rattle.buffer_glyphs.specs.Deleting.{DeletionSides, end_recast, glyphs_deleted, deletion_marks, Deletes}
 
 pub has_last : (ns : List ℕ) → 0 < length ns → (p : ℕ) × (last_of ns ≡ Some p)
 has_last [] lt = absurd (omega arith)
@@ -23,9 +23,9 @@ has_last (x ∷ xs) lt = (last_from x xs, last_is x xs)
 pub deletes_as : (level : Level) (front ahead : List Glyph) (g : Glyph) (rest new_front new_back : List Glyph) (m : Bool) → ahead ≡ g ∷ rest → glyphs_deleted level front g rest ≡ record { front = new_front; back = new_back } → m ≡ deletion_marks level (clusters front) g.cluster (clusters rest)
     → Deletes level front ahead new_front new_back m
 deletes_as level front ahead g rest new_front new_back m a is marks = record {
-  front_is = λ h back e. sym (ap (λ (l : Left). l.front) (found h back e));
-  back_is = λ h back e. sym (ap (λ (l : Left). l.back) (found h back e));
-  marked_is = λ h back e. told h back e;
+  front_is = λ h back e. sym (ap (λ (l : DeletionSides). l.front) (found h back e));
+  back_is = λ h back e. sym (ap (λ (l : DeletionSides). l.back) (found h back e));
+  marked_is = λ h back e. scratch_flags h back e;
 }
   where
     found : (h : Glyph) (back : List Glyph) → ahead ≡ h ∷ back → glyphs_deleted level front h back ≡ record { front = new_front; back = new_back }
@@ -34,8 +34,8 @@ deletes_as level front ahead g rest new_front new_back m a is marks = record {
         let tail : rest ≡ back = cc in
         subst (λ (k : Glyph). glyphs_deleted level front k back ≡ record { front = new_front; back = new_back }) same (subst (λ (ks : List Glyph). glyphs_deleted level front g ks ≡ record { front = new_front; back = new_back }) tail is)
 
-    told : (h : Glyph) (back : List Glyph) → ahead ≡ h ∷ back → m ≡ deletion_marks level (clusters front) h.cluster (clusters back)
-    told h back e =
+    scratch_flags : (h : Glyph) (back : List Glyph) → ahead ≡ h ∷ back → m ≡ deletion_marks level (clusters front) h.cluster (clusters back)
+    scratch_flags h back e =
         let same : g ≡ h = cc in
         let tail : rest ≡ back = cc in
         subst (λ (k : Glyph). m ≡ deletion_marks level (clusters front) k.cluster (clusters back)) same (subst (λ (ks : List Glyph). m ≡ deletion_marks level (clusters front) g.cluster (clusters ks)) tail marks)
@@ -48,7 +48,7 @@ or_true false = refl
 pub kept_least : (level : Level) (front ahead : List Glyph) (g : Glyph) (rest : List Glyph) (p : ℕ) → ahead ≡ g ∷ rest → last_of (clusters front) ≡ Some p → p ≤ g.cluster → Deletes level front ahead front rest false
 kept_least level front ahead g rest p a last le =
     let less : nat_lt g.cluster p ≡ false = grind (arith, nat_tests, common_steps) in
-    let left : Left = record { front = front; back = rest } in
+    let left : DeletionSides = record { front = front; back = rest } in
     deletes_as level front ahead g rest front rest false a
     (rw (last, less) (elim ((p == g.cluster) || is_number (first_of (clusters rest)) g.cluster) as (λ t. (if t then left else left) ≡ left) [ true ↦ refl | false ↦ refl ]))
     (rw last (elim ((p == g.cluster) || is_number (first_of (clusters rest)) g.cluster) as (λ t. false ≡ (if t then false else false)) [ true ↦ refl | false ↦ refl ]))
@@ -68,25 +68,25 @@ taken_less level front ahead new g rest p a last lt next n =
     deletes_as level front ahead g rest new rest false a (rw (last, apart, next, less, n) (ap (λ (hs : List Glyph). record { front = hs; back = rest }) (rw last refl))) (rw (last, apart, next) refl)
 
 -- clusters stay in order
-order_at : (falls : Bool) (level : Level) (front : List ℕ) (n : ℕ) (back : List ℕ) → IsMonotone level → IsInOrder falls (front ++ n ∷ back) → IsInOrder falls (deleted level front n back)
+order_at : (falls : Bool) (level : Level) (front : List ℕ) (n : ℕ) (back : List ℕ) → IsMonotone level → IsInOrder falls (front ++ n ∷ back) → IsInOrder falls (number_deleted level front n back)
 order_at falls level front n back mono o = subst (IsInOrder falls) (sym (deletion_is_event level falls front n back mono o)) (event_keeps_order (DeletePart (length front)) falls (front ++ n ∷ back) o)
 
 tail_of : (falls : Bool) (n : ℕ) (ns : List ℕ) → IsInOrder falls (n ∷ ns) → IsInOrder falls ns
 tail_of false n ns o = o.1
 tail_of true n ns o = o.1
 
-pub order_deleted : (falls : Bool) (level : Level) (front : List ℕ) (n : ℕ) (back : List ℕ) → IsInOrder falls (front ++ n ∷ back) → IsInOrder falls (deleted level front n back)
+pub order_deleted : (falls : Bool) (level : Level) (front : List ℕ) (n : ℕ) (back : List ℕ) → IsInOrder falls (front ++ n ∷ back) → IsInOrder falls (number_deleted level front n back)
 order_deleted falls MonotoneGraphemes front n back o = order_at falls MonotoneGraphemes front n back tt o
 order_deleted falls MonotoneCharacters front n back o = order_at falls MonotoneCharacters front n back tt o
 order_deleted falls Characters front n back o = by_last (last_of front) refl
   where
-    alike : (p : ℕ) → last_of front ≡ Some p → deleted MonotoneGraphemes front n back ≡ deleted Characters front n back
+    alike : (p : ℕ) → last_of front ≡ Some p → number_deleted MonotoneGraphemes front n back ≡ number_deleted Characters front n back
     alike p e = rw e refl
 
-    none : front ≡ [] → deleted Characters front n back ≡ back
+    none : front ≡ [] → number_deleted Characters front n back ≡ back
     none e = rw e (elim (is_number (first_of back) n) as (λ t. (if t then back else back) ≡ back) [ true ↦ refl | false ↦ refl ])
 
-    by_last : (l : Option ℕ) → last_of front ≡ l → IsInOrder falls (deleted Characters front n back)
+    by_last : (l : Option ℕ) → last_of front ≡ l → IsInOrder falls (number_deleted Characters front n back)
     by_last (Some p) e = subst (IsInOrder falls) (alike p e) (order_at falls MonotoneGraphemes front n back tt o)
     by_last None e =
         let empty = no_last front e in
@@ -94,10 +94,10 @@ order_deleted falls Characters front n back o = by_last (last_of front) refl
         subst (IsInOrder falls) (sym (none empty)) (tail_of falls n back all)
 
 -- in one direction or the other
-pub ordered_deleted : (level : Level) (front : List ℕ) (n : ℕ) (back : List ℕ) → IsOrdered (front ++ n ∷ back) → IsOrdered (deleted level front n back)
+pub ordered_deleted : (level : Level) (front : List ℕ) (n : ℕ) (back : List ℕ) → IsOrdered (front ++ n ∷ back) → IsOrdered (number_deleted level front n back)
 ordered_deleted level front n back o = elim o [ inl rises ↦ inl (order_deleted false level front n back rises) | inr falls ↦ inr (order_deleted true level front n back falls) ]
 
 -- the clusters that are left
-pub left_clusters : (level : Level) (front ahead new_front new_back : List Glyph) (m : Bool) (g : Glyph) (back : List Glyph) → ahead ≡ g ∷ back → Deletes level front ahead new_front new_back m → clusters new_front ++ clusters new_back ≡ deleted level (clusters front) g.cluster (clusters back)
+pub left_clusters : (level : Level) (front ahead new_front new_back : List Glyph) (m : Bool) (g : Glyph) (back : List Glyph) → ahead ≡ g ∷ back → Deletes level front ahead new_front new_back m → clusters new_front ++ clusters new_back ≡ number_deleted level (clusters front) g.cluster (clusters back)
 left_clusters level front ahead new_front new_back m g back e gone =
     ap (λ hs. clusters hs ++ clusters new_back) (gone.front_is g back e) ∙ ap (λ hs. clusters (glyphs_deleted level front g back).front ++ clusters hs) (gone.back_is g back e) ∙ clusters_deleted level front g back

@@ -6,10 +6,10 @@ use Rattle.std.proofs.Common.{ℕ, ◌≡◌, ◌≤◌, ◌+◌, ◌-◌, ◌==
 use Rattle.std.proofs.lemmas.List.{map-append, take-append-drop, drop-drop}
 use Rattle.buffer_glyphs.specs.declared.info.hb_glyph_info_t.{hb_glyph_info_t}
 use Rattle.buffer_glyphs.specs.Items.{clusters}
-use Rattle.buffer_glyphs.specs.Parts.{stretch}
+use Rattle.buffer_glyphs.specs.Parts.{range_of}
 use Rattle.buffer_glyphs.specs.Order.{has_number}
-use Rattle.buffer_glyphs.specs.Merges.{least_number, merged}
-use Rattle.buffer_glyphs.specs.Glyphs.{in_cluster, glyphs_merged, marked_outside, glyphs_marked, tells_apart, flagged, glyphs_flagged}
+use Rattle.buffer_glyphs.specs.Merges.{least_number, merged_number}
+use Rattle.buffer_glyphs.specs.Glyphs.{in_cluster, glyphs_merged, marked_outside, glyphs_marked, has_several_numbers, glyph_flagged, glyphs_flagged}
 use Rattle.buffer_glyphs.specs.Lemmas.Glyphs.{stretch_is}
 use Rattle.buffer_glyphs.specs.Lemmas.Numbers.{Has, has_right, has_here}
 
@@ -25,10 +25,10 @@ pub merged_parts : (xs : List hb_glyph_info_t) (i j : ℕ) (front range back : L
     → front ≡ glyphs_merged (clusters (slice_range xs i j)) (take i xs)
     → range ≡ map (in_cluster (least_number (clusters (slice_range xs i j)))) (slice_range xs i j)
     → back ≡ glyphs_merged (clusters (slice_range xs i j)) (drop (j - i) (drop i xs))
-    → front ++ (range ++ back) ≡ glyphs_merged (stretch i j (clusters xs)) xs
+    → front ++ (range ++ back) ≡ glyphs_merged (range_of i j (clusters xs)) xs
 merged_parts xs i j front range back f r b =
     let ns = clusters (slice_range xs i j) in
-    let F : hb_glyph_info_t → hb_glyph_info_t = λ g. in_cluster (merged ns g.cluster) g in
+    let F : hb_glyph_info_t → hb_glyph_info_t = λ g. in_cluster (merged_number ns g.cluster) g in
     let whole : take i xs ++ (slice_range xs i j ++ drop (j - i) (drop i xs)) ≡ xs =
     rw (take-append-drop (j - i) (drop i xs), take-append-drop i xs) refl in
     let outer = map-append F (take i xs) (slice_range xs i j ++ drop (j - i) (drop i xs)) in
@@ -45,11 +45,11 @@ marked_parts bits low xs range i j le is e =
     let beyond : drop (j - i) (drop i xs) ≡ drop j xs = drop-drop (j - i) i xs ∙ ap (λ n. drop n xs) there in
     rw (e, is, stretch_is xs i j, beyond) (sym (append_assoc (take i xs) (map (marked_outside bits (least_number (clusters (slice_range xs i j)))) (slice_range xs i j)) (drop j xs)))
 
-pub told_apart : (xs : List hb_glyph_info_t) (i j : ℕ) → list_any (λ n. not (n == least_number (clusters (slice_range xs i j)))) (clusters (slice_range xs i j)) ≡ tells_apart (stretch i j (clusters xs))
+pub told_apart : (xs : List hb_glyph_info_t) (i j : ℕ) → list_any (λ n. not (n == least_number (clusters (slice_range xs i j)))) (clusters (slice_range xs i j)) ≡ has_several_numbers (range_of i j (clusters xs))
 told_apart xs i j = rw (stretch_is xs i j) refl
 
-pub flagged_parts : (bits : ℕ) (xs range : List hb_glyph_info_t) (i j : ℕ) → i ≤ j → range ≡ map (flagged bits) (slice_range xs i j) → put_mid i (j - i) xs range ≡ glyphs_flagged bits i j xs
+pub flagged_parts : (bits : ℕ) (xs range : List hb_glyph_info_t) (i j : ℕ) → i ≤ j → range ≡ map (glyph_flagged bits) (slice_range xs i j) → put_mid i (j - i) xs range ≡ glyphs_flagged bits i j xs
 flagged_parts bits xs range i j le e =
     let there : i + (j - i) ≡ j = omega arith in
     let beyond : drop (j - i) (drop i xs) ≡ drop j xs = drop-drop (j - i) i xs ∙ ap (λ n. drop n xs) there in
-    rw (e, beyond) (sym (append_assoc (take i xs) (map (flagged bits) (slice_range xs i j)) (drop j xs)))
+    rw (e, beyond) (sym (append_assoc (take i xs) (map (glyph_flagged bits) (slice_range xs i j)) (drop j xs)))

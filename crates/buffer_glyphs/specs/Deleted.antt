@@ -10,7 +10,7 @@ use Rattle.buffer_glyphs.specs.declared.level.BufferClusterLevel.{BufferClusterL
 use Rattle.buffer_glyphs.specs.Items.{item_of, strip, clusters, without_flags}
 use Rattle.buffer_glyphs.specs.Parts.{first_of, last_of, is_number}
 use Rattle.buffer_glyphs.specs.Glyphs.{glyphs_merged_at}
-use Rattle.buffer_glyphs.specs.Deletions.{end_renumbered, deleted_alone, deleted}
+use Rattle.buffer_glyphs.specs.Deletions.{end_renumbered, numbers_deleted_alone, number_deleted}
 use Rattle.buffer_glyphs.specs.Lemmas.Glyphs.{clusters_merged_at, strip_merged_at}
 use Rattle.buffer_glyphs.specs.Deleting.{recast, end_recast_from, end_recast_if, end_recast, glyphs_deleted_alone, glyphs_deleted}
 
@@ -74,7 +74,7 @@ pub end_length : (g : Glyph) (gs : List Glyph) → length (end_recast g gs) ≡ 
 end_length g gs = sym (length-map (end_recast g gs) item_of) ∙ ap length (end_items g gs) ∙ length-map gs item_of
 
 alone_clusters : (level : BufferClusterLevel) (before : Option ℕ) (front : List Glyph) (g : Glyph) (back : List Glyph) → last_of (clusters front) ≡ before
-    → clusters (glyphs_deleted_alone level before front g back).front ++ clusters (glyphs_deleted_alone level before front g back).back ≡ deleted_alone level before (clusters front) g.cluster (clusters back)
+    → clusters (glyphs_deleted_alone level before front g back).front ++ clusters (glyphs_deleted_alone level before front g back).back ≡ numbers_deleted_alone level before (clusters front) g.cluster (clusters back)
 alone_clusters level (Some p) front g back e =
     ap (λ ns. ns ++ clusters back) (elim (nat_lt g.cluster p) as (λ t. clusters (if t then end_recast g front else front) ≡ (if t then end_renumbered p g.cluster (clusters front) else clusters front)) [ true ↦ end_clusters p g front e | false ↦ refl ])
 alone_clusters level None front g back e =
@@ -83,11 +83,11 @@ alone_clusters level None front g back e =
 
 -- the clusters that a deletion leaves are those of a deletion from cluster numbers
 pub clusters_deleted : (level : BufferClusterLevel) (front : List Glyph) (g : Glyph) (back : List Glyph)
-    → clusters (glyphs_deleted level front g back).front ++ clusters (glyphs_deleted level front g back).back ≡ deleted level (clusters front) g.cluster (clusters back)
+    → clusters (glyphs_deleted level front g back).front ++ clusters (glyphs_deleted level front g back).back ≡ number_deleted level (clusters front) g.cluster (clusters back)
 clusters_deleted level front g back =
     elim (is_number (last_of (clusters front)) g.cluster || is_number (first_of (clusters back)) g.cluster)
     as (λ t. clusters (if t then record { front = front; back = back } else glyphs_deleted_alone level (last_of (clusters front)) front g back).front ++ clusters (if t then record { front = front; back = back } else glyphs_deleted_alone level (last_of (clusters front)) front g back).back
-    ≡ (if t then clusters front ++ clusters back else deleted_alone level (last_of (clusters front)) (clusters front) g.cluster (clusters back)))
+    ≡ (if t then clusters front ++ clusters back else numbers_deleted_alone level (last_of (clusters front)) (clusters front) g.cluster (clusters back)))
     [ true ↦ refl | false ↦ alone_clusters level (last_of (clusters front)) front g back refl ]
 
 alone_items : (level : BufferClusterLevel) (before : Option ℕ) (front : List Glyph) (g : Glyph) (back : List Glyph)

@@ -12,7 +12,7 @@ use Rattle.buffer_glyphs.specs.Parts.{first_of, last_of, is_number}
 use Rattle.buffer_glyphs.specs.Glyphs.{glyphs_merged_at}
 use Rattle.buffer_glyphs.specs.Origins.{Origin, origin_of, origins, cast, end_cast, alone_deleted, one_deleted, first_deleted, origins_deleted}
 use Rattle.buffer_glyphs.specs.Lemmas.Origins.{numbers_origins, origins_of_merged_at}
-use Rattle.buffer_glyphs.specs.Deleting.{Left, recast, end_recast_from, end_recast, glyphs_deleted_alone, glyphs_deleted}
+use Rattle.buffer_glyphs.specs.Deleting.{DeletionSides, recast, end_recast_from, end_recast, glyphs_deleted_alone, glyphs_deleted}
 
 flags_taken : (m n : ℕ) → bit_and (without_flags m + bit_and n 7) 7 ≡ bit_and n 7
 flags_taken m n =
@@ -44,7 +44,7 @@ end_origins p g (h ∷ hs) = rw (← all_of p (h ∷ hs)) (by_test (list_all (λ
     by_test false rest = ap (λ os. origin_of h ∷ os) rest
 
 -- all glyphs that are left
-abbrev pub together : Left → List Glyph
+abbrev pub together : DeletionSides → List Glyph
 together l = l.front ++ l.back
 
 alone_origins : (level : Level) (before : Option ℕ) (front : List Glyph) (g : Glyph) (back : List Glyph) → last_of (clusters front) ≡ before
@@ -66,8 +66,8 @@ one_origins level front g back = rw (numbers_origins front, numbers_origins back
     by_test false = alone_origins level (last_of (clusters front)) front g back refl
 
 -- the deletion of the first glyph after others is that at the index of their number
-pub deleted_behind : (level : Level) (front : List Glyph) (g : Glyph) (back : List Glyph) → origins (together (glyphs_deleted level front g back)) ≡ origins_deleted level (length front) (origins (front ++ g ∷ back))
-deleted_behind level front g back =
+pub deletion_after_front : (level : Level) (front : List Glyph) (g : Glyph) (back : List Glyph) → origins (together (glyphs_deleted level front g back)) ≡ origins_deleted level (length front) (origins (front ++ g ∷ back))
+deletion_after_front level front g back =
     let all = origins (front ++ g ∷ back) in
     let cut : all ≡ origins front ++ origins (g ∷ back) = map-append origin_of front (g ∷ back) in
     let long : length front ≡ length (origins front) = sym (length-map front origin_of) in

@@ -32,18 +32,18 @@ abbrev pub end_recast : hb_glyph_info_t → List hb_glyph_info_t → List hb_gly
 end_recast g hs = end_recast_if (last_of (clusters hs)) g hs
 
 -- the glyphs left before a deleted glyph, and after it
-pub record Left : Type 0 where
+pub record DeletionSides : Type 0 where
   pub front : List hb_glyph_info_t
   pub back : List hb_glyph_info_t
 
 -- a glyph deleted whose cluster neither neighbour has: the run before it takes its cluster and flags if that cluster is
 -- less; with none before it, it is merged with the next
-abbrev pub glyphs_deleted_alone : BufferClusterLevel → Option ℕ → List hb_glyph_info_t → hb_glyph_info_t → List hb_glyph_info_t → Left
+abbrev pub glyphs_deleted_alone : BufferClusterLevel → Option ℕ → List hb_glyph_info_t → hb_glyph_info_t → List hb_glyph_info_t → DeletionSides
 glyphs_deleted_alone level (Some p) front g back = record { front = (if nat_lt g.cluster p then end_recast g front else front); back = back }
 glyphs_deleted_alone level None front g back = record { front = front; back = drop 1 (glyphs_merged_at level 0 2 (g ∷ back)) }
 
 -- a glyph deleted from between others: nothing else changes where a neighbour has its cluster
-abbrev pub glyphs_deleted : BufferClusterLevel → List hb_glyph_info_t → hb_glyph_info_t → List hb_glyph_info_t → Left
+abbrev pub glyphs_deleted : BufferClusterLevel → List hb_glyph_info_t → hb_glyph_info_t → List hb_glyph_info_t → DeletionSides
 glyphs_deleted level front g back =
     if is_number (last_of (clusters front)) g.cluster || is_number (first_of (clusters back)) g.cluster
     then record { front = front; back = back }

@@ -1,8 +1,8 @@
 -- Events: what one call of a buffer does to clusters and glyph flags.
 use Rattle.std.specs.Prelude.{ℕ, ◌≡◌, ◌≤◌, ◌+◌, Bool, true, false, List, [], ◌∷◌, Some, fold, length, reverse, slice_get}
 use Rattle.buffer_glyphs.specs.declared.level.BufferClusterLevel.{BufferClusterLevel}
-use Rattle.buffer_glyphs.specs.Parts.{replaced_among}
-use Rattle.buffer_glyphs.specs.Origins.{Origin, Merging, InList, manner, merged_as, origins_deleted, arranged, is_seam, spans, spans_merged, origins_circled, origins_marked, origins_flagged, Asks, origins_spread, without_marks}
+use Rattle.buffer_glyphs.specs.Parts.{elements_replaced}
+use Rattle.buffer_glyphs.specs.Origins.{Origin, Merging, InList, manner, origins_merged_as, origins_deleted, with_range_arranged, is_seam, spans, spans_merged, origins_circled, origins_marked, origins_flagged, Asks, origins_spread, without_marks}
 
 -- one call, by indices of the whole list before it
 pub data Event : Type 0 where
@@ -45,13 +45,13 @@ tatweel_marked false from to os = origins_marked 3 from to os
 
 -- clusters and flags after one event
 abbrev pub origins_after_event : Asks → BufferClusterLevel → List Origin → Event → List Origin
-origins_after_event asks level os (Merge how from to) = merged_as (manner how level) from to os
-origins_after_event asks level os (Replace at taken given) = replaced_among at taken given (merged_as (manner InList level) at (at + taken) os)
+origins_after_event asks level os (Merge how from to) = origins_merged_as (manner how level) from to os
+origins_after_event asks level os (Replace at taken given) = elements_replaced at taken given (origins_merged_as (manner InList level) at (at + taken) os)
 origins_after_event asks level os (Circle after beside like) = origins_circled after beside like os
 origins_after_event asks level os (Delete at) = origins_deleted level at os
-origins_after_event asks level os (Move how from order) = arranged from order (merged_as (manner how level) from (from + length order) os)
-origins_after_event asks level os (Arrange from order) = arranged from order os
-origins_after_event asks level os (Sort from order) = arranged from order (spans_merged (manner InList level) from (spans order) os)
+origins_after_event asks level os (Move how from order) = with_range_arranged from order (origins_merged_as (manner how level) from (from + length order) os)
+origins_after_event asks level os (Arrange from order) = with_range_arranged from order os
+origins_after_event asks level os (Sort from order) = with_range_arranged from order (spans_merged (manner InList level) from (spans order) os)
 origins_after_event asks level os Reverse = reverse os
 origins_after_event asks level os (Break from to) = origins_marked 3 from to os
 origins_after_event asks level os (Concat from to) = concat_marked asks.concat from to os

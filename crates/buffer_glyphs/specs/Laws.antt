@@ -1,14 +1,14 @@
 -- Laws of all lists of events, of merges and of deletions.
 use Rattle.std.specs.Prelude.{ℕ, ◌≡◌, ◌≢◌, Bool, false, List, [], ◌∷◌, ◌++◌, length}
 use Rattle.buffer_glyphs.specs.declared.level.BufferClusterLevel.{BufferClusterLevel}
-use Rattle.buffer_glyphs.specs.Parts.{PartEvent, DeletePart, joined, after_part_event, after_part_events}
-use Rattle.buffer_glyphs.specs.Deletions.{deleted}
+use Rattle.buffer_glyphs.specs.Parts.{PartEvent, DeletePart, joined_numbers, after_part_event, after_part_events}
+use Rattle.buffer_glyphs.specs.Deletions.{number_deleted}
 use Rattle.buffer_glyphs.specs.Levels.{IsMonotone}
 use Rattle.buffer_glyphs.specs.Origins.{Origin, Asks, numbers, origins_spread}
 use Rattle.buffer_glyphs.specs.Events.{Event, IsPlain, origins_after}
 use Rattle.buffer_glyphs.specs.EventParts.{parts_of, AreEvenRuns, HaveNoConcat}
 use Rattle.buffer_glyphs.specs.Order.{IsOrdered}
-use Rattle.buffer_glyphs.specs.Merges.{merged, merged_numbers, IsLeastCoarsening}
+use Rattle.buffer_glyphs.specs.Merges.{merged_number, merged_numbers, IsLeastCoarsening}
 use Rattle.buffer_glyphs.specs.Order.{IsInOrder, IsLeast, BringsNone, IsGiving, falls_after}
 
 -- parts in order stay in order, reversed whenever the list is
@@ -25,16 +25,16 @@ KeepsNumbers = (es : List PartEvent) (ns : List ℕ) → BringsNone ns (after_pa
 
 -- a merge unites the numbers of its range, and no others
 abbrev pub MergeUnites : Type 0
-MergeUnites = (range : List ℕ) → IsLeastCoarsening range (merged range)
+MergeUnites = (range : List ℕ) → IsLeastCoarsening range (merged_number range)
 
 -- on numbers in order, a merge of the numbers that occur in a range is the join of its parts
 abbrev pub MergeIsJoin : Type 0
-MergeIsJoin = (falls : Bool) (front range back : List ℕ) → IsInOrder falls (front ++ range ++ back) → merged_numbers range (front ++ range ++ back) ≡ joined range (front ++ range ++ back)
+MergeIsJoin = (falls : Bool) (front range back : List ℕ) → IsInOrder falls (front ++ range ++ back) → merged_numbers range (front ++ range ++ back) ≡ joined_numbers range (front ++ range ++ back)
 
 -- on numbers in order, at a monotone level, a deletion is the event `Delete`: a part that loses its last item unites
 -- with a neighbour's
 abbrev pub DeletionIsEvent : Type 0
-DeletionIsEvent = (level : BufferClusterLevel) (falls : Bool) (front : List ℕ) (n : ℕ) (back : List ℕ) → IsMonotone level → IsInOrder falls (front ++ n ∷ back) → deleted level front n back ≡ after_part_event (front ++ n ∷ back) (DeletePart (length front))
+DeletionIsEvent = (level : BufferClusterLevel) (falls : Bool) (front : List ℕ) (n : ℕ) (back : List ℕ) → IsMonotone level → IsInOrder falls (front ++ n ∷ back) → number_deleted level front n back ≡ after_part_event (front ++ n ∷ back) (DeletePart (length front))
 
 -- no event introduces a new cluster number, at any level
 abbrev pub OriginsKeepNumbers : Type 0

@@ -17,4 +17,4 @@ pub mod Merging
 pub mod Deleting
 pub mod Deleted
 pub mod DeletedOrigins
-pub mod Arranged
+pub mod Rewriting

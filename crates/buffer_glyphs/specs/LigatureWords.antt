@@ -40,16 +40,16 @@ abbrev pub component_bound : ℕ
 component_bound = 0x0FFF_FFFF
 
 -- a component number, at most `component_bound`
-abbrev pub counted : ℕ → ℕ
-counted n = min n component_bound
+abbrev pub component_count : ℕ → ℕ
+component_count n = min n component_bound
 
 -- the ligature word of a ligature of so many components
 abbrev pub ligature_word : ℕ → ℕ → ℕ
-ligature_word id components = id * 0x2000_0000 + (0x1000_0000 + counted components)
+ligature_word id components = id * 0x2000_0000 + (0x1000_0000 + component_count components)
 
 -- the ligature word of an item that belongs to a component
 abbrev pub component_word : ℕ → ℕ → ℕ
-component_word id component = id * 0x2000_0000 + counted component
+component_word id component = id * 0x2000_0000 + component_count component
 
 -- the number of the ligature that an item is or belongs to, 0 where there is none
 abbrev pub lig_id : Item → ℕ

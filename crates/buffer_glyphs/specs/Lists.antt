@@ -31,10 +31,10 @@ map_step f xs ys i d z lt len before e =
     rw e (map_over_more f xs ys i (get_or ys i d) lt before (get_or_default ys i d (get_or ys i d) within))
 
 -- an element of a list that is seen through v
-pub seen_at : {X Y : Type 0} (v : X → Y) (xs : List X) (i : ℕ) (d : X) → get_or (map v xs) i (v d) ≡ v (get_or xs i d)
-seen_at v [] i d = refl
-seen_at v (x ∷ xs) zero d = refl
-seen_at v (x ∷ xs) (suc i) d = seen_at v xs i d
+pub get_or_mapped : {X Y : Type 0} (v : X → Y) (xs : List X) (i : ℕ) (d : X) → get_or (map v xs) i (v d) ≡ v (get_or xs i d)
+get_or_mapped v [] i d = refl
+get_or_mapped v (x ∷ xs) zero d = refl
+get_or_mapped v (x ∷ xs) (suc i) d = get_or_mapped v xs i d
 
 -- a loop that changes by f what is seen through v of each element: the length stays
 pub seen_length : {X Y : Type 0} (v : X → Y) (f : Y → Y) (ys : List Y) (xs : List X) (i : ℕ) → map v xs ≡ map f (take i ys) ++ drop i ys → length xs ≡ length ys
@@ -52,5 +52,5 @@ seen_step v f ys xs i x x' at e before =
     let within = slice_get_within xs i x at in
     let lt : i < length ys = omega (arith, len, within) in
     let long : length (map v xs) ≡ length ys = length-map xs v ∙ len in
-    let there : get_or (map v xs) i (v x) ≡ v x = seen_at v xs i x ∙ ap v (get_or_from_slice_get xs i x x at) in
+    let there : get_or (map v xs) i (v x) ≡ v x = get_or_mapped v xs i x ∙ ap v (get_or_from_slice_get xs i x x at) in
     rw map-set (map_step f ys (map v xs) i (v x) (v x') lt long before (rw there e))

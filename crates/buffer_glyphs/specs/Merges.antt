@@ -2,7 +2,7 @@
 use Rattle.std.specs.Prelude.{ℕ, ◌≡◌, min, if◌then◌else◌, IsTrue, List, [], ◌∷◌, map, fold}
 use Rattle.buffer_glyphs.specs.declared.level.BufferClusterLevel.{BufferClusterLevel}
 use Rattle.buffer_glyphs.specs.Levels.{InList, Manner, Unites, Marks, Keeps, manner}
-use Rattle.buffer_glyphs.specs.Parts.{stretch}
+use Rattle.buffer_glyphs.specs.Parts.{range_of}
 use Rattle.buffer_glyphs.specs.Order.{has_number}
 
 -- the least of the numbers, or 0 where there is none
@@ -11,22 +11,22 @@ least_number [] = 0
 least_number (n ∷ ns) = fold min n ns
 
 -- a number that occurs in a range becomes the least of the range
-abbrev pub merged : List ℕ → ℕ → ℕ
-merged range n = if has_number range n then least_number range else n
+abbrev pub merged_number : List ℕ → ℕ → ℕ
+merged_number range n = if has_number range n then least_number range else n
 
 -- the numbers that occur in a range renumbered to the least of them, everywhere
 abbrev pub merged_numbers : List ℕ → List ℕ → List ℕ
-merged_numbers range ns = map (merged range) ns
+merged_numbers range ns = map (merged_number range) ns
 
 -- the numbers after a merge of the indices from `from` up to before `to`: only a union changes them
 abbrev pub numbers_merged_as : Manner → ℕ → ℕ → List ℕ → List ℕ
-numbers_merged_as Unites from to ns = merged_numbers (stretch from to ns) ns
+numbers_merged_as Unites from to ns = merged_numbers (range_of from to ns) ns
 numbers_merged_as Marks from to ns = ns
 numbers_merged_as Keeps from to ns = ns
 
 -- the numbers after a merge of the indices from `from` up to before `to` at a level
-abbrev pub merged_at : BufferClusterLevel → ℕ → ℕ → List ℕ → List ℕ
-merged_at level from to ns = numbers_merged_as (manner InList level) from to ns
+abbrev pub numbers_merged_at : BufferClusterLevel → ℕ → ℕ → List ℕ → List ℕ
+numbers_merged_at level from to ns = numbers_merged_as (manner InList level) from to ns
 
 -- f makes all numbers of a range equal
 abbrev pub IsOneOn : List ℕ → (ℕ → ℕ) → Type 0

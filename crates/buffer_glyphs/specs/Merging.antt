@@ -5,7 +5,7 @@ use Rattle.buffer_glyphs.specs.declared.level.BufferClusterLevel.{BufferClusterL
 use Rattle.buffer_glyphs.specs.declared.level.BufferClusterLevel.TheVariants.{MonotoneGraphemes, MonotoneCharacters, Characters}
 use Rattle.buffer_glyphs.specs.Items.{clusters}
 use Rattle.buffer_glyphs.specs.Parts.{JoinParts}
-use Rattle.buffer_glyphs.specs.Merges.{merged_at}
+use Rattle.buffer_glyphs.specs.Merges.{numbers_merged_at}
 use Rattle.buffer_glyphs.specs.Order.{IsInOrder, IsOrdered}
 use Rattle.buffer_glyphs.specs.Glyphs.{glyphs_merged_at}
 use Rattle.buffer_glyphs.specs.Lemmas.Parts.{event_keeps_order}
@@ -17,7 +17,7 @@ ordered_from false ns h = inl h
 ordered_from true ns h = inr h
 
 -- rising clusters stay rising, and falling ones falling
-pub order_kept : (falls : Bool) (level : BufferClusterLevel) (from to : ℕ) (ns : List ℕ) → from ≤ to → IsInOrder falls ns → IsInOrder falls (merged_at level from to ns)
+pub order_kept : (falls : Bool) (level : BufferClusterLevel) (from to : ℕ) (ns : List ℕ) → from ≤ to → IsInOrder falls ns → IsInOrder falls (numbers_merged_at level from to ns)
 order_kept falls MonotoneGraphemes from to ns le h = subst (IsInOrder falls) (sym (merge_joins MonotoneGraphemes from to ns le tt (ordered_from falls ns h))) (event_keeps_order (JoinParts from to) falls ns h)
 order_kept falls MonotoneCharacters from to ns le h = subst (IsInOrder falls) (sym (merge_joins MonotoneCharacters from to ns le tt (ordered_from falls ns h))) (event_keeps_order (JoinParts from to) falls ns h)
 order_kept falls Characters from to ns le h = h
@@ -25,7 +25,7 @@ order_kept falls Characters from to ns le h = h
 pub order_merged : (level : BufferClusterLevel) (from to : ℕ) (gs new : List hb_glyph_info_t) → from ≤ to → new ≡ glyphs_merged_at level from to gs → IsOrdered (clusters gs) → IsOrdered (clusters new)
 order_merged level from to gs new le e o =
     let P : List hb_glyph_info_t → Type 0 = λ hs. IsOrdered (clusters hs) in
-    let seen : clusters (glyphs_merged_at level from to gs) ≡ merged_at level from to (clusters gs) = clusters_merged_at level from to gs le in
+    let seen : clusters (glyphs_merged_at level from to gs) ≡ numbers_merged_at level from to (clusters gs) = clusters_merged_at level from to gs le in
     subst P (sym e) (subst IsOrdered (sym seen) (elim o [
       | inl rises ↦ inl (order_kept false level from to (clusters gs) le rises)
       | inr falls ↦ inr (order_kept true level from to (clusters gs) le falls)

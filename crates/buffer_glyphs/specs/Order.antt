@@ -1,7 +1,7 @@
 -- Cluster numbers in order.
 use Rattle.std.specs.Prelude.{ℕ, ◌≤◌, ◌<◌, ◌==◌, ◌+◌, ◌⊎◌, Bool, true, false, not, IsTrue, List, [], ◌∷◌, ◌++◌, take, drop}
 use Rattle.std.specs.List.{list_any}
-use Rattle.buffer_glyphs.specs.Parts.{PartEvent, JoinParts, ReplaceParts, DeletePart, CirclePart, ReverseParts, stretch, after_part_event}
+use Rattle.buffer_glyphs.specs.Parts.{PartEvent, JoinParts, ReplaceParts, DeletePart, CirclePart, ReverseParts, range_of, after_part_event}
 
 -- m is related to each number of the list
 abbrev pub AllFrom : (ℕ → ℕ → Type 0) → ℕ → List ℕ → Type 0
@@ -54,7 +54,7 @@ falls_after falls (CirclePart beside ∷ es) = falls_after falls es
 
 -- one of the parts of the items deleted from an index on keeps an item
 abbrev pub shares_part : ℕ → ℕ → List ℕ → Bool
-shares_part at taken ns = list_any (has_number (take at ns ++ drop (at + taken) ns)) (stretch at (at + taken) ns)
+shares_part at taken ns = list_any (has_number (take at ns ++ drop (at + taken) ns)) (range_of at (at + taken) ns)
 
 -- a replacement outputs an item, or shares a part with an item that stays
 abbrev pub IsKept : PartEvent → List ℕ → Type 0

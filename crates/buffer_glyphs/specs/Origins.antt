@@ -6,8 +6,8 @@ use Rattle.buffer_glyphs.specs.declared.info.hb_glyph_info_t.{hb_glyph_info_t}
 use Rattle.buffer_glyphs.specs.declared.level.BufferClusterLevel.{BufferClusterLevel}
 use Rattle.buffer_glyphs.specs.Items.{glyph_flags}
 pub use Rattle.buffer_glyphs.specs.Levels.{Merging, InList, InOutput, Manner, Unites, Marks, Keeps, manner}
-use Rattle.buffer_glyphs.specs.Parts.{first_of, last_of, is_number, stretch}
-use Rattle.buffer_glyphs.specs.Merges.{least_number, merged}
+use Rattle.buffer_glyphs.specs.Parts.{first_of, last_of, is_number, range_of}
+use Rattle.buffer_glyphs.specs.Merges.{least_number, merged_number}
 
 -- the fields of a glyph that no item has
 pub record Origin : Type 0 where
@@ -35,7 +35,7 @@ cast c flags o = if o.cluster == c then o else record { cluster = c; flags = fla
 
 -- the clusters that occur in a range renumbered to the least of them, everywhere
 abbrev pub origins_merged : List ℕ → List Origin → List Origin
-origins_merged range os = map (λ (o : Origin). cast (merged range o.cluster) 0 o) os
+origins_merged range os = map (λ (o : Origin). cast (merged_number range o.cluster) 0 o) os
 
 -- flags set on an origin
 abbrev pub flags_added : ℕ → Origin → Origin
@@ -46,22 +46,22 @@ abbrev pub added_outside : ℕ → ℕ → Origin → Origin
 added_outside bits low o = if o.cluster == low then o else record o { flags = bit_or o.flags bits }
 
 -- the elements from `from` up to before `to` changed, each by itself
-abbrev pub changed_within : {X : Type 0} → (X → X) → ℕ → ℕ → List X → List X
-changed_within f from to xs = take from xs ++ map f (slice_range xs from to) ++ drop (max from to) xs
+abbrev pub with_range_changed : {X : Type 0} → (X → X) → ℕ → ℕ → List X → List X
+with_range_changed f from to xs = take from xs ++ map f (slice_range xs from to) ++ drop (max from to) xs
 
 -- flags set on the indices from `from` up to before `to` outside the least cluster among them
 abbrev pub origins_marked : ℕ → ℕ → ℕ → List Origin → List Origin
-origins_marked bits from to os = changed_within (added_outside bits (least_number (stretch from to (numbers os)))) from to os
+origins_marked bits from to os = with_range_changed (added_outside bits (least_number (range_of from to (numbers os)))) from to os
 
 -- flags set on the indices from `from` up to before `to`
 abbrev pub origins_flagged : ℕ → ℕ → ℕ → List Origin → List Origin
-origins_flagged bits from to os = changed_within (flags_added bits) from to os
+origins_flagged bits from to os = with_range_changed (flags_added bits) from to os
 
 -- the indices from `from` up to before `to` merged, flagged or left alone, by manner
-abbrev pub merged_as : Manner → ℕ → ℕ → List Origin → List Origin
-merged_as Unites from to os = origins_merged (stretch from to (numbers os)) os
-merged_as Marks from to os = origins_marked 3 from to os
-merged_as Keeps from to os = os
+abbrev pub origins_merged_as : Manner → ℕ → ℕ → List Origin → List Origin
+origins_merged_as Unites from to os = origins_merged (range_of from to (numbers os)) os
+origins_merged_as Marks from to os = origins_marked 3 from to os
+origins_merged_as Keeps from to os = os
 
 -- ---- deletion
 
@@ -74,7 +74,7 @@ end_cast p o (q ∷ qs) = if list_all (λ (k : Origin). k.cluster == p) (q ∷ q
 -- is less; with none before it, it is merged with the next
 abbrev pub alone_deleted : BufferClusterLevel → Option ℕ → List Origin → Origin → List Origin → List Origin
 alone_deleted level (Some p) front o back = (if nat_lt o.cluster p then end_cast p o front else front) ++ back
-alone_deleted level None front o back = front ++ drop 1 (merged_as (manner InList level) 0 2 (o ∷ back))
+alone_deleted level None front o back = front ++ drop 1 (origins_merged_as (manner InList level) 0 2 (o ∷ back))
 
 -- an origin deleted from between others: nothing else changes where a neighbour has its cluster
 abbrev pub one_deleted : BufferClusterLevel → List Origin → Origin → List Origin → List Origin
@@ -92,14 +92,14 @@ origins_deleted level at os = first_deleted level (take at os) (drop at os)
 -- ---- order
 
 -- each element of a list replaced by the one at the index that the order gives for it in `all`, where there is one
-abbrev pub picked : {X : Type 0} → List X → List ℕ → List X → List X
-picked all [] xs = xs
-picked all (i ∷ order) [] = []
-picked all (i ∷ order) (x ∷ xs) = unwrap_or (slice_get all i) x ∷ picked all order xs
+abbrev pub picked_elements : {X : Type 0} → List X → List ℕ → List X → List X
+picked_elements all [] xs = xs
+picked_elements all (i ∷ order) [] = []
+picked_elements all (i ∷ order) (x ∷ xs) = unwrap_or (slice_get all i) x ∷ picked_elements all order xs
 
 -- the elements from an index on permuted to an order, whose indices count from there
-abbrev pub arranged : {X : Type 0} → ℕ → List ℕ → List X → List X
-arranged from order xs = take from xs ++ picked (take (length order) (drop from xs)) order (drop from xs)
+abbrev pub with_range_arranged : {X : Type 0} → ℕ → List ℕ → List X → List X
+with_range_arranged from order xs = take from xs ++ picked_elements (take (length order) (drop from xs)) order (drop from xs)
 
 -- an index of an order is a seam where the elements before it are those that were before it
 abbrev pub is_seam : List ℕ → ℕ → Bool
@@ -125,7 +125,7 @@ spans order = spans_from order 0 0 (length order)
 -- spans merged, one after another; their indices count from an index of the list
 abbrev pub spans_merged : Manner → ℕ → List Span → List Origin → List Origin
 spans_merged m at [] os = os
-spans_merged m at (s ∷ ss) os = spans_merged m at ss (merged_as m (at + s.from) (at + s.to) os)
+spans_merged m at (s ∷ ss) os = spans_merged m at ss (origins_merged_as m (at + s.from) (at + s.to) os)
 
 -- ---- new glyphs
 
@@ -162,8 +162,8 @@ concat_settled true m = m
 concat_settled false m = bit_and m 5
 
 -- the flags of a cluster as requests settle them
-abbrev pub settled : Asks → ℕ → ℕ
-settled asks m = concat_settled asks.concat (tatweel_settled asks.tatweel m)
+abbrev pub settled_flags : Asks → ℕ → ℕ
+settled_flags asks m = concat_settled asks.concat (tatweel_settled asks.tatweel m)
 
 -- the flags of all origins of the run of a cluster at the front of a list
 abbrev pub run_flags : ℕ → List Origin → ℕ
@@ -176,15 +176,15 @@ spread_flags None c flags = flags
 spread_flags (Some p) c flags = if p.cluster == c then p.flags else flags
 
 -- each run of a cluster with one set of flags, after a neighbour
-abbrev pub spread_after : Asks → Option Origin → List Origin → List Origin
-spread_after asks before [] = []
-spread_after asks before (o ∷ os) =
-    let now : Origin = record { cluster = o.cluster; flags = spread_flags before o.cluster (settled asks (run_flags o.cluster (o ∷ os))) } in
-    now ∷ spread_after asks (Some now) os
+abbrev pub origins_spread_after : Asks → Option Origin → List Origin → List Origin
+origins_spread_after asks before [] = []
+origins_spread_after asks before (o ∷ os) =
+    let now : Origin = record { cluster = o.cluster; flags = spread_flags before o.cluster (settled_flags asks (run_flags o.cluster (o ∷ os))) } in
+    now ∷ origins_spread_after asks (Some now) os
 
 -- each run of a cluster with one set of flags (`propagate_flags`)
 abbrev pub origins_spread : Asks → List Origin → List Origin
-origins_spread asks os = spread_after asks None os
+origins_spread asks os = origins_spread_after asks None os
 
 -- all glyph flags cleared
 abbrev pub without_marks : List Origin → List Origin

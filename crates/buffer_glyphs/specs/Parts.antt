@@ -15,12 +15,12 @@ pub data PartEvent : Type 0 where
   ReverseParts : PartEvent
 
 -- the number of a part after all from `low` to `high` become `low`
-abbrev pub united : ℕ → ℕ → ℕ → ℕ
-united low high n = if nat_le low n && nat_le n high then low else n
+abbrev pub united_number : ℕ → ℕ → ℕ → ℕ
+united_number low high n = if nat_le low n && nat_le n high then low else n
 
 -- all parts from one to another become the least of them
-abbrev pub united_all : ℕ → ℕ → List ℕ → List ℕ
-united_all m n ns = map (united (min m n) (max m n)) ns
+abbrev pub united_numbers : ℕ → ℕ → List ℕ → List ℕ
+united_numbers m n ns = map (united_number (min m n) (max m n)) ns
 
 -- the last of some numbers, and n where there is none
 abbrev pub last_from : ℕ → List ℕ → ℕ
@@ -28,13 +28,13 @@ last_from n [] = n
 last_from n (m ∷ ms) = last_from m ms
 
 -- a list after the parts of a range of it became one
-abbrev pub joined : List ℕ → List ℕ → List ℕ
-joined [] ns = ns
-joined (n ∷ rest) ns = united_all n (last_from n rest) ns
+abbrev pub joined_numbers : List ℕ → List ℕ → List ℕ
+joined_numbers [] ns = ns
+joined_numbers (n ∷ rest) ns = united_numbers n (last_from n rest) ns
 
 -- the numbers at the indices from `from` up to before `to`
-abbrev pub stretch : ℕ → ℕ → List ℕ → List ℕ
-stretch from to ns = take (to - from) (drop from ns)
+abbrev pub range_of : ℕ → ℕ → List ℕ → List ℕ
+range_of from to ns = take (to - from) (drop from ns)
 
 -- the first element, if there is one
 abbrev pub first_of : {X : Type 0} → List X → Option X
@@ -56,12 +56,12 @@ copies n None = []
 copies n (Some x) = replicate n x
 
 -- some elements from an index on replaced by copies of the first, past the end of the one before
-abbrev pub replaced_among : {X : Type 0} → ℕ → ℕ → ℕ → List X → List X
-replaced_among at taken given xs = take at xs ++ copies given (or (first_of (drop at xs)) (last_of (take at xs))) ++ drop (at + taken) xs
+abbrev pub elements_replaced : {X : Type 0} → ℕ → ℕ → ℕ → List X → List X
+elements_replaced at taken given xs = take at xs ++ copies given (or (first_of (drop at xs)) (last_of (take at xs))) ++ drop (at + taken) xs
 
 -- some items from an index on replaced by others of the part of the first, past the end of the part before
-abbrev pub replaced : ℕ → ℕ → ℕ → List ℕ → List ℕ
-replaced at taken given ns = replaced_among at taken given ns
+abbrev pub numbers_replaced : ℕ → ℕ → ℕ → List ℕ → List ℕ
+numbers_replaced at taken given ns = elements_replaced at taken given ns
 
 -- whether an option is a number
 abbrev pub is_number : Option ℕ → ℕ → Bool
@@ -70,32 +70,32 @@ is_number (Some m) n = m == n
 
 -- a part united with that of the neighbour before, else with that of the neighbour after
 abbrev pub with_neighbour : Option ℕ → Option ℕ → ℕ → List ℕ → List ℕ
-with_neighbour (Some p) after n ns = united_all p n ns
-with_neighbour None (Some q) n ns = united_all n q ns
+with_neighbour (Some p) after n ns = united_numbers p n ns
+with_neighbour None (Some q) n ns = united_numbers n q ns
 with_neighbour None None n ns = ns
 
 -- a part that loses its last item, united with a neighbour's
-abbrev pub united_if_last : Option ℕ → Option ℕ → ℕ → List ℕ → List ℕ
-united_if_last before after n ns = if is_number before n || is_number after n then ns else with_neighbour before after n ns
+abbrev pub numbers_united_if_last : Option ℕ → Option ℕ → ℕ → List ℕ → List ℕ
+numbers_united_if_last before after n ns = if is_number before n || is_number after n then ns else with_neighbour before after n ns
 
 -- the parts as the given item between its neighbours is about to be deleted
-abbrev pub united_without : Option ℕ → Option ℕ → Option ℕ → List ℕ → List ℕ
-united_without before None after ns = ns
-united_without before (Some n) after ns = united_if_last before after n ns
+abbrev pub numbers_united_without : Option ℕ → Option ℕ → Option ℕ → List ℕ → List ℕ
+numbers_united_without before None after ns = ns
+numbers_united_without before (Some n) after ns = numbers_united_if_last before after n ns
 
 -- the parts as the item at an index is about to be deleted
 abbrev pub before_deletion : ℕ → List ℕ → List ℕ
-before_deletion at ns = united_without (last_of (take at ns)) (first_of (drop at ns)) (first_of (drop (at + 1) ns)) ns
+before_deletion at ns = numbers_united_without (last_of (take at ns)) (first_of (drop at ns)) (first_of (drop (at + 1) ns)) ns
 
 -- a list without the element at an index
-abbrev pub without : ℕ → List ℕ → List ℕ
-without at ns = take at ns ++ drop (at + 1) ns
+abbrev pub numbers_without : ℕ → List ℕ → List ℕ
+numbers_without at ns = take at ns ++ drop (at + 1) ns
 
 -- the parts after one event
 abbrev pub after_part_event : List ℕ → PartEvent → List ℕ
-after_part_event ns (JoinParts from to) = joined (stretch from to ns) ns
-after_part_event ns (ReplaceParts at taken given) = replaced at taken given (joined (stretch at (at + taken) ns) ns)
-after_part_event ns (DeletePart at) = without at (before_deletion at ns)
+after_part_event ns (JoinParts from to) = joined_numbers (range_of from to ns) ns
+after_part_event ns (ReplaceParts at taken given) = numbers_replaced at taken given (joined_numbers (range_of at (at + taken) ns) ns)
+after_part_event ns (DeletePart at) = numbers_without at (before_deletion at ns)
 after_part_event ns (CirclePart beside) = take beside ns ++ copies 2 (first_of (drop beside ns)) ++ drop (beside + 1) ns
 after_part_event ns ReverseParts = reverse ns
 

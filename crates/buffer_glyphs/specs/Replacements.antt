@@ -5,14 +5,14 @@ use Rattle.buffer_glyphs.specs.Items.{Item}
 use Rattle.buffer_glyphs.specs.Parts.{first_of, last_of, or}
 
 -- copies of an element, one for each number; none where there is none
-abbrev pub copied : {X : Type 0} → (X → ℕ → X) → Option X → List ℕ → List X
-copied under None numbers = []
-copied under (Some x) numbers = map (under x) numbers
+abbrev pub numbered_copies : {X : Type 0} → (X → ℕ → X) → Option X → List ℕ → List X
+numbered_copies under None numbers = []
+numbered_copies under (Some x) numbers = map (under x) numbers
 
 -- some elements from an index on replaced by copies of the first of them, past the end of the one before, one for each
 -- number
-abbrev pub replaced_by : {X : Type 0} → (X → ℕ → X) → ℕ → ℕ → List ℕ → List X → List X
-replaced_by under at taken numbers xs = take at xs ++ copied under (or (first_of (drop at xs)) (last_of (take at xs))) numbers ++ drop (at + taken) xs
+abbrev pub elements_renumbered : {X : Type 0} → (X → ℕ → X) → ℕ → ℕ → List ℕ → List X → List X
+elements_renumbered under at taken numbers xs = take at xs ++ numbered_copies under (or (first_of (drop at xs)) (last_of (take at xs))) numbers ++ drop (at + taken) xs
 
 -- a glyph under another number
 abbrev pub glyph_numbered : hb_glyph_info_t → ℕ → hb_glyph_info_t
@@ -24,8 +24,8 @@ item_numbered x n = record x { number = n }
 
 -- glyphs replaced by copies of the first under other numbers
 abbrev pub glyphs_replaced : ℕ → ℕ → List ℕ → List hb_glyph_info_t → List hb_glyph_info_t
-glyphs_replaced at taken numbers gs = replaced_by glyph_numbered at taken numbers gs
+glyphs_replaced at taken numbers gs = elements_renumbered glyph_numbered at taken numbers gs
 
 -- items replaced by copies of the first under other numbers
 abbrev pub items_replaced : ℕ → ℕ → List ℕ → List Item → List Item
-items_replaced at taken numbers xs = replaced_by item_numbered at taken numbers xs
+items_replaced at taken numbers xs = elements_renumbered item_numbered at taken numbers xs

@@ -1,7 +1,7 @@
 //! The class of a glyph, the substitutions that made it, and its ligature word (rustybuzz: hb/ot_layout.rs).
 ghost use Rattle.std.specs.Prelude.{◌≡◌, ◌<◌, ◌≤◌, ◌&&◌, not};
 ghost use Rattle.buffer_glyphs.specs.Items.{item_of};
-ghost use Rattle.buffer_glyphs.specs.LigatureWords.{component_bound, component_word, counted, is_base_glyph, is_lig_base, is_ligated, is_ligature, is_mark, is_multiplied, is_substituted, lig_comp, lig_id, lig_num_comps, ligature_word};
+ghost use Rattle.buffer_glyphs.specs.LigatureWords.{component_bound, component_word, component_count, is_base_glyph, is_lig_base, is_ligated, is_ligature, is_mark, is_multiplied, is_substituted, lig_comp, lig_id, lig_num_comps, ligature_word};
 
 use crate::flags::GlyphPropsFlags;
 use crate::info::hb_glyph_info_t;
@@ -126,7 +126,7 @@ pub fn _hb_glyph_info_set_lig_props_for_component(info: &mut hb_glyph_info_t, li
 }
 
 fn counted(n: u64) -> u32
-    ensures { result ≡ counted n }
+    ensures { result ≡ component_count n }
 {
     n.min(u64::from(MAX_COMPONENTS)) as u32
 }

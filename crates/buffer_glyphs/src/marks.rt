@@ -2,10 +2,10 @@
 ghost use Rattle.std.specs.Prelude.{◌≡◌, ◌==◌, ◌≤◌, ◌++◌, true, false, not, length, map};
 ghost use Rattle.std.specs.List.{list_any};
 ghost use Rattle.buffer_glyphs.specs.Items.{clusters};
-ghost use Rattle.buffer_glyphs.specs.Parts.{stretch};
+ghost use Rattle.buffer_glyphs.specs.Parts.{range_of};
 ghost use Rattle.buffer_glyphs.specs.Order.{IsOrdered};
 ghost use Rattle.buffer_glyphs.specs.Merges.{least_number};
-ghost use Rattle.buffer_glyphs.specs.Glyphs.{flagged, glyphs_flagged, glyphs_marked, marked_outside, tells_apart};
+ghost use Rattle.buffer_glyphs.specs.Glyphs.{glyph_flagged, glyphs_flagged, glyphs_marked, marked_outside, has_several_numbers};
 
 use crate::info::{hb_glyph_info_t, hb_mask_t};
 use crate::merges::least_cluster;
@@ -22,9 +22,9 @@ pub fn mark_within(
 ) -> bool
     requires ordered { start ≤ end }
     requires within { end ≤ length glyphs.old }
-    requires known { in_order ≡ true → IsOrdered (stretch start end (clusters glyphs.old)) }
+    requires known { in_order ≡ true → IsOrdered (range_of start end (clusters glyphs.old)) }
     ensures marked { glyphs.new ≡ glyphs_marked flags start end glyphs.old }
-    ensures any { result ≡ tells_apart (stretch start end (clusters glyphs.old)) }
+    ensures any { result ≡ has_several_numbers (range_of start end (clusters glyphs.old)) }
 {
     if in_order && are_ends_alike(&glyphs[start..end]) {
         return false;
@@ -39,7 +39,7 @@ pub fn mark_within(
 /// Whether the first and the last glyph are of one cluster, or there are none; on clusters in order, all glyphs between
 /// are too.
 fn are_ends_alike(glyphs: &[hb_glyph_info_t]) -> bool
-    ensures { IsOrdered (clusters glyphs.now) → result ≡ true → tells_apart (clusters glyphs.now) ≡ false }
+    ensures { IsOrdered (clusters glyphs.now) → result ≡ true → has_several_numbers (clusters glyphs.now) ≡ false }
 {
     if glyphs.is_empty() {
         return true;
@@ -58,7 +58,7 @@ pub fn mark_across(
         ≡ map (marked_outside flags (least_number (clusters behind.old ++ clusters ahead.old))) behind.old }
     ensures ahead { ahead.new
         ≡ map (marked_outside flags (least_number (clusters behind.old ++ clusters ahead.old))) ahead.old }
-    ensures any { result ≡ tells_apart (clusters behind.old ++ clusters ahead.old) }
+    ensures any { result ≡ has_several_numbers (clusters behind.old ++ clusters ahead.old) }
 {
     let low = least_across(behind, ahead);
     let any = has_other_cluster(behind, low) || has_other_cluster(ahead, low);
@@ -126,7 +126,7 @@ pub fn flag_within(glyphs: &mut [hb_glyph_info_t], start: usize, end: usize, fla
 /// Sets flags on all glyphs.
 #[tactic(auto, using(crate::specs::Lists::map_step))]
 pub fn flag_all(glyphs: &mut [hb_glyph_info_t], flags: hb_mask_t)
-    ensures { glyphs.new ≡ map (flagged flags) glyphs.old }
+    ensures { glyphs.new ≡ map (glyph_flagged flags) glyphs.old }
 {
     for glyph in glyphs.iter_mut() {
         glyph.mask |= flags;

@@ -1,9 +1,9 @@
 //! Merges of clusters in a slice (rustybuzz: hb/buffer.rs, `merge_clusters`).
 ghost use Rattle.std.specs.Prelude.{◌≡◌, ◌≤◌, length, slice_range, map};
 ghost use Rattle.buffer_glyphs.specs.Items.{clusters, without_flags};
-ghost use Rattle.buffer_glyphs.specs.Parts.{stretch};
+ghost use Rattle.buffer_glyphs.specs.Parts.{range_of};
 ghost use Rattle.buffer_glyphs.specs.Order.{has_number};
-ghost use Rattle.buffer_glyphs.specs.Merges.{least_number, merged};
+ghost use Rattle.buffer_glyphs.specs.Merges.{least_number, merged_number};
 ghost use Rattle.buffer_glyphs.specs.Glyphs.{glyphs_merged, in_cluster};
 
 use crate::info::{DEFINED, hb_glyph_info_t};
@@ -48,7 +48,7 @@ pub fn glyph_in_cluster(glyph: hb_glyph_info_t, cluster: u32) -> hb_glyph_info_t
 
 fn merged_glyph(glyph: hb_glyph_info_t, range: &[hb_glyph_info_t], low: u32) -> hb_glyph_info_t
     requires { low ≡ least_number (clusters range.now) }
-    ensures { result ≡ in_cluster (merged (clusters range.now) glyph.cluster) glyph }
+    ensures { result ≡ in_cluster (merged_number (clusters range.now) glyph.cluster) glyph }
 {
     if has_cluster(range, glyph.cluster) {
         glyph_in_cluster(glyph, low)
@@ -73,7 +73,7 @@ pub fn spread(glyphs: &mut [hb_glyph_info_t], range: &[hb_glyph_info_t], low: u3
 pub fn spread_within(glyphs: &mut [hb_glyph_info_t], start: usize, end: usize)
     requires ordered { start ≤ end }
     requires within { end ≤ length glyphs.old }
-    ensures { glyphs.new ≡ glyphs_merged (stretch start end (clusters glyphs.old)) glyphs.old }
+    ensures { glyphs.new ≡ glyphs_merged (range_of start end (clusters glyphs.old)) glyphs.old }
 {
     let (front, rest) = glyphs.split_at_mut(start);
     let (range, back) = rest.split_at_mut(end - start);

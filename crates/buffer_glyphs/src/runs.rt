@@ -1,9 +1,9 @@
 //! Merges of clusters that are in order, at the cost of the range and its neighbouring runs.
 ghost use Rattle.std.specs.Prelude.{◌≡◌, ◌≤◌, ◌<◌, ◌++◌, ◌∷◌, [], Some, true, length};
 ghost use Rattle.buffer_glyphs.specs.Items.{clusters};
-ghost use Rattle.buffer_glyphs.specs.Parts.{first_of, last_of, stretch};
+ghost use Rattle.buffer_glyphs.specs.Parts.{first_of, last_of, range_of};
 ghost use Rattle.buffer_glyphs.specs.Order.{IsOrdered};
-ghost use Rattle.buffer_glyphs.specs.Glyphs.{glyphs_merged, renamed};
+ghost use Rattle.buffer_glyphs.specs.Glyphs.{glyphs_merged, glyphs_renumbered};
 
 use crate::info::hb_glyph_info_t;
 use crate::merges::{least_cluster, set_clusters, spread, spread_within};
@@ -14,7 +14,7 @@ pub fn merge_within(glyphs: &mut [hb_glyph_info_t], start: usize, end: usize, in
     requires ordered { start ≤ end }
     requires within { end ≤ length glyphs.old }
     requires known { in_order ≡ true → IsOrdered (clusters glyphs.old) }
-    ensures { glyphs.new ≡ glyphs_merged (stretch start end (clusters glyphs.old)) glyphs.old }
+    ensures { glyphs.new ≡ glyphs_merged (range_of start end (clusters glyphs.old)) glyphs.old }
 {
     if start == end {
         return;
@@ -66,7 +66,7 @@ fn merge_in_order(glyphs: &mut [hb_glyph_info_t], start: usize, end: usize)
     requires some { start < end }
     requires within { end ≤ length glyphs.old }
     requires known { IsOrdered (clusters glyphs.old) }
-    ensures { glyphs.new ≡ glyphs_merged (stretch start end (clusters glyphs.old)) glyphs.old }
+    ensures { glyphs.new ≡ glyphs_merged (range_of start end (clusters glyphs.old)) glyphs.old }
 {
     let (front, rest) = glyphs.split_at_mut(start);
     let (range, back) = rest.split_at_mut(end - start);
@@ -100,7 +100,7 @@ pub fn last_cluster(glyphs: &[hb_glyph_info_t]) -> u32
 #[tactic(auto, using(crate::proofs::Ends::passed_back))]
 fn rename_back(glyphs: &mut [hb_glyph_info_t], cluster: u32, low: u32)
     requires { IsOrdered (clusters glyphs.old ++ cluster ∷ []) }
-    ensures { glyphs.new ≡ renamed cluster low glyphs.old }
+    ensures { glyphs.new ≡ glyphs_renumbered cluster low glyphs.old }
 {
     if cluster == low {
         return;
@@ -117,7 +117,7 @@ fn rename_back(glyphs: &mut [hb_glyph_info_t], cluster: u32, low: u32)
 #[tactic(auto, using(crate::proofs::Ends::passed_front))]
 fn rename_front(glyphs: &mut [hb_glyph_info_t], cluster: u32, low: u32)
     requires { IsOrdered (cluster ∷ clusters glyphs.old) }
-    ensures { glyphs.new ≡ renamed cluster low glyphs.old }
+    ensures { glyphs.new ≡ glyphs_renumbered cluster low glyphs.old }
 {
     if cluster == low {
         return;

@@ -7,9 +7,9 @@ use Rattle.std.proofs.lemmas.List.{map-append, take-take, take_more, drop-take, 
 use Rattle.std.proofs.Math.Seq.{take-append_seam, drop-append_seam}
 use Rattle.buffer_glyphs.specs.declared.info.hb_glyph_info_t.{hb_glyph_info_t as Glyph}
 use Rattle.buffer_glyphs.specs.Items.{clusters, without_flags}
-use Rattle.buffer_glyphs.specs.Parts.{stretch}
+use Rattle.buffer_glyphs.specs.Parts.{range_of}
 use Rattle.buffer_glyphs.specs.Order.{IsFalling, IsRising, IsOrdered, IsInOrder, IsChain, has_number}
-use Rattle.buffer_glyphs.specs.Merges.{least_number, merged}
+use Rattle.buffer_glyphs.specs.Merges.{least_number, merged_number}
 use Rattle.buffer_glyphs.specs.Glyphs.{in_cluster, glyphs_merged, glyphs_merged_at, is_marked_at}
 use Rattle.buffer_glyphs.specs.declared.level.BufferClusterLevel.{BufferClusterLevel as Level}
 use Rattle.buffer_glyphs.specs.declared.level.BufferClusterLevel.TheVariants.{MonotoneGraphemes, MonotoneCharacters, Characters}
@@ -23,9 +23,9 @@ use Rattle.buffer_glyphs.specs.Lemmas.Merges.{least_number_is, chain_left, chain
 use Rattle.buffer_glyphs.specs.Lemmas.Numbers.{Has, has_here, has_more, has_cases, has_left, has_right, has_either}
 use Rattle.buffer_groups.specs.declared.due.falling.Stretch.{Stretch}
 use Rattle.buffer_groups.specs.Sorting.{Spanned, span_merged}
-use Rattle.buffer_groups.specs.Falling.{carried, IsDueBefore}
+use Rattle.buffer_groups.specs.Falling.{with_range_in_cluster, IsDueBefore}
 
-pub carried_put : (d : Stretch) (gs range : List Glyph) → d.from ≤ d.to → range ≡ map (in_cluster d.cluster) (slice_range gs d.from d.to) → put_mid d.from (d.to - d.from) gs range ≡ carried d gs
+pub carried_put : (d : Stretch) (gs range : List Glyph) → d.from ≤ d.to → range ≡ map (in_cluster d.cluster) (slice_range gs d.from d.to) → put_mid d.from (d.to - d.from) gs range ≡ with_range_in_cluster d gs
 carried_put d gs range le e =
     let there : d.from + (d.to - d.from) ≡ d.to = omega arith in
     let behind : drop (d.to - d.from) (drop d.from gs) ≡ drop d.to gs = drop-drop (d.to - d.from) d.from gs ∙ ap (λ n. drop n gs) there in
@@ -48,7 +48,7 @@ all_go f z (g ∷ gs) same =
     ap (λ (h : Glyph). h ∷ gone f gs) first ∙ ap (λ hs. in_cluster z g ∷ hs) (all_go f z gs (λ n h. same n (has_more g.cluster n (clusters gs) h)))
 
 -- a number that is no greater than any of a range
-low_stays : (x : ℕ) (xs : List ℕ) (n : ℕ) → ((k : ℕ) → Has (x ∷ xs) k → n ≤ k) → merged (x ∷ xs) n ≡ n
+low_stays : (x : ℕ) (xs : List ℕ) (n : ℕ) → ((k : ℕ) → Has (x ∷ xs) k → n ≤ k) → merged_number (x ∷ xs) n ≡ n
 low_stays x xs n low = by_test (has_number (x ∷ xs) n) refl
   where
     by_test : (t : Bool) → has_number (x ∷ xs) n ≡ t → (if t then least_number (x ∷ xs) else n) ≡ n
@@ -56,7 +56,7 @@ low_stays x xs n low = by_test (has_number (x ∷ xs) n) refl
     by_test false e = refl
 
 -- or one that is greater than all
-high_stays : (x : ℕ) (xs : List ℕ) (n : ℕ) → ((k : ℕ) → Has (x ∷ xs) k → k < n) → merged (x ∷ xs) n ≡ n
+high_stays : (x : ℕ) (xs : List ℕ) (n : ℕ) → ((k : ℕ) → Has (x ∷ xs) k → k < n) → merged_number (x ∷ xs) n ≡ n
 high_stays x xs n high = by_test (has_number (x ∷ xs) n) refl
   where
     by_test : (t : Bool) → has_number (x ∷ xs) n ≡ t → (if t then least_number (x ∷ xs) else n) ≡ n
@@ -77,11 +77,11 @@ parts_clusters f r w b =
 -- a merge in falling clusters: what is of the first cluster of the range goes to the least of it, and nothing else
 merged_parts : (x : ℕ) (xs : List ℕ) (f r w b : List Glyph) → clusters w ≡ x ∷ xs → IsFalling (clusters (f ++ (r ++ w) ++ b))
     → ((n : ℕ) → Has (clusters f) n → n ≢ x) → ((n : ℕ) → Has (clusters r) n → n ≡ x)
-    → gone (merged (x ∷ xs)) (f ++ (r ++ w) ++ b) ≡ f ++ map (in_cluster (least_number (x ∷ xs))) (r ++ w) ++ b
+    → gone (merged_number (x ∷ xs)) (f ++ (r ++ w) ++ b) ≡ f ++ map (in_cluster (least_number (x ∷ xs))) (r ++ w) ++ b
 merged_parts x xs f r w b is falling other same =
     let range = x ∷ xs in
     let z = least_number range in
-    let m : ℕ → ℕ = merged range in
+    let m : ℕ → ℕ = merged_number range in
     let e : Glyph → Glyph = λ g. in_cluster (m g.cluster) g in
     let whole : IsChain Falls (clusters f ++ (clusters r ++ range) ++ clusters b) =
     subst (IsChain Falls) (parts_clusters f r w b ∙ ap (λ ns. clusters f ++ (clusters r ++ ns) ++ clusters b) is) falling in
@@ -147,7 +147,7 @@ up_to_range gs start end a n xs le is falling h =
 -- a merge by positions
 merged_from : (gs : List Glyph) (at start end a : ℕ) (xs : List ℕ) → at ≤ start → start < end → clusters (slice_range gs start end) ≡ a ∷ xs → IsFalling (clusters gs)
     → ((n : ℕ) → Has (clusters (take at gs)) n → n ≢ a) → ((n : ℕ) → Has (clusters (slice_range gs at start)) n → n ≡ a)
-    → carried (record { from = at; to = end; cluster = least_number (a ∷ xs) }) gs ≡ glyphs_merged (stretch start end (clusters gs)) gs
+    → with_range_in_cluster (record { from = at; to = end; cluster = least_number (a ∷ xs) }) gs ≡ glyphs_merged (range_of start end (clusters gs)) gs
 merged_from gs at start end a xs le lt is falling other same =
     let f = take at gs in
     let r = slice_range gs at start in
@@ -155,16 +155,16 @@ merged_from gs at start end a xs le lt is falling other same =
     let b = drop end gs in
     let cut : slice_range gs at end ≡ r ++ w = two_ranges at start end gs le (omega arith) in
     let whole : gs ≡ f ++ (r ++ w) ++ b = sym (cut_out at end gs (omega arith)) ∙ ap (λ hs. f ++ hs ++ b) cut in
-    let range : stretch start end (clusters gs) ≡ a ∷ xs = stretch_is gs start end ∙ is in
-    sym (ap (λ ns. gone (merged ns) gs) range ∙ ap (gone (merged (a ∷ xs))) whole ∙ merged_parts a xs f r w b is (subst (λ (hs : List Glyph). IsFalling (clusters hs)) whole falling) other same ∙ ap (λ hs. f ++ map (in_cluster (least_number (a ∷ xs))) hs ++ b) (sym cut))
+    let range : range_of start end (clusters gs) ≡ a ∷ xs = stretch_is gs start end ∙ is in
+    sym (ap (λ ns. gone (merged_number ns) gs) range ∙ ap (gone (merged_number (a ∷ xs))) whole ∙ merged_parts a xs f r w b is (subst (λ (hs : List Glyph). IsFalling (clusters hs)) whole falling) other same ∙ ap (λ hs. f ++ map (in_cluster (least_number (a ∷ xs))) hs ++ b) (sym cut))
 
 -- a range of one cluster
-merged_alone : (gs : List Glyph) (start end a : ℕ) (xs : List ℕ) → clusters (slice_range gs start end) ≡ a ∷ xs → IsFalling (clusters gs) → a ≡ least_number (a ∷ xs) → gs ≡ glyphs_merged (stretch start end (clusters gs)) gs
+merged_alone : (gs : List Glyph) (start end a : ℕ) (xs : List ℕ) → clusters (slice_range gs start end) ≡ a ∷ xs → IsFalling (clusters gs) → a ≡ least_number (a ∷ xs) → gs ≡ glyphs_merged (range_of start end (clusters gs)) gs
 merged_alone gs start end a xs is falling alone =
-    let range : stretch start end (clusters gs) ≡ a ∷ xs = stretch_is gs start end ∙ is in
+    let range : range_of start end (clusters gs) ≡ a ∷ xs = stretch_is gs start end ∙ is in
     let behind : IsChain Falls (clusters (drop start gs)) = chain_right Falls (clusters (take start gs)) (clusters (drop start gs)) (subst (IsChain Falls) (clusters_cut gs start) falling) in
     let inner : IsChain Falls (a ∷ xs) = subst (IsChain Falls) is (chain_left Falls (clusters (slice_range gs start end)) (clusters (drop (end - start) (drop start gs))) (subst (IsChain Falls) (clusters_cut (drop start gs) (end - start)) behind)) in
-    sym (ap (λ ns. gone (merged ns) gs) range ∙ all_stay (merged (a ∷ xs)) gs (λ n h. by_test n (has_number (a ∷ xs) n) refl inner))
+    sym (ap (λ ns. gone (merged_number ns) gs) range ∙ all_stay (merged_number (a ∷ xs)) gs (λ n h. by_test n (has_number (a ∷ xs) n) refl inner))
   where
     by_test : (n : ℕ) (t : Bool) → has_number (a ∷ xs) n ≡ t → IsChain Falls (a ∷ xs) → (if t then least_number (a ∷ xs) else n) ≡ n
     by_test n true e inner = let low = (least_number_is a xs).below n e in let top = from_first Falls falls_self a n xs inner.0 e in omega (arith, low, top, alone)
@@ -177,28 +177,28 @@ range_long d gs le within = length-map (slice_range gs d.from d.to) (in_cluster 
 pub front_long : (d : Stretch) (gs : List Glyph) → d.from ≤ d.to → d.to ≤ length gs → length (take d.from gs ++ map (in_cluster d.cluster) (slice_range gs d.from d.to)) ≡ d.to
 front_long d gs le within = omega (arith, length-append (take d.from gs) (map (in_cluster d.cluster) (slice_range gs d.from d.to)), length-take-le d.from gs (omega arith), range_long d gs le within)
 
-pub take_carried : (d : Stretch) (gs : List Glyph) → d.from ≤ d.to → d.to ≤ length gs → take d.to (carried d gs) ≡ take d.from gs ++ map (in_cluster d.cluster) (slice_range gs d.from d.to)
+pub take_carried : (d : Stretch) (gs : List Glyph) → d.from ≤ d.to → d.to ≤ length gs → take d.to (with_range_in_cluster d gs) ≡ take d.from gs ++ map (in_cluster d.cluster) (slice_range gs d.from d.to)
 take_carried d gs le within =
     let f = take d.from gs ++ map (in_cluster d.cluster) (slice_range gs d.from d.to) in
     ap (λ n. take n (f ++ drop d.to gs)) (sym (front_long d gs le within)) ∙ take-append_seam f (drop d.to gs)
 
-pub drop_carried : (d : Stretch) (gs : List Glyph) (at : ℕ) → d.from ≤ d.to → d.to ≤ length gs → d.to ≤ at → drop at (carried d gs) ≡ drop at gs
+pub drop_carried : (d : Stretch) (gs : List Glyph) (at : ℕ) → d.from ≤ d.to → d.to ≤ length gs → d.to ≤ at → drop at (with_range_in_cluster d gs) ≡ drop at gs
 drop_carried d gs at le within behind =
     let f = take d.from gs ++ map (in_cluster d.cluster) (slice_range gs d.from d.to) in
-    let here : drop d.to (carried d gs) ≡ drop d.to gs = ap (λ n. drop n (f ++ drop d.to gs)) (sym (front_long d gs le within)) ∙ drop-append_seam f (drop d.to gs) in
-    sym (drop_beyond d.to at (carried d gs) behind) ∙ ap (drop (at - d.to)) here ∙ drop_beyond d.to at gs behind
+    let here : drop d.to (with_range_in_cluster d gs) ≡ drop d.to gs = ap (λ n. drop n (f ++ drop d.to gs)) (sym (front_long d gs le within)) ∙ drop-append_seam f (drop d.to gs) in
+    sym (drop_beyond d.to at (with_range_in_cluster d gs) behind) ∙ ap (drop (at - d.to)) here ∙ drop_beyond d.to at gs behind
 
-pub from_carried : (d : Stretch) (gs : List Glyph) → d.from ≤ d.to → d.to ≤ length gs → take d.from (carried d gs) ≡ take d.from gs
+pub from_carried : (d : Stretch) (gs : List Glyph) → d.from ≤ d.to → d.to ≤ length gs → take d.from (with_range_in_cluster d gs) ≡ take d.from gs
 from_carried d gs le within =
     let m = map (in_cluster d.cluster) (slice_range gs d.from d.to) in
     let long : length (take d.from gs) ≡ d.from = length-take-le d.from gs (omega arith) in
     ap (take d.from) (append_assoc (take d.from gs) m (drop d.to gs)) ∙ ap (λ n. take n (take d.from gs ++ (m ++ drop d.to gs))) (sym long) ∙ take-append_seam (take d.from gs) (m ++ drop d.to gs)
 
-pub range_carried : (d : Stretch) (gs : List Glyph) → d.from ≤ d.to → d.to ≤ length gs → slice_range (carried d gs) d.from d.to ≡ map (in_cluster d.cluster) (slice_range gs d.from d.to)
+pub range_carried : (d : Stretch) (gs : List Glyph) → d.from ≤ d.to → d.to ≤ length gs → slice_range (with_range_in_cluster d gs) d.from d.to ≡ map (in_cluster d.cluster) (slice_range gs d.from d.to)
 range_carried d gs le within =
     let m = map (in_cluster d.cluster) (slice_range gs d.from d.to) in
     let long : length (take d.from gs) ≡ d.from = length-take-le d.from gs (omega arith) in
-    let behind : drop d.from (carried d gs) ≡ m ++ drop d.to gs = ap (drop d.from) (append_assoc (take d.from gs) m (drop d.to gs)) ∙ ap (λ n. drop n (take d.from gs ++ (m ++ drop d.to gs))) (sym long) ∙ drop-append_seam (take d.from gs) (m ++ drop d.to gs) in
+    let behind : drop d.from (with_range_in_cluster d gs) ≡ m ++ drop d.to gs = ap (drop d.from) (append_assoc (take d.from gs) m (drop d.to gs)) ∙ ap (λ n. drop n (take d.from gs ++ (m ++ drop d.to gs))) (sym long) ∙ drop-append_seam (take d.from gs) (m ++ drop d.to gs) in
     ap (take (d.to - d.from)) behind ∙ ap (λ n. take n (m ++ drop d.to gs)) (sym (range_long d gs le within)) ∙ take-append_seam m (drop d.to gs)
 
 in_twice : (c z : ℕ) (g : Glyph) → c ≢ z → g.cluster ≢ z → in_cluster z (in_cluster c g) ≡ in_cluster z g
@@ -218,7 +218,7 @@ all_twice c z (g ∷ gs) other off =
     ∙ ap (λ hs. in_cluster z g ∷ hs) (all_twice c z gs other (λ n h. off n (has_more g.cluster n (clusters gs) h)))
 
 -- after what is due nothing changes
-pub same_range : (d : Stretch) (gs : List Glyph) (i j : ℕ) → d.from ≤ d.to → d.to ≤ length gs → d.to ≤ i → slice_range (carried d gs) i j ≡ slice_range gs i j
+pub same_range : (d : Stretch) (gs : List Glyph) (i j : ℕ) → d.from ≤ d.to → d.to ≤ length gs → d.to ≤ i → slice_range (with_range_in_cluster d gs) i j ≡ slice_range gs i j
 same_range d gs i j le within behind = ap (take (j - i)) (drop_carried d gs i le within behind)
 
 has_before : (gs : List Glyph) (i j n : ℕ) → i ≤ j → Has (clusters (take i gs)) n → Has (clusters (take j gs)) n
@@ -233,9 +233,9 @@ has_within gs i j n le h =
 
 -- what is carried out again to a lesser cluster
 twice : (d : Stretch) (gs : List Glyph) (end z : ℕ) → d.from ≤ d.to → d.to ≤ length gs → d.to ≤ end → z < d.cluster → ((n : ℕ) → Has (clusters (take d.to gs)) n → d.cluster ≤ n)
-    → carried (record { from = d.from; to = end; cluster = z }) (carried d gs) ≡ carried (record { from = d.from; to = end; cluster = z }) gs
+    → with_range_in_cluster (record { from = d.from; to = end; cluster = z }) (with_range_in_cluster d gs) ≡ with_range_in_cluster (record { from = d.from; to = end; cluster = z }) gs
 twice d gs end z le within behind less least =
-    let m = carried d gs in
+    let m = with_range_in_cluster d gs in
     let go : List Glyph → List Glyph = map (in_cluster z) in
     let r = slice_range gs d.from d.to in
     let w = slice_range gs d.to end in
@@ -279,18 +279,18 @@ pub record IsRange (start end a : ℕ) (xs : List ℕ) (d : Stretch) (gs : List 
   pub is : clusters (slice_range gs start end) ≡ a ∷ xs
   pub due : IsDueBefore start d gs
 
-range_meant : (start end a : ℕ) (xs : List ℕ) (d : Stretch) (gs : List Glyph) → IsRange start end a xs d gs → clusters (slice_range (carried d gs) start end) ≡ a ∷ xs
+range_meant : (start end a : ℕ) (xs : List ℕ) (d : Stretch) (gs : List Glyph) → IsRange start end a xs d gs → clusters (slice_range (with_range_in_cluster d gs) start end) ≡ a ∷ xs
 range_meant start end a xs d gs r = ap clusters (same_range d gs start end r.due.ordered (omega (arith, r.due.before, r.lt, r.within)) r.due.before) ∙ r.is
 
-falls_merged : (start end : ℕ) (gs new : List Glyph) → start < end → IsFalling (clusters gs) → new ≡ glyphs_merged (stretch start end (clusters gs)) gs → IsFalling (clusters new)
+falls_merged : (start end : ℕ) (gs new : List Glyph) → start < end → IsFalling (clusters gs) → new ≡ glyphs_merged (range_of start end (clusters gs)) gs → IsFalling (clusters new)
 falls_merged start end gs new lt falling e = direction_merged MonotoneGraphemes start end gs new (omega arith) e true falling
 
 -- the due range joins
 pub joined_merged : (start end a : ℕ) (xs : List ℕ) (d : Stretch) (gs : List Glyph) → IsRange start end a xs d gs → least_number (a ∷ xs) < a → d.cluster ≡ a → ((n : ℕ) → Has (clusters (slice_range gs d.to start)) n → n ≡ a)
-    → carried (record { from = d.from; to = end; cluster = least_number (a ∷ xs) }) gs ≡ glyphs_merged (stretch start end (clusters (carried d gs))) (carried d gs)
+    → with_range_in_cluster (record { from = d.from; to = end; cluster = least_number (a ∷ xs) }) gs ≡ glyphs_merged (range_of start end (clusters (with_range_in_cluster d gs))) (with_range_in_cluster d gs)
 joined_merged start end a xs d gs r less joins all =
     let due = r.due in
-    let m = carried d gs in
+    let m = with_range_in_cluster d gs in
     let within : d.to ≤ length gs = omega (arith, due.before, r.lt, r.within) in
     let mid = slice_range gs d.from d.to in
     let cut : clusters (slice_range m d.from start) ≡ clusters (map (in_cluster d.cluster) mid) ++ clusters (slice_range gs d.to start) =
@@ -308,7 +308,7 @@ pub joined_due : (start end a : ℕ) (xs : List ℕ) (d : Stretch) (gs : List Gl
     → IsDueBefore end (record { from = d.from; to = end; cluster = least_number (a ∷ xs) }) gs
 joined_due start end a xs d gs r less joins all =
     let due = r.due in
-    let m = carried d gs in
+    let m = with_range_in_cluster d gs in
     let z = least_number (a ∷ xs) in
     let within : d.to ≤ length gs = omega (arith, due.before, r.lt, r.within) in
     let far : d.to ≤ end = omega (arith, due.before, r.lt) in
@@ -322,14 +322,14 @@ joined_due start end a xs d gs r less joins all =
         | inl before ↦ let low = due.least n before in omega (arith, low, joins, less)
         | inr ahead ↦ up_to_range m start end a n xs (omega (arith, r.lt)) (range_meant start end a xs d gs r) due.falls (has_within m d.to end n far (subst (λ (hs : List Glyph). Has (clusters hs) n) (sym (same_range d gs d.to end due.ordered within (omega arith))) ahead))
       ];
-      falls = falls_merged start end m (carried (record { from = d.from; to = end; cluster = z }) gs) r.lt due.falls (joined_merged start end a xs d gs r less joins all);
+      falls = falls_merged start end m (with_range_in_cluster (record { from = d.from; to = end; cluster = z }) gs) r.lt due.falls (joined_merged start end a xs d gs r less joins all);
     }
 
 -- what is due goes to a cluster that is not less
 due_above : (start end a : ℕ) (xs : List ℕ) (d : Stretch) (gs : List Glyph) → IsRange start end a xs d gs → 0 < d.to → a ≤ d.cluster
 due_above start end a xs d gs r lt =
     let due = r.due in
-    let m = carried d gs in
+    let m = with_range_in_cluster d gs in
     let within : d.to ≤ length gs = omega (arith, due.before, r.lt, r.within) in
     let mid = slice_range gs d.from d.to in
     let go : List Glyph = map (in_cluster d.cluster) mid in
@@ -339,14 +339,14 @@ due_above start end a xs d gs r lt =
     (has_before m d.to start d.cluster due.before (subst (λ ns. Has ns d.cluster) (sym there) (has_right d.cluster (clusters (take d.from gs)) (clusters go) (one_in d.cluster mid long))))
 
 -- none of it is of the first cluster of the range, nor is what is before it
-none_due : (start end a n : ℕ) (xs : List ℕ) (d : Stretch) (gs : List Glyph) → IsRange start end a xs d gs → d.cluster ≢ a → Has (clusters (take d.to (carried d gs))) n → n ≢ a
+none_due : (start end a n : ℕ) (xs : List ℕ) (d : Stretch) (gs : List Glyph) → IsRange start end a xs d gs → d.cluster ≢ a → Has (clusters (take d.to (with_range_in_cluster d gs))) n → n ≢ a
 none_due start end a n xs d gs r other h e =
     let due = r.due in
     let within : d.to ≤ length gs = omega (arith, due.before, r.lt, r.within) in
     let mid = slice_range gs d.from d.to in
     let go : List Glyph = map (in_cluster d.cluster) mid in
-    let there : clusters (take d.to (carried d gs)) ≡ clusters (take d.from gs) ++ clusters go = ap clusters (take_carried d gs due.ordered within) ∙ map-append (λ (g : Glyph). g.cluster) (take d.from gs) go in
-    let high : a ≤ d.cluster = due_above start end a xs d gs r (has_some d.to n (carried d gs) h) in
+    let there : clusters (take d.to (with_range_in_cluster d gs)) ≡ clusters (take d.from gs) ++ clusters go = ap clusters (take_carried d gs due.ordered within) ∙ map-append (λ (g : Glyph). g.cluster) (take d.from gs) go in
+    let high : a ≤ d.cluster = due_above start end a xs d gs r (has_some d.to n (with_range_in_cluster d gs) h) in
     elim (has_either n (clusters (take d.from gs)) (clusters go) (subst (λ ns. Has ns n) there h)) [
       | inl before ↦ let up = due.above n before in absurd (omega (arith, up, high, e))
       | inr among ↦ other (sym (in_one d.cluster n mid among) ∙ e)
@@ -365,10 +365,10 @@ behind_is gs to start ahead le =
 
 -- where the run before the range begins, all before it is of other clusters
 none_before : (start end a n ahead : ℕ) (xs : List ℕ) (d : Stretch) (gs : List Glyph) → IsRange start end a xs d gs → d.to + ahead ≤ start → IsEndRun a ahead (slice_range gs d.to start) → (ahead ≡ 0 → d.cluster ≢ a)
-    → Has (clusters (take (d.to + ahead) (carried d gs))) n → n ≢ a
+    → Has (clusters (take (d.to + ahead) (with_range_in_cluster d gs))) n → n ≢ a
 none_before start end a n zero xs d gs r le run other h e =
     let here : d.to + 0 ≡ d.to = omega arith in
-    none_due start end a n xs d gs r (other refl) (subst (λ (k : ℕ). Has (clusters (take k (carried d gs))) n) here h) e
+    none_due start end a n xs d gs r (other refl) (subst (λ (k : ℕ). Has (clusters (take k (with_range_in_cluster d gs))) n) here h) e
 none_before start end a n (suc i) xs d gs r le run other h e =
     by_last (drop i (slice_range gs d.to start)) refl
   where
@@ -379,7 +379,7 @@ none_before start end a n (suc i) xs d gs r le run other h e =
         absurd (omega (arith, ap length f, length-drop i k, long, le))
     by_last (g ∷ rest) f =
         let due = r.due in
-        let m = carried d gs in
+        let m = with_range_in_cluster d gs in
         let v : Glyph → ℕ = λ g. g.cluster in
         let within : d.to ≤ length gs = omega (arith, due.before, r.lt, r.within) in
         let k : List Glyph = slice_range gs d.to start in
@@ -403,19 +403,19 @@ none_before start end a n (suc i) xs d gs r le run other h e =
 
 -- the due range is carried out, and another begins
 pub begun_merged : (start end a ahead : ℕ) (xs : List ℕ) (d : Stretch) (gs : List Glyph) → IsRange start end a xs d gs → d.to + ahead ≤ start → IsEndRun a ahead (slice_range gs d.to start) → (ahead ≡ 0 → d.cluster ≢ a)
-    → carried (record { from = d.to + ahead; to = end; cluster = least_number (a ∷ xs) }) (carried d gs) ≡ glyphs_merged (stretch start end (clusters (carried d gs))) (carried d gs)
+    → with_range_in_cluster (record { from = d.to + ahead; to = end; cluster = least_number (a ∷ xs) }) (with_range_in_cluster d gs) ≡ glyphs_merged (range_of start end (clusters (with_range_in_cluster d gs))) (with_range_in_cluster d gs)
 begun_merged start end a ahead xs d gs r le run other =
     let due = r.due in
     let within : d.to ≤ length gs = omega (arith, due.before, r.lt, r.within) in
-    let behind : slice_range (carried d gs) (d.to + ahead) start ≡ drop ahead (slice_range gs d.to start) = same_range d gs (d.to + ahead) start due.ordered within (omega arith) ∙ sym (behind_is gs d.to start ahead le) in
-    merged_from (carried d gs) (d.to + ahead) start end a xs le r.lt (range_meant start end a xs d gs r) due.falls
+    let behind : slice_range (with_range_in_cluster d gs) (d.to + ahead) start ≡ drop ahead (slice_range gs d.to start) = same_range d gs (d.to + ahead) start due.ordered within (omega arith) ∙ sym (behind_is gs d.to start ahead le) in
+    merged_from (with_range_in_cluster d gs) (d.to + ahead) start end a xs le r.lt (range_meant start end a xs d gs r) due.falls
     (λ n h. none_before start end a n ahead xs d gs r le run other h)
     (λ n h. all_are a n (drop ahead (slice_range gs d.to start)) run.all (subst (λ (hs : List Glyph). Has (clusters hs) n) behind h))
 
 pub begun_due : (start end a ahead : ℕ) (xs : List ℕ) (d : Stretch) (gs : List Glyph) → IsRange start end a xs d gs → d.to + ahead ≤ start → IsEndRun a ahead (slice_range gs d.to start) → (ahead ≡ 0 → d.cluster ≢ a) → least_number (a ∷ xs) < a
-    → IsDueBefore end (record { from = d.to + ahead; to = end; cluster = least_number (a ∷ xs) }) (carried d gs)
+    → IsDueBefore end (record { from = d.to + ahead; to = end; cluster = least_number (a ∷ xs) }) (with_range_in_cluster d gs)
 begun_due start end a ahead xs d gs r le run other less =
-    let m = carried d gs in
+    let m = with_range_in_cluster d gs in
     let is = range_meant start end a xs d gs r in
     record {
       ordered = omega (arith, le, r.lt);
@@ -423,7 +423,7 @@ begun_due start end a ahead xs d gs r le run other less =
       some = λ lt. omega (arith, le, r.lt);
       above = λ n h. let low = before_range m start end a n xs is r.due.falls (has_before m (d.to + ahead) start n le h) in omega (arith, low, less);
       least = λ n h. up_to_range m start end a n xs (omega (arith, r.lt)) is r.due.falls h;
-      falls = falls_merged start end m (carried (record { from = d.to + ahead; to = end; cluster = least_number (a ∷ xs) }) m) r.lt r.due.falls (begun_merged start end a ahead xs d gs r le run other);
+      falls = falls_merged start end m (with_range_in_cluster (record { from = d.to + ahead; to = end; cluster = least_number (a ∷ xs) }) m) r.lt r.due.falls (begun_merged start end a ahead xs d gs r le run other);
     }
 
 -- a range that begins with a glyph
@@ -431,8 +431,8 @@ pub range_at : (start end : ℕ) (d : Stretch) (gs : List Glyph) (g : Glyph) →
 range_at start end d gs g lt within due = record { lt = lt; within = within; is = range_first gs start end g lt (omega arith); due = due }
 
 -- a range of one cluster changes nothing
-pub kept_merged : (start end a : ℕ) (xs : List ℕ) (d : Stretch) (gs : List Glyph) → IsRange start end a xs d gs → a ≡ least_number (a ∷ xs) → carried d gs ≡ glyphs_merged (stretch start end (clusters (carried d gs))) (carried d gs)
-kept_merged start end a xs d gs r alone = merged_alone (carried d gs) start end a xs (range_meant start end a xs d gs r) r.due.falls alone
+pub kept_merged : (start end a : ℕ) (xs : List ℕ) (d : Stretch) (gs : List Glyph) → IsRange start end a xs d gs → a ≡ least_number (a ∷ xs) → with_range_in_cluster d gs ≡ glyphs_merged (range_of start end (clusters (with_range_in_cluster d gs))) (with_range_in_cluster d gs)
+kept_merged start end a xs d gs r alone = merged_alone (with_range_in_cluster d gs) start end a xs (range_meant start end a xs d gs r) r.due.falls alone
 
 pub low_below : (a z : ℕ) (ns xs : List ℕ) → ns ≡ a ∷ xs → z ≡ least_number ns → a ≢ z → least_number (a ∷ xs) < a
 low_below a z ns xs is e other =
@@ -475,7 +475,7 @@ span_ordered level start end s t le e o = elim o [
 ]
 
 -- at a monotone level
-pub merged_falling : (level : Level) (start end : ℕ) (gs : List Glyph) → IsMonotone level → glyphs_merged (stretch start end (clusters gs)) gs ≡ glyphs_merged_at level start end gs
+pub merged_falling : (level : Level) (start end : ℕ) (gs : List Glyph) → IsMonotone level → glyphs_merged (range_of start end (clusters gs)) gs ≡ glyphs_merged_at level start end gs
 merged_falling MonotoneGraphemes start end gs mono = refl
 merged_falling MonotoneCharacters start end gs mono = refl
 merged_falling Characters start end gs mono = absurd mono

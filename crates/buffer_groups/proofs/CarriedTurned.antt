@@ -12,13 +12,13 @@ use Rattle.buffer_glyphs.specs.Lemmas.Numbers.{Has, has_either, has_left, has_ri
 use Rattle.buffer_groups.specs.declared.due.falling.Stretch.{Stretch}
 use Rattle.buffer_glyphs.specs.Levels.{IsMonotone}
 use Rattle.buffer_groups.specs.Turning.{range_reversed}
-use Rattle.buffer_groups.specs.Falling.{carried, IsDueBefore, IsRound}
+use Rattle.buffer_groups.specs.Falling.{with_range_in_cluster, IsDueBefore, IsRound}
 use Rattle.buffer_groups.specs.Lemmas.Turned.{part_front, part_after, clusters_part}
 use Rattle.buffer_groups.proofs.Carried.{two_ranges, take_to, drop_beyond, take_carried, drop_carried, same_range, front_long}
 use Rattle.buffer_glyphs.specs.Lemmas.EventParts.{map-reverse}
 
 -- as long as before
-pub carried_long : (d : Stretch) (gs : List Glyph) → d.from ≤ d.to → d.to ≤ length gs → length (carried d gs) ≡ length gs
+pub carried_long : (d : Stretch) (gs : List Glyph) → d.from ≤ d.to → d.to ≤ length gs → length (with_range_in_cluster d gs) ≡ length gs
 carried_long d gs le within = omega (arith, length-append (take d.from gs ++ map (in_cluster d.cluster) (slice_range gs d.from d.to)) (drop d.to gs), front_long d gs le within, length-drop d.to gs)
 
 -- the parts of a list of which a part was reversed
@@ -57,21 +57,21 @@ turned_range i j start end xs le less within =
     by_take i j (range_reversed start end xs) le ∙ ap (drop i) (turned_front j start end xs less within) ∙ sym (by_take i j xs le)
 
 -- what is due goes with the part
-pub carried_turned : (d : Stretch) (start end : ℕ) (gs : List Glyph) → start ≤ end → end ≤ length gs → d.from ≤ d.to → IsRound start end d → carried d (range_reversed start end gs) ≡ range_reversed start end (carried d gs)
+pub carried_turned : (d : Stretch) (start end : ℕ) (gs : List Glyph) → start ≤ end → end ≤ length gs → d.from ≤ d.to → IsRound start end d → with_range_in_cluster d (range_reversed start end gs) ≡ range_reversed start end (with_range_in_cluster d gs)
 carried_turned d start end gs le within ordered (inl before) =
     let new = range_reversed start end gs in
     let long : length new ≡ length gs = turned_long start end gs le within in
     let there : d.to ≤ length gs = omega (arith, before, le, within) in
-    let same : take d.to (carried d new) ≡ take d.to (carried d gs) =
+    let same : take d.to (with_range_in_cluster d new) ≡ take d.to (with_range_in_cluster d gs) =
     take_carried d new ordered (omega (arith, long, there)) ∙ ap (λ hs. hs ++ map (in_cluster d.cluster) (slice_range new d.from d.to)) (turned_front d.from start end gs (omega (arith, ordered, before)) (omega arith)) ∙ ap (λ hs. take d.from gs ++ map (in_cluster d.cluster) hs) (turned_range d.from d.to start end gs ordered before (omega arith)) ∙ sym (take_carried d gs ordered there) in
-    let front : take start (carried d new) ≡ take start (carried d gs) =
-    take_to d.to start (carried d new) before ∙ ap (λ hs. hs ++ slice_range (carried d new) d.to start) same ∙ ap (λ hs. take d.to (carried d gs) ++ hs) (same_range d new d.to start ordered (omega (arith, long, there)) (omega arith) ∙ turned_range d.to start start end gs before (omega arith) (omega arith) ∙ sym (same_range d gs d.to start ordered there (omega arith))) ∙ sym (take_to d.to start (carried d gs) before) in
-    three_parts start end (carried d new) (take start (carried d gs)) (reverse (slice_range (carried d gs) start end)) (drop end (carried d gs)) le front
+    let front : take start (with_range_in_cluster d new) ≡ take start (with_range_in_cluster d gs) =
+    take_to d.to start (with_range_in_cluster d new) before ∙ ap (λ hs. hs ++ slice_range (with_range_in_cluster d new) d.to start) same ∙ ap (λ hs. take d.to (with_range_in_cluster d gs) ++ hs) (same_range d new d.to start ordered (omega (arith, long, there)) (omega arith) ∙ turned_range d.to start start end gs before (omega arith) (omega arith) ∙ sym (same_range d gs d.to start ordered there (omega arith))) ∙ sym (take_to d.to start (with_range_in_cluster d gs) before) in
+    three_parts start end (with_range_in_cluster d new) (take start (with_range_in_cluster d gs)) (reverse (slice_range (with_range_in_cluster d gs) start end)) (drop end (with_range_in_cluster d gs)) le front
     (same_range d new start end ordered (omega (arith, long, there)) before ∙ turned_mid start end gs le within ∙ ap reverse (sym (same_range d gs start end ordered there before)))
     (drop_carried d new end ordered (omega (arith, long, there)) (omega (arith, before, le)) ∙ turned_back start end gs le within ∙ sym (drop_carried d gs end ordered there (omega (arith, before, le))))
 carried_turned d start end gs le within ordered (inr round) =
     let new = range_reversed start end gs in
-    let m = carried d gs in
+    let m = with_range_in_cluster d gs in
     let go : List Glyph → List Glyph = map (in_cluster d.cluster) in
     let f = take d.from gs in
     let r = slice_range gs d.from start in
@@ -88,10 +88,10 @@ carried_turned d start end gs le within ordered (inr round) =
     let before : take start m ≡ f ++ go r = sym (take-take start d.to m (omega (arith, to, le))) ∙ ap (take start) first ∙ ap (λ n. take n ((f ++ go r) ++ go w)) (sym seam) ∙ take-append_seam (f ++ go r) (go w) in
     let among : slice_range m start end ≡ go w = by_take start end m le ∙ ap (λ n. drop start (take n m)) (sym to) ∙ ap (drop start) first ∙ ap (λ n. drop n ((f ++ go r) ++ go w)) (sym seam) ∙ drop-append_seam (f ++ go r) (go w) in
     let turned : slice_range new d.from d.to ≡ r ++ reverse w = ap (slice_range new d.from) to ∙ two_ranges d.from start end new round.0 le ∙ ap (λ hs. hs ++ slice_range new start end) (turned_range d.from start start end gs round.0 (omega arith) (omega arith)) ∙ ap (λ hs. r ++ hs) (turned_mid start end gs le within) in
-    let left : take d.to (carried d new) ≡ (f ++ go r) ++ reverse (go w) =
+    let left : take d.to (with_range_in_cluster d new) ≡ (f ++ go r) ++ reverse (go w) =
     take_carried d new ordered far ∙ ap (λ hs. hs ++ go (slice_range new d.from d.to)) (turned_front d.from start end gs round.0 (omega arith)) ∙ ap (λ hs. f ++ hs) (ap go turned ∙ map-append (in_cluster d.cluster) r (reverse w) ∙ ap (λ hs. go r ++ hs) (map-reverse (in_cluster d.cluster) w)) ∙ sym (append_assoc f (go r) (reverse (go w))) in
-    let back : drop d.to (carried d new) ≡ drop end m = drop_carried d new d.to ordered far (omega arith) ∙ ap (λ n. drop n new) to ∙ turned_back start end gs le within ∙ ap (λ n. drop n gs) (sym to) ∙ sym (drop_carried d gs d.to ordered there (omega arith)) ∙ ap (λ n. drop n m) to in
-    sym (take-append-drop d.to (carried d new)) ∙ ap (λ hs. hs ++ drop d.to (carried d new)) (left ∙ ap (λ hs. hs ++ reverse (go w)) (sym before) ∙ ap (λ hs. take start m ++ reverse hs) (sym among)) ∙ ap (λ hs. take start m ++ reverse (slice_range m start end) ++ hs) back
+    let back : drop d.to (with_range_in_cluster d new) ≡ drop end m = drop_carried d new d.to ordered far (omega arith) ∙ ap (λ n. drop n new) to ∙ turned_back start end gs le within ∙ ap (λ n. drop n gs) (sym to) ∙ sym (drop_carried d gs d.to ordered there (omega arith)) ∙ ap (λ n. drop n m) to in
+    sym (take-append-drop d.to (with_range_in_cluster d new)) ∙ ap (λ hs. hs ++ drop d.to (with_range_in_cluster d new)) (left ∙ ap (λ hs. hs ++ reverse (go w)) (sym before) ∙ ap (λ hs. take start m ++ reverse hs) (sym among)) ∙ ap (λ hs. take start m ++ reverse (slice_range m start end) ++ hs) back
 
 -- a cluster that occurs before the end of what is due did so before
 turned_has : (d : Stretch) (start end n : ℕ) (gs : List Glyph) → start ≤ end → end ≤ length gs → IsRound start end d → Has (clusters (take d.to (range_reversed start end gs))) n → Has (clusters (take d.to gs)) n
@@ -109,10 +109,10 @@ turned_has d start end n gs le within (inr round) h =
     ])
 
 -- a range is due where its group was merged and is reversed in its place
-pub stretch_turned : (level : Level) (d : Stretch) (start end : ℕ) (old gs : List Glyph) → IsMonotone level → start ≤ end → end ≤ length gs → IsDueBefore end d gs → IsRound start end d → carried d gs ≡ glyphs_merged_at level start end old → IsDueBefore end d (range_reversed start end gs)
+pub stretch_turned : (level : Level) (d : Stretch) (start end : ℕ) (old gs : List Glyph) → IsMonotone level → start ≤ end → end ≤ length gs → IsDueBefore end d gs → IsRound start end d → with_range_in_cluster d gs ≡ glyphs_merged_at level start end old → IsDueBefore end d (range_reversed start end gs)
 stretch_turned level d start end old gs mono le within due round e =
     let new = range_reversed start end gs in
-    let whole : clusters (carried d new) ≡ clusters (carried d gs) = ap clusters (carried_turned d start end gs le within due.ordered round) ∙ clusters_part level start end old (carried d gs) mono le e in
+    let whole : clusters (with_range_in_cluster d new) ≡ clusters (with_range_in_cluster d gs) = ap clusters (carried_turned d start end gs le within due.ordered round) ∙ clusters_part level start end old (with_range_in_cluster d gs) mono le e in
     let early : d.from ≤ start = early_is round due.ordered in record {
       ordered = due.ordered;
       before = due.before;

@@ -15,7 +15,7 @@ use Rattle.buffer_glyphs.specs.Lemmas.Merges.{chain_left, chain_across}
 use Rattle.buffer_glyphs.specs.Lemmas.Deletions.{last_is}
 use Rattle.buffer_glyphs.specs.Deleting.{recast, end_recast_from, end_recast}
 use Rattle.buffer_glyphs.specs.Deleted.{recast_cluster, flags_put}
-use Rattle.buffer_groups.specs.DeletionWalk.{IsDue, settled}
+use Rattle.buffer_groups.specs.DeletionWalk.{IsDue, settled_glyphs}
 use Rattle.buffer_glyphs.proofs.OneDeleted.{has_last}
 use Rattle.buffer_groups.proofs.Walking.{last_recast}
 
@@ -70,7 +70,7 @@ end_twice p g d (h ∷ hs) low less above = by_test (list_all (λ (k : Glyph). k
         rw off (ap (λ ks. h ∷ ks) rest)
 
 -- what is due, and then a glyph of a lesser cluster
-pub recast_due : (due : Option Glyph) (in_order : Bool) (g : Glyph) (hs : List Glyph) (p : ℕ) → IsDue in_order due hs → last_of (clusters (settled due hs)) ≡ Some p → g.cluster < p → end_recast g hs ≡ end_recast g (settled due hs)
+pub recast_due : (due : Option Glyph) (in_order : Bool) (g : Glyph) (hs : List Glyph) (p : ℕ) → IsDue in_order due hs → last_of (clusters (settled_glyphs due hs)) ≡ Some p → g.cluster < p → end_recast g hs ≡ end_recast g (settled_glyphs due hs)
 recast_due None in_order g hs p is last lt = refl
 recast_due (Some d) in_order g hs p is last lt =
     let f : Glyph → ℕ = λ h. h.cluster in
@@ -103,7 +103,7 @@ less_than_all (x ∷ xs) p n back o last lt m has =
     some_is : {i j : ℕ} → Some i ≡ Some j → i ≡ j
     some_is e = cc
 
-pub due_new : (due : Option Glyph) (in_order : Bool) (g : Glyph) (hs back : List Glyph) (p : ℕ) → in_order ≡ true → 0 < length hs → IsDue in_order due hs → IsOrdered (clusters (settled due hs) ++ clusters (g ∷ back)) → last_of (clusters (settled due hs)) ≡ Some p → g.cluster < p
+pub due_new : (due : Option Glyph) (in_order : Bool) (g : Glyph) (hs back : List Glyph) (p : ℕ) → in_order ≡ true → 0 < length hs → IsDue in_order due hs → IsOrdered (clusters (settled_glyphs due hs) ++ clusters (g ∷ back)) → last_of (clusters (settled_glyphs due hs)) ≡ Some p → g.cluster < p
     → IsDue in_order (Some g) hs
 due_new None in_order g hs back p sure some is o last lt = (sure, some, less_than_all (clusters hs) p g.cluster (clusters back) o last lt)
 due_new (Some d) in_order g hs back p sure some is o last lt =

@@ -8,3 +8,4 @@ pub mod Passing
 pub mod Spans
 pub mod Seams
 pub mod Examples
+pub mod Ordered

@@ -5,8 +5,8 @@ use Rattle.buffer_glyphs.specs.declared.level.BufferClusterLevel.{BufferClusterL
 use Rattle.buffer_groups.specs.declared.due.falling.Stretch.{Stretch}
 use Rattle.buffer_groups.specs.declared.due.Due.{Due}
 use Rattle.buffer_groups.specs.declared.due.Due.TheVariants.{Nothing, Falling}
-use Rattle.buffer_groups.specs.Turning.{merged_if, range_reversed}
-use Rattle.buffer_groups.specs.Falling.{carried, IsDueBefore}
+use Rattle.buffer_groups.specs.Turning.{glyphs_merged_if, range_reversed}
+use Rattle.buffer_groups.specs.Falling.{with_range_in_cluster, IsDueBefore}
 use Rattle.buffer_groups.specs.Due.{with_due, IsDue, IsWithin, MayBeDue, MayBeRound}
 use Rattle.buffer_groups.proofs.Carried.{drop_carried}
 use Rattle.buffer_groups.proofs.CarriedTurned.{carried_long, carried_turned, stretch_turned}
@@ -29,13 +29,13 @@ meant_turned level start end Nothing gs le within h round = refl
 meant_turned level start end (Falling d) gs le within h round = carried_turned d start end gs le within h.1.ordered round
 
 -- a group that was merged is reversed in its place
-pub due_turned : (merge : Bool) (level : Level) (start end : ℕ) (due : Due) (old gs : List Glyph) → start ≤ end → end ≤ length gs → MayBeDue level end due gs → MayBeRound start end due → (merge ≡ false → due ≡ Nothing) → with_due due gs ≡ merged_if merge level start end old → MayBeDue level end due (range_reversed start end gs)
+pub due_turned : (merge : Bool) (level : Level) (start end : ℕ) (due : Due) (old gs : List Glyph) → start ≤ end → end ≤ length gs → MayBeDue level end due gs → MayBeRound start end due → (merge ≡ false → due ≡ Nothing) → with_due due gs ≡ glyphs_merged_if merge level start end old → MayBeDue level end due (range_reversed start end gs)
 due_turned merge level start end Nothing old gs le within h round plain e = (tt, tt)
 due_turned false level start end (Falling d) old gs le within h round plain e = let no = plain refl in cc
 due_turned true level start end (Falling d) old gs le within h round plain e = (h.0, stretch_turned level d start end old gs h.0 le within h.1 round e)
 
 -- what is ahead is as it is meant where a range is due
-pub meant_ahead : (at : ℕ) (d : Stretch) (gs : List Glyph) → at ≤ length gs → IsDueBefore at d gs → drop at (carried d gs) ≡ drop at gs
+pub meant_ahead : (at : ℕ) (d : Stretch) (gs : List Glyph) → at ≤ length gs → IsDueBefore at d gs → drop at (with_range_in_cluster d gs) ≡ drop at gs
 meant_ahead at d gs le h = drop_carried d gs at h.ordered (omega (arith, h.before, le)) h.before
 
 pub ahead_as_meant : (at : ℕ) (due : Due) (gs : List Glyph) → at ≤ length gs → IsDue at due gs → drop at (with_due due gs) ≡ drop at gs

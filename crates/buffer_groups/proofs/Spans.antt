@@ -10,22 +10,22 @@ use Rattle.std.proofs.lemmas.Grind.{common_steps}
 use Rattle.std.proofs.lemmas.List.{drop_more, drop-drop, take_more, map-append, length-append, length-map, length-take-le, length-drop, take-append-drop, get_or_at, get_or-set_same}
 use Rattle.std.proofs.Math.Seq.{set-append_seam, map-set_same}
 use Rattle.buffer_glyphs.specs.Items.{clusters}
-use Rattle.buffer_glyphs.specs.Lists.{seen_at}
+use Rattle.buffer_glyphs.specs.Lists.{get_or_mapped}
 use Rattle.buffer_glyphs.specs.declared.info.hb_glyph_info_t.{hb_glyph_info_t as Glyph}
 use Rattle.buffer_glyphs.specs.declared.level.BufferClusterLevel.{BufferClusterLevel as Level}
 use Rattle.buffer_groups.specs.declared.sorting.Keyed.{Keyed}
-use Rattle.buffer_groups.specs.Sorting.{keyed_from, places_by_key, is_seam, Spanned, span_merged, spans_merged, range_spanned, range_merged, range_sorted, glyph_at, put_in_order}
+use Rattle.buffer_groups.specs.Sorting.{keyed_indices_from, indices_by_key, is_seam, Spanned, span_merged, spans_merged, range_spanned, range_merged, range_sorted, glyph_at, put_in_order}
 
 -- what an index past the end would give
 abbrev pub no_place : Keyed
 no_place = record { key = 0; place = 0 }
 
 pub keyed_step : (k : Glyph → ℕ) (gs : List Glyph) (i : ℕ) (d : Glyph) (v new whole : List Keyed) (r : ℕ) → i < length gs → new ≡ v ++ record { key = r; place = i } ∷ [] → r ≡ k (get_or gs i d)
-    → v ++ keyed_from k i (drop i gs) ≡ whole → new ++ keyed_from k (i + 1) (drop (i + 1) gs) ≡ whole
+    → v ++ keyed_indices_from k i (drop i gs) ≡ whole → new ++ keyed_indices_from k (i + 1) (drop (i + 1) gs) ≡ whole
 keyed_step k gs i d v new whole r lt n e before =
-    let cut : keyed_from k i (drop i gs) ≡ record { key = k (get_or gs i d); place = i } ∷ keyed_from k (i + 1) (drop (i + 1) gs) = ap (keyed_from k i) (drop_more gs i d lt) in
-    ap (λ es. es ++ keyed_from k (i + 1) (drop (i + 1) gs)) n ∙ append_assoc v (record { key = r; place = i } ∷ []) (keyed_from k (i + 1) (drop (i + 1) gs))
-    ∙ ap (λ (m : ℕ). v ++ record { key = m; place = i } ∷ keyed_from k (i + 1) (drop (i + 1) gs)) e ∙ ap (λ es. v ++ es) (sym cut) ∙ before
+    let cut : keyed_indices_from k i (drop i gs) ≡ record { key = k (get_or gs i d); place = i } ∷ keyed_indices_from k (i + 1) (drop (i + 1) gs) = ap (keyed_indices_from k i) (drop_more gs i d lt) in
+    ap (λ es. es ++ keyed_indices_from k (i + 1) (drop (i + 1) gs)) n ∙ append_assoc v (record { key = r; place = i } ∷ []) (keyed_indices_from k (i + 1) (drop (i + 1) gs))
+    ∙ ap (λ (m : ℕ). v ++ record { key = m; place = i } ∷ keyed_indices_from k (i + 1) (drop (i + 1) gs)) e ∙ ap (λ es. v ++ es) (sym cut) ∙ before
 
 all_more : (i : ℕ) (xs ys : List Keyed) → list_all (λ (e : Keyed). nat_lt e.place i) (xs ++ ys) ≡ (list_all (λ (e : Keyed). nat_lt e.place i) xs && list_all (λ (e : Keyed). nat_lt e.place i) ys)
 all_more i [] ys = refl
@@ -107,7 +107,7 @@ same_step f order old range i z d s lt long before same = (there, back)
         let v : Glyph → ℕ = λ g. g.cluster in
         let within : i < length range = omega (arith, ap length before, length-append (map f (take i order)) (drop i old), length-map (take i order) f, length-take-le i order (omega arith), length-drop i old) in
         let alike : z.cluster ≡ (get_or range i d).cluster =
-        sym (seen_at v (set range i z) i d ∙ ap v (get_or-set_same range i z d within)) ∙ ap (λ ns. get_or ns i d.cluster) e ∙ seen_at v old i d ∙ ap v (sym (still_there f order old range i d lt long before)) in
+        sym (get_or_mapped v (set range i z) i d ∙ ap v (get_or-set_same range i z d within)) ∙ ap (λ ns. get_or ns i d.cluster) e ∙ get_or_mapped v old i d ∙ ap v (sym (still_there f order old range i d lt long before)) in
         let known : s ≡ true = same.1 (sym (map-set_same v range i z d alike) ∙ e) in
         grind (arith, nat_tests, common_steps, known, alike)
 
@@ -118,23 +118,23 @@ put_range start end order mid range le e =
     let behind : drop (end - start) (drop start mid) ≡ drop end mid = drop-drop (end - start) start mid ∙ ap (λ n. drop n mid) there in
     rw (e, behind) (sym (append_assoc (take start mid) (map (λ (e : Keyed). glyph_at (slice_range mid start end) e.place) order) (drop end mid)))
 
-order_is : (k : Glyph → ℕ) (gs : List Glyph) (keyed order : List Keyed) → keyed ≡ keyed_from k 0 gs → order ≡ key_order (λ (e : Keyed). e.key) keyed → order ≡ places_by_key k gs
+order_is : (k : Glyph → ℕ) (gs : List Glyph) (keyed order : List Keyed) → keyed ≡ keyed_indices_from k 0 gs → order ≡ key_order (λ (e : Keyed). e.key) keyed → order ≡ indices_by_key k gs
 order_is k gs keyed order e o = o ∙ ap (key_order (λ (e : Keyed). e.key)) e
 
 -- the glyphs that were put in order
-pub merged_is : (level : Level) (start end : ℕ) (k : Glyph → ℕ) (gs mid : List Glyph) (keyed order : List Keyed) (marked : Bool) → keyed ≡ keyed_from k 0 (slice_range gs start end) → order ≡ key_order (λ (e : Keyed). e.key) keyed
+pub merged_is : (level : Level) (start end : ℕ) (k : Glyph → ℕ) (gs mid : List Glyph) (keyed order : List Keyed) (marked : Bool) → keyed ≡ keyed_indices_from k 0 (slice_range gs start end) → order ≡ key_order (λ (e : Keyed). e.key) keyed
     → record { glyphs = mid; is_marked = marked } ≡ range_spanned level start order gs → mid ≡ range_merged level start end k gs
 merged_is level start end k gs mid keyed order marked e o spanned =
     ap (λ (s : Spanned). s.glyphs) spanned ∙ ap (λ es. (range_spanned level start es gs).glyphs) (order_is k (slice_range gs start end) keyed order e o)
 
-pub sorted_is : (level : Level) (start end : ℕ) (k : Glyph → ℕ) (gs mid range copy : List Glyph) (keyed order : List Keyed) (marked : Bool) → start ≤ end → keyed ≡ keyed_from k 0 (slice_range gs start end) → order ≡ key_order (λ (e : Keyed). e.key) keyed
+pub sorted_is : (level : Level) (start end : ℕ) (k : Glyph → ℕ) (gs mid range copy : List Glyph) (keyed order : List Keyed) (marked : Bool) → start ≤ end → keyed ≡ keyed_indices_from k 0 (slice_range gs start end) → order ≡ key_order (λ (e : Keyed). e.key) keyed
     → record { glyphs = mid; is_marked = marked } ≡ range_spanned level start order gs → copy ≡ slice_range mid start end → range ≡ map (λ (e : Keyed). glyph_at copy e.place) order
     → put_mid start (end - start) mid range ≡ (range_sorted level start end k gs).glyphs
 sorted_is level start end k gs mid range copy keyed order marked le e o spanned c r =
     let is = order_is k (slice_range gs start end) keyed order e o in
-    put_range start end order mid range le (r ∙ ap (λ hs. map (λ (e : Keyed). glyph_at hs e.place) order) c) ∙ ap (λ es. put_in_order start end es mid) is ∙ ap (put_in_order start end (places_by_key k (slice_range gs start end))) (merged_is level start end k gs mid keyed order marked e o spanned)
+    put_range start end order mid range le (r ∙ ap (λ hs. map (λ (e : Keyed). glyph_at hs e.place) order) c) ∙ ap (λ es. put_in_order start end es mid) is ∙ ap (put_in_order start end (indices_by_key k (slice_range gs start end))) (merged_is level start end k gs mid keyed order marked e o spanned)
 
-pub sort_marks : (level : Level) (start end : ℕ) (k : Glyph → ℕ) (gs mid : List Glyph) (keyed order : List Keyed) (marked : Bool) → keyed ≡ keyed_from k 0 (slice_range gs start end) → order ≡ key_order (λ (e : Keyed). e.key) keyed
+pub sort_marks : (level : Level) (start end : ℕ) (k : Glyph → ℕ) (gs mid : List Glyph) (keyed order : List Keyed) (marked : Bool) → keyed ≡ keyed_indices_from k 0 (slice_range gs start end) → order ≡ key_order (λ (e : Keyed). e.key) keyed
     → record { glyphs = mid; is_marked = marked } ≡ range_spanned level start order gs → marked ≡ (range_sorted level start end k gs).is_marked
 sort_marks level start end k gs mid keyed order marked e o spanned =
     ap (λ (s : Spanned). s.is_marked) spanned ∙ ap (λ es. (range_spanned level start es gs).is_marked) (order_is k (slice_range gs start end) keyed order e o)

@@ -12,7 +12,7 @@ use Rattle.buffer_glyphs.specs.Deletions.{end_renumbered}
 use Rattle.buffer_glyphs.specs.Lemmas.Drawn.{last_more}
 use Rattle.buffer_glyphs.specs.Deleting.{end_recast}
 use Rattle.buffer_glyphs.specs.Deleted.{end_clusters, end_length}
-use Rattle.buffer_groups.specs.DeletionWalk.{settled}
+use Rattle.buffer_groups.specs.DeletionWalk.{settled_glyphs}
 use Rattle.buffer_glyphs.proofs.OneDeleted.{has_last}
 
 pub settled_put : (kept : ℕ) (g : Glyph) (gs range : List Glyph) → range ≡ end_recast g (take kept gs) → put_mid 0 kept gs range ≡ end_recast g (take kept gs) ++ drop kept gs
@@ -26,27 +26,27 @@ moved_front to from xs d le lt =
 pub moved_back : {X : Type 0} (to from : ℕ) (xs : List X) (y : X) → to ≤ from → drop (from + 1) (set xs to y) ≡ drop (from + 1) xs
 moved_back to from xs y le = drop-set-lt (from + 1) xs to y (omega arith)
 
-settled_length : (due : Option Glyph) (gs : List Glyph) → length (settled due gs) ≡ length gs
+settled_length : (due : Option Glyph) (gs : List Glyph) → length (settled_glyphs due gs) ≡ length gs
 settled_length None gs = refl
 settled_length (Some d) gs = end_length d gs
 
-pub settled_front : (due : Option Glyph) (k : ℕ) (gs new : List Glyph) → k ≤ length gs → new ≡ settled due (take k gs) ++ drop k gs → take k new ≡ settled due (take k gs)
+pub settled_front : (due : Option Glyph) (k : ℕ) (gs new : List Glyph) → k ≤ length gs → new ≡ settled_glyphs due (take k gs) ++ drop k gs → take k new ≡ settled_glyphs due (take k gs)
 settled_front due k gs new le e =
-    let long : length (settled due (take k gs)) ≡ k = settled_length due (take k gs) ∙ length-take-le k gs le in
-    ap (take k) e ∙ ap (λ n. take n (settled due (take k gs) ++ drop k gs)) (sym long) ∙ take-append_seam (settled due (take k gs)) (drop k gs)
+    let long : length (settled_glyphs due (take k gs)) ≡ k = settled_length due (take k gs) ∙ length-take-le k gs le in
+    ap (take k) e ∙ ap (λ n. take n (settled_glyphs due (take k gs) ++ drop k gs)) (sym long) ∙ take-append_seam (settled_glyphs due (take k gs)) (drop k gs)
 
-pub settled_back : (due : Option Glyph) (k i : ℕ) (gs new : List Glyph) → k ≤ i → k ≤ length gs → new ≡ settled due (take k gs) ++ drop k gs → drop i new ≡ drop i gs
+pub settled_back : (due : Option Glyph) (k i : ℕ) (gs new : List Glyph) → k ≤ i → k ≤ length gs → new ≡ settled_glyphs due (take k gs) ++ drop k gs → drop i new ≡ drop i gs
 settled_back due k i gs new ki le e =
-    let long : length (settled due (take k gs)) ≡ k = settled_length due (take k gs) ∙ length-take-le k gs le in
-    let there : i ≡ length (settled due (take k gs)) + (i - k) = omega arith in
+    let long : length (settled_glyphs due (take k gs)) ≡ k = settled_length due (take k gs) ∙ length-take-le k gs le in
+    let there : i ≡ length (settled_glyphs due (take k gs)) + (i - k) = omega arith in
     let here : k + (i - k) ≡ i = omega arith in
-    ap (drop i) e ∙ ap (λ n. drop n (settled due (take k gs) ++ drop k gs)) there ∙ drop-append-add (settled due (take k gs)) (drop k gs) (i - k) ∙ drop-drop (i - k) k gs ∙ ap (λ n. drop n gs) here
+    ap (drop i) e ∙ ap (λ n. drop n (settled_glyphs due (take k gs) ++ drop k gs)) there ∙ drop-append-add (settled_glyphs due (take k gs)) (drop k gs) (i - k) ∙ drop-drop (i - k) k gs ∙ ap (λ n. drop n gs) here
 
-pub keep_front : (due : Option Glyph) (k at : ℕ) (gs mid new : List Glyph) → k ≤ at → at < length gs → mid ≡ settled due (take k gs) ++ drop k gs → take (k + 1) new ≡ take k mid ++ take 1 (drop at mid) → take (k + 1) new ≡ settled due (take k gs) ++ take 1 (drop at gs)
+pub keep_front : (due : Option Glyph) (k at : ℕ) (gs mid new : List Glyph) → k ≤ at → at < length gs → mid ≡ settled_glyphs due (take k gs) ++ drop k gs → take (k + 1) new ≡ take k mid ++ take 1 (drop at mid) → take (k + 1) new ≡ settled_glyphs due (take k gs) ++ take 1 (drop at gs)
 keep_front due k at gs mid new le lt m e =
-    e ∙ ap (λ ys. ys ++ take 1 (drop at mid)) (settled_front due k gs mid (omega arith) m) ∙ ap (λ ys. settled due (take k gs) ++ take 1 ys) (settled_back due k at gs mid le (omega arith) m)
+    e ∙ ap (λ ys. ys ++ take 1 (drop at mid)) (settled_front due k gs mid (omega arith) m) ∙ ap (λ ys. settled_glyphs due (take k gs) ++ take 1 ys) (settled_back due k at gs mid le (omega arith) m)
 
-pub keep_ahead : (due : Option Glyph) (k at : ℕ) (gs mid new : List Glyph) → k ≤ at → at < length gs → mid ≡ settled due (take k gs) ++ drop k gs → drop (at + 1) new ≡ drop (at + 1) mid → drop (at + 1) new ≡ drop (at + 1) gs
+pub keep_ahead : (due : Option Glyph) (k at : ℕ) (gs mid new : List Glyph) → k ≤ at → at < length gs → mid ≡ settled_glyphs due (take k gs) ++ drop k gs → drop (at + 1) new ≡ drop (at + 1) mid → drop (at + 1) new ≡ drop (at + 1) gs
 keep_ahead due k at gs mid new le lt m e = e ∙ settled_back due k (at + 1) gs mid (omega arith) (omega arith) m
 
 -- the last number of a list whose last run took another
@@ -77,5 +77,5 @@ last_recast g gs lt =
     let last = has_last (clusters gs) (omega (arith, length-map gs f)) in
     ap last_of (end_clusters last.0 g gs last.1) ∙ last_renumbered last.0 g.cluster (clusters gs) last.1
 
-pub last_settled : (d : Glyph) (k : ℕ) (gs : List Glyph) → 0 < k → k ≤ length gs → last_of (clusters (settled (Some d) (take k gs))) ≡ Some d.cluster
+pub last_settled : (d : Glyph) (k : ℕ) (gs : List Glyph) → 0 < k → k ≤ length gs → last_of (clusters (settled_glyphs (Some d) (take k gs))) ≡ Some d.cluster
 last_settled d k gs some le = last_recast d (take k gs) (omega (arith, length-take-le k gs le))

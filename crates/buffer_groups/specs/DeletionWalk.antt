@@ -11,11 +11,11 @@ use Rattle.buffer_groups.specs.declared.deletion.walk.Walk.{Walk}
 use Rattle.buffer_glyphs.specs.Deleting.{end_recast, glyphs_deleted, deletion_marks}
 
 -- each answer of a test of a glyph is that of p
-abbrev pub Tells : {F : Type 0} → Shared F (Bor hb_glyph_info_t × Unit {0}) Bool → F → (hb_glyph_info_t → Bool) → Type 0
-Tells calls f p = (g : hb_glyph_info_t) (b : Bool) → FnReturnsAt calls f g b → b ≡ p g
+abbrev pub AnswersAs : {F : Type 0} → Shared F (Bor hb_glyph_info_t × Unit {0}) Bool → F → (hb_glyph_info_t → Bool) → Type 0
+AnswersAs calls f p = (g : hb_glyph_info_t) (b : Bool) → FnReturnsAt calls f g b → b ≡ p g
 
 -- the glyphs and positions that are left so far, those ahead, and whether a merge flagged a glyph
-pub record Passed : Type 0 where
+pub record DeletionState : Type 0 where
   pub kept : List hb_glyph_info_t
   pub kept_positions : List Position
   pub ahead : List hb_glyph_info_t
@@ -23,7 +23,7 @@ pub record Passed : Type 0 where
   pub is_marked : Bool
 
 -- the walk after it deleted a glyph
-abbrev pub without_glyph : BufferClusterLevel → Passed → hb_glyph_info_t → List hb_glyph_info_t → Passed
+abbrev pub without_glyph : BufferClusterLevel → DeletionState → hb_glyph_info_t → List hb_glyph_info_t → DeletionState
 without_glyph level w g back = record {
   kept = (glyphs_deleted level w.kept g back).front;
   kept_positions = w.kept_positions;
@@ -33,35 +33,35 @@ without_glyph level w g back = record {
 }
 
 -- the walk after it left a glyph
-abbrev pub with_glyph : Passed → hb_glyph_info_t → List hb_glyph_info_t → Passed
+abbrev pub with_glyph : DeletionState → hb_glyph_info_t → List hb_glyph_info_t → DeletionState
 with_glyph w g back = record w { kept = w.kept ++ g ∷ []; kept_positions = w.kept_positions ++ take 1 w.positions_ahead; ahead = back; positions_ahead = drop 1 w.positions_ahead }
 
 -- the walk over one glyph: deleted where the test picks it, else left
-abbrev pub passed_of : BufferClusterLevel → (hb_glyph_info_t → Bool) → Passed → List hb_glyph_info_t → Passed
-passed_of level p w [] = w
-passed_of level p w (g ∷ back) = if p g then without_glyph level w g back else with_glyph w g back
+abbrev pub walk_step : BufferClusterLevel → (hb_glyph_info_t → Bool) → DeletionState → List hb_glyph_info_t → DeletionState
+walk_step level p w [] = w
+walk_step level p w (g ∷ back) = if p g then without_glyph level w g back else with_glyph w g back
 
 -- the walk over the first glyph ahead: deleted where the test picks it, else left
-abbrev pub first_passed : BufferClusterLevel → (hb_glyph_info_t → Bool) → Passed → Passed
-first_passed level p w = passed_of level p w w.ahead
+abbrev pub first_step : BufferClusterLevel → (hb_glyph_info_t → Bool) → DeletionState → DeletionState
+first_step level p w = walk_step level p w w.ahead
 
 -- the walk over so many glyphs, one after another
-abbrev pub many_passed : BufferClusterLevel → (hb_glyph_info_t → Bool) → ℕ → Passed → Passed
-many_passed level p zero w = w
-many_passed level p (suc n) w = many_passed level p n (first_passed level p w)
+abbrev pub many_steps : BufferClusterLevel → (hb_glyph_info_t → Bool) → ℕ → DeletionState → DeletionState
+many_steps level p zero w = w
+many_steps level p (suc n) w = many_steps level p n (first_step level p w)
 
 -- the walk over all glyphs
-abbrev pub all_passed : BufferClusterLevel → (hb_glyph_info_t → Bool) → List hb_glyph_info_t → List Position → Passed
-all_passed level p gs ps = many_passed level p (length gs) (record { kept = []; kept_positions = []; ahead = gs; positions_ahead = ps; is_marked = false })
+abbrev pub whole_walk : BufferClusterLevel → (hb_glyph_info_t → Bool) → List hb_glyph_info_t → List Position → DeletionState
+whole_walk level p gs ps = many_steps level p (length gs) (record { kept = []; kept_positions = []; ahead = gs; positions_ahead = ps; is_marked = false })
 
 -- glyphs whose last run takes the cluster and flags that it is still to take
-abbrev pub settled : Option hb_glyph_info_t → List hb_glyph_info_t → List hb_glyph_info_t
-settled None gs = gs
-settled (Some d) gs = end_recast d gs
+abbrev pub settled_glyphs : Option hb_glyph_info_t → List hb_glyph_info_t → List hb_glyph_info_t
+settled_glyphs None gs = gs
+settled_glyphs (Some d) gs = end_recast d gs
 
 -- the walk as it is at an index
-abbrev pub passed_at : ℕ → Walk → List hb_glyph_info_t → List Position → Passed
-passed_at at w gs ps = record { kept = settled w.due (take w.kept gs); kept_positions = take w.kept ps; ahead = drop at gs; positions_ahead = drop at ps; is_marked = w.marked }
+abbrev pub walk_at : ℕ → Walk → List hb_glyph_info_t → List Position → DeletionState
+walk_at at w gs ps = record { kept = settled_glyphs w.due (take w.kept gs); kept_positions = take w.kept ps; ahead = drop at gs; positions_ahead = drop at ps; is_marked = w.marked }
 
 -- the cluster still to be taken is less than all that are left, and there is one only where these are in order
 abbrev pub IsDue : Bool → Option hb_glyph_info_t → List hb_glyph_info_t → Type 0
@@ -72,4 +72,4 @@ IsDue in_order (Some d) gs = (in_order ≡ true) × (0 < length gs) × ((n : ℕ
 pub record IsWalk (in_order : Bool) (at : ℕ) (w : Walk) (gs : List hb_glyph_info_t) : Type 0 where
   pub few : w.kept ≤ at
   pub due : IsDue in_order w.due (take w.kept gs)
-  pub known : in_order ≡ true → IsOrdered (clusters (settled w.due (take w.kept gs)) ++ clusters (drop at gs))
+  pub known : in_order ≡ true → IsOrdered (clusters (settled_glyphs w.due (take w.kept gs)) ++ clusters (drop at gs))

@@ -18,10 +18,10 @@ abbrev pub group_lengths : {X : Type 0} → (X → X → Bool) → List X → Li
 group_lengths p xs = map (λ ys. length ys) (groups p xs)
 
 -- ranges of given lengths in reversed order, each in its own order
-abbrev pub stretches_turned : {X : Type 0} → List ℕ → List X → List X
-stretches_turned [] xs = []
-stretches_turned (n ∷ lens) xs = stretches_turned lens (drop n xs) ++ take n xs
+abbrev pub pieces_reversed : {X : Type 0} → List ℕ → List X → List X
+pieces_reversed [] xs = []
+pieces_reversed (n ∷ lens) xs = pieces_reversed lens (drop n xs) ++ take n xs
 
 -- the positions of the items after a reversal of their groups
 abbrev pub positions_turned : (Item → Item → Bool) → List Item → List Position → List Position
-positions_turned q xs ps = stretches_turned (group_lengths q xs) ps
+positions_turned q xs ps = pieces_reversed (group_lengths q xs) ps

@@ -8,8 +8,8 @@ use Rattle.buffer_glyphs.specs.Lemmas.Numbers.{Has}
 use Rattle.buffer_groups.specs.declared.due.falling.Stretch.{Stretch}
 
 -- the glyphs once a range of them is renumbered to the cluster that is due
-abbrev pub carried : Stretch → List hb_glyph_info_t → List hb_glyph_info_t
-carried d gs = take d.from gs ++ map (in_cluster d.cluster) (slice_range gs d.from d.to) ++ drop d.to gs
+abbrev pub with_range_in_cluster : Stretch → List hb_glyph_info_t → List hb_glyph_info_t
+with_range_in_cluster d gs = take d.from gs ++ map (in_cluster d.cluster) (slice_range gs d.from d.to) ++ drop d.to gs
 
 -- the postponed range is before an index; no glyph before its end is of a lesser cluster, and none before it of its own
 pub record IsDueBefore (at : ℕ) (d : Stretch) (gs : List hb_glyph_info_t) : Type 0 where
@@ -18,7 +18,7 @@ pub record IsDueBefore (at : ℕ) (d : Stretch) (gs : List hb_glyph_info_t) : Ty
   pub some : 0 < d.to → d.from < d.to
   pub above : (n : ℕ) → Has (clusters (take d.from gs)) n → d.cluster < n
   pub least : (n : ℕ) → Has (clusters (take d.to gs)) n → d.cluster ≤ n
-  pub falls : IsFalling (clusters (carried d gs))
+  pub falls : IsFalling (clusters (with_range_in_cluster d gs))
 
 -- the postponed range ends before a range, or has all of it at its end
 abbrev pub IsRound : ℕ → ℕ → Stretch → Type 0

@@ -9,11 +9,11 @@ abbrev pub Decides : {F : Type 0} → Shared F (Bor hb_glyph_info_t × (Bor hb_g
 Decides calls f p = (g h : hb_glyph_info_t) (b : Bool) → FnReturnsAtPair calls f g h b → b ≡ p g h
 
 -- how many of the glyphs after one are of its group: each is joined to the one before it
-abbrev pub joined_after : {X : Type 0} → (X → X → Bool) → X → List X → ℕ
-joined_after p x [] = 0
-joined_after p x (y ∷ ys) = if p x y then suc (joined_after p y ys) else 0
+abbrev pub joined_count : {X : Type 0} → (X → X → Bool) → X → List X → ℕ
+joined_count p x [] = 0
+joined_count p x (y ∷ ys) = if p x y then suc (joined_count p y ys) else 0
 
 -- the length of the longest range at the front of a list whose neighbours are joined
 abbrev pub group_length : {X : Type 0} → (X → X → Bool) → List X → ℕ
 group_length p [] = 0
-group_length p (x ∷ xs) = suc (joined_after p x xs)
+group_length p (x ∷ xs) = suc (joined_count p x xs)

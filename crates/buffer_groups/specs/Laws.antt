@@ -7,10 +7,10 @@ use Rattle.buffer_glyphs.specs.Items.{Item, Position, item_of, strip}
 use Rattle.buffer_glyphs.specs.Origins.{Asks, origins, origins_deleted}
 use Rattle.buffer_glyphs.specs.Events.{Sort, origins_after, IsPlain}
 use Rattle.buffer_glyphs.specs.Deleting.{glyphs_deleted}
-use Rattle.buffer_groups.specs.Turning.{groups, groups_turned, turning_of}
-use Rattle.buffer_groups.specs.DeletionWalk.{all_passed}
+use Rattle.buffer_groups.specs.Turning.{groups, groups_reversed_list, turning_of}
+use Rattle.buffer_groups.specs.DeletionWalk.{whole_walk}
 use Rattle.buffer_groups.specs.Events.{deletions, groups_reversed, order_of}
-use Rattle.buffer_groups.specs.Sorting.{is_seam, places_by_key, range_sorted}
+use Rattle.buffer_groups.specs.Sorting.{is_seam, indices_by_key, range_sorted}
 
 -- the deletion of the first glyph after others leaves the origins that the event `Delete` leaves
 abbrev pub DeletionIsEvent : Type 0
@@ -23,9 +23,9 @@ DeletesOneItem = (level : BufferClusterLevel) (front : List hb_glyph_info_t) (g 
     → (strip (glyphs_deleted level front g back).front ≡ strip front) × (strip (glyphs_deleted level front g back).back ≡ strip back)
 
 -- a list cut into pieces of given lengths
-abbrev pub cut_into : {X : Type 0} → List ℕ → List X → List (List X)
-cut_into [] xs = []
-cut_into (n ∷ ns) xs = take n xs ∷ cut_into ns (drop n xs)
+abbrev pub pieces_of_lengths : {X : Type 0} → List ℕ → List X → List (List X)
+pieces_of_lengths [] xs = []
+pieces_of_lengths (n ∷ ns) xs = take n xs ∷ pieces_of_lengths ns (drop n xs)
 
 -- the groups of a list, one after another, are the list
 abbrev pub GroupsAreAll : Type 0
@@ -33,15 +33,15 @@ GroupsAreAll = (joins : hb_glyph_info_t → hb_glyph_info_t → Bool) (gs : List
 
 -- a reversal of groups gives the groups, the last first, each in its own order
 abbrev pub TurnsGroups : Type 0
-TurnsGroups = (joins : hb_glyph_info_t → hb_glyph_info_t → Bool) (gs : List hb_glyph_info_t) → let turned = reverse (groups joins gs) in cut_into (map (λ hs. length hs) turned) (groups_turned joins gs) ≡ turned
+TurnsGroups = (joins : hb_glyph_info_t → hb_glyph_info_t → Bool) (gs : List hb_glyph_info_t) → let turned = reverse (groups joins gs) in pieces_of_lengths (map (λ hs. length hs) turned) (groups_reversed_list joins gs) ≡ turned
 
 -- an index is a seam of the order by a key exactly where no glyph before it has a greater key than one from it on
 abbrev pub SeamParts : Type 0
-SeamParts = (k : hb_glyph_info_t → ℕ) (gs : List hb_glyph_info_t) (i : ℕ) → i ≤ length gs → let order = places_by_key k gs in IsTrue (is_seam order i) ↔ All (λ g. All (λ h. k g ≤ k h) (drop i gs)) (take i gs)
+SeamParts = (k : hb_glyph_info_t → ℕ) (gs : List hb_glyph_info_t) (i : ℕ) → i ≤ length gs → let order = indices_by_key k gs in IsTrue (is_seam order i) ↔ All (λ g. All (λ h. k g ≤ k h) (drop i gs)) (take i gs)
 
 -- deletions in place are events, one for each deleted glyph
 abbrev pub DeletionsAreEvents : Type 0
-DeletionsAreEvents = (asks : Asks) (level : BufferClusterLevel) (q : Item → Bool) (gs : List hb_glyph_info_t) (ps : List Position) → origins (all_passed level (λ g. q (item_of g)) gs ps).kept ≡ origins_after asks level (deletions q (strip gs)) (origins gs)
+DeletionsAreEvents = (asks : Asks) (level : BufferClusterLevel) (q : Item → Bool) (gs : List hb_glyph_info_t) (ps : List Position) → origins (whole_walk level (λ g. q (item_of g)) gs ps).kept ≡ origins_after asks level (deletions q (strip gs)) (origins gs)
 
 -- a reversal of groups is a list of events, one for each group and one for the list
 abbrev pub GroupsAreEvents : Type 0

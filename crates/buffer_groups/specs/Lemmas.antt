@@ -1,10 +1,10 @@
 -- Lemmas.
 pub mod GroupsTurned
-pub mod Kept
+pub mod KeptItems
 pub mod Neighbours
 pub mod Regrouped
 pub mod SortedItems
-pub mod Stretches
+pub mod Ranges
 pub mod Turned
 pub mod KeyOrder
 pub mod Picked

@@ -15,13 +15,13 @@ abbrev pub Gives : {F : Type 0} → Shared F (Bor hb_glyph_info_t × Unit {0}) �
 Gives calls f k = (g : hb_glyph_info_t) (n : ℕ) → FnReturnsAt calls f g n → n ≡ k g
 
 -- the key and the index of each glyph; indices count from i
-abbrev pub keyed_from : (hb_glyph_info_t → ℕ) → ℕ → List hb_glyph_info_t → List Keyed
-keyed_from k i [] = []
-keyed_from k i (g ∷ gs) = record { key = k g; place = i } ∷ keyed_from k (i + 1) gs
+abbrev pub keyed_indices_from : (hb_glyph_info_t → ℕ) → ℕ → List hb_glyph_info_t → List Keyed
+keyed_indices_from k i [] = []
+keyed_indices_from k i (g ∷ gs) = record { key = k g; place = i } ∷ keyed_indices_from k (i + 1) gs
 
 -- the indices of glyphs in stable order by key
-abbrev pub places_by_key : (hb_glyph_info_t → ℕ) → List hb_glyph_info_t → List Keyed
-places_by_key k gs = key_order (λ (e : Keyed). e.key) (keyed_from k 0 gs)
+abbrev pub indices_by_key : (hb_glyph_info_t → ℕ) → List hb_glyph_info_t → List Keyed
+indices_by_key k gs = key_order (λ (e : Keyed). e.key) (keyed_indices_from k 0 gs)
 
 -- an index is a seam where the glyphs before it are those that were before it
 abbrev pub is_seam : List Keyed → ℕ → Bool
@@ -50,7 +50,7 @@ range_spanned level start order gs = spans_merged level start order 0 0 (length 
 
 -- a range with each span of its stable order by a key merged, before it is permuted
 abbrev pub range_merged : BufferClusterLevel → ℕ → ℕ → (hb_glyph_info_t → ℕ) → List hb_glyph_info_t → List hb_glyph_info_t
-range_merged level start end k gs = (range_spanned level start (places_by_key k (slice_range gs start end)) gs).glyphs
+range_merged level start end k gs = (range_spanned level start (indices_by_key k (slice_range gs start end)) gs).glyphs
 
 -- the glyph at an index, a zero glyph past the end
 abbrev pub glyph_at : List hb_glyph_info_t → ℕ → hb_glyph_info_t
@@ -63,6 +63,6 @@ put_in_order start end order gs = take start gs ++ map (λ (e : Keyed). glyph_at
 -- a range sorted stably by its keys, with each span merged
 abbrev pub range_sorted : BufferClusterLevel → ℕ → ℕ → (hb_glyph_info_t → ℕ) → List hb_glyph_info_t → Spanned
 range_sorted level start end k gs =
-    let order = places_by_key k (slice_range gs start end) in
+    let order = indices_by_key k (slice_range gs start end) in
     let spanned = range_spanned level start order gs in
     record { glyphs = put_in_order start end order spanned.glyphs; is_marked = spanned.is_marked }

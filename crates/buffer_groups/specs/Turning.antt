@@ -4,7 +4,7 @@ use Rattle.std.specs.List.{flat_map}
 use Rattle.buffer_glyphs.specs.declared.info.hb_glyph_info_t.{hb_glyph_info_t}
 use Rattle.buffer_glyphs.specs.declared.level.BufferClusterLevel.{BufferClusterLevel}
 use Rattle.buffer_glyphs.specs.Items.{Position, clusters}
-use Rattle.buffer_glyphs.specs.Parts.{stretch}
+use Rattle.buffer_glyphs.specs.Parts.{range_of}
 use Rattle.buffer_glyphs.specs.Glyphs.{glyphs_merged_at, beside_merged, is_marked_at}
 use Rattle.buffer_groups.specs.Groups.{group_length}
 
@@ -20,8 +20,8 @@ groups p [] = []
 groups p (x ∷ xs) = in_front p x (groups p xs)
 
 -- the groups in reversed order, each in its own order
-abbrev pub groups_turned : {X : Type 0} → (X → X → Bool) → List X → List X
-groups_turned p xs = flat_map (λ ys. ys) (reverse (groups p xs))
+abbrev pub groups_reversed_list : {X : Type 0} → (X → X → Bool) → List X → List X
+groups_reversed_list p xs = flat_map (λ ys. ys) (reverse (groups p xs))
 
 -- the elements from `start` up to before `end` in reversed order
 abbrev pub range_reversed : {X : Type 0} → ℕ → ℕ → List X → List X
@@ -37,9 +37,9 @@ pub record Turning : Type 0 where
   pub is_marked : Bool
 
 -- a merge of some indices where it is requested
-abbrev pub merged_if : Bool → BufferClusterLevel → ℕ → ℕ → List hb_glyph_info_t → List hb_glyph_info_t
-merged_if true level from to gs = glyphs_merged_at level from to gs
-merged_if false level from to gs = gs
+abbrev pub glyphs_merged_if : Bool → BufferClusterLevel → ℕ → ℕ → List hb_glyph_info_t → List hb_glyph_info_t
+glyphs_merged_if true level from to gs = glyphs_merged_at level from to gs
+glyphs_merged_if false level from to gs = gs
 
 -- whether such a merge flags a glyph
 abbrev pub is_marked_if : Bool → BufferClusterLevel → ℕ → ℕ → List ℕ → Bool
@@ -54,9 +54,9 @@ beside_if false level range gs = gs
 -- the first so many glyphs ahead, merged where that is requested, moved before the groups that were found
 abbrev pub first_turned : Bool → BufferClusterLevel → ℕ → Turning → Turning
 first_turned merge level n t = record {
-  glyphs = take n (merged_if merge level 0 n t.ahead) ++ beside_if merge level (stretch 0 n (clusters t.ahead)) t.glyphs;
+  glyphs = take n (glyphs_merged_if merge level 0 n t.ahead) ++ beside_if merge level (range_of 0 n (clusters t.ahead)) t.glyphs;
   positions = take n t.positions_ahead ++ t.positions;
-  ahead = drop n (merged_if merge level 0 n t.ahead);
+  ahead = drop n (glyphs_merged_if merge level 0 n t.ahead);
   positions_ahead = drop n t.positions_ahead;
   is_marked = t.is_marked || is_marked_if merge level 0 n (clusters t.ahead);
 }

@@ -3,7 +3,7 @@ ghost use Rattle.std.specs.Prelude.{◌≡◌, ◌≤◌, true, Bool, length, ta
 ghost use Rattle.buffer_glyphs.specs.declared.info.hb_glyph_info_t.{hb_glyph_info_t as Glyph};
 ghost use Rattle.buffer_glyphs.specs.Items.{clusters};
 ghost use Rattle.buffer_glyphs.specs.Order.{IsOrdered};
-ghost use Rattle.buffer_groups.specs.DeletionWalk.{Tells, all_passed};
+ghost use Rattle.buffer_groups.specs.DeletionWalk.{AnswersAs, whole_walk};
 
 mod walk;
 
@@ -27,12 +27,12 @@ pub fn delete_within<F: Fn(&hb_glyph_info_t) -> bool>(
     requires placed { length positions.old ≡ length glyphs.old }
     requires known { in_order ≡ true → IsOrdered (clusters glyphs.old) }
     ensures within { result.0 ≤ length glyphs.old }
-    ensures glyphs { (goes : Glyph → Bool) → Tells F.Fn filter goes →
-        take result.0 glyphs.new ≡ (all_passed level goes glyphs.old positions.old).kept }
-    ensures positions { (goes : Glyph → Bool) → Tells F.Fn filter goes →
-        take result.0 positions.new ≡ (all_passed level goes glyphs.old positions.old).kept_positions }
-    ensures marked { (goes : Glyph → Bool) → Tells F.Fn filter goes →
-        result.1 ≡ (all_passed level goes glyphs.old positions.old).is_marked }
+    ensures glyphs { (goes : Glyph → Bool) → AnswersAs F.Fn filter goes →
+        take result.0 glyphs.new ≡ (whole_walk level goes glyphs.old positions.old).kept }
+    ensures positions { (goes : Glyph → Bool) → AnswersAs F.Fn filter goes →
+        take result.0 positions.new ≡ (whole_walk level goes glyphs.old positions.old).kept_positions }
+    ensures marked { (goes : Glyph → Bool) → AnswersAs F.Fn filter goes →
+        result.1 ≡ (whole_walk level goes glyphs.old positions.old).is_marked }
 {
     let mut walk = Walk {
         kept: 0,

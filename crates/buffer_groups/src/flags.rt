@@ -3,8 +3,8 @@ ghost use Rattle.std.specs.Prelude.{◌≡◌, ◌<◌, length, map};
 ghost use Rattle.std.specs.Int.RustNames.{bit_and};
 ghost use Rattle.buffer_glyphs.specs.declared.info.TheConstants.{DEFINED};
 ghost use Rattle.buffer_glyphs.specs.Items.{glyph_masked, item_masked, strip};
-ghost use Rattle.buffer_glyphs.specs.Origins.{concat_settled, origins, origins_spread, settled, tatweel_settled};
-ghost use Rattle.buffer_groups.specs.Flags.{asks_of, cluster_flags};
+ghost use Rattle.buffer_glyphs.specs.Origins.{concat_settled, origins, origins_spread, settled_flags, tatweel_settled};
+ghost use Rattle.buffer_groups.specs.Flags.{flag_requests_of, cluster_flags};
 
 use buffer_glyphs::info::{
     DEFINED, SAFE_TO_INSERT_TATWEEL, UNSAFE_TO_BREAK, UNSAFE_TO_CONCAT, hb_glyph_info_t, hb_mask_t,
@@ -26,7 +26,7 @@ pub struct AskedFlags {
 /// and no other field changes. It takes linear time.
 pub fn propagate_flags(glyphs: &mut [hb_glyph_info_t], asked: AskedFlags)
     ensures items { strip glyphs.new ≡ map (item_masked 0) (strip glyphs.old) }
-    ensures origins { origins glyphs.new ≡ origins_spread (asks_of asked) (origins glyphs.old) }
+    ensures origins { origins glyphs.new ≡ origins_spread (flag_requests_of asked) (origins glyphs.old) }
 {
     let mut before = None;
     for at in 0..glyphs.len() {
@@ -44,7 +44,7 @@ fn flags_of_cluster(
     asked: AskedFlags,
 ) -> hb_mask_t
     requires { 0 < length glyphs.now }
-    ensures { result ≡ cluster_flags (asks_of asked) before glyphs.now }
+    ensures { result ≡ cluster_flags (flag_requests_of asked) before glyphs.now }
 {
     let cluster = glyphs[0].cluster;
     match before {
@@ -54,7 +54,7 @@ fn flags_of_cluster(
 }
 
 fn settled(flags: hb_mask_t, asked: AskedFlags) -> hb_mask_t
-    ensures { result ≡ settled (asks_of asked) flags }
+    ensures { result ≡ settled_flags (flag_requests_of asked) flags }
 {
     concat_settled(tatweel_settled(flags, asked.tatweel), asked.concat)
 }

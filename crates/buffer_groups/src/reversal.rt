@@ -7,7 +7,7 @@ ghost use Rattle.buffer_glyphs.specs.Levels.{IsMonotone};
 ghost use Rattle.buffer_groups.specs.declared.due.Due.TheVariants.{Nothing};
 ghost use Rattle.buffer_groups.specs.Due.{MayBeDue, MayBeRound, with_due};
 ghost use Rattle.buffer_groups.specs.Groups.{Decides};
-ghost use Rattle.buffer_groups.specs.Turning.{first_turned, is_marked_if, merged_if, range_reversed, turning_of, turning_at};
+ghost use Rattle.buffer_groups.specs.Turning.{first_turned, is_marked_if, glyphs_merged_if, range_reversed, turning_of, turning_at};
 
 use crate::due::{Merges, merge_next, no_merges, settle};
 use crate::groups::end_of_group;
@@ -99,7 +99,7 @@ fn merge_group(
         IsOrdered (clusters (with_due merges.due glyphs.old)) }
     requires due { MayBeDue level start merges.due glyphs.old }
     requires plain { merge ≡ false → merges.due ≡ Nothing }
-    ensures merged { with_due result.due glyphs.new ≡ merged_if merge level start end (with_due merges.due glyphs.old) }
+    ensures merged { with_due result.due glyphs.new ≡ glyphs_merged_if merge level start end (with_due merges.due glyphs.old) }
     ensures marked { result.marked
         ≡ (merges.marked || is_marked_if merge level start end (clusters (with_due merges.due glyphs.old))) }
     ensures due { MayBeDue level end result.due glyphs.new }

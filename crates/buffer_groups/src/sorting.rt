@@ -1,24 +1,72 @@
 //! Stable sort of a range, with merges (rustybuzz: hb/buffer.rs, `sort`).
 ghost use Rattle.std.specs.Prelude.{◌≡◌, ◌+◌, ◌-◌, ◌<◌, ◌≤◌, ◌↔◌, ◌++◌, ℕ, Bool, IsTrue, true, take, drop, length, map, vec_len, IfOk, OnOk, OnErr, slice_range};
 ghost use Rattle.std.specs.List.{All};
+ghost use Rattle.std.specs.List.Sorted.{IsNonDecreasingBy};
 ghost use Rattle.buffer_glyphs.specs.declared.info.hb_glyph_info_t.{hb_glyph_info_t as Glyph};
 ghost use Rattle.buffer_glyphs.specs.Items.{clusters};
 ghost use Rattle.buffer_glyphs.specs.Order.{IsInOrder, IsOrdered};
 ghost use Rattle.buffer_stable_order.specs.Keys.{key_order};
 ghost use Rattle.buffer_groups.specs.Due.{MayBeDue, with_due};
-ghost use Rattle.buffer_groups.specs.Sorting.{Gives, Spanned, glyph_at, keyed_from, put_in_order, range_merged, range_sorted, range_spanned, span_merged};
+ghost use Rattle.buffer_groups.specs.Sorting.{Gives, Spanned, glyph_at, keyed_indices_from, put_in_order, range_merged, range_sorted, range_spanned, span_merged};
 
 use crate::due::{Merges, merge_next, no_merges, settle};
 use buffer_glyphs::info::hb_glyph_info_t;
 use buffer_glyphs::level::BufferClusterLevel;
 use std::alloc::{AllocError, Global};
 
-/// Sorts the glyphs from `start` up to before `end` stably by their keys, and merges each smallest span that the order
-/// permutes: one of more than one glyph, between seams, which are indices where the glyphs before are those that were
-/// before. The merges come first, on the glyphs in their old order, so that where all clusters are known to be in order
-/// they take linear time in all; else each compares all glyphs with its span. Where memory is short for the sort the
-/// slice stays as it was.
+/// Puts the glyphs from `start` up to before `end` in stable order by the keys that they have, and merges each smallest
+/// span that the order permutes: one of more than one glyph, between places before which all came from before them. A range
+/// whose keys stand in order takes no memory. Where memory is short for the sort the slice stays as it was.
 pub fn sort<F: Fn(&hb_glyph_info_t) -> u32>(
+    alloc: Global,
+    glyphs: &mut [hb_glyph_info_t],
+    level: BufferClusterLevel,
+    in_order: bool,
+    start: usize,
+    end: usize,
+    key: F,
+) -> Result<Sorted, AllocError>
+    requires callable { F.IsAlwaysCallable key }
+    requires ordered { start ≤ end }
+    requires within { end ≤ length glyphs.old }
+    requires known { in_order ≡ true → IsOrdered (clusters glyphs.old) }
+    ensures sorted { (k : Glyph → ℕ) → Gives F.Fn key k →
+        OnOk result (glyphs.new ≡ (range_sorted level start end k glyphs.old).glyphs) }
+    ensures marked { (k : Glyph → ℕ) → Gives F.Fn key k →
+        IfOk result (λ s. s.marked ≡ (range_sorted level start end k glyphs.old).is_marked) }
+    ensures order { (falls : Bool) →
+        IfOk result (λ s. s.in_order ≡ true → IsInOrder falls (clusters glyphs.old) →
+        IsInOrder falls (clusters glyphs.new)) }
+    ensures err { OnErr result (glyphs.new ≡ glyphs.old) }
+{
+    if has_keys_in_order(&glyphs[start..end], &key) {
+        return Ok(Sorted {
+            marked: false,
+            in_order: true,
+        });
+    }
+    sort_by_places(alloc, glyphs, level, in_order, start, end, key)
+}
+
+/// Whether no glyph has a lower key than one before it.
+fn has_keys_in_order<F: Fn(&hb_glyph_info_t) -> u32>(glyphs: &[hb_glyph_info_t], key: &F) -> bool
+    requires { F.IsAlwaysCallable key.now }
+    ensures { (k : Glyph → ℕ) → Gives F.Fn key.now k → result ≡ true → IsNonDecreasingBy k glyphs.now }
+{
+    let mut last = 0;
+    for glyph in glyphs {
+        let next = key(glyph);
+        if next < last {
+            return false;
+        }
+        last = next;
+    }
+    true
+}
+
+/// Sorts a range by the places that its glyphs are to have. The merges come first, on the glyphs as they stood, so that
+/// where all clusters are known to stand in order they take linear time in all; else each compares all glyphs with its span.
+fn sort_by_places<F: Fn(&hb_glyph_info_t) -> u32>(
     alloc: Global,
     glyphs: &mut [hb_glyph_info_t],
     level: BufferClusterLevel,
@@ -73,7 +121,7 @@ fn keyed_places<F: Fn(&hb_glyph_info_t) -> u32>(
     key: &F,
 ) -> Result<Vec<Keyed>, AllocError>
     requires { F.IsAlwaysCallable key.now }
-    ensures keys { (k : Glyph → ℕ) → Gives F.Fn key.now k → IfOk result (λ v. v.items ≡ keyed_from k 0 glyphs.now) }
+    ensures keys { (k : Glyph → ℕ) → Gives F.Fn key.now k → IfOk result (λ v. v.items ≡ keyed_indices_from k 0 glyphs.now) }
     ensures within { IfOk result (λ v. All (λ e. e.place < length glyphs.now) v.items) }
     ensures len { IfOk result (λ v. vec_len v ≡ length glyphs.now) }
 {

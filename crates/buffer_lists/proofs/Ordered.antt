@@ -7,12 +7,12 @@ use Rattle.buffer_glyphs.specs.declared.info.hb_glyph_info_t.{hb_glyph_info_t}
 use Rattle.buffer_glyphs.specs.declared.level.BufferClusterLevel.{BufferClusterLevel}
 use Rattle.buffer_glyphs.specs.declared.level.BufferClusterLevel.TheVariants.{MonotoneGraphemes, MonotoneCharacters, Characters}
 use Rattle.buffer_glyphs.specs.Items.{clusters}
-use Rattle.buffer_glyphs.specs.Parts.{JoinParts, replaced, stretch}
-use Rattle.buffer_glyphs.specs.Merges.{merged, merged_at}
+use Rattle.buffer_glyphs.specs.Parts.{JoinParts, numbers_replaced, range_of}
+use Rattle.buffer_glyphs.specs.Merges.{merged_number, numbers_merged_at}
 use Rattle.buffer_glyphs.specs.Order.{IsInOrder, IsOrdered}
 use Rattle.buffer_glyphs.specs.Glyphs.{beside_merged, glyphs_merged, glyphs_merged_at, in_cluster}
 use Rattle.buffer_glyphs.specs.Replacements.{glyphs_replaced}
-use Rattle.buffer_glyphs.specs.Deletions.{deleted}
+use Rattle.buffer_glyphs.specs.Deletions.{number_deleted}
 use Rattle.buffer_glyphs.specs.Deleting.{Deletes}
 use Rattle.buffer_glyphs.proofs.OneDeleted.{left_clusters, order_deleted}
 use Rattle.buffer_glyphs.specs.Lemmas.Drawn.{IsDrawn, drawn_replaced}
@@ -34,18 +34,18 @@ known_ordered Unknown ns e h = cc
 known_ordered Rising ns e h = inl h
 known_ordered Falling ns e h = inr h
 
-merge_order : (falls : Bool) (level : BufferClusterLevel) (from to : ℕ) (ns : List ℕ) → from ≤ to → IsInOrder falls ns → IsInOrder falls (merged_at level from to ns)
+merge_order : (falls : Bool) (level : BufferClusterLevel) (from to : ℕ) (ns : List ℕ) → from ≤ to → IsInOrder falls ns → IsInOrder falls (numbers_merged_at level from to ns)
 merge_order falls MonotoneGraphemes from to ns le h = subst (IsInOrder falls) (sym (merge_joins MonotoneGraphemes from to ns le tt (ordered_from falls ns h))) (event_keeps_order (JoinParts from to) falls ns h)
 merge_order falls MonotoneCharacters from to ns le h = subst (IsInOrder falls) (sym (merge_joins MonotoneCharacters from to ns le tt (ordered_from falls ns h))) (event_keeps_order (JoinParts from to) falls ns h)
 merge_order falls Characters from to ns le h = h
 
-order_merged_at : (o : KnownOrder) (level : BufferClusterLevel) (from to : ℕ) (ns : List ℕ) → from ≤ to → HasOrder o ns → HasOrder o (merged_at level from to ns)
+order_merged_at : (o : KnownOrder) (level : BufferClusterLevel) (from to : ℕ) (ns : List ℕ) → from ≤ to → HasOrder o ns → HasOrder o (numbers_merged_at level from to ns)
 order_merged_at Unknown level from to ns le h = tt
 order_merged_at Rising level from to ns le h = merge_order false level from to ns le h
 order_merged_at Falling level from to ns le h = merge_order true level from to ns le h
 
 -- a range of the second of two lists was merged
-pub order_merged : (o : KnownOrder) (level : BufferClusterLevel) (i j : ℕ) (behind ahead new_behind new_ahead : List hb_glyph_info_t) → i ≤ j → new_behind ≡ beside_merged level (stretch i j (clusters ahead)) behind → new_ahead ≡ glyphs_merged_at level i j ahead
+pub order_merged : (o : KnownOrder) (level : BufferClusterLevel) (i j : ℕ) (behind ahead new_behind new_ahead : List hb_glyph_info_t) → i ≤ j → new_behind ≡ beside_merged level (range_of i j (clusters ahead)) behind → new_ahead ≡ glyphs_merged_at level i j ahead
     → HasOrder o (clusters behind ++ clusters ahead) → HasOrder o (clusters new_behind ++ clusters new_ahead)
 order_merged o level i j behind ahead new_behind new_ahead le b a h =
     let f : hb_glyph_info_t → ℕ = λ g. g.cluster in
@@ -53,10 +53,10 @@ order_merged o level i j behind ahead new_behind new_ahead le b a h =
     let before : HasOrder o (clusters (behind ++ ahead)) = rw (map-append f behind ahead) h in
     let after = order_merged_at o level (n + i) (n + j) (clusters (behind ++ ahead)) (omega arith) before in
     subst (HasOrder o) (sym (clusters_merged_at level (n + i) (n + j) (behind ++ ahead) (omega arith)) ∙ ap clusters (merged_at_beyond level behind ahead i j)
-    ∙ map-append f (beside_merged level (stretch i j (clusters ahead)) behind) (glyphs_merged_at level i j ahead) ∙ ap (λ gs. clusters gs ++ clusters (glyphs_merged_at level i j ahead)) (sym b) ∙ ap (λ gs. clusters new_behind ++ clusters gs) (sym a)) after
+    ∙ map-append f (beside_merged level (range_of i j (clusters ahead)) behind) (glyphs_merged_at level i j ahead) ∙ ap (λ gs. clusters gs ++ clusters (glyphs_merged_at level i j ahead)) (sym b) ∙ ap (λ gs. clusters new_behind ++ clusters gs) (sym a)) after
 
 -- a range within the first of two lists
-stretch_first : (xs ys : List hb_glyph_info_t) (start end : ℕ) → start ≤ end → end ≤ length xs → stretch start end (clusters (xs ++ ys)) ≡ stretch start end (clusters xs)
+stretch_first : (xs ys : List hb_glyph_info_t) (start end : ℕ) → start ≤ end → end ≤ length xs → range_of start end (clusters (xs ++ ys)) ≡ range_of start end (clusters xs)
 stretch_first xs ys start end le within =
     let long = length-drop start xs in
     let few : end - start ≤ length (drop start xs) = omega (arith, long) in
@@ -65,19 +65,19 @@ stretch_first xs ys start end le within =
 
 -- the clusters of a range of the first of two lists became one on both
 pub order_united : (o : KnownOrder) (start end : ℕ) (behind ahead new_behind new_ahead : List hb_glyph_info_t) → start ≤ end → end ≤ length behind
-    → new_behind ≡ glyphs_merged (stretch start end (clusters behind)) behind → new_ahead ≡ glyphs_merged (stretch start end (clusters behind)) ahead
+    → new_behind ≡ glyphs_merged (range_of start end (clusters behind)) behind → new_ahead ≡ glyphs_merged (range_of start end (clusters behind)) ahead
     → HasOrder o (clusters behind ++ clusters ahead) → HasOrder o (clusters new_behind ++ clusters new_ahead)
 order_united o start end behind ahead new_behind new_ahead le within b a h =
     let f : hb_glyph_info_t → ℕ = λ g. g.cluster in
-    let range = stretch start end (clusters behind) in
+    let range = range_of start end (clusters behind) in
     let before : HasOrder o (clusters (behind ++ ahead)) = rw (map-append f behind ahead) h in
     let after = order_merged_at o MonotoneGraphemes start end (clusters (behind ++ ahead)) le before in
-    let both : glyphs_merged (stretch start end (clusters (behind ++ ahead))) (behind ++ ahead) ≡ new_behind ++ new_ahead =
-    ap (λ r. glyphs_merged r (behind ++ ahead)) (stretch_first behind ahead start end le within) ∙ map-append (λ (g : hb_glyph_info_t). in_cluster (merged range g.cluster) g) behind ahead
+    let both : glyphs_merged (range_of start end (clusters (behind ++ ahead))) (behind ++ ahead) ≡ new_behind ++ new_ahead =
+    ap (λ r. glyphs_merged r (behind ++ ahead)) (stretch_first behind ahead start end le within) ∙ map-append (λ (g : hb_glyph_info_t). in_cluster (merged_number range g.cluster) g) behind ahead
     ∙ ap (λ gs. gs ++ glyphs_merged range ahead) (sym b) ∙ ap (λ gs. new_behind ++ gs) (sym a) in
-    subst (HasOrder o) (sym (clusters_merged (stretch start end (clusters (behind ++ ahead))) (behind ++ ahead)) ∙ ap clusters both ∙ map-append f new_behind new_ahead) after
+    subst (HasOrder o) (sym (clusters_merged (range_of start end (clusters (behind ++ ahead))) (behind ++ ahead)) ∙ ap clusters both ∙ map-append f new_behind new_ahead) after
 
-order_replaced_at : (o : KnownOrder) (at taken given : ℕ) (ns : List ℕ) → HasOrder o ns → HasOrder o (replaced at taken given ns)
+order_replaced_at : (o : KnownOrder) (at taken given : ℕ) (ns : List ℕ) → HasOrder o ns → HasOrder o (numbers_replaced at taken given ns)
 order_replaced_at Unknown at taken given ns h = tt
 order_replaced_at Rising at taken given ns h = order_drawn false (drawn_replaced at taken given ns) h
 order_replaced_at Falling at taken given ns h = order_drawn true (drawn_replaced at taken given ns) h
@@ -92,7 +92,7 @@ order_copied o taken numbers behind ahead new_behind b h =
     let all : glyphs_replaced (length behind) taken numbers (behind ++ ahead) ≡ new_behind ++ drop taken ahead = rw (take-append_seam behind ahead, drop-append_seam behind ahead, drop-append-add behind ahead taken, b) refl in
     subst (HasOrder o) (sym (clusters_replaced (length behind) taken numbers (behind ++ ahead)) ∙ ap clusters all ∙ map-append f new_behind (drop taken ahead)) after
 
-known_deleted : (o : KnownOrder) (level : BufferClusterLevel) (front : List ℕ) (n : ℕ) (back : List ℕ) → HasOrder o (front ++ n ∷ back) → HasOrder o (deleted level front n back)
+known_deleted : (o : KnownOrder) (level : BufferClusterLevel) (front : List ℕ) (n : ℕ) (back : List ℕ) → HasOrder o (front ++ n ∷ back) → HasOrder o (number_deleted level front n back)
 known_deleted Unknown level front n back h = tt
 known_deleted Rising level front n back h = order_deleted false level front n back h
 known_deleted Falling level front n back h = order_deleted true level front n back h

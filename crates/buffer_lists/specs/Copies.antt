@@ -2,8 +2,8 @@
 use Rattle.std.specs.Prelude.{ℕ, List, ◌++◌}
 use Rattle.buffer_glyphs.specs.declared.info.hb_glyph_info_t.{hb_glyph_info_t}
 use Rattle.buffer_glyphs.specs.Parts.{first_of, last_of, or}
-use Rattle.buffer_glyphs.specs.Replacements.{copied, glyph_numbered}
+use Rattle.buffer_glyphs.specs.Replacements.{numbered_copies, glyph_numbered}
 
 -- glyphs with a copy of the first glyph ahead appended for each number, or of the last glyph where none is ahead
 abbrev pub with_copies : List ℕ → List hb_glyph_info_t → List hb_glyph_info_t → List hb_glyph_info_t
-with_copies numbers ahead behind = behind ++ copied glyph_numbered (or (first_of ahead) (last_of behind)) numbers
+with_copies numbers ahead behind = behind ++ numbered_copies glyph_numbered (or (first_of ahead) (last_of behind)) numbers

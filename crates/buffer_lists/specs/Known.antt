@@ -19,14 +19,14 @@ is_known Rising = true
 is_known Falling = true
 
 -- the clusters of the output, with that of a lent glyph as it was
-abbrev pub put_back_behind : Option Lent → List ℕ → List ℕ
-put_back_behind None ns = ns
-put_back_behind (Some l) ns = if l.in_output then slice_set ns l.at l.cluster else ns
+abbrev pub known_clusters_behind : Option Lent → List ℕ → List ℕ
+known_clusters_behind None ns = ns
+known_clusters_behind (Some l) ns = if l.in_output then slice_set ns l.at l.cluster else ns
 
 -- the clusters of the input, with that of a lent glyph as it was
-abbrev pub put_back_ahead : Option Lent → List ℕ → List ℕ
-put_back_ahead None ns = ns
-put_back_ahead (Some l) ns = if l.in_output then ns else slice_set ns l.at l.cluster
+abbrev pub known_clusters_ahead : Option Lent → List ℕ → List ℕ
+known_clusters_ahead None ns = ns
+known_clusters_ahead (Some l) ns = if l.in_output then ns else slice_set ns l.at l.cluster
 
 -- a number and those after it never decrease, and n is the last of them
 pub record IsRisingTo (start : ℕ) (ns : List ℕ) (n : ℕ) : Type 0 where

@@ -2,7 +2,7 @@
 ghost use Rattle.std.specs.Prelude.{◌≡◌, ◌≤◌, ◌++◌, true, length};
 ghost use Rattle.buffer_glyphs.specs.Items.{clusters};
 ghost use Rattle.buffer_glyphs.specs.Levels.{InOutput, manner};
-ghost use Rattle.buffer_glyphs.specs.Parts.{stretch};
+ghost use Rattle.buffer_glyphs.specs.Parts.{range_of};
 ghost use Rattle.buffer_glyphs.specs.Order.{IsOrdered};
 ghost use Rattle.buffer_glyphs.specs.Glyphs.{beside_merged, beside_merged_as, glyphs_merged, glyphs_merged_as, glyphs_merged_at, is_marked_at};
 ghost use Rattle.buffer_lists.specs.Known.{HasOrder};
@@ -28,7 +28,7 @@ pub fn merge_input(
     requires within { end ≤ length input.old }
     requires known { HasOrder known (clusters output.old ++ clusters input.old) }
     ensures input { input.new ≡ glyphs_merged_at level start end input.old }
-    ensures output { output.new ≡ beside_merged level (stretch start end (clusters input.old)) output.old }
+    ensures output { output.new ≡ beside_merged level (range_of start end (clusters input.old)) output.old }
     ensures any { result.0 ≡ is_marked_at level start end (clusters input.old) }
     ensures order { HasOrder result.1 (clusters output.new ++ clusters input.new) }
 {
@@ -72,7 +72,7 @@ pub fn merge_output(
     requires known { HasOrder known (clusters output.old ++ clusters input.old) }
     ensures output { output.new ≡ glyphs_merged_as (manner InOutput level) start end output.old }
     ensures input { input.new
-        ≡ beside_merged_as (manner InOutput level) (stretch start end (clusters output.old)) input.old }
+        ≡ beside_merged_as (manner InOutput level) (range_of start end (clusters output.old)) input.old }
     ensures order { HasOrder result (clusters output.new ++ clusters input.new) }
 {
     match level {
@@ -96,8 +96,8 @@ fn unite_output(
     requires ordered { start ≤ end }
     requires within { end ≤ length output.old }
     requires known { in_order ≡ true → IsOrdered (clusters output.old ++ clusters input.old) }
-    ensures output { output.new ≡ glyphs_merged (stretch start end (clusters output.old)) output.old }
-    ensures input { input.new ≡ glyphs_merged (stretch start end (clusters output.old)) input.old }
+    ensures output { output.new ≡ glyphs_merged (range_of start end (clusters output.old)) output.old }
+    ensures input { input.new ≡ glyphs_merged (range_of start end (clusters output.old)) input.old }
 {
     merge_after(input, &output[start..end], in_order);
     merge_within(output, start, end, in_order);

@@ -1,7 +1,7 @@
 //! Replaces input glyphs by copies in the output (rustybuzz: hb/buffer.rs, `replace_glyphs`).
 ghost use Rattle.std.specs.Prelude.{◌≡◌, ◌+◌, ◌≤◌, ◌++◌, ℕ, length, map, drop, vec_len, vec_capacity};
 ghost use Rattle.buffer_glyphs.specs.Items.{clusters};
-ghost use Rattle.buffer_glyphs.specs.Parts.{first_of, last_of, or, stretch};
+ghost use Rattle.buffer_glyphs.specs.Parts.{first_of, last_of, or, range_of};
 ghost use Rattle.buffer_glyphs.specs.Glyphs.{beside_merged, glyphs_merged_at, is_marked_at};
 ghost use Rattle.buffer_glyphs.specs.Replacements.{glyph_numbered};
 ghost use Rattle.buffer_lists.specs.declared.order.KnownOrder.{KnownOrder as Order};
@@ -29,7 +29,7 @@ pub fn replace_first(
     requires known { HasOrder known (clusters output.old.items ++ clusters input.old) }
     ensures input { input.new ≡ glyphs_merged_at level 0 count input.old }
     ensures output { output.new.items ≡ with_copies numbers.now input.new
-        (beside_merged level (stretch 0 count (clusters input.old)) output.old.items) }
+        (beside_merged level (range_of 0 count (clusters input.old)) output.old.items) }
     ensures any { result.0 ≡ is_marked_at level 0 count (clusters input.old) }
     ensures order { HasOrder result.1 (clusters output.new.items ++ clusters (drop count input.new)) }
 {

@@ -7,9 +7,9 @@ use Rattle.buffer_unicode_tables.specs.Lawful.{IsLawful}
 use Rattle.buffer_unicode_tables.specs.Tables.{Tables, pair_of, class_of}
 use Rattle.buffer_unicode_tables.specs.Texts.{AreEquivalent, same}
 use Rattle.buffer_glyphs.specs.Items.{Item}
-use Rattle.buffer_glyphs.specs.Arranged.{Arranged}
+use Rattle.buffer_glyphs.specs.Rewriting.{Arrangement}
 use Rattle.buffer_properties.specs.Characters.{is_mark, mark_class, characters_of, standing_for, with_glyph}
-use Rattle.buffer_properties.specs.Composing.{last_class, is_reaching, becoming, composite, with_composition, composed_from, composed_list}
+use Rattle.buffer_properties.specs.Composing.{last_class, is_not_blocked, becoming, composite, with_composition, composition_from, composed_list}
 use Rattle.buffer_properties.specs.Normalizer.{Normalizer}
 use Rattle.buffer_properties.specs.Premises.{ComposesWithinUnicode}
 use Rattle.buffer_properties.proofs.Equivalence.{then_all, turned_round, around, behind, AreApart, passes, pair_is_equivalent}
@@ -18,7 +18,7 @@ use Rattle.buffer_properties.proofs.Sorted.{IsRisingAfter, last_append}
 
 -- what a composite is
 record IsComposite (c : Normalizer) (starter : Item) (between : List Item) (x composed : Item) : Type 0 where
-  reaches : is_reaching between x ≡ true
+  reaches : is_not_blocked between x ≡ true
   pair : c.composes starter.number x.number ≡ Some composed.number
 
 becoming_number : (c : Normalizer) (starter composed : Item) (u : ℕ) (o : Option ℕ) → option_map (λ g. with_glyph g (standing_for c.tables u starter)) o ≡ Some composed → composed.number ≡ u
@@ -34,9 +34,9 @@ composed_pair c starter composed (Some u) e = ap Some (sym (becoming_number c st
 composite_is : (c : Normalizer) (starter : Item) (between : List Item) (x composed : Item) → composite c starter between x ≡ Some composed → IsComposite c starter between x composed
 unfolding composite
 composite_is c starter between x composed e =
-    elim (cases_Bool (is_mark x && is_reaching between x)) [
+    elim (cases_Bool (is_mark x && is_not_blocked between x)) [
       | inl reached ↦
-          let parts = and_parts (is_mark x) (is_reaching between x) reached in
+          let parts = and_parts (is_mark x) (is_not_blocked between x) reached in
           record { reaches = parts.1; pair = composed_pair c starter composed (c.composes starter.number x.number) (sym (cond-true _ _ _ reached) ∙ e) }
       | inr blocked ↦ absurd (let none : None ≡ Some composed = sym (cond-false _ _ _ blocked) ∙ e in cc)
     ]
@@ -98,7 +98,7 @@ record StillBetween (t : Tables) (between xs : List Item) : Type 0 where
   class : ℕ
   is_between : IsBetween t class between xs
 
-still_between : (t : Tables) (k : ℕ) (between : List Item) (x : Item) (xs : List Item) → is_reaching between x ≡ true → IsBetween t k between (x ∷ xs) → StillBetween t between xs
+still_between : (t : Tables) (k : ℕ) (between : List Item) (x : Item) (xs : List Item) → is_not_blocked between x ≡ true → IsBetween t k between (x ∷ xs) → StillBetween t between xs
 still_between t k [] x xs e h = record { class = mark_class x; is_between = record { of_tables = tt; below = tt; ends = tt; rises = h.rises.1 } }
 still_between t k (y ∷ ys) x xs e h =
     let less : last_class (mark_class y) ys < mark_class x = ltb-true _ _ e in
@@ -109,14 +109,14 @@ characters_append xs ys = map-append (λ (x : Item). x.number) xs ys
 
 abbrev AreComposedAlike : Normalizer → List Item → Type 0
 AreComposedAlike c xs = (k : ℕ) (done : List Item) (starter : Item) (between : List Item) → AreOfTables c.tables xs → IsBetween c.tables k between xs
-    → AreEquivalent c.tables (characters_of (done ++ starter ∷ (between ++ xs))) (characters_of (composed_from c done starter between xs).items)
+    → AreEquivalent c.tables (characters_of (done ++ starter ∷ (between ++ xs))) (characters_of (composition_from c done starter between xs).items)
 
 at_composite : (c : Normalizer) (k : ℕ) (done : List Item) (starter : Item) (between : List Item) (x : Item) (xs : List Item) (o : Option Item) → IsLawful c.tables → ComposesWithinUnicode c → AreComposedAlike c xs
     → AreOfTables c.tables (x ∷ xs) → IsBetween c.tables k between (x ∷ xs) → composite c starter between x ≡ o
     → AreEquivalent c.tables (characters_of (done ++ starter ∷ (between ++ x ∷ xs)))
     (characters_of
-    (option_map_or (λ composed. with_composition (length done) (length done + 1 + length between) (composed_from c done composed between xs)) o
-    (if mark_class x == 0 then composed_from c (done ++ starter ∷ between) x [] xs else composed_from c done starter (between ++ x ∷ []) xs)).items)
+    (option_map_or (λ composed. with_composition (length done) (length done + 1 + length between) (composition_from c done composed between xs)) o
+    (if mark_class x == 0 then composition_from c (done ++ starter ∷ between) x [] xs else composition_from c done starter (between ++ x ∷ []) xs)).items)
 at_composite c k done starter between x xs (Some composed) lawful within later o h e =
     let found = composite_is c starter between x composed e in
     let still = still_between c.tables k between x xs found.reaches h in
@@ -130,21 +130,21 @@ at_composite c k done starter between x xs (Some composed) lawful within later o
     subst (λ (us : List ℕ). P us (characters_of (done ++ composed ∷ (between ++ xs)))) (sym before) (subst (λ (us : List ℕ). P (characters_of done ++ (starter.number ∷ (characters_of between ++ x.number ∷ characters_of xs))) us) (sym after) (behind c.tables (characters_of done) _ _ step)) in
     then_all c.tables _ _ _ moved (later still.class done composed between o.1 still.is_between)
 at_composite c k done starter between x xs None lawful within later o h e =
-    let P : List Item → Arranged → Type 0 = λ ys a. AreEquivalent c.tables (characters_of ys) (characters_of a.items) in
+    let P : List Item → Arrangement → Type 0 = λ ys a. AreEquivalent c.tables (characters_of ys) (characters_of a.items) in
     let whole : List Item = done ++ starter ∷ (between ++ x ∷ xs) in
     elim (cases_eq (mark_class x) 0) [
       | inl z ↦
           let at : (mark_class x == 0) ≡ true = grind arith in
           let joined : (done ++ starter ∷ between) ++ x ∷ xs ≡ done ++ starter ∷ (between ++ x ∷ xs) = append_assoc done (starter ∷ between) (x ∷ xs) in
           let next : IsBetween c.tables (mark_class x) [] xs = record { of_tables = tt; below = tt; ends = tt; rises = h.rises.1 } in
-          subst (P (done ++ starter ∷ (between ++ x ∷ xs))) (sym (cond-true _ _ _ at)) (subst (λ (ys : List Item). P ys (composed_from c (done ++ starter ∷ between) x [] xs)) joined (later (mark_class x) (done ++ starter ∷ between) x [] o.1 next))
+          subst (P (done ++ starter ∷ (between ++ x ∷ xs))) (sym (cond-true _ _ _ at)) (subst (λ (ys : List Item). P ys (composition_from c (done ++ starter ∷ between) x [] xs)) joined (later (mark_class x) (done ++ starter ∷ between) x [] o.1 next))
       | inr n ↦
           let off : (mark_class x == 0) ≡ false = grind arith in
           let joined : done ++ starter ∷ ((between ++ x ∷ []) ++ xs) ≡ done ++ starter ∷ (between ++ x ∷ xs) = ap (λ ys. done ++ starter ∷ ys) (append_assoc between (x ∷ []) xs) in
           let le : k ≤ mark_class x = h.rises.0 n in
           let next : IsBetween c.tables (mark_class x) (between ++ x ∷ []) xs =
           record { of_tables = of_tables_append c.tables between (x ∷ []) h.of_tables (o.0, tt); below = below_push k (mark_class x) between x h.below le n (omega arith); ends = ends_push between x; rises = h.rises.1 } in
-          subst (P (done ++ starter ∷ (between ++ x ∷ xs))) (sym (cond-false _ _ _ off)) (subst (λ (ys : List Item). P ys (composed_from c done starter (between ++ x ∷ []) xs)) joined (later (mark_class x) done starter (between ++ x ∷ []) o.1 next))
+          subst (P (done ++ starter ∷ (between ++ x ∷ xs))) (sym (cond-false _ _ _ off)) (subst (λ (ys : List Item). P ys (composition_from c done starter (between ++ x ∷ []) xs)) joined (later (mark_class x) done starter (between ++ x ∷ []) o.1 next))
     ]
 
 composed_alike : (c : Normalizer) (xs : List Item) → IsLawful c.tables → ComposesWithinUnicode c → AreComposedAlike c xs

@@ -5,7 +5,7 @@ use Rattle.std.proofs.lemmas.Bool.Decides.{nat_tests}
 use Rattle.std.proofs.lemmas.List.{append-nil}
 use Rattle.buffer_stable_order.specs.Keys.{of_key, by_key, key_bound}
 use Rattle.buffer_unicode_tables.specs.ClassOrder.{run_order, order_after}
-use Rattle.buffer_unicode_tables.specs.Expansion.{followed_by, by_parts, expanded}
+use Rattle.buffer_unicode_tables.specs.Expansion.{with_second_piece, by_halves, expansion_by_splits}
 use Rattle.buffer_unicode_tables.specs.Lawful.{IsLawful}
 use Rattle.buffer_unicode_tables.proofs.Orders.{IsRun}
 use Rattle.buffer_unicode_tables.specs.Tables.{Tables, split_of, pair_of, class_of}
@@ -42,7 +42,7 @@ split_around t front xs ys back s = record {
   back = s.back ++ back;
   splits = s.splits;
   is_before = ap (λ zs. front ++ (zs ++ back)) s.is_before ∙ between front s.front (s.whole ∷ []) s.back back;
-  is_after = ap (λ zs. front ++ (zs ++ back)) s.is_after ∙ between front s.front (followed_by s.second (s.first ∷ [])) s.back back;
+  is_after = ap (λ zs. front ++ (zs ++ back)) s.is_after ∙ between front s.front (with_second_piece s.second (s.first ∷ [])) s.back back;
 }
 
 swap_around : (t : Tables) (front xs ys back : List ℕ) → IsSwap t xs ys → IsSwap t (front ++ (xs ++ back)) (front ++ (ys ++ back))
@@ -176,27 +176,27 @@ pub order_is_equivalent : (t : Tables) (xs : List ℕ) → AreEquivalent t xs (t
 order_is_equivalent t xs = sorted_after t [] xs tt
 
 -- a character is equivalent to its split
-pub split_is_equivalent : (t : Tables) (u a b : ℕ) → split_of t u ≡ Some (a, b) → AreEquivalent t (u ∷ []) (followed_by b (a ∷ []))
+pub split_is_equivalent : (t : Tables) (u a b : ℕ) → split_of t u ≡ Some (a, b) → AreEquivalent t (u ∷ []) (with_second_piece b (a ∷ []))
 split_is_equivalent t u a b s =
-    let end : followed_by b (a ∷ []) ++ [] ≡ followed_by b (a ∷ []) = append-nil (followed_by b (a ∷ [])) in
-    let split : IsSplit t (u ∷ []) (followed_by b (a ∷ [])) = record { front = []; whole = u; first = a; second = b; back = []; splits = s; is_before = refl; is_after = sym end } in
+    let end : with_second_piece b (a ∷ []) ++ [] ≡ with_second_piece b (a ∷ []) = append-nil (with_second_piece b (a ∷ [])) in
+    let split : IsSplit t (u ∷ []) (with_second_piece b (a ∷ [])) = record { front = []; whole = u; first = a; second = b; back = []; splits = s; is_before = refl; is_after = sym end } in
     one_step t _ _ (splits split)
 
-pub followed_alike : (t : Tables) (b : ℕ) (xs ys : List ℕ) → AreEquivalent t xs ys → AreEquivalent t (followed_by b xs) (followed_by b ys)
+pub followed_alike : (t : Tables) (b : ℕ) (xs ys : List ℕ) → AreEquivalent t xs ys → AreEquivalent t (with_second_piece b xs) (with_second_piece b ys)
 followed_alike t b xs ys h =
     elim (cases_Bool (b == 0)) [
       | inl none ↦ rw none h
       | inr some ↦ rw some (around t [] xs ys (b ∷ []) h)
     ]
 
-parts_equivalent : (t : Tables) (expand : ℕ → List ℕ) (u : ℕ) (o : Option (ℕ × ℕ)) → split_of t u ≡ o → ((a : ℕ) → AreEquivalent t (a ∷ []) (expand a)) → AreEquivalent t (u ∷ []) (by_parts expand u o)
+parts_equivalent : (t : Tables) (expand : ℕ → List ℕ) (u : ℕ) (o : Option (ℕ × ℕ)) → split_of t u ≡ o → ((a : ℕ) → AreEquivalent t (a ∷ []) (expand a)) → AreEquivalent t (u ∷ []) (by_halves expand u o)
 parts_equivalent t expand u None s h = same
 parts_equivalent t expand u (Some (a, b)) s h = then_all t _ _ _ (split_is_equivalent t u a b s) (followed_alike t b (a ∷ []) (expand a) (h a))
 
-expansion_equivalent : (t : Tables) (depth u : ℕ) → AreEquivalent t (u ∷ []) (expanded (split_of t) depth u)
-unfolding expanded
+expansion_equivalent : (t : Tables) (depth u : ℕ) → AreEquivalent t (u ∷ []) (expansion_by_splits (split_of t) depth u)
+unfolding expansion_by_splits
 expansion_equivalent t zero u = same
-expansion_equivalent t (suc depth) u = parts_equivalent t (expanded (split_of t) depth) u (split_of t u) refl (λ a. expansion_equivalent t depth a)
+expansion_equivalent t (suc depth) u = parts_equivalent t (expansion_by_splits (split_of t) depth) u (split_of t u) refl (λ a. expansion_equivalent t depth a)
 
 -- a text is equivalent to its full expansion
 pub expansion_is_equivalent : (t : Tables) (us : List ℕ) → AreEquivalent t us (full_text t us)

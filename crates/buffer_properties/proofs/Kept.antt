@@ -5,17 +5,17 @@ use Rattle.std.proofs.lemmas.List.{append-nil, map-append}
 use Rattle.std.proofs.lemmas.List.Concat.{flat_map-append}
 use Rattle.std.proofs.lemmas.List.Folds.{list_any-append}
 use Rattle.std.specs.List.{list_any, flat_map}
-use Rattle.buffer_unicode_tables.specs.Expansion.{Splits, followed_by}
+use Rattle.buffer_unicode_tables.specs.Expansion.{Splits, with_second_piece}
 use Rattle.buffer_unicode_tables.specs.Lawful.{ClassesAreOfMarks}
 use Rattle.buffer_unicode_tables.specs.Tables.{Tables, split_of, class_of}
 use Rattle.buffer_unicode_tables.specs.Texts.{AreEquivalent, same}
 use Rattle.buffer_glyphs.specs.Items.{Item}
-use Rattle.buffer_glyphs.specs.Arranged.{items, Arranged}
+use Rattle.buffer_glyphs.specs.Rewriting.{items, Arrangement}
 use Rattle.buffer_properties.specs.Characters.{category_of, is_mark, is_mark_number, is_space, is_selector, mark_class, characters_of}
-use Rattle.buffer_properties.specs.Expanding.{is_typed_space, space_glyph, with_glyph_of_space, with_found_glyph, items_for, part_of, expanded_item, expanded_group, expanded_groups}
+use Rattle.buffer_properties.specs.Expanding.{is_typed_space, space_glyph, with_glyph_of_space, with_found_glyph, items_for, piece_of, expanded_item, expanded_group, expanded_groups}
 use Rattle.buffer_properties.specs.Normalizer.{Normalizer, has_character, reach_alone, reach_with_marks}
 use Rattle.buffer_properties.specs.Premises.{SplitsAsUnicode}
-use Rattle.buffer_properties.specs.SupportedExpansion.{Reach, Least, Greatest, alone, preferred, by_supported, supported, in_parts, expansion}
+use Rattle.buffer_properties.specs.SupportedExpansion.{Reach, Least, Greatest, alone, preferred_expansion, by_supported, supported_expansion, in_pieces, expansion}
 use Rattle.buffer_properties.proofs.Classes.{class_of_part}
 use Rattle.buffer_properties.proofs.Equivalence.{then_all, side_by_side, split_is_equivalent, followed_alike}
 use Rattle.buffer_properties.proofs.Expanded.{items_of_expanded}
@@ -28,7 +28,7 @@ alone_is has u ws e =
       | inr lacks ↦ let none : None ≡ Some ws = sym (cond-false _ _ _ lacks) ∙ e in cc
     ]
 
-pub preferred_is : (reach : Reach) (whole parts : Option (List ℕ)) (ws : List ℕ) → preferred reach whole parts ≡ Some ws → (whole ≡ Some ws) ⊎ (parts ≡ Some ws)
+pub preferred_is : (reach : Reach) (whole parts : Option (List ℕ)) (ws : List ℕ) → preferred_expansion reach whole parts ≡ Some ws → (whole ≡ Some ws) ⊎ (parts ≡ Some ws)
 preferred_is Least None parts ws e = inr e
 preferred_is Least (Some w) parts ws e = inl e
 preferred_is Greatest whole None ws e = inl e
@@ -44,23 +44,23 @@ by_supported_equivalent t has expand u None ws s h e = absurd (let none : None �
 by_supported_equivalent t has expand u (Some (a, b)) ws s h e =
     elim (cases_Bool (b == 0 || has b)) [
       | inl found ↦
-          let at = mapped_is (followed_by b) (expand a) ws (sym (cond-true _ _ _ found) ∙ e) in
+          let at = mapped_is (with_second_piece b) (expand a) ws (sym (cond-true _ _ _ found) ∙ e) in
           subst (λ (zs : List ℕ). AreEquivalent t (u ∷ []) zs) at.1.1 (then_all t _ _ _ (split_is_equivalent t u a b s) (followed_alike t b (a ∷ []) at.0 (h a at.0 at.1.0)))
       | inr lacks ↦ absurd (let none : None ≡ Some ws = sym (cond-false _ _ _ lacks) ∙ e in cc)
     ]
 
-supported_equivalent : (t : Tables) (reach : Reach) (has : ℕ → Bool) (splits : Splits) (depth u : ℕ) (ws : List ℕ) → ((v : ℕ) → splits v ≡ split_of t v) → supported reach has splits depth u ≡ Some ws → AreEquivalent t (u ∷ []) ws
-unfolding supported
+supported_equivalent : (t : Tables) (reach : Reach) (has : ℕ → Bool) (splits : Splits) (depth u : ℕ) (ws : List ℕ) → ((v : ℕ) → splits v ≡ split_of t v) → supported_expansion reach has splits depth u ≡ Some ws → AreEquivalent t (u ∷ []) ws
+unfolding supported_expansion
 supported_equivalent t reach has splits zero u ws h e = subst (λ (zs : List ℕ). AreEquivalent t (u ∷ []) zs) (alone_is has u ws e) same
 supported_equivalent t reach has splits (suc depth) u ws h e =
-    elim (preferred_is reach (alone has u) (by_supported has (supported reach has splits depth) (splits u)) ws e) [
+    elim (preferred_is reach (alone has u) (by_supported has (supported_expansion reach has splits depth) (splits u)) ws e) [
       | inl whole ↦ subst (λ (zs : List ℕ). AreEquivalent t (u ∷ []) zs) (alone_is has u ws whole) same
-      | inr parts ↦ by_supported_equivalent t has (supported reach has splits depth) u (splits u) ws (sym (h u)) (λ a vs k. supported_equivalent t reach has splits depth a vs h k) parts
+      | inr parts ↦ by_supported_equivalent t has (supported_expansion reach has splits depth) u (splits u) ws (sym (h u)) (λ a vs k. supported_equivalent t reach has splits depth a vs h k) parts
     ]
 
-parts_equivalent : (t : Tables) (reach : Reach) (has : ℕ → Bool) (splits : Splits) (u : ℕ) (ws : List ℕ) → ((v : ℕ) → splits v ≡ split_of t v) → in_parts reach has splits u ≡ Some ws → AreEquivalent t (u ∷ []) ws
-unfolding in_parts
-parts_equivalent t reach has splits u ws h e = by_supported_equivalent t has (supported reach has splits 8) u (splits u) ws (sym (h u)) (λ a vs k. supported_equivalent t reach has splits 8 a vs h k) e
+parts_equivalent : (t : Tables) (reach : Reach) (has : ℕ → Bool) (splits : Splits) (u : ℕ) (ws : List ℕ) → ((v : ℕ) → splits v ≡ split_of t v) → in_pieces reach has splits u ≡ Some ws → AreEquivalent t (u ∷ []) ws
+unfolding in_pieces
+parts_equivalent t reach has splits u ws h e = by_supported_equivalent t has (supported_expansion reach has splits 8) u (splits u) ws (sym (h u)) (λ a vs k. supported_equivalent t reach has splits 8 a vs h k) e
 
 expansion_equivalent : (t : Tables) (reach : Reach) (has : ℕ → Bool) (splits : Splits) (u : ℕ) (ws : List ℕ) → ((v : ℕ) → splits v ≡ split_of t v) → expansion reach has splits u ≡ Some ws → AreEquivalent t (u ∷ []) ws
 expansion_equivalent t Greatest has splits u ws h e = parts_equivalent t Greatest has splits u ws h e
@@ -131,13 +131,13 @@ class_found : (c : Normalizer) (x : Item) (o : Option ℕ) → mark_class (with_
 class_found c x None = class_with_space c x (space_glyph c x) refl
 class_found c x (Some g) = refl
 
-pub characters_of_parts : (c : Normalizer) (x : Item) (us : List ℕ) → characters_of (map (part_of c x) us) ≡ us
-unfolding part_of
+pub characters_of_parts : (c : Normalizer) (x : Item) (us : List ℕ) → characters_of (map (piece_of c x) us) ≡ us
+unfolding piece_of
 characters_of_parts c x [] = refl
 characters_of_parts c x (u ∷ us) = ap (λ vs. u ∷ vs) (characters_of_parts c x us)
 
-parts_of_tables : (c : Normalizer) (x : Item) (us : List ℕ) → ClassesAreOfMarks c.tables → AreOfTables c.tables (map (part_of c x) us)
-unfolding part_of
+parts_of_tables : (c : Normalizer) (x : Item) (us : List ℕ) → ClassesAreOfMarks c.tables → AreOfTables c.tables (map (piece_of c x) us)
+unfolding piece_of
 parts_of_tables c x [] marks = tt
 parts_of_tables c x (u ∷ us) marks = (class_of_part c x u marks, parts_of_tables c x us marks)
 
@@ -184,7 +184,7 @@ groups_keep c R x ms (y ∷ ys) kept none =
     elim (cases_Bool (is_mark y)) [
       | inl mark ↦
           let joined : (ms ++ y ∷ []) ++ ys ≡ ms ++ y ∷ ys = append_assoc ms (y ∷ []) ys in
-          let K : List Item → List Arranged → Type 0 = λ zs stretches. R (x ∷ zs) (flat_map items stretches) in
+          let K : List Item → List Arrangement → Type 0 = λ zs stretches. R (x ∷ zs) (flat_map items stretches) in
           subst (λ (zs : List Item). K zs (expanded_groups c x ms (y ∷ ys))) joined
           (subst (K ((ms ++ y ∷ []) ++ ys)) (sym (cond-true _ _ _ mark)) (groups_keep c R x (ms ++ y ∷ []) ys kept (ap (λ zs. list_any is_selector (x ∷ zs)) joined ∙ none)))
       | inr other ↦

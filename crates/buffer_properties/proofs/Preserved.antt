@@ -9,7 +9,7 @@ use Rattle.buffer_glyphs.specs.Items.{Item}
 use Rattle.buffer_properties.specs.Characters.{mark_class, characters_of, standing_for, items_of_text}
 use Rattle.buffer_properties.specs.Expanding.{expanded_list, expanded_groups}
 use Rattle.buffer_properties.specs.Ordering.{ordered_list, joiners_shown}
-use Rattle.buffer_properties.specs.NormalizedList.{has_later_mark, composed_if, arranged_marks, normalized}
+use Rattle.buffer_properties.specs.NormalizedList.{has_later_mark, composition_if, arranged_marks, normalized_items}
 use Rattle.buffer_properties.specs.Normalizer.{Normalizer, is_composing}
 use Rattle.buffer_properties.specs.NormalLaws.{NormalizingKeepsEquivalence, EquivalenceIsOneOrder}
 use Rattle.buffer_properties.specs.Premises.{SplitsAsUnicode, ComposesWithinUnicode, ReordersNothing, HasNoSelector, HasShortRuns}
@@ -40,7 +40,7 @@ expanded_keeps c x (u ∷ us) marks unicode none =
     subst (Keeps c.tables (items_of_text c.tables x (u ∷ us))) (sym (items_in_turn (expanded_groups c (standing_for c.tables u x) [] (items_of_text c.tables x us))))
     (groups_keep c (Keeps c.tables) (standing_for c.tables u x) [] (items_of_text c.tables x us) (expansion_keeps c marks unicode) (no_selector_in_text c.tables x (u ∷ us) none))
 
-composed_or_not : (c : Normalizer) (b : Bool) (xs : List Item) → IsLawful c.tables → ComposesWithinUnicode c → AreOfTables c.tables xs → (b ≡ true → IsRisingAfter 0 xs) → AreEquivalent c.tables (characters_of xs) (characters_of (composed_if b c xs).items)
+composed_or_not : (c : Normalizer) (b : Bool) (xs : List Item) → IsLawful c.tables → ComposesWithinUnicode c → AreOfTables c.tables xs → (b ≡ true → IsRisingAfter 0 xs) → AreEquivalent c.tables (characters_of xs) (characters_of (composition_if b c xs).items)
 composed_or_not c true xs lawful within o h = composed_equivalent c xs lawful within o (h refl)
 composed_or_not c false xs lawful within o h = same
 
@@ -56,12 +56,12 @@ marks_keep c true xs lawful within none o short =
     let kept = keeps_then c.tables xs (class_order mark_class xs) (joiners_shown (class_order mark_class xs)) (order_keeps c.tables xs o) (joiners_keep c.tables (class_order mark_class xs)) in
     let rises = joiners_rise (class_order mark_class xs) (rising_order [] xs) in
     let composed = composed_or_not c (is_composing c.mode) (joiners_shown (class_order mark_class xs)) lawful within (kept.of_tables o) (λ e. rises) in
-    subst (λ (ys : List Item). AreEquivalent c.tables (characters_of xs) (characters_of (composed_if (is_composing c.mode) c (joiners_shown ys)).items)) (sym ordered)
+    subst (λ (ys : List Item). AreEquivalent c.tables (characters_of xs) (characters_of (composition_if (is_composing c.mode) c (joiners_shown ys)).items)) (sym ordered)
     (then_all c.tables _ _ _ kept.equivalent composed)
 
 pub normalizing_keeps_equivalence : NormalizingKeepsEquivalence
-unfolding normalized
+unfolding normalized_items
 normalizing_keeps_equivalence c x us lawful unicode within none no_selector short =
     let expanded = expanded_keeps c x us lawful.classes_are_of_marks unicode no_selector in
     let all = then_all c.tables _ _ _ expanded.equivalent (marks_keep c (has_later_mark (items_of_text c.tables x us)) (expanded_list c (items_of_text c.tables x us)).items lawful within none (expanded.of_tables (text_of_tables c.tables x us lawful.classes_are_of_marks)) short) in
-    subst (λ (vs : List ℕ). AreEquivalent c.tables vs (characters_of (normalized c (items_of_text c.tables x us)).items)) (characters_of_text c.tables x us) all
+    subst (λ (vs : List ℕ). AreEquivalent c.tables vs (characters_of (normalized_items c (items_of_text c.tables x us)).items)) (characters_of_text c.tables x us) all

@@ -8,7 +8,7 @@ use Rattle.buffer_stable_order.specs.Keys.{of_key, by_key, key_bound}
 use Rattle.buffer_unicode_tables.specs.ClassOrder.{run_order, order_after, class_order}
 use Rattle.buffer_unicode_tables.proofs.Orders.{IsRun}
 use Rattle.buffer_glyphs.specs.Items.{Item}
-use Rattle.buffer_glyphs.specs.Arranged.{items, Arranged, kept}
+use Rattle.buffer_glyphs.specs.Rewriting.{items, Arrangement, eventless_arrangement}
 use Rattle.buffer_properties.specs.Characters.{mark_class}
 use Rattle.buffer_properties.specs.Ordering.{arranged_run, arranged_runs, ordered_list}
 use Rattle.buffer_properties.specs.Premises.{HasShortRuns}
@@ -116,15 +116,15 @@ runs_of_order class f run (x ∷ xs) r =
     ]
 
 -- what the shaper makes of a sorted run, if there is one
-abbrev pub after : (List Item → Arranged) → List Item → List Item
+abbrev pub after : (List Item → Arrangement) → List Item → List Item
 after reorders [] = []
 after reorders (x ∷ xs) = (reorders (x ∷ xs)).items
 
-after_some : (reorders : List Item → Arranged) (xs : List Item) → length xs ≢ 0 → (reorders xs).items ≡ after reorders xs
+after_some : (reorders : List Item → Arrangement) (xs : List Item) → length xs ≢ 0 → (reorders xs).items ≡ after reorders xs
 after_some reorders [] n = absurd (n refl)
 after_some reorders (x ∷ xs) n = refl
 
-run_items : (reorders : List Item → Arranged) (run : List Item) → length run ≤ 32 → (arranged_run reorders run).items ≡ after reorders (run_order mark_class run)
+run_items : (reorders : List Item → Arrangement) (run : List Item) → length run ≤ 32 → (arranged_run reorders run).items ≡ after reorders (run_order mark_class run)
 unfolding arranged_run run_order
 run_items reorders [] h = refl
 run_items reorders (x ∷ xs) h =
@@ -136,7 +136,7 @@ first_short : {X : Type 0} (class : X → ℕ) (met : ℕ) (xs : List X) → Has
 first_short class met [] h = h
 first_short class met (x ∷ xs) h = h.0
 
-items_of_runs : (reorders : List Item → Arranged) (run xs : List Item) → HasShortRuns mark_class (length run) xs
+items_of_runs : (reorders : List Item → Arrangement) (run xs : List Item) → HasShortRuns mark_class (length run) xs
     → flat_map items (arranged_runs reorders run xs) ≡ by_runs mark_class (λ s. after reorders (run_order mark_class s)) run xs
 items_of_runs reorders run [] h = let end : (arranged_run reorders run).items ++ [] ≡ (arranged_run reorders run).items = append-nil (arranged_run reorders run).items in end ∙ run_items reorders run h
 items_of_runs reorders run (x ∷ xs) h =
@@ -152,11 +152,11 @@ items_of_runs reorders run (x ∷ xs) h =
     ]
 
 -- where runs are short, the order is the class order with what the shaper makes of each run
-pub ordered_by_runs : (reorders : List Item → Arranged) (xs : List Item) → HasShortRuns mark_class 0 xs → (ordered_list reorders xs).items ≡ by_runs mark_class (after reorders) [] (class_order mark_class xs)
+pub ordered_by_runs : (reorders : List Item → Arrangement) (xs : List Item) → HasShortRuns mark_class 0 xs → (ordered_list reorders xs).items ≡ by_runs mark_class (after reorders) [] (class_order mark_class xs)
 ordered_by_runs reorders xs short = items_in_turn (arranged_runs reorders [] xs) ∙ (items_of_runs reorders [] xs short ∙ sym (runs_of_order mark_class (after reorders) [] xs tt))
 
 -- lists of short runs that have one class order are put in one order, whatever the shaper makes of their runs
-pub ordered_alike : (reorders : List Item → Arranged) (xs ys : List Item) → HasShortRuns mark_class 0 xs → HasShortRuns mark_class 0 ys → class_order mark_class xs ≡ class_order mark_class ys
+pub ordered_alike : (reorders : List Item → Arrangement) (xs ys : List Item) → HasShortRuns mark_class 0 xs → HasShortRuns mark_class 0 ys → class_order mark_class xs ≡ class_order mark_class ys
     → (ordered_list reorders xs).items ≡ (ordered_list reorders ys).items
 ordered_alike reorders xs ys short_xs short_ys same =
     ordered_by_runs reorders xs short_xs ∙ (ap (by_runs mark_class (after reorders) []) same ∙ sym (ordered_by_runs reorders ys short_ys))
@@ -169,10 +169,10 @@ runs_same class f run (x ∷ xs) h =
       | inr off ↦ cond-false _ _ _ off ∙ (runs_same class f (run ++ x ∷ []) xs h ∙ append_assoc run (x ∷ []) xs)
     ]
 
-after_none : (reorders : List Item → Arranged) → ((run : List Item) → reorders run ≡ kept run) → (zs : List Item) → after reorders zs ≡ zs
+after_none : (reorders : List Item → Arrangement) → ((run : List Item) → reorders run ≡ eventless_arrangement run) → (zs : List Item) → after reorders zs ≡ zs
 after_none reorders h [] = refl
 after_none reorders h (z ∷ zs) = ap items (h (z ∷ zs))
 
 -- where no run is long and none is reordered, the order is the class order
-pub ordered_by_class : (reorders : List Item → Arranged) (xs : List Item) → ((run : List Item) → reorders run ≡ kept run) → HasShortRuns mark_class 0 xs → (ordered_list reorders xs).items ≡ class_order mark_class xs
+pub ordered_by_class : (reorders : List Item → Arrangement) (xs : List Item) → ((run : List Item) → reorders run ≡ eventless_arrangement run) → HasShortRuns mark_class 0 xs → (ordered_list reorders xs).items ≡ class_order mark_class xs
 ordered_by_class reorders xs none short = ordered_by_runs reorders xs short ∙ runs_same mark_class (after reorders) [] (class_order mark_class xs) (after_none reorders none)

@@ -4,8 +4,8 @@ use Rattle.std.proofs.lemmas.Bool.{cases_Bool, cases_eq, cond-true, cond-false, 
 use Rattle.std.proofs.lemmas.List.{append-nil, map-append, length-append}
 use Rattle.std.proofs.lemmas.List.Concat.{flat_map-append}
 use Rattle.std.specs.List.{flat_map}
-use Rattle.buffer_unicode_tables.specs.Expansion.{Splits, followed_by, by_parts, expanded, EndWithin}
-use Rattle.buffer_unicode_tables.specs.Lawful.{SecondPartsStay, SplitsKeepClass}
+use Rattle.buffer_unicode_tables.specs.Expansion.{Splits, with_second_piece, by_halves, expansion_by_splits, EndWithin}
+use Rattle.buffer_unicode_tables.specs.Lawful.{SecondHalvesStay, SplitsKeepClass}
 use Rattle.buffer_unicode_tables.proofs.Orders.{IsRun}
 use Rattle.buffer_unicode_tables.specs.Tables.{Tables, split_of, class_of}
 use Rattle.buffer_unicode_tables.specs.Texts.{full_expansion, full_text}
@@ -16,7 +16,7 @@ use Rattle.buffer_properties.specs.Expanding.{items_for, expanded_item, expanded
 use Rattle.buffer_properties.specs.NormalLaws.{ExpansionKeepsRunsShort}
 use Rattle.buffer_properties.specs.Normalizer.{Normalizer, has_character}
 use Rattle.buffer_properties.specs.Premises.{SplitsAsUnicode, HasNoSelector, HasShortRuns}
-use Rattle.buffer_properties.specs.SupportedExpansion.{Reach, Least, Greatest, alone, by_supported, supported, in_parts, expansion}
+use Rattle.buffer_properties.specs.SupportedExpansion.{Reach, Least, Greatest, alone, by_supported, supported_expansion, in_pieces, expansion}
 use Rattle.buffer_properties.proofs.Alike.{no_selector_in_text}
 use Rattle.buffer_properties.proofs.Expanded.{items_in_turn}
 use Rattle.buffer_properties.proofs.Kept.{alone_is, preferred_is, mapped_is, number_found, characters_of_parts, AreOfTables, IsKept, groups_keep}
@@ -29,7 +29,7 @@ full_append t xs ys = flat_map-append (full_expansion t) xs ys
 full_alone : (t : Tables) (u : ℕ) → full_text t (u ∷ []) ≡ full_expansion t u
 full_alone t u = append-nil (full_expansion t u)
 
-full_followed : (t : Tables) (b : ℕ) (vs ws : List ℕ) → (b ≢ 0 → split_of t b ≡ None) → full_text t vs ≡ ws → full_text t (followed_by b vs) ≡ followed_by b ws
+full_followed : (t : Tables) (b : ℕ) (vs ws : List ℕ) → (b ≢ 0 → split_of t b ≡ None) → full_text t vs ≡ ws → full_text t (with_second_piece b vs) ≡ with_second_piece b ws
 full_followed t b vs ws stays e =
     elim (cases_Bool (b == 0)) [
       | inl none ↦ rw none e
@@ -38,34 +38,34 @@ full_followed t b vs ws stays e =
           rw some (full_append t vs (b ∷ []) ∙ ap₂ (λ x y. x ++ y) e second)
     ]
 
-by_supported_full : (t : Tables) (has : ℕ → Bool) (expand : ℕ → Option (List ℕ)) (u : ℕ) (o : Option (ℕ × ℕ)) (ws : List ℕ) → EndWithin (split_of t) 8 → SecondPartsStay t → split_of t u ≡ o
+by_supported_full : (t : Tables) (has : ℕ → Bool) (expand : ℕ → Option (List ℕ)) (u : ℕ) (o : Option (ℕ × ℕ)) (ws : List ℕ) → EndWithin (split_of t) 8 → SecondHalvesStay t → split_of t u ≡ o
     → ((a : ℕ) (vs : List ℕ) → expand a ≡ Some vs → full_text t vs ≡ full_expansion t a) → by_supported has expand o ≡ Some ws → full_text t ws ≡ full_expansion t u
 by_supported_full t has expand u None ws ends stay s h e = absurd (let none : None ≡ Some ws = e in cc)
 by_supported_full t has expand u (Some (a, b)) ws ends stay s h e =
     elim (cases_Bool (b == 0 || has b)) [
       | inl found ↦
-          let at = mapped_is (followed_by b) (expand a) ws (sym (cond-true _ _ _ found) ∙ e) in
+          let at = mapped_is (with_second_piece b) (expand a) ws (sym (cond-true _ _ _ found) ∙ e) in
           ap (full_text t) (sym at.1.1) ∙ (full_followed t b at.0 (full_expansion t a) (λ n. stay u a b s n) (h a at.0 at.1.0) ∙ sym (expansion_of_parts t u a b ends s))
       | inr lacks ↦ absurd (let none : None ≡ Some ws = sym (cond-false _ _ _ lacks) ∙ e in cc)
     ]
 
-supported_in_full : (t : Tables) (reach : Reach) (has : ℕ → Bool) (splits : Splits) (depth u : ℕ) (ws : List ℕ) → EndWithin (split_of t) 8 → SecondPartsStay t → ((v : ℕ) → splits v ≡ split_of t v)
-    → supported reach has splits depth u ≡ Some ws → full_text t ws ≡ full_expansion t u
-unfolding supported
+supported_in_full : (t : Tables) (reach : Reach) (has : ℕ → Bool) (splits : Splits) (depth u : ℕ) (ws : List ℕ) → EndWithin (split_of t) 8 → SecondHalvesStay t → ((v : ℕ) → splits v ≡ split_of t v)
+    → supported_expansion reach has splits depth u ≡ Some ws → full_text t ws ≡ full_expansion t u
+unfolding supported_expansion
 supported_in_full t reach has splits zero u ws ends stay h e = ap (full_text t) (sym (alone_is has u ws e)) ∙ full_alone t u
 supported_in_full t reach has splits (suc depth) u ws ends stay h e =
-    elim (preferred_is reach (alone has u) (by_supported has (supported reach has splits depth) (splits u)) ws e) [
+    elim (preferred_is reach (alone has u) (by_supported has (supported_expansion reach has splits depth) (splits u)) ws e) [
       | inl whole ↦ ap (full_text t) (sym (alone_is has u ws whole)) ∙ full_alone t u
-      | inr parts ↦ by_supported_full t has (supported reach has splits depth) u (splits u) ws ends stay (sym (h u)) (λ a vs k. supported_in_full t reach has splits depth a vs ends stay h k) parts
+      | inr parts ↦ by_supported_full t has (supported_expansion reach has splits depth) u (splits u) ws ends stay (sym (h u)) (λ a vs k. supported_in_full t reach has splits depth a vs ends stay h k) parts
     ]
 
-parts_in_full : (t : Tables) (reach : Reach) (has : ℕ → Bool) (splits : Splits) (u : ℕ) (ws : List ℕ) → EndWithin (split_of t) 8 → SecondPartsStay t → ((v : ℕ) → splits v ≡ split_of t v)
-    → in_parts reach has splits u ≡ Some ws → full_text t ws ≡ full_expansion t u
-unfolding in_parts
+parts_in_full : (t : Tables) (reach : Reach) (has : ℕ → Bool) (splits : Splits) (u : ℕ) (ws : List ℕ) → EndWithin (split_of t) 8 → SecondHalvesStay t → ((v : ℕ) → splits v ≡ split_of t v)
+    → in_pieces reach has splits u ≡ Some ws → full_text t ws ≡ full_expansion t u
+unfolding in_pieces
 parts_in_full t reach has splits u ws ends stay h e =
-    by_supported_full t has (supported reach has splits 8) u (splits u) ws ends stay (sym (h u)) (λ a vs k. supported_in_full t reach has splits 8 a vs ends stay h k) e
+    by_supported_full t has (supported_expansion reach has splits 8) u (splits u) ws ends stay (sym (h u)) (λ a vs k. supported_in_full t reach has splits 8 a vs ends stay h k) e
 
-expansion_in_full : (t : Tables) (reach : Reach) (has : ℕ → Bool) (splits : Splits) (u : ℕ) (ws : List ℕ) → EndWithin (split_of t) 8 → SecondPartsStay t → ((v : ℕ) → splits v ≡ split_of t v)
+expansion_in_full : (t : Tables) (reach : Reach) (has : ℕ → Bool) (splits : Splits) (u : ℕ) (ws : List ℕ) → EndWithin (split_of t) 8 → SecondHalvesStay t → ((v : ℕ) → splits v ≡ split_of t v)
     → expansion reach has splits u ≡ Some ws → full_text t ws ≡ full_expansion t u
 expansion_in_full t Greatest has splits u ws ends stay h e = parts_in_full t Greatest has splits u ws ends stay h e
 expansion_in_full t Least has splits u ws ends stay h e =
@@ -79,7 +79,7 @@ items_in_full : (c : Normalizer) (x : Item) (o : Option (List ℕ)) → ((ws : L
 items_in_full c x None h = ap (λ n. full_text c.tables (n ∷ [])) (number_found c x (c.glyph_of x.number)) ∙ full_alone c.tables x.number
 items_in_full c x (Some us) h = ap (full_text c.tables) (characters_of_parts c x us) ∙ h us refl
 
-item_in_full : (c : Normalizer) (r : Reach) (x : Item) → EndWithin (split_of c.tables) 8 → SecondPartsStay c.tables → SplitsAsUnicode c → full_text c.tables (characters_of (expanded_item c r x)) ≡ full_expansion c.tables x.number
+item_in_full : (c : Normalizer) (r : Reach) (x : Item) → EndWithin (split_of c.tables) 8 → SecondHalvesStay c.tables → SplitsAsUnicode c → full_text c.tables (characters_of (expanded_item c r x)) ≡ full_expansion c.tables x.number
 unfolding expanded_item
 item_in_full c r x ends stay unicode =
     items_in_full c x (expansion r (has_character c) c.splits x.number) (λ ws e. expansion_in_full c.tables r (has_character c) c.splits x.number ws ends stay unicode e)
@@ -94,48 +94,48 @@ full_items t xs ys = ap (full_text t) (map-append (λ (x : Item). x.number) xs y
 full_both : (t : Tables) (ws xs ys zs : List Item) → HasFullExpansion t ws xs → HasFullExpansion t ys zs → HasFullExpansion t (ws ++ ys) (xs ++ zs)
 full_both t ws xs ys zs h k = full_items t ws ys ∙ (ap₂ (λ a b. a ++ b) h k ∙ sym (full_items t xs zs))
 
-full_each : (c : Normalizer) (r : Reach) (xs : List Item) → EndWithin (split_of c.tables) 8 → SecondPartsStay c.tables → SplitsAsUnicode c → HasFullExpansion c.tables xs (flat_map (expanded_item c r) xs)
+full_each : (c : Normalizer) (r : Reach) (xs : List Item) → EndWithin (split_of c.tables) 8 → SecondHalvesStay c.tables → SplitsAsUnicode c → HasFullExpansion c.tables xs (flat_map (expanded_item c r) xs)
 full_each c r [] ends stay unicode = refl
 full_each c r (x ∷ xs) ends stay unicode =
     full_both c.tables (x ∷ []) (expanded_item c r x) xs (flat_map (expanded_item c r) xs) (full_alone c.tables x.number ∙ sym (item_in_full c r x ends stay unicode)) (full_each c r xs ends stay unicode)
 
-expansion_keeps_full : (c : Normalizer) → EndWithin (split_of c.tables) 8 → SecondPartsStay c.tables → SplitsAsUnicode c → IsKept c (HasFullExpansion c.tables)
+expansion_keeps_full : (c : Normalizer) → EndWithin (split_of c.tables) 8 → SecondHalvesStay c.tables → SplitsAsUnicode c → IsKept c (HasFullExpansion c.tables)
 expansion_keeps_full c ends stay unicode = record { each = λ r xs. full_each c r xs ends stay unicode; both = full_both c.tables }
 
 -- a mark expands to marks
-run_followed : (class : ℕ → ℕ) (b : ℕ) (xs : List ℕ) → IsRun class xs → (b ≢ 0 → class b ≢ 0) → IsRun class (followed_by b xs)
+run_followed : (class : ℕ → ℕ) (b : ℕ) (xs : List ℕ) → IsRun class xs → (b ≢ 0 → class b ≢ 0) → IsRun class (with_second_piece b xs)
 run_followed class b xs r n =
     elim (cases_Bool (b == 0)) [
       | inl none ↦ rw none r
       | inr some ↦ rw some (run_append class xs (b ∷ []) r (n (eqb-false b 0 some), tt))
     ]
 
-run_of_parts : (class : ℕ → ℕ) (expand : ℕ → List ℕ) (u : ℕ) (o : Option (ℕ × ℕ)) → class u ≢ 0 → ((a b : ℕ) → o ≡ Some (a, b) → IsRun class (expand a) × (b ≢ 0 → class b ≢ 0)) → IsRun class (by_parts expand u o)
+run_of_parts : (class : ℕ → ℕ) (expand : ℕ → List ℕ) (u : ℕ) (o : Option (ℕ × ℕ)) → class u ≢ 0 → ((a b : ℕ) → o ≡ Some (a, b) → IsRun class (expand a) × (b ≢ 0 → class b ≢ 0)) → IsRun class (by_halves expand u o)
 run_of_parts class expand u None n h = (n, tt)
 run_of_parts class expand u (Some (a, b)) n h = let parts = h a b refl in run_followed class b (expand a) parts.0 parts.1
 
-run_of_mark : (t : Tables) → SplitsKeepClass t → (depth u : ℕ) → class_of t u ≢ 0 → IsRun (class_of t) (expanded (split_of t) depth u)
-unfolding expanded
+run_of_mark : (t : Tables) → SplitsKeepClass t → (depth u : ℕ) → class_of t u ≢ 0 → IsRun (class_of t) (expansion_by_splits (split_of t) depth u)
+unfolding expansion_by_splits
 run_of_mark t keeps zero u n = (n, tt)
 run_of_mark t keeps (suc depth) u n =
-    run_of_parts (class_of t) (expanded (split_of t) depth) u (split_of t u) n
+    run_of_parts (class_of t) (expansion_by_splits (split_of t) depth) u (split_of t u) n
     (λ a b s. let kept = keeps u a b s n in (run_of_mark t keeps depth a (λ z. n (sym kept.0 ∙ z)), λ m z. n (sym (kept.1 m) ∙ z)))
 
-followed_some : (b : ℕ) (xs : List ℕ) → 1 ≤ length xs → 1 ≤ length (followed_by b xs)
+followed_some : (b : ℕ) (xs : List ℕ) → 1 ≤ length xs → 1 ≤ length (with_second_piece b xs)
 followed_some b xs le =
     elim (b == 0) as (λ test. 1 ≤ length (if test then xs else xs ++ b ∷ [])) [
       | true ↦ le
       | false ↦ omega (arith, length-append xs (b ∷ []))
     ]
 
-parts_some : (expand : ℕ → List ℕ) (u : ℕ) (o : Option (ℕ × ℕ)) → ((a : ℕ) → 1 ≤ length (expand a)) → 1 ≤ length (by_parts expand u o)
+parts_some : (expand : ℕ → List ℕ) (u : ℕ) (o : Option (ℕ × ℕ)) → ((a : ℕ) → 1 ≤ length (expand a)) → 1 ≤ length (by_halves expand u o)
 parts_some expand u None h = omega arith
 parts_some expand u (Some (a, b)) h = followed_some b (expand a) (h a)
 
-expansion_some : (splits : Splits) (depth u : ℕ) → 1 ≤ length (expanded splits depth u)
-unfolding expanded
+expansion_some : (splits : Splits) (depth u : ℕ) → 1 ≤ length (expansion_by_splits splits depth u)
+unfolding expansion_by_splits
 expansion_some splits zero u = omega arith
-expansion_some splits (suc depth) u = parts_some (expanded splits depth) u (splits u) (λ a. expansion_some splits depth a)
+expansion_some splits (suc depth) u = parts_some (expansion_by_splits splits depth) u (splits u) (λ a. expansion_some splits depth a)
 
 short_less : (class : ℕ → ℕ) (m n : ℕ) (xs : List ℕ) → m ≤ n → HasShortRuns class n xs → HasShortRuns class m xs
 short_less class m n [] le h = omega (arith, le, h)
@@ -180,7 +180,7 @@ short_items t met (x ∷ xs) o h =
     let same : (mark_class x == 0) ≡ (class_of t x.number == 0) = ap (λ k. k == 0) o.0 in
     (h.0, rw same (short_items t (if class_of t x.number == 0 then 0 else met + 1) xs o.1 h.1))
 
-full_of_list : (c : Normalizer) (x : Item) (us : List ℕ) → EndWithin (split_of c.tables) 8 → SecondPartsStay c.tables → SplitsAsUnicode c → HasNoSelector us
+full_of_list : (c : Normalizer) (x : Item) (us : List ℕ) → EndWithin (split_of c.tables) 8 → SecondHalvesStay c.tables → SplitsAsUnicode c → HasNoSelector us
     → full_text c.tables us ≡ full_text c.tables (characters_of (expanded_list c (items_of_text c.tables x us)).items)
 full_of_list c x [] ends stay unicode none = refl
 full_of_list c x (u ∷ us) ends stay unicode none =

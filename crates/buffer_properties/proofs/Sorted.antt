@@ -11,9 +11,9 @@ use Rattle.buffer_unicode_tables.specs.Tables.{Tables, class_of}
 use Rattle.buffer_unicode_tables.specs.Texts.{AreEquivalent, same}
 use Rattle.buffer_glyphs.specs.Items.{Item}
 use Rattle.buffer_properties.specs.Properties.{without_bits}
-use Rattle.buffer_properties.specs.Characters.{is_mark_number, mark_class, characters_of, shown}
+use Rattle.buffer_properties.specs.Characters.{is_mark_number, mark_class, characters_of, visible_item}
 use Rattle.buffer_properties.specs.Composing.{last_class}
-use Rattle.buffer_properties.specs.Ordering.{keeps_nothing_apart, joiner_between, with_joiners_shown, joiners_shown}
+use Rattle.buffer_properties.specs.Ordering.{separates_nothing, joiner_between, with_joiners_shown, joiners_shown}
 use Rattle.buffer_properties.proofs.Equivalence.{order_is_equivalent}
 use Rattle.buffer_properties.proofs.Kept.{AreOfTables, of_tables_append, Keeps}
 
@@ -153,19 +153,19 @@ category_of_shown p =
     let e : bit_and p 64 ≡ (p / 64 % 2) * 64 = and_high p 1 6 in
     and_mask (without_bits 0x40 p) 5 ∙ (low_bits_stay p (p / 64 % 2) (bit_and p 64) e (bit_within p) ∙ sym (and_mask p 5))
 
-class_of_shown : (x : Item) → mark_class (shown x) ≡ mark_class x
+class_of_shown : (x : Item) → mark_class (visible_item x) ≡ mark_class x
 class_of_shown x = ap (λ n. if is_mark_number n then x.class else 0) (category_of_shown x.unicode_props)
 
 class_of_joiner : (before x next : Item) → mark_class (joiner_between before x next) ≡ mark_class x
 class_of_joiner before x next =
-    elim (x.number == 0x034F && keeps_nothing_apart before next) as (λ b. mark_class (if b then shown x else x) ≡ mark_class x) [
+    elim (x.number == 0x034F && separates_nothing before next) as (λ b. mark_class (if b then visible_item x else x) ≡ mark_class x) [
       | true ↦ class_of_shown x
       | false ↦ refl
     ]
 
 number_of_joiner : (before x next : Item) → (joiner_between before x next).number ≡ x.number
 number_of_joiner before x next =
-    elim (x.number == 0x034F && keeps_nothing_apart before next) as (λ b. (if b then shown x else x).number ≡ x.number) [
+    elim (x.number == 0x034F && separates_nothing before next) as (λ b. (if b then visible_item x else x).number ≡ x.number) [
       | true ↦ refl
       | false ↦ refl
     ]

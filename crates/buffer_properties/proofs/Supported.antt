@@ -4,13 +4,13 @@ use Rattle.std.proofs.lemmas.Bool.{cases_Bool, cond-true, and_parts, or_left, or
 use Rattle.std.proofs.lemmas.List.Folds.{list_all-append}
 use Rattle.std.specs.List.{list_all}
 use Rattle.std.specs.Option.{option_or}
-use Rattle.buffer_unicode_tables.specs.Expansion.{Splits, followed_by, by_parts, expanded, ends_by, ends_within, EndWithin}
+use Rattle.buffer_unicode_tables.specs.Expansion.{Splits, with_second_piece, by_halves, expansion_by_splits, ends_by, ends_within, EndWithin}
 use Rattle.buffer_unicode_tables.specs.Tables.{Tables, split_of}
 use Rattle.buffer_unicode_tables.specs.Texts.{full_expansion}
 use Rattle.buffer_unicode_tables.proofs.Expansions.{expansion_of_parts}
-use Rattle.buffer_properties.specs.SupportedExpansion.{Reach, Greatest, alone, by_supported, supported, in_parts}
+use Rattle.buffer_properties.specs.SupportedExpansion.{Reach, Greatest, alone, by_supported, supported_expansion, in_pieces}
 
-all_followed : (has : ℕ → Bool) (b : ℕ) (front : List ℕ) → list_all has (followed_by b front) ≡ true → (list_all has front ≡ true) × ((b == 0 || has b) ≡ true)
+all_followed : (has : ℕ → Bool) (b : ℕ) (front : List ℕ) → list_all has (with_second_piece b front) ≡ true → (list_all has front ≡ true) × ((b == 0 || has b) ≡ true)
 all_followed has b front h =
     elim (cases_Bool (b == 0)) [
       | inl z ↦ (rw z at h, or_left (b == 0) (has b) z)
@@ -21,40 +21,40 @@ all_followed has b front h =
     ]
 
 -- a split is supported where the font has what its pieces expand to
-parts_supported : (has : ℕ → Bool) (expand : ℕ → Option (List ℕ)) (full : ℕ → List ℕ) (a b : ℕ) → list_all has (followed_by b (full a)) ≡ true
-    → (list_all has (full a) ≡ true → expand a ≡ Some (full a)) → by_supported has expand (Some (a, b)) ≡ Some (followed_by b (full a))
+parts_supported : (has : ℕ → Bool) (expand : ℕ → Option (List ℕ)) (full : ℕ → List ℕ) (a b : ℕ) → list_all has (with_second_piece b (full a)) ≡ true
+    → (list_all has (full a) ≡ true → expand a ≡ Some (full a)) → by_supported has expand (Some (a, b)) ≡ Some (with_second_piece b (full a))
 parts_supported has expand full a b h e =
     let parts = all_followed has b (full a) h in
-    cond-true _ _ _ parts.1 ∙ ap (option_map (followed_by b)) (e parts.0)
+    cond-true _ _ _ parts.1 ∙ ap (option_map (with_second_piece b)) (e parts.0)
 
-split_or_alone : (has : ℕ → Bool) (expand : ℕ → Option (List ℕ)) (full : ℕ → List ℕ) (ends : ℕ → Bool) (u : ℕ) (o : Option (ℕ × ℕ)) → ends_by ends o ≡ true → list_all has (by_parts full u o) ≡ true
-    → ((a : ℕ) → ends a ≡ true → list_all has (full a) ≡ true → expand a ≡ Some (full a)) → option_or (by_supported has expand o) (alone has u) ≡ Some (by_parts full u o)
+split_or_alone : (has : ℕ → Bool) (expand : ℕ → Option (List ℕ)) (full : ℕ → List ℕ) (ends : ℕ → Bool) (u : ℕ) (o : Option (ℕ × ℕ)) → ends_by ends o ≡ true → list_all has (by_halves full u o) ≡ true
+    → ((a : ℕ) → ends a ≡ true → list_all has (full a) ≡ true → expand a ≡ Some (full a)) → option_or (by_supported has expand o) (alone has u) ≡ Some (by_halves full u o)
 split_or_alone has expand full ends u None e h k = let parts = and_parts (has u) true h in cond-true _ _ _ parts.0
 split_or_alone has expand full ends u (Some (a, b)) e h k = ap (λ p. option_or p (alone has u)) (parts_supported has expand full a b h (k a e))
 
-supported_full : (has : ℕ → Bool) (splits : Splits) (depth u : ℕ) → ends_within splits depth u ≡ true → list_all has (expanded splits depth u) ≡ true → supported Greatest has splits depth u ≡ Some (expanded splits depth u)
-unfolding supported expanded ends_within
+supported_full : (has : ℕ → Bool) (splits : Splits) (depth u : ℕ) → ends_within splits depth u ≡ true → list_all has (expansion_by_splits splits depth u) ≡ true → supported_expansion Greatest has splits depth u ≡ Some (expansion_by_splits splits depth u)
+unfolding supported_expansion expansion_by_splits ends_within
 supported_full has splits zero u e h = let parts = and_parts (has u) true h in cond-true _ _ _ parts.0
 supported_full has splits (suc depth) u e h =
-    split_or_alone has (supported Greatest has splits depth) (expanded splits depth) (ends_within splits depth) u (splits u) e h (λ a. supported_full has splits depth a)
+    split_or_alone has (supported_expansion Greatest has splits depth) (expansion_by_splits splits depth) (ends_within splits depth) u (splits u) e h (λ a. supported_full has splits depth a)
 
 -- the greatest expansion of a character that splits is the full one
 pub greatest_parts : (has : ℕ → Bool) (t : Tables) (u a b : ℕ) → EndWithin (split_of t) 8 → split_of t u ≡ Some (a, b) → list_all has (full_expansion t u) ≡ true
-    → in_parts Greatest has (split_of t) u ≡ Some (full_expansion t u)
-unfolding in_parts
+    → in_pieces Greatest has (split_of t) u ≡ Some (full_expansion t u)
+unfolding in_pieces
 greatest_parts has t u a b ends s h =
     let whole = expansion_of_parts t u a b ends s in
-    ap (by_supported has (supported Greatest has (split_of t) 8)) s
-    ∙ (parts_supported has (supported Greatest has (split_of t) 8) (full_expansion t) a b (ap (list_all has) (sym whole) ∙ h) (λ k. supported_full has (split_of t) 8 a (ends a) k)
+    ap (by_supported has (supported_expansion Greatest has (split_of t) 8)) s
+    ∙ (parts_supported has (supported_expansion Greatest has (split_of t) 8) (full_expansion t) a b (ap (list_all has) (sym whole) ∙ h) (λ k. supported_full has (split_of t) 8 a (ends a) k)
     ∙ ap Some (sym whole))
 
 -- a character that doesn't split has no pieces
-pub no_parts : (reach : Reach) (has : ℕ → Bool) (splits : Splits) (u : ℕ) → splits u ≡ None → in_parts reach has splits u ≡ None
-unfolding in_parts
-no_parts reach has splits u s = ap (by_supported has (supported reach has splits 8)) s
+pub no_parts : (reach : Reach) (has : ℕ → Bool) (splits : Splits) (u : ℕ) → splits u ≡ None → in_pieces reach has splits u ≡ None
+unfolding in_pieces
+no_parts reach has splits u s = ap (by_supported has (supported_expansion reach has splits 8)) s
 
 -- pieces by splits that agree
-pub parts_agree : (reach : Reach) (has : ℕ → Bool) (f g : Splits) (u : ℕ) → ((v : ℕ) → f v ≡ g v) → in_parts reach has f u ≡ in_parts reach has g u
+pub parts_agree : (reach : Reach) (has : ℕ → Bool) (f g : Splits) (u : ℕ) → ((v : ℕ) → f v ≡ g v) → in_pieces reach has f u ≡ in_pieces reach has g u
 parts_agree reach has f g u h =
     let e : f ≡ g = λ i. λ v. h v i in
-    ap (λ s. in_parts reach has s u) e
+    ap (λ s. in_pieces reach has s u) e

@@ -53,8 +53,8 @@ abbrev pub with_category : ℕ → ℕ → ℕ
 with_category n props = props - bit_and props 0x1F + n
 
 -- an item without the flag that hides it
-abbrev pub shown : Item → Item
-shown x = record x { unicode_props = without_bits 0x40 x.unicode_props }
+abbrev pub visible_item : Item → Item
+visible_item x = record x { unicode_props = without_bits 0x40 x.unicode_props }
 
 -- a variation selector that the font doesn't join with the character before it, no longer a combining mark; where there
 -- is a glyph for such a selector, it is no longer ignorable either

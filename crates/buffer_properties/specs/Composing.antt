@@ -5,7 +5,7 @@ use Rattle.std.specs.Option.{option_and_then, option_map_or}
 use Rattle.buffer_glyphs.specs.Items.{Item}
 use Rattle.buffer_glyphs.specs.Levels.{InOutput}
 use Rattle.buffer_glyphs.specs.Events.{Merge, Replace}
-use Rattle.buffer_glyphs.specs.Arranged.{Arranged, kept}
+use Rattle.buffer_glyphs.specs.Rewriting.{Arrangement, eventless_arrangement}
 use Rattle.buffer_properties.specs.Characters.{is_mark, mark_class, standing_for, with_glyph}
 use Rattle.buffer_properties.specs.Normalizer.{Normalizer}
 
@@ -16,9 +16,9 @@ last_class k (x ∷ xs) = last_class (mark_class x) xs
 
 -- whether a combining mark is not blocked from its starter (UAX 15, D115): it is directly after it, or after an item of
 -- lesser class
-abbrev pub is_reaching : List Item → Item → Bool
-is_reaching [] x = true
-is_reaching (y ∷ ys) x = nat_lt (last_class (mark_class y) ys) (mark_class x)
+abbrev pub is_not_blocked : List Item → Item → Bool
+is_not_blocked [] x = true
+is_not_blocked (y ∷ ys) x = nat_lt (last_class (mark_class y) ys) (mark_class x)
 
 -- a starter as another character, where the font has that
 abbrev pub becoming : Normalizer → Item → ℕ → Option Item
@@ -27,21 +27,21 @@ becoming c starter u = option_map (λ g. with_glyph g (standing_for c.tables u s
 -- the composite of a combining mark and the last starter; None where there is none
 unfoldable pub composite : Normalizer → Item → List Item → Item → Option Item
 composite c starter between x =
-    if is_mark x && is_reaching between x then option_and_then (becoming c starter) (c.composes starter.number x.number) else None
+    if is_mark x && is_not_blocked between x then option_and_then (becoming c starter) (c.composes starter.number x.number) else None
 
 -- the output merged from a starter to a combining mark, and the mark deleted
-abbrev pub with_composition : ℕ → ℕ → Arranged → Arranged
+abbrev pub with_composition : ℕ → ℕ → Arrangement → Arrangement
 with_composition starter mark a = record a { events = Merge InOutput starter (mark + 1) ∷ Replace mark 1 0 ∷ a.events }
 
 -- the items done, the last starter and the items after it, and the items that are left
-abbrev pub composed_from : Normalizer → List Item → Item → List Item → List Item → Arranged
-composed_from c done starter between [] = kept (done ++ starter ∷ between)
-composed_from c done starter between (x ∷ xs) =
-    option_map_or (λ composed. with_composition (length done) (length done + 1 + length between) (composed_from c done composed between xs))
+abbrev pub composition_from : Normalizer → List Item → Item → List Item → List Item → Arrangement
+composition_from c done starter between [] = eventless_arrangement (done ++ starter ∷ between)
+composition_from c done starter between (x ∷ xs) =
+    option_map_or (λ composed. with_composition (length done) (length done + 1 + length between) (composition_from c done composed between xs))
     (composite c starter between x)
-    (if mark_class x == 0 then composed_from c (done ++ starter ∷ between) x [] xs else composed_from c done starter (between ++ x ∷ []) xs)
+    (if mark_class x == 0 then composition_from c (done ++ starter ∷ between) x [] xs else composition_from c done starter (between ++ x ∷ []) xs)
 
 -- a list composed: the first item is the starter until an item of class 0 follows
-abbrev pub composed_list : Normalizer → List Item → Arranged
-composed_list c [] = kept []
-composed_list c (x ∷ xs) = composed_from c [] x [] xs
+abbrev pub composed_list : Normalizer → List Item → Arrangement
+composed_list c [] = eventless_arrangement []
+composed_list c (x ∷ xs) = composition_from c [] x [] xs

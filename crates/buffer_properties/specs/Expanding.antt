@@ -5,7 +5,7 @@ use Rattle.std.specs.Option.{option_or}
 use Rattle.buffer_unicode.specs.Character.{space_fallback_of}
 use Rattle.buffer_unicode.specs.declared.space.TheConstants.{NOT_SPACE}
 use Rattle.buffer_glyphs.specs.Items.{Item}
-use Rattle.buffer_glyphs.specs.Arranged.{Arranged, kept, replaced_by, in_turn}
+use Rattle.buffer_glyphs.specs.Rewriting.{Arrangement, eventless_arrangement, replacement, in_turn}
 use Rattle.buffer_properties.specs.Characters.{is_mark, is_space, is_selector, standing_for, with_glyph, unjoined_selector}
 use Rattle.buffer_properties.specs.Normalizer.{Normalizer, has_character, reach_alone, reach_with_marks}
 use Rattle.buffer_properties.specs.SupportedExpansion.{Reach, expansion}
@@ -41,62 +41,62 @@ abbrev pub whole_item : Normalizer → Item → Item
 whole_item c x = with_found_glyph c x (c.glyph_of x.number)
 
 -- the item of a character of the font, made from the item of which it is a piece
-unfoldable pub part_of : Normalizer → Item → ℕ → Item
-part_of c x u = with_own_glyph c (standing_for c.tables u x)
+unfoldable pub piece_of : Normalizer → Item → ℕ → Item
+piece_of c x u = with_own_glyph c (standing_for c.tables u x)
 
 -- the items of a character's expansion, or the whole character
 abbrev pub items_for : Normalizer → Item → Option (List ℕ) → List Item
 items_for c x None = whole_item c x ∷ []
-items_for c x (Some us) = map (part_of c x) us
+items_for c x (Some us) = map (piece_of c x) us
 
 -- the items that replace an item
 unfoldable pub expanded_item : Normalizer → Reach → Item → List Item
 expanded_item c reach x = items_for c x (expansion reach (has_character c) c.splits x.number)
 
 -- an item expanded, with its events
-abbrev pub expanded : Normalizer → Reach → Item → Arranged
-expanded c reach x = replaced_by 1 (expanded_item c reach x)
+abbrev pub item_expansion : Normalizer → Reach → Item → Arrangement
+item_expansion c reach x = replacement 1 (expanded_item c reach x)
 
 -- an item that isn't expanded
-abbrev pub unexpanded : Normalizer → Item → Arranged
-unexpanded c x = kept (with_own_glyph c x ∷ [])
+abbrev pub unexpanded_item : Normalizer → Item → Arrangement
+unexpanded_item c x = eventless_arrangement (with_own_glyph c x ∷ [])
 
 -- an item and the variation selector after it: one item where the font has the pair
-abbrev pub selected : Normalizer → Item → Item → Option ℕ → List Arranged
-selected c x s None = unexpanded c x ∷ unexpanded c (unjoined_selector (is_some c.unjoined_glyph) s) ∷ []
-selected c x s (Some g) = replaced_by 2 (with_glyph g x ∷ []) ∷ []
+abbrev pub selection : Normalizer → Item → Item → Option ℕ → List Arrangement
+selection c x s None = unexpanded_item c x ∷ unexpanded_item c (unjoined_selector (is_some c.unjoined_glyph) s) ∷ []
+selection c x s (Some g) = replacement 2 (with_glyph g x ∷ []) ∷ []
 
 -- the item that may still be followed by a variation selector, if there is one
-abbrev pub waiting : Normalizer → Option Item → List Arranged
-waiting c None = []
-waiting c (Some x) = unexpanded c x ∷ []
+abbrev pub pending_item : Normalizer → Option Item → List Arrangement
+pending_item c None = []
+pending_item c (Some x) = unexpanded_item c x ∷ []
 
 -- an item before a variation selector, if there is one, and the selector
-abbrev pub meets_selector : Normalizer → Option Item → Item → List Arranged
-meets_selector c None s = unexpanded c s ∷ []
-meets_selector c (Some x) s = selected c x s (c.variant_of x.number s.number)
+abbrev pub meets_selector : Normalizer → Option Item → Item → List Arrangement
+meets_selector c None s = unexpanded_item c s ∷ []
+meets_selector c (Some x) s = selection c x s (c.variant_of x.number s.number)
 
 -- items with selectors among them: a selector after another selects nothing
-abbrev pub selected_after : Normalizer → Option Item → List Item → List Arranged
-selected_after c before [] = waiting c before
-selected_after c before (x ∷ xs) = if is_selector x then meets_selector c before x ++ selected_after c None xs else waiting c before ++ selected_after c (Some x) xs
+abbrev pub selections_after : Normalizer → Option Item → List Item → List Arrangement
+selections_after c before [] = pending_item c before
+selections_after c before (x ∷ xs) = if is_selector x then meets_selector c before x ++ selections_after c None xs else pending_item c before ++ selections_after c (Some x) xs
 
 -- an item with its combining marks
-abbrev pub expanded_with_marks : Normalizer → Item → List Item → List Arranged
+abbrev pub expanded_with_marks : Normalizer → Item → List Item → List Arrangement
 expanded_with_marks c x marks =
-    if list_any is_selector (x ∷ marks) then selected_after c (Some x) marks else map (expanded c (reach_with_marks c.mode)) (x ∷ marks)
+    if list_any is_selector (x ∷ marks) then selections_after c (Some x) marks else map (item_expansion c (reach_with_marks c.mode)) (x ∷ marks)
 
 -- an item alone, or with the combining marks after it
-abbrev pub expanded_group : Normalizer → Item → List Item → List Arranged
-expanded_group c x [] = expanded c (reach_alone c.mode) x ∷ []
+abbrev pub expanded_group : Normalizer → Item → List Item → List Arrangement
+expanded_group c x [] = item_expansion c (reach_alone c.mode) x ∷ []
 expanded_group c x (m ∷ marks) = expanded_with_marks c x (m ∷ marks)
 
 -- each item with the combining marks after it; `x` and `marks` are the last ones read
-abbrev pub expanded_groups : Normalizer → Item → List Item → List Item → List Arranged
+abbrev pub expanded_groups : Normalizer → Item → List Item → List Item → List Arrangement
 expanded_groups c x marks [] = expanded_group c x marks
 expanded_groups c x marks (y ∷ ys) = if is_mark y then expanded_groups c x (marks ++ y ∷ []) ys else expanded_group c x marks ++ expanded_groups c y [] ys
 
 -- a list expanded
-abbrev pub expanded_list : Normalizer → List Item → Arranged
-expanded_list c [] = kept []
+abbrev pub expanded_list : Normalizer → List Item → Arrangement
+expanded_list c [] = eventless_arrangement []
 expanded_list c (x ∷ xs) = in_turn (expanded_groups c x [] xs)

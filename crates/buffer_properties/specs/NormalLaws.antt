@@ -7,7 +7,7 @@ use Rattle.buffer_unicode_tables.specs.Texts.{full_text, text_order, AreEquivale
 use Rattle.buffer_glyphs.specs.Items.{Item}
 use Rattle.buffer_properties.specs.Characters.{mark_class, characters_of, items_of_text}
 use Rattle.buffer_properties.specs.Expanding.{expanded_list}
-use Rattle.buffer_properties.specs.NormalizedList.{normalized}
+use Rattle.buffer_properties.specs.NormalizedList.{normalized_items}
 use Rattle.buffer_properties.specs.Normalizer.{Normalizer}
 use Rattle.buffer_properties.specs.Premises.{SplitsAsUnicode, ComposesWithinUnicode, ReordersNothing, ExpandsGreatest, HasNoSelector, HasShortRuns, IsRegular}
 
@@ -15,7 +15,7 @@ use Rattle.buffer_properties.specs.Premises.{SplitsAsUnicode, ComposesWithinUnic
 abbrev pub EquivalentsNormalizeAlike : Type 0
 EquivalentsNormalizeAlike = (c : Normalizer) (x : Item) (us vs : List ℕ) → EndWithin (split_of c.tables) 8 → IsLawful c.tables → SplitsAsUnicode c → ExpandsGreatest c
     → AreEquivalent c.tables us vs → IsRegular c us → IsRegular c vs
-    → (normalized c (items_of_text c.tables x us)).items ≡ (normalized c (items_of_text c.tables x vs)).items
+    → (normalized_items c (items_of_text c.tables x us)).items ≡ (normalized_items c (items_of_text c.tables x vs)).items
 
 -- under lawful tables, texts are equivalent exactly where their full expansions have one class order
 abbrev pub EquivalenceIsOneOrder : Type 0
@@ -25,7 +25,7 @@ EquivalenceIsOneOrder = (t : Tables) → EndWithin (split_of t) 8 → IsLawful t
 abbrev pub NormalizingKeepsEquivalence : Type 0
 NormalizingKeepsEquivalence = (c : Normalizer) (x : Item) (us : List ℕ) → IsLawful c.tables → SplitsAsUnicode c → ComposesWithinUnicode c → ReordersNothing c
     → HasNoSelector us → HasShortRuns mark_class 0 (expanded_list c (items_of_text c.tables x us)).items
-    → AreEquivalent c.tables us (characters_of (normalized c (items_of_text c.tables x us)).items)
+    → AreEquivalent c.tables us (characters_of (normalized_items c (items_of_text c.tables x us)).items)
 
 -- runs that are short in the full expansion are short in each expansion that a font supports
 abbrev pub ExpansionKeepsRunsShort : Type 0

@@ -2,7 +2,7 @@
 use Rattle.std.specs.Prelude.{Bool, ◌&&◌, if◌then◌else◌, List, drop}
 use Rattle.std.specs.List.{list_any}
 use Rattle.buffer_glyphs.specs.Items.{Item}
-use Rattle.buffer_glyphs.specs.Arranged.{Arranged, kept, and_arranged}
+use Rattle.buffer_glyphs.specs.Rewriting.{Arrangement, eventless_arrangement, and_arranged}
 use Rattle.buffer_properties.specs.Characters.{is_mark}
 use Rattle.buffer_properties.specs.Normalizer.{Normalizer, is_composing}
 use Rattle.buffer_properties.specs.Expanding.{expanded_list}
@@ -14,18 +14,18 @@ abbrev pub has_later_mark : List Item → Bool
 has_later_mark xs = list_any is_mark (drop 1 xs)
 
 -- a list with its combining marks in order, where that is requested
-abbrev pub ordered_if : Bool → Normalizer → List Item → Arranged
-ordered_if b c xs = if b then ordered_list c.reorders xs else kept xs
+abbrev pub ordering_if : Bool → Normalizer → List Item → Arrangement
+ordering_if b c xs = if b then ordered_list c.reorders xs else eventless_arrangement xs
 
 -- a list composed, where that is requested
-abbrev pub composed_if : Bool → Normalizer → List Item → Arranged
-composed_if b c xs = if b then composed_list c xs else kept xs
+abbrev pub composition_if : Bool → Normalizer → List Item → Arrangement
+composition_if b c xs = if b then composed_list c xs else eventless_arrangement xs
 
 -- an expanded list, its combining marks sorted, its joiners shown, and composed
-unfoldable pub arranged_marks : Bool → Normalizer → List Item → Arranged
-arranged_marks b c xs = and_arranged (ordered_if b c xs) (λ ys. composed_if (b && is_composing c.mode) c (joiners_shown ys))
+unfoldable pub arranged_marks : Bool → Normalizer → List Item → Arrangement
+arranged_marks b c xs = and_arranged (ordering_if b c xs) (λ ys. composition_if (b && is_composing c.mode) c (joiners_shown ys))
 
 -- the normalised list of a text: combining marks are sorted and composed only where one is after the first item of the
 -- text
-unfoldable pub normalized : Normalizer → List Item → Arranged
-normalized c xs = and_arranged (expanded_list c xs) (arranged_marks (has_later_mark xs) c)
+unfoldable pub normalized_items : Normalizer → List Item → Arrangement
+normalized_items c xs = and_arranged (expanded_list c xs) (arranged_marks (has_later_mark xs) c)

@@ -5,7 +5,7 @@ use Rattle.buffer_unicode_tables.specs.Tables.{Tables}
 use Rattle.buffer_glyphs.specs.Items.{Item}
 use Rattle.buffer_properties.specs.declared.normal_mode.NormalizationMode.{NormalizationMode}
 use Rattle.buffer_properties.specs.declared.normal_mode.NormalizationMode.TheVariants as mode
-use Rattle.buffer_glyphs.specs.Arranged.{Arranged}
+use Rattle.buffer_glyphs.specs.Rewriting.{Arrangement}
 use Rattle.buffer_properties.specs.SupportedExpansion.{Reach, Least, Greatest}
 
 -- the tables, the font, the buffer's glyphs for what it lacks, and the shaper's preference and hooks
@@ -21,7 +21,7 @@ pub record Normalizer : Type 0 where
   -- how characters split and compose, and what the shaper makes of a sorted run of combining marks
   pub splits : Splits
   pub composes : ℕ → ℕ → Option ℕ
-  pub reorders : List Item → Arranged
+  pub reorders : List Item → Arrangement
 
 -- whether the font has a character
 abbrev pub has_character : Normalizer → ℕ → Bool

@@ -5,7 +5,7 @@ use Rattle.buffer_unicode.specs.Character.{is_variation_selector_character}
 use Rattle.buffer_unicode_tables.specs.Tables.{split_of, pair_of, class_of}
 use Rattle.buffer_unicode_tables.specs.Texts.{full_text}
 use Rattle.buffer_glyphs.specs.Items.{Item}
-use Rattle.buffer_glyphs.specs.Arranged.{kept}
+use Rattle.buffer_glyphs.specs.Rewriting.{eventless_arrangement}
 use Rattle.buffer_properties.specs.Properties.{is_mark_character}
 use Rattle.buffer_properties.specs.Normalizer.{Normalizer, has_character, reach_alone, reach_with_marks}
 use Rattle.buffer_properties.specs.SupportedExpansion.{Greatest}
@@ -26,7 +26,7 @@ ComposesWithinUnicode c = (a b u : ℕ) → c.composes a b ≡ Some u → pair_o
 
 -- a sorted run of combining marks stays as it is
 abbrev pub ReordersNothing : Normalizer → Type 0
-ReordersNothing c = (run : List Item) → c.reorders run ≡ kept run
+ReordersNothing c = (run : List Item) → c.reorders run ≡ eventless_arrangement run
 
 -- all characters are split as far as the font has the pieces
 pub record ExpandsGreatest (c : Normalizer) : Type 0 where

@@ -6,13 +6,13 @@ use crate::normal_mode::MAX_COMBINING_MARKS;
 
 /// The low five bits of a property word are the number of the general category.
 #[tactic(auto, using(crate::proofs::Words::low_bits_are_the_category))]
-pub fn low_bits_are_the_category()
+pub fn law_low_bits_are_the_category()
     ensures { LowBitsAreTheCategory }
 {}
 
 /// The property word of a text's character without its continuation flag is that of its item.
 #[tactic(auto, using(crate::proofs::Words::continuation_leaves))]
-pub fn continuation_leaves()
+pub fn law_continuation_leaves()
     ensures { ContinuationLeaves }
 {}
 

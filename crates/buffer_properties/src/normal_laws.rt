@@ -3,14 +3,14 @@ ghost use Rattle.buffer_properties.specs.NormalLaws.{EquivalenceIsOneOrder, Equi
 
 /// Under lawful tables, texts are equivalent exactly where their full expansions have one class order.
 #[tactic(auto, using(crate::proofs::Preserved::equivalence_is_one_order))]
-pub fn equivalence_is_one_order()
+pub fn law_equivalence_is_one_order()
     ensures { EquivalenceIsOneOrder }
 {}
 
 /// Under lawful tables, equivalent texts that meet the premises have the same normalised list, for a normaliser that
 /// splits as far as it can and as Unicode does. It may compose and reorder as it likes.
 #[tactic(auto, using(crate::proofs::Alike::equivalents_normalize_alike))]
-pub fn equivalents_normalize_alike()
+pub fn law_equivalents_normalize_alike()
     ensures { EquivalentsNormalizeAlike }
 {}
 
@@ -18,13 +18,13 @@ pub fn equivalents_normalize_alike()
 /// as Unicode does, composes nothing that Unicode doesn't and reorders no sorted run. The text has no variation
 /// selector, and no long run of combining marks in its full expansion.
 #[tactic(auto, using(crate::proofs::Preserved::normalizing_keeps_equivalence))]
-pub fn normalizing_keeps_equivalence()
+pub fn law_normalizing_keeps_equivalence()
     ensures { NormalizingKeepsEquivalence }
 {}
 
 /// Under lawful tables, runs of combining marks that are short in the full expansion are short in what the font
 /// supports of it.
 #[tactic(auto, using(crate::proofs::Short::expansion_keeps_runs_short))]
-pub fn expansion_keeps_runs_short()
+pub fn law_expansion_keeps_runs_short()
     ensures { ExpansionKeepsRunsShort }
 {}

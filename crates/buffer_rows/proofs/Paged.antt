@@ -80,8 +80,8 @@ never_falls number (r ∷ rows) (suc i) zero d h le lt = absurd (omega (arith, l
 never_falls number (r ∷ rows) (suc i) (suc j) d h le lt = never_falls number rows i j d (rises_alone number (Some (number r)) rows h) (omega (arith, le)) (omega (arith, lt))
 
 -- a test by a number parts the rows
-pub parted : {R : Type 0} (number : R → ℕ) (rows : List R) (first : ℕ) → numbers_rise number rows ≡ true → IsPartitionedBy (λ r. nat_lt (number r) first) rows
-parted number rows first h = λ i j d le lt e. let order = never_falls number rows i j d h le lt in lower (number (get_or rows i d)) (number (get_or rows j d)) first order e
+pub rows_are_partitioned : {R : Type 0} (number : R → ℕ) (rows : List R) (first : ℕ) → numbers_rise number rows ≡ true → IsPartitionedBy (λ r. nat_lt (number r) first) rows
+rows_are_partitioned number rows first h = λ i j d le lt e. let order = never_falls number rows i j d h le lt in lower (number (get_or rows i d)) (number (get_or rows j d)) first order e
 
 at_least : (a b : ℕ) → nat_lt a b ≡ false → b ≤ a
 at_least a b h = grind (arith, nat_tests)

@@ -15,7 +15,7 @@ use Rattle.buffer_glyphs.specs.declared.names.hb_glyph_extents_t.{hb_glyph_exten
 use Rattle.buffer_glyphs.specs.declared.position.GlyphPosition.{GlyphPosition}
 use Rattle.buffer_serialize.specs.Pen.{pen_after}
 use Rattle.buffer_serialize.specs.Printed.{name_text, cluster_text, offset_text, advance_text, position_text, flag_text, extents_text, glyph_text, glyph_texts, printed_text}
-use Rattle.buffer_serialize.specs.Shown.{Shown, shown_of, numbers_and_flags, HasTypedNumbers, EqualTextsShowEqualRuns}
+use Rattle.buffer_serialize.specs.Shown.{ShownGlyph, shown_glyph, numbers_and_flags, HasTypedNumbers, EqualTextsShowEqualRuns}
 use Rattle.buffer_serialize.proofs.Numerals.{IsClear, decimal_split, signed_split}
 
 -- a glyph's text ends here
@@ -132,13 +132,13 @@ offset_split x y x' y' rest rest' fx fy fx' fy' clear clear' avoids avoids' e = 
 ]
 
 -- a glyph's text of numbers and flags, and what follows
-abbrev after_cluster : Shown → List ℕ → List ℕ
+abbrev after_cluster : ShownGlyph → List ℕ → List ℕ
 after_cluster s rest = 43 ∷ (signed_decimal s.x_advance ++ second_then s.y_advance (flags_then s.glyph_flags rest))
 
-abbrev plain_text : Shown → List ℕ → List ℕ
+abbrev plain_text : ShownGlyph → List ℕ → List ℕ
 plain_text s rest = decimal s.number ++ (61 ∷ (decimal s.cluster ++ offset_then s.x_offset s.y_offset (after_cluster s rest)))
 
-record IsTyped (s : Shown) : Type 0 where
+record IsTyped (s : ShownGlyph) : Type 0 where
   number : s.number < 2 ^ 64
   cluster : s.cluster < 2 ^ 64
   x_offset : FitsSigned w32 s.x_offset
@@ -146,13 +146,13 @@ record IsTyped (s : Shown) : Type 0 where
   x_advance : FitsSigned w32 s.x_advance
   y_advance : FitsSigned w32 s.y_advance
 
-second_clear : (s : Shown) (rest : List ℕ) → IsEnd rest → IsClear (second_then s.y_advance (flags_then s.glyph_flags rest))
+second_clear : (s : ShownGlyph) (rest : List ℕ) → IsEnd rest → IsClear (second_then s.y_advance (flags_then s.glyph_flags rest))
 second_clear s rest end = clear_cases (int_eq s.y_advance (pos 0)) _ _ (flags_clear s.glyph_flags rest end) (inl (omega arith))
 
 offset_clear : (x y : ℤ) (rest : List ℕ) → IsClear rest → IsClear (offset_then x y rest)
 offset_clear x y rest clear = clear_cases (int_eq x (pos 0) && int_eq y (pos 0)) _ _ clear (inr (omega arith))
 
-after_cluster_split : (s t : Shown) (rest rest' : List ℕ) → IsTyped s → IsTyped t → IsEnd rest → IsEnd rest'
+after_cluster_split : (s t : ShownGlyph) (rest rest' : List ℕ) → IsTyped s → IsTyped t → IsEnd rest → IsEnd rest'
     → after_cluster s rest ≡ after_cluster t rest'
     → (s.x_advance ≡ t.x_advance) × (s.y_advance ≡ t.y_advance) × (s.glyph_flags ≡ t.glyph_flags) × (rest ≡ rest')
 after_cluster_split s t rest rest' typed typed' end end' e =
@@ -163,10 +163,10 @@ after_cluster_split s t rest rest' typed typed' end end' e =
     let third = flags_split _ _ rest rest' end end' second.1 in
     (first.0, second.0, third.0, third.1)
 
-abbrev shown : ℕ → ℕ → ℤ → ℤ → ℤ → ℤ → ℕ → Shown
+abbrev shown : ℕ → ℕ → ℤ → ℤ → ℤ → ℤ → ℕ → ShownGlyph
 shown n c x y a b f = record { number = n; cluster = c; x_offset = x; y_offset = y; x_advance = a; y_advance = b; glyph_flags = f }
 
-same_shown : (s t : Shown) → s.number ≡ t.number → s.cluster ≡ t.cluster → s.x_offset ≡ t.x_offset → s.y_offset ≡ t.y_offset
+same_shown : (s t : ShownGlyph) → s.number ≡ t.number → s.cluster ≡ t.cluster → s.x_offset ≡ t.x_offset → s.y_offset ≡ t.y_offset
     → s.x_advance ≡ t.x_advance → s.y_advance ≡ t.y_advance → s.glyph_flags ≡ t.glyph_flags → s ≡ t
 same_shown s t number cluster x_offset y_offset x_advance y_advance glyph_flags =
     ap (λ v. shown v s.cluster s.x_offset s.y_offset s.x_advance s.y_advance s.glyph_flags) number
@@ -177,7 +177,7 @@ same_shown s t number cluster x_offset y_offset x_advance y_advance glyph_flags 
     ∙ (ap (λ v. shown t.number t.cluster t.x_offset t.y_offset t.x_advance v s.glyph_flags) y_advance
     ∙ ap (λ v. shown t.number t.cluster t.x_offset t.y_offset t.x_advance t.y_advance v) glyph_flags)))))
 
-plain_split : (s t : Shown) (rest rest' : List ℕ) → IsTyped s → IsTyped t → IsEnd rest → IsEnd rest'
+plain_split : (s t : ShownGlyph) (rest rest' : List ℕ) → IsTyped s → IsTyped t → IsEnd rest → IsEnd rest'
     → plain_text s rest ≡ plain_text t rest' → (s ≡ t) × (rest ≡ rest')
 plain_split s t rest rest' typed typed' end end' e =
     let number = decimal_split s.number t.number _ _ typed.number typed'.number (inr (omega arith)) (inr (omega arith)) e in
@@ -225,7 +225,7 @@ position_text_is place rest = simp rests (rw (append_assoc, advance_text_is, off
 
 glyph_text_is : (name_of : ℕ → Option (List ℕ)) (extents_of : ℕ → Option hb_glyph_extents_t) (before : List GlyphPosition)
     (glyph : hb_glyph_info_t) (place : GlyphPosition) (rest : List ℕ)
-    → glyph_text name_of extents_of numbers_and_flags (pen_after numbers_and_flags before) glyph place ++ rest ≡ plain_text (shown_of (glyph, place)) rest
+    → glyph_text name_of extents_of numbers_and_flags (pen_after numbers_and_flags before) glyph place ++ rest ≡ plain_text (shown_glyph (glyph, place)) rest
 unfolding glyph_text name_text cluster_text extents_text
 glyph_text_is name_of extents_of before glyph place rest =
     simp append_assoc (rw (flag_text_is, position_text_is))
@@ -233,14 +233,14 @@ glyph_text_is name_of extents_of before glyph place rest =
 -- ---- a run's text
 
 -- the texts with `|` between them
-abbrev run_text : List Shown → List ℕ
+abbrev run_text : List ShownGlyph → List ℕ
 run_text [] = []
 run_text (s ∷ []) = plain_text s []
 run_text (s ∷ t ∷ more) = plain_text s (124 ∷ run_text (t ∷ more))
 
 join_is : (name_of : ℕ → Option (List ℕ)) (extents_of : ℕ → Option hb_glyph_extents_t) (before : List GlyphPosition)
     (glyphs : List hb_glyph_info_t) (positions : List GlyphPosition)
-    → join_with_byte 124 (glyph_texts name_of extents_of numbers_and_flags before glyphs positions) ≡ run_text (map shown_of (zip glyphs positions))
+    → join_with_byte 124 (glyph_texts name_of extents_of numbers_and_flags before glyphs positions) ≡ run_text (map shown_glyph (zip glyphs positions))
 join_is name_of extents_of before [] positions = refl
 join_is name_of extents_of before (g ∷ glyphs) [] = refl
 join_is name_of extents_of before (g ∷ []) (p ∷ positions) =
@@ -255,24 +255,24 @@ join_is name_of extents_of before (g ∷ h ∷ glyphs) (p ∷ q ∷ positions) =
 decimal_is_not_empty : (m : ℕ) (rest : List ℕ) → m < 2 ^ 64 → decimal m ++ rest ≡ [] → ⊥
 decimal_is_not_empty m rest small e = omega (arith, decimal_nonempty m small, length-append (decimal m) rest, ap length e)
 
-run_is_not_empty : (s : Shown) (more : List Shown) → IsTyped s → run_text (s ∷ more) ≡ [] → ⊥
+run_is_not_empty : (s : ShownGlyph) (more : List ShownGlyph) → IsTyped s → run_text (s ∷ more) ≡ [] → ⊥
 run_is_not_empty s [] typed e = decimal_is_not_empty s.number _ typed.number e
 run_is_not_empty s (t ∷ more) typed e = decimal_is_not_empty s.number _ typed.number e
 
 -- what follows a glyph's text
-abbrev after_glyph : List Shown → List ℕ
+abbrev after_glyph : List ShownGlyph → List ℕ
 after_glyph [] = []
 after_glyph (t ∷ more) = 124 ∷ run_text (t ∷ more)
 
-after_is_end : (more : List Shown) → IsEnd (after_glyph more)
+after_is_end : (more : List ShownGlyph) → IsEnd (after_glyph more)
 after_is_end [] = tt
 after_is_end (t ∷ more) = refl
 
-run_cons : (s : Shown) (more : List Shown) → run_text (s ∷ more) ≡ plain_text s (after_glyph more)
+run_cons : (s : ShownGlyph) (more : List ShownGlyph) → run_text (s ∷ more) ≡ plain_text s (after_glyph more)
 run_cons s [] = refl
 run_cons s (t ∷ more) = refl
 
-after_split : (ss ts : List Shown) → AllByRecursion IsTyped ss → AllByRecursion IsTyped ts → after_glyph ss ≡ after_glyph ts → ss ≡ ts
+after_split : (ss ts : List ShownGlyph) → AllByRecursion IsTyped ss → AllByRecursion IsTyped ts → after_glyph ss ≡ after_glyph ts → ss ≡ ts
 after_split [] [] typed typed' e = refl
 after_split [] (t ∷ ts) typed typed' e = absurd (cc)
 after_split (s ∷ ss) [] typed typed' e = absurd (cc)
@@ -283,17 +283,17 @@ after_split (s ∷ ss) (t ∷ ts) typed typed' e =
     let more = after_split ss ts typed.1 typed'.1 parts.1 in
     ap (λ x. x ∷ ss) parts.0 ∙ ap (λ xs. t ∷ xs) more
 
-runs_split : (ss ts : List Shown) → AllByRecursion IsTyped ss → AllByRecursion IsTyped ts → run_text ss ≡ run_text ts → ss ≡ ts
+runs_split : (ss ts : List ShownGlyph) → AllByRecursion IsTyped ss → AllByRecursion IsTyped ts → run_text ss ≡ run_text ts → ss ≡ ts
 runs_split [] [] typed typed' e = refl
 runs_split [] (t ∷ ts) typed typed' e = absurd (run_is_not_empty t ts typed'.0 (sym e))
 runs_split (s ∷ ss) [] typed typed' e = absurd (run_is_not_empty s ss typed.0 e)
 runs_split (s ∷ ss) (t ∷ ts) typed typed' e = after_split (s ∷ ss) (t ∷ ts) typed typed' (ap (λ q. 124 ∷ q) e)
 
-typed_shown : (es : List (hb_glyph_info_t × GlyphPosition)) → All HasTypedNumbers es → AllByRecursion IsTyped (map shown_of es)
+typed_shown : (es : List (hb_glyph_info_t × GlyphPosition)) → All HasTypedNumbers es → AllByRecursion IsTyped (map shown_glyph es)
 typed_shown [] typed = tt
 typed_shown (e ∷ es) typed =
     let first = typed 0 e (omega arith) in
-    let one : IsTyped (shown_of e) = record {
+    let one : IsTyped (shown_glyph e) = record {
       number = omega (arith, first.number);
       cluster = omega (arith, first.cluster);
       x_offset = first.x_offset;
@@ -306,6 +306,6 @@ typed_shown (e ∷ es) typed =
 pub equal_texts_show_equal_runs : EqualTextsShowEqualRuns
 unfolding printed_text
 equal_texts_show_equal_runs name_of other_name_of extents_of other_extents_of glyphs others positions other_positions typed other_typed e =
-    runs_split (map shown_of (zip glyphs positions)) (map shown_of (zip others other_positions))
+    runs_split (map shown_glyph (zip glyphs positions)) (map shown_glyph (zip others other_positions))
     (typed_shown (zip glyphs positions) typed) (typed_shown (zip others other_positions) other_typed)
     (sym (join_is name_of extents_of [] glyphs positions) ∙ (e ∙ join_is other_name_of other_extents_of [] others other_positions))

@@ -12,7 +12,7 @@ abbrev pub numbers_and_flags : SerializeFlags
 numbers_and_flags = record { 0 = 20 }
 
 -- the fields of a glyph in such a text
-pub record Shown : Type 0 where
+pub record ShownGlyph : Type 0 where
   pub number : ℕ
   pub cluster : ℕ
   pub x_offset : ℤ
@@ -22,8 +22,8 @@ pub record Shown : Type 0 where
   pub glyph_flags : ℕ
 
 -- the fields of a glyph and its position
-abbrev pub shown_of : hb_glyph_info_t × GlyphPosition → Shown
-shown_of e = record {
+abbrev pub shown_glyph : hb_glyph_info_t × GlyphPosition → ShownGlyph
+shown_glyph e = record {
   number = e.0.glyph_id;
   cluster = e.0.cluster;
   x_offset = e.1.x_offset;
@@ -48,4 +48,4 @@ EqualTextsShowEqualRuns = (name_of other_name_of : Names) (extents_of other_exte
     (glyphs others : List hb_glyph_info_t) (positions other_positions : List GlyphPosition)
     → All HasTypedNumbers (zip glyphs positions) → All HasTypedNumbers (zip others other_positions)
     → printed_text name_of extents_of numbers_and_flags glyphs positions ≡ printed_text other_name_of other_extents_of numbers_and_flags others other_positions
-    → map shown_of (zip glyphs positions) ≡ map shown_of (zip others other_positions)
+    → map shown_glyph (zip glyphs positions) ≡ map shown_glyph (zip others other_positions)

@@ -8,5 +8,5 @@ KeepsEachKey = (key : ℕ → ℕ) (c : ℕ) (xs : List ℕ) → of_key key c (k
 
 -- a change of each element, and then the order by a key, is the order by the changed elements' keys, and then the
 -- change
-abbrev pub OrderGoesThrough : Type 0
-OrderGoesThrough = (key f : ℕ → ℕ) (xs : List ℕ) → key_order key (map f xs) ≡ map f (key_order (λ x. key (f x)) xs)
+abbrev pub OrderCommutesWithMap : Type 0
+OrderCommutesWithMap = (key f : ℕ → ℕ) (xs : List ℕ) → key_order key (map f xs) ≡ map f (key_order (λ x. key (f x)) xs)

@@ -3,7 +3,7 @@ use Rattle.std.proofs.Common.{ℕ, zero, suc, ◌≡◌, ◌<◌, ◌≤◌, ◌
 use Rattle.std.specs.Prelude.{replicate}
 use Rattle.std.proofs.lemmas.Bool.Decides.{nat_tests}
 use Rattle.std.proofs.lemmas.List.{length-append, length-replicate}
-use Rattle.buffer_stages.specs.Bytes.{BytesAreOne, BytesTell, NeighboursDiffer, bytes_from, syllable_byte}
+use Rattle.buffer_stages.specs.Bytes.{BytesAreOne, ByteGivesSyllable, NeighboursDiffer, bytes_from, syllable_byte}
 use Rattle.buffer_stages.specs.Cuts.{EndsInside, syllable_from, syllables_from}
 use Rattle.buffer_stages.specs.Examples.{Examples}
 
@@ -29,7 +29,7 @@ counted_from next count h (suc most) index start le few =
 pub bytes_are_one : BytesAreOne
 bytes_are_one next count h = counted_from next count h count 0 0 (omega arith) (omega arith) ∙ omega arith
 
-pub bytes_tell : BytesTell
+pub bytes_tell : ByteGivesSyllable
 bytes_tell index kind lt =
     let byte = syllable_byte index kind in
     let serial : index % 15 < 15 = omega arith in

@@ -2,8 +2,8 @@
 use Rattle.std.proofs.Common.{ℕ, suc, ◌≡◌, ◌≤◌, ◌<◌, ◌+◌, ◌-◌, Bool, true, false, List, get_or, length, take, drop, arith, ap, sym, subst, ◌∙◌, ◌++◌, append_assoc}
 use Rattle.std.specs.Prelude.{slice_range}
 use Rattle.std.proofs.lemmas.List.{take-append-drop, drop-drop, drop-take, take-take, length-drop, length-take-le, get_or-take, get_or-drop}
-use Rattle.buffer_stages.specs.Fronts.{fronts, gathered, StandApart}
-use Rattle.buffer_stages.specs.Moves.{moved}
+use Rattle.buffer_stages.specs.Fronts.{fronts, with_fronts_moved, StandApart}
+use Rattle.buffer_stages.specs.Moves.{with_range_moved}
 use Rattle.buffer_stages.specs.Lemmas.Fronted.{IsApart, apart_at, halves_gathered, short_gathered, two_gathered}
 
 pub range_size : {X : Type 0} (from to : ℕ) (xs : List X) → from ≤ to → to ≤ length xs → length (slice_range xs from to) ≡ to - from
@@ -42,7 +42,7 @@ apart_after pair from middle to xs d apart lt last fits t is f =
 
 -- two that are a pair
 pub pair_gathered : {X : Type 0} (pair : X → X → Bool) (one : X → Bool) (from middle to : ℕ) (xs : List X) (d : X) → middle ≡ from + 1 → to ≡ from + 2 → to ≤ length xs
-    → (t : Bool) → t ≡ pair (get_or xs (middle - 1) d) (get_or xs middle d) → t ≡ true → (gathered pair one (slice_range xs from to) ≡ slice_range xs from to) × (length (fronts pair one (slice_range xs from to)) ≡ 2)
+    → (t : Bool) → t ≡ pair (get_or xs (middle - 1) d) (get_or xs middle d) → t ≡ true → (with_fronts_moved pair one (slice_range xs from to) ≡ slice_range xs from to) × (length (fronts pair one (slice_range xs from to)) ≡ 2)
 pair_gathered pair one from middle to xs d at last fits t is f =
     let e : pair (get_or xs (middle - 1) d) (get_or xs middle d) ≡ true = sym is ∙ f in
     let zs = slice_range xs from to in
@@ -66,21 +66,21 @@ whole_range from to xs le =
     ∙ ap (λ ys. take from xs ++ (slice_range xs from to ++ ys)) (sym (drop-drop n from xs ∙ ap (λ m. drop m xs) at))
     ∙ ap (λ ys. take from xs ++ ys) (take-append-drop n (drop from xs)) ∙ take-append-drop from xs
 
-pub stays_gathered : {X : Type 0} (pair : X → X → Bool) (one : X → Bool) (from to : ℕ) (xs : List X) → from ≤ to → gathered pair one (slice_range xs from to) ≡ slice_range xs from to
-    → xs ≡ take from xs ++ gathered pair one (slice_range xs from to) ++ drop to xs
+pub stays_gathered : {X : Type 0} (pair : X → X → Bool) (one : X → Bool) (from to : ℕ) (xs : List X) → from ≤ to → with_fronts_moved pair one (slice_range xs from to) ≡ slice_range xs from to
+    → xs ≡ take from xs ++ with_fronts_moved pair one (slice_range xs from to) ++ drop to xs
 stays_gathered pair one from to xs le e = sym (ap (λ ys. take from xs ++ ys ++ drop to xs) e ∙ whole_range from to xs le)
 
-pub short_stays : {X : Type 0} (pair : X → X → Bool) (one : X → Bool) (from to : ℕ) (xs : List X) → from ≤ to → to ≤ length xs → to - from < 2 → xs ≡ take from xs ++ gathered pair one (slice_range xs from to) ++ drop to xs
+pub short_stays : {X : Type 0} (pair : X → X → Bool) (one : X → Bool) (from to : ℕ) (xs : List X) → from ≤ to → to ≤ length xs → to - from < 2 → xs ≡ take from xs ++ with_fronts_moved pair one (slice_range xs from to) ++ drop to xs
 short_stays pair one from to xs le fits lt =
     let size = range_size from to xs le fits in
     stays_gathered pair one from to xs le (short_gathered pair one (slice_range xs from to) (omega (arith, size, lt)))
 
 pub both_gathered : {X : Type 0} (pair : X → X → Bool) (one : X → Bool) (from middle to k m : ℕ) (old first second new : List X) → from ≤ middle → middle ≤ to → to ≤ length old
     → IsApart pair (slice_range old from middle) (slice_range old middle to)
-    → first ≡ take from old ++ gathered pair one (slice_range old from middle) ++ drop middle old
-    → second ≡ take middle first ++ gathered pair one (slice_range first middle to) ++ drop to first
+    → first ≡ take from old ++ with_fronts_moved pair one (slice_range old from middle) ++ drop middle old
+    → second ≡ take middle first ++ with_fronts_moved pair one (slice_range first middle to) ++ drop to first
     → k ≡ length (fronts pair one (slice_range first middle to)) → m ≡ k
-    → new ≡ moved from (middle - from) m second
-    → (new ≡ take from old ++ gathered pair one (slice_range old from to) ++ drop to old) × (length (fronts pair one (slice_range old from to)) ≡ length (fronts pair one (slice_range old from middle)) + k)
+    → new ≡ with_range_moved from (middle - from) m second
+    → (new ≡ take from old ++ with_fronts_moved pair one (slice_range old from to) ++ drop to old) × (length (fronts pair one (slice_range old from to)) ≡ length (fronts pair one (slice_range old from middle)) + k)
 both_gathered pair one from middle to k m old first second new le last fits apart e f count same is =
-    halves_gathered pair one from middle to k old first second new le last fits apart e f count (is ∙ ap (λ n. moved from (middle - from) n second) same)
+    halves_gathered pair one from middle to k old first second new le last fits apart e f count (is ∙ ap (λ n. with_range_moved from (middle - from) n second) same)

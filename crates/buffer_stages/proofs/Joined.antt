@@ -5,10 +5,10 @@ use Rattle.std.specs.List.{flat_map}
 use Rattle.std.proofs.lemmas.Bool.Decides.{nat_tests}
 use Rattle.std.proofs.lemmas.List.{drop_all}
 use Rattle.std.proofs.lemmas.List.Folds.{drop_split}
-use Rattle.buffer_stages.specs.Cuts.{CutsJoin, EndsInside, Syllable, cut, syllable_from, syllables_from}
+use Rattle.buffer_stages.specs.Cuts.{CutsJoin, EndsInside, Syllable, syllable_pieces, syllable_from, syllables_from}
 
 abbrev joined : {X : Type 0} → List Syllable → List X → List X
-joined ss xs = flat_map (λ ys. ys) (cut ss xs)
+joined ss xs = flat_map (λ ys. ys) (syllable_pieces ss xs)
 
 joined_from : {X : Type 0} (next : ℕ → ℕ × ℕ) (xs : List X) → EndsInside next (length xs) → (most start : ℕ) → start ≤ length xs → length xs - start ≤ most
     → joined (syllables_from next (length xs) most start) xs ≡ drop start xs

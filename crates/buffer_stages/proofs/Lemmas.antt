@@ -11,10 +11,8 @@ pub mod Around
 pub mod Ways
 pub mod Happened
 pub mod Walked
-pub mod Permuted
 pub mod Cuts
 pub mod Syllables
-pub mod Numbers
 pub mod Fronts
 pub mod Masks
 pub mod Elements

@@ -6,5 +6,9 @@ pub mod Moved
 pub mod Put
 pub mod Front
 pub mod SyllableWalks
+pub mod TurnedBack
+pub mod GroupOrder
+pub mod Reversed
+pub mod SortRewrites
 pub mod Bytewise
 pub mod Joined

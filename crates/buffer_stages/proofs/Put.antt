@@ -5,15 +5,15 @@ use Rattle.std.proofs.lemmas.List.{map-append, length-map, drop-map}
 use Rattle.std.proofs.Math.Seq.{take-append_seam, drop-append_seam, drop-append-add}
 use Rattle.buffer_glyphs.specs.declared.info.hb_glyph_info_t.{hb_glyph_info_t}
 use Rattle.buffer_glyphs.specs.Items.{item_of, strip}
-use Rattle.buffer_glyphs.specs.Parts.{replaced_among}
+use Rattle.buffer_glyphs.specs.Parts.{elements_replaced}
 use Rattle.buffer_glyphs.specs.Origins.{Origin, origin_of, origins, InList, manner}
 use Rattle.buffer_glyphs.specs.Events.{Replace}
 use Rattle.buffer_core.specs.Sides.{Sides, origins_of}
-use Rattle.buffer_core.specs.Merging.{with_put, with_skipped}
+use Rattle.buffer_core.specs.Merging.{with_output_info, with_glyph_skipped}
 use Rattle.buffer_stages.specs.Lemmas.Alone.{merged_alone}
-use Rattle.buffer_stages.specs.Walks.{Walked}
+use Rattle.buffer_stages.specs.Walks.{HasWalked}
 
-origins_same : (o : Origin) (front back : List Origin) (n : ℕ) → replaced_among (length front) 1 n (front ++ o ∷ back) ≡ front ++ replicate n o ++ back
+origins_same : (o : Origin) (front back : List Origin) (n : ℕ) → elements_replaced (length front) 1 n (front ++ o ∷ back) ≡ front ++ replicate n o ++ back
 origins_same o front back n =
     let there : drop (length front) (front ++ o ∷ back) ≡ o ∷ back = drop-append_seam front (o ∷ back) in
     let past : drop (length front + 1) (front ++ o ∷ back) ≡ back = drop-append-add front (o ∷ back) 1 in
@@ -25,8 +25,8 @@ first_ahead g (h ∷ gs) at = let e : h ≡ g = cc in rw e refl
 
 -- glyphs of one origin output instead of the one at the cursor
 pub put_walked : (gs : List hb_glyph_info_t) (g : hb_glyph_info_t) (s new : Sides) → s.is_open ≡ true → slice_get s.ahead 0 ≡ Some g → origins gs ≡ replicate (length gs) (origin_of g)
-    → new ≡ with_skipped (record s { behind = s.behind ++ gs }) → Walked (strip s.behind ++ strip gs) (drop 1 (strip s.ahead)) (Replace (length s.behind) 1 (length gs) ∷ []) s new
-put_walked gs g s new opened there same is = subst (λ (t : Sides). Walked (strip s.behind ++ strip gs) (drop 1 (strip s.ahead)) (Replace (length s.behind) 1 (length gs) ∷ []) s t) (sym is) (record {
+    → new ≡ with_glyph_skipped (record s { behind = s.behind ++ gs }) → HasWalked (strip s.behind ++ strip gs) (drop 1 (strip s.ahead)) (Replace (length s.behind) 1 (length gs) ∷ []) s new
+put_walked gs g s new opened there same is = subst (λ (t : Sides). HasWalked (strip s.behind ++ strip gs) (drop 1 (strip s.ahead)) (Replace (length s.behind) 1 (length gs) ∷ []) s t) (sym is) (record {
   behind = map-append item_of s.behind gs;
   ahead = sym (drop-map item_of 1 s.ahead);
   happened =
@@ -38,8 +38,8 @@ put_walked gs g s new opened there same is = subst (λ (t : Sides). Walked (stri
       ∙ ap (λ os. origins s.behind ++ os ++ origins rest) same in
       let b : length (origins s.behind) ≡ length s.behind = length-map s.behind origin_of in
       now ∙ sym (origins_same (origin_of g) (origins s.behind) (origins rest) (length gs))
-      ∙ ap (λ k. replaced_among k 1 (length gs) (origins s.behind ++ origin_of g ∷ origins rest)) b ∙ ap (replaced_among (length s.behind) 1 (length gs)) (sym whole)
-      ∙ ap (replaced_among (length s.behind) 1 (length gs)) (sym (merged_alone (manner InList s.level) (length s.behind) (origins_of s)));
+      ∙ ap (λ k. elements_replaced k 1 (length gs) (origins s.behind ++ origin_of g ∷ origins rest)) b ∙ ap (elements_replaced (length s.behind) 1 (length gs)) (sym whole)
+      ∙ ap (elements_replaced (length s.behind) 1 (length gs)) (sym (merged_alone (manner InList s.level) (length s.behind) (origins_of s)));
   view = refl;
   settings = refl;
   opened = opened;
@@ -47,9 +47,9 @@ put_walked gs g s new opened there same is = subst (λ (t : Sides). Walked (stri
 })
 
 -- one glyph of its origin output instead of the one at the cursor
-pub passed_walked : (h g : hb_glyph_info_t) (s new : Sides) → s.is_open ≡ true → slice_get s.ahead 0 ≡ Some g → origin_of h ≡ origin_of g → new ≡ with_skipped (with_put h s)
-    → Walked (strip s.behind ++ item_of h ∷ []) (drop 1 (strip s.ahead)) [] s new
-passed_walked h g s new opened there same is = subst (λ (t : Sides). Walked (strip s.behind ++ item_of h ∷ []) (drop 1 (strip s.ahead)) [] s t) (sym is) (record {
+pub passed_walked : (h g : hb_glyph_info_t) (s new : Sides) → s.is_open ≡ true → slice_get s.ahead 0 ≡ Some g → origin_of h ≡ origin_of g → new ≡ with_glyph_skipped (with_output_info h s)
+    → HasWalked (strip s.behind ++ item_of h ∷ []) (drop 1 (strip s.ahead)) [] s new
+passed_walked h g s new opened there same is = subst (λ (t : Sides). HasWalked (strip s.behind ++ item_of h ∷ []) (drop 1 (strip s.ahead)) [] s t) (sym is) (record {
   behind = map-append item_of s.behind (h ∷ []);
   ahead = sym (drop-map item_of 1 s.ahead);
   happened =
@@ -73,11 +73,11 @@ all_taken (suc i) (x ∷ xs) le = ap (λ ys. x ∷ ys) (all_taken i xs (omega (a
 
 -- glyphs output one by one instead of the one at the cursor
 pub all_put : (gs : List hb_glyph_info_t) (i : ℕ) (s mid new : Sides) → s.is_open ≡ true → 0 < length s.ahead → ((g : hb_glyph_info_t) → slice_get s.ahead 0 ≡ Some g → origins gs ≡ replicate (length gs) (origin_of g))
-    → mid ≡ record s { behind = s.behind ++ take i gs } → length gs ≤ i → new ≡ with_skipped mid → Walked (strip s.behind ++ strip gs) (drop 1 (strip s.ahead)) (Replace (length s.behind) 1 (length gs) ∷ []) s new
+    → mid ≡ record s { behind = s.behind ++ take i gs } → length gs ≤ i → new ≡ with_glyph_skipped mid → HasWalked (strip s.behind ++ strip gs) (drop 1 (strip s.ahead)) (Replace (length s.behind) 1 (length gs) ∷ []) s new
 all_put gs i s mid new opened there same is le went = by_ahead s.ahead refl
   where
-    by_ahead : (hs : List hb_glyph_info_t) → s.ahead ≡ hs → Walked (strip s.behind ++ strip gs) (drop 1 (strip s.ahead)) (Replace (length s.behind) 1 (length gs) ∷ []) s new
+    by_ahead : (hs : List hb_glyph_info_t) → s.ahead ≡ hs → HasWalked (strip s.behind ++ strip gs) (drop 1 (strip s.ahead)) (Replace (length s.behind) 1 (length gs) ∷ []) s new
     by_ahead [] e = absurd (let none = ap (λ (ys : List hb_glyph_info_t). length ys) e in omega (arith, none, there))
     by_ahead (g ∷ hs) e =
         let at : slice_get s.ahead 0 ≡ Some g = ap (λ (ys : List hb_glyph_info_t). slice_get ys 0) e in
-        put_walked gs g s new opened at (same g at) (went ∙ ap with_skipped is ∙ ap (λ hs. with_skipped (record s { behind = s.behind ++ hs })) (all_taken i gs le))
+        put_walked gs g s new opened at (same g at) (went ∙ ap with_glyph_skipped is ∙ ap (λ hs. with_glyph_skipped (record s { behind = s.behind ++ hs })) (all_taken i gs le))

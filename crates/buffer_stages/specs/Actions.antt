@@ -21,7 +21,7 @@ pub record Cut : Type 0 where
   -- how many items a side of the list may hold
   pub max_len : ℕ
   -- the scratch flags, without HAS_GLYPH_FLAGS
-  pub told : ℕ
+  pub scratch_flags : ℕ
 
 -- the list that was cut
 abbrev pub whole : Cut → List Item
@@ -29,15 +29,15 @@ whole c = c.front ++ c.rest
 
 -- the cut before the first item of a view, without positions, as substitutions take it
 abbrev pub uncut : View → Cut
-uncut v = record { front = []; rest = v.items; positions = []; lig_id = v.lig_id; max_ops = v.max_ops; random = v.random; max_len = v.max_len; told = v.told }
+uncut v = record { front = []; rest = v.items; positions = []; lig_id = v.lig_id; max_ops = v.max_ops; random = v.random; max_len = v.max_len; scratch_flags = v.scratch_flags }
 
 -- the cut before the first item of a view, with its positions
-abbrev pub uncut_placed : View → Cut
-uncut_placed v = record (uncut v) { positions = v.positions }
+abbrev pub uncut_with_positions : View → Cut
+uncut_with_positions v = record (uncut v) { positions = v.positions }
 
 -- a view with the list of a cut
 abbrev pub view_at : View → Cut → View
-view_at v c = record { items = whole c; positions = c.positions; lig_id = c.lig_id; max_ops = c.max_ops; random = c.random; max_len = c.max_len; direction = v.direction; told = c.told }
+view_at v c = record { items = whole c; positions = c.positions; lig_id = c.lig_id; max_ops = c.max_ops; random = c.random; max_len = c.max_len; direction = v.direction; scratch_flags = c.scratch_flags }
 
 -- the cut after one more item
 abbrev pub past_item : Cut → Cut

@@ -4,13 +4,13 @@ use Rattle.std.specs.List.{list_all}
 use Rattle.buffer_common.specs.declared.direction.Direction.{Direction}
 use Rattle.buffer_glyphs.specs.Items.{Item, strip}
 use Rattle.buffer_glyphs.specs.Events.{Event}
-use Rattle.buffer_core.specs.Sides.{Sides, Settings, settings_of, items_of, origins_of, origins_by, told_of}
+use Rattle.buffer_core.specs.Sides.{Sides, Settings, settings_of, items_of, origins_of, origins_by, stage_flags}
 use Rattle.buffer_stages.specs.Actions.{Cut, Outcome, Passes, Acts, Refuses}
 
 -- the buffer's items cut at the cursor, with the positions where no output is open; each lookup draws random numbers
 -- from the state 1
 abbrev pub cut_of : Sides → Cut
-cut_of s = record { front = strip s.behind; rest = strip s.ahead; positions = s.positions; lig_id = s.lig_id; max_ops = s.max_ops; random = 1; max_len = s.max_len; told = told_of s.scratch_flags }
+cut_of s = record { front = strip s.behind; rest = strip s.ahead; positions = s.positions; lig_id = s.lig_id; max_ops = s.max_ops; random = 1; max_len = s.max_len; scratch_flags = stage_flags s.scratch_flags }
 
 -- each item has a glyph number below 2^16
 abbrev pub are_glyphs : List Item → Bool
@@ -33,8 +33,8 @@ abbrev pub IsStill : Sides → Sides → Type 0
 IsStill old new = frame_of new ≡ frame_of old
 
 -- the clusters and flags follow some events
-abbrev pub Happened : List Event → Sides → Sides → Type 0
-Happened events old new = origins_of new ≡ origins_by events old
+abbrev pub HasHappened : List Event → Sides → Sides → Type 0
+HasHappened events old new = origins_of new ≡ origins_by events old
 
 -- glyphs were read, and no more than were read were output
 pub record IsRead (old new : Sides) : Type 0 where
@@ -46,7 +46,7 @@ pub record IsRead (old new : Sides) : Type 0 where
 -- a rule made a cut of a buffer, after events on clusters and flags
 pub record IsActed (cut : Cut) (events : List Event) (old new : Sides) : Type 0 where
   pub cut_is : cut_of new ≡ cut
-  pub happened : Happened events old new
+  pub happened : HasHappened events old new
   pub still : IsStill old new
   pub counts : IsRead old new
   pub numbers : are_glyphs (items_of old) ≡ true → are_glyphs (items_of new) ≡ true
@@ -54,7 +54,7 @@ pub record IsActed (cut : Cut) (events : List Event) (old new : Sides) : Type 0 
 -- a rule passed, after events on clusters and flags
 pub record IsPassed (events : List Event) (old new : Sides) : Type 0 where
   pub cut_is : cut_of new ≡ cut_of old
-  pub happened : Happened events old new
+  pub happened : HasHappened events old new
   pub still : IsStill old new
   pub read : new.read ≡ old.read
 

@@ -26,8 +26,8 @@ pub record IsByteOf (byte index kind : ℕ) : Type 0 where
   pub kind_below : byte % 16 ≡ kind
 
 -- a syllable byte determines the serial number and the kind
-abbrev pub BytesTell : Type 0
-BytesTell = (index kind : ℕ) → kind < 16 → IsByteOf (syllable_byte index kind) index kind
+abbrev pub ByteGivesSyllable : Type 0
+ByteGivesSyllable = (index kind : ℕ) → kind < 16 → IsByteOf (syllable_byte index kind) index kind
 
 -- a syllable and the next have different bytes
 abbrev pub NeighboursDiffer : Type 0

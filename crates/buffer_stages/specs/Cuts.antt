@@ -32,9 +32,9 @@ abbrev pub elements_of : {X : Type 0} → List X → Syllable → List X
 elements_of xs s = slice_range xs s.start s.end
 
 -- a list cut into its syllables
-abbrev pub cut : {X : Type 0} → List Syllable → List X → List (List X)
-cut ss xs = map (elements_of xs) ss
+abbrev pub syllable_pieces : {X : Type 0} → List Syllable → List X → List (List X)
+syllable_pieces ss xs = map (elements_of xs) ss
 
 -- the syllables of a list, concatenated, are the list
 abbrev pub CutsJoin : Type 0
-CutsJoin = (next : ℕ → ℕ × ℕ) (xs : List ℕ) → EndsInside next (length xs) → flat_map (λ ys. ys) (cut (syllables next (length xs)) xs) ≡ xs
+CutsJoin = (next : ℕ → ℕ × ℕ) (xs : List ℕ) → EndsInside next (length xs) → flat_map (λ ys. ys) (syllable_pieces (syllables next (length xs)) xs) ≡ xs

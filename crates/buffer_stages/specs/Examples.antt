@@ -1,7 +1,7 @@
 -- Examples of lists in syllables, with their bytes.
 use Rattle.std.specs.Prelude.{ℕ, zero, suc, ◌+◌, ◌≡◌, [], ◌∷◌}
 use Rattle.buffer_stages.specs.Bytes.{syllable_bytes}
-use Rattle.buffer_stages.specs.Cuts.{cut, syllables}
+use Rattle.buffer_stages.specs.Cuts.{syllable_pieces, syllables}
 
 -- one element of kind 2, then all up to the fourth
 abbrev pub one_and_three : ℕ → ℕ × ℕ
@@ -14,7 +14,7 @@ single start = (start + 1, 2)
 
 -- the bytes of these lists
 pub record Examples : Type 0 where
-  pub pieces : cut {X = ℕ} (syllables one_and_three 4) (7 ∷ 8 ∷ 9 ∷ 6 ∷ []) ≡ (7 ∷ []) ∷ (8 ∷ 9 ∷ 6 ∷ []) ∷ []
+  pub pieces : syllable_pieces {X = ℕ} (syllables one_and_three 4) (7 ∷ 8 ∷ 9 ∷ 6 ∷ []) ≡ (7 ∷ []) ∷ (8 ∷ 9 ∷ 6 ∷ []) ∷ []
   pub two_bytes : syllable_bytes (syllables one_and_three 4) ≡ 18 ∷ 34 ∷ 34 ∷ 34 ∷ []
   -- the sixteenth syllable has the number of the first
   pub sixteen_bytes : syllable_bytes (syllables single 16)

@@ -11,18 +11,18 @@ fronts pair one (x ∷ []) = if one x then x ∷ [] else []
 fronts pair one (x ∷ y ∷ zs) = if pair x y then fronts pair one zs ++ (x ∷ y ∷ []) else if one x then fronts pair one (y ∷ zs) ++ (x ∷ []) else fronts pair one (y ∷ zs)
 
 -- the other elements, in their order
-abbrev pub stayed : {X : Type 0} → (X → X → Bool) → (X → Bool) → List X → List X
-stayed pair one [] = []
-stayed pair one (x ∷ []) = if one x then [] else x ∷ []
-stayed pair one (x ∷ y ∷ zs) = if pair x y then stayed pair one zs else if one x then stayed pair one (y ∷ zs) else x ∷ stayed pair one (y ∷ zs)
+abbrev pub elements_after_fronts : {X : Type 0} → (X → X → Bool) → (X → Bool) → List X → List X
+elements_after_fronts pair one [] = []
+elements_after_fronts pair one (x ∷ []) = if one x then [] else x ∷ []
+elements_after_fronts pair one (x ∷ y ∷ zs) = if pair x y then elements_after_fronts pair one zs else if one x then elements_after_fronts pair one (y ∷ zs) else x ∷ elements_after_fronts pair one (y ∷ zs)
 
 -- the elements that are moved, and after them the others
-abbrev pub gathered : {X : Type 0} → (X → X → Bool) → (X → Bool) → List X → List X
-gathered pair one xs = fronts pair one xs ++ stayed pair one xs
+abbrev pub with_fronts_moved : {X : Type 0} → (X → X → Bool) → (X → Bool) → List X → List X
+with_fronts_moved pair one xs = fronts pair one xs ++ elements_after_fronts pair one xs
 
 -- some elements of the front, and after them a list of which elements are moved before these
-abbrev pub gathered_after : {X : Type 0} → (X → X → Bool) → (X → Bool) → ℕ → List X → List X
-gathered_after pair one n xs = fronts pair one (drop n xs) ++ (take n xs ++ stayed pair one (drop n xs))
+abbrev pub with_fronts_moved_after : {X : Type 0} → (X → X → Bool) → (X → Bool) → ℕ → List X → List X
+with_fronts_moved_after pair one n xs = fronts pair one (drop n xs) ++ (take n xs ++ elements_after_fronts pair one (drop n xs))
 
 -- the moves of elements, with so many elements before the list; the first element of all need not move
 abbrev pub front_moves : {X : Type 0} → (X → X → Bool) → (X → Bool) → ℕ → List X → List FrontMove

@@ -1,6 +1,6 @@
 -- Lemmas for higher crates: rules on buffers, stages that write glyphs one by one, moves, syllables that are rewritten.
 pub mod Written
-pub mod Moved
+pub mod Moves
 pub mod Alone
 pub mod Nested
 pub mod Fronted
@@ -8,3 +8,8 @@ pub mod Ordered
 pub mod Shifts
 pub mod Rewritings
 pub mod Parts
+pub mod Permuted
+pub mod Numbers
+pub mod Arranged
+pub mod Sorted
+pub mod Made

@@ -8,7 +8,7 @@ pub mod Settings
 pub mod Pauses
 pub mod Laws
 pub mod Stages
-pub mod Places
+pub mod PositionMaps
 pub mod Moves
 pub mod Fronts
 pub mod Walks
@@ -16,6 +16,8 @@ pub mod Rewriting
 pub mod SyllableBuffers
 pub mod Parts
 pub mod SyllableLaws
+pub mod Ordering
+pub mod Turned
 pub mod Bytes
 pub mod Cuts
 pub mod Examples

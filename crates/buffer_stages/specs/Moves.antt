@@ -4,7 +4,7 @@ use Rattle.std.specs.List.{list_all, range_with_len}
 use Rattle.buffer_glyphs.specs.declared.info.hb_glyph_info_t.{hb_glyph_info_t}
 use Rattle.buffer_glyphs.specs.declared.level.BufferClusterLevel.{BufferClusterLevel}
 use Rattle.buffer_glyphs.specs.Levels.{InList, manner}
-use Rattle.buffer_glyphs.specs.Origins.{Asks, Origin, merged_as}
+use Rattle.buffer_glyphs.specs.Origins.{Asks, Origin, origins_merged_as}
 use Rattle.buffer_glyphs.specs.Events.{Event, Move, origins_after}
 use Rattle.buffer_core.specs.Readings.{View, Read, with_events}
 
@@ -14,8 +14,8 @@ are_one_cluster [] = true
 are_one_cluster (g ∷ gs) = list_all (λ h. h.cluster == g.cluster) gs
 
 -- the n elements from an index on moved after the k that followed them
-abbrev pub moved : {X : Type 0} → ℕ → ℕ → ℕ → List X → List X
-moved start n k xs = take start xs ++ (take k (drop (start + n) xs) ++ take n (drop start xs)) ++ drop (start + (n + k)) xs
+abbrev pub with_range_moved : {X : Type 0} → ℕ → ℕ → ℕ → List X → List X
+with_range_moved start n k xs = take start xs ++ (take k (drop (start + n) xs) ++ take n (drop start xs)) ++ drop (start + (n + k)) xs
 
 -- the order of the elements after such a move
 abbrev pub order_of_move : ℕ → ℕ → List ℕ
@@ -23,7 +23,7 @@ order_of_move n k = range_with_len n k ++ range_with_len 0 n
 
 -- the reading of such a move of items, which merges what it permutes
 abbrev pub with_move : ℕ → ℕ → ℕ → View → Read
-with_move start n k v = with_events (Move InList start (order_of_move n k) ∷ []) (record v { items = moved start n k v.items })
+with_move start n k v = with_events (Move InList start (order_of_move n k) ∷ []) (record v { items = with_range_moved start n k v.items })
 
 -- ---- moves to the front of one range
 
@@ -35,7 +35,7 @@ pub record FrontMove : Type 0 where
 -- such moves one after another, to one index
 abbrev pub all_moved : {X : Type 0} → ℕ → List FrontMove → List X → List X
 all_moved start [] xs = xs
-all_moved start (m ∷ ms) xs = all_moved start ms (moved start m.passed m.taken xs)
+all_moved start (m ∷ ms) xs = all_moved start ms (with_range_moved start m.passed m.taken xs)
 
 -- the events of such moves: each merges what it permutes
 abbrev pub move_events : ℕ → List FrontMove → List Event
@@ -55,4 +55,4 @@ IsGrowing n (m ∷ ms) = (n ≤ m.passed + m.taken) × IsGrowing (m.passed + m.t
 -- such moves leave, at every level, what one merge of the longest range leaves, in the order to which they move
 abbrev pub MovesMergeOnce : Type 0
 MovesMergeOnce = (asks : Asks) (level : BufferClusterLevel) (start : ℕ) (ms : List FrontMove) (os : List Origin) → IsGrowing 1 ms → start + reach 1 ms ≤ length os
-    → origins_after asks level (move_events start ms) os ≡ all_moved start ms (merged_as (manner InList level) start (start + reach 1 ms) os)
+    → origins_after asks level (move_events start ms) os ≡ all_moved start ms (origins_merged_as (manner InList level) start (start + reach 1 ms) os)

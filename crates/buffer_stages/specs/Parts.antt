@@ -6,25 +6,25 @@ use Rattle.buffer_glyphs.specs.Items.{Item, without_flags}
 use Rattle.buffer_glyphs.specs.Levels.{InList}
 use Rattle.buffer_glyphs.specs.Events.{Move}
 use Rattle.buffer_stages.specs.Moves.{move_events, order_of_move}
-use Rattle.buffer_stages.specs.Fronts.{front_moves, gathered_after}
-use Rattle.buffer_stages.specs.Rewriting.{Rewritten, kept}
+use Rattle.buffer_stages.specs.Fronts.{front_moves, with_fronts_moved_after}
+use Rattle.buffer_glyphs.specs.Rewriting.{Arrangement, eventless_arrangement}
 
 -- an item with the feature bits of a mask, without its glyph flags
-abbrev pub masked : ℕ → Item → Item
-masked bits x = record x { mask = bit_or x.mask (without_flags bits) }
+abbrev pub item_with_features : ℕ → Item → Item
+item_with_features bits x = record x { mask = bit_or x.mask (without_flags bits) }
 
 -- a glyph with the feature bits of a mask, without its glyph flags
 abbrev pub glyph_masked : ℕ → hb_glyph_info_t → hb_glyph_info_t
 glyph_masked bits g = record g { mask = bit_or g.mask (without_flags bits) }
 
 -- all items with the feature bits of a mask
-abbrev pub masked_all : ℕ → List Item → Rewritten
-masked_all bits xs = kept (map (masked bits) xs)
+abbrev pub items_with_features : ℕ → List Item → Arrangement
+items_with_features bits xs = eventless_arrangement (map (item_with_features bits) xs)
 
 -- the first n items moved after the others, and all merged
-abbrev pub first_to_back : ℕ → List Item → Rewritten
+abbrev pub first_to_back : ℕ → List Item → Arrangement
 first_to_back n xs = record { items = drop n xs ++ take n xs; events = Move InList 0 (order_of_move n (length xs - n)) ∷ [] }
 
 -- items moved to the front of those after the first n, one after another, each merged with the items that it passes
-abbrev pub fronts_moved : (Item → Item → Bool) → (Item → Bool) → ℕ → List Item → Rewritten
-fronts_moved pair one n xs = record { items = gathered_after pair one n xs; events = move_events 0 (front_moves pair one n (drop n xs)) }
+abbrev pub fronts_moved : (Item → Item → Bool) → (Item → Bool) → ℕ → List Item → Arrangement
+fronts_moved pair one n xs = record { items = with_fronts_moved_after pair one n xs; events = move_events 0 (front_moves pair one n (drop n xs)) }

@@ -5,7 +5,7 @@ use Rattle.buffer_glyphs.specs.declared.cause.ShapeCause.TheVariants.{OutOfMemor
 use Rattle.buffer_glyphs.specs.Events.{Event}
 use Rattle.buffer_core.specs.Sides.{Sides, items_of}
 use Rattle.buffer_stages.specs.Actions.{Cut, Outcome, Passes, Acts, Refuses}
-use Rattle.buffer_stages.specs.Buffers.{cut_of, are_glyphs, IsStill, Happened, IsPassed}
+use Rattle.buffer_stages.specs.Buffers.{cut_of, are_glyphs, IsStill, HasHappened, IsPassed}
 
 -- the buffer's list cut at the cursor, with the state of the random numbers, which is outside the buffer
 abbrev pub cut_with : ℕ → Sides → Cut
@@ -15,27 +15,27 @@ cut_with random s = record (cut_of s) { random = random }
 -- and the items already done stay
 pub record IsMade (cut : Cut) (events : List Event) (random : ℕ) (old new : Sides) : Type 0 where
   pub cut_is : cut_with random new ≡ cut
-  pub happened : Happened events old new
+  pub happened : HasHappened events old new
   pub still : IsStill old new
   pub fewer : length new.ahead < length old.ahead
   pub kept : length old.behind ≤ length new.behind
   pub numbers : are_glyphs (items_of old) ≡ true → are_glyphs (items_of new) ≡ true
 
 -- a call answers whether a rule acted, and did what the rule does, from one random state to another
-abbrev pub Performed : Outcome → Bool → ℕ → ℕ → Sides → Sides → Type 0
-Performed (Passes events) acted before after old new = (acted ≡ false) × (after ≡ before) × IsPassed events old new
-Performed (Acts cut events) acted before after old new = (acted ≡ true) × IsMade cut events after old new
-Performed (Refuses cause) acted before after old new = ⊥
+abbrev pub IsPerformed : Outcome → Bool → ℕ → ℕ → Sides → Sides → Type 0
+IsPerformed (Passes events) acted before after old new = (acted ≡ false) × (after ≡ before) × IsPassed events old new
+IsPerformed (Acts cut events) acted before after old new = (acted ≡ true) × IsMade cut events after old new
+IsPerformed (Refuses cause) acted before after old new = ⊥
 
 -- a call performs a rule, or refuses: for want of memory, or with the rule's own cause
 abbrev pub Performs : Outcome → Result Bool ShapeCause → ℕ → ℕ → Sides → Sides → Type 0
-Performs o (Ok acted) before after old new = Performed o acted before after old new
+Performs o (Ok acted) before after old new = IsPerformed o acted before after old new
 Performs o (Err cause) before after old new = cause ≢ OutOfMemory → o ≡ Refuses cause
 
 -- a rule made a cut of a list without an output, in place: the cursor stays, and so do the positions
 pub record IsPutInPlace (cut : Cut) (events : List Event) (old new : Sides) : Type 0 where
   pub cut_is : cut_of new ≡ cut
-  pub happened : Happened events old new
+  pub happened : HasHappened events old new
   pub still : IsStill old new
   pub read : new.read ≡ old.read
   pub positions : new.positions ≡ old.positions

@@ -1,7 +1,7 @@
 -- The state of a buffer before and after a stage of lookups.
 use Rattle.std.specs.Prelude.{ℕ, ◌≡◌, true, false, [], length}
-use Rattle.buffer_core.specs.Readings.{Run, Stage, Follows, read_of}
-use Rattle.buffer_core.specs.Sides.{Sides, settings_of, all_glyphs, items_of, view_of, run_of}
+use Rattle.buffer_core.specs.Readings.{BufferState, Stage, Follows, reading_of}
+use Rattle.buffer_core.specs.Sides.{Sides, settings_of, all_glyphs, items_of, view_of, state_of}
 use Rattle.buffer_stages.specs.Buffers.{are_glyphs}
 
 -- a buffer without an output, with the cursor before all glyphs and a position for each
@@ -14,18 +14,18 @@ pub record IsReady (s : Sides) : Type 0 where
 
 -- a stage was done on a buffer: view, clusters and flags follow its reading, and the settings stay
 pub record IsDone (stage : Stage) (old new : Sides) : Type 0 where
-  pub follows : Follows (read_of stage (run_of old)) (run_of old) (run_of new)
+  pub follows : Follows (reading_of stage (state_of old)) (state_of old) (state_of new)
   pub settings : settings_of new ≡ settings_of old
   pub ready : IsReady new
   pub numbers : are_glyphs (items_of old) ≡ true → are_glyphs (items_of new) ≡ true
 
 -- the state of a buffer, with the state of the random numbers, which is outside the buffer
-abbrev pub run_with : ℕ → Sides → Run
-run_with random s = record (run_of s) { view = record (view_of s) { random = random } }
+abbrev pub state_with : ℕ → Sides → BufferState
+state_with random s = record (state_of s) { view = record (view_of s) { random = random } }
 
 -- a stage was done, from one state of the random numbers to another
 pub record IsDoneFrom (before after : ℕ) (stage : Stage) (old new : Sides) : Type 0 where
-  pub follows : Follows (read_of stage (run_with before old)) (run_with before old) (run_with after new)
+  pub follows : Follows (reading_of stage (state_with before old)) (state_with before old) (state_with after new)
   pub settings : settings_of new ≡ settings_of old
   pub ready : IsReady new
   pub numbers : are_glyphs (items_of old) ≡ true → are_glyphs (items_of new) ≡ true

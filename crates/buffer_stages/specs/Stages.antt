@@ -6,13 +6,13 @@ use Rattle.buffer_glyphs.specs.declared.info.hb_glyph_info_t.{hb_glyph_info_t}
 use Rattle.buffer_glyphs.specs.Items.{Item, Position, item_of, strip}
 use Rattle.buffer_glyphs.specs.Origins.{origin_of, origins}
 use Rattle.buffer_glyphs.specs.Events.{Event}
-use Rattle.buffer_core.specs.Readings.{View, Read, Stage, with_events, Follows, read_of}
-use Rattle.buffer_core.specs.Sides.{Sides, settings_of, view_of, run_of, origins_of, origins_by}
+use Rattle.buffer_core.specs.Readings.{View, Read, Stage, with_events, Follows, reading_of}
+use Rattle.buffer_core.specs.Sides.{Sides, settings_of, view_of, state_of, origins_of, origins_by}
 use Rattle.buffer_stages.specs.Ready.{IsReady}
 
 -- a stage was done: view, clusters and flags follow its reading, and the settings stay
 pub record IsFollowed (stage : Stage) (old new : Sides) : Type 0 where
-  pub follows : Follows (read_of stage (run_of old)) (run_of old) (run_of new)
+  pub follows : Follows (reading_of stage (state_of old)) (state_of old) (state_of new)
   pub settings : settings_of new ≡ settings_of old
   pub ready : IsReady new
 
@@ -31,8 +31,8 @@ pub record Becomes (items : List Item) (positions : List Position) (old new : Si
   pub ready : IsReady new
 
 -- the reading of a stage that changes each item by itself
-abbrev pub mapped : (Item → Item) → View → Read
-mapped k v = with_events [] (record v { items = map k v.items })
+abbrev pub with_items_mapped : (Item → Item) → View → Read
+with_items_mapped k v = with_events [] (record v { items = map k v.items })
 
 -- the glyphs are the old items under a map, with the old origins
 pub record AreMapped (k : Item → Item) (old new : List hb_glyph_info_t) : Type 0 where

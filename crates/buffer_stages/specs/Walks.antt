@@ -8,7 +8,7 @@ use Rattle.buffer_glyphs.specs.Events.{Event}
 use Rattle.buffer_core.specs.Sides.{Sides, items_of, view_of, settings_of, origins_of, origins_by}
 
 -- the items behind the cursor and ahead of it now, after some events; all else stays
-pub record Walked (out rest : List Item) (events : List Event) (old new : Sides) : Type 0 where
+pub record HasWalked (out rest : List Item) (events : List Event) (old new : Sides) : Type 0 where
   pub behind : strip new.behind ≡ out
   pub ahead : strip new.ahead ≡ rest
   pub happened : origins_of new ≡ origins_by events old
@@ -18,8 +18,8 @@ pub record Walked (out rest : List Item) (events : List Event) (old new : Sides)
   pub unrefused : new.has_refused ≡ old.has_refused
 
 -- a call refuses for want of memory, or since so many items do not fit behind the cursor
-abbrev pub Exceeds : ℕ → ShapeCause → Sides → Type 0
-Exceeds n e old = e ≢ OutOfMemory → (e ≡ TooLong) × (old.max_len < n)
+abbrev pub RefusesLength : ℕ → ShapeCause → Sides → Type 0
+RefusesLength n e old = e ≢ OutOfMemory → (e ≡ TooLong) × (old.max_len < n)
 
 -- the first of some items, under another number
 abbrev pub renumbered_first : ℕ → List Item → List Item

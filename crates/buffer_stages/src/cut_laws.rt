@@ -1,5 +1,5 @@
 //! Laws of lists that are cut into syllables.
-ghost use Rattle.buffer_stages.specs.Bytes.{BytesAreOne, BytesTell, NeighboursDiffer};
+ghost use Rattle.buffer_stages.specs.Bytes.{BytesAreOne, ByteGivesSyllable, NeighboursDiffer};
 ghost use Rattle.buffer_stages.specs.Cuts.{CutsJoin};
 ghost use Rattle.buffer_stages.specs.Examples.{Examples};
 ghost use Rattle.buffer_stages.specs.Pieces.{PermutesEach};
@@ -24,8 +24,8 @@ pub fn law_bytes_are_one()
 
 /// A syllable byte determines the serial number and the kind.
 #[tactic(auto, using(crate::proofs::Bytewise::bytes_tell))]
-pub fn law_bytes_tell()
-    ensures { BytesTell }
+pub fn law_byte_gives_syllable()
+    ensures { ByteGivesSyllable }
 {}
 
 /// Neighbouring syllables have different bytes.

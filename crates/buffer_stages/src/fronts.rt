@@ -1,7 +1,7 @@
 //! Glyphs that are moved to the front of a range, each before those moved earlier.
 ghost use Rattle.std.specs.Prelude.{◌≡◌, ◌≤◌, ◌<◌, ◌+◌, ◌-◌, ◌++◌, Bool, drop, length, slice_range, take};
 ghost use Rattle.buffer_glyphs.specs.Items.{Item, item_of};
-ghost use Rattle.buffer_stages.specs.Fronts.{StandApart, fronts, gathered, gathered_after, one_seen, pair_seen};
+ghost use Rattle.buffer_stages.specs.Fronts.{StandApart, fronts, with_fronts_moved, with_fronts_moved_after, one_seen, pair_seen};
 ghost use Rattle.buffer_stages.specs.Lemmas.Fronted.{IsApart};
 
 use crate::moves::rotate;
@@ -36,7 +36,7 @@ pub fn gather<R: FrontRule>(
     requires ordered { from ≤ to }
     requires within { to ≤ length glyphs.old }
     ensures gathered { glyphs.new ≡ take from glyphs.old
-        ++ gathered (pair_seen (R.pairs rule.now)) (one_seen (R.ones rule.now)) (slice_range glyphs.old from to)
+        ++ with_fronts_moved (pair_seen (R.pairs rule.now)) (one_seen (R.ones rule.now)) (slice_range glyphs.old from to)
         ++ drop to glyphs.old }
     ensures count { result ≡ length (fronts (pair_seen (R.pairs rule.now)) (one_seen (R.ones rule.now))
         (slice_range glyphs.old from to)) }
@@ -67,7 +67,7 @@ pub fn gather_after<R: FrontRule>(
     requires ordered { begin ≤ end }
     requires within { end ≤ length glyphs.old }
     ensures { glyphs.new ≡ take start glyphs.old
-        ++ gathered_after (pair_seen (R.pairs rule.now)) (one_seen (R.ones rule.now)) (begin - start)
+        ++ with_fronts_moved_after (pair_seen (R.pairs rule.now)) (one_seen (R.ones rule.now)) (begin - start)
         (slice_range glyphs.old start end)
         ++ drop end glyphs.old }
 {
@@ -97,7 +97,7 @@ fn end_of_half<R: FrontRule>(rule: &R, glyphs: &[hb_glyph_info_t], from: usize, 
     ensures inside { result ≤ to }
     ensures apart { result < to → IsApart (pair_seen (R.pairs rule.now)) (slice_range glyphs.now from result)
         (slice_range glyphs.now result to) }
-    ensures whole { result ≡ to → gathered (pair_seen (R.pairs rule.now)) (one_seen (R.ones rule.now))
+    ensures whole { result ≡ to → with_fronts_moved (pair_seen (R.pairs rule.now)) (one_seen (R.ones rule.now))
         (slice_range glyphs.now from to) ≡ slice_range glyphs.now from to }
     ensures both { result ≡ to → length (fronts (pair_seen (R.pairs rule.now)) (one_seen (R.ones rule.now))
         (slice_range glyphs.now from to)) ≡ 2 }

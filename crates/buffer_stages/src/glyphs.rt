@@ -2,7 +2,7 @@
 ghost use Rattle.buffer_glyphs.specs.Items.{Item};
 ghost use Rattle.buffer_core.specs.Readings.{always};
 ghost use Rattle.buffer_stages.specs.Ready.{IsReady};
-ghost use Rattle.buffer_stages.specs.Stages.{AreMapped, IsFollowed, Makes, mapped};
+ghost use Rattle.buffer_stages.specs.Stages.{AreMapped, IsFollowed, Makes, with_items_mapped};
 
 use buffer_core::buffer::hb_buffer_t;
 use buffer_glyphs::info::hb_glyph_info_t;
@@ -13,7 +13,7 @@ use buffer_glyphs::info::hb_glyph_info_t;
 pub fn map_glyphs<F: Fn(&hb_glyph_info_t) -> hb_glyph_info_t>(buffer: &mut hb_buffer_t, make: F)
     requires callable { F.IsAlwaysCallable make }
     requires ready { IsReady buffer.old }
-    ensures { (k : Item → Item) → Makes F.Fn make k → IsFollowed (always (mapped k)) buffer.old buffer.new }
+    ensures { (k : Item → Item) → Makes F.Fn make k → IsFollowed (always (with_items_mapped k)) buffer.old buffer.new }
 {
     map_each(buffer.info_slice_mut(), make);
 }

@@ -3,6 +3,6 @@ ghost use Rattle.buffer_stages.specs.Laws.{RulesGoInOrder};
 
 /// Of rules in order, none is tried after one that acts; the events of those that passed stay.
 #[tactic(auto, using(crate::proofs::Lemmas::Orders::rules_in_order))]
-pub fn rules_go_in_order()
+pub fn law_rules_go_in_order()
     ensures { RulesGoInOrder }
 {}

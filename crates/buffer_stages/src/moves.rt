@@ -7,7 +7,7 @@ ghost use Rattle.buffer_lists.specs.Known.{HasOrder};
 ghost use Rattle.buffer_core.specs.Readings.{always};
 ghost use Rattle.buffer_core.specs.Sides.{all_glyphs};
 ghost use Rattle.buffer_stages.specs.Ready.{IsReady};
-ghost use Rattle.buffer_stages.specs.Moves.{are_one_cluster, moved, with_move};
+ghost use Rattle.buffer_stages.specs.Moves.{are_one_cluster, with_range_moved, with_move};
 ghost use Rattle.buffer_stages.specs.Stages.{IsFollowed};
 
 use buffer_core::buffer::hb_buffer_t;
@@ -67,7 +67,7 @@ pub(crate) fn rotate(glyphs: &mut [hb_glyph_info_t], start: usize, middle: usize
     requires begins { start ≤ middle }
     requires ordered { middle ≤ end }
     requires within { end ≤ length glyphs.old }
-    ensures { glyphs.new ≡ moved start (middle - start) (end - middle) glyphs.old }
+    ensures { glyphs.new ≡ with_range_moved start (middle - start) (end - middle) glyphs.old }
 {
     glyphs[start..end].rotate_left(middle - start);
 }

@@ -3,7 +3,7 @@ ghost use Rattle.std.specs.Prelude.{◌≡◌, ◌≤◌, ◌-◌, ◌++◌, len
 ghost use Rattle.buffer_core.specs.Sides.{all_glyphs, items_of};
 ghost use Rattle.buffer_stages.specs.Ready.{IsReady};
 ghost use Rattle.buffer_stages.specs.SyllableBuffers.{IsRewritten};
-ghost use Rattle.buffer_stages.specs.Parts.{first_to_back, glyph_masked, masked_all};
+ghost use Rattle.buffer_stages.specs.Parts.{first_to_back, glyph_masked, items_with_features};
 
 use crate::moves::move_back;
 use buffer_core::buffer::hb_buffer_t;
@@ -27,7 +27,7 @@ pub fn add_mask(buffer: &mut hb_buffer_t, start: usize, end: usize, mask: hb_mas
     requires ready { IsReady buffer.old }
     requires ordered { start ≤ end }
     requires within { end ≤ length (all_glyphs buffer.old) }
-    ensures { IsRewritten (masked_all mask (slice_range (items_of buffer.old) start end)) start end buffer.old
+    ensures { IsRewritten (items_with_features mask (slice_range (items_of buffer.old) start end)) start end buffer.old
         buffer.new }
 {
     let known = buffer.known_order();
@@ -55,7 +55,8 @@ fn mask_each(glyphs: &mut [hb_glyph_info_t], mask: hb_mask_t)
     }
 }
 
-fn with_mask(glyph: hb_glyph_info_t, mask: hb_mask_t) -> hb_glyph_info_t
+/// A glyph with the features of a mask; its glyph flags are left out.
+pub fn with_mask(glyph: hb_glyph_info_t, mask: hb_mask_t) -> hb_glyph_info_t
     ensures { result ≡ glyph_masked mask glyph }
 {
     let features = mask - (mask & DEFINED);

@@ -1,9 +1,9 @@
 //! The pauses between the GSUB stages of a map (rustybuzz: hb/ot_map.rs, `pause_func_t`).
 ghost use Rattle.std.specs.Prelude.{ℕ, ◌≡◌, ◌≢◌, true, false, Ok, Err, IfErr, OnOk};
-ghost use Rattle.buffer_core.specs.Readings.{Stage, read_of};
-ghost use Rattle.buffer_core.specs.Sides.{items_of, run_of};
+ghost use Rattle.buffer_core.specs.Readings.{Stage, reading_of};
+ghost use Rattle.buffer_core.specs.Sides.{items_of, state_of};
 ghost use Rattle.buffer_stages.specs.Buffers.{are_glyphs};
-ghost use Rattle.buffer_stages.specs.Ready.{IsDone, IsDoneFrom, IsReady, run_with};
+ghost use Rattle.buffer_stages.specs.Ready.{IsDone, IsDoneFrom, IsReady, state_with};
 ghost use Rattle.buffer_stages.specs.Pauses.{BringsNoGlyph, pause_stage};
 ghost use Rattle.buffer_stages.specs.Settings.{TextSettings, text_settings};
 
@@ -21,9 +21,9 @@ pub trait Pause {
         requires ready { IsReady buffer.old }
         requires numbers { are_glyphs (items_of buffer.old) ≡ true }
         ensures ok { OnOk result (IsDone (stage self.now (text_settings buffer.old) pause) buffer.old buffer.new) }
-        ensures told { result ≡ Ok false → BringsNoGlyph (items_of buffer.old) (items_of buffer.new) }
+        ensures brings_none { result ≡ Ok false → BringsNoGlyph (items_of buffer.old) (items_of buffer.new) }
         ensures err { IfErr result (λ e. e ≢ ShapeCause.OutOfMemory
-            → read_of (stage self.now (text_settings buffer.old) pause) (run_of buffer.old) ≡ Err e) };
+            → reading_of (stage self.now (text_settings buffer.old) pause) (state_of buffer.old) ≡ Err e) };
 }
 
 /// Runs the pause of a GSUB stage, if it has one: a pipeline stage of its own, which leaves the random state as it was.
@@ -40,8 +40,8 @@ pub fn run_pause<P: Pause>(
         ((r : ℕ) → IsDoneFrom r r (pause_stage (P.stage pause.now (text_settings buffer.old)) number)
         buffer.old buffer.new) }
     ensures err { IfErr result (λ e. e ≢ ShapeCause.OutOfMemory
-        → (r : ℕ) → read_of (pause_stage (P.stage pause.now (text_settings buffer.old)) number)
-        (run_with r buffer.old) ≡ Err e) }
+        → (r : ℕ) → reading_of (pause_stage (P.stage pause.now (text_settings buffer.old)) number)
+        (state_with r buffer.old) ≡ Err e) }
 {
     match number {
         Some(number) => match pause.run(number, buffer) {

@@ -2,7 +2,7 @@
 ghost use Rattle.buffer_glyphs.specs.Items.{Item, Position};
 ghost use Rattle.buffer_core.specs.Readings.{always};
 ghost use Rattle.buffer_stages.specs.Ready.{IsDone, IsReady};
-ghost use Rattle.buffer_stages.specs.Places.{MakesPositions, placed};
+ghost use Rattle.buffer_stages.specs.PositionMaps.{MakesPositions, with_positions_mapped};
 
 use buffer_core::buffer::hb_buffer_t;
 use buffer_glyphs::info::hb_glyph_info_t;
@@ -16,7 +16,7 @@ pub fn map_positions<F: Fn(&hb_glyph_info_t, GlyphPosition) -> GlyphPosition>(
     requires callable { F.IsAlwaysCallable make }
     requires ready { IsReady buffer.old }
     ensures { (k : Item → Position → Position) → MakesPositions F.Fn make k
-        → IsDone (always (placed k)) buffer.old buffer.new }
+        → IsDone (always (with_positions_mapped k)) buffer.old buffer.new }
 {
     let count = buffer.info_slice().len();
     for i in 0..count {

@@ -5,7 +5,8 @@ ghost use Rattle.buffer_core.specs.Readings.{always};
 ghost use Rattle.buffer_core.specs.Sides.{all_glyphs, items_of};
 ghost use Rattle.buffer_stages.specs.Ready.{IsReady};
 ghost use Rattle.buffer_stages.specs.Stages.{IsFollowed};
-ghost use Rattle.buffer_stages.specs.Rewriting.{Rewritten, by_syllable};
+ghost use Rattle.buffer_glyphs.specs.Rewriting.{Arrangement};
+ghost use Rattle.buffer_stages.specs.Rewriting.{by_syllable};
 ghost use Rattle.buffer_stages.specs.SyllableBuffers.{IsRewritten, with_rule};
 
 use buffer_core::buffer::hb_buffer_t;
@@ -13,7 +14,7 @@ use std::alloc::AllocError;
 
 /// A rule for one syllable, which keeps its length.
 pub trait SyllableRule {
-    ghost rewritten: { Self → List Item → Rewritten };
+    ghost rewritten: { Self → List Item → Arrangement };
 
     /// Rewrites the glyphs from `start` up to before `end`, which are one syllable.
     fn rewrite(&self, buffer: &mut hb_buffer_t, start: usize, end: usize) -> Result<(), AllocError>

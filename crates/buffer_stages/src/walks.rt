@@ -6,9 +6,9 @@ ghost use Rattle.buffer_lists.specs.Known.{HasOrder};
 ghost use Rattle.buffer_glyphs.specs.Levels.{InOutput};
 ghost use Rattle.buffer_glyphs.specs.Events.{Merge, Move, Replace};
 ghost use Rattle.buffer_glyphs.specs.Origins.{origin_of, origins};
-ghost use Rattle.buffer_core.specs.Sides.{fits_joined, synced};
-ghost use Rattle.buffer_stages.specs.Moves.{moved, order_of_move};
-ghost use Rattle.buffer_stages.specs.Walks.{Exceeds, Walked, renumbered_first};
+ghost use Rattle.buffer_core.specs.Sides.{fits_joined, after_sync};
+ghost use Rattle.buffer_stages.specs.Moves.{with_range_moved, order_of_move};
+ghost use Rattle.buffer_stages.specs.Walks.{RefusesLength, HasWalked, renumbered_first};
 
 use crate::moves::{are_one_cluster, rotate};
 use buffer_core::buffer::hb_buffer_t;
@@ -24,9 +24,9 @@ use buffer_lists::order::KnownOrder;
 pub fn advance(buffer: &mut hb_buffer_t) -> Result<(), ShapeCause>
     requires open { buffer.old.is_open ≡ true }
     requires there { 0 < length buffer.old.ahead }
-    ensures ok { OnOk result (Walked (strip buffer.old.behind ++ take 1 (strip buffer.old.ahead))
+    ensures ok { OnOk result (HasWalked (strip buffer.old.behind ++ take 1 (strip buffer.old.ahead))
         (drop 1 (strip buffer.old.ahead)) [] buffer.old buffer.new) }
-    ensures err { IfErr result (λ e. Exceeds (length buffer.old.behind + 1) e buffer.old) }
+    ensures err { IfErr result (λ e. RefusesLength (length buffer.old.behind + 1) e buffer.old) }
 {
     if !buffer.next_glyph()? {
         return Err(ShapeCause::TooLong);
@@ -43,9 +43,9 @@ pub fn advance_as(glyph: hb_glyph_info_t, buffer: &mut hb_buffer_t) -> Result<()
     requires open { buffer.old.is_open ≡ true }
     requires there { 0 < length buffer.old.ahead }
     requires same { (g : Glyph) → slice_get buffer.old.ahead 0 ≡ Some g → origin_of glyph ≡ origin_of g }
-    ensures ok { OnOk result (Walked (strip buffer.old.behind ++ item_of glyph ∷ []) (drop 1 (strip buffer.old.ahead))
+    ensures ok { OnOk result (HasWalked (strip buffer.old.behind ++ item_of glyph ∷ []) (drop 1 (strip buffer.old.ahead))
         [] buffer.old buffer.new) }
-    ensures err { IfErr result (λ e. Exceeds (length buffer.old.behind + 1) e buffer.old) }
+    ensures err { IfErr result (λ e. RefusesLength (length buffer.old.behind + 1) e buffer.old) }
 {
     if !buffer.output_info(glyph)? {
         return Err(ShapeCause::TooLong);
@@ -67,9 +67,9 @@ pub fn replace_current(
     requires there { 0 < length buffer.old.ahead }
     requires same { (g : Glyph) → slice_get buffer.old.ahead 0 ≡ Some g → origins glyphs.now
         ≡ replicate (length glyphs.now) (origin_of g) }
-    ensures ok { OnOk result (Walked (strip buffer.old.behind ++ strip glyphs.now) (drop 1 (strip buffer.old.ahead))
+    ensures ok { OnOk result (HasWalked (strip buffer.old.behind ++ strip glyphs.now) (drop 1 (strip buffer.old.ahead))
         (Replace (length buffer.old.behind) 1 (length glyphs.now) ∷ []) buffer.old buffer.new) }
-    ensures err { IfErr result (λ e. Exceeds (length buffer.old.behind + length glyphs.now) e buffer.old) }
+    ensures err { IfErr result (λ e. RefusesLength (length buffer.old.behind + length glyphs.now) e buffer.old) }
 {
     for glyph in glyphs {
         if !buffer.output_info(*glyph)? {
@@ -85,7 +85,7 @@ pub fn merge_behind(start: usize, end: usize, buffer: &mut hb_buffer_t)
     requires open { buffer.old.is_open ≡ true }
     requires ordered { start ≤ end }
     requires within { end ≤ length buffer.old.behind }
-    ensures { Walked (strip buffer.old.behind) (strip buffer.old.ahead) (Merge InOutput start end ∷ []) buffer.old
+    ensures { HasWalked (strip buffer.old.behind) (strip buffer.old.ahead) (Merge InOutput start end ∷ []) buffer.old
         buffer.new }
 {
     buffer.merge_out_clusters(start, end);
@@ -98,7 +98,7 @@ pub fn move_behind(start: usize, middle: usize, end: usize, buffer: &mut hb_buff
     requires begins { start ≤ middle }
     requires ordered { middle ≤ end }
     requires within { end ≤ length buffer.old.behind }
-    ensures { Walked (moved start (middle - start) (end - middle) (strip buffer.old.behind)) (strip buffer.old.ahead)
+    ensures { HasWalked (with_range_moved start (middle - start) (end - middle) (strip buffer.old.behind)) (strip buffer.old.ahead)
         (Move InOutput start (order_of_move (middle - start) (end - middle)) ∷ []) buffer.old buffer.new }
 {
     merge_behind(start, end, buffer);
@@ -113,7 +113,7 @@ fn order_kept_behind(buffer: &mut hb_buffer_t, start: usize, end: usize) -> Know
     requires within { end ≤ length buffer.old.behind }
     ensures same { buffer.new ≡ buffer.old }
     ensures moved { (n k : ℕ) → start + (n + k) ≡ end → HasOrder result
-        (clusters (moved start n k buffer.old.behind ++ buffer.old.ahead)) }
+        (clusters (with_range_moved start n k buffer.old.behind ++ buffer.old.ahead)) }
 {
     let is_one = are_one_cluster(&buffer.out_info()[start..end]);
     let known = buffer.known_order();
@@ -127,7 +127,7 @@ fn order_kept_behind(buffer: &mut hb_buffer_t, start: usize, end: usize) -> Know
 /// `TooLong` where that is more than the buffer may hold, or want of memory.
 pub fn finish(buffer: &mut hb_buffer_t) -> Result<(), ShapeCause>
     requires open { buffer.old.is_open ≡ true }
-    ensures ok { OnOk result ((fits_joined buffer.old ≡ true) × (buffer.new ≡ synced buffer.old)) }
+    ensures ok { OnOk result ((fits_joined buffer.old ≡ true) × (buffer.new ≡ after_sync buffer.old)) }
     ensures err { IfErr result (λ e. e ≢ ShapeCause.OutOfMemory
         → (e ≡ ShapeCause.TooLong) × (fits_joined buffer.old ≡ false)) }
 {
@@ -146,9 +146,9 @@ pub fn replace_front(count: usize, number: u32, buffer: &mut hb_buffer_t) -> Res
     requires open { buffer.old.is_open ≡ true }
     requires some { 0 < count }
     requires there { count ≤ length buffer.old.ahead }
-    ensures ok { OnOk result (Walked (strip buffer.old.behind ++ renumbered_first number (strip buffer.old.ahead))
+    ensures ok { OnOk result (HasWalked (strip buffer.old.behind ++ renumbered_first number (strip buffer.old.ahead))
         (drop count (strip buffer.old.ahead)) (Replace (length buffer.old.behind) count 1 ∷ []) buffer.old buffer.new) }
-    ensures err { IfErr result (λ e. Exceeds (length buffer.old.behind + 1) e buffer.old) }
+    ensures err { IfErr result (λ e. RefusesLength (length buffer.old.behind + 1) e buffer.old) }
 {
     if !buffer.replace_glyphs(count, 1, &[number])? {
         return Err(ShapeCause::TooLong);

@@ -212,6 +212,6 @@ impl GeneralCategoryExt for GeneralCategory {
 }
 
 /// The number of a category leads back to it.
-pub fn from_rb_inverts_to_rb()
+pub fn law_from_rb_inverts_to_rb()
     ensures { NumberLeadsBack }
 {}

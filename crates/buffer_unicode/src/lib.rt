@@ -6,5 +6,5 @@ pub mod character;
 mod scripts;
 pub mod space;
 
-pub use category::{GeneralCategoryExt, from_rb_inverts_to_rb, hb_unicode_general_category_t};
+pub use category::{GeneralCategoryExt, hb_unicode_general_category_t, law_from_rb_inverts_to_rb};
 pub use character::CharExt;

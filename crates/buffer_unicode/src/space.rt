@@ -33,6 +33,6 @@ pub const SPACE_PUNCTUATION: space_t = 20;
 pub const SPACE_NARROW: space_t = 21;
 
 /// The types of spaces have their numbers: those of the fractions of an em are the denominators.
-pub fn space_types_are_listed()
+pub fn law_space_types_are_listed()
     ensures { SpaceTypesAreListed }
 {}

@@ -4,7 +4,7 @@ use Rattle.buffer_rows.specs.Pages.{IsStart}
 use Rattle.std.proofs.lemmas.Bool.{and_parts, and_from, and_left, and_right, or_from, or_left, cases_lt, lt-leb}
 use Rattle.std.proofs.lemmas.Bool.Decides.{nat_tests}
 use Rattle.buffer_unicode_rows.specs.Keys.{precedes, rises_after, is_rising}
-use Rattle.buffer_unicode_rows.specs.Ranges.{has_character, is_in_ranges, widened, ends_rise}
+use Rattle.buffer_unicode_rows.specs.Ranges.{has_character, is_in_ranges, widened_ranges, ends_rise}
 use Rattle.buffer_unicode_rows.proofs.Searches.{first_rises}
 use Rattle.buffer_unicode_rows.specs.declared.rows.CharacterRange.{CharacterRange}
 
@@ -28,7 +28,7 @@ none_after c r (q ∷ qs) h lt =
     let above : r.first < q.first = grind (arith, nat_tests, parts.0) in
     or_from _ _ (below_first c q (omega (arith, lt, above))) (none_after c q qs parts.1 (omega (arith, lt, above)))
 
-none_after_widened : (c m : ℕ) (r : CharacterRange) (rs : List CharacterRange) → firsts_rise (Some r) rs ≡ true → c < r.first → is_in_ranges (widened m rs) c ≡ false
+none_after_widened : (c m : ℕ) (r : CharacterRange) (rs : List CharacterRange) → firsts_rise (Some r) rs ≡ true → c < r.first → is_in_ranges (widened_ranges m rs) c ≡ false
 none_after_widened c m r [] h lt = refl
 none_after_widened c m r (q ∷ qs) h lt =
     let parts = and_parts (precedes (λ (_ : CharacterRange). 0) (λ (r : CharacterRange). r.first) r q) (firsts_rise (Some q) qs) h in
@@ -36,7 +36,7 @@ none_after_widened c m r (q ∷ qs) h lt =
     or_from _ _ (below_first c (record q { last = max m q.last }) (omega (arith, lt, above))) (none_after_widened c (max m q.last) q qs parts.1 (omega (arith, lt, above)))
 
 -- widened ranges have the characters of the ranges
-has_widened : (c m : ℕ) (before : Option CharacterRange) (rs : List CharacterRange) → firsts_rise before rs ≡ true → m ≤ c - 1 → is_in_ranges (widened m rs) c ≡ is_in_ranges rs c
+has_widened : (c m : ℕ) (before : Option CharacterRange) (rs : List CharacterRange) → firsts_rise before rs ≡ true → m ≤ c - 1 → is_in_ranges (widened_ranges m rs) c ≡ is_in_ranges rs c
 has_widened c m before [] h le = refl
 has_widened c m before (r ∷ rs) h le =
     let rest = first_rises (λ (_ : CharacterRange). 0) (λ (r : CharacterRange). r.first) before r rs h in
@@ -56,27 +56,27 @@ has_widened c m before (r ∷ rs) h le =
           ]
     ]
 
-pub widened_has : (c : ℕ) (rows wide : List CharacterRange) → is_rising (λ _. 0) (λ (r : CharacterRange). r.first) rows ≡ true → wide ≡ widened 0 rows → is_in_ranges wide c ≡ is_in_ranges rows c
+pub widened_has : (c : ℕ) (rows wide : List CharacterRange) → is_rising (λ _. 0) (λ (r : CharacterRange). r.first) rows ≡ true → wide ≡ widened_ranges 0 rows → is_in_ranges wide c ≡ is_in_ranges rows c
 widened_has c rows wide h e = rw e (has_widened c 0 None rows h (omega arith))
 
-rises_widened : (m : ℕ) (r q : CharacterRange) (rs : List CharacterRange) → q.first ≡ r.first → firsts_rise (Some r) rs ≡ true → firsts_rise (Some q) (widened m rs) ≡ true
+rises_widened : (m : ℕ) (r q : CharacterRange) (rs : List CharacterRange) → q.first ≡ r.first → firsts_rise (Some r) rs ≡ true → firsts_rise (Some q) (widened_ranges m rs) ≡ true
 rises_widened m r q [] e h = refl
 rises_widened m r q (x ∷ xs) e h =
     let parts = and_parts (precedes (λ (_ : CharacterRange). 0) (λ (r : CharacterRange). r.first) r x) (firsts_rise (Some x) xs) h in
     and_from _ _ (rw e parts.0) (rises_widened (max m x.last) x (record x { last = max m x.last }) xs refl parts.1)
 
-rising_widened : (rs : List CharacterRange) → firsts_rise None rs ≡ true → firsts_rise None (widened 0 rs) ≡ true
+rising_widened : (rs : List CharacterRange) → firsts_rise None rs ≡ true → firsts_rise None (widened_ranges 0 rs) ≡ true
 rising_widened [] h = refl
 rising_widened (r ∷ rs) h = rises_widened (max 0 r.last) r (record r { last = max 0 r.last }) rs refl h
 
-pub widened_rises : (rows wide : List CharacterRange) → is_rising (λ _. 0) (λ (r : CharacterRange). r.first) rows ≡ true → wide ≡ widened 0 rows → is_rising (λ _. 0) (λ (r : CharacterRange). r.first) wide ≡ true
+pub widened_rises : (rows wide : List CharacterRange) → is_rising (λ _. 0) (λ (r : CharacterRange). r.first) rows ≡ true → wide ≡ widened_ranges 0 rows → is_rising (λ _. 0) (λ (r : CharacterRange). r.first) wide ≡ true
 widened_rises rows wide h e = rw e (rising_widened rows h)
 
-ends_widened : (m : ℕ) (rs : List CharacterRange) → ends_rise m (widened m rs) ≡ true
+ends_widened : (m : ℕ) (rs : List CharacterRange) → ends_rise m (widened_ranges m rs) ≡ true
 ends_widened m [] = refl
 ends_widened m (r ∷ rs) = and_from _ _ (le-leb m (max m r.last) (omega arith)) (ends_widened (max m r.last) rs)
 
-pub widened_ends : (rows wide : List CharacterRange) → wide ≡ widened 0 rows → ends_rise 0 wide ≡ true
+pub widened_ends : (rows wide : List CharacterRange) → wide ≡ widened_ranges 0 rows → ends_rise 0 wide ≡ true
 widened_ends rows wide e = rw e (ends_widened 0 rows)
 
 -- ---- the last range that begins at a character or before it
@@ -123,8 +123,8 @@ last_decides c m (r ∷ rs) (suc j) d h s =
     let reach : r.last ≤ (get_or rs j d).last = reached r.last rs j d parts.1 (omega (arith, within)) in
     rw (sym later) (sym (shorter c r.first r.last (get_or rs j d).last reach))
 
-pub last_tells : (c : ℕ) (rows : List CharacterRange) (start : ℕ) (d : CharacterRange) → ends_rise 0 rows ≡ true → IsStart (λ (r : CharacterRange). r.first) rows (c + 1) start → start ≢ 0 → nat_le c (get_or rows (start - 1) d).last ≡ is_in_ranges rows c
-last_tells c rows zero d h s n = absurd (n refl)
-last_tells c rows (suc j) d h s n =
+pub last_range_decides : (c : ℕ) (rows : List CharacterRange) (start : ℕ) (d : CharacterRange) → ends_rise 0 rows ≡ true → IsStart (λ (r : CharacterRange). r.first) rows (c + 1) start → start ≢ 0 → nat_le c (get_or rows (start - 1) d).last ≡ is_in_ranges rows c
+last_range_decides c rows zero d h s n = absurd (n refl)
+last_range_decides c rows (suc j) d h s n =
     let back : suc j - 1 ≡ j = omega arith in
     rw back (last_decides c 0 rows j d h s)

@@ -12,9 +12,9 @@ abbrev pub is_in_ranges : List CharacterRange → ℕ → Bool
 is_in_ranges rows c = list_any (has_character c) rows
 
 -- ranges of which each reaches as far as any before it
-abbrev pub widened : ℕ → List CharacterRange → List CharacterRange
-widened reach [] = []
-widened reach (r ∷ rs) = record r { last = max reach r.last } ∷ widened (max reach r.last) rs
+abbrev pub widened_ranges : ℕ → List CharacterRange → List CharacterRange
+widened_ranges reach [] = []
+widened_ranges reach (r ∷ rs) = record r { last = max reach r.last } ∷ widened_ranges (max reach r.last) rs
 
 -- whether the ends of ranges never decrease, from some end on
 abbrev pub ends_rise : ℕ → List CharacterRange → Bool

@@ -1,7 +1,7 @@
 //! Ranges of characters that may overlap.
 ghost use Rattle.std.specs.Prelude.{◌≡◌, true, max, List, IfOk};
 ghost use Rattle.buffer_unicode_rows.specs.Keys.{is_rising};
-ghost use Rattle.buffer_unicode_rows.specs.Ranges.{ends_rise, is_in_ranges, widened};
+ghost use Rattle.buffer_unicode_rows.specs.Ranges.{ends_rise, is_in_ranges, widened_ranges};
 ghost use Rattle.buffer_unicode_rows.specs.declared.rows.CharacterRange.{CharacterRange};
 
 use crate::rows::CharacterRange;
@@ -48,7 +48,7 @@ impl CharacterRanges {
 }
 
 fn widen(alloc: Global, rows: &[CharacterRange]) -> Result<Vec<CharacterRange>, AllocError>
-    ensures { IfOk result (λ v. v.items ≡ widened 0 rows.now) }
+    ensures { IfOk result (λ v. v.items ≡ widened_ranges 0 rows.now) }
 {
     let mut wide = Vec::new(alloc);
     let mut reach = '\0';

@@ -3,7 +3,7 @@ use Rattle.std.proofs.Common.{ℕ, zero, suc, ◌≡◌, ◌≢◌, ◌+◌, ◌
 use Rattle.std.proofs.lemmas.Bool.{and_parts, and_cases, cond_both, cases_eq, cases_Bool}
 use Rattle.std.specs.List.{list_all, find}
 use Rattle.buffer_unicode_rows.specs.declared.rows.Split.{Split}
-use Rattle.buffer_unicode_tables.specs.Expansion.{Splits, followed_by, expanded, ends_within, ends_by, EndWithin, HasDeepChain}
+use Rattle.buffer_unicode_tables.specs.Expansion.{Splits, with_second_piece, expansion_by_splits, ends_within, ends_by, EndWithin, HasDeepChain}
 use Rattle.buffer_unicode_tables.specs.Hangul.{is_syllable, hangul_split}
 use Rattle.buffer_unicode_tables.specs.Ranges.{AllAmong, SomeAmong}
 use Rattle.buffer_unicode_tables.specs.Tables.{splits_of}
@@ -122,32 +122,32 @@ pub ends_or_not : (splits : List Split) (leading : Bool) → list_all (λ (r : S
 ends_or_not splits true rows leading = all_end splits rows leading
 ends_or_not splits false rows leading = syllable_is_deep splits leading
 
-pub expanded_at_zero : (splits : Splits) (depth u : ℕ) → depth ≡ 0 → expanded splits depth u ≡ u ∷ []
-unfolding expanded
+pub expanded_at_zero : (splits : Splits) (depth u : ℕ) → depth ≡ 0 → expansion_by_splits splits depth u ≡ u ∷ []
+unfolding expansion_by_splits
 expanded_at_zero splits zero u e = refl
 expanded_at_zero splits (suc depth) u e = absurd (omega (arith, e))
 
-pub expanded_alone : (splits : Splits) (depth u : ℕ) → splits u ≡ None → expanded splits depth u ≡ u ∷ []
-unfolding expanded
+pub expanded_alone : (splits : Splits) (depth u : ℕ) → splits u ≡ None → expansion_by_splits splits depth u ≡ u ∷ []
+unfolding expansion_by_splits
 expanded_alone splits zero u h = refl
 expanded_alone splits (suc depth) u h = rw h refl
 
-pub expanded_parts : (splits : Splits) (depth u a b : ℕ) → splits u ≡ Some (a, b) → depth ≢ 0 → expanded splits depth u ≡ followed_by b (expanded splits (depth - 1) a)
-unfolding expanded
+pub expanded_parts : (splits : Splits) (depth u a b : ℕ) → splits u ≡ Some (a, b) → depth ≢ 0 → expansion_by_splits splits depth u ≡ with_second_piece b (expansion_by_splits splits (depth - 1) a)
+unfolding expansion_by_splits
 expanded_parts splits zero u a b h n = absurd (n refl)
 expanded_parts splits (suc depth) u a b h n =
     let e : suc depth - 1 ≡ depth = omega arith in
     rw (h, e) refl
 
-pub with_second : (splits : Splits) (depth u a b : ℕ) (old mid new : List ℕ) → splits u ≡ Some (a, b) → depth ≢ 0 → b ≢ 0 → mid ≡ old ++ expanded splits (depth - 1) a → new ≡ mid ++ b ∷ []
-    → new ≡ old ++ expanded splits depth u
+pub with_second : (splits : Splits) (depth u a b : ℕ) (old mid new : List ℕ) → splits u ≡ Some (a, b) → depth ≢ 0 → b ≢ 0 → mid ≡ old ++ expansion_by_splits splits (depth - 1) a → new ≡ mid ++ b ∷ []
+    → new ≡ old ++ expansion_by_splits splits depth u
 with_second splits depth u a b old mid new h n present m e =
     let parts = expanded_parts splits depth u a b h n in
     let off : (b == 0) ≡ false = ne_eqb b 0 present in
-    rw (e, m, parts, off) (append_assoc old (expanded splits (depth - 1) a) (b ∷ []))
+    rw (e, m, parts, off) (append_assoc old (expansion_by_splits splits (depth - 1) a) (b ∷ []))
 
-pub without_second : (splits : Splits) (depth u a b : ℕ) (old mid : List ℕ) → splits u ≡ Some (a, b) → depth ≢ 0 → b ≡ 0 → mid ≡ old ++ expanded splits (depth - 1) a
-    → mid ≡ old ++ expanded splits depth u
+pub without_second : (splits : Splits) (depth u a b : ℕ) (old mid : List ℕ) → splits u ≡ Some (a, b) → depth ≢ 0 → b ≡ 0 → mid ≡ old ++ expansion_by_splits splits (depth - 1) a
+    → mid ≡ old ++ expansion_by_splits splits depth u
 without_second splits depth u a b old mid h n absent m =
     let parts = expanded_parts splits depth u a b h n in
     let at : (b == 0) ≡ true = eq-eqb b 0 absent in

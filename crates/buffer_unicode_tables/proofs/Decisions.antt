@@ -14,10 +14,10 @@ use Rattle.buffer_unicode_tables.specs.ClassOrder.{beside_starters}
 use Rattle.buffer_unicode_tables.specs.Expansion.{Splits, EndWithin}
 use Rattle.buffer_unicode_tables.specs.Hangul.{hangul_split, hangul_pair}
 use Rattle.buffer_unicode_tables.specs.Ranges.{AllAmong, SomeAmong}
-use Rattle.buffer_unicode_tables.specs.Lawful.{SecondPartsStay, PairsAreEquivalent, ClassesAreOfMarks, SplitsKeepClass}
+use Rattle.buffer_unicode_tables.specs.Lawful.{SecondHalvesStay, PairsAreEquivalent, ClassesAreOfMarks, SplitsKeepClass}
 use Rattle.buffer_unicode_tables.proofs.Orders.{order_from_classes, classes_from_order}
 use Rattle.buffer_unicode_tables.specs.Tables.{Tables, split_of, class_of, pair_of}
-use Rattle.buffer_unicode_tables.specs.Tests.{second_stays, same_text, same_beside_starters, has_same_classes, whole_is_equivalent, class_is_of_mark, parts_have_class, keeps_class}
+use Rattle.buffer_unicode_tables.specs.Tests.{second_half_stays, same_text, same_beside_starters, has_same_classes, whole_is_equivalent, class_is_of_mark, parts_have_class, keeps_class}
 use Rattle.buffer_unicode_tables.specs.Texts.{full_expansion, text_order}
 use Rattle.buffer_unicode_tables.proofs.Expansions.{expansion_of_split, second_is_jamo}
 use Rattle.buffer_unicode_tables.proofs.Syllables.{hangul_pairs_are_splits, pair_of_vowel, pair_of_trailing}
@@ -170,14 +170,14 @@ pair_row t a b u None e h = cc
 pair_row t a b u (Some p) e h = (p, sym e)
 
 -- a syllable has the expansions of its two halves
-syllable_order : (t : Tables) (a b u : ℕ) → EndWithin (split_of t) 8 → SecondPartsStay t → hangul_pair a b ≡ Some u → text_order t (full_expansion t u) ≡ text_order t (full_expansion t a ++ full_expansion t b)
+syllable_order : (t : Tables) (a b u : ℕ) → EndWithin (split_of t) 8 → SecondHalvesStay t → hangul_pair a b ≡ Some u → text_order t (full_expansion t u) ≡ text_order t (full_expansion t a ++ full_expansion t b)
 syllable_order t a b u ends stay h =
     let parts = (hangul_pairs_are_splits a b u).0 h in
     let s : split_of t u ≡ Some (a, b) = rw parts refl in
     let present : b ≢ 0 = elim (second_is_jamo u a b parts) [ inl vowel ↦ λ z. absurd (omega (arith, vowel, z)) | inr trailing ↦ λ z. absurd (omega (arith, trailing, z)) ] in
     ap (text_order t) (expansion_of_split t u a b ends stay s present)
 
-pair_case : (t : Tables) → EndWithin (split_of t) 8 → SecondPartsStay t
+pair_case : (t : Tables) → EndWithin (split_of t) 8 → SecondHalvesStay t
     → list_all (λ (p : Pair). whole_is_equivalent t p.first p.second (pair_of t p.first p.second)) t.pairs ≡ true
     → (a b u : ℕ) (o : Option ℕ) → o ≡ hangul_pair a b → option_or o (option_map (λ (p : Pair). p.whole) (find (λ (p : Pair). p.first == a && p.second == b) t.pairs)) ≡ Some u
     → pair_of t a b ≡ Some u → text_order t (full_expansion t u) ≡ text_order t (full_expansion t a ++ full_expansion t b)
@@ -190,11 +190,11 @@ pair_case t ends stay h a b u None e at whole =
     let second : row.0.second ≡ b = eqb-true row.0.second b keys.1 in
     whole_from t a b u (pair_of t a b) (rw (first, second) at found.1) whole
 
-pair_passes : (t : Tables) → EndWithin (split_of t) 8 → SecondPartsStay t
+pair_passes : (t : Tables) → EndWithin (split_of t) 8 → SecondHalvesStay t
     → list_all (λ (p : Pair). whole_is_equivalent t p.first p.second (pair_of t p.first p.second)) t.pairs ≡ true → PairsAreEquivalent t
 pair_passes t ends stay h a b u e = pair_case t ends stay h a b u (hangul_pair a b) refl e e
 
-pub pairs_decided : (t : Tables) → EndWithin (split_of t) 8 → SecondPartsStay t
+pub pairs_decided : (t : Tables) → EndWithin (split_of t) 8 → SecondHalvesStay t
     → IsTrue (list_all (λ (p : Pair). whole_is_equivalent t p.first p.second (pair_of t p.first p.second)) t.pairs) ↔ PairsAreEquivalent t
 pairs_decided t ends stay =
     (pair_passes t ends stay, λ pairs. all_pass (λ (p : Pair). whole_is_equivalent t p.first p.second (pair_of t p.first p.second)) t.pairs (λ p. whole_at t p.first p.second pairs (pair_of t p.first p.second) refl))
@@ -203,7 +203,7 @@ none_is : (o : Option (ℕ × ℕ)) → is_none o ≡ true → o ≡ None
 none_is None h = refl
 none_is (Some p) h = cc
 
-absent_or_whole : (splits : Splits) (o : Option (ℕ × ℕ)) (a b : ℕ) → second_stays splits o ≡ true → o ≡ Some (a, b) → b ≢ 0 → splits b ≡ None
+absent_or_whole : (splits : Splits) (o : Option (ℕ × ℕ)) (a b : ℕ) → second_half_stays splits o ≡ true → o ≡ Some (a, b) → b ≢ 0 → splits b ≡ None
 absent_or_whole splits o a b h e n =
     let here : (b == 0 || is_none (splits b)) ≡ true = rw e at h in
     elim (or_cases (b == 0) (is_none (splits b)) here) [
@@ -220,7 +220,7 @@ split_row : (t : Tables) (u a b : ℕ) (o : Option Split) → o ≡ find (λ (s 
 split_row t u a b None e h = cc
 split_row t u a b (Some s) e h = (s, sym e)
 
-seconds_case : (t : Tables) → list_all (λ (r : Split). second_stays (split_of t) (split_of t r.whole)) t.splits ≡ true
+seconds_case : (t : Tables) → list_all (λ (r : Split). second_half_stays (split_of t) (split_of t r.whole)) t.splits ≡ true
     → AllAmong 0x1161 21 (λ c. is_none (split_of t c)) → AllAmong 0x11A8 27 (λ c. is_none (split_of t c))
     → (u a b : ℕ) (o : Option (ℕ × ℕ)) → o ≡ hangul_split u → option_or o (option_map {U = ℕ × ℕ} (λ (s : Split). (s.first, s.second)) (find (λ (s : Split). s.whole == u) t.splits)) ≡ Some (a, b)
     → split_of t u ≡ Some (a, b) → b ≢ 0 → split_of t b ≡ None
@@ -232,31 +232,31 @@ seconds_case t rows vowels trailing u a b (Some p) e at whole n =
     ]
 seconds_case t rows vowels trailing u a b None e at whole n =
     let row = split_row t u a b (find (λ (s : Split). s.whole == u) t.splits) refl at in
-    let found = find_passes (λ (s : Split). s.whole == u) (λ (r : Split). second_stays (split_of t) (split_of t r.whole)) t.splits row.0 row.1 rows in
+    let found = find_passes (λ (s : Split). s.whole == u) (λ (r : Split). second_half_stays (split_of t) (split_of t r.whole)) t.splits row.0 row.1 rows in
     let key : row.0.whole ≡ u = eqb-true row.0.whole u found.0 in
     absent_or_whole (split_of t) (split_of t u) a b (rw key at found.1) whole n
 
-pub seconds_stay : (t : Tables) → list_all (λ (r : Split). second_stays (split_of t) (split_of t r.whole)) t.splits ≡ true
-    → AllAmong 0x1161 21 (λ c. is_none (split_of t c)) → AllAmong 0x11A8 27 (λ c. is_none (split_of t c)) → SecondPartsStay t
+pub seconds_stay : (t : Tables) → list_all (λ (r : Split). second_half_stays (split_of t) (split_of t r.whole)) t.splits ≡ true
+    → AllAmong 0x1161 21 (λ c. is_none (split_of t c)) → AllAmong 0x11A8 27 (λ c. is_none (split_of t c)) → SecondHalvesStay t
 seconds_stay t rows vowels trailing u a b h n = seconds_case t rows vowels trailing u a b (hangul_split u) refl h h n
 
-second_test : (splits : Splits) (o : Option (ℕ × ℕ)) → ((a b : ℕ) → o ≡ Some (a, b) → b ≢ 0 → splits b ≡ None) → second_stays splits o ≡ true
+second_test : (splits : Splits) (o : Option (ℕ × ℕ)) → ((a b : ℕ) → o ≡ Some (a, b) → b ≢ 0 → splits b ≡ None) → second_half_stays splits o ≡ true
 second_test splits None h = refl
 second_test splits (Some (a, b)) h =
     elim (cases_eq b 0) [ inl z ↦ or_left _ _ (eq-eqb b 0 z) | inr n ↦ or_right _ _ (is_none-none (splits b) (h a b refl n)) ]
 
-pub row_splits_twice : (t : Tables) → list_all (λ (r : Split). second_stays (split_of t) (split_of t r.whole)) t.splits ≡ false → SecondPartsStay t → ⊥
+pub row_splits_twice : (t : Tables) → list_all (λ (r : Split). second_half_stays (split_of t) (split_of t r.whole)) t.splits ≡ false → SecondHalvesStay t → ⊥
 row_splits_twice t h stay =
-    both_ways _ h (all_pass (λ (r : Split). second_stays (split_of t) (split_of t r.whole)) t.splits (λ r. second_test (split_of t) (split_of t r.whole) (λ a b e n. stay r.whole a b e n)))
+    both_ways _ h (all_pass (λ (r : Split). second_half_stays (split_of t) (split_of t r.whole)) t.splits (λ r. second_test (split_of t) (split_of t r.whole) (λ a b e n. stay r.whole a b e n)))
 
-pub vowel_splits : (t : Tables) → SomeAmong 0x1161 21 (λ c. is_none (split_of t c) ≡ false) → SecondPartsStay t → ⊥
+pub vowel_splits : (t : Tables) → SomeAmong 0x1161 21 (λ c. is_none (split_of t c) ≡ false) → SecondHalvesStay t → ⊥
 vowel_splits t (c, (low, high, fails)) stay =
     let pair = pair_of_vowel 0x1100 c (omega arith) (omega arith) low (omega arith) in
     let parts = (hangul_pairs_are_splits 0x1100 c _).0 pair in
     let whole : split_of t (0xAC00 + ((0x1100 - 0x1100) * 588 + (c - 0x1161) * 28)) ≡ Some (0x1100, c) = rw parts refl in
     both_ways _ fails (is_none-none (split_of t c) (stay _ 0x1100 c whole (omega arith)))
 
-pub trailing_splits : (t : Tables) → SomeAmong 0x11A8 27 (λ c. is_none (split_of t c) ≡ false) → SecondPartsStay t → ⊥
+pub trailing_splits : (t : Tables) → SomeAmong 0x11A8 27 (λ c. is_none (split_of t c) ≡ false) → SecondHalvesStay t → ⊥
 trailing_splits t (c, (low, high, fails)) stay =
     let pair = pair_of_trailing 0xAC00 c (omega arith) (omega arith) (omega arith) low (omega arith) in
     let parts = (hangul_pairs_are_splits 0xAC00 c _).0 pair in
@@ -270,9 +270,9 @@ pub it_is : (P : Type 0) → P → IsTrue true ↔ P
 it_is P p = (λ _. p, λ _. refl)
 
 -- the last test decides
-pub trailing_decided : (t : Tables) (trailing : Bool) → list_all (λ (r : Split). second_stays (split_of t) (split_of t r.whole)) t.splits ≡ true
+pub trailing_decided : (t : Tables) (trailing : Bool) → list_all (λ (r : Split). second_half_stays (split_of t) (split_of t r.whole)) t.splits ≡ true
     → AllAmong 0x1161 21 (λ c. is_none (split_of t c))
     → MatchBool trailing (AllAmong 0x11A8 27 (λ c. is_none (split_of t c))) (SomeAmong 0x11A8 27 (λ c. is_none (split_of t c) ≡ false))
-    → IsTrue trailing ↔ SecondPartsStay t
-trailing_decided t true rows vowels trailing = it_is (SecondPartsStay t) (seconds_stay t rows vowels trailing)
-trailing_decided t false rows vowels trailing = not_so (SecondPartsStay t) (trailing_splits t trailing)
+    → IsTrue trailing ↔ SecondHalvesStay t
+trailing_decided t true rows vowels trailing = it_is (SecondHalvesStay t) (seconds_stay t rows vowels trailing)
+trailing_decided t false rows vowels trailing = not_so (SecondHalvesStay t) (trailing_splits t trailing)

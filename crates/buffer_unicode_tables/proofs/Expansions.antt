@@ -1,41 +1,41 @@
 -- Full expansions of a character and of its halves.
 use Rattle.std.proofs.Common.{ℕ, zero, suc, ◌≡◌, ◌≢◌, ◌+◌, ◌-◌, ◌/◌, ◌%◌, ◌<◌, ◌≤◌, ◌==◌, ◌⊎◌, Bool, true, false, List, [], ◌∷◌, ◌++◌, ne_eqb, Option, Some, None, is_none, refl, sym, ap, ◌∙◌, arith, inl, inr}
 use Rattle.std.proofs.lemmas.Bool.{cases_eq, cases_Bool}
-use Rattle.buffer_unicode_tables.specs.Expansion.{Splits, followed_by, by_parts, expanded, ends_by, ends_within, EndWithin}
+use Rattle.buffer_unicode_tables.specs.Expansion.{Splits, with_second_piece, by_halves, expansion_by_splits, ends_by, ends_within, EndWithin}
 use Rattle.buffer_unicode_tables.specs.Hangul.{is_syllable, hangul_split}
-use Rattle.buffer_unicode_tables.specs.Lawful.{SecondPartsStay}
+use Rattle.buffer_unicode_tables.specs.Lawful.{SecondHalvesStay}
 use Rattle.buffer_unicode_tables.specs.Tables.{Tables, split_of}
 use Rattle.buffer_unicode_tables.specs.Texts.{full_expansion}
 use Rattle.buffer_unicode_tables.proofs.Chains.{ends_with_first, expanded_alone, expanded_parts}
 use Rattle.buffer_unicode_tables.proofs.Syllables.{among_bounds, no_split_without_syllable, split_without_trailing, split_with_trailing, second_eq}
 
-same_parts : (f g : ℕ → List ℕ) (e : ℕ → Bool) → ((a : ℕ) → e a ≡ true → f a ≡ g a) → (u : ℕ) (s : Option (ℕ × ℕ)) → ends_by e s ≡ true → by_parts f u s ≡ by_parts g u s
+same_parts : (f g : ℕ → List ℕ) (e : ℕ → Bool) → ((a : ℕ) → e a ≡ true → f a ≡ g a) → (u : ℕ) (s : Option (ℕ × ℕ)) → ends_by e s ≡ true → by_halves f u s ≡ by_halves g u s
 same_parts f g e same u None h = refl
-same_parts f g e same u (Some (a, b)) h = ap (followed_by b) (same a h)
+same_parts f g e same u (Some (a, b)) h = ap (with_second_piece b) (same a h)
 
-none_alone : (f : ℕ → List ℕ) (u : ℕ) (s : Option (ℕ × ℕ)) → is_none s ≡ true → by_parts f u s ≡ u ∷ []
+none_alone : (f : ℕ → List ℕ) (u : ℕ) (s : Option (ℕ × ℕ)) → is_none s ≡ true → by_halves f u s ≡ u ∷ []
 none_alone f u None h = refl
 none_alone f u (Some (a, b)) h = cc
 
 -- where the chain of first halves ends, more depth changes nothing
-pub depth_is_enough : (splits : Splits) (depth u : ℕ) → ends_within splits depth u ≡ true → expanded splits (suc depth) u ≡ expanded splits depth u
-unfolding expanded ends_within
-depth_is_enough splits zero u h = none_alone (expanded splits zero) u (splits u) h
+pub depth_is_enough : (splits : Splits) (depth u : ℕ) → ends_within splits depth u ≡ true → expansion_by_splits splits (suc depth) u ≡ expansion_by_splits splits depth u
+unfolding expansion_by_splits ends_within
+depth_is_enough splits zero u h = none_alone (expansion_by_splits splits zero) u (splits u) h
 depth_is_enough splits (suc depth) u h =
-    same_parts (expanded splits (suc depth)) (expanded splits depth) (ends_within splits depth) (λ a k. depth_is_enough splits depth a k) u (splits u) h
+    same_parts (expansion_by_splits splits (suc depth)) (expansion_by_splits splits depth) (ends_within splits depth) (λ a k. depth_is_enough splits depth a k) u (splits u) h
 
 -- the full expansion of the first half, then the second half
-pub expansion_of_parts : (t : Tables) (u a b : ℕ) → EndWithin (split_of t) 8 → split_of t u ≡ Some (a, b) → full_expansion t u ≡ followed_by b (full_expansion t a)
+pub expansion_of_parts : (t : Tables) (u a b : ℕ) → EndWithin (split_of t) 8 → split_of t u ≡ Some (a, b) → full_expansion t u ≡ with_second_piece b (full_expansion t a)
 expansion_of_parts t u a b ends s =
     let first = sym (ends_with_first (split_of t) 8 u a b s (omega arith)) ∙ ends u in
     let enough = depth_is_enough (split_of t) 7 a first in
-    expanded_parts (split_of t) 8 u a b s (omega arith) ∙ ap (followed_by b) (sym enough)
+    expanded_parts (split_of t) 8 u a b s (omega arith) ∙ ap (with_second_piece b) (sym enough)
 
 pub expansion_alone : (t : Tables) (u : ℕ) → split_of t u ≡ None → full_expansion t u ≡ u ∷ []
 expansion_alone t u h = expanded_alone (split_of t) 8 u h
 
 -- a split has the expansions of its halves
-pub expansion_of_split : (t : Tables) (u a b : ℕ) → EndWithin (split_of t) 8 → SecondPartsStay t → split_of t u ≡ Some (a, b) → b ≢ 0 → full_expansion t u ≡ full_expansion t a ++ full_expansion t b
+pub expansion_of_split : (t : Tables) (u a b : ℕ) → EndWithin (split_of t) 8 → SecondHalvesStay t → split_of t u ≡ Some (a, b) → b ≢ 0 → full_expansion t u ≡ full_expansion t a ++ full_expansion t b
 expansion_of_split t u a b ends stay s n =
     let off : (b == 0) ≡ false = ne_eqb b 0 n in
     let whole = expansion_of_parts t u a b ends s in

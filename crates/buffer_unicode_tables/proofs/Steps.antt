@@ -4,7 +4,7 @@ use Rattle.std.proofs.lemmas.Bool.{cases_eq}
 use Rattle.std.proofs.lemmas.List.{append-nil}
 use Rattle.std.proofs.lemmas.List.Concat.{flat_map-append}
 use Rattle.buffer_unicode_tables.specs.ClassOrder.{beside_starters}
-use Rattle.buffer_unicode_tables.specs.Expansion.{followed_by, by_parts, expanded, EndWithin}
+use Rattle.buffer_unicode_tables.specs.Expansion.{with_second_piece, by_halves, expansion_by_splits, EndWithin}
 use Rattle.buffer_unicode_tables.specs.Lawful.{IsLawful, SplitsKeepClass}
 use Rattle.buffer_unicode_tables.specs.Laws.{SplitsKeepExpansion, StepsKeepOrder, EquivalentsHaveOneOrder, PairsKeepOrder}
 use Rattle.buffer_unicode_tables.proofs.Orders.{beside_starters-append, order_from_classes, classes_from_order}
@@ -16,7 +16,7 @@ full_append : (t : Tables) (xs ys : List ℕ) → full_text t (xs ++ ys) ≡ ful
 full_append t xs ys = flat_map-append (full_expansion t) xs ys
 
 -- the halves of a decomposition have the expansion of the whole
-whole_as_parts : (t : Tables) (u a b : ℕ) → EndWithin (split_of t) 8 → IsLawful t → split_of t u ≡ Some (a, b) → full_expansion t u ≡ full_text t (followed_by b (a ∷ []))
+whole_as_parts : (t : Tables) (u a b : ℕ) → EndWithin (split_of t) 8 → IsLawful t → split_of t u ≡ Some (a, b) → full_expansion t u ≡ full_text t (with_second_piece b (a ∷ []))
 whole_as_parts t u a b ends lawful s =
     elim (cases_eq b 0) [
       | inl z ↦
@@ -31,13 +31,13 @@ whole_as_parts t u a b ends lawful s =
 
 pub splits_keep_expansion : SplitsKeepExpansion
 splits_keep_expansion t ends lawful xs ys s =
-    let parts = followed_by s.second (s.first ∷ []) in
+    let parts = with_second_piece s.second (s.first ∷ []) in
     let whole = whole_as_parts t s.whole s.first s.second ends lawful s.splits in
     ap (full_text t) s.is_before
     ∙ (full_append t s.front (s.whole ∷ s.back)
     ∙ (ap (λ zs. full_text t s.front ++ (zs ++ full_text t s.back)) whole
-    ∙ (ap (λ zs. full_text t s.front ++ zs) (sym (full_append t (followed_by s.second (s.first ∷ [])) s.back))
-    ∙ (sym (full_append t s.front (followed_by s.second (s.first ∷ []) ++ s.back))
+    ∙ (ap (λ zs. full_text t s.front ++ zs) (sym (full_append t (with_second_piece s.second (s.first ∷ [])) s.back))
+    ∙ (sym (full_append t s.front (with_second_piece s.second (s.first ∷ []) ++ s.back))
     ∙ ap (full_text t) (sym s.is_after)))))
 
 -- each character has a class
@@ -49,23 +49,23 @@ all_push : (class : ℕ → ℕ) (k : ℕ) (xs : List ℕ) (b : ℕ) → AllOfCl
 all_push class k [] b h e = (e, tt)
 all_push class k (x ∷ xs) b h e = (h.0, all_push class k xs b h.1 e)
 
-all_followed : (class : ℕ → ℕ) (k : ℕ) (xs : List ℕ) (b : ℕ) → AllOfClass class k xs → (b ≢ 0 → class b ≡ k) → AllOfClass class k (followed_by b xs)
+all_followed : (class : ℕ → ℕ) (k : ℕ) (xs : List ℕ) (b : ℕ) → AllOfClass class k xs → (b ≢ 0 → class b ≡ k) → AllOfClass class k (with_second_piece b xs)
 all_followed class k xs b h e =
     elim (cases_eq b 0) [
       | inl z ↦ let at : (b == 0) ≡ true = eq-eqb b 0 z in rw at h
       | inr n ↦ let off : (b == 0) ≡ false = ne_eqb b 0 n in rw off (all_push class k xs b h (e n))
     ]
 
-parts_of_class : (class : ℕ → ℕ) (k : ℕ) (expand : ℕ → List ℕ) (u : ℕ) (o : Option (ℕ × ℕ)) → class u ≡ k → ((a b : ℕ) → o ≡ Some (a, b) → (AllOfClass class k (expand a)) × (b ≢ 0 → class b ≡ k)) → AllOfClass class k (by_parts expand u o)
+parts_of_class : (class : ℕ → ℕ) (k : ℕ) (expand : ℕ → List ℕ) (u : ℕ) (o : Option (ℕ × ℕ)) → class u ≡ k → ((a b : ℕ) → o ≡ Some (a, b) → (AllOfClass class k (expand a)) × (b ≢ 0 → class b ≡ k)) → AllOfClass class k (by_halves expand u o)
 parts_of_class class k expand u None e h = (e, tt)
 parts_of_class class k expand u (Some (a, b)) e h = let parts = h a b refl in all_followed class k (expand a) b parts.0 parts.1
 
 -- what a character of nonzero class expands to has its class
-expansion_of_class : (t : Tables) → SplitsKeepClass t → (k : ℕ) → k ≢ 0 → (depth u : ℕ) → class_of t u ≡ k → AllOfClass (class_of t) k (expanded (split_of t) depth u)
-unfolding expanded
+expansion_of_class : (t : Tables) → SplitsKeepClass t → (k : ℕ) → k ≢ 0 → (depth u : ℕ) → class_of t u ≡ k → AllOfClass (class_of t) k (expansion_by_splits (split_of t) depth u)
+unfolding expansion_by_splits
 expansion_of_class t keeps k n zero u e = (e, tt)
 expansion_of_class t keeps k n (suc depth) u e =
-    parts_of_class (class_of t) k (expanded (split_of t) depth) u (split_of t u) e
+    parts_of_class (class_of t) k (expansion_by_splits (split_of t) depth) u (split_of t u) e
     (λ a b s. let kept = keeps u a b s (λ z. n (sym e ∙ z)) in (expansion_of_class t keeps k n depth a (kept.0 ∙ e), λ m. kept.1 m ∙ e))
 
 none_beside : (class : ℕ → ℕ) (k c : ℕ) (xs : List ℕ) → k ≢ 0 → k ≢ c → AllOfClass class k xs → beside_starters class c xs ≡ []

@@ -6,18 +6,18 @@ abbrev pub Splits : Type 0
 Splits = ℕ → Option (ℕ × ℕ)
 
 -- the second half after the expansion of the first
-abbrev pub followed_by : ℕ → List ℕ → List ℕ
-followed_by b front = if b == 0 then front else front ++ b ∷ []
+abbrev pub with_second_piece : ℕ → List ℕ → List ℕ
+with_second_piece b front = if b == 0 then front else front ++ b ∷ []
 
 -- the expansion of a character by its two halves
-abbrev pub by_parts : (ℕ → List ℕ) → ℕ → Option (ℕ × ℕ) → List ℕ
-by_parts expand u None = u ∷ []
-by_parts expand u (Some (a, b)) = followed_by b (expand a)
+abbrev pub by_halves : (ℕ → List ℕ) → ℕ → Option (ℕ × ℕ) → List ℕ
+by_halves expand u None = u ∷ []
+by_halves expand u (Some (a, b)) = with_second_piece b (expand a)
 
 -- the expansion of the first half, then the second half as it is; at most `depth` decompositions
-unfoldable pub expanded : Splits → ℕ → ℕ → List ℕ
-expanded splits zero u = u ∷ []
-expanded splits (suc depth) u = by_parts (expanded splits depth) u (splits u)
+unfoldable pub expansion_by_splits : Splits → ℕ → ℕ → List ℕ
+expansion_by_splits splits zero u = u ∷ []
+expansion_by_splits splits (suc depth) u = by_halves (expansion_by_splits splits depth) u (splits u)
 
 -- whether a chain ends by its first half
 abbrev pub ends_by : (ℕ → Bool) → Option (ℕ × ℕ) → Bool

@@ -8,8 +8,8 @@ use Rattle.buffer_unicode_tables.specs.declared.law_fault.LawFault.{LawFault}
 use Rattle.buffer_unicode_tables.specs.declared.law_fault.LawFault.TheVariants.{SecondPartSplits, PairNotEquivalent, ClassOnNonMark, SplitLosesClass, AsciiMark}
 
 -- the second half of a decomposition doesn't decompose
-abbrev pub SecondPartsStay : Tables → Type 0
-SecondPartsStay t = (u a b : ℕ) → split_of t u ≡ Some (a, b) → b ≢ 0 → split_of t b ≡ None
+abbrev pub SecondHalvesStay : Tables → Type 0
+SecondHalvesStay t = (u a b : ℕ) → split_of t u ≡ Some (a, b) → b ≢ 0 → split_of t b ≡ None
 
 -- the full expansion of a composite has the class order of that of its pair
 abbrev pub PairsAreEquivalent : Tables → Type 0
@@ -29,7 +29,7 @@ AsciiHasNoMarks = (u : ℕ) → u < 0x80 → is_mark_category (general_category 
 
 -- tables are lawful
 pub record IsLawful (t : Tables) : Type 0 where
-  pub second_parts_stay : SecondPartsStay t
+  pub second_parts_stay : SecondHalvesStay t
   pub pairs_are_equivalent : PairsAreEquivalent t
   pub classes_are_of_marks : ClassesAreOfMarks t
   pub splits_keep_class : SplitsKeepClass t
@@ -37,8 +37,8 @@ pub record IsLawful (t : Tables) : Type 0 where
 
 -- the tables have this fault, and none before it
 abbrev pub IsFirstFault : Tables → LawFault → Type 0
-IsFirstFault t SecondPartSplits = ¬ SecondPartsStay t
-IsFirstFault t PairNotEquivalent = SecondPartsStay t × (¬ PairsAreEquivalent t)
-IsFirstFault t ClassOnNonMark = SecondPartsStay t × PairsAreEquivalent t × (¬ ClassesAreOfMarks t)
-IsFirstFault t SplitLosesClass = SecondPartsStay t × PairsAreEquivalent t × ClassesAreOfMarks t × (¬ SplitsKeepClass t)
-IsFirstFault t AsciiMark = SecondPartsStay t × PairsAreEquivalent t × ClassesAreOfMarks t × SplitsKeepClass t × (¬ AsciiHasNoMarks)
+IsFirstFault t SecondPartSplits = ¬ SecondHalvesStay t
+IsFirstFault t PairNotEquivalent = SecondHalvesStay t × (¬ PairsAreEquivalent t)
+IsFirstFault t ClassOnNonMark = SecondHalvesStay t × PairsAreEquivalent t × (¬ ClassesAreOfMarks t)
+IsFirstFault t SplitLosesClass = SecondHalvesStay t × PairsAreEquivalent t × ClassesAreOfMarks t × (¬ SplitsKeepClass t)
+IsFirstFault t AsciiMark = SecondHalvesStay t × PairsAreEquivalent t × ClassesAreOfMarks t × SplitsKeepClass t × (¬ AsciiHasNoMarks)

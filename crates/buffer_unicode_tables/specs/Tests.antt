@@ -10,9 +10,9 @@ use Rattle.buffer_unicode_tables.specs.Tables.{Tables, split_of, class_of}
 use Rattle.buffer_unicode_tables.specs.Texts.{full_expansion}
 
 -- whether the second half of a decomposition, if it has one, doesn't decompose
-abbrev pub second_stays : Splits → Option (ℕ × ℕ) → Bool
-second_stays splits None = true
-second_stays splits (Some (a, b)) = b == 0 || is_none (splits b)
+abbrev pub second_half_stays : Splits → Option (ℕ × ℕ) → Bool
+second_half_stays splits None = true
+second_half_stays splits (Some (a, b)) = b == 0 || is_none (splits b)
 
 -- whether two lists of characters are the same
 abbrev pub same_text : List ℕ → List ℕ → Bool

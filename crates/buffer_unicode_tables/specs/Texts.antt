@@ -2,12 +2,12 @@
 use Rattle.std.specs.Prelude.{ℕ, ◌≡◌, ◌≢◌, List, [], ◌∷◌, ◌++◌, Some}
 use Rattle.std.specs.List.{flat_map}
 use Rattle.buffer_unicode_tables.specs.ClassOrder.{class_order}
-use Rattle.buffer_unicode_tables.specs.Expansion.{followed_by, expanded}
+use Rattle.buffer_unicode_tables.specs.Expansion.{with_second_piece, expansion_by_splits}
 use Rattle.buffer_unicode_tables.specs.Tables.{Tables, split_of, class_of}
 
 -- the full expansion of the first half, then the second half as it is; the character itself where it doesn't decompose
 abbrev pub full_expansion : Tables → ℕ → List ℕ
-full_expansion t u = expanded (split_of t) 8 u
+full_expansion t u = expansion_by_splits (split_of t) 8 u
 
 -- the full expansion of a text
 abbrev pub full_text : Tables → List ℕ → List ℕ
@@ -26,7 +26,7 @@ pub record IsSplit (t : Tables) (xs ys : List ℕ) : Type 0 where
   pub back : List ℕ
   pub splits : split_of t whole ≡ Some (first, second)
   pub is_before : xs ≡ front ++ whole ∷ back
-  pub is_after : ys ≡ front ++ (followed_by second (first ∷ []) ++ back)
+  pub is_after : ys ≡ front ++ (with_second_piece second (first ∷ []) ++ back)
 
 -- neighbours of distinct nonzero class are exchanged (UAX 15, D108, reorderable pair)
 pub record IsSwap (t : Tables) (xs ys : List ℕ) : Type 0 where

@@ -1,7 +1,7 @@
 //! Full canonical decompositions (UAX 15, D68), without memory.
 ghost use Rattle.std.specs.Prelude.{◌≡◌, ◌+◌, ◌<◌, ◌≤◌, ◌++◌, true, [], length};
 ghost use Rattle.arrayvec.specs.ArrayVec.{array_vec_len};
-ghost use Rattle.buffer_unicode_tables.specs.Expansion.{expanded};
+ghost use Rattle.buffer_unicode_tables.specs.Expansion.{expansion_by_splits};
 ghost use Rattle.buffer_unicode_tables.specs.Tables.{splits_of};
 
 use crate::depth::{MAX_SPLITS, split};
@@ -16,7 +16,7 @@ pub(crate) const EXPANSIONS: usize = 18;
 /// Appends the full expansion of a character.
 pub(crate) fn expand(splits: &PagedRows<Split>, u: char, out: &mut ArrayVec<char, EXPANSIONS>)
     requires { array_vec_len out.old ≤ 9 }
-    ensures expanded { out.new.items ≡ out.old.items ++ expanded (splits_of splits.now) MAX_SPLITS u }
+    ensures expanded { out.new.items ≡ out.old.items ++ expansion_by_splits (splits_of splits.now) MAX_SPLITS u }
     ensures room { array_vec_len out.new ≤ array_vec_len out.old + 9 }
 {
     expand_within(splits, MAX_SPLITS, u, out);
@@ -30,7 +30,7 @@ fn expand_within(
     out: &mut ArrayVec<char, EXPANSIONS>,
 )
     requires { array_vec_len out.old + depth < 18 }
-    ensures expanded { out.new.items ≡ out.old.items ++ expanded (splits_of splits.now) depth u }
+    ensures expanded { out.new.items ≡ out.old.items ++ expansion_by_splits (splits_of splits.now) depth u }
     ensures room { array_vec_len out.new ≤ array_vec_len out.old + depth + 1 }
 {
     if depth == 0 {

@@ -88,6 +88,6 @@ pub(crate) fn below_surrogates(code: u32) -> char
 /// A syllable is the composite of exactly the two halves of its decomposition.
 
 #[tactic(auto, using(crate::proofs::Syllables::hangul_pairs_are_splits))]
-pub fn hangul_pairs_are_splits()
+pub fn law_hangul_pairs_are_splits()
     ensures { HangulPairsAreSplits }
 {}

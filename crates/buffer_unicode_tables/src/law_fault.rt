@@ -8,7 +8,7 @@ ghost use Rattle.buffer_unicode_tables.specs.ClassOrder.{beside_starters};
 ghost use Rattle.buffer_unicode_tables.specs.Lawful.{AsciiHasNoMarks};
 ghost use Rattle.buffer_unicode_tables.specs.Ranges.{AllAmong, SomeAmong};
 ghost use Rattle.buffer_unicode_tables.specs.Tables.{class_of, pair_of, splits_of};
-ghost use Rattle.buffer_unicode_tables.specs.Tests.{class_is_of_mark, same_text, second_stays};
+ghost use Rattle.buffer_unicode_tables.specs.Tests.{class_is_of_mark, same_text, second_half_stays};
 
 use crate::depth::split;
 use crate::expansion::{EXPANSIONS, expand};
@@ -41,7 +41,7 @@ pub enum LawFault {
 }
 
 impl UnicodeTables {
-    ghost use Rattle.buffer_unicode_tables.specs.Lawful.{IsLawful, IsFirstFault, SecondPartsStay, PairsAreEquivalent, ClassesAreOfMarks, SplitsKeepClass};
+    ghost use Rattle.buffer_unicode_tables.specs.Lawful.{IsLawful, IsFirstFault, SecondHalvesStay, PairsAreEquivalent, ClassesAreOfMarks, SplitsKeepClass};
     ghost use Rattle.buffer_unicode_tables.specs.Tests.{whole_is_equivalent, has_same_classes, same_beside_starters, keeps_class};
 
     /// The first fault, `None` exactly where the tables are lawful: then equivalent texts, fully expanded, have
@@ -69,7 +69,7 @@ impl UnicodeTables {
     }
 
     fn second_parts_stay(&self) -> bool
-        ensures { IsTrue result ↔ SecondPartsStay self.now }
+        ensures { IsTrue result ↔ SecondHalvesStay self.now }
     {
         let splits = self.splits();
         if !rows_stay(splits) {
@@ -82,7 +82,7 @@ impl UnicodeTables {
     }
 
     fn pairs_are_equivalent(&self) -> bool
-        ensures { SecondPartsStay self.now → (IsTrue result ↔ PairsAreEquivalent self.now) }
+        ensures { SecondHalvesStay self.now → (IsTrue result ↔ PairsAreEquivalent self.now) }
     {
         // The tables' invariant says that chains of first halves end.
         let _splits = self.splits();
@@ -207,7 +207,7 @@ fn marks_pass(classes: &[CharacterClass]) -> bool
 /// Whether no second half of a row's decomposition decomposes itself.
 fn rows_stay(splits: &PagedRows<Split>) -> bool
     ensures { result ≡ list_all
-        (λ (r : Split). second_stays (splits_of splits.now) (splits_of splits.now r.whole)) splits.now }
+        (λ (r : Split). second_half_stays (splits_of splits.now) (splits_of splits.now r.whole)) splits.now }
 {
     splits
         .as_slice()
@@ -217,7 +217,7 @@ fn rows_stay(splits: &PagedRows<Split>) -> bool
 
 /// Whether the second half of a character's decomposition, if it has one, doesn't decompose.
 fn second_stays(splits: &PagedRows<Split>, u: char) -> bool
-    ensures { result ≡ second_stays (splits_of splits.now) (splits_of splits.now u) }
+    ensures { result ≡ second_half_stays (splits_of splits.now) (splits_of splits.now u) }
 {
     match split(splits, u) {
         None => true,

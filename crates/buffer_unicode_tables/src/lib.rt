@@ -12,7 +12,7 @@ pub mod tables;
 
 pub use buffer_unicode_rows::{TablesFault, UnicodeRows};
 pub use character::CharTablesExt;
-pub use hangul::{compose_hangul, decompose_hangul, hangul_pairs_are_splits};
+pub use hangul::{compose_hangul, decompose_hangul, law_hangul_pairs_are_splits};
 pub use law_fault::LawFault;
 pub use records::UnicodeRecords;
 pub use tables::{UnicodeTables, compose, decompose};

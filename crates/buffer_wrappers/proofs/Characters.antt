@@ -9,8 +9,8 @@ use Rattle.std.proofs.lemmas.List.{take-append-drop}
 use lib.Utf8.{scalar, scalars}
 use Rattle.buffer_glyphs.specs.declared.info.hb_glyph_info_t.{hb_glyph_info_t}
 use Rattle.buffer_core.specs.Sides.{Sides, all_glyphs, with_added}
-use Rattle.buffer_core.specs.Settings.{glyphs_counted, most_cluster, with_counted}
-use Rattle.buffer_core.specs.Text.{added_glyph, added_from, added_text}
+use Rattle.buffer_core.specs.Settings.{glyphs_counted, most_cluster, with_reset_clusters}
+use Rattle.buffer_core.specs.Text.{added_glyph, added_text_from, added_text}
 use Rattle.buffer_wrappers.specs.Wrappers.{IsCharacter, IsText}
 
 left_of : (s t : Bool) → (s && t) ≡ true → s ≡ true
@@ -28,9 +28,9 @@ is_character c k e = record { plain = refl; scalar_value = e }
 pub one_character : (c k : ℕ) → scalar c ≡ true → All IsCharacter (added_glyph c k ∷ [])
 one_character c k e = All-cons IsCharacter (added_glyph c k) [] (is_character c k e) (All-nil IsCharacter)
 
-are_characters : (at : ℕ) (cs : List ℕ) → scalars cs ≡ true → All IsCharacter (added_from at cs)
+are_characters : (at : ℕ) (cs : List ℕ) → scalars cs ≡ true → All IsCharacter (added_text_from at cs)
 are_characters at [] e = All-nil IsCharacter
-are_characters at (c ∷ cs) e = All-cons IsCharacter (added_glyph c at) (added_from (at + len_utf8 c) cs) (is_character c at (left_of (scalar c) (scalars cs) e)) (are_characters (at + len_utf8 c) cs (right_of (scalar c) (scalars cs) e))
+are_characters at (c ∷ cs) e = All-cons IsCharacter (added_glyph c at) (added_text_from (at + len_utf8 c) cs) (is_character c at (left_of (scalar c) (scalars cs) e)) (are_characters (at + len_utf8 c) cs (right_of (scalar c) (scalars cs) e))
 
 -- so are those of a text
 pub text_characters : (bs : List ℕ) → IsUtf8 bs → All IsCharacter (added_text bs)
@@ -56,12 +56,12 @@ counted n (g ∷ gs) all =
     let recounted : (record g { cluster = min n most_cluster }) ≡ added_glyph g.glyph_id (min n most_cluster) = ap (λ (h : hb_glyph_info_t). record h { cluster = min n most_cluster }) first.plain in
     All-cons IsCharacter (record g { cluster = min n most_cluster }) (glyphs_counted (n + 1) gs) (record { plain = recounted; scalar_value = first.scalar_value }) (counted (n + 1) gs (All-tail IsCharacter g gs all))
 
-all_counted : (s : Sides) → IsText s → All IsCharacter (all_glyphs (with_counted s))
+all_counted : (s : Sides) → IsText s → All IsCharacter (all_glyphs (with_reset_clusters s))
 all_counted s is = subst (All IsCharacter) (sym (take-append-drop (length s.behind) (glyphs_counted 0 (all_glyphs s)))) (counted 0 (all_glyphs s) is.characters)
 
-recounted : (s : Sides) → IsText s → IsText (with_counted s)
+recounted : (s : Sides) → IsText s → IsText (with_reset_clusters s)
 recounted s is = record { closed = is.closed; unrefused = is.unrefused; characters = all_counted s is }
 
 -- a text stays one where its clusters are counted anew
-pub text_counted : (s t : Sides) → t ≡ with_counted s → IsText s → IsText t
+pub text_counted : (s t : Sides) → t ≡ with_reset_clusters s → IsText s → IsText t
 text_counted s t e is = subst IsText (sym e) (recounted s is)

@@ -1,13 +1,12 @@
-//! A text to be shaped (rustybuzz: hb/buffer.rs, `UnicodeBuffer`).
-ghost use Rattle.std.specs.Prelude.{◌≡◌, ◌==◌, length, true, false, Ok, Some, OnErr, IfOk, ◌∷◌, [], unwrap_or, take, reverse};
+ghost use Rattle.std.specs.Prelude.{◌≡◌, ◌≤◌, ◌==◌, length, true, false, Ok, Some, OnErr, IfOk, ◌∷◌, [], unwrap_or, take, reverse};
 ghost use Rattle.std.specs.Option.{option_copied};
 ghost use Rattle.std.specs.Str.{chars};
 ghost use Rattle.buffer_common.specs.declared.script.TheConstants.{UNKNOWN};
 ghost use Rattle.buffer_core.specs.Sides.{empty_buffer, all_glyphs, with_added, has_room, with_flags, with_level};
-ghost use Rattle.buffer_core.specs.Settings.{with_counted, with_invisible, with_language, with_not_found_variation_selector, with_post_context, with_pre_context};
+ghost use Rattle.buffer_core.specs.Settings.{with_reset_clusters, with_invisible, with_language, with_not_found_variation_selector, with_post_context, with_pre_context};
 ghost use Rattle.buffer_wrappers.specs.Wrappers.{IsCharacter};
 ghost use Rattle.std.specs.List.{All};
-ghost use Rattle.buffer_core.specs.Segment.{guessed, guessed_direction, guessed_script, with_segment};
+ghost use Rattle.buffer_core.specs.Segment.{after_guess_segment_properties, guessed_direction, guessed_script, with_segment};
 ghost use Rattle.buffer_core.specs.Text.{added_glyph, added_text, fits_text};
 
 use buffer_common::constants::BufferFlags;
@@ -17,6 +16,7 @@ use buffer_common::script::{Script, UNKNOWN};
 use buffer_core::buffer::hb_buffer_t;
 use buffer_core::buffer::segment::{first_script, guessed_direction};
 use buffer_glyphs::level::BufferClusterLevel;
+use buffer_glyphs::names::GlyphId;
 use std::alloc::{AllocError, Global};
 use std::marker::Model;
 
@@ -49,7 +49,8 @@ impl UnicodeBuffer {
 
     /// How many characters there are.
     pub fn len(&self) -> usize
-        ensures { result ≡ length (all_glyphs self.now) }
+        ensures count { result ≡ length (all_glyphs self.now) }
+        ensures within { result ≤ self.now.max_len }
     {
         self.buffer.len()
     }
@@ -168,23 +169,23 @@ impl UnicodeBuffer {
         self.buffer.set_cluster_level(level);
     }
 
-    /// Sets the glyph that replaces invisible characters.
-    pub fn set_invisible_glyph(&mut self, glyph: u32)
-        ensures { self.new ≡ with_invisible (Some glyph) self.old }
+    /// Sets the glyph that stands for a character that is not to be seen.
+    pub fn set_invisible_glyph(&mut self, glyph: GlyphId)
+        ensures { self.new ≡ with_invisible (Some glyph.0) self.old }
     {
         self.buffer.set_invisible(Some(glyph));
     }
 
-    /// Sets the glyph that replaces a variation selector that the font does not support.
-    pub fn set_not_found_variation_selector_glyph(&mut self, glyph: u32)
-        ensures { self.new ≡ with_not_found_variation_selector (Some glyph) self.old }
+    /// Sets the glyph that stands for a variation selector that the font does not know.
+    pub fn set_not_found_variation_selector_glyph(&mut self, glyph: GlyphId)
+        ensures { self.new ≡ with_not_found_variation_selector (Some glyph.0) self.old }
     {
         self.buffer.set_not_found_variation_selector(Some(glyph));
     }
 
     /// Sets the clusters of the characters to 0, 1, 2 and so on; those past `u32::MAX` get that number.
     pub fn reset_clusters(&mut self)
-        ensures { self.new ≡ with_counted self.old }
+        ensures { self.new ≡ with_reset_clusters self.old }
     {
         self.buffer.reset_clusters();
     }
@@ -192,7 +193,7 @@ impl UnicodeBuffer {
     /// Sets a script that was not set to that of the first character with a script of its own, and a direction that was
     /// not set to that of the script, else to left to right.
     pub fn guess_segment_properties(&mut self)
-        ensures { self.new ≡ guessed self.old }
+        ensures { self.new ≡ after_guess_segment_properties self.old }
     {
         self.buffer.guess_segment_properties();
     }

@@ -8,7 +8,7 @@ use Rattle.buffer_glyphs.specs.declared.cause.ShapeCause.TheVariants.{OutOfMemor
 use Rattle.buffer_glyphs.specs.Items.{Item, item_of, strip}
 use Rattle.buffer_glyphs.specs.Origins.{origins}
 use Rattle.buffer_core.specs.Sides.{Sides, all_glyphs}
-use Rattle.buffer_core.specs.Moving.{moved_to, fits_moved}
+use Rattle.buffer_core.specs.Moving.{after_move_to, fits_moved}
 use Rattle.buffer_core.specs.Settings.{with_max_ops}
 use Rattle.buffer_stages.specs.Actions.{whole}
 use Rattle.buffer_stages.specs.Buffers.{cut_of, are_glyphs}
@@ -17,17 +17,17 @@ use Rattle.layout_contexts.proofs.Lemmas.Lengths.{whole_length}
 use Rattle.layout_contexts.specs.Nested.{cut_at, holds}
 use Rattle.layout_contexts.specs.Records.{IsMoved, IsMoveRefusal, IsSpent}
 
-cut_moved : (p r : ℕ) (s : Sides) → cut_with r (moved_to p s) ≡ cut_at p (cut_with r s)
+cut_moved : (p r : ℕ) (s : Sides) → cut_with r (after_move_to p s) ≡ cut_at p (cut_with r s)
 cut_moved p r s =
     let all : strip (all_glyphs s) ≡ whole (cut_of s) = map-append item_of s.behind s.ahead in
     let front : strip (take p (all_glyphs s)) ≡ take p (whole (cut_of s)) = sym (take-map item_of p (all_glyphs s)) ∙ ap (take p) all in
     let rest : strip (drop p (all_glyphs s)) ≡ drop p (whole (cut_of s)) = sym (drop-map item_of p (all_glyphs s)) ∙ ap (drop p) all in
     ap (λ (xs : List Item). record (cut_with r s) { front = xs; rest = strip (drop p (all_glyphs s)) }) front ∙ ap (λ (xs : List Item). record (cut_with r s) { front = take p (whole (cut_of s)); rest = xs }) rest
 
-pub went_there : (p : ℕ) (s t : Sides) → t ≡ moved_to p s → IsMoved p s t
+pub went_there : (p : ℕ) (s t : Sides) → t ≡ after_move_to p s → IsMoved p s t
 went_there p s t e =
     let P : Sides → Type 0 = λ u. IsMoved p s u in
-    let there : P (moved_to p s) = λ r. record {
+    let there : P (after_move_to p s) = λ r. record {
       cut_is = cut_moved p r s;
       happened = ap origins (take-append-drop p (all_glyphs s));
       still = refl;

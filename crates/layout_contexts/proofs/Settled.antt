@@ -2,7 +2,7 @@
 use Rattle.std.proofs.Common.{ℕ, ◌≡◌, ◌<◌, ◌+◌, ◌^◌, List, length, Some, slice_get, arith}
 use Rattle.std.specs.List.{All}
 use Rattle.std.proofs.lemmas.Option.{slice_get_within}
-use Rattle.layout_contexts.specs.Places.{AreRising}
+use Rattle.layout_contexts.specs.MatchIndices.{AreRising}
 use Rattle.layout_contexts.proofs.Lemmas.Rising.{rising_below}
 
 pub in_places : (ps : List ℕ) (i p : ℕ) → slice_get ps i ≡ Some p → i < length ps

@@ -2,7 +2,7 @@
 use Rattle.std.proofs.Common.{ℕ, ◌≡◌, ◌≤◌, ◌<◌, ◌+◌, ◌-◌, zero, suc, List, [], ◌∷◌, ◌++◌, length, take, drop, map, get_or, refl, sym, ap, ◌∙◌, arith}
 use Rattle.std.proofs.lemmas.List.{drop_more, drop_all, append-nil, append_assoc, take_all, length-drop, length-map}
 use Rattle.std.proofs.Math.Seq.{take-append_seam}
-use Rattle.layout_contexts.specs.Shifts.{following, resized}
+use Rattle.layout_contexts.specs.Shifts.{following, indices_after_resize}
 
 full : (n : ℕ) (qs rs : List ℕ) → length qs ≡ n → take n (qs ++ rs) ≡ qs
 full n qs rs e = ap (λ k. take k (qs ++ rs)) (sym e) ∙ take-append_seam qs rs
@@ -57,7 +57,7 @@ cut_before (suc n) [] ys = refl
 cut_before (suc n) (x ∷ xs) ys = ap (λ zs. x ∷ zs) (cut_before n xs ys)
 
 pub all_settled : (i before after : ℕ) (ps a b c : List ℕ) → a ≡ take 64 ([] ++ map (λ q. q + 0 - 0) (take (i + 1) ps)) → b ≡ take 64 (a ++ following (get_or ps i 0) (after - before)) → c ≡ take 64 (b ++ map (λ q. q + after - before) (drop (before - after) (drop (i + 1) ps)))
-    → c ≡ resized i before after ps
+    → c ≡ indices_after_resize i before after ps
 all_settled i before after ps a b c ea eb ec =
     let more = map (λ q. q + after - before) (drop (before - after) (drop (i + 1) ps)) in
     let fill = following (get_or ps i 0) (after - before) in

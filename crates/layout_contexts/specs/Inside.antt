@@ -1,6 +1,6 @@
 -- The indices and the end of a match once some records were applied.
 use Rattle.std.specs.Prelude.{ℕ, ◌≤◌, ◌+◌, ◌-◌, List}
-use Rattle.layout_contexts.specs.Places.{AreRising}
+use Rattle.layout_contexts.specs.MatchIndices.{AreRising}
 
 -- a list of so many items became one of so many others: the indices still rise inside it, the end of the match is no
 -- further from the end of the list, and neither is before where they began

@@ -1,4 +1,4 @@
-pub mod Places
+pub mod MatchIndices
 pub mod Shifts
 pub mod Nested
 pub mod Chains

@@ -5,15 +5,15 @@ use Rattle.buffer_glyphs.specs.declared.cause.ShapeCause.TheVariants.{OutOfMemor
 use Rattle.buffer_glyphs.specs.Events.{Event}
 use Rattle.buffer_core.specs.Sides.{Sides, items_of}
 use Rattle.buffer_stages.specs.Actions.{Cut, Outcome, Passes, Acts, Refuses}
-use Rattle.buffer_stages.specs.Buffers.{are_glyphs, IsStill, Happened, IsPassed}
+use Rattle.buffer_stages.specs.Buffers.{are_glyphs, IsStill, HasHappened, IsPassed}
 use Rattle.buffer_stages.specs.Performing.{cut_with}
-use Rattle.layout_contexts.specs.Nested.{Walked, Walks, Stops}
+use Rattle.layout_contexts.specs.Nested.{RecordsOutcome, Walks, Stops}
 
 -- a buffer became another cut, with a random state outside it, after events on clusters and flags; the cursor may be
 -- anywhere
 pub record IsLeft (cut : Cut) (events : List Event) (random : ℕ) (old new : Sides) : Type 0 where
   pub cut_is : cut_with random new ≡ cut
-  pub happened : Happened events old new
+  pub happened : HasHappened events old new
   pub still : IsStill old new
   pub numbers : are_glyphs (items_of old) ≡ true → are_glyphs (items_of new) ≡ true
 
@@ -25,7 +25,7 @@ Nests (Refuses cause) (Ok acted) before after old new = ⊥
 Nests o (Err cause) before after old new = cause ≢ OutOfMemory → o ≡ Refuses cause
 
 -- a call applied records, and answers where the match then ends
-abbrev pub Walking : Walked → Result ℕ ShapeCause → List ℕ → ℕ → Sides → Sides → Type 0
+abbrev pub Walking : RecordsOutcome → Result ℕ ShapeCause → List ℕ → ℕ → Sides → Sides → Type 0
 Walking (Walks cut places end events) (Ok at) now after old new = (at ≡ end) × (now ≡ places) × IsLeft cut events after old new
 Walking (Stops cause) (Ok at) now after old new = ⊥
 Walking w (Err cause) now after old new = cause ≢ OutOfMemory → w ≡ Stops cause

@@ -7,7 +7,7 @@ use Rattle.layout_subtables.specs.declared.context.SequenceLookupRecord.{Sequenc
 use Rattle.buffer_stages.specs.Actions.{Cut, Action, whole}
 use Rattle.buffer_stages.specs.Buffers.{cut_of}
 use Rattle.buffer_stages.specs.Performing.{cut_with}
-use Rattle.layout_contexts.specs.Nested.{Walks, Stops, cut_at, holds, nested_there, one_record, spent}
+use Rattle.layout_contexts.specs.Nested.{Walks, Stops, cut_at, holds, nested_outcome, one_record, with_budget_spent}
 use Rattle.layout_contexts.specs.Nesting.{IsLeft}
 
 -- the cursor was moved to an index, and nothing else changed
@@ -20,19 +20,19 @@ IsMoveRefusal p c cause = (cause ≡ OutOfMemory) ⊎ ((cause ≡ TooLong) × (h
 
 -- a step was taken, and nothing else changed
 abbrev pub IsSpent : Sides → Sides → Type 0
-IsSpent old new = (random : ℕ) → IsLeft (spent (cut_with random old)) [] random old new
+IsSpent old new = (random : ℕ) → IsLeft (with_budget_spent (cut_with random old)) [] random old new
 
 -- a record's index exists, a step was taken, and the cursor is at the index: the record's lookup is then to be applied
-pub record IsBegun (r : SequenceLookupRecord) (places : List ℕ) (p : ℕ) (old new : Sides) : Type 0 where
+pub record IsRecordBegun (r : SequenceLookupRecord) (places : List ℕ) (p : ℕ) (old new : Sides) : Type 0 where
   pub place : slice_get places r.sequence_index ≡ Some p
   pub behind : length new.behind ≡ p
   pub count : length (whole (cut_of new)) ≡ length (whole (cut_of old))
   pub ahead : 0 < length new.ahead
-  pub left : (random : ℕ) → IsLeft (cut_at p (spent (cut_with random old))) [] random old new
-  pub does : (random : ℕ) (act : ℕ → Action) (end : ℕ) → one_record act r (cut_with random old) places end ≡ nested_there r.sequence_index p (cut_with random new) places end (act r.lookup_index (cut_with random new))
+  pub left : (random : ℕ) → IsLeft (cut_at p (with_budget_spent (cut_with random old))) [] random old new
+  pub does : (random : ℕ) (act : ℕ → Action) (end : ℕ) → one_record act r (cut_with random old) places end ≡ nested_outcome r.sequence_index p (cut_with random new) places end (act r.lookup_index (cut_with random new))
 
 -- a record is begun; or it does nothing, whatever the lookups do; or the cursor cannot be moved to its index
-abbrev pub Begins : SequenceLookupRecord → List ℕ → Result (Option ℕ) ShapeCause → Sides → Sides → Type 0
-Begins r places (Ok None) old new = (new ≡ old) × ((random : ℕ) (act : ℕ → Action) (end : ℕ) → one_record act r (cut_with random old) places end ≡ Walks (cut_with random old) places end [])
-Begins r places (Ok (Some p)) old new = IsBegun r places p old new
-Begins r places (Err cause) old new = cause ≢ OutOfMemory → (random : ℕ) (act : ℕ → Action) (end : ℕ) → one_record act r (cut_with random old) places end ≡ Stops cause
+abbrev pub RecordBegins : SequenceLookupRecord → List ℕ → Result (Option ℕ) ShapeCause → Sides → Sides → Type 0
+RecordBegins r places (Ok None) old new = (new ≡ old) × ((random : ℕ) (act : ℕ → Action) (end : ℕ) → one_record act r (cut_with random old) places end ≡ Walks (cut_with random old) places end [])
+RecordBegins r places (Ok (Some p)) old new = IsRecordBegun r places p old new
+RecordBegins r places (Err cause) old new = cause ≢ OutOfMemory → (random : ℕ) (act : ℕ → Action) (end : ℕ) → one_record act r (cut_with random old) places end ≡ Stops cause

@@ -8,8 +8,8 @@ following p (suc n) = (p + 1) ∷ following (p + 1) n
 
 -- the indices of a match, once the list's length changed at the i-th: as many are inserted after it as items were, or
 -- as many deleted there as items were, later ones move, and those past 64 are left out
-abbrev pub resized : ℕ → ℕ → ℕ → List ℕ → List ℕ
-resized i before after ps =
+abbrev pub indices_after_resize : ℕ → ℕ → ℕ → List ℕ → List ℕ
+indices_after_resize i before after ps =
     take 64 (take (i + 1) ps ++ following (get_or ps i 0) (after - before) ++ map (λ q. q + after - before) (drop (before - after) (drop (i + 1) ps)))
 
 -- the end of the match then: never before the index of the lookup

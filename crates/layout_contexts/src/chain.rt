@@ -1,14 +1,14 @@
 //! Tries a rule of a context or chained context (rustybuzz: hb/ot_layout_gsubgpos.rs, `apply_context`,
 //! `apply_chain_context`).
 ghost use Rattle.std.specs.Prelude.{◌≡◌, ◌<◌, drop, length};
-ghost use Rattle.layout_match.specs.Applied.{applied_of};
+ghost use Rattle.layout_match.specs.Applied.{apply_context_of};
 ghost use Rattle.layout_match.specs.Sequences.{tests_of};
 ghost use Rattle.buffer_stages.specs.Performing.{cut_with};
 ghost use Rattle.layout_contexts.specs.Fitting.{IsInside, Matched, Says, chain_of};
 
 use crate::counts::backtrack_len;
 use crate::marks::{mark_attempt, mark_match};
-use crate::places::move_places;
+use crate::match_indices::move_places;
 use buffer_core::buffer::hb_buffer_t;
 use layout_match::{
     MAX_CONTEXT_LENGTH, MatchPositions, MatchSequence, hb_ot_apply_context_t, match_backtrack,
@@ -77,7 +77,7 @@ fn find_chain(
     places: &mut MatchPositions,
 ) -> ChainFit
     requires { 0 < length buffer.now.ahead }
-    ensures says { Says result (applied_of ctx.now) (chain_of rule.now) places.new.items
+    ensures says { Says result (apply_context_of ctx.now) (chain_of rule.now) places.new.items
         (cut_with ctx.now.random_state buffer.now) }
     ensures inside { IsInside result places.new.items (length buffer.now.behind) (length buffer.now.ahead) }
 {
@@ -112,7 +112,7 @@ pub fn match_chain(
     places: &mut MatchPositions,
 ) -> Option<usize>
     requires { 0 < length buffer.old.ahead }
-    ensures { Matched result (applied_of ctx.now) (chain_of rule.now) ctx.now.random_state places.new.items buffer.old
+    ensures { Matched result (apply_context_of ctx.now) (chain_of rule.now) ctx.now.random_state places.new.items buffer.old
         buffer.new }
 {
     let front = backtrack_len(buffer);

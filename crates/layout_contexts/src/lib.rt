@@ -5,12 +5,12 @@
 pub mod chain;
 pub mod counts;
 pub mod marks;
-pub mod places;
+pub mod match_indices;
 pub mod records;
 pub mod rules;
 
 pub use chain::{ChainRule, match_chain};
 pub use counts::glyph_count;
-pub use places::settle_places;
+pub use match_indices::settle_places;
 pub use records::{MAX_NESTING_LEVEL, begin_record, go_behind, settle_match};
 pub use rules::{class_rule, coverage_rule, glyph_rule, is_tried_at, rule_at, rule_count};

@@ -3,14 +3,14 @@ ghost use Rattle.std.specs.Prelude.{◌≡◌, ◌≤◌, ◌<◌, ◌+◌, ◌^
 ghost use Rattle.buffer_stages.specs.Actions.{whole};
 ghost use Rattle.buffer_stages.specs.Buffers.{cut_of};
 ghost use Rattle.buffer_stages.specs.Performing.{cut_with};
-ghost use Rattle.layout_contexts.specs.Nested.{Walks, cut_behind, has_budget, holds};
+ghost use Rattle.layout_contexts.specs.Nested.{Walks, cut_after_match, has_budget, holds};
 ghost use Rattle.layout_contexts.specs.Nesting.{Nests};
-ghost use Rattle.layout_contexts.specs.Places.{AreRising};
-ghost use Rattle.layout_contexts.specs.Records.{Begins, IsMoved, IsMoveRefusal, IsSpent};
-ghost use Rattle.layout_contexts.specs.Shifts.{moved_end, resized};
+ghost use Rattle.layout_contexts.specs.MatchIndices.{AreRising};
+ghost use Rattle.layout_contexts.specs.Records.{RecordBegins, IsMoved, IsMoveRefusal, IsSpent};
+ghost use Rattle.layout_contexts.specs.Shifts.{moved_end, indices_after_resize};
 
 use crate::counts::glyph_count;
-use crate::places::settle_places;
+use crate::match_indices::settle_places;
 use buffer_core::buffer::hb_buffer_t;
 use buffer_glyphs::cause::ShapeCause;
 use layout_match::MatchPositions;
@@ -66,7 +66,7 @@ pub fn begin_record(
     buffer: &mut hb_buffer_t,
 ) -> Result<Option<usize>, ShapeCause>
     requires kept { buffer.old.has_refused ≡ false }
-    ensures { Begins lookup_record.now places.now.items result buffer.old buffer.new }
+    ensures { RecordBegins lookup_record.now places.now.items result buffer.old buffer.new }
 {
     let Some(place) = place_at(places, usize::from(lookup_record.sequence_index)) else {
         return Ok(None);
@@ -99,7 +99,7 @@ pub fn settle_match(
     requires ends { end ≤ before }
     requires small { before < 2 ^ 60 }
     ensures places { places.new.items
-        ≡ resized lookup_record.now.sequence_index before (length (whole (cut_of buffer.now))) places.old.items }
+        ≡ indices_after_resize lookup_record.now.sequence_index before (length (whole (cut_of buffer.now))) places.old.items }
     ensures end { result ≡ moved_end place before (length (whole (cut_of buffer.now))) end }
 {
     let after = glyph_count(buffer);
@@ -115,7 +115,7 @@ pub fn settle_match(
 /// Moves the cursor to the end of the match, or to the end of the list where that is before it.
 pub fn go_behind(end: usize, buffer: &mut hb_buffer_t) -> Result<bool, ShapeCause>
     requires kept { buffer.old.has_refused ≡ false }
-    ensures { (random : ℕ) → Nests (cut_behind (Walks (cut_with random buffer.old) [] end
+    ensures { (random : ℕ) → Nests (cut_after_match (Walks (cut_with random buffer.old) [] end
         [])) result random random buffer.old buffer.new }
 {
     let place = end.min(glyph_count(buffer));

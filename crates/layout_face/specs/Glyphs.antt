@@ -42,5 +42,5 @@ abbrev pub glyph_class : ℕ → Option ClassDefinition → ℕ
 glyph_class glyph classes = option_map_or (λ c. class_of glyph c) classes 0
 
 -- whether there is a mark glyph set at an index, and it has the glyph
-abbrev pub has_mark : ℕ → ℕ → List (List ℕ) → Bool
-has_mark set glyph sets = option_map_or (λ marks. is_covered glyph marks) (slice_get sets set) false
+abbrev pub mark_set_has : ℕ → ℕ → List (List ℕ) → Bool
+mark_set_has set glyph sets = option_map_or (λ marks. is_covered glyph marks) (slice_get sets set) false

@@ -4,7 +4,7 @@ ghost use Rattle.std.specs.Option.{option_copied};
 ghost use Rattle.layout_common.specs.Classes.{class_of};
 ghost use Rattle.layout_common.specs.Rows.{value_of};
 ghost use Rattle.layout_face.specs.Indices.{indices_fit};
-ghost use Rattle.layout_face.specs.Glyphs.{nominal_glyph, variation_glyph, width_of, height_of, origin_of, name_of, has_mark, glyph_class};
+ghost use Rattle.layout_face.specs.Glyphs.{nominal_glyph, variation_glyph, width_of, height_of, origin_of, name_of, mark_set_has, glyph_class};
 
 use crate::parts::{FaceParts, GlyphDefinition};
 use crate::positioning::PositioningTable;
@@ -169,7 +169,7 @@ impl Face {
 
     /// Whether the mark glyph set at an index has a glyph; a missing set has none.
     pub fn is_in_mark_set(&self, set: u16, glyph: u16) -> bool
-        ensures { result ≡ has_mark set glyph self.now.gdef.sets }
+        ensures { result ≡ mark_set_has set glyph self.now.gdef.sets }
     {
         match self.parts.gdef.sets.get(usize::from(set)) {
             Some(marks) => marks.contains(glyph),

@@ -1,39 +1,36 @@
 -- A search for a base that goes on where an earlier one began.
-use Rattle.std.proofs.Common.{ℕ, ◌≡◌, ◌≤◌, ◌<◌, ◌+◌, ◌-◌, ◌++◌, Bool, false, List, [], ◌∷◌, length, take, drop, reverse, Err, refl, sym, ap, subst, ◌∙◌, arith}
+use Rattle.std.proofs.Common.{ℕ, ◌≡◌, ◌≤◌, ◌<◌, ◌+◌, ◌-◌, ◌++◌, Bool, true, false, if◌then◌else◌, Option, List, [], ◌∷◌, length, take, drop, reverse, Ok, Err, refl, sym, ap, subst, ◌∙◌, arith}
 use Rattle.std.specs.Prelude.{Result, IfOk, IfErr}
 use Rattle.std.proofs.Math.Seq.{drop-append_seam, take-append_seam}
 use Rattle.std.proofs.lemmas.List.{take-append-drop, take-append-le, reverse-append, length-reverse, length-drop, length-map, length-append, map-append}
 use Rattle.buffer_glyphs.specs.Items.{Item, item_of, strip}
+use Rattle.buffer_glyphs.specs.Parts.{first_of}
 use Rattle.buffer_core.specs.Sides.{Sides, items_of}
-use Rattle.layout_match.specs.declared.search.match_t.{match_t}
-use Rattle.layout_match.specs.declared.search.match_t.TheVariants.{MATCH, SKIP, NOT_MATCH}
-use Rattle.layout_match.specs.Applied.{Applied, own_search}
-use Rattle.layout_match.specs.Matches.{by_answer, nearest, nearest_from}
+use Rattle.layout_match.specs.Applied.{ApplyContext, own_search}
 use Rattle.layout_match.specs.Searches.{Search}
 use Rattle.buffer_stages.specs.Actions.{Action}
 use Rattle.buffer_stages.specs.Buffers.{cut_of}
-use Rattle.buffer_stages.specs.Performing.{Performed, cut_with}
+use Rattle.buffer_stages.specs.Performing.{IsPerformed, cut_with}
 use Rattle.layout_gpos.specs.declared.bases.LastSearch.{LastSearch}
 use Rattle.layout_gpos.specs.declared.bases.Sought.{Sought}
-use Rattle.layout_gpos.specs.Bases.{IsKept, any_sought, asked, farther}
-use Rattle.layout_gpos.specs.Marks.{nearest_before, without_marks}
+use Rattle.layout_gpos.specs.Bases.{IsKept, any_sought, search_result_from, takes}
+use Rattle.layout_gpos.specs.Marks.{nearest_taken, taken_before, without_marks}
 use Rattle.layout_gpos.specs.Moving.{KeepsItems}
 use Rattle.layout_gpos.proofs.Lemmas.Left.{performed_left}
 
-pub kept_first : (ask : Item → match_t) (xs : List Item) → IsKept ask xs (record { before = 0; found = Err 0 })
-kept_first ask xs = record { within = omega arith; inside = tt; read = omega arith; is = refl }
+pub kept_first : (test : Item → Option Item → Bool) (xs : List Item) → IsKept test xs (record { before = 0; found = Err 0 })
+kept_first test xs = record { within = omega arith; inside = tt; read = omega arith; is = refl }
 
 -- a search that begins so much farther back
-by_farther : (m : match_t) (k at : ℕ) (a b : Result ℕ ℕ) → a ≡ farther k b → by_answer m (at + k) a ≡ farther k (by_answer m at b)
-by_farther MATCH k at a b e = refl
-by_farther NOT_MATCH k at a b e = let same : at + k + 1 ≡ at + 1 + k = omega arith in ap Err same
-by_farther SKIP k at a b e = e
+by_farther : (b : Bool) (k at : ℕ) (r s : Result ℕ ℕ) → r ≡ search_result_from k s → (if b then Ok (at + k) else r) ≡ search_result_from k (if b then Ok at else s)
+by_farther true k at r s e = refl
+by_farther false k at r s e = e
 
-nearest_farther : (ask : Item → match_t) (k at : ℕ) (xs : List Item) → nearest ask (at + k) xs ≡ farther k (nearest ask at xs)
-nearest_farther ask k at [] = refl
-nearest_farther ask k at (x ∷ xs) =
+nearest_farther : (test : Item → Option Item → Bool) (k at : ℕ) (xs : List Item) → nearest_taken test (at + k) xs ≡ search_result_from k (nearest_taken test at xs)
+nearest_farther test k at [] = refl
+nearest_farther test k at (x ∷ xs) =
     let same : at + k + 1 ≡ at + 1 + k = omega arith in
-    by_farther (ask x) k at (nearest ask (at + k + 1) xs) (nearest ask (at + 1) xs) (ap (λ n. nearest ask n xs) same ∙ nearest_farther ask k (at + 1) xs)
+    by_farther (test x (first_of xs)) k at (nearest_taken test (at + k + 1) xs) (nearest_taken test (at + 1) xs) (ap (λ n. nearest_taken test n xs) same ∙ nearest_farther test k (at + 1) xs)
 
 older : (xs : List Item) (b : ℕ) → drop (length xs - b) (reverse xs) ≡ reverse (take b xs)
 older xs b =
@@ -41,38 +38,38 @@ older xs b =
     let long : length xs - b ≡ length (reverse (drop b xs)) = sym (length-reverse (drop b xs) ∙ length-drop b xs) in
     ap (drop (length xs - b)) parts ∙ ap (λ n. drop n (reverse (drop b xs) ++ reverse (take b xs))) long ∙ drop-append_seam (reverse (drop b xs)) (reverse (take b xs))
 
--- a lookup that isn't kept to syllables asks the same everywhere
-same_asks : (k : Sought) (a : Applied) (rest : List Item) → a.per_syllable ≡ false → asked k (own_search (without_marks a) rest) ≡ any_sought k a
-same_asks k a rest free = rw free refl
+-- a lookup that isn't kept to syllables takes the same everywhere
+same_tests : (k : Sought) (a : ApplyContext) (rest : List Item) → a.per_syllable ≡ false → takes k (own_search (without_marks a) rest) ≡ any_sought k a
+same_tests k a rest free = rw free refl
 
 -- so what is kept serves everywhere
-pub kept_there : (k : Sought) (a : Applied) (rest xs : List Item) (l : LastSearch) → a.per_syllable ≡ false → IsKept (any_sought k a) xs l → IsKept (asked k (own_search (without_marks a) rest)) xs l
-kept_there k a rest xs l free h = subst (λ (q : Item → match_t). IsKept q xs l) (sym (same_asks k a rest free)) h
+pub kept_there : (k : Sought) (a : ApplyContext) (rest xs : List Item) (l : LastSearch) → a.per_syllable ≡ false → IsKept (any_sought k a) xs l → IsKept (takes k (own_search (without_marks a) rest)) xs l
+kept_there k a rest xs l free h = subst (λ (q : Item → Option Item → Bool). IsKept q xs l) (sym (same_tests k a rest free)) h
 
 before_is : (b : ℕ) (s : Sides) → b ≤ length s.behind → take b (items_of s) ≡ take b (strip s.behind)
 before_is b s le =
     let long : length (strip s.behind) ≡ length s.behind = length-map s.behind item_of in
     ap (take b) (map-append item_of s.behind s.ahead) ∙ take-append-le b (strip s.behind) (strip s.ahead) (omega (arith, long, le))
 
--- the glyphs after the last search were skipped
-pub went_on : (k : Sought) (a : Applied) (search : Search) (l : LastSearch) (more at : ℕ) (found : Result ℕ ℕ) (s : Sides) → l.before ≤ length s.behind → IsKept (asked k (own_search (without_marks a) (strip s.ahead))) (items_of s) l → more ≡ length s.behind - l.before → more ≤ at → at ≤ more
-    → search ≡ own_search (without_marks a) (strip s.ahead) → nearest_from (asked k search) at (reverse (strip s.behind)) ≡ nearest_from (asked k search) 0 (reverse (strip s.behind)) → found ≡ farther more l.found → found ≡ nearest_before (asked k) (without_marks a) (cut_of s)
+-- the glyphs behind the last search were passed over
+pub went_on : (k : Sought) (a : ApplyContext) (search : Search) (l : LastSearch) (more at : ℕ) (found : Result ℕ ℕ) (s : Sides) → l.before ≤ length s.behind → IsKept (takes k (own_search (without_marks a) (strip s.ahead))) (items_of s) l → more ≡ length s.behind - l.before → more ≤ at → at ≤ more
+    → search ≡ own_search (without_marks a) (strip s.ahead) → nearest_taken (takes k search) at (drop at (reverse (strip s.behind))) ≡ nearest_taken (takes k search) 0 (reverse (strip s.behind)) → found ≡ search_result_from more l.found → found ≡ taken_before (takes k) a (cut_of s)
 went_on k a search l more at found s since kept e from to is passed f =
-    let ask = asked k (own_search (without_marks a) (strip s.ahead)) in
+    let test = takes k (own_search (without_marks a) (strip s.ahead)) in
     let xs = strip s.behind in
     let long : length xs ≡ length s.behind = length-map s.behind item_of in
     let zero_more : at ≡ 0 + at = omega arith in
     let there : at ≡ length xs - l.before = omega (arith, from, to, e, long) in
-    let P : Search → Type 0 = λ q. nearest_from (asked k q) at (reverse xs) ≡ nearest_from (asked k q) 0 (reverse xs) in
-    let all : nearest_from ask at (reverse xs) ≡ nearest_from ask 0 (reverse xs) = subst P is passed in
-    let behind : nearest_from ask at (reverse xs) ≡ farther at (nearest ask 0 (reverse (take l.before xs))) =
-    ap (nearest ask at) (ap (λ n. drop n (reverse xs)) there ∙ older xs l.before) ∙ ap (λ n. nearest ask n (reverse (take l.before xs))) zero_more ∙ nearest_farther ask at 0 (reverse (take l.before xs)) in
-    let kept_is : l.found ≡ nearest ask 0 (reverse (take l.before xs)) = kept.is ∙ ap (λ ys. nearest ask 0 (reverse ys)) (before_is l.before s since) in
+    let P : Search → Type 0 = λ q. nearest_taken (takes k q) at (drop at (reverse xs)) ≡ nearest_taken (takes k q) 0 (reverse xs) in
+    let all : nearest_taken test at (drop at (reverse xs)) ≡ nearest_taken test 0 (reverse xs) = subst P is passed in
+    let behind : nearest_taken test at (drop at (reverse xs)) ≡ search_result_from at (nearest_taken test 0 (reverse (take l.before xs))) =
+    ap (nearest_taken test at) (ap (λ n. drop n (reverse xs)) there ∙ older xs l.before) ∙ ap (λ n. nearest_taken test n (reverse (take l.before xs))) zero_more ∙ nearest_farther test at 0 (reverse (take l.before xs)) in
+    let kept_is : l.found ≡ nearest_taken test 0 (reverse (take l.before xs)) = kept.is ∙ ap (λ ys. nearest_taken test 0 (reverse ys)) (before_is l.before s since) in
     let same : at ≡ more = omega (arith, from, to) in
-    f ∙ ap (λ n. farther n l.found) (sym same) ∙ ap (farther at) kept_is ∙ sym behind ∙ all
+    f ∙ ap (λ n. search_result_from n l.found) (sym same) ∙ ap (search_result_from at) kept_is ∙ sym behind ∙ all
 
 -- what was found is kept
-pub kept_now : (k : Sought) (a : Applied) (n : ℕ) (found : Result ℕ ℕ) (s : Sides) → a.per_syllable ≡ false → n ≡ length s.behind → found ≡ nearest_before (asked k) (without_marks a) (cut_of s) → IfOk found (λ at. at < length s.behind) → IfErr found (λ end. end ≤ length s.behind) → IsKept (any_sought k a) (items_of s) (record { before = n; found = found })
+pub kept_now : (k : Sought) (a : ApplyContext) (n : ℕ) (found : Result ℕ ℕ) (s : Sides) → a.per_syllable ≡ false → n ≡ length s.behind → found ≡ taken_before (takes k) a (cut_of s) → IfOk found (λ at. at < length s.behind) → IfErr found (λ end. end ≤ length s.behind) → IsKept (any_sought k a) (items_of s) (record { before = n; found = found })
 kept_now k a n found s free count is inside read =
     let xs = strip s.behind in
     let long : length xs ≡ length s.behind = length-map s.behind item_of in
@@ -85,12 +82,12 @@ kept_now k a n found s free count is inside read =
       within = omega (arith, count, both, all);
       inside = subst P (sym count) inside;
       read = subst Q (sym count) read;
-      is = is ∙ ap (λ q. nearest_from q 0 (reverse xs)) (same_asks k a (strip s.ahead) free) ∙ ap (λ ys. nearest_from (any_sought k a) 0 (reverse ys)) (sym whole);
+      is = is ∙ ap (λ q. nearest_taken q 0 (reverse xs)) (same_tests k a (strip s.ahead) free) ∙ ap (λ ys. nearest_taken (any_sought k a) 0 (reverse ys)) (sym whole);
     }
 
 -- ---- no item changes where a mark is hung
 
 -- what was kept is kept on
-pub kept_on : (ask : Item → match_t) (act : Action) (acted : Bool) (l : LastSearch) (s new : Sides) → IsKept ask (items_of s) l → KeepsItems act → ((r : ℕ) → Performed (act (cut_with r s)) acted r r s new) → IsKept ask (items_of new) l
-kept_on ask act acted l s new kept leaves done =
-    subst (λ (xs : List Item). IsKept ask xs l) (sym (performed_left (act (cut_with 1 s)) acted 1 1 s new (leaves (cut_with 1 s)) (done 1))) kept
+pub kept_on : (test : Item → Option Item → Bool) (act : Action) (acted : Bool) (l : LastSearch) (s new : Sides) → IsKept test (items_of s) l → KeepsItems act → ((r : ℕ) → IsPerformed (act (cut_with r s)) acted r r s new) → IsKept test (items_of new) l
+kept_on test act acted l s new kept leaves done =
+    subst (λ (xs : List Item). IsKept test xs l) (sym (performed_left (act (cut_with 1 s)) acted 1 1 s new (leaves (cut_with 1 s)) (done 1))) kept

@@ -4,3 +4,4 @@ pub mod Nearest
 pub mod Placed
 pub mod Performed
 pub mod Left
+pub mod Taken

@@ -5,14 +5,14 @@ use Rattle.buffer_common.specs.declared.direction.Direction.{Direction}
 use Rattle.buffer_glyphs.specs.declared.info.hb_glyph_info_t.{hb_glyph_info_t}
 use Rattle.buffer_glyphs.specs.Items.{Item, Position, item_of, strip}
 use Rattle.buffer_glyphs.specs.Events.{Break}
-use Rattle.buffer_core.specs.Sides.{Sides, moved_on}
-use Rattle.layout_match.specs.Applied.{Applied}
+use Rattle.buffer_core.specs.Sides.{Sides, after_next_glyphs}
+use Rattle.layout_match.specs.Applied.{ApplyContext}
 use Rattle.layout_subtables.specs.declared.value.ValueRecord.{ValueRecord}
 use Rattle.layout_subtables.specs.declared.pair.PairValues.{PairValues}
 use Rattle.layout_subtables.specs.declared.pair.PairPos.{PairPos}
 use Rattle.buffer_stages.specs.Actions.{Cut, Outcome, Passes, at_first, attempt_around}
 use Rattle.buffer_stages.specs.Buffers.{IsPassed, cut_of, Frame}
-use Rattle.buffer_stages.specs.Performing.{Performed, cut_with}
+use Rattle.buffer_stages.specs.Performing.{IsPerformed, cut_with}
 use Rattle.buffer_stages.proofs.Lemmas.Glyphs.{first_item}
 use Rattle.buffer_stages.proofs.Lemmas.Performed.{passes_nothing}
 use Rattle.buffer_stages.proofs.Lemmas.Does.{passed_same}
@@ -36,44 +36,44 @@ pair_long apart None count some lt = (some, omega (arith, lt))
 pair_long apart (Some v) count some lt = (omega arith, omega (arith, lt))
 
 pub pair_acted : (r apart i : ℕ) (v : PairValues) (s mid new : Sides) → IsPassed (pair_events v apart (cut_of s)) s mid → 0 < apart → apart < length mid.ahead → i ≡ length mid.behind
-    → new ≡ moved_on (pair_length apart v.second) (record mid { positions = pair_adjusted mid.direction i (i + apart) v mid.positions }) → Performed (pair_of s.direction apart (Some v) (cut_with r s)) true r r s new
+    → new ≡ after_next_glyphs (pair_length apart v.second) (record mid { positions = pair_adjusted mid.direction i (i + apart) v mid.positions }) → IsPerformed (pair_of s.direction apart (Some v) (cut_with r s)) true r r s new
 pair_acted r apart i v s mid new p some lt here e =
     let long = pair_long apart v.second (length mid.ahead) some lt in
     let ps : Cut → List Position = λ c. pair_adjusted s.direction (length c.front) (length c.front + apart) v c.positions in
     let way : mid.direction ≡ s.direction = ap (λ (f : Frame). f.direction) p.still in
     let at : i ≡ length (cut_with r mid).front = here ∙ front_count r mid in
-    let there : new ≡ moved_on (pair_length apart v.second) (record mid { positions = ps (cut_with r mid) }) =
-    e ∙ ap (λ (d : Direction). moved_on (pair_length apart v.second) (record mid { positions = pair_adjusted d i (i + apart) v mid.positions })) way
-    ∙ ap (λ (k : ℕ). moved_on (pair_length apart v.second) (record mid { positions = pair_adjusted s.direction k (k + apart) v mid.positions })) at in
+    let there : new ≡ after_next_glyphs (pair_length apart v.second) (record mid { positions = ps (cut_with r mid) }) =
+    e ∙ ap (λ (d : Direction). after_next_glyphs (pair_length apart v.second) (record mid { positions = pair_adjusted d i (i + apart) v mid.positions })) way
+    ∙ ap (λ (k : ℕ). after_next_glyphs (pair_length apart v.second) (record mid { positions = pair_adjusted s.direction k (k + apart) v mid.positions })) at in
     (refl, marked_made (pair_events v apart (cut_of s)) (pair_length apart v.second) r ps s mid new p long.0 long.1 there)
 
 -- ---- the second glyph
 
 pub second_found : (r apart : ℕ) (d : Direction) (values : Item → Option PairValues) (o : Option PairValues) (found : Result ℕ ℕ) (acted : Bool) (s new : Sides) (g : hb_glyph_info_t) → slice_get s.ahead apart ≡ Some g → o ≡ values (item_of g) → found ≡ Ok apart
-    → Performed (pair_of d apart o (cut_with r s)) acted r r s new → Performed (pair_second d values found (cut_with r s)) acted r r s new
+    → IsPerformed (pair_of d apart o (cut_with r s)) acted r r s new → IsPerformed (pair_second d values found (cut_with r s)) acted r r s new
 second_found r apart d values o found acted s new g at is e done =
     let same : pair_second d values found (cut_with r s) ≡ pair_of d apart o (cut_with r s) =
     ap (λ f. pair_second d values f (cut_with r s)) e ∙ ap (λ q. pair_of d apart (option_and_then values q) (cut_with r s)) (item_at s.ahead apart g at) ∙ ap (λ q. pair_of d apart q (cut_with r s)) (sym is) in
-    subst (λ (o : Outcome). Performed o acted r r s new) (sym same) done
+    subst (λ (o : Outcome). IsPerformed o acted r r s new) (sym same) done
 
 pub second_failed : (r end : ℕ) (d : Direction) (values : Item → Option PairValues) (found : Result ℕ ℕ) (s new : Sides) → found ≡ Err end
-    → Performed (attempt_around 0 end (cut_with r s)) false r r s new → Performed (pair_second d values found (cut_with r s)) false r r s new
-second_failed r end d values found s new e done = subst (λ (f : Result ℕ ℕ). Performed (pair_second d values f (cut_with r s)) false r r s new) (sym e) done
+    → IsPerformed (attempt_around 0 end (cut_with r s)) false r r s new → IsPerformed (pair_second d values found (cut_with r s)) false r r s new
+second_failed r end d values found s new e done = subst (λ (f : Result ℕ ℕ). IsPerformed (pair_second d values f (cut_with r s)) false r r s new) (sym e) done
 
 -- ---- the subtable
 
-subtable_is : (r n : ℕ) (d : Direction) (a : Applied) (t : PairPos) (s : Sides) (g : hb_glyph_info_t) → slice_get s.ahead 0 ≡ Some g → n ≡ g.glyph_id
+subtable_is : (r n : ℕ) (d : Direction) (a : ApplyContext) (t : PairPos) (s : Sides) (g : hb_glyph_info_t) → slice_get s.ahead 0 ≡ Some g → n ≡ g.glyph_id
     → pair_subtable d a t (cut_with r s) ≡ (if begins_pair t n then pair_second d (λ y. pair_values t n y.number) (next_item a (strip s.ahead)) (cut_with r s) else Passes [])
 subtable_is r n d a t s g at is = ap (λ q. at_first (pair_from d a t) q (cut_with r s)) (first_item s.ahead g at)
     ∙ ap (λ (m : ℕ). if begins_pair t m then pair_second d (λ y. pair_values t m y.number) (next_item a (strip s.ahead)) (cut_with r s) else Passes []) (sym is)
 
-pub pair_begun : (r n : ℕ) (d : Direction) (a : Applied) (t : PairPos) (acted : Bool) (s new : Sides) (g : hb_glyph_info_t) → slice_get s.ahead 0 ≡ Some g → n ≡ g.glyph_id → begins_pair t n ≡ true
-    → Performed (pair_second d (λ y. pair_values t n y.number) (next_item a (strip s.ahead)) (cut_with r s)) acted r r s new → Performed (pair_subtable d a t (cut_with r s)) acted r r s new
+pub pair_begun : (r n : ℕ) (d : Direction) (a : ApplyContext) (t : PairPos) (acted : Bool) (s new : Sides) (g : hb_glyph_info_t) → slice_get s.ahead 0 ≡ Some g → n ≡ g.glyph_id → begins_pair t n ≡ true
+    → IsPerformed (pair_second d (λ y. pair_values t n y.number) (next_item a (strip s.ahead)) (cut_with r s)) acted r r s new → IsPerformed (pair_subtable d a t (cut_with r s)) acted r r s new
 pair_begun r n d a t acted s new g at is e done =
     let same = subtable_is r n d a t s g at is ∙ ap (λ (b : Bool). if b then pair_second d (λ y. pair_values t n y.number) (next_item a (strip s.ahead)) (cut_with r s) else Passes []) e in
-    subst (λ (o : Outcome). Performed o acted r r s new) (sym same) done
+    subst (λ (o : Outcome). IsPerformed o acted r r s new) (sym same) done
 
-pub pair_not_begun : (r n : ℕ) (d : Direction) (a : Applied) (t : PairPos) (s : Sides) (g : hb_glyph_info_t) → slice_get s.ahead 0 ≡ Some g → n ≡ g.glyph_id → begins_pair t n ≡ false
-    → Performed (pair_subtable d a t (cut_with r s)) false r r s s
+pub pair_not_begun : (r n : ℕ) (d : Direction) (a : ApplyContext) (t : PairPos) (s : Sides) (g : hb_glyph_info_t) → slice_get s.ahead 0 ≡ Some g → n ≡ g.glyph_id → begins_pair t n ≡ false
+    → IsPerformed (pair_subtable d a t (cut_with r s)) false r r s s
 pair_not_begun r n d a t s g at is e =
     passes_nothing r s (pair_subtable d a t (cut_with r s)) (subtable_is r n d a t s g at is ∙ ap (λ (b : Bool). if b then pair_second d (λ y. pair_values t n y.number) (next_item a (strip s.ahead)) (cut_with r s) else Passes []) e)

@@ -11,21 +11,21 @@ use Rattle.layout_subtables.specs.declared.value.ValueRecord.{ValueRecord}
 use Rattle.layout_subtables.specs.declared.pair.PairValues.{PairValues}
 use Rattle.layout_subtables.specs.declared.pair.PairPos.{PairPos}
 use Rattle.layout_subtables.specs.declared.pair.PairPos.TheVariants.{Glyphs, Classes}
-use Rattle.layout_match.specs.Applied.{Applied, own_search}
+use Rattle.layout_match.specs.Applied.{ApplyContext, own_search}
 use Rattle.layout_match.specs.Searches.{answer, is_skippable}
 use Rattle.layout_match.specs.Matches.{nearest_from}
 use Rattle.buffer_stages.specs.Actions.{Cut, Action, Passes, Acts, at_first, attempt_around}
-use Rattle.layout_gpos.specs.Values.{adjusted_at, is_zero}
-use Rattle.layout_gpos.specs.Moving.{placed_past, break_around}
+use Rattle.layout_gpos.specs.Values.{with_adjusted_position, is_zero}
+use Rattle.layout_gpos.specs.Moving.{cut_with_positions, break_around}
 
 -- the second glyph is adjusted where it has a record
 abbrev pub second_adjusted : Direction → ℕ → Option ValueRecord → List Position → List Position
 second_adjusted d i None ps = ps
-second_adjusted d i (Some v) ps = adjusted_at d i v ps
+second_adjusted d i (Some v) ps = with_adjusted_position d i v ps
 
 -- two glyphs adjusted by the values of a pair
 abbrev pub pair_adjusted : Direction → ℕ → ℕ → PairValues → List Position → List Position
-pair_adjusted d first second v ps = second_adjusted d second v.second (adjusted_at d first v.first ps)
+pair_adjusted d first second v ps = second_adjusted d second v.second (with_adjusted_position d first v.first ps)
 
 -- the length of a pair: after a second glyph with a record the cursor is after it; without one that glyph may begin the
 -- next pair
@@ -46,7 +46,7 @@ pair_events v apart c = if is_zero v.first && has_no_effect v.second then [] els
 -- concat
 abbrev pub pair_of : Direction → ℕ → Option PairValues → Action
 pair_of d apart None c = attempt_around 0 (apart + 1) c
-pair_of d apart (Some v) c = Acts (placed_past (pair_length apart v.second) (pair_adjusted d (length c.front) (length c.front + apart) v c.positions) c) (pair_events v apart c)
+pair_of d apart (Some v) c = Acts (cut_with_positions (pair_length apart v.second) (pair_adjusted d (length c.front) (length c.front + apart) v c.positions) c) (pair_events v apart c)
 
 -- the second item is the nearest after the first that the lookup does not skip
 abbrev pub pair_second : Direction → (Item → Option PairValues) → Result ℕ ℕ → Action
@@ -54,7 +54,7 @@ pair_second d values (Err end) c = attempt_around 0 end c
 pair_second d values (Ok apart) c = pair_of d apart (option_and_then values (slice_get c.rest apart)) c
 
 -- the nearest item after the first
-abbrev pub next_item : Applied → List Item → Result ℕ ℕ
+abbrev pub next_item : ApplyContext → List Item → Result ℕ ℕ
 next_item a rest = nearest_from (answer (own_search a rest) (λ x. not (is_skippable (own_search a rest) x))) 1 rest
 
 -- the adjustments of two glyphs
@@ -68,9 +68,9 @@ begins_pair (Glyphs p) first = list_any (λ r. r.first == first) p.rows
 begins_pair (Classes p) first = is_covered first p.coverage
 
 -- pair adjustment of an item that begins pairs
-abbrev pub pair_from : Direction → Applied → PairPos → Item → Action
+abbrev pub pair_from : Direction → ApplyContext → PairPos → Item → Action
 pair_from d a s x c = if begins_pair s x.number then pair_second d (λ y. pair_values s x.number y.number) (next_item a c.rest) c else Passes []
 
 -- pair adjustment (OpenType, GPOS lookup type 2)
-abbrev pub pair_subtable : Direction → Applied → PairPos → Action
+abbrev pub pair_subtable : Direction → ApplyContext → PairPos → Action
 pair_subtable d a s c = at_first (pair_from d a s) (first_of c.rest) c

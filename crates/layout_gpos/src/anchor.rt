@@ -1,6 +1,6 @@
 //! Attachment of marks to other glyphs by anchors, on a list of positions.
 ghost use Rattle.std.specs.Prelude.{◌≡◌, ◌<◌, ◌-ℤ◌, length};
-ghost use Rattle.layout_gpos.specs.Anchors.{anchored, mark_hung};
+ghost use Rattle.layout_gpos.specs.Anchors.{anchored_position, with_mark_attached};
 ghost use Rattle.layout_offsets.specs.Links.{is_near, link_to};
 
 use buffer_glyphs::position::GlyphPosition;
@@ -14,7 +14,7 @@ fn difference(a: i16, b: i16) -> i32
 }
 
 fn anchored(base: Anchor, mark: Anchor, link: i16, position: GlyphPosition) -> GlyphPosition
-    ensures { result ≡ anchored base mark link position }
+    ensures { result ≡ anchored_position base mark link position }
 {
     GlyphPosition {
         x_offset: difference(base.x, mark.x),
@@ -34,7 +34,7 @@ pub fn hang_mark(
     mark_anchor: Anchor,
 )
     requires { at < length positions.old }
-    ensures { positions.new ≡ mark_hung at base base_anchor mark_anchor positions.old }
+    ensures { positions.new ≡ with_mark_attached at base base_anchor mark_anchor positions.old }
 {
     if is_near(at, base) {
         positions[at] = anchored(base_anchor, mark_anchor, link_to(at, base), positions[at]);

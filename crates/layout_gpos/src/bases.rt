@@ -1,19 +1,17 @@
-//! The search for a base or a ligature, which remembers the last one (HarfBuzz: `last_base`).
-ghost use Rattle.std.specs.Prelude.{ℕ, ◌≡◌, ◌<◌, ◌≤◌, ◌+◌, ◌^◌, IfErr, IfOk, length, List};
+//! The search for a base or a ligature, which remembers the last one.
+ghost use Rattle.std.specs.Prelude.{ℕ, ◌≡◌, ◌<◌, ◌≤◌, ◌+◌, ◌^◌, Bool, IfErr, IfOk, List, Option, drop, length, reverse};
 ghost use Rattle.buffer_core.specs.Sides.{items_of};
-ghost use Rattle.buffer_glyphs.specs.Items.{Item, item_of, strip};
-ghost use Rattle.layout_match.specs.Applied.{Applied, applied_of, own_search};
+ghost use Rattle.buffer_glyphs.specs.Items.{Item, strip};
+ghost use Rattle.layout_match.specs.Applied.{ApplyContext, apply_context_of, own_search};
 ghost use Rattle.layout_match.specs.Searches.{search_of};
-ghost use Rattle.layout_match.specs.declared.search.match_t.{match_t};
 ghost use Rattle.buffer_stages.specs.Buffers.{cut_of};
-ghost use Rattle.layout_gpos.specs.Bases.{AreKept, IsKept, any_sought, asked, farther};
-ghost use Rattle.layout_gpos.specs.Marks.{nearest_before, without_marks};
+ghost use Rattle.layout_gpos.specs.Bases.{AreKept, IsKept, any_sought, search_result_from, takes, takes_first};
+ghost use Rattle.layout_gpos.specs.Marks.{taken_before, without_marks};
 
-use crate::search::{base_answer, glyph_before, is_later_component, without_marks};
+use crate::search::{glyph_before, is_later_component, is_match, without_marks};
 use buffer_core::buffer::hb_buffer_t;
-use buffer_glyphs::info::hb_glyph_info_t;
+use layout_match::hb_ot_apply_context_t;
 use layout_match::search::GlyphSearch;
-use layout_match::{hb_ot_apply_context_t, match_t};
 
 /// The glyph that a mark is to be attached to.
 #[derive(Clone, Copy)]
@@ -25,14 +23,19 @@ pub enum Sought {
 }
 
 impl Sought {
-    /// The search's answer for a glyph.
-    fn answer(self, search: &GlyphSearch, info: &hb_glyph_info_t) -> match_t
-        ensures { result ≡ asked self (search_of search.now) (item_of info.now) }
+    /// Whether the search takes the glyph with an index before the cursor, the nearest being 0.
+    #[tactic(auto, using(crate::proofs::Lemmas::Taken::first_there))]
+    fn takes(self, search: &GlyphSearch, buffer: &hb_buffer_t, back: usize) -> bool
+        requires { back < length buffer.now.behind }
+        ensures { result ≡ takes_first (takes self (search_of search.now)) (drop back (reverse (strip buffer.now.behind))) }
     {
-        let answer = search.match_(None, 0, info);
+        // The number of glyphs bounds the index of the one before.
+        let _end = buffer.out_len();
+        let info = glyph_before(buffer, back);
+        let fits = is_match(search.match_(None, 0, info));
         match self {
-            Sought::Base => base_answer(is_later_component(info), answer),
-            Sought::Ligature => answer,
+            Sought::Base => fits && !is_later_component(info, buffer, back + 1),
+            Sought::Ligature => fits,
         }
     }
 }
@@ -42,7 +45,7 @@ impl Sought {
 pub struct LastSearch {
     /// How many glyphs were before the glyph that searched.
     before: usize,
-    /// How far back the search found a glyph, the nearest being 0; else how far it read.
+    /// How far back it found what it sought, the nearest glyph being 0; else how many glyphs it read.
     found: Result<usize, usize>,
 }
 
@@ -50,7 +53,7 @@ impl LastSearch {
     /// The search before the first glyph, which found none.
     #[tactic(auto, using(crate::proofs::Kept::kept_first))]
     pub fn new() -> LastSearch
-        ensures { (ask : Item → match_t) (xs : List Item) → IsKept ask xs result }
+        ensures { (test : Item → Option Item → Bool) (xs : List Item) → IsKept test xs result }
     {
         LastSearch {
             before: 0,
@@ -71,7 +74,7 @@ pub struct LastSearches {
 impl LastSearches {
     /// The searches before the first glyph, which found none.
     pub fn new() -> LastSearches
-        ensures { (a : Applied) (xs : List Item) → AreKept a xs result }
+        ensures { (a : ApplyContext) (xs : List Item) → AreKept a xs result }
     {
         LastSearches {
             base: LastSearch::new(),
@@ -84,7 +87,7 @@ impl LastSearches {
 fn farther(found: Result<usize, usize>, by: usize) -> Result<usize, usize>
     requires inside { IfOk found (λ at. at + by < 2 ^ 64) }
     requires read { IfErr found (λ end. end + by < 2 ^ 64) }
-    ensures { result ≡ farther by found }
+    ensures { result ≡ search_result_from by found }
 {
     match found {
         Ok(at) => Ok(at + by),
@@ -92,8 +95,9 @@ fn farther(found: Result<usize, usize>, by: usize) -> Result<usize, usize>
     }
 }
 
-/// Searches before the cursor: only the glyphs after those of the last search are tested, and else its result holds.
-#[tactic(auto, using(layout_match::proofs::Lemmas::Nearest::taken_before, layout_match::proofs::Lemmas::Nearest::refused_before, layout_match::proofs::Lemmas::Nearest::passed_before, crate::proofs::Kept::went_on))]
+/// What is sought before the cursor: the glyphs behind the last search are looked at, and what that one found is not sought
+/// again.
+#[tactic(auto, using(crate::proofs::Lemmas::Taken::taken_there, crate::proofs::Lemmas::Taken::passed_there))]
 fn found_since(
     sought: Sought,
     ctx: &hb_ot_apply_context_t,
@@ -102,26 +106,24 @@ fn found_since(
 ) -> Result<usize, usize>
     requires there { 0 < length buffer.now.ahead }
     requires since { last.before ≤ length buffer.now.behind }
-    requires kept { IsKept (asked sought (own_search (without_marks (applied_of ctx.now)) (strip buffer.now.ahead)))
+    requires kept { IsKept (takes sought (own_search (without_marks (apply_context_of ctx.now)) (strip buffer.now.ahead)))
         (items_of buffer.now) last }
-    ensures found { result ≡ nearest_before (asked sought) (without_marks (applied_of ctx.now)) (cut_of buffer.now) }
+    ensures found { result ≡ taken_before (takes sought) (apply_context_of ctx.now) (cut_of buffer.now) }
     ensures inside { IfOk result (λ at. at < length buffer.now.behind) }
     ensures read { IfErr result (λ end. end ≤ length buffer.now.behind) }
 {
     let search = without_marks(ctx).own_search(buffer);
     let more = buffer.out_len() - last.before;
     for at in 0..more {
-        match sought.answer(&search, glyph_before(buffer, at)) {
-            match_t::MATCH => return Ok(at),
-            match_t::NOT_MATCH => return Err(at + 1),
-            match_t::SKIP => {}
+        if sought.takes(&search, buffer, at) {
+            return Ok(at);
         }
     }
     farther(last.found, more)
 }
 
-/// The nearest glyph before the cursor that a mark may be attached to; else how far the search read. It continues the
-/// last search, unless the lookup is applied per syllable.
+/// The nearest glyph before the cursor that a mark may hang on; else how many glyphs there are. It goes on from the last
+/// search, but where the lookup is kept to syllables.
 #[tactic(auto, using(crate::proofs::Kept::kept_there, crate::proofs::Kept::kept_now))]
 pub fn found_before(
     sought: Sought,
@@ -130,11 +132,11 @@ pub fn found_before(
     buffer: &hb_buffer_t,
 ) -> Result<usize, usize>
     requires there { 0 < length buffer.now.ahead }
-    requires kept { IsKept (any_sought sought (applied_of ctx.now)) (items_of buffer.now) last.old }
-    ensures found { result ≡ nearest_before (asked sought) (without_marks (applied_of ctx.now)) (cut_of buffer.now) }
+    requires kept { IsKept (any_sought sought (apply_context_of ctx.now)) (items_of buffer.now) last.old }
+    ensures found { result ≡ taken_before (takes sought) (apply_context_of ctx.now) (cut_of buffer.now) }
     ensures inside { IfOk result (λ at. at < length buffer.now.behind) }
     ensures read { IfErr result (λ end. end ≤ length buffer.now.behind) }
-    ensures kept { IsKept (any_sought sought (applied_of ctx.now)) (items_of buffer.now) last.new }
+    ensures kept { IsKept (any_sought sought (apply_context_of ctx.now)) (items_of buffer.now) last.new }
 {
     let before = buffer.out_len();
     if ctx.per_syllable || before < last.before {

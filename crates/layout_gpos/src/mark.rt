@@ -2,10 +2,10 @@
 ghost use Rattle.std.specs.Prelude.{ℕ, ◌≡◌, ◌<◌, ◌≤◌, IfErr, IfOk, false, true, Ok, length};
 ghost use Rattle.buffer_core.specs.Sides.{all_glyphs, items_of};
 ghost use Rattle.buffer_rows.specs.Keys.{row_of};
-ghost use Rattle.layout_match.specs.Applied.{applied_of};
+ghost use Rattle.layout_match.specs.Applied.{apply_context_of};
 ghost use Rattle.buffer_stages.specs.Buffers.{are_glyphs};
-ghost use Rattle.buffer_stages.specs.Performing.{Performed, cut_with};
-ghost use Rattle.layout_gpos.specs.Anchors.{mark_hung, told_if};
+ghost use Rattle.buffer_stages.specs.Performing.{IsPerformed, cut_with};
+ghost use Rattle.layout_gpos.specs.Anchors.{with_mark_attached, with_attachment_flag};
 ghost use Rattle.layout_offsets.specs.Links.{is_near};
 ghost use Rattle.layout_gpos.specs.Bases.{IsKept, any_sought};
 ghost use Rattle.layout_gpos.specs.declared.bases.Sought.TheVariants.{Base};
@@ -35,7 +35,7 @@ fn hang_at(
     requires closed { buffer.old.is_open ≡ false }
     requires here { at < length buffer.old.positions }
     ensures { buffer.new ≡ record buffer.old {
-      positions = mark_hung at base base_anchor mark_anchor buffer.old.positions;
+      positions = with_mark_attached at base base_anchor mark_anchor buffer.old.positions;
     } }
 {
     hang_mark(buffer.pos_slice_mut(), at, base, base_anchor, mark_anchor);
@@ -43,7 +43,7 @@ fn hang_at(
 
 /// Sets the scratch flag HAS_GPOS_ATTACHMENT, where a mark was attached.
 pub fn tell_attached(buffer: &mut hb_buffer_t, near: bool)
-    ensures { buffer.new ≡ record buffer.old { scratch_flags = told_if near buffer.old.scratch_flags } }
+    ensures { buffer.new ≡ record buffer.old { scratch_flags = with_attachment_flag near buffer.old.scratch_flags } }
 {
     if near {
         let flags = buffer.scratch_flags();
@@ -57,7 +57,7 @@ fn attach(base: Anchor, mark: Anchor, back: usize, buffer: &mut hb_buffer_t)
     requires there { 0 < length buffer.old.ahead }
     requires before { back < length buffer.old.behind }
     requires placed { length buffer.old.positions ≡ length (all_glyphs buffer.old) }
-    ensures { (random : ℕ) → Performed (attach base mark back (cut_with random buffer.old)) true random random
+    ensures { (random : ℕ) → IsPerformed (attach base mark back (cut_with random buffer.old)) true random random
         buffer.old
         buffer.new }
 {
@@ -82,7 +82,7 @@ pub fn attach_if(
     requires there { 0 < length buffer.old.ahead }
     requires before { back < length buffer.old.behind }
     requires placed { length buffer.old.positions ≡ length (all_glyphs buffer.old) }
-    ensures { (random : ℕ) → Performed (attach_if base mark back (cut_with random buffer.old)) result random random
+    ensures { (random : ℕ) → IsPerformed (attach_if base mark back (cut_with random buffer.old)) result random random
         buffer.old buffer.new }
 {
     let Some(base) = base else {
@@ -118,7 +118,7 @@ pub fn attach_to_base(
     requires before { back < length buffer.old.behind }
     requires placed { length buffer.old.positions ≡ length (all_glyphs buffer.old) }
     requires number { are_glyphs (items_of buffer.old) ≡ true }
-    ensures { (random : ℕ) → Performed (with_found (on_base subtable.now.bases mark) (Ok back) (cut_with random
+    ensures { (random : ℕ) → IsPerformed (with_found (on_base subtable.now.bases mark) (Ok back) (cut_with random
         buffer.old)) result random random buffer.old buffer.new }
 {
     let _end = buffer.out_len();
@@ -150,10 +150,10 @@ pub fn apply_mark_base_pos(
     requires there { 0 < length buffer.old.ahead }
     requires placed { length buffer.old.positions ≡ length (all_glyphs buffer.old) }
     requires number { are_glyphs (items_of buffer.old) ≡ true }
-    requires kept { IsKept (any_sought Base (applied_of ctx.now)) (items_of buffer.old) last.old }
-    ensures performed { (random : ℕ) → Performed (mark_to_base (applied_of ctx.now) subtable.now (cut_with random
+    requires kept { IsKept (any_sought Base (apply_context_of ctx.now)) (items_of buffer.old) last.old }
+    ensures performed { (random : ℕ) → IsPerformed (mark_to_base (apply_context_of ctx.now) subtable.now (cut_with random
         buffer.old)) result random random buffer.old buffer.new }
-    ensures kept { IsKept (any_sought Base (applied_of ctx.now)) (items_of buffer.new) last.new }
+    ensures kept { IsKept (any_sought Base (apply_context_of ctx.now)) (items_of buffer.new) last.new }
 {
     let Some(mark) = subtable.mark(buffer.cur(0).as_glyph().0) else {
         return false;
@@ -176,7 +176,7 @@ fn attach_found(
     requires read { IfErr found (λ end. end ≤ length buffer.old.behind) }
     requires placed { length buffer.old.positions ≡ length (all_glyphs buffer.old) }
     requires number { are_glyphs (items_of buffer.old) ≡ true }
-    ensures { (random : ℕ) → Performed (with_found (on_base subtable.now.bases mark) found (cut_with random
+    ensures { (random : ℕ) → IsPerformed (with_found (on_base subtable.now.bases mark) found (cut_with random
         buffer.old)) result random random buffer.old buffer.new }
 {
     match found {

@@ -3,9 +3,9 @@ ghost use Rattle.std.specs.Prelude.{ℕ, ◌≡◌, ◌<◌, ◌≤◌, IfErr, I
 ghost use Rattle.buffer_core.specs.Sides.{all_glyphs, items_of};
 ghost use Rattle.buffer_glyphs.specs.Items.{item_of};
 ghost use Rattle.layout_subtables.specs.Marks.{component_count};
-ghost use Rattle.layout_match.specs.Applied.{applied_of};
+ghost use Rattle.layout_match.specs.Applied.{apply_context_of};
 ghost use Rattle.buffer_stages.specs.Buffers.{are_glyphs};
-ghost use Rattle.buffer_stages.specs.Performing.{Performed, cut_with};
+ghost use Rattle.buffer_stages.specs.Performing.{IsPerformed, cut_with};
 ghost use Rattle.layout_gpos.specs.Bases.{IsKept, any_sought};
 ghost use Rattle.layout_gpos.specs.declared.bases.Sought.TheVariants.{Ligature};
 ghost use Rattle.layout_gpos.specs.Marks.{component_in, component_of, mark_to_ligature, on_ligature, with_found};
@@ -66,7 +66,7 @@ fn attach_to_ligature(
     requires before { back < length buffer.old.behind }
     requires placed { length buffer.old.positions ≡ length (all_glyphs buffer.old) }
     requires number { are_glyphs (items_of buffer.old) ≡ true }
-    ensures { (random : ℕ) → Performed (with_found (on_ligature subtable.now.ligatures mark (item_of info.now)) (Ok
+    ensures { (random : ℕ) → IsPerformed (with_found (on_ligature subtable.now.ligatures mark (item_of info.now)) (Ok
         back) (cut_with random buffer.old)) result random random buffer.old buffer.new }
 {
     let _end = buffer.out_len();
@@ -95,7 +95,7 @@ fn attach_ligature_found(
     requires read { IfErr found (λ end. end ≤ length buffer.old.behind) }
     requires placed { length buffer.old.positions ≡ length (all_glyphs buffer.old) }
     requires number { are_glyphs (items_of buffer.old) ≡ true }
-    ensures { (random : ℕ) → Performed (with_found (on_ligature subtable.now.ligatures mark (item_of info.now)) found
+    ensures { (random : ℕ) → IsPerformed (with_found (on_ligature subtable.now.ligatures mark (item_of info.now)) found
         (cut_with random buffer.old)) result random random buffer.old buffer.new }
 {
     match found {
@@ -122,10 +122,10 @@ pub fn apply_mark_lig_pos(
     requires there { 0 < length buffer.old.ahead }
     requires placed { length buffer.old.positions ≡ length (all_glyphs buffer.old) }
     requires number { are_glyphs (items_of buffer.old) ≡ true }
-    requires kept { IsKept (any_sought Ligature (applied_of ctx.now)) (items_of buffer.old) last.old }
-    ensures performed { (random : ℕ) → Performed (mark_to_ligature (applied_of ctx.now) subtable.now (cut_with random
+    requires kept { IsKept (any_sought Ligature (apply_context_of ctx.now)) (items_of buffer.old) last.old }
+    ensures performed { (random : ℕ) → IsPerformed (mark_to_ligature (apply_context_of ctx.now) subtable.now (cut_with random
         buffer.old)) result random random buffer.old buffer.new }
-    ensures kept { IsKept (any_sought Ligature (applied_of ctx.now)) (items_of buffer.new) last.new }
+    ensures kept { IsKept (any_sought Ligature (apply_context_of ctx.now)) (items_of buffer.new) last.new }
 {
     let info = *buffer.cur(0);
     let Some(mark) = subtable.mark(info.as_glyph().0) else {

@@ -2,10 +2,10 @@
 ghost use Rattle.std.specs.Prelude.{ℕ, ◌≡◌, ◌<◌, ◌≤◌, ◌&&◌, IfErr, IfOk, false, true, length};
 ghost use Rattle.buffer_core.specs.Sides.{all_glyphs, items_of};
 ghost use Rattle.buffer_glyphs.specs.Items.{item_of};
-ghost use Rattle.layout_match.specs.Applied.{applied_of};
+ghost use Rattle.layout_match.specs.Applied.{apply_context_of};
 ghost use Rattle.buffer_glyphs.specs.LigatureWords.{is_mark};
 ghost use Rattle.buffer_stages.specs.Buffers.{are_glyphs};
-ghost use Rattle.buffer_stages.specs.Performing.{Performed, cut_with};
+ghost use Rattle.buffer_stages.specs.Performing.{IsPerformed, cut_with};
 ghost use Rattle.layout_gpos.specs.Marks.{belong_together, is_own_ligature, mark_to_mark, on_mark, with_found};
 
 use crate::mark::attach_to_base;
@@ -32,7 +32,7 @@ pub fn apply_mark_mark_pos(
     requires there { 0 < length buffer.old.ahead }
     requires placed { length buffer.old.positions ≡ length (all_glyphs buffer.old) }
     requires number { are_glyphs (items_of buffer.old) ≡ true }
-    ensures { (random : ℕ) → Performed (mark_to_mark (applied_of ctx.now) subtable.now (cut_with random
+    ensures { (random : ℕ) → IsPerformed (mark_to_mark (apply_context_of ctx.now) subtable.now (cut_with random
         buffer.old)) result random random buffer.old buffer.new }
 {
     let info = *buffer.cur(0);
@@ -58,7 +58,7 @@ fn attach_mark_found(
     requires read { IfErr found (λ end. end ≤ length buffer.old.behind) }
     requires placed { length buffer.old.positions ≡ length (all_glyphs buffer.old) }
     requires number { are_glyphs (items_of buffer.old) ≡ true }
-    ensures { (random : ℕ) → Performed (with_found (on_mark subtable.now.bases mark (item_of info.now)) found (cut_with
+    ensures { (random : ℕ) → IsPerformed (with_found (on_mark subtable.now.bases mark (item_of info.now)) found (cut_with
         random buffer.old)) result random random buffer.old buffer.new }
 {
     let _end = buffer.out_len();

@@ -3,9 +3,9 @@ ghost use Rattle.std.specs.Prelude.{ℕ, ◌≡◌, ◌<◌, ◌≤◌, ◌+◌,
 ghost use Rattle.std.specs.List.{list_any};
 ghost use Rattle.buffer_core.specs.Sides.{all_glyphs, items_of};
 ghost use Rattle.buffer_glyphs.specs.Items.{strip};
-ghost use Rattle.layout_match.specs.Applied.{applied_of};
+ghost use Rattle.layout_match.specs.Applied.{apply_context_of};
 ghost use Rattle.buffer_stages.specs.Buffers.{IsPassed, are_glyphs, cut_of};
-ghost use Rattle.buffer_stages.specs.Performing.{Performed, cut_with};
+ghost use Rattle.buffer_stages.specs.Performing.{IsPerformed, cut_with};
 ghost use Rattle.layout_gpos.specs.Values.{is_zero};
 ghost use Rattle.layout_gpos.specs.Pairs.{begins_pair, has_no_effect, next_item, pair_adjusted, pair_events, pair_length, pair_of, pair_second, pair_subtable, pair_values};
 
@@ -51,7 +51,7 @@ fn pair_values(subtable: &PairPos, first: u16, second: u16) -> Option<PairValues
 #[tactic(auto, using(crate::proofs::Lemmas::Read::read_inside, crate::proofs::Lemmas::Read::found_ahead))]
 pub fn next_glyph(ctx: &hb_ot_apply_context_t, buffer: &hb_buffer_t) -> Result<usize, usize>
     requires { 0 < length buffer.now.ahead }
-    ensures found { result ≡ next_item (applied_of ctx.now) (strip buffer.now.ahead) }
+    ensures found { result ≡ next_item (apply_context_of ctx.now) (strip buffer.now.ahead) }
     ensures inside { IfOk result (λ at. (0 < at) × (at < length buffer.now.ahead)) }
     ensures read { IfErr result (λ end. end ≤ length buffer.now.ahead) }
 {
@@ -121,7 +121,7 @@ fn apply_values(values: Option<PairValues>, apart: usize, buffer: &mut hb_buffer
     requires some { 0 < apart }
     requires there { apart < length buffer.old.ahead }
     requires placed { length buffer.old.positions ≡ length (all_glyphs buffer.old) }
-    ensures { (random : ℕ) → Performed (pair_of buffer.old.direction apart values (cut_with random buffer.old)) result
+    ensures { (random : ℕ) → IsPerformed (pair_of buffer.old.direction apart values (cut_with random buffer.old)) result
         random random buffer.old buffer.new }
 {
     let _end = buffer.len();
@@ -159,8 +159,8 @@ fn apply_from(
     requires there { 0 < length buffer.old.ahead }
     requires placed { length buffer.old.positions ≡ length (all_glyphs buffer.old) }
     requires number { are_glyphs (items_of buffer.old) ≡ true }
-    ensures { (random : ℕ) → Performed (pair_second buffer.old.direction
-        (λ y. pair_values subtable.now first y.number) (next_item (applied_of ctx.now) (strip buffer.old.ahead))
+    ensures { (random : ℕ) → IsPerformed (pair_second buffer.old.direction
+        (λ y. pair_values subtable.now first y.number) (next_item (apply_context_of ctx.now) (strip buffer.old.ahead))
         (cut_with
         random buffer.old)) result random random buffer.old buffer.new }
 {

@@ -1,7 +1,7 @@
 //! Positions changed at the cursor, and the cursor moved on.
 ghost use Rattle.std.specs.Prelude.{ℕ, ◌≡◌, ◌<◌, ◌≤◌, false, true, [], length};
-ghost use Rattle.buffer_core.specs.Sides.{moved_on};
-ghost use Rattle.layout_gpos.specs.Values.{adjusted_at};
+ghost use Rattle.buffer_core.specs.Sides.{after_next_glyphs};
+ghost use Rattle.layout_gpos.specs.Values.{with_adjusted_position};
 
 use crate::value::adjust;
 use buffer_core::buffer::hb_buffer_t;
@@ -13,7 +13,7 @@ pub fn adjust_glyph(buffer: &mut hb_buffer_t, at: usize, value: ValueRecord)
     requires closed { buffer.old.is_open ≡ false }
     requires here { at < length buffer.old.positions }
     ensures { buffer.new ≡ record buffer.old {
-      positions = adjusted_at buffer.old.direction at value
+      positions = with_adjusted_position buffer.old.direction at value
           buffer.old.positions;
     } }
 {
@@ -25,7 +25,7 @@ pub fn adjust_glyph(buffer: &mut hb_buffer_t, at: usize, value: ValueRecord)
 pub fn pass(buffer: &mut hb_buffer_t, count: usize)
     requires closed { buffer.old.is_open ≡ false }
     requires there { count ≤ length buffer.old.ahead }
-    ensures { buffer.new ≡ moved_on count buffer.old }
+    ensures { buffer.new ≡ after_next_glyphs count buffer.old }
 {
     let _passed = buffer.next_glyphs(count);
 }

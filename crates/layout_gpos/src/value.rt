@@ -1,6 +1,6 @@
 //! Value records (OpenType, GPOS) applied to a list of positions.
 ghost use Rattle.std.specs.Prelude.{◌≡◌, ◌<◌, length};
-ghost use Rattle.layout_gpos.specs.Values.{adjusted, adjusted_at, advanced, is_zero, moved};
+ghost use Rattle.layout_gpos.specs.Values.{adjusted_position, with_adjusted_position, position_with_advance, is_zero, position_with_placement};
 
 use buffer_common::direction::Direction;
 use buffer_glyphs::position::GlyphPosition;
@@ -8,7 +8,7 @@ use layout_offsets::sums::{minus, plus};
 use layout_subtables::value::ValueRecord;
 
 fn moved(value: ValueRecord, position: GlyphPosition) -> GlyphPosition
-    ensures { result ≡ moved value position }
+    ensures { result ≡ position_with_placement value position }
 {
     GlyphPosition {
         x_offset: plus(position.x_offset, i32::from(value.x_placement)),
@@ -18,7 +18,7 @@ fn moved(value: ValueRecord, position: GlyphPosition) -> GlyphPosition
 }
 
 fn advanced(is_horizontal: bool, value: ValueRecord, position: GlyphPosition) -> GlyphPosition
-    ensures { result ≡ advanced is_horizontal value position }
+    ensures { result ≡ position_with_advance is_horizontal value position }
 {
     if is_horizontal {
         let x_advance = plus(position.x_advance, i32::from(value.x_advance));
@@ -37,7 +37,7 @@ fn advanced(is_horizontal: bool, value: ValueRecord, position: GlyphPosition) ->
 
 /// A position adjusted: placements always apply, an advance only along the line.
 pub fn adjusted(direction: Direction, value: ValueRecord, position: GlyphPosition) -> GlyphPosition
-    ensures { result ≡ adjusted direction value position }
+    ensures { result ≡ adjusted_position direction value position }
 {
     advanced(direction.is_horizontal(), value, moved(value, position))
 }
@@ -45,7 +45,7 @@ pub fn adjusted(direction: Direction, value: ValueRecord, position: GlyphPositio
 /// Adjusts the position at an index.
 pub fn adjust(positions: &mut [GlyphPosition], at: usize, value: ValueRecord, direction: Direction)
     requires here { at < length positions.old }
-    ensures { positions.new ≡ adjusted_at direction at value positions.old }
+    ensures { positions.new ≡ with_adjusted_position direction at value positions.old }
 {
     positions[at] = adjusted(direction, value, positions[at]);
 }

@@ -17,12 +17,12 @@ use Rattle.buffer_core.specs.Settings.{next_lig_id, with_lig_id}
 use Rattle.layout_face.specs.declared.parts.GlyphDefinition.{GlyphDefinition}
 use Rattle.buffer_glyphs.specs.LigatureWords.{lig_comp, lig_id, lig_num_comps, ligature_word}
 use Rattle.buffer_stages.specs.Actions.{Cut, Acts, Refuses}
-use Rattle.buffer_stages.specs.Buffers.{cut_of, are_glyphs, frame_of, Happened}
-use Rattle.buffer_stages.specs.Performing.{cut_with, Performed}
+use Rattle.buffer_stages.specs.Buffers.{cut_of, are_glyphs, frame_of, HasHappened}
+use Rattle.buffer_stages.specs.Performing.{cut_with, IsPerformed}
 use Rattle.buffer_stages.proofs.Lemmas.Attempts.{cut_with_glyphs}
 use Rattle.buffer_stages.proofs.Lemmas.Frames.{then_happened, still_settings, still_limit}
 use Rattle.buffer_stages.proofs.Lemmas.Glyphs.{and_both, all_of_both, all_of_front, all_of_back, all_taken, all_dropped}
-use Rattle.layout_gsub.specs.Ligating.{after_parts, are_marks, component_count, following_items, items_at, last_given, last_place, ligated_over, ligature_category, ligature_item, ligature_props, own_number, parts_gone, passed_item, passed_items, has_own_number, components_at, with_component}
+use Rattle.layout_gsub.specs.Ligating.{after_components, are_marks, component_count, following_items, items_at, last_given, last_index, ligature_substitution, ligature_category, ligature_item, ligature_props, own_number, component_deletions, passed_item, passed_items, has_own_number, components_at, with_component}
 use Rattle.layout_gsub.specs.Uniting.{AreUnited, IsMerged, IsRenumbered, end_of}
 use Rattle.layout_gsub.proofs.Replaced.{acts_within, refuses_past}
 use Rattle.layout_gsub.proofs.Renumbered.{item_at}
@@ -84,7 +84,7 @@ after_small false id last e o xs = following_small id last e o xs
 
 -- ---- what is left of the buffer
 
-pub last_ends : (i : ℕ) (places : List ℕ) → last_place (i ∷ places) + 1 ≡ end_of (i + 1) places
+pub last_ends : (i : ℕ) (places : List ℕ) → last_index (i ∷ places) + 1 ≡ end_of (i + 1) places
 last_ends i [] = refl
 last_ends i (j ∷ places) = last_ends j places
 
@@ -94,10 +94,10 @@ pub ligature_made : (gdef : GlyphDefinition) (glyph end r : ℕ) (others : List 
     → x ≡ ligature_item gdef glyph (items_at (0 ∷ others) (strip s.ahead)) (own_number (items_at (0 ∷ others) (strip s.ahead)) s.lig_id) (item_of g)
     → passed ≡ passed_items (has_own_number (items_at (0 ∷ others) (strip s.ahead))) (own_number (items_at (0 ∷ others) (strip s.ahead)) s.lig_id) (components_at 0 (strip s.ahead)) (components_at 0 (strip s.ahead)) 1 others (strip s.ahead)
     → AreUnited x passed others a b
-    → ahead ≡ after_parts (items_at (0 ∷ others) (strip s.ahead)) (own_number (items_at (0 ∷ others) (strip s.ahead)) s.lig_id) (slice_get (strip s.ahead) (last_place (0 ∷ others))) (strip b.ahead)
+    → ahead ≡ after_components (items_at (0 ∷ others) (strip s.ahead)) (own_number (items_at (0 ∷ others) (strip s.ahead)) s.lig_id) (slice_get (strip s.ahead) (last_index (0 ∷ others))) (strip b.ahead)
     → (are_glyphs (strip b.ahead) ≡ true → are_glyphs ahead ≡ true)
     → IsRenumbered ahead b new
-    → Performed (ligated_over gdef glyph (0 ∷ others) end (cut_with r s)) true r r s new
+    → IsPerformed (ligature_substitution gdef glyph (0 ∷ others) end (cut_with r s)) true r r s new
 ligature_made gdef glyph end r others x passed ahead s a b new g small ends le at m first is-passed u is-ahead kept f =
     let c = cut_with r s in
     let xs = strip s.ahead in
@@ -114,10 +114,10 @@ ligature_made gdef glyph end r others x passed ahead s a b new g small ends le a
     let front : strip new.behind ≡ (strip s.behind ++ map (ligature_item gdef glyph ps id) (take 1 xs)) ++ real =
     ap (λ (t : Sides). strip t.behind) f.others ∙ u.items ∙ ap (λ ys. ys ++ x ∷ passed) front-a ∙ sym (append_assoc (strip s.behind) (x ∷ []) passed) ∙ ap (λ ys. (strip s.behind ++ ys) ++ passed) first-list ∙ ap (λ ys. (strip s.behind ++ map (ligature_item gdef glyph ps id) (take 1 xs)) ++ ys) is-passed in
     let left : strip b.ahead ≡ drop end xs = ap (λ (t : Sides). strip t.ahead) u.others ∙ sym (drop-map item_of (end_of 1 others) a.ahead) ∙ ap (λ ys. drop (end_of 1 others) ys) rest-a ∙ ap (λ n. drop n xs) (sym ends) in
-    let rest : strip new.ahead ≡ after_parts ps id (slice_get xs (last_place (0 ∷ others))) (drop end xs) = f.items ∙ is-ahead ∙ ap (after_parts ps id (slice_get xs (last_place (0 ∷ others)))) left in
+    let rest : strip new.ahead ≡ after_components ps id (slice_get xs (last_index (0 ∷ others))) (drop end xs) = f.items ∙ is-ahead ∙ ap (after_components ps id (slice_get xs (last_index (0 ∷ others)))) left in
     let given = last_given ps s.lig_id in
     let cut-new : cut_with r new ≡ record (cut_with r a) { front = strip new.behind; rest = strip new.ahead } = ap (λ (t : Sides). record (cut_with r t) { front = strip new.behind; rest = strip new.ahead }) (f.others ∙ ap (λ (t : Sides). record t { ahead = new.ahead }) u.others) in
-    let cut : cut_with r new ≡ record c { front = (strip s.behind ++ map (ligature_item gdef glyph ps id) (take 1 xs)) ++ real; rest = after_parts ps id (slice_get xs (last_place (0 ∷ others))) (drop end xs); lig_id = given } =
+    let cut : cut_with r new ≡ record c { front = (strip s.behind ++ map (ligature_item gdef glyph ps id) (take 1 xs)) ++ real; rest = after_components ps id (slice_get xs (last_index (0 ∷ others))) (drop end xs); lig_id = given } =
     cut-new ∙ ap (λ (t : Cut). record t { front = strip new.behind; rest = strip new.ahead; random = r }) m.cut_is ∙ ap (λ (ys : List Item). record c { front = ys; rest = strip new.ahead; lig_id = given }) front
     ∙ ap (λ (ys : List Item). record c { front = (strip s.behind ++ map (ligature_item gdef glyph ps id) (take 1 xs)) ++ real; rest = ys; lig_id = given }) rest in
     let n = 1 + length real in
@@ -132,10 +132,10 @@ ligature_made gdef glyph end r others x passed ahead s a b new g small ends le a
     let behind-new : new.behind ≡ b.behind = ap (λ (t : Sides). t.behind) f.others in
     let from-new : origins_of new ≡ origins_of b = map-append origin_of new.behind new.ahead ∙ ap (λ gs. origins gs ++ origins new.ahead) behind-new ∙ ap (λ os. origins b.behind ++ os) f.origin ∙ sym (map-append origin_of b.behind b.ahead) in
     let at-front : length a.behind ≡ length (strip s.behind) = long-a ∙ sym (length-map s.behind item_of) in
-    let gone : Happened (parts_gone (length (strip s.behind)) 0 others) a new = from-new ∙ u.origin ∙ ap (λ k. origins_by (parts_gone k 0 others) a) at-front in
-    let merge : Happened (Merge InList (length (strip s.behind)) (length (strip s.behind) + end) ∷ []) s a = m.happened ∙ ap (λ k. origins_by (Merge InList k (k + end) ∷ []) s) (sym (length-map s.behind item_of)) in
-    let events : List Event = Merge InList (length c.front) (length c.front + end) ∷ parts_gone (length c.front) 0 others in
-    let made : Cut = record c { front = c.front ++ map (ligature_item gdef glyph ps id) (take 1 xs) ++ real; rest = after_parts ps id (slice_get xs (last_place (0 ∷ others))) (drop end xs); lig_id = given } in
+    let gone : HasHappened (component_deletions (length (strip s.behind)) 0 others) a new = from-new ∙ u.origin ∙ ap (λ k. origins_by (component_deletions k 0 others) a) at-front in
+    let merge : HasHappened (Merge InList (length (strip s.behind)) (length (strip s.behind) + end) ∷ []) s a = m.happened ∙ ap (λ k. origins_by (Merge InList k (k + end) ∷ []) s) (sym (length-map s.behind item_of)) in
+    let events : List Event = Merge InList (length c.front) (length c.front + end) ∷ component_deletions (length c.front) 0 others in
+    let made : Cut = record c { front = c.front ++ map (ligature_item gdef glyph ps id) (take 1 xs) ++ real; rest = after_components ps id (slice_get xs (last_index (0 ∷ others))) (drop end xs); lig_id = given } in
     let ahead-b : length b.ahead ≡ length a.ahead - end = ap (λ (t : Sides). length t.ahead) u.others ∙ ap (λ k. length (drop k a.ahead)) (sym ends) ∙ count_dropped end a.ahead in
     let ahead-new : length new.ahead ≡ length b.ahead = sym (length-map new.ahead origin_of) ∙ ap length f.origin ∙ length-map b.ahead origin_of in
     let long-new : length new.behind ≡ length b.behind = ap length behind-new in
@@ -144,7 +144,7 @@ ligature_made gdef glyph end r others x passed ahead s a b new g small ends le a
       refl,
       record {
         cut_is = cut;
-        happened = then_happened (Merge InList (length (strip s.behind)) (length (strip s.behind) + end) ∷ []) (parts_gone (length (strip s.behind)) 0 others) s a new (still_settings s a m.still) merge gone;
+        happened = then_happened (Merge InList (length (strip s.behind)) (length (strip s.behind) + end) ∷ []) (component_deletions (length (strip s.behind)) 0 others) s a new (still_settings s a m.still) merge gone;
         still = still-new ∙ still-b ∙ m.still;
         fewer = omega (arith, forth, ahead-b, ahead-new, ahead-a, le);
         kept = omega (arith, long-a, long-b, long-new);
@@ -176,7 +176,7 @@ ligature_made gdef glyph end r others x passed ahead s a b new g small ends le a
 
 pub ligature_refused : (gdef : GlyphDefinition) (glyph end r : ℕ) (others : List ℕ) (passed : List Item) (s a : Sides) (e : ShapeCause) → IsMerged end (last_given (items_at (0 ∷ others) (strip s.ahead)) s.lig_id) s a
     → passed ≡ passed_items (has_own_number (items_at (0 ∷ others) (strip s.ahead))) (own_number (items_at (0 ∷ others) (strip s.ahead)) s.lig_id) (components_at 0 (strip s.ahead)) (components_at 0 (strip s.ahead)) 1 others (strip s.ahead)
-    → nat_le (length a.behind + (1 + length passed)) a.max_len ≡ false → e ≡ TooLong → ligated_over gdef glyph (0 ∷ others) end (cut_with r s) ≡ Refuses e
+    → nat_le (length a.behind + (1 + length passed)) a.max_len ≡ false → e ≡ TooLong → ligature_substitution gdef glyph (0 ∷ others) end (cut_with r s) ≡ Refuses e
 ligature_refused gdef glyph end r others passed s a e m is full cause =
     let c = cut_with r s in
     let xs = strip s.ahead in
@@ -190,16 +190,16 @@ ligature_refused gdef glyph end r others passed s a e m is full cause =
     let none : nat_le (length s.behind + (1 + length real)) s.max_len ≡ false = grind (arith, nat_tests, full, long, limit, same) in
     refuses_past (1 + length real) r (Acts (record c {
       front = c.front ++ map (ligature_item gdef glyph ps id) (take 1 xs) ++ real;
-      rest = after_parts ps id (slice_get xs (last_place (0 ∷ others))) (drop end xs);
+      rest = after_components ps id (slice_get xs (last_index (0 ∷ others))) (drop end xs);
       lig_id = last_given ps s.lig_id;
-    }) (Merge InList (length c.front) (length c.front + end) ∷ parts_gone (length c.front) 0 others)) s none ∙ ap Refuses (sym cause)
+    }) (Merge InList (length c.front) (length c.front + end) ∷ component_deletions (length c.front) 0 others)) s none ∙ ap Refuses (sym cause)
 
 -- what follows the parts, by what they tell
 pub after_is : (p-marks : Bool) (p-id p-own p-count id end : ℕ) (others : List ℕ) (s : Sides) (g : hb_glyph_info_t) (rest : List Item) → end ≡ end_of 1 others → slice_get s.ahead (end - 1) ≡ Some g → p-marks ≡ are_marks (items_at (0 ∷ others) (strip s.ahead)) → p-count ≡ component_count (items_at (0 ∷ others) (strip s.ahead)) → p-id ≡ lig_id (item_of g) → p-own ≡ lig_num_comps (item_of g)
-    → (if p-marks || (p-id == 0) then rest else following_items id p-id p-count p-own rest) ≡ after_parts (items_at (0 ∷ others) (strip s.ahead)) id (slice_get (strip s.ahead) (last_place (0 ∷ others))) rest
+    → (if p-marks || (p-id == 0) then rest else following_items id p-id p-count p-own rest) ≡ after_components (items_at (0 ∷ others) (strip s.ahead)) id (slice_get (strip s.ahead) (last_index (0 ∷ others))) rest
 after_is p-marks p-id p-own p-count id end others s g rest ends at marks count last own =
-    let place : end - 1 ≡ last_place (0 ∷ others) = let e = last_ends 0 others in omega (arith, e, ends) in
-    let there : slice_get (strip s.ahead) (last_place (0 ∷ others)) ≡ Some (item_of g) = item_at s.ahead (last_place (0 ∷ others)) g (ap (slice_get s.ahead) (sym place) ∙ at) in
+    let place : end - 1 ≡ last_index (0 ∷ others) = let e = last_ends 0 others in omega (arith, e, ends) in
+    let there : slice_get (strip s.ahead) (last_index (0 ∷ others)) ≡ Some (item_of g) = item_at s.ahead (last_index (0 ∷ others)) g (ap (slice_get s.ahead) (sym place) ∙ at) in
     rw (marks, count, last, own, there) refl
 
 pub given_of : (end : ℕ) (s new : Sides) → IsMerged end s.lig_id s new → new.lig_id ≡ s.lig_id

@@ -4,10 +4,10 @@ use Rattle.std.specs.Prelude.{◌==◌, ◌||◌, max, if◌then◌else◌, slic
 use Rattle.std.proofs.lemmas.Bool.Decides.{nat_tests}
 use Rattle.std.proofs.lemmas.List.{take-map, drop-map, take-append-drop}
 use Rattle.std.proofs.lemmas.List.Folds.{drop_split}
-use Rattle.buffer_glyphs.specs.Parts.{stretch}
-use Rattle.buffer_glyphs.specs.Merges.{least_number, merged}
+use Rattle.buffer_glyphs.specs.Parts.{range_of}
+use Rattle.buffer_glyphs.specs.Merges.{least_number, merged_number}
 use Rattle.buffer_glyphs.specs.Levels.{Manner, Unites, Marks, Keeps}
-use Rattle.buffer_glyphs.specs.Origins.{Origin, numbers, cast, origins_merged, added_outside, origins_marked, merged_as}
+use Rattle.buffer_glyphs.specs.Origins.{Origin, numbers, cast, origins_merged, added_outside, origins_marked, origins_merged_as}
 
 same_is : (n : ℕ) → (n == n) ≡ true
 same_is n = grind (arith, nat_tests)
@@ -19,7 +19,7 @@ merged_by : (b : Bool) (n c : ℕ) → (n == c) ≡ b → (if (b || false) then 
 merged_by true n c e = grind (arith, nat_tests, e)
 merged_by false n c e = refl
 
-merged_one : (n c : ℕ) → merged (n ∷ []) c ≡ c
+merged_one : (n c : ℕ) → merged_number (n ∷ []) c ≡ c
 merged_one n c = rw (refl {a = n == c}) (merged_by (n == c) n c refl)
 
 all_cast : (range : List ℕ) (os : List Origin) → length range ≤ 1 → origins_merged range os ≡ os
@@ -38,7 +38,7 @@ at_most_one : {X : Type 0} (xs : List X) → length (take 1 xs) ≤ 1
 at_most_one [] = omega arith
 at_most_one (x ∷ xs) = omega arith
 
-stretch_one : (at : ℕ) (ns : List ℕ) → stretch at (at + 1) ns ≡ take 1 (drop at ns)
+stretch_one : (at : ℕ) (ns : List ℕ) → range_of at (at + 1) ns ≡ take 1 (drop at ns)
 stretch_one at ns = let one : at + 1 - at ≡ 1 = omega arith in ap (λ n. take n (drop at ns)) one
 
 range_one : (at : ℕ) (os : List Origin) → slice_range os at (at + 1) ≡ take 1 (drop at os)
@@ -47,7 +47,7 @@ range_one at os = let one : at + 1 - at ≡ 1 = omega arith in ap (λ n. take n 
 marked_one : (at : ℕ) (os : List Origin) → origins_marked 3 at (at + 1) os ≡ os
 marked_one at os =
     let range = take 1 (drop at os) in
-    let ns : stretch at (at + 1) (numbers os) ≡ numbers range = stretch_one at (numbers os) ∙ ap (take 1) (drop-map (λ (o : Origin). o.cluster) at os) ∙ take-map (λ (o : Origin). o.cluster) 1 (drop at os) in
+    let ns : range_of at (at + 1) (numbers os) ≡ numbers range = stretch_one at (numbers os) ∙ ap (take 1) (drop-map (λ (o : Origin). o.cluster) at os) ∙ take-map (λ (o : Origin). o.cluster) 1 (drop at os) in
     let end : max at (at + 1) ≡ at + 1 = omega arith in
     let le : at ≤ at + 1 = omega arith in
     let rest : drop at os ≡ range ++ drop (at + 1) os = drop_split os at (at + 1) le ∙ ap (λ r. r ++ drop (at + 1) os) (range_one at os) in
@@ -55,7 +55,7 @@ marked_one at os =
     rw (ns, range_one at os, least_same range (at_most_one (drop at os)), end) whole
 
 -- the merge of one leaves all as it is
-pub one_merged : (m : Manner) (at : ℕ) (os : List Origin) → merged_as m at (at + 1) os ≡ os
-one_merged Unites at os = all_cast (stretch at (at + 1) (numbers os)) os (rw (stretch_one at (numbers os)) (at_most_one (drop at (numbers os))))
+pub one_merged : (m : Manner) (at : ℕ) (os : List Origin) → origins_merged_as m at (at + 1) os ≡ os
+one_merged Unites at os = all_cast (range_of at (at + 1) (numbers os)) os (rw (stretch_one at (numbers os)) (at_most_one (drop at (numbers os))))
 one_merged Marks at os = marked_one at os
 one_merged Keeps at os = refl

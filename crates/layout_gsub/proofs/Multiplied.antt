@@ -7,29 +7,29 @@ use Rattle.std.specs.List.{list_all}
 use Rattle.buffer_glyphs.specs.declared.cause.ShapeCause.TheVariants.{TooLong}
 use Rattle.buffer_glyphs.specs.declared.info.hb_glyph_info_t.{hb_glyph_info_t}
 use Rattle.buffer_glyphs.specs.Items.{Item, item_of, strip, clusters}
-use Rattle.buffer_glyphs.specs.Parts.{first_of, replaced_among}
-use Rattle.buffer_glyphs.specs.Origins.{Origin, origin_of, origins, merged_as, manner, InList}
+use Rattle.buffer_glyphs.specs.Parts.{first_of, elements_replaced}
+use Rattle.buffer_glyphs.specs.Origins.{Origin, origin_of, origins, origins_merged_as, manner, InList}
 use Rattle.buffer_glyphs.specs.Events.{Replace, Delete}
 use Rattle.buffer_core.specs.Sides.{Sides, items_of, origins_of, origins_by, has_output_room}
-use Rattle.buffer_core.specs.Merging.{with_put, with_skipped}
-use Rattle.buffer_core.proofs.Told.{told_telling}
+use Rattle.buffer_core.specs.Merging.{with_output_info, with_glyph_skipped}
+use Rattle.buffer_core.proofs.Told.{stage_flags_ignore_glyph_flags}
 use Rattle.buffer_core.specs.Grouping.{with_deleted}
 use Rattle.buffer_glyphs.specs.Deleting.{deletion_marks}
 use Rattle.layout_face.specs.declared.parts.GlyphDefinition.{GlyphDefinition}
 use Rattle.buffer_stages.specs.Actions.{Acts, Refuses}
 use Rattle.buffer_stages.specs.Buffers.{are_glyphs, frame_of, IsStill}
-use Rattle.buffer_stages.specs.Performing.{cut_with, Performed}
+use Rattle.buffer_stages.specs.Performing.{cut_with, IsPerformed}
 use Rattle.buffer_stages.proofs.Lemmas.Glyphs.{and_both, all_of_both, all_of_front, all_of_back, all_dropped, first_item}
 use Rattle.layout_gsub.specs.Putting.{IsPut}
-use Rattle.layout_gsub.specs.Multiples.{component_item, component_items, multiplied_item, multiplied, multiplied_cut, deleted}
+use Rattle.layout_gsub.specs.Multiples.{component_item, component_items, multiplied_item, multiple_substitution, cut_with_multiple, deletion}
 use Rattle.layout_gsub.proofs.Replaced.{acts_within, refuses_past}
 use Rattle.layout_gsub.proofs.Merged.{one_merged}
 
 -- a glyph of an item and an origin was put
-pub glyph_put : (x : Item) (o : Origin) (g : hb_glyph_info_t) (s new : Sides) → item_of g ≡ x → origin_of g ≡ o → new ≡ with_put g s → IsPut x o s new
+pub glyph_put : (x : Item) (o : Origin) (g : hb_glyph_info_t) (s new : Sides) → item_of g ≡ x → origin_of g ≡ o → new ≡ with_output_info g s → IsPut x o s new
 glyph_put x o g s new item from is =
     let P : Sides → Type 0 = λ t. IsPut x o s t in
-    let put : IsPut x o s (with_put g s) = record {
+    let put : IsPut x o s (with_output_info g s) = record {
       items = map-append item_of s.behind (g ∷ []) ∙ ap (λ y. strip s.behind ++ y ∷ []) item;
       origin = map-append origin_of s.behind (g ∷ []) ∙ ap (λ p. origins s.behind ++ p ∷ []) from;
       others = refl;
@@ -105,16 +105,16 @@ one_output gdef glyphs i g s now next lt a room p =
     }
 
 -- where one of them finds no room, there is none for all
-pub output_refused : (gdef : GlyphDefinition) (glyphs : List ℕ) (i : ℕ) (g : hb_glyph_info_t) (s now : Sides) → i < length glyphs → AreOutput gdef glyphs i g s now → has_output_room 1 now ≡ false → (r : ℕ) → multiplied gdef glyphs (cut_with r s) ≡ Refuses TooLong
+pub output_refused : (gdef : GlyphDefinition) (glyphs : List ℕ) (i : ℕ) (g : hb_glyph_info_t) (s now : Sides) → i < length glyphs → AreOutput gdef glyphs i g s now → has_output_room 1 now ≡ false → (r : ℕ) → multiple_substitution gdef glyphs (cut_with r s) ≡ Refuses TooLong
 output_refused gdef glyphs i g s now lt a full r =
     let past : nat_le (length now.behind + 1) now.max_len ≡ false = full in
     let limit : now.max_len ≡ s.max_len = ap (λ (t : Sides). t.max_len) a.others in
     let count = a.count in
     let none : nat_le (length s.behind + length glyphs) s.max_len ≡ false = grind (arith, nat_tests, past, limit, count, lt) in
-    refuses_past (length glyphs) r (Acts (multiplied_cut gdef glyphs (cut_with r s)) (Replace (length (cut_with r s).front) 1 (length glyphs) ∷ [])) s none
+    refuses_past (length glyphs) r (Acts (cut_with_multiple gdef glyphs (cut_with r s)) (Replace (length (cut_with r s).front) 1 (length glyphs) ∷ [])) s none
 
 -- the origins of the glyphs
-from_one : (n : ℕ) (o : Origin) (front rest : List Origin) → first_of rest ≡ Some o → replaced_among (length front) 1 n (front ++ rest) ≡ front ++ replicate n o ++ drop 1 rest
+from_one : (n : ℕ) (o : Origin) (front rest : List Origin) → first_of rest ≡ Some o → elements_replaced (length front) 1 n (front ++ rest) ≡ front ++ replicate n o ++ drop 1 rest
 from_one n o front rest at = rw (take-append_seam front rest, drop-append_seam front rest, drop-append-add front rest 1, at) refl
 
 first_origin : (gs : List hb_glyph_info_t) (g : hb_glyph_info_t) → slice_get gs 0 ≡ Some g → first_of (origins gs) ≡ Some (origin_of g)
@@ -130,14 +130,14 @@ dropped_length [] lt = absurd (omega (arith, lt))
 dropped_length (x ∷ xs) lt = omega arith
 
 pub output_made : (gdef : GlyphDefinition) (glyphs : List ℕ) (i r : ℕ) (g : hb_glyph_info_t) (s now new : Sides) → 0 < length s.ahead → slice_get s.ahead 0 ≡ Some g → 0 < length glyphs → list_all (λ n. nat_le n 65535) glyphs ≡ true → length glyphs ≤ i → i ≤ length glyphs
-    → AreOutput gdef glyphs i g s now → new ≡ with_skipped now → Performed (multiplied gdef glyphs (cut_with r s)) true r r s new
+    → AreOutput gdef glyphs i g s now → new ≡ with_glyph_skipped now → IsPerformed (multiple_substitution gdef glyphs (cut_with r s)) true r r s new
 output_made gdef glyphs i r g s now new there at some small all within a is =
     let n = length glyphs in
     let x = item_of g in
     let o = origin_of g in
     let last : i ≡ n = omega (arith, all, within) in
     let taken : take i glyphs ≡ glyphs = take_all i glyphs all in
-    let after : new ≡ with_skipped (record s { behind = now.behind }) = is ∙ ap with_skipped a.others in
+    let after : new ≡ with_glyph_skipped (record s { behind = now.behind }) = is ∙ ap with_glyph_skipped a.others in
     let ahead : new.ahead ≡ drop 1 s.ahead = ap (λ (t : Sides). t.ahead) after in
     let behind : new.behind ≡ now.behind = ap (λ (t : Sides). t.behind) after in
     let items : strip new.behind ≡ strip s.behind ++ component_items gdef x 0 glyphs = ap strip behind ∙ a.items ∙ ap (λ gs. strip s.behind ++ component_items gdef x 0 gs) taken in
@@ -145,7 +145,7 @@ output_made gdef glyphs i r g s now new there at some small all within a is =
     let first : first_of (strip s.ahead) ≡ Some x = first_item s.ahead g at in
     let c = cut_with r s in
     let front : strip now.behind ≡ strip s.behind ++ component_items gdef x 0 glyphs = a.items ∙ ap (λ gs. strip s.behind ++ component_items gdef x 0 gs) taken in
-    let cut : cut_with r new ≡ multiplied_cut gdef glyphs c =
+    let cut : cut_with r new ≡ cut_with_multiple gdef glyphs c =
     ap (λ (t : Sides). cut_with r t) after ∙ ap (λ (xs : List Item). record c { front = xs; rest = strip (drop 1 s.ahead) }) front
     ∙ ap (λ (xs : List Item). record c { front = strip s.behind ++ component_items gdef x 0 glyphs; rest = xs }) (dropped_map item_of s.ahead)
     ∙ ap (λ q. record c { front = strip s.behind ++ multiplied_item gdef glyphs q; rest = drop 1 (strip s.ahead) }) (sym first) in
@@ -155,7 +155,7 @@ output_made gdef glyphs i r g s now new there at some small all within a is =
     map-append origin_of new.behind new.ahead ∙ ap (λ gs. origins gs ++ origins new.ahead) behind ∙ ap (λ gs. origins now.behind ++ origins gs) ahead ∙ ap (λ q. origins now.behind ++ q) (dropped_map origin_of s.ahead)
     ∙ ap (λ q. q ++ drop 1 (origins s.ahead)) (a.origin ∙ ap (λ k. os ++ replicate k o) last) in
     let happened : origins_of new ≡ origins_by (Replace (length c.front) 1 n ∷ []) s =
-    from ∙ sym (ap (λ m. replaced_among m 1 n (merged_as (manner InList s.level) m (m + 1) (origins_of s))) f ∙ ap (replaced_among (length os) 1 n) (one_merged (manner InList s.level) (length os) (origins_of s) ∙ map-append origin_of s.behind s.ahead)
+    from ∙ sym (ap (λ m. elements_replaced m 1 n (origins_merged_as (manner InList s.level) m (m + 1) (origins_of s))) f ∙ ap (elements_replaced (length os) 1 n) (one_merged (manner InList s.level) (length os) (origins_of s) ∙ map-append origin_of s.behind s.ahead)
     ∙ from_one n o os (origins s.ahead) (first_origin s.ahead g at)) in
     let counts = dropped_length s.ahead there in
     let le = a.room (omega (arith, last, some)) in
@@ -166,7 +166,7 @@ output_made gdef glyphs i r g s now new there at some small all within a is =
     let shown : length (strip new.behind) ≡ length (strip s.behind ++ component_items gdef x 0 glyphs) = ap length items in
     let grown = length-append (strip s.behind) (component_items gdef x 0 glyphs) in
     let p : Item → Bool = λ y. nat_le y.number 65535 in
-    acts_within n r r (Acts (multiplied_cut gdef glyphs c) (Replace (length c.front) 1 n ∷ [])) true s new room (
+    acts_within n r r (Acts (cut_with_multiple gdef glyphs c) (Replace (length c.front) 1 n ∷ [])) true s new room (
       refl,
       record {
         cut_is = cut;
@@ -191,7 +191,7 @@ gone : (r : ℕ) (s new : Sides) (gs : List hb_glyph_info_t) → s.ahead ≡ gs 
 gone r s new [] at lt is = absurd (omega (arith, lt))
 gone r s new (g ∷ back) at lt is =
     let P : Sides → Type 0 = λ t. IsGone r s t in
-    let left : IsGone r s (with_deleted g back s) = record { still = refl; cut_is = ap (λ (t : ℕ). record (cut_with r s) { front = strip (with_deleted g back s).behind; rest = strip (with_deleted g back s).ahead; told = t }) (told_telling (deletion_marks s.level (clusters s.behind) g.cluster (clusters back)) s.scratch_flags) } in
+    let left : IsGone r s (with_deleted g back s) = record { still = refl; cut_is = ap (λ (t : ℕ). record (cut_with r s) { front = strip (with_deleted g back s).behind; rest = strip (with_deleted g back s).ahead; scratch_flags = t }) (stage_flags_ignore_glyph_flags (deletion_marks s.level (clusters s.behind) g.cluster (clusters back)) s.scratch_flags) } in
     subst P (sym (is g back at)) left
 
 same_front : {X : Type 0} (xs ys zs ws : List X) → xs ++ ys ≡ zs ++ ws → length xs ≡ length zs → (xs ≡ zs) × (ys ≡ ws)
@@ -201,7 +201,7 @@ same_front xs ys zs ws e long = (
 )
 
 pub glyph_deleted : (r : ℕ) (s new : Sides) → 0 < length s.ahead → ((g : hb_glyph_info_t) (back : List hb_glyph_info_t) → s.ahead ≡ g ∷ back → new ≡ with_deleted g back s) → new.read ≡ s.read + 1 → length new.behind ≡ length s.behind → length new.ahead + 1 ≡ length s.ahead
-    → items_of new ≡ strip s.behind ++ drop 1 (strip s.ahead) → origins_of new ≡ origins_by (Delete (length s.behind) ∷ []) s → Performed (deleted (cut_with r s)) true r r s new
+    → items_of new ≡ strip s.behind ++ drop 1 (strip s.ahead) → origins_of new ≡ origins_by (Delete (length s.behind) ∷ []) s → IsPerformed (deletion (cut_with r s)) true r r s new
 glyph_deleted r s new there is read behind left items followed =
     let f : length (strip s.behind) ≡ length s.behind = length-map s.behind item_of in
     let p : Item → Bool = λ y. nat_le y.number 65535 in

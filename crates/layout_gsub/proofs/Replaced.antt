@@ -11,14 +11,14 @@ use Rattle.buffer_glyphs.specs.Replacements.{glyph_numbered}
 use Rattle.buffer_glyphs.specs.declared.cause.ShapeCause.TheVariants.{TooLong}
 use Rattle.buffer_core.specs.Sides.{Sides, items_of, origins_of, has_output_room}
 use Rattle.buffer_core.specs.Lending.{with_glyph_ahead}
-use Rattle.buffer_core.specs.Merging.{with_renumbered}
+use Rattle.buffer_core.specs.Merging.{with_replaced_glyph}
 use Rattle.layout_face.specs.declared.parts.GlyphDefinition.{GlyphDefinition}
 use Rattle.buffer_stages.specs.Actions.{whole, Outcome, Acts, Refuses, within_limit}
 use Rattle.buffer_stages.specs.Buffers.{cut_of, are_glyphs, frame_of, IsRead, IsActed}
 use Rattle.buffer_stages.proofs.Lemmas.Glyphs.{and_both, all_of_both, all_of_front, all_of_back, all_dropped}
-use Rattle.buffer_stages.specs.Performing.{cut_with, Performed}
+use Rattle.buffer_stages.specs.Performing.{cut_with, IsPerformed}
 use Rattle.buffer_stages.proofs.Lemmas.Performed.{made_of_acted}
-use Rattle.layout_gsub.specs.Replacements.{substituted_item, substituted_props, substituted_cut, substituted}
+use Rattle.layout_gsub.specs.Replacements.{substituted_item, substituted_props, cut_with_substitute, single_substitution}
 
 -- the glyph at the cursor with other properties
 abbrev pub recast : GlyphPropsFlags → hb_glyph_info_t → hb_glyph_info_t
@@ -57,7 +57,7 @@ numbers_kept gdef n front rest le e =
     all_of_both p (front ++ map (substituted_item gdef n) (take 1 rest)) (drop 1 rest) (all_of_both p front (map (substituted_item gdef n) (take 1 rest)) (all_of_front p front rest e) (substituted_numbers gdef n rest le)) (all_dropped p 1 rest (all_of_back p front rest e))
 
 replaced_cut : (gdef : GlyphDefinition) (n : ℕ) (p : GlyphPropsFlags) (s : Sides) (g : hb_glyph_info_t) → slice_get s.ahead 0 ≡ Some g → p.0 ≡ substituted_props gdef n g.glyph_props.0
-    → cut_of (with_renumbered n (with_glyph_ahead 0 (recast p g) s)) ≡ substituted_cut gdef n (cut_of s)
+    → cut_of (with_replaced_glyph n (with_glyph_ahead 0 (recast p g) s)) ≡ cut_with_substitute gdef n (cut_of s)
 replaced_cut gdef n p s g at is =
     let put = map (λ (h : hb_glyph_info_t). glyph_numbered h n) (take 1 (slice_set s.ahead 0 (recast p g))) in
     let front : strip (s.behind ++ put) ≡ strip s.behind ++ map (substituted_item gdef n) (take 1 (strip s.ahead)) = map-append item_of s.behind put ∙ ap (λ xs. strip s.behind ++ xs) (taken_item gdef n p s.ahead g at is) in
@@ -65,16 +65,16 @@ replaced_cut gdef n p s g at is =
     ∙ ap (λ (xs : List Item). record (cut_of s) { front = strip s.behind ++ map (substituted_item gdef n) (take 1 (strip s.ahead)); rest = xs }) (left_items p s.ahead g)
 
 glyph_acted : (gdef : GlyphDefinition) (n : ℕ) (p : GlyphPropsFlags) (s mid new : Sides) (g : hb_glyph_info_t) → slice_get s.ahead 0 ≡ Some g → 0 < length s.ahead → n ≤ 65535 → p.0 ≡ substituted_props gdef n g.glyph_props.0
-    → mid ≡ with_glyph_ahead 0 (recast p g) s → new ≡ with_renumbered n mid → origins_of new ≡ origins_of mid → IsActed (substituted_cut gdef n (cut_of s)) [] s new
+    → mid ≡ with_glyph_ahead 0 (recast p g) s → new ≡ with_replaced_glyph n mid → origins_of new ≡ origins_of mid → IsActed (cut_with_substitute gdef n (cut_of s)) [] s new
 glyph_acted gdef n p s mid new g at some le is there after followed =
-    let same : new ≡ with_renumbered n (with_glyph_ahead 0 (recast p g) s) = after ∙ ap (with_renumbered n) there in
+    let same : new ≡ with_replaced_glyph n (with_glyph_ahead 0 (recast p g) s) = after ∙ ap (with_replaced_glyph n) there in
     let cut = replaced_cut gdef n p s g at is in
     let ahead = slice_set s.ahead 0 (recast p g) in
     let put = map (λ (h : hb_glyph_info_t). glyph_numbered h n) (take 1 ahead) in
     let left = left_count p s.ahead g some in
     let more = taken_count n ahead in
     let long = length-append s.behind put in
-    let counts : IsRead s (with_renumbered n (with_glyph_ahead 0 (recast p g) s)) = record { forth = omega arith; total = omega (arith, left); front = omega (arith, more, long); kept = omega (arith, long) } in
+    let counts : IsRead s (with_replaced_glyph n (with_glyph_ahead 0 (recast p g) s)) = record { forth = omega arith; total = omega (arith, left); front = omega (arith, more, long); kept = omega (arith, long) } in
     let start : origins_of mid ≡ origins_of s = ap origins_of there ∙ map-append origin_of s.behind ahead ∙ ap (λ os. origins s.behind ++ os) (same_origins p s.ahead g at) ∙ sym (map-append origin_of s.behind s.ahead) in
     let items : items_of new ≡ (strip s.behind ++ map (substituted_item gdef n) (take 1 (strip s.ahead))) ++ drop 1 (strip s.ahead) = map-append item_of new.behind new.ahead ∙ ap whole (ap cut_of same ∙ cut) in
     record {
@@ -90,14 +90,14 @@ pub limit_of : (n r : ℕ) (s : Sides) → nat_le (length (cut_with r s).front +
 limit_of n r s = ap (λ k. nat_le (k + n) s.max_len) (length-map s.behind item_of)
 
 -- within the limit a rule acts, past it it gives up
-pub acts_within : (n r after : ℕ) (o : Outcome) (acted : Bool) (s new : Sides) → has_output_room n s ≡ true → Performed o acted r after s new → Performed (within_limit n (cut_with r s) o) acted r after s new
+pub acts_within : (n r after : ℕ) (o : Outcome) (acted : Bool) (s new : Sides) → has_output_room n s ≡ true → IsPerformed o acted r after s new → IsPerformed (within_limit n (cut_with r s) o) acted r after s new
 acts_within n r after o acted s new room d = rw (limit_of n r s ∙ room) d
 
 pub refuses_past : (n r : ℕ) (o : Outcome) (s : Sides) → has_output_room n s ≡ false → within_limit n (cut_with r s) o ≡ Refuses TooLong
 refuses_past n r o s full = rw (limit_of n r s ∙ full) refl
 
 pub glyph_performed : (gdef : GlyphDefinition) (n r : ℕ) (p : GlyphPropsFlags) (s mid new : Sides) (g : hb_glyph_info_t) → slice_get s.ahead 0 ≡ Some g → 0 < length s.ahead → n ≤ 65535 → p.0 ≡ substituted_props gdef n g.glyph_props.0
-    → mid ≡ with_glyph_ahead 0 (recast p g) s → has_output_room 1 mid ≡ true → new ≡ with_renumbered n mid → origins_of new ≡ origins_of mid → Performed (substituted gdef (Some n) (cut_with r s)) true r r s new
+    → mid ≡ with_glyph_ahead 0 (recast p g) s → has_output_room 1 mid ≡ true → new ≡ with_replaced_glyph n mid → origins_of new ≡ origins_of mid → IsPerformed (single_substitution gdef (Some n) (cut_with r s)) true r r s new
 glyph_performed gdef n r p s mid new g at some le is there room after followed =
-    let made = made_of_acted (substituted_cut gdef n (cut_of s)) [] r s new (glyph_acted gdef n p s mid new g at some le is there after followed) in
-    acts_within 1 r r (Acts (substituted_cut gdef n (cut_with r s)) []) true s new (ap (has_output_room 1) (sym there) ∙ room) (refl, made)
+    let made = made_of_acted (cut_with_substitute gdef n (cut_of s)) [] r s new (glyph_acted gdef n p s mid new g at some le is there after followed) in
+    acts_within 1 r r (Acts (cut_with_substitute gdef n (cut_with r s)) []) true s new (ap (has_output_room 1) (sym there) ∙ room) (refl, made)

@@ -11,10 +11,10 @@ use Rattle.layout_subtables.specs.declared.sequence.SequenceRow.{SequenceRow}
 use Rattle.layout_subtables.specs.Substitutions.{glyphs_of}
 use Rattle.layout_face.specs.declared.parts.GlyphDefinition.{GlyphDefinition}
 use Rattle.buffer_stages.specs.Actions.{Outcome, Action, at_first}
-use Rattle.buffer_stages.specs.Performing.{cut_with, Performed, Performs}
+use Rattle.buffer_stages.specs.Performing.{cut_with, IsPerformed, Performs}
 use Rattle.buffer_stages.proofs.Lemmas.Glyphs.{first_item}
-use Rattle.layout_gsub.specs.Multiples.{covered_sequence, multiple_subtable, deleted, sequence}
-use Rattle.layout_gsub.specs.Replacements.{substituted, single_subtable}
+use Rattle.layout_gsub.specs.Multiples.{covered_sequence, multiple_subtable, deletion, sequence}
+use Rattle.layout_gsub.specs.Replacements.{single_substitution, single_subtable}
 use Rattle.layout_gsub.specs.Alternates.{alternate_set, alternate_subtable, feature_value}
 
 -- what a rule that depends on the first item makes of the glyph at the cursor
@@ -23,10 +23,10 @@ first_tried act r s g at = ap (λ o. at_first act o (cut_with r s)) (first_item 
 
 -- a single substitution does what the row of that glyph says
 pub single_performs : (gdef : GlyphDefinition) (rows : List (GlyphRow ℕ)) (r after : ℕ) (s new : Sides) (g : hb_glyph_info_t) (n : ℕ) (o : Option ℕ) (result : Result Bool ShapeCause) → slice_get s.ahead 0 ≡ Some g → n ≡ g.glyph_id → value_of n rows ≡ o
-    → Performs (substituted gdef o (cut_with r s)) result r after s new → Performs (single_subtable gdef rows (cut_with r s)) result r after s new
+    → Performs (single_substitution gdef o (cut_with r s)) result r after s new → Performs (single_subtable gdef rows (cut_with r s)) result r after s new
 single_performs gdef rows r after s new g n o result at is row d =
-    let here = first_tried (λ y. substituted gdef (value_of y.number rows)) r s g at in
-    let same : single_subtable gdef rows (cut_with r s) ≡ substituted gdef o (cut_with r s) = here ∙ ap (λ m. substituted gdef (value_of m rows) (cut_with r s)) (sym is) ∙ ap (λ p. substituted gdef p (cut_with r s)) row in
+    let here = first_tried (λ y. single_substitution gdef (value_of y.number rows)) r s g at in
+    let same : single_subtable gdef rows (cut_with r s) ≡ single_substitution gdef o (cut_with r s) = here ∙ ap (λ m. single_substitution gdef (value_of m rows) (cut_with r s)) (sym is) ∙ ap (λ p. single_substitution gdef p (cut_with r s)) row in
     let P : Outcome → Type 0 = λ q. Performs q result r after s new in
     subst P (sym same) d
 
@@ -50,6 +50,6 @@ multiple_performs gdef rows r after s new g n o result at is row d =
     subst P (sym same) d
 
 -- a list of no glyphs deletes
-pub nothing_in : (gdef : GlyphDefinition) (glyphs : List ℕ) (r : ℕ) (s new : Sides) → length glyphs < 1 → Performed (deleted (cut_with r s)) true r r s new → Performed (sequence gdef glyphs (cut_with r s)) true r r s new
+pub nothing_in : (gdef : GlyphDefinition) (glyphs : List ℕ) (r : ℕ) (s new : Sides) → length glyphs < 1 → IsPerformed (deletion (cut_with r s)) true r r s new → IsPerformed (sequence gdef glyphs (cut_with r s)) true r r s new
 nothing_in gdef [] r s new lt d = d
 nothing_in gdef (n ∷ glyphs) r s new lt d = absurd (omega (arith, lt))

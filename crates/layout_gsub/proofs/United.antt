@@ -10,11 +10,11 @@ use Rattle.buffer_glyphs.specs.Items.{Item, item_of, strip}
 use Rattle.buffer_glyphs.specs.Parts.{copies}
 use Rattle.buffer_glyphs.specs.Origins.{Asks, origin_of, origins}
 use Rattle.buffer_glyphs.specs.Events.{Replace, origins_after}
-use Rattle.buffer_core.specs.Sides.{Sides, asks_of, fits_next, has_output_room, moved_on, origins_of, origins_by}
+use Rattle.buffer_core.specs.Sides.{Sides, flag_requests_of, fits_next, has_output_room, after_next_glyphs, origins_of, origins_by}
 use Rattle.buffer_core.specs.Lending.{with_glyph_ahead}
-use Rattle.buffer_core.specs.Merging.{with_skipped}
+use Rattle.buffer_core.specs.Merging.{with_glyph_skipped}
 use Rattle.buffer_glyphs.specs.LigatureWords.{lig_num_comps}
-use Rattle.layout_gsub.specs.Ligating.{component_count, components_at, parts_gone, passed_item, passed_items}
+use Rattle.layout_gsub.specs.Ligating.{component_count, components_at, component_deletions, passed_item, passed_items}
 use Rattle.layout_gsub.specs.Uniting.{ArePassedAs, AreRising, AreUnited, IsPassedAs, end_of}
 use Rattle.layout_gsub.proofs.Parted.{counted_cons}
 
@@ -38,9 +38,9 @@ room_there info s mid b opened there held = sym (held ∙ ap (fits_next 1) there
 pub none_fits : (info : hb_glyph_info_t) (s mid : Sides) (b : Bool) → s.is_open ≡ true → mid ≡ with_glyph_ahead 0 info s → b ≡ fits_next 1 mid → b ≡ false → has_output_room 1 s ≡ false
 none_fits info s mid b opened there held is = room_there info s mid b opened there held ∙ is
 
-pub passed_as : (info : hb_glyph_info_t) (s mid new : Sides) (b : Bool) → 0 < length s.ahead → s.is_open ≡ true → ((g : hb_glyph_info_t) → slice_get s.ahead 0 ≡ Some g → origin_of info ≡ origin_of g) → mid ≡ with_glyph_ahead 0 info s → b ≡ fits_next 1 mid → b ≡ true → new ≡ moved_on 1 mid → IsPassedAs (item_of info) s new
+pub passed_as : (info : hb_glyph_info_t) (s mid new : Sides) (b : Bool) → 0 < length s.ahead → s.is_open ≡ true → ((g : hb_glyph_info_t) → slice_get s.ahead 0 ≡ Some g → origin_of info ≡ origin_of g) → mid ≡ with_glyph_ahead 0 info s → b ≡ fits_next 1 mid → b ≡ true → new ≡ after_next_glyphs 1 mid → IsPassedAs (item_of info) s new
 passed_as info s mid new b lt opened from there held is after =
-    let same : new ≡ moved_on 1 (with_glyph_ahead 0 info s) = after ∙ ap (moved_on 1) there in
+    let same : new ≡ after_next_glyphs 1 (with_glyph_ahead 0 info s) = after ∙ ap (after_next_glyphs 1) there in
     let behind : new.behind ≡ s.behind ++ info ∷ [] = ap (λ (t : Sides). t.behind) same ∙ ap (λ gs. s.behind ++ gs) (taken_set s.ahead info lt) in
     let room : has_output_room 1 s ≡ true = room_there info s mid b opened there held ∙ is in
     let long : length new.behind ≡ length s.behind + 1 = ap length behind ∙ length-append s.behind (info ∷ []) in
@@ -118,7 +118,7 @@ one_from x s new a =
 -- some parts went: what there is now and what is left to pass and to go is all
 pub record IsUniting (first : Item) (renumbers : Bool) (id e0 o0 : ℕ) (places : List ℕ) (s : Sides) (k from e o : ℕ) (now : Sides) : Type 0 where
   pub items : strip now.behind ++ passed_items renumbers id e o from (drop k places) (strip s.ahead) ≡ strip s.behind ++ first ∷ passed_items renumbers id e0 o0 1 places (strip s.ahead)
-  pub origin : origins_after (asks_of s) s.level (parts_gone (length s.behind) k (drop k places)) (origins_of now) ≡ origins_by (parts_gone (length s.behind) 0 places) s
+  pub origin : origins_after (flag_requests_of s) s.level (component_deletions (length s.behind) k (drop k places)) (origins_of now) ≡ origins_by (component_deletions (length s.behind) 0 places) s
   pub count : length now.behind + k ≡ length s.behind + from
   pub others : now ≡ record s { behind = now.behind; ahead = drop from s.ahead; read = s.read + from }
   pub rising : AreRising from (drop k places)
@@ -130,7 +130,7 @@ none_united x renumbers id ended own places s now rising p =
     let long : length now.behind ≡ length s.behind + 1 = sym (length-map now.behind item_of) ∙ ap length p.items ∙ length-append (strip s.behind) (x ∷ []) ∙ ap (λ n. n + 1) (length-map s.behind item_of) in
     record {
       items = ap (λ xs. xs ++ passed_items renumbers id ended own 1 places (strip s.ahead)) p.items ∙ append_assoc (strip s.behind) (x ∷ []) (passed_items renumbers id ended own 1 places (strip s.ahead));
-      origin = ap (origins_after (asks_of s) s.level (parts_gone (length s.behind) 0 places)) (one_from x s now p);
+      origin = ap (origins_after (flag_requests_of s) s.level (component_deletions (length s.behind) 0 places)) (one_from x s now p);
       count = omega (arith, long);
       others = p.others;
       rising = rising;
@@ -156,7 +156,7 @@ count_dropped (suc m) (x ∷ xs) = let here = count_dropped m xs in omega (arith
 
 -- one more went
 part_gone : (x : Item) (renumbers : Bool) (id ended own : ℕ) (places : List ℕ) (s : Sides) (k from e o i : ℕ) (rest : List ℕ) (now mid next : Sides) (g : hb_glyph_info_t) → drop k places ≡ i ∷ rest → drop (k + 1) places ≡ rest → i < length s.ahead → slice_get mid.ahead 0 ≡ Some g
-    → IsUniting x renumbers id ended own places s k from e o now → from ≤ i → AreRising (i + 1) rest → ArePassedAs (passed_item renumbers id e o) (i - from) now mid → next ≡ with_skipped mid → origins_of next ≡ origins_by (Replace (length mid.behind) 1 0 ∷ []) mid
+    → IsUniting x renumbers id ended own places s k from e o now → from ≤ i → AreRising (i + 1) rest → ArePassedAs (passed_item renumbers id e o) (i - from) now mid → next ≡ with_glyph_skipped mid → origins_of next ≡ origins_by (Replace (length mid.behind) 1 0 ∷ []) mid
     → IsUniting x renumbers id ended own places s (k + 1) (i + 1) (e + lig_num_comps (item_of g)) (lig_num_comps (item_of g)) next
 part_gone x renumbers id ended own places s k from e o i rest now mid next g left after lt at u le rising a is gone =
     let xs = strip s.ahead in
@@ -180,17 +180,17 @@ part_gone x renumbers id ended own places s k from e o i rest now mid next g lef
     let counted = u.count in
     let place : length mid.behind ≡ at-s + i - k = omega (arith, long, counted, le) in
     let mid-is : mid ≡ record s { behind = mid.behind; ahead = mid.ahead; read = mid.read } = a.others ∙ ap (λ (t : Sides). record t { behind = mid.behind; ahead = drop n t.ahead; read = t.read + n }) u.others ∙ back mid now s n from a u.others in
-    let from-mid : origins_of next ≡ origins_after (asks_of s) s.level (Replace (at-s + i - k) 1 0 ∷ []) (origins_of now) =
-    gone ∙ ap (λ m. origins_by (Replace m 1 0 ∷ []) mid) place ∙ ap (λ (t : Asks). origins_after t mid.level (Replace (at-s + i - k) 1 0 ∷ []) (origins_of mid)) (ap asks_of mid-is) ∙ ap (λ (l : BufferClusterLevel). origins_after (asks_of s) l (Replace (at-s + i - k) 1 0 ∷ []) (origins_of mid)) (ap (λ (t : Sides). t.level) mid-is)
-    ∙ ap (origins_after (asks_of s) s.level (Replace (at-s + i - k) 1 0 ∷ [])) (between_from f n now mid a) in
+    let from-mid : origins_of next ≡ origins_after (flag_requests_of s) s.level (Replace (at-s + i - k) 1 0 ∷ []) (origins_of now) =
+    gone ∙ ap (λ m. origins_by (Replace m 1 0 ∷ []) mid) place ∙ ap (λ (t : Asks). origins_after t mid.level (Replace (at-s + i - k) 1 0 ∷ []) (origins_of mid)) (ap flag_requests_of mid-is) ∙ ap (λ (l : BufferClusterLevel). origins_after (flag_requests_of s) l (Replace (at-s + i - k) 1 0 ∷ []) (origins_of mid)) (ap (λ (t : Sides). t.level) mid-is)
+    ∙ ap (origins_after (flag_requests_of s) s.level (Replace (at-s + i - k) 1 0 ∷ [])) (between_from f n now mid a) in
     let mid-read : mid.read ≡ s.read + from + n = ap (λ (t : Sides). t.read) a.others ∙ ap (λ (t : Sides). t.read + n) u.others in
     let read : mid.read + 1 ≡ s.read + (i + 1) = omega (arith, mid-read, le) in
     record {
       items = ap (λ gs. strip gs ++ more) behind ∙ ap (λ ys. ys ++ more) a.items ∙ append_assoc (strip now.behind) (map f (take n (strip now.ahead))) more ∙ ap (λ ys. strip now.behind ++ (ys ++ more)) passed ∙ ap (λ ys. strip now.behind ++ ys) (sym whole) ∙ u.items;
-      origin = ap (origins_after (asks_of s) s.level (parts_gone at-s (k + 1) (drop (k + 1) places))) from-mid ∙ ap (λ ps. origins_after (asks_of s) s.level (parts_gone at-s (k + 1) ps) (origins_after (asks_of s) s.level (Replace (at-s + i - k) 1 0 ∷ []) (origins_of now))) after
-          ∙ ap (λ ps. origins_after (asks_of s) s.level (parts_gone at-s k ps) (origins_of now)) (sym left) ∙ u.origin;
+      origin = ap (origins_after (flag_requests_of s) s.level (component_deletions at-s (k + 1) (drop (k + 1) places))) from-mid ∙ ap (λ ps. origins_after (flag_requests_of s) s.level (component_deletions at-s (k + 1) ps) (origins_after (flag_requests_of s) s.level (Replace (at-s + i - k) 1 0 ∷ []) (origins_of now))) after
+          ∙ ap (λ ps. origins_after (flag_requests_of s) s.level (component_deletions at-s k ps) (origins_of now)) (sym left) ∙ u.origin;
       count = let same = ap length behind in omega (arith, same, long, counted, le);
-      others = is ∙ ap with_skipped mid-is ∙ ap (λ (gs : List hb_glyph_info_t). record s { behind = gs; ahead = drop 1 mid.ahead; read = mid.read + 1 }) (sym behind) ∙ ap (λ (gs : List hb_glyph_info_t). record s { behind = next.behind; ahead = gs; read = mid.read + 1 }) (ap (drop 1) mid-ahead ∙ drop_next s.ahead i) ∙ ap (λ (m : ℕ). record s { behind = next.behind; ahead = drop (i + 1) s.ahead; read = m }) read;
+      others = is ∙ ap with_glyph_skipped mid-is ∙ ap (λ (gs : List hb_glyph_info_t). record s { behind = gs; ahead = drop 1 mid.ahead; read = mid.read + 1 }) (sym behind) ∙ ap (λ (gs : List hb_glyph_info_t). record s { behind = next.behind; ahead = gs; read = mid.read + 1 }) (ap (drop 1) mid-ahead ∙ drop_next s.ahead i) ∙ ap (λ (m : ℕ). record s { behind = next.behind; ahead = drop (i + 1) s.ahead; read = m }) read;
       rising = let P : List ℕ → Type 0 = AreRising (i + 1) in subst P (sym after) rising;
       end_is = ap (end_of (i + 1)) after ∙ ap (end_of from) (sym left) ∙ u.end_is;
       within =
@@ -209,7 +209,7 @@ part_gone x renumbers id ended own places s k from e o i rest now mid next g lef
 
 -- the next part goes
 pub next_gone : (x : Item) (renumbers : Bool) (id ended own : ℕ) (places : List ℕ) (s : Sides) (k from e o i : ℕ) (now mid next : Sides) (g : hb_glyph_info_t) → k < length places → i ≡ get_or places k 0 → i < length s.ahead → slice_get mid.ahead 0 ≡ Some g
-    → IsUniting x renumbers id ended own places s k from e o now → ArePassedAs (passed_item renumbers id e o) (i - from) now mid → next ≡ with_skipped mid → origins_of next ≡ origins_by (Replace (length mid.behind) 1 0 ∷ []) mid
+    → IsUniting x renumbers id ended own places s k from e o now → ArePassedAs (passed_item renumbers id e o) (i - from) now mid → next ≡ with_glyph_skipped mid → origins_of next ≡ origins_by (Replace (length mid.behind) 1 0 ∷ []) mid
     → IsUniting x renumbers id ended own places s (k + 1) (i + 1) (e + lig_num_comps (item_of g)) (lig_num_comps (item_of g)) next
 next_gone x renumbers id ended own places s k from e o i now mid next g lt is there at u a after gone =
     let left : drop k places ≡ i ∷ drop (k + 1) places = drop_more places k 0 lt ∙ ap (λ n. n ∷ drop (k + 1) places) (sym is) in
@@ -235,7 +235,7 @@ all_united x renumbers id ended own places s k from e o now le u =
     let end : from ≡ end_of 1 places = ap (end_of from) (sym none) ∙ u.end_is in
     record {
       items = sym (append-nil (strip now.behind)) ∙ ap (λ ps. strip now.behind ++ passed_items renumbers id e o from ps (strip s.ahead)) (sym none) ∙ u.items;
-      origin = ap (λ ps. origins_after (asks_of s) s.level (parts_gone (length s.behind) k ps) (origins_of now)) (sym none) ∙ u.origin;
+      origin = ap (λ ps. origins_after (flag_requests_of s) s.level (component_deletions (length s.behind) k ps) (origins_of now)) (sym none) ∙ u.origin;
       others = u.others ∙ ap (λ (n : ℕ). record s { behind = now.behind; ahead = drop n s.ahead; read = s.read + n }) end;
       within = u.within;
     }

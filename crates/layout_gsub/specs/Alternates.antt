@@ -9,7 +9,7 @@ use Rattle.layout_subtables.specs.declared.sequence.SequenceRow.{SequenceRow}
 use Rattle.layout_subtables.specs.Substitutions.{glyphs_of}
 use Rattle.buffer_stages.specs.Actions.{Passes, Action, whole, later, at_first}
 use Rattle.layout_match.specs.Applied.{next_random}
-use Rattle.layout_gsub.specs.Replacements.{substituted}
+use Rattle.layout_gsub.specs.Replacements.{single_substitution}
 
 -- the value that a glyph's mask gives the feature whose bits are those of a lookup's mask
 abbrev pub feature_value : ℕ → ℕ → ℕ
@@ -27,11 +27,11 @@ is_drawn random value glyphs = random && value == 255 && not (length glyphs == 0
 -- the drawn alternate replaces the item; the random state advances, and since it depends on the whole text all of it is
 -- unsafe to break
 abbrev pub drawn_alternate : GlyphDefinition → List ℕ → Action
-drawn_alternate gdef glyphs c = later (Break 0 (length (whole c)) ∷ []) (substituted gdef (slice_get glyphs (next_random c.random % length glyphs)) (record c { random = next_random c.random }))
+drawn_alternate gdef glyphs c = later (Break 0 (length (whole c)) ∷ []) (single_substitution gdef (slice_get glyphs (next_random c.random % length glyphs)) (record c { random = next_random c.random }))
 
 -- the alternate of the feature's value replaces the item, or a drawn one
 abbrev pub alternate_of : GlyphDefinition → Bool → ℕ → List ℕ → Action
-alternate_of gdef random value glyphs c = if is_drawn random value glyphs then drawn_alternate gdef glyphs c else substituted gdef (alternate_of_value value glyphs) c
+alternate_of gdef random value glyphs c = if is_drawn random value glyphs then drawn_alternate gdef glyphs c else single_substitution gdef (alternate_of_value value glyphs) c
 
 -- a set of alternates at the item, if there is one
 abbrev pub alternate_set : GlyphDefinition → Bool → ℕ → Option (List ℕ) → Action

@@ -10,12 +10,12 @@ use Rattle.buffer_glyphs.specs.Events.{Event, Merge, Replace}
 use Rattle.buffer_core.specs.Settings.{next_lig_id}
 use Rattle.layout_face.specs.declared.parts.GlyphDefinition.{GlyphDefinition}
 use Rattle.layout_tables.specs.Layout.{LigatureTable, LigatureSetTable, ligature_set_of}
-use Rattle.layout_match.specs.Applied.{Applied, own_search}
+use Rattle.layout_match.specs.Applied.{ApplyContext, own_search}
 use Rattle.buffer_glyphs.specs.LigatureWords.{component_word, is_base_glyph, is_mark, lig_comp, lig_id, lig_num_comps, ligature_word}
 use Rattle.layout_match.specs.Matches.{input_end, input_indices}
 use Rattle.layout_match.specs.Sequences.{is_glyph}
 use Rattle.buffer_stages.specs.Actions.{Passes, Acts, Action, at_first, first_rule, within_limit, attempt_around}
-use Rattle.layout_gsub.specs.Replacements.{glyph_props_of, substituted}
+use Rattle.layout_gsub.specs.Replacements.{glyph_props_of, single_substitution}
 
 -- ---- components
 
@@ -105,26 +105,26 @@ following_items id last ended own (y ∷ ys) = if (lig_id y == last) && not (lig
 
 -- the items after the components: marks that become a mark renumber none, nor does a last component that is of no
 -- ligature
-abbrev pub after_parts : List Item → ℕ → Option Item → List Item → List Item
-after_parts parts id None rest = rest
-after_parts parts id (Some last) rest = if are_marks parts || (lig_id last == 0) then rest else following_items id (lig_id last) (component_count parts) (lig_num_comps last) rest
+abbrev pub after_components : List Item → ℕ → Option Item → List Item → List Item
+after_components parts id None rest = rest
+after_components parts id (Some last) rest = if are_marks parts || (lig_id last == 0) then rest else following_items id (lig_id last) (component_count parts) (lig_num_comps last) rest
 
 -- ---- the rule
 
 -- the events of deletion of the components after the first, one after another, with so many deleted before
-abbrev pub parts_gone : ℕ → ℕ → List ℕ → List Event
-parts_gone at gone [] = []
-parts_gone at gone (i ∷ places) = Replace (at + i - gone) 1 0 ∷ parts_gone at (gone + 1) places
+abbrev pub component_deletions : ℕ → ℕ → List ℕ → List Event
+component_deletions at gone [] = []
+component_deletions at gone (i ∷ places) = Replace (at + i - gone) 1 0 ∷ component_deletions at (gone + 1) places
 
 -- the last of some indices
-abbrev pub last_place : List ℕ → ℕ
-last_place [] = 0
-last_place (i ∷ []) = i
-last_place (i ∷ j ∷ places) = last_place (j ∷ places)
+abbrev pub last_index : List ℕ → ℕ
+last_index [] = 0
+last_index (i ∷ []) = i
+last_index (i ∷ j ∷ places) = last_index (j ∷ places)
 
 -- the items at these indices become a ligature; the last of them ends before `end`
-abbrev pub ligated_over : GlyphDefinition → ℕ → List ℕ → ℕ → Action
-ligated_over gdef glyph places end c =
+abbrev pub ligature_substitution : GlyphDefinition → ℕ → List ℕ → ℕ → Action
+ligature_substitution gdef glyph places end c =
     let parts : List Item = items_at places c.rest in
     let id : ℕ = own_number parts c.lig_id in
     let first : List Item = map (ligature_item gdef glyph parts id) (take 1 c.rest) in
@@ -132,29 +132,29 @@ ligated_over gdef glyph places end c =
     let passed : List Item = passed_items (has_own_number parts) id own own 1 (drop 1 places) c.rest in
     within_limit (1 + length passed) c (Acts (record c {
       front = c.front ++ first ++ passed;
-      rest = after_parts parts id (slice_get c.rest (last_place places)) (drop end c.rest);
+      rest = after_components parts id (slice_get c.rest (last_index places)) (drop end c.rest);
       lig_id = last_given parts c.lig_id;
-    }) (Merge InList (length c.front) (length c.front + end) ∷ parts_gone (length c.front) 0 (drop 1 places)))
+    }) (Merge InList (length c.front) (length c.front + end) ∷ component_deletions (length c.front) 0 (drop 1 places)))
 
 -- the ligature where the search finds its components; else all items from the cut to the one that ends the search are
 -- unsafe to concat
-abbrev pub ligature_found : Applied → LigatureTable → Result ℕ ℕ → Action
+abbrev pub ligature_found : ApplyContext → LigatureTable → Result ℕ ℕ → Action
 ligature_found a l (Err end) c = attempt_around 0 end c
-ligature_found a l (Ok end) c = ligated_over a.font.gdef l.glyph (input_indices (own_search a c.rest) (map is_glyph l.components) c.rest) end c
+ligature_found a l (Ok end) c = ligature_substitution a.font.gdef l.glyph (input_indices (own_search a c.rest) (map is_glyph l.components) c.rest) end c
 
 -- a ligature of one component replaces it as a single substitution does; one of more components than
 -- `MAX_CONTEXT_LENGTH` never matches, and is no attempt
-abbrev pub ligature_over : Applied → LigatureTable → Action
+abbrev pub ligature_over : ApplyContext → LigatureTable → Action
 ligature_over a l c =
-    if length l.components == 0 then substituted a.font.gdef (Some l.glyph) c
+    if length l.components == 0 then single_substitution a.font.gdef (Some l.glyph) c
     else if nat_lt (length l.components) 64 then ligature_found a l (input_end (own_search a c.rest) (map is_glyph l.components) c.rest) c
     else Passes []
 
 -- the first of a set's ligatures that matches
-abbrev pub ligatures_over : Applied → Option LigatureSetTable → Action
+abbrev pub ligatures_over : ApplyContext → Option LigatureSetTable → Action
 ligatures_over a None c = Passes []
 ligatures_over a (Some set) c = first_rule (ligature_over a) set.ligatures c
 
 -- ligature substitution: the ligatures of the set of the item's glyph are tried in order
-abbrev pub ligature_subst : Applied → List LigatureSetTable → Action
+abbrev pub ligature_subst : ApplyContext → List LigatureSetTable → Action
 ligature_subst a sets c = at_first (λ x. ligatures_over a (ligature_set_of x.number sets)) (first_of c.rest) c

@@ -9,7 +9,7 @@ use Rattle.layout_subtables.specs.declared.sequence.SequenceRow.{SequenceRow}
 use Rattle.layout_subtables.specs.Substitutions.{glyphs_of}
 use Rattle.buffer_glyphs.specs.LigatureWords.{component_word, is_ligature, lig_id}
 use Rattle.buffer_stages.specs.Actions.{Cut, Passes, Acts, Action, at_first, within_limit}
-use Rattle.layout_gsub.specs.Replacements.{glyph_props_of, substituted}
+use Rattle.layout_gsub.specs.Replacements.{glyph_props_of, single_substitution}
 
 -- the properties of one of several glyphs that replace an item: substituted and multiplied, with the item's other
 -- flags; its class is GDEF's where GDEF has classes, else a ligature becomes a base, and another class stays
@@ -35,23 +35,23 @@ multiplied_item gdef glyphs None = []
 multiplied_item gdef glyphs (Some x) = component_items gdef x 0 glyphs
 
 -- the cut where several items replaced the item, and are done
-abbrev pub multiplied_cut : GlyphDefinition → List ℕ → Cut → Cut
-multiplied_cut gdef glyphs c = record c { front = c.front ++ multiplied_item gdef glyphs (first_of c.rest); rest = drop 1 c.rest }
+abbrev pub cut_with_multiple : GlyphDefinition → List ℕ → Cut → Cut
+cut_with_multiple gdef glyphs c = record c { front = c.front ++ multiplied_item gdef glyphs (first_of c.rest); rest = drop 1 c.rest }
 
 -- several glyphs replace the item at the cut
-abbrev pub multiplied : GlyphDefinition → List ℕ → Action
-multiplied gdef glyphs c = within_limit (length glyphs) c (Acts (multiplied_cut gdef glyphs c) (Replace (length c.front) 1 (length glyphs) ∷ []))
+abbrev pub multiple_substitution : GlyphDefinition → List ℕ → Action
+multiple_substitution gdef glyphs c = within_limit (length glyphs) c (Acts (cut_with_multiple gdef glyphs c) (Replace (length c.front) 1 (length glyphs) ∷ []))
 
 -- the item at the cut is deleted
-abbrev pub deleted : Action
-deleted c = Acts (record c { rest = drop 1 c.rest }) (Delete (length c.front) ∷ [])
+abbrev pub deletion : Action
+deletion c = Acts (record c { rest = drop 1 c.rest }) (Delete (length c.front) ∷ [])
 
 -- an empty sequence deletes the item, one glyph replaces it as a single substitution does, more replace it as its
 -- components
 abbrev pub sequence : GlyphDefinition → List ℕ → Action
-sequence gdef [] c = deleted c
-sequence gdef (glyph ∷ []) c = substituted gdef (Some glyph) c
-sequence gdef (glyph ∷ next ∷ more) c = multiplied gdef (glyph ∷ next ∷ more) c
+sequence gdef [] c = deletion c
+sequence gdef (glyph ∷ []) c = single_substitution gdef (Some glyph) c
+sequence gdef (glyph ∷ next ∷ more) c = multiple_substitution gdef (glyph ∷ next ∷ more) c
 
 -- the sequence of the item's glyph, if there is one
 abbrev pub covered_sequence : GlyphDefinition → Option (List ℕ) → Action

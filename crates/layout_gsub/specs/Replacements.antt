@@ -28,14 +28,14 @@ abbrev pub substituted_item : GlyphDefinition → ℕ → Item → Item
 substituted_item gdef glyph x = record x { number = glyph; glyph_props = substituted_props gdef glyph x.glyph_props }
 
 -- the cut where another glyph replaced the item, and is done
-abbrev pub substituted_cut : GlyphDefinition → ℕ → Cut → Cut
-substituted_cut gdef glyph c = record c { front = c.front ++ map (substituted_item gdef glyph) (take 1 c.rest); rest = drop 1 c.rest }
+abbrev pub cut_with_substitute : GlyphDefinition → ℕ → Cut → Cut
+cut_with_substitute gdef glyph c = record c { front = c.front ++ map (substituted_item gdef glyph) (take 1 c.rest); rest = drop 1 c.rest }
 
 -- a glyph replaces the item at the cut, where there is one
-abbrev pub substituted : GlyphDefinition → Option ℕ → Action
-substituted gdef None c = Passes []
-substituted gdef (Some glyph) c = within_limit 1 c (Acts (substituted_cut gdef glyph c) [])
+abbrev pub single_substitution : GlyphDefinition → Option ℕ → Action
+single_substitution gdef None c = Passes []
+single_substitution gdef (Some glyph) c = within_limit 1 c (Acts (cut_with_substitute gdef glyph c) [])
 
 -- single substitution: each covered glyph has one substitute
 abbrev pub single_subtable : GlyphDefinition → List (GlyphRow ℕ) → Action
-single_subtable gdef rows c = at_first (λ x. substituted gdef (value_of x.number rows)) (first_of c.rest) c
+single_subtable gdef rows c = at_first (λ x. single_substitution gdef (value_of x.number rows)) (first_of c.rest) c

@@ -5,8 +5,8 @@ use Rattle.buffer_glyphs.specs.Levels.{InList}
 use Rattle.buffer_glyphs.specs.Origins.{origins}
 use Rattle.buffer_glyphs.specs.Events.{Merge}
 use Rattle.buffer_core.specs.Sides.{Sides, origins_of, origins_by}
-use Rattle.buffer_stages.specs.Buffers.{cut_of, Happened, IsStill}
-use Rattle.layout_gsub.specs.Ligating.{parts_gone}
+use Rattle.buffer_stages.specs.Buffers.{cut_of, HasHappened, IsStill}
+use Rattle.layout_gsub.specs.Ligating.{component_deletions}
 
 -- indices that rise from one on
 abbrev pub AreRising : ℕ → List ℕ → Type 0
@@ -36,14 +36,14 @@ pub record ArePassedAs (f : Item → Item) (n : ℕ) (old new : Sides) : Type 0 
 -- deleted
 pub record AreUnited (first : Item) (passed : List Item) (places : List ℕ) (old new : Sides) : Type 0 where
   pub items : strip new.behind ≡ strip old.behind ++ first ∷ passed
-  pub origin : origins_of new ≡ origins_by (parts_gone (length old.behind) 0 places) old
+  pub origin : origins_of new ≡ origins_by (component_deletions (length old.behind) 0 places) old
   pub others : new ≡ record old { behind = new.behind; ahead = drop (end_of 1 places) old.ahead; read = old.read + end_of 1 places }
   pub within : length new.behind ≤ new.max_len
 
 -- so many glyphs from the cursor on were merged, and a ligature number was given out
 pub record IsMerged (end lig_id : ℕ) (old new : Sides) : Type 0 where
   pub cut_is : cut_of new ≡ record (cut_of old) { lig_id = lig_id }
-  pub happened : Happened (Merge InList (length old.behind) (length old.behind + end) ∷ []) old new
+  pub happened : HasHappened (Merge InList (length old.behind) (length old.behind + end) ∷ []) old new
   pub still : IsStill old new
   pub read : new.read ≡ old.read
 

@@ -2,7 +2,7 @@
 ghost use Rattle.std.specs.Prelude.{◌≡◌, ◌<◌, ◌∷◌, true, [], length};
 ghost use Rattle.buffer_glyphs.specs.Events.{Break};
 ghost use Rattle.buffer_glyphs.specs.Items.{item_of};
-ghost use Rattle.layout_match.specs.Applied.{applied_of};
+ghost use Rattle.layout_match.specs.Applied.{apply_context_of};
 ghost use Rattle.buffer_stages.specs.Actions.{whole};
 ghost use Rattle.buffer_stages.specs.Buffers.{IsPassed, cut_of};
 ghost use Rattle.buffer_stages.specs.Performing.{Performs, cut_with};
@@ -65,7 +65,7 @@ fn draw_alternate(
     ensures performs { Performs (drawn_alternate ctx.old.face.now.gdef glyphs.now
         (cut_with ctx.old.random_state buffer.old)) result ctx.old.random_state ctx.new.random_state buffer.old
         buffer.new }
-    ensures context { applied_of ctx.new ≡ applied_of ctx.old }
+    ensures context { apply_context_of ctx.new ≡ apply_context_of ctx.old }
 {
     mark_all(buffer);
     let index = ctx.random_number() as usize % glyphs.len();
@@ -84,7 +84,7 @@ fn apply_alternate(
     ensures performs { Performs (alternate_of ctx.old.face.now.gdef ctx.old.random value glyphs.now
         (cut_with ctx.old.random_state buffer.old)) result ctx.old.random_state ctx.new.random_state buffer.old
         buffer.new }
-    ensures context { applied_of ctx.new ≡ applied_of ctx.old }
+    ensures context { apply_context_of ctx.new ≡ apply_context_of ctx.old }
 {
     if is_drawn(ctx.random, value, glyphs) {
         return draw_alternate(glyphs, ctx, buffer);

@@ -1,7 +1,7 @@
 //! The trait of substitution subtables, and the first of several that matches.
 ghost use Rattle.std.specs.Prelude.{◌≡◌, ◌<◌, true, [], length};
 ghost use Rattle.buffer_core.specs.Sides.{items_of};
-ghost use Rattle.layout_match.specs.Applied.{Applied, applied_of};
+ghost use Rattle.layout_match.specs.Applied.{ApplyContext, apply_context_of};
 ghost use Rattle.buffer_stages.specs.Actions.{Action, first_rule};
 ghost use Rattle.buffer_stages.specs.Buffers.{are_glyphs};
 ghost use Rattle.buffer_stages.specs.Performing.{Performs, cut_with};
@@ -12,7 +12,7 @@ use layout_match::hb_ot_apply_context_t;
 
 /// A subtable of a substitution lookup, applied at the cursor of a buffer.
 pub trait Apply {
-    ghost action: { Self → Applied → Action };
+    ghost action: { Self → ApplyContext → Action };
 
     /// Applies the subtable at the cursor, and answers whether it acted. Where it didn't, it changed glyph flags only.
     /// It refuses for want of memory, or where a side of the buffer would have more glyphs than it may.
@@ -24,10 +24,10 @@ pub trait Apply {
         requires open { buffer.old.is_open ≡ true }
         requires there { 0 < length buffer.old.ahead }
         requires number { are_glyphs (items_of buffer.old) ≡ true }
-        ensures performs { Performs (action self.now (applied_of ctx.old)
+        ensures performs { Performs (action self.now (apply_context_of ctx.old)
             (cut_with ctx.old.random_state buffer.old)) result ctx.old.random_state ctx.new.random_state buffer.old
             buffer.new }
-        ensures context { applied_of ctx.new ≡ applied_of ctx.old };
+        ensures context { apply_context_of ctx.new ≡ apply_context_of ctx.old };
 }
 
 /// Applies the first matching subtable at the cursor.
@@ -40,10 +40,10 @@ pub fn apply_first<S: Apply>(
     requires open { buffer.old.is_open ≡ true }
     requires there { 0 < length buffer.old.ahead }
     requires number { are_glyphs (items_of buffer.old) ≡ true }
-    ensures performs { Performs (first_rule (λ s. S.action s (applied_of ctx.old)) subtables.now
+    ensures performs { Performs (first_rule (λ s. S.action s (apply_context_of ctx.old)) subtables.now
         (cut_with ctx.old.random_state buffer.old)) result ctx.old.random_state ctx.new.random_state buffer.old
         buffer.new }
-    ensures context { applied_of ctx.new ≡ applied_of ctx.old }
+    ensures context { apply_context_of ctx.new ≡ apply_context_of ctx.old }
 {
     for subtable in subtables {
         match subtable.apply(ctx, buffer) {

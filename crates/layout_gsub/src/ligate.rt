@@ -9,8 +9,8 @@ ghost use Rattle.buffer_core.specs.Settings.{next_lig_id};
 ghost use Rattle.buffer_core.specs.Sides.{has_output_room};
 ghost use Rattle.buffer_glyphs.specs.LigatureWords.{lig_comp, lig_id, lig_num_comps, ligature_word};
 ghost use Rattle.buffer_stages.specs.Actions.{Refuses};
-ghost use Rattle.buffer_stages.specs.Performing.{Performed, cut_with};
-ghost use Rattle.layout_gsub.specs.Ligating.{component_now, following_items, ligated_over, ligature_category, ligature_props, passed_item, passed_items, with_component};
+ghost use Rattle.buffer_stages.specs.Performing.{IsPerformed, cut_with};
+ghost use Rattle.layout_gsub.specs.Ligating.{component_now, following_items, ligature_substitution, ligature_category, ligature_props, passed_item, passed_items, with_component};
 ghost use Rattle.layout_gsub.specs.Uniting.{ArePassedAs, AreRising, AreUnited, IsMerged, IsPassedAs, IsRenumbered, end_of};
 
 use crate::parts::LigatureParts;
@@ -318,10 +318,10 @@ pub(crate) fn ligate_input(
     requires few { length others.now < 64 }
     requires end { end ≡ end_of 1 others.now }
     requires within { end ≤ length buffer.old.ahead }
-    ensures made { OnOk result ((r : ℕ) → Performed (ligated_over face.now.gdef glyph (0 ∷ others.now) end
+    ensures made { OnOk result ((r : ℕ) → IsPerformed (ligature_substitution face.now.gdef glyph (0 ∷ others.now) end
         (cut_with r buffer.old)) true r r buffer.old buffer.new) }
     ensures refused { IfErr result (λ e. e ≢ ShapeCause.OutOfMemory → (r : ℕ) →
-        ligated_over face.now.gdef glyph (0 ∷ others.now) end (cut_with r buffer.old) ≡ Refuses e) }
+        ligature_substitution face.now.gdef glyph (0 ∷ others.now) end (cut_with r buffer.old) ≡ Refuses e) }
 {
     let parts = LigatureParts::new(others, end, buffer);
     let lig_id = merge_parts(&parts, end, buffer);

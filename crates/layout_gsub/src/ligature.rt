@@ -1,7 +1,7 @@
 //! Ligature substitution (OpenType, GSUB lookup type 4).
 ghost use Rattle.std.specs.Prelude.{◌≡◌, ◌<◌, true, length, map};
 ghost use Rattle.buffer_glyphs.specs.Items.{strip};
-ghost use Rattle.layout_match.specs.Applied.{applied_of, own_search};
+ghost use Rattle.layout_match.specs.Applied.{apply_context_of, own_search};
 ghost use Rattle.layout_match.specs.Matches.{input_end};
 ghost use Rattle.layout_match.specs.Sequences.{is_glyph};
 ghost use Rattle.buffer_stages.specs.Performing.{Performs, cut_with};
@@ -27,7 +27,7 @@ fn apply_ligature(
     requires open { buffer.old.is_open ≡ true }
     requires there { 0 < length buffer.old.ahead }
     requires few { length ligature.now.components < 64 }
-    ensures { Performs (ligature_found (applied_of ctx.now) ligature.now (input_end (own_search (applied_of ctx.now)
+    ensures { Performs (ligature_found (apply_context_of ctx.now) ligature.now (input_end (own_search (apply_context_of ctx.now)
         (strip buffer.old.ahead)) (map is_glyph ligature.now.components) (strip buffer.old.ahead))
         (cut_with ctx.now.random_state buffer.old)) result ctx.now.random_state ctx.now.random_state buffer.old
         buffer.new }

@@ -5,8 +5,8 @@ ghost use Rattle.buffer_glyphs.specs.Origins.{origin_of};
 ghost use Rattle.buffer_core.specs.Sides.{has_output_room};
 ghost use Rattle.layout_gsub.specs.Putting.{IsPut};
 ghost use Rattle.buffer_stages.specs.Actions.{Refuses};
-ghost use Rattle.buffer_stages.specs.Performing.{Performed, Performs, cut_with};
-ghost use Rattle.layout_gsub.specs.Multiples.{component_item, component_props, deleted, multiple_subtable, multiplied, sequence};
+ghost use Rattle.buffer_stages.specs.Performing.{IsPerformed, Performs, cut_with};
+ghost use Rattle.layout_gsub.specs.Multiples.{component_item, component_props, deletion, multiple_subtable, multiple_substitution, sequence};
 
 use crate::apply::Apply;
 use crate::replacement::{glyph_props, replace_glyph};
@@ -81,9 +81,9 @@ fn multiply(glyphs: &[u16], face: &Face, buffer: &mut hb_buffer_t) -> Result<(),
     requires some { 0 < length glyphs.now }
     requires open { buffer.old.is_open ≡ true }
     requires there { 0 < length buffer.old.ahead }
-    ensures made { OnOk result ((r : ℕ) → Performed (multiplied face.now.gdef glyphs.now
+    ensures made { OnOk result ((r : ℕ) → IsPerformed (multiple_substitution face.now.gdef glyphs.now
         (cut_with r buffer.old)) true r r buffer.old buffer.new) }
-    ensures refused { IfErr result (λ e. e ≢ ShapeCause.OutOfMemory → (r : ℕ) → multiplied face.now.gdef glyphs.now
+    ensures refused { IfErr result (λ e. e ≢ ShapeCause.OutOfMemory → (r : ℕ) → multiple_substitution face.now.gdef glyphs.now
         (cut_with r buffer.old) ≡ Refuses e) }
 {
     let info = *buffer.cur(0);
@@ -98,7 +98,7 @@ fn multiply(glyphs: &[u16], face: &Face, buffer: &mut hb_buffer_t) -> Result<(),
 fn delete(buffer: &mut hb_buffer_t)
     requires open { buffer.old.is_open ≡ true }
     requires there { 0 < length buffer.old.ahead }
-    ensures { (r : ℕ) → Performed (deleted (cut_with r buffer.old)) true r r buffer.old buffer.new }
+    ensures { (r : ℕ) → IsPerformed (deletion (cut_with r buffer.old)) true r r buffer.old buffer.new }
 {
     buffer.delete_glyph();
 }

@@ -3,7 +3,7 @@ ghost use Rattle.std.specs.Prelude.{◌≡◌, ◌<◌, true, Some, [], length, 
 ghost use Rattle.buffer_glyphs.specs.declared.info.hb_glyph_info_t.{hb_glyph_info_t as Glyph};
 ghost use Rattle.buffer_core.specs.Lending.{with_glyph_ahead};
 ghost use Rattle.buffer_stages.specs.Performing.{Performs, cut_with};
-ghost use Rattle.layout_gsub.specs.Replacements.{glyph_props_of, props_of_class, substituted, substituted_props};
+ghost use Rattle.layout_gsub.specs.Replacements.{glyph_props_of, props_of_class, single_substitution, substituted_props};
 
 use buffer_core::buffer::hb_buffer_t;
 use buffer_glyphs::cause::ShapeCause;
@@ -63,7 +63,7 @@ pub fn replace_glyph(
 ) -> Result<bool, ShapeCause>
     requires open { buffer.old.is_open ≡ true }
     requires there { 0 < length buffer.old.ahead }
-    ensures { Performs (substituted ctx.now.face.now.gdef (Some glyph)
+    ensures { Performs (single_substitution ctx.now.face.now.gdef (Some glyph)
         (cut_with ctx.now.random_state buffer.old)) result ctx.now.random_state ctx.now.random_state buffer.old
         buffer.new }
 {

@@ -7,13 +7,13 @@ use Rattle.std.proofs.lemmas.Bool.Decides.{nat_tests, eqb_tells}
 use Rattle.std.proofs.lemmas.Int.{ints, int_wrap-add_same, int_wrap-add_left, int_wrap-sub_right}
 use Rattle.std.proofs.lemmas.List.{length-set}
 use Rattle.buffer_glyphs.specs.Items.{Position, zero_position}
-use Rattle.buffer_glyphs.specs.Lists.{seen_at}
+use Rattle.buffer_glyphs.specs.Lists.{get_or_mapped}
 use Rattle.buffer_common.specs.declared.direction.Direction.{Direction}
 use Rattle.buffer_common.specs.Direction.{is_forward, is_horizontal}
 use Rattle.layout_links.specs.declared.sums.Pen.{Pen}
-use Rattle.layout_links.specs.Links.{unlinked, plus, minus, offset_by, back_over, on_over, mark_drawn, child_drawn, drawn_position, has_kind, kind_tested, kinds_tested, hung, hung_on, followed, followed_from, all_followed, finished}
-use Rattle.layout_offsets.specs.Links.{position_at, linked, parent, without_link}
-use Rattle.layout_links.specs.Sums.{Fits, AllFit, pen_down, pen_after, pen_of, pen_way, pen_before, with_pen, summed_from, summed, apart_from, taken_apart, back_by, on_by, after_parent, mark_by_sums, drawn_by_sums}
+use Rattle.layout_links.specs.Links.{with_link_cleared, plus, minus, offset_by, back_over, on_over, mark_drawn, child_drawn, drawn_position, has_kind, kind_tested, kinds_tested, with_child_drawn, with_parent_drawn, with_link_followed, with_links_followed_from, with_links_followed, finished_positions}
+use Rattle.layout_offsets.specs.Links.{position_at, link_target, parent, without_link}
+use Rattle.layout_links.specs.Sums.{Fits, AllFit, pen_down, pen_after, pen_of, pen_way, pen_before, with_pen, advance_sums_from, advance_sums, advances_of_sums_from, advances_of_sums, back_by, on_by, after_parent, mark_by_sums, drawn_by_sums}
 use Rattle.layout_links.specs.Walks.{is_link, is_open, are_shut}
 use Rattle.layout_links.specs.Trees.{only_advances}
 use Rattle.layout_links.specs.Marks.{total}
@@ -30,47 +30,47 @@ use Rattle.layout_links.proofs.Kept.{same_length, followed_advances, finished_ad
 abbrev pens : Pen → List Position → Pen
 pens p ps = fold pen_after p ps
 
-summed_length : (p : Pen) (ps : List Position) → length (summed_from p ps) ≡ length ps
+summed_length : (p : Pen) (ps : List Position) → length (advance_sums_from p ps) ≡ length ps
 summed_length p [] = refl
 summed_length p (x ∷ xs) = ap suc (summed_length (pen_after p x) xs)
 
 -- all but the advances stays
-summed_rest : (p : Pen) (i : ℕ) (ps : List Position) → position_at i (summed_from p ps) ≡ with_pen (pen_of (position_at i (summed_from p ps))) (position_at i ps)
+summed_rest : (p : Pen) (i : ℕ) (ps : List Position) → position_at i (advance_sums_from p ps) ≡ with_pen (pen_of (position_at i (advance_sums_from p ps))) (position_at i ps)
 summed_rest p i [] = refl
 summed_rest p zero (x ∷ xs) = refl
 summed_rest p (suc i) (x ∷ xs) = summed_rest (pen_after p x) i xs
 
-summed_pen : (p : Pen) (i : ℕ) (ps : List Position) → i < length ps → pen_of (position_at i (summed_from p ps)) ≡ pens p (take (i + 1) ps)
+summed_pen : (p : Pen) (i : ℕ) (ps : List Position) → i < length ps → pen_of (position_at i (advance_sums_from p ps)) ≡ pens p (take (i + 1) ps)
 summed_pen p i [] lt = absurd (omega (arith, lt))
 summed_pen p zero (x ∷ xs) lt = refl
 summed_pen p (suc i) (x ∷ xs) lt =
     let e : suc i + 1 ≡ suc (i + 1) = omega arith in
     summed_pen (pen_after p x) i xs (omega (arith, lt)) ∙ ap (λ (n : ℕ). pens p (take n (x ∷ xs))) (sym e)
 
-summed_here : (i : ℕ) (ps : List Position) → i < length ps → position_at i (summed ps) ≡ with_pen (pens pen_down (take (i + 1) ps)) (position_at i ps)
+summed_here : (i : ℕ) (ps : List Position) → i < length ps → position_at i (advance_sums ps) ≡ with_pen (pens pen_down (take (i + 1) ps)) (position_at i ps)
 summed_here i ps lt = summed_rest pen_down i ps ∙ ap (λ (q : Pen). with_pen q (position_at i ps)) (summed_pen pen_down i ps lt)
 
 -- the pen before a glyph
-before_here : (i : ℕ) (ps : List Position) → i < length ps → pen_before i (summed ps) ≡ pens pen_down (take i ps)
+before_here : (i : ℕ) (ps : List Position) → i < length ps → pen_before i (advance_sums ps) ≡ pens pen_down (take i ps)
 before_here i ps lt = elim (eqb_tells i 0) [
-  | inl is ↦ ap (λ (b : Bool). if b then pen_down else pen_of (position_at (i - 1) (summed ps))) is.0 ∙ ap (λ (n : ℕ). pens pen_down (take n ps)) (sym is.1)
+  | inl is ↦ ap (λ (b : Bool). if b then pen_down else pen_of (position_at (i - 1) (advance_sums ps))) is.0 ∙ ap (λ (n : ℕ). pens pen_down (take n ps)) (sym is.1)
   | inr other ↦
       let apart = other.1 in
       let e : i - 1 + 1 ≡ i = omega (arith, apart) in
-      ap (λ (b : Bool). if b then pen_down else pen_of (position_at (i - 1) (summed ps))) other.0 ∙ summed_pen pen_down (i - 1) ps (omega (arith, apart, lt)) ∙ ap (λ (n : ℕ). pens pen_down (take n ps)) e
+      ap (λ (b : Bool). if b then pen_down else pen_of (position_at (i - 1) (advance_sums ps))) other.0 ∙ summed_pen pen_down (i - 1) ps (omega (arith, apart, lt)) ∙ ap (λ (n : ℕ). pens pen_down (take n ps)) e
 ]
 
 set_summed : (p : Pen) (i : ℕ) (q : Position) (ps : List Position) → only_advances q ≡ only_advances (position_at i ps)
-    → summed_from p (set ps i q) ≡ set (summed_from p ps) i (with_pen (pen_of (position_at i (summed_from p ps))) q)
+    → advance_sums_from p (set ps i q) ≡ set (advance_sums_from p ps) i (with_pen (pen_of (position_at i (advance_sums_from p ps))) q)
 set_summed p i q [] e = refl
-set_summed p zero q (x ∷ xs) e = ap (λ (a : Position). with_pen (pen_after p a) q ∷ summed_from (pen_after p a) xs) e
+set_summed p zero q (x ∷ xs) e = ap (λ (a : Position). with_pen (pen_after p a) q ∷ advance_sums_from (pen_after p a) xs) e
 set_summed p (suc i) q (x ∷ xs) e = ap (λ ys. with_pen (pen_after p x) x ∷ ys) (set_summed (pen_after p x) i q xs e)
 
-unlinked_summed : (i : ℕ) (ps : List Position) → summed (unlinked i ps) ≡ unlinked i (summed ps)
-unlinked_summed i ps = set_summed pen_down i (without_link (position_at i ps)) ps refl ∙ ap (λ (q : Position). set (summed ps) i (without_link q)) (sym (summed_rest pen_down i ps))
+unlinked_summed : (i : ℕ) (ps : List Position) → advance_sums (with_link_cleared i ps) ≡ with_link_cleared i (advance_sums ps)
+unlinked_summed i ps = set_summed pen_down i (without_link (position_at i ps)) ps refl ∙ ap (λ (q : Position). set (advance_sums ps) i (without_link q)) (sym (summed_rest pen_down i ps))
 
-parent_summed : (i : ℕ) (ps : List Position) → parent i (summed ps) ≡ parent i ps
-parent_summed i ps = ap (λ (n : ℕ). linked n i (position_at i (summed ps)).attach_chain) (summed_length pen_down ps) ∙ ap (λ (q : Position). linked (length ps) i q.attach_chain) (summed_rest pen_down i ps)
+parent_summed : (i : ℕ) (ps : List Position) → parent i (advance_sums ps) ≡ parent i ps
+parent_summed i ps = ap (λ (n : ℕ). link_target n i (position_at i (advance_sums ps)).attach_chain) (summed_length pen_down ps) ∙ ap (λ (q : Position). link_target (length ps) i q.attach_chain) (summed_rest pen_down i ps)
 
 -- ---- modulo 2^32
 
@@ -188,25 +188,25 @@ on_by_way i j ps p le ex ey =
     let y = on_is (λ (p : Position). p.y_advance) (λ (p : Position). p.y_offset) (λ p r. refl) p rs way.y ey (y_way i j ps le) in
     ap (λ (z : ℤ). with_offsets z (plus p.y_offset way.y) p) (sym x) ∙ ap (λ (z : ℤ). with_offsets (fold on_over p rs).x_offset z p) (sym y) ∙ sym (on_offsets p rs)
 
-offset_seen : (i j : ℕ) (ps : List Position) → i < length ps → j < length ps → offset_by (position_at j (summed ps)) (position_at i (summed ps)) ≡ with_pen (sum_to (i + 1) ps) (offset_by (position_at j ps) (position_at i ps))
-offset_seen i j ps li lj = ap (λ (p : Position). offset_by (position_at j (summed ps)) p) (summed_here i ps li) ∙ ap (λ (q : Position). offset_by q (with_pen (sum_to (i + 1) ps) (position_at i ps))) (summed_here j ps lj)
+offset_seen : (i j : ℕ) (ps : List Position) → i < length ps → j < length ps → offset_by (position_at j (advance_sums ps)) (position_at i (advance_sums ps)) ≡ with_pen (sum_to (i + 1) ps) (offset_by (position_at j ps) (position_at i ps))
+offset_seen i j ps li lj = ap (λ (p : Position). offset_by (position_at j (advance_sums ps)) p) (summed_here i ps li) ∙ ap (λ (q : Position). offset_by q (with_pen (sum_to (i + 1) ps) (position_at i ps))) (summed_here j ps lj)
 
-pen_here : (i : ℕ) (ps : List Position) → i < length ps → pen_of (position_at i (summed ps)) ≡ sum_to (i + 1) ps
+pen_here : (i : ℕ) (ps : List Position) → i < length ps → pen_of (position_at i (advance_sums ps)) ≡ sum_to (i + 1) ps
 pen_here i ps lt = summed_pen pen_down i ps lt
 
-later_seen : (forward : Bool) (i j : ℕ) (ps : List Position) → j < i → i < length ps → after_parent forward i j (summed ps) ≡ with_pen (sum_to (i + 1) ps) (mark_drawn forward i j ps)
+later_seen : (forward : Bool) (i j : ℕ) (ps : List Position) → j < i → i < length ps → after_parent forward i j (advance_sums ps) ≡ with_pen (sum_to (i + 1) ps) (mark_drawn forward i j ps)
 later_seen true i j ps lt li =
     let lj : j < length ps = omega (arith, lt, li) in
     let p = offset_by (position_at j ps) (position_at i ps) in
-    ap (λ (r : Position). back_by (pen_way (pen_before j (summed ps)) (pen_before i (summed ps))) r) (offset_seen i j ps li lj)
-    ∙ ap (λ (q : Pen). back_by (pen_way q (pen_before i (summed ps))) (with_pen (sum_to (i + 1) ps) p)) (before_here j ps lj)
+    ap (λ (r : Position). back_by (pen_way (pen_before j (advance_sums ps)) (pen_before i (advance_sums ps))) r) (offset_seen i j ps li lj)
+    ∙ ap (λ (q : Pen). back_by (pen_way q (pen_before i (advance_sums ps))) (with_pen (sum_to (i + 1) ps) p)) (before_here j ps lj)
     ∙ ap (λ (q : Pen). back_by (pen_way (sum_to j ps) q) (with_pen (sum_to (i + 1) ps) p)) (before_here i ps li)
     ∙ ap (with_pen (sum_to (i + 1) ps)) (back_by_way i j ps p (omega (arith, lt)) (twice ((position_at i ps).x_offset +ℤ (position_at j ps).x_offset)) (twice ((position_at i ps).y_offset +ℤ (position_at j ps).y_offset)))
 later_seen false i j ps lt li =
     let lj : j < length ps = omega (arith, lt, li) in
     let p = offset_by (position_at j ps) (position_at i ps) in
-    ap (λ (r : Position). on_by (pen_way (pen_of (position_at j (summed ps))) (pen_of (position_at i (summed ps)))) r) (offset_seen i j ps li lj)
-    ∙ ap (λ (q : Pen). on_by (pen_way q (pen_of (position_at i (summed ps)))) (with_pen (sum_to (i + 1) ps) p)) (pen_here j ps lj)
+    ap (λ (r : Position). on_by (pen_way (pen_of (position_at j (advance_sums ps))) (pen_of (position_at i (advance_sums ps)))) r) (offset_seen i j ps li lj)
+    ∙ ap (λ (q : Pen). on_by (pen_way q (pen_of (position_at i (advance_sums ps)))) (with_pen (sum_to (i + 1) ps) p)) (pen_here j ps lj)
     ∙ ap (λ (q : Pen). on_by (pen_way (sum_to (j + 1) ps) q) (with_pen (sum_to (i + 1) ps) p)) (pen_here i ps li)
     ∙ ap (with_pen (sum_to (i + 1) ps)) (on_by_way (i + 1) (j + 1) ps p (omega (arith, lt)) (twice ((position_at i ps).x_offset +ℤ (position_at j ps).x_offset)) (twice ((position_at i ps).y_offset +ℤ (position_at j ps).y_offset)))
 
@@ -215,10 +215,10 @@ before_parent : (forward : Bool) (i j : ℕ) (ps : List Position) → i ≤ j �
 before_parent true i j ps le = ap (λ rs. fold back_over (offset_by (position_at j ps) (position_at i ps)) rs) (nothing_between j i ps le)
 before_parent false i j ps le = ap (λ rs. fold on_over (offset_by (position_at j ps) (position_at i ps)) rs) (nothing_between (j + 1) (i + 1) ps (omega (arith, le)))
 
-mark_seen : (forward : Bool) (i j : ℕ) (ps : List Position) → i < length ps → j < length ps → mark_by_sums forward i j (summed ps) ≡ with_pen (sum_to (i + 1) ps) (mark_drawn forward i j ps)
+mark_seen : (forward : Bool) (i j : ℕ) (ps : List Position) → i < length ps → j < length ps → mark_by_sums forward i j (advance_sums ps) ≡ with_pen (sum_to (i + 1) ps) (mark_drawn forward i j ps)
 mark_seen forward i j ps li lj = elim (ltb_tells j i) [
-  | inl is ↦ ap (λ (b : Bool). if b then after_parent forward i j (summed ps) else offset_by (position_at j (summed ps)) (position_at i (summed ps))) is.0 ∙ later_seen forward i j ps is.1 li
-  | inr other ↦ ap (λ (b : Bool). if b then after_parent forward i j (summed ps) else offset_by (position_at j (summed ps)) (position_at i (summed ps))) other.0 ∙ offset_seen i j ps li lj ∙ ap (with_pen (sum_to (i + 1) ps)) (sym (before_parent forward i j ps other.1))
+  | inl is ↦ ap (λ (b : Bool). if b then after_parent forward i j (advance_sums ps) else offset_by (position_at j (advance_sums ps)) (position_at i (advance_sums ps))) is.0 ∙ later_seen forward i j ps is.1 li
+  | inr other ↦ ap (λ (b : Bool). if b then after_parent forward i j (advance_sums ps) else offset_by (position_at j (advance_sums ps)) (position_at i (advance_sums ps))) other.0 ∙ offset_seen i j ps li lj ∙ ap (with_pen (sum_to (i + 1) ps)) (sym (before_parent forward i j ps other.1))
 ]
   where
     ltb_tells : (j i : ℕ) → ((nat_lt j i ≡ true) × (j < i)) ⊎ ((nat_lt j i ≡ false) × (i ≤ j))
@@ -228,64 +228,64 @@ mark_seen forward i j ps li lj = elim (ltb_tells j i) [
         by_less true e = inl (e, grind (arith, nat_tests, e))
         by_less false e = inr (e, grind (arith, nat_tests, e))
 
-child_seen : (across : Bool) (i j : ℕ) (ps : List Position) → i < length ps → j < length ps → child_drawn across (position_at j (summed ps)) (position_at i (summed ps)) ≡ with_pen (sum_to (i + 1) ps) (child_drawn across (position_at j ps) (position_at i ps))
-child_seen true i j ps li lj = ap (λ (p : Position). child_drawn true (position_at j (summed ps)) p) (summed_here i ps li) ∙ ap (λ (q : Position). child_drawn true q (with_pen (sum_to (i + 1) ps) (position_at i ps))) (summed_here j ps lj)
-child_seen false i j ps li lj = ap (λ (p : Position). child_drawn false (position_at j (summed ps)) p) (summed_here i ps li) ∙ ap (λ (q : Position). child_drawn false q (with_pen (sum_to (i + 1) ps) (position_at i ps))) (summed_here j ps lj)
+child_seen : (across : Bool) (i j : ℕ) (ps : List Position) → i < length ps → j < length ps → child_drawn across (position_at j (advance_sums ps)) (position_at i (advance_sums ps)) ≡ with_pen (sum_to (i + 1) ps) (child_drawn across (position_at j ps) (position_at i ps))
+child_seen true i j ps li lj = ap (λ (p : Position). child_drawn true (position_at j (advance_sums ps)) p) (summed_here i ps li) ∙ ap (λ (q : Position). child_drawn true q (with_pen (sum_to (i + 1) ps) (position_at i ps))) (summed_here j ps lj)
+child_seen false i j ps li lj = ap (λ (p : Position). child_drawn false (position_at j (advance_sums ps)) p) (summed_here i ps li) ∙ ap (λ (q : Position). child_drawn false q (with_pen (sum_to (i + 1) ps) (position_at i ps))) (summed_here j ps lj)
 
-drawn_seen : (d : Direction) (i j : ℕ) (ps : List Position) → i < length ps → j < length ps → drawn_by_sums d i j (summed ps) ≡ with_pen (sum_to (i + 1) ps) (drawn_position d i j ps)
+drawn_seen : (d : Direction) (i j : ℕ) (ps : List Position) → i < length ps → j < length ps → drawn_by_sums d i j (advance_sums ps) ≡ with_pen (sum_to (i + 1) ps) (drawn_position d i j ps)
 drawn_seen d i j ps li lj =
-    ap (λ (p : Position). if p.attach_type == 2 then child_drawn (is_horizontal d) (position_at j (summed ps)) (position_at i (summed ps)) else mark_by_sums (is_forward d) i j (summed ps)) (summed_here i ps li)
+    ap (λ (p : Position). if p.attach_type == 2 then child_drawn (is_horizontal d) (position_at j (advance_sums ps)) (position_at i (advance_sums ps)) else mark_by_sums (is_forward d) i j (advance_sums ps)) (summed_here i ps li)
     ∙ by_kind ((position_at i ps).attach_type == 2)
   where
-    by_kind : (b : Bool) → (if b then child_drawn (is_horizontal d) (position_at j (summed ps)) (position_at i (summed ps)) else mark_by_sums (is_forward d) i j (summed ps))
+    by_kind : (b : Bool) → (if b then child_drawn (is_horizontal d) (position_at j (advance_sums ps)) (position_at i (advance_sums ps)) else mark_by_sums (is_forward d) i j (advance_sums ps))
         ≡ with_pen (sum_to (i + 1) ps) (if b then child_drawn (is_horizontal d) (position_at j ps) (position_at i ps) else mark_drawn (is_forward d) i j ps)
     by_kind true = child_seen (is_horizontal d) i j ps li lj
     by_kind false = mark_seen (is_forward d) i j ps li lj
 
-hung_seen : (d : Direction) (i j : ℕ) (ps : List Position) → i < length ps → j < length ps → summed (hung (drawn_position d) i j ps) ≡ hung (drawn_by_sums d) i j (summed ps)
+hung_seen : (d : Direction) (i j : ℕ) (ps : List Position) → i < length ps → j < length ps → advance_sums (with_child_drawn (drawn_position d) i j ps) ≡ with_child_drawn (drawn_by_sums d) i j (advance_sums ps)
 hung_seen d i j ps li lj =
     set_summed pen_down i (drawn_position d i j ps) ps (drawn_advances d i j ps)
-    ∙ ap (λ (q : Pen). set (summed ps) i (with_pen q (drawn_position d i j ps))) (pen_here i ps li)
-    ∙ ap (λ (p : Position). set (summed ps) i p) (sym (drawn_seen d i j ps li lj))
+    ∙ ap (λ (q : Pen). set (advance_sums ps) i (with_pen q (drawn_position d i j ps))) (pen_here i ps li)
+    ∙ ap (λ (p : Position). set (advance_sums ps) i p) (sym (drawn_seen d i j ps li lj))
 
 -- ---- all glyphs
 
 -- a glyph that is attached to another is there
 parent_within : (i j : ℕ) (ps : List Position) → parent i ps ≡ Some j → i < length ps
-parent_within i j ps e = in_list ps i (λ none. absurd (let both : None ≡ Some j = sym (ap (linked (length ps) i) (ap (λ (p : Position). p.attach_chain) none)) ∙ e in cc))
+parent_within i j ps e = in_list ps i (λ none. absurd (let both : None ≡ Some j = sym (ap (link_target (length ps) i) (ap (λ (p : Position). p.attach_chain) none)) ∙ e in cc))
   where
     in_list : (xs : List Position) (k : ℕ) → (position_at k xs ≡ position_at 0 [] → ⊥) → k < length xs
     in_list [] k n = absurd (n refl)
     in_list (x ∷ xs) zero n = omega arith
     in_list (x ∷ xs) (suc k) n = let lt = in_list xs k n in omega (arith, lt)
 
-followed_seen : (d : Direction) (fuel i : ℕ) (ps : List Position) → summed (followed (drawn_position d) fuel i ps) ≡ followed (drawn_by_sums d) fuel i (summed ps)
-followed_seen d zero i ps = ap summed (followed_none (drawn_position d) i ps) ∙ sym (followed_none (drawn_by_sums d) i (summed ps))
+followed_seen : (d : Direction) (fuel i : ℕ) (ps : List Position) → advance_sums (with_link_followed (drawn_position d) fuel i ps) ≡ with_link_followed (drawn_by_sums d) fuel i (advance_sums ps)
+followed_seen d zero i ps = ap advance_sums (followed_none (drawn_position d) i ps) ∙ sym (followed_none (drawn_by_sums d) i (advance_sums ps))
 followed_seen d (suc fuel) i ps =
-    ap summed (followed_step (drawn_position d) (suc fuel) fuel i ps refl) ∙ by_parent (parent i ps) refl (λ j qs. followed_seen d fuel j qs)
-    ∙ ap (λ (o : Option ℕ). hung_on (drawn_by_sums d) (followed (drawn_by_sums d) fuel) i o (summed ps)) (sym (parent_summed i ps)) ∙ sym (followed_step (drawn_by_sums d) (suc fuel) fuel i (summed ps) refl)
+    ap advance_sums (followed_step (drawn_position d) (suc fuel) fuel i ps refl) ∙ by_parent (parent i ps) refl (λ j qs. followed_seen d fuel j qs)
+    ∙ ap (λ (o : Option ℕ). with_parent_drawn (drawn_by_sums d) (with_link_followed (drawn_by_sums d) fuel) i o (advance_sums ps)) (sym (parent_summed i ps)) ∙ sym (followed_step (drawn_by_sums d) (suc fuel) fuel i (advance_sums ps) refl)
   where
-    by_parent : (o : Option ℕ) → parent i ps ≡ o → ((j : ℕ) (qs : List Position) → summed (followed (drawn_position d) fuel j qs) ≡ followed (drawn_by_sums d) fuel j (summed qs))
-        → summed (hung_on (drawn_position d) (followed (drawn_position d) fuel) i o ps) ≡ hung_on (drawn_by_sums d) (followed (drawn_by_sums d) fuel) i o (summed ps)
+    by_parent : (o : Option ℕ) → parent i ps ≡ o → ((j : ℕ) (qs : List Position) → advance_sums (with_link_followed (drawn_position d) fuel j qs) ≡ with_link_followed (drawn_by_sums d) fuel j (advance_sums qs))
+        → advance_sums (with_parent_drawn (drawn_position d) (with_link_followed (drawn_position d) fuel) i o ps) ≡ with_parent_drawn (drawn_by_sums d) (with_link_followed (drawn_by_sums d) fuel) i o (advance_sums ps)
     by_parent None e before = unlinked_summed i ps
     by_parent (Some j) e before =
-        let now = followed (drawn_position d) fuel j (unlinked i ps) in
-        let len = same_length now (unlinked i ps) (followed_advances d fuel j (unlinked i ps)) in
+        let now = with_link_followed (drawn_position d) fuel j (with_link_cleared i ps) in
+        let len = same_length now (with_link_cleared i ps) (followed_advances d fuel j (with_link_cleared i ps)) in
         let len_set = length-set ps i (without_link (position_at i ps)) in
         let li = parent_within i j ps e in
         let lj = linked_there (length ps) i (position_at i ps).attach_chain j e in
         hung_seen d i j now (omega (arith, len, len_set, li)) (omega (arith, len, len_set, lj.0))
-        ∙ ap (hung (drawn_by_sums d) i j) (before j (unlinked i ps) ∙ ap (followed (drawn_by_sums d) fuel j) (unlinked_summed i ps))
+        ∙ ap (with_child_drawn (drawn_by_sums d) i j) (before j (with_link_cleared i ps) ∙ ap (with_link_followed (drawn_by_sums d) fuel j) (unlinked_summed i ps))
 
-from_seen : (d : Direction) (n i : ℕ) (ps : List Position) → summed (followed_from (drawn_position d) i n ps) ≡ followed_from (drawn_by_sums d) i n (summed ps)
+from_seen : (d : Direction) (n i : ℕ) (ps : List Position) → advance_sums (with_links_followed_from (drawn_position d) i n ps) ≡ with_links_followed_from (drawn_by_sums d) i n (advance_sums ps)
 from_seen d zero i ps = refl
 from_seen d (suc n) i ps =
-    let now = followed (drawn_position d) (length ps) i ps in
-    from_seen d n (i + 1) now ∙ ap (followed_from (drawn_by_sums d) (i + 1) n) (followed_seen d (length ps) i ps)
-    ∙ ap (λ (m : ℕ). followed_from (drawn_by_sums d) (i + 1) n (followed (drawn_by_sums d) m i (summed ps))) (sym (summed_length pen_down ps))
+    let now = with_link_followed (drawn_position d) (length ps) i ps in
+    from_seen d n (i + 1) now ∙ ap (with_links_followed_from (drawn_by_sums d) (i + 1) n) (followed_seen d (length ps) i ps)
+    ∙ ap (λ (m : ℕ). with_links_followed_from (drawn_by_sums d) (i + 1) n (with_link_followed (drawn_by_sums d) m i (advance_sums ps))) (sym (summed_length pen_down ps))
 
-all_seen : (d : Direction) (ps : List Position) → summed (all_followed (drawn_position d) ps) ≡ all_followed (drawn_by_sums d) (summed ps)
-all_seen d ps = from_seen d (length ps) 0 ps ∙ ap (λ (m : ℕ). followed_from (drawn_by_sums d) 0 m (summed ps)) (sym (summed_length pen_down ps))
+all_seen : (d : Direction) (ps : List Position) → advance_sums (with_links_followed (drawn_position d) ps) ≡ with_links_followed (drawn_by_sums d) (advance_sums ps)
+all_seen d ps = from_seen d (length ps) 0 ps ∙ ap (λ (m : ℕ). with_links_followed_from (drawn_by_sums d) 0 m (advance_sums ps)) (sym (summed_length pen_down ps))
 
 -- ---- taken apart again
 
@@ -295,10 +295,10 @@ first_advance a x e = minus_same (plus a x) (a +ℤ x) a a (twice (a +ℤ x)) re
     rest : (a x : ℤ) → (a +ℤ x) -ℤ a ≡ x
     rest a x = omega (arith, ints)
 
-apart_summed : (p : Pen) (ps : List Position) → AllFit ps → apart_from p (summed_from p ps) ≡ ps
+apart_summed : (p : Pen) (ps : List Position) → AllFit ps → advances_of_sums_from p (advance_sums_from p ps) ≡ ps
 apart_summed p [] fit = refl
 apart_summed p (x ∷ xs) fit =
-    let rest = apart_from (pen_after p x) (summed_from (pen_after p x) xs) in
+    let rest = advances_of_sums_from (pen_after p x) (advance_sums_from (pen_after p x) xs) in
     ap (λ (z : ℤ). record x { x_advance = z; y_advance = minus (plus p.y x.y_advance) p.y } ∷ rest) (first_advance p.x x.x_advance (fit 0).0)
     ∙ ap (λ (z : ℤ). record x { y_advance = z } ∷ rest) (first_advance p.y x.y_advance (fit 0).1)
     ∙ ap (λ ys. x ∷ ys) (apart_summed (pen_after p x) xs (λ k. fit (suc k)))
@@ -306,12 +306,12 @@ apart_summed p (x ∷ xs) fit =
 -- advances stay, so that they fit
 fits_seen : (ps qs : List Position) → map only_advances qs ≡ map only_advances ps → AllFit ps → AllFit qs
 fits_seen ps qs e fit k =
-    let same : only_advances (position_at k qs) ≡ only_advances (position_at k ps) = sym (seen_at only_advances qs k zero_position) ∙ ap (λ xs. get_or xs k zero_position) e ∙ seen_at only_advances ps k zero_position in
+    let same : only_advances (position_at k qs) ≡ only_advances (position_at k ps) = sym (get_or_mapped only_advances qs k zero_position) ∙ ap (λ xs. get_or xs k zero_position) e ∙ get_or_mapped only_advances ps k zero_position in
     subst (λ (p : Position). Fits p) (sym same) (fit k)
 
-pub finished_by_sums : (d : Direction) (ps qs rs ts : List Position) → AllFit ps → qs ≡ summed (kinds_tested ps) → rs ≡ all_followed (drawn_by_sums d) qs → ts ≡ taken_apart rs → ts ≡ finished d ps
+pub finished_by_sums : (d : Direction) (ps qs rs ts : List Position) → AllFit ps → qs ≡ advance_sums (kinds_tested ps) → rs ≡ with_links_followed (drawn_by_sums d) qs → ts ≡ advances_of_sums rs → ts ≡ finished_positions d ps
 finished_by_sums d ps qs rs ts fit e f g =
-    g ∙ ap taken_apart (f ∙ ap (all_followed (drawn_by_sums d)) e ∙ sym (all_seen d (kinds_tested ps))) ∙ apart_summed pen_down (finished d ps) (fits_seen ps (finished d ps) (finished_advances d ps) fit)
+    g ∙ ap advances_of_sums (f ∙ ap (with_links_followed (drawn_by_sums d)) e ∙ sym (all_seen d (kinds_tested ps))) ∙ apart_summed pen_down (finished_positions d ps) (fits_seen ps (finished_positions d ps) (finished_advances d ps) fit)
 
 -- ---- links of a kind alone
 
@@ -325,6 +325,6 @@ tested_closed p = by_kind (has_kind p) refl
     by_kind true e = ap (λ (c : Bool). c && is_link p.attach_chain) (kind_is_small p.attach_type e)
     by_kind false e = unlinked_closed p
 
-pub summed_shut : (ps qs : List Position) → qs ≡ summed (kinds_tested ps) → are_shut qs
+pub summed_shut : (ps qs : List Position) → qs ≡ advance_sums (kinds_tested ps) → are_shut qs
 summed_shut ps qs e k =
-    ap (λ (xs : List Position). is_open (position_at k xs)) e ∙ ap is_open (summed_rest pen_down k (kinds_tested ps)) ∙ ap is_open (seen_at kind_tested ps k zero_position) ∙ tested_closed (position_at k ps)
+    ap (λ (xs : List Position). is_open (position_at k xs)) e ∙ ap is_open (summed_rest pen_down k (kinds_tested ps)) ∙ ap is_open (get_or_mapped kind_tested ps k zero_position) ∙ tested_closed (position_at k ps)

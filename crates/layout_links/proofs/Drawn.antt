@@ -5,13 +5,13 @@ use Rattle.std.specs.List.{fold}
 use Rattle.std.proofs.lemmas.Bool.Decides.{eqb_tells}
 use Rattle.std.proofs.lemmas.List.{map-set, length-set, get_or-set_same, set-get_or}
 use Rattle.buffer_glyphs.specs.Items.{Position, zero_position}
-use Rattle.buffer_glyphs.specs.Lists.{seen_at}
+use Rattle.buffer_glyphs.specs.Lists.{get_or_mapped}
 use Rattle.buffer_glyphs.specs.Lemmas.Origins.{slice_seen}
 use Rattle.buffer_common.specs.declared.direction.Direction.{Direction}
 use Rattle.buffer_common.specs.Direction.{is_forward, is_horizontal}
-use Rattle.layout_links.specs.Links.{unlinked, offset_by, back_over, on_over, mark_drawn, child_drawn, drawn_position, hung, hung_on, followed, followed_from, all_followed, kinds_tested}
-use Rattle.layout_offsets.specs.Links.{position_at, linked, parent, without_link}
-use Rattle.layout_links.specs.Trees.{HaveDepths, only_advances, drawn_from, final, AreDrawn, TreesAreDrawn, ArePartlyDrawn}
+use Rattle.layout_links.specs.Links.{with_link_cleared, offset_by, back_over, on_over, mark_drawn, child_drawn, drawn_position, with_child_drawn, with_parent_drawn, with_link_followed, with_links_followed_from, with_links_followed, kinds_tested}
+use Rattle.layout_offsets.specs.Links.{position_at, link_target, parent, without_link}
+use Rattle.layout_links.specs.Trees.{HaveDepths, only_advances, position_drawn_from, final, AreDrawn, TreesAreDrawn, ArePartlyDrawn}
 use Rattle.layout_offsets.proofs.Lemmas.Linked.{linked_there}
 use Rattle.layout_links.proofs.Going.{followed_step, elsewhere}
 
@@ -72,7 +72,7 @@ drawn_chain d i j ps = elim ((position_at i ps).attach_type == 2) as (λ b. (if 
 
 -- a place is written with another of the same advances
 pub set_advances : (i : ℕ) (p : Position) (ps : List Position) → only_advances p ≡ only_advances (position_at i ps) → map only_advances (set ps i p) ≡ map only_advances ps
-set_advances i p ps e = map-set only_advances ps i p ∙ ap (λ (q : Position). set (map only_advances ps) i q) (e ∙ sym (seen_at only_advances ps i zero_position)) ∙ set-get_or (map only_advances ps) i zero_position
+set_advances i p ps e = map-set only_advances ps i p ∙ ap (λ (q : Position). set (map only_advances ps) i q) (e ∙ sym (get_or_mapped only_advances ps i zero_position)) ∙ set-get_or (map only_advances ps) i zero_position
 
 pub position_here : (i : ℕ) (p : Position) (ps : List Position) → i < length ps → position_at i (set ps i p) ≡ p
 position_here i p ps lt = get_or-set_same ps i p zero_position lt
@@ -83,7 +83,7 @@ position_here i p ps lt = get_or-set_same ps i p zero_position lt
 final_elsewhere : (d : Direction) (recorded recorded' now : List Position) (i k : ℕ) (p : Position) (o : Option ℕ)
     → length now ≡ length recorded → k < length recorded → k ≢ i → position_at k recorded' ≡ position_at k recorded → only_advances p ≡ only_advances (position_at i now)
     → ((j : ℕ) → o ≡ Some j → (j ≢ i) × (j ≢ k))
-    → drawn_from d recorded' (set now i p) k o ≡ drawn_from d recorded now k o
+    → position_drawn_from d recorded' (set now i p) k o ≡ position_drawn_from d recorded now k o
 final_elsewhere d recorded recorded' now i k p None long lt other same e apart = ap without_link same
 final_elsewhere d recorded recorded' now i k p (Some j) long lt other same e apart =
     let r = without_link (position_at k recorded) in
@@ -99,13 +99,13 @@ final_elsewhere d recorded recorded' now i k p (Some j) long lt other same e apa
 -- ---- links
 
 parent_elsewhere : (i k : ℕ) (p : Position) (ps : List Position) → k ≢ i → parent k (set ps i p) ≡ parent k ps
-parent_elsewhere i k p ps other = ap (λ (n : ℕ). linked n k (position_at k (set ps i p)).attach_chain) (length-set ps i p) ∙ ap (λ (q : Position). linked (length ps) k q.attach_chain) (elsewhere i k p ps other)
+parent_elsewhere i k p ps other = ap (λ (n : ℕ). link_target n k (position_at k (set ps i p)).attach_chain) (length-set ps i p) ∙ ap (λ (q : Position). link_target (length ps) k q.attach_chain) (elsewhere i k p ps other)
 
 parent_none : (i : ℕ) (ps : List Position) → (position_at i ps).attach_chain ≡ pos 0 → parent i ps ≡ None
-parent_none i ps e = ap (linked (length ps) i) e
+parent_none i ps e = ap (link_target (length ps) i) e
 
-parent_unlinked : (i : ℕ) (ps : List Position) → i < length ps → parent i (unlinked i ps) ≡ None
-parent_unlinked i ps lt = parent_none i (unlinked i ps) (ap (λ (p : Position). p.attach_chain) (position_here i (without_link (position_at i ps)) ps lt))
+parent_unlinked : (i : ℕ) (ps : List Position) → i < length ps → parent i (with_link_cleared i ps) ≡ None
+parent_unlinked i ps lt = parent_none i (with_link_cleared i ps) (ap (λ (p : Position). p.attach_chain) (position_here i (without_link (position_at i ps)) ps lt))
 
 none_or_some : {P : Type 0} (j : ℕ) (o : Option ℕ) → o ≡ None → o ≡ Some j → P
 none_or_some j o e f = absurd (let both : None ≡ Some j = sym e ∙ f in cc)
@@ -113,10 +113,10 @@ none_or_some j o e f = absurd (let both : None ≡ Some j = sym e ∙ f in cc)
 pub AreLesser : (ℕ → ℕ) → List Position → Type 0
 AreLesser depth ps = (k j : ℕ) → parent k ps ≡ Some j → depth j < depth k
 
-lesser_unlinked : (depth : ℕ → ℕ) (i : ℕ) (ps : List Position) → i < length ps → AreLesser depth ps → AreLesser depth (unlinked i ps)
+lesser_unlinked : (depth : ℕ → ℕ) (i : ℕ) (ps : List Position) → i < length ps → AreLesser depth ps → AreLesser depth (with_link_cleared i ps)
 unfolding AreLesser
 lesser_unlinked depth i ps lt lesser k j e = elim (eqb_tells k i) [
-  | inl is ↦ none_or_some j (parent k (unlinked i ps)) (ap (λ (m : ℕ). parent m (unlinked i ps)) is.1 ∙ parent_unlinked i ps lt) e
+  | inl is ↦ none_or_some j (parent k (with_link_cleared i ps)) (ap (λ (m : ℕ). parent m (with_link_cleared i ps)) is.1 ∙ parent_unlinked i ps lt) e
   | inr other ↦ lesser k j (sym (parent_elsewhere i k (without_link (position_at i ps)) ps other.1) ∙ e)
 ]
 
@@ -124,11 +124,11 @@ same_without : (p : Position) → p.attach_chain ≡ pos 0 → without_link p �
 same_without p e = ap (λ (z : ℤ). record p { attach_chain = z }) (sym e)
 
 -- a glyph without a link stays, and all others
-pub followed_linkless : (d : Direction) (fuel next i : ℕ) (ps : List Position) → fuel ≡ suc next → (position_at i ps).attach_chain ≡ pos 0 → followed (drawn_position d) fuel i ps ≡ ps
+pub followed_linkless : (d : Direction) (fuel next i : ℕ) (ps : List Position) → fuel ≡ suc next → (position_at i ps).attach_chain ≡ pos 0 → with_link_followed (drawn_position d) fuel i ps ≡ ps
 followed_linkless d fuel next i ps is e =
-    followed_step (drawn_position d) fuel next i ps is ∙ ap (λ (o : Option ℕ). hung_on (drawn_position d) (followed (drawn_position d) next) i o ps) (parent_none i ps e) ∙ ap (λ (p : Position). set ps i p) (same_without (position_at i ps) e) ∙ set-get_or ps i zero_position
+    followed_step (drawn_position d) fuel next i ps is ∙ ap (λ (o : Option ℕ). with_parent_drawn (drawn_position d) (with_link_followed (drawn_position d) next) i o ps) (parent_none i ps e) ∙ ap (λ (p : Position). set ps i p) (same_without (position_at i ps) e) ∙ set-get_or ps i zero_position
 
-final_chain : (d : Direction) (recorded now : List Position) (k : ℕ) (o : Option ℕ) → k < length now → (drawn_from d recorded now k o).attach_chain ≡ pos 0
+final_chain : (d : Direction) (recorded now : List Position) (k : ℕ) (o : Option ℕ) → k < length now → (position_drawn_from d recorded now k o).attach_chain ≡ pos 0
 final_chain d recorded now k None lt = refl
 final_chain d recorded now k (Some j) lt =
     let r = without_link (position_at k recorded) in
@@ -160,7 +160,7 @@ record IsDrawnWith (d : Direction) (recorded result : List Position) (done : ℕ
 
 -- a glyph is drawn, once that is drawn which it is attached to: `before` is the list that it is attached to nothing in
 drawn_more : (d : Direction) (recorded before now : List Position) (i : ℕ) (p : Position) (done : ℕ → Bool)
-    → i < length recorded → before ≡ unlinked i recorded → ArePartlyDrawn d before now done → done i ≡ false
+    → i < length recorded → before ≡ with_link_cleared i recorded → ArePartlyDrawn d before now done → done i ≡ false
     → only_advances p ≡ only_advances (position_at i now)
     → p ≡ final d recorded (set now i p) i
     → ((j : ℕ) → parent i recorded ≡ Some j → done j ≡ true)
@@ -188,7 +188,7 @@ drawn_more d recorded before now i p done lt is partly undone same drawn_here pa
         | inr other ↦
             let done_k = sym (marked_else i k done other.1) ∙ e in
             let lt_before : k < length before = omega (arith, len_before, lt_k) in
-            let there : position_at k now ≡ drawn_from d before now k (parent k recorded) = partly.drawn k lt_before done_k ∙ ap (drawn_from d before now k) (parent_before k other.1) in
+            let there : position_at k now ≡ position_drawn_from d before now k (parent k recorded) = partly.drawn k lt_before done_k ∙ ap (position_drawn_from d before now k) (parent_before k other.1) in
             elsewhere i k p now other.1 ∙ there ∙ sym (final_elsewhere d before recorded now i k p (parent k recorded) partly.long lt_before other.1 (sym (same_before k other.1)) same
             (λ j f. (undone_other j (partly.closed k j done_k (parent_before k other.1 ∙ f)), apart k j f)))
       ];
@@ -200,7 +200,7 @@ drawn_more d recorded before now i p done lt is partly undone same drawn_here pa
 
 -- ---- one glyph followed
 
-unlinked_partly : (d : Direction) (recorded now : List Position) (i : ℕ) (done : ℕ → Bool) → i < length recorded → done i ≡ false → ArePartlyDrawn d recorded now done → ((k j : ℕ) → parent k recorded ≡ Some j → j ≢ k) → ArePartlyDrawn d (unlinked i recorded) (unlinked i now) done
+unlinked_partly : (d : Direction) (recorded now : List Position) (i : ℕ) (done : ℕ → Bool) → i < length recorded → done i ≡ false → ArePartlyDrawn d recorded now done → ((k j : ℕ) → parent k recorded ≡ Some j → j ≢ k) → ArePartlyDrawn d (with_link_cleared i recorded) (with_link_cleared i now) done
 unlinked_partly d recorded now i done lt undone partly apart =
     let r = without_link (position_at i recorded) in
     let q = without_link (position_at i now) in
@@ -213,15 +213,15 @@ unlinked_partly d recorded now i done lt undone partly apart =
       long = length-set now i q ∙ long ∙ sym len;
       advances = set_advances i q now refl ∙ partly.advances ∙ sym (set_advances i r recorded refl);
       kept = λ k e. elim (eqb_tells k i) [
-        | inl is ↦ ap (λ (m : ℕ). position_at m (unlinked i now)) is.1 ∙ position_here i q now within ∙ ap without_link kept_here ∙ sym (position_here i r recorded lt) ∙ ap (λ (m : ℕ). position_at m (unlinked i recorded)) (sym is.1)
+        | inl is ↦ ap (λ (m : ℕ). position_at m (with_link_cleared i now)) is.1 ∙ position_here i q now within ∙ ap without_link kept_here ∙ sym (position_here i r recorded lt) ∙ ap (λ (m : ℕ). position_at m (with_link_cleared i recorded)) (sym is.1)
         | inr other ↦ elsewhere i k q now other.1 ∙ partly.kept k e ∙ sym (elsewhere i k r recorded other.1)
       ];
       drawn = λ k lt_k e.
           let other = undone_other k e in
           let lt_rec : k < length recorded = omega (arith, len, lt_k) in
           elsewhere i k q now other ∙ partly.drawn k lt_rec e
-          ∙ sym (ap (drawn_from d (unlinked i recorded) (unlinked i now) k) (parent_elsewhere i k r recorded other)
-          ∙ final_elsewhere d recorded (unlinked i recorded) now i k q (parent k recorded) long lt_rec other (elsewhere i k r recorded other) refl (λ j f. (undone_other j (partly.closed k j e f), apart k j f)));
+          ∙ sym (ap (position_drawn_from d (with_link_cleared i recorded) (with_link_cleared i now) k) (parent_elsewhere i k r recorded other)
+          ∙ final_elsewhere d recorded (with_link_cleared i recorded) now i k q (parent k recorded) long lt_rec other (elsewhere i k r recorded other) refl (λ j f. (undone_other j (partly.closed k j e f), apart k j f)));
       closed = λ k j e f. partly.closed k j e (sym (parent_elsewhere i k r recorded (undone_other k e)) ∙ f);
     }
 
@@ -239,12 +239,12 @@ false_or false n = refl
 
 follow_partly : (d : Direction) (depth : ℕ → ℕ) (fuel i : ℕ) (recorded now : List Position) (done : ℕ → Bool)
     → AreLesser depth recorded → depth i < fuel → i < length recorded → ArePartlyDrawn d recorded now done
-    → IsDrawnWith d recorded (followed (drawn_position d) fuel i now) done depth i
+    → IsDrawnWith d recorded (with_link_followed (drawn_position d) fuel i now) done depth i
 unfolding AreLesser
 follow_partly d depth zero i recorded now done lesser low lt partly = absurd (omega (arith, low))
 follow_partly d depth (suc fuel) i recorded now done lesser low lt partly = by_done (done i) refl (λ j rs xs m a b c p. follow_partly d depth fuel j rs xs m a b c p)
   where
-    by_done : (b : Bool) → done i ≡ b → ((j : ℕ) (rs xs : List Position) (m : ℕ → Bool) → AreLesser depth rs → depth j < fuel → j < length rs → ArePartlyDrawn d rs xs m → IsDrawnWith d rs (followed (drawn_position d) fuel j xs) m depth j) → IsDrawnWith d recorded (followed (drawn_position d) (suc fuel) i now) done depth i
+    by_done : (b : Bool) → done i ≡ b → ((j : ℕ) (rs xs : List Position) (m : ℕ → Bool) → AreLesser depth rs → depth j < fuel → j < length rs → ArePartlyDrawn d rs xs m → IsDrawnWith d rs (with_link_followed (drawn_position d) fuel j xs) m depth j) → IsDrawnWith d recorded (with_link_followed (drawn_position d) (suc fuel) i now) done depth i
     by_done true e before_it =
         let long = partly.long in
         let within : i < length now = omega (arith, long, lt) in
@@ -257,23 +257,23 @@ follow_partly d depth (suc fuel) i recorded now done lesser low lt partly = by_d
         here_now = partly.kept i e
 
         parent_now : parent i now ≡ parent i recorded
-        parent_now = ap (λ (n : ℕ). linked n i (position_at i now).attach_chain) partly.long ∙ ap (λ (p : Position). linked (length recorded) i p.attach_chain) here_now
+        parent_now = ap (λ (n : ℕ). link_target n i (position_at i now).attach_chain) partly.long ∙ ap (λ (p : Position). link_target (length recorded) i p.attach_chain) here_now
 
         own : (k j : ℕ) → parent k recorded ≡ Some j → j ≢ k
         own = never_own depth recorded lesser
 
-        by_parent : (o : Option ℕ) → parent i recorded ≡ o → IsDrawnWith d recorded (followed (drawn_position d) (suc fuel) i now) done depth i
+        by_parent : (o : Option ℕ) → parent i recorded ≡ o → IsDrawnWith d recorded (with_link_followed (drawn_position d) (suc fuel) i now) done depth i
         by_parent None f =
-            let unlinked_is : followed (drawn_position d) (suc fuel) i now ≡ unlinked i now = followed_step (drawn_position d) (suc fuel) fuel i now refl ∙ ap (λ (o : Option ℕ). hung_on (drawn_position d) (followed (drawn_position d) fuel) i o now) (parent_now ∙ f) in
+            let unlinked_is : with_link_followed (drawn_position d) (suc fuel) i now ≡ with_link_cleared i now = followed_step (drawn_position d) (suc fuel) fuel i now refl ∙ ap (λ (o : Option ℕ). with_parent_drawn (drawn_position d) (with_link_followed (drawn_position d) fuel) i o now) (parent_now ∙ f) in
             let q = without_link (position_at i now) in
-            let before = unlinked i recorded in
+            let before = with_link_cleared i recorded in
             let mid = unlinked_partly d recorded now i done lt e partly own in
             let long = partly.long in
             let within : i < length now = omega (arith, long, lt) in
-            let mid_here : position_at i (unlinked i now) ≡ q = position_here i q now within in
-            let is_final : q ≡ final d recorded (set (unlinked i now) i q) i = ap without_link here_now ∙ sym (ap (drawn_from d recorded (set (unlinked i now) i q) i) f) in
-            let more_drawn = drawn_more d recorded before (unlinked i now) i q done lt refl mid e (ap only_advances (sym mid_here)) is_final (λ j g. none_or_some j (parent i recorded) f g) own in
-            let written : set (unlinked i now) i q ≡ unlinked i now = ap (λ (p : Position). set (unlinked i now) i p) (sym mid_here) ∙ set-get_or (unlinked i now) i zero_position in
+            let mid_here : position_at i (with_link_cleared i now) ≡ q = position_here i q now within in
+            let is_final : q ≡ final d recorded (set (with_link_cleared i now) i q) i = ap without_link here_now ∙ sym (ap (position_drawn_from d recorded (set (with_link_cleared i now) i q) i) f) in
+            let more_drawn = drawn_more d recorded before (with_link_cleared i now) i q done lt refl mid e (ap only_advances (sym mid_here)) is_final (λ j g. none_or_some j (parent i recorded) f g) own in
+            let written : set (with_link_cleared i now) i q ≡ with_link_cleared i now = ap (λ (p : Position). set (with_link_cleared i now) i p) (sym mid_here) ∙ set-get_or (with_link_cleared i now) i zero_position in
             subst (λ (xs : List Position). IsDrawnWith d recorded xs done depth i) (sym unlinked_is)
             record {
               marks = marked i done;
@@ -283,19 +283,19 @@ follow_partly d depth (suc fuel) i recorded now done lesser low lt partly = by_d
               only = λ k g. elim (eqb_tells k i) [ inl is ↦ inr (let same = ap depth is.1 in omega (arith, same)) | inr other ↦ inl (sym (marked_else i k done other.1) ∙ g) ];
             }
         by_parent (Some j) f =
-            let step : followed (drawn_position d) (suc fuel) i now ≡ hung (drawn_position d) i j (followed (drawn_position d) fuel j (unlinked i now)) = followed_step (drawn_position d) (suc fuel) fuel i now refl ∙ ap (λ (o : Option ℕ). hung_on (drawn_position d) (followed (drawn_position d) fuel) i o now) (parent_now ∙ f) in
-            let before = unlinked i recorded in
+            let step : with_link_followed (drawn_position d) (suc fuel) i now ≡ with_child_drawn (drawn_position d) i j (with_link_followed (drawn_position d) fuel j (with_link_cleared i now)) = followed_step (drawn_position d) (suc fuel) fuel i now refl ∙ ap (λ (o : Option ℕ). with_parent_drawn (drawn_position d) (with_link_followed (drawn_position d) fuel) i o now) (parent_now ∙ f) in
+            let before = with_link_cleared i recorded in
             let r = without_link (position_at i recorded) in
             let len = length-set recorded i r in
             let lower : depth j < depth i = lesser i j f in
             let there = linked_there (length recorded) i (position_at i recorded).attach_chain j f in
             let mid = unlinked_partly d recorded now i done lt e partly own in
-            let first = before_it j before (unlinked i now) done (lesser_unlinked depth i recorded lt lesser) (omega (arith, low, lower)) (omega (arith, len, there.0)) mid in
+            let first = before_it j before (with_link_cleared i now) done (lesser_unlinked depth i recorded lt lesser) (omega (arith, low, lower)) (omega (arith, len, there.0)) mid in
             at_parent j f step first lower
           where
-            at_parent : (j : ℕ) → parent i recorded ≡ Some j → followed (drawn_position d) (suc fuel) i now ≡ hung (drawn_position d) i j (followed (drawn_position d) fuel j (unlinked i now)) → IsDrawnWith d (unlinked i recorded) (followed (drawn_position d) fuel j (unlinked i now)) done depth j → depth j < depth i → IsDrawnWith d recorded (followed (drawn_position d) (suc fuel) i now) done depth i
+            at_parent : (j : ℕ) → parent i recorded ≡ Some j → with_link_followed (drawn_position d) (suc fuel) i now ≡ with_child_drawn (drawn_position d) i j (with_link_followed (drawn_position d) fuel j (with_link_cleared i now)) → IsDrawnWith d (with_link_cleared i recorded) (with_link_followed (drawn_position d) fuel j (with_link_cleared i now)) done depth j → depth j < depth i → IsDrawnWith d recorded (with_link_followed (drawn_position d) (suc fuel) i now) done depth i
             at_parent j f step first lower =
-                let now' = followed (drawn_position d) fuel j (unlinked i now) in
+                let now' = with_link_followed (drawn_position d) fuel j (with_link_cleared i now) in
                 let r = without_link (position_at i recorded) in
                 let len = length-set recorded i r in
                 let p = drawn_position d i j now' in
@@ -308,8 +308,8 @@ follow_partly d depth (suc fuel) i recorded now done lesser low lt partly = by_d
                 drawn_same d i j now' (set (set now' i p) i r) (here ∙ sym (position_here i r (set now' i p) (let l = length-set now' i p in omega (arith, l, within))))
                 (sym (elsewhere i j r (set now' i p) j_other ∙ elsewhere i j p now' j_other))
                 (sym (set_advances i r (set now' i p) (sym (ap only_advances (position_here i p now' within) ∙ drawn_advances d i j now' ∙ ap only_advances here)) ∙ set_advances i p now' (drawn_advances d i j now')))
-                ∙ sym (ap (drawn_from d recorded (set now' i p) i) f) in
-                let more_drawn = drawn_more d recorded (unlinked i recorded) now' i p first.marks lt refl first.partly undone (drawn_advances d i j now') is_final
+                ∙ sym (ap (position_drawn_from d recorded (set now' i p) i) f) in
+                let more_drawn = drawn_more d recorded (with_link_cleared i recorded) now' i p first.marks lt refl first.partly undone (drawn_advances d i j now') is_final
                 (λ m g. let same : Some m ≡ Some j = sym g ∙ f in let is : m ≡ j = cc in ap first.marks is ∙ first.here) own in
                 subst (λ (xs : List Position). IsDrawnWith d recorded xs done depth i) (sym step)
                 record {
@@ -330,7 +330,7 @@ record AreFollowed (d : Direction) (recorded now : List Position) (i : ℕ) : Ty
   partly : ArePartlyDrawn d recorded now marks
   each : (k : ℕ) → k < i → marks k ≡ true
 
-follow_all : (d : Direction) (depth : ℕ → ℕ) (recorded : List Position) → HaveDepths depth recorded → (n i : ℕ) (now : List Position) → i + n ≡ length recorded → AreFollowed d recorded now i → AreFollowed d recorded (followed_from (drawn_position d) i n now) (i + n)
+follow_all : (d : Direction) (depth : ℕ → ℕ) (recorded : List Position) → HaveDepths depth recorded → (n i : ℕ) (now : List Position) → i + n ≡ length recorded → AreFollowed d recorded now i → AreFollowed d recorded (with_links_followed_from (drawn_position d) i n now) (i + n)
 unfolding AreLesser
 follow_all d depth recorded have zero i now e a = let none : i ≡ i + 0 = omega arith in subst (λ (m : ℕ). AreFollowed d recorded now m) none a
 follow_all d depth recorded have (suc n) i now e a =
@@ -338,15 +338,15 @@ follow_all d depth recorded have (suc n) i now e a =
     let long = a.partly.long in
     let low = have.within i lt in
     let one = follow_partly d depth (length now) i recorded now a.marks have.lesser (omega (arith, long, low)) lt a.partly in
-    let next : AreFollowed d recorded (followed (drawn_position d) (length now) i now) (i + 1) = record {
+    let next : AreFollowed d recorded (with_link_followed (drawn_position d) (length now) i now) (i + 1) = record {
       marks = one.marks;
       partly = one.partly;
       each = λ k lt_k. elim (eqb_tells k i) [ inl is ↦ ap one.marks is.1 ∙ one.here | inr other ↦ one.more k (a.each k (let apart = other.1 in omega (arith, lt_k, apart))) ];
     } in
     let sum : i + 1 + n ≡ i + suc n = omega arith in
-    subst (λ (m : ℕ). AreFollowed d recorded (followed_from (drawn_position d) (i + 1) n (followed (drawn_position d) (length now) i now)) m) sum (follow_all d depth recorded have n (i + 1) (followed (drawn_position d) (length now) i now) (sum ∙ e) next)
+    subst (λ (m : ℕ). AreFollowed d recorded (with_links_followed_from (drawn_position d) (i + 1) n (with_link_followed (drawn_position d) (length now) i now)) m) sum (follow_all d depth recorded have n (i + 1) (with_link_followed (drawn_position d) (length now) i now) (sum ∙ e) next)
 
-pub each_is_drawn : (d : Direction) (depth : ℕ → ℕ) (ps : List Position) → HaveDepths depth ps → AreDrawn d ps (all_followed (drawn_position d) ps)
+pub each_is_drawn : (d : Direction) (depth : ℕ → ℕ) (ps : List Position) → HaveDepths depth ps → AreDrawn d ps (with_links_followed (drawn_position d) ps)
 each_is_drawn d depth ps have =
     let none : ArePartlyDrawn d ps ps (λ k. false) = record { long = refl; advances = refl; kept = λ k e. refl; drawn = λ k lt e. absurd (not_both false e refl); closed = λ k j e f. absurd (not_both false e refl) } in
     let all = follow_all d depth ps have (length ps) 0 ps (omega arith) (record { marks = λ k. false; partly = none; each = λ k lt. absurd (omega (arith, lt)) }) in

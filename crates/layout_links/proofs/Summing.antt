@@ -9,7 +9,7 @@ use Rattle.buffer_glyphs.specs.Items.{Position, zero_position}
 use Rattle.layout_links.specs.declared.sums.Pen.{Pen}
 use Rattle.layout_links.specs.Links.{kind_tested, kinds_tested}
 use Rattle.layout_offsets.specs.Links.{position_at}
-use Rattle.layout_links.specs.Sums.{Fits, AllFit, pen_down, pen_after, pen_of, pen_way, with_pen, summed_from, summed, apart_from, taken_apart}
+use Rattle.layout_links.specs.Sums.{Fits, AllFit, pen_down, pen_after, pen_of, pen_way, with_pen, advance_sums_from, advance_sums, advances_of_sums_from, advances_of_sums}
 use Rattle.layout_links.proofs.Lemmas.Summing.{IsSumming, IsParting}
 
 -- a list that is rewritten from its front
@@ -36,7 +36,7 @@ summing_more old i pen ps s lt fits =
     let p = kind_tested (position_at i ps) in
     let q = with_pen (pen_after pen p) p in
     record {
-      leads = step (λ pen xs. summed_from pen (kinds_tested xs)) pen (pen_after pen p) q i ps lt refl ∙ s.leads;
+      leads = step (λ pen xs. advance_sums_from pen (kinds_tested xs)) pen (pen_after pen p) q i ps lt refl ∙ s.leads;
       long = length-set ps i q ∙ s.long;
       left = λ k le. get_or-set_other ps i k q zero_position (omega (arith, le)) ∙ s.left k (omega (arith, le));
       fit = λ k lt_k. elim (eqb_tells k i) [
@@ -54,8 +54,8 @@ summing_next old i pen pen' ps p q s lt e fits f g =
     let at_q : q ≡ with_pen (pen_after pen r) r = g ∙ ap (λ (pen : Pen). with_pen pen p) pens ∙ ap (with_pen (pen_after pen r)) e in
     subst (λ (a : Position). IsSumming old (i + 1) pen' (set ps i a)) (sym at_q) (subst (λ (a : Pen). IsSumming old (i + 1) a (set ps i (with_pen (pen_after pen r) r))) (sym pens) there)
 
-pub summing_last : (old : List Position) (i : ℕ) (pen : Pen) (ps : List Position) → IsSumming old i pen ps → length ps ≤ i → ps ≡ summed (kinds_tested old)
-summing_last old i pen ps s le = sym (nothing_left (λ pen xs. summed_from pen (kinds_tested xs)) pen i ps refl le) ∙ s.leads
+pub summing_last : (old : List Position) (i : ℕ) (pen : Pen) (ps : List Position) → IsSumming old i pen ps → length ps ≤ i → ps ≡ advance_sums (kinds_tested old)
+summing_last old i pen ps s le = sym (nothing_left (λ pen xs. advance_sums_from pen (kinds_tested xs)) pen i ps refl le) ∙ s.leads
 
 zero_fits : int_wrap w32 (pos 0) ≡ pos 0
 zero_fits = int_wrap_fits w32 (pos 0) (fits_signed_from_abs w32 (pos 0) (pow_pos 31))
@@ -79,7 +79,7 @@ pub parting_next : (old : List Position) (i : ℕ) (pen : Pen) (ps : List Positi
 parting_next old i pen ps s lt =
     let p = position_at i ps in
     let q = with_pen (pen_way pen (pen_of p)) p in
-    record { leads = step apart_from pen (pen_of p) q i ps lt refl ∙ s.leads; long = length-set ps i q ∙ s.long }
+    record { leads = step advances_of_sums_from pen (pen_of p) q i ps lt refl ∙ s.leads; long = length-set ps i q ∙ s.long }
 
-pub parting_last : (old : List Position) (i : ℕ) (pen : Pen) (ps : List Position) → IsParting old i pen ps → length ps ≤ i → ps ≡ taken_apart old
-parting_last old i pen ps s le = sym (nothing_left apart_from pen i ps refl le) ∙ s.leads
+pub parting_last : (old : List Position) (i : ℕ) (pen : Pen) (ps : List Position) → IsParting old i pen ps → length ps ≤ i → ps ≡ advances_of_sums old
+parting_last old i pen ps s le = sym (nothing_left advances_of_sums_from pen i ps refl le) ∙ s.leads

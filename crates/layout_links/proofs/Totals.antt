@@ -7,13 +7,13 @@ use Rattle.std.proofs.lemmas.Bool.Decides.{eqb_tells}
 use Rattle.std.proofs.lemmas.Int.{ints, int_wrap_fits, SFits-int_wrap, int_wrap-add_same}
 use Rattle.std.proofs.lemmas.List.{take-append-drop, drop-drop, length-map}
 use Rattle.buffer_glyphs.specs.Items.{Position, zero_position}
-use Rattle.buffer_glyphs.specs.Lists.{seen_at}
+use Rattle.buffer_glyphs.specs.Lists.{get_or_mapped}
 use Rattle.buffer_glyphs.specs.Lemmas.Origins.{slice_seen}
 use Rattle.buffer_common.specs.declared.direction.Direction.{Direction}
 use Rattle.buffer_common.specs.Direction.{is_forward, is_horizontal}
-use Rattle.layout_links.specs.Links.{plus, minus, offset_by, back_over, on_over, mark_drawn, child_drawn, drawn_position, kind_tested, kinds_tested, all_followed, finished}
-use Rattle.layout_offsets.specs.Links.{position_at, parent, linked, without_link}
-use Rattle.layout_links.specs.Trees.{HaveDepths, only_advances, drawn_from}
+use Rattle.layout_links.specs.Links.{plus, minus, offset_by, back_over, on_over, mark_drawn, child_drawn, drawn_position, kind_tested, kinds_tested, with_links_followed, finished_positions}
+use Rattle.layout_offsets.specs.Links.{position_at, parent, link_target, without_link}
+use Rattle.layout_links.specs.Trees.{HaveDepths, only_advances, position_drawn_from}
 use Rattle.layout_links.specs.Marks.{total, pen, drawn_x, drawn_y, IsDrawnFrom, MarksAreDrawn}
 use Rattle.layout_links.proofs.Going.{elsewhere}
 use Rattle.layout_links.proofs.Drawn.{each_is_drawn, drawn_advances, set_advances, position_here, hangs_on_other}
@@ -142,16 +142,16 @@ not_cursive d i j ps n = elim (eqb_tells (position_at i ps).attach_type 2) [
 
 -- a glyph that is attached to another is there
 parent_within : (i j : ℕ) (ps : List Position) → parent i ps ≡ Some j → j < i → i < length ps
-parent_within i j ps e lt = in_list ps i (λ none. absurd (let both : None ≡ Some j = sym (ap (linked (length ps) i) (ap (λ (p : Position). p.attach_chain) none)) ∙ e in cc))
+parent_within i j ps e lt = in_list ps i (λ none. absurd (let both : None ≡ Some j = sym (ap (link_target (length ps) i) (ap (λ (p : Position). p.attach_chain) none)) ∙ e in cc))
   where
     in_list : (xs : List Position) (k : ℕ) → (position_at k xs ≡ position_at 0 [] → ⊥) → k < length xs
     in_list [] k n = absurd (n refl)
     in_list (x ∷ xs) zero n = omega arith
     in_list (x ∷ xs) (suc k) n = let lt = in_list xs k n in omega (arith, lt)
 
-each_mark_is_drawn : (d : Direction) (depth : ℕ → ℕ) (ps : List Position) → HaveDepths depth ps → (i j : ℕ) → parent i ps ≡ Some j → (position_at i ps).attach_type ≢ 2 → j < i → IsDrawnFrom d ps (all_followed (drawn_position d) ps) i j
+each_mark_is_drawn : (d : Direction) (depth : ℕ → ℕ) (ps : List Position) → HaveDepths depth ps → (i j : ℕ) → parent i ps ≡ Some j → (position_at i ps).attach_type ≢ 2 → j < i → IsDrawnFrom d ps (with_links_followed (drawn_position d) ps) i j
 each_mark_is_drawn d depth ps have i j e kind lt =
-    let new = all_followed (drawn_position d) ps in
+    let new = with_links_followed (drawn_position d) ps in
     let all = each_is_drawn d depth ps have in
     let r = without_link (position_at i ps) in
     let list = set new i r in
@@ -159,7 +159,7 @@ each_mark_is_drawn d depth ps have i j e kind lt =
     let within = parent_within i j ps e lt in
     let within_new : i < length new = omega (arith, long, within) in
     let here : position_at i list ≡ r = position_here i r new within_new in
-    let is_final : position_at i new ≡ drawn_position d i j list = all.each i within ∙ ap (drawn_from d ps new i) e in
+    let is_final : position_at i new ≡ drawn_position d i j list = all.each i within ∙ ap (position_drawn_from d ps new i) e in
     let kind_list : (position_at i list).attach_type ≢ 2 = λ is. kind (sym (ap (λ (p : Position). p.attach_type) here) ∙ is) in
     let is_mark : position_at i new ≡ mark_drawn (is_forward d) i j list = is_final ∙ not_cursive d i j list kind_list in
     let other : j ≢ i = hangs_on_other depth ps have i j e in
@@ -180,16 +180,16 @@ mark_tested : (p : Position) → p.attach_type ≡ 1 → kind_tested p ≡ p
 mark_tested p e = ap (λ (t : ℕ). if t == 1 || t == 2 then p else without_link p) e
 
 tested_at : (i : ℕ) (ps : List Position) → position_at i (kinds_tested ps) ≡ kind_tested (position_at i ps)
-tested_at i ps = seen_at kind_tested ps i zero_position
+tested_at i ps = get_or_mapped kind_tested ps i zero_position
 
 pub marks_are_drawn : MarksAreDrawn
 marks_are_drawn d depth ps have i j e kind lt =
     let same : position_at i (kinds_tested ps) ≡ position_at i ps = tested_at i ps ∙ mark_tested (position_at i ps) kind in
-    let linked_same : parent i (kinds_tested ps) ≡ parent i ps = ap (λ (n : ℕ). linked n i (position_at i (kinds_tested ps)).attach_chain) (length-map ps kind_tested) ∙ ap (λ (p : Position). linked (length ps) i p.attach_chain) same in
+    let linked_same : parent i (kinds_tested ps) ≡ parent i ps = ap (λ (n : ℕ). link_target n i (position_at i (kinds_tested ps)).attach_chain) (length-map ps kind_tested) ∙ ap (λ (p : Position). link_target (length ps) i p.attach_chain) same in
     let k = kind in
     let other : (position_at i (kinds_tested ps)).attach_type ≢ 2 = λ is. let f = ap (λ (p : Position). p.attach_type) same in absurd (omega (arith, k, is, f)) in
     let there = each_mark_is_drawn d depth (kinds_tested ps) have i j (linked_same ∙ e) other lt in
-    let new = finished d ps in
+    let new = finished_positions d ps in
     record {
       x = there.x ∙ ap (λ (p : Position). int_wrap w32 (drawn_x d j new +ℤ p.x_offset)) same;
       y = there.y ∙ ap (λ (p : Position). int_wrap w32 (drawn_y d j new +ℤ p.y_offset)) same;

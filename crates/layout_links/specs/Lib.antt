@@ -1,7 +1,7 @@
 pub mod Links
 pub mod Trees
 pub mod Marks
-pub mod Kept
+pub mod Finished
 pub mod Finishing
 pub mod Sums
 pub mod Walks

@@ -20,8 +20,8 @@ abbrev pub kinds_tested : List Position → List Position
 kinds_tested ps = map kind_tested ps
 
 -- a glyph's link is cleared
-abbrev pub unlinked : ℕ → List Position → List Position
-unlinked i ps = set ps i (without_link (position_at i ps))
+abbrev pub with_link_cleared : ℕ → List Position → List Position
+with_link_cleared i ps = set ps i (without_link (position_at i ps))
 
 -- both offsets of a parent are added
 abbrev pub offset_by : Position → Position → Position
@@ -55,28 +55,28 @@ abbrev pub Drawing : Type 0
 Drawing = ℕ → ℕ → List Position → Position
 
 -- glyph i drawn from glyph j, in a list
-abbrev pub hung : Drawing → ℕ → ℕ → List Position → List Position
-hung draw i j ps = set ps i (draw i j ps)
+abbrev pub with_child_drawn : Drawing → ℕ → ℕ → List Position → List Position
+with_child_drawn draw i j ps = set ps i (draw i j ps)
 
 -- a glyph without its link is drawn once its parent is
-abbrev pub hung_on : Drawing → (ℕ → List Position → List Position) → ℕ → Option ℕ → List Position → List Position
-hung_on draw follow i None ps = unlinked i ps
-hung_on draw follow i (Some j) ps = hung draw i j (follow j (unlinked i ps))
+abbrev pub with_parent_drawn : Drawing → (ℕ → List Position → List Position) → ℕ → Option ℕ → List Position → List Position
+with_parent_drawn draw follow i None ps = with_link_cleared i ps
+with_parent_drawn draw follow i (Some j) ps = with_child_drawn draw i j (follow j (with_link_cleared i ps))
 
 -- a glyph drawn with all glyphs that it is attached to, over at most so many links
-unfoldable pub followed : Drawing → ℕ → ℕ → List Position → List Position
-followed draw zero i ps = ps
-followed draw (suc fuel) i ps = hung_on draw (followed draw fuel) i (parent i ps) ps
+unfoldable pub with_link_followed : Drawing → ℕ → ℕ → List Position → List Position
+with_link_followed draw zero i ps = ps
+with_link_followed draw (suc fuel) i ps = with_parent_drawn draw (with_link_followed draw fuel) i (parent i ps) ps
 
 -- of n positions those from i on drawn, one after another
-abbrev pub followed_from : Drawing → ℕ → ℕ → List Position → List Position
-followed_from draw i zero ps = ps
-followed_from draw i (suc n) ps = followed_from draw (i + 1) n (followed draw (length ps) i ps)
+abbrev pub with_links_followed_from : Drawing → ℕ → ℕ → List Position → List Position
+with_links_followed_from draw i zero ps = ps
+with_links_followed_from draw i (suc n) ps = with_links_followed_from draw (i + 1) n (with_link_followed draw (length ps) i ps)
 
 -- all positions drawn
-abbrev pub all_followed : Drawing → List Position → List Position
-all_followed draw ps = followed_from draw 0 (length ps) ps
+abbrev pub with_links_followed : Drawing → List Position → List Position
+with_links_followed draw ps = with_links_followed_from draw 0 (length ps) ps
 
 -- all glyphs drawn from where their links lead
-abbrev pub finished : Direction → List Position → List Position
-finished d ps = all_followed (drawn_position d) (kinds_tested ps)
+abbrev pub finished_positions : Direction → List Position → List Position
+finished_positions d ps = with_links_followed (drawn_position d) (kinds_tested ps)

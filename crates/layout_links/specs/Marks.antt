@@ -4,7 +4,7 @@ use Rattle.std.specs.Int.{int_wrap, w32}
 use Rattle.buffer_glyphs.specs.Items.{Position}
 use Rattle.buffer_common.specs.declared.direction.Direction.{Direction}
 use Rattle.buffer_common.specs.Direction.{is_forward}
-use Rattle.layout_links.specs.Links.{kinds_tested, finished}
+use Rattle.layout_links.specs.Links.{kinds_tested, finished_positions}
 use Rattle.layout_offsets.specs.Links.{position_at, parent}
 use Rattle.layout_links.specs.Trees.{HaveDepths}
 
@@ -33,4 +33,4 @@ pub record IsDrawnFrom (d : Direction) (recorded drawn : List Position) (i j : �
 
 -- each mark that is linked backward is drawn so, where links form no cycle
 abbrev pub MarksAreDrawn : Type 0
-MarksAreDrawn = (d : Direction) (depth : ℕ → ℕ) (ps : List Position) → HaveDepths depth (kinds_tested ps) → (i j : ℕ) → parent i ps ≡ Some j → (position_at i ps).attach_type ≡ 1 → j < i → IsDrawnFrom d ps (finished d ps) i j
+MarksAreDrawn = (d : Direction) (depth : ℕ → ℕ) (ps : List Position) → HaveDepths depth (kinds_tested ps) → (i j : ℕ) → parent i ps ≡ Some j → (position_at i ps).attach_type ≡ 1 → j < i → IsDrawnFrom d ps (finished_positions d ps) i j

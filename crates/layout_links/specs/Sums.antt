@@ -25,26 +25,26 @@ abbrev pub with_pen : Pen → Position → Position
 with_pen pen p = record p { x_advance = pen.x; y_advance = pen.y }
 
 -- each advance replaced by the sum up to it
-abbrev pub summed_from : Pen → List Position → List Position
-summed_from pen [] = []
-summed_from pen (p ∷ ps) = with_pen (pen_after pen p) p ∷ summed_from (pen_after pen p) ps
+abbrev pub advance_sums_from : Pen → List Position → List Position
+advance_sums_from pen [] = []
+advance_sums_from pen (p ∷ ps) = with_pen (pen_after pen p) p ∷ advance_sums_from (pen_after pen p) ps
 
 -- all advances replaced by the sums up to them
-abbrev pub summed : List Position → List Position
-summed ps = summed_from pen_down ps
+abbrev pub advance_sums : List Position → List Position
+advance_sums ps = advance_sums_from pen_down ps
 
 -- the distance from one pen to another
 abbrev pub pen_way : Pen → Pen → Pen
 pen_way from to = record { x = minus to.x from.x; y = minus to.y from.y }
 
 -- each sum replaced by the difference from the one before
-abbrev pub apart_from : Pen → List Position → List Position
-apart_from pen [] = []
-apart_from pen (p ∷ ps) = with_pen (pen_way pen (pen_of p)) p ∷ apart_from (pen_of p) ps
+abbrev pub advances_of_sums_from : Pen → List Position → List Position
+advances_of_sums_from pen [] = []
+advances_of_sums_from pen (p ∷ ps) = with_pen (pen_way pen (pen_of p)) p ∷ advances_of_sums_from (pen_of p) ps
 
 -- all sums replaced by their differences
-abbrev pub taken_apart : List Position → List Position
-taken_apart ps = apart_from pen_down ps
+abbrev pub advances_of_sums : List Position → List Position
+advances_of_sums ps = advances_of_sums_from pen_down ps
 
 -- the pen before a glyph, among sums
 abbrev pub pen_before : ℕ → List Position → Pen

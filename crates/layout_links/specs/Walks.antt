@@ -3,7 +3,7 @@
 use Rattle.std.specs.Prelude.{ℕ, ℤ, pos, ◌+ℤ◌, ◌+◌, ◌-◌, ◌<◌, ◌≡◌, ◌≢◌, Bool, true, false, nat_le, nat_abs, not, ◌&&◌, ◌==◌, ◌⊎◌, List, [], ◌∷◌, map, set, length, Some, None}
 use Rattle.buffer_glyphs.specs.Items.{Position}
 use Rattle.buffer_common.specs.declared.direction.Direction.{Direction}
-use Rattle.layout_links.specs.Links.{unlinked, hung, followed}
+use Rattle.layout_links.specs.Links.{with_link_cleared, with_child_drawn, with_link_followed}
 use Rattle.layout_offsets.specs.Links.{position_at, parent}
 use Rattle.layout_links.specs.Sums.{drawn_by_sums}
 
@@ -20,21 +20,21 @@ abbrev pub are_shut : List Position → Type 0
 are_shut ps = (k : ℕ) → is_open (position_at k ps) ≡ false
 
 -- a position that stores the link back, and is open
-abbrev pub opened : ℤ → Position → Position
-opened by p = record p { attach_chain = by; attach_type = p.attach_type + 128 }
+abbrev pub opened_link : ℤ → Position → Position
+opened_link by p = record p { attach_chain = by; attach_type = p.attach_type + 128 }
 
 -- a position shut where the test holds
-abbrev pub shut_if : Bool → Position → Position
-shut_if true p = record p { attach_chain = pos 0; attach_type = p.attach_type - 128 }
-shut_if false p = p
+abbrev pub closed_link_if : Bool → Position → Position
+closed_link_if true p = record p { attach_chain = pos 0; attach_type = p.attach_type - 128 }
+closed_link_if false p = p
 
 -- a position without its link
-abbrev pub shut : Position → Position
-shut p = shut_if (is_open p) p
+abbrev pub closed_link : Position → Position
+closed_link p = closed_link_if (is_open p) p
 
 -- all positions shut
-abbrev pub all_shut : List Position → List Position
-all_shut ps = map shut ps
+abbrev pub closed_links : List Position → List Position
+closed_links ps = map closed_link ps
 
 -- a glyph is not on a trail
 abbrev pub Apart : ℕ → List ℕ → Type 0
@@ -47,9 +47,9 @@ Trail ps at by [] = Unit {0}
 Trail ps at by (c ∷ rest) = (c < length ps) × (is_open (position_at c ps) ≡ true) × (pos at ≡ pos c +ℤ by) × Apart c rest × Trail ps c (position_at c ps).attach_chain rest
 
 -- the glyphs of a trail drawn, where the last of them is attached to `at`
-abbrev pub unwound : Direction → ℕ → List ℕ → List Position → List Position
-unwound d at [] ps = ps
-unwound d at (c ∷ rest) ps = unwound d c rest (hung (drawn_by_sums d) c at ps)
+abbrev pub trail_drawn : Direction → ℕ → List ℕ → List Position → List Position
+trail_drawn d at [] ps = ps
+trail_drawn d at (c ∷ rest) ps = trail_drawn d c rest (with_child_drawn (drawn_by_sums d) c at ps)
 
 -- a walk is at a glyph, which it reached by a link, after so many glyphs
 pub record IsWalk (count at : ℕ) (by : ℤ) (depth : ℕ) (ps : List Position) : Type 0 where
@@ -64,25 +64,25 @@ pub record IsWalk (count at : ℕ) (by : ℤ) (depth : ℕ) (ps : List Position)
 pub record IsGoing (d : Direction) (goal : List Position) (count fuel at : ℕ) (by : ℤ) (depth : ℕ) (ps : List Position) : Type 0 where
   pub walk : IsWalk count at by depth ps
   pub moves : is_link by ≡ true
-  pub leads : unwound d at walk.stack (followed (drawn_by_sums d) fuel at (all_shut ps)) ≡ goal
+  pub leads : trail_drawn d at walk.stack (with_link_followed (drawn_by_sums d) fuel at (closed_links ps)) ≡ goal
 
 -- the rest of the way back leads to a list
 pub record IsComing (d : Direction) (goal : List Position) (count at : ℕ) (by : ℤ) (depth : ℕ) (ps : List Position) : Type 0 where
   pub walk : IsWalk count at by depth ps
-  pub leads : unwound d at walk.stack (all_shut ps) ≡ goal
+  pub leads : trail_drawn d at walk.stack (closed_links ps) ≡ goal
 
 -- a walk stops at a glyph: one that it came through, or one whose link leads nowhere and is cleared
-abbrev pub Stops : ℕ → List Position → List Position → Type 0
-Stops at old new = ((is_open (position_at at old) ≡ true) × (new ≡ old)) ⊎ ((is_open (position_at at old) ≡ false) × (parent at old ≡ None) × (new ≡ unlinked at old))
+abbrev pub WalkStops : ℕ → List Position → List Position → Type 0
+WalkStops at old new = ((is_open (position_at at old) ≡ true) × (new ≡ old)) ⊎ ((is_open (position_at at old) ≡ false) × (parent at old ≡ None) × (new ≡ with_link_cleared at old))
 
 -- a walk follows a link to another glyph
-abbrev pub Goes : ℕ → ℤ → ℕ → ℤ → List Position → List Position → Type 0
-Goes to link at by old new = (is_open (position_at at old) ≡ false) × (parent at old ≡ Some to) × (link ≡ (position_at at old).attach_chain) × (new ≡ set old at (opened by (position_at at old)))
+abbrev pub StepsToParent : ℕ → ℤ → ℕ → ℤ → List Position → List Position → Type 0
+StepsToParent to link at by old new = (is_open (position_at at old) ≡ false) × (parent at old ≡ Some to) × (link ≡ (position_at at old).attach_chain) × (new ≡ set old at (opened_link by (position_at at old)))
 
 -- there is a glyph from which the walk came
-abbrev pub CameFrom : ℕ → ℤ → List Position → Type 0
-CameFrom at by ps = (c : ℕ) × (c < length ps) × (pos at ≡ pos c +ℤ by) × (is_open (position_at c ps) ≡ true)
+abbrev pub HasReturn : ℕ → ℤ → List Position → Type 0
+HasReturn at by ps = (c : ℕ) × (c < length ps) × (pos at ≡ pos c +ℤ by) × (is_open (position_at c ps) ≡ true)
 
 -- a walk returns to that glyph, which is drawn
-abbrev pub GoesBack : Direction → ℕ → ℤ → ℕ → ℤ → List Position → List Position → Type 0
-GoesBack d to link at by old new = (pos at ≡ pos to +ℤ by) × (link ≡ (position_at to old).attach_chain) × (is_open (shut (position_at to old)) ≡ false) × (new ≡ hung (drawn_by_sums d) to at (set old to (shut (position_at to old))))
+abbrev pub StepsBack : Direction → ℕ → ℤ → ℕ → ℤ → List Position → List Position → Type 0
+StepsBack d to link at by old new = (pos at ≡ pos to +ℤ by) × (link ≡ (position_at to old).attach_chain) × (is_open (closed_link (position_at to old)) ≡ false) × (new ≡ with_child_drawn (drawn_by_sums d) to at (set old to (closed_link (position_at to old))))

@@ -4,7 +4,7 @@ ghost use Rattle.std.specs.Prelude.{◌≡◌, map};
 ghost use Rattle.buffer_core.specs.Readings.{always};
 ghost use Rattle.buffer_stages.specs.Ready.{IsDone, IsReady};
 ghost use Rattle.layout_links.specs.Finishing.{all_drawn, links_followed};
-ghost use Rattle.layout_links.specs.Starting.{links_cleared, unattached};
+ghost use Rattle.layout_links.specs.Starting.{links_cleared, unattached_position};
 
 use crate::links::finish_offsets;
 use buffer_common::constants::HB_BUFFER_SCRATCH_FLAG_HAS_GPOS_ATTACHMENT;
@@ -22,7 +22,7 @@ pub fn position_start(buffer: &mut hb_buffer_t)
 }
 
 fn clear_links(positions: &mut [GlyphPosition])
-    ensures { positions.new ≡ map unattached positions.old }
+    ensures { positions.new ≡ map unattached_position positions.old }
 {
     for i in 0..positions.len() {
         positions[i] = unattached(positions[i]);
@@ -30,7 +30,7 @@ fn clear_links(positions: &mut [GlyphPosition])
 }
 
 fn unattached(position: GlyphPosition) -> GlyphPosition
-    ensures { result ≡ unattached position }
+    ensures { result ≡ unattached_position position }
 {
     GlyphPosition {
         attach_chain: 0,

@@ -3,10 +3,10 @@
 ghost use Rattle.std.specs.Prelude.{◌≡◌, ◌<◌, length};
 ghost use Rattle.buffer_common.specs.declared.direction.Direction.{Direction as Way};
 ghost use Rattle.std.specs.Prelude.{MatchOption, true, false, pos, ◌+ℤ◌};
-ghost use Rattle.layout_links.specs.Links.{hung, unlinked, finished, followed, all_followed, offset_by, child_drawn};
-ghost use Rattle.layout_offsets.specs.Links.{linked, position_at};
+ghost use Rattle.layout_links.specs.Links.{with_child_drawn, with_link_cleared, finished_positions, with_link_followed, with_links_followed, offset_by, child_drawn};
+ghost use Rattle.layout_offsets.specs.Links.{link_target, position_at};
 ghost use Rattle.layout_links.specs.Sums.{drawn_by_sums, mark_by_sums, pen_before, back_by, on_by};
-ghost use Rattle.layout_links.specs.Walks.{IsComing, Stops, Goes, CameFrom, GoesBack, are_shut, is_open, opened, shut};
+ghost use Rattle.layout_links.specs.Walks.{IsComing, WalkStops, StepsToParent, HasReturn, StepsBack, are_shut, is_open, opened_link, closed_link};
 
 use crate::sums::{PEN_DOWN, Pen, pen_of, pen_way, sum_up, take_apart};
 use buffer_common::direction::Direction;
@@ -97,7 +97,7 @@ fn mark_drawn(
 fn hang(positions: &mut [GlyphPosition], child: usize, parent: usize, direction: Direction)
     requires child { child < length positions.old }
     requires parent { parent < length positions.old }
-    ensures { positions.new ≡ hung (drawn_by_sums direction) child parent positions.old }
+    ensures { positions.new ≡ with_child_drawn (drawn_by_sums direction) child parent positions.old }
 {
     let place = positions[child];
     positions[child] = if place.attach_type == 2 {
@@ -132,7 +132,7 @@ fn is_open(place: &GlyphPosition) -> bool
 
 fn opened(place: GlyphPosition, by: i16) -> GlyphPosition
     requires { place.attach_type < 128 }
-    ensures { result ≡ opened by place }
+    ensures { result ≡ opened_link by place }
 {
     let mut open = place;
     open.attach_chain = by;
@@ -142,7 +142,7 @@ fn opened(place: GlyphPosition, by: i16) -> GlyphPosition
 
 fn shut(place: GlyphPosition) -> GlyphPosition
     requires { is_open place ≡ true }
-    ensures value { result ≡ shut place }
+    ensures value { result ≡ closed_link place }
     ensures closed { is_open result ≡ false }
 {
     let mut closed = place;
@@ -154,7 +154,7 @@ fn shut(place: GlyphPosition) -> GlyphPosition
 /// Clears a glyph's link.
 fn unlink(positions: &mut [GlyphPosition], at: usize)
     requires here { at < length positions.old }
-    ensures { positions.new ≡ unlinked at positions.old }
+    ensures { positions.new ≡ with_link_cleared at positions.old }
 {
     positions[at].attach_chain = 0;
 }
@@ -162,8 +162,8 @@ fn unlink(positions: &mut [GlyphPosition], at: usize)
 /// Follows a glyph's link, and stores there the link by which the walk reached the glyph.
 fn go_on(positions: &mut [GlyphPosition], last: Step) -> Option<Step>
     requires here { last.at < length positions.old }
-    ensures { MatchOption result (Stops last.at positions.old positions.new)
-        (λ s. Goes s.at s.by last.at last.by positions.old positions.new) }
+    ensures { MatchOption result (WalkStops last.at positions.old positions.new)
+        (λ s. StepsToParent s.at s.by last.at last.by positions.old positions.new) }
 {
     let at = last.at;
     let place = positions[at];
@@ -186,7 +186,7 @@ fn go_on(positions: &mut [GlyphPosition], last: Step) -> Option<Step>
 #[tactic(auto, using(crate::proofs::Going::came_open))]
 fn came_from(positions: &[GlyphPosition], last: Step) -> usize
     requires here { last.at < length positions.now }
-    requires came { CameFrom last.at last.by positions.now }
+    requires came { HasReturn last.at last.by positions.now }
     ensures within { result < length positions.now }
     ensures link { pos last.at ≡ pos result +ℤ last.by }
     ensures open { is_open (position_at result positions.now) ≡ true }
@@ -198,8 +198,8 @@ fn came_from(positions: &[GlyphPosition], last: Step) -> usize
 /// Returns to the glyph that a walk came from, and draws it.
 fn go_back(positions: &mut [GlyphPosition], last: Step, direction: Direction) -> Step
     requires here { last.at < length positions.old }
-    requires came { CameFrom last.at last.by positions.old }
-    ensures { GoesBack direction result.at result.by last.at last.by positions.old positions.new }
+    requires came { HasReturn last.at last.by positions.old }
+    ensures { StepsBack direction result.at result.by last.at last.by positions.old positions.new }
 {
     let child = came_from(positions, last);
     let place = positions[child];
@@ -216,7 +216,7 @@ fn go_back(positions: &mut [GlyphPosition], last: Step, direction: Direction) ->
 fn go_along(positions: &mut [GlyphPosition], start: usize) -> Walk
     requires here { start < length positions.old }
     requires shut { are_shut positions.old }
-    ensures { (d : Way) → IsComing d (followed (drawn_by_sums d) (length positions.old) start positions.old)
+    ensures { (d : Way) → IsComing d (with_link_followed (drawn_by_sums d) (length positions.old) start positions.old)
         (length positions.old) result.last.at result.last.by result.depth positions.new }
 {
     let count = positions.len();
@@ -235,7 +235,7 @@ fn go_along(positions: &mut [GlyphPosition], start: usize) -> Walk
 fn follow(positions: &mut [GlyphPosition], start: usize, direction: Direction)
     requires here { start < length positions.old }
     requires shut { are_shut positions.old }
-    ensures drawn { positions.new ≡ followed (drawn_by_sums direction) (length positions.old) start positions.old }
+    ensures drawn { positions.new ≡ with_link_followed (drawn_by_sums direction) (length positions.old) start positions.old }
     ensures shut { are_shut positions.new }
 {
     let walk = go_along(positions, start);
@@ -248,7 +248,7 @@ fn follow(positions: &mut [GlyphPosition], start: usize, direction: Direction)
 /// Draws all glyphs, where advances are sums.
 fn follow_all(positions: &mut [GlyphPosition], direction: Direction)
     requires shut { are_shut positions.old }
-    ensures { positions.new ≡ all_followed (drawn_by_sums direction) positions.old }
+    ensures { positions.new ≡ with_links_followed (drawn_by_sums direction) positions.old }
 {
     for i in 0..positions.len() {
         follow(positions, i, direction);
@@ -260,7 +260,7 @@ fn follow_all(positions: &mut [GlyphPosition], direction: Direction)
 /// kind is only cleared. It takes linear time, and neither memory nor a stack.
 #[tactic(auto, using(crate::proofs::BySums::finished_by_sums, crate::proofs::BySums::summed_shut))]
 pub fn finish_offsets(positions: &mut [GlyphPosition], direction: Direction)
-    ensures { positions.new ≡ finished direction positions.old }
+    ensures { positions.new ≡ finished_positions direction positions.old }
 {
     sum_up(positions);
     follow_all(positions, direction);

@@ -1,7 +1,7 @@
 //! Advances as sums, so that the distance between two glyphs is a difference.
 ghost use Rattle.std.specs.Prelude.{◌≡◌};
 ghost use Rattle.layout_links.specs.Links.{kinds_tested, kind_tested, has_kind};
-ghost use Rattle.layout_links.specs.Sums.{AllFit, Fits, pen_down, pen_after, pen_of, pen_way, with_pen, summed, taken_apart};
+ghost use Rattle.layout_links.specs.Sums.{AllFit, Fits, pen_down, pen_after, pen_of, pen_way, with_pen, advance_sums, advances_of_sums};
 
 use buffer_glyphs::position::GlyphPosition;
 pub use layout_offsets::sums::{minus, plus};
@@ -77,7 +77,7 @@ fn kind_tested(place: GlyphPosition) -> GlyphPosition
 #[tactic(auto, using(crate::proofs::Summing::summing_first, crate::proofs::Summing::summing_next, crate::proofs::Summing::summing_last, crate::proofs::Summing::summing_fits))]
 pub(crate) fn sum_up(positions: &mut [GlyphPosition])
     ensures fits { AllFit positions.old }
-    ensures value { positions.new ≡ summed (kinds_tested positions.old) }
+    ensures value { positions.new ≡ advance_sums (kinds_tested positions.old) }
 {
     let mut pen = PEN_DOWN;
     for i in 0..positions.len() {
@@ -90,7 +90,7 @@ pub(crate) fn sum_up(positions: &mut [GlyphPosition])
 /// Replaces each sum by its difference from the one before.
 #[tactic(auto, using(crate::proofs::Summing::parting_first, crate::proofs::Summing::parting_next, crate::proofs::Summing::parting_last))]
 pub(crate) fn take_apart(positions: &mut [GlyphPosition])
-    ensures { positions.new ≡ taken_apart positions.old }
+    ensures { positions.new ≡ advances_of_sums positions.old }
 {
     let mut pen = PEN_DOWN;
     for i in 0..positions.len() {

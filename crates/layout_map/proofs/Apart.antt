@@ -8,10 +8,10 @@ use Rattle.std.proofs.lemmas.List.{map-append}
 use Rattle.std.proofs.lemmas.Bool.{ltb-true}
 use Rattle.std.proofs.lemmas.List.Elements.{All-append, All-cons, All-head, All-nil, All-tail}
 use Rattle.layout_map_features.specs.declared.field.FeatureField.{FeatureField}
-use Rattle.layout_map_features.specs.declared.kept.KeptField.{KeptField}
+use Rattle.layout_map_features.specs.declared.kept_fields.KeptField.{KeptField}
 use Rattle.layout_map_features.specs.declared.per_table.PerTable.{PerTable}
 use Rattle.layout_map_features.specs.declared.request.MergedRequest.{MergedRequest}
-use Rattle.layout_map_features.specs.Fields.{global_field, own_field, first_feature_bit, bits_needed, uses_global_bit, field_of, free_bit, below_tag, field_among, kept_if, kept_fields}
+use Rattle.layout_map_features.specs.Fields.{global_field, own_field, first_feature_bit, bits_needed, uses_global_bit, field_of, free_bit, below_tag, field_among, kept_field, kept_fields}
 use Rattle.layout_map.specs.declared.chosen_feature.feature_map_t.{feature_map_t}
 use Rattle.layout_map.specs.Chosen.{ChosenTable}
 use Rattle.layout_map.specs.Compiled.{IsApart}
@@ -40,18 +40,18 @@ apart_field next m le =
     apart_cases (m.max_value == 0) (uses_global_bit m) (nat_lt (next + bits_needed m.max_value) 31) next (bits_needed m.max_value) m.default_value le (λ e. below_end next (bits_needed m.max_value) (ltb-true (next + bits_needed m.max_value) 31 e))
 
 one_kept : (tables : PerTable ChosenTable) (m : MergedRequest) (field : Option FeatureField) → IfSome field IsFieldApart
-    → All IsApart (map (λ (k : KeptField). feature_with tables k.request k.field) (kept_if m field))
+    → All IsApart (map (λ (k : KeptField). feature_with tables k.request k.field) (kept_field m field))
 one_kept tables m None h = All-nil IsApart
 one_kept tables m (Some f) h = All-cons IsApart (feature_with tables m f) [] h (All-nil IsApart)
 
 all_kept : (tables : PerTable ChosenTable) (all ms : List MergedRequest)
-    → All IsApart (map (λ (k : KeptField). feature_with tables k.request k.field) (flat_map (λ m. kept_if m (field_among all m)) ms))
+    → All IsApart (map (λ (k : KeptField). feature_with tables k.request k.field) (flat_map (λ m. kept_field m (field_among all m)) ms))
 all_kept tables all [] = All-nil IsApart
 all_kept tables all (m ∷ ms) =
     let make = λ (k : KeptField). feature_with tables k.request k.field in
     let next = free_bit (below_tag m.tag.0 all) in
     let field = apart_field next m (after_flags first_feature_bit (below_tag m.tag.0 all) (omega arith)) in
-    rw (map-append make (kept_if m (field_among all m)) (flat_map (λ m. kept_if m (field_among all m)) ms))
+    rw (map-append make (kept_field m (field_among all m)) (flat_map (λ m. kept_field m (field_among all m)) ms))
     (All-append IsApart _ _ (one_kept tables m (field_among all m) field) (all_kept tables all ms))
 
 pub features_apart : (tables : PerTable ChosenTable) (wanted : List MergedRequest) (kept : List KeptField) (fs : List feature_map_t)

@@ -5,9 +5,9 @@ use Rattle.std.specs.List.{flat_map}
 use Rattle.std.proofs.lemmas.List.Sums.{fold-append}
 use Rattle.std.proofs.lemmas.Nat.{and_mask, and_or_apart, pow-add}
 use Rattle.layout_map_features.specs.declared.field.FeatureField.{FeatureField}
-use Rattle.layout_map_features.specs.declared.kept.KeptField.{KeptField}
+use Rattle.layout_map_features.specs.declared.kept_fields.KeptField.{KeptField}
 use Rattle.layout_map_features.specs.declared.request.MergedRequest.{MergedRequest}
-use Rattle.layout_map_features.specs.Fields.{global_bit, global_field, own_field, first_feature_bit, bits_needed, uses_global_bit, bit_after, field_of, free_bit, below_tag, field_among, kept_if, kept_fields}
+use Rattle.layout_map_features.specs.Fields.{global_bit, global_field, own_field, first_feature_bit, bits_needed, uses_global_bit, bit_after, field_of, free_bit, below_tag, field_among, kept_field, kept_fields}
 
 -- sixteen times a number has no bit of seven
 sixteenfold : (n : ℕ) → bit_and (n * 16) 7 ≡ 0
@@ -49,17 +49,17 @@ after_flags next (m ∷ ms) le =
 abbrev mask_step : ℕ → KeptField → ℕ
 mask_step mask k = bit_or mask k.field.default_mask
 
-one_field : (mask : ℕ) (m : MergedRequest) (field : Option FeatureField) → bit_and mask 7 ≡ 0 → IsFlagless field → bit_and (fold mask_step mask (kept_if m field)) 7 ≡ 0
+one_field : (mask : ℕ) (m : MergedRequest) (field : Option FeatureField) → bit_and mask 7 ≡ 0 → IsFlagless field → bit_and (fold mask_step mask (kept_field m field)) 7 ≡ 0
 one_field mask m None h f = h
 one_field mask m (Some field) h f = and_or_apart 7 mask field.default_mask f ∙ h
 
-all_fields : (all ms : List MergedRequest) (mask : ℕ) → bit_and mask 7 ≡ 0 → bit_and (fold mask_step mask (flat_map (λ m. kept_if m (field_among all m)) ms)) 7 ≡ 0
+all_fields : (all ms : List MergedRequest) (mask : ℕ) → bit_and mask 7 ≡ 0 → bit_and (fold mask_step mask (flat_map (λ m. kept_field m (field_among all m)) ms)) 7 ≡ 0
 all_fields all [] mask h = h
 all_fields all (m ∷ ms) mask h =
     let next = free_bit (below_tag m.tag.0 all) in
     let field = flagless_field next m (after_flags first_feature_bit (below_tag m.tag.0 all) (omega arith)) in
-    rw (fold-append mask_step mask (kept_if m (field_among all m)) (flat_map (λ m. kept_if m (field_among all m)) ms))
-    (all_fields all ms (fold mask_step mask (kept_if m (field_among all m))) (one_field mask m (field_among all m) h field))
+    rw (fold-append mask_step mask (kept_field m (field_among all m)) (flat_map (λ m. kept_field m (field_among all m)) ms))
+    (all_fields all ms (fold mask_step mask (kept_field m (field_among all m))) (one_field mask m (field_among all m) h field))
 
 pub flagless : (wanted : List MergedRequest) (kept : List KeptField) (mask : ℕ) → kept ≡ kept_fields wanted
     → mask ≡ fold (λ mask k. bit_or mask k.field.default_mask) global_bit kept → bit_and mask 7 ≡ 0

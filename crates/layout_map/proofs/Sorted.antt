@@ -7,11 +7,11 @@ use Rattle.std.specs.Ordering.{is_lt, nat_cmp}
 use Rattle.std.proofs.lemmas.List.{map-append}
 use Rattle.buffer_rows.specs.Keys.{is_rising}
 use Rattle.layout_map_features.specs.declared.field.FeatureField.{FeatureField}
-use Rattle.layout_map_features.specs.declared.kept.KeptField.{KeptField}
+use Rattle.layout_map_features.specs.declared.kept_fields.KeptField.{KeptField}
 use Rattle.layout_map_features.specs.declared.per_table.PerTable.{PerTable}
 use Rattle.layout_map_features.specs.declared.request.MergedRequest.{MergedRequest}
 use Rattle.layout_map_features.specs.Entering.{RisesFrom}
-use Rattle.layout_map_features.specs.Fields.{field_among, kept_if, kept_fields}
+use Rattle.layout_map_features.specs.Fields.{field_among, kept_field, kept_fields}
 use Rattle.layout_map.specs.declared.chosen_feature.feature_map_t.{feature_map_t}
 use Rattle.layout_map.specs.Chosen.{ChosenTable}
 use Rattle.layout_map.specs.Features.{feature_with}
@@ -27,16 +27,16 @@ rises_lower low high [] le h = tt
 rises_lower low high (f ∷ fs) le h = (omega (arith, le, h.0), h.1)
 
 kept_first : (tables : PerTable ChosenTable) (low : ℕ) (m : MergedRequest) (field : Option FeatureField) (fs : List feature_map_t) → low ≤ m.tag.0
-    → RisesFrom tag_of (m.tag.0 + 1) fs → RisesFrom tag_of low (map (feature_of tables) (kept_if m field) ++ fs)
+    → RisesFrom tag_of (m.tag.0 + 1) fs → RisesFrom tag_of low (map (feature_of tables) (kept_field m field) ++ fs)
 kept_first tables low m None fs le h = rises_lower low (m.tag.0 + 1) fs (omega (arith, le)) h
 kept_first tables low m (Some f) fs le h = (le, h)
 
 kept_rise : (tables : PerTable ChosenTable) (all : List MergedRequest) (low : ℕ) (ms : List MergedRequest) → RisesFrom (λ m. m.tag.0) low ms
-    → RisesFrom tag_of low (map (feature_of tables) (flat_map (λ m. kept_if m (field_among all m)) ms))
+    → RisesFrom tag_of low (map (feature_of tables) (flat_map (λ m. kept_field m (field_among all m)) ms))
 kept_rise tables all low [] h = tt
 kept_rise tables all low (m ∷ ms) h =
-    rw (map-append (feature_of tables) (kept_if m (field_among all m)) (flat_map (λ m. kept_if m (field_among all m)) ms))
-    (kept_first tables low m (field_among all m) (map (feature_of tables) (flat_map (λ m. kept_if m (field_among all m)) ms)) h.0 (kept_rise tables all (m.tag.0 + 1) ms h.1))
+    rw (map-append (feature_of tables) (kept_field m (field_among all m)) (flat_map (λ m. kept_field m (field_among all m)) ms))
+    (kept_first tables low m (field_among all m) (map (feature_of tables) (flat_map (λ m. kept_field m (field_among all m)) ms)) h.0 (kept_rise tables all (m.tag.0 + 1) ms h.1))
 
 is_less : (b k : ℕ) → b + 1 ≤ k → is_lt (nat_cmp b k) ≡ true
 is_less b k le = let less : Less ≡ nat_cmp b k = nat_cmp_is b k Less (omega (arith, le)) in rw (sym less) refl

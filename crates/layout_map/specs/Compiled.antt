@@ -17,7 +17,7 @@ use Rattle.layout_map.specs.declared.chosen_feature.feature_map_t.{feature_map_t
 use Rattle.layout_map_features.specs.declared.lookup.lookup_map_t.{lookup_map_t}
 use Rattle.layout_map.specs.declared.stages.StageMap.{StageMap}
 use Rattle.layout_map.specs.Chosen.{ChosenTable, chosen_substitution, chosen_positioning, is_script_found, script_tag}
-use Rattle.layout_map.specs.Features.{wanted_requests, kept_features, global_mask, required_in}
+use Rattle.layout_map.specs.Features.{wanted_requests, kept_features, global_mask, required_feature_in}
 use Rattle.layout_map.specs.Lookups.{Stage, stage_lookups, stages_from, stage_ends}
 use Rattle.buffer_glyphs.specs.declared.info.TheConstants.{DEFINED}
 
@@ -76,7 +76,7 @@ pub record OtMapValue : Type 0 where
 -- the stages of a table for merged requests, the wanted ones of them, the features of the map, and the pauses
 abbrev pub stage_list : TableIndex → ChosenTable → List MergedRequest → List MergedRequest → List feature_map_t → List ℕ → List Stage
 stage_list table t requests wanted features pauses =
-    stages_from (stage_lookups table t (required_in table t requests wanted) features) 0 pauses
+    stages_from (stage_lookups table t (required_feature_in table t requests wanted) features) 0 pauses
 
 -- the stages of a table, as one list of lookups with the end of each stage
 abbrev pub stages_with : TableIndex → ChosenTable → List MergedRequest → List MergedRequest → List feature_map_t → List ℕ → TableStages
@@ -101,8 +101,8 @@ map_with tables pauses requests = record {
 }
 
 -- the map of a builder's requests (`compile`)
-abbrev pub compiled : MapRequests → OtMapValue
-compiled b = map_with b.tables b.pauses (merged_requests b.requests)
+abbrev pub compiled_map : MapRequests → OtMapValue
+compiled_map b = map_with b.tables b.pauses (merged_requests b.requests)
 
 -- a feature's bits hold no glyph flag, and the index of the lowest of them is below 32
 abbrev pub IsApart : feature_map_t → Type 0

@@ -74,6 +74,6 @@ stage_among table requests wanted tag =
     option_map_or (stage_if_field table wanted) (find (λ (m : MergedRequest). m.tag.0 == tag.0) requests) 0
 
 -- the required feature of a table, and the stage that applies it
-abbrev pub required_in : TableIndex → ChosenTable → List MergedRequest → List MergedRequest → Option RequiredFeature
-required_in table t requests wanted =
+abbrev pub required_feature_in : TableIndex → ChosenTable → List MergedRequest → List MergedRequest → Option RequiredFeature
+required_feature_in table t requests wanted =
     option_map (λ (r : ℕ × Tag). record { index = r.0; stage = stage_among table requests wanted r.1 }) (required_feature t)

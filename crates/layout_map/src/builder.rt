@@ -4,8 +4,8 @@ ghost use Rattle.std.specs.Int.RustNames.{bit_or};
 ghost use Rattle.std.specs.Option.{option_copied};
 ghost use Rattle.layout_map_features.specs.Tables.{for_table};
 ghost use Rattle.layout_map.specs.Chosen.{script_tag};
-ghost use Rattle.layout_map.specs.Compiled.{compiled, no_requests, stages_with, with_gpos_pause, with_gsub_pause, with_request};
-ghost use Rattle.layout_map.specs.Features.{in_any, required_in, system_features};
+ghost use Rattle.layout_map.specs.Compiled.{compiled_map, no_requests, stages_with, with_gpos_pause, with_gsub_pause, with_request};
+ghost use Rattle.layout_map.specs.Features.{in_any, required_feature_in, system_features};
 
 use crate::chosen::{ChosenTable, FontTables};
 use crate::features::{
@@ -18,7 +18,7 @@ use buffer_common::tag::Tag;
 use layout_face::positioning::PositioningTable;
 use layout_face::substitution::SubstitutionTable;
 use layout_map_features::flags::{F_GLOBAL, hb_ot_map_feature_flags_t};
-use layout_map_features::kept::kept_fields;
+use layout_map_features::kept_fields::kept_fields;
 use layout_map_features::merge::merged_requests;
 use layout_map_features::per_table::{PerTable, TableIndex};
 use layout_map_features::request::{FeatureRequest, MergedRequest};
@@ -152,7 +152,7 @@ impl<'a> hb_ot_map_builder_t<'a> {
     #[tactic(auto, using(layout_map_features::proofs::Rising::wanted_rise, crate::proofs::Sorted::features_rise))]
     /// The map of the requests so far. The builder can be used on.
     pub fn compile(&self, alloc: Global) -> Result<hb_ot_map_t, AllocError>
-        ensures { IfOk result (λ map. map ≡ compiled self.now) }
+        ensures { IfOk result (λ map. map ≡ compiled_map self.now) }
     {
         let requests = merged_requests(alloc, &self.requests)?;
         let wanted = wanted_requests(alloc, &self.tables, &requests)?;
@@ -183,7 +183,7 @@ impl<'a> hb_ot_map_builder_t<'a> {
         requests: &[MergedRequest],
         wanted: &[MergedRequest],
     ) -> Option<RequiredFeature>
-        ensures { result ≡ required_in table (for_table table self.now.tables) requests.now wanted.now }
+        ensures { result ≡ required_feature_in table (for_table table self.now.tables) requests.now wanted.now }
     {
         let (index, tag) = self.tables.get(table).required_feature()?;
         Some(RequiredFeature {

@@ -7,7 +7,7 @@ use crate::chosen::FontTables;
 pub use crate::chosen_feature::feature_map_t;
 use buffer_common::tag::Tag;
 use layout_map_features::field::GLOBAL_BIT;
-use layout_map_features::kept::{KeptField, field_among};
+use layout_map_features::kept_fields::{KeptField, field_among};
 use layout_map_features::per_table::{PerTable, TableIndex};
 use layout_map_features::request::MergedRequest;
 use std::alloc::{AllocError, Global};

@@ -4,9 +4,9 @@ use Rattle.std.proofs.lemmas.Bool.Decides.{nat_tests}
 use Rattle.std.proofs.lemmas.Nat.{and_block, and_le_r, and_comm, pow-add, pow_pos}
 use Rattle.layout_map_features.specs.declared.field.FeatureField.{FeatureField}
 use Rattle.layout_map_features.specs.declared.request.MergedRequest.{MergedRequest}
-use Rattle.layout_map_features.specs.declared.kept.KeptField.{KeptField}
+use Rattle.layout_map_features.specs.declared.kept_fields.KeptField.{KeptField}
 use Rattle.layout_map_features.specs.Entering.{RisesFrom}
-use Rattle.layout_map_features.specs.Fields.{global_bit, global_field, own_field, first_feature_bit, bits_needed, uses_global_bit, kept_if, kept_fields}
+use Rattle.layout_map_features.specs.Fields.{global_bit, global_field, own_field, first_feature_bit, bits_needed, uses_global_bit, kept_field, kept_fields}
 use Rattle.layout_map_features.proofs.Threading.{kept_from, kept_threaded}
 
 -- ---- numbers that share no bit
@@ -58,7 +58,7 @@ some_own next count value lt = record { count = count; mask = refl; is_end = ref
 from_cases : (off fits : Bool) (glob : Bool) (next count value : ℕ) (m : MergedRequest) (ms : List MergedRequest)
     → uses_global_bit m ≡ glob → nat_lt (next + count) 31 ≡ fits
     → AreFrom next (kept_from next ms) → AreFrom (next + count) (kept_from (next + count) ms)
-    → AreFrom next (kept_if m (if off then None else if glob then Some global_field else if fits then Some (own_field next count value) else None)
+    → AreFrom next (kept_field m (if off then None else if glob then Some global_field else if fits then Some (own_field next count value) else None)
     ++ kept_from (if off then next else if glob then next else if fits then next + count else next) ms)
 from_cases true fits glob next count value m ms g lt here after = here
 from_cases false fits true next count value m ms g lt here after = (next, omega arith, (λ no. cc), here)

@@ -13,12 +13,12 @@ use Rattle.std.specs.List.{list_any}
 use Rattle.std.proofs.lemmas.List.Elements.{filter-append}
 use Rattle.buffer_stable_order.specs.Keys.{of_key, key_bound}
 use Rattle.layout_map_features.specs.Groups.{group_entry, entries_below}
-use Rattle.layout_map_features.specs.Entering.{entered, entries_with}
+use Rattle.layout_map_features.specs.Entering.{entry_after, entries_with}
 use Rattle.layout_map_features.specs.declared.flags.TheConstants.{F_HAS_FALLBACK}
 use Rattle.layout_map_features.specs.declared.request.FeatureRequest.{FeatureRequest}
 use Rattle.layout_map_features.specs.declared.request.MergedRequest.{MergedRequest}
 use Rattle.layout_map_features.specs.declared.lookup.lookup_map_t.{lookup_map_t}
-use Rattle.layout_map_features.specs.Requests.{has_flag, is_global, greatest_value, outside_value, merged, joined}
+use Rattle.layout_map_features.specs.Requests.{has_flag, is_global, greatest_value, outside_value, merged_request, request_with_later}
 use Rattle.layout_map_features.specs.Lookups.{joined_lookups, lookup_with, entries_below_with}
 
 -- ---- where an entry goes
@@ -116,7 +116,7 @@ entries_past key together (suc n) xs x h =
 -- one more element of a key at its entry
 group_step : {X Y : Type 0} (key : X → ℕ) (together : X → List X → Y) (join : Y → X → Y) → ((x : X) (later : List X) (y : X) → together x (later ++ y ∷ []) ≡ join (together x later) y)
     → (k : ℕ) (x : X) (xs : List X) → key x ≡ k
-    → group_entry together k (xs ++ x ∷ []) ≡ insert_entry nat_cmp (group_entry together k xs) (key x) (entered together join (lookup (is_at (nat_cmp (key x))) (group_entry together k xs)) x)
+    → group_entry together k (xs ++ x ∷ []) ≡ insert_entry nat_cmp (group_entry together k xs) (key x) (entry_after together join (lookup (is_at (nat_cmp (key x))) (group_entry together k xs)) x)
 group_step key together join law k x [] h = rw h refl
 group_step key together join law k x (y ∷ later) h = rw (equal_is (key x) k h) (ap (λ v. (k, v) ∷ []) (law y later x))
 
@@ -132,7 +132,7 @@ entries_step key together join law (suc n) xs x h =
           let old = entries_past key together n xs x (omega (arith, same)) in
           let group = key_same key n xs x same in
           let there = lookup_past (key x) (entries_below key together n xs) (group_entry together n (of_key key n xs)) front in
-          let put = insert_past (key x) (entered together join (lookup (is_at (nat_cmp (key x))) (group_entry together n (of_key key n xs))) x)
+          let put = insert_past (key x) (entry_after together join (lookup (is_at (nat_cmp (key x))) (group_entry together n (of_key key n xs))) x)
           (entries_below key together n xs) (group_entry together n (of_key key n xs)) front in
           let step = group_step key together join law n x (of_key key n xs) same in
           rw (old, group, there, put, step) refl
@@ -140,7 +140,7 @@ entries_step key together join law (suc n) xs x h =
           let below : key x < n = omega (arith, h, apart) in
           let same = key_apart key n xs x apart in
           let there = lookup_before_group together (key x) n (entries_below key together n xs) (of_key key n xs) below in
-          let put = insert_before_group together (key x) n (entered together join (lookup (is_at (nat_cmp (key x))) (entries_below key together n xs)) x)
+          let put = insert_before_group together (key x) n (entry_after together join (lookup (is_at (nat_cmp (key x))) (entries_below key together n xs)) x)
           (entries_below key together n xs) (of_key key n xs) below in
           rw (entries_step key together join law n xs x below, same, there, put) refl
     ]
@@ -157,7 +157,7 @@ any_one_more : (p : FeatureRequest → Bool) (first : FeatureRequest) (later : L
     → list_any p (first ∷ (later ++ r ∷ [])) ≡ (list_any p (first ∷ later) || p r)
 any_one_more p first later r = rw (list_any-append p later (r ∷ [])) (or_one_more (p first) (list_any p later) (p r))
 
-merged_grows : (first : FeatureRequest) (later : List FeatureRequest) (r : FeatureRequest) → merged first (later ++ r ∷ []) ≡ joined (merged first later) r
+merged_grows : (first : FeatureRequest) (later : List FeatureRequest) (r : FeatureRequest) → merged_request first (later ++ r ∷ []) ≡ request_with_later (merged_request first later) r
 merged_grows first later r =
     let global = fold-append (λ _ q. is_global q) (is_global first) later (r ∷ []) in
     let greatest = fold-append greatest_value first.value later (r ∷ []) in
@@ -183,14 +183,14 @@ below_bound key (x ∷ xs) (suc i) d h =
 
 -- one more request is entered
 pub request_step : (rs : List FeatureRequest) (i : ℕ) (d : FeatureRequest) (old new : List (ℕ × MergedRequest)) → i < length rs
-    → old ≡ entries_below (λ q. q.tag.0) merged (key_bound (λ q. q.tag.0) rs) (take i rs)
-    → new ≡ entries_with (λ q. q.tag.0) merged joined old (get_or rs i d)
-    → new ≡ entries_below (λ q. q.tag.0) merged (key_bound (λ q. q.tag.0) rs) (take (i + 1) rs)
+    → old ≡ entries_below (λ q. q.tag.0) merged_request (key_bound (λ q. q.tag.0) rs) (take i rs)
+    → new ≡ entries_with (λ q. q.tag.0) merged_request request_with_later old (get_or rs i d)
+    → new ≡ entries_below (λ q. q.tag.0) merged_request (key_bound (λ q. q.tag.0) rs) (take (i + 1) rs)
 request_step rs i d old new lt before is =
     let key : FeatureRequest → ℕ = λ q. q.tag.0 in
-    is ∙ ap (λ es. entries_with key merged joined es (get_or rs i d)) before
-    ∙ sym (ap (entries_below key merged (key_bound key rs)) (take_more rs i d lt)
-    ∙ entries_step key merged joined merged_grows (key_bound key rs) (take i rs) (get_or rs i d) (below_bound key rs i d lt))
+    is ∙ ap (λ es. entries_with key merged_request request_with_later es (get_or rs i d)) before
+    ∙ sym (ap (entries_below key merged_request (key_bound key rs)) (take_more rs i d lt)
+    ∙ entries_step key merged_request request_with_later merged_grows (key_bound key rs) (take i rs) (get_or rs i d) (below_bound key rs i d lt))
 
 below_is : (a b : ℕ) → nat_lt a b ≡ true → a < b
 below_is a b h = grind (arith, nat_tests)

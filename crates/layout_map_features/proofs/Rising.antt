@@ -8,7 +8,7 @@ use Rattle.layout_map_features.specs.declared.request.MergedRequest.{MergedReque
 use Rattle.layout_map_features.specs.declared.lookup.lookup_map_t.{lookup_map_t}
 use Rattle.layout_map_features.specs.Groups.{group_entry, entries_below, groups_below}
 use Rattle.layout_map_features.specs.Entering.{RisesFrom, RisesWithin}
-use Rattle.layout_map_features.specs.Requests.{merged, merged_requests}
+use Rattle.layout_map_features.specs.Requests.{merged_request, merged_requests}
 use Rattle.layout_map_features.specs.Lookups.{joined_lookups, merged_lookups}
 
 within_more : {Y : Type 0} (key : Y → ℕ) (low n : ℕ) (ys : List Y) → RisesWithin key low n ys → RisesWithin key low (suc n) ys
@@ -54,7 +54,7 @@ groups_rise key key' together law (suc n) xs =
 pub tags_rise : (rs : List FeatureRequest) → RisesFrom (λ m. m.tag.0) 0 (merged_requests rs)
 tags_rise rs =
     from_within (λ m. m.tag.0) 0 (key_bound (λ r. r.tag.0) rs) (merged_requests rs)
-    (groups_rise (λ r. r.tag.0) (λ m. m.tag.0) merged (λ x later. refl) (key_bound (λ r. r.tag.0) rs) rs)
+    (groups_rise (λ r. r.tag.0) (λ m. m.tag.0) merged_request (λ x later. refl) (key_bound (λ r. r.tag.0) rs) rs)
 
 -- merged lookups rise strictly, and are lookups of the table
 pub lookups_rise : (count : ℕ) (uses : List lookup_map_t) → RisesWithin (λ l. l.index) 0 count (merged_lookups count uses)

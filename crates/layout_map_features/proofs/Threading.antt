@@ -7,9 +7,9 @@ use Rattle.std.proofs.lemmas.List.{append-nil}
 use Rattle.std.proofs.lemmas.List.Elements.{filter-append}
 use Rattle.std.proofs.lemmas.List.Sums.{fold-append}
 use Rattle.layout_map_features.specs.declared.request.MergedRequest.{MergedRequest}
-use Rattle.layout_map_features.specs.declared.kept.KeptField.{KeptField}
+use Rattle.layout_map_features.specs.declared.kept_fields.KeptField.{KeptField}
 use Rattle.layout_map_features.specs.Entering.{RisesFrom}
-use Rattle.layout_map_features.specs.Fields.{first_feature_bit, field_of, bit_after, free_bit, below_tag, field_among, kept_if, kept_fields}
+use Rattle.layout_map_features.specs.Fields.{first_feature_bit, field_of, bit_after, free_bit, below_tag, field_among, kept_field, kept_fields}
 
 -- one request more is seen
 pub below_step : (tag next : ℕ) (ms : List MergedRequest) (i : ℕ) (m : MergedRequest) → i < length ms → get_or ms i m ≡ m
@@ -24,10 +24,10 @@ below_step tag next ms i m lt at =
 -- the fields of requests from a free bit on
 abbrev pub kept_from : ℕ → List MergedRequest → List KeptField
 kept_from next [] = []
-kept_from next (m ∷ ms) = kept_if m (field_of next m) ++ kept_from (bit_after next m) ms
+kept_from next (m ∷ ms) = kept_field m (field_of next m) ++ kept_from (bit_after next m) ms
 
 pub kept_step : (next : ℕ) (ms : List MergedRequest) (i : ℕ) (m : MergedRequest) → i < length ms → get_or ms i m ≡ m
-    → kept_from next (drop i ms) ≡ kept_if m (field_of next m) ++ kept_from (bit_after next m) (drop (i + 1) ms)
+    → kept_from next (drop i ms) ≡ kept_field m (field_of next m) ++ kept_from (bit_after next m) (drop (i + 1) ms)
 kept_step next ms i m lt at =
     let front : drop i ms ≡ m ∷ drop (i + 1) ms = rw (drop-cons ms i m lt, at, add-one) refl in
     rw front refl
@@ -68,7 +68,7 @@ before_is front ms m low h r =
     filter-append (λ n. nat_lt n.tag.0 m.tag.0) front (m ∷ ms) ∙ rw (off, rest, kept) (append-nil front)
 
 threaded_from : (all front ms : List MergedRequest) (low : ℕ) → all ≡ front ++ ms → AllBelow low front → RisesFrom (λ n. n.tag.0) low ms
-    → flat_map (λ m. kept_if m (field_among all m)) ms ≡ kept_from (free_bit front) ms
+    → flat_map (λ m. kept_field m (field_among all m)) ms ≡ kept_from (free_bit front) ms
 threaded_from all front [] low e h r = refl
 threaded_from all front (m ∷ ms) low e h r =
     let before : below_tag m.tag.0 all ≡ front = rw e (before_is front ms m low h r) in

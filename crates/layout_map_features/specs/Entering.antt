@@ -5,14 +5,14 @@ use Rattle.std.specs.BTreeMap.{insert_entry, is_at}
 use Rattle.std.specs.Map.{lookup}
 
 -- the value of an element added to those before it
-abbrev pub entered : {X Y : Type 0} → (X → List X → Y) → (Y → X → Y) → Option Y → X → Y
-entered together join None x = together x []
-entered together join (Some before) x = join before x
+abbrev pub entry_after : {X Y : Type 0} → (X → List X → Y) → (Y → X → Y) → Option Y → X → Y
+entry_after together join None x = together x []
+entry_after together join (Some before) x = join before x
 
 -- the entries with one more element
 abbrev pub entries_with : {X Y : Type 0} → (X → ℕ) → (X → List X → Y) → (Y → X → Y) → List (ℕ × Y) → X → List (ℕ × Y)
 entries_with key together join entries x =
-    insert_entry nat_cmp entries (key x) (entered together join (lookup (is_at (nat_cmp (key x))) entries) x)
+    insert_entry nat_cmp entries (key x) (entry_after together join (lookup (is_at (nat_cmp (key x))) entries) x)
 
 -- each key is greater than the one before it, and none is below a number
 abbrev pub RisesFrom : {X : Type 0} → (X → ℕ) → ℕ → List X → Type 0

@@ -3,7 +3,7 @@ use Rattle.std.specs.Prelude.{ℕ, ◌+◌, ◌-◌, ◌*◌, ◌^◌, ◌%◌, 
 use Rattle.std.specs.Int.{leading_zeros, w32}
 use Rattle.std.specs.List.{flat_map}
 use Rattle.layout_map_features.specs.declared.field.FeatureField.{FeatureField}
-use Rattle.layout_map_features.specs.declared.kept.KeptField.{KeptField}
+use Rattle.layout_map_features.specs.declared.kept_fields.KeptField.{KeptField}
 use Rattle.layout_map_features.specs.declared.request.MergedRequest.{MergedRequest}
 
 -- the bit that every glyph has, for features that are on for all glyphs
@@ -69,10 +69,10 @@ abbrev pub field_among : List MergedRequest → MergedRequest → Option Feature
 field_among requests m = field_of (free_bit (below_tag m.tag.0 requests)) m
 
 -- a request with its field, if it has one
-abbrev pub kept_if : MergedRequest → Option FeatureField → List KeptField
-kept_if m None = []
-kept_if m (Some f) = record { request = m; field = f } ∷ []
+abbrev pub kept_field : MergedRequest → Option FeatureField → List KeptField
+kept_field m None = []
+kept_field m (Some f) = record { request = m; field = f } ∷ []
 
 -- the requests that get a field, by rising tags, each with its field
 abbrev pub kept_fields : List MergedRequest → List KeptField
-kept_fields requests = flat_map (λ m. kept_if m (field_among requests m)) requests
+kept_fields requests = flat_map (λ m. kept_field m (field_among requests m)) requests

@@ -3,7 +3,7 @@ use Rattle.std.specs.Prelude.{ℕ, ◌≡◌, ◌<◌, false, List, slice_get, S
 use Rattle.std.specs.Int.RustNames.{bit_and}
 use Rattle.layout_map_features.specs.declared.request.MergedRequest.{MergedRequest}
 use Rattle.layout_map_features.specs.declared.request.FeatureRequest.{FeatureRequest}
-use Rattle.layout_map_features.specs.declared.kept.KeptField.{KeptField}
+use Rattle.layout_map_features.specs.declared.kept_fields.KeptField.{KeptField}
 use Rattle.layout_map_features.specs.declared.lookup.lookup_map_t.{lookup_map_t}
 use Rattle.layout_map_features.specs.Entering.{RisesFrom, RisesWithin}
 use Rattle.layout_map_features.specs.Requests.{merged_requests}

@@ -25,8 +25,8 @@ outside_value before r = if is_global r then r.value else before
 
 -- the merged requests for one feature, the first and the later ones: the last says whether the feature is global, a
 -- fallback of any stays, the earliest stage stays, and the other flags are the first's
-abbrev pub merged : FeatureRequest → List FeatureRequest → MergedRequest
-merged first later = record {
+abbrev pub merged_request : FeatureRequest → List FeatureRequest → MergedRequest
+merged_request first later = record {
   tag = first.tag;
   is_global = fold (λ _ r. is_global r) (is_global first) later;
   max_value = fold greatest_value first.value later;
@@ -44,8 +44,8 @@ merged first later = record {
 }
 
 -- merged requests with a later one
-abbrev pub joined : MergedRequest → FeatureRequest → MergedRequest
-joined m r = record m {
+abbrev pub request_with_later : MergedRequest → FeatureRequest → MergedRequest
+request_with_later m r = record m {
   is_global = is_global r;
   max_value = greatest_value m.max_value r;
   default_value = outside_value m.default_value r;
@@ -55,4 +55,4 @@ joined m r = record m {
 
 -- the merged requests for each requested tag, by rising tags
 abbrev pub merged_requests : List FeatureRequest → List MergedRequest
-merged_requests requests = groups (λ r. r.tag.0) merged requests
+merged_requests requests = groups (λ r. r.tag.0) merged_request requests

@@ -8,24 +8,24 @@ use crate::flags::{
 };
 
 /// A feature's own bits are no glyph flags, and not the global bit.
-pub fn own_bits_are_free()
+pub fn law_own_bits_are_free()
     ensures { OwnBitsAreFree }
 {}
 
 /// Two features with bits of their own share none.
-pub fn own_bits_are_apart()
+pub fn law_own_bits_are_apart()
     ensures { OwnBitsAreApart }
 {}
 
 /// The tags of merged requests rise strictly.
 #[tactic(auto, using(crate::proofs::Rising::tags_rise))]
-pub fn tags_rise()
+pub fn law_tags_rise()
     ensures { TagsRise }
 {}
 
 /// The lookups of a stage rise strictly, and are below the table's count.
 #[tactic(auto, using(crate::proofs::Rising::lookups_rise))]
-pub fn lookups_rise()
+pub fn law_lookups_rise()
     ensures { LookupsRise }
 {}
 

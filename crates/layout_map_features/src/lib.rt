@@ -3,7 +3,7 @@
 
 pub mod field;
 pub mod flags;
-pub mod kept;
+pub mod kept_fields;
 pub mod laws;
 pub mod lookup;
 pub mod merge;

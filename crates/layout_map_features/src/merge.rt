@@ -2,7 +2,7 @@
 ghost use Rattle.std.specs.Prelude.{◌≡◌, IfOk, OnOk};
 ghost use Rattle.layout_map_features.specs.Entering.{entries_with};
 ghost use Rattle.layout_map_features.specs.Lookups.{entries_below_with, merged_lookups};
-ghost use Rattle.layout_map_features.specs.Requests.{joined, merged, merged_requests};
+ghost use Rattle.layout_map_features.specs.Requests.{request_with_later, merged_request, merged_requests};
 
 use crate::lookup::lookup_map_t;
 use crate::request::{FeatureRequest, MergedRequest};
@@ -14,7 +14,7 @@ fn enter_request(
     request: &FeatureRequest,
 ) -> Result<(), AllocError>
     ensures { OnOk result
-        (by_tag.new.entries ≡ entries_with (λ r. r.tag.0) merged joined by_tag.old.entries request.now) }
+        (by_tag.new.entries ≡ entries_with (λ r. r.tag.0) merged_request request_with_later by_tag.old.entries request.now) }
 {
     let merged = match by_tag.get(&request.tag.0) {
         Some(before) => before.with(request),
@@ -30,7 +30,7 @@ pub fn merged_requests(
     alloc: Global,
     requests: &[FeatureRequest],
 ) -> Result<Vec<MergedRequest>, AllocError>
-    ensures { IfOk result (λ merged. merged.items ≡ merged_requests requests.now) }
+    ensures { IfOk result (λ merged_request. merged_request.items ≡ merged_requests requests.now) }
 {
     let mut by_tag = BTreeMap::new(alloc);
     for request in requests {

@@ -1,6 +1,6 @@
 //! Requests for features (rustybuzz: hb/ot_map.rs, `feature_info_t`).
 ghost use Rattle.std.specs.Prelude.{◌≡◌, [], if◌then◌else◌};
-ghost use Rattle.layout_map_features.specs.Requests.{has_flag, is_global, joined, merged};
+ghost use Rattle.layout_map_features.specs.Requests.{has_flag, is_global, request_with_later, merged_request};
 
 use crate::flags::{
     F_GLOBAL, F_GLOBAL_SEARCH, F_HAS_FALLBACK, F_MANUAL_ZWJ, F_MANUAL_ZWNJ, F_PER_SYLLABLE,
@@ -61,7 +61,7 @@ impl FeatureRequest {
 impl MergedRequest {
     /// One request as merged requests.
     pub fn new(request: &FeatureRequest) -> MergedRequest
-        ensures { result ≡ merged request.now [] }
+        ensures { result ≡ merged_request request.now [] }
     {
         MergedRequest {
             tag: request.tag,
@@ -80,7 +80,7 @@ impl MergedRequest {
 
     /// The merged requests with a later one for the same feature.
     pub fn with(&self, request: &FeatureRequest) -> MergedRequest
-        ensures { result ≡ joined self.now request.now }
+        ensures { result ≡ request_with_later self.now request.now }
     {
         let is_global = request.has_flag(F_GLOBAL);
         MergedRequest {

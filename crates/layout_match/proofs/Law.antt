@@ -5,16 +5,16 @@ use Rattle.std.proofs.lemmas.List.{length-drop}
 use Rattle.buffer_glyphs.specs.Items.{Item}
 use Rattle.layout_match.specs.declared.search.match_t.{match_t}
 use Rattle.layout_match.specs.declared.search.match_t.TheVariants.{MATCH, SKIP, NOT_MATCH}
-use Rattle.layout_match.specs.Matches.{by_answer, nearest, nearest_from, then_reached, reached, with_index, indices}
+use Rattle.layout_match.specs.Matches.{by_answer, nearest, nearest_from, then_sequence_end, sequence_end, with_index, indices}
 use Rattle.layout_match.specs.Laws.{Says, HasRead, IsNearest, AreNearest, NearestIsTaken, FailedSearchesRead, MatchesAreWhole, MatchesAreNearest, NearestAreMatched}
 
-one_more : (r : Result ℕ ℕ) (end n : ℕ) (next : ℕ → Result ℕ ℕ) (rest : ℕ → List ℕ) → ((at : ℕ) → next at ≡ Ok end → length (rest at) ≡ n) → then_reached r next ≡ Ok end → length (with_index r rest) ≡ n + 1
+one_more : (r : Result ℕ ℕ) (end n : ℕ) (next : ℕ → Result ℕ ℕ) (rest : ℕ → List ℕ) → ((at : ℕ) → next at ≡ Ok end → length (rest at) ≡ n) → then_sequence_end r next ≡ Ok end → length (with_index r rest) ≡ n + 1
 one_more (Ok at) end n next rest h e = rw (h (at + 1) e) (omega arith)
 one_more (Err k) end n next rest h e = cc
 
 pub whole_match : MatchesAreWhole
 whole_match [] from end xs e = refl
-whole_match (ask ∷ asks) from end xs e = one_more (nearest_from ask from xs) end (length asks) (λ next. reached asks next xs) (λ next. indices asks next xs) (λ at. whole_match asks at end xs) e ∙ omega arith
+whole_match (ask ∷ asks) from end xs e = one_more (nearest_from ask from xs) end (length asks) (λ next. sequence_end asks next xs) (λ next. indices asks next xs) (λ at. whole_match asks at end xs) e ∙ omega arith
 
 -- ---- of a list whose first item has an index
 
@@ -113,8 +113,8 @@ failed_read ask from end xs le e = lifted ask from end xs le (read ask from end 
 
 -- ---- matches
 
-nearest_more : (ask : Item → match_t) (asks : List (Item → match_t)) (from end : ℕ) (xs : List Item) (r : Result ℕ ℕ) → nearest_from ask from xs ≡ r → ((at : ℕ) → reached asks at xs ≡ Ok end → AreNearest asks at xs (indices asks at xs) end)
-    → then_reached r (λ next. reached asks next xs) ≡ Ok end → AreNearest (ask ∷ asks) from xs (with_index r (λ next. indices asks next xs)) end
+nearest_more : (ask : Item → match_t) (asks : List (Item → match_t)) (from end : ℕ) (xs : List Item) (r : Result ℕ ℕ) → nearest_from ask from xs ≡ r → ((at : ℕ) → sequence_end asks at xs ≡ Ok end → AreNearest asks at xs (indices asks at xs) end)
+    → then_sequence_end r (λ next. sequence_end asks next xs) ≡ Ok end → AreNearest (ask ∷ asks) from xs (with_index r (λ next. indices asks next xs)) end
 nearest_more ask asks from end xs (Ok at) is more e = (nearest_taken ask from at xs is, more (at + 1) e)
 nearest_more ask asks from end xs (Err k) is more e = cc
 
@@ -161,8 +161,8 @@ nearest_found ask from at xs (Err end) is n = absurd (unread ask (drop from xs) 
     passed : (k : ℕ) → k < at - from → Says ask (drop from xs) k SKIP
     passed k lt = ap (option_map ask) (get_dropped from k xs) ∙ n.passed (from + k) (omega arith) (omega (arith, lt))
 
-only_more : (ask : Item → match_t) (asks : List (Item → match_t)) (from at end : ℕ) (xs : List Item) (more : List ℕ) → IsNearest ask from xs at → (reached asks (at + 1) xs ≡ Ok end) × (indices asks (at + 1) xs ≡ more)
-    → (reached (ask ∷ asks) from xs ≡ Ok end) × (indices (ask ∷ asks) from xs ≡ at ∷ more)
+only_more : (ask : Item → match_t) (asks : List (Item → match_t)) (from at end : ℕ) (xs : List Item) (more : List ℕ) → IsNearest ask from xs at → (sequence_end asks (at + 1) xs ≡ Ok end) × (indices asks (at + 1) xs ≡ more)
+    → (sequence_end (ask ∷ asks) from xs ≡ Ok end) × (indices (ask ∷ asks) from xs ≡ at ∷ more)
 only_more ask asks from at end xs more n h =
     let is : nearest_from ask from xs ≡ Ok at = nearest_found ask from at xs (nearest_from ask from xs) refl n in
     (rw is h.0, rw is (ap (λ l. at ∷ l) h.1))

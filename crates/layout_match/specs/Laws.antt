@@ -4,7 +4,7 @@ use Rattle.buffer_glyphs.specs.Items.{Item}
 use Rattle.layout_match.specs.declared.search.match_t.{match_t}
 use Rattle.layout_match.specs.declared.search.match_t.TheVariants.{MATCH, SKIP, NOT_MATCH}
 use Rattle.buffer_glyphs.specs.LigatureWords.{component_bound, component_word, is_ligature, lig_comp, lig_id, lig_num_comps, ligature_word}
-use Rattle.layout_match.specs.Matches.{nearest_from, reached, indices}
+use Rattle.layout_match.specs.Matches.{nearest_from, sequence_end, indices}
 
 -- there is an item at an index, with this answer
 abbrev pub Says : (Item → match_t) → List Item → ℕ → match_t → Type 0
@@ -42,15 +42,15 @@ AreNearest (ask ∷ asks) from xs (at ∷ more) end = IsNearest ask from xs at �
 
 -- the indices of a match are nearest indices
 abbrev pub MatchesAreNearest : Type 0
-MatchesAreNearest = (asks : List (Item → match_t)) (from end : ℕ) (xs : List Item) → reached asks from xs ≡ Ok end → AreNearest asks from xs (indices asks from xs) end
+MatchesAreNearest = (asks : List (Item → match_t)) (from end : ℕ) (xs : List Item) → sequence_end asks from xs ≡ Ok end → AreNearest asks from xs (indices asks from xs) end
 
 -- nearest indices are the indices of a match
 abbrev pub NearestAreMatched : Type 0
-NearestAreMatched = (asks : List (Item → match_t)) (from end : ℕ) (xs : List Item) (found : List ℕ) → AreNearest asks from xs found end → (reached asks from xs ≡ Ok end) × (indices asks from xs ≡ found)
+NearestAreMatched = (asks : List (Item → match_t)) (from end : ℕ) (xs : List Item) (found : List ℕ) → AreNearest asks from xs found end → (sequence_end asks from xs ≡ Ok end) × (indices asks from xs ≡ found)
 
 -- a match has one index for each item that a rule requires
 abbrev pub MatchesAreWhole : Type 0
-MatchesAreWhole = (asks : List (Item → match_t)) (from end : ℕ) (xs : List Item) → reached asks from xs ≡ Ok end → length (indices asks from xs) ≡ length asks
+MatchesAreWhole = (asks : List (Item → match_t)) (from end : ℕ) (xs : List Item) → sequence_end asks from xs ≡ Ok end → length (indices asks from xs) ≡ length asks
 
 -- the ligature word of a component gives back the ligature's number, and the component up to the greatest
 abbrev pub WordsAreRead : Type 0

@@ -23,15 +23,15 @@ abbrev pub nearest_from : (Item → match_t) → ℕ → List Item → Result �
 nearest_from ask at xs = nearest ask at (drop at xs)
 
 -- a search from where another ended, unless that failed
-abbrev pub then_reached : Result ℕ ℕ → (ℕ → Result ℕ ℕ) → Result ℕ ℕ
-then_reached (Ok at) next = next (at + 1)
-then_reached (Err end) next = Err end
+abbrev pub then_sequence_end : Result ℕ ℕ → (ℕ → Result ℕ ℕ) → Result ℕ ℕ
+then_sequence_end (Ok at) next = next (at + 1)
+then_sequence_end (Err end) next = Err end
 
 -- each required item is the nearest after the one before it: the index after the last, or how far the failed search
 -- read
-abbrev pub reached : List (Item → match_t) → ℕ → List Item → Result ℕ ℕ
-reached [] at xs = Ok at
-reached (ask ∷ asks) at xs = then_reached (nearest_from ask at xs) (λ next. reached asks next xs)
+abbrev pub sequence_end : List (Item → match_t) → ℕ → List Item → Result ℕ ℕ
+sequence_end [] at xs = Ok at
+sequence_end (ask ∷ asks) at xs = then_sequence_end (nearest_from ask at xs) (λ next. sequence_end asks next xs)
 
 -- the index found, and indices after it
 abbrev pub with_index : Result ℕ ℕ → (ℕ → List ℕ) → List ℕ
@@ -44,24 +44,24 @@ indices [] at xs = []
 indices (ask ∷ asks) at xs = with_index (nearest_from ask at xs) (λ next. indices asks next xs)
 
 -- the answers of a search for the tests of a sequence
-abbrev pub asks_of : Search → List (Item → Bool) → List (Item → match_t)
-asks_of s tests = map (answer s) tests
+abbrev pub answers_of : Search → List (Item → Bool) → List (Item → match_t)
+answers_of s tests = map (answer s) tests
 
 -- ---- the sequences of a rule at the item where it is tried; `rest` are the items from there on, `front` those before,
 -- and indices count from there
 
 -- the input: its first item is the one where the rule is tried
 abbrev pub input_end : Search → List (Item → Bool) → List Item → Result ℕ ℕ
-input_end s tests rest = reached (asks_of s tests) 1 rest
+input_end s tests rest = sequence_end (answers_of s tests) 1 rest
 
 -- the indices of the input
 abbrev pub input_indices : Search → List (Item → Bool) → List Item → List ℕ
-input_indices s tests rest = 0 ∷ indices (asks_of s tests) 1 rest
+input_indices s tests rest = 0 ∷ indices (answers_of s tests) 1 rest
 
 -- the end of the lookahead sequence after an input that ends at `start`
 abbrev pub lookahead_end : Search → List (Item → Bool) → ℕ → List Item → Result ℕ ℕ
-lookahead_end s tests start rest = reached (asks_of s tests) start rest
+lookahead_end s tests start rest = sequence_end (answers_of s tests) start rest
 
 -- the end of the backtrack sequence before the input, the nearest first
 abbrev pub backtrack_end : Search → List (Item → Bool) → List Item → Result ℕ ℕ
-backtrack_end s tests front = reached (asks_of s tests) 0 (reverse front)
+backtrack_end s tests front = sequence_end (answers_of s tests) 0 (reverse front)

@@ -2,7 +2,7 @@
 use Rattle.std.specs.Prelude.{ℕ, ◌==◌, ◌/◌, ◌&&◌, ◌||◌, Bool, not, true, if◌then◌else◌, List, Option, Some, None, bit_and}
 use Rattle.buffer_glyphs.specs.Items.{Item}
 use Rattle.buffer_glyphs.specs.LigatureWords.{has_bits}
-use Rattle.layout_face.specs.Glyphs.{has_mark}
+use Rattle.layout_face.specs.Glyphs.{mark_set_has}
 use Rattle.layout_match.specs.Sequences.{is_number, test_at, tests_of}
 use Rattle.layout_match.specs.declared.sequence.MatchSequence.{MatchSequence}
 use Rattle.layout_match.specs.declared.search.GlyphSearch.{GlyphSearch}
@@ -32,7 +32,7 @@ search_of s = record { props = s.lookup_props; sets = s.face.now.gdef.sets; zwnj
 -- class than the one it names
 abbrev pub is_other_mark : ℕ → List (List ℕ) → Item → Bool
 is_other_mark props sets x =
-    if has_bits 16 props then not (is_number x.number && has_mark (props / 65536) x.number sets)
+    if has_bits 16 props then not (is_number x.number && mark_set_has (props / 65536) x.number sets)
     else has_bits 0xFF00 props && not (bit_and props 0xFF00 == bit_and x.glyph_props 0xFF00)
 
 -- whether the lookup flag leaves out an item, by its class (the flag's bits are those of the classes) or as a mark

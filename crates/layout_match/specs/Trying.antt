@@ -5,7 +5,7 @@ use Rattle.buffer_glyphs.specs.Items.{Item}
 use Rattle.buffer_glyphs.specs.Parts.{first_of}
 use Rattle.buffer_core.specs.Readings.{View, Read, Reading, Stage, then_reading, and_then, with_events}
 use Rattle.buffer_core.specs.Sides.{zero_positions}
-use Rattle.layout_match.specs.Applied.{Applied}
+use Rattle.layout_match.specs.Applied.{ApplyContext}
 use Rattle.layout_match.specs.Searches.{is_left_out}
 use Rattle.buffer_stages.specs.Masks.{shares_mask}
 use Rattle.buffer_stages.specs.Actions.{Cut, view_at, uncut, past_item, Outcome, Passes, Acts, Refuses, Action, at_first, within_limit}
@@ -13,15 +13,15 @@ use Rattle.buffer_stages.specs.Actions.{Cut, view_at, uncut, past_item, Outcome,
 -- ---- at a cut
 
 -- whether a lookup applies to an item: it has a bit of the lookup's mask, and the lookup flag admits it
-abbrev pub meets : Applied → Item → Bool
+abbrev pub meets : ApplyContext → Item → Bool
 meets a x = shares_mask a.mask x.mask && not (is_left_out a.props a.font.gdef.sets x)
 
 -- a rule tried at an item that its lookup applies to
-abbrev pub at_met : Applied → Action → Item → Action
+abbrev pub at_met : ApplyContext → Action → Item → Action
 at_met a act x c = if meets a x then act c else Passes []
 
 -- a rule tried at the cut where its lookup applies to the first item
-abbrev pub met_first : Applied → Action → Action
+abbrev pub met_first : ApplyContext → Action → Action
 met_first a act c = at_first (at_met a act) (first_of c.rest) c
 
 -- ---- at all indices
@@ -33,29 +33,29 @@ after_outcome (Acts cut events) next v c = then_reading (with_events events (vie
 after_outcome (Refuses cause) next v c = Err cause
 
 -- the outcome of a rule that passes, with the item passed where there is room for one more
-abbrev pub gone_over : Outcome → Cut → Outcome
-gone_over (Passes events) c = within_limit 1 c (Acts (past_item c) events)
-gone_over (Acts cut events) c = Acts cut events
-gone_over (Refuses cause) c = Refuses cause
+abbrev pub outcome_past_item : Outcome → Cut → Outcome
+outcome_past_item (Passes events) c = within_limit 1 c (Acts (past_item c) events)
+outcome_past_item (Acts cut events) c = Acts cut events
+outcome_past_item (Refuses cause) c = Refuses cause
 
 -- at the end of the list nothing is tried
-abbrev pub tried_before : Action → (Cut → Reading) → View → List Item → Cut → Reading
-tried_before act next v [] c = Ok (with_events [] (view_at v c))
-tried_before act next v (x ∷ rest) c = after_outcome (gone_over (act c) c) next v c
+abbrev pub trial_at : Action → (Cut → Reading) → View → List Item → Cut → Reading
+trial_at act next v [] c = Ok (with_events [] (view_at v c))
+trial_at act next v (x ∷ rest) c = after_outcome (outcome_past_item (act c) c) next v c
 
 -- a rule tried at so many indices at most, the first of them the cut
-abbrev pub tried : Action → View → ℕ → Cut → Reading
-tried act v zero c = Ok (with_events [] (view_at v c))
-tried act v (suc n) c = tried_before act (tried act v n) v c.rest c
+abbrev pub trials : Action → View → ℕ → Cut → Reading
+trials act v zero c = Ok (with_events [] (view_at v c))
+trials act v (suc n) c = trial_at act (trials act v n) v c.rest c
 
 -- the reading of what a list became, at zero positions
-abbrev pub unplaced : View → Read
-unplaced v = with_events [] (record v { positions = zero_positions (length v.items) })
+abbrev pub with_zero_positions : View → Read
+with_zero_positions v = with_events [] (record v { positions = zero_positions (length v.items) })
 
 -- the items done and the items left become one list, which may have so many items
-abbrev pub joined : Stage
-joined v = if nat_le (length v.items) v.max_len then Ok (unplaced v) else Err TooLong
+abbrev pub whole_list : Stage
+whole_list v = if nat_le (length v.items) v.max_len then Ok (with_zero_positions v) else Err TooLong
 
 -- a rule tried at each index of a list once, from the left; the items that it made are not tried again
-abbrev pub looked_up : Action → Stage
-looked_up act v = and_then (tried act v (length v.items) (uncut v)) joined
+abbrev pub forward_pass : Action → Stage
+forward_pass act v = and_then (trials act v (length v.items) (uncut v)) whole_list

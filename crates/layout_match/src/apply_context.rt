@@ -2,7 +2,7 @@
 ghost use Rattle.std.specs.Prelude.{◌≡◌, ◌<◌, not, length, true, false};
 ghost use Rattle.buffer_glyphs.specs.Items.{item_of, strip};
 ghost use Rattle.layout_match.specs.Searches.{is_left_out, search_of};
-ghost use Rattle.layout_match.specs.Applied.{applied_of, context_search, next_random, own_search, own_syllable, positions_glyphs};
+ghost use Rattle.layout_match.specs.Applied.{apply_context_of, context_search, next_random, own_search, own_syllable, positions_glyphs};
 
 use crate::search::{GlyphSearch, is_left_out};
 use buffer_core::buffer::hb_buffer_t;
@@ -41,7 +41,7 @@ impl<'a> hb_ot_apply_context_t<'a> {
     /// The parameters for the lookups of a table: no flag, the lowest bit as mask, joiners skipped, no limit to
     /// syllables, and no number drawn.
     pub fn new(table_index: TableIndex, face: &'a Face) -> hb_ot_apply_context_t<'a>
-        ensures applied { applied_of result ≡ record {
+        ensures applied { apply_context_of result ≡ record {
           table = table_index;
           font = face.entry.now;
           props = 0;
@@ -98,7 +98,7 @@ impl<'a> hb_ot_apply_context_t<'a> {
 
     fn own_syllable(&self, buffer: &hb_buffer_t) -> Option<u8>
         requires { 0 < length buffer.now.ahead }
-        ensures { result ≡ own_syllable (applied_of self.now) (strip buffer.now.ahead) }
+        ensures { result ≡ own_syllable (apply_context_of self.now) (strip buffer.now.ahead) }
     {
         if self.per_syllable {
             return Some(buffer.cur(0).syllable);
@@ -109,7 +109,7 @@ impl<'a> hb_ot_apply_context_t<'a> {
     /// The search for a rule's input at the buffer's cursor.
     pub fn own_search(&self, buffer: &hb_buffer_t) -> GlyphSearch<'a>
         requires { 0 < length buffer.now.ahead }
-        ensures { search_of result ≡ own_search (applied_of self.now) (strip buffer.now.ahead) }
+        ensures { search_of result ≡ own_search (apply_context_of self.now) (strip buffer.now.ahead) }
     {
         let positions = positions_glyphs(self.table_index);
         GlyphSearch {
@@ -126,7 +126,7 @@ impl<'a> hb_ot_apply_context_t<'a> {
     /// The search for a rule's context around its input.
     pub fn context_search(&self, buffer: &hb_buffer_t) -> GlyphSearch<'a>
         requires { 0 < length buffer.now.ahead }
-        ensures { search_of result ≡ context_search (applied_of self.now) (strip buffer.now.ahead) }
+        ensures { search_of result ≡ context_search (apply_context_of self.now) (strip buffer.now.ahead) }
     {
         let positions = positions_glyphs(self.table_index);
         GlyphSearch {

@@ -3,10 +3,10 @@
 ghost use Rattle.std.specs.Prelude.{◌≡◌, ◌<◌, ◌≤◌, ◌∷◌, Some, length, reverse, slice_get, IfOk, IfErr};
 ghost use Rattle.std.specs.List.{All};
 ghost use Rattle.buffer_glyphs.specs.Items.{strip};
-ghost use Rattle.layout_match.specs.Applied.{applied_of, context_search, own_search};
+ghost use Rattle.layout_match.specs.Applied.{apply_context_of, context_search, own_search};
 ghost use Rattle.layout_match.specs.Searches.{answer, search_of, test_of};
 ghost use Rattle.layout_match.specs.Sequences.{tests_of};
-ghost use Rattle.layout_match.specs.Matches.{asks_of, backtrack_end, input_end, indices, input_indices, lookahead_end, nearest_from, reached};
+ghost use Rattle.layout_match.specs.Matches.{answers_of, backtrack_end, input_end, indices, input_indices, lookahead_end, nearest_from, sequence_end};
 
 use crate::apply_context::hb_ot_apply_context_t;
 use crate::search::{GlyphSearch, match_t};
@@ -98,12 +98,12 @@ pub fn match_input(
     requires there { 0 < length buffer.now.ahead }
     requires fits { length (tests_of sequence.now) < 64 }
     ensures end { result
-        ≡ input_end (own_search (applied_of ctx.now) (strip buffer.now.ahead)) (tests_of sequence.now)
+        ≡ input_end (own_search (apply_context_of ctx.now) (strip buffer.now.ahead)) (tests_of sequence.now)
         (strip buffer.now.ahead) }
     ensures inside { IfOk result (λ end. end ≤ length buffer.now.ahead) }
     ensures read { IfErr result (λ end. end ≤ length buffer.now.ahead) }
     ensures positions { match_positions.new.items
-        ≡ input_indices (own_search (applied_of ctx.now) (strip buffer.now.ahead)) (tests_of sequence.now)
+        ≡ input_indices (own_search (apply_context_of ctx.now) (strip buffer.now.ahead)) (tests_of sequence.now)
         (strip buffer.now.ahead) }
     ensures ahead { All (λ q. q < length buffer.now.ahead) match_positions.new.items }
 {
@@ -120,11 +120,11 @@ fn match_from_first<'a>(
 ) -> Result<usize, usize>
     requires there { 0 < length buffer.now.ahead }
     requires fits { length (tests_of sequence.now) < 64 }
-    ensures end { result ≡ reached (asks_of (search_of search.now) (tests_of sequence.now)) 1 (strip buffer.now.ahead) }
+    ensures end { result ≡ sequence_end (answers_of (search_of search.now) (tests_of sequence.now)) 1 (strip buffer.now.ahead) }
     ensures inside { IfOk result (λ end. end ≤ length buffer.now.ahead) }
     ensures read { IfErr result (λ end. end ≤ length buffer.now.ahead) }
     ensures positions { match_positions.new.items
-        ≡ 0 ∷ indices (asks_of (search_of search.now) (tests_of sequence.now)) 1 (strip buffer.now.ahead) }
+        ≡ 0 ∷ indices (answers_of (search_of search.now) (tests_of sequence.now)) 1 (strip buffer.now.ahead) }
     ensures ahead { All (λ q. q < length buffer.now.ahead) match_positions.new.items }
 {
     let _end = buffer.len();
@@ -152,7 +152,7 @@ fn match_ahead<'a>(
 ) -> Result<usize, usize>
     requires { start ≤ length buffer.now.ahead }
     ensures end { result
-        ≡ reached (asks_of (search_of search.now) (tests_of sequence.now)) start (strip buffer.now.ahead) }
+        ≡ sequence_end (answers_of (search_of search.now) (tests_of sequence.now)) start (strip buffer.now.ahead) }
     ensures inside { IfOk result (λ end. end ≤ length buffer.now.ahead) }
     ensures read { IfErr result (λ end. end ≤ length buffer.now.ahead) }
 {
@@ -174,7 +174,7 @@ fn match_behind<'a>(
     buffer: &hb_buffer_t,
 ) -> Result<usize, usize>
     ensures end { result
-        ≡ reached (asks_of (search_of search.now) (tests_of sequence.now)) 0 (reverse (strip buffer.now.behind)) }
+        ≡ sequence_end (answers_of (search_of search.now) (tests_of sequence.now)) 0 (reverse (strip buffer.now.behind)) }
     ensures inside { IfOk result (λ end. end ≤ length buffer.now.behind) }
     ensures read { IfErr result (λ end. end ≤ length buffer.now.behind) }
 {
@@ -200,7 +200,7 @@ pub fn match_lookahead(
     requires there { 0 < length buffer.now.ahead }
     requires within { start ≤ length buffer.now.ahead }
     ensures end { result
-        ≡ lookahead_end (context_search (applied_of ctx.now) (strip buffer.now.ahead)) (tests_of sequence.now) start
+        ≡ lookahead_end (context_search (apply_context_of ctx.now) (strip buffer.now.ahead)) (tests_of sequence.now) start
         (strip buffer.now.ahead) }
     ensures inside { IfOk result (λ end. end ≤ length buffer.now.ahead) }
     ensures read { IfErr result (λ end. end ≤ length buffer.now.ahead) }
@@ -218,7 +218,7 @@ pub fn match_backtrack(
 ) -> Result<usize, usize>
     requires { 0 < length buffer.now.ahead }
     ensures end { result
-        ≡ backtrack_end (context_search (applied_of ctx.now) (strip buffer.now.ahead)) (tests_of sequence.now)
+        ≡ backtrack_end (context_search (apply_context_of ctx.now) (strip buffer.now.ahead)) (tests_of sequence.now)
         (strip buffer.now.behind) }
     ensures inside { IfOk result (λ end. end ≤ length buffer.now.behind) }
     ensures read { IfErr result (λ end. end ≤ length buffer.now.behind) }

@@ -2,10 +2,10 @@
 //! `skipping_iterator_t`).
 ghost use Rattle.std.specs.Prelude.{◌≡◌, ◌<◌, ◌≤◌, length, reverse, IfOk, if◌then◌else◌};
 ghost use Rattle.buffer_glyphs.specs.Items.{item_of, strip};
-ghost use Rattle.layout_match.specs.Applied.{applied_of, context_search, own_search};
+ghost use Rattle.layout_match.specs.Applied.{apply_context_of, context_search, own_search};
 ghost use Rattle.layout_match.specs.Searches.{search_of};
 ghost use Rattle.layout_match.specs.Matches.{nearest_from};
-ghost use Rattle.layout_match.specs.Walks.{asked_by, behind_found};
+ghost use Rattle.layout_match.specs.Walks.{iterator_answer, after_found};
 
 use crate::apply_context::hb_ot_apply_context_t;
 use crate::matching::{nearest_ahead, nearest_behind};
@@ -35,8 +35,8 @@ impl<'a> skipping_iterator_t<'a> {
     ) -> skipping_iterator_t<'a>
         requires { 0 < length buffer.now.ahead }
         ensures search { search_of result.search
-            ≡ (if context_match then context_search (applied_of ctx.now) (strip buffer.now.ahead)
-            else own_search (applied_of ctx.now) (strip buffer.now.ahead)) }
+            ≡ (if context_match then context_search (apply_context_of ctx.now) (strip buffer.now.ahead)
+            else own_search (apply_context_of ctx.now) (strip buffer.now.ahead)) }
         ensures start { (result.sequence ≡ None) × (result.glyph_data ≡ 0) × (result.index ≡ start) }
     {
         let search = if context_match {
@@ -90,7 +90,7 @@ impl<'a> skipping_iterator_t<'a> {
 
     /// The iterator's answer for a glyph.
     pub fn match_(&self, info: &hb_glyph_info_t) -> match_t
-        ensures { result ≡ asked_by self.now (item_of info.now) }
+        ensures { result ≡ iterator_answer self.now (item_of info.now) }
     {
         self.search.match_(self.sequence, self.glyph_data, info)
     }
@@ -98,8 +98,8 @@ impl<'a> skipping_iterator_t<'a> {
     /// The next match: Ok(index), and the iterator stands after it; else Err(where the search ended), and it stays.
     pub fn next(&mut self, buffer: &hb_buffer_t) -> Result<usize, usize>
         requires { self.old.index ≤ length buffer.now.ahead }
-        ensures found { result ≡ nearest_from (asked_by self.old) self.old.index (strip buffer.now.ahead) }
-        ensures moved { self.new ≡ behind_found result self.old }
+        ensures found { result ≡ nearest_from (iterator_answer self.old) self.old.index (strip buffer.now.ahead) }
+        ensures moved { self.new ≡ after_found result self.old }
         ensures inside { IfOk result (λ at. at < length buffer.now.ahead) }
     {
         let _end = buffer.len();
@@ -118,8 +118,8 @@ impl<'a> skipping_iterator_t<'a> {
     /// ended), and it stays.
     pub fn prev(&mut self, buffer: &hb_buffer_t) -> Result<usize, usize>
         requires { self.old.index ≤ length buffer.now.behind }
-        ensures found { result ≡ nearest_from (asked_by self.old) self.old.index (reverse (strip buffer.now.behind)) }
-        ensures moved { self.new ≡ behind_found result self.old }
+        ensures found { result ≡ nearest_from (iterator_answer self.old) self.old.index (reverse (strip buffer.now.behind)) }
+        ensures moved { self.new ≡ after_found result self.old }
         ensures inside { IfOk result (λ at. at < length buffer.now.behind) }
     {
         let _end = buffer.out_len();

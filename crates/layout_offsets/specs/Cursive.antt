@@ -11,21 +11,21 @@ use Rattle.layout_offsets.specs.Links.{position_at, parent, without_link, is_nea
 -- ---- cursive joins
 
 -- a number negated, as 32 bits have it
-abbrev pub negated : ℤ → ℤ
-negated a = minus (pos 0) a
+abbrev pub negative : ℤ → ℤ
+negative a = minus (pos 0) a
 
 -- a link negated, as 16 bits have it
 abbrev pub turned_link : ℤ → ℤ
 turned_link a = int_wrap w16 (neg_ℤ a)
 
 -- a glyph of an old chain attached to the one that was attached to it
-abbrev pub turned_across : Bool → Position → Position → Position
-turned_across true c p = record p { y_offset = negated c.y_offset; attach_chain = turned_link c.attach_chain; attach_type = c.attach_type }
-turned_across false c p = record p { x_offset = negated c.x_offset; attach_chain = turned_link c.attach_chain; attach_type = c.attach_type }
+abbrev pub with_link_reversed : Bool → Position → Position → Position
+with_link_reversed true c p = record p { y_offset = negative c.y_offset; attach_chain = turned_link c.attach_chain; attach_type = c.attach_type }
+with_link_reversed false c p = record p { x_offset = negative c.x_offset; attach_chain = turned_link c.attach_chain; attach_type = c.attach_type }
 
 -- a position with the link of its chain reversed
 abbrev pub turned_position : Direction → Position → Position → Position
-turned_position d c p = turned_across (is_horizontal d) c p
+turned_position d c p = with_link_reversed (is_horizontal d) c p
 
 -- a glyph, but none at the new parent
 abbrev pub unless_at : ℕ → Option ℕ → Option ℕ
@@ -42,23 +42,23 @@ turned_beyond d turn p None ps = ps
 turned_beyond d turn p (Some j) ps = turn j (turned_position d p (position_at j ps)) ps
 
 -- glyph i gets another position, and the chain from it on is reversed, over at most so many links
-unfoldable pub turned_from : Direction → ℕ → ℕ → ℕ → Position → List Position → List Position
-turned_from d stop zero i new ps = ps
-turned_from d stop (suc fuel) i new ps = turned_beyond d (turned_from d stop fuel) (position_at i ps) (old_parent stop i ps) (set ps i new)
+unfoldable pub chain_reversed_from : Direction → ℕ → ℕ → ℕ → Position → List Position → List Position
+chain_reversed_from d stop zero i new ps = ps
+chain_reversed_from d stop (suc fuel) i new ps = turned_beyond d (chain_reversed_from d stop fuel) (position_at i ps) (old_parent stop i ps) (set ps i new)
 
 -- the chain of a cursive child reversed, with the child as its root; of another glyph nothing changes
 abbrev pub chain_turned : Direction → ℕ → ℕ → List Position → List Position
-chain_turned d stop i ps = if (position_at i ps).attach_type == 2 then turned_from d stop (length ps) i (without_link (position_at i ps)) ps else ps
+chain_turned d stop i ps = if (position_at i ps).attach_type == 2 then chain_reversed_from d stop (length ps) i (without_link (position_at i ps)) ps else ps
 
 -- a child attached to its parent at an offset across the line
-abbrev pub joined_across : Bool → ℤ → ℤ → ℤ → Position → Position
-joined_across true x y link p = record p { y_offset = y; attach_chain = link; attach_type = 2 }
-joined_across false x y link p = record p { x_offset = x; attach_chain = link; attach_type = 2 }
+abbrev pub child_position : Bool → ℤ → ℤ → ℤ → Position → Position
+child_position true x y link p = record p { y_offset = y; attach_chain = link; attach_type = 2 }
+child_position false x y link p = record p { x_offset = x; attach_chain = link; attach_type = 2 }
 
 -- a parent that was attached to its child, without its offset across the line
-abbrev pub freed_across : Bool → Position → Position
-freed_across true p = record p { y_offset = pos 0; attach_chain = pos 0 }
-freed_across false p = record p { x_offset = pos 0; attach_chain = pos 0 }
+abbrev pub freed_position : Bool → Position → Position
+freed_position true p = record p { y_offset = pos 0; attach_chain = pos 0 }
+freed_position false p = record p { x_offset = pos 0; attach_chain = pos 0 }
 
 -- whether a glyph is the child that another was attached to
 abbrev pub is_child_of : ℕ → Option ℕ → Bool
@@ -66,16 +66,16 @@ is_child_of child None = false
 is_child_of child (Some j) = j == child
 
 -- a parent that was attached to its child unlinked
-abbrev pub freed : Direction → ℕ → ℕ → List Position → List Position
-freed d child to ps = if is_child_of child (parent to ps) then set ps to (freed_across (is_horizontal d) (position_at to ps)) else ps
+abbrev pub with_parent_freed : Direction → ℕ → ℕ → List Position → List Position
+with_parent_freed d child to ps = if is_child_of child (parent to ps) then set ps to (freed_position (is_horizontal d) (position_at to ps)) else ps
 
 -- a cursive child attached to its parent
-abbrev pub joined_at : Direction → ℕ → ℕ → ℤ → ℤ → List Position → List Position
-joined_at d child to x y ps = set ps child (joined_across (is_horizontal d) x y (link_to child to) (position_at child ps))
+abbrev pub with_child_attached : Direction → ℕ → ℕ → ℤ → ℤ → List Position → List Position
+with_child_attached d child to x y ps = set ps child (child_position (is_horizontal d) x y (link_to child to) (position_at child ps))
 
 -- a cursive child attached to its parent where that is near enough
-abbrev pub cursive_hung : Direction → ℕ → ℕ → ℤ → ℤ → List Position → List Position
-cursive_hung d child to x y ps = if is_near child to then freed d child to (joined_at d child to x y (chain_turned d to child ps)) else ps
+abbrev pub with_cursive_attached : Direction → ℕ → ℕ → ℤ → ℤ → List Position → List Position
+with_cursive_attached d child to x y ps = if is_near child to then with_parent_freed d child to (with_child_attached d child to x y (chain_turned d to child ps)) else ps
 
 -- ---- advances of a join: the first ends at its exit, the second begins at its entry
 
@@ -85,9 +85,9 @@ first_ends true exit p = record p { x_advance = plus exit.x p.x_offset }
 first_ends false exit p = record p { y_advance = plus exit.y p.y_offset }
 
 -- the second glyph's position from its entry on
-abbrev pub shifted : Bool → Anchor → Position → Position
-shifted true anchor p = record p { x_advance = minus p.x_advance (plus anchor.x p.x_offset); x_offset = minus p.x_offset (plus anchor.x p.x_offset) }
-shifted false anchor p = record p { y_advance = minus p.y_advance (plus anchor.y p.y_offset); y_offset = minus p.y_offset (plus anchor.y p.y_offset) }
+abbrev pub position_from_anchor : Bool → Anchor → Position → Position
+position_from_anchor true anchor p = record p { x_advance = minus p.x_advance (plus anchor.x p.x_offset); x_offset = minus p.x_offset (plus anchor.x p.x_offset) }
+position_from_anchor false anchor p = record p { y_advance = minus p.y_advance (plus anchor.y p.y_offset); y_offset = minus p.y_offset (plus anchor.y p.y_offset) }
 
 -- the position at an index changed
 abbrev pub change_at : (Position → Position) → ℕ → List Position → List Position
@@ -96,20 +96,20 @@ change_at f i ps = set ps i (f (position_at i ps))
 -- forward the first glyph's advance ends at its exit, and the second loses the distance before its entry; backward the
 -- other way round
 abbrev pub joined_advances : Bool → Bool → ℕ → Anchor → ℕ → Anchor → List Position → List Position
-joined_advances true across first exit second entry ps = change_at (shifted across entry) second (change_at (first_ends across exit) first ps)
-joined_advances false across first exit second entry ps = change_at (first_ends across entry) second (change_at (shifted across exit) first ps)
+joined_advances true across first exit second entry ps = change_at (position_from_anchor across entry) second (change_at (first_ends across exit) first ps)
+joined_advances false across first exit second entry ps = change_at (first_ends across entry) second (change_at (position_from_anchor across exit) first ps)
 
 -- ---- two glyphs joined
 
 -- a lookup with RIGHT_TO_LEFT attaches the earlier glyph to the later one
-abbrev pub hangs_earlier : ℕ → Bool
-hangs_earlier props = not (bit_and props 1 == 0)
+abbrev pub attaches_earlier : ℕ → Bool
+attaches_earlier props = not (bit_and props 1 == 0)
 
 -- the child attached to its parent, at the parent's anchor less its own across the line
-abbrev pub joined_on : Direction → Bool → ℕ → Anchor → ℕ → Anchor → List Position → List Position
-joined_on d true first exit second entry ps = cursive_hung d first second (entry.x -ℤ exit.x) (entry.y -ℤ exit.y) ps
-joined_on d false first exit second entry ps = cursive_hung d second first (exit.x -ℤ entry.x) (exit.y -ℤ entry.y) ps
+abbrev pub with_cursive_offset : Direction → Bool → ℕ → Anchor → ℕ → Anchor → List Position → List Position
+with_cursive_offset d true first exit second entry ps = with_cursive_attached d first second (entry.x -ℤ exit.x) (entry.y -ℤ exit.y) ps
+with_cursive_offset d false first exit second entry ps = with_cursive_attached d second first (exit.x -ℤ entry.x) (exit.y -ℤ entry.y) ps
 
 -- two glyphs joined: along the line the first ends at its exit and the second begins at its entry
-abbrev pub joined : Direction → Bool → ℕ → Anchor → ℕ → Anchor → List Position → List Position
-joined d earlier first exit second entry ps = joined_on d earlier first exit second entry (joined_advances (is_forward d) (is_horizontal d) first exit second entry ps)
+abbrev pub cursive_attachment : Direction → Bool → ℕ → Anchor → ℕ → Anchor → List Position → List Position
+cursive_attachment d earlier first exit second entry ps = with_cursive_offset d earlier first exit second entry (joined_advances (is_forward d) (is_horizontal d) first exit second entry ps)

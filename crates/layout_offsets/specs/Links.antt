@@ -11,12 +11,12 @@ abbrev pub without_link : Position → Position
 without_link p = record p { attach_chain = pos 0 }
 
 -- the index that a link of position i leads to, among n positions: none where the link is 0 or leads outside
-abbrev pub linked : ℕ → ℕ → ℤ → Option ℕ
-linked n i d = if nat_abs d == 0 then None else if int_le (pos 0) (pos i +ℤ d) && int_lt (pos i +ℤ d) (pos n) then Some (nat_abs (pos i +ℤ d)) else None
+abbrev pub link_target : ℕ → ℕ → ℤ → Option ℕ
+link_target n i d = if nat_abs d == 0 then None else if int_le (pos 0) (pos i +ℤ d) && int_lt (pos i +ℤ d) (pos n) then Some (nat_abs (pos i +ℤ d)) else None
 
 -- the index of the glyph that a glyph is attached to
 abbrev pub parent : ℕ → List Position → Option ℕ
-parent i ps = linked (length ps) i (position_at i ps).attach_chain
+parent i ps = link_target (length ps) i (position_at i ps).attach_chain
 
 -- whether a link may lead from one index to the other: over at most 32,767 glyphs
 abbrev pub is_near : ℕ → ℕ → Bool

@@ -2,7 +2,7 @@
 ghost use Rattle.std.specs.Prelude.{◌≡◌, ◌<◌, true, length};
 ghost use Rattle.buffer_common.specs.Direction.{is_forward, is_horizontal};
 ghost use Rattle.layout_offsets.specs.Links.{is_near, parent, without_link};
-ghost use Rattle.layout_offsets.specs.Cursive.{cursive_hung, first_ends, freed, freed_across, joined_across, joined_advances, joined_at, negated, old_parent, shifted, chain_turned, turned_across, turned_from, turned_link};
+ghost use Rattle.layout_offsets.specs.Cursive.{with_cursive_attached, first_ends, with_parent_freed, freed_position, child_position, joined_advances, with_child_attached, negative, old_parent, position_from_anchor, chain_turned, with_link_reversed, chain_reversed_from, turned_link};
 
 use crate::links::{is_near, link_to, linked};
 use crate::sums::{minus, plus};
@@ -31,7 +31,7 @@ fn old_parent(positions: &[GlyphPosition], stop: usize, at: usize) -> Option<usi
 }
 
 fn negated(a: i32) -> i32
-    ensures { result ≡ negated a }
+    ensures { result ≡ negative a }
 {
     minus(0, a)
 }
@@ -43,7 +43,7 @@ fn turned_link(link: i16) -> i16
 }
 
 fn turned_across(across: bool, child: GlyphPosition, position: GlyphPosition) -> GlyphPosition
-    ensures { result ≡ turned_across across child position }
+    ensures { result ≡ with_link_reversed across child position }
 {
     let mut there = position;
     if across {
@@ -74,7 +74,7 @@ fn turn_from(
     direction: Direction,
 )
     requires here { start < length positions.old }
-    ensures { positions.new ≡ turned_from direction stop (length positions.old) start first positions.old }
+    ensures { positions.new ≡ chain_reversed_from direction stop (length positions.old) start first positions.old }
 {
     let mut new = first;
     let mut at = start;
@@ -103,7 +103,7 @@ pub fn turn(positions: &mut [GlyphPosition], stop: usize, start: usize, directio
 }
 
 fn joined_across(across: bool, x: i32, y: i32, link: i16, position: GlyphPosition) -> GlyphPosition
-    ensures { result ≡ joined_across across x y link position }
+    ensures { result ≡ child_position across x y link position }
 {
     let mut there = position;
     if across {
@@ -117,7 +117,7 @@ fn joined_across(across: bool, x: i32, y: i32, link: i16, position: GlyphPositio
 }
 
 fn freed_across(across: bool, position: GlyphPosition) -> GlyphPosition
-    ensures { result ≡ freed_across across position }
+    ensures { result ≡ freed_position across position }
 {
     let mut there = position;
     if across {
@@ -139,7 +139,7 @@ fn join_at(
 )
     requires child { child < length positions.old }
     requires near { is_near child to ≡ true }
-    ensures { positions.new ≡ joined_at direction child to x y positions.old }
+    ensures { positions.new ≡ with_child_attached direction child to x y positions.old }
 {
     let link = link_to(child, to);
     let position = positions[child];
@@ -149,7 +149,7 @@ fn join_at(
 /// Unlinks a parent that was attached to its child.
 fn free(positions: &mut [GlyphPosition], child: usize, to: usize, direction: Direction)
     requires to { to < length positions.old }
-    ensures { positions.new ≡ freed direction child to positions.old }
+    ensures { positions.new ≡ with_parent_freed direction child to positions.old }
 {
     let Some(there) = parent(positions, to) else {
         return;
@@ -172,7 +172,7 @@ pub fn hang_child(
 )
     requires child { child < length positions.old }
     requires to { to < length positions.old }
-    ensures { positions.new ≡ cursive_hung direction child to x y positions.old }
+    ensures { positions.new ≡ with_cursive_attached direction child to x y positions.old }
 {
     if !is_near(child, to) {
         return;
@@ -195,7 +195,7 @@ fn first_ends(across: bool, exit: Anchor, position: GlyphPosition) -> GlyphPosit
 }
 
 fn shifted(across: bool, anchor: Anchor, position: GlyphPosition) -> GlyphPosition
-    ensures { result ≡ shifted across anchor position }
+    ensures { result ≡ position_from_anchor across anchor position }
 {
     let mut there = position;
     if across {

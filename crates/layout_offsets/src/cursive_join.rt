@@ -1,6 +1,6 @@
 //! Cursive joins of two glyphs, on a list of positions.
 ghost use Rattle.std.specs.Prelude.{◌≡◌, ◌<◌, ◌-ℤ◌, length};
-ghost use Rattle.layout_offsets.specs.Cursive.{hangs_earlier, joined, joined_on};
+ghost use Rattle.layout_offsets.specs.Cursive.{attaches_earlier, cursive_attachment, with_cursive_offset};
 
 use crate::cursive_chain::{hang_child, join_advances};
 use buffer_common::direction::Direction;
@@ -10,7 +10,7 @@ use layout_subtables::value::Anchor;
 
 /// Whether a lookup with this flag attaches the earlier of two glyphs to the later one.
 pub fn hangs_earlier(props: u32) -> bool
-    ensures { result ≡ hangs_earlier props }
+    ensures { result ≡ attaches_earlier props }
 {
     props & u32::from(RIGHT_TO_LEFT) != 0
 }
@@ -34,7 +34,7 @@ pub struct Joint {
 fn join_on(positions: &mut [GlyphPosition], earlier: bool, join: Joint, direction: Direction)
     requires first { join.first < length positions.old }
     requires second { join.second < length positions.old }
-    ensures { positions.new ≡ joined_on direction earlier join.first join.exit join.second join.entry positions.old }
+    ensures { positions.new ≡ with_cursive_offset direction earlier join.first join.exit join.second join.entry positions.old }
 {
     let Joint {
         first,
@@ -55,7 +55,7 @@ fn join_on(positions: &mut [GlyphPosition], earlier: bool, join: Joint, directio
 pub fn join_both(positions: &mut [GlyphPosition], earlier: bool, join: Joint, direction: Direction)
     requires first { join.first < length positions.old }
     requires second { join.second < length positions.old }
-    ensures { positions.new ≡ joined direction earlier join.first join.exit join.second join.entry positions.old }
+    ensures { positions.new ≡ cursive_attachment direction earlier join.first join.exit join.second join.entry positions.old }
 {
     join_advances(
         positions,

@@ -1,13 +1,13 @@
 //! A position without advances.
 ghost use Rattle.std.specs.Prelude.{◌≡◌};
-ghost use Rattle.layout_offsets.specs.Zeroing.{set_back, without_advances, zeroed};
+ghost use Rattle.layout_offsets.specs.Zeroing.{position_set_back, without_advances, zeroed_position};
 
 use crate::sums::minus;
 use buffer_glyphs::position::GlyphPosition;
 
 /// A position without its advances; where `adjust` is set, they are first subtracted from its offsets.
 pub fn zeroed(adjust: bool, position: GlyphPosition) -> GlyphPosition
-    ensures { result ≡ zeroed adjust position }
+    ensures { result ≡ zeroed_position adjust position }
 {
     if adjust {
         without_advances(set_back(position))
@@ -17,7 +17,7 @@ pub fn zeroed(adjust: bool, position: GlyphPosition) -> GlyphPosition
 }
 
 fn set_back(position: GlyphPosition) -> GlyphPosition
-    ensures { result ≡ set_back position }
+    ensures { result ≡ position_set_back position }
 {
     GlyphPosition {
         x_offset: minus(position.x_offset, position.x_advance),

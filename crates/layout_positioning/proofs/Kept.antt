@@ -4,19 +4,19 @@ use Rattle.std.specs.Prelude.{Result, OnOk}
 use Rattle.std.proofs.lemmas.List.{take-append-drop, map-append}
 use Rattle.buffer_glyphs.specs.declared.cause.ShapeCause.{ShapeCause}
 use Rattle.buffer_glyphs.specs.Items.{Item, item_of, strip}
-use Rattle.buffer_core.specs.Sides.{Sides, all_glyphs, items_of, moved_on}
+use Rattle.buffer_core.specs.Sides.{Sides, all_glyphs, items_of, after_next_glyphs}
 use Rattle.layout_subtables.specs.declared.context.SequenceLookupRecord.{SequenceLookupRecord}
 use Rattle.layout_face.specs.declared.positioning.PositioningLookup.{PositioningLookup}
 use Rattle.layout_face.specs.declared.positioning.PositioningSubtables.{PositioningSubtables}
-use Rattle.layout_match.specs.Applied.{Applied}
+use Rattle.layout_match.specs.Applied.{ApplyContext}
 use Rattle.buffer_stages.specs.Actions.{Cut, whole, Action, Outcome, Passes, Acts, Refuses}
-use Rattle.buffer_stages.specs.Performing.{Performed, Performs, cut_with}
+use Rattle.buffer_stages.specs.Performing.{IsPerformed, Performs, cut_with}
 use Rattle.buffer_stages.proofs.Lemmas.Frames.{same_numbers}
 use Rattle.layout_contexts.specs.Chains.{Chain, chain_rule}
 use Rattle.layout_contexts.specs.Fitting.{IsMatched, Matched}
-use Rattle.layout_contexts.specs.Nested.{Walks, cut_at, cut_behind, holds, spent}
+use Rattle.layout_contexts.specs.Nested.{Walks, cut_at, cut_after_match, holds, with_budget_spent}
 use Rattle.layout_contexts.specs.Nesting.{Nests}
-use Rattle.layout_contexts.specs.Records.{IsBegun}
+use Rattle.layout_contexts.specs.Records.{IsRecordBegun}
 use Rattle.layout_subtables.specs.declared.mark.MarkBasePos.{MarkBasePos}
 use Rattle.layout_subtables.specs.declared.mark.MarkLigPos.{MarkLigPos}
 use Rattle.layout_gpos.specs.Bases.{AreKept, IsKept, any_sought}
@@ -26,16 +26,16 @@ use Rattle.layout_gpos.specs.declared.bases.Sought.TheVariants.{Base, Ligature}
 use Rattle.layout_gpos.specs.Moving.{KeepsItems, ItemsStay}
 use Rattle.layout_gpos.proofs.Lemmas.Left.{base_keeps, either_way, ligature_keeps, performed_left}
 use Rattle.layout_gpos.specs.declared.bases.LastSearches.{LastSearches}
-use Rattle.layout_positioning.specs.Lookups.{first_subtable, nested}
+use Rattle.layout_positioning.specs.Lookups.{first_subtable, nested_actions}
 use Rattle.layout_positioning.proofs.Left.{chain_keeps, cut_whole, nest_keeps, subtable_keeps}
 
-pub kept_same : (a : Applied) (l : LastSearches) (s new : Sides) → items_of new ≡ items_of s → AreKept a (items_of s) l → AreKept a (items_of new) l
+pub kept_same : (a : ApplyContext) (l : LastSearches) (s new : Sides) → items_of new ≡ items_of s → AreKept a (items_of s) l → AreKept a (items_of new) l
 kept_same a l s new e kept = subst (λ (xs : List Item). AreKept a xs l) (sym e) kept
 
 -- the cursor went over a glyph
-pub passed_kept : (a : Applied) (l : LastSearches) (mid new : Sides) → AreKept a (items_of mid) l → new ≡ moved_on 1 mid → AreKept a (items_of new) l
+pub passed_kept : (a : ApplyContext) (l : LastSearches) (mid new : Sides) → AreKept a (items_of mid) l → new ≡ after_next_glyphs 1 mid → AreKept a (items_of new) l
 passed_kept a l mid new kept is =
-    let same : all_glyphs (moved_on 1 mid) ≡ all_glyphs mid = append_assoc mid.behind (take 1 mid.ahead) (drop 1 mid.ahead) ∙ ap (λ gs. mid.behind ++ gs) (take-append-drop 1 mid.ahead) in
+    let same : all_glyphs (after_next_glyphs 1 mid) ≡ all_glyphs mid = append_assoc mid.behind (take 1 mid.ahead) (drop 1 mid.ahead) ∙ ap (λ gs. mid.behind ++ gs) (take-append-drop 1 mid.ahead) in
     kept_same a l mid new (ap items_of is ∙ ap strip same) kept
 
 -- a call performed a rule that changes no item
@@ -43,31 +43,31 @@ performs_left : (o : Outcome) (y : Result Bool ShapeCause) (r after : ℕ) (s ne
 performs_left o (Ok acted) r after s new stay d = performed_left o acted r after s new stay d
 performs_left o (Err cause) r after s new stay d = tt
 
-on_ok_kept : (a : Applied) (l : LastSearches) (y : Result Bool ShapeCause) (s new : Sides) → OnOk y (items_of new ≡ items_of s) → AreKept a (items_of s) l → OnOk y (AreKept a (items_of new) l)
+on_ok_kept : (a : ApplyContext) (l : LastSearches) (y : Result Bool ShapeCause) (s new : Sides) → OnOk y (items_of new ≡ items_of s) → AreKept a (items_of s) l → OnOk y (AreKept a (items_of new) l)
 on_ok_kept a l (Ok acted) s new e kept = kept_same a l s new e kept
 on_ok_kept a l (Err cause) s new e kept = tt
 
-pub performed_kept : (act : Action) (a : Applied) (acted : Bool) (r : ℕ) (l : LastSearches) (s new : Sides) → KeepsItems act → AreKept a (items_of s) l → Performed (act (cut_with r s)) acted r r s new → AreKept a (items_of new) l
+pub performed_kept : (act : Action) (a : ApplyContext) (acted : Bool) (r : ℕ) (l : LastSearches) (s new : Sides) → KeepsItems act → AreKept a (items_of s) l → IsPerformed (act (cut_with r s)) acted r r s new → AreKept a (items_of new) l
 performed_kept act a acted r l s new keeps kept d = kept_same a l s new (performed_left (act (cut_with r s)) acted r r s new (keeps (cut_with r s)) d) kept
 
 -- a search for a base went on, or one for a ligature
-pub base_kept : (a : Applied) (t : MarkBasePos) (acted : Bool) (l : LastSearches) (b : LastSearch) (s new : Sides) → AreKept a (items_of s) l → ((r : ℕ) → Performed (mark_to_base a t (cut_with r s)) acted r r s new) → IsKept (any_sought Base a) (items_of new) b → AreKept a (items_of new) (record l { base = b })
+pub base_kept : (a : ApplyContext) (t : MarkBasePos) (acted : Bool) (l : LastSearches) (b : LastSearch) (s new : Sides) → AreKept a (items_of s) l → ((r : ℕ) → IsPerformed (mark_to_base a t (cut_with r s)) acted r r s new) → IsKept (any_sought Base a) (items_of new) b → AreKept a (items_of new) (record l { base = b })
 base_kept a t acted l b s new kept done now = record { base = now; ligature = (performed_kept (mark_to_base a t) a acted 1 l s new (base_keeps a t) kept (done 1)).ligature }
 
-pub ligature_kept : (a : Applied) (t : MarkLigPos) (acted : Bool) (l : LastSearches) (b : LastSearch) (s new : Sides) → AreKept a (items_of s) l → ((r : ℕ) → Performed (mark_to_ligature a t (cut_with r s)) acted r r s new) → IsKept (any_sought Ligature a) (items_of new) b → AreKept a (items_of new) (record l { ligature = b })
+pub ligature_kept : (a : ApplyContext) (t : MarkLigPos) (acted : Bool) (l : LastSearches) (b : LastSearch) (s new : Sides) → AreKept a (items_of s) l → ((r : ℕ) → IsPerformed (mark_to_ligature a t (cut_with r s)) acted r r s new) → IsKept (any_sought Ligature a) (items_of new) b → AreKept a (items_of new) (record l { ligature = b })
 ligature_kept a t acted l b s new kept done now = record { base = (performed_kept (mark_to_ligature a t) a acted 1 l s new (ligature_keeps a t) kept (done 1)).base; ligature = now }
 
 -- the subtables of a lookup
-pub subtables_kept : (table : List PositioningLookup) (depth : ℕ) (a : Applied) (t : PositioningSubtables) (y : Result Bool ShapeCause) (r : ℕ) (l : LastSearches) (s new : Sides) → AreKept a (items_of s) l
-    → Performs (first_subtable (nested table depth s.direction a) s.direction a t (cut_with r s)) y r r s new → OnOk y (AreKept a (items_of new) l)
+pub subtables_kept : (table : List PositioningLookup) (depth : ℕ) (a : ApplyContext) (t : PositioningSubtables) (y : Result Bool ShapeCause) (r : ℕ) (l : LastSearches) (s new : Sides) → AreKept a (items_of s) l
+    → Performs (first_subtable (nested_actions table depth s.direction a) s.direction a t (cut_with r s)) y r r s new → OnOk y (AreKept a (items_of new) l)
 subtables_kept table depth a t y r l s new kept d =
-    let nest = nested table depth s.direction a in
+    let nest = nested_actions table depth s.direction a in
     let c = cut_with r s in
     on_ok_kept a l y s new (performs_left (first_subtable nest s.direction a t c) y r r s new (subtable_keeps nest (nest_keeps table depth s.direction a) s.direction a t c) d) kept
 
 -- ---- rules of contexts
 
-pub matched_kept : (a : Applied) (r : Chain) (random end : ℕ) (ps : List ℕ) (l : LastSearches) (s t : Sides) → IsMatched a r random end ps s t → AreKept a (items_of s) l → AreKept a (items_of t) l
+pub matched_kept : (a : ApplyContext) (r : Chain) (random end : ℕ) (ps : List ℕ) (l : LastSearches) (s t : Sides) → IsMatched a r random end ps s t → AreKept a (items_of s) l → AreKept a (items_of t) l
 matched_kept a r random end ps l s t m kept = kept_same a l s t (same_numbers s t m.cut_is) kept
 
 -- a rule that did not match
@@ -76,22 +76,22 @@ nests_left (Passes es) acted r after s new k d = same_numbers s new d.2.cut_is
 nests_left (Acts cut es) acted r after s new k d = map-append item_of new.behind new.ahead ∙ ap (λ (c : Cut). whole c) d.1.cut_is ∙ k ∙ sym (map-append item_of s.behind s.ahead)
 nests_left (Refuses cause) acted r after s new k d = absurd d
 
-pub unmatched_kept : (a : Applied) (r : Chain) (random : ℕ) (ps : List ℕ) (o : Option ℕ) (l : LastSearches) (s t : Sides) → o ≡ None → Matched o a r random ps s t → AreKept a (items_of s) l → AreKept a (items_of t) l
+pub unmatched_kept : (a : ApplyContext) (r : Chain) (random : ℕ) (ps : List ℕ) (o : Option ℕ) (l : LastSearches) (s t : Sides) → o ≡ None → Matched o a r random ps s t → AreKept a (items_of s) l → AreKept a (items_of t) l
 unmatched_kept a r random ps o l s t e m kept =
     let none : Matched None a r random ps s t = subst (λ (q : Option ℕ). Matched q a r random ps s t) e m in
     kept_same a l s t (nests_left (chain_rule None a r (cut_with random s)) false random random s t (chain_keeps None tt a r (cut_with random s)) (none None)) kept
 
 -- a record was begun
-pub begun_kept : (k : SequenceLookupRecord) (ps : List ℕ) (p : ℕ) (a : Applied) (l : LastSearches) (s t : Sides) → IsBegun k ps p s t → AreKept a (items_of s) l → AreKept a (items_of t) l
+pub begun_kept : (k : SequenceLookupRecord) (ps : List ℕ) (p : ℕ) (a : ApplyContext) (l : LastSearches) (s t : Sides) → IsRecordBegun k ps p s t → AreKept a (items_of s) l → AreKept a (items_of t) l
 begun_kept k ps p a l s t b kept =
-    kept_same a l s t (map-append item_of t.behind t.ahead ∙ ap (λ (c : Cut). whole c) (b.left 1).cut_is ∙ cut_whole p (spent (cut_with 1 s)) ∙ sym (map-append item_of s.behind s.ahead)) kept
+    kept_same a l s t (map-append item_of t.behind t.ahead ∙ ap (λ (c : Cut). whole c) (b.left 1).cut_is ∙ cut_whole p (with_budget_spent (cut_with 1 s)) ∙ sym (map-append item_of s.behind s.ahead)) kept
 
 -- the cursor went after a match
-behind_stays : (end r : ℕ) (s : Sides) → ItemsStay (cut_behind (Walks (cut_with r s) [] end [])) (cut_with r s)
+behind_stays : (end r : ℕ) (s : Sides) → ItemsStay (cut_after_match (Walks (cut_with r s) [] end [])) (cut_with r s)
 behind_stays end r s =
     let c = cut_with r s in
     either_way (holds (min end (length (whole c))) c) (Acts (cut_at (min end (length (whole c))) c) []) _ c (cut_whole (min end (length (whole c))) c) tt
 
-pub behind_kept : (a : Applied) (end : ℕ) (y : Result Bool ShapeCause) (l : LastSearches) (s new : Sides) → AreKept a (items_of s) l → ((r : ℕ) → Nests (cut_behind (Walks (cut_with r s) [] end [])) y r r s new) → OnOk y (AreKept a (items_of new) l)
-behind_kept a end (Ok acted) l s new kept done = kept_same a l s new (nests_left (cut_behind (Walks (cut_with 1 s) [] end [])) acted 1 1 s new (behind_stays end 1 s) (done 1)) kept
+pub behind_kept : (a : ApplyContext) (end : ℕ) (y : Result Bool ShapeCause) (l : LastSearches) (s new : Sides) → AreKept a (items_of s) l → ((r : ℕ) → Nests (cut_after_match (Walks (cut_with r s) [] end [])) y r r s new) → OnOk y (AreKept a (items_of new) l)
+behind_kept a end (Ok acted) l s new kept done = kept_same a l s new (nests_left (cut_after_match (Walks (cut_with 1 s) [] end [])) acted 1 1 s new (behind_stays end 1 s) (done 1)) kept
 behind_kept a end (Err cause) l s new kept done = tt

@@ -8,57 +8,57 @@ use Rattle.buffer_glyphs.specs.declared.info.hb_glyph_info_t.{hb_glyph_info_t}
 use Rattle.buffer_glyphs.specs.Items.{item_of}
 use Rattle.buffer_core.specs.Sides.{Sides}
 use Rattle.layout_face.specs.declared.positioning.PositioningLookup.{PositioningLookup}
-use Rattle.layout_match.specs.Applied.{Applied}
+use Rattle.layout_match.specs.Applied.{ApplyContext}
 use Rattle.layout_subtables.specs.declared.context.SequenceLookupRecord.{SequenceLookupRecord}
 use Rattle.layout_contexts.specs.Nested.{one_record}
 use Rattle.layout_contexts.specs.Nesting.{Walking}
-use Rattle.layout_contexts.specs.Records.{IsBegun}
+use Rattle.layout_contexts.specs.Records.{IsRecordBegun}
 use Rattle.layout_contexts.proofs.Lemmas.Steps.{performs_nests}
 use Rattle.layout_contexts.proofs.Lemmas.Walks.{lookup_refused}
 use Rattle.buffer_stages.proofs.Lemmas.Frames.{still_direction}
 use Rattle.buffer_stages.specs.Actions.{Action, Outcome, Refuses}
-use Rattle.buffer_stages.specs.Performing.{cut_with, Performed, Performs}
+use Rattle.buffer_stages.specs.Performing.{cut_with, IsPerformed, Performs}
 use Rattle.buffer_stages.proofs.Lemmas.Performed.{passes_nothing}
 use Rattle.layout_match.specs.Trying.{meets}
 use Rattle.layout_match.proofs.Lemmas.Met.{met, unmet}
-use Rattle.layout_positioning.specs.Lookups.{first_subtable, lookup_action, nested, nested_act, nested_lookup, under_flag}
+use Rattle.layout_positioning.specs.Lookups.{first_subtable, lookup_action, nested_actions, nested_act, nested_lookup, under_flag}
 
-pub no_depth : (table : List PositioningLookup) (depth : ℕ) (d : Direction) (a : Applied) → depth ≡ 0 → nested table depth d a ≡ None
-unfolding nested
+pub no_depth : (table : List PositioningLookup) (depth : ℕ) (d : Direction) (a : ApplyContext) → depth ≡ 0 → nested_actions table depth d a ≡ None
+unfolding nested_actions
 no_depth table zero d a e = refl
 no_depth table (suc depth) d a e = absurd (omega (arith, e))
 
-pub some_depth : (table : List PositioningLookup) (depth : ℕ) (d : Direction) (a : Applied) → depth ≢ 0 → nested table depth d a ≡ Some (nested_act table (depth - 1) d a)
-unfolding nested
+pub some_depth : (table : List PositioningLookup) (depth : ℕ) (d : Direction) (a : ApplyContext) → depth ≢ 0 → nested_actions table depth d a ≡ Some (nested_act table (depth - 1) d a)
+unfolding nested_actions
 some_depth table zero d a n = absurd (n refl)
 some_depth table (suc depth) d a n = let e : suc depth - 1 ≡ depth = omega arith in rw e refl
 
-pub no_lookup : (below : Applied → Option (ℕ → Action)) (o : Option PositioningLookup) (d : Direction) (a : Applied) (r : ℕ) (s : Sides) → None ≡ o → Performs (nested_lookup below o d a (cut_with r s)) (Ok false) r r s s
+pub no_lookup : (below : ApplyContext → Option (ℕ → Action)) (o : Option PositioningLookup) (d : Direction) (a : ApplyContext) (r : ℕ) (s : Sides) → None ≡ o → Performs (nested_lookup below o d a (cut_with r s)) (Ok false) r r s s
 no_lookup below o d a r s e = passes_nothing r s (nested_lookup below o d a (cut_with r s)) (ap (λ q. nested_lookup below q d a (cut_with r s)) (sym e))
 
 -- a lookup is applied with its own flag
-pub lookup_there : (below : Applied → Option (ℕ → Action)) (o : Option PositioningLookup) (lookup : PositioningLookup) (d : Direction) (a b : Applied) (r q : ℕ) (y : Result Bool ShapeCause) (s new : Sides) → Some lookup ≡ o → b ≡ under_flag lookup a → q ≡ r
+pub lookup_there : (below : ApplyContext → Option (ℕ → Action)) (o : Option PositioningLookup) (lookup : PositioningLookup) (d : Direction) (a b : ApplyContext) (r q : ℕ) (y : Result Bool ShapeCause) (s new : Sides) → Some lookup ≡ o → b ≡ under_flag lookup a → q ≡ r
     → Performs (first_subtable (below b) d b lookup.subtables (cut_with q s)) y q q s new → Performs (nested_lookup below o d a (cut_with r s)) y r r s new
 lookup_there below o lookup d a b r q y s new e flag same w =
-    let P : Applied → Type 0 = λ k. Performs (first_subtable (below k) d k lookup.subtables (cut_with q s)) y q q s new in
+    let P : ApplyContext → Type 0 = λ k. Performs (first_subtable (below k) d k lookup.subtables (cut_with q s)) y q q s new in
     let Q : ℕ → Type 0 = λ n. Performs (first_subtable (below (under_flag lookup a)) d (under_flag lookup a) lookup.subtables (cut_with n s)) y n n s new in
     let R : Option PositioningLookup → Type 0 = λ p. Performs (nested_lookup below p d a (cut_with r s)) y r r s new in
     subst R e (subst Q same (subst P flag w))
 
 -- a record's lookup refuses
-pub record_lookup_refused : (table : List PositioningLookup) (depth : ℕ) (a : Applied) (k : SequenceLookupRecord) (ps rs : List ℕ) (p end r : ℕ) (x : ShapeCause) (s t u : Sides) → IsBegun k ps p s t
-    → (x ≢ OutOfMemory → nested_lookup (nested table depth t.direction) (slice_get table k.lookup_index) t.direction a (cut_with r t) ≡ Refuses x) → Walking (one_record (nested_act table depth s.direction a) k (cut_with r s) ps end) (Err x) rs r s u
+pub record_lookup_refused : (table : List PositioningLookup) (depth : ℕ) (a : ApplyContext) (k : SequenceLookupRecord) (ps rs : List ℕ) (p end r : ℕ) (x : ShapeCause) (s t u : Sides) → IsRecordBegun k ps p s t
+    → (x ≢ OutOfMemory → nested_lookup (nested_actions table depth t.direction) (slice_get table k.lookup_index) t.direction a (cut_with r t) ≡ Refuses x) → Walking (one_record (nested_act table depth s.direction a) k (cut_with r s) ps end) (Err x) rs r s u
 record_lookup_refused table depth a k ps rs p end r x s t u b h =
     let P : Direction → Type 0 = λ d. Performs (nested_act table depth d a k.lookup_index (cut_with r t)) (Err x) r r t u in
     let there = subst P (still_direction s t (b.left r).still) h in
     lookup_refused (nested_act table depth s.direction a) k ps rs p end r r x s t u b (performs_nests (nested_act table depth s.direction a k.lookup_index (cut_with r t)) (Err x) r r t u there)
 
 -- a lookup skips a glyph that it doesn't meet
-pub lookup_passes : (table : List PositioningLookup) (d : Direction) (a : Applied) (lookup : PositioningLookup) (r : ℕ) (s : Sides) (g : hb_glyph_info_t) → slice_get s.ahead 0 ≡ Some g → meets a (item_of g) ≡ false → Performed (lookup_action table d a lookup (cut_with r s)) false r r s s
-lookup_passes table d a lookup r s g at none = passes_nothing r s (lookup_action table d a lookup (cut_with r s)) (unmet a (first_subtable (nested table 64 d a) d a lookup.subtables) r s g at none)
+pub lookup_passes : (table : List PositioningLookup) (d : Direction) (a : ApplyContext) (lookup : PositioningLookup) (r : ℕ) (s : Sides) (g : hb_glyph_info_t) → slice_get s.ahead 0 ≡ Some g → meets a (item_of g) ≡ false → IsPerformed (lookup_action table d a lookup (cut_with r s)) false r r s s
+lookup_passes table d a lookup r s g at none = passes_nothing r s (lookup_action table d a lookup (cut_with r s)) (unmet a (first_subtable (nested_actions table 64 d a) d a lookup.subtables) r s g at none)
 
-pub lookup_tries : (table : List PositioningLookup) (d : Direction) (a : Applied) (lookup : PositioningLookup) (r after : ℕ) (result : Result Bool ShapeCause) (s new : Sides) (g : hb_glyph_info_t) → slice_get s.ahead 0 ≡ Some g → meets a (item_of g) ≡ true
-    → Performs (first_subtable (nested table 64 d a) d a lookup.subtables (cut_with r s)) result r after s new → Performs (lookup_action table d a lookup (cut_with r s)) result r after s new
+pub lookup_tries : (table : List PositioningLookup) (d : Direction) (a : ApplyContext) (lookup : PositioningLookup) (r after : ℕ) (result : Result Bool ShapeCause) (s new : Sides) (g : hb_glyph_info_t) → slice_get s.ahead 0 ≡ Some g → meets a (item_of g) ≡ true
+    → Performs (first_subtable (nested_actions table 64 d a) d a lookup.subtables (cut_with r s)) result r after s new → Performs (lookup_action table d a lookup (cut_with r s)) result r after s new
 lookup_tries table d a lookup r after result s new g at some w =
     let P : Outcome → Type 0 = λ o. Performs o result r after s new in
-    subst P (sym (met a (first_subtable (nested table 64 d a) d a lookup.subtables) r s g at some)) w
+    subst P (sym (met a (first_subtable (nested_actions table 64 d a) d a lookup.subtables) r s g at some)) w

@@ -6,19 +6,19 @@ use Rattle.buffer_common.specs.declared.direction.Direction.{Direction}
 use Rattle.buffer_glyphs.specs.declared.cause.ShapeCause.{ShapeCause}
 use Rattle.buffer_glyphs.specs.Items.{item_of, strip}
 use Rattle.buffer_glyphs.specs.Origins.{origins}
-use Rattle.buffer_core.specs.Readings.{Run, Follows, read_of}
+use Rattle.buffer_core.specs.Readings.{BufferState, Follows, reading_of}
 use Rattle.buffer_core.specs.Steps.{follows_from}
-use Rattle.buffer_core.specs.Sides.{Sides, all_glyphs, run_of, settings_of}
-use Rattle.buffer_core.specs.Moving.{moved_to}
-use Rattle.buffer_stages.specs.Actions.{Cut, uncut_placed, Action}
+use Rattle.buffer_core.specs.Sides.{Sides, all_glyphs, state_of, settings_of}
+use Rattle.buffer_core.specs.Moving.{after_move_to}
+use Rattle.buffer_stages.specs.Actions.{Cut, uncut_with_positions, Action}
 use Rattle.buffer_stages.specs.Buffers.{are_glyphs, IsStill}
 use Rattle.buffer_stages.specs.Performing.{cut_with}
-use Rattle.buffer_stages.specs.Ready.{IsReady, IsDoneFrom, run_with}
+use Rattle.buffer_stages.specs.Ready.{IsReady, IsDoneFrom, state_with}
 use Rattle.buffer_stages.proofs.Lemmas.Frames.{still_settings, still_open, still_refused, still_direction}
-use Rattle.layout_match.specs.Trying.{tried}
+use Rattle.layout_match.specs.Trying.{trials}
 use Rattle.layout_match.specs.Steps.{IsGivenUp, IsStep}
 use Rattle.layout_match.proofs.Lemmas.Passage.{IsUnderway, ended_view, gone_on}
-use Rattle.layout_positioning.specs.Lookups.{looked_over}
+use Rattle.layout_positioning.specs.Lookups.{positioning_pass}
 
 -- in a list within its limit a glyph more may be done
 pub room_closed : (r n : ℕ) (s : Sides) → n ≡ length (all_glyphs s) → n ≤ s.max_len → 0 < length s.ahead → nat_le (length (cut_with r s).front + 1) (cut_with r s).max_len ≡ true
@@ -36,52 +36,52 @@ over_next act count at r start now next lt u st =
     let P : Direction → Type 0 = λ d. IsStep (act d) r r now next in
     gone_on (act start.direction) count at r r r start now next lt u (subst P (still_direction start now u.still) st)
 
-ready_cut : (r : ℕ) (s : Sides) → s.behind ≡ [] → cut_with r s ≡ uncut_placed (run_with r s).view
+ready_cut : (r : ℕ) (s : Sides) → s.behind ≡ [] → cut_with r s ≡ uncut_with_positions (state_with r s).view
 ready_cut r s none = rw none refl
 
 pub over_refused : (act : Direction → Action) (count at r : ℕ) (s now : Sides) (cause : ShapeCause) → IsReady s → count ≡ length (all_glyphs s) → at < count → IsUnderway (act s.direction) count (count - at) r r s now → IsGivenUp (act now.direction) r now cause
-    → read_of (looked_over (act s.direction)) (run_with r s) ≡ Err cause
+    → reading_of (positioning_pass (act s.direction)) (state_with r s) ≡ Err cause
 over_refused act count at r s now cause ready len lt u given =
     let G : Direction → Type 0 = λ d. IsGivenUp (act d) r now cause in
     let there = subst G (still_direction s now u.still) given in
-    let v = (run_with r s).view in
+    let v = (state_with r s).view in
     let more : count - at ≡ suc (count - (at + 1)) = omega (arith, lt) in
-    let here : tried (act s.direction) v (count - at) (cut_with r now) ≡ Err cause = rw more (there v (count - (at + 1))) in
-    let all : tried (act s.direction) v count (cut_with r s) ≡ Err cause = u.refuses v cause here in
+    let here : trials (act s.direction) v (count - at) (cut_with r now) ≡ Err cause = rw more (there v (count - (at + 1))) in
+    let all : trials (act s.direction) v count (cut_with r s) ≡ Err cause = u.refuses v cause here in
     let n : length v.items ≡ count = length-map (all_glyphs s) item_of ∙ sym len in
-    let C : Cut → Type 0 = λ c. tried (act s.direction) v count c ≡ Err cause in
+    let C : Cut → Type 0 = λ c. trials (act s.direction) v count c ≡ Err cause in
     let whole = subst C (ready_cut r s ready.front) all in
     rw n whole
 
 -- ---- at the end
 
 -- without an output as many glyphs were read as stand behind the cursor
-read_at_front : (n : ℕ) (s : Sides) → n ≡ s.read + length s.ahead → n ≡ length (all_glyphs s) → (moved_to 0 s).read ≡ 0
+read_at_front : (n : ℕ) (s : Sides) → n ≡ s.read + length s.ahead → n ≡ length (all_glyphs s) → (after_move_to 0 s).read ≡ 0
 read_at_front n s input count = let both = length-append s.behind s.ahead in omega (arith, input, count, both)
 
-moved_all : (at : ℕ) (s : Sides) → all_glyphs (moved_to at s) ≡ all_glyphs s
+moved_all : (at : ℕ) (s : Sides) → all_glyphs (after_move_to at s) ≡ all_glyphs s
 moved_all at s = take-append-drop at (all_glyphs s)
 
 -- a lookup that was tried everywhere, once the cursor is before all glyphs
-pub looked_over_done : (act : Action) (end count at r : ℕ) (s now new : Sides) → IsReady s → count ≡ length (all_glyphs s) → count ≤ at → IsUnderway act count (count - at) r r s now → end ≡ now.read + length now.ahead → end ≡ length (all_glyphs now) → new ≡ moved_to 0 now
-    → length new.positions ≡ length (all_glyphs new) → IsDoneFrom r r (looked_over act) s new
+pub looked_over_done : (act : Action) (end count at r : ℕ) (s now new : Sides) → IsReady s → count ≡ length (all_glyphs s) → count ≤ at → IsUnderway act count (count - at) r r s now → end ≡ now.read + length now.ahead → end ≡ length (all_glyphs now) → new ≡ after_move_to 0 now
+    → length new.positions ≡ length (all_glyphs new) → IsDoneFrom r r (positioning_pass act) s new
 looked_over_done act end count at r s now new ready len le u0 input counted is placed =
     let nothing_left : count - at ≡ 0 = omega (arith, le) in
     let L : ℕ → Type 0 = λ n. IsUnderway act count n r r s now in
     let C : ℕ → Type 0 = λ n. IsUnderway act n 0 r r s now in
     let u : IsUnderway act (length (all_glyphs s)) 0 r r s now = subst C len (subst L nothing_left u0) in
-    let v = (run_with r s).view in
+    let v = (state_with r s).view in
     let all : all_glyphs new ≡ all_glyphs now = ap all_glyphs is ∙ moved_all 0 now in
     let still : IsStill s now = u.still in
     let settings = still_settings s now still in
-    let same : run_with r new ≡ run_with r now = ap (run_with r) is ∙ ap (λ gs. record (run_with r now) { view = record (run_with r now).view { items = strip gs }; origins = origins gs }) (moved_all 0 now) in
-    let ended : Follows (tried act v 0 (cut_with r now)) (run_of now) (run_with r now) = ap (λ w. record { view = w; origins = (run_of now).origins; level = now.level; asks = (run_of now).asks }) (ended_view r v s now refl still) in
-    let start : cut_with r s ≡ uncut_placed v = ready_cut r s ready.front in
-    let Q : Cut → Type 0 = λ c. Follows (tried act v (length (all_glyphs s)) c) (run_of s) (run_with r now) in
-    let walked = subst Q start (u.follows v (run_with r now) ended) in
+    let same : state_with r new ≡ state_with r now = ap (state_with r) is ∙ ap (λ gs. record (state_with r now) { view = record (state_with r now).view { items = strip gs }; origins = origins gs }) (moved_all 0 now) in
+    let ended : Follows (trials act v 0 (cut_with r now)) (state_of now) (state_with r now) = ap (λ w. record { view = w; origins = (state_of now).origins; level = now.level; asks = (state_of now).asks }) (ended_view r v s now refl still) in
+    let start : cut_with r s ≡ uncut_with_positions v = ready_cut r s ready.front in
+    let Q : Cut → Type 0 = λ c. Follows (trials act v (length (all_glyphs s)) c) (state_of s) (state_with r now) in
+    let walked = subst Q start (u.follows v (state_with r now) ended) in
     let n : length (strip (all_glyphs s)) ≡ length (all_glyphs s) = length-map (all_glyphs s) item_of in
-    let there : Follows (tried act v (length v.items) (uncut_placed v)) (run_with r s) (run_with r now) = rw n (follows_from (tried act v (length (all_glyphs s)) (uncut_placed v)) (run_of s) (run_with r s) (run_with r now) refl refl refl walked) in
-    let F : Run → Type 0 = λ q. Follows (read_of (looked_over act) (run_with r s)) (run_with r s) q in
+    let there : Follows (trials act v (length v.items) (uncut_with_positions v)) (state_with r s) (state_with r now) = rw n (follows_from (trials act v (length (all_glyphs s)) (uncut_with_positions v)) (state_of s) (state_with r s) (state_with r now) refl refl refl walked) in
+    let F : BufferState → Type 0 = λ q. Follows (reading_of (positioning_pass act) (state_with r s)) (state_with r s) q in
     record {
       follows = subst F (sym same) there;
       settings = ap settings_of is ∙ settings;

@@ -4,7 +4,7 @@ use Rattle.std.specs.Prelude.{slice_get}
 use Rattle.std.specs.Option.{option_map_or}
 use Rattle.std.proofs.lemmas.List.{drop_more, drop_all}
 use Rattle.buffer_glyphs.specs.declared.cause.ShapeCause.{ShapeCause}
-use Rattle.buffer_core.specs.Readings.{Stage, read_of}
+use Rattle.buffer_core.specs.Readings.{Stage, reading_of}
 use Rattle.buffer_core.specs.Steps.{follows_same}
 use Rattle.buffer_core.specs.Sides.{Sides}
 use Rattle.layout_map.specs.declared.stages.StageMap.{StageMap}
@@ -13,7 +13,7 @@ use Rattle.layout_face.specs.declared.positioning.PositioningLookup.{Positioning
 use Rattle.layout_face.specs.declared.positioning.PositioningTable.{PositioningTable}
 use Rattle.layout_map_features.specs.declared.lookup.lookup_map_t.{lookup_map_t}
 use Rattle.layout_map.specs.Compiled.{TableStages, lookups_of_stage}
-use Rattle.buffer_stages.specs.Ready.{IsReady, IsDone, IsDoneFrom, run_with}
+use Rattle.buffer_stages.specs.Ready.{IsReady, IsDone, IsDoneFrom, state_with}
 use Rattle.buffer_stages.specs.Pauses.{Pauses, pause_stage}
 use Rattle.buffer_stages.proofs.Lemmas.Ways.{AreStagesDone, both_done, first_refused, next_done, next_refused, no_stage_done, nothing_done, second_refused, stages_done}
 use Rattle.layout_positioning.specs.Lookups.{lookup_stage}
@@ -42,7 +42,7 @@ one_done font table all k e old now next lt a d =
     next_done (lookups_stage font table all) (lookup_stage font table (slice_get table m.index) m) (lookups_stage font table (drop (k + 1) all)) 1 1 1 old now next (subst P (drop_more all k e lt) a) d
 
 pub one_refused : (font : FaceParts) (table : List PositioningLookup) (all : List lookup_map_t) (k : ℕ) (e : lookup_map_t) (old now : Sides) (cause : ShapeCause) → k < length all → AreDone font table all k old now
-    → read_of (lookup_stage font table (slice_get table (get_or all k e).index) (get_or all k e)) (run_with 1 now) ≡ Err cause → read_of (lookups_stage font table all) (run_with 1 old) ≡ Err cause
+    → reading_of (lookup_stage font table (slice_get table (get_or all k e).index) (get_or all k e)) (state_with 1 now) ≡ Err cause → reading_of (lookups_stage font table all) (state_with 1 old) ≡ Err cause
 one_refused font table all k e old now cause lt a is =
     let m = get_or all k e in
     let P : List lookup_map_t → Type 0 = λ ms. AreStagesDone (lookups_stage font table all) (lookups_stage font table ms) 1 1 old now in
@@ -51,7 +51,7 @@ one_refused font table all k e old now cause lt a is =
 pub all_done : (font : FaceParts) (table : List PositioningLookup) (all : List lookup_map_t) (k : ℕ) (old now : Sides) → length all ≤ k → AreDone font table all k old now → IsDoneFrom 1 1 (lookups_stage font table all) old now
 all_done font table all k old now le a =
     let P : List lookup_map_t → Type 0 = λ ms. AreStagesDone (lookups_stage font table all) (lookups_stage font table ms) 1 1 old now in
-    stages_done (lookups_stage font table all) (lookups_stage font table []) 1 1 old now (follows_same (run_with 1 now)) (subst P (drop_all k all le) a)
+    stages_done (lookups_stage font table all) (lookups_stage font table []) 1 1 old now (follows_same (state_with 1 now)) (subst P (drop_all k all le) a)
 
 -- lookups of a font without a table
 no_lookups : (font : FaceParts) (maps : List lookup_map_t) (s : Sides) → IsReady s → IsDoneFrom 1 1 (lookups_stage font [] maps) s s
@@ -82,7 +82,7 @@ stage_done font lookups t pauses i e ls p old now paused_at next lt a those that
     (both_done (lookups_stage font lookups (lookups_of_stage t i)) (pause_stage pauses s.pause) 1 1 1 now paused_at next (subst Q those d) (subst R that f))
 
 stage_refused : (font : FaceParts) (lookups : List PositioningLookup) (t : TableStages) (pauses : Pauses) (i : ℕ) (e : StageMap) (old now : Sides) (cause : ShapeCause) → i < length t.stages → AreTableStagesDone font lookups t pauses i old now
-    → read_of (table_stage font lookups t pauses i (get_or t.stages i e).pause) (run_with 1 now) ≡ Err cause → read_of (table_stages font lookups t pauses 0 t.stages) (run_with 1 old) ≡ Err cause
+    → reading_of (table_stage font lookups t pauses i (get_or t.stages i e).pause) (state_with 1 now) ≡ Err cause → reading_of (table_stages font lookups t pauses 0 t.stages) (state_with 1 old) ≡ Err cause
 stage_refused font lookups t pauses i e old now cause lt a is =
     let s = get_or t.stages i e in
     let P : List StageMap → Type 0 = λ ss. AreStagesDone (table_stages font lookups t pauses 0 t.stages) (table_stages font lookups t pauses i ss) 1 1 old now in
@@ -90,26 +90,26 @@ stage_refused font lookups t pauses i e old now cause lt a is =
 
 -- its lookups are refused
 pub stage_lookups_refused : (font : FaceParts) (lookups : List PositioningLookup) (t : TableStages) (pauses : Pauses) (i : ℕ) (ls : List lookup_map_t) (old now : Sides) (cause : ShapeCause) → i < length t.stages → AreTableStagesDone font lookups t pauses i old now → ls ≡ lookups_of_stage t i
-    → read_of (lookups_stage font lookups ls) (run_with 1 now) ≡ Err cause → read_of (table_stages font lookups t pauses 0 t.stages) (run_with 1 old) ≡ Err cause
+    → reading_of (lookups_stage font lookups ls) (state_with 1 now) ≡ Err cause → reading_of (table_stages font lookups t pauses 0 t.stages) (state_with 1 old) ≡ Err cause
 stage_lookups_refused font lookups t pauses i ls old now cause lt a those is =
     let none : StageMap = record { last_lookup = 0; pause = None } in
-    let Q : List lookup_map_t → Type 0 = λ ms. read_of (lookups_stage font lookups ms) (run_with 1 now) ≡ Err cause in
+    let Q : List lookup_map_t → Type 0 = λ ms. reading_of (lookups_stage font lookups ms) (state_with 1 now) ≡ Err cause in
     stage_refused font lookups t pauses i none old now cause lt a (first_refused (lookups_stage font lookups (lookups_of_stage t i)) (pause_stage pauses (get_or t.stages i none).pause) 1 now cause (subst Q those is))
 
 -- its pause is
 pub stage_pause_refused : (font : FaceParts) (lookups : List PositioningLookup) (t : TableStages) (pauses : Pauses) (i : ℕ) (e : StageMap) (ls : List lookup_map_t) (p : Option ℕ) (old now paused_at : Sides) (cause : ShapeCause) → i < length t.stages → AreTableStagesDone font lookups t pauses i old now
-    → ls ≡ lookups_of_stage t i → p ≡ (get_or t.stages i e).pause → IsDoneFrom 1 1 (lookups_stage font lookups ls) now paused_at → read_of (pause_stage pauses p) (run_with 1 paused_at) ≡ Err cause
-    → read_of (table_stages font lookups t pauses 0 t.stages) (run_with 1 old) ≡ Err cause
+    → ls ≡ lookups_of_stage t i → p ≡ (get_or t.stages i e).pause → IsDoneFrom 1 1 (lookups_stage font lookups ls) now paused_at → reading_of (pause_stage pauses p) (state_with 1 paused_at) ≡ Err cause
+    → reading_of (table_stages font lookups t pauses 0 t.stages) (state_with 1 old) ≡ Err cause
 stage_pause_refused font lookups t pauses i e ls p old now paused_at cause lt a those that d is =
     let s = get_or t.stages i e in
     let Q : List lookup_map_t → Type 0 = λ ms. IsDoneFrom 1 1 (lookups_stage font lookups ms) now paused_at in
-    let R : Option ℕ → Type 0 = λ n. read_of (pause_stage pauses n) (run_with 1 paused_at) ≡ Err cause in
+    let R : Option ℕ → Type 0 = λ n. reading_of (pause_stage pauses n) (state_with 1 paused_at) ≡ Err cause in
     stage_refused font lookups t pauses i e old now cause lt a (second_refused (lookups_stage font lookups (lookups_of_stage t i)) (pause_stage pauses s.pause) 1 1 now paused_at cause (subst Q those d) (subst R that is))
 
 pub all_stages_done : (font : FaceParts) (lookups : List PositioningLookup) (t : TableStages) (pauses : Pauses) (i : ℕ) (old now : Sides) → length t.stages ≤ i → AreTableStagesDone font lookups t pauses i old now → IsDoneFrom 1 1 (table_stages font lookups t pauses 0 t.stages) old now
 all_stages_done font lookups t pauses i old now le a =
     let P : List StageMap → Type 0 = λ ss. AreStagesDone (table_stages font lookups t pauses 0 t.stages) (table_stages font lookups t pauses i ss) 1 1 old now in
-    stages_done (table_stages font lookups t pauses 0 t.stages) (table_stages font lookups t pauses i []) 1 1 old now (follows_same (run_with 1 now)) (subst P (drop_all i t.stages le) a)
+    stages_done (table_stages font lookups t pauses 0 t.stages) (table_stages font lookups t pauses i []) 1 1 old now (follows_same (state_with 1 now)) (subst P (drop_all i t.stages le) a)
 
 -- a buffer's run is one whose random state is 1
 pub done_from_one : (stage : Stage) (old new : Sides) → IsDoneFrom 1 1 stage old new → IsDone stage old new

@@ -29,8 +29,8 @@ abbrev pub positioning_lookups : FaceParts → List PositioningLookup
 positioning_lookups font = option_map_or (λ t. t.lookups) font.gpos []
 
 -- the GPOS stages of a map; no number is drawn at random
-abbrev pub positioned_by : FaceParts → OtMapValue → Pauses → Stage
-positioned_by font m pauses v = table_stages font (positioning_lookups font) m.tables.gpos pauses 0 m.tables.gpos.stages v
+abbrev pub positioning_stages : FaceParts → OtMapValue → Pauses → Stage
+positioning_stages font m pauses v = table_stages font (positioning_lookups font) m.tables.gpos pauses 0 m.tables.gpos.stages v
 
 -- a pipeline stage that leaves the items as they are
 abbrev pub LeavesItems : Stage → Type 0

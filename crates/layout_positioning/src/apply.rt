@@ -1,11 +1,11 @@
 //! Applies positioning lookups to a whole buffer (rustybuzz: hb/ot_layout.rs, `apply_string`, `apply_layout_table`).
 ghost use Rattle.std.specs.Prelude.{◌≡◌, ◌≢◌, true, Err, slice_get, IfErr, OnOk};
-ghost use Rattle.buffer_core.specs.Readings.{read_of};
+ghost use Rattle.buffer_core.specs.Readings.{reading_of};
 ghost use Rattle.buffer_core.specs.Sides.{items_of};
-ghost use Rattle.layout_match.specs.Applied.{applied_of};
+ghost use Rattle.layout_match.specs.Applied.{apply_context_of};
 ghost use Rattle.buffer_stages.specs.Buffers.{are_glyphs};
-ghost use Rattle.buffer_stages.specs.Ready.{IsDoneFrom, IsReady, run_with};
-ghost use Rattle.layout_positioning.specs.Lookups.{applied_by, lookup_stage};
+ghost use Rattle.buffer_stages.specs.Ready.{IsDoneFrom, IsReady, state_with};
+ghost use Rattle.layout_positioning.specs.Lookups.{lookup_context, lookup_stage};
 ghost use Rattle.layout_positioning.specs.Positioning.{lookups_stage};
 
 use crate::forward::apply_forward;
@@ -23,7 +23,7 @@ fn context_of<'a>(
     lookup: &PositioningLookup,
     lookup_map: &lookup_map_t,
 ) -> hb_ot_apply_context_t<'a>
-    ensures applied { applied_of result ≡ applied_by face.now lookup.now lookup_map.now }
+    ensures applied { apply_context_of result ≡ lookup_context face.now lookup.now lookup_map.now }
     ensures state { result.random_state ≡ 1 }
 {
     let mut ctx = hb_ot_apply_context_t::new(TableIndex::GPOS, face);
@@ -48,8 +48,8 @@ fn apply_mapped(
     requires numbers { are_glyphs (items_of buffer.old) ≡ true }
     ensures ok { OnOk result (IsDoneFrom 1 1 (lookup_stage face.now table.now.lookups
         (slice_get table.now.lookups lookup_map.now.index) lookup_map.now) buffer.old buffer.new) }
-    ensures err { IfErr result (λ e. e ≢ ShapeCause.OutOfMemory → read_of (lookup_stage face.now table.now.lookups
-        (slice_get table.now.lookups lookup_map.now.index) lookup_map.now) (run_with 1 buffer.old) ≡ Err e) }
+    ensures err { IfErr result (λ e. e ≢ ShapeCause.OutOfMemory → reading_of (lookup_stage face.now table.now.lookups
+        (slice_get table.now.lookups lookup_map.now.index) lookup_map.now) (state_with 1 buffer.old) ≡ Err e) }
 {
     let Some(lookup) = table.get_lookup(lookup_map.index) else {
         return Ok(());
@@ -71,8 +71,8 @@ pub fn apply_lookups(
     requires numbers { are_glyphs (items_of buffer.old) ≡ true }
     ensures ok { OnOk result
         (IsDoneFrom 1 1 (lookups_stage face.now table.now.lookups lookups.now) buffer.old buffer.new) }
-    ensures err { IfErr result (λ e. e ≢ ShapeCause.OutOfMemory → read_of
-        (lookups_stage face.now table.now.lookups lookups.now) (run_with 1 buffer.old) ≡ Err e) }
+    ensures err { IfErr result (λ e. e ≢ ShapeCause.OutOfMemory → reading_of
+        (lookups_stage face.now table.now.lookups lookups.now) (state_with 1 buffer.old) ≡ Err e) }
 {
     for lookup_map in lookups {
         apply_mapped(face, table, lookup_map, buffer)?;

@@ -1,11 +1,11 @@
 //! Cursive attachment (OpenType, GPOS lookup type 3).
 ghost use Rattle.std.specs.Prelude.{ℕ, ◌≡◌, ◌<◌, ◌≤◌, IfErr, IfOk, Ok, false, true, length};
 ghost use Rattle.buffer_core.specs.Sides.{all_glyphs, items_of};
-ghost use Rattle.layout_match.specs.Applied.{applied_of};
+ghost use Rattle.layout_match.specs.Applied.{apply_context_of};
 ghost use Rattle.buffer_stages.specs.Buffers.{are_glyphs};
-ghost use Rattle.buffer_stages.specs.Performing.{Performed, cut_with};
+ghost use Rattle.buffer_stages.specs.Performing.{IsPerformed, cut_with};
 ghost use Rattle.layout_positioning.specs.Joins.{cursive_subtable, entry_of, exit_of, join, join_if, on_exit};
-ghost use Rattle.layout_offsets.specs.Cursive.{joined};
+ghost use Rattle.layout_offsets.specs.Cursive.{cursive_attachment};
 ghost use Rattle.layout_gpos.specs.Marks.{with_found};
 
 use buffer_core::buffer::hb_buffer_t;
@@ -25,7 +25,7 @@ fn join_at(buffer: &mut hb_buffer_t, earlier: bool, join: Joint)
     requires first { join.first < length buffer.old.positions }
     requires second { join.second < length buffer.old.positions }
     ensures { buffer.new ≡ record buffer.old {
-      positions = joined buffer.old.direction earlier join.first join.exit join.second join.entry buffer.old.positions;
+      positions = cursive_attachment buffer.old.direction earlier join.first join.exit join.second join.entry buffer.old.positions;
     } }
 {
     let direction = buffer.direction();
@@ -44,7 +44,7 @@ fn join(
     requires there { 0 < length buffer.old.ahead }
     requires before { back < length buffer.old.behind }
     requires placed { length buffer.old.positions ≡ length (all_glyphs buffer.old) }
-    ensures { (random : ℕ) → Performed (join buffer.old.direction (applied_of ctx.now) exit entry back (cut_with random
+    ensures { (random : ℕ) → IsPerformed (join buffer.old.direction (apply_context_of ctx.now) exit entry back (cut_with random
         buffer.old)) true random random buffer.old buffer.new }
 {
     let _end = buffer.len();
@@ -91,7 +91,7 @@ fn join_if(
     requires there { 0 < length buffer.old.ahead }
     requires before { back < length buffer.old.behind }
     requires placed { length buffer.old.positions ≡ length (all_glyphs buffer.old) }
-    ensures { (random : ℕ) → Performed (join_if buffer.old.direction (applied_of ctx.now) exit entry back
+    ensures { (random : ℕ) → IsPerformed (join_if buffer.old.direction (apply_context_of ctx.now) exit entry back
         (cut_with random
         buffer.old)) result random random buffer.old buffer.new }
 {
@@ -119,7 +119,7 @@ fn join_found(
     requires read { IfErr found (λ end. end ≤ length buffer.old.behind) }
     requires placed { length buffer.old.positions ≡ length (all_glyphs buffer.old) }
     requires number { are_glyphs (items_of buffer.old) ≡ true }
-    ensures { (random : ℕ) → Performed (with_found (on_exit buffer.old.direction (applied_of ctx.now) subtable.now.rows
+    ensures { (random : ℕ) → IsPerformed (with_found (on_exit buffer.old.direction (apply_context_of ctx.now) subtable.now.rows
         entry) found (cut_with random buffer.old)) result random random buffer.old buffer.new }
 {
     match found {
@@ -148,7 +148,7 @@ pub fn apply_cursive_pos(
     requires there { 0 < length buffer.old.ahead }
     requires placed { length buffer.old.positions ≡ length (all_glyphs buffer.old) }
     requires number { are_glyphs (items_of buffer.old) ≡ true }
-    ensures { (random : ℕ) → Performed (cursive_subtable buffer.old.direction (applied_of ctx.now) subtable.now.rows
+    ensures { (random : ℕ) → IsPerformed (cursive_subtable buffer.old.direction (apply_context_of ctx.now) subtable.now.rows
         (cut_with random buffer.old)) result random random buffer.old buffer.new }
 {
     let Some(entry) = entry_of(subtable, buffer.cur(0).as_glyph().0) else {

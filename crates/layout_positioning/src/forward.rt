@@ -1,13 +1,13 @@
 //! A positioning lookup over a buffer (rustybuzz: hb/ot_layout.rs, `apply_forward`).
 ghost use Rattle.std.specs.Prelude.{◌≡◌, ◌≢◌, true, false, Err, IfErr, OnOk};
-ghost use Rattle.buffer_core.specs.Readings.{read_of};
+ghost use Rattle.buffer_core.specs.Readings.{reading_of};
 ghost use Rattle.buffer_core.specs.Sides.{items_of};
-ghost use Rattle.layout_match.specs.Applied.{applied_of};
+ghost use Rattle.layout_match.specs.Applied.{apply_context_of};
 ghost use Rattle.buffer_stages.specs.Buffers.{are_glyphs};
-ghost use Rattle.buffer_stages.specs.Ready.{IsDoneFrom, IsReady, run_with};
+ghost use Rattle.buffer_stages.specs.Ready.{IsDoneFrom, IsReady, state_with};
 ghost use Rattle.layout_match.specs.Steps.{IsGivenUp, IsStep};
 ghost use Rattle.layout_gpos.specs.Bases.{AreKept};
-ghost use Rattle.layout_positioning.specs.Lookups.{looked_over, lookup_action};
+ghost use Rattle.layout_positioning.specs.Lookups.{positioning_pass, lookup_action};
 
 use crate::lookup::apply_lookup;
 use buffer_core::buffer::hb_buffer_t;
@@ -29,13 +29,13 @@ fn apply_next(
     requires closed { buffer.old.is_open ≡ false }
     requires unrefused { buffer.old.has_refused ≡ false }
     requires numbers { are_glyphs (items_of buffer.old) ≡ true }
-    requires kept { AreKept (applied_of ctx.now) (items_of buffer.old) last.old }
-    ensures ok { OnOk result (IsStep (lookup_action table.now.lookups buffer.old.direction (applied_of ctx.now)
+    requires kept { AreKept (apply_context_of ctx.now) (items_of buffer.old) last.old }
+    ensures ok { OnOk result (IsStep (lookup_action table.now.lookups buffer.old.direction (apply_context_of ctx.now)
         lookup.now)
         ctx.now.random_state ctx.now.random_state buffer.old buffer.new) }
     ensures err { IfErr result (λ e. e ≢ ShapeCause.OutOfMemory → IsGivenUp (lookup_action table.now.lookups
-        buffer.old.direction (applied_of ctx.now) lookup.now) ctx.now.random_state buffer.old e) }
-    ensures kept { OnOk result (AreKept (applied_of ctx.now) (items_of buffer.new) last.new) }
+        buffer.old.direction (apply_context_of ctx.now) lookup.now) ctx.now.random_state buffer.old e) }
+    ensures kept { OnOk result (AreKept (apply_context_of ctx.now) (items_of buffer.new) last.new) }
 {
     let count = buffer.len();
     if buffer.idx() == count {
@@ -57,10 +57,10 @@ pub fn apply_forward(
 ) -> Result<(), ShapeCause>
     requires ready { IsReady buffer.old }
     requires numbers { are_glyphs (items_of buffer.old) ≡ true }
-    ensures ok { OnOk result (IsDoneFrom ctx.now.random_state ctx.now.random_state (looked_over (lookup_action
-        table.now.lookups buffer.old.direction (applied_of ctx.now) lookup.now)) buffer.old buffer.new) }
-    ensures err { IfErr result (λ e. e ≢ ShapeCause.OutOfMemory → read_of (looked_over (lookup_action table.now.lookups
-        buffer.old.direction (applied_of ctx.now) lookup.now)) (run_with ctx.now.random_state buffer.old) ≡ Err e) }
+    ensures ok { OnOk result (IsDoneFrom ctx.now.random_state ctx.now.random_state (positioning_pass (lookup_action
+        table.now.lookups buffer.old.direction (apply_context_of ctx.now) lookup.now)) buffer.old buffer.new) }
+    ensures err { IfErr result (λ e. e ≢ ShapeCause.OutOfMemory → reading_of (positioning_pass (lookup_action table.now.lookups
+        buffer.old.direction (apply_context_of ctx.now) lookup.now)) (state_with ctx.now.random_state buffer.old) ≡ Err e) }
 {
     let count = buffer.len();
     let mut last = LastSearches::new();

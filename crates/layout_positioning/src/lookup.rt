@@ -1,7 +1,7 @@
 //! A GPOS lookup at the cursor (rustybuzz: `PositioningLookup`).
 ghost use Rattle.std.specs.Prelude.{◌≡◌, ◌<◌, true, false, OnOk, length};
 ghost use Rattle.buffer_core.specs.Sides.{items_of};
-ghost use Rattle.layout_match.specs.Applied.{applied_of};
+ghost use Rattle.layout_match.specs.Applied.{apply_context_of};
 ghost use Rattle.buffer_stages.specs.Buffers.{are_glyphs};
 ghost use Rattle.buffer_stages.specs.Performing.{Performs, cut_with};
 ghost use Rattle.layout_gpos.specs.Bases.{AreKept};
@@ -31,11 +31,11 @@ pub fn apply_lookup(
     requires unrefused { buffer.old.has_refused ≡ false }
     requires there { 0 < length buffer.old.ahead }
     requires number { are_glyphs (items_of buffer.old) ≡ true }
-    requires kept { AreKept (applied_of ctx.now) (items_of buffer.old) last.old }
-    ensures performs { Performs (lookup_action table.now.lookups buffer.old.direction (applied_of ctx.now) lookup.now
+    requires kept { AreKept (apply_context_of ctx.now) (items_of buffer.old) last.old }
+    ensures performs { Performs (lookup_action table.now.lookups buffer.old.direction (apply_context_of ctx.now) lookup.now
         (cut_with ctx.now.random_state buffer.old)) result ctx.now.random_state ctx.now.random_state buffer.old
         buffer.new }
-    ensures kept { OnOk result (AreKept (applied_of ctx.now) (items_of buffer.new) last.new) }
+    ensures kept { OnOk result (AreKept (apply_context_of ctx.now) (items_of buffer.new) last.new) }
 {
     if !meets(ctx, buffer.cur(0)) {
         return Ok(false);

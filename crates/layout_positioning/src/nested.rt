@@ -1,5 +1,8 @@
 //! Lookups nested in others: a rule of a context applies them at indices of its match (rustybuzz:
 //! hb/ot_layout_gsubgpos.rs, `apply_lookup`, `recurse`).
+//!
+//! Rattle takes no recursion through a trait's method, so the cycle by depth (a subtable, a context's records, the lookup of
+//! a record) is written for each of the two tables, and its functions repeat each other's clauses.
 ghost use Rattle.std.specs.Prelude.{◌≡◌, ◌≢◌, ◌≤◌, ◌<◌, ◌+◌, true, false, length, slice_get, IfOk, OnOk, Some, None};
 ghost use Rattle.buffer_core.specs.Sides.{items_of};
 ghost use Rattle.layout_contexts.specs.Chains.{chain_rule, context_subtable};
@@ -7,14 +10,14 @@ ghost use Rattle.layout_contexts.specs.Fitting.{chain_of};
 ghost use Rattle.layout_contexts.specs.Inside.{StaysInside};
 ghost use Rattle.layout_contexts.specs.Nested.{each_nested, one_record};
 ghost use Rattle.layout_contexts.specs.Nesting.{Walking};
-ghost use Rattle.layout_contexts.specs.Places.{AreRising};
+ghost use Rattle.layout_contexts.specs.MatchIndices.{AreRising};
 ghost use Rattle.layout_contexts.specs.Rules.{chains_of};
 ghost use Rattle.layout_gpos.specs.Bases.{AreKept};
-ghost use Rattle.layout_match.specs.Applied.{applied_of};
+ghost use Rattle.layout_match.specs.Applied.{apply_context_of};
 ghost use Rattle.buffer_stages.specs.Actions.{first_rule, whole};
 ghost use Rattle.buffer_stages.specs.Buffers.{are_glyphs, cut_of};
 ghost use Rattle.buffer_stages.specs.Performing.{Performs, cut_with};
-ghost use Rattle.layout_positioning.specs.Lookups.{first_subtable, nested, nested_act, nested_lookup, under_flag};
+ghost use Rattle.layout_positioning.specs.Lookups.{first_subtable, nested_actions, nested_act, nested_lookup, under_flag};
 
 use crate::subtables::{
     apply_first, apply_first_base, apply_first_cursive, apply_first_ligature, apply_first_mark,
@@ -35,7 +38,7 @@ fn under_flag<'a>(
     lookup: &PositioningLookup,
     ctx: &hb_ot_apply_context_t<'a>,
 ) -> hb_ot_apply_context_t<'a>
-    ensures applied { applied_of result ≡ under_flag lookup.now (applied_of ctx.now) }
+    ensures applied { apply_context_of result ≡ under_flag lookup.now (apply_context_of ctx.now) }
     ensures state { result.random_state ≡ ctx.now.random_state }
 {
     let mut nested = *ctx;
@@ -60,12 +63,12 @@ fn recurse(
     requires unrefused { buffer.old.has_refused ≡ false }
     requires there { 0 < length buffer.old.ahead }
     requires number { are_glyphs (items_of buffer.old) ≡ true }
-    requires kept { AreKept (applied_of ctx.now) (items_of buffer.old) last.old }
-    ensures performs { Performs (nested_lookup (nested table.now.lookups depth buffer.old.direction)
-        (slice_get table.now.lookups index) buffer.old.direction (applied_of ctx.now)
+    requires kept { AreKept (apply_context_of ctx.now) (items_of buffer.old) last.old }
+    ensures performs { Performs (nested_lookup (nested_actions table.now.lookups depth buffer.old.direction)
+        (slice_get table.now.lookups index) buffer.old.direction (apply_context_of ctx.now)
         (cut_with ctx.now.random_state buffer.old)) result ctx.now.random_state ctx.now.random_state buffer.old
         buffer.new }
-    ensures kept { OnOk result (AreKept (applied_of ctx.now) (items_of buffer.new) last.new) }
+    ensures kept { OnOk result (AreKept (apply_context_of ctx.now) (items_of buffer.new) last.new) }
 {
     let Some(lookup) = table.get_lookup(index) else {
         return Ok(false);
@@ -88,12 +91,12 @@ pub(crate) fn apply_subtables(
     requires unrefused { buffer.old.has_refused ≡ false }
     requires there { 0 < length buffer.old.ahead }
     requires number { are_glyphs (items_of buffer.old) ≡ true }
-    requires kept { AreKept (applied_of ctx.now) (items_of buffer.old) last.old }
-    ensures performs { Performs (first_subtable (nested table.now.lookups depth buffer.old.direction
-        (applied_of ctx.now)) buffer.old.direction (applied_of ctx.now) subtables.now
+    requires kept { AreKept (apply_context_of ctx.now) (items_of buffer.old) last.old }
+    ensures performs { Performs (first_subtable (nested_actions table.now.lookups depth buffer.old.direction
+        (apply_context_of ctx.now)) buffer.old.direction (apply_context_of ctx.now) subtables.now
         (cut_with ctx.now.random_state buffer.old)) result ctx.now.random_state ctx.now.random_state buffer.old
         buffer.new }
-    ensures kept { OnOk result (AreKept (applied_of ctx.now) (items_of buffer.new) last.new) }
+    ensures kept { OnOk result (AreKept (apply_context_of ctx.now) (items_of buffer.new) last.new) }
 {
     match subtables {
         PositioningSubtables::Single(subtables) => {
@@ -134,12 +137,12 @@ fn apply_contexts(
     requires unrefused { buffer.old.has_refused ≡ false }
     requires there { 0 < length buffer.old.ahead }
     requires number { are_glyphs (items_of buffer.old) ≡ true }
-    requires kept { AreKept (applied_of ctx.now) (items_of buffer.old) last.old }
+    requires kept { AreKept (apply_context_of ctx.now) (items_of buffer.old) last.old }
     ensures performs { Performs (first_rule (context_subtable
-        (nested table.now.lookups depth buffer.old.direction (applied_of ctx.now)) (applied_of ctx.now)) subtables.now
+        (nested_actions table.now.lookups depth buffer.old.direction (apply_context_of ctx.now)) (apply_context_of ctx.now)) subtables.now
         (cut_with ctx.now.random_state buffer.old))
         result ctx.now.random_state ctx.now.random_state buffer.old buffer.new }
-    ensures kept { OnOk result (AreKept (applied_of ctx.now) (items_of buffer.new) last.new) }
+    ensures kept { OnOk result (AreKept (apply_context_of ctx.now) (items_of buffer.new) last.new) }
 {
     for subtable in subtables {
         match apply_context(table, depth, subtable, ctx, last, buffer) {
@@ -165,11 +168,11 @@ fn apply_context(
     requires unrefused { buffer.old.has_refused ≡ false }
     requires there { 0 < length buffer.old.ahead }
     requires number { are_glyphs (items_of buffer.old) ≡ true }
-    requires kept { AreKept (applied_of ctx.now) (items_of buffer.old) last.old }
-    ensures performs { Performs (context_subtable (nested table.now.lookups depth buffer.old.direction
-        (applied_of ctx.now)) (applied_of ctx.now) subtable.now (cut_with ctx.now.random_state buffer.old)) result
+    requires kept { AreKept (apply_context_of ctx.now) (items_of buffer.old) last.old }
+    ensures performs { Performs (context_subtable (nested_actions table.now.lookups depth buffer.old.direction
+        (apply_context_of ctx.now)) (apply_context_of ctx.now) subtable.now (cut_with ctx.now.random_state buffer.old)) result
         ctx.now.random_state ctx.now.random_state buffer.old buffer.new }
-    ensures kept { OnOk result (AreKept (applied_of ctx.now) (items_of buffer.new) last.new) }
+    ensures kept { OnOk result (AreKept (apply_context_of ctx.now) (items_of buffer.new) last.new) }
 {
     if !is_tried_at(subtable, buffer.cur(0)) {
         return Ok(false);
@@ -192,12 +195,12 @@ fn apply_rules(
     requires unrefused { buffer.old.has_refused ≡ false }
     requires there { 0 < length buffer.old.ahead }
     requires number { are_glyphs (items_of buffer.old) ≡ true }
-    requires kept { AreKept (applied_of ctx.now) (items_of buffer.old) last.old }
-    ensures performs { Performs (first_rule (chain_rule (nested table.now.lookups depth buffer.old.direction
-        (applied_of ctx.now)) (applied_of ctx.now)) (chains_of subtable.now) (cut_with ctx.now.random_state buffer.old))
+    requires kept { AreKept (apply_context_of ctx.now) (items_of buffer.old) last.old }
+    ensures performs { Performs (first_rule (chain_rule (nested_actions table.now.lookups depth buffer.old.direction
+        (apply_context_of ctx.now)) (apply_context_of ctx.now)) (chains_of subtable.now) (cut_with ctx.now.random_state buffer.old))
         result
         ctx.now.random_state ctx.now.random_state buffer.old buffer.new }
-    ensures kept { OnOk result (AreKept (applied_of ctx.now) (items_of buffer.new) last.new) }
+    ensures kept { OnOk result (AreKept (apply_context_of ctx.now) (items_of buffer.new) last.new) }
 {
     for i in 0..rule_count(subtable) {
         let rule = rule_at(subtable, i);
@@ -224,11 +227,11 @@ fn apply_rule(
     requires unrefused { buffer.old.has_refused ≡ false }
     requires there { 0 < length buffer.old.ahead }
     requires number { are_glyphs (items_of buffer.old) ≡ true }
-    requires kept { AreKept (applied_of ctx.now) (items_of buffer.old) last.old }
-    ensures performs { Performs (chain_rule (nested table.now.lookups depth buffer.old.direction (applied_of ctx.now))
-        (applied_of ctx.now) (chain_of rule.now) (cut_with ctx.now.random_state buffer.old)) result
+    requires kept { AreKept (apply_context_of ctx.now) (items_of buffer.old) last.old }
+    ensures performs { Performs (chain_rule (nested_actions table.now.lookups depth buffer.old.direction (apply_context_of ctx.now))
+        (apply_context_of ctx.now) (chain_of rule.now) (cut_with ctx.now.random_state buffer.old)) result
         ctx.now.random_state ctx.now.random_state buffer.old buffer.new }
-    ensures kept { OnOk result (AreKept (applied_of ctx.now) (items_of buffer.new) last.new) }
+    ensures kept { OnOk result (AreKept (apply_context_of ctx.now) (items_of buffer.new) last.new) }
 {
     let mut places = MatchPositions::new();
     let Some(end) = match_chain(ctx, rule, buffer, &mut places) else {
@@ -264,16 +267,16 @@ fn apply_records(
     requires closed { buffer.old.is_open ≡ false }
     requires unrefused { buffer.old.has_refused ≡ false }
     requires number { are_glyphs (items_of buffer.old) ≡ true }
-    requires kept { AreKept (applied_of ctx.now) (items_of buffer.old) last.old }
+    requires kept { AreKept (apply_context_of ctx.now) (items_of buffer.old) last.old }
     requires rising { AreRising 0 (length (whole (cut_of buffer.old)) + 1) places.old.items }
     requires within { end ≤ length (whole (cut_of buffer.old)) }
-    ensures walks { Walking (each_nested (nested table.now.lookups depth buffer.old.direction (applied_of ctx.now))
+    ensures walks { Walking (each_nested (nested_actions table.now.lookups depth buffer.old.direction (apply_context_of ctx.now))
         records.now
         (cut_with ctx.now.random_state buffer.old) places.old.items end) result places.new.items ctx.now.random_state
         buffer.old buffer.new }
     ensures inside { IfOk result (λ at. StaysInside (length (whole (cut_of buffer.old)))
         (length (whole (cut_of buffer.new))) places.old.items places.new.items end at) }
-    ensures kept { OnOk result (AreKept (applied_of ctx.now) (items_of buffer.new) last.new) }
+    ensures kept { OnOk result (AreKept (apply_context_of ctx.now) (items_of buffer.new) last.new) }
 {
     if depth == 0 {
         return Ok(end);
@@ -313,16 +316,16 @@ fn apply_record(
     requires closed { buffer.old.is_open ≡ false }
     requires unrefused { buffer.old.has_refused ≡ false }
     requires number { are_glyphs (items_of buffer.old) ≡ true }
-    requires kept { AreKept (applied_of ctx.now) (items_of buffer.old) last.old }
+    requires kept { AreKept (apply_context_of ctx.now) (items_of buffer.old) last.old }
     requires rising { AreRising 0 (length (whole (cut_of buffer.old)) + 1) places.old.items }
     requires within { end ≤ length (whole (cut_of buffer.old)) }
-    ensures walks { Walking (one_record (nested_act table.now.lookups depth buffer.old.direction (applied_of ctx.now))
+    ensures walks { Walking (one_record (nested_act table.now.lookups depth buffer.old.direction (apply_context_of ctx.now))
         lookup_record.now
         (cut_with ctx.now.random_state buffer.old) places.old.items end) result places.new.items ctx.now.random_state
         buffer.old buffer.new }
     ensures inside { IfOk result (λ at. StaysInside (length (whole (cut_of buffer.old)))
         (length (whole (cut_of buffer.new))) places.old.items places.new.items end at) }
-    ensures kept { OnOk result (AreKept (applied_of ctx.now) (items_of buffer.new) last.new) }
+    ensures kept { OnOk result (AreKept (apply_context_of ctx.now) (items_of buffer.new) last.new) }
 {
     let place = match begin_record(lookup_record, places, buffer) {
         Ok(Some(place)) => place,

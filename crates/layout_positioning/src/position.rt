@@ -1,12 +1,12 @@
 //! Positioning, GPOS stage after GPOS stage (rustybuzz: hb/ot_layout_gpos_table.rs, `position`; hb/ot_layout.rs,
 //! `apply_layout_table`).
 ghost use Rattle.std.specs.Prelude.{ℕ, ◌≡◌, ◌≢◌, true, Err, IfErr, OnOk};
-ghost use Rattle.buffer_core.specs.Readings.{read_of};
-ghost use Rattle.buffer_core.specs.Sides.{items_of, run_of};
+ghost use Rattle.buffer_core.specs.Readings.{reading_of};
+ghost use Rattle.buffer_core.specs.Sides.{items_of, state_of};
 ghost use Rattle.buffer_stages.specs.Buffers.{are_glyphs};
-ghost use Rattle.buffer_stages.specs.Ready.{IsDone, IsDoneFrom, IsReady, run_with};
+ghost use Rattle.buffer_stages.specs.Ready.{IsDone, IsDoneFrom, IsReady, state_with};
 ghost use Rattle.buffer_stages.specs.Settings.{text_settings};
-ghost use Rattle.layout_positioning.specs.Positioning.{LeavesItems, lookups_stage, positioned_by, positioning_lookups, table_stages};
+ghost use Rattle.layout_positioning.specs.Positioning.{LeavesItems, lookups_stage, positioning_stages, positioning_lookups, table_stages};
 
 use crate::apply::apply_lookups;
 use buffer_core::buffer::hb_buffer_t;
@@ -27,8 +27,8 @@ fn apply_stage(
     requires numbers { are_glyphs (items_of buffer.old) ≡ true }
     ensures ok { OnOk result (IsDoneFrom 1 1 (lookups_stage face.now (positioning_lookups face.now) lookups.now)
         buffer.old buffer.new) }
-    ensures err { IfErr result (λ e. e ≢ ShapeCause.OutOfMemory → read_of (lookups_stage face.now
-        (positioning_lookups face.now) lookups.now) (run_with 1 buffer.old) ≡ Err e) }
+    ensures err { IfErr result (λ e. e ≢ ShapeCause.OutOfMemory → reading_of (lookups_stage face.now
+        (positioning_lookups face.now) lookups.now) (state_with 1 buffer.old) ≡ Err e) }
 {
     match face.gpos() {
         Some(table) => apply_lookups(face, table, lookups, buffer),
@@ -48,10 +48,10 @@ fn apply_layout_table<P: Pause>(
     requires numbers { are_glyphs (items_of buffer.old) ≡ true }
     ensures ok { OnOk result (IsDoneFrom 1 1 (table_stages face.now (positioning_lookups face.now) map.now.tables.gpos
         (P.stage pause.now (text_settings buffer.old)) 0 map.now.tables.gpos.stages) buffer.old buffer.new) }
-    ensures err { IfErr result (λ e. e ≢ ShapeCause.OutOfMemory → read_of (table_stages face.now
+    ensures err { IfErr result (λ e. e ≢ ShapeCause.OutOfMemory → reading_of (table_stages face.now
         (positioning_lookups face.now) map.now.tables.gpos (P.stage pause.now (text_settings buffer.old)) 0
         map.now.tables.gpos.stages)
-        (run_with 1 buffer.old) ≡ Err e) }
+        (state_with 1 buffer.old) ≡ Err e) }
 {
     let stages = map.stages(TableIndex::GPOS);
     for i in 0..stages.len() {
@@ -74,10 +74,10 @@ pub fn position<P: Pause>(
 ) -> Result<(), ShapeCause>
     requires ready { IsReady buffer.old }
     requires numbers { are_glyphs (items_of buffer.old) ≡ true }
-    ensures ok { OnOk result (IsDone (positioned_by face.now map.now (P.stage pause.now (text_settings buffer.old)))
+    ensures ok { OnOk result (IsDone (positioning_stages face.now map.now (P.stage pause.now (text_settings buffer.old)))
         buffer.old buffer.new) }
     ensures err { IfErr result (λ e. e ≢ ShapeCause.OutOfMemory
-        → read_of (positioned_by face.now map.now (P.stage pause.now (text_settings buffer.old))) (run_of buffer.old)
+        → reading_of (positioning_stages face.now map.now (P.stage pause.now (text_settings buffer.old))) (state_of buffer.old)
         ≡ Err e) }
     ensures items { OnOk result (((i : ℕ) → LeavesItems (P.stage pause.now (text_settings buffer.old) i)) →
         items_of buffer.new ≡ items_of buffer.old) }

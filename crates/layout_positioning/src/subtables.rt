@@ -1,10 +1,10 @@
 //! GPOS subtables that call no other lookup, tried one after another.
 ghost use Rattle.std.specs.Prelude.{◌≡◌, ◌<◌, false, true, length};
 ghost use Rattle.buffer_core.specs.Sides.{items_of};
-ghost use Rattle.layout_match.specs.Applied.{applied_of};
+ghost use Rattle.layout_match.specs.Applied.{apply_context_of};
 ghost use Rattle.buffer_stages.specs.Actions.{first_rule};
 ghost use Rattle.buffer_stages.specs.Buffers.{are_glyphs};
-ghost use Rattle.buffer_stages.specs.Performing.{Performed, cut_with};
+ghost use Rattle.buffer_stages.specs.Performing.{IsPerformed, cut_with};
 ghost use Rattle.layout_positioning.specs.Joins.{cursive_subtable};
 ghost use Rattle.layout_gpos.specs.Bases.{AreKept};
 ghost use Rattle.layout_gpos.specs.Marks.{mark_to_base, mark_to_ligature, mark_to_mark};
@@ -30,7 +30,7 @@ pub fn apply_first<S: Apply>(
     requires closed { buffer.old.is_open ≡ false }
     requires there { 0 < length buffer.old.ahead }
     requires number { are_glyphs (items_of buffer.old) ≡ true }
-    ensures { Performed (first_rule (λ s. S.action s buffer.old.direction (applied_of ctx.now)) subtables.now
+    ensures { IsPerformed (first_rule (λ s. S.action s buffer.old.direction (apply_context_of ctx.now)) subtables.now
         (cut_with ctx.now.random_state buffer.old)) result ctx.now.random_state ctx.now.random_state buffer.old
         buffer.new }
 {
@@ -53,7 +53,7 @@ pub fn apply_first_cursive(
     requires closed { buffer.old.is_open ≡ false }
     requires there { 0 < length buffer.old.ahead }
     requires number { are_glyphs (items_of buffer.old) ≡ true }
-    ensures { Performed (first_rule (λ s. cursive_subtable buffer.old.direction (applied_of ctx.now) s.rows)
+    ensures { IsPerformed (first_rule (λ s. cursive_subtable buffer.old.direction (apply_context_of ctx.now) s.rows)
         subtables.now (cut_with ctx.now.random_state buffer.old)) result ctx.now.random_state ctx.now.random_state
         buffer.old buffer.new }
 {
@@ -76,7 +76,7 @@ pub fn apply_first_mark(
     requires closed { buffer.old.is_open ≡ false }
     requires there { 0 < length buffer.old.ahead }
     requires number { are_glyphs (items_of buffer.old) ≡ true }
-    ensures { Performed (first_rule (mark_to_mark (applied_of ctx.now)) subtables.now
+    ensures { IsPerformed (first_rule (mark_to_mark (apply_context_of ctx.now)) subtables.now
         (cut_with ctx.now.random_state buffer.old)) result ctx.now.random_state ctx.now.random_state buffer.old
         buffer.new }
 {
@@ -101,11 +101,11 @@ pub fn apply_first_base(
     requires closed { buffer.old.is_open ≡ false }
     requires there { 0 < length buffer.old.ahead }
     requires number { are_glyphs (items_of buffer.old) ≡ true }
-    requires kept { AreKept (applied_of ctx.now) (items_of buffer.old) last.old }
-    ensures performed { Performed (first_rule (mark_to_base (applied_of ctx.now)) subtables.now
+    requires kept { AreKept (apply_context_of ctx.now) (items_of buffer.old) last.old }
+    ensures performed { IsPerformed (first_rule (mark_to_base (apply_context_of ctx.now)) subtables.now
         (cut_with ctx.now.random_state buffer.old)) result ctx.now.random_state ctx.now.random_state buffer.old
         buffer.new }
-    ensures kept { AreKept (applied_of ctx.now) (items_of buffer.new) last.new }
+    ensures kept { AreKept (apply_context_of ctx.now) (items_of buffer.new) last.new }
 {
     for subtable in subtables {
         let _placed = buffer.pos_slice();
@@ -128,11 +128,11 @@ pub fn apply_first_ligature(
     requires closed { buffer.old.is_open ≡ false }
     requires there { 0 < length buffer.old.ahead }
     requires number { are_glyphs (items_of buffer.old) ≡ true }
-    requires kept { AreKept (applied_of ctx.now) (items_of buffer.old) last.old }
-    ensures performed { Performed (first_rule (mark_to_ligature (applied_of ctx.now)) subtables.now
+    requires kept { AreKept (apply_context_of ctx.now) (items_of buffer.old) last.old }
+    ensures performed { IsPerformed (first_rule (mark_to_ligature (apply_context_of ctx.now)) subtables.now
         (cut_with ctx.now.random_state buffer.old)) result ctx.now.random_state ctx.now.random_state buffer.old
         buffer.new }
-    ensures kept { AreKept (applied_of ctx.now) (items_of buffer.new) last.new }
+    ensures kept { AreKept (apply_context_of ctx.now) (items_of buffer.new) last.new }
 {
     for subtable in subtables {
         let _placed = buffer.pos_slice();

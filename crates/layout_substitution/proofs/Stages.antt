@@ -3,14 +3,14 @@ use Rattle.std.proofs.Common.{ℕ, ◌≡◌, ◌≤◌, ◌<◌, ◌+◌, List,
 use Rattle.std.specs.Prelude.{slice_get, None, Option, Bool, if◌then◌else◌}
 use Rattle.std.proofs.lemmas.List.{drop_more, drop_all}
 use Rattle.buffer_glyphs.specs.declared.cause.ShapeCause.{ShapeCause}
-use Rattle.buffer_core.specs.Readings.{View, Run, Stage, Follows, read_of, always, with_events}
+use Rattle.buffer_core.specs.Readings.{View, BufferState, Stage, Follows, reading_of, always, with_events}
 use Rattle.buffer_core.specs.Steps.{follows_then, follows_same, refused_first, refused_then}
-use Rattle.buffer_core.specs.Sides.{Sides, settings_of, items_of, run_of}
+use Rattle.buffer_core.specs.Sides.{Sides, settings_of, items_of, state_of}
 use Rattle.layout_face.specs.declared.parts.FaceParts.{FaceParts}
 use Rattle.layout_face.specs.declared.substitution.SubstLookup.{SubstLookup}
 use Rattle.layout_map_features.specs.declared.lookup.lookup_map_t.{lookup_map_t}
 use Rattle.buffer_stages.specs.Buffers.{are_glyphs}
-use Rattle.buffer_stages.specs.Ready.{IsReady, IsDone, IsDoneFrom, run_with}
+use Rattle.buffer_stages.specs.Ready.{IsReady, IsDone, IsDoneFrom, state_with}
 use Rattle.buffer_stages.specs.Pauses.{with_own_random}
 use Rattle.layout_substitution.specs.Lookups.{lookup_stage, lookups_stage}
 
@@ -26,8 +26,8 @@ pub record AreDone (font : FaceParts) (table : List SubstLookup) (all left : Lis
   pub ready : IsReady now
   pub settings : settings_of now ≡ settings_of old
   pub numbers : are_glyphs (items_of old) ≡ true → are_glyphs (items_of now) ≡ true
-  pub follows : (final : Run) → Follows (read_of (lookups_stage font table left) (run_with r now)) (run_with r now) final → Follows (read_of (lookups_stage font table all) (run_with before old)) (run_with before old) final
-  pub refuses : (cause : ShapeCause) → read_of (lookups_stage font table left) (run_with r now) ≡ Err cause → read_of (lookups_stage font table all) (run_with before old) ≡ Err cause
+  pub follows : (final : BufferState) → Follows (reading_of (lookups_stage font table left) (state_with r now)) (state_with r now) final → Follows (reading_of (lookups_stage font table all) (state_with before old)) (state_with before old) final
+  pub refuses : (cause : ShapeCause) → reading_of (lookups_stage font table left) (state_with r now) ≡ Err cause → reading_of (lookups_stage font table all) (state_with before old) ≡ Err cause
 
 pub none_done : (font : FaceParts) (table : List SubstLookup) (all : List lookup_map_t) (r : ℕ) (s : Sides) → IsReady s → AreDone font table all (drop 0 all) r r s s
 none_done font table all r s ready = record {
@@ -43,7 +43,7 @@ pub nothing_done : (font : FaceParts) (table : List SubstLookup) (m : lookup_map
 nothing_done font table m o r s ready none =
     let P : Option SubstLookup → Type 0 = λ p. IsDoneFrom r r (lookup_stage font table p m) s s in
     let same : IsDoneFrom r r (lookup_stage font table None m) s s = record {
-      follows = follows_same (run_with r s);
+      follows = follows_same (state_with r s);
       ready = ready;
       settings = refl;
       numbers = λ h. h;
@@ -62,26 +62,26 @@ one_done font table all k e before r after old now next lt a d =
       ready = d.ready;
       settings = d.settings ∙ a.settings;
       numbers = λ h. d.numbers (a.numbers h);
-      follows = λ final f. start.follows final (follows_then (read_of stage (run_with r now)) (lookups_stage font table (drop (k + 1) all)) (run_with r now) (run_with after next) final d.follows f);
-      refuses = λ cause g. start.refuses cause (refused_then (read_of stage (run_with r now)) (lookups_stage font table (drop (k + 1) all)) (run_with r now) (run_with after next) cause d.follows g);
+      follows = λ final f. start.follows final (follows_then (reading_of stage (state_with r now)) (lookups_stage font table (drop (k + 1) all)) (state_with r now) (state_with after next) final d.follows f);
+      refuses = λ cause g. start.refuses cause (refused_then (reading_of stage (state_with r now)) (lookups_stage font table (drop (k + 1) all)) (state_with r now) (state_with after next) cause d.follows g);
     }
 
 -- the next lookup is refused
 pub one_refused : (font : FaceParts) (table : List SubstLookup) (all : List lookup_map_t) (k : ℕ) (e : lookup_map_t) (before r : ℕ) (old now : Sides) (cause : ShapeCause) → k < length all → AreDone font table all (drop k all) before r old now
-    → read_of (lookup_stage font table (slice_get table (get_or all k e).index) (get_or all k e)) (run_with r now) ≡ Err cause → read_of (lookups_stage font table all) (run_with before old) ≡ Err cause
+    → reading_of (lookup_stage font table (slice_get table (get_or all k e).index) (get_or all k e)) (state_with r now) ≡ Err cause → reading_of (lookups_stage font table all) (state_with before old) ≡ Err cause
 one_refused font table all k e before r old now cause lt a is =
     let m = get_or all k e in
     let left : drop k all ≡ m ∷ drop (k + 1) all = drop_more all k e lt in
     let P : List lookup_map_t → Type 0 = λ ms. AreDone font table all ms before r old now in
     let start = subst P left a in
-    start.refuses cause (refused_first (read_of (lookup_stage font table (slice_get table m.index) m) (run_with r now)) (lookups_stage font table (drop (k + 1) all)) cause is)
+    start.refuses cause (refused_first (reading_of (lookup_stage font table (slice_get table m.index) m) (state_with r now)) (lookups_stage font table (drop (k + 1) all)) cause is)
 
 pub all_done : (font : FaceParts) (table : List SubstLookup) (all : List lookup_map_t) (k before r : ℕ) (old now : Sides) → length all ≤ k → AreDone font table all (drop k all) before r old now → IsDoneFrom before r (lookups_stage font table all) old now
 all_done font table all k before r old now le a =
     let P : List lookup_map_t → Type 0 = λ ms. AreDone font table all ms before r old now in
     let done = subst P (drop_all k all le) a in
     record {
-      follows = done.follows (run_with r now) (follows_same (run_with r now));
+      follows = done.follows (state_with r now) (follows_same (state_with r now));
       ready = done.ready;
       settings = done.settings;
       numbers = done.numbers;
@@ -92,11 +92,11 @@ all_done font table all k before r old now le a =
 -- of the state from which alternates were drawn nothing is left
 pub own_done : (stage : Stage) (after : ℕ) (old new : Sides) → IsDoneFrom 1 after stage old new → IsDone (with_own_random stage) old new
 own_done stage after old new d = record {
-  follows = follows_then (read_of stage (run_with 1 old)) (always (λ (w : View). with_events [] (record w { random = 1 }))) (run_of old) (run_with after new) (run_of new) d.follows refl;
+  follows = follows_then (reading_of stage (state_with 1 old)) (always (λ (w : View). with_events [] (record w { random = 1 }))) (state_of old) (state_with after new) (state_of new) d.follows refl;
   settings = d.settings;
   ready = d.ready;
   numbers = d.numbers;
 }
 
-pub own_refused : (stage : Stage) (old : Sides) (cause : ShapeCause) → read_of stage (run_with 1 old) ≡ Err cause → read_of (with_own_random stage) (run_of old) ≡ Err cause
-own_refused stage old cause e = refused_first (read_of stage (run_with 1 old)) (always (λ (w : View). with_events [] (record w { random = 1 }))) cause e
+pub own_refused : (stage : Stage) (old : Sides) (cause : ShapeCause) → reading_of stage (state_with 1 old) ≡ Err cause → reading_of (with_own_random stage) (state_of old) ≡ Err cause
+own_refused stage old cause e = refused_first (reading_of stage (state_with 1 old)) (always (λ (w : View). with_events [] (record w { random = 1 }))) cause e

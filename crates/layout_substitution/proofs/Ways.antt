@@ -4,7 +4,7 @@ use Rattle.std.proofs.lemmas.List.{drop_more, drop_all}
 use Rattle.std.specs.Option.{option_map_or}
 use Rattle.layout_face.specs.declared.substitution.SubstitutionTable.{SubstitutionTable}
 use Rattle.buffer_glyphs.specs.declared.cause.ShapeCause.{ShapeCause}
-use Rattle.buffer_core.specs.Readings.{read_of}
+use Rattle.buffer_core.specs.Readings.{reading_of}
 use Rattle.buffer_core.specs.Steps.{follows_then, follows_same, refused_first}
 use Rattle.buffer_core.specs.Sides.{Sides}
 use Rattle.layout_map.specs.declared.stages.StageMap.{StageMap}
@@ -12,7 +12,7 @@ use Rattle.layout_face.specs.declared.parts.FaceParts.{FaceParts}
 use Rattle.layout_face.specs.declared.substitution.SubstLookup.{SubstLookup}
 use Rattle.layout_map_features.specs.declared.lookup.lookup_map_t.{lookup_map_t}
 use Rattle.layout_map.specs.Compiled.{TableStages, lookups_of_stage}
-use Rattle.buffer_stages.specs.Ready.{IsReady, IsDoneFrom, run_with}
+use Rattle.buffer_stages.specs.Ready.{IsReady, IsDoneFrom, state_with}
 use Rattle.layout_substitution.specs.Lookups.{lookup_stage, lookups_stage}
 use Rattle.buffer_stages.specs.Pauses.{Pauses, pause_stage}
 use Rattle.layout_substitution.specs.Substituting.{substitution_lookups, table_stage, table_stages}
@@ -24,7 +24,7 @@ no_lookups font [] r s ready = nothing_done r s ready
 no_lookups font (m ∷ maps) r s ready =
     let others = no_lookups font maps r s ready in
     record {
-      follows = follows_then (read_of (lookup_stage font [] None m) (run_with r s)) (lookups_stage font [] maps) (run_with r s) (run_with r s) (run_with r s) (follows_same (run_with r s)) others.follows;
+      follows = follows_then (reading_of (lookup_stage font [] None m) (state_with r s)) (lookups_stage font [] maps) (state_with r s) (state_with r s) (state_with r s) (follows_same (state_with r s)) others.follows;
       settings = refl;
       ready = ready;
       numbers = λ h. h;
@@ -53,23 +53,23 @@ table_stage_done font lookups t pauses i e before r mid after old now paused_at 
 
 -- the stage that is next refuses
 stage_refused : (font : FaceParts) (lookups : List SubstLookup) (t : TableStages) (pauses : Pauses) (i : ℕ) (e : StageMap) (before r : ℕ) (old now : Sides) (cause : ShapeCause) → i < length t.stages
-    → AreTableStagesDone font lookups t pauses i before r old now → read_of (table_stage font lookups t pauses i (get_or t.stages i e).pause) (run_with r now) ≡ Err cause
-    → read_of (table_stages font lookups t pauses 0 t.stages) (run_with before old) ≡ Err cause
+    → AreTableStagesDone font lookups t pauses i before r old now → reading_of (table_stage font lookups t pauses i (get_or t.stages i e).pause) (state_with r now) ≡ Err cause
+    → reading_of (table_stages font lookups t pauses 0 t.stages) (state_with before old) ≡ Err cause
 stage_refused font lookups t pauses i e before r old now cause lt a is =
     let s = get_or t.stages i e in
     let P : List StageMap → Type 0 = λ ss. AreStagesDone (table_stages font lookups t pauses 0 t.stages) (table_stages font lookups t pauses i ss) before r old now in
     let here = subst P (drop_more t.stages i e lt) a in
-    here.refuses cause (refused_first (read_of (table_stage font lookups t pauses i s.pause) (run_with r now)) (table_stages font lookups t pauses (i + 1) (drop (i + 1) t.stages)) cause is)
+    here.refuses cause (refused_first (reading_of (table_stage font lookups t pauses i s.pause) (state_with r now)) (table_stages font lookups t pauses (i + 1) (drop (i + 1) t.stages)) cause is)
 
 pub lookups_refused : (font : FaceParts) (lookups : List SubstLookup) (t : TableStages) (pauses : Pauses) (i : ℕ) (e : StageMap) (before r : ℕ) (old now : Sides) (cause : ShapeCause) → i < length t.stages
-    → AreTableStagesDone font lookups t pauses i before r old now → read_of (lookups_stage font lookups (lookups_of_stage t i)) (run_with r now) ≡ Err cause
-    → read_of (table_stages font lookups t pauses 0 t.stages) (run_with before old) ≡ Err cause
+    → AreTableStagesDone font lookups t pauses i before r old now → reading_of (lookups_stage font lookups (lookups_of_stage t i)) (state_with r now) ≡ Err cause
+    → reading_of (table_stages font lookups t pauses 0 t.stages) (state_with before old) ≡ Err cause
 lookups_refused font lookups t pauses i e before r old now cause lt a is =
     stage_refused font lookups t pauses i e before r old now cause lt a (first_refused (lookups_stage font lookups (lookups_of_stage t i)) (pause_stage pauses (get_or t.stages i e).pause) r now cause is)
 
 pub then_refused : (font : FaceParts) (lookups : List SubstLookup) (t : TableStages) (pauses : Pauses) (i : ℕ) (e : StageMap) (before r mid : ℕ) (old now paused_at : Sides) (cause : ShapeCause) → i < length t.stages
-    → AreTableStagesDone font lookups t pauses i before r old now → IsDoneFrom r mid (lookups_stage font lookups (lookups_of_stage t i)) now paused_at → read_of (pause_stage pauses (get_or t.stages i e).pause) (run_with mid paused_at) ≡ Err cause
-    → read_of (table_stages font lookups t pauses 0 t.stages) (run_with before old) ≡ Err cause
+    → AreTableStagesDone font lookups t pauses i before r old now → IsDoneFrom r mid (lookups_stage font lookups (lookups_of_stage t i)) now paused_at → reading_of (pause_stage pauses (get_or t.stages i e).pause) (state_with mid paused_at) ≡ Err cause
+    → reading_of (table_stages font lookups t pauses 0 t.stages) (state_with before old) ≡ Err cause
 then_refused font lookups t pauses i e before r mid old now paused_at cause lt a d is =
     stage_refused font lookups t pauses i e before r old now cause lt a (second_refused (lookups_stage font lookups (lookups_of_stage t i)) (pause_stage pauses (get_or t.stages i e).pause) r mid now paused_at cause d is)
 
@@ -78,7 +78,7 @@ pub all_stages_done : (font : FaceParts) (lookups : List SubstLookup) (t : Table
 all_stages_done font lookups t pauses i before r old now le a =
     let P : List StageMap → Type 0 = λ ss. AreStagesDone (table_stages font lookups t pauses 0 t.stages) (table_stages font lookups t pauses i ss) before r old now in
     let done = subst P (drop_all i t.stages le) a in
-    record { follows = done.follows (run_with r now) (follows_same (run_with r now)); settings = done.settings; ready = done.ready; numbers = done.numbers }
+    record { follows = done.follows (state_with r now) (follows_same (state_with r now)); settings = done.settings; ready = done.ready; numbers = done.numbers }
 
 -- ---- as calls say it
 
@@ -96,8 +96,8 @@ stage_done font own t pauses i e ls p before r mid old now paused_at next lt a s
 -- its lookups are refused
 pub stage_lookups_refused : (font own : FaceParts) (t : TableStages) (pauses : Pauses) (i : ℕ) (ls : List lookup_map_t) (before r : ℕ) (old now : Sides) (cause : ShapeCause) → i < length t.stages
     → AreTableStagesDone font (substitution_lookups font) t pauses i before r old now → own ≡ font → ls ≡ lookups_of_stage t i
-    → read_of (lookups_stage own (substitution_lookups own) ls) (run_with r now) ≡ Err cause → read_of (table_stages font (substitution_lookups font) t pauses 0 t.stages) (run_with before old) ≡ Err cause
+    → reading_of (lookups_stage own (substitution_lookups own) ls) (state_with r now) ≡ Err cause → reading_of (table_stages font (substitution_lookups font) t pauses 0 t.stages) (state_with before old) ≡ Err cause
 stage_lookups_refused font own t pauses i ls before r old now cause lt a same those is =
-    let P : FaceParts → Type 0 = λ o. read_of (lookups_stage o (substitution_lookups o) ls) (run_with r now) ≡ Err cause in
-    let Q : List lookup_map_t → Type 0 = λ ms. read_of (lookups_stage font (substitution_lookups font) ms) (run_with r now) ≡ Err cause in
+    let P : FaceParts → Type 0 = λ o. reading_of (lookups_stage o (substitution_lookups o) ls) (state_with r now) ≡ Err cause in
+    let Q : List lookup_map_t → Type 0 = λ ms. reading_of (lookups_stage font (substitution_lookups font) ms) (state_with r now) ≡ Err cause in
     lookups_refused font (substitution_lookups font) t pauses i (record { last_lookup = 0; pause = None }) before r old now cause lt a (subst Q those (subst P same is))

@@ -1,15 +1,15 @@
 -- What one step of a lookup over a buffer leaves.
 use Rattle.std.specs.Prelude.{ℕ, suc, ◌≡◌, true, length}
-use Rattle.buffer_core.specs.Readings.{View, Run, Follows}
-use Rattle.buffer_core.specs.Sides.{Sides, all_glyphs, items_of, run_of}
+use Rattle.buffer_core.specs.Readings.{View, BufferState, Follows}
+use Rattle.buffer_core.specs.Sides.{Sides, all_glyphs, items_of, state_of}
 use Rattle.buffer_stages.specs.Actions.{Action}
 use Rattle.buffer_stages.specs.Buffers.{are_glyphs, IsStill}
 use Rattle.buffer_stages.specs.Performing.{cut_with}
-use Rattle.layout_substitution.specs.Lookups.{tried_back}
+use Rattle.layout_substitution.specs.Lookups.{backward_trials}
 
 -- a rule was tried in place at an index; the reading from here of the indices before it is that from before
 pub record IsStepBack (act : Action) (at : ℕ) (old new : Sides) : Type 0 where
   pub still : IsStill old new
   pub count : length (all_glyphs new) ≡ length (all_glyphs old)
   pub numbers : are_glyphs (items_of old) ≡ true → are_glyphs (items_of new) ≡ true
-  pub follows : (r : ℕ) (v : View) (final : Run) → Follows (tried_back act v at (cut_with r new)) (run_of new) final → Follows (tried_back act v (suc at) (cut_with r old)) (run_of old) final
+  pub follows : (r : ℕ) (v : View) (final : BufferState) → Follows (backward_trials act v at (cut_with r new)) (state_of new) final → Follows (backward_trials act v (suc at) (cut_with r old)) (state_of old) final

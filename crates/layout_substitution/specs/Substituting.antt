@@ -23,5 +23,5 @@ abbrev pub substitution_lookups : FaceParts → List SubstLookup
 substitution_lookups font = option_map_or (λ t. t.lookups) font.gsub []
 
 -- the GSUB stages of a map; random numbers are drawn from one state, 1 at first
-abbrev pub substituted_by : FaceParts → OtMapValue → Pauses → Stage
-substituted_by font m pauses v = with_own_random (table_stages font (substitution_lookups font) m.tables.gsub pauses 0 m.tables.gsub.stages) v
+abbrev pub substitution_stages : FaceParts → OtMapValue → Pauses → Stage
+substitution_stages font m pauses v = with_own_random (table_stages font (substitution_lookups font) m.tables.gsub pauses 0 m.tables.gsub.stages) v

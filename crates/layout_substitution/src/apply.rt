@@ -1,13 +1,13 @@
 //! Applies lookups to a whole buffer (rustybuzz: hb/ot_layout.rs, `apply_string`, `apply_layout_table`).
 ghost use Rattle.std.specs.Prelude.{◌≡◌, ◌≢◌, true, Err, slice_get, IfErr, OnOk};
-ghost use Rattle.buffer_core.specs.Readings.{read_of};
-ghost use Rattle.buffer_core.specs.Sides.{items_of, run_of};
+ghost use Rattle.buffer_core.specs.Readings.{reading_of};
+ghost use Rattle.buffer_core.specs.Sides.{items_of, state_of};
 ghost use Rattle.layout_map_features.specs.declared.per_table.TableIndex.TheVariants.{GSUB};
-ghost use Rattle.layout_match.specs.Applied.{applied_of};
+ghost use Rattle.layout_match.specs.Applied.{apply_context_of};
 ghost use Rattle.buffer_stages.specs.Buffers.{are_glyphs};
-ghost use Rattle.buffer_stages.specs.Ready.{IsDone, IsDoneFrom, IsReady, run_with};
+ghost use Rattle.buffer_stages.specs.Ready.{IsDone, IsDoneFrom, IsReady, state_with};
 ghost use Rattle.buffer_stages.specs.Pauses.{with_own_random};
-ghost use Rattle.layout_substitution.specs.Lookups.{applied_by, lookup_applied, lookup_stage, lookups_stage};
+ghost use Rattle.layout_substitution.specs.Lookups.{lookup_context, lookup_applied, lookup_stage, lookups_stage};
 
 use crate::backward::apply_backward;
 use crate::forward::apply_forward;
@@ -30,11 +30,11 @@ fn apply_everywhere(
     requires numbers { are_glyphs (items_of buffer.old) ≡ true }
     ensures ok { OnOk result
         (IsDoneFrom ctx.old.random_state ctx.new.random_state (lookup_applied table.now.lookups
-        (applied_of ctx.old) lookup.now) buffer.old buffer.new) }
-    ensures err { IfErr result (λ e. e ≢ ShapeCause.OutOfMemory → read_of
-        (lookup_applied table.now.lookups (applied_of ctx.old) lookup.now) (run_with ctx.old.random_state buffer.old)
+        (apply_context_of ctx.old) lookup.now) buffer.old buffer.new) }
+    ensures err { IfErr result (λ e. e ≢ ShapeCause.OutOfMemory → reading_of
+        (lookup_applied table.now.lookups (apply_context_of ctx.old) lookup.now) (state_with ctx.old.random_state buffer.old)
         ≡ Err e) }
-    ensures context { applied_of ctx.new ≡ applied_of ctx.old }
+    ensures context { apply_context_of ctx.new ≡ apply_context_of ctx.old }
 {
     if lookup.is_reverse() {
         apply_backward(lookup, ctx, buffer);
@@ -46,7 +46,7 @@ fn apply_everywhere(
 /// Sets the lookup to apply from now on: its own flag, and the parameters that the map gives it.
 fn set_lookup(ctx: &mut hb_ot_apply_context_t, lookup: &SubstLookup, lookup_map: &lookup_map_t)
     requires { ctx.old.table_index ≡ GSUB }
-    ensures applied { applied_of ctx.new ≡ applied_by ctx.old.face.now lookup.now lookup_map.now }
+    ensures applied { apply_context_of ctx.new ≡ lookup_context ctx.old.face.now lookup.now lookup_map.now }
     ensures state { ctx.new.random_state ≡ ctx.old.random_state }
 {
     ctx.set_lookup_mask(lookup_map.mask);
@@ -71,9 +71,9 @@ fn apply_mapped(
         (IsDoneFrom ctx.old.random_state ctx.new.random_state (lookup_stage ctx.old.face.now table.now.lookups
         (slice_get table.now.lookups lookup_map.now.index) lookup_map.now) buffer.old buffer.new) }
     ensures err { IfErr result (λ e. e ≢ ShapeCause.OutOfMemory
-        → read_of (lookup_stage ctx.old.face.now table.now.lookups
+        → reading_of (lookup_stage ctx.old.face.now table.now.lookups
         (slice_get table.now.lookups lookup_map.now.index) lookup_map.now)
-        (run_with ctx.old.random_state buffer.old) ≡ Err e) }
+        (state_with ctx.old.random_state buffer.old) ≡ Err e) }
     ensures table { ctx.new.table_index ≡ GSUB }
     ensures face { ctx.new.face.now ≡ ctx.old.face.now }
 {
@@ -96,9 +96,9 @@ pub(crate) fn apply_all(
     ensures ok { OnOk result
         (IsDoneFrom ctx.old.random_state ctx.new.random_state (lookups_stage
         ctx.old.face.now table.now.lookups lookups.now) buffer.old buffer.new) }
-    ensures err { IfErr result (λ e. e ≢ ShapeCause.OutOfMemory → read_of
+    ensures err { IfErr result (λ e. e ≢ ShapeCause.OutOfMemory → reading_of
         (lookups_stage ctx.old.face.now table.now.lookups lookups.now)
-        (run_with ctx.old.random_state buffer.old) ≡ Err e) }
+        (state_with ctx.old.random_state buffer.old) ≡ Err e) }
     ensures table { ctx.new.table_index ≡ GSUB }
     ensures face { ctx.new.face.now ≡ ctx.old.face.now }
 {
@@ -121,8 +121,8 @@ pub fn apply_lookups(
     requires numbers { are_glyphs (items_of buffer.old) ≡ true }
     ensures ok { OnOk result
         (IsDone (with_own_random (lookups_stage face.now table.now.lookups lookups.now)) buffer.old buffer.new) }
-    ensures err { IfErr result (λ e. e ≢ ShapeCause.OutOfMemory → read_of
-        (with_own_random (lookups_stage face.now table.now.lookups lookups.now)) (run_of buffer.old) ≡ Err e) }
+    ensures err { IfErr result (λ e. e ≢ ShapeCause.OutOfMemory → reading_of
+        (with_own_random (lookups_stage face.now table.now.lookups lookups.now)) (state_of buffer.old) ≡ Err e) }
 {
     let mut ctx = hb_ot_apply_context_t::new(TableIndex::GSUB, face);
     apply_all(table, lookups, &mut ctx, buffer)

@@ -1,10 +1,10 @@
 //! A reverse chaining lookup over a buffer, in place (rustybuzz: hb/ot_layout.rs, `apply_backward`).
 ghost use Rattle.std.specs.Prelude.{ℕ, ◌≡◌, ◌<◌, true, false, length};
 ghost use Rattle.buffer_core.specs.Sides.{all_glyphs, items_of};
-ghost use Rattle.layout_match.specs.Applied.{applied_of};
+ghost use Rattle.layout_match.specs.Applied.{apply_context_of};
 ghost use Rattle.buffer_stages.specs.Buffers.{are_glyphs};
 ghost use Rattle.buffer_stages.specs.Ready.{IsDoneFrom, IsReady};
-ghost use Rattle.layout_substitution.specs.Lookups.{looked_back, reverse_action};
+ghost use Rattle.layout_substitution.specs.Lookups.{backward_pass, reverse_action};
 ghost use Rattle.layout_substitution.specs.Steps.{IsStepBack};
 
 use crate::lookup::apply_reverse_lookup;
@@ -18,7 +18,7 @@ fn apply_at(lookup: &SubstLookup, at: usize, ctx: &hb_ot_apply_context_t, buffer
     requires closed { buffer.old.is_open ≡ false }
     requires there { at < length (all_glyphs buffer.old) }
     requires numbers { are_glyphs (items_of buffer.old) ≡ true }
-    ensures { IsStepBack (reverse_action (applied_of ctx.now) lookup.now) at buffer.old buffer.new }
+    ensures { IsStepBack (reverse_action (apply_context_of ctx.now) lookup.now) at buffer.old buffer.new }
 {
     let _before = buffer.pos_slice();
     let _ = buffer.move_to(at);
@@ -31,8 +31,8 @@ fn apply_at(lookup: &SubstLookup, at: usize, ctx: &hb_ot_apply_context_t, buffer
 pub fn apply_backward(lookup: &SubstLookup, ctx: &hb_ot_apply_context_t, buffer: &mut hb_buffer_t)
     requires ready { IsReady buffer.old }
     requires numbers { are_glyphs (items_of buffer.old) ≡ true }
-    ensures { (r : ℕ) → IsDoneFrom r r (looked_back
-        (reverse_action (applied_of ctx.now) lookup.now)) buffer.old buffer.new }
+    ensures { (r : ℕ) → IsDoneFrom r r (backward_pass
+        (reverse_action (apply_context_of ctx.now) lookup.now)) buffer.old buffer.new }
 {
     for at in (0..buffer.len()).rev() {
         apply_at(lookup, at, ctx, buffer);

@@ -1,11 +1,11 @@
 //! A lookup over a buffer with an open output (rustybuzz: hb/ot_layout.rs, `apply_forward`).
 ghost use Rattle.std.specs.Prelude.{◌≡◌, ◌≢◌, true, false, Err, IfErr, OnOk};
-ghost use Rattle.buffer_core.specs.Readings.{read_of};
+ghost use Rattle.buffer_core.specs.Readings.{reading_of};
 ghost use Rattle.buffer_core.specs.Sides.{items_of};
-ghost use Rattle.layout_match.specs.Applied.{applied_of};
+ghost use Rattle.layout_match.specs.Applied.{apply_context_of};
 ghost use Rattle.buffer_stages.specs.Buffers.{are_glyphs};
-ghost use Rattle.buffer_stages.specs.Ready.{IsDoneFrom, IsReady, run_with};
-ghost use Rattle.layout_match.specs.Trying.{looked_up};
+ghost use Rattle.buffer_stages.specs.Ready.{IsDoneFrom, IsReady, state_with};
+ghost use Rattle.layout_match.specs.Trying.{forward_pass};
 ghost use Rattle.layout_substitution.specs.Lookups.{lookup_action};
 ghost use Rattle.layout_match.specs.Steps.{IsGivenUp, IsStep};
 
@@ -27,11 +27,11 @@ fn apply_next(
     requires unrefused { buffer.old.has_refused ≡ false }
     requires numbers { are_glyphs (items_of buffer.old) ≡ true }
     ensures ok { OnOk result (IsStep (lookup_action table.now.lookups
-        (applied_of ctx.old) lookup.now) ctx.old.random_state ctx.new.random_state buffer.old buffer.new) }
+        (apply_context_of ctx.old) lookup.now) ctx.old.random_state ctx.new.random_state buffer.old buffer.new) }
     ensures err { IfErr result (λ e. e ≢ ShapeCause.OutOfMemory
-        → IsGivenUp (lookup_action table.now.lookups (applied_of ctx.old) lookup.now)
+        → IsGivenUp (lookup_action table.now.lookups (apply_context_of ctx.old) lookup.now)
         ctx.old.random_state buffer.old e) }
-    ensures context { applied_of ctx.new ≡ applied_of ctx.old }
+    ensures context { apply_context_of ctx.new ≡ apply_context_of ctx.old }
 {
     if buffer.idx() == buffer.len() {
         return Ok(());
@@ -56,12 +56,12 @@ pub fn apply_forward(
     requires ready { IsReady buffer.old }
     requires numbers { are_glyphs (items_of buffer.old) ≡ true }
     ensures ok { OnOk result
-        (IsDoneFrom ctx.old.random_state ctx.new.random_state (looked_up
-        (lookup_action table.now.lookups (applied_of ctx.old) lookup.now)) buffer.old buffer.new) }
-    ensures err { IfErr result (λ e. e ≢ ShapeCause.OutOfMemory → read_of (looked_up
-        (lookup_action table.now.lookups (applied_of ctx.old) lookup.now)) (run_with ctx.old.random_state buffer.old)
+        (IsDoneFrom ctx.old.random_state ctx.new.random_state (forward_pass
+        (lookup_action table.now.lookups (apply_context_of ctx.old) lookup.now)) buffer.old buffer.new) }
+    ensures err { IfErr result (λ e. e ≢ ShapeCause.OutOfMemory → reading_of (forward_pass
+        (lookup_action table.now.lookups (apply_context_of ctx.old) lookup.now)) (state_with ctx.old.random_state buffer.old)
         ≡ Err e) }
-    ensures context { applied_of ctx.new ≡ applied_of ctx.old }
+    ensures context { apply_context_of ctx.new ≡ apply_context_of ctx.old }
 {
     let count = buffer.len();
     buffer.clear_output()?;

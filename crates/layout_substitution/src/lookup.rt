@@ -1,7 +1,7 @@
 //! A GSUB lookup at the cursor (rustybuzz: `SubstLookup`).
 ghost use Rattle.std.specs.Prelude.{◌≡◌, ◌<◌, true, false, length};
 ghost use Rattle.buffer_core.specs.Sides.{items_of};
-ghost use Rattle.layout_match.specs.Applied.{applied_of};
+ghost use Rattle.layout_match.specs.Applied.{apply_context_of};
 ghost use Rattle.buffer_stages.specs.Actions.{first_rule};
 ghost use Rattle.buffer_stages.specs.Buffers.{are_glyphs, cut_of};
 ghost use Rattle.buffer_stages.specs.Performing.{Performs, PerformsInPlace, cut_with};
@@ -32,10 +32,10 @@ pub fn apply_lookup(
     requires unrefused { buffer.old.has_refused ≡ false }
     requires there { 0 < length buffer.old.ahead }
     requires number { are_glyphs (items_of buffer.old) ≡ true }
-    ensures performs { Performs (lookup_action table.now.lookups (applied_of ctx.old) lookup.now
+    ensures performs { Performs (lookup_action table.now.lookups (apply_context_of ctx.old) lookup.now
         (cut_with ctx.old.random_state buffer.old)) result ctx.old.random_state ctx.new.random_state buffer.old
         buffer.new }
-    ensures context { applied_of ctx.new ≡ applied_of ctx.old }
+    ensures context { apply_context_of ctx.new ≡ apply_context_of ctx.old }
 {
     if !meets(ctx, buffer.cur(0)) {
         return Ok(false);
@@ -52,7 +52,7 @@ fn apply_reverse_subtables(
 ) -> bool
     requires there { 0 < length buffer.old.ahead }
     requires number { are_glyphs (items_of buffer.old) ≡ true }
-    ensures { PerformsInPlace (first_rule (reverse_subtable (applied_of ctx.now)) subtables.now
+    ensures { PerformsInPlace (first_rule (reverse_subtable (apply_context_of ctx.now)) subtables.now
         (cut_of buffer.old)) result buffer.old buffer.new }
 {
     for subtable in subtables {
@@ -71,7 +71,7 @@ fn apply_reverse_substitution(
 ) -> bool
     requires there { 0 < length buffer.old.ahead }
     requires number { are_glyphs (items_of buffer.old) ≡ true }
-    ensures { PerformsInPlace (first_reverse (applied_of ctx.now) subtables.now
+    ensures { PerformsInPlace (first_reverse (apply_context_of ctx.now) subtables.now
         (cut_of buffer.old)) result buffer.old buffer.new }
 {
     match subtables {
@@ -97,7 +97,7 @@ pub fn apply_reverse_lookup(
 ) -> bool
     requires there { 0 < length buffer.old.ahead }
     requires number { are_glyphs (items_of buffer.old) ≡ true }
-    ensures { PerformsInPlace (reverse_action (applied_of ctx.now) lookup.now
+    ensures { PerformsInPlace (reverse_action (apply_context_of ctx.now) lookup.now
         (cut_of buffer.old)) result buffer.old buffer.new }
 {
     if !meets(ctx, buffer.cur(0)) {

@@ -1,5 +1,8 @@
 //! Lookups nested in others: a rule of a context applies them at indices of its match (rustybuzz:
 //! hb/ot_layout_gsubgpos.rs, `apply_lookup`, `recurse`).
+//!
+//! Rattle takes no recursion through a trait's method, so the cycle by depth (a subtable, a context's records, the lookup of
+//! a record) is written for each of the two tables, and its functions repeat each other's clauses.
 ghost use Rattle.std.specs.Prelude.{◌≡◌, ◌≢◌, ◌≤◌, ◌<◌, ◌+◌, true, false, length, slice_get, IfOk, Some, None};
 ghost use Rattle.buffer_core.specs.Sides.{items_of};
 ghost use Rattle.layout_contexts.specs.Chains.{chain_rule, context_subtable};
@@ -7,13 +10,13 @@ ghost use Rattle.layout_contexts.specs.Fitting.{chain_of};
 ghost use Rattle.layout_contexts.specs.Inside.{StaysInside};
 ghost use Rattle.layout_contexts.specs.Nested.{each_nested, one_record};
 ghost use Rattle.layout_contexts.specs.Nesting.{Walking};
-ghost use Rattle.layout_contexts.specs.Places.{AreRising};
+ghost use Rattle.layout_contexts.specs.MatchIndices.{AreRising};
 ghost use Rattle.layout_contexts.specs.Rules.{chains_of};
-ghost use Rattle.layout_match.specs.Applied.{applied_of};
+ghost use Rattle.layout_match.specs.Applied.{apply_context_of};
 ghost use Rattle.buffer_stages.specs.Actions.{first_rule, whole};
 ghost use Rattle.buffer_stages.specs.Buffers.{are_glyphs, cut_of};
 ghost use Rattle.buffer_stages.specs.Performing.{Performs, cut_with};
-ghost use Rattle.layout_substitution.specs.Lookups.{first_subtable, nested, nested_act, nested_lookup};
+ghost use Rattle.layout_substitution.specs.Lookups.{first_subtable, nested_actions, nested_act, nested_lookup};
 
 use buffer_core::buffer::hb_buffer_t;
 use buffer_glyphs::cause::ShapeCause;
@@ -41,10 +44,10 @@ fn recurse(
     requires unrefused { buffer.old.has_refused ≡ false }
     requires there { 0 < length buffer.old.ahead }
     requires number { are_glyphs (items_of buffer.old) ≡ true }
-    ensures performs { Performs (nested_lookup (nested table.now.lookups depth) (slice_get table.now.lookups index)
-        (applied_of ctx.old) (cut_with ctx.old.random_state buffer.old)) result ctx.old.random_state
+    ensures performs { Performs (nested_lookup (nested_actions table.now.lookups depth) (slice_get table.now.lookups index)
+        (apply_context_of ctx.old) (cut_with ctx.old.random_state buffer.old)) result ctx.old.random_state
         ctx.new.random_state buffer.old buffer.new }
-    ensures context { applied_of ctx.new ≡ applied_of ctx.old }
+    ensures context { apply_context_of ctx.new ≡ apply_context_of ctx.old }
 {
     let Some(lookup) = table.get_lookup(index) else {
         return Ok(false);
@@ -69,10 +72,10 @@ pub(crate) fn apply_subtables(
     requires unrefused { buffer.old.has_refused ≡ false }
     requires there { 0 < length buffer.old.ahead }
     requires number { are_glyphs (items_of buffer.old) ≡ true }
-    ensures performs { Performs (first_subtable (nested table.now.lookups depth (applied_of ctx.old))
-        (applied_of ctx.old) subtables.now (cut_with ctx.old.random_state buffer.old)) result
+    ensures performs { Performs (first_subtable (nested_actions table.now.lookups depth (apply_context_of ctx.old))
+        (apply_context_of ctx.old) subtables.now (cut_with ctx.old.random_state buffer.old)) result
         ctx.old.random_state ctx.new.random_state buffer.old buffer.new }
-    ensures context { applied_of ctx.new ≡ applied_of ctx.old }
+    ensures context { apply_context_of ctx.new ≡ apply_context_of ctx.old }
 {
     match subtables {
         SubstitutionSubtables::Single(subtables) => {
@@ -109,10 +112,10 @@ fn apply_contexts(
     requires unrefused { buffer.old.has_refused ≡ false }
     requires there { 0 < length buffer.old.ahead }
     requires number { are_glyphs (items_of buffer.old) ≡ true }
-    ensures performs { Performs (first_rule (context_subtable (nested table.now.lookups depth
-        (applied_of ctx.old)) (applied_of ctx.old)) subtables.now (cut_with ctx.old.random_state buffer.old))
+    ensures performs { Performs (first_rule (context_subtable (nested_actions table.now.lookups depth
+        (apply_context_of ctx.old)) (apply_context_of ctx.old)) subtables.now (cut_with ctx.old.random_state buffer.old))
         result ctx.old.random_state ctx.new.random_state buffer.old buffer.new }
-    ensures context { applied_of ctx.new ≡ applied_of ctx.old }
+    ensures context { apply_context_of ctx.new ≡ apply_context_of ctx.old }
 {
     for subtable in subtables {
         match apply_context(table, depth, subtable, ctx, buffer) {
@@ -137,10 +140,10 @@ fn apply_context(
     requires unrefused { buffer.old.has_refused ≡ false }
     requires there { 0 < length buffer.old.ahead }
     requires number { are_glyphs (items_of buffer.old) ≡ true }
-    ensures performs { Performs (context_subtable (nested table.now.lookups depth (applied_of ctx.old))
-        (applied_of ctx.old) subtable.now (cut_with ctx.old.random_state buffer.old)) result
+    ensures performs { Performs (context_subtable (nested_actions table.now.lookups depth (apply_context_of ctx.old))
+        (apply_context_of ctx.old) subtable.now (cut_with ctx.old.random_state buffer.old)) result
         ctx.old.random_state ctx.new.random_state buffer.old buffer.new }
-    ensures context { applied_of ctx.new ≡ applied_of ctx.old }
+    ensures context { apply_context_of ctx.new ≡ apply_context_of ctx.old }
 {
     if !is_tried_at(subtable, buffer.cur(0)) {
         return Ok(false);
@@ -162,10 +165,10 @@ fn apply_rules(
     requires unrefused { buffer.old.has_refused ≡ false }
     requires there { 0 < length buffer.old.ahead }
     requires number { are_glyphs (items_of buffer.old) ≡ true }
-    ensures performs { Performs (first_rule (chain_rule (nested table.now.lookups depth (applied_of
-        ctx.old)) (applied_of ctx.old)) (chains_of subtable.now) (cut_with ctx.old.random_state buffer.old)) result
+    ensures performs { Performs (first_rule (chain_rule (nested_actions table.now.lookups depth (apply_context_of
+        ctx.old)) (apply_context_of ctx.old)) (chains_of subtable.now) (cut_with ctx.old.random_state buffer.old)) result
         ctx.old.random_state ctx.new.random_state buffer.old buffer.new }
-    ensures context { applied_of ctx.new ≡ applied_of ctx.old }
+    ensures context { apply_context_of ctx.new ≡ apply_context_of ctx.old }
 {
     for i in 0..rule_count(subtable) {
         let rule = rule_at(subtable, i);
@@ -191,10 +194,10 @@ fn apply_rule(
     requires unrefused { buffer.old.has_refused ≡ false }
     requires there { 0 < length buffer.old.ahead }
     requires number { are_glyphs (items_of buffer.old) ≡ true }
-    ensures performs { Performs (chain_rule (nested table.now.lookups depth (applied_of ctx.old))
-        (applied_of ctx.old) (chain_of rule.now) (cut_with ctx.old.random_state buffer.old)) result
+    ensures performs { Performs (chain_rule (nested_actions table.now.lookups depth (apply_context_of ctx.old))
+        (apply_context_of ctx.old) (chain_of rule.now) (cut_with ctx.old.random_state buffer.old)) result
         ctx.old.random_state ctx.new.random_state buffer.old buffer.new }
-    ensures context { applied_of ctx.new ≡ applied_of ctx.old }
+    ensures context { apply_context_of ctx.new ≡ apply_context_of ctx.old }
 {
     let mut places = MatchPositions::new();
     let Some(end) = match_chain(ctx, rule, buffer, &mut places) else {
@@ -222,12 +225,12 @@ fn apply_records(
     requires number { are_glyphs (items_of buffer.old) ≡ true }
     requires rising { AreRising 0 (length (whole (cut_of buffer.old)) + 1) places.old.items }
     requires within { end ≤ length (whole (cut_of buffer.old)) }
-    ensures walks { Walking (each_nested (nested table.now.lookups depth (applied_of ctx.old)) records.now
+    ensures walks { Walking (each_nested (nested_actions table.now.lookups depth (apply_context_of ctx.old)) records.now
         (cut_with ctx.old.random_state buffer.old) places.old.items end) result places.new.items ctx.new.random_state
         buffer.old buffer.new }
     ensures inside { IfOk result (λ at. StaysInside (length (whole (cut_of buffer.old)))
         (length (whole (cut_of buffer.new))) places.old.items places.new.items end at) }
-    ensures context { applied_of ctx.new ≡ applied_of ctx.old }
+    ensures context { apply_context_of ctx.new ≡ apply_context_of ctx.old }
 {
     if depth == 0 {
         return Ok(end);
@@ -259,12 +262,12 @@ fn apply_record(
     requires number { are_glyphs (items_of buffer.old) ≡ true }
     requires rising { AreRising 0 (length (whole (cut_of buffer.old)) + 1) places.old.items }
     requires within { end ≤ length (whole (cut_of buffer.old)) }
-    ensures walks { Walking (one_record (nested_act table.now.lookups depth (applied_of ctx.old)) lookup_record.now
+    ensures walks { Walking (one_record (nested_act table.now.lookups depth (apply_context_of ctx.old)) lookup_record.now
         (cut_with ctx.old.random_state buffer.old) places.old.items end) result places.new.items ctx.new.random_state
         buffer.old buffer.new }
     ensures inside { IfOk result (λ at. StaysInside (length (whole (cut_of buffer.old)))
         (length (whole (cut_of buffer.new))) places.old.items places.new.items end at) }
-    ensures context { applied_of ctx.new ≡ applied_of ctx.old }
+    ensures context { apply_context_of ctx.new ≡ apply_context_of ctx.old }
 {
     let place = match begin_record(lookup_record, places, buffer) {
         Ok(Some(place)) => place,

@@ -2,14 +2,14 @@
 //! `apply_layout_table`).
 ghost use Rattle.std.specs.Prelude.{ℕ, ◌≡◌, ◌≢◌, true, Err, IfErr, OnOk};
 ghost use Rattle.std.specs.Option.{option_map_or, option_map};
-ghost use Rattle.buffer_core.specs.Readings.{read_of};
-ghost use Rattle.buffer_core.specs.Sides.{items_of, run_of};
+ghost use Rattle.buffer_core.specs.Readings.{reading_of};
+ghost use Rattle.buffer_core.specs.Sides.{items_of, state_of};
 ghost use Rattle.layout_map_features.specs.declared.per_table.TableIndex.TheVariants.{GSUB};
 ghost use Rattle.buffer_stages.specs.Buffers.{are_glyphs};
-ghost use Rattle.buffer_stages.specs.Ready.{IsDone, IsDoneFrom, IsReady, run_with};
+ghost use Rattle.buffer_stages.specs.Ready.{IsDone, IsDoneFrom, IsReady, state_with};
 ghost use Rattle.layout_substitution.specs.Lookups.{lookups_stage};
 ghost use Rattle.buffer_stages.specs.Settings.{text_settings};
-ghost use Rattle.layout_substitution.specs.Substituting.{substituted_by, substitution_lookups, table_stage, table_stages};
+ghost use Rattle.layout_substitution.specs.Substituting.{substitution_stages, substitution_lookups, table_stage, table_stages};
 
 use crate::apply::apply_all;
 use buffer_core::buffer::hb_buffer_t;
@@ -33,8 +33,8 @@ fn apply_stage(
     ensures ok { OnOk result
         (IsDoneFrom ctx.old.random_state ctx.new.random_state (lookups_stage ctx.old.face.now
         (substitution_lookups ctx.old.face.now) lookups.now) buffer.old buffer.new) }
-    ensures err { IfErr result (λ e. e ≢ ShapeCause.OutOfMemory → read_of (lookups_stage ctx.old.face.now
-        (substitution_lookups ctx.old.face.now) lookups.now) (run_with ctx.old.random_state buffer.old) ≡ Err e) }
+    ensures err { IfErr result (λ e. e ≢ ShapeCause.OutOfMemory → reading_of (lookups_stage ctx.old.face.now
+        (substitution_lookups ctx.old.face.now) lookups.now) (state_with ctx.old.random_state buffer.old) ≡ Err e) }
     ensures table { ctx.new.table_index ≡ GSUB }
     ensures face { ctx.new.face.now ≡ ctx.old.face.now }
 {
@@ -60,10 +60,10 @@ fn apply_layout_table<P: Pause>(
         (substitution_lookups ctx.old.face.now) map.now.tables.gsub (P.stage pause.now (text_settings buffer.old)) 0
         map.now.tables.gsub.stages)
         buffer.old buffer.new) }
-    ensures err { IfErr result (λ e. e ≢ ShapeCause.OutOfMemory → read_of (table_stages ctx.old.face.now
+    ensures err { IfErr result (λ e. e ≢ ShapeCause.OutOfMemory → reading_of (table_stages ctx.old.face.now
         (substitution_lookups ctx.old.face.now) map.now.tables.gsub (P.stage pause.now (text_settings buffer.old)) 0
         map.now.tables.gsub.stages)
-        (run_with ctx.old.random_state buffer.old) ≡ Err e) }
+        (state_with ctx.old.random_state buffer.old) ≡ Err e) }
 {
     let stages = map.stages(TableIndex::GSUB);
     for i in 0..stages.len() {
@@ -84,10 +84,10 @@ pub fn substitute<P: Pause>(
 ) -> Result<(), ShapeCause>
     requires ready { IsReady buffer.old }
     requires numbers { are_glyphs (items_of buffer.old) ≡ true }
-    ensures ok { OnOk result (IsDone (substituted_by face.now map.now (P.stage pause.now (text_settings buffer.old)))
+    ensures ok { OnOk result (IsDone (substitution_stages face.now map.now (P.stage pause.now (text_settings buffer.old)))
         buffer.old buffer.new) }
     ensures err { IfErr result (λ e. e ≢ ShapeCause.OutOfMemory
-        → read_of (substituted_by face.now map.now (P.stage pause.now (text_settings buffer.old))) (run_of buffer.old)
+        → reading_of (substitution_stages face.now map.now (P.stage pause.now (text_settings buffer.old))) (state_of buffer.old)
         ≡ Err e) }
 {
     let mut ctx = hb_ot_apply_context_t::new(TableIndex::GSUB, face);

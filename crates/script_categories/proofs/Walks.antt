@@ -5,30 +5,30 @@ use Rattle.std.proofs.lemmas.Bool.Decides.{nat_tests}
 use Rattle.std.proofs.lemmas.List.{take_more}
 use Rattle.std.proofs.Math.Seq.{take-add}
 use Rattle.std.proofs.lemmas.List.Sums.{fold-append}
-use Rattle.script_categories.specs.Fronts.{led, state_after, kind_of_front, front_or, longest_up_to, longest_front, IsLongest, IsLongestMatch, LongestIsLongest, LongestIsUnique}
+use Rattle.script_categories.specs.Fronts.{state_by, state_after, kind_of_front, front_or, longest_up_to, longest_front, IsLongest, IsLongestMatch, LongestIsLongest, LongestIsUnique}
 use Rattle.script_categories.specs.declared.scan.Front.{Front}
 use Rattle.script_categories.specs.Machines.{Machine}
 
 -- one category more
 pub led_on : (m : Machine) (cs : List ℕ) (i d s : ℕ) → i < length cs → Some s ≡ state_after m (take i cs)
-    → state_after m (take (i + 1) cs) ≡ led m (Some s) (get_or cs i d)
+    → state_after m (take (i + 1) cs) ≡ state_by m (Some s) (get_or cs i d)
 led_on m cs i d s lt e =
-    ap (state_after m) (take_more cs i d lt) ∙ fold-append (led m) (Some 0) (take i cs) (get_or cs i d ∷ [])
-    ∙ ap (λ t. led m t (get_or cs i d)) (sym e)
+    ap (state_after m) (take_more cs i d lt) ∙ fold-append (state_by m) (Some 0) (take i cs) (get_or cs i d ∷ [])
+    ∙ ap (λ t. state_by m t (get_or cs i d)) (sym e)
 
 pub longer_front : (m : Machine) (cs : List ℕ) (i : ℕ)
     → longest_up_to m cs (i + 1) ≡ front_or (kind_of_front m (take (i + 1) cs)) (i + 1) (longest_up_to m cs i)
 longer_front m cs i = rw add-one refl
 
-lost : (m : Machine) (cs : List ℕ) → fold (led m) None cs ≡ None
+lost : (m : Machine) (cs : List ℕ) → fold (state_by m) None cs ≡ None
 lost m [] = refl
 lost m (c ∷ cs) = lost m cs
 
 -- categories that lead nowhere lead nowhere with more after them
 lost_on : (m : Machine) (cs : List ℕ) (i k : ℕ) → state_after m (take i cs) ≡ None → state_after m (take (i + k) cs) ≡ None
 lost_on m cs i k e =
-    ap (state_after m) (take-add i k cs) ∙ fold-append (led m) (Some 0) (take i cs) (take k (drop i cs))
-    ∙ ap (λ s. fold (led m) s (take k (drop i cs))) e ∙ lost m (take k (drop i cs))
+    ap (state_after m) (take-add i k cs) ∙ fold-append (state_by m) (Some 0) (take i cs) (take k (drop i cs))
+    ∙ ap (λ s. fold (state_by m) s (take k (drop i cs))) e ∙ lost m (take k (drop i cs))
 
 ended : (m : Machine) (cs : List ℕ) (i k : ℕ) → state_after m (take (i + 1) cs) ≡ None → longest_up_to m cs (i + k) ≡ longest_up_to m cs i
 ended m cs i zero e = let n : i + 0 ≡ i = omega arith in rw n refl

@@ -7,13 +7,13 @@ use Rattle.script_categories.specs.Machines.{Machine, Machines, accepted_kind, m
 use Rattle.script_categories.specs.declared.scan.Front.{Front}
 
 -- the state after a category, if there is a state before
-abbrev pub led : Machine → Option ℕ → ℕ → Option ℕ
-led m None category = None
-led m (Some state) category = next_state m state category
+abbrev pub state_by : Machine → Option ℕ → ℕ → Option ℕ
+state_by m None category = None
+state_by m (Some state) category = next_state m state category
 
 -- the state after categories, from state 0 on
 abbrev pub state_after : Machine → List ℕ → Option ℕ
-state_after m categories = fold (led m) (Some 0) categories
+state_after m categories = fold (state_by m) (Some 0) categories
 
 -- the kind of syllable that ends in a state, if there is a state
 abbrev pub kind_in : Machine → Option ℕ → Option ℕ

@@ -8,17 +8,17 @@ use Rattle.buffer_common.specs.declared.constants.BufferFlags.{BufferFlags}
 use Rattle.buffer_unicode_tables.specs.Tables.{Tables}
 use Rattle.layout_face.specs.declared.parts.FaceParts.{FaceParts}
 use Rattle.buffer_glyphs.specs.Items.{Item}
-use Rattle.buffer_core.specs.Readings.{Stage, always, as_it_is, read_of}
+use Rattle.buffer_core.specs.Readings.{Stage, always, as_it_is, reading_of}
 use Rattle.buffer_core.specs.Steps.{follows_same}
-use Rattle.buffer_core.specs.Sides.{Sides, items_of, run_of, zero_positions}
+use Rattle.buffer_core.specs.Sides.{Sides, items_of, state_of, zero_positions}
 use Rattle.buffer_stages.specs.Ready.{IsDone, IsReady}
 use Rattle.buffer_stages.specs.Pauses.{BringsNoGlyph}
 use Rattle.buffer_stages.specs.Settings.{text_flags}
-use Rattle.buffer_glyphs.specs.Arranged.{kept}
+use Rattle.buffer_glyphs.specs.Rewriting.{eventless_arrangement}
 use Rattle.buffer_stages.specs.Rearranged.{Rearranges}
 use Rattle.buffer_stages.specs.Stages.{IsFollowed}
 use Rattle.script_hebrew_thai.specs.ThaiPrivate.{with_private}
-use Rattle.script_hangul.specs.Hangul.{events_behind, syllables_formed, text_behind, wants_circles}
+use Rattle.script_hangul.specs.Hangul.{events_after, syllables_formed, text_after, wants_circles}
 use Rattle.script_dispatch.specs.Hooks.{Spans, pause_done, private_if}
 use Rattle.buffer_common.specs.declared.script.Script.{Script}
 use Rattle.layout_map.specs.Compiled.{OtMapValue}
@@ -31,15 +31,15 @@ use Rattle.script_syllabic.specs.Features.{rphf_recorded}
 use Rattle.script_pauses.specs.Syllables.{syllables_by}
 
 pub unchanged_followed : (s : Sides) → IsReady s → IsFollowed as_it_is s s
-unchanged_followed s ready = record { follows = follows_same (run_of s); settings = refl; ready = ready }
+unchanged_followed s ready = record { follows = follows_same (state_of s); settings = refl; ready = ready }
 
 pub unchanged_done : (s : Sides) → IsReady s → IsDone as_it_is s s
-unchanged_done s ready = record { follows = follows_same (run_of s); settings = refl; ready = ready; numbers = λ h. h }
+unchanged_done s ready = record { follows = follows_same (state_of s); settings = refl; ready = ready; numbers = λ h. h }
 
 pub brings_none : (s : Sides) → BringsNoGlyph (items_of s) (items_of s)
 brings_none s n h = h
 
-pub unchanged_run : (start end : ℕ) (s : Sides) → IsReady s → Rearranges (λ (run : List Item). kept run) start end s s
+pub unchanged_run : (start end : ℕ) (s : Sides) → IsReady s → Rearranges (λ (run : List Item). eventless_arrangement run) start end s s
 unchanged_run start end s ready front run rest e len upto = record { items = e; happened = refl; frame = refl; ready = ready }
 
 -- ---- private forms where the font may have them
@@ -57,16 +57,16 @@ circles_kept flags = ap (λ n. not (n == 16)) (sym (and_assoc 16 flags.0 0x3F))
 
 abbrev formed_if : Bool → FaceParts → Stage
 formed_if b font v =
-    let xs : List Item = text_behind font b (length v.items) 0 [] v.items in
+    let xs : List Item = text_after font b (length v.items) 0 [] v.items in
     if nat_le (length xs) v.max_len
-    then Ok (record { view = record v { items = xs; positions = zero_positions (length xs) }; events = λ level. events_behind font b level (length v.items) 0 [] v.items })
+    then Ok (record { view = record v { items = xs; positions = zero_positions (length xs) }; events = λ level. events_after font b level (length v.items) 0 [] v.items })
     else Err TooLong
 
 pub hangul_followed : {A E : Type 0} (r : Result A E) (font : FaceParts) (flags : BufferFlags) (old new : Sides) → OnOk r (IsFollowed (syllables_formed font flags) old new) → OnOk r (IsFollowed (syllables_formed font (text_flags flags)) old new)
 hangul_followed r font flags old new f = let P : Bool → Type 0 = λ b. OnOk r (IsFollowed (formed_if b font) old new) in subst P (circles_kept flags) f
 
-pub hangul_refused : {A : Type 0} (r : Result A ShapeCause) (font : FaceParts) (flags : BufferFlags) (old : Sides) → IfErr r (λ (e : ShapeCause). e ≢ OutOfMemory → read_of (syllables_formed font flags) (run_of old) ≡ Err e) → IfErr r (λ (e : ShapeCause). e ≢ OutOfMemory → read_of (syllables_formed font (text_flags flags)) (run_of old) ≡ Err e)
-hangul_refused r font flags old h = let P : Bool → Type 0 = λ b. IfErr r (λ (e : ShapeCause). e ≢ OutOfMemory → read_of (formed_if b font) (run_of old) ≡ Err e) in subst P (circles_kept flags) h
+pub hangul_refused : {A : Type 0} (r : Result A ShapeCause) (font : FaceParts) (flags : BufferFlags) (old : Sides) → IfErr r (λ (e : ShapeCause). e ≢ OutOfMemory → reading_of (syllables_formed font flags) (state_of old) ≡ Err e) → IfErr r (λ (e : ShapeCause). e ≢ OutOfMemory → reading_of (syllables_formed font (text_flags flags)) (state_of old) ≡ Err e)
+hangul_refused r font flags old h = let P : Bool → Type 0 = λ b. IfErr r (λ (e : ShapeCause). e ≢ OutOfMemory → reading_of (formed_if b font) (state_of old) ≡ Err e) in subst P (circles_kept flags) h
 
 -- ---- the first part of a syllable of the universal shaper
 

@@ -1,9 +1,9 @@
 -- A hook that is not there changes nothing.
 use Rattle.std.proofs.Common.{refl}
 use Rattle.script_categories.specs.declared.shaper.hb_ot_script_shaper_t.TheVariants.{ARABIC_SHAPER, HANGUL_SHAPER, HEBREW_SHAPER, INDIC_SHAPER, KHMER_SHAPER, MYANMAR_SHAPER, MYANMAR_ZAWGYI_SHAPER, THAI_SHAPER, UNIVERSAL_SHAPER}
-use Rattle.script_dispatch.specs.Present.{AsksNothing, ComposesAsUnicode, LeavesGlyphs, LeavesMarks, LeavesMasks, LeavesText, OverridesNothing, SplitsAsUnicode}
+use Rattle.script_dispatch.specs.Present.{RequestsNothing, ComposesAsUnicode, LeavesGlyphs, LeavesMarks, LeavesMasks, LeavesText, OverridesNothing, SplitsAsUnicode}
 
-pub asks_nothing : AsksNothing
+pub asks_nothing : RequestsNothing
 asks_nothing ARABIC_SHAPER s has_rclt absent = cc
 asks_nothing HANGUL_SHAPER s has_rclt absent = cc
 asks_nothing HEBREW_SHAPER s has_rclt absent = refl

@@ -151,8 +151,8 @@ own_shaper s =
     else any.Default
 
 -- the shaper of a text by its script, its direction, and the chosen GSUB script
-abbrev pub categorized : Script → Direction → Option Tag → hb_ot_any_shaper_t
-categorized s direction chosen =
+abbrev pub script_shaper : Script → Direction → Option Tag → hb_ot_any_shaper_t
+script_shaper s direction chosen =
     if joins s direction chosen then any.Script ARABIC_SHAPER
     else if is_among indic_scripts s then indic_shaper chosen
     else if is_script s script.MYANMAR then myanmar_shaper chosen
@@ -162,7 +162,7 @@ categorized s direction chosen =
 -- the shaper of a text; one without a script has the default shaper
 abbrev pub shaper_of : Option Script → Direction → Option Tag → hb_ot_any_shaper_t
 shaper_of None direction chosen = any.Default
-shaper_of (Some s) direction chosen = categorized s direction chosen
+shaper_of (Some s) direction chosen = script_shaper s direction chosen
 
 -- ---- scripts whose shaper is not implemented yet
 

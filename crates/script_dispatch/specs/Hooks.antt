@@ -11,8 +11,8 @@ use Rattle.buffer_core.specs.Readings.{Stage, always, and_then, as_it_is}
 use Rattle.layout_map.specs.Compiled.{OtMapValue}
 use Rattle.buffer_stages.specs.Pauses.{Pauses}
 use Rattle.buffer_stages.specs.Settings.{TextSettings}
-use Rattle.buffer_glyphs.specs.Arranged.{Arranged, kept}
-use Rattle.buffer_stages.specs.Stages.{mapped}
+use Rattle.buffer_glyphs.specs.Rewriting.{Arrangement, eventless_arrangement}
+use Rattle.buffer_stages.specs.Stages.{with_items_mapped}
 use Rattle.script_plan.specs.Plans.{has_mask, mask_at_one}
 use Rattle.script_plan.specs.declared.pause.hb_script_pause_t.{hb_script_pause_t}
 use Rattle.script_plan.specs.declared.pause.hb_script_pause_t.TheVariants.{RecordStch, SetupSyllables, ReorderKhmer, ReorderMyanmar, ClearSyllables, ClearSubstitutionFlags, RecordRphf, RecordPref, ReorderUse, InitialReordering, FinalReordering}
@@ -23,13 +23,13 @@ use Rattle.script_hebrew_thai.specs.Hebrew.{hebrew_pair}
 use Rattle.script_hebrew_thai.specs.ThaiPrivate.{with_private}
 use Rattle.script_hebrew_thai.specs.ThaiVowel.{vowels_split}
 use Rattle.script_hangul.specs.Hangul.{syllables_formed}
-use Rattle.script_hangul.specs.Masks.{with_place_mask}
+use Rattle.script_hangul.specs.Masks.{with_letter_mask}
 use Rattle.script_khmer_myanmar.specs.Khmer.{khmer_split}
 use Rattle.script_mark_orders.specs.Orders.{arabic_order, hebrew_order}
 use Rattle.script_syllabic.specs.Bytes.{syllables_set}
 use Rattle.script_syllabic.specs.Features.{pref_recorded, rphf_recorded}
 use Rattle.script_pauses.specs.Categories.{categories_set, ot_category_of}
-use Rattle.script_pauses.specs.Syllables.{khmer_order, myanmar_order, substitutions_forgotten, syllables_by, syllables_cleared, universal_order, universal_syllables_set}
+use Rattle.script_pauses.specs.Syllables.{khmer_order, myanmar_order, substitutions_cleared, syllables_by, syllables_cleared, universal_order, universal_syllables_set}
 use Rattle.script_pauses.specs.Tiles.{tiles_recorded}
 use Rattle.script_pauses.specs.Stretch.{tiles_laid}
 use Rattle.script_dispatch.specs.Masks.{form_masks, jamo_masks, khmer_masks, letters_joined, universal_masks_set}
@@ -54,10 +54,10 @@ abbrev pub thai_text : OtMapValue → Option Script → Tables → FaceParts →
 thai_text m s t font v = and_then (vowels_split v) (private_if (has_private_forms m s) t font)
 
 -- the stage before normalizing: vowels of Thai and Lao, syllables of Hangul (HarfBuzz: preprocess_text)
-abbrev pub preprocessed_by : hb_ot_script_shaper_t → OtMapValue → Option Script → FaceParts → Tables → TextSettings → Stage
-preprocessed_by THAI_SHAPER m s font t settings = thai_text m s t font
-preprocessed_by HANGUL_SHAPER m s font t settings = syllables_formed font settings.flags
-preprocessed_by _ m s font t settings = as_it_is
+abbrev pub preprocessing_by : hb_ot_script_shaper_t → OtMapValue → Option Script → FaceParts → Tables → TextSettings → Stage
+preprocessing_by THAI_SHAPER m s font t settings = thai_text m s t font
+preprocessing_by HANGUL_SHAPER m s font t settings = syllables_formed font settings.flags
+preprocessing_by _ m s font t settings = as_it_is
 
 -- ---- characters
 
@@ -80,17 +80,17 @@ composes_by UNIVERSAL_SHAPER has_gpos_mark t = unmarked_pair t
 composes_by _ has_gpos_mark t = pair_of t
 
 -- the order of a run of marks that is sorted by class (HarfBuzz: reorder_marks)
-abbrev pub reorders_by : hb_ot_script_shaper_t → List Item → Arranged
+abbrev pub reorders_by : hb_ot_script_shaper_t → List Item → Arrangement
 reorders_by ARABIC_SHAPER = arabic_order
 reorders_by HEBREW_SHAPER = hebrew_order
-reorders_by _ = λ run. kept run
+reorders_by _ = λ run. eventless_arrangement run
 
 -- ---- masks
 
 -- the stage that sets letters' forms, jamo masks and categories (HarfBuzz: setup_masks)
 abbrev pub masks_set_by : hb_ot_script_shaper_t → OtMapValue → Option Script → Tables → TextSettings → Stage
 masks_set_by ARABIC_SHAPER m s t settings = letters_joined m s t settings.pre_context settings.post_context
-masks_set_by HANGUL_SHAPER m s t settings = always (mapped (with_place_mask (jamo_masks m)))
+masks_set_by HANGUL_SHAPER m s t settings = always (with_items_mapped (with_letter_mask (jamo_masks m)))
 masks_set_by KHMER_SHAPER m s t settings = categories_set (ot_category_of t)
 masks_set_by MYANMAR_SHAPER m s t settings = categories_set (ot_category_of t)
 masks_set_by UNIVERSAL_SHAPER m s t settings = universal_masks_set m s t settings.pre_context settings.post_context
@@ -114,7 +114,7 @@ pause_done shaper m s font spans settings SetupSyllables = syllables_found_by sh
 pause_done shaper m s font spans settings ReorderKhmer = khmer_order font settings.flags (khmer_masks m)
 pause_done shaper m s font spans settings ReorderMyanmar = myanmar_order font settings.flags
 pause_done shaper m s font spans settings ClearSyllables = syllables_cleared
-pause_done shaper m s font spans settings ClearSubstitutionFlags = substitutions_forgotten
+pause_done shaper m s font spans settings ClearSubstitutionFlags = substitutions_cleared
 pause_done shaper m s font spans settings RecordRphf = syllables_by (rphf_recorded (mask_at_one (codes "rphf") m))
 pause_done shaper m s font spans settings RecordPref = syllables_by pref_recorded
 pause_done shaper m s font spans settings ReorderUse = universal_order font settings.flags
@@ -133,6 +133,6 @@ pauses_by shaper m s font spans settings n = pause_if shaper m s font spans sett
 -- ---- glyphs
 
 -- the stage on glyphs in visual order: Arabic tiles are laid over their words (HarfBuzz: postprocess_glyphs)
-abbrev pub postprocessed_by : hb_ot_script_shaper_t → FaceParts → Stage
-postprocessed_by ARABIC_SHAPER font = tiles_laid font
-postprocessed_by _ font = as_it_is
+abbrev pub postprocessing_by : hb_ot_script_shaper_t → FaceParts → Stage
+postprocessing_by ARABIC_SHAPER font = tiles_laid font
+postprocessing_by _ font = as_it_is

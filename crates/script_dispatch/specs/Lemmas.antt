@@ -1,4 +1,5 @@
 -- Lemmas on what the shapers of the stack do.
-pub mod Plain
+pub mod Keeping
 pub mod Splits
 pub mod Orders
+pub mod Limits

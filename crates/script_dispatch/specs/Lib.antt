@@ -5,5 +5,5 @@ pub mod Dispatch
 pub mod Requests
 pub mod Hooks
 pub mod Present
-pub mod Plain
+pub mod Keeping
 pub mod Rules

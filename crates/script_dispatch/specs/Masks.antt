@@ -12,7 +12,7 @@ use Rattle.layout_map.specs.Compiled.{OtMapValue, feature_at}
 use Rattle.layout_map.specs.declared.chosen_feature.feature_map_t.{feature_map_t}
 use Rattle.buffer_core.specs.Readings.{Stage, and_then, always, as_it_is}
 use Rattle.script_plan.specs.Plans.{mask_at_one}
-use Rattle.script_joining.specs.Joining.{joined}
+use Rattle.script_joining.specs.Joining.{letters_with_forms}
 use Rattle.script_hangul.specs.declared.masks.JamoMasks.{JamoMasks}
 use Rattle.script_khmer_myanmar.specs.declared.khmer.KhmerMasks.{KhmerMasks}
 use Rattle.script_syllabic.specs.declared.forms.FormMasks.{FormMasks}
@@ -33,7 +33,7 @@ arabic_masks m =
 
 -- the stage that sets letters' forms and their masks, by the contexts before and after the text
 abbrev pub letters_joined : OtMapValue → Option Script → Tables → List ℕ → List ℕ → Stage
-letters_joined m s t pre post = always (joined t (is_mongolian s) (arabic_masks m) pre post)
+letters_joined m s t pre post = always (letters_with_forms t (is_mongolian s) (arabic_masks m) pre post)
 
 -- ---- Hangul and Khmer
 
@@ -63,12 +63,12 @@ letters_join None = false
 letters_join (Some s) = is_among joining_scripts s
 
 -- the stage of letters' forms, in scripts whose letters join
-abbrev pub joined_if : OtMapValue → Option Script → Tables → List ℕ → List ℕ → Stage
-joined_if m s t pre post v = if letters_join s then letters_joined m s t pre post v else as_it_is v
+abbrev pub letters_joined_if : OtMapValue → Option Script → Tables → List ℕ → List ℕ → Stage
+letters_joined_if m s t pre post v = if letters_join s then letters_joined m s t pre post v else as_it_is v
 
 -- the stage of the universal shaper's masks: letters' forms in scripts that join, then each character's category
 abbrev pub universal_masks_set : OtMapValue → Option Script → Tables → List ℕ → List ℕ → Stage
-universal_masks_set m s t pre post v = and_then (joined_if m s t pre post v) (categories_set (universal_category_of t))
+universal_masks_set m s t pre post v = and_then (letters_joined_if m s t pre post v) (categories_set (universal_category_of t))
 
 -- the mask of a form's feature, 0 where it is the mask of every glyph
 abbrev pub form_mask : Tag → OtMapValue → ℕ

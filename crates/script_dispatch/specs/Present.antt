@@ -7,11 +7,11 @@ use Rattle.buffer_glyphs.specs.Items.{Item}
 use Rattle.buffer_core.specs.Readings.{as_it_is}
 use Rattle.layout_map.specs.Compiled.{OtMapValue}
 use Rattle.buffer_stages.specs.Settings.{TextSettings}
-use Rattle.buffer_glyphs.specs.Arranged.{kept}
+use Rattle.buffer_glyphs.specs.Rewriting.{eventless_arrangement}
 use Rattle.script_plan.specs.Lists.{features_of, overrides_of}
 use Rattle.script_categories.specs.declared.shaper.hb_ot_script_shaper_t.{hb_ot_script_shaper_t}
 use Rattle.script_categories.specs.declared.shaper.hb_ot_script_shaper_t.TheVariants.{ARABIC_SHAPER, HANGUL_SHAPER, HEBREW_SHAPER, INDIC_SHAPER, KHMER_SHAPER, MYANMAR_SHAPER, THAI_SHAPER, UNIVERSAL_SHAPER}
-use Rattle.script_dispatch.specs.Hooks.{composes_by, masks_set_by, postprocessed_by, preprocessed_by, reorders_by, splits_by}
+use Rattle.script_dispatch.specs.Hooks.{composes_by, masks_set_by, postprocessing_by, preprocessing_by, reorders_by, splits_by}
 
 -- ---- the hooks of each shaper
 
@@ -88,8 +88,8 @@ reorders_marks _ = false
 -- ---- missing hooks
 
 -- law: without `collect_features` a shaper requests nothing
-abbrev pub AsksNothing : Type 0
-AsksNothing = (shaper : hb_ot_script_shaper_t) (s : Option Script) (has_rclt : Bool) → collects_features shaper ≡ false → features_of shaper s has_rclt ≡ []
+abbrev pub RequestsNothing : Type 0
+RequestsNothing = (shaper : hb_ot_script_shaper_t) (s : Option Script) (has_rclt : Bool) → collects_features shaper ≡ false → features_of shaper s has_rclt ≡ []
 
 -- law: without `override_features` a shaper requests nothing after the user's features
 abbrev pub OverridesNothing : Type 0
@@ -97,7 +97,7 @@ OverridesNothing = (shaper : hb_ot_script_shaper_t) → overrides_features shape
 
 -- law: without `preprocess_text` a text stays unchanged
 abbrev pub LeavesText : Type 0
-LeavesText = (shaper : hb_ot_script_shaper_t) (m : OtMapValue) (s : Option Script) (font : FaceParts) (t : Tables) (settings : TextSettings) → preprocesses_text shaper ≡ false → preprocessed_by shaper m s font t settings ≡ as_it_is
+LeavesText = (shaper : hb_ot_script_shaper_t) (m : OtMapValue) (s : Option Script) (font : FaceParts) (t : Tables) (settings : TextSettings) → preprocesses_text shaper ≡ false → preprocessing_by shaper m s font t settings ≡ as_it_is
 
 -- law: without `setup_masks` the masks stay unchanged
 abbrev pub LeavesMasks : Type 0
@@ -105,7 +105,7 @@ LeavesMasks = (shaper : hb_ot_script_shaper_t) (m : OtMapValue) (s : Option Scri
 
 -- law: without `postprocess_glyphs` the glyphs stay unchanged
 abbrev pub LeavesGlyphs : Type 0
-LeavesGlyphs = (shaper : hb_ot_script_shaper_t) (font : FaceParts) → postprocesses_glyphs shaper ≡ false → postprocessed_by shaper font ≡ as_it_is
+LeavesGlyphs = (shaper : hb_ot_script_shaper_t) (font : FaceParts) → postprocesses_glyphs shaper ≡ false → postprocessing_by shaper font ≡ as_it_is
 
 -- law: without `decompose` characters decompose as Unicode says
 abbrev pub SplitsAsUnicode : Type 0
@@ -117,4 +117,4 @@ ComposesAsUnicode = (shaper : hb_ot_script_shaper_t) (has_gpos_mark : Bool) (t :
 
 -- law: without `reorder_marks` a run of marks stays in the order of its classes
 abbrev pub LeavesMarks : Type 0
-LeavesMarks = (shaper : hb_ot_script_shaper_t) (run : List Item) → reorders_marks shaper ≡ false → reorders_by shaper run ≡ kept run
+LeavesMarks = (shaper : hb_ot_script_shaper_t) (run : List Item) → reorders_marks shaper ≡ false → reorders_by shaper run ≡ eventless_arrangement run

@@ -15,8 +15,8 @@ abbrev pub has_rclt : MapRequests → Bool
 has_rclt b = in_any (system_features (tag_of (codes "rclt")) b.tables)
 
 -- the requests with a shaper's features, between the common ones
-abbrev pub collected : hb_ot_any_shaper_t → Option Script → MapRequests → MapRequests
-collected shaper script b = fold with_ask b (shaper_features shaper script (has_rclt b))
+abbrev pub collected_requests : hb_ot_any_shaper_t → Option Script → MapRequests → MapRequests
+collected_requests shaper script b = fold with_ask b (shaper_features shaper script (has_rclt b))
 
 -- the requests with a shaper's features after the user's
 abbrev pub overridden : hb_ot_any_shaper_t → Option Script → MapRequests → MapRequests
@@ -27,6 +27,6 @@ abbrev pub any_kind : ShaperKind hb_ot_any_shaper_t ⊤
 any_kind = record {
   shaper_of = shaper_of;
   traits = traits_of;
-  asking = λ shaper. record { collects = collected shaper; overrides = overridden shaper };
+  asking = λ shaper. record { collects = collected_requests shaper; overrides = overridden shaper };
   data_of = λ shaper m script. tt;
 }

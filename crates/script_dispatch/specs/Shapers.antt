@@ -21,18 +21,18 @@ abbrev pub syllabic_traits : ℕ → ShaperTraits
 syllabic_traits zero_width = record { normalization = mode.ComposedDiacriticsNoShortCircuit; gpos_tag = None; zero_width_marks = zero_width; fallback_position = false }
 
 -- the choices of the dumber shaper
-abbrev pub untouched_traits : ShaperTraits
-untouched_traits = record { normalization = mode.None; gpos_tag = None; zero_width_marks = HB_OT_SHAPE_ZERO_WIDTH_MARKS_NONE; fallback_position = false }
+abbrev pub hangul_traits : ShaperTraits
+hangul_traits = record { normalization = mode.None; gpos_tag = None; zero_width_marks = HB_OT_SHAPE_ZERO_WIDTH_MARKS_NONE; fallback_position = false }
 
 -- the choices of each script's shaper
 abbrev pub script_traits : hb_ot_script_shaper_t → ShaperTraits
 script_traits ARABIC_SHAPER = simple_traits
-script_traits HANGUL_SHAPER = untouched_traits
+script_traits HANGUL_SHAPER = hangul_traits
 script_traits HEBREW_SHAPER = record simple_traits { gpos_tag = Some (tag_of (codes "hebr")) }
 script_traits INDIC_SHAPER = syllabic_traits HB_OT_SHAPE_ZERO_WIDTH_MARKS_NONE
 script_traits KHMER_SHAPER = syllabic_traits HB_OT_SHAPE_ZERO_WIDTH_MARKS_NONE
 script_traits MYANMAR_SHAPER = syllabic_traits HB_OT_SHAPE_ZERO_WIDTH_MARKS_BY_GDEF_EARLY
-script_traits MYANMAR_ZAWGYI_SHAPER = untouched_traits
+script_traits MYANMAR_ZAWGYI_SHAPER = hangul_traits
 script_traits THAI_SHAPER = record simple_traits { fallback_position = false }
 script_traits UNIVERSAL_SHAPER = syllabic_traits HB_OT_SHAPE_ZERO_WIDTH_MARKS_BY_GDEF_EARLY
 

@@ -6,7 +6,7 @@ ghost use Rattle.buffer_stages.specs.Stages.{IsFollowed};
 ghost use Rattle.script_plan.specs.Plans.{has_mask, mask_at_one};
 ghost use Rattle.buffer_core.specs.Readings.{always};
 ghost use Rattle.script_joining.specs.Glyphs.{AreFlagless};
-ghost use Rattle.script_joining.specs.Joining.{joined};
+ghost use Rattle.script_joining.specs.Joining.{letters_with_forms};
 ghost use Rattle.script_dispatch.specs.Masks.{arabic_masks, is_mongolian, letters_joined};
 
 use buffer_common::script::{MONGOLIAN, Script};
@@ -70,7 +70,7 @@ pub fn setup_masks_inner(
 )
     requires ready { IsReady buffer.old }
     requires flagless { AreFlagless arabic_plan.now.mask_array }
-    ensures { IsFollowed (always (joined tables.now (is_mongolian script) arabic_plan.now.mask_array
+    ensures { IsFollowed (always (letters_with_forms tables.now (is_mongolian script) arabic_plan.now.mask_array
         buffer.old.pre_context buffer.old.post_context))
         buffer.old buffer.new }
 {

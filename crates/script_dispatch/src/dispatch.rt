@@ -1,6 +1,6 @@
 //! The choice of a shaper for a script, hb_ot_shape_complex_categorize (rustybuzz: hb/ot_shaper.rs).
 ghost use Rattle.std.specs.Prelude.{◌≡◌};
-ghost use Rattle.script_dispatch.specs.Dispatch.{categorized, ends_in_three, indic_shaper, is_default_or_latin, joins, myanmar_shaper, own_shaper, script_waits, universal_shaper};
+ghost use Rattle.script_dispatch.specs.Dispatch.{script_shaper, ends_in_three, indic_shaper, is_default_or_latin, joins, myanmar_shaper, own_shaper, script_waits, universal_shaper};
 
 use crate::any_shaper::{DEFAULT_SHAPER, hb_ot_any_shaper_t};
 use buffer_common::direction::Direction;
@@ -119,7 +119,7 @@ pub fn hb_ot_shape_complex_categorize(
     direction: Direction,
     gsub_script: Option<Tag>,
 ) -> hb_ot_any_shaper_t
-    ensures { result ≡ categorized script direction gsub_script }
+    ensures { result ≡ script_shaper script direction gsub_script }
 {
     if joins(script, direction, gsub_script) {
         hb_ot_any_shaper_t::Script(ARABIC_SHAPER)

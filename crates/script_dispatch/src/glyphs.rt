@@ -1,9 +1,9 @@
 //! The shapers' postprocess_glyphs hook.
 ghost use Rattle.std.specs.Prelude.{◌≡◌, ◌≢◌, Err, IfErr, OnOk};
-ghost use Rattle.buffer_core.specs.Readings.{read_of};
-ghost use Rattle.buffer_core.specs.Sides.{run_of};
+ghost use Rattle.buffer_core.specs.Readings.{reading_of};
+ghost use Rattle.buffer_core.specs.Sides.{state_of};
 ghost use Rattle.buffer_stages.specs.Ready.{IsDone, IsReady};
-ghost use Rattle.script_dispatch.specs.Hooks.{postprocessed_by};
+ghost use Rattle.script_dispatch.specs.Hooks.{postprocessing_by};
 
 use buffer_core::buffer::hb_buffer_t;
 use buffer_glyphs::cause::ShapeCause;
@@ -27,9 +27,9 @@ pub fn postprocess_glyphs(
     buffer: &mut hb_buffer_t,
 ) -> Result<(), ShapeCause>
     requires { IsReady buffer.old }
-    ensures ok { OnOk result (IsDone (postprocessed_by shaper face.now) buffer.old buffer.new) }
-    ensures err { IfErr result (λ e. e ≢ ShapeCause.OutOfMemory → read_of
-        (postprocessed_by shaper face.now) (run_of buffer.old) ≡ Err e) }
+    ensures ok { OnOk result (IsDone (postprocessing_by shaper face.now) buffer.old buffer.new) }
+    ensures err { IfErr result (λ e. e ≢ ShapeCause.OutOfMemory → reading_of
+        (postprocessing_by shaper face.now) (state_of buffer.old) ≡ Err e) }
 {
     match shaper {
         hb_ot_script_shaper_t::ARABIC_SHAPER => apply_stch(alloc, face, buffer),

@@ -2,8 +2,8 @@
 ghost use Rattle.std.specs.Prelude.{◌≡◌};
 ghost use Rattle.buffer_core.specs.Readings.{always};
 ghost use Rattle.buffer_stages.specs.Ready.{IsReady};
-ghost use Rattle.buffer_stages.specs.Stages.{IsFollowed, mapped};
-ghost use Rattle.script_hangul.specs.Masks.{AreFlagless, with_place_mask};
+ghost use Rattle.buffer_stages.specs.Stages.{IsFollowed, with_items_mapped};
+ghost use Rattle.script_hangul.specs.Masks.{AreFlagless, with_letter_mask};
 ghost use Rattle.script_dispatch.specs.Masks.{jamo_masks};
 
 use buffer_common::tag::Tag;
@@ -14,7 +14,7 @@ use script_hangul::masks::{self, JamoMasks};
 /// Adds to the mask of each jamo the mask of its feature. It takes linear time and no memory.
 pub fn setup_masks(map: &hb_ot_map_t, buffer: &mut hb_buffer_t)
     requires ready { IsReady buffer.old }
-    ensures { IsFollowed (always (mapped (with_place_mask (jamo_masks map.now)))) buffer.old buffer.new }
+    ensures { IsFollowed (always (with_items_mapped (with_letter_mask (jamo_masks map.now)))) buffer.old buffer.new }
 {
     let masks = jamo_masks(map);
     masks::setup_masks(&masks, buffer);

@@ -1,7 +1,7 @@
 //! Which hooks each shaper has: those of rustybuzz's table of it.
 ghost use Rattle.std.specs.Prelude.{◌≡◌, Bool};
 ghost use Rattle.script_dispatch.specs.Present.{collects_features, composes, creates_data, decomposes, overrides_features, postprocesses_glyphs, preprocesses_text, reorders_marks, sets_masks};
-ghost use Rattle.script_dispatch.specs.Present.{AsksNothing, ComposesAsUnicode, LeavesGlyphs, LeavesMarks, LeavesMasks, LeavesText, OverridesNothing, SplitsAsUnicode};
+ghost use Rattle.script_dispatch.specs.Present.{RequestsNothing, ComposesAsUnicode, LeavesGlyphs, LeavesMarks, LeavesMasks, LeavesText, OverridesNothing, SplitsAsUnicode};
 
 use script_categories::hb_ot_script_shaper_t::{
     self, ARABIC_SHAPER, HANGUL_SHAPER, HEBREW_SHAPER, INDIC_SHAPER, KHMER_SHAPER, MYANMAR_SHAPER,
@@ -168,7 +168,7 @@ impl ScriptHooks for hb_ot_script_shaper_t {
 /// unchanged, and characters decompose and compose as Unicode says.
 #[tactic(auto, using(crate::proofs::Present::asks_nothing, crate::proofs::Present::overrides_nothing, crate::proofs::Present::leaves_text, crate::proofs::Present::leaves_masks, crate::proofs::Present::leaves_glyphs, crate::proofs::Present::splits_as_unicode, crate::proofs::Present::composes_as_unicode, crate::proofs::Present::leaves_marks))]
 pub fn law_absent_hooks_change_nothing()
-    ensures asks { AsksNothing }
+    ensures asks { RequestsNothing }
     ensures overrides { OverridesNothing }
     ensures text { LeavesText }
     ensures masks { LeavesMasks }

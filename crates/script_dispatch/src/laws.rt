@@ -1,27 +1,22 @@
-//! The law that no rule of a shaper reorders glyphs without merging their clusters.
-ghost use Rattle.script_dispatch.specs.Plain.{MasksLeavePlain, OrdersLeavePlain, SyllablesLeavePlain, TextsLeavePlain};
+//! The rules of scripts keep the parts of a text whatever its clusters are.
+ghost use Rattle.script_dispatch.specs.Keeping.{MasksKeepPlainly, OrdersKeepPlainly, SyllablesKeepPlainly, TextsKeepPlainly};
 
-/// The preprocessing of texts (Thai and Lao vowels, private-use forms of Thai, Hangul syllables) keeps the order of
-/// clusters.
-#[tactic(auto, using(crate::specs::Lemmas::Plain::Texts::texts_leave_plain))]
-pub fn law_texts_leave_plain()
-    ensures { TextsLeavePlain }
+/// The vowels of Thai and Lao, private forms of Thai, and the syllables of Hangul.
+pub fn law_texts_keep_plainly()
+    ensures { TextsKeepPlainly }
 {}
 
-/// The stages that set syllable bytes, masks and records of syllables keep the order of clusters.
-#[tactic(auto, using(crate::specs::Lemmas::Plain::Syllables::syllables_leave_plain))]
-pub fn law_syllables_leave_plain()
-    ensures { SyllablesLeavePlain }
+/// Where syllables are, the features of their glyphs and what is recorded.
+pub fn law_syllables_keep_plainly()
+    ensures { SyllablesKeepPlainly }
 {}
 
-/// Dotted circles and the reordering of Khmer, Myanmar and universal syllables keep the order of clusters.
-#[tactic(auto, using(crate::specs::Lemmas::Plain::Orders::orders_leave_plain))]
-pub fn law_orders_leave_plain()
-    ensures { OrdersLeavePlain }
+/// Dotted circles and the order of syllables of Khmer, Myanmar and the universal shaper.
+pub fn law_orders_keep_plainly()
+    ensures { OrdersKeepPlainly }
 {}
 
-/// The stages that set letters' forms, jamo masks, categories and tiles keep the order of clusters.
-#[tactic(auto, using(crate::specs::Lemmas::Plain::Masks::masks_leave_plain))]
-pub fn law_masks_leave_plain()
-    ensures { MasksLeavePlain }
+/// The forms of letters, their positions in syllables, the categories of characters, and which glyphs are tiles.
+pub fn law_masks_keep_plainly()
+    ensures { MasksKeepPlainly }
 {}

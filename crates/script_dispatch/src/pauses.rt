@@ -1,12 +1,12 @@
 //! The shapers' pauses between two GSUB stages.
 ghost use Rattle.std.specs.Prelude.{◌≡◌, ◌≢◌, true, false, Ok, Err, IfErr, OnOk, codes};
-ghost use Rattle.buffer_core.specs.Readings.{read_of};
-ghost use Rattle.buffer_core.specs.Sides.{items_of, run_of};
+ghost use Rattle.buffer_core.specs.Readings.{reading_of};
+ghost use Rattle.buffer_core.specs.Sides.{items_of, state_of};
 ghost use Rattle.buffer_stages.specs.Buffers.{are_glyphs};
 ghost use Rattle.buffer_stages.specs.Ready.{IsDone, IsReady};
 ghost use Rattle.buffer_stages.specs.Pauses.{BringsNoGlyph};
 ghost use Rattle.buffer_stages.specs.Settings.{text_settings};
-ghost use Rattle.script_pauses.specs.Syllables.{khmer_order, substitutions_forgotten, syllables_cleared};
+ghost use Rattle.script_pauses.specs.Syllables.{khmer_order, substitutions_cleared, syllables_cleared};
 ghost use Rattle.script_dispatch.specs.Masks.{khmer_masks};
 ghost use Rattle.script_pauses.specs.Tiles.{tiles_recorded};
 ghost use Rattle.script_plan.specs.Plans.{has_mask};
@@ -34,9 +34,9 @@ fn setup_syllables<D, P: SyllableSpans>(
     requires { IsReady buffer.old }
     ensures ok { OnOk result (IsDone (syllables_found_by shaper plan.now.map plan.now.script (P.span_of spans.now))
         buffer.old buffer.new) }
-    ensures told { result ≡ Ok false → BringsNoGlyph (items_of buffer.old) (items_of buffer.new) }
-    ensures err { IfErr result (λ e. e ≢ ShapeCause.OutOfMemory → read_of
-        (syllables_found_by shaper plan.now.map plan.now.script (P.span_of spans.now)) (run_of buffer.old) ≡ Err e) }
+    ensures brings_none { result ≡ Ok false → BringsNoGlyph (items_of buffer.old) (items_of buffer.new) }
+    ensures err { IfErr result (λ e. e ≢ ShapeCause.OutOfMemory → reading_of
+        (syllables_found_by shaper plan.now.map plan.now.script (P.span_of spans.now)) (state_of buffer.old) ≡ Err e) }
 {
     match shaper {
         hb_ot_script_shaper_t::UNIVERSAL_SHAPER => universal::setup_syllables(
@@ -60,10 +60,10 @@ fn reorder_khmer<D>(
     ensures ok { OnOk result
         (IsDone (khmer_order face.now (text_settings buffer.old).flags (khmer_masks plan.now.map)) buffer.old
         buffer.new) }
-    ensures told { result ≡ Ok false → BringsNoGlyph (items_of buffer.old) (items_of buffer.new) }
-    ensures err { IfErr result (λ e. e ≢ ShapeCause.OutOfMemory → read_of
+    ensures brings_none { result ≡ Ok false → BringsNoGlyph (items_of buffer.old) (items_of buffer.new) }
+    ensures err { IfErr result (λ e. e ≢ ShapeCause.OutOfMemory → reading_of
         (khmer_order face.now (text_settings buffer.old).flags (khmer_masks plan.now.map))
-        (run_of buffer.old) ≡ Err e) }
+        (state_of buffer.old) ≡ Err e) }
 {
     let masks = khmer_masks(&plan.map);
     khmer::reorder_khmer(face, &masks, buffer)
@@ -73,7 +73,7 @@ fn reorder_khmer<D>(
 fn record_stch<D>(plan: &hb_script_plan_t<D>, buffer: &mut hb_buffer_t) -> Result<bool, ShapeCause>
     requires { IsReady buffer.old }
     ensures ok { OnOk result (IsDone (tiles_recorded (has_mask (codes "stch") plan.now.map)) buffer.old buffer.new) }
-    ensures told { result ≡ Ok false → BringsNoGlyph (items_of buffer.old) (items_of buffer.new) }
+    ensures brings_none { result ≡ Ok false → BringsNoGlyph (items_of buffer.old) (items_of buffer.new) }
     ensures err { IfErr result (λ e. e ≡ ShapeCause.OutOfMemory) }
 {
     tiles::record_stch(has_stch(&plan.map), buffer);
@@ -83,7 +83,7 @@ fn record_stch<D>(plan: &hb_script_plan_t<D>, buffer: &mut hb_buffer_t) -> Resul
 fn clear_syllables(buffer: &mut hb_buffer_t) -> Result<bool, ShapeCause>
     requires { IsReady buffer.old }
     ensures ok { OnOk result (IsDone syllables_cleared buffer.old buffer.new) }
-    ensures told { result ≡ Ok false → BringsNoGlyph (items_of buffer.old) (items_of buffer.new) }
+    ensures brings_none { result ≡ Ok false → BringsNoGlyph (items_of buffer.old) (items_of buffer.new) }
     ensures err { IfErr result (λ e. e ≡ ShapeCause.OutOfMemory) }
 {
     clearing::clear_syllables(buffer);
@@ -92,8 +92,8 @@ fn clear_syllables(buffer: &mut hb_buffer_t) -> Result<bool, ShapeCause>
 
 fn clear_substitutions(buffer: &mut hb_buffer_t) -> Result<bool, ShapeCause>
     requires { IsReady buffer.old }
-    ensures ok { OnOk result (IsDone substitutions_forgotten buffer.old buffer.new) }
-    ensures told { result ≡ Ok false → BringsNoGlyph (items_of buffer.old) (items_of buffer.new) }
+    ensures ok { OnOk result (IsDone substitutions_cleared buffer.old buffer.new) }
+    ensures brings_none { result ≡ Ok false → BringsNoGlyph (items_of buffer.old) (items_of buffer.new) }
     ensures err { IfErr result (λ e. e ≡ ShapeCause.OutOfMemory) }
 {
     clearing::_hb_clear_substitution_flags(buffer);
@@ -114,10 +114,10 @@ fn do_pause<D, P: SyllableSpans>(
     requires numbers { are_glyphs (items_of buffer.old) ≡ true }
     ensures ok { OnOk result (IsDone (pause_done shaper plan.now.map plan.now.script face.now (P.span_of spans.now)
         (text_settings buffer.old) pause) buffer.old buffer.new) }
-    ensures told { result ≡ Ok false → BringsNoGlyph (items_of buffer.old) (items_of buffer.new) }
-    ensures err { IfErr result (λ e. e ≢ ShapeCause.OutOfMemory → read_of
+    ensures brings_none { result ≡ Ok false → BringsNoGlyph (items_of buffer.old) (items_of buffer.new) }
+    ensures err { IfErr result (λ e. e ≢ ShapeCause.OutOfMemory → reading_of
         (pause_done shaper plan.now.map plan.now.script face.now (P.span_of spans.now) (text_settings buffer.old) pause)
-        (run_of buffer.old) ≡ Err e) }
+        (state_of buffer.old) ≡ Err e) }
 {
     match pause {
         hb_script_pause_t::SetupSyllables => setup_syllables(shaper, alloc, plan, spans, buffer),
@@ -153,10 +153,10 @@ pub fn run_pause<D, P: SyllableSpans>(
     requires numbers { are_glyphs (items_of buffer.old) ≡ true }
     ensures ok { OnOk result (IsDone (pauses_by shaper plan.now.map plan.now.script face.now (P.span_of spans.now)
         (text_settings buffer.old) pause) buffer.old buffer.new) }
-    ensures told { result ≡ Ok false → BringsNoGlyph (items_of buffer.old) (items_of buffer.new) }
-    ensures err { IfErr result (λ e. e ≢ ShapeCause.OutOfMemory → read_of
+    ensures brings_none { result ≡ Ok false → BringsNoGlyph (items_of buffer.old) (items_of buffer.new) }
+    ensures err { IfErr result (λ e. e ≢ ShapeCause.OutOfMemory → reading_of
         (pauses_by shaper plan.now.map plan.now.script face.now (P.span_of spans.now) (text_settings buffer.old) pause)
-        (run_of buffer.old) ≡ Err e) }
+        (state_of buffer.old) ≡ Err e) }
 {
     match hb_script_pause_t::from_number(pause) {
         Some(pause) => do_pause(shaper, alloc, pause, plan, face, spans, buffer),

@@ -2,7 +2,7 @@
 ghost use Rattle.std.specs.Prelude.{◌≡◌, OnOk, fold};
 ghost use Rattle.script_plan.specs.Asks.{with_ask};
 ghost use Rattle.script_dispatch.specs.Dispatch.{shaper_of};
-ghost use Rattle.script_dispatch.specs.Requests.{collected, overridden, has_rclt};
+ghost use Rattle.script_dispatch.specs.Requests.{collected_requests, overridden, has_rclt};
 ghost use Rattle.script_dispatch.specs.Shapers.{shaper_features, shaper_overrides, traits_of};
 
 use crate::any_shaper::{DEFAULT_SHAPER, hb_ot_any_shaper_t};
@@ -22,7 +22,7 @@ impl PlannedShaper for hb_ot_any_shaper_t {
 
     ghost traits = { traits_of };
 
-    ghost collects = { collected };
+    ghost collects = { collected_requests };
 
     ghost overrides = { overridden };
 

@@ -14,7 +14,8 @@ use std::alloc::Global;
 impl hb_ot_shaper_t for hb_ot_any_shaper_t {
     ghost use Rattle.script_dispatch.specs.Shapers.{keeps_order};
     ghost use Rattle.script_dispatch.specs.Rules.{rules_of};
-    ghost use Rattle.script_dispatch.specs.Lemmas.Orders.{keeps_count, rules_keep_order};
+    ghost use Rattle.script_dispatch.specs.Lemmas.Limits.{rules_depend_on_no_limit};
+    ghost use Rattle.script_dispatch.specs.Lemmas.Orders.{keeps_count, rules_keep_parts};
     ghost use Rattle.script_dispatch.specs.Lemmas.Splits.{splits_end};
 
     ghost rules = { rules_of };
@@ -25,7 +26,9 @@ impl hb_ot_shaper_t for hb_ot_any_shaper_t {
 
     ghost keeps_count = { keeps_count };
 
-    ghost rules_keep_order = { λ shaper plan _. rules_keep_order shaper plan };
+    ghost rules_keep_parts = { λ shaper plan _. rules_keep_parts shaper plan };
+
+    ghost rules_depend_on_no_limit = { rules_depend_on_no_limit };
 
     fn preprocess_text(
         &self,

@@ -1,12 +1,12 @@
 //! The shapers' preprocess_text hook, before the text is normalized.
 ghost use Rattle.std.specs.Prelude.{◌≡◌, ◌≢◌, ◌&&◌, not, Err, IfErr, OnOk};
-ghost use Rattle.buffer_core.specs.Readings.{always, read_of};
-ghost use Rattle.buffer_core.specs.Sides.{run_of};
+ghost use Rattle.buffer_core.specs.Readings.{always, reading_of};
+ghost use Rattle.buffer_core.specs.Sides.{state_of};
 ghost use Rattle.buffer_stages.specs.Ready.{IsReady};
 ghost use Rattle.buffer_stages.specs.Settings.{text_settings};
 ghost use Rattle.buffer_stages.specs.Stages.{IsFollowed};
 ghost use Rattle.script_hangul.specs.Hangul.{syllables_formed};
-ghost use Rattle.script_dispatch.specs.Hooks.{has_private_forms, is_thai, preprocessed_by, private_if, thai_text};
+ghost use Rattle.script_dispatch.specs.Hooks.{has_private_forms, is_thai, preprocessing_by, private_if, thai_text};
 
 use buffer_common::script::{Script, THAI};
 use buffer_core::buffer::hb_buffer_t;
@@ -51,7 +51,7 @@ fn take_private_forms<D>(
     }
 }
 
-#[tactic(auto, using(script_pauses::proofs::Lemmas::Quiet::followed_then, buffer_core::specs::Steps::refused_first))]
+#[tactic(auto, using(script_pauses::specs::Lemmas::Quiet::followed_then, buffer_core::specs::Steps::refused_first))]
 fn preprocess_thai<D>(
     plan: &hb_script_plan_t<D>,
     face: &Face,
@@ -61,8 +61,8 @@ fn preprocess_thai<D>(
     requires { IsReady buffer.old }
     ensures ok { OnOk result (IsFollowed (thai_text plan.now.map plan.now.script tables.now face.now)
         buffer.old buffer.new) }
-    ensures err { IfErr result (λ e. e ≢ ShapeCause.OutOfMemory → read_of
-        (thai_text plan.now.map plan.now.script tables.now face.now) (run_of buffer.old) ≡ Err e) }
+    ensures err { IfErr result (λ e. e ≢ ShapeCause.OutOfMemory → reading_of
+        (thai_text plan.now.map plan.now.script tables.now face.now) (state_of buffer.old) ≡ Err e) }
 {
     thai_vowel::preprocess_text(buffer)?;
     take_private_forms(plan, face, tables, buffer);
@@ -73,8 +73,8 @@ fn preprocess_hangul(face: &Face, buffer: &mut hb_buffer_t) -> Result<(), ShapeC
     requires { IsReady buffer.old }
     ensures ok { OnOk result (IsFollowed (syllables_formed face.now (text_settings buffer.old).flags)
         buffer.old buffer.new) }
-    ensures err { IfErr result (λ e. e ≢ ShapeCause.OutOfMemory → read_of
-        (syllables_formed face.now (text_settings buffer.old).flags) (run_of buffer.old) ≡ Err e) }
+    ensures err { IfErr result (λ e. e ≢ ShapeCause.OutOfMemory → reading_of
+        (syllables_formed face.now (text_settings buffer.old).flags) (state_of buffer.old) ≡ Err e) }
 {
     hangul::preprocess_text(face, buffer)
 }
@@ -95,11 +95,11 @@ pub fn preprocess_text<D>(
 ) -> Result<(), ShapeCause>
     requires { IsReady buffer.old }
     ensures ok { OnOk result (IsFollowed
-        (preprocessed_by shaper plan.now.map plan.now.script face.now tables.now (text_settings buffer.old))
+        (preprocessing_by shaper plan.now.map plan.now.script face.now tables.now (text_settings buffer.old))
         buffer.old buffer.new) }
-    ensures err { IfErr result (λ e. e ≢ ShapeCause.OutOfMemory → read_of
-        (preprocessed_by shaper plan.now.map plan.now.script face.now tables.now (text_settings buffer.old))
-        (run_of buffer.old) ≡ Err e) }
+    ensures err { IfErr result (λ e. e ≢ ShapeCause.OutOfMemory → reading_of
+        (preprocessing_by shaper plan.now.map plan.now.script face.now tables.now (text_settings buffer.old))
+        (state_of buffer.old) ≡ Err e) }
 {
     match shaper {
         hb_ot_script_shaper_t::THAI_SHAPER => preprocess_thai(plan, face, tables, buffer),

@@ -3,7 +3,7 @@ ghost use Rattle.std.specs.Prelude.{◌≡◌, codes, List, ℕ};
 ghost use Rattle.buffer_stages.specs.Ready.{IsReady};
 ghost use Rattle.buffer_stages.specs.Stages.{IsFollowed};
 ghost use Rattle.script_plan.specs.Plans.{mask_at_one};
-ghost use Rattle.script_dispatch.specs.Masks.{form_mask, form_masks, joined_if, joining_scripts, letters_join, universal_masks_set};
+ghost use Rattle.script_dispatch.specs.Masks.{form_mask, form_masks, letters_joined_if, joining_scripts, letters_join, universal_masks_set};
 
 use crate::arabic_masks;
 use buffer_common::script::{
@@ -35,8 +35,9 @@ const JOINING: [Script; 13] = [
     SYRIAC,
 ];
 
-/// Sets the forms of letters in scripts that join, and each character's category. It takes linear time and no memory.
-#[tactic(auto, using(script_pauses::proofs::Lemmas::Quiet::followed_then))]
+/// Gives letters their forms where those of the script join, and each character its category. It takes linear time and no
+/// memory.
+#[tactic(auto, using(script_pauses::specs::Lemmas::Quiet::followed_then))]
 pub fn setup_masks(
     map: &hb_ot_map_t,
     script: Option<Script>,
@@ -58,7 +59,7 @@ fn join_letters(
     buffer: &mut hb_buffer_t,
 )
     requires ready { IsReady buffer.old }
-    ensures { IsFollowed (joined_if map.now script tables.now buffer.old.pre_context buffer.old.post_context)
+    ensures { IsFollowed (letters_joined_if map.now script tables.now buffer.old.pre_context buffer.old.post_context)
         buffer.old buffer.new }
 {
     if letters_join(script) {

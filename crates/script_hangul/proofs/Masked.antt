@@ -6,7 +6,7 @@ use Rattle.buffer_glyphs.specs.declared.info.hb_glyph_info_t.{hb_glyph_info_t}
 use Rattle.buffer_glyphs.specs.Items.{item_of, without_flags}
 use Rattle.buffer_glyphs.specs.Origins.{origin_of}
 use Rattle.script_hangul.specs.declared.masks.JamoMasks.{JamoMasks}
-use Rattle.script_hangul.specs.Masks.{AreFlagless, mask_of, with_place_mask}
+use Rattle.script_hangul.specs.Masks.{AreFlagless, mask_of, with_letter_mask}
 use Rattle.buffer_stages.proofs.Lemmas.Masks.{mask_above}
 
 either : (t : Bool) (a b : ℕ) → bit_and a 7 ≡ 0 → bit_and b 7 ≡ 0 → bit_and (if t then a else b) 7 ≡ 0
@@ -16,7 +16,7 @@ either false a b e f = f
 mask_flagless : (masks : JamoMasks) (n : ℕ) → AreFlagless masks → bit_and (mask_of masks n) 7 ≡ 0
 mask_flagless masks n e = either (n == 1) masks.ljmo (if n == 2 then masks.vjmo else if n == 3 then masks.tjmo else 0) e.ljmo (either (n == 2) masks.vjmo (if n == 3 then masks.tjmo else 0) e.vjmo (either (n == 3) masks.tjmo 0 e.tjmo refl))
 
-pub masked_item : (masks : JamoMasks) (m : ℕ) (g h : hb_glyph_info_t) → m ≡ mask_of masks g.auxiliary → h ≡ record g { mask = bit_or g.mask m } → item_of h ≡ with_place_mask masks (item_of g)
+pub masked_item : (masks : JamoMasks) (m : ℕ) (g h : hb_glyph_info_t) → m ≡ mask_of masks g.auxiliary → h ≡ record g { mask = bit_or g.mask m } → item_of h ≡ with_letter_mask masks (item_of g)
 masked_item masks m g h e is = ap item_of is ∙ ap (λ k. record (item_of g) { mask = without_flags (bit_or g.mask k) }) e ∙ ap (λ k. record (item_of g) { mask = k }) (mask_above g.mask (mask_of masks g.auxiliary))
 
 pub masked_origin : (masks : JamoMasks) (m : ℕ) (g h : hb_glyph_info_t) → AreFlagless masks → m ≡ mask_of masks g.auxiliary → h ≡ record g { mask = bit_or g.mask m } → origin_of h ≡ origin_of g

@@ -10,20 +10,20 @@ use Rattle.buffer_glyphs.specs.Levels.{InOutput}
 use Rattle.buffer_glyphs.specs.Events.{Event, Move, Replace}
 use Rattle.buffer_glyphs.specs.Replacements.{item_numbered}
 use Rattle.buffer_core.specs.Sides.{Sides}
-use Rattle.buffer_stages.specs.Moves.{moved, order_of_move}
-use Rattle.buffer_stages.specs.Walks.{Exceeds, Walked, renumbered_first}
-use Rattle.buffer_stages.specs.Lemmas.Moved.{moved_length}
+use Rattle.buffer_stages.specs.Moves.{with_range_moved, order_of_move}
+use Rattle.buffer_stages.specs.Walks.{RefusesLength, HasWalked, renumbered_first}
+use Rattle.buffer_stages.specs.Lemmas.Moves.{moved_length}
 use Rattle.buffer_stages.proofs.Lemmas.Walked.{both_walked}
 use Rattle.script_hangul.specs.declared.jamo.Letters.{Letters}
 use Rattle.script_hangul.specs.declared.jamo.Letters.TheVariants.{Two, Three}
-use Rattle.script_hangul.specs.Steps.{apart, before_syllable, circle_for, circled, composed, grapheme_merged, kept, letters_from, numbers_of, parted, placed, put_before, split, with_circle}
-use Rattle.script_hangul.specs.Stepped.{Refuses, Stepped, is_two}
+use Rattle.script_hangul.specs.Steps.{apart_step, before_syllable, circle_for, circle_beside, compose_step, grapheme_merged, keep_step, letters_from, numbers_of, letters_of_first, numbered_letter, with_tone_first, split_step, with_circle}
+use Rattle.script_hangul.specs.Stepped.{Refuses, IsStepped, is_two}
 use Rattle.buffer_stages.proofs.Lemmas.Fitting.{level_same}
 
 -- other words for the same
-renamed : (o r o' r' : List Item) (es es' : List Event) (s t : Sides) → Walked o r es s t → o ≡ o' → r ≡ r' → es ≡ es' → Walked o' r' es' s t
+renamed : (o r o' r' : List Item) (es es' : List Event) (s t : Sides) → HasWalked o r es s t → o ≡ o' → r ≡ r' → es ≡ es' → HasWalked o' r' es' s t
 renamed o r o' r' es es' s t w a b c =
-    subst (λ fs. Walked o' r' fs s t) c (record { behind = w.behind ∙ a; ahead = w.ahead ∙ b; happened = w.happened; view = w.view; settings = w.settings; opened = w.opened; unrefused = w.unrefused })
+    subst (λ fs. HasWalked o' r' fs s t) c (record { behind = w.behind ∙ a; ahead = w.ahead ∙ b; happened = w.happened; view = w.view; settings = w.settings; opened = w.opened; unrefused = w.unrefused })
 
 first_seen : (g : hb_glyph_info_t) (gs : List hb_glyph_info_t) → slice_get gs 0 ≡ Some g → strip gs ≡ item_of g ∷ drop 1 (strip gs)
 first_seen g [] at = absurd (let bad = at in cc)
@@ -33,21 +33,21 @@ seen_long : (s : Sides) → length (strip s.behind) ≡ length s.behind
 seen_long s = length-map s.behind item_of
 
 -- the number of output items
-behind_long : (o r : List Item) (es : List Event) (s t : Sides) → Walked o r es s t → length t.behind ≡ length o
+behind_long : (o r : List Item) (es : List Event) (s t : Sides) → HasWalked o r es s t → length t.behind ≡ length o
 behind_long o r es s t w = sym (length-map t.behind item_of) ∙ ap (λ (xs : List Item). length xs) w.behind
 
 -- ---- one that stays, and syllables that were composed
 
-pub kept_whole : (whole : Bool) (n : ℕ) (s t : Sides) → whole ≡ true → n ≡ length s.behind → Walked (strip s.behind ++ take 1 (strip s.ahead)) (drop 1 (strip s.ahead)) [] s t → Stepped (kept whole (strip s.behind) (strip s.ahead)) n s t
+pub kept_whole : (whole : Bool) (n : ℕ) (s t : Sides) → whole ≡ true → n ≡ length s.behind → HasWalked (strip s.behind ++ take 1 (strip s.ahead)) (drop 1 (strip s.ahead)) [] s t → IsStepped (keep_step whole (strip s.behind) (strip s.ahead)) n s t
 kept_whole true n s t e len w = record { walked = w; start = len ∙ sym (seen_long s) }
 kept_whole false n s t e len w = absurd (let bad = e in cc)
 
-pub kept_other : (whole : Bool) (n : ℕ) (s t : Sides) → whole ≡ false → n ≡ length t.behind → Walked (strip s.behind ++ take 1 (strip s.ahead)) (drop 1 (strip s.ahead)) [] s t → Stepped (kept whole (strip s.behind) (strip s.ahead)) n s t
+pub kept_other : (whole : Bool) (n : ℕ) (s t : Sides) → whole ≡ false → n ≡ length t.behind → HasWalked (strip s.behind ++ take 1 (strip s.ahead)) (drop 1 (strip s.ahead)) [] s t → IsStepped (keep_step whole (strip s.behind) (strip s.ahead)) n s t
 kept_other false n s t e len w = record { walked = w; start = len ∙ behind_long (strip s.behind ++ take 1 (strip s.ahead)) (drop 1 (strip s.ahead)) [] s t w }
 kept_other true n s t e len w = absurd (let bad = e in cc)
 
-pub composed_stepped : (count u n : ℕ) (s t : Sides) → 0 < count → n ≡ length s.behind → Walked (strip s.behind ++ renumbered_first u (strip s.ahead)) (drop count (strip s.ahead)) (Replace (length s.behind) count 1 ∷ []) s t
-    → Stepped (composed count u (strip s.behind) (strip s.ahead)) n s t
+pub composed_stepped : (count u n : ℕ) (s t : Sides) → 0 < count → n ≡ length s.behind → HasWalked (strip s.behind ++ renumbered_first u (strip s.ahead)) (drop count (strip s.ahead)) (Replace (length s.behind) count 1 ∷ []) s t
+    → IsStepped (compose_step count u (strip s.behind) (strip s.ahead)) n s t
 composed_stepped count u n s t some len w =
     let again : count ≡ count - 1 + 1 = omega (arith, some) in
     let o = strip s.behind ++ renumbered_first u (strip s.ahead) in
@@ -58,8 +58,8 @@ composed_stepped count u n s t some len w =
 
 -- ---- letters
 
-pub letter_walked : (n : ℕ) (h g : hb_glyph_info_t) (s t : Sides) → slice_get s.ahead 0 ≡ Some g → item_of h ≡ placed n (item_of g) → Walked (strip s.behind ++ item_of h ∷ []) (drop 1 (strip s.ahead)) [] s t
-    → Walked (strip s.behind ++ letters_from n (take 1 (strip s.ahead))) (drop 1 (strip s.ahead)) [] s t
+pub letter_walked : (n : ℕ) (h g : hb_glyph_info_t) (s t : Sides) → slice_get s.ahead 0 ≡ Some g → item_of h ≡ numbered_letter n (item_of g) → HasWalked (strip s.behind ++ item_of h ∷ []) (drop 1 (strip s.ahead)) [] s t
+    → HasWalked (strip s.behind ++ letters_from n (take 1 (strip s.ahead))) (drop 1 (strip s.ahead)) [] s t
 letter_walked n h g s t at is w =
     renamed (strip s.behind ++ item_of h ∷ []) (drop 1 (strip s.ahead)) (strip s.behind ++ letters_from n (take 1 (strip s.ahead))) (drop 1 (strip s.ahead)) [] [] s t w
     (ap (λ x. strip s.behind ++ x ∷ []) is ∙ ap (λ ys. strip s.behind ++ letters_from n (take 1 ys)) (sym (first_seen g s.ahead at))) refl refl
@@ -75,8 +75,8 @@ letters_three (x ∷ []) = refl
 letters_three (x ∷ y ∷ []) = refl
 letters_three (x ∷ y ∷ z ∷ xs) = refl
 
-pub two_letters : (s a b : Sides) → Walked (strip s.behind ++ letters_from 1 (take 1 (strip s.ahead))) (drop 1 (strip s.ahead)) [] s a → Walked (strip a.behind ++ letters_from 2 (take 1 (strip a.ahead))) (drop 1 (strip a.ahead)) [] a b
-    → Walked (strip s.behind ++ letters_from 1 (take 2 (strip s.ahead))) (drop 2 (strip s.ahead)) [] s b
+pub two_letters : (s a b : Sides) → HasWalked (strip s.behind ++ letters_from 1 (take 1 (strip s.ahead))) (drop 1 (strip s.ahead)) [] s a → HasWalked (strip a.behind ++ letters_from 2 (take 1 (strip a.ahead))) (drop 1 (strip a.ahead)) [] a b
+    → HasWalked (strip s.behind ++ letters_from 1 (take 2 (strip s.ahead))) (drop 2 (strip s.ahead)) [] s b
 two_letters s a b w v =
     let bs = strip s.behind in
     let xs = strip s.ahead in
@@ -87,20 +87,20 @@ two_letters s a b w v =
     (ap (drop 1) w.ahead ∙ drop-drop 1 1 xs) refl
 
 -- the output items of a syllable become a grapheme
-pub then_merged : (o r : List Item) (es : List Event) (at n : ℕ) (s m t : Sides) → Walked o r es s m → Walked (strip m.behind) (strip m.ahead) (grapheme_merged m.level at n) m t → Walked o r (es ++ grapheme_merged s.level at n) s t
+pub then_merged : (o r : List Item) (es : List Event) (at n : ℕ) (s m t : Sides) → HasWalked o r es s m → HasWalked (strip m.behind) (strip m.ahead) (grapheme_merged m.level at n) m t → HasWalked o r (es ++ grapheme_merged s.level at n) s t
 then_merged o r es at n s m t w v =
     let both = both_walked o r (strip m.behind) (strip m.ahead) es (grapheme_merged m.level at n) s m t w v in
     renamed (strip m.behind) (strip m.ahead) o r (es ++ grapheme_merged m.level at n) (es ++ grapheme_merged s.level at n) s t both w.behind w.ahead (ap (λ l. es ++ grapheme_merged l at n) (level_same o r es s m w))
 
-pub apart_two : (count at : ℕ) (s b t : Sides) → count ≡ 2 → at ≡ length s.behind → Walked (strip s.behind ++ letters_from 1 (take 2 (strip s.ahead))) (drop 2 (strip s.ahead)) [] s b → Walked (strip b.behind) (strip b.ahead) (grapheme_merged b.level at 2) b t
-    → Stepped (apart count (strip s.behind) (strip s.ahead)) at s t
+pub apart_two : (count at : ℕ) (s b t : Sides) → count ≡ 2 → at ≡ length s.behind → HasWalked (strip s.behind ++ letters_from 1 (take 2 (strip s.ahead))) (drop 2 (strip s.ahead)) [] s b → HasWalked (strip b.behind) (strip b.ahead) (grapheme_merged b.level at 2) b t
+    → IsStepped (apart_step count (strip s.behind) (strip s.ahead)) at s t
 apart_two count at s b t is len w v =
     let o = strip s.behind ++ letters_from 1 (take 2 (strip s.ahead)) in
     let r = drop 2 (strip s.ahead) in
     rw is (record { walked = renamed o r o r (grapheme_merged s.level at 2) (grapheme_merged s.level (length (strip s.behind)) 2) s t (then_merged o r [] at 2 s b t w v) refl refl (ap (λ k. grapheme_merged s.level k 2) (len ∙ sym (seen_long s))); start = len ∙ sym (seen_long s) })
 
-pub apart_three : (count at : ℕ) (s b t : Sides) → count ≡ 3 → at ≡ length s.behind → Walked (strip s.behind ++ letters_from 1 (take 2 (strip s.ahead))) (drop 2 (strip s.ahead)) [] s b
-    → Walked (strip b.behind ++ letters_from 3 (take 1 (strip b.ahead))) (drop 1 (strip b.ahead)) (grapheme_merged b.level at 3) b t → Stepped (apart count (strip s.behind) (strip s.ahead)) at s t
+pub apart_three : (count at : ℕ) (s b t : Sides) → count ≡ 3 → at ≡ length s.behind → HasWalked (strip s.behind ++ letters_from 1 (take 2 (strip s.ahead))) (drop 2 (strip s.ahead)) [] s b
+    → HasWalked (strip b.behind ++ letters_from 3 (take 1 (strip b.ahead))) (drop 1 (strip b.ahead)) (grapheme_merged b.level at 3) b t → IsStepped (apart_step count (strip s.behind) (strip s.ahead)) at s t
 apart_three count at s b t is len w v =
     let bs = strip s.behind in
     let xs = strip s.ahead in
@@ -116,22 +116,22 @@ apart_three count at s b t is len w v =
 
 -- ---- syllables that were split
 
-pub two_parted : (l v : ℕ) (g a b : hb_glyph_info_t) (s t : Sides) → slice_get s.ahead 0 ≡ Some g → item_of a ≡ placed 1 (item_numbered (item_of g) l) → item_of b ≡ placed 2 (item_numbered (item_of g) v)
-    → Walked (strip s.behind ++ strip (a ∷ b ∷ [])) (drop 1 (strip s.ahead)) (Replace (length s.behind) 1 2 ∷ []) s t
-    → Walked (strip s.behind ++ letters_from 1 (parted (Two l v) (strip s.ahead))) (drop 1 (strip s.ahead)) (Replace (length s.behind) 1 2 ∷ []) s t
+pub two_parted : (l v : ℕ) (g a b : hb_glyph_info_t) (s t : Sides) → slice_get s.ahead 0 ≡ Some g → item_of a ≡ numbered_letter 1 (item_numbered (item_of g) l) → item_of b ≡ numbered_letter 2 (item_numbered (item_of g) v)
+    → HasWalked (strip s.behind ++ strip (a ∷ b ∷ [])) (drop 1 (strip s.ahead)) (Replace (length s.behind) 1 2 ∷ []) s t
+    → HasWalked (strip s.behind ++ letters_from 1 (letters_of_first (Two l v) (strip s.ahead))) (drop 1 (strip s.ahead)) (Replace (length s.behind) 1 2 ∷ []) s t
 two_parted l v g a b s t at is_a is_b w =
-    renamed (strip s.behind ++ strip (a ∷ b ∷ [])) (drop 1 (strip s.ahead)) (strip s.behind ++ letters_from 1 (parted (Two l v) (strip s.ahead))) (drop 1 (strip s.ahead)) (Replace (length s.behind) 1 2 ∷ []) (Replace (length s.behind) 1 2 ∷ []) s t w
-    (ap₂ (λ x y. strip s.behind ++ (x ∷ y ∷ [])) is_a is_b ∙ ap (λ ys. strip s.behind ++ letters_from 1 (parted (Two l v) ys)) (sym (first_seen g s.ahead at))) refl refl
+    renamed (strip s.behind ++ strip (a ∷ b ∷ [])) (drop 1 (strip s.ahead)) (strip s.behind ++ letters_from 1 (letters_of_first (Two l v) (strip s.ahead))) (drop 1 (strip s.ahead)) (Replace (length s.behind) 1 2 ∷ []) (Replace (length s.behind) 1 2 ∷ []) s t w
+    (ap₂ (λ x y. strip s.behind ++ (x ∷ y ∷ [])) is_a is_b ∙ ap (λ ys. strip s.behind ++ letters_from 1 (letters_of_first (Two l v) ys)) (sym (first_seen g s.ahead at))) refl refl
 
-pub three_parted : (l v k : ℕ) (g a b c : hb_glyph_info_t) (s t : Sides) → slice_get s.ahead 0 ≡ Some g → item_of a ≡ placed 1 (item_numbered (item_of g) l) → item_of b ≡ placed 2 (item_numbered (item_of g) v) → item_of c ≡ placed 3 (item_numbered (item_of g) k)
-    → Walked (strip s.behind ++ strip (a ∷ b ∷ c ∷ [])) (drop 1 (strip s.ahead)) (Replace (length s.behind) 1 3 ∷ []) s t
-    → Walked (strip s.behind ++ letters_from 1 (parted (Three l v k) (strip s.ahead))) (drop 1 (strip s.ahead)) (Replace (length s.behind) 1 3 ∷ []) s t
+pub three_parted : (l v k : ℕ) (g a b c : hb_glyph_info_t) (s t : Sides) → slice_get s.ahead 0 ≡ Some g → item_of a ≡ numbered_letter 1 (item_numbered (item_of g) l) → item_of b ≡ numbered_letter 2 (item_numbered (item_of g) v) → item_of c ≡ numbered_letter 3 (item_numbered (item_of g) k)
+    → HasWalked (strip s.behind ++ strip (a ∷ b ∷ c ∷ [])) (drop 1 (strip s.ahead)) (Replace (length s.behind) 1 3 ∷ []) s t
+    → HasWalked (strip s.behind ++ letters_from 1 (letters_of_first (Three l v k) (strip s.ahead))) (drop 1 (strip s.ahead)) (Replace (length s.behind) 1 3 ∷ []) s t
 three_parted l v k g a b c s t at is_a is_b is_c w =
-    renamed (strip s.behind ++ strip (a ∷ b ∷ c ∷ [])) (drop 1 (strip s.ahead)) (strip s.behind ++ letters_from 1 (parted (Three l v k) (strip s.ahead))) (drop 1 (strip s.ahead)) (Replace (length s.behind) 1 3 ∷ []) (Replace (length s.behind) 1 3 ∷ []) s t w
-    (ap₂ (λ x y. strip s.behind ++ (x ∷ y ∷ item_of c ∷ [])) is_a is_b ∙ ap (λ z. strip s.behind ++ (placed 1 (item_numbered (item_of g) l) ∷ placed 2 (item_numbered (item_of g) v) ∷ z ∷ [])) is_c
-    ∙ ap (λ ys. strip s.behind ++ letters_from 1 (parted (Three l v k) ys)) (sym (first_seen g s.ahead at))) refl refl
+    renamed (strip s.behind ++ strip (a ∷ b ∷ c ∷ [])) (drop 1 (strip s.ahead)) (strip s.behind ++ letters_from 1 (letters_of_first (Three l v k) (strip s.ahead))) (drop 1 (strip s.ahead)) (Replace (length s.behind) 1 3 ∷ []) (Replace (length s.behind) 1 3 ∷ []) s t w
+    (ap₂ (λ x y. strip s.behind ++ (x ∷ y ∷ item_of c ∷ [])) is_a is_b ∙ ap (λ z. strip s.behind ++ (numbered_letter 1 (item_numbered (item_of g) l) ∷ numbered_letter 2 (item_numbered (item_of g) v) ∷ z ∷ [])) is_c
+    ∙ ap (λ ys. strip s.behind ++ letters_from 1 (letters_of_first (Three l v k) ys)) (sym (first_seen g s.ahead at))) refl refl
 
-parted_long : (letters : Letters) (xs : List Item) → 0 < length xs → length (letters_from 1 (parted letters xs)) ≡ length (numbers_of letters)
+parted_long : (letters : Letters) (xs : List Item) → 0 < length xs → length (letters_from 1 (letters_of_first letters xs)) ≡ length (numbers_of letters)
 parted_long letters [] lt = absurd (omega (arith, lt))
 parted_long (Two l v) (x ∷ xs) lt = refl
 parted_long (Three l v t) (x ∷ xs) lt = refl
@@ -139,16 +139,16 @@ parted_long (Three l v t) (x ∷ xs) lt = refl
 some_items : (s : Sides) → 0 < length s.ahead → 0 < length (strip s.ahead)
 some_items s lt = let n = length-map s.ahead item_of in omega (arith, n, lt)
 
-pub parts_behind : (letters : Letters) (s m : Sides) → 0 < length s.ahead → Walked (strip s.behind ++ letters_from 1 (parted letters (strip s.ahead))) (drop 1 (strip s.ahead)) (Replace (length s.behind) 1 (length (numbers_of letters)) ∷ []) s m
+pub parts_behind : (letters : Letters) (s m : Sides) → 0 < length s.ahead → HasWalked (strip s.behind ++ letters_from 1 (letters_of_first letters (strip s.ahead))) (drop 1 (strip s.ahead)) (Replace (length s.behind) 1 (length (numbers_of letters)) ∷ []) s m
     → length m.behind ≡ length s.behind + length (numbers_of letters)
 parts_behind letters s m some w =
-    let a = behind_long (strip s.behind ++ letters_from 1 (parted letters (strip s.ahead))) (drop 1 (strip s.ahead)) (Replace (length s.behind) 1 (length (numbers_of letters)) ∷ []) s m w in
-    let b = length-append (strip s.behind) (letters_from 1 (parted letters (strip s.ahead))) in
+    let a = behind_long (strip s.behind ++ letters_from 1 (letters_of_first letters (strip s.ahead))) (drop 1 (strip s.ahead)) (Replace (length s.behind) 1 (length (numbers_of letters)) ∷ []) s m w in
+    let b = length-append (strip s.behind) (letters_from 1 (letters_of_first letters (strip s.ahead))) in
     let c = parted_long letters (strip s.ahead) (some_items s some) in
     let d = seen_long s in
     omega (arith, a, b, c, d)
 
-pub parts_ahead : (letters : Letters) (s m : Sides) → Walked (strip s.behind ++ letters_from 1 (parted letters (strip s.ahead))) (drop 1 (strip s.ahead)) (Replace (length s.behind) 1 (length (numbers_of letters)) ∷ []) s m → length m.ahead ≡ length s.ahead - 1
+pub parts_ahead : (letters : Letters) (s m : Sides) → HasWalked (strip s.behind ++ letters_from 1 (letters_of_first letters (strip s.ahead))) (drop 1 (strip s.ahead)) (Replace (length s.behind) 1 (length (numbers_of letters)) ∷ []) s m → length m.ahead ≡ length s.ahead - 1
 parts_ahead letters s m w =
     let a = length-map m.ahead item_of in
     let b = ap (λ (xs : List Item). length xs) w.ahead in
@@ -157,42 +157,42 @@ parts_ahead letters s m w =
     omega (arith, a, b, c, d)
 
 pub split_alone : (letters : Letters) (joins : Bool) (at count : ℕ) (s m t : Sides) → joins ≡ false → 0 < length s.ahead → at ≡ length s.behind → count ≡ length m.behind - at
-    → Walked (strip s.behind ++ letters_from 1 (parted letters (strip s.ahead))) (drop 1 (strip s.ahead)) (Replace (length s.behind) 1 (length (numbers_of letters)) ∷ []) s m
-    → Walked (strip m.behind) (strip m.ahead) (grapheme_merged m.level at count) m t → Stepped (split letters (if joins then 1 else 0) (strip s.behind) (strip s.ahead)) at s t
+    → HasWalked (strip s.behind ++ letters_from 1 (letters_of_first letters (strip s.ahead))) (drop 1 (strip s.ahead)) (Replace (length s.behind) 1 (length (numbers_of letters)) ∷ []) s m
+    → HasWalked (strip m.behind) (strip m.ahead) (grapheme_merged m.level at count) m t → IsStepped (split_step letters (if joins then 1 else 0) (strip s.behind) (strip s.ahead)) at s t
 split_alone letters true at count s m t none some len is w v = absurd (let bad = none in cc)
 split_alone letters false at count s m t none some len is w v =
     let bs = strip s.behind in
     let xs = strip s.ahead in
     let k = length (numbers_of letters) in
-    let o = bs ++ letters_from 1 (parted letters xs) in
+    let o = bs ++ letters_from 1 (letters_of_first letters xs) in
     let many = parts_behind letters s m some w in
     let all : count ≡ k + 0 = omega (arith, is, len, many) in
     record {
-      walked = renamed o (drop 1 xs) (bs ++ letters_from 1 (parted letters xs ++ [])) (drop 1 xs) (Replace (length s.behind) 1 k ∷ grapheme_merged s.level at count) (Replace (length bs) 1 k ∷ grapheme_merged s.level (length bs) (k + 0)) s t
-          (then_merged o (drop 1 xs) (Replace (length s.behind) 1 k ∷ []) at count s m t w v) (ap (λ ys. bs ++ letters_from 1 ys) (sym (append-nil (parted letters xs)))) refl
+      walked = renamed o (drop 1 xs) (bs ++ letters_from 1 (letters_of_first letters xs ++ [])) (drop 1 xs) (Replace (length s.behind) 1 k ∷ grapheme_merged s.level at count) (Replace (length bs) 1 k ∷ grapheme_merged s.level (length bs) (k + 0)) s t
+          (then_merged o (drop 1 xs) (Replace (length s.behind) 1 k ∷ []) at count s m t w v) (ap (λ ys. bs ++ letters_from 1 ys) (sym (append-nil (letters_of_first letters xs)))) refl
           (ap₂ (λ i j. Replace i 1 k ∷ grapheme_merged s.level at j) (sym (seen_long s)) all ∙ ap (λ i. Replace (length bs) 1 k ∷ grapheme_merged s.level i (k + 0)) (len ∙ sym (seen_long s)));
       start = len ∙ sym (seen_long s);
     }
 
-joined_out : (l v : ℕ) (bs xs : List Item) → 0 < length xs → (bs ++ letters_from 1 (parted (Two l v) xs)) ++ letters_from 3 (take 1 (drop 1 xs)) ≡ bs ++ letters_from 1 (parted (Two l v) xs ++ take 1 (drop 1 xs))
+joined_out : (l v : ℕ) (bs xs : List Item) → 0 < length xs → (bs ++ letters_from 1 (letters_of_first (Two l v) xs)) ++ letters_from 3 (take 1 (drop 1 xs)) ≡ bs ++ letters_from 1 (letters_of_first (Two l v) xs ++ take 1 (drop 1 xs))
 joined_out l v bs [] lt = absurd (omega (arith, lt))
-joined_out l v bs (x ∷ xs) lt = append_assoc bs (letters_from 1 (parted (Two l v) (x ∷ xs))) (letters_from 3 (take 1 xs))
+joined_out l v bs (x ∷ xs) lt = append_assoc bs (letters_from 1 (letters_of_first (Two l v) (x ∷ xs))) (letters_from 3 (take 1 xs))
 
 pub split_joined : (letters : Letters) (joins : Bool) (at : ℕ) (s m t : Sides) → joins ≡ true → is_two letters ≡ true → 0 < length s.ahead → at ≡ length s.behind
-    → Walked (strip s.behind ++ letters_from 1 (parted letters (strip s.ahead))) (drop 1 (strip s.ahead)) (Replace (length s.behind) 1 (length (numbers_of letters)) ∷ []) s m
-    → Walked (strip m.behind ++ letters_from 3 (take 1 (strip m.ahead))) (drop 1 (strip m.ahead)) (grapheme_merged m.level at 3) m t → Stepped (split letters (if joins then 1 else 0) (strip s.behind) (strip s.ahead)) at s t
+    → HasWalked (strip s.behind ++ letters_from 1 (letters_of_first letters (strip s.ahead))) (drop 1 (strip s.ahead)) (Replace (length s.behind) 1 (length (numbers_of letters)) ∷ []) s m
+    → HasWalked (strip m.behind ++ letters_from 3 (take 1 (strip m.ahead))) (drop 1 (strip m.ahead)) (grapheme_merged m.level at 3) m t → IsStepped (split_step letters (if joins then 1 else 0) (strip s.behind) (strip s.ahead)) at s t
 split_joined letters false at s m t j two some len w v = absurd (let bad = j in cc)
 split_joined (Three l k z) true at s m t j two some len w v = absurd (let bad = two in cc)
 split_joined (Two l k) true at s m t j two some len w v =
     let bs = strip s.behind in
     let xs = strip s.ahead in
-    let both = both_walked (bs ++ letters_from 1 (parted (Two l k) xs)) (drop 1 xs) (strip m.behind ++ letters_from 3 (take 1 (strip m.ahead))) (drop 1 (strip m.ahead)) (Replace (length s.behind) 1 2 ∷ []) (grapheme_merged m.level at 3) s m t w v in
+    let both = both_walked (bs ++ letters_from 1 (letters_of_first (Two l k) xs)) (drop 1 xs) (strip m.behind ++ letters_from 3 (take 1 (strip m.ahead))) (drop 1 (strip m.ahead)) (Replace (length s.behind) 1 2 ∷ []) (grapheme_merged m.level at 3) s m t w v in
     record {
-      walked = renamed (strip m.behind ++ letters_from 3 (take 1 (strip m.ahead))) (drop 1 (strip m.ahead)) (bs ++ letters_from 1 (parted (Two l k) xs ++ take 1 (drop 1 xs))) (drop 2 xs)
+      walked = renamed (strip m.behind ++ letters_from 3 (take 1 (strip m.ahead))) (drop 1 (strip m.ahead)) (bs ++ letters_from 1 (letters_of_first (Two l k) xs ++ take 1 (drop 1 xs))) (drop 2 xs)
           (Replace (length s.behind) 1 2 ∷ grapheme_merged m.level at 3) (Replace (length bs) 1 2 ∷ grapheme_merged s.level (length bs) 3) s t both
-          (ap (λ ys. ys ++ letters_from 3 (take 1 (strip m.ahead))) w.behind ∙ ap (λ ys. (bs ++ letters_from 1 (parted (Two l k) xs)) ++ letters_from 3 (take 1 ys)) w.ahead ∙ joined_out l k bs xs (some_items s some))
+          (ap (λ ys. ys ++ letters_from 3 (take 1 (strip m.ahead))) w.behind ∙ ap (λ ys. (bs ++ letters_from 1 (letters_of_first (Two l k) xs)) ++ letters_from 3 (take 1 ys)) w.ahead ∙ joined_out l k bs xs (some_items s some))
           (ap (drop 1) w.ahead ∙ drop-drop 1 1 xs)
-          (ap₂ (λ i q. Replace i 1 2 ∷ grapheme_merged q at 3) (sym (seen_long s)) (level_same (bs ++ letters_from 1 (parted (Two l k) xs)) (drop 1 xs) (Replace (length s.behind) 1 2 ∷ []) s m w) ∙ ap (λ i. Replace (length bs) 1 2 ∷ grapheme_merged s.level i 3) (len ∙ sym (seen_long s)));
+          (ap₂ (λ i q. Replace i 1 2 ∷ grapheme_merged q at 3) (sym (seen_long s)) (level_same (bs ++ letters_from 1 (letters_of_first (Two l k) xs)) (drop 1 xs) (Replace (length s.behind) 1 2 ∷ []) s m w) ∙ ap (λ i. Replace (length bs) 1 2 ∷ grapheme_merged s.level i 3) (len ∙ sym (seen_long s)));
       start = len ∙ sym (seen_long s);
     }
 
@@ -200,7 +200,7 @@ pub two_long : (letters : Letters) → is_two letters ≡ true → length (numbe
 two_long (Two l v) e = refl
 two_long (Three l v t) e = absurd (let bad = e in cc)
 
-joined_long : (letters : Letters) (xs : List Item) → is_two letters ≡ true → 1 < length xs → length (letters_from 1 (parted letters xs ++ take 1 (drop 1 xs))) ≡ 3
+joined_long : (letters : Letters) (xs : List Item) → is_two letters ≡ true → 1 < length xs → length (letters_from 1 (letters_of_first letters xs ++ take 1 (drop 1 xs))) ≡ 3
 joined_long (Three l v t) xs e lt = absurd (let bad = e in cc)
 joined_long (Two l v) [] e lt = absurd (omega (arith, lt))
 joined_long (Two l v) (x ∷ []) e lt = absurd (omega (arith, lt))
@@ -208,8 +208,8 @@ joined_long (Two l v) (x ∷ y ∷ xs) e lt = refl
 
 -- a third letter after two that makes the list too long
 pub joined_exceeds : (letters : Letters) (joins : Bool) (e : ShapeCause) (s m : Sides) → joins ≡ true → is_two letters ≡ true → 1 < length s.ahead
-    → Walked (strip s.behind ++ letters_from 1 (parted letters (strip s.ahead))) (drop 1 (strip s.ahead)) (Replace (length s.behind) 1 (length (numbers_of letters)) ∷ []) s m
-    → Exceeds (length m.behind + 1) e m → Refuses (split letters (if joins then 1 else 0) (strip s.behind) (strip s.ahead)) e s
+    → HasWalked (strip s.behind ++ letters_from 1 (letters_of_first letters (strip s.ahead))) (drop 1 (strip s.ahead)) (Replace (length s.behind) 1 (length (numbers_of letters)) ∷ []) s m
+    → RefusesLength (length m.behind + 1) e m → Refuses (split_step letters (if joins then 1 else 0) (strip s.behind) (strip s.ahead)) e s
 joined_exceeds letters false e s m j two more w over = absurd (let bad = j in cc)
 joined_exceeds letters true e s m j two more w over = λ other.
     let o = over other in
@@ -218,24 +218,24 @@ joined_exceeds letters true e s m j two more w over = λ other.
     let many = parts_behind letters s m (omega (arith, more)) w in
     let k = two_long letters two in
     let long = joined_long letters (strip s.ahead) two (let n = length-map s.ahead item_of in omega (arith, n, more)) in
-    let sums = length-append (strip s.behind) (letters_from 1 (parted letters (strip s.ahead) ++ take 1 (drop 1 (strip s.ahead)))) in
+    let sums = length-append (strip s.behind) (letters_from 1 (letters_of_first letters (strip s.ahead) ++ take 1 (drop 1 (strip s.ahead)))) in
     let b = seen_long s in
     (o.0, omega (arith, past, limit, many, k, long, sums, b))
 
 -- ---- tone marks
 
-pub thin_circled : (thin : Bool) (g h : hb_glyph_info_t) (s : Sides) → thin ≡ true → slice_get s.ahead 0 ≡ Some g → item_of h ≡ circle_for (item_of g) → strip (h ∷ g ∷ []) ≡ circled thin (strip s.ahead)
-thin_circled true g h s e at is = ap (λ x. x ∷ item_of g ∷ []) is ∙ ap (circled true) (sym (first_seen g s.ahead at))
+pub thin_circled : (thin : Bool) (g h : hb_glyph_info_t) (s : Sides) → thin ≡ true → slice_get s.ahead 0 ≡ Some g → item_of h ≡ circle_for (item_of g) → strip (h ∷ g ∷ []) ≡ circle_beside thin (strip s.ahead)
+thin_circled true g h s e at is = ap (λ x. x ∷ item_of g ∷ []) is ∙ ap (circle_beside true) (sym (first_seen g s.ahead at))
 thin_circled false g h s e at is = absurd (let bad = e in cc)
 
-pub wide_circled : (thin : Bool) (g h : hb_glyph_info_t) (s : Sides) → thin ≡ false → slice_get s.ahead 0 ≡ Some g → item_of h ≡ circle_for (item_of g) → strip (g ∷ h ∷ []) ≡ circled thin (strip s.ahead)
-wide_circled false g h s e at is = ap (λ x. item_of g ∷ x ∷ []) is ∙ ap (circled false) (sym (first_seen g s.ahead at))
+pub wide_circled : (thin : Bool) (g h : hb_glyph_info_t) (s : Sides) → thin ≡ false → slice_get s.ahead 0 ≡ Some g → item_of h ≡ circle_for (item_of g) → strip (g ∷ h ∷ []) ≡ circle_beside thin (strip s.ahead)
+wide_circled false g h s e at is = ap (λ x. item_of g ∷ x ∷ []) is ∙ ap (circle_beside false) (sym (first_seen g s.ahead at))
 wide_circled true g h s e at is = absurd (let bad = e in cc)
 
-pub circle_stepped : (thin : Bool) (n : ℕ) (gs : List Item) (s t : Sides) → gs ≡ circled thin (strip s.ahead) → n ≡ length t.behind → Walked (strip s.behind ++ gs) (drop 1 (strip s.ahead)) (Replace (length s.behind) 1 2 ∷ []) s t
-    → Stepped (with_circle thin (strip s.behind) (strip s.ahead)) n s t
+pub circle_stepped : (thin : Bool) (n : ℕ) (gs : List Item) (s t : Sides) → gs ≡ circle_beside thin (strip s.ahead) → n ≡ length t.behind → HasWalked (strip s.behind ++ gs) (drop 1 (strip s.ahead)) (Replace (length s.behind) 1 2 ∷ []) s t
+    → IsStepped (with_circle thin (strip s.behind) (strip s.ahead)) n s t
 circle_stepped thin n gs s t e len w =
-    let o = strip s.behind ++ circled thin (strip s.ahead) in
+    let o = strip s.behind ++ circle_beside thin (strip s.ahead) in
     let r = drop 1 (strip s.ahead) in
     let w' = renamed (strip s.behind ++ gs) r o r (Replace (length s.behind) 1 2 ∷ []) (Replace (length (strip s.behind)) 1 2 ∷ []) s t w (ap (λ ys. strip s.behind ++ ys) e) refl (ap (λ k. Replace k 1 2 ∷ []) (sym (seen_long s))) in
     record { walked = w'; start = len ∙ behind_long o r (Replace (length (strip s.behind)) 1 2 ∷ []) s t w' }
@@ -248,7 +248,7 @@ none_left [] = refl
 none_left (x ∷ xs) = none_left xs
 
 -- an output item after others is moved before some of them
-put_moved : (start n : ℕ) (bs one : List Item) → start + n ≡ length bs → length one ≡ 1 → moved start n 1 (bs ++ one) ≡ take start bs ++ (one ++ drop start bs)
+put_moved : (start n : ℕ) (bs one : List Item) → start + n ≡ length bs → length one ≡ 1 → with_range_moved start n 1 (bs ++ one) ≡ take start bs ++ (one ++ drop start bs)
 put_moved start n bs one sum long =
     let past : start + (n + 1) ≡ length bs + 1 = omega (arith, sum) in
     let there : drop (length bs) (bs ++ one) ≡ one = drop-append-le (length bs) bs one (omega arith) ∙ ap (λ ys. ys ++ one) (none_left bs) in
@@ -264,9 +264,9 @@ put_moved start n bs one sum long =
     whole m xs e = ap (λ j. take j xs) (sym e) ∙ all xs
 
 pub before_stepped : (start middle end : ℕ) (s m t : Sides) → start < length s.behind → middle ≡ length s.behind → end ≡ length m.behind → 0 < length s.ahead
-    → Walked (strip s.behind ++ take 1 (strip s.ahead)) (drop 1 (strip s.ahead)) [] s m
-    → Walked (moved start (middle - start) (end - middle) (strip m.behind)) (strip m.ahead) (Move InOutput start (order_of_move (middle - start) (end - middle)) ∷ []) m t
-    → Stepped (before_syllable start (strip s.behind) (strip s.ahead)) end s t
+    → HasWalked (strip s.behind ++ take 1 (strip s.ahead)) (drop 1 (strip s.ahead)) [] s m
+    → HasWalked (with_range_moved start (middle - start) (end - middle) (strip m.behind)) (strip m.ahead) (Move InOutput start (order_of_move (middle - start) (end - middle)) ∷ []) m t
+    → IsStepped (before_syllable start (strip s.behind) (strip s.ahead)) end s t
 before_stepped start middle end s m t lt is_middle is_end some w v =
     let bs = strip s.behind in
     let one = take 1 (strip s.ahead) in
@@ -278,10 +278,10 @@ before_stepped start middle end s m t lt is_middle is_end some w v =
     let n = middle - start in
     let one_more : end - middle ≡ 1 = omega (arith, is_middle, is_end, many, sums, long, b) in
     let left : n ≡ length bs - start = omega (arith, is_middle, b) in
-    let both = both_walked (bs ++ one) r (moved start n (end - middle) (strip m.behind)) (strip m.ahead) [] (Move InOutput start (order_of_move n (end - middle)) ∷ []) s m t w v in
-    let out : moved start n (end - middle) (strip m.behind) ≡ put_before start bs (strip s.ahead) =
-    ap₂ (λ k ys. moved start n k ys) one_more w.behind ∙ put_moved start n bs one (omega (arith, is_middle, b, lt)) long in
-    let w' = renamed (moved start n (end - middle) (strip m.behind)) (strip m.ahead) (put_before start bs (strip s.ahead)) r (Move InOutput start (order_of_move n (end - middle)) ∷ []) (Move InOutput start (order_of_move (length bs - start) 1) ∷ []) s t both out w.ahead
+    let both = both_walked (bs ++ one) r (with_range_moved start n (end - middle) (strip m.behind)) (strip m.ahead) [] (Move InOutput start (order_of_move n (end - middle)) ∷ []) s m t w v in
+    let out : with_range_moved start n (end - middle) (strip m.behind) ≡ with_tone_first start bs (strip s.ahead) =
+    ap₂ (λ k ys. with_range_moved start n k ys) one_more w.behind ∙ put_moved start n bs one (omega (arith, is_middle, b, lt)) long in
+    let w' = renamed (with_range_moved start n (end - middle) (strip m.behind)) (strip m.ahead) (with_tone_first start bs (strip s.ahead)) r (Move InOutput start (order_of_move n (end - middle)) ∷ []) (Move InOutput start (order_of_move (length bs - start) 1) ∷ []) s t both out w.ahead
     (ap₂ (λ i j. Move InOutput start (order_of_move i j) ∷ []) left one_more) in
-    let same : length (put_before start bs (strip s.ahead)) ≡ length (strip m.behind) = ap (λ (ys : List Item). length ys) (sym out) ∙ moved_length start n (end - middle) (strip m.behind) (omega (arith, one_more, is_middle, many, sums, long, b, lt, length-map m.behind item_of)) in
+    let same : length (with_tone_first start bs (strip s.ahead)) ≡ length (strip m.behind) = ap (λ (ys : List Item). length ys) (sym out) ∙ moved_length start n (end - middle) (strip m.behind) (omega (arith, one_more, is_middle, many, sums, long, b, lt, length-map m.behind item_of)) in
     record { walked = w'; start = is_end ∙ sym (length-map m.behind item_of) ∙ sym same }

@@ -9,27 +9,27 @@ use Rattle.buffer_common.specs.declared.constants.BufferFlags.{BufferFlags}
 use Rattle.layout_face.specs.declared.parts.FaceParts.{FaceParts}
 use Rattle.buffer_glyphs.specs.Items.{Item, item_of, strip}
 use Rattle.buffer_glyphs.specs.Events.{Event}
-use Rattle.buffer_core.specs.Readings.{read_of}
-use Rattle.buffer_core.specs.Sides.{Sides, Settings, all_glyphs, items_of, run_of, with_output, synced, fits_joined}
+use Rattle.buffer_core.specs.Readings.{reading_of}
+use Rattle.buffer_core.specs.Sides.{Sides, Settings, all_glyphs, items_of, state_of, with_output, after_sync, fits_joined}
 use Rattle.buffer_stages.specs.Ready.{IsReady}
 use Rattle.buffer_stages.specs.Stages.{IsFollowed}
-use Rattle.buffer_stages.specs.Walks.{Exceeds, Walked, renumbered_first}
+use Rattle.buffer_stages.specs.Walks.{RefusesLength, HasWalked, renumbered_first}
 use Rattle.buffer_stages.proofs.Lemmas.Walked.{both_walked, nothing_walked, walked_followed}
 use Rattle.script_hangul.specs.declared.actions.Action.{Action}
 use Rattle.script_hangul.specs.declared.actions.Action.TheVariants.{Keep, Apart, Compose, Split}
 use Rattle.script_hangul.specs.Jamo.{is_tone}
 use Rattle.script_hangul.specs.Actions.{action_on, has_character}
-use Rattle.script_hangul.specs.Steps.{Step, DOTTED_CIRCLE, before_syllable, circled, has_no_width, kept, letters_from, parted, performed, put_before, toned, with_circle}
-use Rattle.script_hangul.specs.Hangul.{character_at, events_behind, step, step_by, syllables_formed, text_behind, wants_circles}
-use Rattle.script_hangul.specs.Stepped.{Passes, Stepped}
+use Rattle.script_hangul.specs.Steps.{Step, DOTTED_CIRCLE, before_syllable, circle_beside, has_no_width, keep_step, letters_from, letters_of_first, step_of, with_tone_first, tone_step, with_circle}
+use Rattle.script_hangul.specs.Hangul.{character_at, events_after, step, step_by, syllables_formed, text_after, wants_circles}
+use Rattle.script_hangul.specs.Stepped.{Passes, IsStepped}
 use Rattle.buffer_stages.proofs.Lemmas.Fitting.{limit_same, written_exceed, written_fit}
 
 -- the output and input together are what the whole walk makes
 pub record IsUnderway (font : FaceParts) (circles : Bool) (left start : ℕ) (s t : Sides) : Type 0 where
   pub events : List Event
-  pub walked : Walked (strip t.behind) (strip t.ahead) events s t
-  pub items : text_behind font circles left start (strip t.behind) (strip t.ahead) ≡ text_behind font circles (length (items_of s)) 0 [] (items_of s)
-  pub whole : events ++ events_behind font circles s.level left start (strip t.behind) (strip t.ahead) ≡ events_behind font circles s.level (length (items_of s)) 0 [] (items_of s)
+  pub walked : HasWalked (strip t.behind) (strip t.ahead) events s t
+  pub items : text_after font circles left start (strip t.behind) (strip t.ahead) ≡ text_after font circles (length (items_of s)) 0 [] (items_of s)
+  pub whole : events ++ events_after font circles s.level left start (strip t.behind) (strip t.ahead) ≡ events_after font circles s.level (length (items_of s)) 0 [] (items_of s)
   pub few : length t.ahead ≤ left
 
 pub begun : (font : FaceParts) (circles : Bool) (n : ℕ) (s : Sides) → length (all_glyphs s) ≡ n → IsUnderway font circles n 0 (with_output s) (with_output s)
@@ -38,13 +38,13 @@ begun font circles n s e =
     record {
       events = [];
       walked = nothing_walked (with_output s) refl;
-      items = ap (λ k. text_behind font circles k 0 [] (items_of s)) (sym same);
-      whole = ap (λ k. events_behind font circles s.level k 0 [] (items_of s)) (sym same);
+      items = ap (λ k. text_after font circles k 0 [] (items_of s)) (sym same);
+      whole = ap (λ k. events_after font circles s.level k 0 [] (items_of s)) (sym same);
       few = omega (arith, e);
     }
 
 -- a step more
-stepped_more : (font : FaceParts) (circles : Bool) (k start n : ℕ) (s t u : Sides) → IsUnderway font circles (suc k) start s t → 0 < length t.ahead → Stepped (step font circles start (strip t.behind) (strip t.ahead)) n t u → IsUnderway font circles k n s u
+stepped_more : (font : FaceParts) (circles : Bool) (k start n : ℕ) (s t u : Sides) → IsUnderway font circles (suc k) start s t → 0 < length t.ahead → IsStepped (step font circles start (strip t.behind) (strip t.ahead)) n t u → IsUnderway font circles k n s u
 stepped_more font circles k start n s t u h some d = by_ahead t.ahead refl
   where
     by_ahead : (gs : List hb_glyph_info_t) → t.ahead ≡ gs → IsUnderway font circles k n s u
@@ -54,8 +54,8 @@ stepped_more font circles k start n s t u h some d = by_ahead t.ahead refl
         let xs = item_of g ∷ strip gs in
         let seen : strip t.ahead ≡ xs = ap strip e in
         let p : Step = step font circles start bs xs in
-        let d' : Stepped p n t u = subst (λ ys. Stepped (step font circles start bs ys) n t u) seen d in
-        let w : Walked p.out (drop (p.more + 1) (strip t.ahead)) (p.events t.level) t u = d'.walked in
+        let d' : IsStepped p n t u = subst (λ ys. IsStepped (step font circles start bs ys) n t u) seen d in
+        let w : HasWalked p.out (drop (p.more + 1) (strip t.ahead)) (p.events t.level) t u = d'.walked in
         let level : t.level ≡ s.level = ap (λ (st : Settings). st.level) h.walked.settings in
         let both = both_walked bs (strip t.ahead) p.out (drop (p.more + 1) (strip t.ahead)) h.events (p.events t.level) s t u h.walked w in
         let rest : strip u.ahead ≡ drop (p.more + 1) xs = w.ahead ∙ ap (drop (p.more + 1)) seen in
@@ -67,16 +67,16 @@ stepped_more font circles k start n s t u h some d = by_ahead t.ahead refl
         let few = h.few in
         record {
           events = h.events ++ p.events s.level;
-          walked = subst (λ fs. Walked (strip u.behind) (strip u.ahead) fs s u) es (record { behind = refl; ahead = refl; happened = both.happened; view = both.view; settings = both.settings; opened = both.opened; unrefused = both.unrefused });
+          walked = subst (λ fs. HasWalked (strip u.behind) (strip u.ahead) fs s u) es (record { behind = refl; ahead = refl; happened = both.happened; view = both.view; settings = both.settings; opened = both.opened; unrefused = both.unrefused });
           items =
-              ap (λ m. text_behind font circles k m (strip u.behind) (strip u.ahead)) d'.start ∙ ap (λ o. text_behind font circles k p.start o (strip u.ahead)) w.behind ∙ ap (text_behind font circles k p.start p.out) rest
-              ∙ ap (text_behind font circles (suc k) start bs) (sym seen) ∙ h.items;
+              ap (λ m. text_after font circles k m (strip u.behind) (strip u.ahead)) d'.start ∙ ap (λ o. text_after font circles k p.start o (strip u.ahead)) w.behind ∙ ap (text_after font circles k p.start p.out) rest
+              ∙ ap (text_after font circles (suc k) start bs) (sym seen) ∙ h.items;
           whole =
-              append_assoc h.events (p.events s.level) (events_behind font circles s.level k n (strip u.behind) (strip u.ahead))
-              ∙ ap (λ m. h.events ++ (p.events s.level ++ events_behind font circles s.level k m (strip u.behind) (strip u.ahead))) d'.start
-              ∙ ap (λ o. h.events ++ (p.events s.level ++ events_behind font circles s.level k p.start o (strip u.ahead))) w.behind
-              ∙ ap (λ r. h.events ++ (p.events s.level ++ events_behind font circles s.level k p.start p.out r)) rest
-              ∙ ap (λ r. h.events ++ events_behind font circles s.level (suc k) start bs r) (sym seen) ∙ h.whole;
+              append_assoc h.events (p.events s.level) (events_after font circles s.level k n (strip u.behind) (strip u.ahead))
+              ∙ ap (λ m. h.events ++ (p.events s.level ++ events_after font circles s.level k m (strip u.behind) (strip u.ahead))) d'.start
+              ∙ ap (λ o. h.events ++ (p.events s.level ++ events_after font circles s.level k p.start o (strip u.ahead))) w.behind
+              ∙ ap (λ r. h.events ++ (p.events s.level ++ events_after font circles s.level k p.start p.out r)) rest
+              ∙ ap (λ r. h.events ++ events_after font circles s.level (suc k) start bs r) (sym seen) ∙ h.whole;
           few = omega (arith, fewer, a, b, c, few, some);
         }
 
@@ -91,8 +91,8 @@ still_more font circles k start s t h none = by_ahead t.ahead refl
         record {
           events = h.events;
           walked = h.walked;
-          items = ap (text_behind font circles k start (strip t.behind)) seen ∙ ap (text_behind font circles (suc k) start (strip t.behind)) (sym seen) ∙ h.items;
-          whole = ap (λ r. h.events ++ events_behind font circles s.level k start (strip t.behind) r) seen ∙ ap (λ r. h.events ++ events_behind font circles s.level (suc k) start (strip t.behind) r) (sym seen) ∙ h.whole;
+          items = ap (text_after font circles k start (strip t.behind)) seen ∙ ap (text_after font circles (suc k) start (strip t.behind)) (sym seen) ∙ h.items;
+          whole = ap (λ r. h.events ++ events_after font circles s.level k start (strip t.behind) r) seen ∙ ap (λ r. h.events ++ events_after font circles s.level (suc k) start (strip t.behind) r) (sym seen) ∙ h.whole;
           few = omega (arith, none);
         }
 
@@ -107,37 +107,37 @@ more font circles (suc k) start n s t u lt h (inr p) =
 
 -- all steps
 all_walked : (font : FaceParts) (circles : Bool) (start : ℕ) (s t : Sides) → IsUnderway font circles 0 start s t
-    → Walked (text_behind font circles (length (items_of s)) 0 [] (items_of s)) [] (events_behind font circles s.level (length (items_of s)) 0 [] (items_of s)) s t
+    → HasWalked (text_after font circles (length (items_of s)) 0 [] (items_of s)) [] (events_after font circles s.level (length (items_of s)) 0 [] (items_of s)) s t
 all_walked font circles start s t h = by_ahead t.ahead refl
   where
-    by_ahead : (gs : List hb_glyph_info_t) → t.ahead ≡ gs → Walked (text_behind font circles (length (items_of s)) 0 [] (items_of s)) [] (events_behind font circles s.level (length (items_of s)) 0 [] (items_of s)) s t
+    by_ahead : (gs : List hb_glyph_info_t) → t.ahead ≡ gs → HasWalked (text_after font circles (length (items_of s)) 0 [] (items_of s)) [] (events_after font circles s.level (length (items_of s)) 0 [] (items_of s)) s t
     by_ahead (g ∷ gs) e = absurd (let some = ap (λ (ys : List hb_glyph_info_t). length ys) e in let c = h.few in omega (arith, some, c))
     by_ahead [] e =
         let none : strip t.ahead ≡ [] = ap strip e in
         let w = h.walked in
-        let out = ap (text_behind font circles 0 start (strip t.behind)) (sym none) ∙ h.items in
-        let es = sym (append-nil h.events) ∙ ap (λ r. h.events ++ events_behind font circles s.level 0 start (strip t.behind) r) (sym none) ∙ h.whole in
-        subst (λ fs. Walked (text_behind font circles (length (items_of s)) 0 [] (items_of s)) [] fs s t) es
+        let out = ap (text_after font circles 0 start (strip t.behind)) (sym none) ∙ h.items in
+        let es = sym (append-nil h.events) ∙ ap (λ r. h.events ++ events_after font circles s.level 0 start (strip t.behind) r) (sym none) ∙ h.whole in
+        subst (λ fs. HasWalked (text_after font circles (length (items_of s)) 0 [] (items_of s)) [] fs s t) es
         (record { behind = out; ahead = none; happened = w.happened; view = w.view; settings = w.settings; opened = w.opened; unrefused = w.unrefused })
 
 -- the text that comes of a buffer
 abbrev formed : FaceParts → BufferFlags → Sides → List Item
-formed font flags s = text_behind font (wants_circles flags) (length (items_of s)) 0 [] (items_of s)
+formed font flags s = text_after font (wants_circles flags) (length (items_of s)) 0 [] (items_of s)
 
-pub text_followed : (font : FaceParts) (flags : BufferFlags) (start : ℕ) (s t new : Sides) → IsReady s → IsUnderway font (wants_circles flags) 0 start (with_output s) t → fits_joined t ≡ true → new ≡ synced t → IsFollowed (syllables_formed font flags) s new
+pub text_followed : (font : FaceParts) (flags : BufferFlags) (start : ℕ) (s t new : Sides) → IsReady s → IsUnderway font (wants_circles flags) 0 start (with_output s) t → fits_joined t ≡ true → new ≡ after_sync t → IsFollowed (syllables_formed font flags) s new
 text_followed font flags start s t new ready h fits is =
     let w = all_walked font (wants_circles flags) start (with_output s) t h in
     let xs = formed font flags s in
-    let within = written_fit xs (events_behind font (wants_circles flags) s.level (length (items_of s)) 0 [] (items_of s)) s t w fits in
-    walked_followed (syllables_formed font flags) xs (events_behind font (wants_circles flags) s.level (length (items_of s)) 0 [] (items_of s)) (λ level. events_behind font (wants_circles flags) level (length (items_of s)) 0 [] (items_of s)) s t new ready w is (rw within refl) refl
+    let within = written_fit xs (events_after font (wants_circles flags) s.level (length (items_of s)) 0 [] (items_of s)) s t w fits in
+    walked_followed (syllables_formed font flags) xs (events_after font (wants_circles flags) s.level (length (items_of s)) 0 [] (items_of s)) (λ level. events_after font (wants_circles flags) level (length (items_of s)) 0 [] (items_of s)) s t new ready w is (rw within refl) refl
 
 pub text_too_long : (font : FaceParts) (flags : BufferFlags) (start : ℕ) (e : ShapeCause) (s t : Sides) → IsReady s → IsUnderway font (wants_circles flags) 0 start (with_output s) t → (e ≢ OutOfMemory → (e ≡ TooLong) × (fits_joined t ≡ false)) → e ≢ OutOfMemory
-    → read_of (syllables_formed font flags) (run_of s) ≡ Err e
+    → reading_of (syllables_formed font flags) (state_of s) ≡ Err e
 text_too_long font flags start e s t ready h over other =
     let w = all_walked font (wants_circles flags) start (with_output s) t h in
     let xs = formed font flags s in
     let o = over other in
-    let within = written_exceed xs (events_behind font (wants_circles flags) s.level (length (items_of s)) 0 [] (items_of s)) s t ready w o.1 in
+    let within = written_exceed xs (events_after font (wants_circles flags) s.level (length (items_of s)) 0 [] (items_of s)) s t ready w o.1 in
     rw within (ap Err (sym o.0))
 
 -- ---- no step makes a text shorter
@@ -152,13 +152,13 @@ grows_if out false p q h k = k
 longer : (out xs : List Item) → length out ≤ length (out ++ xs)
 longer out xs = let a = length-append out xs in omega (arith, a)
 
-performed_grows : (a : Action) (out xs : List Item) → Grows out (performed a out xs)
+performed_grows : (a : Action) (out xs : List Item) → Grows out (step_of a out xs)
 performed_grows (Keep whole) out xs = longer out (take 1 xs)
 performed_grows (Apart n) out xs = longer out (letters_from 1 (take n xs))
 performed_grows (Compose n u) out xs = longer out (renumbered_first u xs)
-performed_grows (Split letters joins) out xs = longer out (letters_from 1 (parted letters xs ++ take (if joins then 1 else 0) (drop 1 xs)))
+performed_grows (Split letters joins) out xs = longer out (letters_from 1 (letters_of_first letters xs ++ take (if joins then 1 else 0) (drop 1 xs)))
 
-before_grows : (start : ℕ) (out xs : List Item) → length out ≤ length (put_before start out xs)
+before_grows : (start : ℕ) (out xs : List Item) → length out ≤ length (with_tone_first start out xs)
 before_grows start out xs =
     let a = length-append (take start out) (take 1 xs ++ drop start out) in
     let b = length-append (take 1 xs) (drop start out) in
@@ -171,19 +171,19 @@ before_grows start out xs =
     cut (suc i) [] = refl
     cut (suc i) (y ∷ ys) = ap (λ zs. y ∷ zs) (cut i ys)
 
-toned_grows : (font : FaceParts) (circles : Bool) (start u : ℕ) (out xs : List Item) → Grows out (toned font circles start u out xs)
+toned_grows : (font : FaceParts) (circles : Bool) (start u : ℕ) (out xs : List Item) → Grows out (tone_step font circles start u out xs)
 toned_grows font circles start u out xs =
-    let stays : Grows out (kept false out xs) = longer out (take 1 xs) in
-    grows_if out (nat_lt start (length out)) (if has_no_width font u then kept false out xs else before_syllable start out xs) (if circles && has_character font DOTTED_CIRCLE then with_circle (has_no_width font u) out xs else kept false out xs)
-    (grows_if out (has_no_width font u) (kept false out xs) (before_syllable start out xs) stays (before_grows start out xs))
-    (grows_if out (circles && has_character font DOTTED_CIRCLE) (with_circle (has_no_width font u) out xs) (kept false out xs) (longer out (circled (has_no_width font u) xs)) stays)
+    let stays : Grows out (keep_step false out xs) = longer out (take 1 xs) in
+    grows_if out (nat_lt start (length out)) (if has_no_width font u then keep_step false out xs else before_syllable start out xs) (if circles && has_character font DOTTED_CIRCLE then with_circle (has_no_width font u) out xs else keep_step false out xs)
+    (grows_if out (has_no_width font u) (keep_step false out xs) (before_syllable start out xs) stays (before_grows start out xs))
+    (grows_if out (circles && has_character font DOTTED_CIRCLE) (with_circle (has_no_width font u) out xs) (keep_step false out xs) (longer out (circle_beside (has_no_width font u) xs)) stays)
 
 step_by_grows : (font : FaceParts) (circles : Bool) (start : ℕ) (o : Option ℕ) (out xs : List Item) → Grows out (step_by font circles start o out xs)
 step_by_grows font circles start None out xs = longer out (take 1 xs)
 step_by_grows font circles start (Some u) out xs =
-    grows_if out (is_tone u) (toned font circles start u out xs) (performed (action_on font u (character_at 1 xs) (character_at 2 xs)) out xs) (toned_grows font circles start u out xs) (performed_grows (action_on font u (character_at 1 xs) (character_at 2 xs)) out xs)
+    grows_if out (is_tone u) (tone_step font circles start u out xs) (step_of (action_on font u (character_at 1 xs) (character_at 2 xs)) out xs) (toned_grows font circles start u out xs) (performed_grows (action_on font u (character_at 1 xs) (character_at 2 xs)) out xs)
 
-text_grows : (font : FaceParts) (circles : Bool) (k start : ℕ) (out xs : List Item) → length out ≤ length (text_behind font circles k start out xs)
+text_grows : (font : FaceParts) (circles : Bool) (k start : ℕ) (out xs : List Item) → length out ≤ length (text_after font circles k start out xs)
 text_grows font circles k start out [] = omega arith
 text_grows font circles zero start out (x ∷ xs) = omega arith
 text_grows font circles (suc k) start out (x ∷ xs) =
@@ -193,13 +193,13 @@ text_grows font circles (suc k) start out (x ∷ xs) =
     omega (arith, a, b)
 
 -- what comes of a step is part of what comes of all
-step_within : (font : FaceParts) (circles : Bool) (k start : ℕ) (out xs : List Item) → length (step font circles start out xs).out ≤ length (text_behind font circles (suc k) start out xs)
+step_within : (font : FaceParts) (circles : Bool) (k start : ℕ) (out xs : List Item) → length (step font circles start out xs).out ≤ length (text_after font circles (suc k) start out xs)
 step_within font circles k start out [] = let a = length-append out (take 1 []) in omega (arith, a)
 step_within font circles k start out (x ∷ xs) = let p : Step = step font circles start out (x ∷ xs) in text_grows font circles k p.start p.out (drop (p.more + 1) (x ∷ xs))
 
 -- a step that was too long
 pub too_long : (font : FaceParts) (flags : BufferFlags) (left start : ℕ) (e : ShapeCause) (s t : Sides) → 0 < left → IsUnderway font (wants_circles flags) left start (with_output s) t
-    → Exceeds (length (step font (wants_circles flags) start (strip t.behind) (strip t.ahead)).out) e t → e ≢ OutOfMemory → read_of (syllables_formed font flags) (run_of s) ≡ Err e
+    → RefusesLength (length (step font (wants_circles flags) start (strip t.behind) (strip t.ahead)).out) e t → e ≢ OutOfMemory → reading_of (syllables_formed font flags) (state_of s) ≡ Err e
 too_long font flags zero start e s t lt h over other = absurd (omega (arith, lt))
 too_long font flags (suc k) start e s t lt h over other =
     let o = over other in

@@ -34,13 +34,13 @@ leading_action font l None t = Keep false
 leading_action font l (Some v) t = if is_vowel v then letters_action font (whole_of l v t) (if is_some t then 3 else 2) else Keep false
 
 -- the action on a syllable by its jamo: decomposed where the font has them all, else kept
-abbrev pub split_by : FaceParts → ℕ → Bool → Option Letters → Action
-split_by font u joins None = Keep (has_character font u)
-split_by font u joins (Some letters) = if has_letters font letters then Split letters joins else Keep (has_character font u)
+abbrev pub split_action_of : FaceParts → ℕ → Bool → Option Letters → Action
+split_action_of font u joins None = Keep (has_character font u)
+split_action_of font u joins (Some letters) = if has_letters font letters then Split letters joins else Keep (has_character font u)
 
 -- the action that decomposes a syllable where the font has all its jamo
 abbrev pub split_action : FaceParts → ℕ → Bool → Action
-split_action font u joins = split_by font u joins (letters_of u)
+split_action font u joins = split_action_of font u joins (letters_of u)
 
 -- the action on a syllable by its jamo: one of two jamo is decomposed for the trailing consonant, any other is kept
 abbrev pub open_by : FaceParts → ℕ → Option Letters → Action

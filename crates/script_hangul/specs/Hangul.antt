@@ -12,7 +12,7 @@ use Rattle.buffer_core.specs.Readings.{Stage}
 use Rattle.buffer_core.specs.Sides.{zero_positions}
 use Rattle.script_hangul.specs.Jamo.{is_tone}
 use Rattle.script_hangul.specs.Actions.{action_on}
-use Rattle.script_hangul.specs.Steps.{Step, kept, performed, toned}
+use Rattle.script_hangul.specs.Steps.{Step, keep_step, step_of, tone_step}
 
 -- DO_NOT_INSERT_DOTTED_CIRCLE is not set
 abbrev pub wants_circles : BufferFlags → Bool
@@ -34,34 +34,34 @@ character_at i xs = character_by (slice_get xs i)
 -- the step at the next characters, by the first of them, after a text that ends with a syllable from an index on, or
 -- with none
 abbrev pub step_by : FaceParts → Bool → ℕ → Option ℕ → List Item → List Item → Step
-step_by font circles n None out xs = kept false out xs
-step_by font circles n (Some u) out xs = if is_tone u then toned font circles n u out xs else performed (action_on font u (character_at 1 xs) (character_at 2 xs)) out xs
+step_by font circles n None out xs = keep_step false out xs
+step_by font circles n (Some u) out xs = if is_tone u then tone_step font circles n u out xs else step_of (action_on font u (character_at 1 xs) (character_at 2 xs)) out xs
 
 -- the step at the next characters of a text
 abbrev pub step : FaceParts → Bool → ℕ → List Item → List Item → Step
 step font circles n out xs = step_by font circles n (character_at 0 xs) out xs
 
 -- the text after that many steps at most, by the text before and the rest
-abbrev pub text_behind : FaceParts → Bool → ℕ → ℕ → List Item → List Item → List Item
-text_behind font circles steps n out [] = out
-text_behind font circles zero n out (x ∷ xs) = out
-text_behind font circles (suc steps) n out (x ∷ xs) =
+abbrev pub text_after : FaceParts → Bool → ℕ → ℕ → List Item → List Item → List Item
+text_after font circles steps n out [] = out
+text_after font circles zero n out (x ∷ xs) = out
+text_after font circles (suc steps) n out (x ∷ xs) =
     let s : Step = step font circles n out (x ∷ xs) in
-    text_behind font circles steps s.start s.out (drop (s.more + 1) (x ∷ xs))
+    text_after font circles steps s.start s.out (drop (s.more + 1) (x ∷ xs))
 
 -- the events of that many steps at most
-abbrev pub events_behind : FaceParts → Bool → BufferClusterLevel → ℕ → ℕ → List Item → List Item → List Event
-events_behind font circles level steps n out [] = []
-events_behind font circles level zero n out (x ∷ xs) = []
-events_behind font circles level (suc steps) n out (x ∷ xs) =
+abbrev pub events_after : FaceParts → Bool → BufferClusterLevel → ℕ → ℕ → List Item → List Item → List Event
+events_after font circles level steps n out [] = []
+events_after font circles level zero n out (x ∷ xs) = []
+events_after font circles level (suc steps) n out (x ∷ xs) =
     let s : Step = step font circles n out (x ∷ xs) in
-    s.events level ++ events_behind font circles level steps s.start s.out (drop (s.more + 1) (x ∷ xs))
+    s.events level ++ events_after font circles level steps s.start s.out (drop (s.more + 1) (x ∷ xs))
 
 -- the stage of a Hangul text, where the result is within the limit; each step consumes an item, so as many steps as
 -- items are enough
 abbrev pub syllables_formed : FaceParts → BufferFlags → Stage
 syllables_formed font flags v =
-    let xs : List Item = text_behind font (wants_circles flags) (length v.items) 0 [] v.items in
+    let xs : List Item = text_after font (wants_circles flags) (length v.items) 0 [] v.items in
     if nat_le (length xs) v.max_len
-    then Ok (record { view = record v { items = xs; positions = zero_positions (length xs) }; events = λ level. events_behind font (wants_circles flags) level (length v.items) 0 [] v.items })
+    then Ok (record { view = record v { items = xs; positions = zero_positions (length xs) }; events = λ level. events_after font (wants_circles flags) level (length v.items) 0 [] v.items })
     else Err TooLong

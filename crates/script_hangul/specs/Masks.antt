@@ -10,8 +10,8 @@ abbrev pub mask_of : JamoMasks → ℕ → ℕ
 mask_of masks n = if n == 1 then masks.ljmo else if n == 2 then masks.vjmo else if n == 3 then masks.tjmo else 0
 
 -- an item with the mask of its jamo feature
-abbrev pub with_place_mask : JamoMasks → Item → Item
-with_place_mask masks x = record x { mask = without_flags (bit_or x.mask (mask_of masks x.auxiliary)) }
+abbrev pub with_letter_mask : JamoMasks → Item → Item
+with_letter_mask masks x = record x { mask = without_flags (bit_or x.mask (mask_of masks x.auxiliary)) }
 
 -- no mask has a glyph flag's bit
 pub record AreFlagless (masks : JamoMasks) : Type 0 where

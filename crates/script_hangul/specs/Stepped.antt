@@ -3,7 +3,7 @@ use Rattle.std.specs.Prelude.{ℕ, ◌≡◌, ◌<◌, ◌⊎◌, ◌+◌, ◌&&
 use Rattle.buffer_glyphs.specs.declared.cause.ShapeCause.{ShapeCause}
 use Rattle.buffer_glyphs.specs.Items.{strip}
 use Rattle.buffer_core.specs.Sides.{Sides}
-use Rattle.buffer_stages.specs.Walks.{Exceeds, Walked}
+use Rattle.buffer_stages.specs.Walks.{RefusesLength, HasWalked}
 use Rattle.script_hangul.specs.declared.jamo.Letters.{Letters}
 use Rattle.script_hangul.specs.declared.jamo.Letters.TheVariants.{Two, Three}
 use Rattle.script_hangul.specs.declared.actions.Action.{Action}
@@ -13,13 +13,13 @@ use Rattle.script_hangul.specs.Steps.{Step}
 use Rattle.script_hangul.specs.Hangul.{step}
 
 -- a step was made, and the call returns the start of the syllable that ends the text
-pub record Stepped (s : Step) (n : ℕ) (old new : Sides) : Type 0 where
-  pub walked : Walked s.out (drop (s.more + 1) (strip old.ahead)) (s.events old.level) old new
+pub record IsStepped (s : Step) (n : ℕ) (old new : Sides) : Type 0 where
+  pub walked : HasWalked s.out (drop (s.more + 1) (strip old.ahead)) (s.events old.level) old new
   pub start : n ≡ s.start
 
 -- the step fails for lack of memory, or because its result is too long
 abbrev pub Refuses : Step → ShapeCause → Sides → Type 0
-Refuses s e old = Exceeds (length s.out) e old
+Refuses s e old = RefusesLength (length s.out) e old
 
 -- a syllable has two jamo
 abbrev pub is_two : Letters → Bool
@@ -27,12 +27,12 @@ is_two (Two l v) = true
 is_two (Three l v t) = false
 
 -- the input has the items that an action takes: two or three jamo that stay apart, and the consonant that joins two
-abbrev pub fits_ahead : Action → ℕ → Bool
-fits_ahead (Keep whole) n = nat_lt 0 n
-fits_ahead (Apart k) n = nat_le 2 k && nat_le k 3 && nat_le k n
-fits_ahead (Compose k u) n = nat_lt 0 k && nat_le k n
-fits_ahead (Split letters joins) n = if joins then nat_lt 1 n && is_two letters else nat_lt 0 n
+abbrev pub fits_rest : Action → ℕ → Bool
+fits_rest (Keep whole) n = nat_lt 0 n
+fits_rest (Apart k) n = nat_le 2 k && nat_le k 3 && nat_le k n
+fits_rest (Compose k u) n = nat_lt 0 k && nat_le k n
+fits_rest (Split letters joins) n = if joins then nat_lt 1 n && is_two letters else nat_lt 0 n
 
 -- a step was made where there is an input item, and nothing changed where there is none
 abbrev pub Passes : FaceParts → Bool → ℕ → ℕ → Sides → Sides → Type 0
-Passes font circles start n old new = ((length old.ahead ≡ 0) × ((n ≡ start) × (new ≡ old))) ⊎ ((0 < length old.ahead) × Stepped (step font circles start (strip old.behind) (strip old.ahead)) n old new)
+Passes font circles start n old new = ((length old.ahead ≡ 0) × ((n ≡ start) × (new ≡ old))) ⊎ ((0 < length old.ahead) × IsStepped (step font circles start (strip old.behind) (strip old.ahead)) n old new)

@@ -1,14 +1,14 @@
 //! The Hangul shaper's preprocess_text (rustybuzz: hb/ot_shaper_hangul.rs).
 ghost use Rattle.std.specs.Prelude.{◌≡◌, ◌≢◌, ◌<◌, ◌≤◌, true, false, length, IfOk, OnOk, IfErr, Err};
 ghost use Rattle.buffer_glyphs.specs.Items.{strip};
-ghost use Rattle.buffer_core.specs.Readings.{read_of};
-ghost use Rattle.buffer_core.specs.Sides.{run_of};
+ghost use Rattle.buffer_core.specs.Readings.{reading_of};
+ghost use Rattle.buffer_core.specs.Sides.{state_of};
 ghost use Rattle.buffer_stages.specs.Ready.{IsReady};
 ghost use Rattle.script_hangul.specs.Actions.{action_on};
-ghost use Rattle.script_hangul.specs.Steps.{performed};
+ghost use Rattle.script_hangul.specs.Steps.{step_of};
 ghost use Rattle.script_hangul.specs.Hangul.{character_at, step, syllables_formed, wants_circles};
-ghost use Rattle.script_hangul.specs.Stepped.{Passes, Refuses, Stepped};
-ghost use Rattle.buffer_stages.specs.Walks.{Exceeds};
+ghost use Rattle.script_hangul.specs.Stepped.{Passes, Refuses, IsStepped};
+ghost use Rattle.buffer_stages.specs.Walks.{RefusesLength};
 ghost use Rattle.buffer_stages.specs.Stages.{IsFollowed};
 
 use crate::actions::action_on;
@@ -33,7 +33,7 @@ pub fn preprocess_text(face: &Face, buffer: &mut hb_buffer_t) -> Result<(), Shap
     requires ready { IsReady buffer.old }
     ensures ok { OnOk result (IsFollowed (syllables_formed face.now buffer.old.flags) buffer.old buffer.new) }
     ensures err { IfErr result (λ e. e ≢ ShapeCause.OutOfMemory
-        → read_of (syllables_formed face.now buffer.old.flags) (run_of buffer.old) ≡ Err e) }
+        → reading_of (syllables_formed face.now buffer.old.flags) (state_of buffer.old) ≡ Err e) }
 {
     let circles = wants_circles(buffer.flags());
     let count = buffer.len();
@@ -62,7 +62,7 @@ fn pass(
 ) -> Result<usize, ShapeCause>
     requires open { buffer.old.is_open ≡ true }
     ensures ok { IfOk result (λ n. Passes face.now circles start n buffer.old buffer.new) }
-    ensures err { IfErr result (λ e. Exceeds (length (step face.now circles start (strip buffer.old.behind)
+    ensures err { IfErr result (λ e. RefusesLength (length (step face.now circles start (strip buffer.old.behind)
         (strip buffer.old.ahead)).out) e buffer.old) }
 {
     if buffer.lookahead_len() == 0 {
@@ -81,7 +81,7 @@ fn pass_next(
 ) -> Result<usize, ShapeCause>
     requires open { buffer.old.is_open ≡ true }
     requires there { 0 < length buffer.old.ahead }
-    ensures ok { IfOk result (λ n. Stepped (step face.now circles start (strip buffer.old.behind)
+    ensures ok { IfOk result (λ n. IsStepped (step face.now circles start (strip buffer.old.behind)
         (strip buffer.old.ahead)) n buffer.old buffer.new) }
     ensures err { IfErr result (λ e. Refuses (step face.now circles start (strip buffer.old.behind)
         (strip buffer.old.ahead)) e buffer.old) }
@@ -101,10 +101,10 @@ fn pass_next(
 fn pass_other(face: &Face, u: char, buffer: &mut hb_buffer_t) -> Result<usize, ShapeCause>
     requires open { buffer.old.is_open ≡ true }
     requires there { 0 < length buffer.old.ahead }
-    ensures ok { IfOk result (λ n. Stepped (performed (action_on face.now u (character_at 1 (strip buffer.old.ahead))
+    ensures ok { IfOk result (λ n. IsStepped (step_of (action_on face.now u (character_at 1 (strip buffer.old.ahead))
         (character_at 2 (strip buffer.old.ahead))) (strip buffer.old.behind) (strip buffer.old.ahead)) n buffer.old
         buffer.new) }
-    ensures err { IfErr result (λ e. Refuses (performed (action_on face.now u (character_at 1 (strip buffer.old.ahead))
+    ensures err { IfErr result (λ e. Refuses (step_of (action_on face.now u (character_at 1 (strip buffer.old.ahead))
         (character_at 2 (strip buffer.old.ahead))) (strip buffer.old.behind) (strip buffer.old.ahead)) e buffer.old) }
 {
     let second = character_at(1, buffer);

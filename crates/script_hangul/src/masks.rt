@@ -5,8 +5,8 @@ ghost use Rattle.buffer_glyphs.specs.Items.{item_of};
 ghost use Rattle.buffer_glyphs.specs.Origins.{origin_of};
 ghost use Rattle.buffer_core.specs.Readings.{always};
 ghost use Rattle.buffer_stages.specs.Ready.{IsReady};
-ghost use Rattle.script_hangul.specs.Masks.{AreFlagless, mask_of, with_place_mask};
-ghost use Rattle.buffer_stages.specs.Stages.{IsFollowed, mapped};
+ghost use Rattle.script_hangul.specs.Masks.{AreFlagless, mask_of, with_letter_mask};
+ghost use Rattle.buffer_stages.specs.Stages.{IsFollowed, with_items_mapped};
 
 use crate::performing::{LJMO, TJMO, VJMO};
 use buffer_core::buffer::hb_buffer_t;
@@ -25,7 +25,7 @@ pub struct JamoMasks {
 pub fn setup_masks(masks: &JamoMasks, buffer: &mut hb_buffer_t)
     requires ready { IsReady buffer.old }
     requires flagless { AreFlagless masks.now }
-    ensures { IsFollowed (always (mapped (with_place_mask masks.now))) buffer.old buffer.new }
+    ensures { IsFollowed (always (with_items_mapped (with_letter_mask masks.now))) buffer.old buffer.new }
 {
     map_glyphs(buffer, |glyph| with_place_mask(masks, glyph));
 }
@@ -34,7 +34,7 @@ pub fn setup_masks(masks: &JamoMasks, buffer: &mut hb_buffer_t)
 #[tactic(auto, using(crate::proofs::Masked::masked_item, crate::proofs::Masked::masked_origin))]
 fn with_place_mask(masks: &JamoMasks, glyph: &hb_glyph_info_t) -> hb_glyph_info_t
     requires flagless { AreFlagless masks.now }
-    ensures item { item_of result ≡ with_place_mask masks.now (item_of glyph.now) }
+    ensures item { item_of result ≡ with_letter_mask masks.now (item_of glyph.now) }
     ensures origin { origin_of result ≡ origin_of glyph.now }
 {
     hb_glyph_info_t {

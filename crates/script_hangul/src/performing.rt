@@ -4,9 +4,9 @@ ghost use Rattle.buffer_glyphs.specs.Items.{item_of, strip};
 ghost use Rattle.buffer_glyphs.specs.Origins.{origin_of};
 ghost use Rattle.buffer_glyphs.specs.Replacements.{item_numbered};
 ghost use Rattle.buffer_glyphs.specs.Events.{Replace};
-ghost use Rattle.script_hangul.specs.Steps.{apart, composed, grapheme_merged, kept, letters_from, numbers_of, parted, performed, placed, split};
-ghost use Rattle.script_hangul.specs.Stepped.{Refuses, Stepped, fits_ahead};
-ghost use Rattle.buffer_stages.specs.Walks.{Exceeds, Walked};
+ghost use Rattle.script_hangul.specs.Steps.{apart_step, compose_step, grapheme_merged, keep_step, letters_from, numbers_of, letters_of_first, step_of, numbered_letter, split_step};
+ghost use Rattle.script_hangul.specs.Stepped.{Refuses, IsStepped, fits_rest};
+ghost use Rattle.buffer_stages.specs.Walks.{RefusesLength, HasWalked};
 
 use crate::actions::Action;
 use crate::jamo::Letters;
@@ -29,10 +29,10 @@ pub const TJMO: u8 = 3;
 /// a tone mark may follow, or the output's length.
 pub(crate) fn perform(action: Action, buffer: &mut hb_buffer_t) -> Result<usize, ShapeCause>
     requires open { buffer.old.is_open ≡ true }
-    requires there { fits_ahead action (length buffer.old.ahead) ≡ true }
-    ensures ok { IfOk result (λ n. Stepped (performed action (strip buffer.old.behind) (strip buffer.old.ahead)) n
+    requires there { fits_rest action (length buffer.old.ahead) ≡ true }
+    ensures ok { IfOk result (λ n. IsStepped (step_of action (strip buffer.old.behind) (strip buffer.old.ahead)) n
         buffer.old buffer.new) }
-    ensures err { IfErr result (λ e. Refuses (performed action (strip buffer.old.behind) (strip buffer.old.ahead)) e
+    ensures err { IfErr result (λ e. Refuses (step_of action (strip buffer.old.behind) (strip buffer.old.ahead)) e
         buffer.old) }
 {
     match action {
@@ -47,9 +47,9 @@ pub(crate) fn perform(action: Action, buffer: &mut hb_buffer_t) -> Result<usize,
 pub(crate) fn keep(is_whole: bool, buffer: &mut hb_buffer_t) -> Result<usize, ShapeCause>
     requires open { buffer.old.is_open ≡ true }
     requires there { 0 < length buffer.old.ahead }
-    ensures ok { IfOk result (λ n. Stepped (kept is_whole (strip buffer.old.behind) (strip buffer.old.ahead)) n
+    ensures ok { IfOk result (λ n. IsStepped (keep_step is_whole (strip buffer.old.behind) (strip buffer.old.ahead)) n
         buffer.old buffer.new) }
-    ensures err { IfErr result (λ e. Refuses (kept is_whole (strip buffer.old.behind) (strip buffer.old.ahead)) e
+    ensures err { IfErr result (λ e. Refuses (keep_step is_whole (strip buffer.old.behind) (strip buffer.old.ahead)) e
         buffer.old) }
 {
     let at = buffer.out_len();
@@ -66,9 +66,9 @@ fn compose(count: usize, u: char, buffer: &mut hb_buffer_t) -> Result<usize, Sha
     requires open { buffer.old.is_open ≡ true }
     requires some { 0 < count }
     requires there { count ≤ length buffer.old.ahead }
-    ensures ok { IfOk result (λ n. Stepped (composed count u (strip buffer.old.behind) (strip buffer.old.ahead)) n
+    ensures ok { IfOk result (λ n. IsStepped (compose_step count u (strip buffer.old.behind) (strip buffer.old.ahead)) n
         buffer.old buffer.new) }
-    ensures err { IfErr result (λ e. Refuses (composed count u (strip buffer.old.behind) (strip buffer.old.ahead)) e
+    ensures err { IfErr result (λ e. Refuses (compose_step count u (strip buffer.old.behind) (strip buffer.old.ahead)) e
         buffer.old) }
 {
     let at = buffer.out_len();
@@ -79,10 +79,10 @@ fn compose(count: usize, u: char, buffer: &mut hb_buffer_t) -> Result<usize, Sha
 /// Outputs two or three jamo as one syllable.
 fn put_apart(count: usize, buffer: &mut hb_buffer_t) -> Result<usize, ShapeCause>
     requires open { buffer.old.is_open ≡ true }
-    requires there { fits_ahead (Action.Apart count) (length buffer.old.ahead) ≡ true }
-    ensures ok { IfOk result (λ n. Stepped (apart count (strip buffer.old.behind) (strip buffer.old.ahead)) n buffer.old
+    requires there { fits_rest (Action.Apart count) (length buffer.old.ahead) ≡ true }
+    ensures ok { IfOk result (λ n. IsStepped (apart_step count (strip buffer.old.behind) (strip buffer.old.ahead)) n buffer.old
         buffer.new) }
-    ensures err { IfErr result (λ e. Refuses (apart count (strip buffer.old.behind) (strip buffer.old.ahead)) e
+    ensures err { IfErr result (λ e. Refuses (apart_step count (strip buffer.old.behind) (strip buffer.old.ahead)) e
         buffer.old) }
 {
     let at = buffer.out_len();
@@ -100,9 +100,9 @@ fn put_apart(count: usize, buffer: &mut hb_buffer_t) -> Result<usize, ShapeCause
 fn put_letter(place: u8, buffer: &mut hb_buffer_t) -> Result<(), ShapeCause>
     requires open { buffer.old.is_open ≡ true }
     requires there { 0 < length buffer.old.ahead }
-    ensures ok { OnOk result (Walked (strip buffer.old.behind ++ letters_from place (take 1 (strip buffer.old.ahead)))
+    ensures ok { OnOk result (HasWalked (strip buffer.old.behind ++ letters_from place (take 1 (strip buffer.old.ahead)))
         (drop 1 (strip buffer.old.ahead)) [] buffer.old buffer.new) }
-    ensures err { IfErr result (λ e. Exceeds (length buffer.old.behind + 1) e buffer.old) }
+    ensures err { IfErr result (λ e. RefusesLength (length buffer.old.behind + 1) e buffer.old) }
 {
     let letter = placed(buffer.cur(0), place);
     advance_as(letter, buffer)?;
@@ -111,7 +111,7 @@ fn put_letter(place: u8, buffer: &mut hb_buffer_t) -> Result<(), ShapeCause>
 
 /// A jamo with its feature.
 fn placed(glyph: &hb_glyph_info_t, place: u8) -> hb_glyph_info_t
-    ensures item { item_of result ≡ placed place (item_of glyph.now) }
+    ensures item { item_of result ≡ numbered_letter place (item_of glyph.now) }
     ensures origin { origin_of result ≡ origin_of glyph.now }
 {
     hb_glyph_info_t {
@@ -122,7 +122,7 @@ fn placed(glyph: &hb_glyph_info_t, place: u8) -> hb_glyph_info_t
 
 /// A jamo of the syllable that a glyph shows, with its feature.
 fn letter_of(glyph: &hb_glyph_info_t, u: char, place: u8) -> hb_glyph_info_t
-    ensures item { item_of result ≡ placed place (item_numbered (item_of glyph.now) u) }
+    ensures item { item_of result ≡ numbered_letter place (item_numbered (item_of glyph.now) u) }
     ensures origin { origin_of result ≡ origin_of glyph.now }
 {
     hb_glyph_info_t {
@@ -136,7 +136,7 @@ fn letter_of(glyph: &hb_glyph_info_t, u: char, place: u8) -> hb_glyph_info_t
 fn merge_grapheme(at: usize, count: usize, buffer: &mut hb_buffer_t)
     requires open { buffer.old.is_open ≡ true }
     requires within { at + count ≡ length buffer.old.behind }
-    ensures { Walked (strip buffer.old.behind) (strip buffer.old.ahead) (grapheme_merged buffer.old.level at count)
+    ensures { HasWalked (strip buffer.old.behind) (strip buffer.old.ahead) (grapheme_merged buffer.old.level at count)
         buffer.old buffer.new }
 {
     let end = buffer.out_len();
@@ -151,9 +151,9 @@ fn put_third(at: usize, buffer: &mut hb_buffer_t) -> Result<(), ShapeCause>
     requires open { buffer.old.is_open ≡ true }
     requires there { 0 < length buffer.old.ahead }
     requires two { at + 2 ≡ length buffer.old.behind }
-    ensures ok { OnOk result (Walked (strip buffer.old.behind ++ letters_from 3 (take 1 (strip buffer.old.ahead)))
+    ensures ok { OnOk result (HasWalked (strip buffer.old.behind ++ letters_from 3 (take 1 (strip buffer.old.ahead)))
         (drop 1 (strip buffer.old.ahead)) (grapheme_merged buffer.old.level at 3) buffer.old buffer.new) }
-    ensures err { IfErr result (λ e. Exceeds (length buffer.old.behind + 1) e buffer.old) }
+    ensures err { IfErr result (λ e. RefusesLength (length buffer.old.behind + 1) e buffer.old) }
 {
     put_letter(TJMO, buffer)?;
     merge_grapheme(at, 3, buffer);
@@ -163,10 +163,10 @@ fn put_third(at: usize, buffer: &mut hb_buffer_t) -> Result<(), ShapeCause>
 /// Decomposes the current syllable into its jamo; a trailing consonant after it joins two of them.
 fn split(letters: Letters, joins: bool, buffer: &mut hb_buffer_t) -> Result<usize, ShapeCause>
     requires open { buffer.old.is_open ≡ true }
-    requires there { fits_ahead (Action.Split letters joins) (length buffer.old.ahead) ≡ true }
-    ensures ok { IfOk result (λ n. Stepped (split letters (if joins then 1 else 0) (strip buffer.old.behind)
+    requires there { fits_rest (Action.Split letters joins) (length buffer.old.ahead) ≡ true }
+    ensures ok { IfOk result (λ n. IsStepped (split_step letters (if joins then 1 else 0) (strip buffer.old.behind)
         (strip buffer.old.ahead)) n buffer.old buffer.new) }
-    ensures err { IfErr result (λ e. Refuses (split letters (if joins then 1 else 0) (strip buffer.old.behind)
+    ensures err { IfErr result (λ e. Refuses (split_step letters (if joins then 1 else 0) (strip buffer.old.behind)
         (strip buffer.old.ahead)) e buffer.old) }
 {
     let at = buffer.out_len();
@@ -184,10 +184,10 @@ fn split(letters: Letters, joins: bool, buffer: &mut hb_buffer_t) -> Result<usiz
 fn put_parts(letters: Letters, buffer: &mut hb_buffer_t) -> Result<(), ShapeCause>
     requires open { buffer.old.is_open ≡ true }
     requires there { 0 < length buffer.old.ahead }
-    ensures ok { OnOk result (Walked (strip buffer.old.behind
-        ++ letters_from 1 (parted letters (strip buffer.old.ahead))) (drop 1 (strip buffer.old.ahead))
+    ensures ok { OnOk result (HasWalked (strip buffer.old.behind
+        ++ letters_from 1 (letters_of_first letters (strip buffer.old.ahead))) (drop 1 (strip buffer.old.ahead))
         (Replace (length buffer.old.behind) 1 (length (numbers_of letters)) ∷ []) buffer.old buffer.new) }
-    ensures err { IfErr result (λ e. Exceeds (length buffer.old.behind + length (numbers_of letters)) e buffer.old) }
+    ensures err { IfErr result (λ e. RefusesLength (length buffer.old.behind + length (numbers_of letters)) e buffer.old) }
 {
     match letters {
         Letters::Two(l, v) => put_two(l, v, buffer),
@@ -198,10 +198,10 @@ fn put_parts(letters: Letters, buffer: &mut hb_buffer_t) -> Result<(), ShapeCaus
 fn put_two(l: char, v: char, buffer: &mut hb_buffer_t) -> Result<(), ShapeCause>
     requires open { buffer.old.is_open ≡ true }
     requires there { 0 < length buffer.old.ahead }
-    ensures ok { OnOk result (Walked (strip buffer.old.behind
-        ++ letters_from 1 (parted (Letters.Two l v) (strip buffer.old.ahead))) (drop 1 (strip buffer.old.ahead))
+    ensures ok { OnOk result (HasWalked (strip buffer.old.behind
+        ++ letters_from 1 (letters_of_first (Letters.Two l v) (strip buffer.old.ahead))) (drop 1 (strip buffer.old.ahead))
         (Replace (length buffer.old.behind) 1 2 ∷ []) buffer.old buffer.new) }
-    ensures err { IfErr result (λ e. Exceeds (length buffer.old.behind + 2) e buffer.old) }
+    ensures err { IfErr result (λ e. RefusesLength (length buffer.old.behind + 2) e buffer.old) }
 {
     let glyph = *buffer.cur(0);
     let leading = letter_of(&glyph, l, LJMO);
@@ -213,10 +213,10 @@ fn put_two(l: char, v: char, buffer: &mut hb_buffer_t) -> Result<(), ShapeCause>
 fn put_three(l: char, v: char, t: char, buffer: &mut hb_buffer_t) -> Result<(), ShapeCause>
     requires open { buffer.old.is_open ≡ true }
     requires there { 0 < length buffer.old.ahead }
-    ensures ok { OnOk result (Walked (strip buffer.old.behind
-        ++ letters_from 1 (parted (Letters.Three l v t) (strip buffer.old.ahead))) (drop 1 (strip buffer.old.ahead))
+    ensures ok { OnOk result (HasWalked (strip buffer.old.behind
+        ++ letters_from 1 (letters_of_first (Letters.Three l v t) (strip buffer.old.ahead))) (drop 1 (strip buffer.old.ahead))
         (Replace (length buffer.old.behind) 1 3 ∷ []) buffer.old buffer.new) }
-    ensures err { IfErr result (λ e. Exceeds (length buffer.old.behind + 3) e buffer.old) }
+    ensures err { IfErr result (λ e. RefusesLength (length buffer.old.behind + 3) e buffer.old) }
 {
     let glyph = *buffer.cur(0);
     let leading = letter_of(&glyph, l, LJMO);

@@ -2,8 +2,8 @@
 ghost use Rattle.std.specs.Prelude.{◌≡◌, ◌<◌, ◌≤◌, true, false, length, IfOk, IfErr};
 ghost use Rattle.buffer_glyphs.specs.Items.{item_of, strip};
 ghost use Rattle.buffer_glyphs.specs.Origins.{origin_of};
-ghost use Rattle.script_hangul.specs.Steps.{before_syllable, circle_for, has_no_width, toned, with_circle};
-ghost use Rattle.script_hangul.specs.Stepped.{Refuses, Stepped};
+ghost use Rattle.script_hangul.specs.Steps.{before_syllable, circle_for, has_no_width, tone_step, with_circle};
+ghost use Rattle.script_hangul.specs.Stepped.{Refuses, IsStepped};
 
 use crate::performing::keep;
 use buffer_core::buffer::hb_buffer_t;
@@ -28,9 +28,9 @@ pub(crate) fn put_tone(
 ) -> Result<usize, ShapeCause>
     requires open { buffer.old.is_open ≡ true }
     requires there { 0 < length buffer.old.ahead }
-    ensures ok { IfOk result (λ n. Stepped (toned face.now circles start u (strip buffer.old.behind)
+    ensures ok { IfOk result (λ n. IsStepped (tone_step face.now circles start u (strip buffer.old.behind)
         (strip buffer.old.ahead)) n buffer.old buffer.new) }
-    ensures err { IfErr result (λ e. Refuses (toned face.now circles start u (strip buffer.old.behind)
+    ensures err { IfErr result (λ e. Refuses (tone_step face.now circles start u (strip buffer.old.behind)
         (strip buffer.old.ahead)) e buffer.old) }
 {
     let is_thin = has_no_width(face, u);
@@ -51,7 +51,7 @@ fn put_before(start: usize, buffer: &mut hb_buffer_t) -> Result<usize, ShapeCaus
     requires open { buffer.old.is_open ≡ true }
     requires there { 0 < length buffer.old.ahead }
     requires before { start < length buffer.old.behind }
-    ensures ok { IfOk result (λ n. Stepped (before_syllable start (strip buffer.old.behind) (strip buffer.old.ahead)) n
+    ensures ok { IfOk result (λ n. IsStepped (before_syllable start (strip buffer.old.behind) (strip buffer.old.ahead)) n
         buffer.old buffer.new) }
     ensures err { IfErr result (λ e. Refuses (before_syllable start (strip buffer.old.behind) (strip buffer.old.ahead))
         e buffer.old) }
@@ -67,7 +67,7 @@ fn put_before(start: usize, buffer: &mut hb_buffer_t) -> Result<usize, ShapeCaus
 fn put_circle(is_thin: bool, buffer: &mut hb_buffer_t) -> Result<usize, ShapeCause>
     requires open { buffer.old.is_open ≡ true }
     requires there { 0 < length buffer.old.ahead }
-    ensures ok { IfOk result (λ n. Stepped (with_circle is_thin (strip buffer.old.behind) (strip buffer.old.ahead)) n
+    ensures ok { IfOk result (λ n. IsStepped (with_circle is_thin (strip buffer.old.behind) (strip buffer.old.ahead)) n
         buffer.old buffer.new) }
     ensures err { IfErr result (λ e. Refuses (with_circle is_thin (strip buffer.old.behind) (strip buffer.old.ahead)) e
         buffer.old) }

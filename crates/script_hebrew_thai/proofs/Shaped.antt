@@ -17,7 +17,7 @@ use Rattle.script_hebrew_thai.specs.declared.thai_private.Consonant.TheVariants.
 use Rattle.script_hebrew_thai.specs.declared.thai_private.Mark.{Mark}
 use Rattle.script_hebrew_thai.specs.declared.thai_private.Mark.TheVariants.{AV, BV, T, NotMark}
 use Rattle.script_hebrew_thai.specs.declared.thai_private.State.{State}
-use Rattle.script_hebrew_thai.specs.ThaiPrivate.{character_shaped, is_followed_below, is_followed_from, items_shaped, mark_of, numbers_of, started, state_after, with_private}
+use Rattle.script_hebrew_thai.specs.ThaiPrivate.{character_shaped, is_followed_below, is_followed_from, items_shaped, mark_of, numbers_of, start_state, state_after, with_private}
 use Rattle.script_hebrew_thai.specs.ThaiGlyphs.{glyphs_shaped, number_of}
 
 -- ---- the machines
@@ -96,9 +96,9 @@ shaped_length : (t : Tables) (font : FaceParts) (s : State) (gs : List hb_glyph_
 shaped_length t font s [] = refl
 shaped_length t font s (g ∷ gs) = ap suc (shaped_length t font (state_after s g.glyph_id) gs)
 
-pub shaped_followed : (t : Tables) (font : FaceParts) (gs : List hb_glyph_info_t) (s : Sides) → gs ≡ glyphs_shaped t font (started NotConsonant) (all_glyphs s) → IsReady s → IsFollowed (always (with_private t font)) s (with_refilled gs s)
+pub shaped_followed : (t : Tables) (font : FaceParts) (gs : List hb_glyph_info_t) (s : Sides) → gs ≡ glyphs_shaped t font (start_state NotConsonant) (all_glyphs s) → IsReady s → IsFollowed (always (with_private t font)) s (with_refilled gs s)
 shaped_followed t font gs s e ready =
-    let start = started NotConsonant in
+    let start = start_state NotConsonant in
     let items = ap strip e ∙ shaped_items t font start (all_glyphs s) in
     let from = ap origins e ∙ shaped_origins t font start (all_glyphs s) in
     let long = ap (λ (ys : List hb_glyph_info_t). length ys) e ∙ shaped_length t font start (all_glyphs s) in

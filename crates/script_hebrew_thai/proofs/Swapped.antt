@@ -12,7 +12,7 @@ use Rattle.buffer_stages.specs.Ready.{IsReady}
 use Rattle.buffer_stages.specs.Stages.{IsFollowed}
 use Rattle.buffer_stages.specs.Moves.{with_move}
 use Rattle.script_hebrew_thai.specs.Hebrew.{begins_with_three, first_three, with_swapped}
-use Rattle.script_hebrew_thai.specs.Places.{IsThreeWithin}
+use Rattle.script_hebrew_thai.specs.Neighbours.{IsThreeWithin}
 
 pub part_seen : (gs : List hb_glyph_info_t) (start end : ℕ) → strip (slice_range gs start end) ≡ slice_range (strip gs) start end
 part_seen gs start end = slice_seen item_of start end gs

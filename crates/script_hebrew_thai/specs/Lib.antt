@@ -1,5 +1,5 @@
 pub mod Hebrew
-pub mod Places
+pub mod Neighbours
 pub mod ThaiPrivate
 pub mod ThaiGlyphs
 pub mod ThaiVowel

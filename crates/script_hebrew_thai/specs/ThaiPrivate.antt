@@ -58,8 +58,8 @@ below_start DC = B2
 below_start NotConsonant = B2
 
 -- both states after a character that is no mark
-abbrev pub started : Consonant → State
-started c = record { above = above_start c; below = below_start c }
+abbrev pub start_state : Consonant → State
+start_state c = record { above = above_start c; below = below_start c }
 
 -- the action on a mark in a state above (HarfBuzz: thai_above_state_machine)
 abbrev pub above_action : Above → Mark → Option ℕ
@@ -114,7 +114,7 @@ action_on s m u us = option_or (above_action s.above m) (below_action s.below m)
 
 -- both states after a character of a type
 abbrev pub state_from : State → Mark → ℕ → State
-state_from s NotMark u = started (consonant_of u)
+state_from s NotMark u = start_state (consonant_of u)
 state_from s m u = record { above = above_next s.above m; below = below_next s.below m }
 
 -- both states after a character
@@ -147,4 +147,4 @@ items_shaped t font s (x ∷ xs) = item_numbered x (character_shaped t font s x.
 -- the view with its characters replaced, from the state after a character that is no consonant (HarfBuzz:
 -- do_thai_pua_shaping)
 abbrev pub with_private : Tables → FaceParts → View → Read
-with_private t font v = with_events [] (record v { items = items_shaped t font (started NotConsonant) v.items })
+with_private t font v = with_events [] (record v { items = items_shaped t font (start_state NotConsonant) v.items })

@@ -60,9 +60,9 @@ abbrev pub with_character : List Item → Item → List Item
 with_character out x = if is_sara_am x then with_vowel out x else out ++ x ∷ []
 
 -- a text and the characters after it, decomposed
-abbrev pub split_behind : List Item → List Item → List Item
-split_behind out [] = out
-split_behind out (x ∷ xs) = split_behind (with_character out x) xs
+abbrev pub text_with_splits : List Item → List Item → List Item
+text_with_splits out [] = out
+text_with_splits out (x ∷ xs) = text_with_splits (with_character out x) xs
 
 -- the merge of a vowel without marks above: both halves with the item before them, at level MonotoneGraphemes
 abbrev pub merge_of_vowel : BufferClusterLevel → ℕ → List Event
@@ -71,26 +71,26 @@ merge_of_vowel MonotoneCharacters at = []
 merge_of_vowel Characters at = []
 
 -- the events that move a vowel's first half at an index before that many marks above
-abbrev pub placing : BufferClusterLevel → ℕ → ℕ → List Event
-placing level at n = if n == 0 then merge_of_vowel level at else Move InOutput (at - n) (order_of_move n 1) ∷ []
+abbrev pub move_of_vowel : BufferClusterLevel → ℕ → ℕ → List Event
+move_of_vowel level at n = if n == 0 then merge_of_vowel level at else Move InOutput (at - n) (order_of_move n 1) ∷ []
 
 -- the events of a vowel at an index, after that many marks above
 abbrev pub events_of_vowel : BufferClusterLevel → ℕ → ℕ → List Event
-events_of_vowel level at n = Replace at 1 2 ∷ placing level at n
+events_of_vowel level at n = Replace at 1 2 ∷ move_of_vowel level at n
 
 -- the events of one character after a text
 abbrev pub events_of_character : BufferClusterLevel → List Item → Item → List Event
 events_of_character level out x = if is_sara_am x then events_of_vowel level (length out) (count_above out) else []
 
 -- the events of characters after a text
-abbrev pub events_behind : BufferClusterLevel → List Item → List Item → List Event
-events_behind level out [] = []
-events_behind level out (x ∷ xs) = events_of_character level out x ++ events_behind level (with_character out x) xs
+abbrev pub split_events : BufferClusterLevel → List Item → List Item → List Event
+split_events level out [] = []
+split_events level out (x ∷ xs) = events_of_character level out x ++ split_events level (with_character out x) xs
 
 -- the stage that decomposes the vowels of a text, where the result is within the limit
 abbrev pub vowels_split : Stage
 vowels_split v =
-    let xs : List Item = split_behind [] v.items in
+    let xs : List Item = text_with_splits [] v.items in
     if nat_le (length xs) v.max_len
-    then Ok (record { view = record v { items = xs; positions = zero_positions (length xs) }; events = λ level. events_behind level [] v.items })
+    then Ok (record { view = record v { items = xs; positions = zero_positions (length xs) }; events = λ level. split_events level [] v.items })
     else Err TooLong

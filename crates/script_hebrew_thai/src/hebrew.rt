@@ -7,7 +7,7 @@ ghost use Rattle.buffer_core.specs.Sides.{all_glyphs, items_of};
 ghost use Rattle.buffer_stages.specs.Ready.{IsReady};
 ghost use Rattle.buffer_properties.specs.Characters.{mark_class};
 ghost use Rattle.script_hebrew_thai.specs.Hebrew.{begins_with_three, first_three, hebrew_pair, is_meteg_or_below, is_patah_or_qamats, is_sheva_or_hiriq, marks_reordered, presentation_form, with_swapped};
-ghost use Rattle.script_hebrew_thai.specs.Places.{IsThreeWithin};
+ghost use Rattle.script_hebrew_thai.specs.Neighbours.{IsThreeWithin};
 ghost use Rattle.buffer_stages.specs.Stages.{IsFollowed};
 
 use buffer_core::buffer::hb_buffer_t;

@@ -4,7 +4,7 @@ ghost use Rattle.std.specs.Option.{option_or};
 ghost use Rattle.buffer_core.specs.Readings.{always};
 ghost use Rattle.buffer_stages.specs.Ready.{IsReady};
 ghost use Rattle.script_hebrew_thai.specs.ThaiGlyphs.{glyphs_shaped, number_of};
-ghost use Rattle.script_hebrew_thai.specs.ThaiPrivate.{above_action, above_next, above_start, action_on, below_action, below_next, below_start, character_after, character_shaped, consonant_action, consonant_of, first_known, is_followed_below, is_followed_from, mark_of, started, state_after, state_from, with_private};
+ghost use Rattle.script_hebrew_thai.specs.ThaiPrivate.{above_action, above_next, above_start, action_on, below_action, below_next, below_start, character_after, character_shaped, consonant_action, consonant_of, first_known, is_followed_below, is_followed_from, mark_of, start_state, state_after, state_from, with_private};
 ghost use Rattle.buffer_stages.specs.Stages.{IsFollowed};
 
 use buffer_core::buffer::hb_buffer_t;
@@ -227,7 +227,7 @@ fn below_next(below: Below, mark: Mark) -> Below
 }
 
 fn started(consonant: Consonant) -> State
-    ensures { result ≡ started consonant }
+    ensures { result ≡ start_state consonant }
 {
     State {
         above: above_start(consonant),

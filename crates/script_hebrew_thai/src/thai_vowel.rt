@@ -2,12 +2,12 @@
 ghost use Rattle.std.specs.Prelude.{◌≡◌, ◌≢◌, ◌<◌, ◌≤◌, ◌+◌, ◌-◌, ◌∷◌, List, Some, true, length, slice_get, OnOk, IfErr, Err};
 ghost use Rattle.buffer_glyphs.specs.Items.{Item, item_of, strip};
 ghost use Rattle.buffer_glyphs.specs.Origins.{origin_of};
-ghost use Rattle.buffer_core.specs.Readings.{read_of};
-ghost use Rattle.buffer_core.specs.Sides.{run_of};
+ghost use Rattle.buffer_core.specs.Readings.{reading_of};
+ghost use Rattle.buffer_core.specs.Sides.{state_of};
 ghost use Rattle.buffer_stages.specs.Ready.{IsReady};
-ghost use Rattle.script_hebrew_thai.specs.ThaiVowel.{count_above, events_of_character, events_of_vowel, is_mark_above, is_sara_am, nikhahit, nonspacing, placing, sara_aa, thai_or_lao, vowels_split, with_character, with_vowel};
-ghost use Rattle.buffer_stages.specs.Moves.{moved};
-ghost use Rattle.buffer_stages.specs.Walks.{Exceeds, Walked};
+ghost use Rattle.script_hebrew_thai.specs.ThaiVowel.{count_above, events_of_character, events_of_vowel, is_mark_above, is_sara_am, nikhahit, nonspacing, move_of_vowel, sara_aa, thai_or_lao, vowels_split, with_character, with_vowel};
+ghost use Rattle.buffer_stages.specs.Moves.{with_range_moved};
+ghost use Rattle.buffer_stages.specs.Walks.{RefusesLength, HasWalked};
 ghost use Rattle.buffer_stages.specs.Stages.{IsFollowed};
 
 use buffer_core::buffer::hb_buffer_t;
@@ -33,7 +33,7 @@ const LAO: u32 = 0x80;
 pub fn preprocess_text(buffer: &mut hb_buffer_t) -> Result<(), ShapeCause>
     requires ready { IsReady buffer.old }
     ensures ok { OnOk result (IsFollowed vowels_split buffer.old buffer.new) }
-    ensures err { IfErr result (λ e. e ≢ ShapeCause.OutOfMemory → read_of vowels_split (run_of buffer.old) ≡ Err e) }
+    ensures err { IfErr result (λ e. e ≢ ShapeCause.OutOfMemory → reading_of vowels_split (state_of buffer.old) ≡ Err e) }
 {
     let count = buffer.len();
     buffer.clear_output()?;
@@ -49,10 +49,10 @@ fn pass(buffer: &mut hb_buffer_t) -> Result<(), ShapeCause>
     requires open { buffer.old.is_open ≡ true }
     requires there { 0 < length buffer.old.ahead }
     ensures ok { OnOk result ((x : Item) (xs : List Item) → strip buffer.old.ahead ≡ x ∷ xs
-        → Walked (with_character (strip buffer.old.behind) x) xs
+        → HasWalked (with_character (strip buffer.old.behind) x) xs
         (events_of_character buffer.old.level (strip buffer.old.behind) x) buffer.old buffer.new) }
     ensures err { IfErr result (λ e. (x : Item) (xs : List Item) → strip buffer.old.ahead ≡ x ∷ xs
-        → Exceeds (length (with_character (strip buffer.old.behind) x)) e buffer.old) }
+        → RefusesLength (length (with_character (strip buffer.old.behind) x)) e buffer.old) }
 {
     let glyph = *buffer.cur(0);
     if is_sara_am(&glyph) {
@@ -69,10 +69,10 @@ fn split(glyph: &hb_glyph_info_t, buffer: &mut hb_buffer_t) -> Result<(), ShapeC
     requires there { slice_get buffer.old.ahead 0 ≡ Some glyph.now }
     requires vowel { is_sara_am (item_of glyph.now) ≡ true }
     ensures ok { OnOk result ((x : Item) (xs : List Item) → strip buffer.old.ahead ≡ x ∷ xs
-        → Walked (with_vowel (strip buffer.old.behind) x) xs
+        → HasWalked (with_vowel (strip buffer.old.behind) x) xs
         (events_of_vowel buffer.old.level (length buffer.old.behind) (count_above (strip buffer.old.behind))) buffer.old
         buffer.new) }
-    ensures err { IfErr result (λ e. Exceeds (length buffer.old.behind + 2) e buffer.old) }
+    ensures err { IfErr result (λ e. RefusesLength (length buffer.old.behind + 2) e buffer.old) }
 {
     let at = buffer.out_len();
     let marks = count_above(buffer.out_info());
@@ -87,8 +87,8 @@ fn place(at: usize, marks: usize, buffer: &mut hb_buffer_t)
     requires open { buffer.old.is_open ≡ true }
     requires parts { at + 2 ≡ length buffer.old.behind }
     requires before { marks ≤ at }
-    ensures { Walked (moved (at - marks) marks 1 (strip buffer.old.behind)) (strip buffer.old.ahead)
-        (placing buffer.old.level at marks) buffer.old buffer.new }
+    ensures { HasWalked (with_range_moved (at - marks) marks 1 (strip buffer.old.behind)) (strip buffer.old.ahead)
+        (move_of_vowel buffer.old.level at marks) buffer.old buffer.new }
 {
     if marks == 0 {
         return join(at, buffer);
@@ -101,7 +101,7 @@ fn place(at: usize, marks: usize, buffer: &mut hb_buffer_t)
 fn join(at: usize, buffer: &mut hb_buffer_t)
     requires open { buffer.old.is_open ≡ true }
     requires parts { at + 2 ≡ length buffer.old.behind }
-    ensures { Walked (strip buffer.old.behind) (strip buffer.old.ahead) (placing buffer.old.level at 0) buffer.old
+    ensures { HasWalked (strip buffer.old.behind) (strip buffer.old.ahead) (move_of_vowel buffer.old.level at 0) buffer.old
         buffer.new }
 {
     if at == 0 {

@@ -7,16 +7,16 @@ use Rattle.buffer_glyphs.specs.declared.info.hb_glyph_info_t.{hb_glyph_info_t}
 use Rattle.buffer_glyphs.specs.Items.{Item, item_of, strip}
 use Rattle.buffer_glyphs.specs.Origins.{Origin, origin_of, origins}
 use Rattle.buffer_glyphs.specs.Events.{Event, origins_after}
-use Rattle.buffer_core.specs.Readings.{Run, View, always}
+use Rattle.buffer_core.specs.Readings.{BufferState, View, always}
 use Rattle.buffer_core.specs.Sides.{Sides, all_glyphs, items_of, origins_by, origins_of, view_of}
 use Rattle.buffer_core.specs.Lending.{with_refilled}
-use Rattle.buffer_stages.specs.Stages.{Happens, IsFollowed, mapped}
+use Rattle.buffer_stages.specs.Stages.{Happens, IsFollowed, with_items_mapped}
 use Rattle.buffer_stages.specs.Lemmas.Written.{happened_followed, written_becomes}
 use Rattle.buffer_unicode_tables.specs.Tables.{Tables}
 use Rattle.script_categories.specs.declared.joining_types.hb_arabic_joining_type_t.TheVariants.{U, L, R, D, GroupAlaph, GroupDalathRish, T, X}
 use Rattle.script_joining.specs.Types.{JoiningType, type_of_item}
 use Rattle.script_joining.specs.Forms.{letter_form}
-use Rattle.script_joining.specs.Joining.{form_after, forms, forms_copied, is_letter, joined, joined_items, mask_of, nearest, nearest_past, neighbour_events, settled_forms, types_of_characters, types_of_items, with_form, with_forms}
+use Rattle.script_joining.specs.Joining.{form_after, forms, forms_copied, is_letter, letters_with_forms, items_with_forms, mask_of, nearest, nearest_past, neighbour_events, settled_forms, types_of_characters, types_of_items, with_form, with_forms}
 use Rattle.script_joining.specs.Flagged.{type_of_typed}
 use Rattle.script_joining.specs.Glyphs.{AreFlagless, glyph_joined, glyphs_copied, glyphs_formed, glyphs_settled, item_typed, nearest_or, number_of, type_kept, type_numbered}
 use Rattle.buffer_stages.proofs.Lemmas.Masks.{mask_above}
@@ -151,7 +151,7 @@ abbrev all_joined : Bool → List ℕ → JoiningType → JoiningType → List h
 all_joined mongolian masks before after gs = map (glyph_joined masks) (glyphs_settled mongolian (glyphs_formed before after gs))
 
 items_joined : (t : Tables) (mongolian : Bool) (masks pre post : List ℕ) (gs : List hb_glyph_info_t) (xs : List Item) → strip gs ≡ map (item_typed t) xs
-    → strip (all_joined mongolian masks (nearest (types_of_characters t pre)) (nearest (types_of_characters t post)) gs) ≡ joined_items t mongolian masks pre post xs
+    → strip (all_joined mongolian masks (nearest (types_of_characters t pre)) (nearest (types_of_characters t post)) gs) ≡ items_with_forms t mongolian masks pre post xs
 items_joined t mongolian masks pre post gs xs e =
     let before = types_of_characters t pre in
     let after = types_of_characters t post in
@@ -206,35 +206,35 @@ same_many gs hs e = sym (length-map gs origin_of) ∙ ap (λ (os : List Origin).
 
 -- the types were kept, flags set between letters, and the letters joined
 joined_followed : (t : Tables) (mongolian : Bool) (masks pre post : List ℕ) (s typed flagged : Sides) (gs : List hb_glyph_info_t) → AreFlagless masks
-    → IsFollowed (always (mapped (item_typed t))) s typed
+    → IsFollowed (always (with_items_mapped (item_typed t))) s typed
     → Happens (neighbour_events (nearest (types_of_characters t pre)) None 0 (map type_of_typed (items_of typed))) typed flagged
     → gs ≡ map (glyph_joined masks) (glyphs_settled mongolian (glyphs_formed (nearest (types_of_characters t pre)) (nearest (types_of_characters t post)) (all_glyphs flagged)))
-    → IsFollowed (always (joined t mongolian masks pre post)) s (with_refilled gs flagged)
+    → IsFollowed (always (letters_with_forms t mongolian masks pre post)) s (with_refilled gs flagged)
 joined_followed t mongolian masks pre post s typed flagged gs none f h e =
     let before = nearest (types_of_characters t pre) in
     let after = nearest (types_of_characters t post) in
-    let kept : items_of typed ≡ map (item_typed t) (items_of s) = ap (λ (r : Run). r.view.items) f.follows in
+    let kept : items_of typed ≡ map (item_typed t) (items_of s) = ap (λ (r : BufferState). r.view.items) f.follows in
     let there : items_of flagged ≡ map (item_typed t) (items_of s) = ap (λ (v : View). v.items) h.view ∙ kept in
-    let items : strip gs ≡ joined_items t mongolian masks pre post (items_of s) = ap strip e ∙ items_joined t mongolian masks pre post (all_glyphs flagged) (items_of s) there in
+    let items : strip gs ≡ items_with_forms t mongolian masks pre post (items_of s) = ap strip e ∙ items_joined t mongolian masks pre post (all_glyphs flagged) (items_of s) there in
     let from : origins gs ≡ origins_of flagged = ap origins e ∙ all_origins mongolian masks before after (all_glyphs flagged) none in
-    let b = written_becomes gs flagged (joined_items t mongolian masks pre post (items_of s)) (same_many gs (all_glyphs flagged) from) items from h.ready in
+    let b = written_becomes gs flagged (items_with_forms t mongolian masks pre post (items_of s)) (same_many gs (all_glyphs flagged) from) items from h.ready in
     let es : List Event = neighbour_events before None 0 (types_of_items t (items_of s)) in
     let types : map type_of_typed (items_of typed) ≡ types_of_items t (items_of s) = ap (map type_of_typed) kept ∙ kept_types t (items_of s) in
-    let view : view_of flagged ≡ record (view_of s) { items = map (item_typed t) (items_of s) } = h.view ∙ ap (λ (r : Run). r.view) f.follows in
-    let v : View = record (view_of s) { items = joined_items t mongolian masks pre post (items_of s) } in
-    happened_followed es v (always (joined t mongolian masks pre post)) s (with_refilled gs flagged)
-    (b.view ∙ ap (λ (w : View). record w { items = joined_items t mongolian masks pre post (items_of s) }) view)
-    (b.origins ∙ h.origins ∙ ap (λ ts. origins_by (neighbour_events before None 0 ts) typed) types ∙ ap (λ (r : Run). origins_after r.asks r.level es r.origins) f.follows)
+    let view : view_of flagged ≡ record (view_of s) { items = map (item_typed t) (items_of s) } = h.view ∙ ap (λ (r : BufferState). r.view) f.follows in
+    let v : View = record (view_of s) { items = items_with_forms t mongolian masks pre post (items_of s) } in
+    happened_followed es v (always (letters_with_forms t mongolian masks pre post)) s (with_refilled gs flagged)
+    (b.view ∙ ap (λ (w : View). record w { items = items_with_forms t mongolian masks pre post (items_of s) }) view)
+    (b.origins ∙ h.origins ∙ ap (λ ts. origins_by (neighbour_events before None 0 ts) typed) types ∙ ap (λ (r : BufferState). origins_after r.asks r.level es r.origins) f.follows)
     (b.settings ∙ h.settings ∙ f.settings)
     b.ready
     refl
 
 pub joined_between : (t : Tables) (mongolian : Bool) (masks pre post : List ℕ) (before after : JoiningType) (s typed flagged : Sides) (gs : List hb_glyph_info_t) → AreFlagless masks
     → before ≡ nearest (types_of_characters t pre) → after ≡ nearest (types_of_characters t post)
-    → IsFollowed (always (mapped (item_typed t))) s typed
+    → IsFollowed (always (with_items_mapped (item_typed t))) s typed
     → Happens (neighbour_events before None 0 (map type_of_typed (items_of typed))) typed flagged
     → gs ≡ map (glyph_joined masks) (glyphs_settled mongolian (glyphs_formed before after (all_glyphs flagged)))
-    → IsFollowed (always (joined t mongolian masks pre post)) s (with_refilled gs flagged)
+    → IsFollowed (always (letters_with_forms t mongolian masks pre post)) s (with_refilled gs flagged)
 joined_between t mongolian masks pre post before after s typed flagged gs none b a f h e =
     let P : JoiningType → Type 0 = λ n. Happens (neighbour_events n None 0 (map type_of_typed (items_of typed))) typed flagged in
     joined_followed t mongolian masks pre post s typed flagged gs none f (subst P b h)

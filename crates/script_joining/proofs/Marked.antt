@@ -4,13 +4,13 @@ use Rattle.std.specs.Prelude.{nat_lt}
 use Rattle.std.proofs.lemmas.List.{append-nil, drop_all, length-map}
 use Rattle.buffer_glyphs.specs.declared.info.hb_glyph_info_t.{hb_glyph_info_t}
 use Rattle.buffer_glyphs.specs.Items.{Item, clusters, item_of, strip}
-use Rattle.buffer_glyphs.specs.Glyphs.{glyphs_flagged, glyphs_marked, tells_apart}
-use Rattle.buffer_glyphs.specs.Parts.{stretch}
+use Rattle.buffer_glyphs.specs.Glyphs.{glyphs_flagged, glyphs_marked, has_several_numbers}
+use Rattle.buffer_glyphs.specs.Parts.{range_of}
 use Rattle.buffer_glyphs.specs.Events.{Event, Concat, Tatweel}
 use Rattle.buffer_core.specs.Readings.{View}
 use Rattle.buffer_core.specs.Sides.{Sides, all_glyphs, items_of, origins_by, origins_of, view_of}
 use Rattle.buffer_core.specs.Merging.{index_in_all}
-use Rattle.buffer_core.specs.Marking.{asks_concat, asks_tatweel, concat_marked, end_in_all, flagged_range, marked_range, start_in_all, tatweel_marked}
+use Rattle.buffer_core.specs.Marking.{requests_concat, requests_tatweel, concat_marked, end_in_all, flagged_range, range_flagged_apart, start_in_all, tatweel_marked}
 use Rattle.buffer_stages.specs.Ready.{IsReady}
 use Rattle.buffer_stages.specs.Stages.{Happens}
 use Rattle.buffer_stages.proofs.Lemmas.Happened.{both_happen, call_happens, nothing_happens}
@@ -40,13 +40,13 @@ flags_happen from to es s new true e items origins ready =
     call_happens (glyphs_flagged 2 i j (all_glyphs s)) (nat_lt i j) es s new e items origins ready
 flags_happen from to es s new false e items origins ready = same_happens es s new e origins ready
 
-mark_happens : (bits from to : ℕ) (es : List Event) (s new : Sides) → new ≡ marked_range bits (Some from) (Some to) s → items_of new ≡ items_of s → origins_of new ≡ origins_by es s → IsReady s → Happens es s new
+mark_happens : (bits from to : ℕ) (es : List Event) (s new : Sides) → new ≡ range_flagged_apart bits (Some from) (Some to) s → items_of new ≡ items_of s → origins_of new ≡ origins_by es s → IsReady s → Happens es s new
 mark_happens bits from to es s new e items origins ready =
     let i = start_in_all (Some from) s in
     let j = end_in_all (Some to) s in
-    call_happens (glyphs_marked bits i j (all_glyphs s)) (tells_apart (stretch i j (clusters (all_glyphs s)))) es s new e items origins ready
+    call_happens (glyphs_marked bits i j (all_glyphs s)) (has_several_numbers (range_of i j (clusters (all_glyphs s)))) es s new e items origins ready
 
-marks_happen : (from to : ℕ) (es : List Event) (s new : Sides) (b : Bool) → new ≡ (if b then marked_range 4 (Some from) (Some to) s else marked_range 3 (Some from) (Some to) s) → items_of new ≡ items_of s → origins_of new ≡ origins_by es s → IsReady s → Happens es s new
+marks_happen : (from to : ℕ) (es : List Event) (s new : Sides) (b : Bool) → new ≡ (if b then range_flagged_apart 4 (Some from) (Some to) s else range_flagged_apart 3 (Some from) (Some to) s) → items_of new ≡ items_of s → origins_of new ≡ origins_by es s → IsReady s → Happens es s new
 marks_happen from to es s new true e items origins ready = mark_happens 4 from to es s new e items origins ready
 marks_happen from to es s new false e items origins ready = mark_happens 3 from to es s new e items origins ready
 
@@ -54,13 +54,13 @@ pub concat_happens : (from to : ℕ) (s new : Sides) → new ≡ concat_marked (
     → origins_of new ≡ origins_by (Concat (start_in_all (Some from) s) (end_in_all (Some to) s) ∷ []) s → IsReady s → Happens (Concat from to ∷ []) s new
 concat_happens from to s new e items origins ready =
     let o = origins ∙ ap (λ i. origins_by (Concat i (end_in_all (Some to) s) ∷ []) s) (whole_index from s ready) ∙ ap (λ i. origins_by (Concat from i ∷ []) s) (whole_index to s ready) in
-    flags_happen from to (Concat from to ∷ []) s new (asks_concat s) e items o ready
+    flags_happen from to (Concat from to ∷ []) s new (requests_concat s) e items o ready
 
 pub tatweel_happens : (from to : ℕ) (s new : Sides) → new ≡ tatweel_marked (Some from) (Some to) s → items_of new ≡ items_of s
     → origins_of new ≡ origins_by (Tatweel (start_in_all (Some from) s) (end_in_all (Some to) s) ∷ []) s → IsReady s → Happens (Tatweel from to ∷ []) s new
 tatweel_happens from to s new e items origins ready =
     let o = origins ∙ ap (λ i. origins_by (Tatweel i (end_in_all (Some to) s) ∷ []) s) (whole_index from s ready) ∙ ap (λ i. origins_by (Tatweel from i ∷ []) s) (whole_index to s ready) in
-    marks_happen from to (Tatweel from to ∷ []) s new (asks_tatweel s) e items o ready
+    marks_happen from to (Tatweel from to ∷ []) s new (requests_tatweel s) e items o ready
 
 -- ---- the walk
 

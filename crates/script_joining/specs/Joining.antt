@@ -106,12 +106,12 @@ types_of_characters t us = map (type_of_character t) us
 
 -- a text whose letters have their forms and masks, by the text and the contexts before and after it, nearest character
 -- first
-abbrev pub joined_items : Tables → Bool → List ℕ → List ℕ → List ℕ → List Item → List Item
-joined_items t mongolian masks pre post xs =
+abbrev pub items_with_forms : Tables → Bool → List ℕ → List ℕ → List ℕ → List Item → List Item
+items_with_forms t mongolian masks pre post xs =
     with_forms masks xs (settled_forms mongolian xs (forms (types_of_characters t pre) (types_of_items t xs) (types_of_characters t post)))
 
 -- the view with letters in their forms and flags between neighbours (HarfBuzz: setup_masks_inner)
-abbrev pub joined : Tables → Bool → List ℕ → List ℕ → List ℕ → View → Read
-joined t mongolian masks pre post v =
+abbrev pub letters_with_forms : Tables → Bool → List ℕ → List ℕ → List ℕ → View → Read
+letters_with_forms t mongolian masks pre post v =
     with_events (neighbour_events (nearest (types_of_characters t pre)) None 0 (types_of_items t v.items))
-    (record v { items = joined_items t mongolian masks pre post v.items })
+    (record v { items = items_with_forms t mongolian masks pre post v.items })

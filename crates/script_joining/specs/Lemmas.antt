@@ -1,2 +1,2 @@
 -- Lemmas on where glyphs come from once letters are joined.
-pub mod Plain
+pub mod Steady

@@ -3,7 +3,7 @@ use Rattle.std.specs.Prelude.{ℕ, ◌+◌, ◌==◌, ◌&&◌, Bool, nat_lt, if
 use Rattle.std.specs.List.{list_any, prefix_len}
 use Rattle.buffer_properties.specs.Characters.{mark_class}
 use Rattle.buffer_glyphs.specs.Items.{Item}
-use Rattle.buffer_glyphs.specs.Origins.{changed_within}
+use Rattle.buffer_glyphs.specs.Origins.{with_range_changed}
 use Rattle.buffer_core.specs.Readings.{View, Read, then_read, with_events}
 use Rattle.buffer_stages.specs.Moves.{with_move}
 
@@ -25,17 +25,17 @@ abbrev pub count_leading : ℕ → List Item → ℕ
 count_leading class run = prefix_len (is_modifier_of class) (drop (count_below class run) run)
 
 -- an item with a combining class
-abbrev pub classed : ℕ → Item → Item
-classed class x = record x { class = class }
+abbrev pub item_with_class : ℕ → Item → Item
+item_with_class class x = record x { class = class }
 
 -- a reading whose items in a range have a combining class
-abbrev pub reclassed : ℕ → ℕ → ℕ → Read → Read
-reclassed class from to r = record r { view = record r.view { items = changed_within (classed class) from to r.view.items } }
+abbrev pub with_range_classed : ℕ → ℕ → ℕ → Read → Read
+with_range_classed class from to r = record r { view = record r.view { items = with_range_changed (item_with_class class) from to r.view.items } }
 
 -- the view where that many modifier marks, after that many others, are moved to the start of the run and have another
 -- class; the marks from the run's start to their end are merged
-abbrev pub led : ℕ → ℕ → ℕ → ℕ → View → Read
-led class start below leading v = if leading == 0 then with_events [] v else reclassed class start (start + leading) (with_move start below leading v)
+abbrev pub with_leading_marks : ℕ → ℕ → ℕ → ℕ → View → Read
+with_leading_marks class start below leading v = if leading == 0 then with_events [] v else with_range_classed class start (start + leading) (with_move start below leading v)
 
 -- the items of a run
 abbrev pub run_of_items : ℕ → ℕ → View → List Item
@@ -43,7 +43,7 @@ run_of_items start end v = slice_range v.items start end
 
 -- the view where the modifier marks that lead those of a class are at the start of the run
 abbrev pub with_leading : ℕ → ℕ → ℕ → ℕ → View → Read
-with_leading class new start end v = led new start (count_below class (run_of_items start end v)) (count_leading class (run_of_items start end v)) v
+with_leading class new start end v = with_leading_marks new start (count_below class (run_of_items start end v)) (count_leading class (run_of_items start end v)) v
 
 -- the view of a run of marks reordered: class 220 first, with class CCC22 for its modifiers; then class 230, with class
 -- CCC26 (HarfBuzz: reorder_marks_arabic)

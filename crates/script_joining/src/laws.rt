@@ -1,14 +1,12 @@
-//! The laws of Arabic joining and of the order of its marks.
+ghost use Rattle.script_joining.specs.Laws.{JoiningIsSteady, MarksAreSteady};
 
-ghost use Rattle.script_joining.specs.Laws.{JoiningIsPlain, MarksArePlain};
-
-/// Joining keeps the order of clusters: it reorders no glyphs without merging them.
-pub fn law_joining_is_plain()
-    ensures { JoiningIsPlain }
+/// Joining adds and deletes no glyph, and permutes none without a merge.
+pub fn law_joining_is_steady()
+    ensures { JoiningIsSteady }
 {}
 
-/// The order of Arabic marks keeps the order of clusters: it reorders no glyphs without merging them.
-#[tactic(auto, using(crate::specs::Lemmas::Plain::marks_are_plain))]
-pub fn law_marks_are_plain()
-    ensures { MarksArePlain }
+/// The order of marks adds and deletes no glyph, and permutes none without a merge.
+#[tactic(auto, using(crate::specs::Lemmas::Steady::marks_are_steady))]
+pub fn law_marks_are_steady()
+    ensures { MarksAreSteady }
 {}

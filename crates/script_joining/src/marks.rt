@@ -3,11 +3,11 @@ ghost use Rattle.std.specs.Prelude.{◌≡◌, ◌≤◌, ◌+◌, ◌<◌, ◌^
 ghost use Rattle.std.specs.List.{prefix_len};
 ghost use Rattle.buffer_glyphs.specs.Items.{item_of, strip};
 ghost use Rattle.buffer_core.specs.Readings.{always};
-ghost use Rattle.buffer_glyphs.specs.Origins.{changed_within};
+ghost use Rattle.buffer_glyphs.specs.Origins.{with_range_changed};
 ghost use Rattle.buffer_core.specs.Sides.{all_glyphs, items_of};
 ghost use Rattle.buffer_stages.specs.Ready.{IsReady};
 ghost use Rattle.buffer_properties.specs.Characters.{mark_class};
-ghost use Rattle.script_joining.specs.Marks.{count_below, count_leading, is_modifier_of, led, marks_reordered, with_leading};
+ghost use Rattle.script_joining.specs.Marks.{count_below, count_leading, is_modifier_of, with_leading_marks, marks_reordered, with_leading};
 ghost use Rattle.script_joining.specs.Classed.{glyph_classed};
 ghost use Rattle.buffer_stages.specs.Stages.{IsFollowed};
 
@@ -120,7 +120,7 @@ fn put_first(buffer: &mut hb_buffer_t, start: usize, below: usize, leading: usiz
     requires ready { IsReady buffer.old }
     requires within { start + (below + leading) ≤ length (all_glyphs buffer.old) }
     requires fits { start + (below + leading) < 2 ^ 64 }
-    ensures { IsFollowed (always (led new_class start below leading)) buffer.old buffer.new }
+    ensures { IsFollowed (always (with_leading_marks new_class start below leading)) buffer.old buffer.new }
 {
     if leading == 0 {
         return;
@@ -135,7 +135,7 @@ fn put_first(buffer: &mut hb_buffer_t, start: usize, below: usize, leading: usiz
 fn set_classes(glyphs: &mut [hb_glyph_info_t], from: usize, to: usize, class: u8)
     requires ordered { from ≤ to }
     requires within { to ≤ length glyphs.old }
-    ensures { glyphs.new ≡ changed_within (glyph_classed class) from to glyphs.old }
+    ensures { glyphs.new ≡ with_range_changed (glyph_classed class) from to glyphs.old }
 {
     set_class(&mut glyphs[from..to], class);
 }

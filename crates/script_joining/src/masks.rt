@@ -3,8 +3,8 @@ ghost use Rattle.std.specs.Prelude.{◌≡◌};
 ghost use Rattle.buffer_core.specs.Readings.{always};
 ghost use Rattle.buffer_stages.specs.Ready.{IsReady};
 ghost use Rattle.script_joining.specs.Glyphs.{AreFlagless, item_typed};
-ghost use Rattle.script_joining.specs.Joining.{joined};
-ghost use Rattle.buffer_stages.specs.Stages.{IsFollowed, mapped};
+ghost use Rattle.script_joining.specs.Joining.{letters_with_forms};
+ghost use Rattle.buffer_stages.specs.Stages.{IsFollowed, with_items_mapped};
 
 use crate::flags::flag_neighbours;
 use crate::letters::join;
@@ -29,7 +29,7 @@ pub fn setup_masks_inner(
     requires ready { IsReady buffer.old }
     requires flagless { AreFlagless masks.now }
     ensures { IsFollowed
-        (always (joined tables.now is_mongolian masks.now buffer.old.pre_context buffer.old.post_context))
+        (always (letters_with_forms tables.now is_mongolian masks.now buffer.old.pre_context buffer.old.post_context))
         buffer.old buffer.new }
 {
     let before = nearest_in_context(tables, buffer.pre_context());
@@ -42,7 +42,7 @@ pub fn setup_masks_inner(
 /// Stores in each glyph its joining type, which its form replaces later.
 fn keep_types(tables: &UnicodeTables, buffer: &mut hb_buffer_t)
     requires ready { IsReady buffer.old }
-    ensures { IsFollowed (always (mapped (item_typed tables.now))) buffer.old buffer.new }
+    ensures { IsFollowed (always (with_items_mapped (item_typed tables.now))) buffer.old buffer.new }
 {
     map_glyphs(buffer, |glyph| typed(tables, glyph));
 }

@@ -15,12 +15,12 @@ use Rattle.buffer_core.specs.Lending.{with_refilled}
 use Rattle.buffer_stages.specs.Ready.{IsReady}
 use Rattle.buffer_stages.specs.Moves.{FrontMove, reach}
 use Rattle.buffer_stages.specs.Fronts.{front_moves, pair_seen}
-use Rattle.buffer_stages.specs.Rewriting.{kept}
-use Rattle.buffer_stages.specs.Parts.{glyph_masked, masked}
+use Rattle.buffer_glyphs.specs.Rewriting.{eventless_arrangement}
+use Rattle.buffer_stages.specs.Parts.{glyph_masked, item_with_features}
 use Rattle.buffer_stages.specs.SyllableBuffers.{IsRewritten}
 use Rattle.buffer_stages.specs.Lemmas.Parts.{item_masked_is, origin_masked_is, part_clusters, part_written, range_seen}
 use Rattle.buffer_stages.specs.Lemmas.Rewritings.{middle}
-use Rattle.script_khmer_myanmar.specs.Runs.{IsRun, ends_run, forms_masked, is_vowel, run_length, taken, together}
+use Rattle.script_khmer_myanmar.specs.Runs.{IsRun, ends_run, forms_masked, is_vowel, run_length, front_count, together}
 use Rattle.script_khmer_myanmar.specs.Lemmas.Forms.{ra_no_coeng}
 
 -- ---- lists from an index on
@@ -119,7 +119,7 @@ ra_stays forms i y (z ∷ zs) e =
     apart false = refl
 
 reach_first : (forms : Bool) (zs : List Item) (i n : ℕ) → 0 < i → 0 < length zs
-    → reach (if nat_lt 0 (taken forms zs) then i + taken forms zs else n) (front_moves (together forms) is_vowel (i + 1) (drop 1 zs)) ≡ reach n (front_moves (together forms) is_vowel i zs)
+    → reach (if nat_lt 0 (front_count forms zs) then i + front_count forms zs else n) (front_moves (together forms) is_vowel (i + 1) (drop 1 zs)) ≡ reach n (front_moves (together forms) is_vowel i zs)
 reach_first forms [] i n some lt = absurd (omega (arith, lt))
 reach_first forms (x ∷ []) i n some lt = by_vowel (is_vowel x) ∙ ap (λ b. reach n (if is_vowel x && b then record { passed = i; taken = 1 } ∷ [] else [])) (sym later)
   where
@@ -154,7 +154,7 @@ reach_first forms (x ∷ y ∷ zs) i n some lt = by_form (together forms x y) re
     by_form false e = by_vowel (is_vowel x) ∙ ap (λ b. reach n (if is_vowel x && b then record { passed = i; taken = 1 } ∷ rest else rest)) (sym later)
 
 reach_at : (forms : Bool) (gs : List hb_glyph_info_t) (i n : ℕ) → 0 < i → i < length gs
-    → reach (if nat_lt 0 (taken forms (strip (drop i gs))) then i + taken forms (strip (drop i gs)) else n) (moves_from forms (i + 1) (strip gs)) ≡ reach n (moves_from forms i (strip gs))
+    → reach (if nat_lt 0 (front_count forms (strip (drop i gs))) then i + front_count forms (strip (drop i gs)) else n) (moves_from forms (i + 1) (strip gs)) ≡ reach n (moves_from forms i (strip gs))
 reach_at forms [] i n some lt = absurd (omega (arith, lt))
 reach_at forms (g ∷ gs) i n some lt =
     let hs = g ∷ gs in
@@ -163,13 +163,13 @@ reach_at forms (g ∷ gs) i n some lt =
     let tail : drop 1 zs ≡ drop (i + 1) (strip hs) = ap (drop 1) split ∙ sym (drop-map item_of (i + 1) hs) in
     let long : 0 < length zs = let size = ap (λ (ys : List Item). length ys) split in omega (arith, size) in
     let same : zs ≡ drop i (strip hs) = sym (drop-map item_of i hs) in
-    ap (λ ys. reach (if nat_lt 0 (taken forms zs) then i + taken forms zs else n) (front_moves (together forms) is_vowel (i + 1) ys)) (sym tail)
+    ap (λ ys. reach (if nat_lt 0 (front_count forms zs) then i + front_count forms zs else n) (front_moves (together forms) is_vowel (i + 1) ys)) (sym tail)
     ∙ reach_first forms zs i n some long ∙ ap (λ ys. reach n (front_moves (together forms) is_vowel i ys)) same
 
-pub none_taken : (forms : Bool) (gs : List hb_glyph_info_t) (i n t : ℕ) → 0 < i → i < length gs → t ≡ taken forms (strip (drop i gs)) → t ≡ 0 → reach n (moves_from forms (i + 1) (strip gs)) ≡ reach n (moves_from forms i (strip gs))
+pub none_taken : (forms : Bool) (gs : List hb_glyph_info_t) (i n t : ℕ) → 0 < i → i < length gs → t ≡ front_count forms (strip (drop i gs)) → t ≡ 0 → reach n (moves_from forms (i + 1) (strip gs)) ≡ reach n (moves_from forms i (strip gs))
 none_taken forms gs i n t some lt e none = ap (λ k. reach (if nat_lt 0 k then i + k else n) (moves_from forms (i + 1) (strip gs))) (sym none ∙ e) ∙ reach_at forms gs i n some lt
 
-pub some_taken : (forms : Bool) (gs : List hb_glyph_info_t) (i n t : ℕ) → 0 < i → i < length gs → t ≡ taken forms (strip (drop i gs)) → 0 < t → reach (i + t) (moves_from forms (i + 1) (strip gs)) ≡ reach n (moves_from forms i (strip gs))
+pub some_taken : (forms : Bool) (gs : List hb_glyph_info_t) (i n t : ℕ) → 0 < i → i < length gs → t ≡ front_count forms (strip (drop i gs)) → 0 < t → reach (i + t) (moves_from forms (i + 1) (strip gs)) ≡ reach n (moves_from forms i (strip gs))
 some_taken forms gs i n t some lt e more =
     let test : nat_lt 0 t ≡ true = grind (arith, nat_tests, common_steps, more) in
     ap (λ b. reach (if b then i + t else n) (moves_from forms (i + 1) (strip gs))) (sym test) ∙ ap (λ k. reach (if nat_lt 0 k then i + k else n) (moves_from forms (i + 1) (strip gs))) e ∙ reach_at forms gs i n some lt
@@ -209,15 +209,15 @@ all_formed gs old i bits le e =
     let size = length-drop i gs in
     sym (take-append-drop i gs) ∙ ap (λ ys. take i gs ++ ys) (sym (short_formed bits (drop i gs) (omega (arith, size, le)))) ∙ e
 
-items_formed : (bits : ℕ) (gs : List hb_glyph_info_t) → strip (glyphs_formed bits gs) ≡ forms_masked (together true) (masked bits) (strip gs)
+items_formed : (bits : ℕ) (gs : List hb_glyph_info_t) → strip (glyphs_formed bits gs) ≡ forms_masked (together true) (item_with_features bits) (strip gs)
 items_formed bits [] = refl
 items_formed bits (g ∷ []) = refl
 items_formed bits (g ∷ h ∷ gs) = by_pair (together true (item_of g) (item_of h)) (items_formed bits gs) (items_formed bits (h ∷ gs))
   where
-    by_pair : (t : Bool) → strip (glyphs_formed bits gs) ≡ forms_masked (together true) (masked bits) (strip gs) → strip (glyphs_formed bits (h ∷ gs)) ≡ forms_masked (together true) (masked bits) (strip (h ∷ gs))
+    by_pair : (t : Bool) → strip (glyphs_formed bits gs) ≡ forms_masked (together true) (item_with_features bits) (strip gs) → strip (glyphs_formed bits (h ∷ gs)) ≡ forms_masked (together true) (item_with_features bits) (strip (h ∷ gs))
         → strip (if t then glyph_masked bits g ∷ glyph_masked bits h ∷ glyphs_formed bits gs else g ∷ glyphs_formed bits (h ∷ gs))
-        ≡ (if t then masked bits (item_of g) ∷ masked bits (item_of h) ∷ forms_masked (together true) (masked bits) (strip gs) else item_of g ∷ forms_masked (together true) (masked bits) (strip (h ∷ gs)))
-    by_pair true e f = ap (λ ys. item_of (glyph_masked bits g) ∷ item_of (glyph_masked bits h) ∷ ys) e ∙ ap (λ y. y ∷ item_of (glyph_masked bits h) ∷ forms_masked (together true) (masked bits) (strip gs)) (item_masked_is bits g) ∙ ap (λ y. masked bits (item_of g) ∷ y ∷ forms_masked (together true) (masked bits) (strip gs)) (item_masked_is bits h)
+        ≡ (if t then item_with_features bits (item_of g) ∷ item_with_features bits (item_of h) ∷ forms_masked (together true) (item_with_features bits) (strip gs) else item_of g ∷ forms_masked (together true) (item_with_features bits) (strip (h ∷ gs)))
+    by_pair true e f = ap (λ ys. item_of (glyph_masked bits g) ∷ item_of (glyph_masked bits h) ∷ ys) e ∙ ap (λ y. y ∷ item_of (glyph_masked bits h) ∷ forms_masked (together true) (item_with_features bits) (strip gs)) (item_masked_is bits g) ∙ ap (λ y. item_with_features bits (item_of g) ∷ y ∷ forms_masked (together true) (item_with_features bits) (strip gs)) (item_masked_is bits h)
     by_pair false e f = ap (λ ys. item_of g ∷ ys) f
 
 origins_formed : (bits : ℕ) (gs : List hb_glyph_info_t) → origins (glyphs_formed bits gs) ≡ origins gs
@@ -237,11 +237,11 @@ formed_clusters from to bits gs all le e =
 
 pub formed_rewrites : (from to bits : ℕ) (gs : List hb_glyph_info_t) (a : Sides) → IsReady a → from ≤ to → to ≤ length (all_glyphs a)
     → gs ≡ take from (all_glyphs a) ++ glyphs_formed bits (slice_range (all_glyphs a) from to) ++ drop to (all_glyphs a)
-    → IsRewritten (kept (forms_masked (together true) (masked bits) (slice_range (items_of a) from to))) from to a (with_refilled gs a)
+    → IsRewritten (eventless_arrangement (forms_masked (together true) (item_with_features bits) (slice_range (items_of a) from to))) from to a (with_refilled gs a)
 formed_rewrites from to bits gs a ready le fits e =
     let range = slice_range (all_glyphs a) from to in
-    part_written from to (forms_masked (together true) (masked bits) (slice_range (items_of a) from to)) (glyphs_formed bits range) gs a ready le fits e
-    (items_formed bits range ∙ ap (forms_masked (together true) (masked bits)) (range_seen item_of from to (all_glyphs a))) (origins_formed bits range)
+    part_written from to (forms_masked (together true) (item_with_features bits) (slice_range (items_of a) from to)) (glyphs_formed bits range) gs a ready le fits e
+    (items_formed bits range ∙ ap (forms_masked (together true) (item_with_features bits)) (range_seen item_of from to (all_glyphs a))) (origins_formed bits range)
 
 pub merged_told : (forms : Bool) (start end place n : ℕ) (gs hs : List hb_glyph_info_t) → gs ≡ hs → n ≡ reach 1 (moves_from forms place (strip (slice_range gs start end))) → n ≡ reach 1 (moves_from forms place (slice_range (strip hs) start end))
 merged_told forms start end place n gs hs same e =

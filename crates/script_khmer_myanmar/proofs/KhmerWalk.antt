@@ -11,8 +11,9 @@ use Rattle.script_categories.specs.declared.ot_category_t.TheConstants as catego
 use Rattle.buffer_stages.specs.SyllableBuffers.{IsRewritten}
 use Rattle.buffer_stages.specs.Lemmas.Fronted.{gathered_after_length}
 use Rattle.buffer_stages.specs.Lemmas.Rewritings.{rewritten_next, rewritten_same, counted}
-use Rattle.buffer_stages.specs.Rewriting.{Rewritten, kept, then_rule, within}
-use Rattle.buffer_stages.specs.Parts.{fronts_moved, masked, masked_all}
+use Rattle.buffer_glyphs.specs.Rewriting.{Arrangement, eventless_arrangement, and_arranged}
+use Rattle.buffer_stages.specs.Rewriting.{within}
+use Rattle.buffer_stages.specs.Parts.{fronts_moved, item_with_features, items_with_features}
 use Rattle.buffer_stages.specs.Lemmas.Parts.{masked_size, range_seen, range_size, range_within, rewritten_part, within_size}
 use Rattle.script_khmer_myanmar.specs.declared.khmer.KhmerMasks.{KhmerMasks}
 use Rattle.script_khmer_myanmar.specs.Khmer.{khmer_at, khmer_walk, khmer_reordered}
@@ -39,9 +40,9 @@ all_walked m start end place count old now le past u =
     u.does now (subst P (sym none) (rewritten_same start end now le u.ready))
 
 -- a part that a rule rewrote, where the walk is that rule and then the walk of the others
-by_rule : (m : KhmerMasks) (start end place count to met : ℕ) (rule : List Item → Rewritten) (a b : Sides) → start ≤ end → end ≤ length (all_glyphs a)
+by_rule : (m : KhmerMasks) (start end place count to met : ℕ) (rule : List Item → Arrangement) (a b : Sides) → start ≤ end → end ≤ length (all_glyphs a)
     → length (rule (slice_range (items_of a) start end)).items ≡ length (slice_range (items_of a) start end)
-    → khmer_walk m (end - start - place) place count (slice_range (items_of a) start end) ≡ then_rule (rule (slice_range (items_of a) start end)) (khmer_walk m (end - start - to) to met)
+    → khmer_walk m (end - start - place) place count (slice_range (items_of a) start end) ≡ and_arranged (rule (slice_range (items_of a) start end)) (khmer_walk m (end - start - to) to met)
     → IsRewritten (rule (slice_range (items_of a) start end)) start end a b → IsWalked m start end place count to met a b
 by_rule m start end place count to met rule a b le fits keeps walk f =
     let xs = slice_range (items_of a) start end in
@@ -60,7 +61,7 @@ one_walked m start end place count met a b lt fits f counts =
     let xs = slice_range (items_of a) start end in
     let left : end - start - place ≡ suc (end - start - (place + 1)) = omega (arith, lt) in
     by_rule m start end place count (place + 1) met (λ ys. (khmer_at m place count ys).rewritten) a b (omega (arith, lt)) fits (khmer_at_size m place count xs)
-    (ap (λ n. khmer_walk m n place count xs) left ∙ ap (λ n. then_rule (khmer_at m place count xs).rewritten (khmer_walk m (end - start - (place + 1)) (place + 1) n)) (sym counts)) f
+    (ap (λ n. khmer_walk m n place count xs) left ∙ ap (λ n. and_arranged (khmer_at m place count xs).rewritten (khmer_walk m (end - start - (place + 1)) (place + 1) n)) (sym counts)) f
 
 -- ---- a run
 
@@ -85,38 +86,38 @@ vowels_walked_at m start end place count to a b some le last fits run f =
     let long : length zs ≡ to - place = range_size place to xs le (omega (arith, size, last)) in
     let whole : front ++ (zs ++ post) ≡ xs = cut_at xs place to le (omega (arith, size, last)) in
     let part : slice_range (items_of a) (start + place) (start + to) ≡ zs = sym (range_within start end place to (items_of a) le last) in
-    let rule : List Item → Rewritten = within 0 to (fronts_moved (together false) is_vowel place) in
+    let rule : List Item → Arrangement = within 0 to (fronts_moved (together false) is_vowel place) in
     let count_is : end - start - place ≡ length zs + (end - start - to) = omega (arith, long, le, last) in
     let walk = vowels_walked m count (end - start - to) place to front zs post at (omega (arith, long, le)) some (subst (IsRun false (nat_le count 2)) part run) in
     by_rule m start end place count to count rule a b ordered fits
     (within_size (fronts_moved (together false) is_vowel place) 0 to xs (λ ys. gathered_after_length (together false) is_vowel place ys) (omega arith) (omega (arith, size, last)))
-    (ap (λ n. khmer_walk m n place count xs) count_is ∙ ap (khmer_walk m (length zs + (end - start - to)) place count) (sym whole) ∙ walk ∙ ap (λ ys. then_rule (rule ys) (khmer_walk m (end - start - to) to count)) whole)
+    (ap (λ n. khmer_walk m n place count xs) count_is ∙ ap (khmer_walk m (length zs + (end - start - to)) place count) (sym whole) ∙ walk ∙ ap (λ ys. and_arranged (rule ys) (khmer_walk m (end - start - to) to count)) whole)
     (rewritten_part (fronts_moved (together false) is_vowel place) start end 0 to start (start + to) a b (omega arith) refl (omega arith) last there f)
 
 -- ---- a run of forms
 
-far_size : (m : KhmerMasks) (place : ℕ) (xs : List Item) → place + 2 ≤ length xs → length (within (place + 2) (length xs) (masked_all m.cfar) xs).items ≡ length xs
-far_size m place xs le = within_size (masked_all m.cfar) (place + 2) (length xs) xs (masked_size m.cfar) le (omega arith)
+far_size : (m : KhmerMasks) (place : ℕ) (xs : List Item) → place + 2 ≤ length xs → length (within (place + 2) (length xs) (items_with_features m.cfar) xs).items ≡ length xs
+far_size m place xs le = within_size (items_with_features m.cfar) (place + 2) (length xs) xs (masked_size m.cfar) le (omega arith)
 
-formed_part : (m : KhmerMasks) (place to : ℕ) (xs : List Item) → place ≤ to → to ≤ length xs → length (within place to (λ ys. kept (forms_masked (together true) (masked m.pref) ys)) xs).items ≡ length xs
-formed_part m place to xs le fits = within_size (λ ys. kept (forms_masked (together true) (masked m.pref) ys)) place to xs (λ ys. formed_size (together true) (masked m.pref) ys) le fits
+formed_part : (m : KhmerMasks) (place to : ℕ) (xs : List Item) → place ≤ to → to ≤ length xs → length (within place to (λ ys. eventless_arrangement (forms_masked (together true) (item_with_features m.pref) ys)) xs).items ≡ length xs
+formed_part m place to xs le fits = within_size (λ ys. eventless_arrangement (forms_masked (together true) (item_with_features m.pref) ys)) place to xs (λ ys. formed_size (together true) (item_with_features m.pref) ys) le fits
 
 both_masked : (m : KhmerMasks) (place to : ℕ) (xs : List Item) → place + 2 ≤ to → to ≤ length xs
-    → length (then_rule (within (place + 2) (length xs) (masked_all m.cfar) xs) (within place to (λ ys. kept (forms_masked (together true) (masked m.pref) ys)))).items ≡ length xs
+    → length (and_arranged (within (place + 2) (length xs) (items_with_features m.cfar) xs) (within place to (λ ys. eventless_arrangement (forms_masked (together true) (item_with_features m.pref) ys)))).items ≡ length xs
 both_masked m place to xs le fits =
     let first = far_size m place xs (omega (arith, le, fits)) in
-    let ys = (within (place + 2) (length xs) (masked_all m.cfar) xs).items in
+    let ys = (within (place + 2) (length xs) (items_with_features m.cfar) xs).items in
     formed_part m place to ys (omega (arith, le)) (omega (arith, first, fits)) ∙ first
 
 forms_size : (m : KhmerMasks) (place to : ℕ) (xs : List Item) → place + 2 ≤ to → to ≤ length xs → length (forms_moved m place to xs).items ≡ length xs
 forms_size m place to xs le fits =
     let second = both_masked m place to xs le fits in
-    let ys = (then_rule (within (place + 2) (length xs) (masked_all m.cfar) xs) (within place to (λ zs. kept (forms_masked (together true) (masked m.pref) zs)))).items in
+    let ys = (and_arranged (within (place + 2) (length xs) (items_with_features m.cfar) xs) (within place to (λ zs. eventless_arrangement (forms_masked (together true) (item_with_features m.pref) zs)))).items in
     within_size (fronts_moved (together true) is_vowel place) 0 to ys (λ zs. gathered_after_length (together true) is_vowel place zs) (omega arith) (omega (arith, second, fits)) ∙ second
 
 pub forms_do : (m : KhmerMasks) (start end place to : ℕ) (a b c d : Sides) → place + 2 ≤ to → start + to ≤ end → end ≤ length (all_glyphs a)
-    → IsRewritten (masked_all m.cfar (slice_range (items_of a) (start + (place + 2)) end)) (start + (place + 2)) end a b
-    → IsRewritten (kept (forms_masked (together true) (masked m.pref) (slice_range (items_of b) (start + place) (start + to)))) (start + place) (start + to) b c
+    → IsRewritten (items_with_features m.cfar (slice_range (items_of a) (start + (place + 2)) end)) (start + (place + 2)) end a b
+    → IsRewritten (eventless_arrangement (forms_masked (together true) (item_with_features m.pref) (slice_range (items_of b) (start + place) (start + to)))) (start + place) (start + to) b c
     → IsRewritten (fronts_moved (together true) is_vowel place (slice_range (items_of c) start (start + to))) start (start + to) c d
     → IsRewritten (forms_moved m place to (slice_range (items_of a) start end)) start end a d
 forms_do m start end place to a b c d two last fits f g h =
@@ -125,14 +126,14 @@ forms_do m start end place to a b c d two last fits f g h =
     let inside : end ≤ length (items_of a) = omega (arith, counted a, fits) in
     let size : length xs ≡ end - start = range_size start end (items_of a) le inside in
     let few : to ≤ length xs = omega (arith, size, last) in
-    let rule : List Item → Rewritten = λ ys. kept (forms_masked (together true) (masked m.pref) ys) in
+    let rule : List Item → Arrangement = λ ys. eventless_arrangement (forms_masked (together true) (item_with_features m.pref) ys) in
     let count_b = masked_count m.cfar (start + (place + 2)) end a b (omega (arith, two, last)) fits f in
-    let count_c = rewritten_even (rule (slice_range (items_of b) (start + place) (start + to))) (start + place) (start + to) b c (omega (arith, two)) (omega (arith, last, fits, count_b)) (formed_size (together true) (masked m.pref) (slice_range (items_of b) (start + place) (start + to))) g in
-    let first = rewritten_part (masked_all m.cfar) start end (place + 2) (length xs) (start + (place + 2)) end a b refl (omega (arith, size, le)) (omega (arith, two, few)) (omega (arith, size, le)) inside f in
+    let count_c = rewritten_even (rule (slice_range (items_of b) (start + place) (start + to))) (start + place) (start + to) b c (omega (arith, two)) (omega (arith, last, fits, count_b)) (formed_size (together true) (item_with_features m.pref) (slice_range (items_of b) (start + place) (start + to))) g in
+    let first = rewritten_part (items_with_features m.cfar) start end (place + 2) (length xs) (start + (place + 2)) end a b refl (omega (arith, size, le)) (omega (arith, two, few)) (omega (arith, size, le)) inside f in
     let second = rewritten_part rule start end place to (start + place) (start + to) b c refl refl (omega (arith, two)) last (omega (arith, counted b, count_b, fits)) g in
     let third = rewritten_part (fronts_moved (together true) is_vowel place) start end 0 to start (start + to) c d (omega arith) refl (omega arith) last (omega (arith, counted c, count_c, count_b, fits)) h in
-    rewritten_next (then_rule (within (place + 2) (length xs) (masked_all m.cfar) xs) (within place to rule)) (within 0 to (fronts_moved (together true) is_vowel place)) start end a c d le inside (both_masked m place to xs two few ∙ size)
-    (rewritten_next (within (place + 2) (length xs) (masked_all m.cfar) xs) (within place to rule) start end a b c le inside (far_size m place xs (omega (arith, two, few)) ∙ size) first second) third
+    rewritten_next (and_arranged (within (place + 2) (length xs) (items_with_features m.cfar) xs) (within place to rule)) (within 0 to (fronts_moved (together true) is_vowel place)) start end a c d le inside (both_masked m place to xs two few ∙ size)
+    (rewritten_next (within (place + 2) (length xs) (items_with_features m.cfar) xs) (within place to rule) start end a b c le inside (far_size m place xs (omega (arith, two, few)) ∙ size) first second) third
 
 got_split : (xs : List Item) (i : ℕ) (x : Item) → slice_get xs i ≡ Some x → drop i xs ≡ x ∷ drop (i + 1) xs
 got_split [] i x e = cc
@@ -215,7 +216,7 @@ forms_walked_at m start end place count to a b some lt last fits o run f =
     let count_is : end - start - place ≡ length (x ∷ y ∷ zs) + (end - start - to) = omega (arith, long, le, last) in
     let walk = forms_walked m count (end - start - to) place to x y t fs zs post at (omega (arith, long, le)) o.plain o.few o.form is_run in
     by_rule m start end place count to 2 (forms_moved m place to) a b ordered fits (forms_size m place to xs two few)
-    (ap (λ n. khmer_walk m n place count xs) count_is ∙ ap (khmer_walk m (length (x ∷ y ∷ zs) + (end - start - to)) place count) (sym whole) ∙ walk ∙ ap (λ ys. then_rule (forms_moved m place to ys) (khmer_walk m (end - start - to) to 2)) whole) f
+    (ap (λ n. khmer_walk m n place count xs) count_is ∙ ap (khmer_walk m (length (x ∷ y ∷ zs) + (end - start - to)) place count) (sym whole) ∙ walk ∙ ap (λ ys. and_arranged (forms_moved m place to ys) (khmer_walk m (end - start - to) to 2)) whole) f
 
 -- ---- the glyphs of a run
 
@@ -238,7 +239,7 @@ run_told forms few start end place n gs a lt fits same e short =
     subst (IsRun forms few) shape (subst (λ k. IsRun forms few (take k part)) (sym is) (run_is forms few part))
 
 pub reordered_does : (m : KhmerMasks) (start end : ℕ) (a b c : Sides) → start < end → end ≤ length (all_glyphs a)
-    → IsRewritten (masked_all m.post_base (slice_range (items_of a) (start + 1) end)) (start + 1) end a b
+    → IsRewritten (items_with_features m.post_base (slice_range (items_of a) (start + 1) end)) (start + 1) end a b
     → IsRewritten (khmer_walk m (end - start - 1) 1 0 (slice_range (items_of b) start end)) start end b c
     → IsRewritten (khmer_reordered m (slice_range (items_of a) start end)) start end a c
 reordered_does m start end a b c lt fits f g =
@@ -247,6 +248,6 @@ reordered_does m start end a b c lt fits f g =
     let inside : end ≤ length (items_of a) = omega (arith, counted a, fits) in
     let size : length xs ≡ end - start = range_size start end (items_of a) le inside in
     let some : 0 < length xs = omega (arith, size, lt) in
-    let first = rewritten_part (masked_all m.post_base) start end 1 (length xs) (start + 1) end a b refl (omega (arith, size, le)) (omega (arith, some)) (omega (arith, size, le)) inside f in
+    let first = rewritten_part (items_with_features m.post_base) start end 1 (length xs) (start + 1) end a b refl (omega (arith, size, le)) (omega (arith, some)) (omega (arith, size, le)) inside f in
     let P : ℕ → Type 0 = λ n. IsRewritten (khmer_walk m (n - 1) 1 0 (slice_range (items_of b) start end)) start end b c in
-    rewritten_next (within 1 (length xs) (masked_all m.post_base) xs) (khmer_walk m (length xs - 1) 1 0) start end a b c le inside (after_size m xs some ∙ size) first (subst P (sym size) g)
+    rewritten_next (within 1 (length xs) (items_with_features m.post_base) xs) (khmer_walk m (length xs - 1) 1 0) start end a b c le inside (after_size m xs some ∙ size) first (subst P (sym size) g)

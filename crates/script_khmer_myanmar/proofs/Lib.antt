@@ -1,4 +1,3 @@
-pub mod Lemmas
 pub mod There
 pub mod KhmerMoves
 pub mod KhmerSteps
@@ -6,6 +5,4 @@ pub mod KhmerRuns
 pub mod KhmerScan
 pub mod KhmerWalk
 pub mod Placing
-pub mod Groups
 pub mod MyanmarSteps
-pub mod TurnedBack

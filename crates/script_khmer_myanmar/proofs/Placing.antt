@@ -7,7 +7,7 @@ use Rattle.std.specs.List.{list_any, position_or_len}
 use Rattle.std.proofs.lemmas.List.{length-append, length-map, length-replicate, drop_all, drop_more, take_all, append-nil, take-append-drop, length-take-le, drop-map}
 use Rattle.buffer_glyphs.specs.declared.info.hb_glyph_info_t.{hb_glyph_info_t}
 use Rattle.script_categories.specs.declared.ot_position_t.TheConstants as position
-use Rattle.script_khmer_myanmar.specs.Myanmar.{base_of, from_base, is_base, place_after, place_of, places_after}
+use Rattle.script_khmer_myanmar.specs.Myanmar.{base_of, from_base, is_base, position_after, position_of, positions_after}
 use Rattle.script_khmer_myanmar.specs.Turned.{glyph_at, glyphs_at}
 use Rattle.script_khmer_myanmar.specs.Lemmas.Sizes.{after_size}
 
@@ -54,8 +54,8 @@ glyphs_at_both (p ∷ ps) qs (g ∷ gs) hs e = ap (λ ks. glyph_at p g ∷ ks) (
 
 -- the glyphs before an index have their positions, and those of the others follow from the walk's state
 pub record ArePlaced (i now before : ℕ) (old done : List hb_glyph_info_t) : Type 0 where
-  pub glyphs : done ≡ placed_to (places_after position.POS_AFTER_MAIN position.POS_BASE_C (kinds old)) i old
-  pub rest : places_after now before (kinds (drop i old)) ≡ drop i (places_after position.POS_AFTER_MAIN position.POS_BASE_C (kinds old))
+  pub glyphs : done ≡ placed_to (positions_after position.POS_AFTER_MAIN position.POS_BASE_C (kinds old)) i old
+  pub rest : positions_after now before (kinds (drop i old)) ≡ drop i (positions_after position.POS_AFTER_MAIN position.POS_BASE_C (kinds old))
   pub ahead : drop i done ≡ drop i old
 
 pub placing_begun : (gs : List hb_glyph_info_t) → ArePlaced 0 position.POS_AFTER_MAIN position.POS_BASE_C gs gs
@@ -74,21 +74,21 @@ past_set (y ∷ ys) (suc i) x = past_set ys i x
 
 -- one glyph more
 pub placing_next : (i now before : ℕ) (old done : List hb_glyph_info_t) (d h : hb_glyph_info_t) → i < length done → length done ≡ length old → ArePlaced i now before old done
-    → h ≡ glyph_at (place_of now before (get_or done i d).category) (get_or done i d)
-    → ArePlaced (i + 1) (place_after now (get_or done i d).category) (place_of now before (get_or done i d).category) old (set done i h)
+    → h ≡ glyph_at (position_of now before (get_or done i d).category) (get_or done i d)
+    → ArePlaced (i + 1) (position_after now (get_or done i d).category) (position_of now before (get_or done i d).category) old (set done i h)
 placing_next i now before old done d h lt len u is =
     let g = get_or done i d in
-    let ps = places_after position.POS_AFTER_MAIN position.POS_BASE_C (kinds old) in
+    let ps = positions_after position.POS_AFTER_MAIN position.POS_BASE_C (kinds old) in
     let here : drop i done ≡ g ∷ drop (i + 1) done = drop_more done i d lt in
     let same : g ∷ drop (i + 1) done ≡ drop i old = sym here ∙ u.ahead in
     let there : drop i old ≡ get_or old i d ∷ drop (i + 1) old = drop_more old i d (omega (arith, lt, len)) in
     let one : g ∷ drop (i + 1) done ≡ get_or old i d ∷ drop (i + 1) old = same ∙ there in
     let first : g ≡ get_or old i d = cc in
     let later : drop (i + 1) done ≡ drop (i + 1) old = cc in
-    let p = place_of now before g.category in
-    let rest : p ∷ places_after (place_after now g.category) p (kinds (drop (i + 1) old)) ≡ drop i ps =
-    sym (ap (λ ks. places_after now before (kinds ks)) (there ∙ ap (λ k. k ∷ drop (i + 1) old) (sym first))) ∙ u.rest in
-    let cut = first_of ps (places_after (place_after now g.category) p (kinds (drop (i + 1) old))) i p rest in
+    let p = position_of now before g.category in
+    let rest : p ∷ positions_after (position_after now g.category) p (kinds (drop (i + 1) old)) ≡ drop i ps =
+    sym (ap (λ ks. positions_after now before (kinds ks)) (there ∙ ap (λ k. k ∷ drop (i + 1) old) (sym first))) ∙ u.rest in
+    let cut = first_of ps (positions_after (position_after now g.category) p (kinds (drop (i + 1) old))) i p rest in
     let next : suc i ≡ i + 1 = omega arith in
     record {
       glyphs = place_step ps old done i p d h lt len u.glyphs cut.0 is;
@@ -96,9 +96,9 @@ placing_next i now before old done d h lt len u is =
       ahead = ap (λ n. drop n (set done i h)) (sym next) ∙ past_set done i h ∙ ap (λ n. drop n done) next ∙ later;
     }
 
-pub placing_done : (i now before : ℕ) (old done : List hb_glyph_info_t) → length old ≤ i → ArePlaced i now before old done → done ≡ glyphs_at (places_after position.POS_AFTER_MAIN position.POS_BASE_C (kinds old)) old
+pub placing_done : (i now before : ℕ) (old done : List hb_glyph_info_t) → length old ≤ i → ArePlaced i now before old done → done ≡ glyphs_at (positions_after position.POS_AFTER_MAIN position.POS_BASE_C (kinds old)) old
 placing_done i now before old done le u =
-    u.glyphs ∙ all_at (places_after position.POS_AFTER_MAIN position.POS_BASE_C (kinds old)) old i le (after_size position.POS_AFTER_MAIN position.POS_BASE_C (kinds old) ∙ length-map old (λ (g : hb_glyph_info_t). g.category))
+    u.glyphs ∙ all_at (positions_after position.POS_AFTER_MAIN position.POS_BASE_C (kinds old)) old i le (after_size position.POS_AFTER_MAIN position.POS_BASE_C (kinds old) ∙ length-map old (λ (g : hb_glyph_info_t). g.category))
 
 -- ---- ranges, one after another
 
@@ -157,11 +157,11 @@ pub all_one : (p i : ℕ) (old done : List hb_glyph_info_t) → length old ≤ i
 all_one p i old done le e = e ∙ all_at (replicate (length old) p) old i le (length-replicate (length old) p)
 
 pub placing_by : (i now before b n : ℕ) (old done : List hb_glyph_info_t) (d h : hb_glyph_info_t) → i < length done → length done ≡ length old → ArePlaced i now before old done
-    → b ≡ place_of now before (get_or done i d).category → n ≡ place_after now (get_or done i d).category → h ≡ glyph_at b (get_or done i d) → ArePlaced (i + 1) n b old (set done i h)
+    → b ≡ position_of now before (get_or done i d).category → n ≡ position_after now (get_or done i d).category → h ≡ glyph_at b (get_or done i d) → ArePlaced (i + 1) n b old (set done i h)
 placing_by i now before b n old done d h lt len u place behind is =
     let g = get_or done i d in
     let P : ℕ → Type 0 = λ m. ArePlaced (i + 1) m b old (set done i h) in
-    let Q : ℕ → Type 0 = λ m. ArePlaced (i + 1) (place_after now g.category) m old (set done i h) in
+    let Q : ℕ → Type 0 = λ m. ArePlaced (i + 1) (position_after now g.category) m old (set done i h) in
     subst P (sym behind) (subst Q (sym place) (placing_next i now before old done d h lt len u (is ∙ ap (λ m. glyph_at m g) place)))
 
 -- a prefix got one position, and then the rest its positions
@@ -181,7 +181,7 @@ two_stretches n p rule gs front back le e f =
     ap (λ ys. ys ++ (back ++ drop (length (front ++ drop n gs) - n) (drop n (front ++ drop n gs)))) head ∙ ap (λ ys. front ++ (back ++ ys)) none ∙ ap (λ ys. front ++ ys) (append-nil back)
     ∙ placed_both n p (rule (drop n (kinds gs))) gs front back le first rest
 
-pub from_first : (gs : List hb_glyph_info_t) → 0 < length gs → glyphs_at (replicate 1 position.POS_BASE_C ++ places_after position.POS_AFTER_MAIN position.POS_BASE_C (drop 1 (kinds gs))) gs ≡ glyphs_at (from_base (kinds gs)) gs
+pub from_first : (gs : List hb_glyph_info_t) → 0 < length gs → glyphs_at (replicate 1 position.POS_BASE_C ++ positions_after position.POS_AFTER_MAIN position.POS_BASE_C (drop 1 (kinds gs))) gs ≡ glyphs_at (from_base (kinds gs)) gs
 from_first [] some = absurd (omega (arith, some))
 from_first (g ∷ gs) some = refl
 

@@ -3,7 +3,7 @@ use Rattle.std.proofs.Common.{ℕ, ◌≡◌, ◌≤◌, ◌<◌, ◌+◌, ◌-�
 use Rattle.std.specs.Prelude.{slice_range}
 use Rattle.std.proofs.lemmas.Option.{slice_get-get_or, slice_get_past}
 use Rattle.std.proofs.lemmas.List.{length-map, get_or-take, get_or-drop}
-use Rattle.buffer_glyphs.specs.Lists.{seen_at}
+use Rattle.buffer_glyphs.specs.Lists.{get_or_mapped}
 use Rattle.buffer_glyphs.specs.declared.info.hb_glyph_info_t.{hb_glyph_info_t}
 use Rattle.buffer_glyphs.specs.Items.{item_of, strip}
 use Rattle.buffer_stages.specs.Lemmas.Parts.{range_size}
@@ -15,7 +15,7 @@ pub there : (gs : List hb_glyph_info_t) (start end place : ℕ) (d : hb_glyph_in
 there gs start end place d le fits lt =
     let len = length-map gs item_of in
     let inside : place < length (slice_range (strip gs) start end) = omega (arith, range_size start end (strip gs) le (omega (arith, len, fits)), lt) in
-    slice_get-get_or (slice_range (strip gs) start end) place (item_of d) inside ∙ ap Some (ranged start end place (item_of d) (strip gs) lt ∙ seen_at item_of gs (start + place) d)
+    slice_get-get_or (slice_range (strip gs) start end) place (item_of d) inside ∙ ap Some (ranged start end place (item_of d) (strip gs) lt ∙ get_or_mapped item_of gs (start + place) d)
 
 pub none_there : (gs : List hb_glyph_info_t) (start end place : ℕ) → start ≤ end → end ≤ length gs → end - start ≤ place → slice_get (slice_range (strip gs) start end) place ≡ None
 none_there gs start end place le fits past =

@@ -2,4 +2,6 @@
 pub mod KhmerSize
 pub mod Sizes
 pub mod MyanmarSize
+pub mod KhmerPermuted
+pub mod MyanmarPermuted
 pub mod Forms

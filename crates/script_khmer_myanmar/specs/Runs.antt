@@ -5,9 +5,10 @@ use Rattle.script_categories.specs.declared.ot_category_t.TheConstants as catego
 use Rattle.buffer_glyphs.specs.Items.{Item}
 use Rattle.buffer_core.specs.Sides.{Sides, all_glyphs, items_of}
 use Rattle.buffer_stages.specs.Ready.{IsReady}
-use Rattle.buffer_stages.specs.Rewriting.{Rewritten, kept, then_rule, within}
+use Rattle.buffer_glyphs.specs.Rewriting.{Arrangement, eventless_arrangement, and_arranged}
+use Rattle.buffer_stages.specs.Rewriting.{within}
 use Rattle.buffer_stages.specs.SyllableBuffers.{IsRewritten}
-use Rattle.buffer_stages.specs.Parts.{fronts_moved, masked, masked_all}
+use Rattle.buffer_stages.specs.Parts.{fronts_moved, item_with_features, items_with_features}
 use Rattle.script_khmer_myanmar.specs.declared.khmer.KhmerMasks.{KhmerMasks}
 use Rattle.script_khmer_myanmar.specs.Khmer.{khmer_walk}
 
@@ -58,16 +59,16 @@ forms_masked pair f (x ∷ []) = x ∷ []
 forms_masked pair f (x ∷ y ∷ zs) = if pair x y then f x ∷ f y ∷ forms_masked pair f zs else x ∷ forms_masked pair f (y ∷ zs)
 
 -- the number of items that move to the start with the first of them
-abbrev pub taken : Bool → List Item → ℕ
-taken forms [] = 0
-taken forms (x ∷ []) = if is_vowel x then 1 else 0
-taken forms (x ∷ y ∷ zs) = if together forms x y then 2 else if is_vowel x then 1 else 0
+abbrev pub front_count : Bool → List Item → ℕ
+front_count forms [] = 0
+front_count forms (x ∷ []) = if is_vowel x then 1 else 0
+front_count forms (x ∷ y ∷ zs) = if together forms x y then 2 else if is_vowel x then 1 else 0
 
 -- the syllable after a run between two indices that begins with a form: the items have their masks, and forms and left
 -- matras are at the start
-abbrev pub forms_moved : KhmerMasks → ℕ → ℕ → List Item → Rewritten
+abbrev pub forms_moved : KhmerMasks → ℕ → ℕ → List Item → Arrangement
 forms_moved m place to xs =
-    then_rule (then_rule (within (place + 2) (length xs) (masked_all m.cfar) xs) (within place to (λ ys. kept (forms_masked (together true) (masked m.pref) ys))))
+    and_arranged (and_arranged (within (place + 2) (length xs) (items_with_features m.cfar) xs) (within place to (λ ys. eventless_arrangement (forms_masked (together true) (item_with_features m.pref) ys))))
     (within 0 to (fronts_moved (together true) is_vowel place))
 
 -- the syllable was walked between two indices, and that many coengs were counted: whatever the rest of the walk yields

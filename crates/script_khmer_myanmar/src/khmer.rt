@@ -8,7 +8,7 @@ ghost use Rattle.buffer_stages.specs.Ready.{IsReady};
 ghost use Rattle.buffer_stages.specs.Stages.{IsFollowed};
 ghost use Rattle.buffer_stages.specs.Rewriting.{by_syllable};
 ghost use Rattle.buffer_stages.specs.SyllableBuffers.{IsRewritten, with_rule};
-ghost use Rattle.script_khmer_myanmar.specs.Khmer.{coeng_met, coeng_moved, khmer_at, khmer_reordered, khmer_split, khmer_syllable, khmer_walk, vowel_met};
+ghost use Rattle.script_khmer_myanmar.specs.Khmer.{coeng_step, coeng_moved, khmer_at, khmer_reordered, khmer_split, khmer_syllable, khmer_walk, vowel_step};
 ghost use Rattle.script_khmer_myanmar.specs.Runs.{IsRun, IsWalked, OpensForms};
 
 use crate::glyphs::glyph_in;
@@ -245,10 +245,10 @@ fn reorder_coeng(
     requires within { end ≤ length (all_glyphs buffer.old) }
     requires few { count ≤ 2 }
     ensures rewritten { IsRewritten
-        (coeng_met masks.now place count (slice_range (items_of buffer.old) start end) (item_of next)).rewritten start
+        (coeng_step masks.now place count (slice_range (items_of buffer.old) start end) (item_of next)).rewritten start
         end buffer.old buffer.new }
     ensures count { result
-        ≡ (coeng_met masks.now place count (slice_range (items_of buffer.old) start end) (item_of next)).count }
+        ≡ (coeng_step masks.now place count (slice_range (items_of buffer.old) start end) (item_of next)).count }
 {
     if next.category != OT_Ra {
         return count + 1;
@@ -282,10 +282,10 @@ fn reorder_vowel(
     requires there { start + (place + 1) ≤ end }
     requires within { end ≤ length (all_glyphs buffer.old) }
     ensures rewritten { IsRewritten
-        (vowel_met place count (slice_range (items_of buffer.old) start end) (item_of glyph)).rewritten start end
+        (vowel_step place count (slice_range (items_of buffer.old) start end) (item_of glyph)).rewritten start end
         buffer.old buffer.new }
     ensures count { result
-        ≡ (vowel_met place count (slice_range (items_of buffer.old) start end) (item_of glyph)).count }
+        ≡ (vowel_step place count (slice_range (items_of buffer.old) start end) (item_of glyph)).count }
 {
     if glyph.category != OT_VPre {
         return count;

@@ -5,5 +5,5 @@ pub mod glyphs;
 pub mod khmer;
 pub mod laws;
 pub mod myanmar;
-mod places;
+mod myanmar_positions;
 mod runs;

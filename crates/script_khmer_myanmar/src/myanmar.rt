@@ -1,24 +1,21 @@
-//! Myanmar: sorts the glyphs of a syllable by their positions around its base (rustybuzz: hb/ot_shaper_myanmar.rs).
-ghost use Rattle.std.specs.Prelude.{◌≡◌, ◌≤◌, ◌++◌, ◌∷◌, [], false, ◌+◌, length, map, take, drop, reverse, slice_range, OnOk};
+//! Myanmar: the glyphs of a syllable go to their places around its base.
+ghost use Rattle.std.specs.Prelude.{◌≡◌, ◌≤◌, ◌++◌, length, map, take, drop, slice_range, OnOk};
 ghost use Rattle.buffer_glyphs.specs.Items.{item_of, strip};
 ghost use Rattle.buffer_core.specs.Readings.{always};
-ghost use Rattle.buffer_core.specs.Sides.{all_glyphs, items_of, origins_by, origins_of};
-ghost use Rattle.buffer_core.specs.Sorting.{with_range_sorted};
-ghost use Rattle.buffer_glyphs.specs.Events.{Sort};
-ghost use Rattle.buffer_groups.specs.Events.{order_of};
-ghost use Rattle.buffer_stable_order.specs.Keys.{key_order};
+ghost use Rattle.buffer_core.specs.Sides.{all_glyphs, items_of};
 ghost use Rattle.buffer_stages.specs.Ready.{IsReady};
 ghost use Rattle.buffer_stages.specs.Stages.{IsFollowed};
 ghost use Rattle.buffer_stages.specs.Rewriting.{by_syllable};
 ghost use Rattle.buffer_stages.specs.SyllableBuffers.{IsRewritten, with_rule};
-ghost use Rattle.script_khmer_myanmar.specs.Myanmar.{all_placed, groups_reversed, has_two_matras, is_left_matra, matras_of, matras_reversed, myanmar_places, myanmar_reordered, myanmar_syllable, sorted_by_place};
-ghost use Rattle.script_khmer_myanmar.specs.Turned.{glyphs_at, leading_turned};
+ghost use Rattle.script_khmer_myanmar.specs.Myanmar.{items_with_positions, has_two_matras, is_left_matra, matras_of, matras_reversed, myanmar_positions, myanmar_reordered, myanmar_syllable};
+ghost use Rattle.script_khmer_myanmar.specs.Turned.{glyphs_at};
 
 use crate::glyphs::glyph_in;
-use crate::places::set_places;
+use crate::myanmar_positions::set_places;
 use buffer_core::buffer::hb_buffer_t;
 use buffer_glyphs::info::hb_glyph_info_t;
-use buffer_stages::moves::order_kept;
+use buffer_stages::groups::{GroupRule, reverse_groups};
+use buffer_stages::sorting::sort_by_place;
 use buffer_stages::walk::{SyllableRule, each_syllable};
 use script_categories::hb_ot_script_shaper_t::MYANMAR_SHAPER;
 use script_categories::ot_category_t::OT_VPre;
@@ -92,7 +89,7 @@ fn place_syllable(buffer: &mut hb_buffer_t, start: usize, end: usize)
     requires ready { IsReady buffer.old }
     requires ordered { start ≤ end }
     requires within { end ≤ length (all_glyphs buffer.old) }
-    ensures { IsRewritten (all_placed (slice_range (items_of buffer.old) start end)) start end buffer.old buffer.new }
+    ensures { IsRewritten (items_with_positions (slice_range (items_of buffer.old) start end)) start end buffer.old buffer.new }
 {
     let known = buffer.known_order();
     place_within(buffer.info_slice_mut(), start, end);
@@ -102,47 +99,10 @@ fn place_syllable(buffer: &mut hb_buffer_t, start: usize, end: usize)
 fn place_within(glyphs: &mut [hb_glyph_info_t], start: usize, end: usize)
     requires ordered { start ≤ end }
     requires within { end ≤ length glyphs.old }
-    ensures { glyphs.new ≡ take start glyphs.old ++ glyphs_at (myanmar_places (map (λ g. g.category)
+    ensures { glyphs.new ≡ take start glyphs.old ++ glyphs_at (myanmar_positions (map (λ g. g.category)
         (slice_range glyphs.old start end))) (slice_range glyphs.old start end) ++ drop end glyphs.old }
 {
     set_places(&mut glyphs[start..end]);
-}
-
-fn sort_by_place(
-    alloc: Global,
-    buffer: &mut hb_buffer_t,
-    start: usize,
-    end: usize,
-) -> Result<(), AllocError>
-    requires ready { IsReady buffer.old }
-    requires ordered { start ≤ end }
-    requires within { end ≤ length (all_glyphs buffer.old) }
-    ensures { OnOk result (IsRewritten (sorted_by_place (slice_range (items_of buffer.old) start end)) start end
-        buffer.old buffer.new) }
-{
-    sort_glyphs(alloc, buffer, start, end)?;
-    Ok(())
-}
-
-fn sort_glyphs(
-    alloc: Global,
-    buffer: &mut hb_buffer_t,
-    start: usize,
-    end: usize,
-) -> Result<(), AllocError>
-    requires closed { buffer.old.is_open ≡ false }
-    requires ordered { start ≤ end }
-    requires within { end ≤ length (all_glyphs buffer.old) }
-    ensures sorted { OnOk result (buffer.new ≡ with_range_sorted start end (λ g. g.auxiliary) buffer.old) }
-    ensures items { OnOk result (items_of buffer.new
-        ≡ take start (items_of buffer.old) ++ key_order (λ x. x.auxiliary) (slice_range (items_of buffer.old) start end)
-        ++ drop end (items_of buffer.old)) }
-    ensures origins { OnOk result (origins_of buffer.new
-        ≡ origins_by (Sort start (order_of (map (λ x. x.auxiliary) (slice_range (items_of buffer.old) start end))) ∷ [])
-        buffer.old) }
-    ensures count { length (all_glyphs buffer.new) ≡ length (all_glyphs buffer.old) }
-{
-    buffer.sort(alloc, start, end, |glyph| u32::from(glyph.auxiliary))
 }
 
 fn reverse_matras(buffer: &mut hb_buffer_t, start: usize, end: usize)
@@ -156,7 +116,7 @@ fn reverse_matras(buffer: &mut hb_buffer_t, start: usize, end: usize)
     if !has_two_matras(&buffer.info_slice()[start..start + matras]) {
         return;
     }
-    reverse_groups(buffer, start, start + matras);
+    reverse_groups(&LeftMatras, buffer, start, start + matras);
 }
 
 /// The number of glyphs at the start that are left matras with their variation selectors.
@@ -195,51 +155,15 @@ fn is_left_matra(glyph: &hb_glyph_info_t) -> bool
     glyph.category == OT_VPre
 }
 
-fn reverse_groups(buffer: &mut hb_buffer_t, start: usize, end: usize)
-    requires ready { IsReady buffer.old }
-    requires ordered { start ≤ end }
-    requires within { end ≤ length (all_glyphs buffer.old) }
-    ensures { IsRewritten (groups_reversed (slice_range (items_of buffer.old) start end)) start end buffer.old
-        buffer.new }
-{
-    buffer.merge_clusters(start, end);
-    let known = order_kept(buffer, start, end);
-    turn_within(buffer.info_slice_mut(), start, end);
-    buffer.keep_order(known);
-}
+/// A left matra begins a group.
+struct LeftMatras;
 
-fn turn_within(glyphs: &mut [hb_glyph_info_t], start: usize, end: usize)
-    requires ordered { start ≤ end }
-    requires within { end ≤ length glyphs.old }
-    ensures { glyphs.new ≡ take start glyphs.old ++ leading_turned (λ g. is_left_matra (item_of g))
-        (slice_range glyphs.old start end) [] [] ++ drop end glyphs.old }
-{
-    turn_groups(&mut glyphs[start..end]);
-}
+impl GroupRule for LeftMatras {
+    ghost use Rattle.script_khmer_myanmar.specs.Myanmar.{is_left_matra};
 
-/// Reverses the groups that begin with left matras: reverses all glyphs, then the glyphs of each group. It takes linear
-/// time.
-#[tactic(auto, using(crate::proofs::TurnedBack::none_turned_back, crate::proofs::TurnedBack::kept_back, crate::proofs::TurnedBack::group_back, crate::proofs::TurnedBack::all_back))]
-fn turn_groups(glyphs: &mut [hb_glyph_info_t])
-    ensures { glyphs.new ≡ leading_turned (λ g. is_left_matra (item_of g)) glyphs.old [] [] }
-{
-    glyphs.reverse();
-    let count = glyphs.len();
-    let mut begin = 0;
-    for i in 0..count {
-        if is_left_matra(&glyphs[i]) {
-            turn_back(glyphs, begin, i + 1);
-            begin = i + 1;
-        }
+    ghost begins = { λ _. is_left_matra };
+
+    fn begins_group(&self, glyph: &hb_glyph_info_t) -> bool {
+        is_left_matra(glyph)
     }
-    turn_back(glyphs, begin, count);
-}
-
-/// Reverses the glyphs `start..end`.
-fn turn_back(glyphs: &mut [hb_glyph_info_t], start: usize, end: usize)
-    requires ordered { start ≤ end }
-    requires within { end ≤ length glyphs.old }
-    ensures { glyphs.new ≡ take start glyphs.old ++ reverse (slice_range glyphs.old start end) ++ drop end glyphs.old }
-{
-    glyphs[start..end].reverse();
 }

@@ -6,10 +6,10 @@ ghost use Rattle.buffer_core.specs.Sides.{all_glyphs, items_of};
 ghost use Rattle.buffer_stages.specs.Ready.{IsReady};
 ghost use Rattle.buffer_stages.specs.Moves.{reach};
 ghost use Rattle.buffer_stages.specs.Fronts.{front_moves, pair_seen};
-ghost use Rattle.buffer_stages.specs.Rewriting.{kept};
-ghost use Rattle.buffer_stages.specs.Parts.{fronts_moved, glyph_masked, masked};
+ghost use Rattle.buffer_glyphs.specs.Rewriting.{eventless_arrangement};
+ghost use Rattle.buffer_stages.specs.Parts.{fronts_moved, glyph_masked, item_with_features};
 ghost use Rattle.buffer_stages.specs.SyllableBuffers.{IsRewritten};
-ghost use Rattle.script_khmer_myanmar.specs.Runs.{IsRun, OpensForms, ends_run, forms_masked, forms_moved, is_vowel, run_length, taken, together};
+ghost use Rattle.script_khmer_myanmar.specs.Runs.{IsRun, OpensForms, ends_run, forms_masked, forms_moved, is_vowel, run_length, front_count, together};
 
 use crate::khmer::KhmerMasks;
 use buffer_core::buffer::hb_buffer_t;
@@ -118,7 +118,7 @@ fn mask_run(buffer: &mut hb_buffer_t, start: usize, end: usize, mask: hb_mask_t)
     requires ready { IsReady buffer.old }
     requires ordered { start ≤ end }
     requires within { end ≤ length (all_glyphs buffer.old) }
-    ensures { IsRewritten (kept (forms_masked (together true) (masked mask)
+    ensures { IsRewritten (eventless_arrangement (forms_masked (together true) (item_with_features mask)
         (slice_range (items_of buffer.old) start end))) start
         end buffer.old buffer.new }
 {
@@ -219,7 +219,7 @@ fn merged_at(glyphs: &[hb_glyph_info_t], i: usize, forms: bool, merged: usize) -
 /// The number of glyphs that move to the front from an index.
 fn taken(glyphs: &[hb_glyph_info_t], i: usize, forms: bool) -> usize
     requires there { i < length glyphs.now }
-    ensures value { result ≡ taken forms (strip (drop i glyphs.now)) }
+    ensures value { result ≡ front_count forms (strip (drop i glyphs.now)) }
     ensures within { i + result ≤ length glyphs.now }
 {
     if forms && i + 1 < glyphs.len() && is_form(&glyphs[i], &glyphs[i + 1]) {

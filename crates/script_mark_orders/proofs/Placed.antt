@@ -6,19 +6,19 @@ use Rattle.buffer_glyphs.specs.Items.{Item}
 use Rattle.buffer_glyphs.specs.Levels.{InList}
 use Rattle.buffer_glyphs.specs.declared.level.BufferClusterLevel.{BufferClusterLevel}
 use Rattle.buffer_glyphs.specs.Events.{Event, Merge, Replace, Circle, Delete, Move, Arrange, Sort, Reverse, Break, Concat, Tatweel, Spread, Reset}
-use Rattle.buffer_glyphs.specs.Origins.{changed_within}
-use Rattle.buffer_core.specs.Readings.{Read, Run, View, always, with_events}
+use Rattle.buffer_glyphs.specs.Origins.{with_range_changed}
+use Rattle.buffer_core.specs.Readings.{Read, BufferState, View, always, with_events}
 use Rattle.buffer_core.specs.Sides.{Settings, Sides, items_of, origins_by, settings_of, view_of}
 use Rattle.buffer_stages.specs.Ready.{IsReady}
 use Rattle.buffer_stages.specs.Stages.{IsFollowed}
-use Rattle.buffer_glyphs.specs.Arranged.{Arranged, kept, shifted}
+use Rattle.buffer_glyphs.specs.Rewriting.{Arrangement, eventless_arrangement, shifted_event}
 use Rattle.buffer_stages.specs.Brought.{frame_of}
 use Rattle.buffer_stages.specs.Rearranged.{IsRearranged}
-use Rattle.buffer_stages.specs.Moves.{moved, order_of_move, with_move}
-use Rattle.buffer_stages.specs.Lemmas.Moved.{moved_front, moved_length}
+use Rattle.buffer_stages.specs.Moves.{with_range_moved, order_of_move, with_move}
+use Rattle.buffer_stages.specs.Lemmas.Moves.{moved_front, moved_length}
 use Rattle.script_joining.specs.Marks as arabic
 use Rattle.script_hebrew_thai.specs.Hebrew as hebrew
-use Rattle.script_mark_orders.specs.Orders.{arabic_order, hebrew_order, leading_first, led_by, swapped_at}
+use Rattle.script_mark_orders.specs.Orders.{arabic_order, hebrew_order, leading_first, leading_marks, with_marks_swapped}
 use Rattle.script_mark_orders.specs.Lemmas.Counts.{leads_within, leading_length, three_within}
 
 -- ---- after a front
@@ -34,7 +34,7 @@ drop_past (x ∷ front) ys n = let same : length (x ∷ front) + n ≡ suc (leng
 drop_past_to : {X : Type 0} (front ys : List X) (m n : ℕ) → m ≡ length front + n → drop m (front ++ ys) ≡ drop n ys
 drop_past_to front ys m n e = ap (λ k. drop k (front ++ ys)) e ∙ drop_past front ys n
 
-moved_past : {X : Type 0} (front ys : List X) (start n k : ℕ) → moved (length front + start) n k (front ++ ys) ≡ front ++ moved start n k ys
+moved_past : {X : Type 0} (front ys : List X) (start n k : ℕ) → with_range_moved (length front + start) n k (front ++ ys) ≡ front ++ with_range_moved start n k ys
 moved_past {X = X} front ys start n k =
     rw (
       take_past front ys start,
@@ -47,10 +47,10 @@ moved_past {X = X} front ys start n k =
     sides : (a b c d : List X) → (a ++ b) ++ c ++ d ≡ a ++ (b ++ c ++ d)
     sides a b c d = simp append_assoc
 
-moved_between : {X : Type 0} (front run rest : List X) (start n k : ℕ) → start + (n + k) ≤ length run → moved (length front + start) n k (front ++ (run ++ rest)) ≡ front ++ (moved start n k run ++ rest)
+moved_between : {X : Type 0} (front run rest : List X) (start n k : ℕ) → start + (n + k) ≤ length run → with_range_moved (length front + start) n k (front ++ (run ++ rest)) ≡ front ++ (with_range_moved start n k run ++ rest)
 moved_between front run rest start n k le = moved_past front (run ++ rest) start n k ∙ ap (λ ys. front ++ ys) (moved_front start n k run rest le)
 
-changed_between : (f : Item → Item) (front run rest : List Item) (n : ℕ) → n ≤ length run → changed_within f (length front + 0) (length front + n) (front ++ (run ++ rest)) ≡ front ++ (changed_within f 0 n run ++ rest)
+changed_between : (f : Item → Item) (front run rest : List Item) (n : ℕ) → n ≤ length run → with_range_changed f (length front + 0) (length front + n) (front ++ (run ++ rest)) ≡ front ++ (with_range_changed f 0 n run ++ rest)
 changed_between f front run rest n le =
     let most : max (length front + 0) (length front + n) ≡ length front + n = omega arith in
     let all : max 0 n ≡ n = omega arith in
@@ -89,7 +89,7 @@ framed v st opened refused = record {
   post_context = st.post_context;
   invisible = st.invisible;
   not_found_variation_selector = st.not_found_variation_selector;
-  scratch_flags = v.told;
+  scratch_flags = v.scratch_flags;
   flags = st.flags;
 }
 
@@ -101,13 +101,13 @@ frame_stays xs a b view settings ready after =
     ∙ ap (λ t. framed (view_of a) (settings_of a) a.is_open t) (after.unrefused ∙ sym ready.unrefused)
 
 -- a stage that puts a run in order rearranges it
-pub stage_rearranges : (r : View → Read) (order : Arranged) (front rest : List Item) (a b : Sides) → IsReady a → IsFollowed (always r) a b
-    → (r (view_of a)).view ≡ record (view_of a) { items = front ++ (order.items ++ rest) } → (r (view_of a)).events a.level ≡ map (shifted (length front)) order.events → IsRearranged front order rest a b
+pub stage_rearranges : (r : View → Read) (order : Arrangement) (front rest : List Item) (a b : Sides) → IsReady a → IsFollowed (always r) a b
+    → (r (view_of a)).view ≡ record (view_of a) { items = front ++ (order.items ++ rest) } → (r (view_of a)).events a.level ≡ map (shifted_event (length front)) order.events → IsRearranged front order rest a b
 stage_rearranges r order front rest a b ready f view events =
-    let seen : view_of b ≡ record (view_of a) { items = front ++ (order.items ++ rest) } = ap (λ (run : Run). run.view) f.follows ∙ view in
+    let seen : view_of b ≡ record (view_of a) { items = front ++ (order.items ++ rest) } = ap (λ (run : BufferState). run.view) f.follows ∙ view in
     record {
       items = ap (λ (v : View). v.items) seen;
-      happened = ap (λ (run : Run). run.origins) f.follows ∙ ap (λ es. origins_by es a) events;
+      happened = ap (λ (run : BufferState). run.origins) f.follows ∙ ap (λ es. origins_by es a) events;
       frame = frame_stays (front ++ (order.items ++ rest)) a b seen f.settings ready f.ready;
       ready = f.ready;
     }
@@ -120,38 +120,38 @@ hebrew_rearranges start end a b front run rest ready f e at last =
     let seen : slice_range (items_of a) start end ≡ run = ap (λ xs. slice_range xs start end) e ∙ run_seen front run rest start end at last in
     by_place (hebrew.first_three run) refl (ap hebrew.first_three seen)
   where
-    by_place : (n : Option ℕ) → hebrew.first_three run ≡ n → hebrew.first_three (slice_range (items_of a) start end) ≡ hebrew.first_three run → IsRearranged front (swapped_at (hebrew.first_three run) run) rest a b
+    by_place : (n : Option ℕ) → hebrew.first_three run ≡ n → hebrew.first_three (slice_range (items_of a) start end) ≡ hebrew.first_three run → IsRearranged front (with_marks_swapped (hebrew.first_three run) run) rest a b
     by_place None h same =
-        stage_rearranges (hebrew.marks_reordered start end) (swapped_at (hebrew.first_three run) run) front rest a b ready f
-        (ap (λ p. (hebrew.with_swapped start p (view_of a)).view) (same ∙ h) ∙ ap (λ xs. record (view_of a) { items = xs }) (e ∙ ap (λ p. front ++ ((swapped_at p run).items ++ rest)) (sym h)))
-        (ap (λ p. (hebrew.with_swapped start p (view_of a)).events a.level) (same ∙ h) ∙ ap (λ p. map (shifted (length front)) (swapped_at p run).events) (sym h))
+        stage_rearranges (hebrew.marks_reordered start end) (with_marks_swapped (hebrew.first_three run) run) front rest a b ready f
+        (ap (λ p. (hebrew.with_swapped start p (view_of a)).view) (same ∙ h) ∙ ap (λ xs. record (view_of a) { items = xs }) (e ∙ ap (λ p. front ++ ((with_marks_swapped p run).items ++ rest)) (sym h)))
+        (ap (λ p. (hebrew.with_swapped start p (view_of a)).events a.level) (same ∙ h) ∙ ap (λ p. map (shifted_event (length front)) (with_marks_swapped p run).events) (sym h))
     by_place (Some n) h same =
         let le = three_within run n h in
         let there : start + (n + 1) ≡ length front + (n + 1) = omega (arith, at) in
-        stage_rearranges (hebrew.marks_reordered start end) (swapped_at (hebrew.first_three run) run) front rest a b ready f
+        stage_rearranges (hebrew.marks_reordered start end) (with_marks_swapped (hebrew.first_three run) run) front rest a b ready f
         (ap (λ p. (hebrew.with_swapped start p (view_of a)).view) (same ∙ h)
-        ∙ ap (λ xs. record (view_of a) { items = xs }) (ap (λ m. moved m 1 1 (items_of a)) there ∙ ap (moved (length front + (n + 1)) 1 1) e ∙ moved_between front run rest (n + 1) 1 1 (omega (arith, le)) ∙ ap (λ p. front ++ ((swapped_at p run).items ++ rest)) (sym h)))
-        (ap (λ p. (hebrew.with_swapped start p (view_of a)).events a.level) (same ∙ h) ∙ ap (λ m. Move InList m (order_of_move 1 1) ∷ []) there ∙ ap (λ p. map (shifted (length front)) (swapped_at p run).events) (sym h))
+        ∙ ap (λ xs. record (view_of a) { items = xs }) (ap (λ m. with_range_moved m 1 1 (items_of a)) there ∙ ap (with_range_moved (length front + (n + 1)) 1 1) e ∙ moved_between front run rest (n + 1) 1 1 (omega (arith, le)) ∙ ap (λ p. front ++ ((with_marks_swapped p run).items ++ rest)) (sym h)))
+        (ap (λ p. (hebrew.with_swapped start p (view_of a)).events a.level) (same ∙ h) ∙ ap (λ m. Move InList m (order_of_move 1 1) ∷ []) there ∙ ap (λ p. map (shifted_event (length front)) (with_marks_swapped p run).events) (sym h))
 
 -- ---- Arabic
 
 further : (n m i : ℕ) → n + (m + i) ≡ n + m + i
 further n m i = omega arith
 
-moved_size : (below leading : ℕ) (run : List Item) → below + leading ≤ length run → length (moved 0 below leading run) ≡ length run
+moved_size : (below leading : ℕ) (run : List Item) → below + leading ≤ length run → length (with_range_moved 0 below leading run) ≡ length run
 moved_size below leading run le = moved_length 0 below leading run (omega (arith, le))
 
 abbrev led_items : ℕ → ℕ → ℕ → ℕ → View → Bool → Read
-led_items class start below leading v t = if t then with_events [] v else arabic.reclassed class start (start + leading) (with_move start below leading v)
+led_items class start below leading v t = if t then with_events [] v else arabic.with_range_classed class start (start + leading) (with_move start below leading v)
 
-abbrev led_here : ℕ → ℕ → ℕ → List Item → Bool → Arranged
+abbrev led_here : ℕ → ℕ → ℕ → List Item → Bool → Arrangement
 led_here class below leading run t =
-    if t then kept run else record { items = changed_within (arabic.classed class) 0 leading (moved 0 below leading run); events = Move InList 0 (order_of_move below leading) ∷ [] }
+    if t then eventless_arrangement run else record { items = with_range_changed (arabic.item_with_class class) 0 leading (with_range_moved 0 below leading run); events = Move InList 0 (order_of_move below leading) ∷ [] }
 
 -- marks that lead a run, seen in the whole list
 record IsLed (class start below leading : ℕ) (front run rest : List Item) (v : View) : Type 0 where
-  view : (arabic.led class start below leading v).view ≡ record v { items = front ++ ((led_by class below leading run).items ++ rest) }
-  events : (level : BufferClusterLevel) → (arabic.led class start below leading v).events level ≡ map (shifted (length front)) (led_by class below leading run).events
+  view : (arabic.with_leading_marks class start below leading v).view ≡ record v { items = front ++ ((leading_marks class below leading run).items ++ rest) }
+  events : (level : BufferClusterLevel) → (arabic.with_leading_marks class start below leading v).events level ≡ map (shifted_event (length front)) (leading_marks class below leading run).events
 
 led_between : (class start below leading : ℕ) (front run rest : List Item) (v : View) → v.items ≡ front ++ (run ++ rest) → length front ≡ start → below + leading ≤ length run → IsLed class start below leading front run rest v
 led_between class start below leading front run rest v e at le = record { view = seen (leading == 0); events = λ level. happened level (leading == 0) }
@@ -167,27 +167,27 @@ led_between class start below leading front run rest v e at le = record { view =
     seen false =
         let long = moved_size below leading run le in
         ap (λ xs. record v { items = xs })
-        (ap (λ xs. changed_within (arabic.classed class) start (start + leading) (moved start below leading xs)) e
-        ∙ ap (λ m. changed_within (arabic.classed class) m (start + leading) (moved m below leading (front ++ (run ++ rest)))) first
-        ∙ ap (λ m. changed_within (arabic.classed class) (length front + 0) m (moved (length front + 0) below leading (front ++ (run ++ rest)))) last
-        ∙ ap (changed_within (arabic.classed class) (length front + 0) (length front + leading)) (moved_between front run rest 0 below leading (omega (arith, le)))
-        ∙ changed_between (arabic.classed class) front (moved 0 below leading run) rest leading (omega (arith, long, le)))
+        (ap (λ xs. with_range_changed (arabic.item_with_class class) start (start + leading) (with_range_moved start below leading xs)) e
+        ∙ ap (λ m. with_range_changed (arabic.item_with_class class) m (start + leading) (with_range_moved m below leading (front ++ (run ++ rest)))) first
+        ∙ ap (λ m. with_range_changed (arabic.item_with_class class) (length front + 0) m (with_range_moved (length front + 0) below leading (front ++ (run ++ rest)))) last
+        ∙ ap (with_range_changed (arabic.item_with_class class) (length front + 0) (length front + leading)) (moved_between front run rest 0 below leading (omega (arith, le)))
+        ∙ changed_between (arabic.item_with_class class) front (with_range_moved 0 below leading run) rest leading (omega (arith, long, le)))
 
-    happened : (level : BufferClusterLevel) (t : Bool) → (led_items class start below leading v t).events level ≡ map (shifted (length front)) (led_here class below leading run t).events
+    happened : (level : BufferClusterLevel) (t : Bool) → (led_items class start below leading v t).events level ≡ map (shifted_event (length front)) (led_here class below leading run t).events
     happened level true = refl
     happened level false = ap (λ m. Move InList m (order_of_move below leading) ∷ []) first
 
 leading_between : (class new start end : ℕ) (front run rest : List Item) (v : View) → v.items ≡ front ++ (run ++ rest) → length front ≡ start → start + length run ≡ end
     → ((arabic.with_leading class new start end v).view ≡ record v { items = front ++ ((leading_first class new run).items ++ rest) })
-    × ((level : BufferClusterLevel) → (arabic.with_leading class new start end v).events level ≡ map (shifted (length front)) (leading_first class new run).events)
+    × ((level : BufferClusterLevel) → (arabic.with_leading class new start end v).events level ≡ map (shifted_event (length front)) (leading_first class new run).events)
 leading_between class new start end front run rest v e at last =
     let seen : slice_range v.items start end ≡ run = ap (λ xs. slice_range xs start end) e ∙ run_seen front run rest start end at last in
     let l = led_between new start (arabic.count_below class run) (arabic.count_leading class run) front run rest v e at (leads_within class run) in
-    let same : arabic.with_leading class new start end v ≡ arabic.led new start (arabic.count_below class run) (arabic.count_leading class run) v =
-    ap (λ xs. arabic.led new start (arabic.count_below class xs) (arabic.count_leading class xs) v) seen in
+    let same : arabic.with_leading class new start end v ≡ arabic.with_leading_marks new start (arabic.count_below class run) (arabic.count_leading class run) v =
+    ap (λ xs. arabic.with_leading_marks new start (arabic.count_below class xs) (arabic.count_leading class xs) v) seen in
     (ap (λ (r : Read). r.view) same ∙ l.view, λ level. ap (λ (r : Read). r.events level) same ∙ l.events level)
 
-shift_event : (n m : ℕ) (e : Event) → shifted n (shifted m e) ≡ shifted (n + m) e
+shift_event : (n m : ℕ) (e : Event) → shifted_event n (shifted_event m e) ≡ shifted_event (n + m) e
 shift_event n m (Merge how from to) = rw (further n m from, further n m to) refl
 shift_event n m (Replace at taken given) = rw (further n m at) refl
 shift_event n m (Circle after beside like) = rw (further n m beside, further n m like) refl
@@ -202,7 +202,7 @@ shift_event n m (Tatweel from to) = rw (further n m from, further n m to) refl
 shift_event n m Spread = refl
 shift_event n m Reset = refl
 
-shift_events : (n m : ℕ) (es : List Event) → map (shifted n) (map (shifted m) es) ≡ map (shifted (n + m)) es
+shift_events : (n m : ℕ) (es : List Event) → map (shifted_event n) (map (shifted_event m) es) ≡ map (shifted_event (n + m)) es
 shift_events n m [] = refl
 shift_events n m (e ∷ es) = rw (shift_event n m e, shift_events n m es) refl
 
@@ -232,9 +232,9 @@ arabic_rearranges start end a b front run rest ready f e at last =
     (ap (λ (r : Read). r.view) to_here ∙ two.0 ∙ ap (λ (u : View). record u { items = mid ++ (second.items ++ rest) }) one.0
     ∙ ap (λ xs. record v { items = xs }) (joins front (take n first.items) second.items rest))
     (ap (λ es. es ++ (arabic.with_leading 230 26 (start + arabic.count_leading 220 (slice_range v.items start end)) end w).events a.level) (one.1 a.level)
-    ∙ ap (λ (r : Read). map (shifted (length front)) first.events ++ r.events a.level) to_here
-    ∙ ap (λ es. map (shifted (length front)) first.events ++ es) (two.1 a.level ∙ ap (λ m. map (shifted m) second.events) reached ∙ sym (shift_events (length front) n second.events))
-    ∙ sym (map-append (shifted (length front)) first.events (map (shifted n) second.events)))
+    ∙ ap (λ (r : Read). map (shifted_event (length front)) first.events ++ r.events a.level) to_here
+    ∙ ap (λ es. map (shifted_event (length front)) first.events ++ es) (two.1 a.level ∙ ap (λ m. map (shifted_event m) second.events) reached ∙ sym (shift_events (length front) n second.events))
+    ∙ sym (map-append (shifted_event (length front)) first.events (map (shifted_event n) second.events)))
   where
     joins : (a b c d : List Item) → (a ++ b) ++ (c ++ d) ≡ a ++ ((b ++ c) ++ d)
     joins a b c d = simp append_assoc

@@ -2,45 +2,46 @@
 use Rattle.std.specs.Prelude.{ℕ, ◌+◌, ◌==◌, ◌≡◌, if◌then◌else◌, List, [], ◌∷◌, ◌++◌, Option, None, Some, drop, length, map, take}
 use Rattle.buffer_glyphs.specs.Items.{Item}
 use Rattle.buffer_glyphs.specs.Levels.{InList}
-use Rattle.buffer_glyphs.specs.Events.{Move, IsPlain}
-use Rattle.buffer_glyphs.specs.Origins.{changed_within}
-use Rattle.buffer_glyphs.specs.Arranged.{Arranged, kept, shifted, and_arranged}
-use Rattle.buffer_stages.specs.Moves.{moved, order_of_move}
-use Rattle.script_joining.specs.Marks.{classed, count_below, count_leading}
+use Rattle.buffer_glyphs.specs.Events.{Move}
+use Rattle.buffer_parts.specs.Plainly.{AreSteady}
+use Rattle.buffer_glyphs.specs.Origins.{with_range_changed}
+use Rattle.buffer_glyphs.specs.Rewriting.{Arrangement, eventless_arrangement, shifted_event, and_arranged}
+use Rattle.buffer_stages.specs.Moves.{with_range_moved, order_of_move}
+use Rattle.script_joining.specs.Marks.{item_with_class, count_below, count_leading}
 use Rattle.script_hebrew_thai.specs.Hebrew.{first_three}
 
 -- ---- Arabic (UTR 53)
 
 -- that many modifier marks, after that many others, are moved to the start of the run and have another class; all marks
 -- up to their end are merged
-abbrev pub led_by : ℕ → ℕ → ℕ → List Item → Arranged
-led_by class below leading run =
-    if leading == 0 then kept run
-    else record { items = changed_within (classed class) 0 leading (moved 0 below leading run); events = Move InList 0 (order_of_move below leading) ∷ [] }
+abbrev pub leading_marks : ℕ → ℕ → ℕ → List Item → Arrangement
+leading_marks class below leading run =
+    if leading == 0 then eventless_arrangement run
+    else record { items = with_range_changed (item_with_class class) 0 leading (with_range_moved 0 below leading run); events = Move InList 0 (order_of_move below leading) ∷ [] }
 
 -- the modifier marks that lead those of a class are moved to the start of the run
-abbrev pub leading_first : ℕ → ℕ → List Item → Arranged
-leading_first class new run = led_by new (count_below class run) (count_leading class run) run
+abbrev pub leading_first : ℕ → ℕ → List Item → Arrangement
+leading_first class new run = leading_marks new (count_below class run) (count_leading class run) run
 
 -- an arrangement of the items after a number of first ones
-abbrev pub rest_arranged : ℕ → (List Item → Arranged) → List Item → Arranged
-rest_arranged n order run = record { items = take n run ++ (order (drop n run)).items; events = map (shifted n) (order (drop n run)).events }
+abbrev pub rest_arranged : ℕ → (List Item → Arrangement) → List Item → Arrangement
+rest_arranged n order run = record { items = take n run ++ (order (drop n run)).items; events = map (shifted_event n) (order (drop n run)).events }
 
 -- the Arabic order: class 220 first, with class CCC22 for its modifiers; then class 230, with class CCC26 (UTR 53)
-abbrev pub arabic_order : List Item → Arranged
+abbrev pub arabic_order : List Item → Arrangement
 arabic_order run = and_arranged (leading_first 220 25 run) (rest_arranged (count_leading 220 run) (leading_first 230 26))
 
 -- ---- Hebrew
 
 -- the arrangement with the last two of three marks at an index swapped
-abbrev pub swapped_at : Option ℕ → List Item → Arranged
-swapped_at None run = kept run
-swapped_at (Some n) run = record { items = moved (n + 1) 1 1 run; events = Move InList (n + 1) (order_of_move 1 1) ∷ [] }
+abbrev pub with_marks_swapped : Option ℕ → List Item → Arrangement
+with_marks_swapped None run = eventless_arrangement run
+with_marks_swapped (Some n) run = record { items = with_range_moved (n + 1) 1 1 run; events = Move InList (n + 1) (order_of_move 1 1) ∷ [] }
 
 -- the Hebrew order: of the first three neighbours that are patah or qamats, sheva or hiriq, and meteg or another mark
 -- below, the last two are swapped
-abbrev pub hebrew_order : List Item → Arranged
-hebrew_order run = swapped_at (first_three run) run
+abbrev pub hebrew_order : List Item → Arrangement
+hebrew_order run = with_marks_swapped (first_three run) run
 
 -- ---- laws
 
@@ -49,7 +50,6 @@ pub record OrdersKeepCount : Type 0 where
   pub arabic : (run : List Item) → length (arabic_order run).items ≡ length run
   pub hebrew : (run : List Item) → length (hebrew_order run).items ≡ length run
 
--- law: an order moves no mark without a merge
-pub record OrdersArePlain : Type 0 where
-  pub arabic : (run : List Item) → IsPlain (arabic_order run).events
-  pub hebrew : (run : List Item) → IsPlain (hebrew_order run).events
+pub record OrdersAreSteady : Type 0 where
+  pub arabic : (run : List Item) → AreSteady (arabic_order run).events
+  pub hebrew : (run : List Item) → AreSteady (hebrew_order run).events

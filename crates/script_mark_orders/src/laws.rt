@@ -1,5 +1,5 @@
-//! Laws of the shapers' orders of marks.
-ghost use Rattle.script_mark_orders.specs.Orders.{OrdersArePlain, OrdersKeepCount};
+//! Laws of the orders of marks.
+ghost use Rattle.script_mark_orders.specs.Orders.{OrdersAreSteady, OrdersKeepCount};
 
 /// The order of a run has as many marks as the run.
 #[tactic(auto, using(crate::specs::Lemmas::Counts::orders_keep_count))]
@@ -7,8 +7,8 @@ pub fn law_orders_keep_count()
     ensures { OrdersKeepCount }
 {}
 
-/// The order of a run moves no mark without a merge.
-#[tactic(auto, using(crate::specs::Lemmas::Counts::orders_are_plain))]
-pub fn law_orders_are_plain()
-    ensures { OrdersArePlain }
+/// No mark is added or deleted, and none is moved without a merge.
+#[tactic(auto, using(crate::specs::Lemmas::Counts::orders_are_steady))]
+pub fn law_orders_are_steady()
+    ensures { OrdersAreSteady }
 {}

@@ -5,36 +5,36 @@ use Rattle.std.proofs.lemmas.List.{length-append, length-map, length-replicate}
 use Rattle.buffer_glyphs.specs.declared.cause.ShapeCause.{ShapeCause}
 use Rattle.buffer_glyphs.specs.declared.cause.ShapeCause.TheVariants.{TooLong}
 use Rattle.buffer_glyphs.specs.Items.{Item, Position, item_of}
-use Rattle.buffer_core.specs.Readings.{View, Run, Reading, Follows, read_of, with_events}
-use Rattle.buffer_core.specs.Sides.{Sides, all_glyphs, items_of, run_of, view_of, zero_positions}
+use Rattle.buffer_core.specs.Readings.{View, BufferState, Reading, Follows, reading_of, with_events}
+use Rattle.buffer_core.specs.Sides.{Sides, all_glyphs, items_of, state_of, view_of, zero_positions}
 use Rattle.buffer_core.specs.Lending.{with_positions_refilled}
 use Rattle.buffer_stages.specs.Buffers.{are_glyphs}
 use Rattle.buffer_stages.specs.Ready.{IsDone, IsReady}
 use Rattle.buffer_stages.specs.Lemmas.Written.{refilled_whole}
 use Rattle.buffer_stages.specs.Stages.{IsFollowed}
 use Rattle.script_tiles.specs.declared.tile.Tile.{Tile}
-use Rattle.script_pauses.specs.Copying.{copied, copies_in, events_from, tiles_copied}
-use Rattle.script_tiles.specs.Placing.{begin, copies_placed, laid, placed}
-use Rattle.script_pauses.specs.Stretch.{laid_over}
+use Rattle.script_pauses.specs.Copying.{with_tile_copies, copies_in, events_from, tiles_copied}
+use Rattle.script_tiles.specs.TilePositions.{begin, copy_positions, all_positions, tile_positions}
+use Rattle.script_pauses.specs.Stretch.{with_tiles_laid}
 
-copies_long : (p : Position) (t : Tile) (x : ℤ) (n : ℕ) → length (copies_placed p t x n) ≡ n + 1
+copies_long : (p : Position) (t : Tile) (x : ℤ) (n : ℕ) → length (copy_positions p t x n) ≡ n + 1
 copies_long p t x zero = refl
 copies_long p t x (suc n) = let a = copies_long p t x n in omega (arith, a)
 
-placed_long : (p : Position) (t : Option Tile) (x : ℤ) → length (placed p t x) ≡ copies_in t + 1
+placed_long : (p : Position) (t : Option Tile) (x : ℤ) → length (tile_positions p t x) ≡ copies_in t + 1
 placed_long p None x = refl
 placed_long p (Some t) x = copies_long p t x t.copies
 
 -- there is a position for each item and for each copy
-pub laid_long : {X : Type 0} (xs : List X) (ps : List Position) (ts : List (Option Tile)) → length ps ≡ length xs → length (laid ps ts) ≡ length (copied xs ts)
+pub laid_long : {X : Type 0} (xs : List X) (ps : List Position) (ts : List (Option Tile)) → length ps ≡ length xs → length (all_positions ps ts) ≡ length (with_tile_copies xs ts)
 laid_long [] [] ts e = refl
 laid_long [] (p ∷ ps) ts e = absurd (omega (arith, e))
 laid_long (x ∷ xs) [] ts e = absurd (omega (arith, e))
 laid_long (x ∷ xs) (p ∷ ps) [] e = refl
 laid_long (x ∷ xs) (p ∷ ps) (t ∷ ts) e =
     let a = laid_long xs ps ts (omega (arith, e)) in
-    let b = length-append (placed p t (begin ts)) (laid ps ts) in
-    let c = length-append (replicate (copies_in t + 1) x) (copied xs ts) in
+    let b = length-append (tile_positions p t (begin ts)) (all_positions ps ts) in
+    let c = length-append (replicate (copies_in t + 1) x) (with_tile_copies xs ts) in
     omega (arith, a, b, c, placed_long p t (begin ts), length-replicate (copies_in t + 1) x)
 
 front_back : (t b c : Bool) → (b ≡ true → c ≡ true) → (t && b) ≡ true → (t && c) ≡ true
@@ -53,34 +53,34 @@ split_glyphs : (t b c d : Bool) → (t ≡ true → c ≡ true) → (b ≡ true 
 split_glyphs true b c d f g e = (f refl, g e)
 split_glyphs false b c d f g e = cc
 
-copied_glyphs : (xs : List Item) (ts : List (Option Tile)) → are_glyphs xs ≡ true → are_glyphs (copied xs ts) ≡ true
+copied_glyphs : (xs : List Item) (ts : List (Option Tile)) → are_glyphs xs ≡ true → are_glyphs (with_tile_copies xs ts) ≡ true
 copied_glyphs [] ts e = refl
 copied_glyphs (x ∷ xs) [] e = refl
 copied_glyphs (x ∷ xs) (t ∷ ts) e =
     let n = copies_in t + 1 in
-    let both = split_glyphs (nat_le x.number 65535) (are_glyphs xs) (are_glyphs (replicate n x)) (are_glyphs (copied xs ts)) (λ f. copies_glyphs n x f) (λ f. copied_glyphs xs ts f) e in
-    both_glyphs (replicate n x) (copied xs ts) both.0 both.1
+    let both = split_glyphs (nat_le x.number 65535) (are_glyphs xs) (are_glyphs (replicate n x)) (are_glyphs (with_tile_copies xs ts)) (λ f. copies_glyphs n x f) (λ f. copied_glyphs xs ts f) e in
+    both_glyphs (replicate n x) (with_tile_copies xs ts) both.0 both.1
 
 -- other positions on the way of a reading
 abbrev placed_if : Bool → List Item → List Position → List (Option Tile) → View → Reading
 placed_if b xs ps ts v = if b then Ok (with_events (events_from 0 ts) (record v { items = xs; positions = ps })) else Err TooLong
 
-replaced : (b : Bool) (xs : List Item) (ps qs : List Position) (ts : List (Option Tile)) (s t : Sides) → Follows (placed_if b xs ps ts (view_of s)) (run_of s) (run_of t)
-    → (items_of t ≡ xs) × Follows (placed_if b xs qs ts (view_of s)) (run_of s) (run_of (record t { positions = qs }))
-replaced true xs ps qs ts s t h = (ap (λ (r : Run). r.view.items) h, ap (λ (r : Run). record r { view = record (r.view) { positions = qs } }) h)
+replaced : (b : Bool) (xs : List Item) (ps qs : List Position) (ts : List (Option Tile)) (s t : Sides) → Follows (placed_if b xs ps ts (view_of s)) (state_of s) (state_of t)
+    → (items_of t ≡ xs) × Follows (placed_if b xs qs ts (view_of s)) (state_of s) (state_of (record t { positions = qs }))
+replaced true xs ps qs ts s t h = (ap (λ (r : BufferState). r.view.items) h, ap (λ (r : BufferState). record r { view = record (r.view) { positions = qs } }) h)
 replaced false xs ps qs ts s t h = absurd h
 
 -- copied, and then placed
-pub laid_done : (ts : List (Option Tile)) (ps : List Position) (s t new : Sides) → IsReady s → IsFollowed (tiles_copied ts) s t → ps ≡ laid s.positions ts → new ≡ record t { positions = ps } → IsDone (laid_over ts) s new
+pub laid_done : (ts : List (Option Tile)) (ps : List Position) (s t new : Sides) → IsReady s → IsFollowed (tiles_copied ts) s t → ps ≡ all_positions s.positions ts → new ≡ record t { positions = ps } → IsDone (with_tiles_laid ts) s new
 laid_done ts ps s t new ready h e is =
-    let xs = copied (items_of s) ts in
-    let qs = laid s.positions ts in
+    let xs = with_tile_copies (items_of s) ts in
+    let qs = all_positions s.positions ts in
     let many : nat_le (length xs) s.max_len ≡ nat_le (length xs) s.max_len = refl in
     let both = replaced (nat_le (length xs) s.max_len) xs (zero_positions (length xs)) qs ts s t h.follows in
     let r = h.ready in
     let long : length qs ≡ length (all_glyphs t) =
     laid_long (items_of s) s.positions ts (ready.placed ∙ sym (length-map (all_glyphs s) item_of)) ∙ ap (λ (ys : List Item). length ys) (sym both.0) ∙ length-map (all_glyphs t) item_of in
-    subst (λ (n : Sides). IsDone (laid_over ts) s n) (sym (is ∙ ap (λ rs. record t { positions = rs }) e)) (record {
+    subst (λ (n : Sides). IsDone (with_tiles_laid ts) s n) (sym (is ∙ ap (λ rs. record t { positions = rs }) e)) (record {
       follows = both.1;
       settings = h.settings;
       ready = record { closed = r.closed; front = r.front; unread = r.unread; placed = long; unrefused = r.unrefused };
@@ -88,9 +88,9 @@ laid_done ts ps s t new ready h e is =
     })
 
 -- there is an index for each position
-pub room_for_places : (ts : List (Option Tile)) (ps : List Position) (s t : Sides) → IsReady s → IsFollowed (tiles_copied ts) s t → ps ≡ laid s.positions ts → length ps ≡ length t.positions
+pub room_for_places : (ts : List (Option Tile)) (ps : List Position) (s t : Sides) → IsReady s → IsFollowed (tiles_copied ts) s t → ps ≡ all_positions s.positions ts → length ps ≡ length t.positions
 room_for_places ts ps s t ready h e =
-    let xs = copied (items_of s) ts in
+    let xs = with_tile_copies (items_of s) ts in
     let both = replaced (nat_le (length xs) s.max_len) xs (zero_positions (length xs)) ps ts s t h.follows in
     ap (λ (qs : List Position). length qs) e ∙ laid_long (items_of s) s.positions ts (ready.placed ∙ sym (length-map (all_glyphs s) item_of)) ∙ ap (λ (ys : List Item). length ys) (sym both.0) ∙ length-map (all_glyphs t) item_of ∙ sym h.ready.placed
 
@@ -98,8 +98,8 @@ same_refusal : (b : Bool) (xs : List Item) (ps qs : List Position) (ts : List (O
 same_refusal true xs ps qs ts v e h = cc
 same_refusal false xs ps qs ts v e h = h
 
-pub laid_refused : (ts : List (Option Tile)) (s : Sides) (e : ShapeCause) → read_of (tiles_copied ts) (run_of s) ≡ Err e → read_of (laid_over ts) (run_of s) ≡ Err e
-laid_refused ts s e h = let xs = copied (items_of s) ts in same_refusal (nat_le (length xs) s.max_len) xs (zero_positions (length xs)) (laid s.positions ts) ts (view_of s) e h
+pub laid_refused : (ts : List (Option Tile)) (s : Sides) (e : ShapeCause) → reading_of (tiles_copied ts) (state_of s) ≡ Err e → reading_of (with_tiles_laid ts) (state_of s) ≡ Err e
+laid_refused ts s e h = let xs = with_tile_copies (items_of s) ts in same_refusal (nat_le (length xs) s.max_len) xs (zero_positions (length xs)) (all_positions s.positions ts) ts (view_of s) e h
 
 -- as many positions come back as were lent
 pub places_back : (ps : List Position) (s new : Sides) → new ≡ with_positions_refilled ps s → length ps ≡ length s.positions → new ≡ record s { positions = ps }

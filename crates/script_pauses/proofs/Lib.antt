@@ -1,4 +1,3 @@
-pub mod Lemmas
 pub mod Measured
 pub mod Walked
 pub mod Shared

@@ -4,7 +4,7 @@ use Rattle.std.specs.Prelude.{neg_ℤ}
 use Rattle.std.proofs.lemmas.Int.{ints}
 use Rattle.std.proofs.Math.Nat.{add-mul, mul-add, mul_comm, mul-div-le, lt-div-mul-add}
 use Rattle.script_tiles.specs.declared.tile.Tile.{Tile}
-use Rattle.script_tiles.specs.Placing.{copy_begin}
+use Rattle.script_tiles.specs.TilePositions.{copy_begin}
 
 first_step : (x : ℤ) (w o : ℕ) → x -ℤ pos w ≡ x +ℤ pos (0 * o) -ℤ pos ((0 + 1) * w)
 first_step x w o = omega (arith, ints)

@@ -11,23 +11,23 @@ use Rattle.script_pauses.specs.declared.runs.Run.{Run}
 use Rattle.script_pauses.specs.declared.runs.Before.{Before}
 use Rattle.script_pauses.specs.declared.runs.Before.TheVariants.{Tiles, Word}
 use Rattle.script_pauses.specs.Copies.{copies, left_of_word, natural}
-use Rattle.script_pauses.specs.Runs.{next_before, run_begun, runs, tile_run, width, with_tile, with_tiles, word_after}
+use Rattle.script_pauses.specs.Runs.{next_before, unmeasured_run, runs, tile_run, width, with_tile, with_tiles, word_after}
 use Rattle.script_pauses.specs.Tiles.{is_fixed, is_repeating, is_tile}
 use Rattle.script_tiles.specs.declared.tile.Tile.{Tile}
 use Rattle.script_pauses.specs.Laying.{copies_of, overlap, tile_in_run, tile_of, tiles}
-use Rattle.script_tiles.specs.Placing.{begin, begins_at, copies_placed, copy_begin, laid, tile_at}
+use Rattle.script_tiles.specs.TilePositions.{begin, begins_at, copy_positions, copy_begin, all_positions, tile_at}
 use Rattle.script_pauses.specs.TileLaws.{LeftmostIsThere, TilesReach, begins_otherwise}
 use Rattle.script_pauses.proofs.Numbers.{between, copies_begin, fixed_grown, grown}
 use Rattle.script_pauses.proofs.Shared.{are_enough, repeats_some}
 
 -- ---- the leftmost
 
-first_placed : (p : Position) (t : Tile) (x : ℤ) (n : ℕ) (qs : List Position) → first_of (copies_placed p t x n ++ qs) ≡ Some (tile_at p (copy_begin t x n))
+first_placed : (p : Position) (t : Tile) (x : ℤ) (n : ℕ) (qs : List Position) → first_of (copy_positions p t x n ++ qs) ≡ Some (tile_at p (copy_begin t x n))
 first_placed p t x zero qs = refl
 first_placed p t x (suc n) qs = refl
 
 pub leftmost_is_there : LeftmostIsThere
-leftmost_is_there p ps t ts = first_placed p t (begin ts) t.copies (laid ps ts)
+leftmost_is_there p ps t ts = first_placed p t (begin ts) t.copies (all_positions ps ts)
 
 -- ---- the tiles of one run
 
@@ -77,14 +77,14 @@ run_ends font r (x ∷ xs) rest all e =
     ap (λ t. if t then with_tiles font (with_tile font r x) (xs ++ rest) else r) a.0 ∙ h ∙ sym (ap (λ t. if t then with_tiles font (with_tile font r x) xs else r) a.0)
 
 text_begin : (font : FaceParts) (word : ℤ) (x : Item) (xs rest : List Item) (ps : List Position) → list_all is_tile (x ∷ xs) ≡ true → begins_otherwise rest ≡ true → length ps ≡ length ((x ∷ xs) ++ rest)
-    → begin (tiles font ((x ∷ xs) ++ rest) (runs font (Word word) ((x ∷ xs) ++ rest) ps)) ≡ begin_of font (with_tiles font (run_begun word) (x ∷ xs)) (x ∷ xs)
+    → begin (tiles font ((x ∷ xs) ++ rest) (runs font (Word word) ((x ∷ xs) ++ rest) ps)) ≡ begin_of font (with_tiles font (unmeasured_run word) (x ∷ xs)) (x ∷ xs)
 text_begin font word x xs rest [] all e long = absurd (omega (arith, long))
 text_begin font word x xs rest (p ∷ ps) all e long =
-    let r = with_tiles font (run_begun word) (x ∷ xs) in
+    let r = with_tiles font (unmeasured_run word) (x ∷ xs) in
     let a = both_parts (is_tile x) (list_all is_tile xs) all in
     let h = run_begin font r xs rest ps a.1 e (omega (arith, long)) in
     let b : next_before font (Word word) (x ∷ (xs ++ rest)) p ≡ Tiles r =
-    ap (λ t. if t then Tiles (with_tiles font (run_begun word) (x ∷ (xs ++ rest))) else Word (word_after (Word word) x p)) a.0 ∙ ap Tiles (run_ends font (run_begun word) (x ∷ xs) rest all e) in
+    ap (λ t. if t then Tiles (with_tiles font (unmeasured_run word) (x ∷ (xs ++ rest))) else Word (word_after (Word word) x p)) a.0 ∙ ap Tiles (run_ends font (unmeasured_run word) (x ∷ xs) rest all e) in
     ap (λ q. begins_at (tile_of font x (tile_run q)) (begin (tiles font (xs ++ rest) (runs font q (xs ++ rest) ps)))) b ∙ ap (λ z. copy_begin (tile_in_run font x r) z (copies_of x r)) h
 
 -- ---- sums
@@ -136,7 +136,7 @@ all_more font r q (x ∷ xs) all =
     let h = all_more font r (with_tile font q x) xs a.1 in
     ap (λ t. begin_by (copies r) (overlap r) (if t then with_tiles font (with_tile font q x) xs else q)) a.0 ∙ h ∙ one_more font r q x (begin_by (copies r) (overlap r) q +ℤ begin_of font r xs) (begin_of font r xs) a.0 refl
 
-nothing_by : (c o : ℕ) (word : ℤ) → begin_by c o (run_begun word) ≡ pos 0
+nothing_by : (c o : ℕ) (word : ℤ) → begin_by c o (unmeasured_run word) ≡ pos 0
 nothing_by c o word =
     let a : c * 0 * o ≡ 0 = (let z : c * 0 ≡ 0 = omega arith in ap (λ m. m * o) z ∙ (let k : 0 * o ≡ 0 = omega arith in k)) in
     let b : (c + 1) * 0 ≡ 0 = omega arith in
@@ -179,15 +179,15 @@ some_both c n a b = (let e : 1 * n ≤ c * n = mul-le-mul_right n (omega (arith,
 
 pub tiles_reach_the_word : TilesReach
 tiles_reach_the_word font word x xs rest ps all e long lt =
-    let r = with_tiles font (run_begun word) (x ∷ xs) in
+    let r = with_tiles font (unmeasured_run word) (x ∷ xs) in
     let c = copies r in
-    let kept : r.word ≡ word = word_kept font (run_begun word) (x ∷ xs) in
+    let kept : r.word ≡ word = word_kept font (unmeasured_run word) (x ∷ xs) in
     let wide = repeats_some r lt in
     let left : 0 < left_of_word r = wide.some in
-    let n : 0 < r.tiles = (let z = widths_counted font (run_begun word) (x ∷ xs) (λ k. refl) in let w = wide.repeating in positive r.tiles (λ k. absurd (let v = z k in omega (arith, v, w)))) in
+    let n : 0 < r.tiles = (let z = widths_counted font (unmeasured_run word) (x ∷ xs) (λ k. refl) in let w = wide.repeating in positive r.tiles (λ k. absurd (let v = z k in omega (arith, v, w)))) in
     let is : word ≡ pos (left_of_word r + r.fixed) = sym kept ∙ word_is r.word r.fixed left in
     let at : begin (tiles font ((x ∷ xs) ++ rest) (runs font (Word word) ((x ∷ xs) ++ rest) ps)) ≡ pos (c * r.tiles * overlap r) -ℤ pos (r.fixed + (c + 1) * r.repeating) =
-    text_begin font word x xs rest ps all e long ∙ (let s = all_more font r (run_begun word) (x ∷ xs) all in let z = nothing_by c (overlap r) word in omega (arith, ints, s, z)) in
+    text_begin font word x xs rest ps all e long ∙ (let s = all_more font r (unmeasured_run word) (x ∷ xs) all in let z = nothing_by c (overlap r) word in omega (arith, ints, s, z)) in
     let b = between word (begin (tiles font ((x ∷ xs) ++ rest) (runs font (Word word) ((x ∷ xs) ++ rest) ps))) (left_of_word r) r.fixed r.repeating c r.tiles (overlap r) ((c + 1) * r.repeating - left_of_word r)
     is (are_enough r lt).enough (some_both c r.tiles lt n) refl refl at in
     record { enough = b.enough; little = b.little }

@@ -10,16 +10,16 @@ use Rattle.layout_face.specs.declared.parts.FaceParts.{FaceParts}
 use Rattle.buffer_glyphs.specs.Items.{Item, Position, item_of, strip}
 use Rattle.buffer_glyphs.specs.Events.{Event}
 use Rattle.buffer_core.specs.Readings.{Follows, Reading, View, as_it_is, with_events}
-use Rattle.buffer_core.specs.Sides.{Sides, all_glyphs, items_of, run_of, view_of}
+use Rattle.buffer_core.specs.Sides.{Sides, all_glyphs, items_of, state_of, view_of}
 use Rattle.buffer_stages.specs.Ready.{IsDone, IsReady}
 use Rattle.script_pauses.specs.declared.runs.Before.TheVariants.{Tiles, Word}
 use Rattle.script_pauses.specs.Runs.{next_before, run_here, runs, tile_run, word_after}
 use Rattle.script_pauses.specs.Tiles.{is_tile}
 use Rattle.script_tiles.specs.declared.tile.Tile.{Tile}
 use Rattle.script_pauses.specs.Laying.{is_in_range, tiles}
-use Rattle.script_pauses.specs.Copying.{copied, events_from}
-use Rattle.script_tiles.specs.Placing.{laid}
-use Rattle.script_pauses.specs.Stretch.{laid_over, text_runs, tiles_laid}
+use Rattle.script_pauses.specs.Copying.{with_tile_copies, events_from}
+use Rattle.script_tiles.specs.TilePositions.{all_positions}
+use Rattle.script_pauses.specs.Stretch.{with_tiles_laid, text_runs, tiles_laid}
 use Rattle.std.proofs.lemmas.Bool.{or_parts}
 
 pub any_seen : (gs : List hb_glyph_info_t) → list_any (λ (g : hb_glyph_info_t). is_tile (item_of g)) gs ≡ list_any is_tile (strip gs)
@@ -43,11 +43,11 @@ no_tiles : (font : FaceParts) (xs : List Item) → tiles font xs (replicate (len
 no_tiles font [] = refl
 no_tiles font (x ∷ xs) = ap (λ ts. None ∷ ts) (no_tiles font xs)
 
-none_copied : (xs : List Item) → copied xs (replicate (length xs) None) ≡ xs
+none_copied : (xs : List Item) → with_tile_copies xs (replicate (length xs) None) ≡ xs
 none_copied [] = refl
 none_copied (x ∷ xs) = ap (λ ys. x ∷ ys) (none_copied xs)
 
-none_laid : (ps : List Position) → laid ps (replicate (length ps) None) ≡ ps
+none_laid : (ps : List Position) → all_positions ps (replicate (length ps) None) ≡ ps
 none_laid [] = refl
 none_laid (p ∷ ps) = ap (λ qs. p ∷ qs) (none_laid ps)
 
@@ -59,15 +59,15 @@ abbrev read_if : Bool → List Item → List Position → List Event → View �
 read_if b xs ps es v = if b then Ok (with_events es (record v { items = xs; positions = ps })) else Err TooLong
 
 abbrev laid_if : Bool → List (Option Tile) → View → Reading
-laid_if b ts v = if b then laid_over ts v else Err StretchRange
+laid_if b ts v = if b then with_tiles_laid ts v else Err StretchRange
 
-stays : (v : View) → length v.positions ≡ length v.items → length v.items ≤ v.max_len → laid_over (replicate (length v.items) None) v ≡ as_it_is v
+stays : (v : View) → length v.positions ≡ length v.items → length v.items ≤ v.max_len → with_tiles_laid (replicate (length v.items) None) v ≡ as_it_is v
 stays v long le =
     let ts : List (Option Tile) = replicate (length v.items) None in
-    let items : copied v.items ts ≡ v.items = none_copied v.items in
-    let positions : laid v.positions ts ≡ v.positions = ap (λ n. laid v.positions (replicate n None)) (sym long) ∙ none_laid v.positions in
+    let items : with_tile_copies v.items ts ≡ v.items = none_copied v.items in
+    let positions : all_positions v.positions ts ≡ v.positions = ap (λ n. all_positions v.positions (replicate n None)) (sym long) ∙ none_laid v.positions in
     let fits : nat_le (length v.items) v.max_len ≡ true = grind (arith, nat_tests, le) in
-    ap (λ xs. read_if (nat_le (length xs) v.max_len) xs (laid v.positions ts) (events_from 0 ts) v) items
+    ap (λ xs. read_if (nat_le (length xs) v.max_len) xs (all_positions v.positions ts) (events_from 0 ts) v) items
     ∙ ap (λ ps. read_if (nat_le (length v.items) v.max_len) v.items ps (events_from 0 ts) v) positions
     ∙ ap (λ es. read_if (nat_le (length v.items) v.max_len) v.items v.positions es v) (no_events 0 (length v.items))
     ∙ ap (λ t. read_if t v.items v.positions [] v) fits
@@ -82,10 +82,10 @@ untouched_done font s ready e le =
     let is : tiles_laid font v ≡ as_it_is v =
     ap (λ qs. laid_if (list_all is_in_range qs) (tiles font v.items qs) v) rs
     ∙ ap (λ t. laid_if t (tiles font v.items (replicate (length v.items) None)) v) (none_in_range (length v.items))
-    ∙ ap (λ ts. laid_over ts v) (no_tiles font v.items)
+    ∙ ap (λ ts. with_tiles_laid ts v) (no_tiles font v.items)
     ∙ stays v long (omega (arith, count, le)) in
     record {
-      follows = subst (λ (q : Reading). Follows q (run_of s) (run_of s)) (sym is) refl;
+      follows = subst (λ (q : Reading). Follows q (state_of s) (state_of s)) (sym is) refl;
       settings = refl;
       ready = ready;
       numbers = λ h. h;

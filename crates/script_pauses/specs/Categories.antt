@@ -6,7 +6,7 @@ use Rattle.script_categories.specs.declared.ot_category_t.TheConstants as ot_cat
 use Rattle.buffer_unicode_tables.specs.Tables.{Tables, indic_of, universal_of}
 use Rattle.buffer_glyphs.specs.Items.{Item}
 use Rattle.buffer_core.specs.Readings.{Stage, always}
-use Rattle.buffer_stages.specs.Stages.{mapped}
+use Rattle.buffer_stages.specs.Stages.{with_items_mapped}
 
 -- the category of a row, OT_X where there is none
 abbrev pub category_or_none : Option (ℕ × ℕ) → ℕ
@@ -31,4 +31,4 @@ with_category category_of x = record x { category = category_of x.number }
 
 -- the stage that sets each item's category
 abbrev pub categories_set : (ℕ → ℕ) → Stage
-categories_set category_of = always (mapped (with_category category_of))
+categories_set category_of = always (with_items_mapped (with_category category_of))

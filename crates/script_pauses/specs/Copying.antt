@@ -12,10 +12,10 @@ copies_in None = 0
 copies_in (Some t) = t.copies
 
 -- a list with the copies of each element beside it, as many as its tile has
-abbrev pub copied : {X : Type 0} → List X → List (Option Tile) → List X
-copied [] ts = []
-copied (x ∷ xs) [] = []
-copied (x ∷ xs) (t ∷ ts) = replicate (copies_in t + 1) x ++ copied xs ts
+abbrev pub with_tile_copies : {X : Type 0} → List X → List (Option Tile) → List X
+with_tile_copies [] ts = []
+with_tile_copies (x ∷ xs) [] = []
+with_tile_copies (x ∷ xs) (t ∷ ts) = replicate (copies_in t + 1) x ++ with_tile_copies xs ts
 
 -- the insertion of that many copies before the glyph at an index, each with its cluster and flags
 abbrev pub copy_events : ℕ → ℕ → List Event
@@ -30,6 +30,6 @@ events_from at (t ∷ ts) = copy_events at (copies_in t) ++ events_from (at + (c
 -- the stage that inserts the tiles' copies, where the list is within the limit; it sets no positions
 abbrev pub tiles_copied : List (Option Tile) → Stage
 tiles_copied ts v =
-    if nat_le (length (copied v.items ts)) v.max_len
-    then Ok (with_events (events_from 0 ts) (record v { items = copied v.items ts; positions = zero_positions (length (copied v.items ts)) }))
+    if nat_le (length (with_tile_copies v.items ts)) v.max_len
+    then Ok (with_events (events_from 0 ts) (record v { items = with_tile_copies v.items ts; positions = zero_positions (length (with_tile_copies v.items ts)) }))
     else Err TooLong

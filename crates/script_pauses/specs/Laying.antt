@@ -39,8 +39,8 @@ abbrev pub tile_of : FaceParts → Item → Option Run → Option Tile
 tile_of font x None = None
 tile_of font x (Some r) = Some (tile_in_run font x r)
 
--- the tiles of items by their runs
+-- the tile that each item is, by its run; none without a run
 abbrev pub tiles : FaceParts → List Item → List (Option Run) → List (Option Tile)
 tiles font [] rs = []
-tiles font (x ∷ xs) [] = []
+tiles font (x ∷ xs) [] = None ∷ tiles font xs []
 tiles font (x ∷ xs) (r ∷ rs) = tile_of font x r ∷ tiles font xs rs

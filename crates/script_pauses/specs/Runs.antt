@@ -14,8 +14,8 @@ abbrev pub width : FaceParts → Item → ℕ
 width font x = if nat_le x.number 65535 then width_of x.number font else 0
 
 -- an empty run after a word of a width
-abbrev pub run_begun : ℤ → Run
-run_begun word = record { word = word; fixed = 0; repeating = 0; tiles = 0 }
+abbrev pub unmeasured_run : ℤ → Run
+unmeasured_run word = record { word = word; fixed = 0; repeating = 0; tiles = 0 }
 
 -- a run with one more tile, whose width is its advance in the font
 abbrev pub with_tile : FaceParts → Run → Item → Run
@@ -41,7 +41,7 @@ word_after before x p = if is_of_word x then word_before before +ℤ p.x_advance
 
 -- the run of the tiles at the start of a list, or the run that continues there
 abbrev pub run_here : FaceParts → Before → List Item → Run
-run_here font (Word w) xs = with_tiles font (run_begun w) xs
+run_here font (Word w) xs = with_tiles font (unmeasured_run w) xs
 run_here font (Tiles r) xs = r
 
 -- what is before the item after the first one

@@ -9,14 +9,14 @@ use Rattle.script_pauses.specs.declared.runs.Before.TheVariants.{Word}
 use Rattle.script_pauses.specs.Runs.{runs}
 use Rattle.script_tiles.specs.declared.tile.Tile.{Tile}
 use Rattle.script_pauses.specs.Laying.{is_in_range, tiles}
-use Rattle.script_pauses.specs.Copying.{copied, events_from}
-use Rattle.script_tiles.specs.Placing.{laid}
+use Rattle.script_pauses.specs.Copying.{with_tile_copies, events_from}
+use Rattle.script_tiles.specs.TilePositions.{all_positions}
 
 -- the stage that inserts the tiles' copies and sets the positions, where the list is within the limit
-abbrev pub laid_over : List (Option Tile) → Stage
-laid_over ts v =
-    if nat_le (length (copied v.items ts)) v.max_len
-    then Ok (with_events (events_from 0 ts) (record v { items = copied v.items ts; positions = laid v.positions ts }))
+abbrev pub with_tiles_laid : List (Option Tile) → Stage
+with_tiles_laid ts v =
+    if nat_le (length (with_tile_copies v.items ts)) v.max_len
+    then Ok (with_events (events_from 0 ts) (record v { items = with_tile_copies v.items ts; positions = all_positions v.positions ts }))
     else Err TooLong
 
 -- the run of each glyph of a text that is a tile
@@ -26,5 +26,5 @@ text_runs font v = runs font (Word (pos 0)) v.items v.positions
 -- the stage that lays tiles over their words, where each width fits in 32 bits (HarfBuzz: apply_stch)
 abbrev pub tiles_laid : FaceParts → Stage
 tiles_laid font v =
-    if list_all is_in_range (text_runs font v) then laid_over (tiles font v.items (text_runs font v)) v
+    if list_all is_in_range (text_runs font v) then with_tiles_laid (tiles font v.items (text_runs font v)) v
     else Err StretchRange

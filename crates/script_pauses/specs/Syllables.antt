@@ -11,8 +11,9 @@ use Rattle.script_categories.specs.declared.syllable_kinds.myanmar.TheConstants 
 use Rattle.script_categories.specs.declared.syllable_kinds.universal.TheConstants as universal
 use Rattle.buffer_glyphs.specs.Items.{Item}
 use Rattle.buffer_core.specs.Readings.{Stage, and_then, always, as_it_is}
-use Rattle.buffer_stages.specs.Stages.{mapped}
-use Rattle.buffer_stages.specs.Rewriting.{Rewritten, by_syllable}
+use Rattle.buffer_stages.specs.Stages.{with_items_mapped}
+use Rattle.buffer_glyphs.specs.Rewriting.{Arrangement}
+use Rattle.buffer_stages.specs.Rewriting.{by_syllable}
 use Rattle.buffer_stages.specs.SyllableBuffers.{with_rule}
 use Rattle.script_syllabic.specs.declared.circles.CircleRule.{CircleRule}
 use Rattle.script_syllabic.specs.Circles.{circles_by}
@@ -26,11 +27,11 @@ use Rattle.script_syllabic.specs.Features.{rphf_masked, topography}
 use Rattle.script_syllabic.specs.Spans.{universal_set}
 
 -- the stage that rewrites each syllable by itself
-abbrev pub syllables_by : (List Item → Rewritten) → Stage
+abbrev pub syllables_by : (List Item → Arrangement) → Stage
 syllables_by rule = always (with_rule (by_syllable rule))
 
 -- a stage, followed by one that rewrites each syllable by itself
-abbrev pub then_syllables : Stage → (List Item → Rewritten) → Stage
+abbrev pub then_syllables : Stage → (List Item → Arrangement) → Stage
 then_syllables stage rule v = and_then (stage v) (syllables_by rule)
 
 -- ---- dotted circles, and the order of syllables
@@ -78,12 +79,12 @@ without_syllable x = record x { syllable = 0 }
 
 -- the stage that clears all syllable bytes (HarfBuzz: hb_syllabic_clear_var)
 abbrev pub syllables_cleared : Stage
-syllables_cleared = always (mapped without_syllable)
+syllables_cleared = always (with_items_mapped without_syllable)
 
 -- an item without the substituted bit
-abbrev pub unsubstituted : Item → Item
-unsubstituted x = record x { glyph_props = x.glyph_props - bit_and x.glyph_props 16 }
+abbrev pub item_not_substituted : Item → Item
+item_not_substituted x = record x { glyph_props = x.glyph_props - bit_and x.glyph_props 16 }
 
 -- the stage that clears all substituted bits (HarfBuzz: _hb_clear_substitution_flags)
-abbrev pub substitutions_forgotten : Stage
-substitutions_forgotten = always (mapped unsubstituted)
+abbrev pub substitutions_cleared : Stage
+substitutions_cleared = always (with_items_mapped item_not_substituted)

@@ -1,19 +1,17 @@
--- Laws of laid tiles: their width with their copies, and that no glyph is reordered.
-use Rattle.std.specs.Prelude.{ℕ, ℤ, pos, neg_ℤ, ◌≡◌, ◌<◌, ◌*◌, ◌≤ℤ◌, ◌<ℤ◌, ◌+ℤ◌, Bool, true, not, List, [], ◌∷◌, ◌++◌, Option, Some, Ok, length}
+-- Laws of laid tiles: how wide they are with their copies, and that they keep the parts of a text.
+use Rattle.std.specs.Prelude.{ℕ, ℤ, pos, neg_ℤ, ◌≡◌, ◌<◌, ◌*◌, ◌≤ℤ◌, ◌<ℤ◌, ◌+ℤ◌, Bool, true, not, List, [], ◌∷◌, ◌++◌, Option, Some, length}
 use Rattle.std.specs.List.{list_all}
-use Rattle.buffer_glyphs.specs.declared.level.BufferClusterLevel.{BufferClusterLevel}
 use Rattle.layout_face.specs.declared.parts.FaceParts.{FaceParts}
 use Rattle.buffer_glyphs.specs.Items.{Item, Position}
-use Rattle.buffer_glyphs.specs.Events.{IsPlain}
 use Rattle.buffer_glyphs.specs.Parts.{first_of}
-use Rattle.buffer_core.specs.Readings.{Read, View}
+use Rattle.buffer_stage_laws.specs.Plainly.{KeepsPlainly}
 use Rattle.script_pauses.specs.declared.runs.Before.TheVariants.{Word}
 use Rattle.script_pauses.specs.Copies.{copies}
-use Rattle.script_pauses.specs.Runs.{run_begun, runs, with_tiles}
+use Rattle.script_pauses.specs.Runs.{unmeasured_run, runs, with_tiles}
 use Rattle.script_pauses.specs.Tiles.{is_tile}
 use Rattle.script_tiles.specs.declared.tile.Tile.{Tile}
 use Rattle.script_pauses.specs.Laying.{tiles}
-use Rattle.script_tiles.specs.Placing.{begin, laid, tile_at}
+use Rattle.script_tiles.specs.TilePositions.{begin, all_positions, tile_at}
 use Rattle.script_pauses.specs.Stretch.{tiles_laid}
 
 -- the list is empty, or its first item is no tile
@@ -31,14 +29,14 @@ pub record Reaches (word width : ℤ) (copies : ℕ) : Type 0 where
 abbrev pub TilesReach : Type 0
 TilesReach = (font : FaceParts) (word : ℤ) (x : Item) (xs rest : List Item) (ps : List Position)
     → list_all is_tile (x ∷ xs) ≡ true → begins_otherwise rest ≡ true → length ps ≡ length ((x ∷ xs) ++ rest)
-    → 0 < copies (with_tiles font (run_begun word) (x ∷ xs))
+    → 0 < copies (with_tiles font (unmeasured_run word) (x ∷ xs))
     → Reaches word (neg_ℤ (begin (tiles font ((x ∷ xs) ++ rest) (runs font (Word word) ((x ∷ xs) ++ rest) ps))))
-    (copies (with_tiles font (run_begun word) (x ∷ xs)) * (with_tiles font (run_begun word) (x ∷ xs)).tiles)
+    (copies (with_tiles font (unmeasured_run word) (x ∷ xs)) * (with_tiles font (unmeasured_run word) (x ∷ xs)).tiles)
 
 -- law: the leftmost tile's offset puts it at that distance, modulo 2^32
 abbrev pub LeftmostIsThere : Type 0
-LeftmostIsThere = (p : Position) (ps : List Position) (t : Tile) (ts : List (Option Tile)) → first_of (laid (p ∷ ps) (Some t ∷ ts)) ≡ Some (tile_at p (begin (Some t ∷ ts)))
+LeftmostIsThere = (p : Position) (ps : List Position) (t : Tile) (ts : List (Option Tile)) → first_of (all_positions (p ∷ ps) (Some t ∷ ts)) ≡ Some (tile_at p (begin (Some t ∷ ts)))
 
--- law: laying tiles reorders no glyphs
-abbrev pub TilesLeavePlain : Type 0
-TilesLeavePlain = (font : FaceParts) (v : View) (r : Read) (level : BufferClusterLevel) → tiles_laid font v ≡ Ok r → IsPlain (r.events level)
+-- laying tiles adds copies of glyphs, and permutes none, whatever the clusters are
+abbrev pub TilesKeepPlainly : Type 0
+TilesKeepPlainly = (font : FaceParts) → KeepsPlainly (tiles_laid font)

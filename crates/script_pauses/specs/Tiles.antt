@@ -4,7 +4,7 @@ use Rattle.script_categories.specs.declared.arabic_action_t.TheConstants as acti
 use Rattle.buffer_glyphs.specs.LigatureWords.{is_multiplied, lig_comp}
 use Rattle.buffer_glyphs.specs.Items.{Item}
 use Rattle.buffer_core.specs.Readings.{Stage, always, as_it_is}
-use Rattle.buffer_stages.specs.Stages.{mapped}
+use Rattle.buffer_stages.specs.Stages.{with_items_mapped}
 
 -- an item is a fixed tile
 abbrev pub is_fixed : Item → Bool
@@ -26,4 +26,4 @@ tile_recorded x =
 
 -- the stage that records the tiles, where the font has the feature stch (HarfBuzz: record_stch)
 abbrev pub tiles_recorded : Bool → Stage
-tiles_recorded has_stch v = if has_stch then always (mapped tile_recorded) v else as_it_is v
+tiles_recorded has_stch v = if has_stch then always (with_items_mapped tile_recorded) v else as_it_is v

@@ -1,7 +1,7 @@
 //! The syllable bytes of a text in Khmer or Myanmar.
 ghost use Rattle.std.specs.Prelude.{◌≡◌, ◌≢◌, false, Ok, Err, IfErr, OnOk};
-ghost use Rattle.buffer_core.specs.Readings.{read_of};
-ghost use Rattle.buffer_core.specs.Sides.{items_of, run_of};
+ghost use Rattle.buffer_core.specs.Readings.{reading_of};
+ghost use Rattle.buffer_core.specs.Sides.{items_of, state_of};
 ghost use Rattle.buffer_stages.specs.Ready.{IsDone, IsReady};
 ghost use Rattle.buffer_stages.specs.Pauses.{BringsNoGlyph};
 ghost use Rattle.script_syllabic.specs.Bytes.{syllables_set};
@@ -26,9 +26,9 @@ pub fn setup_syllables<S: SyllableSpans>(
 ) -> Result<bool, ShapeCause>
     requires ready { IsReady buffer.old }
     ensures ok { OnOk result (IsDone (syllables_set (S.span_of spans.now) shaper) buffer.old buffer.new) }
-    ensures told { result ≡ Ok false → BringsNoGlyph (items_of buffer.old) (items_of buffer.new) }
+    ensures brings_none { result ≡ Ok false → BringsNoGlyph (items_of buffer.old) (items_of buffer.new) }
     ensures err { IfErr result (λ e. e ≢ ShapeCause.OutOfMemory
-        → read_of (syllables_set (S.span_of spans.now) shaper) (run_of buffer.old) ≡ Err e) }
+        → reading_of (syllables_set (S.span_of spans.now) shaper) (state_of buffer.old) ≡ Err e) }
 {
     syllables::setup_syllables(alloc, spans, shaper, buffer)?;
     Ok(false)

@@ -6,7 +6,7 @@ ghost use Rattle.buffer_core.specs.Sides.{items_of};
 ghost use Rattle.buffer_stages.specs.Ready.{IsDone, IsReady};
 ghost use Rattle.buffer_stages.specs.Pauses.{BringsNoGlyph};
 ghost use Rattle.buffer_stages.specs.Stages.{IsFollowed};
-ghost use Rattle.script_pauses.specs.Syllables.{substitutions_forgotten, syllables_cleared, unsubstituted, without_syllable};
+ghost use Rattle.script_pauses.specs.Syllables.{substitutions_cleared, syllables_cleared, item_not_substituted, without_syllable};
 
 use buffer_core::buffer::hb_buffer_t;
 use buffer_glyphs::flags::GlyphPropsFlags;
@@ -17,7 +17,7 @@ use buffer_stages::glyphs::map_glyphs;
 pub fn clear_syllables(buffer: &mut hb_buffer_t)
     requires ready { IsReady buffer.old }
     ensures ok { IsDone syllables_cleared buffer.old buffer.new }
-    ensures told { BringsNoGlyph (items_of buffer.old) (items_of buffer.new) }
+    ensures brings_none { BringsNoGlyph (items_of buffer.old) (items_of buffer.new) }
 {
     without_syllables(buffer);
 }
@@ -42,21 +42,21 @@ fn without_syllable(glyph: &hb_glyph_info_t) -> hb_glyph_info_t
 /// Clears the substituted bit of each glyph. It takes linear time and no memory.
 pub fn _hb_clear_substitution_flags(buffer: &mut hb_buffer_t)
     requires ready { IsReady buffer.old }
-    ensures ok { IsDone substitutions_forgotten buffer.old buffer.new }
-    ensures told { BringsNoGlyph (items_of buffer.old) (items_of buffer.new) }
+    ensures ok { IsDone substitutions_cleared buffer.old buffer.new }
+    ensures brings_none { BringsNoGlyph (items_of buffer.old) (items_of buffer.new) }
 {
     without_substitutions(buffer);
 }
 
 fn without_substitutions(buffer: &mut hb_buffer_t)
     requires ready { IsReady buffer.old }
-    ensures { IsFollowed substitutions_forgotten buffer.old buffer.new }
+    ensures { IsFollowed substitutions_cleared buffer.old buffer.new }
 {
     map_glyphs(buffer, |glyph| unsubstituted(glyph));
 }
 
 fn unsubstituted(glyph: &hb_glyph_info_t) -> hb_glyph_info_t
-    ensures item { item_of result ≡ unsubstituted (item_of glyph.now) }
+    ensures item { item_of result ≡ item_not_substituted (item_of glyph.now) }
     ensures origin { origin_of result ≡ origin_of glyph.now }
 {
     let props = glyph.glyph_props.0;

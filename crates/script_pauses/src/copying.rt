@@ -2,10 +2,10 @@
 ghost use Rattle.std.specs.Prelude.{◌≡◌, ◌≢◌, ◌<◌, ◌+◌, ◌++◌, ◌∷◌, [], List, Err, IfErr, OnOk, length, replicate, true};
 ghost use Rattle.buffer_glyphs.specs.Items.{Item, item_of, strip};
 ghost use Rattle.buffer_glyphs.specs.Events.{Replace};
-ghost use Rattle.buffer_core.specs.Readings.{read_of};
-ghost use Rattle.buffer_core.specs.Sides.{all_glyphs, run_of};
+ghost use Rattle.buffer_core.specs.Readings.{reading_of};
+ghost use Rattle.buffer_core.specs.Sides.{all_glyphs, state_of};
 ghost use Rattle.buffer_stages.specs.Ready.{IsReady};
-ghost use Rattle.buffer_stages.specs.Walks.{Exceeds, Walked};
+ghost use Rattle.buffer_stages.specs.Walks.{RefusesLength, HasWalked};
 ghost use Rattle.buffer_stages.specs.Stages.{IsFollowed};
 ghost use Rattle.script_pauses.specs.Copying.{copies_in, copy_events, tiles_copied};
 
@@ -23,7 +23,7 @@ pub fn copy_tiles(tiles: &[Option<Tile>], buffer: &mut hb_buffer_t) -> Result<()
     requires ready { IsReady buffer.old }
     requires each { length tiles.now ≡ length (all_glyphs buffer.old) }
     ensures ok { OnOk result (IsFollowed (tiles_copied tiles.now) buffer.old buffer.new) }
-    ensures err { IfErr result (λ e. e ≢ ShapeCause.OutOfMemory → read_of (tiles_copied tiles.now) (run_of buffer.old)
+    ensures err { IfErr result (λ e. e ≢ ShapeCause.OutOfMemory → reading_of (tiles_copied tiles.now) (state_of buffer.old)
         ≡ Err e) }
 {
     buffer.clear_output()?;
@@ -38,9 +38,9 @@ fn pass(tile: Option<Tile>, buffer: &mut hb_buffer_t) -> Result<(), ShapeCause>
     requires open { buffer.old.is_open ≡ true }
     requires there { 0 < length buffer.old.ahead }
     ensures ok { OnOk result ((x : Item) (xs : List Item) → strip buffer.old.ahead ≡ x ∷ xs
-        → Walked (strip buffer.old.behind ++ replicate (copies_in tile + 1) x) xs
+        → HasWalked (strip buffer.old.behind ++ replicate (copies_in tile + 1) x) xs
         (copy_events (length buffer.old.behind) (copies_in tile)) buffer.old buffer.new) }
-    ensures err { IfErr result (λ e. Exceeds (length buffer.old.behind + (copies_in tile + 1)) e buffer.old) }
+    ensures err { IfErr result (λ e. RefusesLength (length buffer.old.behind + (copies_in tile + 1)) e buffer.old) }
 {
     for _ in 0..copies_in(tile) {
         copy_current(buffer)?;
@@ -62,9 +62,9 @@ fn copy_current(buffer: &mut hb_buffer_t) -> Result<(), ShapeCause>
     requires open { buffer.old.is_open ≡ true }
     requires there { 0 < length buffer.old.ahead }
     ensures ok { OnOk result ((x : Item) (xs : List Item) → strip buffer.old.ahead ≡ x ∷ xs
-        → Walked (strip buffer.old.behind ++ x ∷ []) (x ∷ xs) (Replace (length buffer.old.behind) 0 1 ∷ []) buffer.old
+        → HasWalked (strip buffer.old.behind ++ x ∷ []) (x ∷ xs) (Replace (length buffer.old.behind) 0 1 ∷ []) buffer.old
         buffer.new) }
-    ensures err { IfErr result (λ e. Exceeds (length buffer.old.behind + 1) e buffer.old) }
+    ensures err { IfErr result (λ e. RefusesLength (length buffer.old.behind + 1) e buffer.old) }
 {
     let number = buffer.cur(0).glyph_id;
     if !buffer.output_glyph(number)? {

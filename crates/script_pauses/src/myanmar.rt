@@ -1,7 +1,7 @@
 //! The pauses of the Myanmar shaper (rustybuzz: hb/ot_shaper_myanmar.rs).
 ghost use Rattle.std.specs.Prelude.{◌≡◌, ◌≢◌, true, false, Ok, Err, IfErr, OnOk};
-ghost use Rattle.buffer_core.specs.Readings.{read_of};
-ghost use Rattle.buffer_core.specs.Sides.{items_of, run_of};
+ghost use Rattle.buffer_core.specs.Readings.{reading_of};
+ghost use Rattle.buffer_core.specs.Sides.{items_of, state_of};
 ghost use Rattle.buffer_stages.specs.Buffers.{are_glyphs};
 ghost use Rattle.buffer_stages.specs.Ready.{IsDone, IsReady};
 ghost use Rattle.buffer_stages.specs.Pauses.{BringsNoGlyph};
@@ -32,9 +32,9 @@ pub fn reorder_myanmar(
     requires numbers { are_glyphs (items_of buffer.old) ≡ true }
     ensures ok { OnOk result
         (IsDone (myanmar_order face.now (text_settings buffer.old).flags) buffer.old buffer.new) }
-    ensures told { result ≡ Ok false → BringsNoGlyph (items_of buffer.old) (items_of buffer.new) }
+    ensures brings_none { result ≡ Ok false → BringsNoGlyph (items_of buffer.old) (items_of buffer.new) }
     ensures err { IfErr result (λ e. e ≢ ShapeCause.OutOfMemory
-        → read_of (myanmar_order face.now (text_settings buffer.old).flags) (run_of buffer.old) ≡ Err e) }
+        → reading_of (myanmar_order face.now (text_settings buffer.old).flags) (state_of buffer.old) ≡ Err e) }
 {
     let inserted = insert_dotted_circles(
         face,

@@ -2,7 +2,7 @@
 ghost use Rattle.std.specs.Prelude.{ℕ, ◌≡◌, ◌≤◌, ◌<◌, ◌+◌, ◌+ℤ◌, ◌^◌, pos, length, IfOk};
 ghost use Rattle.buffer_serialize.specs.Pen.{IsNear};
 ghost use Rattle.buffer_glyphs.specs.Items.{item_of, strip};
-ghost use Rattle.script_pauses.specs.Runs.{next_before, run_begun, run_here, runs, tile_run, width, with_tile, with_tiles, word_before, word_after};
+ghost use Rattle.script_pauses.specs.Runs.{next_before, unmeasured_run, run_here, runs, tile_run, width, with_tile, with_tiles, word_before, word_after};
 
 use crate::words::{is_fixed, is_of_word, is_tile};
 use buffer_glyphs::info::hb_glyph_info_t;
@@ -131,7 +131,7 @@ fn word_before(before: Before) -> i128
 /// The run of the tiles at the start, after a word of a width. It takes time linear in these tiles.
 #[tactic(auto, using(crate::proofs::Measured::none_measured, crate::proofs::Measured::one_measured, crate::proofs::Measured::others_stay, crate::proofs::Measured::all_measured))]
 pub fn run_of(face: &Face, word: i128, glyphs: &[hb_glyph_info_t]) -> Run
-    ensures { result ≡ with_tiles face.now (run_begun word) (strip glyphs.now) }
+    ensures { result ≡ with_tiles face.now (unmeasured_run word) (strip glyphs.now) }
 {
     let mut run = Run {
         word,

@@ -2,11 +2,11 @@
 ghost use Rattle.std.specs.Prelude.{◌≡◌, ◌≢◌, ◌≤◌, Err, IfErr, OnOk, false, length};
 ghost use Rattle.std.specs.List.{list_any};
 ghost use Rattle.buffer_glyphs.specs.Items.{item_of};
-ghost use Rattle.buffer_core.specs.Readings.{read_of};
-ghost use Rattle.buffer_core.specs.Sides.{all_glyphs, items_of, run_of};
+ghost use Rattle.buffer_core.specs.Readings.{reading_of};
+ghost use Rattle.buffer_core.specs.Sides.{all_glyphs, items_of, state_of};
 ghost use Rattle.buffer_stages.specs.Ready.{IsDone, IsReady};
 ghost use Rattle.script_pauses.specs.Tiles.{is_tile};
-ghost use Rattle.script_pauses.specs.Stretch.{laid_over, tiles_laid};
+ghost use Rattle.script_pauses.specs.Stretch.{with_tiles_laid, tiles_laid};
 
 use crate::copying::copy_tiles;
 use crate::laying::{are_in_range, tiles_of};
@@ -17,8 +17,8 @@ use buffer_glyphs::cause::ShapeCause;
 use buffer_glyphs::info::hb_glyph_info_t;
 use buffer_glyphs::position::GlyphPosition;
 use layout_face::Face;
-use script_tiles::placing::places_of;
 use script_tiles::tile::Tile;
+use script_tiles::tile_positions::places_of;
 use std::alloc::Global;
 
 /// Lays the tiles of each run over the word before it (`apply_stch`): repeating tiles get copies until all tiles reach
@@ -33,7 +33,7 @@ use std::alloc::Global;
 pub fn apply_stch(alloc: Global, face: &Face, buffer: &mut hb_buffer_t) -> Result<(), ShapeCause>
     requires ready { IsReady buffer.old }
     ensures ok { OnOk result (IsDone (tiles_laid face.now) buffer.old buffer.new) }
-    ensures err { IfErr result (λ e. e ≢ ShapeCause.OutOfMemory → read_of (tiles_laid face.now) (run_of buffer.old)
+    ensures err { IfErr result (λ e. e ≢ ShapeCause.OutOfMemory → reading_of (tiles_laid face.now) (state_of buffer.old)
         ≡ Err e) }
 {
     if !has_tiles(buffer) {
@@ -71,8 +71,8 @@ fn lay_tiles(
 ) -> Result<(), ShapeCause>
     requires ready { IsReady buffer.old }
     requires each { length tiles.now ≡ length (all_glyphs buffer.old) }
-    ensures ok { OnOk result (IsDone (laid_over tiles.now) buffer.old buffer.new) }
-    ensures err { IfErr result (λ e. e ≢ ShapeCause.OutOfMemory → read_of (laid_over tiles.now) (run_of buffer.old)
+    ensures ok { OnOk result (IsDone (with_tiles_laid tiles.now) buffer.old buffer.new) }
+    ensures err { IfErr result (λ e. e ≢ ShapeCause.OutOfMemory → reading_of (with_tiles_laid tiles.now) (state_of buffer.old)
         ≡ Err e) }
 {
     let positions = buffer.pos_slice().to_vec(alloc)?;

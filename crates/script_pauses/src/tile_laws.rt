@@ -1,5 +1,5 @@
 //! Laws of laid tiles.
-ghost use Rattle.script_pauses.specs.TileLaws.{LeftmostIsThere, TilesLeavePlain, TilesReach};
+ghost use Rattle.script_pauses.specs.TileLaws.{LeftmostIsThere, TilesKeepPlainly, TilesReach};
 
 /// Tiles with their copies are at least as wide as their word, and exceed it by less than one unit for each copy; the
 /// leftmost is drawn where they begin.
@@ -9,8 +9,7 @@ pub fn law_tiles_reach()
     ensures there { LeftmostIsThere }
 {}
 
-/// Laying tiles reorders no glyphs, so the order of clusters is kept.
-#[tactic(auto, using(crate::specs::Lemmas::Plain::tiles_plain))]
-pub fn law_tiles_leave_plain()
-    ensures { TilesLeavePlain }
+/// Laying tiles adds copies of glyphs, and permutes none, whatever the clusters are.
+pub fn law_tiles_keep_plainly()
+    ensures { TilesKeepPlainly }
 {}

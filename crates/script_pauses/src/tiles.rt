@@ -6,7 +6,7 @@ ghost use Rattle.buffer_core.specs.Readings.{always};
 ghost use Rattle.buffer_core.specs.Sides.{items_of};
 ghost use Rattle.buffer_stages.specs.Ready.{IsDone, IsReady};
 ghost use Rattle.buffer_stages.specs.Pauses.{BringsNoGlyph};
-ghost use Rattle.buffer_stages.specs.Stages.{IsFollowed, mapped};
+ghost use Rattle.buffer_stages.specs.Stages.{IsFollowed, with_items_mapped};
 ghost use Rattle.script_pauses.specs.Quiet.{IsQuiet};
 ghost use Rattle.script_pauses.specs.Tiles.{tile_recorded, tiles_recorded};
 
@@ -21,12 +21,12 @@ use script_categories::arabic_action_t::{STRETCHING_FIXED, STRETCHING_REPEATING}
 pub fn record_stch(has_stch: bool, buffer: &mut hb_buffer_t)
     requires ready { IsReady buffer.old }
     ensures ok { IsDone (tiles_recorded has_stch) buffer.old buffer.new }
-    ensures told { BringsNoGlyph (items_of buffer.old) (items_of buffer.new) }
+    ensures brings_none { BringsNoGlyph (items_of buffer.old) (items_of buffer.new) }
 {
     record_if(has_stch, buffer);
 }
 
-#[tactic(auto, using(crate::proofs::Lemmas::Quiet::quiet_same))]
+#[tactic(auto, using(crate::specs::Lemmas::Quiet::quiet_same))]
 fn record_if(has_stch: bool, buffer: &mut hb_buffer_t)
     requires ready { IsReady buffer.old }
     ensures { IsQuiet (tiles_recorded has_stch) buffer.old buffer.new }
@@ -38,7 +38,7 @@ fn record_if(has_stch: bool, buffer: &mut hb_buffer_t)
 
 fn record_tiles(buffer: &mut hb_buffer_t)
     requires ready { IsReady buffer.old }
-    ensures { IsQuiet (always (mapped tile_recorded)) buffer.old buffer.new }
+    ensures { IsQuiet (always (with_items_mapped tile_recorded)) buffer.old buffer.new }
 {
     map_glyphs(buffer, |glyph| tile_recorded(glyph));
 }

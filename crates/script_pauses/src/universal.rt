@@ -1,7 +1,7 @@
 //! The pauses of the universal shaper (rustybuzz: hb/ot_shaper_use.rs).
 ghost use Rattle.std.specs.Prelude.{◌≡◌, ◌≢◌, true, false, Ok, Err, IfErr, OnOk};
-ghost use Rattle.buffer_core.specs.Readings.{read_of};
-ghost use Rattle.buffer_core.specs.Sides.{items_of, run_of};
+ghost use Rattle.buffer_core.specs.Readings.{reading_of};
+ghost use Rattle.buffer_core.specs.Sides.{items_of, state_of};
 ghost use Rattle.buffer_stages.specs.Buffers.{are_glyphs};
 ghost use Rattle.buffer_stages.specs.Ready.{IsDone, IsReady};
 ghost use Rattle.buffer_stages.specs.Pauses.{BringsNoGlyph};
@@ -42,9 +42,9 @@ pub fn setup_syllables<S: SyllableSpans>(
     requires ready { IsReady buffer.old }
     ensures ok { OnOk result
         (IsDone (universal_syllables_set (S.span_of spans.now) rphf_mask forms) buffer.old buffer.new) }
-    ensures told { result ≡ Ok false → BringsNoGlyph (items_of buffer.old) (items_of buffer.new) }
+    ensures brings_none { result ≡ Ok false → BringsNoGlyph (items_of buffer.old) (items_of buffer.new) }
     ensures err { IfErr result (λ e. e ≢ ShapeCause.OutOfMemory
-        → read_of (universal_syllables_set (S.span_of spans.now) rphf_mask forms) (run_of buffer.old) ≡ Err e) }
+        → reading_of (universal_syllables_set (S.span_of spans.now) rphf_mask forms) (state_of buffer.old) ≡ Err e) }
 {
     set_up(alloc, spans, rphf_mask, forms, buffer)?;
     Ok(false)
@@ -61,7 +61,7 @@ fn set_up<S: SyllableSpans>(
     ensures ok { OnOk result
         (IsQuiet (universal_syllables_set (S.span_of spans.now) rphf_mask forms) buffer.old buffer.new) }
     ensures err { IfErr result (λ e. e ≢ ShapeCause.OutOfMemory
-        → read_of (universal_syllables_set (S.span_of spans.now) rphf_mask forms) (run_of buffer.old) ≡ Err e) }
+        → reading_of (universal_syllables_set (S.span_of spans.now) rphf_mask forms) (state_of buffer.old) ≡ Err e) }
 {
     find_syllables(alloc, spans, buffer)?;
     setup_rphf_mask(rphf_mask, buffer)?;
@@ -69,7 +69,7 @@ fn set_up<S: SyllableSpans>(
     Ok(())
 }
 
-#[tactic(auto, using(crate::proofs::Lemmas::Quiet::quiet_same, crate::proofs::Lemmas::Rules::forms_quiet))]
+#[tactic(auto, using(crate::specs::Lemmas::Quiet::quiet_same, crate::specs::Lemmas::Rules::forms_quiet))]
 fn setup_forms(forms: Option<FormMasks>, buffer: &mut hb_buffer_t)
     requires ready { IsReady buffer.old }
     ensures { IsQuiet (forms_set forms) buffer.old buffer.new }
@@ -88,7 +88,7 @@ fn setup_forms(forms: Option<FormMasks>, buffer: &mut hb_buffer_t)
 pub fn record_rphf(mask: hb_mask_t, buffer: &mut hb_buffer_t) -> Result<bool, ShapeCause>
     requires ready { IsReady buffer.old }
     ensures ok { OnOk result (IsDone (syllables_by (rphf_recorded mask)) buffer.old buffer.new) }
-    ensures told { result ≡ Ok false → BringsNoGlyph (items_of buffer.old) (items_of buffer.new) }
+    ensures brings_none { result ≡ Ok false → BringsNoGlyph (items_of buffer.old) (items_of buffer.new) }
     ensures err { IfErr result (λ e. e ≡ ShapeCause.OutOfMemory) }
 {
     recording::record_rphf(mask, buffer)?;
@@ -103,7 +103,7 @@ pub fn record_rphf(mask: hb_mask_t, buffer: &mut hb_buffer_t) -> Result<bool, Sh
 pub fn record_pref(buffer: &mut hb_buffer_t) -> Result<bool, ShapeCause>
     requires ready { IsReady buffer.old }
     ensures ok { OnOk result (IsDone (syllables_by pref_recorded) buffer.old buffer.new) }
-    ensures told { result ≡ Ok false → BringsNoGlyph (items_of buffer.old) (items_of buffer.new) }
+    ensures brings_none { result ≡ Ok false → BringsNoGlyph (items_of buffer.old) (items_of buffer.new) }
     ensures err { IfErr result (λ e. e ≡ ShapeCause.OutOfMemory) }
 {
     recording::record_pref(buffer)?;
@@ -121,9 +121,9 @@ pub fn reorder_use(face: &Face, buffer: &mut hb_buffer_t) -> Result<bool, ShapeC
     requires numbers { are_glyphs (items_of buffer.old) ≡ true }
     ensures ok { OnOk result
         (IsDone (universal_order face.now (text_settings buffer.old).flags) buffer.old buffer.new) }
-    ensures told { result ≡ Ok false → BringsNoGlyph (items_of buffer.old) (items_of buffer.new) }
+    ensures brings_none { result ≡ Ok false → BringsNoGlyph (items_of buffer.old) (items_of buffer.new) }
     ensures err { IfErr result (λ e. e ≢ ShapeCause.OutOfMemory
-        → read_of (universal_order face.now (text_settings buffer.old).flags) (run_of buffer.old) ≡ Err e) }
+        → reading_of (universal_order face.now (text_settings buffer.old).flags) (state_of buffer.old) ≡ Err e) }
 {
     let inserted = insert_dotted_circles(face, buffer, BROKEN_CLUSTER, B, Some(R), None)?;
     reorder::reorder_use(buffer)?;

@@ -6,7 +6,7 @@ use Rattle.buffer_common.specs.declared.script.Script.{Script}
 use Rattle.buffer_common.specs.declared.direction.Direction.{Direction}
 use Rattle.buffer_features.specs.declared.feature.Feature.{Feature}
 use Rattle.layout_face.specs.declared.parts.FaceParts.{FaceParts}
-use Rattle.layout_map.specs.Compiled.{MapRequests, OtMapValue, compiled}
+use Rattle.layout_map.specs.Compiled.{MapRequests, OtMapValue, compiled_map}
 use Rattle.script_plan.specs.declared.plan.PlanChoices.{PlanChoices}
 use Rattle.script_plan.specs.declared.plan.hb_ot_shape_plan_t.{hb_ot_shape_plan_t}
 use Rattle.script_plan.specs.declared.plan.hb_script_plan_t.{hb_script_plan_t}
@@ -20,11 +20,11 @@ requests_are asking d e s t asked b before m direction script same is =
 
 module _ {S D : Type 0} (kind : ShaperKind S D) (font : FaceParts) (languages : List Tag) (d : Direction) (s : Option Script) (asked : List Feature) where
   map_is : (shaper : S) (m : MapRequests) → shaper ≡ planned_shaper kind font languages d s
-      → m ≡ with_requests (kind.asking shaper) d s asked (nothing_asked font s languages) → compiled m ≡ text_map kind font languages d s asked
+      → m ≡ with_requests (kind.asking shaper) d s asked (nothing_asked font s languages) → compiled_map m ≡ text_map kind font languages d s asked
   unfolding text_map
   map_is shaper m by requests =
       let P : S → Type 0 = λ sh. m ≡ with_requests (kind.asking sh) d s asked (nothing_asked font s languages) in
-      ap compiled (subst P by requests)
+      ap compiled_map (subst P by requests)
 
   shaper_is : (shaper : S) → shaper ≡ kind.shaper_of s d (gsub_script font s languages) → shaper ≡ planned_shaper kind font languages d s
   unfolding planned_shaper
@@ -46,13 +46,13 @@ module _ {S D : Type 0} (kind : ShaperKind S D) (font : FaceParts) (languages : 
 
   pub plan_made : (plan : hb_ot_shape_plan_t S D) (shaper : S) (m : MapRequests)
       → shaper ≡ kind.shaper_of s d (gsub_script font s languages) → m ≡ with_requests (kind.asking shaper) d s asked (nothing_asked font s languages)
-      → plan.shaper ≡ shaper → plan.script_plan.direction ≡ d → plan.script_plan.script ≡ s → plan.script_plan.map ≡ compiled m → plan.script_plan.choices ≡ choices (kind.traits shaper) font (compiled m)
-      → plan.script_plan.plan_data ≡ kind.data_of shaper (compiled m) s → plan.user_features.items ≡ asked → IsPlanned kind font languages d s asked plan
+      → plan.shaper ≡ shaper → plan.script_plan.direction ≡ d → plan.script_plan.script ≡ s → plan.script_plan.map ≡ compiled_map m → plan.script_plan.choices ≡ choices (kind.traits shaper) font (compiled_map m)
+      → plan.script_plan.plan_data ≡ kind.data_of shaper (compiled_map m) s → plan.user_features.items ≡ asked → IsPlanned kind font languages d s asked plan
   plan_made plan shaper m by requests same direction script map chosen kept features =
       let of_script = shaper_is shaper by in
       record {
         shaper = same ∙ of_script;
-        script_plan = parts_are shaper (compiled m) plan.script_plan of_script (map_is shaper m of_script requests) direction script map chosen kept;
+        script_plan = parts_are shaper (compiled_map m) plan.script_plan of_script (map_is shaper m of_script requests) direction script map chosen kept;
         features = features;
       }
 

@@ -19,8 +19,8 @@ abbrev pub on : List ℕ → ℕ → Ask
 on name flags = Feature (tag_of name) (bit_or F_GLOBAL flags) 1
 
 -- the request of a feature where a mask is set (HarfBuzz: add_feature)
-abbrev pub added : List ℕ → ℕ → Ask
-added name flags = Feature (tag_of name) flags 1
+abbrev pub added_feature : List ℕ → ℕ → Ask
+added_feature name flags = Feature (tag_of name) flags 1
 
 -- the request that a feature is off for every glyph (HarfBuzz: disable_feature)
 abbrev pub off : List ℕ → Ask

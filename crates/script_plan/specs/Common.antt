@@ -10,22 +10,22 @@ use Rattle.buffer_features.specs.Feature.{is_global}
 use Rattle.layout_map_features.specs.declared.flags.TheConstants.{F_NONE, F_GLOBAL, F_HAS_FALLBACK, F_MANUAL_JOINERS, F_GLOBAL_SEARCH, F_RANDOM}
 use Rattle.script_plan.specs.declared.ask.Ask.{Ask}
 use Rattle.script_plan.specs.declared.ask.Ask.TheVariants.{Feature}
-use Rattle.script_plan.specs.Asks.{on, added, stage_end}
+use Rattle.script_plan.specs.Asks.{on, added_feature, stage_end}
 
 -- the requests for alternates and mirrored forms by direction: ltra, ltrm, rtla, rtlm
 abbrev pub of_side : Direction → List Ask
 of_side LeftToRight = on (codes "ltra") F_NONE ∷ on (codes "ltrm") F_NONE ∷ []
-of_side RightToLeft = on (codes "rtla") F_NONE ∷ added (codes "rtlm") F_NONE ∷ []
+of_side RightToLeft = on (codes "rtla") F_NONE ∷ added_feature (codes "rtlm") F_NONE ∷ []
 of_side _ = []
 
 -- the requests before the shaper's: required variations in a GSUB stage of their own, then those by direction,
 -- fractions where a mask is set, and random alternates; then tracking, and the custom features of HarfBuzz (HarfBuzz:
 -- hb_ot_shape_collect_features)
-abbrev pub asked_first : Direction → List Ask
-asked_first direction =
+abbrev pub first_requests : Direction → List Ask
+first_requests direction =
     on (codes "rvrn") F_NONE ∷ stage_end ∷
     of_side direction ++
-    added (codes "frac") F_NONE ∷ added (codes "numr") F_NONE ∷ added (codes "dnom") F_NONE ∷
+    added_feature (codes "frac") F_NONE ∷ added_feature (codes "numr") F_NONE ∷ added_feature (codes "dnom") F_NONE ∷
     Feature (tag_of (codes "rand")) (bit_or F_GLOBAL F_RANDOM) 255 ∷
     on (codes "trak") F_HAS_FALLBACK ∷
     on (codes "Harf") F_NONE ∷ on (codes "HARF") F_NONE ∷
@@ -40,13 +40,13 @@ of_line direction =
     else on (codes "vert") F_GLOBAL_SEARCH ∷ []
 
 -- the requests after the shaper's: marks, composition and localised forms
-abbrev pub asked_after : Direction → List Ask
-asked_after direction =
+abbrev pub common_features_after : Direction → List Ask
+common_features_after direction =
     on (codes "Buzz") F_NONE ∷ on (codes "BUZZ") F_NONE ∷
     on (codes "abvm") F_NONE ∷ on (codes "blwm") F_NONE ∷ on (codes "ccmp") F_NONE ∷ on (codes "locl") F_NONE ∷
     on (codes "mark") F_MANUAL_JOINERS ∷ on (codes "mkmk") F_MANUAL_JOINERS ∷ on (codes "rlig") F_NONE ∷
     of_line direction
 
 -- the request of a user's feature, for every glyph or for a range
-abbrev pub ask_of : text.Feature → Ask
-ask_of f = Feature f.tag (if is_global f then F_GLOBAL else F_NONE) f.value
+abbrev pub request_of : text.Feature → Ask
+request_of f = Feature f.tag (if is_global f then F_GLOBAL else F_NONE) f.value

@@ -2,7 +2,7 @@
 use Rattle.std.specs.Prelude.{◌≡◌, Option, unwrap_or}
 use Rattle.buffer_common.specs.declared.script.Script.{Script}
 use Rattle.buffer_common.specs.declared.script.TheConstants.{UNKNOWN}
-use Rattle.buffer_core.specs.Segment.{guessed}
+use Rattle.buffer_core.specs.Segment.{after_guess_segment_properties}
 use Rattle.buffer_core.specs.Sides.{Sides}
 use Rattle.script_plan.specs.declared.plan.hb_ot_shape_plan_t.{hb_ot_shape_plan_t}
 
@@ -12,5 +12,5 @@ script_or_unknown script = unwrap_or script UNKNOWN
 
 -- a plan is made for the direction and the script of a text, set or guessed
 pub record Fits {S D : Type 0} (plan : hb_ot_shape_plan_t S D) (text : Sides) : Type 0 where
-  pub direction : (guessed text).direction ≡ plan.script_plan.direction
-  pub script : script_or_unknown (guessed text).script ≡ script_or_unknown plan.script_plan.script
+  pub direction : (after_guess_segment_properties text).direction ≡ plan.script_plan.direction
+  pub script : script_or_unknown (after_guess_segment_properties text).script ≡ script_or_unknown plan.script_plan.script

@@ -8,7 +8,7 @@ use Rattle.script_categories.specs.declared.shaper.hb_ot_script_shaper_t.{hb_ot_
 use Rattle.script_categories.specs.declared.shaper.hb_ot_script_shaper_t.TheVariants.{ARABIC_SHAPER, HANGUL_SHAPER, INDIC_SHAPER, KHMER_SHAPER, MYANMAR_SHAPER, UNIVERSAL_SHAPER}
 use Rattle.script_plan.specs.declared.ask.Ask.{Ask}
 use Rattle.script_plan.specs.declared.pause.hb_script_pause_t.TheVariants.{RecordStch, SetupSyllables, ReorderKhmer, ReorderMyanmar, ClearSyllables, ClearSubstitutionFlags, RecordRphf, RecordPref, ReorderUse, InitialReordering, FinalReordering}
-use Rattle.script_plan.specs.Asks.{on, added, off, then_pause, stage_end}
+use Rattle.script_plan.specs.Asks.{on, added_feature, off, then_pause, stage_end}
 
 -- ---- Arabic and Syriac
 
@@ -21,13 +21,13 @@ abbrev pub arabic_forms : Bool → List Ask
 arabic_forms is_arabic =
     on (codes "stch") F_NONE ∷ then_pause RecordStch ∷
     on (codes "ccmp") F_MANUAL_ZWJ ∷ on (codes "locl") F_MANUAL_ZWJ ∷ stage_end ∷
-    added (codes "isol") (with_fallback is_arabic) ∷ stage_end ∷
-    added (codes "fina") (with_fallback is_arabic) ∷ stage_end ∷
-    added (codes "fin2") F_MANUAL_ZWJ ∷ stage_end ∷
-    added (codes "fin3") F_MANUAL_ZWJ ∷ stage_end ∷
-    added (codes "medi") (with_fallback is_arabic) ∷ stage_end ∷
-    added (codes "med2") F_MANUAL_ZWJ ∷ stage_end ∷
-    added (codes "init") (with_fallback is_arabic) ∷ stage_end ∷
+    added_feature (codes "isol") (with_fallback is_arabic) ∷ stage_end ∷
+    added_feature (codes "fina") (with_fallback is_arabic) ∷ stage_end ∷
+    added_feature (codes "fin2") F_MANUAL_ZWJ ∷ stage_end ∷
+    added_feature (codes "fin3") F_MANUAL_ZWJ ∷ stage_end ∷
+    added_feature (codes "medi") (with_fallback is_arabic) ∷ stage_end ∷
+    added_feature (codes "med2") F_MANUAL_ZWJ ∷ stage_end ∷
+    added_feature (codes "init") (with_fallback is_arabic) ∷ stage_end ∷
     on (codes "rlig") (bit_or F_MANUAL_ZWJ F_HAS_FALLBACK) ∷
     []
 
@@ -52,7 +52,7 @@ arabic_features is_arabic has_rclt =
 
 -- the requests of the Hangul shaper (HarfBuzz: collect_features_hangul)
 abbrev pub hangul_features : List Ask
-hangul_features = added (codes "ljmo") F_NONE ∷ added (codes "vjmo") F_NONE ∷ added (codes "tjmo") F_NONE ∷ []
+hangul_features = added_feature (codes "ljmo") F_NONE ∷ added_feature (codes "vjmo") F_NONE ∷ added_feature (codes "tjmo") F_NONE ∷ []
 
 -- ---- the shapers of syllables
 
@@ -71,11 +71,11 @@ abbrev pub khmer_features : List Ask
 khmer_features =
     then_pause SetupSyllables ∷ then_pause ReorderKhmer ∷
     on (codes "locl") F_PER_SYLLABLE ∷ on (codes "ccmp") F_PER_SYLLABLE ∷
-    added (codes "pref") joiners_in_syllable ∷
-    added (codes "blwf") joiners_in_syllable ∷
-    added (codes "abvf") joiners_in_syllable ∷
-    added (codes "pstf") joiners_in_syllable ∷
-    added (codes "cfar") joiners_in_syllable ∷
+    added_feature (codes "pref") joiners_in_syllable ∷
+    added_feature (codes "blwf") joiners_in_syllable ∷
+    added_feature (codes "abvf") joiners_in_syllable ∷
+    added_feature (codes "pstf") joiners_in_syllable ∷
+    added_feature (codes "cfar") joiners_in_syllable ∷
     then_pause ClearSyllables ∷
     on (codes "pres") F_MANUAL_JOINERS ∷
     on (codes "abvs") F_MANUAL_JOINERS ∷
@@ -107,7 +107,7 @@ universal_features =
     on (codes "nukt") F_PER_SYLLABLE ∷
     on (codes "akhn") zwj_in_syllable ∷
     then_pause ClearSubstitutionFlags ∷
-    added (codes "rphf") zwj_in_syllable ∷ then_pause RecordRphf ∷ then_pause ClearSubstitutionFlags ∷
+    added_feature (codes "rphf") zwj_in_syllable ∷ then_pause RecordRphf ∷ then_pause ClearSubstitutionFlags ∷
     on (codes "pref") zwj_in_syllable ∷ then_pause RecordPref ∷
     on (codes "rkrf") zwj_in_syllable ∷
     on (codes "abvf") zwj_in_syllable ∷
@@ -117,10 +117,10 @@ universal_features =
     on (codes "vatu") zwj_in_syllable ∷
     on (codes "cjct") zwj_in_syllable ∷
     then_pause ReorderUse ∷ then_pause ClearSyllables ∷
-    added (codes "isol") F_NONE ∷
-    added (codes "init") F_NONE ∷
-    added (codes "medi") F_NONE ∷
-    added (codes "fina") F_NONE ∷
+    added_feature (codes "isol") F_NONE ∷
+    added_feature (codes "init") F_NONE ∷
+    added_feature (codes "medi") F_NONE ∷
+    added_feature (codes "fina") F_NONE ∷
     stage_end ∷
     on (codes "abvs") F_MANUAL_ZWJ ∷
     on (codes "blws") F_MANUAL_ZWJ ∷
@@ -135,19 +135,19 @@ indic_features =
     then_pause SetupSyllables ∷
     on (codes "locl") F_PER_SYLLABLE ∷ on (codes "ccmp") F_PER_SYLLABLE ∷ then_pause InitialReordering ∷
     on (codes "nukt") joiners_in_syllable ∷ stage_end ∷ on (codes "akhn") joiners_in_syllable ∷ stage_end ∷
-    added (codes "rphf") joiners_in_syllable ∷ stage_end ∷ on (codes "rkrf") joiners_in_syllable ∷ stage_end ∷
-    added (codes "pref") joiners_in_syllable ∷
+    added_feature (codes "rphf") joiners_in_syllable ∷ stage_end ∷ on (codes "rkrf") joiners_in_syllable ∷ stage_end ∷
+    added_feature (codes "pref") joiners_in_syllable ∷
     stage_end ∷
-    added (codes "blwf") joiners_in_syllable ∷
+    added_feature (codes "blwf") joiners_in_syllable ∷
     stage_end ∷
-    added (codes "abvf") joiners_in_syllable ∷
+    added_feature (codes "abvf") joiners_in_syllable ∷
     stage_end ∷
-    added (codes "half") joiners_in_syllable ∷
+    added_feature (codes "half") joiners_in_syllable ∷
     stage_end ∷
-    added (codes "pstf") joiners_in_syllable ∷ stage_end ∷ on (codes "vatu") joiners_in_syllable ∷ stage_end ∷
+    added_feature (codes "pstf") joiners_in_syllable ∷ stage_end ∷ on (codes "vatu") joiners_in_syllable ∷ stage_end ∷
     on (codes "cjct") joiners_in_syllable ∷ stage_end ∷
     then_pause FinalReordering ∷
-    added (codes "init") joiners_in_syllable ∷
+    added_feature (codes "init") joiners_in_syllable ∷
     on (codes "pres") joiners_in_syllable ∷
     on (codes "abvs") joiners_in_syllable ∷
     on (codes "blws") joiners_in_syllable ∷

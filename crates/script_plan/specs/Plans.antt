@@ -8,7 +8,7 @@ use Rattle.buffer_common.specs.Tag.{tag_of}
 use Rattle.buffer_common.specs.ScriptTags.{wanted_tags}
 use Rattle.buffer_features.specs.declared.feature.Feature.{Feature}
 use Rattle.layout_face.specs.declared.parts.FaceParts.{FaceParts}
-use Rattle.layout_map.specs.Compiled.{MapRequests, OtMapValue, compiled, feature_at, no_requests}
+use Rattle.layout_map.specs.Compiled.{MapRequests, OtMapValue, compiled_map, feature_at, no_requests}
 use Rattle.layout_map.specs.Chosen.{script_tag}
 use Rattle.script_plan.specs.declared.planned.TheConstants.{HB_OT_SHAPE_ZERO_WIDTH_MARKS_NONE}
 use Rattle.script_plan.specs.declared.plan.PlanChoices.{PlanChoices}
@@ -68,7 +68,7 @@ choices traits font m = record {
 -- the compiled map of a text's requests
 abbrev pub planned_map : Asking → FaceParts → List Tag → Direction → Option Script → List Feature → OtMapValue
 planned_map asking font languages direction script features =
-    compiled (with_requests asking direction script features (nothing_asked font script languages))
+    compiled_map (with_requests asking direction script features (nothing_asked font script languages))
 
 -- ---- plans of a family of shapers
 

@@ -1,16 +1,20 @@
--- A shaper's hooks, as rules.
-use Rattle.std.specs.Prelude.{ℕ, ◌≡◌, List, Ok, Option}
-use Rattle.buffer_glyphs.specs.declared.level.BufferClusterLevel.{BufferClusterLevel}
+-- What a shaper does to a text, as rules.
+use Rattle.std.specs.Prelude.{ℕ, ◌≡◌, ◌≤◌, ◌<◌, ◌+◌, List, length, map, Option}
 use Rattle.script_categories.specs.declared.shaper.hb_ot_script_shaper_t.{hb_ot_script_shaper_t}
 use Rattle.buffer_unicode_tables.specs.Expansion.{Splits}
 use Rattle.buffer_unicode_tables.specs.Tables.{Tables, pair_of, split_of}
 use Rattle.layout_face.specs.declared.parts.FaceParts.{FaceParts}
 use Rattle.buffer_glyphs.specs.Items.{Item}
 use Rattle.buffer_glyphs.specs.Events.{IsPlain}
-use Rattle.buffer_core.specs.Readings.{IsMonotone, Read, Stage, View, as_it_is}
+use Rattle.buffer_parts.specs.Counts.{AreGiving, count_after}
+use Rattle.buffer_parts.specs.Turns.{IsUnturned}
+use Rattle.buffer_core.specs.Readings.{Stage, as_it_is}
 use Rattle.buffer_stages.specs.Settings.{TextSettings}
 use Rattle.buffer_stages.specs.Pauses.{Pauses}
-use Rattle.buffer_glyphs.specs.Arranged.{Arranged, kept}
+use Rattle.buffer_stage_laws.specs.Stages.{KeepsPartsInLine}
+use Rattle.buffer_stage_laws.specs.Alike.{DependsOnNoLength}
+use Rattle.buffer_stage_laws.specs.Counting.{CountsBudget}
+use Rattle.buffer_glyphs.specs.Rewriting.{Arrangement, eventless_arrangement, shifted_event}
 
 -- the end and the kind of the syllable that begins at an index, by the categories of all glyphs
 abbrev pub Spans : Type 0
@@ -25,7 +29,7 @@ pub record ShaperRules : Type 0 where
   -- class
   pub splits : Tables → Splits
   pub composes : Tables → ℕ → ℕ → Option ℕ
-  pub reorders : List Item → Arranged
+  pub reorders : List Item → Arrangement
   -- the stage that sets masks of features that apply to some characters only
   pub sets_masks : FaceParts → Tables → TextSettings → Stage
   -- the stage of each pause, by its number
@@ -39,7 +43,7 @@ plain_rules = record {
   preprocesses = λ font t settings. as_it_is;
   splits = λ t. split_of t;
   composes = λ t. pair_of t;
-  reorders = λ run. kept run;
+  reorders = λ run. eventless_arrangement run;
   sets_masks = λ font t settings. as_it_is;
   pauses = λ font t spans settings n. as_it_is;
   postprocesses = λ font settings. as_it_is;
@@ -47,14 +51,35 @@ plain_rules = record {
 
 -- ---- clusters
 
--- no event of a stage breaks the order of clusters at the monotone levels
-abbrev pub StaysPlain : Stage → Type 0
-StaysPlain stage = (v : View) (r : Read) (level : BufferClusterLevel) → IsMonotone level → stage v ≡ Ok r → IsPlain (r.events level)
+-- an arrangement of a run of marks keeps the parts of a text wherever the run is: no event permutes glyphs without a merge or reverses the list, each replacement gives a glyph, and a list in which the run is keeps its count
+pub record IsArrangedInLine (run : List Item) (a : Arrangement) : Type 0 where
+  pub plain : IsPlain a.events
+  pub unturned : IsUnturned a.events
+  pub giving : AreGiving a.events
+  pub counted : (from n : ℕ) → from + length run ≤ n → count_after (map (shifted_event from) a.events) n ≡ n
 
--- no rule of the shaper breaks the order of clusters at the monotone levels
-pub record KeepsOrder (rules : ShaperRules) : Type 0 where
-  pub preprocesses : (font : FaceParts) (t : Tables) (settings : TextSettings) → StaysPlain (rules.preprocesses font t settings)
-  pub reorders : (run : List Item) → IsPlain (rules.reorders run).events
-  pub sets_masks : (font : FaceParts) (t : Tables) (settings : TextSettings) → StaysPlain (rules.sets_masks font t settings)
-  pub pauses : (font : FaceParts) (t : Tables) (spans : Spans) (settings : TextSettings) (n : ℕ) → StaysPlain (rules.pauses font t spans settings n)
-  pub postprocesses : (font : FaceParts) (settings : TextSettings) → StaysPlain (rules.postprocesses font settings)
+-- a syllable that begins inside a text ends after its start
+abbrev pub EndAfterStart : Spans → Type 0
+EndAfterStart spans = (shaper : hb_ot_script_shaper_t) (categories : List ℕ) (start : ℕ) → start < length categories → start < (spans shaper categories start).0
+
+-- each rule of a shaper keeps the parts of a text and reverses no list, at the levels that keep clusters in order
+pub record RulesKeepParts (rules : ShaperRules) : Type 0 where
+  pub preprocesses : (font : FaceParts) (t : Tables) (settings : TextSettings) → KeepsPartsInLine (rules.preprocesses font t settings)
+  pub reorders : (run : List Item) → IsArrangedInLine run (rules.reorders run)
+  pub sets_masks : (font : FaceParts) (t : Tables) (settings : TextSettings) → KeepsPartsInLine (rules.sets_masks font t settings)
+  pub pauses : (font : FaceParts) (t : Tables) (spans : Spans) (settings : TextSettings) (n : ℕ) → EndAfterStart spans → KeepsPartsInLine (rules.pauses font t spans settings n)
+  pub postprocesses : (font : FaceParts) (settings : TextSettings) → KeepsPartsInLine (rules.postprocesses font settings)
+
+-- ---- limits
+
+-- the limit of length decides no more of a stage than whether it refuses, and the budget of nested lookups is only counted down
+pub record DependsOnNoLimit (stage : Stage) : Type 0 where
+  pub limit : DependsOnNoLength stage
+  pub budget : CountsBudget stage
+
+-- no rule of a shaper depends on a limit, or on the scratch flags that characters set
+pub record RulesDependOnNoLimit (rules : ShaperRules) : Type 0 where
+  pub preprocesses : (font : FaceParts) (t : Tables) (settings : TextSettings) → DependsOnNoLimit (rules.preprocesses font t settings)
+  pub sets_masks : (font : FaceParts) (t : Tables) (settings : TextSettings) → DependsOnNoLimit (rules.sets_masks font t settings)
+  pub pauses : (font : FaceParts) (t : Tables) (spans : Spans) (settings : TextSettings) (n : ℕ) → DependsOnNoLimit (rules.pauses font t spans settings n)
+  pub postprocesses : (font : FaceParts) (settings : TextSettings) → DependsOnNoLimit (rules.postprocesses font settings)

@@ -1,7 +1,7 @@
 //! The feature requests of every text (rustybuzz: hb/ot_shape.rs).
 ghost use Rattle.std.specs.Prelude.{◌≡◌, fold, OnOk};
 ghost use Rattle.script_plan.specs.Asks.{with_ask};
-ghost use Rattle.script_plan.specs.Common.{asked_after, asked_first, of_line, of_side};
+ghost use Rattle.script_plan.specs.Common.{common_features_after, first_requests, of_line, of_side};
 
 use crate::ask::{Ask, added, ask_all, on, tag};
 use buffer_common::direction::Direction;
@@ -82,7 +82,7 @@ fn ask_of_line(builder: &mut hb_ot_map_builder_t, direction: Direction) -> Resul
 
 /// Requests the features of every text that precede its shaper's.
 pub fn ask_first(builder: &mut hb_ot_map_builder_t, direction: Direction) -> Result<(), AllocError>
-    ensures { OnOk result (builder.new ≡ fold with_ask builder.old (asked_first direction)) }
+    ensures { OnOk result (builder.new ≡ fold with_ask builder.old (first_requests direction)) }
 {
     ask_all(builder, &VARIATIONS)?;
     ask_of_side(builder, direction)?;
@@ -91,7 +91,7 @@ pub fn ask_first(builder: &mut hb_ot_map_builder_t, direction: Direction) -> Res
 
 /// Requests the features of every text that follow its shaper's.
 pub fn ask_after(builder: &mut hb_ot_map_builder_t, direction: Direction) -> Result<(), AllocError>
-    ensures { OnOk result (builder.new ≡ fold with_ask builder.old (asked_after direction)) }
+    ensures { OnOk result (builder.new ≡ fold with_ask builder.old (common_features_after direction)) }
 {
     ask_all(builder, &BEHIND)?;
     ask_of_line(builder, direction)

@@ -4,7 +4,7 @@ ghost use Rattle.std.specs.Option.{option_copied};
 ghost use Rattle.buffer_common.specs.ScriptTags.{wanted_language_tags};
 ghost use Rattle.script_plan.specs.Plans.{IsPlanned, choices, disables_gpos, gsub_script, has_fractions, has_mask, nothing_asked, planned_map, uses_gpos};
 ghost use Rattle.script_plan.specs.Requests.{with_requests, with_user};
-ghost use Rattle.layout_map.specs.Compiled.{compiled};
+ghost use Rattle.layout_map.specs.Compiled.{compiled_map};
 ghost use Rattle.std.specs.Prelude.{OnOk};
 
 use crate::plan::{PlanChoices, hb_ot_shape_plan_t, hb_script_plan_t};
@@ -144,11 +144,11 @@ impl<'a, S: PlannedShaper> hb_ot_shape_planner_t<'a, S> {
         ensures direction { IfOk result (λ plan. plan.script_plan.direction ≡ self.entry.direction) }
         ensures script { IfOk result (λ plan. plan.script_plan.script ≡ self.entry.script) }
         ensures shaper { IfOk result (λ plan. plan.shaper ≡ self.entry.shaper) }
-        ensures map { IfOk result (λ plan. plan.script_plan.map ≡ compiled self.entry.ot_map) }
+        ensures map { IfOk result (λ plan. plan.script_plan.map ≡ compiled_map self.entry.ot_map) }
         ensures choices { IfOk result (λ plan. plan.script_plan.choices
-            ≡ choices (S.traits self.entry.shaper) self.entry.face.now (compiled self.entry.ot_map)) }
+            ≡ choices (S.traits self.entry.shaper) self.entry.face.now (compiled_map self.entry.ot_map)) }
         ensures data { IfOk result (λ plan. plan.script_plan.plan_data
-            ≡ S.data_of self.entry.shaper (compiled self.entry.ot_map) self.entry.script) }
+            ≡ S.data_of self.entry.shaper (compiled_map self.entry.ot_map) self.entry.script) }
         ensures features { IfOk result (λ plan. plan.user_features.items ≡ features.now) }
     {
         let map = self.ot_map.compile(alloc)?;

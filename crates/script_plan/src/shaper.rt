@@ -17,8 +17,8 @@ pub trait hb_ot_shaper_t: PlannedShaper {
     ghost use Rattle.buffer_unicode_tables.specs.Expansion.{EndWithin};
     ghost use Rattle.buffer_unicode_tables.specs.Tables.{Tables, split_of};
     ghost use Rattle.buffer_glyphs.specs.Items.{Item};
-    ghost use Rattle.buffer_core.specs.Readings.{read_of};
-    ghost use Rattle.buffer_core.specs.Sides.{all_glyphs, items_of, run_of};
+    ghost use Rattle.buffer_core.specs.Readings.{reading_of};
+    ghost use Rattle.buffer_core.specs.Sides.{all_glyphs, items_of, state_of};
     ghost use Rattle.buffer_stages.specs.Buffers.{are_glyphs};
     ghost use Rattle.buffer_stages.specs.Ready.{IsDone, IsReady};
     ghost use Rattle.buffer_stages.specs.Settings.{text_settings};
@@ -26,7 +26,7 @@ pub trait hb_ot_shaper_t: PlannedShaper {
     ghost use Rattle.buffer_stages.specs.Rearranged.{Rearranges};
     ghost use Rattle.buffer_stages.specs.Stages.{IsFollowed};
     ghost use Rattle.script_plan.specs.declared.plan.hb_script_plan_t.{hb_script_plan_t};
-    ghost use Rattle.script_plan.specs.Rules.{KeepsOrder, ShaperRules};
+    ghost use Rattle.script_plan.specs.Rules.{RulesDependOnNoLimit, RulesKeepParts, ShaperRules};
 
     ghost rules: { Self → hb_script_plan_t Self.PlanData → ShaperRules };
 
@@ -44,8 +44,8 @@ pub trait hb_ot_shaper_t: PlannedShaper {
         ensures ok { OnOk result (IsFollowed
             ((rules self.now plan.now).preprocesses face.now tables.now (text_settings buffer.old))
             buffer.old buffer.new) }
-        ensures err { IfErr result (λ e. e ≢ ShapeCause.OutOfMemory → read_of
-            ((rules self.now plan.now).preprocesses face.now tables.now (text_settings buffer.old)) (run_of buffer.old)
+        ensures err { IfErr result (λ e. e ≢ ShapeCause.OutOfMemory → reading_of
+            ((rules self.now plan.now).preprocesses face.now tables.now (text_settings buffer.old)) (state_of buffer.old)
             ≡ Err e) };
 
     /// The two halves of a character's decomposition; the second is U+0000 where there is only one.
@@ -92,8 +92,8 @@ pub trait hb_ot_shaper_t: PlannedShaper {
         ensures ok { OnOk result (IsFollowed
             ((rules self.now plan.now).sets_masks face.now tables.now (text_settings buffer.old))
             buffer.old buffer.new) }
-        ensures err { IfErr result (λ e. e ≢ ShapeCause.OutOfMemory → read_of
-            ((rules self.now plan.now).sets_masks face.now tables.now (text_settings buffer.old)) (run_of buffer.old)
+        ensures err { IfErr result (λ e. e ≢ ShapeCause.OutOfMemory → reading_of
+            ((rules self.now plan.now).sets_masks face.now tables.now (text_settings buffer.old)) (state_of buffer.old)
             ≡ Err e) };
 
     /// Performs the pause of a number between two GSUB stages, and returns true whenever a glyph number was inserted.
@@ -113,11 +113,11 @@ pub trait hb_ot_shaper_t: PlannedShaper {
             ((rules self.now plan.now).pauses face.now tables.now (P.span_of spans.now) (text_settings buffer.old)
             pause)
             buffer.old buffer.new) }
-        ensures told { result ≡ Ok false → BringsNoGlyph (items_of buffer.old) (items_of buffer.new) }
-        ensures err { IfErr result (λ e. e ≢ ShapeCause.OutOfMemory → read_of
+        ensures brings_none { result ≡ Ok false → BringsNoGlyph (items_of buffer.old) (items_of buffer.new) }
+        ensures err { IfErr result (λ e. e ≢ ShapeCause.OutOfMemory → reading_of
             ((rules self.now plan.now).pauses face.now tables.now (P.span_of spans.now) (text_settings buffer.old)
             pause)
-            (run_of buffer.old) ≡ Err e) };
+            (state_of buffer.old) ≡ Err e) };
 
     /// Changes the glyphs, which are in visual order, and their positions.
     fn postprocess_glyphs(
@@ -130,9 +130,9 @@ pub trait hb_ot_shaper_t: PlannedShaper {
         requires ready { IsReady buffer.old }
         ensures ok { OnOk result (IsDone
             ((rules self.now plan.now).postprocesses face.now (text_settings buffer.old)) buffer.old buffer.new) }
-        ensures err { IfErr result (λ e. e ≢ ShapeCause.OutOfMemory → read_of
+        ensures err { IfErr result (λ e. e ≢ ShapeCause.OutOfMemory → reading_of
             ((rules self.now plan.now).postprocesses face.now (text_settings buffer.old))
-            (run_of buffer.old) ≡ Err e) };
+            (state_of buffer.old) ≡ Err e) };
 
     /// Whether the order of clusters is kept at the monotone levels.
     fn keeps_cluster_order(&self) -> bool
@@ -144,6 +144,9 @@ pub trait hb_ot_shaper_t: PlannedShaper {
     ghost keeps_count: { (s : Self) (plan : hb_script_plan_t Self.PlanData) (run : List Item)
         → length ((rules s plan).reorders run).items ≡ length run };
 
-    ghost rules_keep_order: { (s : Self) (plan : hb_script_plan_t Self.PlanData)
-        → keeps_order s ≡ true → KeepsOrder (rules s plan) };
+    ghost rules_keep_parts: { (s : Self) (plan : hb_script_plan_t Self.PlanData)
+        → keeps_order s ≡ true → RulesKeepParts (rules s plan) };
+
+    ghost rules_depend_on_no_limit: { (s : Self) (plan : hb_script_plan_t Self.PlanData)
+        → RulesDependOnNoLimit (rules s plan) };
 }

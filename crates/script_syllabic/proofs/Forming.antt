@@ -14,13 +14,14 @@ use Rattle.buffer_core.specs.Sides.{Sides, all_glyphs, items_of}
 use Rattle.buffer_core.specs.Lending.{with_refilled}
 use Rattle.buffer_stages.specs.Ready.{IsReady}
 use Rattle.buffer_stages.specs.Stages.{IsFollowed}
-use Rattle.buffer_stages.specs.Rewriting.{kept, in_syllables, joined_to, runs_of}
+use Rattle.buffer_glyphs.specs.Rewriting.{eventless_arrangement}
+use Rattle.buffer_stages.specs.Rewriting.{in_syllables, runs_with_first, runs_of}
 use Rattle.buffer_stages.specs.SyllableBuffers.{IsRewritten, with_rule}
 use Rattle.buffer_stages.specs.Lemmas.Parts.{part_written, range_seen, range_size, without_again, flags_again}
 use Rattle.buffer_stages.specs.Lemmas.Rewritings.{middle, items_after, rewritten_beside, rewritten_count, rewritten_follows, rewritten_nothing, rewritten_same, counted}
 use Rattle.buffer_stages.proofs.Lemmas.Syllables.{syllable_end, syllables_cut}
 use Rattle.script_syllabic.specs.declared.forms.FormMasks.{FormMasks}
-use Rattle.script_syllabic.specs.Features.{all_forms, each_formed, first_joins, form_bits, form_of, formed, joins, topography, with_form}
+use Rattle.script_syllabic.specs.Features.{all_forms, each_formed, first_joins, form_bits, form_of, syllable_with_form, joins, topography, with_form}
 use Rattle.script_syllabic.specs.Formed.{glyph_with_form}
 use Rattle.buffer_stages.proofs.Lemmas.Masks.{high_cleared, without_flags_is}
 
@@ -78,7 +79,7 @@ origins_formed masks form (g ∷ gs) = rw (origin_formed masks form g, origins_f
 
 pub form_rewrites : (masks : FormMasks) (form from to bits : ℕ) (gs : List hb_glyph_info_t) (a : Sides) → IsReady a → from ≤ to → to ≤ length (all_glyphs a) → bits ≡ form_bits masks
     → gs ≡ take from (all_glyphs a) ++ map (glyph_with_form bits form) (slice_range (all_glyphs a) from to) ++ drop to (all_glyphs a)
-    → IsRewritten (kept (map (with_form masks form) (slice_range (items_of a) from to))) from to a (with_refilled gs a)
+    → IsRewritten (eventless_arrangement (map (with_form masks form) (slice_range (items_of a) from to))) from to a (with_refilled gs a)
 form_rewrites masks form from to bits gs a ready le fits b e =
     let range = slice_range (all_glyphs a) from to in
     let f : gs ≡ take from (all_glyphs a) ++ map (glyph_with_form (form_bits masks) form) range ++ drop to (all_glyphs a) = e ∙ ap (λ n. take from (all_glyphs a) ++ map (glyph_with_form n form) range ++ drop to (all_glyphs a)) b in
@@ -100,7 +101,7 @@ first_of_syllables : (xs : List Item) → first_joins (in_syllables xs) ≡ join
 first_of_syllables [] = refl
 first_of_syllables (x ∷ xs) = by_runs (runs_of (λ (y : Item). y.syllable) xs)
   where
-    by_runs : (runs : List (List Item)) → first_joins (joined_to (λ (y : Item). y.syllable) x runs) ≡ joins (x ∷ xs)
+    by_runs : (runs : List (List Item)) → first_joins (runs_with_first (λ (y : Item). y.syllable) x runs) ≡ joins (x ∷ xs)
     by_runs [] = refl
     by_runs ([] ∷ runs) = refl
     by_runs ((y ∷ ys) ∷ runs) = elim (y.syllable == x.syllable) as (λ t. first_joins (if t then (x ∷ y ∷ ys) ∷ runs else (x ∷ []) ∷ (y ∷ ys) ∷ runs) ≡ joins (x ∷ xs)) [ true ↦ refl | false ↦ refl ]
@@ -108,7 +109,7 @@ first_of_syllables (x ∷ xs) = by_runs (runs_of (λ (y : Item). y.syllable) xs)
 abbrev formed_if : FormMasks → Bool → List Item → Bool → Bool → List Item
 formed_if masks before s behind t = if t then map (with_form masks (form_of masks before behind)) s else s
 
-formed_size : (masks : FormMasks) (before behind : Bool) (s : List Item) → length (formed masks before s behind) ≡ length s
+formed_size : (masks : FormMasks) (before behind : Bool) (s : List Item) → length (syllable_with_form masks before s behind) ≡ length s
 formed_size masks before behind s = by_test (joins s)
   where
     by_test : (t : Bool) → length (formed_if masks before s behind t) ≡ length s
@@ -117,21 +118,21 @@ formed_size masks before behind s = by_test (joins s)
 
 -- a syllable that does not join stays
 pub left_as_it_is : (masks : FormMasks) (start end : ℕ) (before behind : Bool) (a : Sides) → start < end → IsReady a → joins (drop start (items_of a)) ≡ false
-    → IsRewritten (kept (formed masks before (slice_range (items_of a) start end) behind)) start end a a
+    → IsRewritten (eventless_arrangement (syllable_with_form masks before (slice_range (items_of a) start end) behind)) start end a a
 left_as_it_is masks start end before behind a lt ready e =
     let s = slice_range (items_of a) start end in
     let none : joins s ≡ false = joins_there start end (items_of a) lt ∙ e in
-    subst (λ ys. IsRewritten (kept ys) start end a a) (sym (ap (formed_if masks before s behind) none)) (rewritten_same start end a (omega (arith, lt)) ready)
+    subst (λ ys. IsRewritten (eventless_arrangement ys) start end a a) (sym (ap (formed_if masks before s behind) none)) (rewritten_same start end a (omega (arith, lt)) ready)
 
 pub gets_form : (masks : FormMasks) (start end form : ℕ) (before joined : Bool) (a b : Sides) → start < end → joins (drop start (items_of a)) ≡ true → joined ≡ joins (drop end (items_of a)) → form ≡ form_of masks before joined
-    → IsRewritten (kept (map (with_form masks form) (slice_range (items_of a) start end))) start end a b
-    → IsRewritten (kept (formed masks before (slice_range (items_of a) start end) (joins (drop end (items_of a))))) start end a b
+    → IsRewritten (eventless_arrangement (map (with_form masks form) (slice_range (items_of a) start end))) start end a b
+    → IsRewritten (eventless_arrangement (syllable_with_form masks before (slice_range (items_of a) start end) (joins (drop end (items_of a))))) start end a b
 gets_form masks start end form before joined a b lt e j f h =
     let s = slice_range (items_of a) start end in
     let yes : joins s ≡ true = joins_there start end (items_of a) lt ∙ e in
-    let P : ℕ → Type 0 = λ n. IsRewritten (kept (map (with_form masks n) s)) start end a b in
-    let Q : Bool → Type 0 = λ t. IsRewritten (kept (map (with_form masks (form_of masks before t)) s)) start end a b in
-    subst (λ ys. IsRewritten (kept ys) start end a b) (sym (ap (formed_if masks before s (joins (drop end (items_of a)))) yes)) (subst Q j (subst P f h))
+    let P : ℕ → Type 0 = λ n. IsRewritten (eventless_arrangement (map (with_form masks n) s)) start end a b in
+    let Q : Bool → Type 0 = λ t. IsRewritten (eventless_arrangement (map (with_form masks (form_of masks before t)) s)) start end a b in
+    subst (λ ys. IsRewritten (eventless_arrangement ys) start end a b) (sym (ap (formed_if masks before s (joins (drop end (items_of a)))) yes)) (subst Q j (subst P f h))
 
 -- ---- the walk
 
@@ -139,7 +140,7 @@ gets_form masks start end form before joined a b lt e j f h =
 pub record IsForming (masks : FormMasks) (start : ℕ) (before : Bool) (old now : Sides) : Type 0 where
   pub ready : IsReady now
   pub count : length (all_glyphs now) ≡ length (all_glyphs old)
-  pub does : (new : Sides) → IsRewritten (kept (each_formed masks before (in_syllables (drop start (items_of now))))) start (length (all_glyphs old)) now new
+  pub does : (new : Sides) → IsRewritten (eventless_arrangement (each_formed masks before (in_syllables (drop start (items_of now))))) start (length (all_glyphs old)) now new
       → IsRewritten (topography masks (items_of old)) 0 (length (all_glyphs old)) old new
 
 pub forming_begun : (masks : FormMasks) (s : Sides) → IsReady s → IsForming masks 0 false s s
@@ -147,22 +148,22 @@ forming_begun masks s ready = record { ready = ready; count = refl; does = λ ne
 
 next_formed : (masks : FormMasks) (before : Bool) (start end : ℕ) (s : Sides) → start < length (all_glyphs s) → end ≡ start + run_length (λ (g : hb_glyph_info_t). g.syllable) (drop start (all_glyphs s))
     → each_formed masks before (in_syllables (drop start (items_of s)))
-    ≡ formed masks before (slice_range (items_of s) start end) (joins (drop end (items_of s))) ++ each_formed masks (joins (drop start (items_of s))) (in_syllables (drop end (items_of s)))
+    ≡ syllable_with_form masks before (slice_range (items_of s) start end) (joins (drop end (items_of s))) ++ each_formed masks (joins (drop start (items_of s))) (in_syllables (drop end (items_of s)))
 next_formed masks before start end s lt e =
     let part = slice_range (items_of s) start end in
     let w = syllable_end start end s lt e in
     ap (each_formed masks before) (syllables_cut start end s lt e)
-    ∙ ap (λ t. formed masks before part t ++ each_formed masks (joins part) (in_syllables (drop end (items_of s)))) (first_of_syllables (drop end (items_of s)))
-    ∙ ap (λ t. formed masks before part (joins (drop end (items_of s))) ++ each_formed masks t (in_syllables (drop end (items_of s)))) (joins_there start end (items_of s) w.0)
+    ∙ ap (λ t. syllable_with_form masks before part t ++ each_formed masks (joins part) (in_syllables (drop end (items_of s)))) (first_of_syllables (drop end (items_of s)))
+    ∙ ap (λ t. syllable_with_form masks before part (joins (drop end (items_of s))) ++ each_formed masks t (in_syllables (drop end (items_of s)))) (joins_there start end (items_of s) w.0)
 
 pub formed_on : (masks : FormMasks) (before : Bool) (start end : ℕ) (old now next : Sides) (joined : Bool) → IsForming masks start before old now → start < length (all_glyphs now)
     → end ≡ start + run_length (λ (g : hb_glyph_info_t). g.syllable) (drop start (all_glyphs now))
-    → IsRewritten (kept (formed masks before (slice_range (items_of now) start end) (joins (drop end (items_of now))))) start end now next → joined ≡ joins (drop start (items_of now)) → IsForming masks end joined old next
+    → IsRewritten (eventless_arrangement (syllable_with_form masks before (slice_range (items_of now) start end) (joins (drop end (items_of now))))) start end now next → joined ≡ joins (drop start (items_of now)) → IsForming masks end joined old next
 formed_on masks before start end old now next joined u lt e f j =
     let w = syllable_end start end now lt e in
     let part = slice_range (items_of now) start end in
     let behind = joins (drop end (items_of now)) in
-    let r = kept (formed masks before part behind) in
+    let r = eventless_arrangement (syllable_with_form masks before part behind) in
     let n = counted now in
     let inside : end ≤ length (items_of now) = omega (arith, n, w.1) in
     let le : start ≤ end = omega (arith, w.0) in
@@ -174,10 +175,10 @@ formed_on masks before start end old now next joined u lt e f j =
       ready = f.ready;
       count = rewritten_count r start end now next le inside size f ∙ u.count;
       does = λ new g.
-          let P : List Item → Type 0 = λ ys. IsRewritten (kept (each_formed masks joined (in_syllables ys))) end whole next new in
-          let Q : Bool → Type 0 = λ t. IsRewritten (kept (each_formed masks t (in_syllables (drop end (items_of now))))) end whole next new in
-          let R : List Item → Type 0 = λ ys. IsRewritten (kept ys) start whole now new in
-          u.does new (subst R (sym (next_formed masks before start end now lt e)) (rewritten_beside r (kept (each_formed masks (joins (drop start (items_of now))) (in_syllables (drop end (items_of now))))) start end whole now next new le inside size (omega (arith, count, w.1)) f (subst Q j (subst P same g))));
+          let P : List Item → Type 0 = λ ys. IsRewritten (eventless_arrangement (each_formed masks joined (in_syllables ys))) end whole next new in
+          let Q : Bool → Type 0 = λ t. IsRewritten (eventless_arrangement (each_formed masks t (in_syllables (drop end (items_of now))))) end whole next new in
+          let R : List Item → Type 0 = λ ys. IsRewritten (eventless_arrangement ys) start whole now new in
+          u.does new (subst R (sym (next_formed masks before start end now lt e)) (rewritten_beside r (eventless_arrangement (each_formed masks (joins (drop start (items_of now))) (in_syllables (drop end (items_of now))))) start end whole now next new le inside size (omega (arith, count, w.1)) f (subst Q j (subst P same g))));
     }
 
 pub all_formed : (masks : FormMasks) (before : Bool) (start : ℕ) (old now : Sides) → IsForming masks start before old now → length (all_glyphs old) ≤ start → IsFollowed (always (with_rule (topography masks))) old now
@@ -185,5 +186,5 @@ all_formed masks before start old now u le =
     let n = counted now in
     let count = u.count in
     let past : length (items_of now) ≤ start = omega (arith, n, count, le) in
-    let P : List Item → Type 0 = λ ys. IsRewritten (kept (each_formed masks before (in_syllables ys))) start (length (all_glyphs old)) now now in
+    let P : List Item → Type 0 = λ ys. IsRewritten (eventless_arrangement (each_formed masks before (in_syllables ys))) start (length (all_glyphs old)) now now in
     rewritten_follows (topography masks) old now (u.does now (subst P (sym (drop_all start (items_of now) past)) (rewritten_nothing start (length (all_glyphs old)) now u.ready past (omega (arith, n, count)))))

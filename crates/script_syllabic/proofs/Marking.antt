@@ -11,9 +11,9 @@ use Rattle.buffer_glyphs.specs.Items.{Item, item_of, strip}
 use Rattle.buffer_glyphs.specs.Origins.{origin_of, origins}
 use Rattle.buffer_glyphs.specs.Events.{Break}
 use Rattle.buffer_core.specs.Readings.{Follows, always}
-use Rattle.buffer_core.specs.Sides.{Sides, all_glyphs, items_of, origins_by, origins_of, run_of, view_of}
+use Rattle.buffer_core.specs.Sides.{Sides, all_glyphs, items_of, origins_by, origins_of, state_of, view_of}
 use Rattle.buffer_core.specs.Lending.{with_refilled}
-use Rattle.buffer_core.specs.Marking.{marked_range}
+use Rattle.buffer_core.specs.Marking.{range_flagged_apart}
 use Rattle.buffer_core.specs.Merging.{index_in_all}
 use Rattle.script_categories.specs.Shapers.{kinds_of}
 use Rattle.buffer_stages.proofs.Lemmas.Happened.{break_happens}
@@ -22,7 +22,8 @@ use Rattle.script_categories.specs.declared.shaper.hb_ot_script_shaper_t.{hb_ot_
 use Rattle.buffer_stages.specs.Cuts.{Syllable, syllable_from, syllables, syllables_from}
 use Rattle.buffer_stages.specs.Bytes.{syllable_byte}
 use Rattle.buffer_stages.specs.Stages.{Happens, IsFollowed}
-use Rattle.buffer_stages.specs.Rewriting.{kept, within}
+use Rattle.buffer_glyphs.specs.Rewriting.{eventless_arrangement}
+use Rattle.buffer_stages.specs.Rewriting.{within}
 use Rattle.buffer_stages.specs.SyllableBuffers.{IsRewritten, with_rule}
 use Rattle.buffer_stages.specs.Lemmas.Rewritings.{counted, origins_then, rewritten_count, rewritten_follows, rewritten_next, rewritten_same}
 use Rattle.buffer_stages.specs.Lemmas.Parts.{part_written, range_size, rewritten_part, within_size}
@@ -147,10 +148,10 @@ all_marked next at shaper count index start old now u past =
     let stage : bytes_of shaper at (syllables next count) (view_of old) ≡ always (with_rule (bytes_set at 0 (syllables next count))) (view_of old) =
     ap (λ b. if b then always (with_rule (bytes_set at 0 (syllables next count))) (view_of old) else Err UnknownSyllableKind) all in
     let Q : List Syllable → Type 0 = λ ts. IsRewritten (bytes_set at index ts (items_of now)) 0 whole now now in
-    let R : List Item → Type 0 = λ ys. IsRewritten (kept ys) 0 whole now now in
+    let R : List Item → Type 0 = λ ys. IsRewritten (eventless_arrangement ys) 0 whole now now in
     let f = rewritten_follows (bytes_set at 0 (syllables next count)) old now
     (u.does now (subst Q (sym none) (subst R (take_all (whole - 0) (items_of now) (omega (arith, counted now, same))) (rewritten_same 0 whole now (omega arith) u.ready)))) in
-    record { follows = subst (λ q. Follows q (run_of old) (run_of now)) (sym stage) f.follows; settings = f.settings; ready = f.ready }
+    record { follows = subst (λ q. Follows q (state_of old) (state_of now)) (sym stage) f.follows; settings = f.settings; ready = f.ready }
   where
     no_more : (most : ℕ) → syllables_from next count most start ≡ []
     no_more zero = refl
@@ -161,7 +162,7 @@ all_marked next at shaper count index start old now u past =
 -- a range that was written, and then flagged
 pub syllable_done : (from to byte : ℕ) (gs : List hb_glyph_info_t) (a b : Sides) → IsReady a → from ≤ to → to ≤ length (all_glyphs a)
     → gs ≡ take from (all_glyphs a) ++ map (glyph_with_byte byte) (slice_range (all_glyphs a) from to) ++ drop to (all_glyphs a)
-    → b ≡ marked_range 3 (Some from) (Some to) (with_refilled gs a) → items_of b ≡ items_of (with_refilled gs a)
+    → b ≡ range_flagged_apart 3 (Some from) (Some to) (with_refilled gs a) → items_of b ≡ items_of (with_refilled gs a)
     → origins_of b ≡ origins_by (Break (index_in_all from (with_refilled gs a)) (index_in_all to (with_refilled gs a)) ∷ []) (with_refilled gs a)
     → IsRewritten (one_syllable byte (slice_range (items_of a) from to)) from to a b
 syllable_done from to byte gs a b ready le fits e marked items from_where =
@@ -209,7 +210,7 @@ pub set_up : (span_of : hb_ot_script_shaper_t → List ℕ → ℕ → ℕ × �
 set_up span_of shaper cs old new (Err c) e f = tt
 set_up span_of shaper cs old new (Ok a) e f =
     let stage : bytes_of shaper itself (syllables (span_of shaper cs) (length cs)) (view_of old) ≡ syllables_set span_of shaper (view_of old) = ap (λ ss. bytes_of shaper itself ss (view_of old)) (syllables_meant span_of shaper cs old e) in
-    record { follows = subst (λ q. Follows q (run_of old) (run_of new)) stage f.follows; settings = f.settings; ready = f.ready }
+    record { follows = subst (λ q. Follows q (state_of old) (state_of new)) stage f.follows; settings = f.settings; ready = f.ready }
 
 pub set_up_refused : (span_of : hb_ot_script_shaper_t → List ℕ → ℕ → ℕ × ℕ) (shaper : hb_ot_script_shaper_t) (cs : List ℕ) (old : Sides) (r : Result (Unit {0}) ShapeCause) → cs ≡ map (λ (g : hb_glyph_info_t). g.category) (all_glyphs old)
     → IfErr r (λ (c : ShapeCause). bytes_of shaper itself (syllables (span_of shaper cs) (length cs)) (view_of old) ≡ Err c) → IfErr r (λ (c : ShapeCause). c ≢ OutOfMemory → syllables_set span_of shaper (view_of old) ≡ Err c)

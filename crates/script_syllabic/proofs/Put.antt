@@ -6,14 +6,14 @@ use Rattle.buffer_glyphs.specs.declared.info.hb_glyph_info_t.{hb_glyph_info_t}
 use Rattle.buffer_glyphs.specs.Items.{glyph_flags, item_of, strip}
 use Rattle.buffer_glyphs.specs.Origins.{Origin, origin_of, origins, flags_at, first_circled}
 use Rattle.buffer_core.specs.Sides.{Sides, all_glyphs, origins_of}
-use Rattle.buffer_core.specs.Merging.{with_put}
+use Rattle.buffer_core.specs.Merging.{with_output_info}
 use Rattle.std.specs.List.{list_any}
 use Rattle.script_syllabic.specs.declared.circles.CircleRule.{CircleRule}
 use Rattle.script_syllabic.specs.Circles.{is_broken}
 use Rattle.script_syllabic.specs.Rules.{IsCircled}
 use Rattle.buffer_stages.proofs.Lemmas.Elements.{split_at}
 
-put_all : (g : hb_glyph_info_t) (s : Sides) → origins_of (with_put g s) ≡ origins s.behind ++ (origin_of g ∷ origins s.ahead)
+put_all : (g : hb_glyph_info_t) (s : Sides) → origins_of (with_output_info g s) ≡ origins s.behind ++ (origin_of g ∷ origins s.ahead)
 put_all g s = ap origins (append_assoc s.behind (g ∷ []) s.ahead) ∙ map-append origin_of s.behind (g ∷ s.ahead)
 
 first_from : {X : Type 0} (xs : List X) (i : ℕ) (x : X) → slice_get xs i ≡ Some x → drop i xs ≡ x ∷ drop (suc i) xs
@@ -26,7 +26,7 @@ flags_of_first [] i o e = cc
 flags_of_first (p ∷ os) zero o e = let same : p ≡ o = cc in ap (λ (q : Origin). q.flags) same
 flags_of_first (p ∷ os) (suc i) o e = flags_of_first os i o e
 
-pub put_before : (circle : hb_glyph_info_t) (s new : Sides) → slice_get (origins_of s) (length s.behind) ≡ Some (origin_of circle) → new ≡ with_put circle s → IsCircled (item_of circle) 0 s new
+pub put_before : (circle : hb_glyph_info_t) (s new : Sides) → slice_get (origins_of s) (length s.behind) ≡ Some (origin_of circle) → new ≡ with_output_info circle s → IsCircled (item_of circle) 0 s new
 put_before circle s new first e =
     let os = origins_of s in
     let n = length s.behind in
@@ -51,7 +51,7 @@ ended xs x some e =
     first_from xs (length xs - 1) x e ∙ ap (λ ys. x ∷ ys) (drop_all (suc (length xs - 1)) xs (omega (arith, some)))
 
 pub put_behind : (rephas : ℕ) (circle h : hb_glyph_info_t) (s new : Sides) → 0 < rephas → rephas ≤ length s.behind → slice_get s.behind (length s.behind - 1) ≡ Some h
-    → slice_get (origins_of s) (length s.behind - rephas) ≡ Some (origin_of circle) → new ≡ with_put (record circle { cluster = h.cluster }) s → IsCircled (item_of circle) rephas s new
+    → slice_get (origins_of s) (length s.behind - rephas) ≡ Some (origin_of circle) → new ≡ with_output_info (record circle { cluster = h.cluster }) s → IsCircled (item_of circle) rephas s new
 put_behind zero circle h s new some le at first e = absurd (omega (arith, some))
 put_behind (suc k) circle h s new some le at first e =
     let os = origins_of s in

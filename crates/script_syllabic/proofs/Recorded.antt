@@ -9,10 +9,10 @@ use Rattle.buffer_core.specs.Sides.{Sides, all_glyphs, items_of}
 use Rattle.buffer_core.specs.Lending.{with_refilled}
 use Rattle.buffer_stages.specs.Ready.{IsReady}
 use Rattle.buffer_glyphs.specs.LigatureWords.{is_substituted}
-use Rattle.buffer_stages.specs.Rewriting.{kept}
+use Rattle.buffer_glyphs.specs.Rewriting.{eventless_arrangement}
 use Rattle.buffer_stages.specs.SyllableBuffers.{IsRewritten}
 use Rattle.buffer_stages.specs.Lemmas.Parts.{part_written, range_seen}
-use Rattle.script_syllabic.specs.Features.{recorded, with_category}
+use Rattle.script_syllabic.specs.Features.{with_first_recorded, with_category}
 use Rattle.script_syllabic.specs.Recorded.{glyph_with_category, glyphs_recorded}
 
 abbrev by_tests : (Item → Bool) → ℕ → hb_glyph_info_t → List hb_glyph_info_t → Bool → Bool → List hb_glyph_info_t
@@ -64,12 +64,12 @@ all_passed test c i hs xs le p = sym (ap (λ ys. take i xs ++ glyphs_recorded te
 
 -- ---- what is seen of them
 
-items_recorded : (test : Item → Bool) (c : ℕ) (gs : List hb_glyph_info_t) → strip (glyphs_recorded test c gs) ≡ recorded test c (strip gs)
+items_recorded : (test : Item → Bool) (c : ℕ) (gs : List hb_glyph_info_t) → strip (glyphs_recorded test c gs) ≡ with_first_recorded test c (strip gs)
 items_recorded test c [] = refl
 items_recorded test c (g ∷ gs) =
     elim (test (item_of g)) as (λ s. strip (if not s then g ∷ gs else if is_substituted (item_of g) then glyph_with_category c g ∷ gs else g ∷ glyphs_recorded test c gs)
-    ≡ (if not s then item_of g ∷ strip gs else if is_substituted (item_of g) then with_category c (item_of g) ∷ strip gs else item_of g ∷ recorded test c (strip gs))) [
-      | true ↦ elim (is_substituted (item_of g)) as (λ t. strip (if t then glyph_with_category c g ∷ gs else g ∷ glyphs_recorded test c gs) ≡ (if t then with_category c (item_of g) ∷ strip gs else item_of g ∷ recorded test c (strip gs)))
+    ≡ (if not s then item_of g ∷ strip gs else if is_substituted (item_of g) then with_category c (item_of g) ∷ strip gs else item_of g ∷ with_first_recorded test c (strip gs))) [
+      | true ↦ elim (is_substituted (item_of g)) as (λ t. strip (if t then glyph_with_category c g ∷ gs else g ∷ glyphs_recorded test c gs) ≡ (if t then with_category c (item_of g) ∷ strip gs else item_of g ∷ with_first_recorded test c (strip gs)))
           [ true ↦ refl | false ↦ ap (λ xs. item_of g ∷ xs) (items_recorded test c gs) ]
       | false ↦ refl
     ]
@@ -85,9 +85,9 @@ origins_recorded test c (g ∷ gs) =
 
 pub recording_rewrites : (test : Item → Bool) (c from to : ℕ) (gs old : List hb_glyph_info_t) (a : Sides) → IsReady a → from ≤ to → to ≤ length (all_glyphs a) → old ≡ all_glyphs a
     → gs ≡ take from old ++ glyphs_recorded test c (slice_range old from to) ++ drop to old
-    → IsRewritten (kept (recorded test c (slice_range (items_of a) from to))) from to a (with_refilled gs a)
+    → IsRewritten (eventless_arrangement (with_first_recorded test c (slice_range (items_of a) from to))) from to a (with_refilled gs a)
 recording_rewrites test c from to gs old a ready le fits same e =
     let range = slice_range (all_glyphs a) from to in
     let f : gs ≡ take from (all_glyphs a) ++ glyphs_recorded test c range ++ drop to (all_glyphs a) = e ∙ ap (λ hs. take from hs ++ glyphs_recorded test c (slice_range hs from to) ++ drop to hs) same in
-    part_written from to (recorded test c (slice_range (items_of a) from to)) (glyphs_recorded test c range) gs a ready le fits f
-    (items_recorded test c range ∙ ap (recorded test c) (range_seen item_of from to (all_glyphs a))) (origins_recorded test c range)
+    part_written from to (with_first_recorded test c (slice_range (items_of a) from to)) (glyphs_recorded test c range) gs a ready le fits f
+    (items_recorded test c range ∙ ap (with_first_recorded test c) (range_seen item_of from to (all_glyphs a))) (origins_recorded test c range)

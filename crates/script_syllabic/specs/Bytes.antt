@@ -9,7 +9,8 @@ use Rattle.script_categories.specs.declared.shaper.hb_ot_script_shaper_t.{hb_ot_
 use Rattle.script_categories.specs.Shapers.{kinds_of}
 use Rattle.buffer_stages.specs.Cuts.{Syllable, syllables}
 use Rattle.buffer_stages.specs.Bytes.{syllable_byte}
-use Rattle.buffer_stages.specs.Rewriting.{Rewritten, kept, then_rule, within}
+use Rattle.buffer_glyphs.specs.Rewriting.{Arrangement, eventless_arrangement, and_arranged}
+use Rattle.buffer_stages.specs.Rewriting.{within}
 use Rattle.buffer_stages.specs.SyllableBuffers.{with_rule}
 
 -- an item with a syllable byte
@@ -17,14 +18,14 @@ abbrev pub with_byte : ℕ → Item → Item
 with_byte byte x = record x { syllable = byte }
 
 -- the items of one syllable with its byte, flagged as unsafe to break
-abbrev pub one_syllable : ℕ → List Item → Rewritten
+abbrev pub one_syllable : ℕ → List Item → Arrangement
 one_syllable byte xs = record { items = map (with_byte byte) xs; events = Break 0 (length xs) ∷ [] }
 
 -- the items with the bytes of their syllables, the first of which has the given index among all; `at` maps a counted
 -- index to the list's
-abbrev pub bytes_set : (ℕ → ℕ) → ℕ → List Syllable → List Item → Rewritten
-bytes_set at index [] xs = kept xs
-bytes_set at index (s ∷ ss) xs = then_rule (within (at s.start) (at s.end) (one_syllable (syllable_byte index s.kind)) xs) (bytes_set at (index + 1) ss)
+abbrev pub bytes_set : (ℕ → ℕ) → ℕ → List Syllable → List Item → Arrangement
+bytes_set at index [] xs = eventless_arrangement xs
+bytes_set at index (s ∷ ss) xs = and_arranged (within (at s.start) (at s.end) (one_syllable (syllable_byte index s.kind)) xs) (bytes_set at (index + 1) ss)
 
 -- the kind of the syllable is one of the shaper's
 abbrev pub is_known : hb_ot_script_shaper_t → Syllable → Bool

@@ -53,9 +53,9 @@ circle_item r x = record {
 }
 
 -- an item of the list before, or a circle that is inserted after that many rephas of its syllable
-pub data Circled : Type 0 where
-  There : Item → Circled
-  Inserted : (rephas : ℕ) → Item → Circled
+pub data CircledItem : Type 0 where
+  There : Item → CircledItem
+  Inserted : (rephas : ℕ) → Item → CircledItem
 
 -- a circle that is not inserted yet, and the number of rephas before it
 pub record Due : Type 0 where
@@ -63,8 +63,8 @@ pub record Due : Type 0 where
   pub circle : Item
 
 -- the next item where no circle is due: it may begin a broken syllable, and then be a repha
-abbrev pub begun : CircleRule → ℕ → Item → (ℕ → Option Due → List Circled) → List Circled
-begun r last x rest =
+abbrev pub circled_at_start : CircleRule → ℕ → Item → (ℕ → Option Due → List CircledItem) → List CircledItem
+circled_at_start r last x rest =
     if begins r last x then
     (if is_repha r x.syllable x then There x ∷ rest x.syllable (Some (record { rephas = 1; circle = circle_item r x }))
     else Inserted 0 (circle_item r x) ∷ There x ∷ rest x.syllable None)
@@ -72,29 +72,29 @@ begun r last x rest =
 
 -- the list with its circles, by the byte of the last broken syllable and the circle that is due, which is inserted
 -- after the rephas
-abbrev pub circled : CircleRule → List Item → ℕ → Option Due → List Circled
-circled r [] last None = []
-circled r [] last (Some d) = Inserted d.rephas d.circle ∷ []
-circled r (x ∷ xs) last None = begun r last x (circled r xs)
-circled r (x ∷ xs) last (Some d) =
-    if is_repha r last x then There x ∷ circled r xs last (Some (record { rephas = suc d.rephas; circle = d.circle }))
-    else Inserted d.rephas d.circle ∷ begun r last x (circled r xs)
+abbrev pub circled_from : CircleRule → List Item → ℕ → Option Due → List CircledItem
+circled_from r [] last None = []
+circled_from r [] last (Some d) = Inserted d.rephas d.circle ∷ []
+circled_from r (x ∷ xs) last None = circled_at_start r last x (circled_from r xs)
+circled_from r (x ∷ xs) last (Some d) =
+    if is_repha r last x then There x ∷ circled_from r xs last (Some (record { rephas = suc d.rephas; circle = d.circle }))
+    else Inserted d.rephas d.circle ∷ circled_at_start r last x (circled_from r xs)
 
 -- a list with the circles of its broken syllables (HarfBuzz: hb_syllabic_insert_dotted_circles)
-abbrev pub with_circles : CircleRule → List Item → List Circled
-with_circles r xs = circled r xs 0 None
+abbrev pub with_circles : CircleRule → List Item → List CircledItem
+with_circles r xs = circled_from r xs 0 None
 
 -- the items of a list with circles
-abbrev pub circled_items : List Circled → List Item
+abbrev pub circled_items : List CircledItem → List Item
 circled_items [] = []
 circled_items (There x ∷ ys) = x ∷ circled_items ys
 circled_items (Inserted n c ∷ ys) = c ∷ circled_items ys
 
 -- the list without its circles
-abbrev pub erased : List Circled → List Item
-erased [] = []
-erased (There x ∷ ys) = x ∷ erased ys
-erased (Inserted n c ∷ ys) = erased ys
+abbrev pub items_without_circles : List CircledItem → List Item
+items_without_circles [] = []
+items_without_circles (There x ∷ ys) = x ∷ items_without_circles ys
+items_without_circles (Inserted n c ∷ ys) = items_without_circles ys
 
 -- the insertion of a circle: after the last repha and in its cluster, else before the syllable's first item, with that
 -- item's flags
@@ -103,13 +103,13 @@ circle_event at zero = Circle false at at
 circle_event at (suc n) = Circle true (at - 1) (at - suc n)
 
 -- the events of a list with circles, by indices of the list that grows from the left
-abbrev pub circle_events : ℕ → List Circled → List Event
+abbrev pub circle_events : ℕ → List CircledItem → List Event
 circle_events at [] = []
 circle_events at (There x ∷ ys) = circle_events (at + 1) ys
 circle_events at (Inserted n c ∷ ys) = circle_event at n ∷ circle_events (at + 1) ys
 
 -- the stage that inserts the circles, where the list may have that many items
-abbrev pub circles_put : List Circled → Stage
+abbrev pub circles_put : List CircledItem → Stage
 circles_put ys v = if nat_le (length (circled_items ys)) v.max_len
     then Ok (with_events (circle_events 0 ys) (record v { items = circled_items ys; positions = zero_positions (length (circled_items ys)) }))
     else Err TooLong
@@ -126,8 +126,8 @@ circles_by (Some r) v = if list_any (is_broken r) v.items then circles_put (with
 
 -- law: without its circles, the list is the one before the insertion, in the same order
 abbrev pub ErasingCircles : Type 0
-ErasingCircles = (r : CircleRule) (xs : List Item) → erased (with_circles r xs) ≡ xs
+ErasingCircles = (r : CircleRule) (xs : List Item) → items_without_circles (with_circles r xs) ≡ xs
 
 -- law: where the stage returns false, no circle is inserted
-abbrev pub IsTold : Type 0
-IsTold = (r : Option CircleRule) (v : View) → puts_circles r v.items ≡ false → circles_by r v ≡ as_it_is v
+abbrev pub NoCircleChangesNothing : Type 0
+NoCircleChangesNothing = (r : Option CircleRule) (v : View) → puts_circles r v.items ≡ false → circles_by r v ≡ as_it_is v

@@ -6,8 +6,9 @@ use Rattle.script_categories.specs.declared.category.TheConstants as category
 use Rattle.script_categories.specs.declared.syllable_kinds.universal.TheConstants as universal
 use Rattle.buffer_glyphs.specs.LigatureWords.{is_substituted}
 use Rattle.buffer_glyphs.specs.Items.{Item, without_flags}
-use Rattle.buffer_stages.specs.Rewriting.{Rewritten, kept, within, in_syllables}
-use Rattle.buffer_stages.specs.Parts.{masked_all}
+use Rattle.buffer_glyphs.specs.Rewriting.{Arrangement, eventless_arrangement}
+use Rattle.buffer_stages.specs.Rewriting.{within, in_syllables}
+use Rattle.buffer_stages.specs.Parts.{items_with_features}
 use Rattle.script_syllabic.specs.declared.forms.FormMasks.{FormMasks}
 
 -- ---- rphf
@@ -18,8 +19,8 @@ reph_size [] = 0
 reph_size (x ∷ xs) = if x.category == category.R then 1 else min 3 (1 + length xs)
 
 -- a syllable whose first items have the mask of rphf (HarfBuzz: setup_rphf_mask)
-abbrev pub rphf_masked : ℕ → List Item → Rewritten
-rphf_masked mask xs = within 0 (reph_size xs) (masked_all mask) xs
+abbrev pub rphf_masked : ℕ → List Item → Arrangement
+rphf_masked mask xs = within 0 (reph_size xs) (items_with_features mask) xs
 
 -- ---- records of substituted glyphs
 
@@ -33,20 +34,20 @@ has_feature None x = true
 has_feature (Some mask) x = not (bit_and x.mask mask == 0)
 
 -- the list where the first substituted item, among the first ones that pass a test, has the category
-abbrev pub recorded : (Item → Bool) → ℕ → List Item → List Item
-recorded test c [] = []
-recorded test c (x ∷ xs) =
+abbrev pub with_first_recorded : (Item → Bool) → ℕ → List Item → List Item
+with_first_recorded test c [] = []
+with_first_recorded test c (x ∷ xs) =
     if not (test x) then x ∷ xs
     else if is_substituted x then with_category c x ∷ xs
-    else x ∷ recorded test c xs
+    else x ∷ with_first_recorded test c xs
 
 -- a syllable whose substituted reph has category R (HarfBuzz: record_rphf_use)
-abbrev pub rphf_recorded : ℕ → List Item → Rewritten
-rphf_recorded mask xs = kept (recorded (has_feature (Some mask)) category.R xs)
+abbrev pub rphf_recorded : ℕ → List Item → Arrangement
+rphf_recorded mask xs = eventless_arrangement (with_first_recorded (has_feature (Some mask)) category.R xs)
 
 -- a syllable whose substituted pref glyph has category VPre (HarfBuzz: record_pref_use)
-abbrev pub pref_recorded : List Item → Rewritten
-pref_recorded xs = kept (recorded (has_feature None) category.VPre xs)
+abbrev pub pref_recorded : List Item → Arrangement
+pref_recorded xs = eventless_arrangement (with_first_recorded (has_feature None) category.VPre xs)
 
 -- ---- forms of syllables
 
@@ -84,14 +85,14 @@ abbrev pub with_form : FormMasks → ℕ → Item → Item
 with_form masks form x = record x { mask = bit_or (x.mask - bit_and x.mask (form_bits masks)) (without_flags form) }
 
 -- a syllable with its form, by whether the previous and the next one join
-abbrev pub formed : FormMasks → Bool → List Item → Bool → List Item
-formed masks before s behind = if joins s then map (with_form masks (form_of masks before behind)) s else s
+abbrev pub syllable_with_form : FormMasks → Bool → List Item → Bool → List Item
+syllable_with_form masks before s behind = if joins s then map (with_form masks (form_of masks before behind)) s else s
 
 -- the syllables with their forms: isol between syllables that don't join, then init, fina or medi
 abbrev pub each_formed : FormMasks → Bool → List (List Item) → List Item
 each_formed masks before [] = []
-each_formed masks before (s ∷ ss) = formed masks before s (first_joins ss) ++ each_formed masks (joins s) ss
+each_formed masks before (s ∷ ss) = syllable_with_form masks before s (first_joins ss) ++ each_formed masks (joins s) ss
 
 -- the stage that sets the masks of topographical forms (HarfBuzz: setup_topographical_masks)
-abbrev pub topography : FormMasks → List Item → Rewritten
-topography masks xs = kept (each_formed masks false (in_syllables xs))
+abbrev pub topography : FormMasks → List Item → Arrangement
+topography masks xs = eventless_arrangement (each_formed masks false (in_syllables xs))

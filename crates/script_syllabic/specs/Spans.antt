@@ -20,12 +20,12 @@ mark_or_none None = false
 mark_or_none (Some x) = is_mark x
 
 -- the next item that is no grapheme joiner is a mark
-abbrev pub stands_before_mark : List Item → Bool
-stands_before_mark behind = mark_or_none (find (λ x. not (is_grapheme_joiner x)) behind)
+abbrev pub precedes_mark : List Item → Bool
+precedes_mark behind = mark_or_none (find (λ x. not (is_grapheme_joiner x)) behind)
 
 -- an item counts for syllables: grapheme joiners don't, nor a zero-width non-joiner before a mark
 abbrev pub is_counted : Item → List Item → Bool
-is_counted x behind = not (is_grapheme_joiner x || (x.category == category.ZWNJ && stands_before_mark behind))
+is_counted x behind = not (is_grapheme_joiner x || (x.category == category.ZWNJ && precedes_mark behind))
 
 -- an entry for an item, put before others if the item counts
 abbrev pub if_counted : {X : Type 0} → Item → List Item → X → List X
@@ -37,19 +37,19 @@ categories_counted [] = []
 categories_counted (x ∷ xs) = if_counted x xs x.category ++ categories_counted xs
 
 -- the indices of the counted items, from an index on
-abbrev pub places_from : ℕ → List Item → List ℕ
-places_from at [] = []
-places_from at (x ∷ xs) = if_counted x xs at ++ places_from (at + 1) xs
+abbrev pub counted_indices_from : ℕ → List Item → List ℕ
+counted_indices_from at [] = []
+counted_indices_from at (x ∷ xs) = if_counted x xs at ++ counted_indices_from (at + 1) xs
 
 -- the i-th of some indices; after the last, the length of the text
-abbrev pub place_in : List ℕ → ℕ → ℕ → ℕ
-place_in indices end i = unwrap_or (slice_get indices i) end
+abbrev pub index_or_end : List ℕ → ℕ → ℕ → ℕ
+index_or_end indices end i = unwrap_or (slice_get indices i) end
 
 -- the index in the text of the i-th counted item
-abbrev pub place_of : List Item → ℕ → ℕ
-place_of xs i = place_in (places_from 0 xs) (length xs) i
+abbrev pub counted_index : List Item → ℕ → ℕ
+counted_index xs i = index_or_end (counted_indices_from 0 xs) (length xs) i
 
 -- the items with the bytes of their syllables, each of which reaches up to the first counted item of the next
 abbrev pub universal_set : (hb_ot_script_shaper_t → List ℕ → ℕ → ℕ × ℕ) → Stage
 universal_set span_of v =
-    bytes_of UNIVERSAL_SHAPER (place_of v.items) (syllables (span_of UNIVERSAL_SHAPER (categories_counted v.items)) (length (categories_counted v.items))) v
+    bytes_of UNIVERSAL_SHAPER (counted_index v.items) (syllables (span_of UNIVERSAL_SHAPER (categories_counted v.items)) (length (categories_counted v.items))) v

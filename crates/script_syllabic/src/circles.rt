@@ -3,8 +3,8 @@ ghost use Rattle.std.specs.Prelude.{◌≡◌, ◌≢◌, ◌<◌, ◌≤◌, �
 ghost use Rattle.std.specs.List.{list_any, prefix_len};
 ghost use Rattle.buffer_glyphs.specs.Items.{glyph_flags, item_of, strip};
 ghost use Rattle.buffer_glyphs.specs.Origins.{origin_of};
-ghost use Rattle.buffer_core.specs.Readings.{read_of};
-ghost use Rattle.buffer_core.specs.Sides.{all_glyphs, items_of, moved_on, origins_of, run_of};
+ghost use Rattle.buffer_core.specs.Readings.{reading_of};
+ghost use Rattle.buffer_core.specs.Sides.{all_glyphs, items_of, after_next_glyphs, origins_of, state_of};
 ghost use Rattle.buffer_stages.specs.Buffers.{are_glyphs};
 ghost use Rattle.buffer_stages.specs.Ready.{IsReady};
 ghost use Rattle.buffer_stages.specs.Stages.{IsFollowed};
@@ -55,15 +55,15 @@ pub fn insert_dotted_circles(
 ) -> Result<bool, ShapeCause>
     requires ready { IsReady buffer.old }
     ensures glyphs { OnOk result (are_glyphs (items_of buffer.old) ≡ true → are_glyphs (items_of buffer.new) ≡ true) }
-    ensures told { IfOk result (λ b. b ≡ puts_circles
+    ensures inserted { IfOk result (λ b. b ≡ puts_circles
         (circle_rule face.now buffer.old.flags kind circle_category repha_category circle_position)
         (items_of buffer.old)) }
     ensures ok { OnOk result (IsFollowed
         (circles_by (circle_rule face.now buffer.old.flags kind circle_category repha_category circle_position))
         buffer.old buffer.new) }
-    ensures err { IfErr result (λ e. e ≢ ShapeCause.OutOfMemory → read_of
+    ensures err { IfErr result (λ e. e ≢ ShapeCause.OutOfMemory → reading_of
         (circles_by (circle_rule face.now buffer.old.flags kind circle_category repha_category circle_position))
-        (run_of buffer.old) ≡ Err e) }
+        (state_of buffer.old) ≡ Err e) }
 {
     let Some(glyph) = circle_glyph(face, buffer.flags()) else {
         return Ok(false);
@@ -83,10 +83,10 @@ fn circles_by(rule: &CircleRule, buffer: &mut hb_buffer_t) -> Result<bool, Shape
     requires ready { IsReady buffer.old }
     ensures glyphs { OnOk result (rule.now.glyph ≤ 65535 → are_glyphs (items_of buffer.old) ≡ true
         → are_glyphs (items_of buffer.new) ≡ true) }
-    ensures told { IfOk result (λ b. b ≡ puts_circles (Some rule.now) (items_of buffer.old)) }
+    ensures inserted { IfOk result (λ b. b ≡ puts_circles (Some rule.now) (items_of buffer.old)) }
     ensures ok { OnOk result (IsFollowed (circles_by (Some rule.now)) buffer.old buffer.new) }
     ensures err { IfErr result (λ e. e ≢ ShapeCause.OutOfMemory
-        → read_of (circles_by (Some rule.now)) (run_of buffer.old) ≡ Err e) }
+        → reading_of (circles_by (Some rule.now)) (state_of buffer.old) ≡ Err e) }
 {
     if !has_broken(rule, buffer.info_slice()) {
         return Ok(false);
@@ -142,7 +142,7 @@ fn put_circles(rule: &CircleRule, buffer: &mut hb_buffer_t) -> Result<(), ShapeC
     requires ready { IsReady buffer.old }
     ensures ok { OnOk result (IsFollowed (λ v. circles_put (with_circles rule.now v.items) v) buffer.old buffer.new) }
     ensures err { IfErr result (λ e. e ≢ ShapeCause.OutOfMemory
-        → read_of (λ v. circles_put (with_circles rule.now v.items) v) (run_of buffer.old) ≡ Err e) }
+        → reading_of (λ v. circles_put (with_circles rule.now v.items) v) (state_of buffer.old) ≡ Err e) }
 {
     buffer.clear_output()?;
     let mut last = 0;
@@ -166,7 +166,7 @@ fn put_circles(rule: &CircleRule, buffer: &mut hb_buffer_t) -> Result<(), ShapeC
 fn pass_glyph(buffer: &mut hb_buffer_t) -> Result<(), ShapeCause>
     requires open { buffer.old.is_open ≡ true }
     requires there { 0 < length buffer.old.ahead }
-    ensures moved { OnOk result (buffer.new ≡ moved_on 1 buffer.old) }
+    ensures moved { OnOk result (buffer.new ≡ after_next_glyphs 1 buffer.old) }
     ensures err { IfErr result (λ e. IsTooLong (length buffer.old.behind + 1) buffer.old e) }
 {
     if !buffer.next_glyph()? {
@@ -181,7 +181,7 @@ fn pass_rephas(rule: &CircleRule, byte: u8, buffer: &mut hb_buffer_t) -> Result<
     requires open { buffer.old.is_open ≡ true }
     ensures count { IfOk result (λ n. n ≡ prefix_len (is_repha rule.now byte) (strip buffer.old.ahead)) }
     ensures moved { OnOk result
-        (buffer.new ≡ moved_on (prefix_len (is_repha rule.now byte) (strip buffer.old.ahead)) buffer.old) }
+        (buffer.new ≡ after_next_glyphs (prefix_len (is_repha rule.now byte) (strip buffer.old.ahead)) buffer.old) }
     ensures err { IfErr result (λ e. IsTooLong (length (all_glyphs buffer.old)) buffer.old e) }
 {
     let count = buffer.lookahead_len();

@@ -6,9 +6,9 @@ ghost use Rattle.buffer_core.specs.Readings.{always};
 ghost use Rattle.buffer_core.specs.Sides.{all_glyphs, items_of};
 ghost use Rattle.buffer_stages.specs.Ready.{IsReady};
 ghost use Rattle.buffer_stages.specs.Stages.{IsFollowed};
-ghost use Rattle.buffer_stages.specs.Rewriting.{kept};
+ghost use Rattle.buffer_glyphs.specs.Rewriting.{eventless_arrangement};
 ghost use Rattle.buffer_stages.specs.SyllableBuffers.{IsRewritten, with_rule};
-ghost use Rattle.script_syllabic.specs.Features.{all_forms, form_bits, form_of, formed, joins, topography, with_form};
+ghost use Rattle.script_syllabic.specs.Features.{all_forms, form_bits, form_of, syllable_with_form, joins, topography, with_form};
 ghost use Rattle.script_syllabic.specs.Formed.{glyph_with_form};
 
 use buffer_core::buffer::hb_buffer_t;
@@ -83,7 +83,7 @@ fn form_syllable(
     requires ready { IsReady buffer.old }
     requires ordered { start < end }
     requires within { end ≤ length (all_glyphs buffer.old) }
-    ensures rewritten { IsRewritten (kept (formed masks.now before (slice_range (items_of buffer.old) start end)
+    ensures rewritten { IsRewritten (eventless_arrangement (syllable_with_form masks.now before (slice_range (items_of buffer.old) start end)
         (joins (drop end (items_of buffer.old))))) start end buffer.old buffer.new }
     ensures joins { result ≡ joins (drop start (items_of buffer.old)) }
 {
@@ -118,7 +118,7 @@ fn set_form(masks: &FormMasks, buffer: &mut hb_buffer_t, start: usize, end: usiz
     requires ready { IsReady buffer.old }
     requires ordered { start ≤ end }
     requires within { end ≤ length (all_glyphs buffer.old) }
-    ensures { IsRewritten (kept (map (with_form masks.now form) (slice_range (items_of buffer.old) start end))) start
+    ensures { IsRewritten (eventless_arrangement (map (with_form masks.now form) (slice_range (items_of buffer.old) start end))) start
         end
         buffer.old buffer.new }
 {

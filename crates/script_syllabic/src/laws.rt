@@ -1,5 +1,5 @@
 //! Laws of dotted circles.
-ghost use Rattle.script_syllabic.specs.Circles.{ErasingCircles, IsTold};
+ghost use Rattle.script_syllabic.specs.Circles.{ErasingCircles, NoCircleChangesNothing};
 
 /// Without its circles, the list is the one before the insertion, in the same order.
 #[tactic(auto, using(crate::proofs::Erased::erasing_circles))]
@@ -9,6 +9,6 @@ pub fn law_erasing_circles()
 
 /// Where false is returned, no circle is inserted.
 #[tactic(auto, using(crate::proofs::Erased::is_told))]
-pub fn law_is_told()
-    ensures { IsTold }
+pub fn law_no_circle_changes_nothing()
+    ensures { NoCircleChangesNothing }
 {}

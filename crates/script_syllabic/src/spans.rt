@@ -2,11 +2,11 @@
 //! (rustybuzz: hb/ot_shaper_use.rs).
 ghost use Rattle.std.specs.Prelude.{◌≡◌, ◌≢◌, ◌≤◌, ◌++◌, Err, find, length, map, not, slice_get, unwrap_or, IfErr, IfOk, OnOk};
 ghost use Rattle.buffer_glyphs.specs.Items.{item_of, strip};
-ghost use Rattle.buffer_core.specs.Readings.{read_of};
-ghost use Rattle.buffer_core.specs.Sides.{run_of};
+ghost use Rattle.buffer_core.specs.Readings.{reading_of};
+ghost use Rattle.buffer_core.specs.Sides.{state_of};
 ghost use Rattle.buffer_stages.specs.Ready.{IsReady};
 ghost use Rattle.buffer_stages.specs.Stages.{IsFollowed};
-ghost use Rattle.script_syllabic.specs.Spans.{categories_counted, if_counted, is_counted, is_grapheme_joiner, places_from, stands_before_mark, universal_set};
+ghost use Rattle.script_syllabic.specs.Spans.{categories_counted, if_counted, is_counted, is_grapheme_joiner, counted_indices_from, precedes_mark, universal_set};
 
 use crate::syllables::{SyllablePlaces, set_bytes};
 use buffer_core::buffer::hb_buffer_t;
@@ -33,9 +33,9 @@ pub(crate) struct Places {
 }
 
 impl SyllablePlaces for Places {
-    ghost use Rattle.script_syllabic.specs.Spans.{place_in};
+    ghost use Rattle.script_syllabic.specs.Spans.{index_or_end};
 
-    ghost place_of = { λ p. place_in p.indices.items p.end };
+    ghost place_of = { λ p. index_or_end p.indices.items p.end };
 
     fn place(&self, index: usize) -> usize {
         self.indices.get(index).copied().unwrap_or(self.end)
@@ -57,7 +57,7 @@ pub fn find_syllables<S: SyllableSpans>(
     requires ready { IsReady buffer.old }
     ensures ok { OnOk result (IsFollowed (universal_set (S.span_of spans.now)) buffer.old buffer.new) }
     ensures err { IfErr result (λ e. e ≢ ShapeCause.OutOfMemory
-        → read_of (universal_set (S.span_of spans.now)) (run_of buffer.old) ≡ Err e) }
+        → reading_of (universal_set (S.span_of spans.now)) (state_of buffer.old) ≡ Err e) }
 {
     let counted = count_glyphs(alloc, buffer.info_slice())?;
     set_bytes(
@@ -71,7 +71,7 @@ pub fn find_syllables<S: SyllableSpans>(
 
 fn count_glyphs(alloc: Global, glyphs: &[hb_glyph_info_t]) -> Result<Counted, ShapeCause>
     ensures categories { IfOk result (λ c. c.categories.items ≡ categories_counted (strip glyphs.now)) }
-    ensures indices { IfOk result (λ c. c.places.indices.items ≡ places_from 0 (strip glyphs.now)) }
+    ensures indices { IfOk result (λ c. c.places.indices.items ≡ counted_indices_from 0 (strip glyphs.now)) }
     ensures end { IfOk result (λ c. c.places.end ≡ length glyphs.now) }
     ensures err { IfErr result (λ e. e ≡ ShapeCause.OutOfMemory) }
 {
@@ -128,7 +128,7 @@ fn is_counted(glyph: &hb_glyph_info_t, behind: &[hb_glyph_info_t]) -> bool
 
 #[tactic(auto, using(crate::proofs::Marks::next_met, crate::proofs::Marks::joiner_passed, crate::proofs::Marks::none_left))]
 fn stands_before_mark(behind: &[hb_glyph_info_t]) -> bool
-    ensures { result ≡ stands_before_mark (strip behind.now) }
+    ensures { result ≡ precedes_mark (strip behind.now) }
 {
     for next in behind {
         if !is_grapheme_joiner(next) {

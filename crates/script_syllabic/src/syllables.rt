@@ -1,8 +1,8 @@
 //! Syllable bytes: a serial number in the high four bits, a kind in the low four (rustybuzz: hb/ot_shaper_syllabic.rs).
 ghost use Rattle.std.specs.Prelude.{◌≡◌, ◌≢◌, ◌≤◌, ◌<◌, ◌++◌, ℕ, Err, List, length, map, take, drop, slice_range, IfErr, IfOk, OnOk};
 ghost use Rattle.buffer_glyphs.specs.Items.{Item};
-ghost use Rattle.buffer_core.specs.Readings.{read_of};
-ghost use Rattle.buffer_core.specs.Sides.{all_glyphs, items_of, run_of};
+ghost use Rattle.buffer_core.specs.Readings.{reading_of};
+ghost use Rattle.buffer_core.specs.Sides.{all_glyphs, items_of, state_of};
 ghost use Rattle.buffer_stages.specs.Ready.{IsReady};
 ghost use Rattle.script_categories.specs.Shapers.{kinds_of};
 ghost use Rattle.buffer_stages.specs.Bytes.{syllable_byte};
@@ -57,7 +57,7 @@ pub fn setup_syllables<S: SyllableSpans>(
     requires ready { IsReady buffer.old }
     ensures ok { OnOk result (IsFollowed (syllables_set (S.span_of spans.now) shaper) buffer.old buffer.new) }
     ensures err { IfErr result (λ e. e ≢ ShapeCause.OutOfMemory
-        → read_of (syllables_set (S.span_of spans.now) shaper) (run_of buffer.old) ≡ Err e) }
+        → reading_of (syllables_set (S.span_of spans.now) shaper) (state_of buffer.old) ≡ Err e) }
 {
     let categories = categories_of(alloc, buffer.info_slice())?;
     set_bytes(spans, shaper, &categories, &Each, buffer)
@@ -91,8 +91,8 @@ pub fn set_bytes<S: SyllableSpans, P: SyllablePlaces>(
     requires within { P.place_of places.now (length categories.now) ≤ length (all_glyphs buffer.old) }
     ensures ok { OnOk result (IsFollowed (bytes_of shaper (P.place_of places.now)
         (syllables (S.span_of spans.now shaper categories.now) (length categories.now))) buffer.old buffer.new) }
-    ensures err { IfErr result (λ e. read_of (bytes_of shaper (P.place_of places.now)
-        (syllables (S.span_of spans.now shaper categories.now) (length categories.now))) (run_of buffer.old) ≡ Err e) }
+    ensures err { IfErr result (λ e. reading_of (bytes_of shaper (P.place_of places.now)
+        (syllables (S.span_of spans.now shaper categories.now) (length categories.now))) (state_of buffer.old) ≡ Err e) }
 {
     let mut index = 0;
     let mut start = 0;

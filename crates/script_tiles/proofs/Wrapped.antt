@@ -4,7 +4,7 @@ use Rattle.std.specs.Prelude.{neg_ℤ}
 use Rattle.std.specs.Int.{int_wrap, int_wrapping_add, int_wrapping_sub, w32}
 use Rattle.std.proofs.lemmas.Int.{SFits-int_wrap, int_wrap-add_left, of_z-to_z, to_z-of_z, wrapping_add_is, wrapping_sub_is}
 use Rattle.script_tiles.specs.declared.tile.Tile.{Tile}
-use Rattle.script_tiles.specs.Placing.{copy_begin}
+use Rattle.script_tiles.specs.TilePositions.{copy_begin}
 
 pub first_is : (t : Tile) (x at : ℤ) → SFits w32 x → SFits w32 t.width → x ≡ int_wrap w32 at → int_wrapping_sub w32 x t.width ≡ int_wrap w32 (copy_begin t at 0)
 first_is t x at f g e = wrapping_sub_is w32 x t.width f g ∙ ap (λ y. int_wrap w32 (y -ℤ t.width)) e ∙ int_wrap-add_left w32 at (neg_ℤ t.width)

@@ -8,10 +8,11 @@ use Rattle.buffer_glyphs.specs.declared.info.hb_glyph_info_t.{hb_glyph_info_t}
 use Rattle.script_categories.specs.declared.shaper.hb_ot_script_shaper_t.TheVariants.{UNIVERSAL_SHAPER}
 use Rattle.script_categories.specs.Shapers.{is_reordered}
 use Rattle.buffer_glyphs.specs.Items.{Item, item_of, strip}
-use Rattle.buffer_glyphs.specs.Lists.{seen_at}
+use Rattle.buffer_glyphs.specs.Lists.{get_or_mapped}
 use Rattle.buffer_core.specs.Sides.{Sides, all_glyphs, items_of}
 use Rattle.buffer_stages.specs.Ready.{IsReady}
-use Rattle.buffer_stages.specs.Rewriting.{Rewritten, kept, within}
+use Rattle.buffer_glyphs.specs.Rewriting.{Arrangement, eventless_arrangement}
+use Rattle.buffer_stages.specs.Rewriting.{within}
 use Rattle.buffer_stages.specs.Parts.{first_to_back}
 use Rattle.buffer_stages.specs.SyllableBuffers.{IsRewritten}
 use Rattle.buffer_stages.specs.Lemmas.Rewritings.{counted, rewritten_next, rewritten_same}
@@ -28,7 +29,7 @@ there gs start end i d lt fits =
     let len = length-map gs item_of in
     let inside : i < length (slice_range (strip gs) start end) = omega (arith, range_size start end (strip gs) (omega (arith, lt)) (omega (arith, len, fits)), lt) in
     slice_get-get_or (slice_range (strip gs) start end) i (item_of d) inside
-    ∙ ap Some (get_or-take (end - start) (drop start (strip gs)) i (item_of d) (omega (arith, lt)) ∙ get_or-drop start (strip gs) i (item_of d) ∙ seen_at item_of gs (start + i) d)
+    ∙ ap Some (get_or-take (end - start) (drop start (strip gs)) i (item_of d) (omega (arith, lt)) ∙ get_or-drop start (strip gs) i (item_of d) ∙ get_or_mapped item_of gs (start + i) d)
 
 -- ---- what a reph passes
 
@@ -81,8 +82,8 @@ no_halant gs i n le ge f =
 
 -- ---- a reph
 
-abbrev reph_if : List Item → Bool → Rewritten
-reph_if xs t = if t then within 0 (reph_end xs) (first_to_back 1) xs else kept xs
+abbrev reph_if : List Item → Bool → Arrangement
+reph_if xs t = if t then within 0 (reph_end xs) (first_to_back 1) xs else eventless_arrangement xs
 
 pub reph_none : (start end : ℕ) (gs : List hb_glyph_info_t) (a : Sides) → start ≤ end → IsReady a → gs ≡ all_glyphs a → begins_with_reph (strip (slice_range gs start end)) ≡ false
     → IsRewritten (reph_moved (slice_range (items_of a) start end)) start end a a
@@ -123,8 +124,8 @@ reordered_does start end a b c le fits f g =
     rewritten_next (reph_moved xs) (left_walk (length xs) 0 0) start end a b c le inside (reph_size xs ∙ size) f (subst P (sym size) g)
 
 -- a syllable by its kind
-syllable_by : (xs : List Item) (x : Item) (t : Bool) → slice_get xs 0 ≡ Some x → is_reordered UNIVERSAL_SHAPER (bit_and x.syllable 15) ≡ t → universal_syllable xs ≡ (if t then universal_reordered xs else kept xs)
-syllable_by xs x t e f = rw e (ap (λ b. if b then universal_reordered xs else kept xs) f)
+syllable_by : (xs : List Item) (x : Item) (t : Bool) → slice_get xs 0 ≡ Some x → is_reordered UNIVERSAL_SHAPER (bit_and x.syllable 15) ≡ t → universal_syllable xs ≡ (if t then universal_reordered xs else eventless_arrangement xs)
+syllable_by xs x t e f = rw e (ap (λ b. if b then universal_reordered xs else eventless_arrangement xs) f)
 
 pub kept_does : (start end : ℕ) (x : Item) (a : Sides) → start ≤ end → IsReady a → slice_get (slice_range (items_of a) start end) 0 ≡ Some x → is_reordered UNIVERSAL_SHAPER (bit_and x.syllable 15) ≡ false
     → IsRewritten (universal_syllable (slice_range (items_of a) start end)) start end a a

@@ -12,11 +12,12 @@ use Rattle.buffer_glyphs.specs.Levels.{InList}
 use Rattle.buffer_glyphs.specs.Events.{Event, Move}
 use Rattle.buffer_core.specs.Sides.{Sides, all_glyphs, items_of}
 use Rattle.buffer_stages.specs.Ready.{IsReady}
-use Rattle.buffer_stages.specs.Moves.{FrontMove, all_moved, move_events, moved, order_of_move, reach}
-use Rattle.buffer_stages.specs.Fronts.{front_moves, gathered_after}
+use Rattle.buffer_stages.specs.Moves.{FrontMove, all_moved, move_events, with_range_moved, order_of_move, reach}
+use Rattle.buffer_stages.specs.Fronts.{front_moves, with_fronts_moved_after}
 use Rattle.buffer_stages.specs.Lemmas.Fronted.{gathered_after_length, moved_one, moves_alone, moves_grow, reach_fits}
 use Rattle.buffer_stages.specs.Lemmas.Nested.{reach_grows}
-use Rattle.buffer_stages.specs.Rewriting.{Rewritten, kept, shifted, then_rule, within}
+use Rattle.buffer_glyphs.specs.Rewriting.{Arrangement, eventless_arrangement, shifted_event, and_arranged}
+use Rattle.buffer_stages.specs.Rewriting.{within}
 use Rattle.buffer_core.specs.Sides.{origins_by, view_of}
 use Rattle.buffer_stages.specs.Moves.{IsGrowing}
 use Rattle.buffer_stages.specs.SyllableBuffers.{IsRewritten}
@@ -24,7 +25,7 @@ use Rattle.buffer_stages.specs.Parts.{first_to_back, fronts_moved}
 use Rattle.buffer_stages.proofs.Lemmas.Fronts.{part_moves, shift_moves}
 use Rattle.buffer_stages.specs.Lemmas.Parts.{moved_range, range_size, rewritten_part, within_size, range_seen}
 use Rattle.buffer_stages.specs.Lemmas.Rewritings.{counted, middle, rewritten_count, rewritten_next, rewritten_same, rewritten_slice, whole_cut}
-use Rattle.script_universal.specs.Reordering.{Step, is_halant, is_left, left_at, left_walk}
+use Rattle.script_universal.specs.Reordering.{Step, is_halant, is_left, left_vowel_step_at, left_walk}
 use Rattle.script_universal.specs.Walked.{IsWalked, together}
 use Rattle.buffer_stages.proofs.Lemmas.Elements.{split_at}
 
@@ -48,13 +49,13 @@ got_at pre front x rest i e = ap (slice_get (pre ++ (front ++ x ∷ rest))) e �
 
 -- the step at an index without a halant
 abbrev step_if : Bool → ℕ → ℕ → List Item → Step
-step_if t i b xs = if t then record { rewritten = within b (i + 1) (first_to_back (i - b)) xs; after_halant = b } else record { rewritten = kept xs; after_halant = b }
+step_if t i b xs = if t then record { rewritten = within b (i + 1) (first_to_back (i - b)) xs; after_halant = b } else record { rewritten = eventless_arrangement xs; after_halant = b }
 
-at_index : (i b : ℕ) (xs : List Item) (x : Item) → slice_get xs i ≡ Some x → is_halant x ≡ false → left_at i b xs ≡ step_if (is_left x && nat_lt b i) i b xs
-at_index i b xs x e h = rw e (ap (λ t. if t then record { rewritten = kept xs; after_halant = i + 1 } else step_if (is_left x && nat_lt b i) i b xs) h)
+at_index : (i b : ℕ) (xs : List Item) (x : Item) → slice_get xs i ≡ Some x → is_halant x ≡ false → left_vowel_step_at i b xs ≡ step_if (is_left x && nat_lt b i) i b xs
+at_index i b xs x e h = rw e (ap (λ t. if t then record { rewritten = eventless_arrangement xs; after_halant = i + 1 } else step_if (is_left x && nat_lt b i) i b xs) h)
 
 -- a move within a sublist
-move_within : (b n : ℕ) (xs : List Item) → b + (n + 1) ≤ length xs → within b (b + n + 1) (first_to_back (b + n - b)) xs ≡ record { items = moved b n 1 xs; events = Move InList b (order_of_move n 1) ∷ [] }
+move_within : (b n : ℕ) (xs : List Item) → b + (n + 1) ≤ length xs → within b (b + n + 1) (first_to_back (b + n - b)) xs ≡ record { items = with_range_moved b n 1 xs; events = Move InList b (order_of_move n 1) ∷ [] }
 move_within b n xs fits =
     let part = slice_range xs b (b + n + 1) in
     let long : b + n + 1 - b ≡ n + 1 = omega arith in
@@ -63,16 +64,16 @@ move_within b n xs fits =
     let one : length part - n ≡ 1 = omega (arith, size) in
     let none : b + 0 ≡ b = omega arith in
     let left : b + n + 1 - b - n ≡ 1 = omega arith in
-    let cut : take b xs ++ (drop n part ++ take n part) ++ drop (b + n + 1) xs ≡ moved b n 1 xs = sym (moved_range b (b + n + 1) n xs (omega arith) (omega (arith, fits))) ∙ ap (λ m. moved b n m xs) left in
+    let cut : take b xs ++ (drop n part ++ take n part) ++ drop (b + n + 1) xs ≡ with_range_moved b n 1 xs = sym (moved_range b (b + n + 1) n xs (omega arith) (omega (arith, fits))) ∙ ap (λ m. with_range_moved b n m xs) left in
     ap (λ m. record { items = take b xs ++ (drop m part ++ take m part) ++ drop (b + n + 1) xs; events = Move InList (b + 0) (order_of_move m (length part - m)) ∷ [] }) passed
     ∙ ap (λ ys. record { items = ys; events = Move InList (b + 0) (order_of_move n (length part - n)) ∷ [] }) cut
-    ∙ ap (λ m. record { items = moved b n 1 xs; events = Move InList (b + 0) (order_of_move n m) ∷ [] }) one
-    ∙ ap (λ m. record { items = moved b n 1 xs; events = Move InList m (order_of_move n 1) ∷ [] }) none
+    ∙ ap (λ m. record { items = with_range_moved b n 1 xs; events = Move InList (b + 0) (order_of_move n m) ∷ [] }) one
+    ∙ ap (λ m. record { items = with_range_moved b n 1 xs; events = Move InList m (order_of_move n 1) ∷ [] }) none
 
 -- a walk over items of which none is a halant: the moves of its left vowels
 walk_stretch : (zs : List Item) (m b i : ℕ) (pre front post : List Item) → length pre ≡ b → i ≡ b + length front → NoHalants zs
     → left_walk (length zs + m) i b (pre ++ (front ++ (zs ++ post)))
-    ≡ then_rule (record { items = all_moved b (front_moves together is_left (length front) zs) (pre ++ (front ++ (zs ++ post))); events = move_events b (front_moves together is_left (length front) zs) }) (left_walk m (i + length zs) b)
+    ≡ and_arranged (record { items = all_moved b (front_moves together is_left (length front) zs) (pre ++ (front ++ (zs ++ post))); events = move_events b (front_moves together is_left (length front) zs) }) (left_walk m (i + length zs) b)
 walk_stretch [] m b i pre front post at here h =
     let none : 0 + m ≡ m = omega arith in
     let same : i + 0 ≡ i = omega arith in
@@ -88,18 +89,18 @@ walk_stretch (x ∷ zs) m b i pre front post at here h =
     let split = moves_alone is_left n x zs in
     let size : b + (n + 1) ≤ length xs = omega (arith, at, length-append pre (front ++ (x ∷ (zs ++ post))), length-append front (x ∷ (zs ++ post))) in
     ap (λ k. left_walk k i b xs) more
-    ∙ ap (λ (s : Step). then_rule s.rewritten (left_walk (length zs + m) (i + 1) s.after_halant)) (step ∙ ap (λ t. step_if (is_left x && t) i b xs) test)
+    ∙ ap (λ (s : Step). and_arranged s.rewritten (left_walk (length zs + m) (i + 1) s.after_halant)) (step ∙ ap (λ t. step_if (is_left x && t) i b xs) test)
     ∙ by_test (is_left x && nat_lt 0 n) size (walk_stretch zs m b (i + 1) pre (x ∷ front) post at (omega (arith, here)) h.1) (walk_stretch zs m b (i + 1) pre (front ++ x ∷ []) post at (omega (arith, here, length-append front (x ∷ []))) h.1)
-    ∙ ap (λ (ns : List FrontMove). then_rule (record { items = all_moved b ns xs; events = move_events b ns }) (left_walk m (i + suc (length zs)) b)) (sym split)
+    ∙ ap (λ (ns : List FrontMove). and_arranged (record { items = all_moved b ns xs; events = move_events b ns }) (left_walk m (i + suc (length zs)) b)) (sym split)
   where
-    rest_of : ℕ → List Item → Rewritten
-    rest_of k ys = then_rule (record { items = all_moved b (front_moves together is_left k zs) ys; events = move_events b (front_moves together is_left k zs) }) (left_walk m (i + 1 + length zs) b)
+    rest_of : ℕ → List Item → Arrangement
+    rest_of k ys = and_arranged (record { items = all_moved b (front_moves together is_left k zs) ys; events = move_events b (front_moves together is_left k zs) }) (left_walk m (i + 1 + length zs) b)
 
     by_test : (t : Bool) → b + (length front + 1) ≤ length (pre ++ (front ++ (x ∷ (zs ++ post))))
         → left_walk (length zs + m) (i + 1) b (pre ++ ((x ∷ front) ++ (zs ++ post))) ≡ rest_of (suc (length front)) (pre ++ ((x ∷ front) ++ (zs ++ post)))
         → left_walk (length zs + m) (i + 1) b (pre ++ ((front ++ x ∷ []) ++ (zs ++ post))) ≡ rest_of (length (front ++ x ∷ [])) (pre ++ ((front ++ x ∷ []) ++ (zs ++ post)))
-        → then_rule (step_if t i b (pre ++ (front ++ (x ∷ (zs ++ post))))).rewritten (left_walk (length zs + m) (i + 1) (step_if t i b (pre ++ (front ++ (x ∷ (zs ++ post))))).after_halant)
-        ≡ then_rule (record {
+        → and_arranged (step_if t i b (pre ++ (front ++ (x ∷ (zs ++ post))))).rewritten (left_walk (length zs + m) (i + 1) (step_if t i b (pre ++ (front ++ (x ∷ (zs ++ post))))).after_halant)
+        ≡ and_arranged (record {
           items = all_moved b (if t then record { passed = length front; taken = 1 } ∷ front_moves together is_left (length front + 1) zs else front_moves together is_left (length front + 1) zs) (pre ++ (front ++ (x ∷ (zs ++ post))));
           events = move_events b (if t then record { passed = length front; taken = 1 } ∷ front_moves together is_left (length front + 1) zs else front_moves together is_left (length front + 1) zs);
         }) (left_walk m (i + suc (length zs)) b)
@@ -107,22 +108,22 @@ walk_stretch (x ∷ zs) m b i pre front post at here h =
         let xs = pre ++ (front ++ (x ∷ (zs ++ post))) in
         let n = length front in
         let e : Event = Move InList b (order_of_move n 1) in
-        let turned : moved b n 1 xs ≡ pre ++ ((x ∷ front) ++ (zs ++ post)) = ap (λ k. moved k n 1 xs) (sym at) ∙ moved_one pre front x (zs ++ post) in
+        let turned : with_range_moved b n 1 xs ≡ pre ++ ((x ∷ front) ++ (zs ++ post)) = ap (λ k. with_range_moved k n 1 xs) (sym at) ∙ moved_one pre front x (zs ++ post) in
         let one : suc n ≡ n + 1 = omega arith in
         let last : i + 1 + length zs ≡ i + suc (length zs) = omega arith in
-        let moves : within b (i + 1) (first_to_back (i - b)) xs ≡ record { items = moved b n 1 xs; events = e ∷ [] } =
+        let moves : within b (i + 1) (first_to_back (i - b)) xs ≡ record { items = with_range_moved b n 1 xs; events = e ∷ [] } =
         ap (λ k. within b (k + 1) (first_to_back (k - b)) xs) here ∙ move_within b n xs size in
-        let then_all : left_walk (length zs + m) (i + 1) b (moved b n 1 xs) ≡ rest_of (n + 1) (moved b n 1 xs) =
+        let then_all : left_walk (length zs + m) (i + 1) b (with_range_moved b n 1 xs) ≡ rest_of (n + 1) (with_range_moved b n 1 xs) =
         ap (left_walk (length zs + m) (i + 1) b) turned ∙ first ∙ ap (λ k. rest_of k (pre ++ ((x ∷ front) ++ (zs ++ post)))) one ∙ ap (rest_of (n + 1)) (sym turned) in
-        ap (λ r. then_rule r (left_walk (length zs + m) (i + 1) b)) moves
-        ∙ ap (λ (r : Rewritten). record { items = r.items; events = e ∷ r.events }) then_all
-        ∙ ap (λ k. then_rule (record { items = all_moved b (record { passed = n; taken = 1 } ∷ front_moves together is_left (n + 1) zs) xs; events = move_events b (record { passed = n; taken = 1 } ∷ front_moves together is_left (n + 1) zs) }) (left_walk m k b)) last
+        ap (λ r. and_arranged r (left_walk (length zs + m) (i + 1) b)) moves
+        ∙ ap (λ (r : Arrangement). record { items = r.items; events = e ∷ r.events }) then_all
+        ∙ ap (λ k. and_arranged (record { items = all_moved b (record { passed = n; taken = 1 } ∷ front_moves together is_left (n + 1) zs) xs; events = move_events b (record { passed = n; taken = 1 } ∷ front_moves together is_left (n + 1) zs) }) (left_walk m k b)) last
     by_test false size first later =
         let xs = pre ++ (front ++ (x ∷ (zs ++ post))) in
         let whole : pre ++ ((front ++ x ∷ []) ++ (zs ++ post)) ≡ xs = ap (λ ys. pre ++ ys) (append_assoc front (x ∷ []) (zs ++ post)) in
         let last : i + 1 + length zs ≡ i + suc (length zs) = omega arith in
         ap (left_walk (length zs + m) (i + 1) b) (sym whole) ∙ later ∙ ap (λ k. rest_of k (pre ++ ((front ++ x ∷ []) ++ (zs ++ post)))) (length-append front (x ∷ [])) ∙ ap (rest_of (length front + 1)) whole
-        ∙ ap (λ k. then_rule (record { items = all_moved b (front_moves together is_left (length front + 1) zs) xs; events = move_events b (front_moves together is_left (length front + 1) zs) }) (left_walk m k b)) last
+        ∙ ap (λ k. and_arranged (record { items = all_moved b (front_moves together is_left (length front + 1) zs) xs; events = move_events b (front_moves together is_left (length front + 1) zs) }) (left_walk m k b)) last
 
 -- ---- up to the next halant
 
@@ -163,20 +164,20 @@ part_from start end i gs le =
 
 -- ---- a range that was rewritten
 
-abbrev stretch_done : ℕ → ℕ → List Item → Rewritten
+abbrev stretch_done : ℕ → ℕ → List Item → Arrangement
 stretch_done i to xs = record { items = all_moved i (front_moves together is_left 0 (slice_range xs i to)) xs; events = move_events i (front_moves together is_left 0 (slice_range xs i to)) }
 
 part_is : (i to : ℕ) (xs : List Item) → i ≤ to → to ≤ length xs → within i to (fronts_moved together is_left 0) xs ≡ stretch_done i to xs
 part_is i to xs le fits =
     let ms = front_moves together is_left 0 (slice_range xs i to) in
     let none : i + 0 ≡ i = omega arith in
-    ap (λ es. record { items = take i xs ++ gathered_after together is_left 0 (slice_range xs i to) ++ drop to xs; events = es }) (shift_moves i 0 ms ∙ ap (λ k. move_events k ms) none)
+    ap (λ es. record { items = take i xs ++ with_fronts_moved_after together is_left 0 (slice_range xs i to) ++ drop to xs; events = es }) (shift_moves i 0 ms ∙ ap (λ k. move_events k ms) none)
     ∙ ap (λ ys. record { items = ys; events = move_events i ms }) (part_moves together is_left i to 0 xs (omega (arith, le)) fits)
 
 part_size : (i to : ℕ) (xs : List Item) → i ≤ to → to ≤ length xs → length (stretch_done i to xs).items ≡ length xs
-part_size i to xs le fits = ap (λ (r : Rewritten). length r.items) (sym (part_is i to xs le fits)) ∙ within_size (fronts_moved together is_left 0) i to xs (λ ys. gathered_after_length together is_left 0 ys) le fits
+part_size i to xs le fits = ap (λ (r : Arrangement). length r.items) (sym (part_is i to xs le fits)) ∙ within_size (fronts_moved together is_left 0) i to xs (λ ys. gathered_after_length together is_left 0 ys) le fits
 
-walk_is : (n i count : ℕ) (xs : List Item) → i + count ≤ n → length xs ≡ n → NoHalants (take count (drop i xs)) → left_walk (n - i) i i xs ≡ then_rule (stretch_done i (i + count) xs) (left_walk (n - (i + count)) (i + count) i)
+walk_is : (n i count : ℕ) (xs : List Item) → i + count ≤ n → length xs ≡ n → NoHalants (take count (drop i xs)) → left_walk (n - i) i i xs ≡ and_arranged (stretch_done i (i + count) xs) (left_walk (n - (i + count)) (i + count) i)
 walk_is n i count xs le size none =
     let to = i + count in
     let zs = slice_range xs i to in
@@ -190,8 +191,8 @@ walk_is n i count xs le size none =
     let free : NoHalants zs = subst (λ k. NoHalants (take k (drop i xs))) (sym c) none in
     let walk = walk_stretch zs (n - to) i i pre [] post a (let same : i ≡ i + 0 = omega arith in same) free in
     ap (λ k. left_walk k i i xs) total
-    ∙ subst (λ ys. left_walk (length zs + (n - to)) i i ys ≡ then_rule (record { items = all_moved i (front_moves together is_left 0 zs) ys; events = move_events i (front_moves together is_left 0 zs) }) (left_walk (n - to) (i + length zs) i)) whole walk
-    ∙ ap (λ k. then_rule (stretch_done i to xs) (left_walk (n - to) (i + k) i)) long
+    ∙ subst (λ ys. left_walk (length zs + (n - to)) i i ys ≡ and_arranged (record { items = all_moved i (front_moves together is_left 0 zs) ys; events = move_events i (front_moves together is_left 0 zs) }) (left_walk (n - to) (i + length zs) i)) whole walk
+    ∙ ap (λ k. and_arranged (stretch_done i to xs) (left_walk (n - to) (i + k) i)) long
 
 pub record IsStretch (start end i count : ℕ) (a b : Sides) : Type 0 where
   pub inside : start + i + count ≤ end
@@ -245,7 +246,7 @@ last_walked start end i count a b s at =
           let first : end - start - (end - start) ≡ 0 = omega arith in
           let second : end - start - (i + count) ≡ 0 = omega (arith, at) in
           let ys = slice_range (items_of b) start end in
-          let same : IsRewritten (kept ys) start end b new = subst (λ n. IsRewritten (left_walk n (end - start) (end - start) ys) start end b new) first f in
+          let same : IsRewritten (eventless_arrangement ys) start end b new = subst (λ n. IsRewritten (left_walk n (end - start) (end - start) ys) start end b new) first f in
           stretch_does start end i count a b new s (subst (λ n. IsRewritten (left_walk n (i + count) i ys) start end b new) (sym second) same);
     }
 
@@ -266,9 +267,9 @@ halant_walked start end i count a b s lt =
     let part = part_size i to xs (omega arith) (omega (arith, size, le)) ∙ size in
     let ys = slice_range (items_of b) start end in
     let now : ys ≡ (stretch_done i to xs).items = rewritten_slice (stretch_done i to xs) start end a b (omega (arith, le)) there part (stretch_part start end i count a b s) in
-    let laid : ys ≡ take i xs ++ gathered_after together is_left 0 (slice_range xs i to) ++ drop to xs = now ∙ sym (part_moves together is_left i to 0 xs (omega arith) (omega (arith, size, le))) in
+    let laid : ys ≡ take i xs ++ with_fronts_moved_after together is_left 0 (slice_range xs i to) ++ drop to xs = now ∙ sym (part_moves together is_left i to 0 xs (omega arith) (omega (arith, size, le))) in
     let long = gathered_after_length together is_left 0 (slice_range xs i to) ∙ range_size i to xs (omega arith) (omega (arith, size, le)) in
-    let rest : drop to ys ≡ drop to xs = ap (drop to) laid ∙ (middle i to xs (gathered_after together is_left 0 (slice_range xs i to)) (omega arith) (omega (arith, size, le)) long).1 in
+    let rest : drop to ys ≡ drop to xs = ap (drop to) laid ∙ (middle i to xs (with_fronts_moved_after together is_left 0 (slice_range xs i to)) (omega arith) (omega (arith, size, le)) long).1 in
     let at : slice_get ys to ≡ Some found.0 =
     sym (got_from ys to) ∙ ap (λ zs. slice_get zs 0) (rest ∙ sym (drop-drop count i xs) ∙ ap (λ n. drop n (drop i xs)) (sym is)) ∙ found.1 in
     record {
@@ -276,14 +277,14 @@ halant_walked start end i count a b s lt =
       size = stretch_count start end i count a b s;
       does = λ new f.
           let left : end - start - to ≡ suc (end - start - (to + 1)) = omega (arith, lt) in
-          let halts : left_at to i ys ≡ record { rewritten = kept ys; after_halant = to + 1 } = met_halant to i ys found.0 at found.2 in
+          let halts : left_vowel_step_at to i ys ≡ record { rewritten = eventless_arrangement ys; after_halant = to + 1 } = met_halant to i ys found.0 at found.2 in
           let walk : left_walk (end - start - to) to i ys ≡ left_walk (end - start - (to + 1)) (to + 1) (to + 1) ys =
-          ap (λ n. left_walk n to i ys) left ∙ ap (λ (st : Step). then_rule st.rewritten (left_walk (end - start - (to + 1)) (to + 1) st.after_halant)) halts in
+          ap (λ n. left_walk n to i ys) left ∙ ap (λ (st : Step). and_arranged st.rewritten (left_walk (end - start - (to + 1)) (to + 1) st.after_halant)) halts in
           stretch_does start end i count a b new s (subst (λ q. IsRewritten q start end b new) (sym walk) f);
     }
   where
-    met_halant : (n b : ℕ) (zs : List Item) (x : Item) → slice_get zs n ≡ Some x → is_halant x ≡ true → left_at n b zs ≡ record { rewritten = kept zs; after_halant = n + 1 }
-    met_halant n b zs x e h = rw e (ap (λ t. if t then record { rewritten = kept zs; after_halant = n + 1 } else step_if (is_left x && nat_lt b n) n b zs) h)
+    met_halant : (n b : ℕ) (zs : List Item) (x : Item) → slice_get zs n ≡ Some x → is_halant x ≡ true → left_vowel_step_at n b zs ≡ record { rewritten = eventless_arrangement zs; after_halant = n + 1 }
+    met_halant n b zs x e h = rw e (ap (λ t. if t then record { rewritten = eventless_arrangement zs; after_halant = n + 1 } else step_if (is_left x && nat_lt b n) n b zs) h)
 
 -- ---- one range after another
 
@@ -373,7 +374,7 @@ stretch_stays start end n gs a ready le fits seen e lt =
     let none = no_moves part (omega (arith, same, lt)) in
     record {
       view = ap (λ xs. record (view_of a) { items = xs }) (sym (part_moves together is_left start end 0 (items_of a) (omega (arith, le)) (omega (arith, counted a, fits)) ∙ ap (λ ms. all_moved start ms (items_of a)) none));
-      origins = ap (λ ms. origins_by (map (shifted start) (move_events 0 ms)) a) (sym none);
+      origins = ap (λ ms. origins_by (map (shifted_event start) (move_events 0 ms)) a) (sym none);
       settings = refl;
       ready = ready;
     }

@@ -1,2 +1,3 @@
 -- Lemmas on the rules of a syllable.
 pub mod Sizes
+pub mod Permuted

@@ -7,7 +7,8 @@ use Rattle.script_categories.specs.Shapers.{is_reordered}
 use Rattle.buffer_glyphs.specs.LigatureWords.{is_ligated, lig_comp}
 use Rattle.buffer_glyphs.specs.Items.{Item}
 use Rattle.buffer_stages.specs.Pieces.{ArePermuted}
-use Rattle.buffer_stages.specs.Rewriting.{Rewritten, kept, then_rule, within, in_syllables, by_syllable}
+use Rattle.buffer_glyphs.specs.Rewriting.{Arrangement, eventless_arrangement, and_arranged}
+use Rattle.buffer_stages.specs.Rewriting.{within, in_syllables, by_syllable}
 use Rattle.buffer_stages.specs.Parts.{first_to_back}
 
 -- the categories of post-base items: finals, medials, vowels, their modifiers and those of finals (HarfBuzz:
@@ -53,48 +54,48 @@ abbrev pub reph_end : List Item → ℕ
 reph_end xs = 1 + prefix_len (λ y. not (stops_reph y)) (drop 1 xs)
 
 -- a syllable whose reph moved before the first item that stops it, else to the end
-abbrev pub reph_moved : List Item → Rewritten
-reph_moved xs = if begins_with_reph xs then within 0 (reph_end xs) (first_to_back 1) xs else kept xs
+abbrev pub reph_moved : List Item → Arrangement
+reph_moved xs = if begins_with_reph xs then within 0 (reph_end xs) (first_to_back 1) xs else eventless_arrangement xs
 
 -- ---- left vowels
 
 -- the rest of a syllable after an index of the walk, and the index after the last halant so far
 pub record Step : Type 0 where
-  pub rewritten : Rewritten
+  pub rewritten : Arrangement
   pub after_halant : ℕ
 
 -- the step at a left vowel: it moves after the last halant, merged with those that it passes
-abbrev pub left_met : ℕ → ℕ → List Item → Item → Step
-left_met i after_halant xs x =
-    if is_halant x then record { rewritten = kept xs; after_halant = i + 1 }
+abbrev pub left_vowel_moved : ℕ → ℕ → List Item → Item → Step
+left_vowel_moved i after_halant xs x =
+    if is_halant x then record { rewritten = eventless_arrangement xs; after_halant = i + 1 }
     else if is_left x && nat_lt after_halant i then record { rewritten = within after_halant (i + 1) (first_to_back (i - after_halant)) xs; after_halant = after_halant }
-    else record { rewritten = kept xs; after_halant = after_halant }
+    else record { rewritten = eventless_arrangement xs; after_halant = after_halant }
 
 -- the step at an item of the walk, if there is one
-abbrev pub left_there : ℕ → ℕ → List Item → Option Item → Step
-left_there i after_halant xs None = record { rewritten = kept xs; after_halant = after_halant }
-left_there i after_halant xs (Some x) = left_met i after_halant xs x
+abbrev pub left_vowel_step : ℕ → ℕ → List Item → Option Item → Step
+left_vowel_step i after_halant xs None = record { rewritten = eventless_arrangement xs; after_halant = after_halant }
+left_vowel_step i after_halant xs (Some x) = left_vowel_moved i after_halant xs x
 
 -- the step at an index of a syllable
-abbrev pub left_at : ℕ → ℕ → List Item → Step
-left_at i after_halant xs = left_there i after_halant xs (slice_get xs i)
+abbrev pub left_vowel_step_at : ℕ → ℕ → List Item → Step
+left_vowel_step_at i after_halant xs = left_vowel_step i after_halant xs (slice_get xs i)
 
 -- that many steps of the walk, while items move
-abbrev pub left_walk : ℕ → ℕ → ℕ → List Item → Rewritten
-left_walk zero i after_halant xs = kept xs
-left_walk (suc n) i after_halant xs = then_rule (left_at i after_halant xs).rewritten (left_walk n (i + 1) (left_at i after_halant xs).after_halant)
+abbrev pub left_walk : ℕ → ℕ → ℕ → List Item → Arrangement
+left_walk zero i after_halant xs = eventless_arrangement xs
+left_walk (suc n) i after_halant xs = and_arranged (left_vowel_step_at i after_halant xs).rewritten (left_walk n (i + 1) (left_vowel_step_at i after_halant xs).after_halant)
 
 -- a syllable with its reph and its left vowels moved (HarfBuzz: reorder_syllable_use)
-abbrev pub universal_reordered : List Item → Rewritten
-universal_reordered xs = then_rule (reph_moved xs) (left_walk (length xs) 0 0)
+abbrev pub universal_reordered : List Item → Arrangement
+universal_reordered xs = and_arranged (reph_moved xs) (left_walk (length xs) 0 0)
 
 -- a syllable, reordered if the kind in its first item's byte is reordered
-abbrev pub universal_first : List Item → Option Item → Rewritten
-universal_first xs None = kept xs
-universal_first xs (Some x) = if is_reordered UNIVERSAL_SHAPER (bit_and x.syllable 15) then universal_reordered xs else kept xs
+abbrev pub universal_first : List Item → Option Item → Arrangement
+universal_first xs None = eventless_arrangement xs
+universal_first xs (Some x) = if is_reordered UNIVERSAL_SHAPER (bit_and x.syllable 15) then universal_reordered xs else eventless_arrangement xs
 
 -- the reading of one syllable
-abbrev pub universal_syllable : List Item → Rewritten
+abbrev pub universal_syllable : List Item → Arrangement
 universal_syllable xs = universal_first xs (slice_get xs 0)
 
 -- law: the reordering permutes each syllable by itself, by glyph numbers

@@ -3,7 +3,7 @@ use Rattle.std.proofs.Common.{ℕ, ◌≡◌, ◌≤◌, ◌<◌, ◌+◌, ◌-�
 use Rattle.std.proofs.lemmas.List.{drop_all, drop_more, length-map}
 use Rattle.buffer_glyphs.specs.declared.info.hb_glyph_info_t.{hb_glyph_info_t}
 use Rattle.buffer_glyphs.specs.Items.{item_of, strip}
-use Rattle.buffer_glyphs.specs.Lists.{seen_at}
+use Rattle.buffer_glyphs.specs.Lists.{get_or_mapped}
 use Rattle.buffer_properties.specs.Characters.{is_mark}
 use Rattle.shape_fallback.specs.Marks.{marks}
 
@@ -19,7 +19,7 @@ within : (gs : List hb_glyph_info_t) (i : ℕ) → i < length gs → i < length 
 within gs i lt = let same = length-map gs item_of in omega (arith, lt, same)
 
 pub first_left : (gs : List hb_glyph_info_t) (i : ℕ) (d : hb_glyph_info_t) → i < length gs → drop i (strip gs) ≡ item_of (get_or gs i d) ∷ drop (i + 1) (strip gs)
-first_left gs i d lt = drop_more (strip gs) i (item_of d) (within gs i lt) ∙ ap (λ x. x ∷ drop (i + 1) (strip gs)) (seen_at item_of gs i d)
+first_left gs i d lt = drop_more (strip gs) i (item_of d) (within gs i lt) ∙ ap (λ x. x ∷ drop (i + 1) (strip gs)) (get_or_mapped item_of gs i d)
 
 -- the marks from an index on, of which that many were passed
 pub record Passed (gs : List hb_glyph_info_t) (at end : ℕ) : Type 0 where

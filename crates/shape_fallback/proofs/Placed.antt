@@ -10,7 +10,7 @@ use Rattle.buffer_glyphs.specs.declared.info.hb_glyph_info_t.{hb_glyph_info_t}
 use Rattle.buffer_glyphs.specs.Items.{Item, Position, item_of}
 use Rattle.buffer_glyphs.specs.Events.{Event}
 use Rattle.buffer_core.specs.Readings.{View, always}
-use Rattle.buffer_core.specs.Lending.{refilled, with_positions_refilled}
+use Rattle.buffer_core.specs.Lending.{refilled_list, with_positions_refilled}
 use Rattle.buffer_core.specs.Sides.{Sides, all_glyphs, items_of, view_of}
 use Rattle.buffer_stages.specs.Buffers.{are_glyphs}
 use Rattle.buffer_stages.specs.Ready.{IsDone, IsReady}
@@ -20,7 +20,7 @@ use Rattle.shape_fallback.specs.declared.around.Placing.{Placing}
 use Rattle.shape_fallback.specs.declared.marks.Before.{Before}
 use Rattle.shape_fallback.specs.declared.marks.Before.TheVariants.{Nothing}
 use Rattle.shape_fallback.specs.declared.marks.Step.{Step}
-use Rattle.shape_fallback.specs.Marks.{HasBound, base_events, is_left_to_right, placed_marks, step, with_placed_marks}
+use Rattle.shape_fallback.specs.Marks.{HasBound, base_events, is_left_to_right, positioned_marks, step, with_positioned_marks}
 
 -- ---- a list of positions, of which so many are what the whole has
 
@@ -43,8 +43,8 @@ still_there (w ∷ whole) (p ∷ ps) (suc i) d q rest lt e = still_there whole p
 
 -- the walk at an index
 walk_there : (font : FaceParts) (by : Placing) (before : Before) (xs : List Item) (ps : List Position) (i : ℕ) (x : Item) (p : Position) → i < length xs → i < length ps
-    → placed_marks font by before (drop i xs) (drop i ps)
-    ≡ (step font by (get_or xs i x) (get_or ps i p) before).position ∷ placed_marks font by (step font by (get_or xs i x) (get_or ps i p) before).before (drop (suc i) xs) (drop (suc i) ps)
+    → positioned_marks font by before (drop i xs) (drop i ps)
+    ≡ (step font by (get_or xs i x) (get_or ps i p) before).position ∷ positioned_marks font by (step font by (get_or xs i x) (get_or ps i p) before).before (drop (suc i) xs) (drop (suc i) ps)
 walk_there font by before [] ps i x p lt le = absurd (omega (arith, lt))
 walk_there font by before (y ∷ xs) [] i x p lt le = absurd (omega (arith, le))
 walk_there font by before (y ∷ xs) (r ∷ ps) zero x p lt le = refl
@@ -59,8 +59,8 @@ pub record OnTheWay (font : FaceParts) (by : Placing) (i count : ℕ) (before : 
   pub glyphs : length (all_glyphs start) ≡ count
   pub many : length start.positions ≡ count
   pub still : length now.positions ≡ count
-  pub rest : drop i (placed_marks font by Nothing (items_of start) start.positions) ≡ placed_marks font by before (drop i (items_of start)) (drop i start.positions)
-  pub so_far : now.positions ≡ take i (placed_marks font by Nothing (items_of start) start.positions) ++ drop i start.positions
+  pub rest : drop i (positioned_marks font by Nothing (items_of start) start.positions) ≡ positioned_marks font by before (drop i (items_of start)) (drop i start.positions)
+  pub so_far : now.positions ≡ take i (positioned_marks font by Nothing (items_of start) start.positions) ++ drop i start.positions
   pub bound : HasBound before
   pub numbers : are_glyphs (items_of start) ≡ true
 
@@ -83,11 +83,11 @@ go_on : (font : FaceParts) (by : Placing) (i count : ℕ) (before : Before) (g :
 go_on font by i count before g p st start now lt is bound w =
     let xs : List Item = items_of start in
     let ps : List Position = start.positions in
-    let whole : List Position = placed_marks font by Nothing xs ps in
+    let whole : List Position = positioned_marks font by Nothing xs ps in
     let many_xs : i < length xs = (let same = length-map (all_glyphs start) item_of in let all = w.glyphs in omega (arith, lt, same, all)) in
     let many_ps : i < length ps = (let many = w.many in omega (arith, lt, many)) in
     let there : Step = step font by (get_or xs i (item_of g)) (get_or ps i p) before in
-    let left : List Position = placed_marks font by there.before (drop (suc i) xs) (drop (suc i) ps) in
+    let left : List Position = positioned_marks font by there.before (drop (suc i) xs) (drop (suc i) ps) in
     let cut : drop i whole ≡ there.position ∷ left = w.rest ∙ walk_there font by before xs ps i (item_of g) p many_xs many_ps in
     let item : item_of (get_or (all_glyphs now) i g) ≡ get_or xs i (item_of g) =
     ap (λ (t : Sides). item_of (get_or (all_glyphs t) i g)) w.same ∙ sym (get_or-map item_of (all_glyphs start) i g (item_of g) (let all = w.glyphs in omega (arith, lt, all))) in
@@ -95,12 +95,12 @@ go_on font by i count before g p st start now lt is bound w =
     let made : st ≡ there = is ∙ ap (λ x. step font by x (get_or now.positions i p) before) item ∙ ap (λ q. step font by (get_or xs i (item_of g)) q before) place in
     let filled = refilled_whole (set now.positions i st.position) now.positions (length-set now.positions i st.position) in
     record {
-      same = ap (λ (t : Sides). record t { positions = refilled (set now.positions i st.position) now.positions }) w.same;
+      same = ap (λ (t : Sides). record t { positions = refilled_list (set now.positions i st.position) now.positions }) w.same;
       closed = w.closed;
       glyphs = w.glyphs;
       many = w.many;
       still = ap length filled ∙ length-set now.positions i st.position ∙ w.still;
-      rest = rest_left whole i there.position left cut ∙ ap (λ (t : Step). placed_marks font by t.before (drop (suc i) xs) (drop (suc i) ps)) (sym made);
+      rest = rest_left whole i there.position left cut ∙ ap (λ (t : Step). positioned_marks font by t.before (drop (suc i) xs) (drop (suc i) ps)) (sym made);
       so_far = filled ∙ ap (λ qs. set qs i st.position) w.so_far ∙ next_set whole ps i st.position left many_ps (cut ∙ ap (λ (t : Step). t.position ∷ left) (sym made));
       bound = bound;
       numbers = w.numbers;
@@ -120,14 +120,14 @@ all_taken : (whole : List Position) (i : ℕ) → drop i whole ≡ [] → take i
 all_taken whole i e = ap (λ ys. take i whole ++ ys) (sym e) ∙ take-append-drop i whole
 
 pub ends : (font : FaceParts) (by : Placing) (i count : ℕ) (before : Before) (start now : Sides) → IsReady start → count ≤ i → OnTheWay font by i count before start now
-    → Becomes (items_of start) (placed_marks font by Nothing (items_of start) start.positions) start now
+    → Becomes (items_of start) (positioned_marks font by Nothing (items_of start) start.positions) start now
 ends font by i count before start now ready le w =
     let xs : List Item = items_of start in
     let ps : List Position = start.positions in
-    let whole : List Position = placed_marks font by Nothing xs ps in
+    let whole : List Position = positioned_marks font by Nothing xs ps in
     let none_ps : drop i ps ≡ [] = drop_all i ps (let many = w.many in omega (arith, le, many)) in
     let none_xs : drop i xs ≡ [] = drop_all i xs (let same = length-map (all_glyphs start) item_of in let all = w.glyphs in omega (arith, le, same, all)) in
-    let none_left : drop i whole ≡ [] = w.rest ∙ ap (λ ys. placed_marks font by before ys (drop i ps)) none_xs in
+    let none_left : drop i whole ≡ [] = w.rest ∙ ap (λ ys. positioned_marks font by before ys (drop i ps)) none_xs in
     let there : now.positions ≡ whole = w.so_far ∙ ap (λ qs. take i whole ++ qs) none_ps ∙ all_taken whole i none_left in
     let same : now ≡ record start { positions = whole } = w.same ∙ ap (λ qs. record start { positions = qs }) there in
     let long : length whole ≡ length (all_glyphs start) = ap length (sym there) ∙ w.still ∙ sym w.glyphs in
@@ -165,14 +165,14 @@ numbers_within font by i count before g gs start now e lt w =
 -- ---- the stage
 
 pub marks_done : (font : FaceParts) (components : Direction) (adjust : Bool) (s mid new : Sides) → Happens (base_events 0 (items_of s)) s mid
-    → Becomes (items_of mid) (placed_marks font (record { direction = mid.direction; left_to_right = is_left_to_right components; adjust_offsets = adjust }) Nothing (items_of mid) mid.positions) mid new
-    → IsDone (always (with_placed_marks font components adjust)) s new
+    → Becomes (items_of mid) (positioned_marks font (record { direction = mid.direction; left_to_right = is_left_to_right components; adjust_offsets = adjust }) Nothing (items_of mid) mid.positions) mid new
+    → IsDone (always (with_positioned_marks font components adjust)) s new
 marks_done font components adjust s mid new h b =
     let F : View → View = λ v. record v {
-      positions = placed_marks font (record { direction = v.direction; left_to_right = is_left_to_right components; adjust_offsets = adjust }) Nothing v.items v.positions;
+      positions = positioned_marks font (record { direction = v.direction; left_to_right = is_left_to_right components; adjust_offsets = adjust }) Nothing v.items v.positions;
     } in
     let view : view_of new ≡ F (view_of s) = b.view ∙ ap F h.view in
-    let f = happened_followed (base_events 0 (items_of s)) (F (view_of s)) (always (with_placed_marks font components adjust)) s new view (b.origins ∙ h.origins) (b.settings ∙ h.settings) b.ready refl in
+    let f = happened_followed (base_events 0 (items_of s)) (F (view_of s)) (always (with_positioned_marks font components adjust)) s new view (b.origins ∙ h.origins) (b.settings ∙ h.settings) b.ready refl in
     record {
       follows = f.follows;
       settings = f.settings;

@@ -7,7 +7,7 @@ use Rattle.layout_common.specs.Rows.{value_of}
 use Rattle.layout_face.specs.declared.parts.FaceParts.{FaceParts}
 use Rattle.buffer_glyphs.specs.Items.{Item, Position}
 use Rattle.layout_offsets.specs.Sums.{minus, plus}
-use Rattle.shape_fallback.specs.Boxes.{marked}
+use Rattle.shape_fallback.specs.Boxes.{mark_at_box}
 use Rattle.layout_offsets.specs.Zeroing.{without_advances}
 use Rattle.shape_fallback.specs.declared.boxes.Marked.{Marked}
 use Rattle.shape_fallback.specs.declared.bases.Base.{Base}
@@ -21,8 +21,8 @@ abbrev pub pen_back : Direction → ℤ → ℤ
 pen_back d advance = if is_forward d then minus (pos 0) advance else pos 0
 
 -- the state of a base without marks
-abbrev pub begun : Direction → Position → Base → Around
-begun d p b = record {
+abbrev pub initial_around : Direction → Position → Base → Around
+initial_around d p b = record {
   base = b;
   component = b.extents;
   extents = b.extents;
@@ -55,27 +55,27 @@ abbrev pub gap : FaceParts → ℤ
 gap font = pos (font.upem / 16)
 
 -- the position of a mark with zero advances, shifted back to the base
-abbrev pub stood_back : Around → Position → Position
-stood_back s p = record (without_advances p) { x_offset = plus p.x_offset s.x_offset; y_offset = plus p.y_offset s.y_offset }
+abbrev pub position_at_base : Around → Position → Position
+position_at_base s p = record (without_advances p) { x_offset = plus p.x_offset s.x_offset; y_offset = plus p.y_offset s.y_offset }
 
 -- a mark that is positioned, with the box for the next one
-abbrev pub set_around : Around → Marked → Placed
-set_around s m = record { position = stood_back s m.position; around = record s { extents = m.extents } }
+abbrev pub mark_at_base : Around → Marked → Placed
+mark_at_base s m = record { position = position_at_base s m.position; around = record s { extents = m.extents } }
 
 -- a mark of a class, positioned in a state
-abbrev pub stood : FaceParts → Direction → Item → Position → Around → Placed
-stood font d x p s = set_around s (marked (gap font) d x.class (value_of x.number font.extents) s.extents p)
+abbrev pub mark_step : FaceParts → Direction → Item → Position → Around → Placed
+mark_step font d x p s = mark_at_base s (mark_at_box (gap font) d x.class (value_of x.number font.extents) s.extents p)
 
 -- the pen's distance after a mark of class 0, whose advance shifts the marks after it
 abbrev pub along : Direction → ℤ → ℤ → ℤ
 along d offset advance = if is_forward d then minus offset advance else plus offset advance
 
 -- a mark of class 0, whose position is unchanged
-abbrev pub passed : Direction → Position → Around → Placed
-passed d p s = record { position = p; around = record s { x_offset = along d s.x_offset p.x_advance; y_offset = along d s.y_offset p.y_advance } }
+abbrev pub base_step : Direction → Position → Around → Placed
+base_step d p s = record { position = p; around = record s { x_offset = along d s.x_offset p.x_advance; y_offset = along d s.y_offset p.y_advance } }
 
 -- a mark positioned around its base (HarfBuzz: position_around_base)
 abbrev pub mark_around : FaceParts → Placing → Item → Position → Around → Placed
 mark_around font by x p s =
-    if x.class == 0 then passed by.direction p s
-    else stood font by.direction x p (at_class x.class (at_component by.left_to_right x s))
+    if x.class == 0 then base_step by.direction p s
+    else mark_step font by.direction x p (at_class x.class (at_component by.left_to_right x s))

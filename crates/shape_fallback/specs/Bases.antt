@@ -27,8 +27,8 @@ abbrev pub component_of : Base → Item → ℕ
 component_of b x = if (b.lig_id == 0 || not (lig_id x == b.lig_id)) || nat_lt b.components (lig_comp x) then b.components else lig_comp x
 
 -- the number of components to the left of one
-abbrev pub place_of_component : Bool → Base → ℕ → ℤ
-place_of_component left_to_right b c = if left_to_right then pos c -ℤ pos 1 else pos b.components -ℤ pos c
+abbrev pub component_index : Bool → Base → ℕ → ℤ
+component_index left_to_right b c = if left_to_right then pos c -ℤ pos 1 else pos b.components -ℤ pos c
 
 -- a product modulo 2^32
 abbrev pub times : ℤ → ℤ → ℤ
@@ -37,6 +37,6 @@ times a b = int_wrap w32 (a *ℤ b)
 -- the box of a component: all components are equally wide
 abbrev pub component_box : Bool → Base → ℕ → Box
 component_box left_to_right b c = record b.extents {
-  x_bearing = plus b.extents.x_bearing (int_div (times (place_of_component left_to_right b c) b.extents.width) (pos b.components));
+  x_bearing = plus b.extents.x_bearing (int_div (times (component_index left_to_right b c) b.extents.width) (pos b.components));
   width = int_div b.extents.width (pos b.components);
 }

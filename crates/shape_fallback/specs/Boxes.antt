@@ -81,8 +81,8 @@ abbrev pub lower : ℤ → Box → Box
 lower a b = record b { height = minus b.height a }
 
 -- a box extended upwards
-abbrev pub raised : ℤ → Box → Box
-raised a b = record b { y_bearing = plus b.y_bearing a; height = minus b.height a }
+abbrev pub raised_box : ℤ → Box → Box
+raised_box a b = record b { y_bearing = plus b.y_bearing a; height = minus b.height a }
 
 -- two numbers are both positive, or neither is
 abbrev pub is_same_side : ℤ → ℤ → Bool
@@ -97,53 +97,53 @@ abbrev pub with_above : Box → Box → Box
 with_above m b = record b { y_bearing = minus b.y_bearing m.height; height = plus b.height m.height }
 
 -- a mark below is never shifted up: the box is extended down to it instead
-abbrev pub held_below : ℤ → Box → ℤ → Box → Stacked
-held_below gap m y b = if is_same_side gap y then record { y = pos 0; extents = with_below m (lower y b) } else record { y = y; extents = with_below m b }
+abbrev pub stacked_below : ℤ → Box → ℤ → Box → Stacked
+stacked_below gap m y b = if is_same_side gap y then record { y = pos 0; extents = with_below m (lower y b) } else record { y = y; extents = with_below m b }
 
 -- a mark below the box, shifted down
-abbrev pub hung_below : ℤ → Box → Box → Stacked
-hung_below gap m b = held_below gap m (minus (plus b.y_bearing b.height) m.y_bearing) b
+abbrev pub stacked_from_below : ℤ → Box → Box → Stacked
+stacked_from_below gap m b = stacked_below gap m (minus (plus b.y_bearing b.height) m.y_bearing) b
 
 -- a mark of a class below, at a gap unless it is attached
 abbrev pub below : ℤ → Bool → Box → Box → Stacked
-below gap attached b m = hung_below gap m (if attached then b else lower gap b)
+below gap attached b m = stacked_from_below gap m (if attached then b else lower gap b)
 
 -- half of a downward shift, as an upward one
 abbrev pub half_up : ℤ → ℤ
 half_up y = int_div (minus (pos 0) y) (pos 2)
 
 -- a mark above by its vertical shift: a downward shift is halved, and the box is raised by as much
-abbrev pub held_above : ℤ → Box → ℤ → Box → Stacked
-held_above gap m y b =
+abbrev pub stacked_above : ℤ → Box → ℤ → Box → Stacked
+stacked_above gap m y b =
     if is_same_side gap y then record { y = y; extents = with_above m b }
-    else record { y = plus y (half_up y); extents = with_above m (raised (half_up y) b) }
+    else record { y = plus y (half_up y); extents = with_above m (raised_box (half_up y) b) }
 
 -- a mark above the box, shifted up
-abbrev pub set_above : ℤ → Box → Box → Stacked
-set_above gap m b = held_above gap m (minus b.y_bearing (plus m.y_bearing m.height)) b
+abbrev pub stacked_from_above : ℤ → Box → Box → Stacked
+stacked_from_above gap m b = stacked_above gap m (minus b.y_bearing (plus m.y_bearing m.height)) b
 
 -- a mark of a class above, at a gap unless it is attached
 abbrev pub above : ℤ → Bool → Box → Box → Stacked
-above gap attached b m = set_above gap m (if attached then b else raised gap b)
+above gap attached b m = stacked_from_above gap m (if attached then b else raised_box gap b)
 
 -- the vertical shift of a mark, by whether its class is below, above and attached; other classes have none
-abbrev pub stacked_by : Bool → Bool → Bool → ℤ → Box → Box → Stacked
-stacked_by stands_below stands_above attached gap b m =
+abbrev pub stacked_mark_by : Bool → Bool → Bool → ℤ → Box → Box → Stacked
+stacked_mark_by stands_below stands_above attached gap b m =
     if stands_below then below gap attached b m
     else if stands_above then above gap attached b m
     else record { y = pos 0; extents = b }
 
 -- the vertical shift of a mark of a class
-abbrev pub stacked : ℤ → ℕ → Box → Box → Stacked
-stacked gap class b m = stacked_by (is_below class) (is_above class) (is_attached class) gap b m
+abbrev pub stacked_mark : ℤ → ℕ → Box → Box → Stacked
+stacked_mark gap class b m = stacked_mark_by (is_below class) (is_above class) (is_attached class) gap b m
 
 -- ---- a mark
 
 -- a mark positioned at a box, at a gap unless it is attached, with the box for the next one; a mark without extents is
 -- unchanged (HarfBuzz: position_mark)
-abbrev pub marked : ℤ → Direction → ℕ → Option Box → Box → Position → Marked
-marked gap d class None b p = record { position = p; extents = b }
-marked gap d class (Some m) b p = record {
-  position = record p { x_offset = mark_x d class b m; y_offset = (stacked gap class b m).y };
-  extents = (stacked gap class b m).extents;
+abbrev pub mark_at_box : ℤ → Direction → ℕ → Option Box → Box → Position → Marked
+mark_at_box gap d class None b p = record { position = p; extents = b }
+mark_at_box gap d class (Some m) b p = record {
+  position = record p { x_offset = mark_x d class b m; y_offset = (stacked_mark gap class b m).y };
+  extents = (stacked_mark gap class b m).extents;
 }

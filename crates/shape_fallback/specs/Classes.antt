@@ -6,7 +6,7 @@ use Rattle.buffer_common.specs.declared.constants.TheConstants.{CCC10, CCC11, CC
 use Rattle.buffer_glyphs.specs.Items.{Item}
 use Rattle.buffer_core.specs.Readings.{View, Read}
 use Rattle.buffer_properties.specs.Categories.{is_nonspacing_mark}
-use Rattle.buffer_stages.specs.Stages.{mapped}
+use Rattle.buffer_stages.specs.Stages.{with_items_mapped}
 
 -- a number is within a range
 abbrev pub is_within : ℕ → ℕ → ℕ → Bool
@@ -21,8 +21,8 @@ abbrev pub is_lao_above : ℕ → Bool
 is_lao_above u = u == 0xEB1 || is_within 0xEB4 0xEB7 u || u == 0xEBB || is_within 0xECC 0xECD u
 
 -- the class of a mark of class 0: above to the right (232), above (230), below (220: the semivowel sign lo), else 0
-abbrev pub place_of_unclassed : ℕ → ℕ
-place_of_unclassed u = if is_thai_above u then 232 else if is_lao_above u then 230 else if u == 0xEBC then 220 else 0
+abbrev pub class_of_unclassed : ℕ → ℕ
+class_of_unclassed u = if is_thai_above u then 232 else if is_lao_above u then 230 else if u == 0xEBC then 220 else 0
 
 -- a number is in a list
 abbrev pub is_one_of : List ℕ → ℕ → Bool
@@ -38,8 +38,8 @@ classes_above = CCC26 ∷ CCC27 ∷ CCC28 ∷ CCC30 ∷ CCC31 ∷ CCC33 ∷ CCC3
 
 -- the class of a mark with a fixed-position class: rafe is attached above (214), the points of shin and sin are to the
 -- right and to the left; other classes are unchanged
-abbrev pub place_of_class : ℕ → ℕ
-place_of_class class =
+abbrev pub class_of_class : ℕ → ℕ
+class_of_class class =
     if is_one_of classes_below class then 220
     else if is_one_of classes_above class then 230
     else if class == CCC23 then 214
@@ -49,17 +49,17 @@ place_of_class class =
     else class
 
 -- the class of a character with a class: the virama of Thai is below to the right (222)
-abbrev pub place_of_mark : ℕ → ℕ → ℕ
-place_of_mark u class = if class == 0 then place_of_unclassed u else if u == 0xE3A then 222 else place_of_class class
+abbrev pub class_of_mark : ℕ → ℕ → ℕ
+class_of_mark u class = if class == 0 then class_of_unclassed u else if u == 0xE3A then 222 else class_of_class class
 
 -- the class by which a mark is positioned; classes from 200 on are unchanged (HarfBuzz: recategorize_combining_class)
 abbrev pub fallback_class : ℕ → ℕ → ℕ
-fallback_class u class = if nat_lt class 200 then place_of_mark u class else class
+fallback_class u class = if nat_lt class 200 then class_of_mark u class else class
 
 -- an item with the class by which it is positioned, if it is a nonspacing mark
-abbrev pub recategorized : Item → Item
-recategorized x = if is_nonspacing_mark x then record x { class = fallback_class x.number x.class } else x
+abbrev pub item_with_fallback_class : Item → Item
+item_with_fallback_class x = if is_nonspacing_mark x then record x { class = fallback_class x.number x.class } else x
 
 -- the view with such classes (HarfBuzz: _hb_ot_shape_fallback_mark_position_recategorize_marks)
-abbrev pub with_places : View → Read
-with_places v = mapped recategorized v
+abbrev pub with_fallback_classes : View → Read
+with_fallback_classes v = with_items_mapped item_with_fallback_class v

@@ -13,14 +13,14 @@ use Rattle.buffer_glyphs.specs.LigatureWords.{component_bound}
 use Rattle.buffer_properties.specs.Characters.{is_mark}
 use Rattle.buffer_properties.specs.Categories.{is_nonspacing_mark}
 use Rattle.shape_fallback.specs.Boxes.{Box}
-use Rattle.layout_offsets.specs.Zeroing.{zeroed}
+use Rattle.layout_offsets.specs.Zeroing.{zeroed_position}
 use Rattle.shape_fallback.specs.declared.around.Placed.{Placed}
 use Rattle.shape_fallback.specs.declared.around.Placing.{Placing}
 use Rattle.shape_fallback.specs.declared.marks.Before.{Before}
 use Rattle.shape_fallback.specs.declared.marks.Before.TheVariants.{Nothing, Boxless, Boxed}
 use Rattle.shape_fallback.specs.declared.marks.Step.{Step}
 use Rattle.shape_fallback.specs.Bases.{base_of}
-use Rattle.shape_fallback.specs.Around.{begun, mark_around}
+use Rattle.shape_fallback.specs.Around.{initial_around, mark_around}
 
 -- ---- flags: a base and its marks are unsafe to break
 
@@ -44,7 +44,7 @@ base_events at (x ∷ xs) = first_event at (x ∷ xs) ++ base_events (at + 1) xs
 -- what is before the marks of a base
 abbrev pub after_base : FaceParts → Direction → Item → Position → Option Box → Before
 after_base font d x p None = Boxless
-after_base font d x p (Some e) = Boxed (begun d p (base_of font x p e))
+after_base font d x p (Some e) = Boxed (initial_around d p (base_of font x p e))
 
 -- the step of a positioned mark
 abbrev pub step_around : Placed → Step
@@ -52,7 +52,7 @@ step_around s = record { position = s.position; before = Boxed s.around }
 
 -- the position of a nonspacing mark at a base without extents: its advance is zeroed
 abbrev pub without_box : Placing → Item → Position → Position
-without_box by x p = if is_nonspacing_mark x then zeroed by.adjust_offsets p else p
+without_box by x p = if is_nonspacing_mark x then zeroed_position by.adjust_offsets p else p
 
 -- the step at a mark; one without a base is unchanged
 abbrev pub step_of_mark : FaceParts → Placing → Item → Position → Before → Step
@@ -67,10 +67,10 @@ step font by x p before =
     else record { position = p; before = after_base font by.direction x p (value_of x.number font.extents) }
 
 -- the positions of items, with marks positioned around their bases
-abbrev pub placed_marks : FaceParts → Placing → Before → List Item → List Position → List Position
-placed_marks font by before [] ps = []
-placed_marks font by before (x ∷ xs) [] = []
-placed_marks font by before (x ∷ xs) (p ∷ ps) = (step font by x p before).position ∷ placed_marks font by (step font by x p before).before xs ps
+abbrev pub positioned_marks : FaceParts → Placing → Before → List Item → List Position → List Position
+positioned_marks font by before [] ps = []
+positioned_marks font by before (x ∷ xs) [] = []
+positioned_marks font by before (x ∷ xs) (p ∷ ps) = (step font by x p before).position ∷ positioned_marks font by (step font by x p before).before xs ps
 
 -- ---- the stage
 
@@ -89,9 +89,9 @@ is_left_to_right LeftToRight = true
 is_left_to_right _ = false
 
 -- the view with marks positioned around their bases (HarfBuzz: _hb_ot_shape_fallback_mark_position)
-abbrev pub with_placed_marks : FaceParts → Direction → Bool → View → Read
-with_placed_marks font components adjust v = with_events (base_events 0 v.items) (record v {
-  positions = placed_marks font (record { direction = v.direction; left_to_right = is_left_to_right components; adjust_offsets = adjust }) Nothing v.items v.positions;
+abbrev pub with_positioned_marks : FaceParts → Direction → Bool → View → Read
+with_positioned_marks font components adjust v = with_events (base_events 0 v.items) (record v {
+  positions = positioned_marks font (record { direction = v.direction; left_to_right = is_left_to_right components; adjust_offsets = adjust }) Nothing v.items v.positions;
 })
 
 -- a base has at most as many components as a ligature word can count

@@ -11,15 +11,15 @@ use Rattle.layout_face.specs.Glyphs.{nominal_glyph, width_of, height_of}
 use Rattle.buffer_glyphs.specs.Items.{Item, Position}
 use Rattle.buffer_core.specs.Readings.{View, Read}
 use Rattle.buffer_properties.specs.Characters.{is_space}
-use Rattle.buffer_stages.specs.Places.{placed}
+use Rattle.buffer_stages.specs.PositionMaps.{with_positions_mapped}
 
 -- a position with another advance along the line, negative in a vertical text
-abbrev pub advanced : Direction → ℤ → Position → Position
-advanced d a p = if is_horizontal d then record p { x_advance = a } else record p { y_advance = a }
+abbrev pub position_with_advance : Direction → ℤ → Position → Position
+position_with_advance d a p = if is_horizontal d then record p { x_advance = a } else record p { y_advance = a }
 
 -- a position whose advance is a length
 abbrev pub of_length : Direction → ℕ → Position → Position
-of_length d n p = advanced d (if is_horizontal d then pos n else neg_ℤ (pos n)) p
+of_length d n p = position_with_advance d (if is_horizontal d then pos n else neg_ℤ (pos n)) p
 
 -- a position whose advance is a glyph's
 abbrev pub of_glyph : Direction → FaceParts → ℕ → Position → Position
@@ -49,12 +49,12 @@ is_part_of_em type = list_any (λ t. type == t) (SPACE_EM ∷ SPACE_EM_2 ∷ SPA
 
 -- a position with half the advance, rounded toward 0
 abbrev pub half : Direction → Position → Position
-half d p = advanced d (int_div (if is_horizontal d then p.x_advance else p.y_advance) (pos 2)) p
+half d p = position_with_advance d (int_div (if is_horizontal d then p.x_advance else p.y_advance) (pos 2)) p
 
 -- the position of a space of a type: a fraction of an em, rounded; four eighteenths of an em; a digit's or a full
 -- stop's advance; half its own advance; others are unchanged
-abbrev pub spaced : Direction → FaceParts → ℕ → Position → Position
-spaced d font type p =
+abbrev pub space_of_type : Direction → FaceParts → ℕ → Position → Position
+space_of_type d font type p =
     if is_part_of_em type then of_length d ((font.upem + type / 2) / type) p
     else if type == SPACE_4_EM_18 then of_length d (font.upem * 4 / 18) p
     else if type == SPACE_FIGURE then of_found d font (first_glyph digits font) p
@@ -68,8 +68,8 @@ is_own_space x = is_space x && bit_and x.glyph_props 32 == 0
 
 -- the position of an item, adjusted if it is a space
 abbrev pub space_position : Direction → FaceParts → Item → Position → Position
-space_position d font x p = if is_own_space x then spaced d font x.class p else p
+space_position d font x p = if is_own_space x then space_of_type d font x.class p else p
 
 -- the view with adjusted spaces (HarfBuzz: _hb_ot_shape_fallback_spaces)
 abbrev pub with_spaces : FaceParts → View → Read
-with_spaces font v = placed (space_position v.direction font) v
+with_spaces font v = with_positions_mapped (space_position v.direction font) v

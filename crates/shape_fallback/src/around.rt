@@ -3,7 +3,7 @@ ghost use Rattle.std.specs.Prelude.{◌≡◌, ◌≤◌};
 ghost use Rattle.buffer_glyphs.specs.Items.{item_of};
 ghost use Rattle.layout_common.specs.Rows.{value_of};
 ghost use Rattle.buffer_glyphs.specs.LigatureWords.{component_bound};
-ghost use Rattle.shape_fallback.specs.Around.{along, at_class, at_component, begun, gap, is_class, mark_around, passed, pen_back, set_around, stood, stood_back};
+ghost use Rattle.shape_fallback.specs.Around.{along, at_class, at_component, initial_around, gap, is_class, mark_around, base_step, pen_back, mark_at_base, mark_step, position_at_base};
 
 use crate::bases::{Base, component_box, component_of};
 use crate::boxes::{Marked, position_mark};
@@ -59,7 +59,7 @@ fn pen_back(direction: Direction, advance: i32) -> i32
 
 /// The state of a base without marks.
 pub(crate) fn begun(direction: Direction, position: GlyphPosition, base: Base) -> Around
-    ensures { result ≡ begun direction position base }
+    ensures { result ≡ initial_around direction position base }
 {
     Around {
         base,
@@ -121,7 +121,7 @@ fn gap(face: &Face) -> i32
 }
 
 fn stood_back(around: Around, position: GlyphPosition) -> GlyphPosition
-    ensures { result ≡ stood_back around position }
+    ensures { result ≡ position_at_base around position }
 {
     GlyphPosition {
         x_offset: plus(position.x_offset, around.x_offset),
@@ -131,7 +131,7 @@ fn stood_back(around: Around, position: GlyphPosition) -> GlyphPosition
 }
 
 fn set_around(around: Around, marked: Marked) -> Placed
-    ensures value { result ≡ set_around around marked }
+    ensures value { result ≡ mark_at_base around marked }
     ensures base { result.around.base ≡ around.base }
 {
     Placed {
@@ -159,7 +159,7 @@ fn stood(
     around: Around,
 ) -> Placed
     requires { glyph.now.glyph_id ≤ 65535 }
-    ensures value { result ≡ stood face.now direction (item_of glyph.now) position around }
+    ensures value { result ≡ mark_step face.now direction (item_of glyph.now) position around }
     ensures base { result.around.base ≡ around.base }
 {
     let marked = position_mark(
@@ -184,7 +184,7 @@ fn along(direction: Direction, offset: i32, advance: i32) -> i32
 }
 
 fn passed(direction: Direction, position: GlyphPosition, around: Around) -> Placed
-    ensures value { result ≡ passed direction position around }
+    ensures value { result ≡ base_step direction position around }
     ensures base { result.around.base ≡ around.base }
 {
     Placed {

@@ -2,7 +2,7 @@
 ghost use Rattle.std.specs.Prelude.{◌≡◌, ◌<◌, ◌≤◌, pos};
 ghost use Rattle.std.specs.Int.RustNames.{int_div};
 ghost use Rattle.buffer_glyphs.specs.Items.{item_of};
-ghost use Rattle.shape_fallback.specs.Bases.{base_box, base_of, component_box, component_of, place_of_component, times};
+ghost use Rattle.shape_fallback.specs.Bases.{base_box, base_of, component_box, component_of, component_index, times};
 ghost use Rattle.buffer_glyphs.specs.LigatureWords.{component_bound};
 
 use buffer_glyphs::info::hb_glyph_info_t;
@@ -65,7 +65,7 @@ pub(crate) fn component_of(base: &Base, glyph: &hb_glyph_info_t) -> u32
 fn place_of_component(left_to_right: bool, base: &Base, component: u32) -> i32
     requires base { base.now.components ≤ component_bound }
     requires component { component ≤ component_bound }
-    ensures { result ≡ place_of_component left_to_right base.now component }
+    ensures { result ≡ component_index left_to_right base.now component }
 {
     if left_to_right {
         component as i32 - 1

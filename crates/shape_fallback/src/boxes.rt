@@ -1,7 +1,7 @@
 //! The position of a mark at its base's box, by its combining class, position_mark (rustybuzz:
 //! hb/ot_shape_fallback.rs).
 ghost use Rattle.std.specs.Prelude.{◌≡◌};
-ghost use Rattle.shape_fallback.specs.Boxes.{above, below, double_x, half_up, held_above, held_below, is_above, is_at_left, is_at_right, is_attached, is_below, is_double, is_same_side, left_x, lower, mark_x, marked, middle_x, next_at, raised, right_x, stacked, stacked_by, with_above, with_below};
+ghost use Rattle.shape_fallback.specs.Boxes.{above, below, double_x, half_up, stacked_above, stacked_below, is_above, is_at_left, is_at_right, is_attached, is_below, is_double, is_same_side, left_x, lower, mark_x, mark_at_box, middle_x, next_at, raised_box, right_x, stacked_mark, stacked_mark_by, with_above, with_below};
 
 use buffer_common::direction::Direction;
 use buffer_glyphs::names::hb_glyph_extents_t;
@@ -32,7 +32,7 @@ pub fn position_mark(
     base: hb_glyph_extents_t,
     position: GlyphPosition,
 ) -> Marked
-    ensures { result ≡ marked gap direction class mark base position }
+    ensures { result ≡ mark_at_box gap direction class mark base position }
 {
     match mark {
         Some(mark) => {
@@ -158,7 +158,7 @@ fn lower(by: i32, extents: hb_glyph_extents_t) -> hb_glyph_extents_t
 }
 
 fn raised(by: i32, extents: hb_glyph_extents_t) -> hb_glyph_extents_t
-    ensures { result ≡ raised by extents }
+    ensures { result ≡ raised_box by extents }
 {
     hb_glyph_extents_t {
         y_bearing: plus(extents.y_bearing, by),
@@ -193,7 +193,7 @@ fn is_same_side(a: i32, b: i32) -> bool
 }
 
 fn held_below(gap: i32, mark: hb_glyph_extents_t, y: i32, extents: hb_glyph_extents_t) -> Stacked
-    ensures { result ≡ held_below gap mark y extents }
+    ensures { result ≡ stacked_below gap mark y extents }
 {
     if is_same_side(gap, y) {
         Stacked {
@@ -223,7 +223,7 @@ fn half_up(y: i32) -> i32
 }
 
 fn held_above(gap: i32, mark: hb_glyph_extents_t, y: i32, extents: hb_glyph_extents_t) -> Stacked
-    ensures { result ≡ held_above gap mark y extents }
+    ensures { result ≡ stacked_above gap mark y extents }
 {
     if is_same_side(gap, y) {
         Stacked {
@@ -255,7 +255,7 @@ fn stack_by(
     base: hb_glyph_extents_t,
     mark: hb_glyph_extents_t,
 ) -> Stacked
-    ensures { result ≡ stacked_by stands_below stands_above attached gap base mark }
+    ensures { result ≡ stacked_mark_by stands_below stands_above attached gap base mark }
 {
     if stands_below {
         below(gap, attached, base, mark)
@@ -270,7 +270,7 @@ fn stack_by(
 }
 
 fn stack_mark(gap: i32, class: u8, base: hb_glyph_extents_t, mark: hb_glyph_extents_t) -> Stacked
-    ensures { result ≡ stacked gap class base mark }
+    ensures { result ≡ stacked_mark gap class base mark }
 {
     stack_by(
         is_below(class),

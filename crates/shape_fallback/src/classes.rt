@@ -6,7 +6,7 @@ ghost use Rattle.buffer_glyphs.specs.Origins.{origin_of};
 ghost use Rattle.buffer_core.specs.Readings.{always};
 ghost use Rattle.buffer_stages.specs.Ready.{IsReady};
 ghost use Rattle.buffer_stages.specs.Stages.{IsFollowed};
-ghost use Rattle.shape_fallback.specs.Classes.{fallback_class, is_lao_above, is_thai_above, place_of_class, place_of_mark, place_of_unclassed, recategorized, with_places};
+ghost use Rattle.shape_fallback.specs.Classes.{fallback_class, is_lao_above, is_thai_above, class_of_class, class_of_mark, class_of_unclassed, item_with_fallback_class, with_fallback_classes};
 
 use buffer_common::constants::{
     CCC10, CCC11, CCC12, CCC13, CCC14, CCC15, CCC16, CCC17, CCC18, CCC19, CCC20, CCC22, CCC23,
@@ -34,13 +34,13 @@ const ABOVE_RIGHT: u8 = 232;
 /// positioning. The glyph records hold characters. It takes linear time and no memory.
 pub fn _hb_ot_shape_fallback_mark_position_recategorize_marks(buffer: &mut hb_buffer_t)
     requires { IsReady buffer.old }
-    ensures { IsFollowed (always with_places) buffer.old buffer.new }
+    ensures { IsFollowed (always with_fallback_classes) buffer.old buffer.new }
 {
     map_glyphs(buffer, |glyph| recategorized(glyph));
 }
 
 fn recategorized(glyph: &hb_glyph_info_t) -> hb_glyph_info_t
-    ensures item { item_of result ≡ recategorized (item_of glyph.now) }
+    ensures item { item_of result ≡ item_with_fallback_class (item_of glyph.now) }
     ensures origin { origin_of result ≡ origin_of glyph.now }
 {
     if is_nonspacing_mark(glyph) {
@@ -68,7 +68,7 @@ fn recategorize_combining_class(u: u32, class: u8) -> u8
 }
 
 fn place_of_mark(u: u32, class: u8) -> u8
-    ensures { result ≡ place_of_mark u class }
+    ensures { result ≡ class_of_mark u class }
 {
     if class == 0 {
         place_of_unclassed(u)
@@ -80,7 +80,7 @@ fn place_of_mark(u: u32, class: u8) -> u8
 }
 
 fn place_of_unclassed(u: u32) -> u8
-    ensures { result ≡ place_of_unclassed u }
+    ensures { result ≡ class_of_unclassed u }
 {
     if is_thai_above(u) {
         ABOVE_RIGHT
@@ -106,7 +106,7 @@ fn is_lao_above(u: u32) -> bool
 }
 
 fn place_of_class(class: u8) -> u8
-    ensures { result ≡ place_of_class class }
+    ensures { result ≡ class_of_class class }
 {
     match class {
         CCC10

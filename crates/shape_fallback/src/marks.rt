@@ -7,7 +7,7 @@ ghost use Rattle.buffer_core.specs.Sides.{all_glyphs, items_of};
 ghost use Rattle.buffer_stages.specs.Buffers.{are_glyphs};
 ghost use Rattle.buffer_stages.specs.Ready.{IsDone, IsReady};
 ghost use Rattle.buffer_stages.specs.Stages.{Becomes, Happens};
-ghost use Rattle.shape_fallback.specs.Marks.{HasBound, base_events, after_base, components_direction, first_event, is_left_to_right, marks, placed_marks, script_direction, step, step_of_mark, with_placed_marks, without_box};
+ghost use Rattle.shape_fallback.specs.Marks.{HasBound, base_events, after_base, components_direction, first_event, is_left_to_right, marks, positioned_marks, script_direction, step, step_of_mark, with_positioned_marks, without_box};
 ghost use Rattle.layout_common.specs.Rows.{value_of};
 ghost use Rattle.shape_fallback.specs.declared.marks.Before.TheVariants.{Nothing};
 
@@ -69,7 +69,7 @@ pub fn position_marks(
 )
     requires ready { IsReady buffer.old }
     requires numbers { are_glyphs (items_of buffer.old) ≡ true }
-    ensures { IsDone (always (with_placed_marks face.now components adjust_offsets)) buffer.old buffer.new }
+    ensures { IsDone (always (with_positioned_marks face.now components adjust_offsets)) buffer.old buffer.new }
 {
     mark_bases(buffer);
     let by = Placing {
@@ -221,7 +221,7 @@ fn make_step(
 fn place_marks(face: &Face, by: Placing, buffer: &mut hb_buffer_t)
     requires ready { IsReady buffer.old }
     requires numbers { are_glyphs (items_of buffer.old) ≡ true }
-    ensures { Becomes (items_of buffer.old) (placed_marks face.now by Nothing (items_of buffer.old)
+    ensures { Becomes (items_of buffer.old) (positioned_marks face.now by Nothing (items_of buffer.old)
         buffer.old.positions)
         buffer.old buffer.new }
 {

@@ -3,7 +3,7 @@ ghost use Rattle.std.specs.Prelude.{◌≡◌, ◌<◌, ◌+◌, ◌*◌, ◌/�
 ghost use Rattle.buffer_glyphs.specs.Items.{item_of};
 ghost use Rattle.buffer_core.specs.Readings.{always};
 ghost use Rattle.buffer_stages.specs.Ready.{IsDone, IsReady};
-ghost use Rattle.shape_fallback.specs.Spaces.{advanced, digits, first_glyph, half, is_own_space, is_part_of_em, of_found, of_glyph, of_length, space_position, spaced, stops, with_spaces};
+ghost use Rattle.shape_fallback.specs.Spaces.{position_with_advance, digits, first_glyph, half, is_own_space, is_part_of_em, of_found, of_glyph, of_length, space_position, space_of_type, stops, with_spaces};
 
 use buffer_common::direction::Direction;
 use buffer_core::buffer::hb_buffer_t;
@@ -58,7 +58,7 @@ fn spaced(
     space: space_t,
     position: GlyphPosition,
 ) -> GlyphPosition
-    ensures { result ≡ spaced direction face.now space position }
+    ensures { result ≡ space_of_type direction face.now space position }
 {
     if is_part_of_em(space) {
         return of_length(direction, part_of_em(face, space), position);
@@ -166,7 +166,7 @@ fn half(direction: Direction, position: GlyphPosition) -> GlyphPosition
 }
 
 fn advanced(direction: Direction, advance: i32, position: GlyphPosition) -> GlyphPosition
-    ensures { result ≡ advanced direction advance position }
+    ensures { result ≡ position_with_advance direction advance position }
 {
     if direction.is_horizontal() {
         GlyphPosition {

@@ -8,7 +8,7 @@ use Rattle.layout_face.specs.Glyphs.{width_of, height_of, origin_of}
 use Rattle.buffer_glyphs.specs.Items.{Item, Position}
 use Rattle.buffer_core.specs.Readings.{View, Read}
 use Rattle.layout_offsets.specs.Sums.{minus}
-use Rattle.buffer_stages.specs.Places.{placed}
+use Rattle.buffer_stages.specs.PositionMaps.{with_positions_mapped}
 
 -- the position of a glyph in a horizontal text: the font's horizontal advance
 abbrev pub on_horizontal_line : FaceParts → ℕ → Position → Position
@@ -28,4 +28,4 @@ default_position d font x p = if nat_le x.number 65535 then on_line d font x.num
 
 -- the view with the font's advances (HarfBuzz: hb_ot_position_default)
 abbrev pub with_default_positions : FaceParts → View → Read
-with_default_positions font v = placed (default_position v.direction font) v
+with_default_positions font v = with_positions_mapped (default_position v.direction font) v

@@ -1,6 +1,6 @@
--- Default ignorable characters, which have no visible glyph.
-use Rattle.std.specs.Prelude.{ℕ, ◌==◌, Bool, true, nat_le, if◌then◌else◌, [], Option, Some, None}
-use Rattle.std.specs.Option.{option_map_or, option_or}
+-- Default ignorable characters, which show no glyph.
+use Rattle.std.specs.Prelude.{ℕ, ◌==◌, Bool, if◌then◌else◌, [], Option, Some, None}
+use Rattle.std.specs.Option.{option_or}
 use Rattle.std.specs.Int.RustNames.{bit_and}
 use Rattle.buffer_common.specs.declared.constants.BufferFlags.{BufferFlags}
 use Rattle.layout_face.specs.declared.parts.FaceParts.{FaceParts}
@@ -10,7 +10,7 @@ use Rattle.buffer_core.specs.Readings.{View, Read, with_events}
 use Rattle.buffer_groups.specs.Events.{deletions}
 use Rattle.buffer_groups.specs.Facts.{items_kept, positions_kept}
 use Rattle.buffer_core.specs.Graphemes.{is_default_ignorable}
-use Rattle.buffer_stages.specs.Stages.{mapped}
+use Rattle.buffer_stages.specs.Stages.{with_items_mapped}
 
 -- PRESERVE_DEFAULT_IGNORABLES is set
 abbrev pub preserves_ignorables : BufferFlags → Bool
@@ -25,11 +25,6 @@ removes_ignorables flags = bit_and flags.0 8 == 8
 abbrev pub invisible_glyph : BufferFlags → Option ℕ → FaceParts → Option ℕ
 invisible_glyph flags set font = if removes_ignorables flags then None else option_or set (nominal_glyph 0x20 font)
 
--- a glyph that is set is at most 65,535
-abbrev pub is_glyph_if_set : Option ℕ → Bool
-is_glyph_if_set set = option_map_or (λ n. nat_le n 65535) set true
-
--- an item with the invisible glyph, if it is a default ignorable
 abbrev pub hidden_item : ℕ → Item → Item
 hidden_item glyph x = if is_default_ignorable x then record x { number = glyph } else x
 
@@ -38,10 +33,10 @@ abbrev pub without_ignorables : View → Read
 without_ignorables v = with_events (deletions is_default_ignorable v.items) (record v { items = items_kept is_default_ignorable v.items; positions = positions_kept is_default_ignorable v.items v.positions })
 
 -- the view where default ignorables have the invisible glyph, or are deleted where there is none
-abbrev pub hidden_by : Option ℕ → View → Read
-hidden_by (Some glyph) v = mapped (hidden_item glyph) v
-hidden_by None v = without_ignorables v
+abbrev pub ignorables_hidden_by : Option ℕ → View → Read
+ignorables_hidden_by (Some glyph) v = with_items_mapped (hidden_item glyph) v
+ignorables_hidden_by None v = without_ignorables v
 
 -- the view where default ignorables are hidden (HarfBuzz: hb_ot_hide_default_ignorables)
-abbrev pub hidden : BufferFlags → Option ℕ → FaceParts → View → Read
-hidden flags set font v = if preserves_ignorables flags then with_events [] v else hidden_by (invisible_glyph flags set font) v
+abbrev pub ignorables_hidden : BufferFlags → Option ℕ → FaceParts → View → Read
+ignorables_hidden flags set font v = if preserves_ignorables flags then with_events [] v else ignorables_hidden_by (invisible_glyph flags set font) v

@@ -4,7 +4,7 @@ use Rattle.buffer_common.specs.declared.constants.BufferFlags.{BufferFlags}
 use Rattle.buffer_glyphs.specs.Items.{Item, Position}
 use Rattle.buffer_core.specs.Readings.{View, Read, with_events}
 use Rattle.buffer_core.specs.Graphemes.{is_default_ignorable}
-use Rattle.buffer_stages.specs.Places.{placed}
+use Rattle.buffer_stages.specs.PositionMaps.{with_positions_mapped}
 use Rattle.shape_glyphs.specs.Ignorables.{preserves_ignorables, removes_ignorables}
 
 -- a position with zero advances and offsets and its own link
@@ -21,4 +21,4 @@ keeps_widths flags = preserves_ignorables flags || removes_ignorables flags
 
 -- the view with the positions of default ignorables zeroed (HarfBuzz: hb_ot_zero_width_default_ignorables)
 abbrev pub zero_widths : BufferFlags → View → Read
-zero_widths flags v = if keeps_widths flags then with_events [] v else placed ignorable_position v
+zero_widths flags v = if keeps_widths flags then with_events [] v else with_positions_mapped ignorable_position v

@@ -2,7 +2,7 @@
 ghost use Rattle.std.specs.Prelude.{◌≡◌};
 ghost use Rattle.buffer_core.specs.Readings.{always};
 ghost use Rattle.buffer_stages.specs.Ready.{IsDone, IsReady};
-ghost use Rattle.shape_glyphs.specs.Classes.{begun, first_props, with_font_classes};
+ghost use Rattle.shape_glyphs.specs.Classes.{item_with_class, first_props, with_font_classes};
 
 use buffer_core::buffer::hb_buffer_t;
 use buffer_glyphs::flags::GlyphPropsFlags;

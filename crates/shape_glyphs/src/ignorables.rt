@@ -1,14 +1,11 @@
-//! Hides or deletes default ignorables, hide_default_ignorables (rustybuzz: hb/ot_shape.rs).
-ghost use Rattle.std.specs.Prelude.{◌≡◌, nat_le, true};
-ghost use Rattle.layout_face.specs.Glyphs.{nominal_glyph};
-ghost use Rattle.buffer_core.specs.Sides.{items_of};
-ghost use Rattle.buffer_stages.specs.Buffers.{are_glyphs};
+//! Default ignorable characters, which show no glyph.
+ghost use Rattle.std.specs.Prelude.{◌≡◌};
 ghost use Rattle.buffer_glyphs.specs.Items.{item_of};
 ghost use Rattle.buffer_glyphs.specs.Origins.{origin_of};
 ghost use Rattle.buffer_core.specs.Readings.{always};
-ghost use Rattle.buffer_stages.specs.Ready.{IsReady};
-ghost use Rattle.buffer_stages.specs.Stages.{IsFollowed, mapped};
-ghost use Rattle.shape_glyphs.specs.Ignorables.{hidden, hidden_item, invisible_glyph, is_glyph_if_set, preserves_ignorables, without_ignorables};
+ghost use Rattle.buffer_stages.specs.Ready.{IsDone, IsReady};
+ghost use Rattle.buffer_stages.specs.Stages.{with_items_mapped};
+ghost use Rattle.shape_glyphs.specs.Ignorables.{ignorables_hidden, hidden_item, invisible_glyph, preserves_ignorables, without_ignorables};
 
 use crate::glyphs::is_default_ignorable;
 use bitflags::Flags;
@@ -23,9 +20,7 @@ use layout_face::Face;
 /// its cluster is merged with a neighbour's. It takes linear time and no memory.
 pub fn hide_default_ignorables(face: &Face, buffer: &mut hb_buffer_t)
     requires { IsReady buffer.old }
-    ensures stage { IsFollowed (always (hidden buffer.old.flags buffer.old.invisible face.now)) buffer.old buffer.new }
-    ensures numbers { is_glyph_if_set buffer.old.invisible ≡ true
-        → are_glyphs (items_of buffer.old) ≡ true → are_glyphs (items_of buffer.new) ≡ true }
+    ensures { IsDone (always (ignorables_hidden buffer.old.flags buffer.old.invisible face.now)) buffer.old buffer.new }
 {
     if preserves_ignorables(buffer.flags()) {
         return;
@@ -42,9 +37,8 @@ fn preserves_ignorables(flags: BufferFlags) -> bool
     flags.contains(BufferFlags::PRESERVE_DEFAULT_IGNORABLES)
 }
 
-fn invisible_glyph(face: &Face, buffer: &hb_buffer_t) -> Option<u32>
-    ensures value { result ≡ invisible_glyph buffer.now.flags buffer.now.invisible face.now }
-    ensures number { is_glyph_if_set buffer.now.invisible ≡ true → is_glyph_if_set result ≡ true }
+fn invisible_glyph(face: &Face, buffer: &hb_buffer_t) -> Option<u16>
+    ensures { result ≡ invisible_glyph buffer.now.flags buffer.now.invisible face.now }
 {
     if buffer
         .flags()
@@ -53,37 +47,25 @@ fn invisible_glyph(face: &Face, buffer: &hb_buffer_t) -> Option<u32>
         return None;
     }
     match buffer.invisible() {
-        Some(glyph) => Some(glyph),
-        None => space_glyph(face),
+        Some(glyph) => Some(glyph.0),
+        None => face.get_nominal_glyph(' '),
     }
 }
 
-fn space_glyph(face: &Face) -> Option<u32>
-    ensures value { result ≡ nominal_glyph 0x20 face.now }
-    ensures number { is_glyph_if_set result ≡ true }
-{
-    match face.get_nominal_glyph(' ') {
-        Some(glyph) => Some(u32::from(glyph)),
-        None => None,
-    }
-}
-
-fn hide_by(invisible: u32, buffer: &mut hb_buffer_t)
+fn hide_by(invisible: u16, buffer: &mut hb_buffer_t)
     requires { IsReady buffer.old }
-    ensures stage { IsFollowed (always (mapped (hidden_item invisible))) buffer.old buffer.new }
-    ensures numbers { nat_le invisible 65535 ≡ true
-        → are_glyphs (items_of buffer.old) ≡ true → are_glyphs (items_of buffer.new) ≡ true }
+    ensures { IsDone (always (with_items_mapped (hidden_item invisible))) buffer.old buffer.new }
 {
     map_glyphs(buffer, |glyph| hidden(invisible, glyph));
 }
 
-fn hidden(invisible: u32, glyph: &hb_glyph_info_t) -> hb_glyph_info_t
+fn hidden(invisible: u16, glyph: &hb_glyph_info_t) -> hb_glyph_info_t
     ensures item { item_of result ≡ hidden_item invisible (item_of glyph.now) }
     ensures origin { origin_of result ≡ origin_of glyph.now }
 {
     if is_default_ignorable(glyph) {
         hb_glyph_info_t {
-            glyph_id: invisible,
+            glyph_id: u32::from(invisible),
             ..*glyph
         }
     } else {
@@ -93,8 +75,7 @@ fn hidden(invisible: u32, glyph: &hb_glyph_info_t) -> hb_glyph_info_t
 
 fn delete_ignorables(buffer: &mut hb_buffer_t)
     requires { IsReady buffer.old }
-    ensures stage { IsFollowed (always without_ignorables) buffer.old buffer.new }
-    ensures numbers { are_glyphs (items_of buffer.old) ≡ true → are_glyphs (items_of buffer.new) ≡ true }
+    ensures { IsDone (always without_ignorables) buffer.old buffer.new }
 {
     buffer.delete_glyphs_inplace(|glyph| is_default_ignorable(glyph));
 }

@@ -3,10 +3,10 @@ ghost use Rattle.std.specs.Prelude.{◌≡◌};
 ghost use Rattle.buffer_glyphs.specs.Items.{item_of};
 ghost use Rattle.buffer_glyphs.specs.Origins.{origin_of};
 ghost use Rattle.buffer_core.specs.Readings.{always};
-ghost use Rattle.buffer_stages.specs.Ready.{IsReady};
-ghost use Rattle.buffer_stages.specs.Places.{placed};
-ghost use Rattle.buffer_stages.specs.Stages.{IsFollowed, mapped};
-ghost use Rattle.shape_glyphs.specs.Selectors.{is_marked_selector, selector_position, shown_selector, with_selectors, with_selectors_shown};
+ghost use Rattle.buffer_stages.specs.Ready.{IsDone, IsReady};
+ghost use Rattle.buffer_stages.specs.PositionMaps.{with_positions_mapped};
+ghost use Rattle.buffer_stages.specs.Stages.{with_items_mapped};
+ghost use Rattle.shape_glyphs.specs.Selectors.{is_recorded_selector, selector_position, shown_selector, with_selectors, with_selectors_shown};
 
 use crate::widths::widthless;
 use buffer_core::buffer::hb_buffer_t;
@@ -21,18 +21,18 @@ use buffer_unicode::category::RB_UNICODE_GENERAL_CATEGORY_NON_SPACING_MARK;
 /// with zero advances; where none is set, they are unchanged. It takes linear time and no memory.
 pub fn deal_with_variation_selectors(buffer: &mut hb_buffer_t)
     requires { IsReady buffer.old }
-    ensures { IsFollowed (always (with_selectors buffer.old.not_found_variation_selector)) buffer.old buffer.new }
+    ensures { IsDone (always (with_selectors buffer.old.not_found_variation_selector)) buffer.old buffer.new }
 {
     match buffer.not_found_variation_selector() {
-        Some(glyph) => show_selectors(glyph, buffer),
+        Some(glyph) => show_selectors(glyph.0, buffer),
         None => {}
     }
 }
 
-#[tactic(auto, using(crate::proofs::Selected::both_followed))]
-fn show_selectors(glyph: u32, buffer: &mut hb_buffer_t)
+#[tactic(auto, using(crate::proofs::Selected::both_done))]
+fn show_selectors(glyph: u16, buffer: &mut hb_buffer_t)
     requires { IsReady buffer.old }
-    ensures { IsFollowed (always (with_selectors_shown glyph)) buffer.old buffer.new }
+    ensures { IsDone (always (with_selectors_shown glyph)) buffer.old buffer.new }
 {
     zero_selectors(buffer);
     put_selectors(glyph, buffer);
@@ -40,20 +40,20 @@ fn show_selectors(glyph: u32, buffer: &mut hb_buffer_t)
 
 fn zero_selectors(buffer: &mut hb_buffer_t)
     requires { IsReady buffer.old }
-    ensures { IsFollowed (always (placed selector_position)) buffer.old buffer.new }
+    ensures { IsDone (always (with_positions_mapped selector_position)) buffer.old buffer.new }
 {
     map_positions(buffer, |glyph, position| selector_position(glyph, position));
 }
 
-fn put_selectors(glyph: u32, buffer: &mut hb_buffer_t)
+fn put_selectors(glyph: u16, buffer: &mut hb_buffer_t)
     requires { IsReady buffer.old }
-    ensures { IsFollowed (always (mapped (shown_selector glyph))) buffer.old buffer.new }
+    ensures { IsDone (always (with_items_mapped (shown_selector glyph))) buffer.old buffer.new }
 {
     map_glyphs(buffer, |info| shown_selector(glyph, info));
 }
 
 fn is_marked_selector(info: &hb_glyph_info_t) -> bool
-    ensures { result ≡ is_marked_selector (item_of info.now) }
+    ensures { result ≡ is_recorded_selector (item_of info.now) }
 {
     info.unicode_props.0 & UnicodeProps::CF_VS.0 != 0
 }
@@ -68,7 +68,7 @@ fn selector_position(info: &hb_glyph_info_t, position: GlyphPosition) -> GlyphPo
     }
 }
 
-fn shown_selector(glyph: u32, info: &hb_glyph_info_t) -> hb_glyph_info_t
+fn shown_selector(glyph: u16, info: &hb_glyph_info_t) -> hb_glyph_info_t
     ensures item { item_of result ≡ shown_selector glyph (item_of info.now) }
     ensures origin { origin_of result ≡ origin_of info.now }
 {
@@ -79,7 +79,7 @@ fn shown_selector(glyph: u32, info: &hb_glyph_info_t) -> hb_glyph_info_t
     let kept = word - (word & UnicodeProps::GENERAL_CATEGORY.0);
     let mark = kept + RB_UNICODE_GENERAL_CATEGORY_NON_SPACING_MARK as u16;
     hb_glyph_info_t {
-        glyph_id: glyph,
+        glyph_id: u32::from(glyph),
         unicode_props: UnicodeProps(mark - (mark & UnicodeProps::CF_VS.0)),
         ..*info
     }

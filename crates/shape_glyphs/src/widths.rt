@@ -3,7 +3,7 @@ ghost use Rattle.std.specs.Prelude.{◌≡◌};
 ghost use Rattle.buffer_glyphs.specs.Items.{item_of};
 ghost use Rattle.buffer_core.specs.Readings.{always};
 ghost use Rattle.buffer_stages.specs.Ready.{IsReady};
-ghost use Rattle.buffer_stages.specs.Places.{placed};
+ghost use Rattle.buffer_stages.specs.PositionMaps.{with_positions_mapped};
 ghost use Rattle.buffer_stages.specs.Stages.{IsFollowed};
 ghost use Rattle.shape_glyphs.specs.Widths.{ignorable_position, keeps_widths, widthless, zero_widths};
 
@@ -36,7 +36,7 @@ fn keeps_widths(flags: BufferFlags) -> bool
 
 fn zero_widths(buffer: &mut hb_buffer_t)
     requires { IsReady buffer.old }
-    ensures { IsFollowed (always (placed ignorable_position)) buffer.old buffer.new }
+    ensures { IsFollowed (always (with_positions_mapped ignorable_position)) buffer.old buffer.new }
 {
     map_positions(
         buffer,

@@ -6,7 +6,7 @@ use Rattle.buffer_glyphs.specs.Items.{Item, glyph_masked, item_masked, item_of}
 use Rattle.buffer_glyphs.specs.Events.{Reset}
 use Rattle.buffer_core.specs.Readings.{View, always}
 use Rattle.buffer_core.specs.Masks.{with_masks}
-use Rattle.buffer_core.specs.Sides.{Sides, all_glyphs, items_of, origins_by, origins_of, settings_of, told_of, view_of}
+use Rattle.buffer_core.specs.Sides.{Sides, all_glyphs, items_of, origins_by, origins_of, settings_of, stage_flags, view_of}
 use Rattle.buffer_stages.specs.Buffers.{are_glyphs}
 use Rattle.buffer_stages.specs.Ready.{IsDone, IsReady}
 use Rattle.buffer_stages.specs.Lemmas.Written.{happened_followed}
@@ -17,7 +17,7 @@ kept_numbers m [] = refl
 kept_numbers m (x ∷ xs) = rw (kept_numbers m xs) refl
 
 abbrev seen_with : List Item → Sides → View
-seen_with xs n = record { items = xs; positions = n.positions; lig_id = n.lig_id; max_ops = n.max_ops; random = 1; max_len = n.max_len; direction = n.direction; told = told_of n.scratch_flags }
+seen_with xs n = record { items = xs; positions = n.positions; lig_id = n.lig_id; max_ops = n.max_ops; random = 1; max_len = n.max_len; direction = n.direction; scratch_flags = stage_flags n.scratch_flags }
 
 pub reset_done : (m : ℕ) (s new : Sides) → new ≡ with_masks m s → items_of new ≡ map (item_masked m) (items_of s) → origins_of new ≡ origins_by (Reset ∷ []) s → IsReady s → IsDone (always (with_one_mask m)) s new
 reset_done m s new e items from ready =

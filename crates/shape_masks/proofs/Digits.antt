@@ -3,7 +3,7 @@ use Rattle.std.proofs.Common.{ℕ, ◌≡◌, ◌≤◌, ◌<◌, ◌+◌, ◌-�
 use Rattle.std.proofs.lemmas.List.{drop_all, drop_more, length-map, reverse-append}
 use Rattle.buffer_glyphs.specs.declared.info.hb_glyph_info_t.{hb_glyph_info_t}
 use Rattle.buffer_glyphs.specs.Items.{Item, item_of, strip}
-use Rattle.buffer_glyphs.specs.Lists.{seen_at, take_next, take_one}
+use Rattle.buffer_glyphs.specs.Lists.{get_or_mapped, take_next, take_one}
 use Rattle.buffer_properties.specs.Categories.{is_decimal_number}
 use Rattle.shape_masks.specs.Fractions.{digits, digits_before, digits_after}
 
@@ -41,7 +41,7 @@ back_goes_on gs at start d le lt is b =
     let g : hb_glyph_info_t = get_or gs k d in
     let there : k < length gs = omega (arith, lt, le) in
     let one : digits_before start (strip gs) ≡ digits_before k (strip gs) + 1 =
-    ap (λ n. digits_before n (strip gs)) (sym next) ∙ ap digits (last_before (strip gs) k (item_of d) (within gs k there) ∙ ap (λ x. x ∷ reverse (take k (strip gs))) (seen_at item_of gs k d))
+    ap (λ n. digits_before n (strip gs)) (sym next) ∙ ap digits (last_before (strip gs) k (item_of d) (within gs k there) ∙ ap (λ x. x ∷ reverse (take k (strip gs))) (get_or_mapped item_of gs k d))
     ∙ one_more (digits (reverse (take k (strip gs)))) (is_decimal_number (item_of g)) is in
     let before = b.count in
     let room = b.within in
@@ -61,7 +61,7 @@ back_stops gs at start d le lt is b =
     let g : hb_glyph_info_t = get_or gs k d in
     let there : k < length gs = omega (arith, lt, le) in
     let none : digits_before start (strip gs) ≡ 0 =
-    ap (λ n. digits_before n (strip gs)) (sym next) ∙ ap digits (last_before (strip gs) k (item_of d) (within gs k there) ∙ ap (λ x. x ∷ reverse (take k (strip gs))) (seen_at item_of gs k d))
+    ap (λ n. digits_before n (strip gs)) (sym next) ∙ ap digits (last_before (strip gs) k (item_of d) (within gs k there) ∙ ap (λ x. x ∷ reverse (take k (strip gs))) (get_or_mapped item_of gs k d))
     ∙ no_more (digits (reverse (take k (strip gs)))) (is_decimal_number (item_of g)) is in
     let before = b.count in
     omega (arith, before, none)
@@ -80,7 +80,7 @@ pub after_goes_on : (gs : List hb_glyph_info_t) (at end : ℕ) (d : hb_glyph_inf
     → After gs at end → After gs at (end + 1)
 after_goes_on gs at end d lt is a =
     let one : digits (drop end (strip gs)) ≡ digits (drop (end + 1) (strip gs)) + 1 =
-    ap digits (drop_more (strip gs) end (item_of d) (within gs end lt) ∙ ap (λ x. x ∷ drop (end + 1) (strip gs)) (seen_at item_of gs end d))
+    ap digits (drop_more (strip gs) end (item_of d) (within gs end lt) ∙ ap (λ x. x ∷ drop (end + 1) (strip gs)) (get_or_mapped item_of gs end d))
     ∙ one_more (digits (drop (end + 1) (strip gs))) (is_decimal_number (item_of (get_or gs end d))) is in
     let before = a.count in
     let start = a.from in
@@ -97,7 +97,7 @@ pub after_stops : (gs : List hb_glyph_info_t) (at end : ℕ) (d : hb_glyph_info_
     → After gs at end → end - (at + 1) ≡ digits_after at (strip gs)
 after_stops gs at end d lt is a =
     let none : digits (drop end (strip gs)) ≡ 0 =
-    ap digits (drop_more (strip gs) end (item_of d) (within gs end lt) ∙ ap (λ x. x ∷ drop (end + 1) (strip gs)) (seen_at item_of gs end d))
+    ap digits (drop_more (strip gs) end (item_of d) (within gs end lt) ∙ ap (λ x. x ∷ drop (end + 1) (strip gs)) (get_or_mapped item_of gs end d))
     ∙ no_more (digits (drop (end + 1) (strip gs))) (is_decimal_number (item_of (get_or gs end d))) is in
     let before = a.count in
     omega (arith, before, none)

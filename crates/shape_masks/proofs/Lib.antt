@@ -1,5 +1,5 @@
 pub mod Begun
 pub mod Ranged
 pub mod Digits
-pub mod Stretches
+pub mod RangeMasks
 pub mod Slashes

@@ -6,7 +6,7 @@ use Rattle.buffer_glyphs.specs.Items.{Item, clusters}
 use Rattle.buffer_glyphs.specs.Origins.{Origin, origin_of, origins}
 use Rattle.buffer_core.specs.Readings.{View, always, with_events}
 use Rattle.buffer_core.specs.Masks.{glyph_set, items_set, with_set_masks}
-use Rattle.buffer_core.specs.Sides.{Sides, all_glyphs, items_of, origins_of, settings_of, told_of, view_of}
+use Rattle.buffer_core.specs.Sides.{Sides, all_glyphs, items_of, origins_of, settings_of, stage_flags, view_of}
 use Rattle.buffer_stages.specs.Ready.{IsReady}
 use Rattle.buffer_stages.specs.Lemmas.Written.{becomes_followed}
 use Rattle.buffer_stages.specs.Stages.{Becomes, IsFollowed}
@@ -15,7 +15,7 @@ use Rattle.layout_map.specs.Compiled.{OtMapValue}
 use Rattle.shape_masks.specs.Ranges.{with_all_ranges, with_range, with_ranges}
 
 abbrev seen_with : List Item → Sides → View
-seen_with xs n = record { items = xs; positions = n.positions; lig_id = n.lig_id; max_ops = n.max_ops; random = 1; max_len = n.max_len; direction = n.direction; told = told_of n.scratch_flags }
+seen_with xs n = record { items = xs; positions = n.positions; lig_id = n.lig_id; max_ops = n.max_ops; random = 1; max_len = n.max_len; direction = n.direction; scratch_flags = stage_flags n.scratch_flags }
 
 -- the origins of glyphs determine their clusters
 clusters_told : (gs : List hb_glyph_info_t) → clusters gs ≡ map (λ (o : Origin). o.cluster) (origins gs)

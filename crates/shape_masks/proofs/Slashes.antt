@@ -13,19 +13,19 @@ use Rattle.buffer_glyphs.specs.declared.info.hb_glyph_info_t.{hb_glyph_info_t}
 use Rattle.buffer_glyphs.specs.Items.{Item, item_of, strip}
 use Rattle.buffer_glyphs.specs.Events.{Break, Concat, Event}
 use Rattle.buffer_glyphs.specs.Glyphs.{glyphs_flagged}
-use Rattle.buffer_core.specs.Readings.{Read, View, always, run_after, with_events}
+use Rattle.buffer_core.specs.Readings.{Read, View, always, state_after, with_events}
 use Rattle.buffer_core.specs.Steps.{follows_then}
-use Rattle.buffer_core.specs.Marking.{asks_concat, concat_marked, with_flagged}
+use Rattle.buffer_core.specs.Marking.{requests_concat, concat_marked, with_flagged}
 use Rattle.buffer_core.specs.Merging.{index_in_all}
-use Rattle.buffer_core.specs.Sides.{Sides, all_glyphs, items_of, origins_by, origins_of, run_of, settings_of, view_of}
+use Rattle.buffer_core.specs.Sides.{Sides, all_glyphs, items_of, origins_by, origins_of, state_of, settings_of, view_of}
 use Rattle.buffer_stages.specs.Ready.{IsReady}
 use Rattle.buffer_stages.proofs.Lemmas.Happened.{call_happens, nothing_happens}
 use Rattle.buffer_stages.specs.Lemmas.Written.{happened_followed, happens_followed}
 use Rattle.buffer_stages.specs.Stages.{Becomes, Happens, IsFollowed}
 use Rattle.shape_masks.specs.declared.fractions.FractionMasks.{FractionMasks}
-use Rattle.shape_masks.specs.Fractions.{around_slash, at_place, digits_before, digits_after, first_mask, fraction_items, fractions_to, is_slash, is_slash_at, last_mask, with_features_within, with_fractions}
-use Rattle.shape_masks.proofs.Stretches.{become_both, items_now}
-use Rattle.buffer_glyphs.specs.Lists.{seen_at}
+use Rattle.shape_masks.specs.Fractions.{around_slash, fraction_at, digits_before, digits_after, first_mask, fraction_items, fractions_to, is_slash, is_slash_at, last_mask, with_features_within, with_fractions}
+use Rattle.shape_masks.proofs.RangeMasks.{become_both, items_now}
+use Rattle.buffer_glyphs.specs.Lists.{get_or_mapped}
 
 -- ---- masks without glyph flags
 
@@ -77,7 +77,7 @@ concat_cases false es i j s new e items origins ready = record {
 pub concat_happens : (from to : ℕ) (s new : Sides) → new ≡ concat_marked (Some from) (Some to) s → items_of new ≡ items_of s
     → origins_of new ≡ origins_by (Concat (index_in_all from s) (index_in_all to s) ∷ []) s → IsReady s → Happens (Concat from to ∷ []) s new
 concat_happens from to s new e items origins ready =
-    concat_cases (asks_concat s) (Concat from to ∷ []) (index_in_all from s) (index_in_all to s) s new e items
+    concat_cases (requests_concat s) (Concat from to ∷ []) (index_in_all from s) (index_in_all to s) s new e items
     (origins ∙ ap (λ i. origins_by (Concat i (index_in_all to s) ∷ []) s) (whole_index from s ready) ∙ ap (λ i. origins_by (Concat from i ∷ []) s) (whole_index to s ready)) ready
 
 same_view_many : (s new : Sides) → view_of new ≡ view_of s → length (all_glyphs new) ≡ length (all_glyphs s)
@@ -129,25 +129,25 @@ slash_between m start at end s mid new le lt e h b =
 slash_there : (gs : List hb_glyph_info_t) (at : ℕ) (d : hb_glyph_info_t) → at < length gs → is_slash_at at (strip gs) ≡ is_slash (item_of (get_or gs at d))
 slash_there gs at d lt =
     let same = length-map gs item_of in
-    ap (λ (o : Option Item). option_map_or is_slash o false) (slice_get-get_or (strip gs) at (item_of d) (omega (arith, lt, same))) ∙ ap is_slash (seen_at item_of gs at d)
+    ap (λ (o : Option Item). option_map_or is_slash o false) (slice_get-get_or (strip gs) at (item_of d) (omega (arith, lt, same))) ∙ ap is_slash (get_or_mapped item_of gs at d)
 
 -- a stage that reads what another reads
 read_alike : (f g : View → Read) (s new : Sides) → f (view_of s) ≡ g (view_of s) → IsFollowed (always f) s new → IsFollowed (always g) s new
-read_alike f g s new e h = record { follows = h.follows ∙ ap (λ r. run_after r (run_of s)) e; settings = h.settings; ready = h.ready }
+read_alike f g s new e h = record { follows = h.follows ∙ ap (λ r. state_after r (state_of s)) e; settings = h.settings; ready = h.ready }
 
 pub place_of_slash : (m : FractionMasks) (at before after : ℕ) (d : hb_glyph_info_t) (s new : Sides) → at < length (all_glyphs s) → is_slash (item_of (get_or (all_glyphs s) at d)) ≡ true
-    → before ≡ digits_before at (items_of s) → after ≡ digits_after at (items_of s) → IsFollowed (always (around_slash m at before after)) s new → IsFollowed (always (at_place m at)) s new
+    → before ≡ digits_before at (items_of s) → after ≡ digits_after at (items_of s) → IsFollowed (always (around_slash m at before after)) s new → IsFollowed (always (fraction_at m at)) s new
 place_of_slash m at before after d s new lt e b a f =
     let there = slash_there (all_glyphs s) at d lt ∙ e in
-    read_alike (around_slash m at before after) (at_place m at) s new
+    read_alike (around_slash m at before after) (fraction_at m at) s new
     (ap (λ n. around_slash m at n after (view_of s)) b ∙ ap (λ n. around_slash m at (digits_before at (items_of s)) n (view_of s)) a
     ∙ sym (around_cases (is_slash_at at (items_of s)) _ _ _ there refl)) f
 
 pub place_of_none : (m : FractionMasks) (at : ℕ) (d : hb_glyph_info_t) (s : Sides) → at < length (all_glyphs s) → is_slash (item_of (get_or (all_glyphs s) at d)) ≡ false
-    → IsReady s → IsFollowed (always (at_place m at)) s s
+    → IsReady s → IsFollowed (always (fraction_at m at)) s s
 place_of_none m at d s lt e ready =
     let there = slash_there (all_glyphs s) at d lt ∙ e in
-    happens_followed [] s s (always (at_place m at)) (nothing_happens s ready) (ap (λ (r : Read). Ok r) (between_cases (is_slash_at at (items_of s)) _ _ (with_events [] (view_of s)) there refl))
+    happens_followed [] s s (always (fraction_at m at)) (nothing_happens s ready) (ap (λ (r : Read). Ok r) (between_cases (is_slash_at at (items_of s)) _ _ (with_events [] (view_of s)) there refl))
 
 -- ---- one index after another
 
@@ -158,14 +158,14 @@ pub record DoneTo (m : FractionMasks) (n : ℕ) (s now : Sides) : Type 0 where
 pub none_done : (m : FractionMasks) (s : Sides) → IsReady s → DoneTo m 0 s s
 none_done m s ready = record { followed = happens_followed [] s s (always (fractions_to m 0)) (nothing_happens s ready) refl; as_many = refl }
 
-next_followed : (m : FractionMasks) (n : ℕ) (s now new : Sides) → IsFollowed (always (fractions_to m n)) s now → IsFollowed (always (at_place m n)) now new → IsFollowed (always (fractions_to m (suc n))) s new
+next_followed : (m : FractionMasks) (n : ℕ) (s now new : Sides) → IsFollowed (always (fractions_to m n)) s now → IsFollowed (always (fraction_at m n)) now new → IsFollowed (always (fractions_to m (suc n))) s new
 next_followed m n s now new f g = record {
-  follows = follows_then (Ok (fractions_to m n (view_of s))) (always (at_place m n)) (run_of s) (run_of now) (run_of new) f.follows g.follows;
+  follows = follows_then (Ok (fractions_to m n (view_of s))) (always (fraction_at m n)) (state_of s) (state_of now) (state_of new) f.follows g.follows;
   settings = g.settings ∙ f.settings;
   ready = g.ready;
 }
 
-pub next_done : (m : FractionMasks) (n : ℕ) (s now new : Sides) → DoneTo m n s now → IsFollowed (always (at_place m n)) now new → length (all_glyphs new) ≡ length (all_glyphs now) → DoneTo m (n + 1) s new
+pub next_done : (m : FractionMasks) (n : ℕ) (s now new : Sides) → DoneTo m n s now → IsFollowed (always (fraction_at m n)) now new → length (all_glyphs new) ≡ length (all_glyphs now) → DoneTo m (n + 1) s new
 next_done m n s now new d g same =
     let next : suc n ≡ n + 1 = sym (add-one n) in
     subst (λ k. DoneTo m k s new) next (record { followed = next_followed m n s now new d.followed g; as_many = same ∙ d.as_many })

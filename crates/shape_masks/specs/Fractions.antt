@@ -60,13 +60,13 @@ around_slash m at before after v =
     else with_events (Break (at - before) (at + 1 + after) ∷ []) (record v { items = fraction_items v.direction m (at - before) at (at + 1 + after) v.items })
 
 -- the view at an index, which may be a slash
-abbrev pub at_place : FractionMasks → ℕ → View → Read
-at_place m at v = if is_slash_at at v.items then around_slash m at (digits_before at v.items) (digits_after at v.items) v else with_events [] v
+abbrev pub fraction_at : FractionMasks → ℕ → View → Read
+fraction_at m at v = if is_slash_at at v.items then around_slash m at (digits_before at v.items) (digits_after at v.items) v else with_events [] v
 
 -- the view of that many items, slash by slash
 abbrev pub fractions_to : FractionMasks → ℕ → View → Read
 fractions_to m zero v = with_events [] v
-fractions_to m (suc n) v = then_read (fractions_to m n v) (at_place m n (fractions_to m n v).view)
+fractions_to m (suc n) v = then_read (fractions_to m n v) (fraction_at m n (fractions_to m n v).view)
 
 -- the view with the masks of fractions (HarfBuzz: hb_ot_shape_setup_masks_fraction)
 abbrev pub with_fractions : FractionMasks → View → Read

@@ -18,13 +18,13 @@ abbrev pub shift_of : Feature → OtMapValue → ℕ
 shift_of f map = option_map_or (λ (m : feature_map_t). m.shift) (feature_at f.tag map) 0
 
 -- the value of a feature, shifted to its bits of a 32-bit mask
-abbrev pub placed_value : Feature → OtMapValue → ℕ
-placed_value f map = f.value * 2 ^ shift_of f map % 2 ^ 32
+abbrev pub shifted_value : Feature → OtMapValue → ℕ
+shifted_value f map = f.value * 2 ^ shift_of f map % 2 ^ 32
 
 -- items with a feature's value where their clusters are in its range; a feature for all glyphs is in their masks
 -- already
 abbrev pub with_range : OtMapValue → Feature → List ℕ → List Item → List Item
-with_range map f clusters xs = if is_global f then xs else items_set (placed_value f map) (bits_of f map) f.start f.end clusters xs
+with_range map f clusters xs = if is_global f then xs else items_set (shifted_value f map) (bits_of f map) f.start f.end clusters xs
 
 -- items with the values of all features, in the order of the requests
 abbrev pub with_all_ranges : OtMapValue → List Feature → List ℕ → List Item → List Item

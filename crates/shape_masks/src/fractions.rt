@@ -7,7 +7,7 @@ ghost use Rattle.buffer_core.specs.Readings.{always};
 ghost use Rattle.buffer_core.specs.Sides.{all_glyphs, items_of};
 ghost use Rattle.buffer_stages.specs.Ready.{IsReady};
 ghost use Rattle.buffer_stages.specs.Stages.{Becomes, IsFollowed};
-ghost use Rattle.shape_masks.specs.Fractions.{around_slash, at_place, digits_before, digits_after, first_mask, fraction_items, is_slash, last_mask, with_features_within, with_fractions};
+ghost use Rattle.shape_masks.specs.Fractions.{around_slash, fraction_at, digits_before, digits_after, first_mask, fraction_items, is_slash, last_mask, with_features_within, with_fractions};
 
 use buffer_common::direction::Direction;
 use buffer_core::buffer::hb_buffer_t;
@@ -73,7 +73,7 @@ fn mark_place(masks: FractionMasks, at: usize, buffer: &mut hb_buffer_t)
     requires numr { bit_and masks.numr DEFINED ≡ 0 }
     requires dnom { bit_and masks.dnom DEFINED ≡ 0 }
     requires within { at < length (all_glyphs buffer.old) }
-    ensures followed { IsFollowed (always (at_place masks at)) buffer.old buffer.new }
+    ensures followed { IsFollowed (always (fraction_at masks at)) buffer.old buffer.new }
     ensures as_many { length (all_glyphs buffer.new) ≡ length (all_glyphs buffer.old) }
 {
     if is_slash(&buffer.info_slice()[at]) {
@@ -127,7 +127,7 @@ fn is_alone(start: usize, at: usize, end: usize) -> bool
     at - start == 0 || end - (at + 1) == 0
 }
 
-#[tactic(auto, using(crate::proofs::Slashes::concat_happens, crate::proofs::Slashes::slash_alone, crate::proofs::Slashes::slash_between, crate::proofs::Slashes::happens_as_many, crate::proofs::Stretches::as_many_now, buffer_stages::proofs::Lemmas::Happened::break_happens, buffer_stages::proofs::Lemmas::Happened::end_of_input))]
+#[tactic(auto, using(crate::proofs::Slashes::concat_happens, crate::proofs::Slashes::slash_alone, crate::proofs::Slashes::slash_between, crate::proofs::Slashes::happens_as_many, crate::proofs::RangeMasks::as_many_now, buffer_stages::proofs::Lemmas::Happened::break_happens, buffer_stages::proofs::Lemmas::Happened::end_of_input))]
 fn mark_slash(masks: FractionMasks, start: usize, at: usize, end: usize, buffer: &mut hb_buffer_t)
     requires ready { IsReady buffer.old }
     requires frac { bit_and masks.frac DEFINED ≡ 0 }
@@ -147,7 +147,7 @@ fn mark_slash(masks: FractionMasks, start: usize, at: usize, end: usize, buffer:
     mask_fraction(masks, start, at, end, buffer);
 }
 
-#[tactic(auto, using(crate::proofs::Slashes::first_flagless, crate::proofs::Slashes::last_flagless, crate::proofs::Slashes::fraction_becomes, crate::proofs::Stretches::as_many_now))]
+#[tactic(auto, using(crate::proofs::Slashes::first_flagless, crate::proofs::Slashes::last_flagless, crate::proofs::Slashes::fraction_becomes, crate::proofs::RangeMasks::as_many_now))]
 fn mask_fraction(
     masks: FractionMasks,
     start: usize,
@@ -172,7 +172,7 @@ fn mask_fraction(
     mask_stretch(masks.last(direction), at + 1, end, buffer);
 }
 
-#[tactic(auto, using(crate::proofs::Stretches::stretch_becomes))]
+#[tactic(auto, using(crate::proofs::RangeMasks::stretch_becomes))]
 fn mask_stretch(mask: hb_mask_t, start: usize, end: usize, buffer: &mut hb_buffer_t)
     requires ready { IsReady buffer.old }
     requires flagless { bit_and mask DEFINED ≡ 0 }

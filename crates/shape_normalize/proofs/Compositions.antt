@@ -9,31 +9,31 @@ use Rattle.buffer_glyphs.specs.Items.{Item, item_of, strip}
 use Rattle.buffer_glyphs.specs.Levels.{InOutput}
 use Rattle.buffer_glyphs.specs.Origins.{origin_of, origins}
 use Rattle.buffer_glyphs.specs.Events.{Merge, Replace, origins_after}
-use Rattle.buffer_core.specs.Sides.{Sides, all_glyphs, asks_of, items_of, origins_of, origins_by, moved_on}
-use Rattle.buffer_core.specs.Merging.{with_output_merged, with_skipped}
+use Rattle.buffer_core.specs.Sides.{Sides, all_glyphs, flag_requests_of, items_of, origins_of, origins_by, after_next_glyphs}
+use Rattle.buffer_core.specs.Merging.{with_output_merged, with_glyph_skipped}
 use Rattle.buffer_core.specs.Lending.{with_glyph_ahead}
-use Rattle.buffer_core.specs.Moving.{moved_to}
+use Rattle.buffer_core.specs.Moving.{after_move_to}
 use Rattle.buffer_stages.specs.Brought.{frame_of}
 use Rattle.shape_normalize.specs.Composed.{composition_events, HasRoom, IsComposed, IsWritten}
 use Rattle.shape_normalize.proofs.Room.{room_kept}
 
-pub one_behind : (s a : Sides) → 0 < length s.ahead → a ≡ moved_on 1 s → length a.behind ≡ length s.behind + 1
+pub one_behind : (s a : Sides) → 0 < length s.ahead → a ≡ after_next_glyphs 1 s → length a.behind ≡ length s.behind + 1
 one_behind s a some next = ap (λ (t : Sides). length t.behind) next ∙ length-append s.behind (take 1 s.ahead) ∙ ap (λ n. length s.behind + n) (length-take-le 1 s.ahead (omega (arith, some)))
 
 merged_count : (s a b : Sides) → all_glyphs a ≡ all_glyphs s → items_of b ≡ items_of a → length (all_glyphs b) ≡ length (all_glyphs s)
 merged_count s a b kept items = sym (length-map (all_glyphs b) item_of) ∙ ap length items ∙ length-map (all_glyphs a) item_of ∙ ap length kept
 
 -- room for what comes next
-pub room_passed : (s a : Sides) → HasRoom s → a ≡ moved_on 1 s → all_glyphs a ≡ all_glyphs s → HasRoom a
+pub room_passed : (s a : Sides) → HasRoom s → a ≡ after_next_glyphs 1 s → all_glyphs a ≡ all_glyphs s → HasRoom a
 room_passed s a room next kept = let same = ap length kept in room_kept s a (ap frame_of next) (omega (arith, same)) room
 
-pub room_merged : (from to : ℕ) (s a b : Sides) → HasRoom s → a ≡ moved_on 1 s → all_glyphs a ≡ all_glyphs s → b ≡ with_output_merged from to a → items_of b ≡ items_of a → HasRoom b
+pub room_merged : (from to : ℕ) (s a b : Sides) → HasRoom s → a ≡ after_next_glyphs 1 s → all_glyphs a ≡ all_glyphs s → b ≡ with_output_merged from to a → items_of b ≡ items_of a → HasRoom b
 room_merged from to s a b room next kept merges items = let same = merged_count s a b kept items in room_kept s b (ap frame_of merges ∙ ap frame_of next) (omega (arith, same)) room
 
 pub place_within : (s a b : Sides) → all_glyphs a ≡ all_glyphs s → items_of b ≡ items_of a → length s.behind ≤ length (all_glyphs b)
 place_within s a b kept items = let same = merged_count s a b kept items in let sides = length-append s.behind s.ahead in omega (arith, same, sides)
 
-pub mark_left : (s a b d : Sides) → 0 < length s.ahead → all_glyphs a ≡ all_glyphs s → items_of b ≡ items_of a → d ≡ moved_to (length s.behind) b → 0 < length d.ahead
+pub mark_left : (s a b d : Sides) → 0 < length s.ahead → all_glyphs a ≡ all_glyphs s → items_of b ≡ items_of a → d ≡ after_move_to (length s.behind) b → 0 < length d.ahead
 mark_left s a b d some kept items back =
     let same = merged_count s a b kept items in
     let sides = length-append s.behind s.ahead in
@@ -41,8 +41,8 @@ mark_left s a b d some kept items back =
     omega (arith, rest, same, sides, some)
 
 -- the events of the calls that delete a mark once it and its starter are one range
-pub mark_gone : (from to : ℕ) (s a b d e : Sides) → 0 < length s.ahead → a ≡ moved_on 1 s → all_glyphs a ≡ all_glyphs s → to ≡ length a.behind → b ≡ with_output_merged from to a → items_of b ≡ items_of a
-    → origins_of b ≡ origins_by (Merge InOutput from to ∷ []) a → d ≡ moved_to (length s.behind) b → all_glyphs d ≡ all_glyphs b → e ≡ with_skipped d → origins_of e ≡ origins_by (Replace (length d.behind) 1 0 ∷ []) d
+pub mark_gone : (from to : ℕ) (s a b d e : Sides) → 0 < length s.ahead → a ≡ after_next_glyphs 1 s → all_glyphs a ≡ all_glyphs s → to ≡ length a.behind → b ≡ with_output_merged from to a → items_of b ≡ items_of a
+    → origins_of b ≡ origins_by (Merge InOutput from to ∷ []) a → d ≡ after_move_to (length s.behind) b → all_glyphs d ≡ all_glyphs b → e ≡ with_glyph_skipped d → origins_of e ≡ origins_by (Replace (length d.behind) 1 0 ∷ []) d
     → origins_of e ≡ origins_by (composition_events from (length s.behind)) s
 mark_gone from to s a b d e some next kept ends merges items united back same gone left =
     let n = length s.behind in
@@ -51,27 +51,27 @@ mark_gone from to s a b d e some next kept ends merges items united back same go
     let there : length d.behind ≡ n = ap (λ (t : Sides). length t.behind) back ∙ length-take-le n (all_glyphs b) (omega (arith, sides, count)) in
     let upto : to ≡ n + 1 = ends ∙ one_behind s a some next in
     let merged : origins_of b ≡ origins_by (Merge InOutput from (n + 1) ∷ []) s =
-    united ∙ ap (λ k. origins_by (Merge InOutput from k ∷ []) a) upto ∙ ap (λ (t : Sides). origins_after (asks_of t) t.level (Merge InOutput from (n + 1) ∷ []) (origins_of a)) next
-    ∙ ap (λ gs. origins_after (asks_of s) s.level (Merge InOutput from (n + 1) ∷ []) (origins gs)) kept in
+    united ∙ ap (λ k. origins_by (Merge InOutput from k ∷ []) a) upto ∙ ap (λ (t : Sides). origins_after (flag_requests_of t) t.level (Merge InOutput from (n + 1) ∷ []) (origins_of a)) next
+    ∙ ap (λ gs. origins_after (flag_requests_of s) s.level (Merge InOutput from (n + 1) ∷ []) (origins gs)) kept in
     left ∙ ap (λ k. origins_by (Replace k 1 0 ∷ []) d) there
-    ∙ ap (λ (t : Sides). origins_after (asks_of t) t.level (Replace n 1 0 ∷ []) (origins_of d)) (back ∙ ap (moved_to n) merges ∙ ap (λ t. moved_to n (with_output_merged from to t)) next)
-    ∙ ap (λ gs. origins_after (asks_of s) s.level (Replace n 1 0 ∷ []) (origins gs)) same ∙ ap (origins_after (asks_of s) s.level (Replace n 1 0 ∷ [])) merged
+    ∙ ap (λ (t : Sides). origins_after (flag_requests_of t) t.level (Replace n 1 0 ∷ []) (origins_of d)) (back ∙ ap (after_move_to n) merges ∙ ap (λ t. after_move_to n (with_output_merged from to t)) next)
+    ∙ ap (λ gs. origins_after (flag_requests_of s) s.level (Replace n 1 0 ∷ []) (origins gs)) same ∙ ap (origins_after (flag_requests_of s) s.level (Replace n 1 0 ∷ [])) merged
 
 seen_all : (s a b : Sides) → all_glyphs a ≡ all_glyphs s → items_of b ≡ items_of a → strip (all_glyphs b) ≡ strip s.behind ++ strip s.ahead
 seen_all s a b kept items = items ∙ ap strip kept ∙ map-append item_of s.behind s.ahead
 
-pub mark_behind : (s a b d e : Sides) → all_glyphs a ≡ all_glyphs s → items_of b ≡ items_of a → d ≡ moved_to (length s.behind) b → e ≡ with_skipped d → strip e.behind ≡ strip s.behind
+pub mark_behind : (s a b d e : Sides) → all_glyphs a ≡ all_glyphs s → items_of b ≡ items_of a → d ≡ after_move_to (length s.behind) b → e ≡ with_glyph_skipped d → strip e.behind ≡ strip s.behind
 mark_behind s a b d e kept items back gone =
     ap (λ (t : Sides). strip t.behind) gone ∙ ap (λ (t : Sides). strip t.behind) back ∙ sym (take-map item_of (length s.behind) (all_glyphs b)) ∙ ap (take (length s.behind)) (seen_all s a b kept items)
     ∙ ap (λ n. take n (strip s.behind ++ strip s.ahead)) (sym (length-map s.behind item_of)) ∙ take-append_seam (strip s.behind) (strip s.ahead)
 
-pub mark_ahead : (s a b d e : Sides) → all_glyphs a ≡ all_glyphs s → items_of b ≡ items_of a → d ≡ moved_to (length s.behind) b → e ≡ with_skipped d → strip e.ahead ≡ drop 1 (strip s.ahead)
+pub mark_ahead : (s a b d e : Sides) → all_glyphs a ≡ all_glyphs s → items_of b ≡ items_of a → d ≡ after_move_to (length s.behind) b → e ≡ with_glyph_skipped d → strip e.ahead ≡ drop 1 (strip s.ahead)
 mark_ahead s a b d e kept items back gone =
     ap (λ (t : Sides). strip t.ahead) gone ∙ ap (λ (t : Sides). strip (drop 1 t.ahead)) back ∙ sym (drop-map item_of 1 (drop (length s.behind) (all_glyphs b))) ∙ ap (drop 1)
     (sym (drop-map item_of (length s.behind) (all_glyphs b)) ∙ ap (drop (length s.behind)) (seen_all s a b kept items)
     ∙ ap (λ n. drop n (strip s.behind ++ strip s.ahead)) (sym (length-map s.behind item_of)) ∙ drop-append_seam (strip s.behind) (strip s.ahead))
 
-pub mark_frame : (from to n : ℕ) (s a b d e : Sides) → a ≡ moved_on 1 s → b ≡ with_output_merged from to a → d ≡ moved_to n b → e ≡ with_skipped d → frame_of e ≡ frame_of s
+pub mark_frame : (from to n : ℕ) (s a b d e : Sides) → a ≡ after_next_glyphs 1 s → b ≡ with_output_merged from to a → d ≡ after_move_to n b → e ≡ with_glyph_skipped d → frame_of e ≡ frame_of s
 mark_frame from to n s a b d e next merges back gone = ap frame_of gone ∙ ap frame_of back ∙ ap frame_of merges ∙ ap frame_of next
 
 pub length_set : {X : Type 0} (xs : List X) (i : ℕ) (x : X) → length (slice_set xs i x) ≡ length xs
@@ -96,28 +96,28 @@ set_across [] ys i x lt = absurd (omega (arith, lt))
 set_across (z ∷ xs) ys zero x lt = refl
 set_across (z ∷ xs) ys (suc i) x lt = ap (λ zs. z ∷ zs) (set_across xs ys i x (omega (arith, lt)))
 
-pub there_ahead : (at : ℕ) (s a : Sides) → at < length s.behind → a ≡ moved_to at s → 0 < length a.ahead
+pub there_ahead : (at : ℕ) (s a : Sides) → at < length s.behind → a ≡ after_move_to at s → 0 < length a.ahead
 there_ahead at s a lt is =
     let rest = ap (λ (t : Sides). length t.ahead) is ∙ length-drop at (all_glyphs s) in
     let sides = length-append s.behind s.ahead in
     omega (arith, rest, sides, lt)
 
-written_all : (at : ℕ) (g : hb_glyph_info_t) (s a b : Sides) → at < length s.behind → a ≡ moved_to at s → b ≡ with_glyph_ahead 0 g a → all_glyphs b ≡ slice_set s.behind at g ++ s.ahead
+written_all : (at : ℕ) (g : hb_glyph_info_t) (s a b : Sides) → at < length s.behind → a ≡ after_move_to at s → b ≡ with_glyph_ahead 0 g a → all_glyphs b ≡ slice_set s.behind at g ++ s.ahead
 written_all at g s a b lt is set = ap all_glyphs set ∙ ap (λ (t : Sides). t.behind ++ slice_set t.ahead 0 g) is ∙ set_across s.behind s.ahead at g lt
 
-written_count : (at : ℕ) (g : hb_glyph_info_t) (s a b : Sides) → at < length s.behind → a ≡ moved_to at s → b ≡ with_glyph_ahead 0 g a → length (all_glyphs b) ≡ length s.behind + length s.ahead
+written_count : (at : ℕ) (g : hb_glyph_info_t) (s a b : Sides) → at < length s.behind → a ≡ after_move_to at s → b ≡ with_glyph_ahead 0 g a → length (all_glyphs b) ≡ length s.behind + length s.ahead
 written_count at g s a b lt is set = ap length (written_all at g s a b lt is set) ∙ length-append (slice_set s.behind at g) s.ahead ∙ ap (λ n. n + length s.ahead) (length_set s.behind at g)
 
-pub room_written : (at : ℕ) (g : hb_glyph_info_t) (s a b : Sides) → HasRoom s → at < length s.behind → a ≡ moved_to at s → b ≡ with_glyph_ahead 0 g a → HasRoom b
+pub room_written : (at : ℕ) (g : hb_glyph_info_t) (s a b : Sides) → HasRoom s → at < length s.behind → a ≡ after_move_to at s → b ≡ with_glyph_ahead 0 g a → HasRoom b
 room_written at g s a b room lt is set =
     let count = written_count at g s a b lt is set in
     let sides = length-append s.behind s.ahead in
     room_kept s b (ap frame_of set ∙ ap frame_of is) (omega (arith, count, sides)) room
 
-pub back_within : (at : ℕ) (g : hb_glyph_info_t) (s a b : Sides) → at < length s.behind → a ≡ moved_to at s → b ≡ with_glyph_ahead 0 g a → length s.behind ≤ length (all_glyphs b)
+pub back_within : (at : ℕ) (g : hb_glyph_info_t) (s a b : Sides) → at < length s.behind → a ≡ after_move_to at s → b ≡ with_glyph_ahead 0 g a → length s.behind ≤ length (all_glyphs b)
 back_within at g s a b lt is set = let count = written_count at g s a b lt is set in omega (arith, count)
 
-pub glyph_written : (at n : ℕ) (g : hb_glyph_info_t) (s a b d : Sides) → at < length s.behind → n ≡ length s.behind → a ≡ moved_to at s → b ≡ with_glyph_ahead 0 g a → d ≡ moved_to n b → IsWritten at g s d
+pub glyph_written : (at n : ℕ) (g : hb_glyph_info_t) (s a b d : Sides) → at < length s.behind → n ≡ length s.behind → a ≡ after_move_to at s → b ≡ with_glyph_ahead 0 g a → d ≡ after_move_to n b → IsWritten at g s d
 glyph_written at n g s a b d lt count is set back =
     let all = written_all at g s a b lt is set in
     let len : n ≡ length (slice_set s.behind at g) = count ∙ sym (length_set s.behind at g) in

@@ -14,11 +14,11 @@ use Rattle.buffer_groups.specs.Events.{order_of}
 use Rattle.buffer_groups.specs.Sorting.{Spanned}
 use Rattle.buffer_core.specs.Sides.{Sides, all_glyphs, items_of, origins_of, origins_by}
 use Rattle.buffer_core.specs.Sorting.{with_spanned}
-use Rattle.buffer_core.proofs.Told.{told_telling}
+use Rattle.buffer_core.proofs.Told.{stage_flags_ignore_glyph_flags}
 use Rattle.buffer_stages.specs.Ready.{IsReady}
 use Rattle.buffer_stable_order.specs.Keys.{key_order}
 use Rattle.buffer_unicode_tables.specs.ClassOrder.{run_order}
-use Rattle.buffer_glyphs.specs.Arranged.{Arranged, beside, in_turn, kept, shifted}
+use Rattle.buffer_glyphs.specs.Rewriting.{Arrangement, beside, in_turn, eventless_arrangement, shifted_event}
 use Rattle.buffer_properties.specs.Characters.{mark_class}
 use Rattle.buffer_properties.specs.Ordering.{arranged_run, arranged_runs, ordered_list, sorted_order}
 use Rattle.buffer_stages.specs.Brought.{frame_of}
@@ -31,7 +31,7 @@ use Rattle.shape_normalize.proofs.Walk.{by_frame, get_seam}
 -- ---- a sort
 
 sort_frame : (t : Spanned) (s new : Sides) → new ≡ with_spanned t s → frame_of new ≡ frame_of s
-sort_frame t s new e = ap frame_of e ∙ ap (λ n. record s { behind = []; ahead = []; read = 0; scratch_flags = n }) (told_telling t.is_marked s.scratch_flags)
+sort_frame t s new e = ap frame_of e ∙ ap (λ n. record s { behind = []; ahead = []; read = 0; scratch_flags = n }) (stage_flags_ignore_glyph_flags t.is_marked s.scratch_flags)
 
 pub sort_ready : (t : Spanned) (s new : Sides) → IsReady s → new ≡ with_spanned t s → length (all_glyphs new) ≡ length (all_glyphs s) → IsReady new
 sort_ready t s new ready e count = record {
@@ -82,22 +82,22 @@ sort_rearranges t start end s new ready e count items happened front run rest is
 
 -- ---- a run
 
-stays : (front run rest : List Item) (s : Sides) → items_of s ≡ front ++ (run ++ rest) → IsReady s → IsRearranged front (kept run) rest s s
+stays : (front run rest : List Item) (s : Sides) → items_of s ≡ front ++ (run ++ rest) → IsReady s → IsRearranged front (eventless_arrangement run) rest s s
 stays front run rest s e ready = record { items = e; happened = refl; frame = refl; ready = ready }
 
-pub none_arranged : (r : List Item → Arranged) (start end : ℕ) (s : Sides) → IsReady s → end - start ≡ 0 → start ≤ end → Rearranges (arranged_run r) start end s s
+pub none_arranged : (r : List Item → Arrangement) (start end : ℕ) (s : Sides) → IsReady s → end - start ≡ 0 → start ≤ end → Rearranges (arranged_run r) start end s s
 unfolding arranged_run
 none_arranged r start end s ready none le front [] rest e len upto = stays front [] rest s e ready
 none_arranged r start end s ready none le front (x ∷ run) rest e len upto = absurd (omega (arith, none, le, upto))
 
-pub long_stays : (r : List Item → Arranged) (start end : ℕ) (s : Sides) → IsReady s → 32 < end - start → Rearranges (arranged_run r) start end s s
+pub long_stays : (r : List Item → Arrangement) (start end : ℕ) (s : Sides) → IsReady s → 32 < end - start → Rearranges (arranged_run r) start end s s
 unfolding arranged_run
 long_stays r start end s ready long front [] rest e len upto = absurd (omega (arith, long, upto))
 long_stays r start end s ready long front (x ∷ run) rest e len upto =
     subst (λ a. IsRearranged front a rest s s) (sym (cond-false _ _ _ (lt-leb (length (x ∷ run)) 32 (omega (arith, long, upto))))) (stays front (x ∷ run) rest s e ready)
 
 -- a run that was sorted, and then rewritten
-pub short_arranged : (r : List Item → Arranged) (start end : ℕ) (s t u : Sides) → end - start ≢ 0 → end - start ≤ 32 → length (all_glyphs t) ≡ length (all_glyphs s)
+pub short_arranged : (r : List Item → Arrangement) (start end : ℕ) (s t u : Sides) → end - start ≢ 0 → end - start ≤ 32 → length (all_glyphs t) ≡ length (all_glyphs s)
     → Rearranges in_class_order start end s t → Rearranges r start end t u → Rearranges (arranged_run r) start end s u
 unfolding arranged_run
 short_arranged r start end s t u some few count sorted rewritten front [] rest e len upto = absurd (some (omega (arith, upto)))
@@ -124,13 +124,13 @@ short_arranged r start end s t u some few count sorted rewritten front (x ∷ ru
     (record {
       items = two.items;
       happened =
-          by_frame (map (shifted (length front)) (r (run_order mark_class (x ∷ run))).events) (map (shifted (length front)) (in_class_order (x ∷ run)).events) s t u one.frame one.happened two.happened;
+          by_frame (map (shifted_event (length front)) (r (run_order mark_class (x ∷ run))).events) (map (shifted_event (length front)) (in_class_order (x ∷ run)).events) s t u one.frame one.happened two.happened;
       frame = two.frame ∙ one.frame;
       ready = two.ready;
     })
 
 -- a rewriting of as many items
-pub rewritten_count : (r : List Item → Arranged) (start end : ℕ) (t u : Sides) → ((run : List Item) → length (r run).items ≡ length run) → start ≤ end → end ≤ length (all_glyphs t) → Rearranges r start end t u
+pub rewritten_count : (r : List Item → Arrangement) (start end : ℕ) (t u : Sides) → ((run : List Item) → length (r run).items ≡ length run) → start ≤ end → end ≤ length (all_glyphs t) → Rearranges r start end t u
     → length (all_glyphs u) ≡ length (all_glyphs t)
 rewritten_count r start end t u keeps le within goes =
     let xs = items_of t in
@@ -145,11 +145,11 @@ rewritten_count r start end t u keeps le within goes =
     let two : start + length (slice_range (items_of t) start end) ≡ end = omega (arith, one, all, three, sides, more, le, within, many) in
     let is = goes (take start (items_of t)) (slice_range (items_of t) start end) (drop end (items_of t)) cut one two in
     let now = ap (λ (ys : List Item). length ys) is.items in
-    let kept = keeps (slice_range (items_of t) start end) in
+    let eventless_arrangement = keeps (slice_range (items_of t) start end) in
     omega (
       arith,
       now,
-      kept,
+      eventless_arrangement,
       all,
       sides,
       more,
@@ -172,13 +172,13 @@ item_met i front run y ys start g s e len upto at =
     let place : i ≡ length (front ++ run) = let all = length-append front run in omega (arith, all, len, upto) in
     item_there (all_glyphs s) (front ++ run) y ys g (e ∙ sym (append_assoc front run (y ∷ ys))) (ap (slice_get (all_glyphs s)) (sym place) ∙ at)
 
-pub run_goes_on : (r : List Item → Arranged) (start i n : ℕ) (g : hb_glyph_info_t) (s : Sides) → slice_get (all_glyphs s) i ≡ Some g → n ≡ mark_class (item_of g) → n ≢ 0 → Meets r start i start s s
+pub run_goes_on : (r : List Item → Arrangement) (start i n : ℕ) (g : hb_glyph_info_t) (s : Sides) → slice_get (all_glyphs s) i ≡ Some g → n ≡ mark_class (item_of g) → n ≢ 0 → Meets r start i start s s
 run_goes_on r start i n g s at class some front run y ys e len upto =
     let is : n ≡ mark_class y = class ∙ ap mark_class (item_met i front run y ys start g s e len upto at) in
     let t : (mark_class y == 0) ≡ false = grind (arith, nat_tests, is, some) in
     subst (λ b. RunsOn b r front run (y ∷ ys) start i start s s) (sym t) (refl, refl)
 
-pub run_ends : (r : List Item → Arranged) (start i n : ℕ) (g : hb_glyph_info_t) (s u : Sides) → slice_get (all_glyphs s) i ≡ Some g → n ≡ mark_class (item_of g) → n ≡ 0 → length (all_glyphs u) ≡ length (all_glyphs s)
+pub run_ends : (r : List Item → Arrangement) (start i n : ℕ) (g : hb_glyph_info_t) (s u : Sides) → slice_get (all_glyphs s) i ≡ Some g → n ≡ mark_class (item_of g) → n ≡ 0 → length (all_glyphs u) ≡ length (all_glyphs s)
     → Rearranges (arranged_run r) start i s u → Meets r start i (i + 1) s u
 run_ends r start i n g s u at class none count goes front run y ys e len upto =
     let is : n ≡ mark_class y = class ∙ ap mark_class (item_met i front run y ys start g s e len upto at) in
@@ -204,8 +204,8 @@ run_ends r start i n g s u at class none count goes front run y ys e len upto =
 -- ---- all runs
 
 -- so many items were met; the run met last begins there
-pub record IsOrdering (r : List Item → Arranged) (count at start : ℕ) (s now : Sides) : Type 0 where
-  pub ps : List Arranged
+pub record IsOrdering (r : List Item → Arrangement) (count at start : ℕ) (s now : Sides) : Type 0 where
+  pub ps : List Arrangement
   pub run : List Item
   pub ys : List Item
   pub items : items_of now ≡ (in_turn ps).items ++ (run ++ ys)
@@ -217,7 +217,7 @@ pub record IsOrdering (r : List Item → Arranged) (count at start : ℕ) (s now
   pub ready : IsReady now
   pub whole : ps ++ arranged_runs r run ys ≡ arranged_runs r [] (items_of s)
 
-pub ordering_begun : (r : List Item → Arranged) (count : ℕ) (s : Sides) → IsReady s → count ≡ length (all_glyphs s) → IsOrdering r count 0 0 s s
+pub ordering_begun : (r : List Item → Arrangement) (count : ℕ) (s : Sides) → IsReady s → count ≡ length (all_glyphs s) → IsOrdering r count 0 0 s s
 ordering_begun r count s ready len = record {
   ps = [];
   run = [];
@@ -232,13 +232,13 @@ ordering_begun r count s ready len = record {
   whole = refl;
 }
 
-pub ordering_ready : (r : List Item → Arranged) (count at start : ℕ) (s now : Sides) → IsOrdering r count at start s now → IsReady now
+pub ordering_ready : (r : List Item → Arrangement) (count at start : ℕ) (s now : Sides) → IsOrdering r count at start s now → IsReady now
 ordering_ready r count at start s now w = w.ready
 
-pub ordering_begins : (r : List Item → Arranged) (count at start : ℕ) (s now : Sides) → IsOrdering r count at start s now → start ≤ at
+pub ordering_begins : (r : List Item → Arrangement) (count at start : ℕ) (s now : Sides) → IsOrdering r count at start s now → start ≤ at
 ordering_begins r count at start s now w = let met = w.met in omega (arith, met)
 
-pub ordering_upto : (r : List Item → Arranged) (count at start : ℕ) (s now : Sides) → IsOrdering r count at start s now → length (all_glyphs now) ≡ count
+pub ordering_upto : (r : List Item → Arrangement) (count at start : ℕ) (s now : Sides) → IsOrdering r count at start s now → length (all_glyphs now) ≡ count
 ordering_upto r count at start s now w =
     let all = ap (λ (zs : List Item). length zs) w.items in
     let begins = w.begins in
@@ -246,19 +246,19 @@ ordering_upto r count at start s now w =
     let left = w.left in
     omega (arith, all, begins, met, left, length-map (all_glyphs now) item_of, length-append (in_turn w.ps).items (w.run ++ w.ys), length-append w.run w.ys)
 
-pub ordering_there : (r : List Item → Arranged) (count at start : ℕ) (s now : Sides) → at < count → IsOrdering r count at start s now → at < length (all_glyphs now)
+pub ordering_there : (r : List Item → Arrangement) (count at start : ℕ) (s now : Sides) → at < count → IsOrdering r count at start s now → at < length (all_glyphs now)
 ordering_there r count at start s now lt w = let upto = ordering_upto r count at start s now w in omega (arith, lt, upto)
 
 -- what was arranged, and then a run and the starter after it
-turned : (ps : List Arranged) (a : Arranged) (y : Item) → (in_turn (ps ++ a ∷ kept (y ∷ []) ∷ [])).items ≡ (in_turn ps).items ++ (a.items ++ y ∷ [])
-turned ps a y = items_both ps (a ∷ kept (y ∷ []) ∷ [])
+turned : (ps : List Arrangement) (a : Arrangement) (y : Item) → (in_turn (ps ++ a ∷ eventless_arrangement (y ∷ []) ∷ [])).items ≡ (in_turn ps).items ++ (a.items ++ y ∷ [])
+turned ps a y = items_both ps (a ∷ eventless_arrangement (y ∷ []) ∷ [])
 
-happens : (ps : List Arranged) (a : Arranged) (y : Item) → (in_turn (ps ++ a ∷ kept (y ∷ []) ∷ [])).events ≡ (in_turn ps).events ++ map (shifted (length (in_turn ps).items)) a.events
+happens : (ps : List Arrangement) (a : Arrangement) (y : Item) → (in_turn (ps ++ a ∷ eventless_arrangement (y ∷ []) ∷ [])).events ≡ (in_turn ps).events ++ map (shifted_event (length (in_turn ps).items)) a.events
 happens ps a y =
-    ap (λ (b : Arranged). b.events) (sym (in_turn_both ps (a ∷ kept (y ∷ []) ∷ [])))
-    ∙ ap (λ es. (in_turn ps).events ++ map (shifted (length (in_turn ps).items)) es) (append-nil a.events)
+    ap (λ (b : Arrangement). b.events) (sym (in_turn_both ps (a ∷ eventless_arrangement (y ∷ []) ∷ [])))
+    ∙ ap (λ es. (in_turn ps).events ++ map (shifted_event (length (in_turn ps).items)) es) (append-nil a.events)
 
-pub ordering_more : (r : List Item → Arranged) (count at start n : ℕ) (s now next : Sides) → at < count → IsOrdering r count at start s now → Meets r start at n now next → IsOrdering r count (at + 1) n s next
+pub ordering_more : (r : List Item → Arrangement) (count at start n : ℕ) (s now next : Sides) → at < count → IsOrdering r count at start s now → Meets r start at n now next → IsOrdering r count (at + 1) n s next
 ordering_more r count at start n s now next lt w goes = by_case w.ys refl
   where
     by_case : (zs : List Item) → w.ys ≡ zs → IsOrdering r count (at + 1) n s next
@@ -276,7 +276,7 @@ ordering_more r count at start n s now next lt w goes = by_case w.ys refl
             let is = on.2 in
             let a = arranged_run r w.run in
             record {
-              ps = w.ps ++ arranged_run r w.run ∷ kept (y ∷ []) ∷ [];
+              ps = w.ps ++ arranged_run r w.run ∷ eventless_arrangement (y ∷ []) ∷ [];
               run = [];
               ys = ys;
               items =
@@ -293,12 +293,12 @@ ordering_more r count at start n s now next lt w goes = by_case w.ys refl
               met = let next = on.0 in omega (arith, next);
               left = less;
               happened =
-                  by_frame (map (shifted (length (in_turn w.ps).items)) (arranged_run r w.run).events) (in_turn w.ps).events s now next w.frame w.happened is.happened
+                  by_frame (map (shifted_event (length (in_turn w.ps).items)) (arranged_run r w.run).events) (in_turn w.ps).events s now next w.frame w.happened is.happened
                   ∙ ap (λ es. origins_by es s) (sym (happens w.ps (arranged_run r w.run) y));
               frame = is.frame ∙ w.frame;
               ready = is.ready;
               whole =
-                  append_assoc w.ps (arranged_run r w.run ∷ kept (y ∷ []) ∷ []) (arranged_runs r [] ys) ∙ ap (λ ps. w.ps ++ ps) (sym (ap (arranged_runs r w.run) e ∙ cond-true _ _ _ t)) ∙ w.whole;
+                  append_assoc w.ps (arranged_run r w.run ∷ eventless_arrangement (y ∷ []) ∷ []) (arranged_runs r [] ys) ∙ ap (λ ps. w.ps ++ ps) (sym (ap (arranged_runs r w.run) e ∙ cond-true _ _ _ t)) ∙ w.whole;
             }
         by_class false t on = record {
           ps = w.ps;
@@ -314,7 +314,7 @@ ordering_more r count at start n s now next lt w goes = by_case w.ys refl
           whole = ap (λ ps. w.ps ++ ps) (sym (ap (arranged_runs r w.run) e ∙ cond-false _ _ _ t)) ∙ w.whole;
         }
 
-pub ordering_done : (r : List Item → Arranged) (count at start : ℕ) (s now next : Sides) → count ≤ at → IsOrdering r count at start s now → Rearranges (arranged_run r) start count now next → IsRearranged [] (ordered_list r (items_of s)) [] s next
+pub ordering_done : (r : List Item → Arrangement) (count at start : ℕ) (s now next : Sides) → count ≤ at → IsOrdering r count at start s now → Rearranges (arranged_run r) start count now next → IsRearranged [] (ordered_list r (items_of s)) [] s next
 ordering_done r count at start s now next le w goes = by_case w.ys refl
   where
     by_case : (zs : List Item) → w.ys ≡ zs → IsRearranged [] (ordered_list r (items_of s)) [] s next
@@ -326,11 +326,11 @@ ordering_done r count at start s now next le w goes = by_case w.ys refl
         let whole : in_turn (w.ps ++ arranged_run r w.run ∷ []) ≡ ordered_list r (items_of s) = ap in_turn (ap (λ zs. w.ps ++ arranged_runs r w.run zs) (sym e) ∙ w.whole) in
         let both : beside (in_turn w.ps) (in_turn (arranged_run r w.run ∷ [])) ≡ ordered_list r (items_of s) = in_turn_both w.ps (arranged_run r w.run ∷ []) ∙ whole in
         record {
-          items = is.items ∙ ap (λ (b : Arranged). b.items) both ∙ sym (append-nil (ordered_list r (items_of s)).items);
+          items = is.items ∙ ap (λ (b : Arrangement). b.items) both ∙ sym (append-nil (ordered_list r (items_of s)).items);
           happened =
-              by_frame (map (shifted (length (in_turn w.ps).items)) (arranged_run r w.run).events) (in_turn w.ps).events s now next w.frame w.happened is.happened
-              ∙ ap (λ es. origins_by ((in_turn w.ps).events ++ map (shifted (length (in_turn w.ps).items)) es) s) (sym (append-nil (arranged_run r w.run).events))
-              ∙ ap (λ (b : Arranged). origins_by b.events s) both ∙ ap (λ es. origins_by es s) (sym (all_shifted_none (ordered_list r (items_of s)).events));
+              by_frame (map (shifted_event (length (in_turn w.ps).items)) (arranged_run r w.run).events) (in_turn w.ps).events s now next w.frame w.happened is.happened
+              ∙ ap (λ es. origins_by ((in_turn w.ps).events ++ map (shifted_event (length (in_turn w.ps).items)) es) s) (sym (append-nil (arranged_run r w.run).events))
+              ∙ ap (λ (b : Arrangement). origins_by b.events s) both ∙ ap (λ es. origins_by es s) (sym (all_shifted_none (ordered_list r (items_of s)).events));
           frame = is.frame ∙ w.frame;
           ready = is.ready;
         }

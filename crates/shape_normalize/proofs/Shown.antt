@@ -11,8 +11,8 @@ use Rattle.buffer_glyphs.specs.Origins.{origin_of, origins}
 use Rattle.buffer_core.specs.Sides.{Sides, all_glyphs, items_of}
 use Rattle.buffer_core.specs.Lending.{with_glyph_ahead}
 use Rattle.buffer_stages.specs.Ready.{IsReady}
-use Rattle.buffer_properties.specs.Characters.{mark_class, shown}
-use Rattle.buffer_properties.specs.Ordering.{joiner_between, joiners_shown, keeps_nothing_apart, with_joiners_shown}
+use Rattle.buffer_properties.specs.Characters.{mark_class, visible_item}
+use Rattle.buffer_properties.specs.Ordering.{joiner_between, joiners_shown, separates_nothing, with_joiners_shown}
 use Rattle.buffer_stages.specs.Brought.{frame_of}
 use Rattle.shape_normalize.specs.Runs.{HasItems, ShowsAt}
 use Rattle.shape_normalize.proofs.Compositions.{length_set, set_seen, set_same}
@@ -34,7 +34,7 @@ seen_next i front x y ys g s ready e len at =
 stays : (xs : List Item) (s : Sides) → items_of s ≡ xs → IsReady s → HasItems xs s s
 stays xs s e ready = record { items = e; origins = refl; frame = refl; ready = ready }
 
-not_joined : (before x y : Item) → (x.number == 0x034F && keeps_nothing_apart before y) ≡ false → joiner_between before x y ≡ x
+not_joined : (before x y : Item) → (x.number == 0x034F && separates_nothing before y) ≡ false → joiner_between before x y ≡ x
 not_joined before x y e = cond-false _ _ _ e
 
 -- what is no joiner stays
@@ -43,10 +43,10 @@ no_joiner k i n g s ready at class other front before x y ys e len met =
     let same = seen_at i front x (y ∷ ys) g s ready e len at in
     let number = ap (λ (z : Item). z.number) same in
     let t : (x.number == 0x034F) ≡ false = grind (arith, nat_tests, number, other) in
-    let is = not_joined before x y (ap (λ b. b && keeps_nothing_apart before y) t) in
+    let is = not_joined before x y (ap (λ b. b && separates_nothing before y) t) in
     (class ∙ ap mark_class same, stays (front ++ (joiner_between before x y ∷ y ∷ ys)) s (e ∙ ap (λ z. front ++ (z ∷ y ∷ ys)) (sym is)) ready)
 
-apart : (k m : ℕ) (before y : Item) → mark_class before ≡ k → m ≡ mark_class y → (m == 0 || nat_le k m) ≡ keeps_nothing_apart before y
+apart : (k m : ℕ) (before y : Item) → mark_class before ≡ k → m ≡ mark_class y → (m == 0 || nat_le k m) ≡ separates_nothing before y
 apart k m before y met next = ap₂ (λ a b. b == 0 || nat_le a b) (sym met) next
 
 -- a joiner that keeps two items apart stays
@@ -55,7 +55,7 @@ pub apart_stays : (k i n m : ℕ) (g h : hb_glyph_info_t) (s : Sides) → IsRead
 apart_stays k i n m g h s ready at class there next off front before x y ys e len met =
     let same = seen_at i front x (y ∷ ys) g s ready e len at in
     let behind = next ∙ ap mark_class (seen_next i front x y ys h s ready e len there) in
-    let off_too : keeps_nothing_apart before y ≡ false = sym (apart k m before y met behind) ∙ off in
+    let off_too : separates_nothing before y ≡ false = sym (apart k m before y met behind) ∙ off in
     let is = not_joined before x y (ap (λ b. x.number == 0x034F && b) off_too ∙ never (x.number == 0x034F)) in
     (class ∙ ap mark_class same, stays (front ++ (joiner_between before x y ∷ y ∷ ys)) s (e ∙ ap (λ z. front ++ (z ∷ y ∷ ys)) (sym is)) ready)
   where
@@ -65,21 +65,21 @@ apart_stays k i n m g h s ready at class there next off front before x y ys e le
 
 -- a joiner that keeps nothing apart is shown
 pub joiner_shown : (k i n m : ℕ) (g h j : hb_glyph_info_t) (s t : Sides) → IsReady s → slice_get s.ahead i ≡ Some g → n ≡ mark_class (item_of g) → slice_get s.ahead (i + 1) ≡ Some h → m ≡ mark_class (item_of h)
-    → g.glyph_id ≡ 0x034F → (m == 0 || nat_le k m) ≡ true → item_of j ≡ shown (item_of g) → origin_of j ≡ origin_of g → t ≡ with_glyph_ahead i j s → ShowsAt k i n s t
+    → g.glyph_id ≡ 0x034F → (m == 0 || nat_le k m) ≡ true → item_of j ≡ visible_item (item_of g) → origin_of j ≡ origin_of g → t ≡ with_glyph_ahead i j s → ShowsAt k i n s t
 joiner_shown k i n m g h j s t ready at class there next number on item origin is front before x y ys e len met =
     let same = seen_at i front x (y ∷ ys) g s ready e len at in
     let behind = next ∙ ap mark_class (seen_next i front x y ys h s ready e len there) in
     let named = ap (λ (z : Item). z.number) same in
     let one : (x.number == 0x034F) ≡ true = grind (arith, nat_tests, named, number) in
-    let two : keeps_nothing_apart before y ≡ true = sym (apart k m before y met behind) ∙ on in
-    let becomes : joiner_between before x y ≡ shown x = cond-true _ _ _ (ap₂ (λ a b. a && b) one two) in
+    let two : separates_nothing before y ≡ true = sym (apart k m before y met behind) ∙ on in
+    let becomes : joiner_between before x y ≡ visible_item x = cond-true _ _ _ (ap₂ (λ a b. a && b) one two) in
     let ahead : strip s.ahead ≡ front ++ (x ∷ y ∷ ys) = ap strip (sym (all_ahead s ready)) ∙ e in
     let front_too : t.behind ≡ [] = ap (λ (q : Sides). q.behind) is ∙ ready.front in
     let all : all_glyphs t ≡ slice_set s.ahead i j = ap₂ (λ hs ks. hs ++ ks) front_too (ap (λ (q : Sides). q.ahead) is) in (
       class ∙ ap mark_class same,
       record {
         items =
-            ap strip all ∙ set_seen item_of s.ahead i j ∙ ap₂ (λ xs z. slice_set xs i z) ahead (item ∙ ap shown same ∙ sym becomes)
+            ap strip all ∙ set_seen item_of s.ahead i j ∙ ap₂ (λ xs z. slice_set xs i z) ahead (item ∙ ap visible_item same ∙ sym becomes)
             ∙ ap (λ n. slice_set (front ++ (x ∷ y ∷ ys)) n (joiner_between before x y)) (sym len) ∙ set_seam front x (y ∷ ys) (joiner_between before x y);
         origins =
             let there : slice_get (origins s.ahead) i ≡ Some (origin_of g) = slice_get-map origin_of s.ahead i ∙ ap (option_map origin_of) at in

@@ -10,10 +10,10 @@ use Rattle.buffer_glyphs.specs.Items.{Item, item_of, strip}
 use Rattle.buffer_glyphs.specs.Origins.{origins}
 use Rattle.buffer_glyphs.specs.Events.{Event, origins_after}
 use Rattle.buffer_glyphs.specs.Lemmas.Origins.{origins_after_both}
-use Rattle.buffer_core.specs.Sides.{Sides, all_glyphs, asks_of, origins_of, origins_by, moved_on}
-use Rattle.buffer_glyphs.specs.Arranged.{Arranged, kept, shifted}
+use Rattle.buffer_core.specs.Sides.{Sides, all_glyphs, flag_requests_of, origins_of, origins_by, after_next_glyphs}
+use Rattle.buffer_glyphs.specs.Rewriting.{Arrangement, eventless_arrangement, shifted_event}
 use Rattle.buffer_properties.specs.Characters.{is_mark, mark_class}
-use Rattle.buffer_properties.specs.Composing.{becoming, composite, composed_from, composed_list, with_composition, is_reaching, last_class}
+use Rattle.buffer_properties.specs.Composing.{becoming, composite, composition_from, composed_list, with_composition, is_not_blocked, last_class}
 use Rattle.buffer_properties.specs.Normalizer.{Normalizer}
 use Rattle.buffer_stages.specs.Brought.{Brought, frame_of}
 use Rattle.shape_rounds.proofs.Lemmas.Chain.{all_shifted_none}
@@ -23,10 +23,10 @@ use Rattle.shape_normalize.proofs.Room.{room_kept}
 use Rattle.shape_normalize.proofs.Compositions.{room_passed}
 
 -- events, and then an arrangement
-abbrev before : List Event → Arranged → Arranged
+abbrev before : List Event → Arrangement → Arrangement
 before es a = record { items = a.items; events = es ++ a.events }
 
-before_both : (es fs : List Event) (a : Arranged) → before es (before fs a) ≡ before (es ++ fs) a
+before_both : (es fs : List Event) (a : Arrangement) → before es (before fs a) ≡ before (es ++ fs) a
 before_both es fs a = ap (λ gs. record { items = a.items; events = gs }) (sym (append_assoc es fs a.events))
 
 -- that many items were walked over since the first; the last starter is there
@@ -43,10 +43,10 @@ pub record IsComposing (c : Normalizer) (count at n : ℕ) (start now : Sides) :
   pub happened : origins_of now ≡ origins_by es start
   pub frame : frame_of now ≡ frame_of start
   pub room : HasRoom now
-  pub whole : (y : Item) (zs : List Item) → strip start.behind ≡ y ∷ [] → strip start.ahead ≡ zs → composed_from c [] y [] zs ≡ before es (composed_from c done x between ys)
+  pub whole : (y : Item) (zs : List Item) → strip start.behind ≡ y ∷ [] → strip start.ahead ≡ zs → composition_from c [] y [] zs ≡ before es (composition_from c done x between ys)
 
-pub composing_begun : (c : Normalizer) (count : ℕ) (s p : Sides) → HasRoom s → s.behind ≡ [] → count ≡ length s.ahead → 0 < count → p ≡ moved_on 1 s → all_glyphs p ≡ all_glyphs s → IsComposing c count 1 0 p p
-composing_begun c count s p room front len some next kept = by_case s.ahead refl
+pub composing_begun : (c : Normalizer) (count : ℕ) (s p : Sides) → HasRoom s → s.behind ≡ [] → count ≡ length s.ahead → 0 < count → p ≡ after_next_glyphs 1 s → all_glyphs p ≡ all_glyphs s → IsComposing c count 1 0 p p
+composing_begun c count s p room front len some next eventless_arrangement = by_case s.ahead refl
   where
     by_case : (gs : List hb_glyph_info_t) → s.ahead ≡ gs → IsComposing c count 1 0 p p
     by_case [] e = absurd (let none = ap length e in omega (arith, none, len, some))
@@ -65,11 +65,11 @@ composing_begun c count s p room front len some next kept = by_case s.ahead refl
           left = let all = ap length e in omega (arith, all, len, length-map gs item_of);
           happened = refl;
           frame = refl;
-          room = room_passed s p room next kept;
+          room = room_passed s p room next eventless_arrangement;
           whole = λ y zs f h.
               let same : item_of g ∷ [] ≡ y ∷ [] = sym (ap strip back) ∙ f in
               let first : item_of g ≡ y = cc in
-              ap₂ (λ y zs. composed_from c [] y [] zs) (sym first) (sym h ∙ ap strip rest);
+              ap₂ (λ y zs. composition_from c [] y [] zs) (sym first) (sym h ∙ ap strip rest);
         }
 
 pub composing_room : (c : Normalizer) (count at n : ℕ) (start now : Sides) → IsComposing c count at n start now → HasRoom now
@@ -94,8 +94,8 @@ set_seam (w ∷ xs) x ys z = ap (λ zs. w ∷ zs) (set_seam xs x ys z)
 -- events from a state with the same frame
 pub by_frame : (fs : List Event) (es : List Event) (start now next : Sides) → frame_of now ≡ frame_of start → origins_of now ≡ origins_by es start → origins_of next ≡ origins_by fs now → origins_of next ≡ origins_by (es ++ fs) start
 by_frame fs es start now next frame before after =
-    after ∙ ap (λ q. origins_after q now.level fs (origins_of now)) (ap asks_of frame) ∙ ap (λ l. origins_after (asks_of start) l fs (origins_of now)) (ap (λ (t : Sides). t.level) frame)
-    ∙ ap (origins_after (asks_of start) start.level fs) before ∙ sym (origins_after_both (asks_of start) start.level es fs (origins_of start))
+    after ∙ ap (λ q. origins_after q now.level fs (origins_of now)) (ap flag_requests_of frame) ∙ ap (λ l. origins_after (flag_requests_of start) l fs (origins_of now)) (ap (λ (t : Sides). t.level) frame)
+    ∙ ap (origins_after (flag_requests_of start) start.level fs) before ∙ sym (origins_after_both (flag_requests_of start) start.level es fs (origins_of start))
 
 both_sides : (a b : Sides) → length (strip a.behind) ≡ length (strip b.behind) → length (strip a.ahead) ≤ length (strip b.ahead) → length (all_glyphs a) ≤ length (all_glyphs b)
 both_sides a b front back =
@@ -115,17 +115,17 @@ count_at done x between s e =
     omega (arith, one, two, three)
 
 joined_from : (c : Normalizer) (done : List Item) (x z : Item) (between : List Item) (y : Item) (ys : List Item) (n : ℕ) → composite c x between y ≡ Some z → n ≡ length done + 1 + length between
-    → composed_from c done x between (y ∷ ys) ≡ before (composition_events (length done) n) (composed_from c done z between ys)
+    → composition_from c done x between (y ∷ ys) ≡ before (composition_events (length done) n) (composition_from c done z between ys)
 joined_from c done x z between y ys n found count =
-    ap (λ o. option_map_or (λ composed. with_composition (length done) (length done + 1 + length between) (composed_from c done composed between ys)) o
-    (if mark_class y == 0 then composed_from c (done ++ x ∷ between) y [] ys else composed_from c done x (between ++ y ∷ []) ys)) found
-    ∙ ap (λ k. with_composition (length done) k (composed_from c done z between ys)) (sym count)
+    ap (λ o. option_map_or (λ composed. with_composition (length done) (length done + 1 + length between) (composition_from c done composed between ys)) o
+    (if mark_class y == 0 then composition_from c (done ++ x ∷ between) y [] ys else composition_from c done x (between ++ y ∷ []) ys)) found
+    ∙ ap (λ k. with_composition (length done) k (composition_from c done z between ys)) (sym count)
 
 passed_from : (c : Normalizer) (done : List Item) (x : Item) (between : List Item) (y : Item) (ys : List Item) → composite c x between y ≡ None
-    → composed_from c done x between (y ∷ ys) ≡ (if mark_class y == 0 then composed_from c (done ++ x ∷ between) y [] ys else composed_from c done x (between ++ y ∷ []) ys)
+    → composition_from c done x between (y ∷ ys) ≡ (if mark_class y == 0 then composition_from c (done ++ x ∷ between) y [] ys else composition_from c done x (between ++ y ∷ []) ys)
 passed_from c done x between y ys none =
-    ap (λ o. option_map_or (λ composed. with_composition (length done) (length done + 1 + length between) (composed_from c done composed between ys)) o
-    (if mark_class y == 0 then composed_from c (done ++ x ∷ between) y [] ys else composed_from c done x (between ++ y ∷ []) ys)) none
+    ap (λ o. option_map_or (λ composed. with_composition (length done) (length done + 1 + length between) (composition_from c done composed between ys)) o
+    (if mark_class y == 0 then composition_from c (done ++ x ∷ between) y [] ys else composition_from c done x (between ++ y ∷ []) ys)) none
 
 pub composing_more : (c : Normalizer) (count at n m : ℕ) (start now next : Sides) → at < count → IsComposing c count at n start now → Composes c n m now next → IsComposing c count (at + 1) m start next
 composing_more c count at n m start now next lt w goes = by_case w.ys refl
@@ -165,9 +165,9 @@ composing_more c count at n m start now next lt w goes = by_case w.ys refl
                   let six = ap length (w.ahead ∙ e) in
                   room_kept now next is.frame (both_sides next now (omega (arith, one, two, three, four)) (omega (arith, five, six))) w.room;
               whole = λ v zs f h.
-                  w.whole v zs f h ∙ ap (λ zs. before w.es (composed_from c w.done w.x w.between zs)) e
+                  w.whole v zs f h ∙ ap (λ zs. before w.es (composition_from c w.done w.x w.between zs)) e
                   ∙ ap (before w.es) (joined_from c w.done w.x z w.between y ys (length now.behind) found there)
-                  ∙ before_both w.es fs (composed_from c w.done z w.between ys);
+                  ∙ before_both w.es fs (composition_from c w.done z w.between ys);
             }
         by_found y ys e None found goes = by_class (mark_class y == 0) refl
           where
@@ -207,7 +207,7 @@ composing_more c count at n m start now next lt w goes = by_case w.ys refl
               frame = holds;
               room = room_passed now next w.room goes.moved goes.kept;
               whole = λ v zs f h.
-                  w.whole v zs f h ∙ ap (λ zs. before w.es (composed_from c w.done w.x w.between zs)) e
+                  w.whole v zs f h ∙ ap (λ zs. before w.es (composition_from c w.done w.x w.between zs)) e
                   ∙ ap (before w.es) (passed_from c w.done w.x w.between y ys found ∙ cond-true _ _ _ t);
             }
             by_class false t = record {
@@ -224,11 +224,11 @@ composing_more c count at n m start now next lt w goes = by_case w.ys refl
               frame = holds;
               room = room_passed now next w.room goes.moved goes.kept;
               whole = λ v zs f h.
-                  w.whole v zs f h ∙ ap (λ zs. before w.es (composed_from c w.done w.x w.between zs)) e
+                  w.whole v zs f h ∙ ap (λ zs. before w.es (composition_from c w.done w.x w.between zs)) e
                   ∙ ap (before w.es) (passed_from c w.done w.x w.between y ys found ∙ cond-false _ _ _ t);
             }
 
-pub composing_done : (c : Normalizer) (count at n : ℕ) (s p now : Sides) → count ≤ at → s.behind ≡ [] → count ≡ length s.ahead → 0 < count → p ≡ moved_on 1 s → all_glyphs p ≡ all_glyphs s → IsComposing c count at n p now
+pub composing_done : (c : Normalizer) (count at n : ℕ) (s p now : Sides) → count ≤ at → s.behind ≡ [] → count ≡ length s.ahead → 0 < count → p ≡ after_next_glyphs 1 s → all_glyphs p ≡ all_glyphs s → IsComposing c count at n p now
     → Brought (composed_list c (strip s.ahead)) [] s now
 composing_done c count at n s p now le front len some next same w = by_case s.ahead refl w.ys refl
   where
@@ -238,17 +238,17 @@ composing_done c count at n s p now le front len some next same w = by_case s.ah
     by_case (g ∷ gs) e [] f =
         let back : p.behind ≡ g ∷ [] = ap (λ (t : Sides). t.behind) next ∙ ap₂ (λ hs ks. hs ++ take 1 ks) front e in
         let rest : p.ahead ≡ gs = ap (λ (t : Sides). t.ahead) next ∙ ap (drop 1) e in
-        let is : composed_list c (strip s.ahead) ≡ before w.es (kept (w.done ++ w.x ∷ w.between)) =
-        ap (λ hs. composed_list c (strip hs)) e ∙ w.whole (item_of g) (strip gs) (ap strip back) (ap strip rest) ∙ ap (λ zs. before w.es (composed_from c w.done w.x w.between zs)) f in
+        let is : composed_list c (strip s.ahead) ≡ before w.es (eventless_arrangement (w.done ++ w.x ∷ w.between)) =
+        ap (λ hs. composed_list c (strip hs)) e ∙ w.whole (item_of g) (strip gs) (ap strip back) (ap strip rest) ∙ ap (λ zs. before w.es (composition_from c w.done w.x w.between zs)) f in
         let frame : frame_of p ≡ frame_of s = ap frame_of next in
         record {
-          behind = w.behind ∙ ap (λ (a : Arranged). a.items) (sym is) ∙ ap (λ hs. strip hs ++ (composed_list c (strip s.ahead)).items) (sym front);
+          behind = w.behind ∙ ap (λ (a : Arrangement). a.items) (sym is) ∙ ap (λ hs. strip hs ++ (composed_list c (strip s.ahead)).items) (sym front);
           ahead = w.ahead ∙ f;
           happened =
-              let events : (composed_list c (strip s.ahead)).events ≡ w.es = ap (λ (a : Arranged). a.events) is ∙ append-nil w.es in
-              w.happened ∙ ap (λ (t : Sides). origins_after (asks_of t) t.level w.es (origins_of p)) frame ∙ ap (λ hs. origins_after (asks_of s) s.level w.es (origins hs)) same
+              let events : (composed_list c (strip s.ahead)).events ≡ w.es = ap (λ (a : Arrangement). a.events) is ∙ append-nil w.es in
+              w.happened ∙ ap (λ (t : Sides). origins_after (flag_requests_of t) t.level w.es (origins_of p)) frame ∙ ap (λ hs. origins_after (flag_requests_of s) s.level w.es (origins hs)) same
               ∙ ap (λ fs. origins_by fs s) (sym events ∙ sym (all_shifted_none (composed_list c (strip s.ahead)).events))
-              ∙ ap (λ k. origins_by (map (shifted k) (composed_list c (strip s.ahead)).events) s) (ap length (sym front));
+              ∙ ap (λ k. origins_by (map (shifted_event k) (composed_list c (strip s.ahead)).events) s) (ap length (sym front));
           frame = w.frame ∙ frame;
         }
 
@@ -290,7 +290,7 @@ last_at xs z (v ∷ zs) w e =
     last_at (xs ++ z ∷ []) v zs w
     (ap₂ slice_get (append_assoc xs (z ∷ []) (v ∷ zs)) (let one = length-append xs (z ∷ []) in omega (arith, one)) ∙ e)
 
-pub reaches_beside : (n : ℕ) (done : List Item) (x : Item) (between : List Item) (y : Item) (ys : List Item) (s : Sides) → IsAt n done x between y ys s → length s.behind ≡ n + 1 → is_reaching between y ≡ true
+pub reaches_beside : (n : ℕ) (done : List Item) (x : Item) (between : List Item) (y : Item) (ys : List Item) (s : Sides) → IsAt n done x between y ys s → length s.behind ≡ n + 1 → is_not_blocked between y ≡ true
 reaches_beside n done x [] y ys s at e = refl
 reaches_beside n done x (z ∷ zs) y ys s at e =
     let there = count_at done x (z ∷ zs) s at.behind in
@@ -298,7 +298,7 @@ reaches_beside n done x (z ∷ zs) y ys s at e =
     absurd (omega (arith, there, starts, e))
 
 pub reaches_past : (n : ℕ) (done : List Item) (x : Item) (between : List Item) (y : Item) (ys : List Item) (g h : hb_glyph_info_t) (s : Sides) → IsAt n done x between y ys s → length s.behind ≢ n + 1
-    → slice_get s.behind (length s.behind - 1) ≡ Some g → slice_get s.ahead 0 ≡ Some h → is_reaching between y ≡ nat_lt (mark_class (item_of g)) (mark_class (item_of h))
+    → slice_get s.behind (length s.behind - 1) ≡ Some g → slice_get s.ahead 0 ≡ Some h → is_not_blocked between y ≡ nat_lt (mark_class (item_of g)) (mark_class (item_of h))
 reaches_past n done x [] y ys g h s at some last next =
     let there = count_at done x [] s at.behind in
     let starts = at.starts in
@@ -315,13 +315,13 @@ reaches_past n done x (z ∷ zs) y ys g h s at some last next =
 
 pub no_mark : (c : Normalizer) (x : Item) (between : List Item) (y : Item) → is_mark y ≡ false → composite c x between y ≡ None
 unfolding composite
-no_mark c x between y e = cond-false _ _ _ (ap (λ t. t && is_reaching between y) e)
+no_mark c x between y e = cond-false _ _ _ (ap (λ t. t && is_not_blocked between y) e)
 
-pub out_of_reach : (c : Normalizer) (x : Item) (between : List Item) (y : Item) → is_mark y ≡ true → is_reaching between y ≡ false → composite c x between y ≡ None
+pub out_of_reach : (c : Normalizer) (x : Item) (between : List Item) (y : Item) → is_mark y ≡ true → is_not_blocked between y ≡ false → composite c x between y ≡ None
 unfolding composite
 out_of_reach c x between y m e = cond-false _ _ _ (ap₂ (λ t u. t && u) m e)
 
-pub in_reach : (c : Normalizer) (x : Item) (between : List Item) (y : Item) → is_mark y ≡ true → is_reaching between y ≡ true → composite c x between y ≡ option_and_then (becoming c x) (c.composes x.number y.number)
+pub in_reach : (c : Normalizer) (x : Item) (between : List Item) (y : Item) → is_mark y ≡ true → is_not_blocked between y ≡ true → composite c x between y ≡ option_and_then (becoming c x) (c.composes x.number y.number)
 unfolding composite
 in_reach c x between y m e = cond-true _ _ _ (ap₂ (λ t u. t && u) m e)
 

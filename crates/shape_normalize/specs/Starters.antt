@@ -1,7 +1,7 @@
 -- The walk from starter to starter in an open output.
 use Rattle.std.specs.Prelude.{ℕ, ◌≡◌, ◌==◌, ◌++◌, if◌then◌else◌, List, ◌∷◌, length, Option, Some, None, option_map}
 use Rattle.buffer_glyphs.specs.Items.{Item, strip}
-use Rattle.buffer_core.specs.Sides.{Sides, all_glyphs, moved_on}
+use Rattle.buffer_core.specs.Sides.{Sides, all_glyphs, after_next_glyphs}
 use Rattle.buffer_properties.specs.Characters.{mark_class, standing_for, with_glyph}
 use Rattle.buffer_properties.specs.Composing.{composite}
 use Rattle.buffer_properties.specs.Normalizer.{Normalizer}
@@ -25,7 +25,7 @@ Composites c n found s = (done : List Item) (x : Item) (between : List Item) (y 
 -- the current item was output, and is the last starter where its class is 0
 pub record IsPassed (n m : ℕ) (y : Item) (old new : Sides) : Type 0 where
   pub starter : m ≡ (if mark_class y == 0 then length old.behind else n)
-  pub moved : new ≡ moved_on 1 old
+  pub moved : new ≡ after_next_glyphs 1 old
   pub kept : all_glyphs new ≡ all_glyphs old
 
 -- the current item was output, and a call returns the index of the last starter

@@ -1,9 +1,9 @@
 //! The third round: composes marks with their base (rustybuzz: hb/ot_shape_normalize.rs).
 ghost use Rattle.std.specs.Prelude.{◌≡◌, ◌<◌, ◌≤◌, length, drop, slice_get, Some, IfErr, OnOk};
 ghost use Rattle.buffer_glyphs.specs.Items.{Item, strip};
-ghost use Rattle.buffer_core.specs.Sides.{all_glyphs, moved_on, origins_by, origins_of};
+ghost use Rattle.buffer_core.specs.Sides.{all_glyphs, after_next_glyphs, origins_by, origins_of};
 ghost use Rattle.buffer_core.specs.Lending.{with_glyph_ahead};
-ghost use Rattle.buffer_core.specs.Moving.{moved_to};
+ghost use Rattle.buffer_core.specs.Moving.{after_move_to};
 ghost use Rattle.buffer_properties.specs.Characters.{standing_for, with_glyph};
 ghost use Rattle.buffer_stages.specs.Brought.{frame_of};
 ghost use Rattle.shape_normalize.specs.Composed.{composition_events, HasRoom, IsComposed, IsWritten};
@@ -19,7 +19,7 @@ use shape_rounds::normalizing::Normalizing;
 pub(crate) fn pass_glyph(buffer: &mut hb_buffer_t) -> Result<(), ShapeCause>
     requires room { HasRoom buffer.old }
     requires there { 0 < length buffer.old.ahead }
-    ensures moved { OnOk result (buffer.new ≡ moved_on 1 buffer.old) }
+    ensures moved { OnOk result (buffer.new ≡ after_next_glyphs 1 buffer.old) }
     ensures kept { OnOk result (all_glyphs buffer.new ≡ all_glyphs buffer.old) }
     ensures err { IfErr result (λ e. e ≡ ShapeCause.OutOfMemory) }
 {
@@ -34,7 +34,7 @@ pub(crate) fn pass_glyph(buffer: &mut hb_buffer_t) -> Result<(), ShapeCause>
 fn go_to(at: usize, buffer: &mut hb_buffer_t) -> Result<(), ShapeCause>
     requires room { HasRoom buffer.old }
     requires within { at ≤ length (all_glyphs buffer.old) }
-    ensures moved { OnOk result (buffer.new ≡ moved_to at buffer.old) }
+    ensures moved { OnOk result (buffer.new ≡ after_move_to at buffer.old) }
     ensures kept { OnOk result (all_glyphs buffer.new ≡ all_glyphs buffer.old) }
     ensures err { IfErr result (λ e. e ≡ ShapeCause.OutOfMemory) }
 {

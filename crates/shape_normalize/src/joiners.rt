@@ -4,7 +4,7 @@ ghost use Rattle.buffer_glyphs.specs.Items.{item_of};
 ghost use Rattle.buffer_glyphs.specs.Origins.{origin_of};
 ghost use Rattle.buffer_core.specs.Sides.{items_of};
 ghost use Rattle.buffer_stages.specs.Ready.{IsReady};
-ghost use Rattle.buffer_properties.specs.Characters.{shown};
+ghost use Rattle.buffer_properties.specs.Characters.{visible_item};
 ghost use Rattle.buffer_properties.specs.Ordering.{joiners_shown};
 ghost use Rattle.shape_normalize.specs.Runs.{HasItems, ShowsAt};
 
@@ -26,7 +26,7 @@ fn keeps_nothing_apart(before: u8, after: u8) -> bool
 
 /// A character that is not hidden any more.
 fn shown(info: &hb_glyph_info_t) -> hb_glyph_info_t
-    ensures item { item_of result ≡ shown (item_of info.now) }
+    ensures item { item_of result ≡ visible_item (item_of info.now) }
     ensures origin { origin_of result ≡ origin_of info.now }
 {
     let word = info.unicode_props.0;

@@ -2,8 +2,8 @@
 ghost use Rattle.std.specs.Prelude.{◌≡◌, ◌≢◌, length, IfErr, OnOk, Err};
 ghost use Rattle.std.specs.List.{list_any};
 ghost use Rattle.buffer_glyphs.specs.Items.{item_of, strip};
-ghost use Rattle.buffer_core.specs.Readings.{read_of};
-ghost use Rattle.buffer_core.specs.Sides.{all_glyphs, items_of, run_of, zero_positions};
+ghost use Rattle.buffer_core.specs.Readings.{reading_of};
+ghost use Rattle.buffer_core.specs.Sides.{all_glyphs, items_of, state_of, zero_positions};
 ghost use Rattle.buffer_stages.specs.Ready.{IsReady};
 ghost use Rattle.buffer_stages.specs.Stages.{IsFollowed};
 ghost use Rattle.buffer_properties.specs.Characters.{is_mark};
@@ -97,7 +97,7 @@ pub fn _hb_ot_shape_normalize<N: Normalizing>(
     requires ready { IsReady buffer.old }
     ensures ok { OnOk result (IsFollowed (normalization (N.normalizer by.now)) buffer.old buffer.new) }
     ensures err { IfErr result (λ e. e ≢ ShapeCause.OutOfMemory
-        → read_of (normalization (N.normalizer by.now)) (run_of buffer.old) ≡ Err e) }
+        → reading_of (normalization (N.normalizer by.now)) (state_of buffer.old) ≡ Err e) }
 {
     let is_marked = has_later_mark(buffer.info_slice());
     expand_characters(by, buffer)?;

@@ -1,6 +1,6 @@
 //! The first and the third round, each over its own output (rustybuzz: hb/ot_shape_normalize.rs).
 ghost use Rattle.std.specs.Prelude.{◌≡◌, ◌≢◌, ◌≤◌, ◌<◌, length, IfErr, OnOk};
-ghost use Rattle.buffer_core.specs.Sides.{items_of, synced};
+ghost use Rattle.buffer_core.specs.Sides.{items_of, after_sync};
 ghost use Rattle.buffer_stages.specs.Ready.{IsReady};
 ghost use Rattle.buffer_properties.specs.Composing.{composed_list};
 ghost use Rattle.buffer_properties.specs.Expanding.{expanded_list};
@@ -46,7 +46,7 @@ pub(crate) fn expand_characters<N: Normalizing>(
 #[tactic(auto, using(crate::proofs::Room::fits_whole))]
 fn join_output(buffer: &mut hb_buffer_t) -> Result<(), ShapeCause>
     requires room { HasRoom buffer.old }
-    ensures ok { OnOk result (buffer.new ≡ synced buffer.old) }
+    ensures ok { OnOk result (buffer.new ≡ after_sync buffer.old) }
     ensures err { IfErr result (λ e. e ≡ ShapeCause.OutOfMemory) }
 {
     if !buffer.sync()? {

@@ -4,7 +4,7 @@ ghost use Rattle.std.specs.Prelude.{◌≡◌, ◌<◌, List, [], length, IfErr,
 ghost use Rattle.std.specs.Option.{option_and_then};
 ghost use Rattle.buffer_glyphs.specs.Items.{Item, item_of, strip};
 ghost use Rattle.buffer_core.specs.Sides.{all_glyphs};
-ghost use Rattle.buffer_properties.specs.Composing.{becoming, composed_list, is_reaching};
+ghost use Rattle.buffer_properties.specs.Composing.{becoming, composed_list, is_not_blocked};
 ghost use Rattle.buffer_stages.specs.Brought.{Brought};
 ghost use Rattle.shape_normalize.specs.Composed.{HasRoom};
 ghost use Rattle.shape_normalize.specs.Starters.{become, Composes, Composites, IsAt, Passes};
@@ -23,7 +23,7 @@ fn is_reaching(starter: usize, buffer: &hb_buffer_t) -> bool
     requires there { 0 < length buffer.now.ahead }
     requires behind { starter < length buffer.now.behind }
     ensures { (done : List Item) (x : Item) (between : List Item) (y : Item) (ys : List Item)
-        → IsAt starter done x between y ys buffer.now → result ≡ is_reaching between y }
+        → IsAt starter done x between y ys buffer.now → result ≡ is_not_blocked between y }
 {
     if buffer.out_len() == starter + 1 {
         return true;

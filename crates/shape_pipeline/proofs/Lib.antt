@@ -10,3 +10,4 @@ mod Whole
 mod Numbers
 mod Shaped
 mod Texts
+mod Agreeing

@@ -3,33 +3,33 @@ use Rattle.std.proofs.Common.{ℕ, ◌≡◌, [], ◌∷◌, Ok, Err, Option, sy
 use Rattle.std.specs.Prelude.{◌≢◌, IfErr, IsErrAnd, Result}
 use Rattle.buffer_glyphs.specs.declared.cause.ShapeCause.TheVariants.{OutOfMemory}
 use Rattle.buffer_glyphs.specs.declared.cause.ShapeCause.{ShapeCause}
-use Rattle.buffer_core.specs.Readings.{Stage, always, read_of}
-use Rattle.buffer_core.specs.Sides.{Sides, run_of, settings_of}
+use Rattle.buffer_core.specs.Readings.{Stage, always, reading_of}
+use Rattle.buffer_core.specs.Sides.{Sides, state_of, settings_of}
 use Rattle.buffer_stages.specs.Ready.{IsDone}
 use Rattle.layout_links.specs.Finishing.{links_followed}
 use Rattle.buffer_stages.specs.Settings.{text_settings}
-use Rattle.layout_substitution.specs.Substituting.{substituted_by}
-use Rattle.layout_positioning.specs.Positioning.{positioned_by}
+use Rattle.layout_substitution.specs.Substituting.{substitution_stages}
+use Rattle.layout_positioning.specs.Positioning.{positioning_stages}
 use Rattle.buffer_stages.specs.Stages.{IsFollowed}
 use Rattle.shape_masks.specs.Fractions.{with_fractions}
 use Rattle.shape_glyphs.specs.Classes.{with_font_classes}
 use Rattle.shape_glyphs.specs.Flags.{with_flags_spread}
 use Rattle.shape_glyphs.specs.Glyphs.{with_synthesized_classes}
-use Rattle.shape_glyphs.specs.Ignorables.{hidden}
+use Rattle.shape_glyphs.specs.Ignorables.{ignorables_hidden}
 use Rattle.shape_glyphs.specs.Selectors.{with_selectors}
 use Rattle.shape_glyphs.specs.Widths.{zero_widths}
 use Rattle.shape_normalize.specs.Rounds.{normalization}
 use Rattle.script_plan.specs.declared.planned.TheConstants.{HB_OT_SHAPE_ZERO_WIDTH_MARKS_BY_GDEF_EARLY, HB_OT_SHAPE_ZERO_WIDTH_MARKS_BY_GDEF_LATE}
 use Rattle.shape_pipeline.specs.Chains.{only_if}
-use Rattle.shape_pipeline.specs.Limits.{ended}
+use Rattle.shape_pipeline.specs.Limits.{final_view}
 use Rattle.shape_pipeline.specs.Characters.{characters_chosen, normalizer, text_begun, turned_to_line}
 use Rattle.shape_pipeline.specs.Masks.{fraction_masks, masks_set}
 use Rattle.shape_pipeline.specs.Glyphs.{glyphs_substituted, glyphs_taken}
-use Rattle.shape_pipeline.specs.Places.{drawn_order, marks_placed, marks_zeroed, positions_adjusted, positions_begun, positions_ended, zeroes_marks}
+use Rattle.shape_pipeline.specs.Positioning.{visual_order, marks_positioned, marks_zeroed, positions_adjusted, positions_begun, positions_ended, zeroes_marks}
 use Rattle.shape_pipeline.specs.Endings.{text_ended}
-use Rattle.shape_pipeline.specs.Reading.{after_ranges, before_ranges, positioned}
-use Rattle.shape_pipeline.specs.Shaping.{Shaping, pauses_of, postprocessed, preprocessed, shaper_masks_set}
-use Rattle.shape_pipeline.proofs.Lemmas.Chains.{done_followed, first_refused, five_followed, four_done, four_followed, fourth_refused, second_refused, third_refused, three_done, three_followed, two_followed}
+use Rattle.shape_pipeline.specs.Reading.{after_ranges, before_ranges, positioning_stage}
+use Rattle.shape_pipeline.specs.Shaping.{Shaping, pauses_of, postprocessing_stage, preprocessing_stage, shaper_masks_set}
+use Rattle.shape_pipeline.proofs.Lemmas.Chains.{done_followed, first_refused, five_done, four_done, four_followed, fourth_refused, second_refused, third_refused, three_done, three_followed, two_followed}
 use Rattle.shape_pipeline.proofs.Sets.{done_as_set, followed_as_set, refused_as_set, set_as}
 
 -- a cause that `?` passes on
@@ -41,10 +41,10 @@ passed_on (Err f) e P h p = subst P (sym h) p
 
 -- normalising knows the glyphs that are set in the buffer
 pub normal_refused_as_set : {A : Type 0} (r : Result A ShapeCause) (q : Shaping) (i u : Option ℕ) (s : Sides) → i ≡ q.settings.invisible → u ≡ q.settings.not_found_variation_selector
-    → IfErr r (λ (e : ShapeCause). e ≢ OutOfMemory → read_of (normalization (record (normalizer q) { invisible = i; unjoined_glyph = u })) (run_of s) ≡ Err e) → IfErr r (λ (e : ShapeCause). e ≢ OutOfMemory → read_of (normalization (normalizer q)) (run_of s) ≡ Err e)
+    → IfErr r (λ (e : ShapeCause). e ≢ OutOfMemory → reading_of (normalization (record (normalizer q) { invisible = i; unjoined_glyph = u })) (state_of s) ≡ Err e) → IfErr r (λ (e : ShapeCause). e ≢ OutOfMemory → reading_of (normalization (normalizer q)) (state_of s) ≡ Err e)
 normal_refused_as_set r q i u s invisible unjoined h =
-    let P : Option ℕ → Type 0 = λ j. IfErr r (λ (e : ShapeCause). e ≢ OutOfMemory → read_of (normalization (record (normalizer q) { invisible = j; unjoined_glyph = u })) (run_of s) ≡ Err e) in
-    let R : Option ℕ → Type 0 = λ w. IfErr r (λ (e : ShapeCause). e ≢ OutOfMemory → read_of (normalization (record (normalizer q) { unjoined_glyph = w })) (run_of s) ≡ Err e) in
+    let P : Option ℕ → Type 0 = λ j. IfErr r (λ (e : ShapeCause). e ≢ OutOfMemory → reading_of (normalization (record (normalizer q) { invisible = j; unjoined_glyph = u })) (state_of s) ≡ Err e) in
+    let R : Option ℕ → Type 0 = λ w. IfErr r (λ (e : ShapeCause). e ≢ OutOfMemory → reading_of (normalization (record (normalizer q) { unjoined_glyph = w })) (state_of s) ≡ Err e) in
     subst R unjoined (subst P invisible h)
 
 abbrev normalized : Shaping → Stage
@@ -53,19 +53,19 @@ normalized q v = normalization (normalizer q) v
 abbrev turned : Shaping → Stage
 turned q v = always (turned_to_line q) v
 
-pub chosen_followed : (q : Shaping) (s a b new : Sides) → q.settings ≡ text_settings s → IsFollowed (preprocessed q) s a → IsFollowed (always (turned_to_line (set_as a q))) a b → IsFollowed (normalization (normalizer (set_as b q))) b new → IsFollowed (characters_chosen q) s new
+pub chosen_followed : (q : Shaping) (s a b new : Sides) → q.settings ≡ text_settings s → IsFollowed (preprocessing_stage q) s a → IsFollowed (always (turned_to_line (set_as a q))) a b → IsFollowed (normalization (normalizer (set_as b q))) b new → IsFollowed (characters_chosen q) s new
 unfolding characters_chosen
 chosen_followed q s a b new set f g h =
-    three_followed (preprocessed q) (turned q) (normalized q) s a b new f (followed_as_set turned q s a b set f.settings g) (followed_as_set normalized q s b new set (g.settings ∙ f.settings) h)
+    three_followed (preprocessing_stage q) (turned q) (normalized q) s a b new f (followed_as_set turned q s a b set f.settings g) (followed_as_set normalized q s b new set (g.settings ∙ f.settings) h)
 
-pub chosen_refused : (q : Shaping) (s : Sides) (cause : ShapeCause) → read_of (preprocessed q) (run_of s) ≡ Err cause → read_of (characters_chosen q) (run_of s) ≡ Err cause
+pub chosen_refused : (q : Shaping) (s : Sides) (cause : ShapeCause) → reading_of (preprocessing_stage q) (state_of s) ≡ Err cause → reading_of (characters_chosen q) (state_of s) ≡ Err cause
 unfolding characters_chosen
-chosen_refused q s cause e = first_refused (preprocessed q) (turned q ∷ normalized q ∷ []) s cause e
+chosen_refused q s cause e = first_refused (preprocessing_stage q) (turned q ∷ normalized q ∷ []) s cause e
 
-pub chosen_refused_last : (q : Shaping) (s a b : Sides) (cause : ShapeCause) → q.settings ≡ text_settings s → IsFollowed (preprocessed q) s a → IsFollowed (always (turned_to_line (set_as a q))) a b → read_of (normalization (normalizer (set_as b q))) (run_of b) ≡ Err cause → read_of (characters_chosen q) (run_of s) ≡ Err cause
+pub chosen_refused_last : (q : Shaping) (s a b : Sides) (cause : ShapeCause) → q.settings ≡ text_settings s → IsFollowed (preprocessing_stage q) s a → IsFollowed (always (turned_to_line (set_as a q))) a b → reading_of (normalization (normalizer (set_as b q))) (state_of b) ≡ Err cause → reading_of (characters_chosen q) (state_of s) ≡ Err cause
 unfolding characters_chosen
 chosen_refused_last q s a b cause set f g e =
-    third_refused (preprocessed q) (turned q) (normalized q) [] s a b cause f (followed_as_set turned q s a b set f.settings g) (refused_as_set normalized q s b cause set (g.settings ∙ f.settings) e)
+    third_refused (preprocessing_stage q) (turned q) (normalized q) [] s a b cause f (followed_as_set turned q s a b set f.settings g) (refused_as_set normalized q s b cause set (g.settings ∙ f.settings) e)
 
 -- ---- masks
 
@@ -73,7 +73,7 @@ pub masks_followed : (q : Shaping) (s a new : Sides) → q.settings ≡ text_set
 unfolding masks_set
 masks_followed q s a new set f g = two_followed (only_if q.choices.has_frac (always (with_fractions (fraction_masks q.map)))) (shaper_masks_set q) s a new f (followed_as_set shaper_masks_set q s a new set f.settings g)
 
-pub masks_refused : (q : Shaping) (s a : Sides) (cause : ShapeCause) → q.settings ≡ text_settings s → IsFollowed (only_if q.choices.has_frac (always (with_fractions (fraction_masks q.map)))) s a → read_of (shaper_masks_set (set_as a q)) (run_of a) ≡ Err cause → read_of (masks_set q) (run_of s) ≡ Err cause
+pub masks_refused : (q : Shaping) (s a : Sides) (cause : ShapeCause) → q.settings ≡ text_settings s → IsFollowed (only_if q.choices.has_frac (always (with_fractions (fraction_masks q.map)))) s a → reading_of (shaper_masks_set (set_as a q)) (state_of a) ≡ Err cause → reading_of (masks_set q) (state_of s) ≡ Err cause
 unfolding masks_set
 masks_refused q s a cause set f e = second_refused (only_if q.choices.has_frac (always (with_fractions (fraction_masks q.map)))) (shaper_masks_set q) [] s a cause f (refused_as_set shaper_masks_set q s a cause set f.settings e)
 
@@ -84,15 +84,15 @@ unfolding before_ranges
 before_followed q s a b new set f g h =
     three_followed (text_begun q) (characters_chosen q) (masks_set q) s a b new f (followed_as_set characters_chosen q s a b set f.settings g) (followed_as_set masks_set q s b new set (g.settings ∙ f.settings) h)
 
-pub before_refused : (q : Shaping) (s : Sides) (cause : ShapeCause) → read_of (text_begun q) (run_of s) ≡ Err cause → read_of (before_ranges q) (run_of s) ≡ Err cause
+pub before_refused : (q : Shaping) (s : Sides) (cause : ShapeCause) → reading_of (text_begun q) (state_of s) ≡ Err cause → reading_of (before_ranges q) (state_of s) ≡ Err cause
 unfolding before_ranges
 before_refused q s cause e = first_refused (text_begun q) (characters_chosen q ∷ masks_set q ∷ []) s cause e
 
-pub before_refused_then : (q : Shaping) (s a : Sides) (cause : ShapeCause) → q.settings ≡ text_settings s → IsFollowed (text_begun q) s a → read_of (characters_chosen (set_as a q)) (run_of a) ≡ Err cause → read_of (before_ranges q) (run_of s) ≡ Err cause
+pub before_refused_then : (q : Shaping) (s a : Sides) (cause : ShapeCause) → q.settings ≡ text_settings s → IsFollowed (text_begun q) s a → reading_of (characters_chosen (set_as a q)) (state_of a) ≡ Err cause → reading_of (before_ranges q) (state_of s) ≡ Err cause
 unfolding before_ranges
 before_refused_then q s a cause set f e = second_refused (text_begun q) (characters_chosen q) (masks_set q ∷ []) s a cause f (refused_as_set characters_chosen q s a cause set f.settings e)
 
-pub before_refused_last : (q : Shaping) (s a b : Sides) (cause : ShapeCause) → q.settings ≡ text_settings s → IsFollowed (text_begun q) s a → IsFollowed (characters_chosen (set_as a q)) a b → read_of (masks_set (set_as b q)) (run_of b) ≡ Err cause → read_of (before_ranges q) (run_of s) ≡ Err cause
+pub before_refused_last : (q : Shaping) (s a b : Sides) (cause : ShapeCause) → q.settings ≡ text_settings s → IsFollowed (text_begun q) s a → IsFollowed (characters_chosen (set_as a q)) a b → reading_of (masks_set (set_as b q)) (state_of b) ≡ Err cause → reading_of (before_ranges q) (state_of s) ≡ Err cause
 unfolding before_ranges
 before_refused_last q s a b cause set f g e =
     third_refused (text_begun q) (characters_chosen q) (masks_set q) [] s a b cause f (followed_as_set characters_chosen q s a b set f.settings g) (refused_as_set masks_set q s b cause set (g.settings ∙ f.settings) e)
@@ -100,16 +100,16 @@ before_refused_last q s a b cause set f g e =
 -- ---- glyphs
 
 abbrev by_font : Shaping → Stage
-by_font q v = substituted_by q.font q.map (pauses_of q) v
+by_font q v = substitution_stages q.font q.map (pauses_of q) v
 
 pub substituted_done : (q : Shaping) (s a b new : Sides) → q.settings ≡ text_settings s → IsDone (always (with_font_classes q.font)) s a → IsDone (only_if q.choices.fallback_glyph_classes (always with_synthesized_classes)) a b
-    → IsDone (substituted_by q.font q.map (pauses_of (set_as b q))) b new → IsDone (glyphs_substituted q) s new
+    → IsDone (substitution_stages q.font q.map (pauses_of (set_as b q))) b new → IsDone (glyphs_substituted q) s new
 unfolding glyphs_substituted
 substituted_done q s a b new set f g h =
     three_done (always (with_font_classes q.font)) (only_if q.choices.fallback_glyph_classes (always with_synthesized_classes)) (by_font q) s a b new f g (done_as_set by_font q s b new set (g.settings ∙ f.settings) h)
 
 pub substituted_refused : (q : Shaping) (s a b : Sides) (cause : ShapeCause) → q.settings ≡ text_settings s → IsDone (always (with_font_classes q.font)) s a → IsDone (only_if q.choices.fallback_glyph_classes (always with_synthesized_classes)) a b
-    → read_of (substituted_by q.font q.map (pauses_of (set_as b q))) (run_of b) ≡ Err cause → read_of (glyphs_substituted q) (run_of s) ≡ Err cause
+    → reading_of (substitution_stages q.font q.map (pauses_of (set_as b q))) (state_of b) ≡ Err cause → reading_of (glyphs_substituted q) (state_of s) ≡ Err cause
 unfolding glyphs_substituted
 substituted_refused q s a b cause set f g e =
     third_refused (always (with_font_classes q.font)) (only_if q.choices.fallback_glyph_classes (always with_synthesized_classes)) (by_font q) [] s a b cause (done_followed (always (with_font_classes q.font)) s a f)
@@ -124,71 +124,71 @@ abbrev zeroed_at_late : Shaping → Stage
 zeroed_at_late q = only_if (zeroes_marks HB_OT_SHAPE_ZERO_WIDTH_MARKS_BY_GDEF_LATE q) (always (marks_zeroed q))
 
 abbrev moved_by_font : Shaping → Stage
-moved_by_font q = only_if q.choices.apply_gpos (positioned_by q.font q.map (pauses_of q))
+moved_by_font q = only_if q.choices.apply_gpos (positioning_stages q.font q.map (pauses_of q))
 
-pub adjusted_done : (q : Shaping) (s a b new : Sides) → q.settings ≡ text_settings s → IsDone (zeroed_at_early q) s a → IsDone (only_if q.choices.apply_gpos (positioned_by q.font q.map (pauses_of (set_as a q)))) a b → IsDone (zeroed_at_late q) b new → IsDone (positions_adjusted q) s new
+pub adjusted_done : (q : Shaping) (s a b new : Sides) → q.settings ≡ text_settings s → IsDone (zeroed_at_early q) s a → IsDone (only_if q.choices.apply_gpos (positioning_stages q.font q.map (pauses_of (set_as a q)))) a b → IsDone (zeroed_at_late q) b new → IsDone (positions_adjusted q) s new
 unfolding positions_adjusted
 adjusted_done q s a b new set f g h = three_done (zeroed_at_early q) (moved_by_font q) (zeroed_at_late q) s a b new f (done_as_set moved_by_font q s a b set f.settings g) h
 
-pub adjusted_refused : (q : Shaping) (s a : Sides) (cause : ShapeCause) → q.settings ≡ text_settings s → IsDone (zeroed_at_early q) s a → read_of (only_if q.choices.apply_gpos (positioned_by q.font q.map (pauses_of (set_as a q)))) (run_of a) ≡ Err cause → read_of (positions_adjusted q) (run_of s) ≡ Err cause
+pub adjusted_refused : (q : Shaping) (s a : Sides) (cause : ShapeCause) → q.settings ≡ text_settings s → IsDone (zeroed_at_early q) s a → reading_of (only_if q.choices.apply_gpos (positioning_stages q.font q.map (pauses_of (set_as a q)))) (state_of a) ≡ Err cause → reading_of (positions_adjusted q) (state_of s) ≡ Err cause
 unfolding positions_adjusted
 adjusted_refused q s a cause set f e = second_refused (zeroed_at_early q) (moved_by_font q) (zeroed_at_late q ∷ []) s a cause (done_followed (zeroed_at_early q) s a f) (refused_as_set moved_by_font q s a cause set f.settings e)
 
-pub line_ended : (q : Shaping) (s a b c new : Sides) → IsDone (always (zero_widths q.settings.flags)) s a → IsDone (always links_followed) a b → IsDone (only_if q.choices.fallback_mark_positioning (always (marks_placed q))) b c → IsDone (always drawn_order) c new → IsDone (positions_ended q) s new
+pub line_ended : (q : Shaping) (s a b c new : Sides) → IsDone (always (zero_widths q.settings.flags)) s a → IsDone (always links_followed) a b → IsDone (only_if q.choices.fallback_mark_positioning (always (marks_positioned q))) b c → IsDone (always visual_order) c new → IsDone (positions_ended q) s new
 unfolding positions_ended
-line_ended q s a b c new f g h k = four_done (always (zero_widths q.settings.flags)) (always links_followed) (only_if q.choices.fallback_mark_positioning (always (marks_placed q))) (always drawn_order) s a b c new f g h k
+line_ended q s a b c new f g h k = four_done (always (zero_widths q.settings.flags)) (always links_followed) (only_if q.choices.fallback_mark_positioning (always (marks_positioned q))) (always visual_order) s a b c new f g h k
 
-pub positioned_done : (q : Shaping) (s a b new : Sides) → q.settings ≡ text_settings s → IsDone (positions_begun q) s a → IsDone (positions_adjusted (set_as a q)) a b → IsDone (positions_ended (set_as b q)) b new → IsDone (positioned q) s new
-unfolding positioned
+pub positioned_done : (q : Shaping) (s a b new : Sides) → q.settings ≡ text_settings s → IsDone (positions_begun q) s a → IsDone (positions_adjusted (set_as a q)) a b → IsDone (positions_ended (set_as b q)) b new → IsDone (positioning_stage q) s new
+unfolding positioning_stage
 positioned_done q s a b new set f g h =
     three_done (positions_begun q) (positions_adjusted q) (positions_ended q) s a b new f (done_as_set positions_adjusted q s a b set f.settings g) (done_as_set positions_ended q s b new set (g.settings ∙ f.settings) h)
 
-pub positioned_refused : (q : Shaping) (s a : Sides) (cause : ShapeCause) → q.settings ≡ text_settings s → IsDone (positions_begun q) s a → read_of (positions_adjusted (set_as a q)) (run_of a) ≡ Err cause → read_of (positioned q) (run_of s) ≡ Err cause
-unfolding positioned
+pub positioned_refused : (q : Shaping) (s a : Sides) (cause : ShapeCause) → q.settings ≡ text_settings s → IsDone (positions_begun q) s a → reading_of (positions_adjusted (set_as a q)) (state_of a) ≡ Err cause → reading_of (positioning_stage q) (state_of s) ≡ Err cause
+unfolding positioning_stage
 positioned_refused q s a cause set f e = second_refused (positions_begun q) (positions_adjusted q) (positions_ended q ∷ []) s a cause (done_followed (positions_begun q) s a f) (refused_as_set positions_adjusted q s a cause set f.settings e)
 
 -- ---- the end
 
 abbrev hidden_of : Shaping → Stage
-hidden_of q v = always (hidden q.settings.flags q.settings.invisible q.font) v
+hidden_of q v = always (ignorables_hidden q.settings.flags q.settings.invisible q.font) v
 
-pub ended_followed : (q : Shaping) (s a b c d new : Sides) → q.settings ≡ text_settings s → IsFollowed (always (with_selectors q.settings.not_found_variation_selector)) s a
-    → IsFollowed (always (hidden (text_settings a).flags (text_settings a).invisible q.font)) a b → IsDone (postprocessed (set_as b q)) b c → IsDone (always with_flags_spread) c d → IsFollowed (always (ended q.direction)) d new → IsFollowed (text_ended q) s new
+pub ended_done : (q : Shaping) (s a b c d new : Sides) → q.settings ≡ text_settings s → IsDone (always (with_selectors q.settings.not_found_variation_selector)) s a
+    → IsDone (always (ignorables_hidden (text_settings a).flags (text_settings a).invisible q.font)) a b → IsDone (postprocessing_stage (set_as b q)) b c → IsDone (always with_flags_spread) c d → IsDone (always (final_view q.direction)) d new → IsDone (text_ended q) s new
 unfolding text_ended
-ended_followed q s a b c d new set f g h k l =
-    five_followed (always (with_selectors q.settings.not_found_variation_selector)) (hidden_of q) (postprocessed q) (always with_flags_spread) (always (ended q.direction)) s a b c d new f (followed_as_set hidden_of q s a b set f.settings g)
-    (done_followed (postprocessed q) b c (done_as_set postprocessed q s b c set (g.settings ∙ f.settings) h)) (done_followed (always with_flags_spread) c d k) l
+ended_done q s a b c d new set f g h k l =
+    five_done (always (with_selectors q.settings.not_found_variation_selector)) (hidden_of q) (postprocessing_stage q) (always with_flags_spread) (always (final_view q.direction)) s a b c d new f (done_as_set hidden_of q s a b set f.settings g)
+    (done_as_set postprocessing_stage q s b c set (g.settings ∙ f.settings) h) k l
 
-pub ended_refused : (q : Shaping) (s a b : Sides) (cause : ShapeCause) → q.settings ≡ text_settings s → IsFollowed (always (with_selectors q.settings.not_found_variation_selector)) s a
-    → IsFollowed (always (hidden (text_settings a).flags (text_settings a).invisible q.font)) a b → read_of (postprocessed (set_as b q)) (run_of b) ≡ Err cause → read_of (text_ended q) (run_of s) ≡ Err cause
+pub ended_refused : (q : Shaping) (s a b : Sides) (cause : ShapeCause) → q.settings ≡ text_settings s → IsDone (always (with_selectors q.settings.not_found_variation_selector)) s a
+    → IsDone (always (ignorables_hidden (text_settings a).flags (text_settings a).invisible q.font)) a b → reading_of (postprocessing_stage (set_as b q)) (state_of b) ≡ Err cause → reading_of (text_ended q) (state_of s) ≡ Err cause
 unfolding text_ended
 ended_refused q s a b cause set f g e =
-    third_refused (always (with_selectors q.settings.not_found_variation_selector)) (hidden_of q) (postprocessed q) (always with_flags_spread ∷ always (ended q.direction) ∷ []) s a b cause f
-    (followed_as_set hidden_of q s a b set f.settings g) (refused_as_set postprocessed q s b cause set (g.settings ∙ f.settings) e)
+    third_refused (always (with_selectors q.settings.not_found_variation_selector)) (hidden_of q) (postprocessing_stage q) (always with_flags_spread ∷ always (final_view q.direction) ∷ []) s a b cause
+    (done_followed (always (with_selectors q.settings.not_found_variation_selector)) s a f) (done_followed (hidden_of q) a b (done_as_set hidden_of q s a b set f.settings g)) (refused_as_set postprocessing_stage q s b cause set (g.settings ∙ f.settings) e)
 
 -- ---- all after the masks of ranges
 
-pub after_followed : (q : Shaping) (s a b c new : Sides) → q.settings ≡ text_settings s → IsFollowed (glyphs_taken q) s a → IsDone (glyphs_substituted (set_as a q)) a b → IsDone (positioned (set_as b q)) b c → IsFollowed (text_ended (set_as c q)) c new → IsFollowed (after_ranges q) s new
+pub after_followed : (q : Shaping) (s a b c new : Sides) → q.settings ≡ text_settings s → IsFollowed (glyphs_taken q) s a → IsDone (glyphs_substituted (set_as a q)) a b → IsDone (positioning_stage (set_as b q)) b c → IsFollowed (text_ended (set_as c q)) c new → IsFollowed (after_ranges q) s new
 unfolding after_ranges
 after_followed q s a b c new set f g h k =
     let upto_b : settings_of b ≡ settings_of s = g.settings ∙ f.settings in
-    four_followed (glyphs_taken q) (glyphs_substituted q) (positioned q) (text_ended q) s a b c new f (done_followed (glyphs_substituted q) a b (done_as_set glyphs_substituted q s a b set f.settings g))
-    (done_followed (positioned q) b c (done_as_set positioned q s b c set upto_b h)) (followed_as_set text_ended q s c new set (h.settings ∙ upto_b) k)
+    four_followed (glyphs_taken q) (glyphs_substituted q) (positioning_stage q) (text_ended q) s a b c new f (done_followed (glyphs_substituted q) a b (done_as_set glyphs_substituted q s a b set f.settings g))
+    (done_followed (positioning_stage q) b c (done_as_set positioning_stage q s b c set upto_b h)) (followed_as_set text_ended q s c new set (h.settings ∙ upto_b) k)
 
-pub after_refused_then : (q : Shaping) (s a : Sides) (cause : ShapeCause) → q.settings ≡ text_settings s → IsFollowed (glyphs_taken q) s a → read_of (glyphs_substituted (set_as a q)) (run_of a) ≡ Err cause → read_of (after_ranges q) (run_of s) ≡ Err cause
+pub after_refused_then : (q : Shaping) (s a : Sides) (cause : ShapeCause) → q.settings ≡ text_settings s → IsFollowed (glyphs_taken q) s a → reading_of (glyphs_substituted (set_as a q)) (state_of a) ≡ Err cause → reading_of (after_ranges q) (state_of s) ≡ Err cause
 unfolding after_ranges
-after_refused_then q s a cause set f e = second_refused (glyphs_taken q) (glyphs_substituted q) (positioned q ∷ text_ended q ∷ []) s a cause f (refused_as_set glyphs_substituted q s a cause set f.settings e)
+after_refused_then q s a cause set f e = second_refused (glyphs_taken q) (glyphs_substituted q) (positioning_stage q ∷ text_ended q ∷ []) s a cause f (refused_as_set glyphs_substituted q s a cause set f.settings e)
 
-pub after_refused_later : (q : Shaping) (s a b : Sides) (cause : ShapeCause) → q.settings ≡ text_settings s → IsFollowed (glyphs_taken q) s a → IsDone (glyphs_substituted (set_as a q)) a b → read_of (positioned (set_as b q)) (run_of b) ≡ Err cause → read_of (after_ranges q) (run_of s) ≡ Err cause
+pub after_refused_later : (q : Shaping) (s a b : Sides) (cause : ShapeCause) → q.settings ≡ text_settings s → IsFollowed (glyphs_taken q) s a → IsDone (glyphs_substituted (set_as a q)) a b → reading_of (positioning_stage (set_as b q)) (state_of b) ≡ Err cause → reading_of (after_ranges q) (state_of s) ≡ Err cause
 unfolding after_ranges
 after_refused_later q s a b cause set f g e =
-    third_refused (glyphs_taken q) (glyphs_substituted q) (positioned q) (text_ended q ∷ []) s a b cause f (done_followed (glyphs_substituted q) a b (done_as_set glyphs_substituted q s a b set f.settings g))
-    (refused_as_set positioned q s b cause set (g.settings ∙ f.settings) e)
+    third_refused (glyphs_taken q) (glyphs_substituted q) (positioning_stage q) (text_ended q ∷ []) s a b cause f (done_followed (glyphs_substituted q) a b (done_as_set glyphs_substituted q s a b set f.settings g))
+    (refused_as_set positioning_stage q s b cause set (g.settings ∙ f.settings) e)
 
-pub after_refused_last : (q : Shaping) (s a b c : Sides) (cause : ShapeCause) → q.settings ≡ text_settings s → IsFollowed (glyphs_taken q) s a → IsDone (glyphs_substituted (set_as a q)) a b → IsDone (positioned (set_as b q)) b c
-    → read_of (text_ended (set_as c q)) (run_of c) ≡ Err cause → read_of (after_ranges q) (run_of s) ≡ Err cause
+pub after_refused_last : (q : Shaping) (s a b c : Sides) (cause : ShapeCause) → q.settings ≡ text_settings s → IsFollowed (glyphs_taken q) s a → IsDone (glyphs_substituted (set_as a q)) a b → IsDone (positioning_stage (set_as b q)) b c
+    → reading_of (text_ended (set_as c q)) (state_of c) ≡ Err cause → reading_of (after_ranges q) (state_of s) ≡ Err cause
 unfolding after_ranges
 after_refused_last q s a b c cause set f g h e =
     let upto_b : settings_of b ≡ settings_of s = g.settings ∙ f.settings in
-    fourth_refused (glyphs_taken q) (glyphs_substituted q) (positioned q) (text_ended q) [] s a b c cause f (done_followed (glyphs_substituted q) a b (done_as_set glyphs_substituted q s a b set f.settings g))
-    (done_followed (positioned q) b c (done_as_set positioned q s b c set upto_b h)) (refused_as_set text_ended q s c cause set (h.settings ∙ upto_b) e)
+    fourth_refused (glyphs_taken q) (glyphs_substituted q) (positioning_stage q) (text_ended q) [] s a b c cause f (done_followed (glyphs_substituted q) a b (done_as_set glyphs_substituted q s a b set f.settings g))
+    (done_followed (positioning_stage q) b c (done_as_set positioning_stage q s b c set upto_b h)) (refused_as_set text_ended q s c cause set (h.settings ∙ upto_b) e)

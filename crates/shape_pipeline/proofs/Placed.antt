@@ -11,24 +11,24 @@ use Rattle.buffer_common.specs.declared.direction.Direction.{Direction}
 use Rattle.buffer_glyphs.specs.Items.{item_of, strip, zero_position}
 use Rattle.buffer_glyphs.specs.Origins.{origin_of, origins}
 use Rattle.buffer_glyphs.specs.Events.{Reverse}
-use Rattle.buffer_core.specs.Readings.{Follows, Run, View, always, with_events}
+use Rattle.buffer_core.specs.Readings.{Follows, BufferState, View, always, with_events}
 use Rattle.buffer_core.specs.Steps.{follows_events}
-use Rattle.buffer_core.specs.Sides.{Sides, all_glyphs, items_of, reversed, run_of, view_of, with_cleared_positions}
+use Rattle.buffer_core.specs.Sides.{Sides, all_glyphs, items_of, after_reverse, state_of, view_of, with_cleared_positions}
 use Rattle.buffer_stages.specs.Buffers.{are_glyphs}
 use Rattle.buffer_stages.specs.Ready.{IsDone, IsReady}
 use Rattle.buffer_stages.specs.Settings.{text_flags}
 use Rattle.buffer_stages.specs.Stages.{IsFollowed}
 use Rattle.shape_fallback.specs.Zeroing.{with_marks_zeroed}
-use Rattle.shape_fallback.specs.Marks.{components_direction, with_placed_marks}
+use Rattle.shape_fallback.specs.Marks.{components_direction, with_positioned_marks}
 use Rattle.shape_glyphs.specs.Widths.{ignorable_position, keeps_widths, zero_widths}
-use Rattle.buffer_stages.specs.Places.{placed}
-use Rattle.shape_pipeline.specs.Places.{adjusts_marks, drawn_order, marks_placed, marks_zeroed, with_nothing}
+use Rattle.buffer_stages.specs.PositionMaps.{with_positions_mapped}
+use Rattle.shape_pipeline.specs.Positioning.{adjusts_marks, visual_order, marks_positioned, marks_zeroed, with_zero_positions}
 use Rattle.shape_pipeline.specs.Shaping.{Shaping}
 use Rattle.shape_pipeline.proofs.Sets.{widths_followed}
 
-pub cleared_done : (s new : Sides) → IsReady s → new ≡ with_cleared_positions s → IsDone (always with_nothing) s new
+pub cleared_done : (s new : Sides) → IsReady s → new ≡ with_cleared_positions s → IsDone (always with_zero_positions) s new
 cleared_done s new ready e =
-    let P : Sides → Type 0 = λ n. IsDone (always with_nothing) s n in
+    let P : Sides → Type 0 = λ n. IsDone (always with_zero_positions) s n in
     subst P (sym e) (record {
       follows = refl;
       settings = refl;
@@ -44,14 +44,14 @@ cleared_done s new ready e =
 
 -- ---- stages that move glyphs, and leave them
 
-widths_items : (b : Bool) (v : View) → (if b then with_events [] v else placed ignorable_position v).view.items ≡ v.items
+widths_items : (b : Bool) (v : View) → (if b then with_events [] v else with_positions_mapped ignorable_position v).view.items ≡ v.items
 widths_items true v = refl
 widths_items false v = refl
 
 pub widths_done : (s new : Sides) → IsFollowed (always (zero_widths s.flags)) s new → IsDone (always (zero_widths (text_flags s.flags))) s new
 widths_done s new f =
     let g = widths_followed s.flags s new f in
-    let same : items_of new ≡ items_of s = ap (λ (r : Run). r.view.items) f.follows ∙ widths_items (keeps_widths s.flags) (view_of s) in
+    let same : items_of new ≡ items_of s = ap (λ (r : BufferState). r.view.items) f.follows ∙ widths_items (keeps_widths s.flags) (view_of s) in
     record { follows = g.follows; settings = g.settings; ready = g.ready; numbers = λ h. ap are_glyphs same ∙ h }
 
 pub zeroed_done : (p : Shaping) (b : Bool) (s new : Sides) → b ≡ adjusts_marks p s.direction → IsDone (always (with_marks_zeroed b)) s new → IsDone (always (marks_zeroed p)) s new
@@ -60,10 +60,10 @@ zeroed_done p b s new e d =
     let there = subst P e d in
     record { follows = there.follows; settings = there.settings; ready = there.ready; numbers = there.numbers }
 
-pub marks_done : (p : Shaping) (d : Direction) (b : Bool) (s new : Sides) → d ≡ components_direction p.direction p.script → b ≡ adjusts_marks p s.direction → IsDone (always (with_placed_marks p.font d b)) s new → IsDone (always (marks_placed p)) s new
+pub marks_done : (p : Shaping) (d : Direction) (b : Bool) (s new : Sides) → d ≡ components_direction p.direction p.script → b ≡ adjusts_marks p s.direction → IsDone (always (with_positioned_marks p.font d b)) s new → IsDone (always (marks_positioned p)) s new
 marks_done p d b s new components e done =
-    let P : Bool → Type 0 = λ c. IsDone (always (with_placed_marks p.font d c)) s new in
-    let Q : Direction → Type 0 = λ x. IsDone (always (with_placed_marks p.font x (adjusts_marks p s.direction))) s new in
+    let P : Bool → Type 0 = λ c. IsDone (always (with_positioned_marks p.font d c)) s new in
+    let Q : Direction → Type 0 = λ x. IsDone (always (with_positioned_marks p.font x (adjusts_marks p s.direction))) s new in
     let there = subst Q components (subst P e done) in
     record { follows = there.follows; settings = there.settings; ready = there.ready; numbers = there.numbers }
 
@@ -84,19 +84,19 @@ list_all-reverse p [] = refl
 list_all-reverse p (x ∷ xs) = rw (reverse_onto xs x [], list_all-append, list_all-reverse p xs) (and_turned (list_all p xs) (p x))
 
 -- the glyphs of a buffer that was reversed
-all_reversed : (s : Sides) → all_glyphs (reversed s) ≡ reverse (all_glyphs s)
+all_reversed : (s : Sides) → all_glyphs (after_reverse s) ≡ reverse (all_glyphs s)
 all_reversed s = take-append-drop s.read (reverse (all_glyphs s))
 
 abbrev reversed_view : View → View
 reversed_view v = record v { items = reverse v.items; positions = reverse v.positions }
 
-reversed_follows : (s : Sides) → Follows (Ok (with_events (Reverse ∷ []) (reversed_view (view_of s)))) (run_of s) (run_of (reversed s))
+reversed_follows : (s : Sides) → Follows (Ok (with_events (Reverse ∷ []) (reversed_view (view_of s)))) (state_of s) (state_of (after_reverse s))
 reversed_follows s =
-    let items : items_of (reversed s) ≡ reverse (items_of s) = ap strip (all_reversed s) ∙ map-reverse item_of (all_glyphs s) in
-    let view : view_of (reversed s) ≡ reversed_view (view_of s) = ap (λ xs. record (reversed_view (view_of s)) { items = xs }) items in
-    follows_events (Reverse ∷ []) (reversed_view (view_of s)) (run_of s) (run_of (reversed s)) view (ap origins (all_reversed s) ∙ map-reverse origin_of (all_glyphs s)) refl refl
+    let items : items_of (after_reverse s) ≡ reverse (items_of s) = ap strip (all_reversed s) ∙ map-reverse item_of (all_glyphs s) in
+    let view : view_of (after_reverse s) ≡ reversed_view (view_of s) = ap (λ xs. record (reversed_view (view_of s)) { items = xs }) items in
+    follows_events (Reverse ∷ []) (reversed_view (view_of s)) (state_of s) (state_of (after_reverse s)) view (ap origins (all_reversed s) ∙ map-reverse origin_of (all_glyphs s)) refl refl
 
-reversed_ready : (s : Sides) → IsReady s → IsReady (reversed s)
+reversed_ready : (s : Sides) → IsReady s → IsReady (after_reverse s)
 reversed_ready s ready = record {
   closed = ready.closed;
   front = ap (λ n. take n (reverse (all_glyphs s))) ready.unread;
@@ -105,14 +105,14 @@ reversed_ready s ready = record {
   unrefused = ready.unrefused;
 }
 
-reversed_numbers : (s : Sides) → are_glyphs (items_of s) ≡ true → are_glyphs (items_of (reversed s)) ≡ true
+reversed_numbers : (s : Sides) → are_glyphs (items_of s) ≡ true → are_glyphs (items_of (after_reverse s)) ≡ true
 reversed_numbers s h = ap are_glyphs (ap strip (all_reversed s) ∙ map-reverse item_of (all_glyphs s)) ∙ list_all-reverse _ (items_of s) ∙ h
 
 -- a line that runs backward is turned round
-pub turned_drawn : (s new : Sides) → is_backward s.direction ≡ true → new ≡ reversed s → IsReady s → IsDone (always drawn_order) s new
+pub turned_drawn : (s new : Sides) → is_backward s.direction ≡ true → new ≡ after_reverse s → IsReady s → IsDone (always visual_order) s new
 turned_drawn s new backward e ready =
-    let P : Sides → Type 0 = λ n. IsDone (always drawn_order) s n in
-    let Q : Bool → Type 0 = λ b. Follows (Ok (if b then with_events (Reverse ∷ []) (reversed_view (view_of s)) else with_events [] (view_of s))) (run_of s) (run_of (reversed s)) in
+    let P : Sides → Type 0 = λ n. IsDone (always visual_order) s n in
+    let Q : Bool → Type 0 = λ b. Follows (Ok (if b then with_events (Reverse ∷ []) (reversed_view (view_of s)) else with_events [] (view_of s))) (state_of s) (state_of (after_reverse s)) in
     subst P (sym e) (record {
       follows = subst Q (sym backward) (reversed_follows s);
       settings = refl;
@@ -120,9 +120,9 @@ turned_drawn s new backward e ready =
       numbers = reversed_numbers s;
     })
 
-pub stays_drawn : (s : Sides) → is_backward s.direction ≡ false → IsReady s → IsDone (always drawn_order) s s
+pub stays_drawn : (s : Sides) → is_backward s.direction ≡ false → IsReady s → IsDone (always visual_order) s s
 stays_drawn s forward ready =
-    let Q : Bool → Type 0 = λ b. Follows (Ok (if b then with_events (Reverse ∷ []) (reversed_view (view_of s)) else with_events [] (view_of s))) (run_of s) (run_of s) in
+    let Q : Bool → Type 0 = λ b. Follows (Ok (if b then with_events (Reverse ∷ []) (reversed_view (view_of s)) else with_events [] (view_of s))) (state_of s) (state_of s) in
     record {
       follows = subst Q (sym forward) refl;
       settings = refl;

@@ -1,6 +1,6 @@
 -- Texts that were shaped.
-use Rattle.std.proofs.Common.{ℕ, ◌≡◌, ◌==◌, Bool, true, false, if◌then◌else◌, List, [], length, Ok, Err, sym, ap, subst, ◌∙◌}
-use Rattle.std.specs.Prelude.{⊤, All, IfErr, IfOk, Option, Result, ◌≢◌}
+use Rattle.std.proofs.Common.{ℕ, ◌≡◌, ◌==◌, Bool, true, false, if◌then◌else◌, List, [], length, max, Ok, Err, refl, sym, ap, subst, ◌∙◌}
+use Rattle.std.specs.Prelude.{⊤, All, IfErr, IfOk, Option, Result, ◌≢◌, pos}
 use Rattle.std.proofs.lemmas.List.{length-map}
 use Rattle.std.proofs.lemmas.List.Folds.{list_all-map}
 use Rattle.std.proofs.lemmas.List.Sums.{list_all-from_AllPass}
@@ -19,9 +19,13 @@ use Rattle.buffer_features.specs.declared.feature.Feature.{Feature}
 use Rattle.layout_face.specs.declared.parts.FaceParts.{FaceParts}
 use Rattle.buffer_unicode_tables.specs.Tables.{Tables}
 use Rattle.buffer_glyphs.specs.Items.{item_of, strip}
-use Rattle.buffer_core.specs.Readings.{Follows, Reading, with_events}
-use Rattle.buffer_core.specs.Steps.{follows_same}
-use Rattle.buffer_core.specs.Sides.{Sides, all_glyphs, items_of, run_of}
+use Rattle.buffer_core.specs.Readings.{Follows, Reading}
+use Rattle.buffer_core.specs.Settings.{after_leave}
+use Rattle.buffer_core.specs.Steps.{follows_events}
+use Rattle.buffer_core.specs.Sides.{Sides, all_glyphs, items_of, state_of, view_of}
+use Rattle.shape_pipeline.specs.Limits.{unshaped}
+use Rattle.shape_pipeline.specs.Results.{IsResultOf}
+use Rattle.script_plan.specs.declared.plan.hb_script_plan_t.{hb_script_plan_t}
 use Rattle.buffer_stages.specs.Settings.{TextSettings, text_settings}
 use Rattle.script_dispatch.specs.declared.any_shaper.hb_ot_any_shaper_t.{hb_ot_any_shaper_t}
 use Rattle.script_plan.specs.declared.plan.hb_ot_shape_plan_t.{hb_ot_shape_plan_t}
@@ -32,35 +36,40 @@ use Rattle.script_plan.specs.Rules.{Spans}
 use Rattle.script_dispatch.specs.Rules.{rules_of}
 use Rattle.shape_pipeline.specs.Reading.{reading}
 use Rattle.shape_pipeline.specs.Shaping.{Shaping}
-use Rattle.shape_pipeline.specs.declared.shape.ShapeFault.{ShapeFault}
+use Rattle.shape_pipeline.specs.declared.shaping.ShapeFault.{ShapeFault}
 use Rattle.shape_pipeline.specs.Shaped.{by_plan, by_shaper, by_text, language_tags, text_reading}
 
 -- ---- a text without characters, and another
 
-same_follows : (p : Shaping) (s : Sides) → (length (all_glyphs s) == 0) ≡ true → Follows (text_reading p (run_of s)) (run_of s) (run_of s)
+unshaped_follows : (s : Sides) → Follows (Ok (unshaped (view_of s))) (state_of s) (state_of (after_leave s))
+unshaped_follows s =
+    let same = ap (λ n. record (view_of s) { max_len = max 0x3FFF_FFFF n; max_ops = pos 0x1FFF_FFFF; lig_id = 0 }) (sym (length-map (all_glyphs s) item_of)) in
+    follows_events [] (unshaped (view_of s)).view (state_of s) (state_of (after_leave s)) same refl refl refl
+
+left_follows : (p : Shaping) (s : Sides) → (length (all_glyphs s) == 0) ≡ true → Follows (text_reading p (state_of s)) (state_of s) (state_of (after_leave s))
 unfolding text_reading
-same_follows p s empty =
+left_follows p s empty =
     let count : (length (items_of s) == 0) ≡ true = ap (λ n. n == 0) (length-map (all_glyphs s) item_of) ∙ empty in
-    let P : Bool → Type 0 = λ b. Follows (if b then Ok (with_events [] (run_of s).view) else reading p (run_of s)) (run_of s) (run_of s) in
-    subst P (sym count) (follows_same (run_of s))
+    let P : Bool → Type 0 = λ b. Follows (if b then Ok (unshaped (state_of s).view) else reading p (state_of s)) (state_of s) (state_of (after_leave s)) in
+    subst P (sym count) (unshaped_follows s)
 
-pub empty_follows : (p : Shaping) (s new : Sides) → new ≡ s → (length (all_glyphs s) == 0) ≡ true → Follows (text_reading p (run_of s)) (run_of s) (run_of new)
-empty_follows p s new same empty = let P : Sides → Type 0 = λ n. Follows (text_reading p (run_of s)) (run_of s) (run_of n) in subst P (sym same) (same_follows p s empty)
+pub empty_follows : (p : Shaping) (s new : Sides) → new ≡ after_leave s → (length (all_glyphs s) == 0) ≡ true → Follows (text_reading p (state_of s)) (state_of s) (state_of new)
+empty_follows p s new same empty = let P : Sides → Type 0 = λ n. Follows (text_reading p (state_of s)) (state_of s) (state_of n) in subst P (sym same) (left_follows p s empty)
 
-text_is_read : (p : Shaping) (s : Sides) → (length (all_glyphs s) == 0) ≡ false → text_reading p (run_of s) ≡ reading p (run_of s)
+text_is_read : (p : Shaping) (s : Sides) → (length (all_glyphs s) == 0) ≡ false → text_reading p (state_of s) ≡ reading p (state_of s)
 unfolding text_reading
 text_is_read p s some =
     let count : (length (items_of s) == 0) ≡ false = ap (λ n. n == 0) (length-map (all_glyphs s) item_of) ∙ some in
-    ap (λ b. if b then Ok (with_events [] (run_of s).view) else reading p (run_of s)) count
+    ap (λ b. if b then Ok (unshaped (state_of s).view) else reading p (state_of s)) count
 
-pub text_follows : (p : Shaping) (s shaped new : Sides) → new ≡ shaped → (length (all_glyphs s) == 0) ≡ false → Follows (reading p (run_of s)) (run_of s) (run_of shaped) → Follows (text_reading p (run_of s)) (run_of s) (run_of new)
+pub text_follows : (p : Shaping) (s shaped new : Sides) → new ≡ shaped → (length (all_glyphs s) == 0) ≡ false → Follows (reading p (state_of s)) (state_of s) (state_of shaped) → Follows (text_reading p (state_of s)) (state_of s) (state_of new)
 text_follows p s shaped new same some f =
-    let P : Reading → Type 0 = λ r. Follows r (run_of s) (run_of shaped) in
-    let Q : Sides → Type 0 = λ n. Follows (text_reading p (run_of s)) (run_of s) (run_of n) in
+    let P : Reading → Type 0 = λ r. Follows r (state_of s) (state_of shaped) in
+    let Q : Sides → Type 0 = λ n. Follows (text_reading p (state_of s)) (state_of s) (state_of n) in
     subst Q (sym same) (subst P (sym (text_is_read p s some)) f)
 
-pub text_refused : (p : Shaping) (s : Sides) (cause told : ShapeCause) → told ≡ cause → (length (all_glyphs s) == 0) ≡ false → reading p (run_of s) ≡ Err cause → text_reading p (run_of s) ≡ Err told
-text_refused p s cause told same some e = text_is_read p s some ∙ e ∙ ap Err (sym same)
+pub text_refused : (p : Shaping) (s : Sides) (cause scratch_flags : ShapeCause) → scratch_flags ≡ cause → (length (all_glyphs s) == 0) ≡ false → reading p (state_of s) ≡ Err cause → text_reading p (state_of s) ≡ Err scratch_flags
+text_refused p s cause scratch_flags same some e = text_is_read p s some ∙ e ∙ ap Err (sym same)
 
 -- ---- a text's own plan
 
@@ -83,10 +92,10 @@ same_characters s are = text_characters (all_glyphs s) are
 -- ---- a text whose direction and script were guessed
 
 abbrev IsShaped : Result Sides ShapeFault → (TextSettings → Shaping) → Sides → Type 0
-IsShaped r q s = IfOk r (λ (glyphs : Sides). Follows (text_reading (q (text_settings s)) (run_of s)) (run_of s) (run_of glyphs))
+IsShaped r q s = IfOk r (λ (glyphs : Sides). Follows (text_reading (q (text_settings s)) (state_of s)) (state_of s) (state_of glyphs))
 
 abbrev IsRefused : Result Sides ShapeFault → (TextSettings → Shaping) → Sides → Type 0
-IsRefused r q s = IfErr r (λ (e : ShapeFault). e.cause ≢ OutOfMemory → text_reading (q (text_settings s)) (run_of s) ≡ Err e.cause)
+IsRefused r q s = IfErr r (λ (e : ShapeFault). e.cause ≢ OutOfMemory → text_reading (q (text_settings s)) (state_of s) ≡ Err e.cause)
 
 pub shaped_as_guessed : (q : TextSettings → Shaping) (r : Result Sides ShapeFault) (s mid t : Sides) → s ≡ mid → mid ≡ t → IsShaped r q s → IsShaped r q t
 shaped_as_guessed q r s mid t same guess h = subst (IsShaped r q) (same ∙ guess) h
@@ -94,7 +103,36 @@ shaped_as_guessed q r s mid t same guess h = subst (IsShaped r q) (same ∙ gues
 pub refused_as_guessed : (q : TextSettings → Shaping) (r : Result Sides ShapeFault) (s mid t : Sides) → s ≡ mid → mid ≡ t → IsRefused r q s → IsRefused r q t
 refused_as_guessed q r s mid t same guess h = subst (IsRefused r q) (same ∙ guess) h
 
+-- what is told of a text and its result holds of the text as it was guessed
+pub told_as_guessed : (P : Sides → Result Sides ShapeFault → Type 0) (r : Result Sides ShapeFault) (s mid t : Sides) → s ≡ mid → mid ≡ t → P s r → P t r
+told_as_guessed P r s mid t same guess h = subst (λ x. P x r) (same ∙ guess) h
+
+abbrev pub HandsOn : Sides → Result Sides ShapeFault → Type 0
+HandsOn s r = IfOk r (λ (glyphs : Sides). IsResultOf s glyphs)
+
+-- a text without characters is left
+abbrev pub IsLeftEmpty : Sides → Result Sides ShapeFault → Type 0
+IsLeftEmpty s r = all_glyphs s ≡ [] → r ≡ Ok (after_leave s)
+
+abbrev pub Keeps : Direction → Sides → Result Sides ShapeFault → Type 0
+Keeps d s r = d ≡ s.direction → IfOk r (λ (glyphs : Sides). glyphs.direction ≡ s.direction)
+
+pub empty_shaped : (q : Sides → Shaping) (s mid t new : Sides) → s ≡ mid → mid ≡ t → new ≡ after_leave s → (length (all_glyphs s) == 0) ≡ true → Follows (text_reading (q t) (state_of t)) (state_of t) (state_of new)
+empty_shaped q s mid t new same guess left empty =
+    let P : Sides → Type 0 = λ x. Follows (text_reading (q x) (state_of x)) (state_of x) (state_of new) in
+    subst P (same ∙ guess) (empty_follows (q s) s new left empty)
+
 -- ---- and whose plan is its own
+
+planned_direction : (font : FaceParts) (languages : List Tag) (d : Direction) (script : Option Script) (features : List Feature) (plan : hb_ot_shape_plan_t hb_ot_any_shaper_t ⊤) → IsPlanned any_kind font languages d script features plan → plan.script_plan.direction ≡ d
+unfolding text_plan
+planned_direction font languages d script features plan is = ap (λ (p : hb_script_plan_t ⊤). p.direction) is.script_plan
+
+pub direction_kept : (font : FaceParts) (languages : List Tag) (d : Direction) (script : Option Script) (features : List Feature) (plan : hb_ot_shape_plan_t hb_ot_any_shaper_t ⊤) (r : Result Sides ShapeFault) (s mid t : Sides) → IsPlanned any_kind font languages d script features plan → d ≡ s.direction
+    → s ≡ mid → mid ≡ t → Keeps plan.script_plan.direction s r → IfOk r (λ (glyphs : Sides). glyphs.direction ≡ t.direction)
+direction_kept font languages d script features plan r s mid t is direction same guess keeps =
+    let P : Sides → Type 0 = λ x. IfOk r (λ (glyphs : Sides). glyphs.direction ≡ x.direction) in
+    subst P (same ∙ guess) (keeps (planned_direction font languages d script features plan is ∙ direction))
 
 planned_here : (font : FaceParts) (tags : List ℕ → List Tag) (features : List Feature) (s : Sides) (d : Direction) (script : Option Script) (l : Option Language) (plan : hb_ot_shape_plan_t hb_ot_any_shaper_t ⊤)
     → d ≡ s.direction → script ≡ s.script → l ≡ s.language → IsPlanned any_kind font (wanted_language_tags tags l) d script features plan → IsPlanned any_kind font (language_tags tags s) s.direction s.script features plan
@@ -107,10 +145,10 @@ planned_here font tags features s d script l plan direction of language is =
 module _ (font : FaceParts) (tables : Tables) (tags : List ℕ → List Tag) (spans : Spans) (features : List Feature) (s mid t : Sides) (plan : hb_ot_shape_plan_t hb_ot_any_shaper_t ⊤) (d : Direction) (script : Option Script) (l : Option Language)
     (same : s ≡ mid) (guess : mid ≡ t) (direction : d ≡ s.direction) (of : script ≡ s.script) (language : l ≡ s.language) (is : IsPlanned any_kind font (wanted_language_tags tags l) d script features plan) (r : Result Sides ShapeFault) where
   abbrev IsShapedBy : Sides → Shaping → Type 0
-  IsShapedBy x p = IfOk r (λ (glyphs : Sides). Follows (text_reading p (run_of x)) (run_of x) (run_of glyphs))
+  IsShapedBy x p = IfOk r (λ (glyphs : Sides). Follows (text_reading p (state_of x)) (state_of x) (state_of glyphs))
 
   abbrev IsRefusedBy : Sides → Shaping → Type 0
-  IsRefusedBy x p = IfErr r (λ (e : ShapeFault). e.cause ≢ OutOfMemory → text_reading p (run_of x) ≡ Err e.cause)
+  IsRefusedBy x p = IfErr r (λ (e : ShapeFault). e.cause ≢ OutOfMemory → text_reading p (state_of x) ≡ Err e.cause)
 
   its_own : by_plan (traits_of plan.shaper) (rules_of plan.shaper plan.script_plan) plan font tables spans (text_settings s) ≡ by_text font tables tags spans features s
   its_own = planned_for font tables tags spans features s plan (planned_here font tags features s d script l plan direction of language is)

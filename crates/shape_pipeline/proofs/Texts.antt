@@ -16,30 +16,24 @@ use Rattle.buffer_glyphs.specs.EventParts.{AreEvenRuns, HaveNoConcat}
 use Rattle.buffer_glyphs.specs.Items.{Item, item_of}
 use Rattle.buffer_glyphs.specs.Order.{BringsNone, has_number}
 use Rattle.buffer_glyphs.specs.Origins.{Origin, numbers, origins}
-use Rattle.buffer_core.specs.Readings.{Follows, Reading, Run, View, as_it_is, run_after, with_events}
-use Rattle.buffer_core.specs.Sides.{Sides, all_glyphs, asks_of, items_of, origins_of, run_of, view_of}
+use Rattle.buffer_core.specs.Readings.{Follows, Reading, BufferState, View, always}
+use Rattle.buffer_core.specs.Sides.{Sides, all_glyphs, flag_requests_of, items_of, origins_of, state_of, view_of}
 use Rattle.buffer_stages.specs.Settings.{TextSettings, text_settings}
 use Rattle.script_plan.specs.Plans.{planned_shaper, text_plan}
 use Rattle.script_dispatch.specs.Requests.{any_kind}
 use Rattle.shape_pipeline.specs.ReadingLaws.{ReadingKeepsNumbers, ResultsAreEven, ResultsHaveNoConcat, RunsReadAlike, have_no_ranges}
+use Rattle.shape_pipeline.specs.Limits.{unshaped}
 use Rattle.shape_pipeline.specs.Reading.{reading}
 use Rattle.shape_pipeline.specs.Shaping.{Shaping}
 use Rattle.script_plan.specs.Rules.{Spans}
 use Rattle.shape_pipeline.specs.Laws.{AreAlike}
 use Rattle.shape_pipeline.specs.Shaped.{by_shaper, by_text, language_tags, text_reading}
 
-follows_one : (r : Reading) (text a b : Run) → Follows r text a → Follows r text b → a ≡ b
-follows_one (Ok r) text a b f g = f ∙ sym g
-follows_one (Err e) text a b f g = elim f [ ]
-
-pub results_are_one : (p : Shaping) (text a b : Run) → Follows (text_reading p text) text a → Follows (text_reading p text) text b → a ≡ b
-results_are_one p text a b f g = follows_one (text_reading p text) text a b f g
-
-read_if : (p : Shaping) (text : Run) (empty : Bool) → (length text.view.items == 0) ≡ empty → text_reading p text ≡ (if empty then Ok (with_events [] text.view) else reading p text)
+read_if : (p : Shaping) (text : BufferState) (empty : Bool) → (length text.view.items == 0) ≡ empty → text_reading p text ≡ (if empty then Ok (unshaped text.view) else reading p text)
 unfolding text_reading
-read_if p text empty e = ap (λ b. if b then Ok (with_events [] text.view) else reading p text) e
+read_if p text empty e = ap (λ b. if b then Ok (unshaped text.view) else reading p text) e
 
-pub empty_texts_stay : (p : Shaping) (text : Run) → text.view.items ≡ [] → text_reading p text ≡ as_it_is text.view
+pub empty_texts_stay : (p : Shaping) (text : BufferState) → text.view.items ≡ [] → text_reading p text ≡ always unshaped text.view
 empty_texts_stay p text none = read_if p text true (ap (λ xs. length xs == 0) none)
 
 -- ---- a text without characters, and another
@@ -47,22 +41,22 @@ empty_texts_stay p text none = read_if p text true (ap (λ xs. length xs == 0) n
 no_glyphs : (gs : List hb_glyph_info_t) → (length gs == 0) ≡ true → gs ≡ []
 no_glyphs gs e = nil_from_length gs (eqb-true (length gs) 0 e)
 
-by_count : (P : List Origin → Type 0) (p : Shaping) (text : Sides) (result : Run) → ((gs : List hb_glyph_info_t) → gs ≡ [] → P (origins gs)) → (Follows (reading p (run_of text)) (run_of text) result → P result.origins)
-    → Follows (text_reading p (run_of text)) (run_of text) result → (b : Bool) → (length (items_of text) == 0) ≡ b → P result.origins
+by_count : (P : List Origin → Type 0) (p : Shaping) (text : Sides) (result : BufferState) → ((gs : List hb_glyph_info_t) → gs ≡ [] → P (origins gs)) → (Follows (reading p (state_of text)) (state_of text) result → P result.origins)
+    → Follows (text_reading p (state_of text)) (state_of text) result → (b : Bool) → (length (items_of text) == 0) ≡ b → P result.origins
 by_count P p text result empty read f true none =
-    let R : Reading → Type 0 = λ r. Follows r (run_of text) result in
-    let same : Follows (as_it_is (view_of text)) (run_of text) result = subst R (read_if p (run_of text) true none) f in
+    let R : Reading → Type 0 = λ r. Follows r (state_of text) result in
+    let same : Follows (always unshaped (view_of text)) (state_of text) result = subst R (read_if p (state_of text) true none) f in
     let bare : all_glyphs text ≡ [] = no_glyphs (all_glyphs text) (ap (λ n. n == 0) (sym (length-map (all_glyphs text) item_of)) ∙ none) in
-    let Q : Run → Type 0 = λ run. P run.origins in
+    let Q : BufferState → Type 0 = λ run. P run.origins in
     subst Q (sym same) (empty (all_glyphs text) bare)
 by_count P p text result empty read f false some =
-    let R : Reading → Type 0 = λ r. Follows r (run_of text) result in
-    read (subst R (read_if p (run_of text) false some) f)
+    let R : Reading → Type 0 = λ r. Follows r (state_of text) result in
+    read (subst R (read_if p (state_of text) false some) f)
 
 -- where all readings have something of their results, and the text itself has it where it has no glyph, all texts have
 -- it
-of_texts : (P : List Origin → Type 0) (p : Shaping) (text : Sides) (result : Run) → ((gs : List hb_glyph_info_t) → gs ≡ [] → P (origins gs)) → (Follows (reading p (run_of text)) (run_of text) result → P result.origins)
-    → Follows (text_reading p (run_of text)) (run_of text) result → P result.origins
+of_texts : (P : List Origin → Type 0) (p : Shaping) (text : Sides) (result : BufferState) → ((gs : List hb_glyph_info_t) → gs ≡ [] → P (origins gs)) → (Follows (reading p (state_of text)) (state_of text) result → P result.origins)
+    → Follows (text_reading p (state_of text)) (state_of text) result → P result.origins
 of_texts P p text result empty read f = by_count P p text result empty read f (length (items_of text) == 0) refl
 
 brings_nothing : (ns : List ℕ) (n : ℕ) → IsTrue (has_number (numbers (origins [])) n) → IsTrue (has_number ns n)
@@ -73,30 +67,30 @@ none_brought ns gs e =
     let P : List hb_glyph_info_t → Type 0 = λ xs. BringsNone ns (numbers (origins xs)) in
     subst P (sym e) (brings_nothing ns)
 
-pub texts_keep_numbers : ReadingKeepsNumbers → (p : Shaping) (text : Sides) (result : Run) → Follows (text_reading p (run_of text)) (run_of text) result → BringsNone (numbers (origins_of text)) (numbers result.origins)
-texts_keep_numbers law p text result f = of_texts (λ os. BringsNone (numbers (origins_of text)) (numbers os)) p text result (none_brought (numbers (origins_of text))) (law p (run_of text) result) f
+pub texts_keep_numbers : ReadingKeepsNumbers → (p : Shaping) (text : Sides) (result : BufferState) → Follows (text_reading p (state_of text)) (state_of text) result → BringsNone (numbers (origins_of text)) (numbers result.origins)
+texts_keep_numbers law p text result f = of_texts (λ os. BringsNone (numbers (origins_of text)) (numbers os)) p text result (none_brought (numbers (origins_of text))) (law p (state_of text) result) f
 
 even_none : (gs : List hb_glyph_info_t) → gs ≡ [] → AreEvenRuns (origins gs)
 even_none [] e = tt
 even_none (g ∷ gs) e = cc
 
-pub texts_are_even : ResultsAreEven → (p : Shaping) (text : Sides) (result : Run) → Follows (text_reading p (run_of text)) (run_of text) result → AreEvenRuns result.origins
-texts_are_even law p text result f = of_texts AreEvenRuns p text result even_none (law p (run_of text) result) f
+pub texts_are_even : ResultsAreEven → (p : Shaping) (text : Sides) (result : BufferState) → Follows (text_reading p (state_of text)) (state_of text) result → AreEvenRuns result.origins
+texts_are_even law p text result f = of_texts AreEvenRuns p text result even_none (law p (state_of text) result) f
 
 unconcat_none : (gs : List hb_glyph_info_t) → gs ≡ [] → HaveNoConcat (origins gs)
 unconcat_none [] e = tt
 unconcat_none (g ∷ gs) e = cc
 
-pub texts_have_no_concat : ResultsHaveNoConcat → (p : Shaping) (text : Sides) (result : Run) → (asks_of text).concat ≡ false → Follows (text_reading p (run_of text)) (run_of text) result → HaveNoConcat result.origins
-texts_have_no_concat law p text result unasked f = of_texts HaveNoConcat p text result unconcat_none (law p (run_of text) result unasked) f
+pub texts_have_no_concat : ResultsHaveNoConcat → (p : Shaping) (text : Sides) (result : BufferState) → (flag_requests_of text).concat ≡ false → Follows (text_reading p (state_of text)) (state_of text) result → HaveNoConcat result.origins
+texts_have_no_concat law p text result unasked f = of_texts HaveNoConcat p text result unconcat_none (law p (state_of text) result unasked) f
 
 -- ---- texts that are alike
 
 -- what is read depends only on what is seen
-seen_alike : RunsReadAlike → (p : Shaping) (a b : Run) → have_no_ranges p.features ≡ true → a.view ≡ b.view → text_reading p a ≡ text_reading p b
+seen_alike : RunsReadAlike → (p : Shaping) (a b : BufferState) → have_no_ranges p.features ≡ true → a.view ≡ b.view → text_reading p a ≡ text_reading p b
 unfolding text_reading
 seen_alike law p a b unranged same =
-    let by : View → Reading → Reading = λ v r. if length v.items == 0 then Ok (with_events [] v) else r in
+    let by : View → Reading → Reading = λ v r. if length v.items == 0 then Ok (unshaped v) else r in
     ap (λ v. by v (reading p a)) same ∙ ap (by b.view) (law p a b unranged same)
 
 -- what a text is shaped by is the same
@@ -109,7 +103,7 @@ by_alike font tables tags spans features a b alike =
     ∙ ap (λ l. by b.direction b.script (wanted_language_tags tags l) (text_settings b)) alike.languages
 
 pub texts_read_alike : RunsReadAlike → (font : FaceParts) (tables : Tables) (tags : List ℕ → List Tag) (spans : Spans) (features : List Feature) (a b : Sides) → have_no_ranges features ≡ true → AreAlike a b
-    → text_reading (by_text font tables tags spans features a) (run_of a) ≡ text_reading (by_text font tables tags spans features b) (run_of b)
+    → text_reading (by_text font tables tags spans features a) (state_of a) ≡ text_reading (by_text font tables tags spans features b) (state_of b)
 texts_read_alike law font tables tags spans features a b unranged alike =
-    ap (λ p. text_reading p (run_of a)) (by_alike font tables tags spans features a b alike)
-    ∙ seen_alike law (by_text font tables tags spans features b) (run_of a) (run_of b) unranged alike.views
+    ap (λ p. text_reading p (state_of a)) (by_alike font tables tags spans features a b alike)
+    ∙ seen_alike law (by_text font tables tags spans features b) (state_of a) (state_of b) unranged alike.views

@@ -10,17 +10,17 @@ use Rattle.shape_text.specs.Properties.{with_properties}
 use Rattle.shape_text.specs.Circle.{first_circle}
 use Rattle.shape_text.specs.Clusters.{with_clusters}
 use Rattle.shape_text.specs.NativeOrder.{native_order}
-use Rattle.shape_text.specs.Rotation.{rotated}
+use Rattle.shape_text.specs.Rotation.{with_rotated_characters}
 use Rattle.shape_normalize.specs.Rounds.{normalization}
 use Rattle.shape_pipeline.specs.Chains.{in_order}
-use Rattle.shape_pipeline.specs.Limits.{begun}
-use Rattle.shape_pipeline.specs.Shaping.{Shaping, preprocessed}
+use Rattle.shape_pipeline.specs.Limits.{initial_view}
+use Rattle.shape_pipeline.specs.Shaping.{Shaping, preprocessing_stage}
 
 -- the first pipeline stage: limits by the length, masks of the features for all glyphs, properties, a dotted circle
 -- before a mark, clusters of graphemes, and the script's direction
 unfoldable pub text_begun : Shaping → Stage
 text_begun p = in_order (
-    always begun ∷
+    always initial_view ∷
     always (with_one_mask p.map.global_mask) ∷
     always (with_properties p.tables) ∷
     first_circle p.tables p.font p.settings.flags p.settings.pre_context ∷
@@ -45,12 +45,12 @@ normalizer p = record {
 
 -- the view with characters mirrored or in vertical forms, by the text's direction
 abbrev pub turned_to_line : Shaping → View → Read
-turned_to_line p v = rotated p.tables p.font p.direction (mask_at_one (codes "rtlm") p.map) p.choices.has_vert v
+turned_to_line p v = with_rotated_characters p.tables p.font p.direction (mask_at_one (codes "rtlm") p.map) p.choices.has_vert v
 
 -- the pipeline stage that chooses glyphs: the shaper's preprocessing, mirrored and vertical characters, and normalizing
 unfoldable pub characters_chosen : Shaping → Stage
 characters_chosen p = in_order (
-    preprocessed p ∷
+    preprocessing_stage p ∷
     always (turned_to_line p) ∷
     normalization (normalizer p) ∷
     [])

@@ -1,8 +1,8 @@
 -- The pipeline stages that map characters to glyphs and substitute them.
 use Rattle.std.specs.Prelude.{[], ◌∷◌}
 use Rattle.buffer_core.specs.Readings.{Stage, always}
-use Rattle.layout_substitution.specs.Substituting.{substituted_by}
-use Rattle.shape_fallback.specs.Classes.{with_places}
+use Rattle.layout_substitution.specs.Substituting.{substitution_stages}
+use Rattle.shape_fallback.specs.Classes.{with_fallback_classes}
 use Rattle.shape_glyphs.specs.Classes.{with_font_classes}
 use Rattle.shape_glyphs.specs.Glyphs.{with_glyphs, with_synthesized_classes}
 use Rattle.shape_pipeline.specs.Chains.{in_order, only_if}
@@ -12,7 +12,7 @@ use Rattle.shape_pipeline.specs.Shaping.{Shaping, pauses_of}
 -- is replaced by its glyph
 unfoldable pub glyphs_taken : Shaping → Stage
 glyphs_taken p = in_order (
-    only_if p.choices.fallback_mark_positioning (always with_places) ∷
+    only_if p.choices.fallback_mark_positioning (always with_fallback_classes) ∷
     always with_glyphs ∷
     [])
 
@@ -22,5 +22,5 @@ unfoldable pub glyphs_substituted : Shaping → Stage
 glyphs_substituted p = in_order (
     always (with_font_classes p.font) ∷
     only_if p.choices.fallback_glyph_classes (always with_synthesized_classes) ∷
-    substituted_by p.font p.map (pauses_of p) ∷
+    substitution_stages p.font p.map (pauses_of p) ∷
     [])

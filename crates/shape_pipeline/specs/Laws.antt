@@ -7,8 +7,9 @@ use Rattle.buffer_unicode_tables.specs.Tables.{Tables}
 use Rattle.buffer_glyphs.specs.EventParts.{AreEvenRuns, HaveNoConcat}
 use Rattle.buffer_glyphs.specs.Order.{BringsNone}
 use Rattle.buffer_glyphs.specs.Origins.{numbers}
-use Rattle.buffer_core.specs.Readings.{Follows, Run, as_it_is}
-use Rattle.buffer_core.specs.Sides.{Sides, asks_of, origins_of, run_of, view_of}
+use Rattle.buffer_core.specs.Readings.{Follows, BufferState, always}
+use Rattle.buffer_core.specs.Segment.{after_guess_segment_properties}
+use Rattle.buffer_core.specs.Sides.{Sides, flag_requests_of, origins_of, state_of, view_of}
 use Rattle.buffer_stages.specs.Settings.{text_settings}
 use Rattle.script_plan.specs.declared.plan.hb_ot_shape_plan_t.{hb_ot_shape_plan_t}
 use Rattle.script_plan.specs.Plans.{IsPlanned}
@@ -17,24 +18,25 @@ use Rattle.script_dispatch.specs.declared.any_shaper.hb_ot_any_shaper_t.{hb_ot_a
 use Rattle.script_dispatch.specs.Requests.{any_kind}
 use Rattle.script_dispatch.specs.Rules.{rules_of}
 use Rattle.script_dispatch.specs.Shapers.{traits_of}
+use Rattle.shape_pipeline.specs.Limits.{unshaped}
 use Rattle.shape_pipeline.specs.ReadingLaws.{have_no_ranges}
+use Rattle.shape_pipeline.specs.Results.{AgreeOn, AreSameItems, IsShapedBy}
 use Rattle.shape_pipeline.specs.Shaping.{Shaping}
 use Rattle.shape_pipeline.specs.Shaped.{by_plan, by_text, language_tags, text_reading}
 
--- law: a plan for a text's language, direction and script, made with the same font and features, gives the same
--- `Shaping` as `shape` without a plan
-abbrev pub PlansShapeAlike : Type 0
-PlansShapeAlike = (font : FaceParts) (tables : Tables) (tags : List ℕ → List Tag) (spans : Spans) (features : List Feature) (text : Sides) (plan : hb_ot_shape_plan_t hb_ot_any_shaper_t ⊤)
-    → IsPlanned any_kind font (language_tags tags text) text.direction text.script features plan
-    → by_plan (traits_of plan.shaper) (rules_of plan.shaper plan.script_plan) plan font tables spans (text_settings text) ≡ by_text font tables tags spans features text
+-- a plan for a text's language and for its direction and script, guessed where they are not set, made of the same font and features, shapes the text to what no plan shapes it to
+abbrev pub PlansServeTexts : Type 0
+PlansServeTexts = (font : FaceParts) (tables : Tables) (tags : List ℕ → List Tag) (spans : Spans) (features : List Feature) (text : Sides) (plan : hb_ot_shape_plan_t hb_ot_any_shaper_t ⊤)
+    → IsPlanned any_kind font (language_tags tags text) (after_guess_segment_properties text).direction (after_guess_segment_properties text).script features plan
+    → AgreeOn (after_guess_segment_properties text) (by_text font tables tags spans features (after_guess_segment_properties text)) (by_plan (traits_of plan.shaper) (rules_of plan.shaper plan.script_plan) plan font tables spans (text_settings (after_guess_segment_properties text)))
 
 -- law: a text has one result, whatever was shaped before
 abbrev pub ResultsAreOne : Type 0
-ResultsAreOne = (p : Shaping) (text a b : Run) → Follows (text_reading p text) text a → Follows (text_reading p text) text b → a ≡ b
+ResultsAreOne = (p : Shaping) (text : Sides) → AgreeOn text p p
 
--- law: a text without characters is not refused, and stays unchanged
+-- a text without characters is not refused, and stays as it is, with the limits as at first
 abbrev pub EmptyTextsStay : Type 0
-EmptyTextsStay = (p : Shaping) (text : Run) → text.view.items ≡ [] → text_reading p text ≡ as_it_is text.view
+EmptyTextsStay = (p : Shaping) (text : BufferState) → text.view.items ≡ [] → text_reading p text ≡ always unshaped text.view
 
 -- ---- clusters, and requests for glyph flags
 
@@ -48,16 +50,25 @@ pub record AreAlike (a b : Sides) : Type 0 where
 -- requested for a range of the text
 abbrev pub TextsReadAlike : Type 0
 TextsReadAlike = (font : FaceParts) (tables : Tables) (tags : List ℕ → List Tag) (spans : Spans) (features : List Feature) (a b : Sides) → have_no_ranges features ≡ true → AreAlike a b
-    → text_reading (by_text font tables tags spans features a) (run_of a) ≡ text_reading (by_text font tables tags spans features b) (run_of b)
+    → text_reading (by_text font tables tags spans features a) (state_of a) ≡ text_reading (by_text font tables tags spans features b) (state_of b)
 
--- law: each cluster number of a result is one of the text's
+-- so it is where their directions and scripts are guessed: what is guessed does not depend on clusters, levels and such requests
+abbrev pub GuessedTextsAreAlike : Type 0
+GuessedTextsAreAlike = (a b : Sides) → AreAlike a b → AreAlike (after_guess_segment_properties a) (after_guess_segment_properties b)
+
+-- and their results show the same but for clusters and flags
+abbrev pub TextsLookAlike : Type 0
+TextsLookAlike = (font : FaceParts) (tables : Tables) (tags : List ℕ → List Tag) (spans : Spans) (features : List Feature) (a b x y : Sides) → have_no_ranges features ≡ true → AreAlike a b
+    → IsShapedBy (by_text font tables tags spans features (after_guess_segment_properties a)) (after_guess_segment_properties a) x → IsShapedBy (by_text font tables tags spans features (after_guess_segment_properties b)) (after_guess_segment_properties b) y → AreSameItems x y
+
+-- each cluster number of a result is one of the text's
 abbrev pub TextsKeepNumbers : Type 0
-TextsKeepNumbers = (p : Shaping) (text : Sides) (result : Run) → Follows (text_reading p (run_of text)) (run_of text) result → BringsNone (numbers (origins_of text)) (numbers result.origins)
+TextsKeepNumbers = (p : Shaping) (text : Sides) (result : BufferState) → Follows (text_reading p (state_of text)) (state_of text) result → BringsNone (numbers (origins_of text)) (numbers result.origins)
 
 -- law: neighbouring glyphs of one cluster of a result have the same flags
 abbrev pub TextsAreEven : Type 0
-TextsAreEven = (p : Shaping) (text : Sides) (result : Run) → Follows (text_reading p (run_of text)) (run_of text) result → AreEvenRuns result.origins
+TextsAreEven = (p : Shaping) (text : Sides) (result : BufferState) → Follows (text_reading p (state_of text)) (state_of text) result → AreEvenRuns result.origins
 
 -- law: UNSAFE_TO_CONCAT is set in a result only where it was requested
 abbrev pub TextsHaveNoConcat : Type 0
-TextsHaveNoConcat = (p : Shaping) (text : Sides) (result : Run) → (asks_of text).concat ≡ false → Follows (text_reading p (run_of text)) (run_of text) result → HaveNoConcat result.origins
+TextsHaveNoConcat = (p : Shaping) (text : Sides) (result : BufferState) → (flag_requests_of text).concat ≡ false → Follows (text_reading p (state_of text)) (state_of text) result → HaveNoConcat result.origins

@@ -4,10 +4,11 @@ pub mod Limits
 pub mod Characters
 pub mod Masks
 pub mod Glyphs
-pub mod Places
+pub mod Positioning
 pub mod Endings
 pub mod Reading
 pub mod ReadingLaws
 pub mod Shaped
+pub mod Results
 pub mod Laws
 pub use Rattle.script_dispatch.specs.Dispatch

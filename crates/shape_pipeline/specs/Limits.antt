@@ -6,9 +6,17 @@ use Rattle.buffer_core.specs.Settings.{length_limit, steps_limit}
 
 -- the view at the start of shaping: the limits of glyphs and of nested lookups are set by the number of characters; no
 -- ligature has a number, and no scratch flag is set
-abbrev pub begun : View → Read
-begun v = with_events [] (record v { max_len = length_limit (length v.items) v.max_len; max_ops = steps_limit (length v.items) v.max_ops; lig_id = 0; told = 0 })
+abbrev pub initial_view : View → Read
+initial_view v = with_events [] (record v { max_len = length_limit (length v.items) v.max_len; max_ops = steps_limit (length v.items) v.max_ops; lig_id = 0; scratch_flags = 0 })
 
--- the view at the end of shaping: the direction is the text's, and the limits are reset
-abbrev pub ended : Direction → View → Read
-ended direction v = with_events [] (record v { max_len = max 0x3FFF_FFFF (length v.items); max_ops = pos 0x1FFF_FFFF; lig_id = 0; direction = direction })
+-- the limits are as at first, but never less than what is held, and no ligature has a number
+abbrev pub with_first_limits : View → View
+with_first_limits v = record v { max_len = max 0x3FFF_FFFF (length v.items); max_ops = pos 0x1FFF_FFFF; lig_id = 0 }
+
+-- shaping ends: the direction is again that of the line, and the limits are as at first
+abbrev pub final_view : Direction → View → Read
+final_view direction v = with_events [] (record (with_first_limits v) { direction = direction })
+
+-- nothing is shaped: all stays as it is, and the limits are as at first
+abbrev pub unshaped : View → Read
+unshaped v = with_events [] (with_first_limits v)

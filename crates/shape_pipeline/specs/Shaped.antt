@@ -5,7 +5,7 @@ use Rattle.buffer_common.specs.ScriptTags.{wanted_language_tags}
 use Rattle.buffer_features.specs.declared.feature.Feature.{Feature}
 use Rattle.layout_face.specs.declared.parts.FaceParts.{FaceParts}
 use Rattle.buffer_unicode_tables.specs.Tables.{Tables}
-use Rattle.buffer_core.specs.Readings.{Reading, Run, with_events}
+use Rattle.buffer_core.specs.Readings.{Reading, BufferState}
 use Rattle.buffer_core.specs.Sides.{Sides}
 use Rattle.buffer_stages.specs.Settings.{TextSettings, text_settings}
 use Rattle.script_plan.specs.declared.plan.hb_ot_shape_plan_t.{hb_ot_shape_plan_t}
@@ -17,6 +17,7 @@ use Rattle.script_dispatch.specs.declared.any_shaper.hb_ot_any_shaper_t.{hb_ot_a
 use Rattle.script_dispatch.specs.Requests.{any_kind}
 use Rattle.script_dispatch.specs.Rules.{rules_of}
 use Rattle.script_dispatch.specs.Shapers.{traits_of}
+use Rattle.shape_pipeline.specs.Limits.{unshaped}
 use Rattle.shape_pipeline.specs.Reading.{reading}
 use Rattle.shape_pipeline.specs.Shaping.{Shaping}
 
@@ -58,6 +59,6 @@ by_tags font tables tags spans features s =
 abbrev pub by_text : FaceParts → Tables → (List ℕ → List Tag) → Spans → List Feature → Sides → Shaping
 by_text font tables tags spans features s = by_tags font tables (language_tags tags s) spans features s
 
--- the reading of a text; one without characters stays unchanged
-unfoldable pub text_reading : Shaping → Run → Reading
-text_reading p run = if length run.view.items == 0 then Ok (with_events [] run.view) else reading p run
+-- a text without characters stays as it is, with the limits as at first; another is read as it is shaped
+unfoldable pub text_reading : Shaping → BufferState → Reading
+text_reading p run = if length run.view.items == 0 then Ok (unshaped run.view) else reading p run

@@ -36,13 +36,13 @@ abbrev pub pauses_of : Shaping → Pauses
 pauses_of p = p.rules.pauses p.font p.tables p.spans p.settings
 
 -- the stage before normalizing
-abbrev pub preprocessed : Shaping → Stage
-preprocessed p = p.rules.preprocesses p.font p.tables p.settings
+abbrev pub preprocessing_stage : Shaping → Stage
+preprocessing_stage p = p.rules.preprocesses p.font p.tables p.settings
 
 -- the stage of the shaper's masks
 abbrev pub shaper_masks_set : Shaping → Stage
 shaper_masks_set p = p.rules.sets_masks p.font p.tables p.settings
 
 -- the stage after positioning
-abbrev pub postprocessed : Shaping → Stage
-postprocessed p = p.rules.postprocesses p.font p.settings
+abbrev pub postprocessing_stage : Shaping → Stage
+postprocessing_stage p = p.rules.postprocesses p.font p.settings

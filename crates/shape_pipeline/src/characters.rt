@@ -1,14 +1,14 @@
 //! The pipeline stages on characters, up to normalizing (rustybuzz: hb/ot_shape.rs).
 ghost use Rattle.std.specs.Prelude.{◌≡◌, ◌≢◌, Err, IfErr, OnOk, true};
-ghost use Rattle.buffer_core.specs.Readings.{always, read_of};
-ghost use Rattle.buffer_core.specs.Sides.{items_of, run_of};
+ghost use Rattle.buffer_core.specs.Readings.{always, reading_of};
+ghost use Rattle.buffer_core.specs.Sides.{items_of, state_of};
 ghost use Rattle.buffer_stages.specs.Ready.{IsReady};
 ghost use Rattle.buffer_stages.specs.Settings.{text_settings};
 ghost use Rattle.buffer_stages.specs.Stages.{IsFollowed};
 ghost use Rattle.shape_text.specs.Properties.{are_characters};
 ghost use Rattle.shape_normalize.specs.Rounds.{normalization};
 ghost use Rattle.shape_pipeline.specs.Characters.{characters_chosen, normalizer, text_begun, turned_to_line};
-ghost use Rattle.shape_pipeline.specs.Shaping.{preprocessed};
+ghost use Rattle.shape_pipeline.specs.Shaping.{preprocessing_stage};
 
 use crate::context::{Shaped, hb_ot_shape_context_t};
 use crate::normalizing::hb_ot_shape_normalize_context_t;
@@ -32,8 +32,8 @@ impl<S: hb_ot_shaper_t, P: SyllableSpans> hb_ot_shape_context_t<'_, S, P> {
         requires characters { are_characters (items_of buffer.old) ≡ true }
         ensures ok { OnOk result (IsFollowed
             (text_begun (⟦<Self as Shaped>⟧.shaping self.now (text_settings buffer.old))) buffer.old buffer.new) }
-        ensures err { IfErr result (λ e. e ≢ ShapeCause.OutOfMemory → read_of
-            (text_begun (⟦<Self as Shaped>⟧.shaping self.now (text_settings buffer.old))) (run_of buffer.old) ≡ Err e) }
+        ensures err { IfErr result (λ e. e ≢ ShapeCause.OutOfMemory → reading_of
+            (text_begun (⟦<Self as Shaped>⟧.shaping self.now (text_settings buffer.old))) (state_of buffer.old) ≡ Err e) }
     {
         buffer.enter();
         initialize_masks(self.plan.script_plan.map.get_global_mask(), buffer);
@@ -66,9 +66,9 @@ impl<S: hb_ot_shaper_t, P: SyllableSpans> hb_ot_shape_context_t<'_, S, P> {
         ensures ok { OnOk result (IsFollowed
             (normalization (normalizer (⟦<Self as Shaped>⟧.shaping self.now (text_settings buffer.old))))
             buffer.old buffer.new) }
-        ensures err { IfErr result (λ e. e ≢ ShapeCause.OutOfMemory → read_of
+        ensures err { IfErr result (λ e. e ≢ ShapeCause.OutOfMemory → reading_of
             (normalization (normalizer (⟦<Self as Shaped>⟧.shaping self.now (text_settings buffer.old))))
-            (run_of buffer.old) ≡ Err e) }
+            (state_of buffer.old) ≡ Err e) }
     {
         let by = hb_ot_shape_normalize_context_t {
             shaper: &self.plan.shaper,
@@ -84,10 +84,10 @@ impl<S: hb_ot_shaper_t, P: SyllableSpans> hb_ot_shape_context_t<'_, S, P> {
     fn preprocess_text(&self, buffer: &mut hb_buffer_t) -> Result<(), ShapeCause>
         requires { IsReady buffer.old }
         ensures ok { OnOk result (IsFollowed
-            (preprocessed (⟦<Self as Shaped>⟧.shaping self.now (text_settings buffer.old))) buffer.old buffer.new) }
-        ensures err { IfErr result (λ e. e ≢ ShapeCause.OutOfMemory → read_of
-            (preprocessed (⟦<Self as Shaped>⟧.shaping self.now (text_settings buffer.old)))
-            (run_of buffer.old) ≡ Err e) }
+            (preprocessing_stage (⟦<Self as Shaped>⟧.shaping self.now (text_settings buffer.old))) buffer.old buffer.new) }
+        ensures err { IfErr result (λ e. e ≢ ShapeCause.OutOfMemory → reading_of
+            (preprocessing_stage (⟦<Self as Shaped>⟧.shaping self.now (text_settings buffer.old)))
+            (state_of buffer.old) ≡ Err e) }
     {
         let plan = self.plan;
         plan.shaper
@@ -101,8 +101,8 @@ impl<S: hb_ot_shaper_t, P: SyllableSpans> hb_ot_shape_context_t<'_, S, P> {
         ensures ok { OnOk result (IsFollowed
             (characters_chosen (⟦<Self as Shaped>⟧.shaping self.now (text_settings buffer.old)))
             buffer.old buffer.new) }
-        ensures err { IfErr result (λ e. e ≢ ShapeCause.OutOfMemory → read_of
-            (characters_chosen (⟦<Self as Shaped>⟧.shaping self.now (text_settings buffer.old))) (run_of buffer.old)
+        ensures err { IfErr result (λ e. e ≢ ShapeCause.OutOfMemory → reading_of
+            (characters_chosen (⟦<Self as Shaped>⟧.shaping self.now (text_settings buffer.old))) (state_of buffer.old)
             ≡ Err e) }
     {
         self.preprocess_text(buffer)?;

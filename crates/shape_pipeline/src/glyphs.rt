@@ -1,13 +1,13 @@
 //! The pipeline stages that map characters to glyphs and substitute them, substitute_pre (rustybuzz: hb/ot_shape.rs).
 ghost use Rattle.std.specs.Prelude.{◌≡◌, ◌≢◌, Err, IfErr, OnOk, true};
-ghost use Rattle.buffer_core.specs.Readings.{always, read_of};
-ghost use Rattle.buffer_core.specs.Sides.{items_of, run_of};
+ghost use Rattle.buffer_core.specs.Readings.{always, reading_of};
+ghost use Rattle.buffer_core.specs.Sides.{items_of, state_of};
 ghost use Rattle.buffer_stages.specs.Buffers.{are_glyphs};
 ghost use Rattle.buffer_stages.specs.Ready.{IsDone, IsReady};
 ghost use Rattle.buffer_stages.specs.Settings.{text_settings};
-ghost use Rattle.layout_substitution.specs.Substituting.{substituted_by};
+ghost use Rattle.layout_substitution.specs.Substituting.{substitution_stages};
 ghost use Rattle.buffer_stages.specs.Stages.{IsFollowed};
-ghost use Rattle.shape_fallback.specs.Classes.{with_places};
+ghost use Rattle.shape_fallback.specs.Classes.{with_fallback_classes};
 ghost use Rattle.shape_glyphs.specs.Glyphs.{with_synthesized_classes};
 ghost use Rattle.shape_pipeline.specs.Chains.{only_if};
 ghost use Rattle.shape_pipeline.specs.Glyphs.{glyphs_substituted, glyphs_taken};
@@ -28,7 +28,7 @@ use shape_glyphs::glyphs::{hb_synthesize_glyph_classes, map_glyphs_fast};
 #[tactic(auto, using(crate::proofs::Lemmas::Chains::acts_followed, crate::proofs::Lemmas::Chains::rests_followed))]
 fn recategorize_marks(choices: PlanChoices, buffer: &mut hb_buffer_t)
     requires { IsReady buffer.old }
-    ensures { IsFollowed (only_if choices.fallback_mark_positioning (always with_places)) buffer.old buffer.new }
+    ensures { IsFollowed (only_if choices.fallback_mark_positioning (always with_fallback_classes)) buffer.old buffer.new }
 {
     if choices.fallback_mark_positioning {
         _hb_ot_shape_fallback_mark_position_recategorize_marks(buffer);
@@ -62,11 +62,11 @@ impl<S: hb_ot_shaper_t, P: SyllableSpans> hb_ot_shape_context_t<'_, S, P> {
     fn apply_substitutions(&self, buffer: &mut hb_buffer_t) -> Result<(), ShapeCause>
         requires ready { IsReady buffer.old }
         requires numbers { are_glyphs (items_of buffer.old) ≡ true }
-        ensures ok { OnOk result (IsDone (substituted_by self.now.face.now self.now.plan.now.script_plan.map
+        ensures ok { OnOk result (IsDone (substitution_stages self.now.face.now self.now.plan.now.script_plan.map
             (pauses_of (⟦<Self as Shaped>⟧.shaping self.now (text_settings buffer.old)))) buffer.old buffer.new) }
-        ensures err { IfErr result (λ e. e ≢ ShapeCause.OutOfMemory → read_of
-            (substituted_by self.now.face.now self.now.plan.now.script_plan.map
-            (pauses_of (⟦<Self as Shaped>⟧.shaping self.now (text_settings buffer.old)))) (run_of buffer.old) ≡ Err e) }
+        ensures err { IfErr result (λ e. e ≢ ShapeCause.OutOfMemory → reading_of
+            (substitution_stages self.now.face.now self.now.plan.now.script_plan.map
+            (pauses_of (⟦<Self as Shaped>⟧.shaping self.now (text_settings buffer.old)))) (state_of buffer.old) ≡ Err e) }
     {
         substitute(&self.plan.script_plan.map, self.face, buffer, self)
     }
@@ -78,9 +78,9 @@ impl<S: hb_ot_shaper_t, P: SyllableSpans> hb_ot_shape_context_t<'_, S, P> {
         ensures ok { OnOk result (IsDone
             (glyphs_substituted (⟦<Self as Shaped>⟧.shaping self.now (text_settings buffer.old)))
             buffer.old buffer.new) }
-        ensures err { IfErr result (λ e. e ≢ ShapeCause.OutOfMemory → read_of
+        ensures err { IfErr result (λ e. e ≢ ShapeCause.OutOfMemory → reading_of
             (glyphs_substituted (⟦<Self as Shaped>⟧.shaping self.now (text_settings buffer.old)))
-            (run_of buffer.old) ≡ Err e) }
+            (state_of buffer.old) ≡ Err e) }
     {
         hb_ot_layout_substitute_start(self.face, buffer);
         synthesize_classes(self.plan.script_plan.choices, buffer);

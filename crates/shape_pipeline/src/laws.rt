@@ -1,26 +1,26 @@
-//! Laws of every shaped text.
-ghost use Rattle.shape_pipeline.specs.Laws.{EmptyTextsStay, PlansShapeAlike, ResultsAreOne, TextsAreEven, TextsHaveNoConcat, TextsKeepNumbers, TextsReadAlike};
+//! Laws of all texts that are shaped.
+ghost use Rattle.shape_pipeline.specs.Laws.{EmptyTextsStay, GuessedTextsAreAlike, PlansServeTexts, ResultsAreOne, TextsAreEven, TextsHaveNoConcat, TextsKeepNumbers, TextsLookAlike, TextsReadAlike};
 
 use crate::reading_laws::{
     law_reading_keeps_numbers, law_results_are_even, law_results_have_no_concat,
     law_runs_read_alike,
 };
 
-/// A plan that was made for a text's language, direction and script, with the same font and features, shapes the text
-/// with the same `Shaping` as `shape` does. So `shape_with_plan` has the same result as `shape`, clusters and glyph
-/// flags included.
-#[tactic(auto, using(crate::proofs::Shaped::planned_for))]
-pub fn law_plans_shape_alike()
-    ensures { PlansShapeAlike }
+/// A plan that was made for a text's language, and for its direction and script, guessed where they are not set, of the same
+/// font and features, serves the text: however often it was used, `shape_with_plan` gives what `shape` gives, clusters and
+/// flags of glyphs included, and both refuse for one cause.
+#[tactic(auto, using(crate::proofs::Agreeing::plans_serve_texts))]
+pub fn law_plans_serve_texts()
+    ensures { PlansServeTexts }
 {}
 
-/// A text has one result, however often its plan was used before.
-#[tactic(auto, using(crate::proofs::Texts::results_are_one))]
+/// A text has one result, or one cause of a refusal, whatever was shaped before it.
+#[tactic(auto, using(crate::proofs::Agreeing::results_are_one))]
 pub fn law_results_are_one()
     ensures { ResultsAreOne }
 {}
 
-/// A text without characters is not refused, and stays unchanged.
+/// A text without characters is not refused, and stays as it is, with the limits as at first.
 #[tactic(auto, using(crate::proofs::Texts::empty_texts_stay))]
 pub fn law_empty_texts_stay()
     ensures { EmptyTextsStay }
@@ -33,6 +33,23 @@ pub fn law_texts_read_alike()
     ensures { TextsReadAlike }
 {
     law_runs_read_alike();
+}
+
+/// What is guessed of two such texts is the same.
+#[tactic(auto, using(crate::proofs::Agreeing::guessed_alike))]
+pub fn law_guessed_texts_are_alike()
+    ensures { GuessedTextsAreAlike }
+{}
+
+/// Texts as they are given, their directions and scripts guessed where they are not set: where no feature is asked for on a
+/// part of the text, the results of two that differ in their clusters, their level and their requests for glyph flags alone
+/// have the same glyphs at the same places.
+#[tactic(auto, using(crate::proofs::Agreeing::texts_look_alike))]
+pub fn law_texts_look_alike()
+    ensures { TextsLookAlike }
+{
+    law_texts_read_alike();
+    law_guessed_texts_are_alike();
 }
 
 /// Each cluster number of a result is one of the text's, at every level and for every shaper.

@@ -11,10 +11,15 @@ pub mod laws;
 mod masks;
 mod normalizing;
 mod pausing;
-mod places;
+mod positioning;
 pub mod reading_laws;
-pub mod shape;
+pub mod shaping;
 mod stages;
 
 pub use data::hb_shape_data_t;
 pub use script_dispatch::{hb_ot_any_shaper_t, script_waits};
+use script_plan::plan::hb_ot_shape_plan_t;
+pub use shaping::{ShapeFault, shape, shape_with_plan};
+
+/// A plan of the shapers of this stack.
+pub type ShapePlan = hb_ot_shape_plan_t<hb_ot_any_shaper_t>;

@@ -1,8 +1,8 @@
 //! The pipeline stage that sets the characters' masks (rustybuzz: hb/ot_shape.rs).
 ghost use Rattle.std.specs.Prelude.{◌≡◌, ◌≢◌, Err, IfErr, OnOk};
 ghost use Rattle.buffer_glyphs.specs.Items.{clusters};
-ghost use Rattle.buffer_core.specs.Readings.{always, read_of};
-ghost use Rattle.buffer_core.specs.Sides.{all_glyphs, run_of};
+ghost use Rattle.buffer_core.specs.Readings.{always, reading_of};
+ghost use Rattle.buffer_core.specs.Sides.{all_glyphs, state_of};
 ghost use Rattle.buffer_stages.specs.Ready.{IsReady};
 ghost use Rattle.buffer_stages.specs.Settings.{text_settings};
 ghost use Rattle.buffer_stages.specs.Stages.{IsFollowed};
@@ -43,8 +43,8 @@ impl<S: hb_ot_shaper_t, P: SyllableSpans> hb_ot_shape_context_t<'_, S, P> {
         requires { IsReady buffer.old }
         ensures ok { OnOk result (IsFollowed
             (shaper_masks_set (⟦<Self as Shaped>⟧.shaping self.now (text_settings buffer.old))) buffer.old buffer.new) }
-        ensures err { IfErr result (λ e. e ≢ ShapeCause.OutOfMemory → read_of
-            (shaper_masks_set (⟦<Self as Shaped>⟧.shaping self.now (text_settings buffer.old))) (run_of buffer.old)
+        ensures err { IfErr result (λ e. e ≢ ShapeCause.OutOfMemory → reading_of
+            (shaper_masks_set (⟦<Self as Shaped>⟧.shaping self.now (text_settings buffer.old))) (state_of buffer.old)
             ≡ Err e) }
     {
         let plan = self.plan;
@@ -57,8 +57,8 @@ impl<S: hb_ot_shaper_t, P: SyllableSpans> hb_ot_shape_context_t<'_, S, P> {
         requires { IsReady buffer.old }
         ensures ok { OnOk result (IsFollowed
             (masks_set (⟦<Self as Shaped>⟧.shaping self.now (text_settings buffer.old))) buffer.old buffer.new) }
-        ensures err { IfErr result (λ e. e ≢ ShapeCause.OutOfMemory → read_of
-            (masks_set (⟦<Self as Shaped>⟧.shaping self.now (text_settings buffer.old))) (run_of buffer.old) ≡ Err e) }
+        ensures err { IfErr result (λ e. e ≢ ShapeCause.OutOfMemory → reading_of
+            (masks_set (⟦<Self as Shaped>⟧.shaping self.now (text_settings buffer.old))) (state_of buffer.old) ≡ Err e) }
     {
         setup_masks_fraction(&self.plan.script_plan, buffer);
         self.setup_shaper_masks(buffer)?;

@@ -1,7 +1,9 @@
 //! The normalizer's requests, answered by a shaper, a font and tables.
 ghost use Rattle.std.specs.Prelude.{◌≡◌, ◌&&◌, None, if◌then◌else◌};
+ghost use Rattle.buffer_core.specs.Settings.{number_set};
 
 use buffer_core::buffer::hb_buffer_t;
+use buffer_glyphs::names::GlyphId;
 use buffer_properties::NormalizationMode;
 use buffer_unicode_tables::UnicodeTables;
 use layout_face::Face;
@@ -16,22 +18,32 @@ pub struct hb_ot_shape_normalize_context_t<'a, S: hb_ot_shaper_t> {
     pub plan: &'a hb_script_plan_t<S::PlanData>,
     pub face: &'a Face,
     pub tables: &'a UnicodeTables,
-    pub invisible: Option<u32>,
-    pub unjoined_glyph: Option<u32>,
+    pub invisible: Option<GlyphId>,
+    pub unjoined_glyph: Option<GlyphId>,
+}
+
+fn glyph_number(glyph: Option<GlyphId>) -> Option<u32>
+    ensures { result ≡ number_set glyph }
+{
+    match glyph {
+        Some(glyph) => Some(u32::from(glyph.0)),
+        None => None,
+    }
 }
 
 impl<S: hb_ot_shaper_t> Normalizing for hb_ot_shape_normalize_context_t<'_, S> {
     ghost use Rattle.std.specs.Prelude.{◌&&◌, None, if◌then◌else◌};
     ghost use lib.Utf8.{scalar};
     ghost use Rattle.layout_face.specs.Glyphs.{nominal_glyph, variation_glyph};
+    ghost use Rattle.buffer_core.specs.Settings.{number_set};
 
     ghost normalizer = { λ n. record {
       tables = n.tables.now;
       mode = (S.traits n.shaper.now).normalization;
       glyph_of = λ u. if scalar u then nominal_glyph u n.face.now else None;
       variant_of = λ u s. if scalar u && scalar s then variation_glyph u s n.face.now else None;
-      invisible = n.invisible;
-      unjoined_glyph = n.unjoined_glyph;
+      invisible = number_set n.invisible;
+      unjoined_glyph = number_set n.unjoined_glyph;
       splits = λ u. if scalar u then (S.rules n.shaper.now n.plan.now).splits n.tables.now u else None;
       composes = λ a b. if scalar a && scalar b then (S.rules n.shaper.now n.plan.now).composes n.tables.now a b else
           None;
@@ -65,11 +77,11 @@ impl<S: hb_ot_shaper_t> Normalizing for hb_ot_shape_normalize_context_t<'_, S> {
     }
 
     fn invisible(&self) -> Option<u32> {
-        self.invisible
+        glyph_number(self.invisible)
     }
 
     fn unjoined_glyph(&self) -> Option<u32> {
-        self.unjoined_glyph
+        glyph_number(self.unjoined_glyph)
     }
 
     fn decompose(&self, ab: u32) -> Option<(char, char)> {

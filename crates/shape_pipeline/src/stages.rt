@@ -1,14 +1,14 @@
 //! All pipeline stages in order, shape_internal (rustybuzz: hb/ot_shape.rs).
 ghost use Rattle.std.specs.Prelude.{◌≡◌, ◌≢◌, Err, IfErr, OnOk, true, false};
-ghost use Rattle.buffer_core.specs.Readings.{Follows, read_of};
-ghost use Rattle.buffer_core.specs.Sides.{items_of, run_of, settings_of};
+ghost use Rattle.buffer_core.specs.Readings.{Follows, reading_of};
+ghost use Rattle.buffer_core.specs.Sides.{items_of, state_of, settings_of};
 ghost use Rattle.buffer_stages.specs.Buffers.{are_glyphs};
 ghost use Rattle.buffer_stages.specs.Ready.{IsReady};
 ghost use Rattle.buffer_stages.specs.Settings.{text_settings};
 ghost use Rattle.buffer_stages.specs.Stages.{IsFollowed};
 ghost use Rattle.shape_text.specs.Properties.{are_characters};
-ghost use Rattle.shape_pipeline.specs.Endings.{sets_glyphs};
 ghost use Rattle.shape_pipeline.specs.Reading.{after_ranges, before_ranges, reading};
+ghost use Rattle.shape_pipeline.specs.Results.{IsLeft, IsResultOf};
 
 use crate::context::{Shaped, hb_ot_shape_context_t};
 use buffer_core::buffer::hb_buffer_t;
@@ -22,7 +22,7 @@ fn rewind(buffer: &mut hb_buffer_t)
     requires closed { buffer.old.is_open ≡ false }
     requires unrefused { buffer.old.has_refused ≡ false }
     ensures ready { IsReady buffer.new }
-    ensures run { run_of buffer.new ≡ run_of buffer.old }
+    ensures run { state_of buffer.new ≡ state_of buffer.old }
     ensures settings { settings_of buffer.new ≡ settings_of buffer.old }
 {
     let is_placed = buffer.pos_slice().len() == buffer.len();
@@ -37,8 +37,8 @@ impl<S: hb_ot_shaper_t, P: SyllableSpans> hb_ot_shape_context_t<'_, S, P> {
         requires characters { are_characters (items_of buffer.old) ≡ true }
         ensures ok { OnOk result (IsFollowed
             (before_ranges (⟦<Self as Shaped>⟧.shaping self.now (text_settings buffer.old))) buffer.old buffer.new) }
-        ensures err { IfErr result (λ e. e ≢ ShapeCause.OutOfMemory → read_of
-            (before_ranges (⟦<Self as Shaped>⟧.shaping self.now (text_settings buffer.old))) (run_of buffer.old)
+        ensures err { IfErr result (λ e. e ≢ ShapeCause.OutOfMemory → reading_of
+            (before_ranges (⟦<Self as Shaped>⟧.shaping self.now (text_settings buffer.old))) (state_of buffer.old)
             ≡ Err e) }
     {
         self.begin_text(buffer)?;
@@ -52,11 +52,11 @@ impl<S: hb_ot_shaper_t, P: SyllableSpans> hb_ot_shape_context_t<'_, S, P> {
         requires { IsReady buffer.old }
         ensures ok { OnOk result (IsFollowed
             (after_ranges (⟦<Self as Shaped>⟧.shaping self.now (text_settings buffer.old))) buffer.old buffer.new) }
-        ensures numbers { OnOk result (sets_glyphs (text_settings buffer.old) ≡ true
-            → are_glyphs (items_of buffer.new) ≡ true) }
-        ensures err { IfErr result (λ e. e ≢ ShapeCause.OutOfMemory → read_of
+        ensures numbers { OnOk result (are_glyphs (items_of buffer.new) ≡ true) }
+        ensures left { OnOk result (IsLeft self.now.plan.now.script_plan.direction buffer.new) }
+        ensures err { IfErr result (λ e. e ≢ ShapeCause.OutOfMemory → reading_of
             (after_ranges (⟦<Self as Shaped>⟧.shaping self.now (text_settings buffer.old)))
-            (run_of buffer.old) ≡ Err e) }
+            (state_of buffer.old) ≡ Err e) }
     {
         self.take_glyphs(buffer);
         self.substitute_glyphs(buffer)?;
@@ -70,13 +70,12 @@ impl<S: hb_ot_shaper_t, P: SyllableSpans> hb_ot_shape_context_t<'_, S, P> {
         requires ready { IsReady buffer.old }
         requires characters { are_characters (items_of buffer.old) ≡ true }
         ensures ok { OnOk result (Follows (reading (⟦<Self as Shaped>⟧.shaping self.now (text_settings buffer.old))
-            (run_of buffer.old)) (run_of buffer.old) (run_of buffer.new)) }
+            (state_of buffer.old)) (state_of buffer.old) (state_of buffer.new)) }
+        ensures handed_on { OnOk result (IsResultOf buffer.old buffer.new) }
+        ensures direction { OnOk result (buffer.new.direction ≡ self.now.plan.now.script_plan.direction) }
         ensures still_closed { OnOk result (buffer.new.is_open ≡ false) }
-        ensures settings { OnOk result (settings_of buffer.new ≡ settings_of buffer.old) }
-        ensures numbers { OnOk result (sets_glyphs (text_settings buffer.old) ≡ true
-            → are_glyphs (items_of buffer.new) ≡ true) }
         ensures err { IfErr result (λ e. e ≢ ShapeCause.OutOfMemory → reading
-            (⟦<Self as Shaped>⟧.shaping self.now (text_settings buffer.old)) (run_of buffer.old) ≡ Err e) }
+            (⟦<Self as Shaped>⟧.shaping self.now (text_settings buffer.old)) (state_of buffer.old) ≡ Err e) }
     {
         self.prepare_text(buffer)?;
         self.setup_ranges(buffer);
@@ -84,21 +83,20 @@ impl<S: hb_ot_shaper_t, P: SyllableSpans> hb_ot_shape_context_t<'_, S, P> {
         Ok(())
     }
 
-    /// Shapes a text by the plan (`shape_internal`): the buffer's state, and the origins of its glyphs, are those of
-    /// the text's reading. All glyph numbers of the result are at most 65,535 if those that are set for the text are.
-    /// It fails for the reading's own cause, or for lack of memory.
+    /// Shapes a text by the plan: all that the stages see of the buffer, and where its glyphs come from, follow the text's
+    /// reading. Each glyph has a number that a glyph can have; what was set for the text stays, and the direction is the plan's.
+    /// It refuses by the reading's own cause, or for want of memory.
     pub fn shape_internal(&self, buffer: &mut hb_buffer_t) -> Result<(), ShapeCause>
         requires closed { buffer.old.is_open ≡ false }
         requires unrefused { buffer.old.has_refused ≡ false }
         requires characters { are_characters (items_of buffer.old) ≡ true }
         ensures ok { OnOk result (Follows (reading (⟦<Self as Shaped>⟧.shaping self.now (text_settings buffer.old))
-            (run_of buffer.old)) (run_of buffer.old) (run_of buffer.new)) }
+            (state_of buffer.old)) (state_of buffer.old) (state_of buffer.new)) }
+        ensures handed_on { OnOk result (IsResultOf buffer.old buffer.new) }
+        ensures direction { OnOk result (buffer.new.direction ≡ self.now.plan.now.script_plan.direction) }
         ensures still_closed { OnOk result (buffer.new.is_open ≡ false) }
-        ensures settings { OnOk result (settings_of buffer.new ≡ settings_of buffer.old) }
-        ensures numbers { OnOk result (sets_glyphs (text_settings buffer.old) ≡ true
-            → are_glyphs (items_of buffer.new) ≡ true) }
         ensures err { IfErr result (λ e. e ≢ ShapeCause.OutOfMemory → reading
-            (⟦<Self as Shaped>⟧.shaping self.now (text_settings buffer.old)) (run_of buffer.old) ≡ Err e) }
+            (⟦<Self as Shaped>⟧.shaping self.now (text_settings buffer.old)) (state_of buffer.old) ≡ Err e) }
     {
         rewind(buffer);
         self.shape_ready(buffer)

@@ -13,13 +13,13 @@ use Rattle.layout_map_features.specs.declared.lookup.lookup_map_t.{lookup_map_t}
 use Rattle.layout_map.specs.declared.stages.StageMap.{StageMap}
 use Rattle.layout_map.specs.Compiled.{TableStages, lookups_of_stage}
 use Rattle.layout_substitution.specs.Lookups.{lookup_stage, lookups_stage}
-use Rattle.layout_substitution.specs.Substituting.{substituted_by, table_stage, table_stages}
+use Rattle.layout_substitution.specs.Substituting.{substitution_stages, table_stage, table_stages}
 use Rattle.buffer_stages.specs.Pauses.{Pauses, pause_stage, with_own_random}
 use Rattle.buffer_properties.specs.Characters.{is_mark_number}
 use Rattle.buffer_properties.specs.Categories.{is_nonspacing_mark}
-use Rattle.shape_fallback.specs.Classes.{fallback_class, recategorized, with_places}
-use Rattle.shape_glyphs.specs.Classes.{begun, with_font_classes}
-use Rattle.shape_glyphs.specs.Glyphs.{as_glyph, classified, glyph_or_missing, with_glyphs, with_synthesized_classes}
+use Rattle.shape_fallback.specs.Classes.{fallback_class, item_with_fallback_class, with_fallback_classes}
+use Rattle.shape_glyphs.specs.Classes.{item_with_class, with_font_classes}
+use Rattle.shape_glyphs.specs.Glyphs.{as_glyph, item_with_synthesized_class, glyph_or_missing, with_glyphs, with_synthesized_classes}
 use Rattle.script_plan.specs.Rules.{ShaperRules}
 use Rattle.shape_pipeline.specs.Chains.{only_if}
 use Rattle.shape_pipeline.specs.Glyphs.{glyphs_substituted, glyphs_taken}
@@ -58,10 +58,10 @@ unchanged_if : (b : Bool) (x y : Item) → b ≡ false → (if b then y else x) 
 unchanged_if true x y e = cc
 unchanged_if false x y e = refl
 
-place_kept : (font : FaceParts) (u : ℕ) (x : Item) → Chosen font u x → recategorized x ≡ x
+place_kept : (font : FaceParts) (u : ℕ) (x : Item) → Chosen font u x → item_with_fallback_class x ≡ x
 place_kept font u x g = unchanged_if (is_nonspacing_mark x) x (record x { class = fallback_class x.number x.class }) (not_nonspacing font u x.unicode_props g.plain g.word)
 
-place_chosen : (font : FaceParts) (u : ℕ) (x : Item) → Chosen font u x → Chosen font u (recategorized x)
+place_chosen : (font : FaceParts) (u : ℕ) (x : Item) → Chosen font u x → Chosen font u (item_with_fallback_class x)
 place_chosen font u x g = subst (Chosen font u) (sym (place_kept font u x g)) g
 
 -- ---- each character as its glyph
@@ -76,20 +76,20 @@ as_shown font u x g = record { number = ap glyph_or_missing g.index ∙ as_numbe
 pub mapped_stand : (P Q : ℕ → Item → Type 0) (ps : List Position) (k : Item → Item) → ((u : ℕ) (x : Item) → P u x → Q u (k x)) → (us : List ℕ) (v : View) → Placed P ps us v → Placed Q ps us (record v { items = map k v.items })
 mapped_stand P Q ps k h us v a =
     let s = a.stands in
-    record { stands = record { items = are_mapped P Q k h us v.items s.items; line = s.line; told = s.told; room = s.room }; positions = a.positions }
+    record { stands = record { items = are_mapped P Q k h us v.items s.items; line = s.line; scratch_flags = s.scratch_flags; room = s.room }; positions = a.positions }
 
 pub taken_leads : (p : Shaping) (ps : List Position) (us : List ℕ) → Leads (Placed (Chosen p.font) ps us) (Placed (Shown p.font) ps us) (glyphs_taken p)
 unfolding glyphs_taken
 taken_leads p ps us =
     let C = Placed (Chosen p.font) ps us in
     let S = Placed (Shown p.font) ps us in
-    both_lead C C S (only_if p.choices.fallback_mark_positioning (always with_places)) (always with_glyphs ∷ [])
-    (either C p.choices.fallback_mark_positioning (always with_places) (always_leads C C with_places (λ v a. mapped_stand (Chosen p.font) (Chosen p.font) ps recategorized (place_chosen p.font) us v a)))
+    both_lead C C S (only_if p.choices.fallback_mark_positioning (always with_fallback_classes)) (always with_glyphs ∷ [])
+    (either C p.choices.fallback_mark_positioning (always with_fallback_classes) (always_leads C C with_fallback_classes (λ v a. mapped_stand (Chosen p.font) (Chosen p.font) ps item_with_fallback_class (place_chosen p.font) us v a)))
     (last_leads C S (always with_glyphs) (always_leads C S with_glyphs (λ v a. mapped_stand (Chosen p.font) (Shown p.font) ps as_glyph (as_shown p.font) us v a)))
 
 -- ---- classes
 
-begun_shown : (font : FaceParts) (u : ℕ) (x : Item) → Shown font u x → Shown font u (begun font x)
+begun_shown : (font : FaceParts) (u : ℕ) (x : Item) → Shown font u x → Shown font u (item_with_class font x)
 begun_shown font u x s = record { number = s.number; plain = s.plain; word = s.word }
 
 abbrev class_if : Bool → ℕ
@@ -99,7 +99,7 @@ base_if : (b c : Bool) → b ≡ false → class_if (b && c) ≡ 2
 base_if true c e = cc
 base_if false c e = refl
 
-as_based : (font : FaceParts) (u : ℕ) (x : Item) → Shown font u x → Based font u (classified x)
+as_based : (font : FaceParts) (u : ℕ) (x : Item) → Shown font u x → Based font u (item_with_synthesized_class x)
 as_based font u x s = record { number = s.number; plain = s.plain; word = s.word; base = base_if (is_nonspacing_mark x) _ (not_nonspacing font u x.unicode_props s.plain s.word) }
 
 -- ---- no lookups
@@ -142,7 +142,7 @@ plain_pauses p plain n =
     let P : ShaperRules → Type 0 = λ r. Stays (r.pauses p.font p.tables p.spans p.settings n) in
     subst P (sym plain.rules) idle
 
-substituted_stays : (p : Shaping) → IsPlainShaping p → Stays (substituted_by p.font p.map (pauses_of p))
+substituted_stays : (p : Shaping) → IsPlainShaping p → Stays (substitution_stages p.font p.map (pauses_of p))
 substituted_stays p plain =
     let t = p.map.tables.gsub in
     let P : Option SubstitutionTable → Type 0 = λ o. Stays (with_own_random (table_stages p.font (option_map_or (λ (s : SubstitutionTable). s.lookups) o []) t (pauses_of p) 0 t.stages)) in
@@ -156,9 +156,9 @@ unfolding glyphs_substituted
 substituted_leads p ps us plain =
     let S = Placed (Shown p.font) ps us in
     let B = Placed (Based p.font) ps us in
-    let lookups = substituted_by p.font p.map (pauses_of p) in
+    let lookups = substitution_stages p.font p.map (pauses_of p) in
     both_lead S S B (always (with_font_classes p.font)) (only_if p.choices.fallback_glyph_classes (always with_synthesized_classes) ∷ lookups ∷ [])
-    (always_leads S S (with_font_classes p.font) (λ v a. mapped_stand (Shown p.font) (Shown p.font) ps (begun p.font) (begun_shown p.font) us v a))
+    (always_leads S S (with_font_classes p.font) (λ v a. mapped_stand (Shown p.font) (Shown p.font) ps (item_with_class p.font) (begun_shown p.font) us v a))
     (both_lead S B B (only_if p.choices.fallback_glyph_classes (always with_synthesized_classes)) (lookups ∷ [])
-    (acted S B p.choices.fallback_glyph_classes (always with_synthesized_classes) plain.synthesized (always_leads S B with_synthesized_classes (λ v a. mapped_stand (Shown p.font) (Based p.font) ps classified (as_based p.font) us v a)))
+    (acted S B p.choices.fallback_glyph_classes (always with_synthesized_classes) plain.synthesized (always_leads S B with_synthesized_classes (λ v a. mapped_stand (Shown p.font) (Based p.font) ps item_with_synthesized_class (as_based p.font) us v a)))
     (last_leads B B lookups (stays_leads B lookups (substituted_stays p plain))))

@@ -5,3 +5,4 @@ mod Chosen
 mod Glyphs
 mod Places
 mod Whole
+mod Shown

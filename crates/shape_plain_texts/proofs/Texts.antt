@@ -77,7 +77,7 @@ are_many P (u ∷ us) (x ∷ xs) a = rw (are_many P us xs a.1) refl
 pub record Stands (P : ℕ → Item → Type 0) (us : List ℕ) (v : View) : Type 0 where
   pub items : Are P us v.items
   pub line : v.direction ≡ LeftToRight
-  pub told : bit_and v.told 8 ≡ 0
+  pub scratch_flags : bit_and v.scratch_flags 8 ≡ 0
   pub room : length us ≤ v.max_len
 
 -- a stage does not refuse, and leaves a view of a kind

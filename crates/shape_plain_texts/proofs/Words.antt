@@ -11,7 +11,7 @@ use Rattle.buffer_unicode.specs.Category.{category_number, is_mark_category}
 use Rattle.buffer_unicode.specs.Character.{is_default_ignorable_character}
 use Rattle.buffer_properties.specs.Properties.{bit_if, is_hidden_character, is_mark_character, properties_of, without_bits}
 use Rattle.buffer_properties.specs.Characters.{is_mark_number}
-use Rattle.shape_text.specs.Properties.{word_of}
+use Rattle.shape_text.specs.Properties.{property_word_of}
 
 mark_number : (g : GeneralCategory) → is_mark_number (category_number g) ≡ is_mark_category g
 mark_number Control = refl
@@ -173,18 +173,18 @@ joined_bit u e =
     ap (λ w. bit_and (w + 128) 128) (word_parts u e) ∙ middle_of _ _ _ _ 1 (fits (general_category u)) (at_most_one (is_hidden_character u)) one
 
 -- without the mark of a continuation there is the character's word
-pub word_alone : (b : Bool) (u : ℕ) → is_default_ignorable_character u ≡ false → without_bits 128 (word_of b u) ≡ properties_of u
+pub word_alone : (b : Bool) (u : ℕ) → is_default_ignorable_character u ≡ false → without_bits 128 (property_word_of b u) ≡ properties_of u
 word_alone true u e =
     let same : bit_or (properties_of u) 128 ≡ properties_of u + 128 = joined u e in
     let bit = joined_bit u e in
     ap (λ w. w - bit_and w 128) same ∙ omega (arith, bit)
 word_alone false u e = let none = apart u e in omega (arith, none)
 
-category_low : (b : Bool) (u : ℕ) → is_default_ignorable_character u ≡ false → bit_and (word_of b u) 0x1F ≡ category_number (general_category u)
+category_low : (b : Bool) (u : ℕ) → is_default_ignorable_character u ≡ false → bit_and (property_word_of b u) 0x1F ≡ category_number (general_category u)
 category_low true u e = ap (λ w. bit_and w 0x1F) (joined u e) ∙ ap (λ w. bit_and (w + 128) 0x1F) (word_parts u e) ∙ low_of _ _ _ _ 1 (fits (general_category u))
 category_low false u e = ap (λ w. bit_and w 0x1F) (word_parts u e ∙ no_bit _) ∙ low_of _ _ _ _ 0 (fits (general_category u))
 
-pub word_mark : (b : Bool) (u : ℕ) → is_default_ignorable_character u ≡ false → is_mark_number (bit_and (word_of b u) 0x1F) ≡ is_mark_character u
+pub word_mark : (b : Bool) (u : ℕ) → is_default_ignorable_character u ≡ false → is_mark_number (bit_and (property_word_of b u) 0x1F) ≡ is_mark_character u
 word_mark b u e = ap is_mark_number (category_low b u e) ∙ mark_number (general_category u)
 
 pub word_category : (u : ℕ) → is_default_ignorable_character u ≡ false → bit_and (properties_of u) 0x1F ≡ category_number (general_category u)

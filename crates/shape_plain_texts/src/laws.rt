@@ -1,10 +1,19 @@
-//! The law on plain texts.
-ghost use Rattle.shape_plain_texts.specs.PlainTexts.{PlainTextsShowGlyphs};
+//! The laws on plain texts.
+ghost use Rattle.shape_plain_texts.specs.PlainTexts.{PlainTextsAreShown, PlainTextsShowGlyphs};
 
-/// A plain text shows the font's glyph of each character, in order, with the glyph's advance and without offsets. Plain
-/// are a font without layout tables, a left-to-right text in a left-to-right script, and characters of the font, none
-/// of which is a mark, a space or a default ignorable.
+/// A plain text reads as the font's glyph of each character, in order, with its width and no offset: for a font without tables
+/// of layout, a line from left to right, a script that does not run against it, and characters of the font of which none is a
+/// mark, a space or ignorable, whatever features are asked for, also on parts of the text.
 #[tactic(auto, using(crate::proofs::Whole::plain_texts_show_glyphs))]
 pub fn law_plain_texts_show_glyphs()
     ensures { PlainTextsShowGlyphs }
 {}
+
+/// So `shape` shows it: each character as the font's glyph, in order, with the glyph's width and no offset, for a text whose
+/// script has the default shaper, or which has none.
+#[tactic(auto, using(crate::proofs::Shown::plain_texts_are_shown))]
+pub fn law_plain_texts_are_shown()
+    ensures { PlainTextsAreShown }
+{
+    law_plain_texts_show_glyphs();
+}

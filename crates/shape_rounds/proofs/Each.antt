@@ -6,17 +6,17 @@ use Rattle.buffer_glyphs.specs.declared.info.hb_glyph_info_t.{hb_glyph_info_t}
 use Rattle.buffer_glyphs.specs.Items.{Item, item_of, strip}
 use Rattle.buffer_glyphs.specs.Lists.{take_next, drop_next}
 use Rattle.buffer_core.specs.Sides.{Sides}
-use Rattle.buffer_glyphs.specs.Arranged.{Arranged, in_turn}
-use Rattle.buffer_stages.specs.Brought.{Brought, Overfills}
+use Rattle.buffer_glyphs.specs.Rewriting.{Arrangement, in_turn}
+use Rattle.buffer_stages.specs.Brought.{Brought, RefusesRoomFor}
 use Rattle.shape_rounds.proofs.Lemmas.Chain.{none_behind, brought_none, brought_more, overfills_after}
 
 -- that many of n input items are output, each as f maps it
-pub record IsUnderway (f : Item → Arranged) (n at : ℕ) (start now : Sides) : Type 0 where
+pub record IsUnderway (f : Item → Arrangement) (n at : ℕ) (start now : Sides) : Type 0 where
   pub is_open : now.is_open ≡ true
   pub left : length start.ahead ≡ length now.ahead + at
   pub brought : (xs ys : List Item) → strip start.ahead ≡ xs ++ ys → length xs ≡ n → Brought (in_turn (map f (take at xs))) (drop at xs ++ ys) start now
 
-pub each_begun : (f : Item → Arranged) (n : ℕ) (s : Sides) → s.is_open ≡ true → IsUnderway f n 0 s s
+pub each_begun : (f : Item → Arrangement) (n : ℕ) (s : Sides) → s.is_open ≡ true → IsUnderway f n 0 s s
 each_begun f n s opened = record {
   is_open = opened;
   left = omega arith;
@@ -24,17 +24,17 @@ each_begun f n s opened = record {
 }
 
 -- what a call at the cursor leaves of the buffer
-abbrev Goes : (Item → Arranged) → Sides → Sides → Type 0
+abbrev Goes : (Item → Arrangement) → Sides → Sides → Type 0
 Goes f now next = (x : Item) (xs : List Item) → strip now.ahead ≡ x ∷ xs → Brought (f x) xs now next
 
-pub goes_open : (f : Item → Arranged) (now next : Sides) → 0 < length now.ahead → Goes f now next → next.is_open ≡ now.is_open
+pub goes_open : (f : Item → Arrangement) (now next : Sides) → 0 < length now.ahead → Goes f now next → next.is_open ≡ now.is_open
 goes_open f now next some goes = by_case now.ahead refl
   where
     by_case : (gs : List hb_glyph_info_t) → now.ahead ≡ gs → next.is_open ≡ now.is_open
     by_case [] e = absurd (let none = ap length e in omega (arith, none, some))
     by_case (g ∷ gs) e = ap (λ (s : Sides). s.is_open) (goes (item_of g) (strip gs) (ap strip e)).frame
 
-pub goes_left : (f : Item → Arranged) (now next : Sides) → 0 < length now.ahead → Goes f now next → length now.ahead ≡ length next.ahead + 1
+pub goes_left : (f : Item → Arrangement) (now next : Sides) → 0 < length now.ahead → Goes f now next → length now.ahead ≡ length next.ahead + 1
 goes_left f now next some goes = by_case now.ahead refl
   where
     by_case : (gs : List hb_glyph_info_t) → now.ahead ≡ gs → length now.ahead ≡ length next.ahead + 1
@@ -44,7 +44,7 @@ goes_left f now next some goes = by_case now.ahead refl
         let all = ap length e in
         omega (arith, rest, all, length-map next.ahead item_of, length-map gs item_of)
 
-pub each_more : (f : Item → Arranged) (n at : ℕ) (start now next : Sides) → at < n → 0 < length now.ahead → IsUnderway f n at start now → Goes f now next → IsUnderway f n (at + 1) start next
+pub each_more : (f : Item → Arrangement) (n at : ℕ) (start now next : Sides) → at < n → 0 < length now.ahead → IsUnderway f n at start now → Goes f now next → IsUnderway f n (at + 1) start next
 each_more f n at start now next lt some u goes = record {
   is_open = goes_open f now next some goes ∙ u.is_open;
   left = let was = u.left in let less = goes_left f now next some goes in omega (arith, was, less);
@@ -62,7 +62,7 @@ each_more f n at start now next lt some u goes = record {
         rw (taken, rest) more
 
 -- all of them
-pub each_done : (f : Item → Arranged) (n at : ℕ) (start now : Sides) → n ≤ at → IsUnderway f n at start now → (xs ys : List Item) → strip start.ahead ≡ xs ++ ys → length xs ≡ n → Brought (in_turn (map f xs)) ys start now
+pub each_done : (f : Item → Arrangement) (n at : ℕ) (start now : Sides) → n ≤ at → IsUnderway f n at start now → (xs ys : List Item) → strip start.ahead ≡ xs ++ ys → length xs ≡ n → Brought (in_turn (map f xs)) ys start now
 each_done f n at start now le u xs ys e len =
     let all : take at xs ≡ xs = take_all at xs (omega (arith, le, len)) in
     let none : drop at xs ≡ [] = drop_all at xs (omega (arith, le, len)) in
@@ -70,15 +70,15 @@ each_done f n at start now le u xs ys e len =
     let Q : List Item → Type 0 = λ zs. Brought (in_turn (map f zs)) ys start now in
     subst Q all (subst P none (u.brought xs ys e len))
 
-pub each_too_many : (f : Item → Arranged) (n at : ℕ) (e : ShapeCause) (start now : Sides) → at < n → IsUnderway f n at start now → ((x : Item) (xs : List Item) → strip now.ahead ≡ x ∷ xs → Overfills (length (f x).items) e now)
-    → (xs ys : List Item) → strip start.ahead ≡ xs ++ ys → length xs ≡ n → Overfills (length (in_turn (map f xs)).items) e start
+pub each_too_many : (f : Item → Arrangement) (n at : ℕ) (e : ShapeCause) (start now : Sides) → at < n → IsUnderway f n at start now → ((x : Item) (xs : List Item) → strip now.ahead ≡ x ∷ xs → RefusesRoomFor (length (f x).items) e now)
+    → (xs ys : List Item) → strip start.ahead ≡ xs ++ ys → length xs ≡ n → RefusesRoomFor (length (in_turn (map f xs)).items) e start
 each_too_many f n at e start now lt u goes xs ys seen len = by_case (drop at xs) refl
   where
-    by_case : (zs : List Item) → drop at xs ≡ zs → Overfills (length (in_turn (map f xs)).items) e start
+    by_case : (zs : List Item) → drop at xs ≡ zs → RefusesRoomFor (length (in_turn (map f xs)).items) e start
     by_case [] d = absurd (let none = ap length d in omega (arith, none, lt, len, length-drop at xs))
     by_case (z ∷ zs) d =
         let b = u.brought xs ys seen len in
         let over = goes z (zs ++ ys) (b.ahead ∙ ap (λ q. q ++ ys) d) in
-        let one = subst (λ (a : Arranged). Overfills (length a.items) e now) (sym (none_behind (f z))) over in
+        let one = subst (λ (a : Arrangement). RefusesRoomFor (length a.items) e now) (sym (none_behind (f z))) over in
         let whole : map f (take at xs) ++ (f z ∷ [] ++ map f zs) ≡ map f xs = sym (map-append f (take at xs) (z ∷ zs)) ∙ ap (λ ws. map f (take at xs ++ ws)) (sym d) ∙ ap (map f) (take-append-drop at xs) in
-        subst (λ ps. Overfills (length (in_turn ps).items) e start) whole (overfills_after (map f (take at xs)) (f z ∷ []) (map f zs) (drop at xs ++ ys) e start now b one)
+        subst (λ ps. RefusesRoomFor (length (in_turn ps).items) e start) whole (overfills_after (map f (take at xs)) (f z ∷ []) (map f zs) (drop at xs ++ ys) e start now b one)

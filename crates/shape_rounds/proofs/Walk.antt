@@ -8,38 +8,38 @@ use Rattle.buffer_glyphs.specs.declared.cause.ShapeCause.{ShapeCause}
 use Rattle.buffer_glyphs.specs.declared.info.hb_glyph_info_t.{hb_glyph_info_t}
 use Rattle.buffer_glyphs.specs.Items.{Item, item_of, strip}
 use Rattle.buffer_core.specs.Sides.{Sides}
-use Rattle.buffer_glyphs.specs.Arranged.{Arranged, in_turn}
+use Rattle.buffer_glyphs.specs.Rewriting.{Arrangement, in_turn}
 use Rattle.buffer_properties.specs.Characters.{is_mark, is_selector}
-use Rattle.buffer_properties.specs.Expanding.{expanded, expanded_item, selected_after, expanded_group, expanded_groups, expanded_list}
+use Rattle.buffer_properties.specs.Expanding.{item_expansion, expanded_item, selections_after, expanded_group, expanded_groups, expanded_list}
 use Rattle.buffer_properties.specs.Normalizer.{Normalizer, reach_alone, reach_with_marks}
-use Rattle.buffer_stages.specs.Brought.{Brought, Overfills}
-use Rattle.shape_rounds.specs.Walking.{SelectsAll, SelectsAllTooMany, Groups, GroupsTooMany, GoesOn, Walks, WalksTooMany, IsExpanded, ExpandsTooMany}
+use Rattle.buffer_stages.specs.Brought.{Brought, RefusesRoomFor}
+use Rattle.shape_rounds.specs.Walking.{SelectsAll, SelectsAllTooMany, Groups, GroupsTooMany, ContinuesGroup, Walks, WalksTooMany, IsExpanded, ExpandsTooMany}
 use Rattle.shape_rounds.proofs.Lemmas.Chain.{none_behind, brought_none, brought_both, overfills_after}
 
-pub one_group : (c : Normalizer) (k : ℕ) (old new : Sides) → k ≡ 0 → ((x : Item) (xs : List Item) → strip old.ahead ≡ x ∷ xs → Brought (expanded c (reach_alone c.mode) x) xs old new) → Groups c k old new
-one_group c k old new none goes x [] ys e len = subst (λ a. Brought a ys old new) (sym (none_behind (expanded c (reach_alone c.mode) x))) (goes x ys e)
+pub one_group : (c : Normalizer) (k : ℕ) (old new : Sides) → k ≡ 0 → ((x : Item) (xs : List Item) → strip old.ahead ≡ x ∷ xs → Brought (item_expansion c (reach_alone c.mode) x) xs old new) → Groups c k old new
+one_group c k old new none goes x [] ys e len = subst (λ a. Brought a ys old new) (sym (none_behind (item_expansion c (reach_alone c.mode) x))) (goes x ys e)
 one_group c k old new none goes x (m ∷ marks) ys e len = absurd (omega (arith, len, none))
 
-pub one_too_many : (c : Normalizer) (k : ℕ) (e : ShapeCause) (old : Sides) → k ≡ 0 → ((x : Item) (xs : List Item) → strip old.ahead ≡ x ∷ xs → Overfills (length (expanded_item c (reach_alone c.mode) x)) e old) → GroupsTooMany c k e old
-one_too_many c k e old none goes x [] ys seen len = subst (λ (a : Arranged). Overfills (length a.items) e old) (sym (none_behind (expanded c (reach_alone c.mode) x))) (goes x ys seen)
+pub one_too_many : (c : Normalizer) (k : ℕ) (e : ShapeCause) (old : Sides) → k ≡ 0 → ((x : Item) (xs : List Item) → strip old.ahead ≡ x ∷ xs → RefusesRoomFor (length (expanded_item c (reach_alone c.mode) x)) e old) → GroupsTooMany c k e old
+one_too_many c k e old none goes x [] ys seen len = subst (λ (a : Arrangement). RefusesRoomFor (length a.items) e old) (sym (none_behind (item_expansion c (reach_alone c.mode) x))) (goes x ys seen)
 one_too_many c k e old none goes x (m ∷ marks) ys seen len = absurd (omega (arith, len, none))
 
 group_items : (k n : ℕ) (gs : List Item) (x : Item) (marks ys : List Item) → n ≡ k + 1 → gs ≡ x ∷ (marks ++ ys) → length marks ≡ k → take n gs ≡ x ∷ marks
 group_items k n gs x marks ys count e len = ap (take n) e ∙ take_at (x ∷ marks) ys n (omega (arith, len, count))
 
 pub marked_group : (c : Normalizer) (k n : ℕ) (old new : Sides) → k ≢ 0 → n ≡ k + 1 → list_any is_selector (take n (strip old.ahead)) ≡ false
-    → ((xs ys : List Item) → strip old.ahead ≡ xs ++ ys → length xs ≡ n → Brought (in_turn (map (expanded c (reach_with_marks c.mode)) xs)) ys old new) → Groups c k old new
+    → ((xs ys : List Item) → strip old.ahead ≡ xs ++ ys → length xs ≡ n → Brought (in_turn (map (item_expansion c (reach_with_marks c.mode)) xs)) ys old new) → Groups c k old new
 marked_group c k n old new some count free goes x [] ys e len = absurd (some (sym len))
 marked_group c k n old new some count free goes x (m ∷ marks) ys e len =
     let none = ap (list_any is_selector) (sym (group_items k n (strip old.ahead) x (m ∷ marks) ys count e len)) ∙ free in
     subst (λ ps. Brought (in_turn ps) ys old new) (sym (cond-false _ _ _ none)) (goes (x ∷ m ∷ marks) ys e (omega (arith, len, count)))
 
 pub marked_too_many : (c : Normalizer) (k n : ℕ) (e : ShapeCause) (old : Sides) → k ≢ 0 → n ≡ k + 1 → list_any is_selector (take n (strip old.ahead)) ≡ false
-    → ((xs ys : List Item) → strip old.ahead ≡ xs ++ ys → length xs ≡ n → Overfills (length (in_turn (map (expanded c (reach_with_marks c.mode)) xs)).items) e old) → GroupsTooMany c k e old
+    → ((xs ys : List Item) → strip old.ahead ≡ xs ++ ys → length xs ≡ n → RefusesRoomFor (length (in_turn (map (item_expansion c (reach_with_marks c.mode)) xs)).items) e old) → GroupsTooMany c k e old
 marked_too_many c k n e old some count free goes x [] ys seen len = absurd (some (sym len))
 marked_too_many c k n e old some count free goes x (m ∷ marks) ys seen len =
     let none = ap (list_any is_selector) (sym (group_items k n (strip old.ahead) x (m ∷ marks) ys count seen len)) ∙ free in
-    subst (λ ps. Overfills (length (in_turn ps).items) e old) (sym (cond-false _ _ _ none)) (goes (x ∷ m ∷ marks) ys seen (omega (arith, len, count)))
+    subst (λ ps. RefusesRoomFor (length (in_turn ps).items) e old) (sym (cond-false _ _ _ none)) (goes (x ∷ m ∷ marks) ys seen (omega (arith, len, count)))
 
 pub selected_group : (c : Normalizer) (k n : ℕ) (old new : Sides) → k ≢ 0 → n ≡ k + 1 → list_any is_selector (take n (strip old.ahead)) ≡ true → SelectsAll c k old new → Groups c k old new
 selected_group c k n old new some count there goes x [] ys e len = absurd (some (sym len))
@@ -47,19 +47,19 @@ selected_group c k n old new some count there goes x (m ∷ marks) ys e len =
     let one = ap (list_any is_selector) (sym (group_items k n (strip old.ahead) x (m ∷ marks) ys count e len)) ∙ there in
     let front : take k (m ∷ marks ++ ys) ≡ m ∷ marks = take_at (m ∷ marks) ys k len in
     let back : drop k (m ∷ marks ++ ys) ≡ ys = ap (λ j. drop j (m ∷ marks ++ ys)) (sym len) ∙ drop-append_seam (m ∷ marks) ys in
-    let brought = subst (λ (zs : List Item). Brought (in_turn (selected_after c (Some x) (take k (m ∷ marks ++ ys)))) zs old new) back (goes x (m ∷ marks ++ ys) e) in
-    subst (λ ps. Brought (in_turn ps) ys old new) (sym (cond-true _ _ _ one)) (subst (λ (zs : List Item). Brought (in_turn (selected_after c (Some x) zs)) ys old new) front brought)
+    let brought = subst (λ (zs : List Item). Brought (in_turn (selections_after c (Some x) (take k (m ∷ marks ++ ys)))) zs old new) back (goes x (m ∷ marks ++ ys) e) in
+    subst (λ ps. Brought (in_turn ps) ys old new) (sym (cond-true _ _ _ one)) (subst (λ (zs : List Item). Brought (in_turn (selections_after c (Some x) zs)) ys old new) front brought)
 
 pub selected_too_many : (c : Normalizer) (k n : ℕ) (e : ShapeCause) (old : Sides) → k ≢ 0 → n ≡ k + 1 → list_any is_selector (take n (strip old.ahead)) ≡ true → SelectsAllTooMany c k e old → GroupsTooMany c k e old
 selected_too_many c k n e old some count there goes x [] ys seen len = absurd (some (sym len))
 selected_too_many c k n e old some count there goes x (m ∷ marks) ys seen len =
     let one = ap (list_any is_selector) (sym (group_items k n (strip old.ahead) x (m ∷ marks) ys count seen len)) ∙ there in
     let front : take k (m ∷ marks ++ ys) ≡ m ∷ marks = take_at (m ∷ marks) ys k len in
-    subst (λ ps. Overfills (length (in_turn ps).items) e old) (sym (cond-true _ _ _ one)) (subst (λ (zs : List Item). Overfills (length (in_turn (selected_after c (Some x) zs)).items) e old) front (goes x (m ∷ marks ++ ys) seen))
+    subst (λ ps. RefusesRoomFor (length (in_turn ps).items) e old) (sym (cond-true _ _ _ one)) (subst (λ (zs : List Item). RefusesRoomFor (length (in_turn (selections_after c (Some x) zs)).items) e old) front (goes x (m ∷ marks ++ ys) seen))
 
 -- so many of the items were walked over; the last group has so many marks
 pub record IsWalking (c : Normalizer) (count at k : ℕ) (start now : Sides) : Type 0 where
-  pub done : List Arranged
+  pub done : List Arrangement
   pub x : Item
   pub marks : List Item
   pub ys : List Item
@@ -107,7 +107,7 @@ walk_more c count at k n start now next lt w walks = by_case w.ys refl
         by_mark y ys e there (is_mark y) refl (walks w.x w.marks y ys seen w.met)
       where
         by_mark : (y : Item) (ys : List Item) → w.ys ≡ y ∷ ys → Brought (in_turn w.done) (w.x ∷ (w.marks ++ y ∷ ys)) start now
-            → (t : Bool) → is_mark y ≡ t → GoesOn c t w.x w.marks (y ∷ ys) n now next → IsWalking c count (at + 1) n start next
+            → (t : Bool) → is_mark y ≡ t → ContinuesGroup c t w.x w.marks (y ∷ ys) n now next → IsWalking c count (at + 1) n start next
         by_mark y ys e there true m goes =
             let joined : (w.marks ++ y ∷ []) ++ ys ≡ w.marks ++ y ∷ ys = append_assoc w.marks (y ∷ []) ys in
             record {
@@ -166,26 +166,26 @@ walk_last c count at k start now w =
 pub walk_too_many : (c : Normalizer) (count at k : ℕ) (e : ShapeCause) (start now : Sides) → at < count → IsWalking c count at k start now → WalksTooMany c k e now → ExpandsTooMany c e start
 walk_too_many c count at k e start now lt w goes x xs seen = by_case w.ys refl
   where
-    by_case : (zs : List Item) → w.ys ≡ zs → Overfills (length (in_turn (expanded_groups c x [] xs)).items) e start
+    by_case : (zs : List Item) → w.ys ≡ zs → RefusesRoomFor (length (in_turn (expanded_groups c x [] xs)).items) e start
     by_case [] f = absurd (let none = ap length f in let left = w.left in omega (arith, none, left, lt))
     by_case (y ∷ ys) f =
         let there : strip now.ahead ≡ w.x ∷ (w.marks ++ y ∷ ys) = w.brought.ahead ∙ ap (λ zs. w.x ∷ (w.marks ++ zs)) f in
         let ends = goes w.x w.marks y ys there w.met in
         let whole : w.done ++ (expanded_group c w.x w.marks ++ expanded_groups c y [] ys) ≡ expanded_groups c x [] xs =
         ap (λ ps. w.done ++ ps) (sym (ap (expanded_groups c w.x w.marks) f ∙ cond-false _ _ _ ends.0)) ∙ w.whole x xs seen in
-        subst (λ ps. Overfills (length (in_turn ps).items) e start) whole
+        subst (λ ps. RefusesRoomFor (length (in_turn ps).items) e start) whole
         (overfills_after w.done (expanded_group c w.x w.marks) (expanded_groups c y [] ys) (w.x ∷ (w.marks ++ w.ys)) e start now w.brought ends.1)
 
 -- the last group was too much
 pub last_too_many : (c : Normalizer) (count at k : ℕ) (e : ShapeCause) (start now : Sides) → count ≤ at → IsWalking c count at k start now → GroupsTooMany c k e now → ExpandsTooMany c e start
 last_too_many c count at k e start now le w goes x xs seen = by_case w.ys refl
   where
-    by_case : (zs : List Item) → w.ys ≡ zs → Overfills (length (in_turn (expanded_groups c x [] xs)).items) e start
+    by_case : (zs : List Item) → w.ys ≡ zs → RefusesRoomFor (length (in_turn (expanded_groups c x [] xs)).items) e start
     by_case (y ∷ ys) f = absurd (let some = ap length f in let left = w.left in omega (arith, some, left, le))
     by_case [] f =
         let whole : w.done ++ (expanded_group c w.x w.marks ++ []) ≡ expanded_groups c x [] xs =
         ap (λ ps. w.done ++ ps) (append-nil (expanded_group c w.x w.marks)) ∙ ap (λ ys. w.done ++ expanded_groups c w.x w.marks ys) (sym f) ∙ w.whole x xs seen in
-        subst (λ ps. Overfills (length (in_turn ps).items) e start) whole
+        subst (λ ps. RefusesRoomFor (length (in_turn ps).items) e start) whole
         (overfills_after w.done (expanded_group c w.x w.marks) [] (w.x ∷ (w.marks ++ w.ys)) e start now w.brought (goes w.x w.marks w.ys w.brought.ahead w.met))
 
 -- ---- the whole list
@@ -204,9 +204,9 @@ all_expanded c s t some goes = by_case s.ahead refl
     by_case [] e = absurd (some (ap length e))
     by_case (g ∷ gs) e = subst (λ hs. Brought (expanded_list c (strip hs)) [] s t) (sym e) (goes (item_of g) (strip gs) (ap strip e))
 
-pub all_too_many : (c : Normalizer) (e : ShapeCause) (s : Sides) → length s.ahead ≢ 0 → ExpandsTooMany c e s → Overfills (length (expanded_list c (strip s.ahead)).items) e s
+pub all_too_many : (c : Normalizer) (e : ShapeCause) (s : Sides) → length s.ahead ≢ 0 → ExpandsTooMany c e s → RefusesRoomFor (length (expanded_list c (strip s.ahead)).items) e s
 all_too_many c e s some goes = by_case s.ahead refl
   where
-    by_case : (gs : List hb_glyph_info_t) → s.ahead ≡ gs → Overfills (length (expanded_list c (strip s.ahead)).items) e s
+    by_case : (gs : List hb_glyph_info_t) → s.ahead ≡ gs → RefusesRoomFor (length (expanded_list c (strip s.ahead)).items) e s
     by_case [] f = absurd (some (ap length f))
-    by_case (g ∷ gs) f = subst (λ hs. Overfills (length (expanded_list c (strip hs)).items) e s) (sym f) (goes (item_of g) (strip gs) (ap strip f))
+    by_case (g ∷ gs) f = subst (λ hs. RefusesRoomFor (length (expanded_list c (strip hs)).items) e s) (sym f) (goes (item_of g) (strip gs) (ap strip f))

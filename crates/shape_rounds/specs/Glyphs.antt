@@ -15,13 +15,13 @@ part_glyphs c us None = []
 part_glyphs c us (Some g) = map (part_glyph c g) us
 
 -- the sides with the characters of the current glyph appended to the output
-abbrev pub with_parts : Normalizer → List ℕ → Sides → Sides
-with_parts c us s = record s { behind = s.behind ++ part_glyphs c us (slice_get s.ahead 0) }
+abbrev pub with_halves_output : Normalizer → List ℕ → Sides → Sides
+with_halves_output c us s = record s { behind = s.behind ++ part_glyphs c us (slice_get s.ahead 0) }
 
 -- characters were appended to the output, if there are any, and the call returns whether there were
 abbrev pub Puts : Normalizer → Option (List ℕ) → Bool → Sides → Sides → Type 0
 Puts c None b old new = (b ≡ false) × (new ≡ old)
-Puts c (Some us) b old new = (b ≡ true) × (new ≡ with_parts c us old)
+Puts c (Some us) b old new = (b ≡ true) × (new ≡ with_halves_output c us old)
 
 -- the number of characters, 0 for none
 abbrev pub count_of : Option (List ℕ) → ℕ

@@ -3,18 +3,18 @@
 ghost use Rattle.std.specs.Prelude.{◌≡◌, ◌<◌, ◌≤◌, ◌+◌, ◌++◌, ◌∷◌, [], List, false, length, map, take, true, IfOk, IfErr, OnOk};
 ghost use Rattle.std.specs.List.{list_any};
 ghost use Rattle.buffer_glyphs.specs.Items.{Item, strip};
-ghost use Rattle.buffer_glyphs.specs.Arranged.{in_turn};
+ghost use Rattle.buffer_glyphs.specs.Rewriting.{in_turn};
 ghost use Rattle.buffer_properties.specs.Characters.{is_selector};
-ghost use Rattle.buffer_properties.specs.Expanding.{expanded, expanded_item, expanded_list};
+ghost use Rattle.buffer_properties.specs.Expanding.{item_expansion, expanded_item, expanded_list};
 ghost use Rattle.buffer_properties.specs.Normalizer.{has_character, reach_alone, reach_with_marks};
-ghost use Rattle.buffer_properties.specs.SupportedExpansion.{alone, by_supported, supported, expansion};
-ghost use Rattle.buffer_stages.specs.Brought.{Brought, Overfills};
+ghost use Rattle.buffer_properties.specs.SupportedExpansion.{alone, by_supported, supported_expansion, expansion};
+ghost use Rattle.buffer_stages.specs.Brought.{Brought, RefusesRoomFor};
 ghost use Rattle.shape_rounds.specs.Walking.{Groups, GroupsTooMany, Walks, WalksTooMany, IsExpanded, ExpandsTooMany};
-ghost use Rattle.shape_rounds.specs.Glyphs.{with_parts, Puts, count_of};
+ghost use Rattle.shape_rounds.specs.Glyphs.{with_halves_output, Puts, count_of};
 
 use crate::characters::{has, is_selector, part_of, whole_of};
 use crate::normalizing::Normalizing;
-use crate::placing::put_in_place;
+use crate::outputting::put_in_place;
 use crate::selecting::expand_selected;
 use buffer_core::buffer::hb_buffer_t;
 use buffer_glyphs::cause::ShapeCause;
@@ -25,8 +25,8 @@ use buffer_properties::{NormalizationMode, Reach};
 fn put_part<N: Normalizing>(by: &N, u: char, buffer: &mut hb_buffer_t) -> Result<(), ShapeCause>
     requires open { buffer.old.is_open ≡ true }
     requires there { 0 < length buffer.old.ahead }
-    ensures ok { OnOk result (buffer.new ≡ with_parts (N.normalizer by.now) (u ∷ []) buffer.old) }
-    ensures err { IfErr result (λ e. Overfills 1 e buffer.old) }
+    ensures ok { OnOk result (buffer.new ≡ with_halves_output (N.normalizer by.now) (u ∷ []) buffer.old) }
+    ensures err { IfErr result (λ e. RefusesRoomFor 1 e buffer.old) }
 {
     let part = part_of(by, buffer.cur(0), u);
     if !buffer.output_info(part)? {
@@ -41,7 +41,7 @@ fn put_alone<N: Normalizing>(by: &N, u: char, buffer: &mut hb_buffer_t) -> Resul
     requires there { 0 < length buffer.old.ahead }
     ensures ok { IfOk result (λ b. Puts (N.normalizer by.now) (alone (has_character (N.normalizer by.now)) u)
         b buffer.old buffer.new) }
-    ensures err { IfErr result (λ e. Overfills (count_of (alone (has_character (N.normalizer by.now)) u))
+    ensures err { IfErr result (λ e. RefusesRoomFor (count_of (alone (has_character (N.normalizer by.now)) u))
         e buffer.old) }
 {
     if !has(by, u as u32) {
@@ -64,9 +64,9 @@ fn put_supported<N: Normalizing>(
     requires open { buffer.old.is_open ≡ true }
     requires there { 0 < length buffer.old.ahead }
     ensures ok { IfOk result (λ b. Puts (N.normalizer by.now)
-        (supported reach (has_character (N.normalizer by.now)) (N.normalizer by.now).splits depth u)
+        (supported_expansion reach (has_character (N.normalizer by.now)) (N.normalizer by.now).splits depth u)
         b buffer.old buffer.new) }
-    ensures err { IfErr result (λ e. Overfills (count_of (supported reach (has_character (N.normalizer by.now))
+    ensures err { IfErr result (λ e. RefusesRoomFor (count_of (supported_expansion reach (has_character (N.normalizer by.now))
         (N.normalizer by.now).splits depth u)) e buffer.old) }
 {
     if depth == 0 {
@@ -102,10 +102,10 @@ fn put_in_parts<N: Normalizing>(
     requires there { 0 < length buffer.old.ahead }
     ensures ok { IfOk result (λ b. Puts (N.normalizer by.now)
         (by_supported (has_character (N.normalizer by.now))
-        (supported reach (has_character (N.normalizer by.now)) (N.normalizer by.now).splits depth)
+        (supported_expansion reach (has_character (N.normalizer by.now)) (N.normalizer by.now).splits depth)
         ((N.normalizer by.now).splits u)) b buffer.old buffer.new) }
-    ensures err { IfErr result (λ e. Overfills (count_of (by_supported (has_character (N.normalizer by.now))
-        (supported reach (has_character (N.normalizer by.now)) (N.normalizer by.now).splits depth)
+    ensures err { IfErr result (λ e. RefusesRoomFor (count_of (by_supported (has_character (N.normalizer by.now))
+        (supported_expansion reach (has_character (N.normalizer by.now)) (N.normalizer by.now).splits depth)
         ((N.normalizer by.now).splits u))) e buffer.old) }
 {
     let Some((first, second)) = by.decompose(u) else {
@@ -125,7 +125,7 @@ fn put_in_parts<N: Normalizing>(
 }
 
 /// Appends the decomposition of a character, where it has one that the font supports.
-#[tactic(auto, unfolding(buffer_properties::specs::SupportedExpansion::in_parts))]
+#[tactic(auto, unfolding(buffer_properties::specs::SupportedExpansion::in_pieces))]
 fn put_expansion<N: Normalizing>(
     by: &N,
     reach: Reach,
@@ -137,7 +137,7 @@ fn put_expansion<N: Normalizing>(
     ensures ok { IfOk result (λ b. Puts (N.normalizer by.now)
         (expansion reach (has_character (N.normalizer by.now)) (N.normalizer by.now).splits u)
         b buffer.old buffer.new) }
-    ensures err { IfErr result (λ e. Overfills (count_of (expansion reach (has_character (N.normalizer by.now))
+    ensures err { IfErr result (λ e. RefusesRoomFor (count_of (expansion reach (has_character (N.normalizer by.now))
         (N.normalizer by.now).splits u)) e buffer.old) }
 {
     match reach {
@@ -160,9 +160,9 @@ fn expand_current<N: Normalizing>(
     requires open { buffer.old.is_open ≡ true }
     requires there { 0 < length buffer.old.ahead }
     ensures ok { OnOk result ((x : Item) (xs : List Item) → strip buffer.old.ahead ≡ x ∷ xs
-        → Brought (expanded (N.normalizer by.now) reach x) xs buffer.old buffer.new) }
+        → Brought (item_expansion (N.normalizer by.now) reach x) xs buffer.old buffer.new) }
     ensures err { IfErr result (λ e. (x : Item) (xs : List Item) → strip buffer.old.ahead ≡ x ∷ xs
-        → Overfills (length (expanded_item (N.normalizer by.now) reach x)) e buffer.old) }
+        → RefusesRoomFor (length (expanded_item (N.normalizer by.now) reach x)) e buffer.old) }
 {
     let info = *buffer.cur(0);
     if put_expansion(by, reach, info.glyph_id, buffer)? {
@@ -183,9 +183,9 @@ fn expand_each<N: Normalizing>(
     requires open { buffer.old.is_open ≡ true }
     requires there { count ≤ length buffer.old.ahead }
     ensures ok { OnOk result ((xs ys : List Item) → strip buffer.old.ahead ≡ xs ++ ys → length xs ≡ count
-        → Brought (in_turn (map (expanded (N.normalizer by.now) reach) xs)) ys buffer.old buffer.new) }
+        → Brought (in_turn (map (item_expansion (N.normalizer by.now) reach) xs)) ys buffer.old buffer.new) }
     ensures err { IfErr result (λ e. (xs ys : List Item) → strip buffer.old.ahead ≡ xs ++ ys → length xs ≡ count
-        → Overfills (length (in_turn (map (expanded (N.normalizer by.now) reach) xs)).items) e buffer.old) }
+        → RefusesRoomFor (length (in_turn (map (item_expansion (N.normalizer by.now) reach) xs)).items) e buffer.old) }
 {
     for _ in 0..count {
         expand_current(by, reach, buffer)?;
@@ -307,7 +307,7 @@ pub fn expand_list<N: Normalizing>(by: &N, buffer: &mut hb_buffer_t) -> Result<(
     requires unread { buffer.old.read ≡ 0 }
     ensures ok { OnOk result (Brought (expanded_list (N.normalizer by.now) (strip buffer.old.ahead)) []
         buffer.old buffer.new) }
-    ensures err { IfErr result (λ e. Overfills (length (expanded_list (N.normalizer by.now)
+    ensures err { IfErr result (λ e. RefusesRoomFor (length (expanded_list (N.normalizer by.now)
         (strip buffer.old.ahead)).items) e buffer.old) }
 {
     let count = buffer.len();

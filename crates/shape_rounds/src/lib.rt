@@ -4,5 +4,5 @@
 pub mod characters;
 pub mod expanding;
 pub mod normalizing;
-mod placing;
+mod outputting;
 mod selecting;

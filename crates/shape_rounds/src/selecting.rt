@@ -2,15 +2,15 @@
 ghost use Rattle.std.specs.Prelude.{◌≡◌, ◌<◌, ◌++◌, ◌∷◌, [], List, true, false, if◌then◌else◌, length, is_some, Some, None, IfOk, IfErr, OnOk};
 ghost use Rattle.buffer_core.specs.Lending.{with_glyph_ahead};
 ghost use Rattle.buffer_glyphs.specs.Items.{Item, strip};
-ghost use Rattle.buffer_glyphs.specs.Arranged.{in_turn, replaced_by};
+ghost use Rattle.buffer_glyphs.specs.Rewriting.{in_turn, replacement};
 ghost use Rattle.buffer_properties.specs.Characters.{unjoined_selector, with_glyph};
-ghost use Rattle.buffer_properties.specs.Expanding.{unexpanded, selected};
-ghost use Rattle.buffer_stages.specs.Brought.{Brought, Overfills};
+ghost use Rattle.buffer_properties.specs.Expanding.{unexpanded_item, selection};
+ghost use Rattle.buffer_stages.specs.Brought.{Brought, RefusesRoomFor};
 ghost use Rattle.shape_rounds.specs.Walking.{PutsWaiting, Selects, SelectsTooMany, SelectsAll, SelectsAllTooMany};
 
 use crate::characters::{is_selector, unjoined, with_own_glyph};
 use crate::normalizing::Normalizing;
-use crate::placing::put_in_place;
+use crate::outputting::put_in_place;
 use buffer_core::buffer::hb_buffer_t;
 use buffer_glyphs::cause::ShapeCause;
 use buffer_glyphs::info::hb_glyph_info_t;
@@ -21,8 +21,8 @@ fn put_unexpanded<N: Normalizing>(by: &N, buffer: &mut hb_buffer_t) -> Result<()
     requires open { buffer.old.is_open ≡ true }
     requires there { 0 < length buffer.old.ahead }
     ensures ok { OnOk result ((x : Item) (xs : List Item) → strip buffer.old.ahead ≡ x ∷ xs
-        → Brought (unexpanded (N.normalizer by.now) x) xs buffer.old buffer.new) }
-    ensures err { IfErr result (λ e. Overfills 1 e buffer.old) }
+        → Brought (unexpanded_item (N.normalizer by.now) x) xs buffer.old buffer.new) }
+    ensures err { IfErr result (λ e. RefusesRoomFor 1 e buffer.old) }
 {
     let info = with_own_glyph(by, buffer.cur(0));
     put_in_place(info, buffer)?;
@@ -34,9 +34,9 @@ fn put_unjoined<N: Normalizing>(by: &N, buffer: &mut hb_buffer_t) -> Result<(), 
     requires open { buffer.old.is_open ≡ true }
     requires there { 0 < length buffer.old.ahead }
     ensures ok { OnOk result ((x : Item) (xs : List Item) → strip buffer.old.ahead ≡ x ∷ xs
-        → Brought (unexpanded (N.normalizer by.now)
+        → Brought (unexpanded_item (N.normalizer by.now)
         (unjoined_selector (is_some (N.normalizer by.now).unjoined_glyph) x)) xs buffer.old buffer.new) }
-    ensures err { IfErr result (λ e. Overfills 1 e buffer.old) }
+    ensures err { IfErr result (λ e. RefusesRoomFor 1 e buffer.old) }
 {
     let selector = unjoined(buffer.cur(0), by.unjoined_glyph().is_some());
     let info = with_own_glyph(by, &selector);
@@ -56,8 +56,8 @@ fn join_selector(glyph: u32, buffer: &mut hb_buffer_t) -> Result<(), ShapeCause>
     requires open { buffer.old.is_open ≡ true }
     requires there { 1 < length buffer.old.ahead }
     ensures ok { OnOk result ((x s : Item) (xs : List Item) → strip buffer.old.ahead ≡ x ∷ s ∷ xs
-        → Brought (replaced_by 2 (with_glyph glyph x ∷ [])) xs buffer.old buffer.new) }
-    ensures err { IfErr result (λ e. Overfills 1 e buffer.old) }
+        → Brought (replacement 2 (with_glyph glyph x ∷ [])) xs buffer.old buffer.new) }
+    ensures err { IfErr result (λ e. RefusesRoomFor 1 e buffer.old) }
 {
     let info = hb_glyph_info_t {
         glyph_index: glyph,
@@ -75,9 +75,9 @@ fn put_both<N: Normalizing>(by: &N, buffer: &mut hb_buffer_t) -> Result<(), Shap
     requires open { buffer.old.is_open ≡ true }
     requires there { 1 < length buffer.old.ahead }
     ensures ok { OnOk result ((x s : Item) (xs : List Item) → strip buffer.old.ahead ≡ x ∷ s ∷ xs
-        → Brought (in_turn (selected (N.normalizer by.now) x s None)) xs buffer.old buffer.new) }
+        → Brought (in_turn (selection (N.normalizer by.now) x s None)) xs buffer.old buffer.new) }
     ensures err { IfErr result (λ e. (x s : Item) (xs : List Item) → strip buffer.old.ahead ≡ x ∷ s ∷ xs
-        → Overfills (length (in_turn (selected (N.normalizer by.now) x s None)).items) e buffer.old) }
+        → RefusesRoomFor (length (in_turn (selection (N.normalizer by.now) x s None)).items) e buffer.old) }
 {
     put_unexpanded(by, buffer)?;
     put_unjoined(by, buffer)?;
@@ -89,10 +89,10 @@ fn put_selected<N: Normalizing>(by: &N, buffer: &mut hb_buffer_t) -> Result<(), 
     requires open { buffer.old.is_open ≡ true }
     requires there { 1 < length buffer.old.ahead }
     ensures ok { OnOk result ((x s : Item) (xs : List Item) → strip buffer.old.ahead ≡ x ∷ s ∷ xs
-        → Brought (in_turn (selected (N.normalizer by.now) x s ((N.normalizer by.now).variant_of x.number s.number)))
+        → Brought (in_turn (selection (N.normalizer by.now) x s ((N.normalizer by.now).variant_of x.number s.number)))
         xs buffer.old buffer.new) }
     ensures err { IfErr result (λ e. (x s : Item) (xs : List Item) → strip buffer.old.ahead ≡ x ∷ s ∷ xs
-        → Overfills (length (in_turn (selected (N.normalizer by.now) x s
+        → RefusesRoomFor (length (in_turn (selection (N.normalizer by.now) x s
         ((N.normalizer by.now).variant_of x.number s.number))).items) e buffer.old) }
 {
     let number = buffer.cur(0).glyph_id;
@@ -165,7 +165,7 @@ fn put_waiting<N: Normalizing>(
     requires open { buffer.old.is_open ≡ true }
     requires there { waits ≡ true → 0 < length buffer.old.ahead }
     ensures ok { OnOk result (PutsWaiting (N.normalizer by.now) waits buffer.old buffer.new) }
-    ensures err { IfErr result (λ e. Overfills (if waits then 1 else 0) e buffer.old) }
+    ensures err { IfErr result (λ e. RefusesRoomFor (if waits then 1 else 0) e buffer.old) }
 {
     if !waits {
         return Ok(());

@@ -10,10 +10,10 @@ use Rattle.buffer_glyphs.specs.Items.{Item, item_of, strip}
 use Rattle.buffer_glyphs.specs.Events.{Event}
 use Rattle.buffer_core.specs.Readings.{View, always}
 use Rattle.buffer_core.specs.Graphemes.{continues}
-use Rattle.buffer_groups.specs.Groups.{group_length, joined_after}
-use Rattle.buffer_groups.specs.Lemmas.Stretches.{lengths_cut}
+use Rattle.buffer_groups.specs.Groups.{group_length, joined_count}
+use Rattle.buffer_groups.specs.Lemmas.Ranges.{lengths_cut}
 use Rattle.buffer_groups.specs.Runs as Runs
-use Rattle.buffer_core.specs.Sides.{Settings, Sides, all_glyphs, items_of, told_of, view_of}
+use Rattle.buffer_core.specs.Sides.{Settings, Sides, all_glyphs, items_of, stage_flags, view_of}
 use Rattle.buffer_stages.specs.Ready.{IsReady}
 use Rattle.buffer_stages.specs.Stages.{Happens, IsFollowed}
 use Rattle.buffer_stages.proofs.Lemmas.Happened.{nothing_happens, both_happen}
@@ -23,7 +23,7 @@ use Rattle.shape_text.specs.Clusters.{grapheme_event, grapheme_events, grapheme_
 one_more : (n : ℕ) → suc n ≡ 1 + n
 one_more n = omega arith
 
-joined_front : (x : Item) (gs : List hb_glyph_info_t) → joined_after (λ a b. continues b) x (strip gs) ≡ prefix_len Runs.continues gs
+joined_front : (x : Item) (gs : List hb_glyph_info_t) → joined_count (λ a b. continues b) x (strip gs) ≡ prefix_len Runs.continues gs
 joined_front x [] = refl
 joined_front x (g ∷ gs) = ap (λ n. if Runs.continues g then n else 0) (ap suc (joined_front (item_of g) gs) ∙ one_more (prefix_len Runs.continues gs))
 
@@ -104,7 +104,7 @@ all_formed from s start le f =
 
 -- ---- the stage
 
-told_non_ascii : (f : ℕ) → has_non_ascii (told_of f) ≡ not (bit_and f 1 == 0)
+told_non_ascii : (f : ℕ) → has_non_ascii (stage_flags f) ≡ not (bit_and f 1 == 0)
 told_non_ascii f = ap (λ n. not (n == 0)) (and_assoc 1 f 0xFFFF_FFDF)
 
 -- graphemes that merged or were marked

@@ -6,23 +6,23 @@ use Rattle.buffer_glyphs.specs.declared.info.hb_glyph_info_t.{hb_glyph_info_t}
 use Rattle.buffer_common.specs.Direction.{opposite}
 use Rattle.buffer_common.specs.declared.script.Script.{Script}
 use Rattle.buffer_glyphs.specs.Items.{Item, Position, item_of, strip}
-use Rattle.buffer_core.specs.Readings.{View, Read, always, run_after, then_read, with_events}
+use Rattle.buffer_core.specs.Readings.{View, Read, always, state_after, then_read, with_events}
 use Rattle.buffer_core.specs.Steps.{then_follows}
 use Rattle.buffer_groups.specs.Groups.{group_length}
-use Rattle.buffer_groups.specs.Turning.{Turning, groups_turned, turning_of}
-use Rattle.buffer_groups.specs.Facts.{group_lengths, positions_turned, stretches_turned}
+use Rattle.buffer_groups.specs.Turning.{Turning, groups_reversed_list, turning_of}
+use Rattle.buffer_groups.specs.Facts.{group_lengths, positions_turned, pieces_reversed}
 use Rattle.buffer_groups.specs.Events.{groups_reversed}
-use Rattle.buffer_groups.specs.Lemmas.Stretches.{lengths_cut}
-use Rattle.buffer_core.specs.Grouping.{with_groups_turned}
-use Rattle.buffer_core.specs.Merging.{telling_flags}
-use Rattle.buffer_core.proofs.Told.{told_telling}
+use Rattle.buffer_groups.specs.Lemmas.Ranges.{lengths_cut}
+use Rattle.buffer_core.specs.Grouping.{with_groups_reversed}
+use Rattle.buffer_core.specs.Merging.{with_has_glyph_flags}
+use Rattle.buffer_core.proofs.Told.{stage_flags_ignore_glyph_flags}
 use Rattle.buffer_core.specs.Segment.{with_segment}
-use Rattle.buffer_core.specs.Sides.{Sides, all_glyphs, items_of, origins_by, origins_of, run_of, settings_of, told_of, view_of}
+use Rattle.buffer_core.specs.Sides.{Sides, all_glyphs, items_of, origins_by, origins_of, state_of, settings_of, stage_flags, view_of}
 use Rattle.buffer_stages.specs.Ready.{IsReady}
 use Rattle.buffer_properties.specs.Categories.{is_letter}
 use Rattle.buffer_stages.specs.Stages.{IsFollowed}
 use Rattle.buffer_stages.specs.Lemmas.Written.{read_followed}
-use Rattle.shape_text.specs.NativeOrder.{goes_on, is_number_text, is_numeral, is_turned, merges_graphemes, ordered, turned_text}
+use Rattle.shape_text.specs.NativeOrder.{continues_grapheme, is_number_text, is_numeral, is_reversed, merges_graphemes, in_native_order, reversed_text}
 
 any_stripped : (p : Item → Bool) (gs : List hb_glyph_info_t) → list_any p (strip gs) ≡ list_any (λ (g : hb_glyph_info_t). p (item_of g)) gs
 any_stripped p [] = refl
@@ -35,13 +35,13 @@ number_text_stripped gs = rw (any_stripped is_numeral gs, any_stripped is_letter
 -- one stage after another
 pub both_followed : (r q : View → Read) (a b c : Sides) → IsFollowed (always r) a b → IsFollowed (always q) b c → IsFollowed (always (λ v. then_read (r v) (q (r v).view))) a c
 both_followed r q a b c f g = record {
-  follows = then_follows (Ok (r (view_of a))) q (run_of a) (run_of b) (run_of c) f.follows g.follows;
+  follows = then_follows (Ok (r (view_of a))) q (state_of a) (state_of b) (state_of c) f.follows g.follows;
   settings = g.settings ∙ f.settings;
   ready = g.ready;
 }
 
 -- as many positions as before
-turned_many : (q : Item → Item → Bool) (m : ℕ) (xs : List Item) (ps : List Position) → length xs ≤ m → length ps ≡ length xs → length (stretches_turned (group_lengths q xs) ps) ≡ length ps
+turned_many : (q : Item → Item → Bool) (m : ℕ) (xs : List Item) (ps : List Position) → length xs ≤ m → length ps ≡ length xs → length (pieces_reversed (group_lengths q xs) ps) ≡ length ps
 turned_many q m [] ps le e = sym e
 turned_many q zero (x ∷ xs) ps le e = absurd (omega (arith, le))
 turned_many q (suc m) (x ∷ xs) ps le e =
@@ -50,44 +50,44 @@ turned_many q (suc m) (x ∷ xs) ps le e =
     let many = length-drop n ps in
     let rest = turned_many q m (drop n (x ∷ xs)) (drop n ps) (omega (arith, le, few)) (omega (arith, few, many, e)) in
     let front = length-take n ps in
-    ap (λ lens. length (stretches_turned lens ps)) (lengths_cut q x xs)
-    ∙ length-append (stretches_turned (group_lengths q (drop n (x ∷ xs))) (drop n ps)) (take n ps)
+    ap (λ lens. length (pieces_reversed lens ps)) (lengths_cut q x xs)
+    ∙ length-append (pieces_reversed (group_lengths q (drop n (x ∷ xs))) (drop n ps)) (take n ps)
     ∙ omega (arith, rest, front, many)
 
-pub turned_followed : (s mid : Sides) (joins : hb_glyph_info_t → hb_glyph_info_t → Bool) (merge : Bool) → merge ≡ merges_graphemes s.level → mid ≡ with_groups_turned merge joins s
-    → items_of mid ≡ groups_turned goes_on (items_of s) → mid.positions ≡ positions_turned goes_on (items_of s) s.positions
-    → origins_of mid ≡ origins_by (groups_reversed merge goes_on (items_of s)) s → length (all_glyphs mid) ≡ length (all_glyphs s) → IsReady s
-    → IsFollowed (always turned_text) s (with_segment (opposite s.direction) mid.script mid)
+pub turned_followed : (s mid : Sides) (joins : hb_glyph_info_t → hb_glyph_info_t → Bool) (merge : Bool) → merge ≡ merges_graphemes s.level → mid ≡ with_groups_reversed merge joins s
+    → items_of mid ≡ groups_reversed_list continues_grapheme (items_of s) → mid.positions ≡ positions_turned continues_grapheme (items_of s) s.positions
+    → origins_of mid ≡ origins_by (groups_reversed merge continues_grapheme (items_of s)) s → length (all_glyphs mid) ≡ length (all_glyphs s) → IsReady s
+    → IsFollowed (always reversed_text) s (with_segment (opposite s.direction) mid.script mid)
 turned_followed s mid joins merge m e items positions from count ready =
     let t : Turning = turning_of merge s.level joins (all_glyphs s) s.positions in
-    let xs = groups_turned goes_on (items_of s) in
-    let ps = positions_turned goes_on (items_of s) s.positions in
+    let xs = groups_reversed_list continues_grapheme (items_of s) in
+    let ps = positions_turned continues_grapheme (items_of s) s.positions in
     let long = length-map (all_glyphs s) item_of in
-    read_followed turned_text (groups_reversed merge goes_on (items_of s)) (record (view_of s) { items = xs; positions = ps; direction = opposite s.direction }) s (with_segment (opposite s.direction) mid.script mid)
-    (ap (λ (n : Sides). record { items = items_of mid; positions = mid.positions; lig_id = n.lig_id; max_ops = n.max_ops; random = 1; max_len = n.max_len; direction = opposite s.direction; told = told_of n.scratch_flags }) e
-    ∙ ap (λ ys. record (view_of s) { items = ys; positions = mid.positions; direction = opposite s.direction; told = told_of (telling_flags t.is_marked s.scratch_flags) }) items
-    ∙ ap (λ qs. record (view_of s) { items = xs; positions = qs; direction = opposite s.direction; told = told_of (telling_flags t.is_marked s.scratch_flags) }) positions
-    ∙ ap (λ f. record (view_of s) { items = xs; positions = ps; direction = opposite s.direction; told = f }) (told_telling t.is_marked s.scratch_flags))
+    read_followed reversed_text (groups_reversed merge continues_grapheme (items_of s)) (record (view_of s) { items = xs; positions = ps; direction = opposite s.direction }) s (with_segment (opposite s.direction) mid.script mid)
+    (ap (λ (n : Sides). record { items = items_of mid; positions = mid.positions; lig_id = n.lig_id; max_ops = n.max_ops; random = 1; max_len = n.max_len; direction = opposite s.direction; scratch_flags = stage_flags n.scratch_flags }) e
+    ∙ ap (λ ys. record (view_of s) { items = ys; positions = mid.positions; direction = opposite s.direction; scratch_flags = stage_flags (with_has_glyph_flags t.is_marked s.scratch_flags) }) items
+    ∙ ap (λ qs. record (view_of s) { items = xs; positions = qs; direction = opposite s.direction; scratch_flags = stage_flags (with_has_glyph_flags t.is_marked s.scratch_flags) }) positions
+    ∙ ap (λ f. record (view_of s) { items = xs; positions = ps; direction = opposite s.direction; scratch_flags = f }) (stage_flags_ignore_glyph_flags t.is_marked s.scratch_flags))
     from (ap settings_of e)
     (record {
       closed = ap (λ (n : Sides). n.is_open) e ∙ ready.closed;
       front = ap (λ (n : Sides). n.behind) e ∙ ap (λ k. take k t.glyphs) ready.unread;
       unread = ap (λ (n : Sides). n.read) e ∙ ready.unread;
-      placed = ap (λ (qs : List Position). length qs) positions ∙ turned_many goes_on (length (items_of s)) (items_of s) s.positions (omega arith) (ready.placed ∙ sym long) ∙ ready.placed ∙ sym count;
+      placed = ap (λ (qs : List Position). length qs) positions ∙ turned_many continues_grapheme (length (items_of s)) (items_of s) s.positions (omega arith) (ready.placed ∙ sym long) ∙ ready.placed ∙ sym count;
       unrefused = ap (λ (n : Sides). n.has_refused) e ∙ ready.unrefused;
     })
-    refl (ap (λ b. groups_reversed b goes_on (items_of s)) (sym m))
+    refl (ap (λ b. groups_reversed b continues_grapheme (items_of s)) (sym m))
 
 -- what is turned, and what stays
-either : (script : Option Script) (s new : Sides) (b : Bool) → is_turned script s.direction (items_of s) ≡ b → IsFollowed (always (λ v. if b then turned_text v else with_events [] v)) s new → IsFollowed (always (ordered script)) s new
+either : (script : Option Script) (s new : Sides) (b : Bool) → is_reversed script s.direction (items_of s) ≡ b → IsFollowed (always (λ v. if b then reversed_text v else with_events [] v)) s new → IsFollowed (always (in_native_order script)) s new
 either script s new b e f = record {
-  follows = f.follows ∙ ap (λ c. run_after (if c then turned_text (view_of s) else with_events [] (view_of s)) (run_of s)) (sym e);
+  follows = f.follows ∙ ap (λ c. state_after (if c then reversed_text (view_of s) else with_events [] (view_of s)) (state_of s)) (sym e);
   settings = f.settings;
   ready = f.ready;
 }
 
-pub turned_ordered : (s new : Sides) → is_turned s.script s.direction (items_of s) ≡ true → IsFollowed (always turned_text) s new → IsFollowed (always (ordered s.script)) s new
+pub turned_ordered : (s new : Sides) → is_reversed s.script s.direction (items_of s) ≡ true → IsFollowed (always reversed_text) s new → IsFollowed (always (in_native_order s.script)) s new
 turned_ordered s new e f = either s.script s new true e f
 
-pub stays_ordered : (s : Sides) → is_turned s.script s.direction (items_of s) ≡ false → IsReady s → IsFollowed (always (ordered s.script)) s s
+pub stays_ordered : (s : Sides) → is_reversed s.script s.direction (items_of s) ≡ false → IsReady s → IsFollowed (always (in_native_order s.script)) s s
 stays_ordered s e ready = either s.script s s false e (read_followed (λ v. with_events [] v) [] (view_of s) s s refl refl refl ready refl refl)

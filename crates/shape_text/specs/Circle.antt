@@ -19,8 +19,8 @@ abbrev pub DOTTED_CIRCLE : ℕ
 DOTTED_CIRCLE = 0x25CC
 
 -- BEGINNING_OF_TEXT is set, and DO_NOT_INSERT_DOTTED_CIRCLE is not
-abbrev pub asks_circle : BufferFlags → Bool
-asks_circle flags = bit_and flags.0 1 == 1 && not (bit_and flags.0 16 == 16)
+abbrev pub flags_want_circle : BufferFlags → Bool
+flags_want_circle flags = bit_and flags.0 1 == 1 && not (bit_and flags.0 16 == 16)
 
 -- the first item is a mark
 abbrev pub begins_with_mark : List Item → Bool
@@ -30,7 +30,7 @@ begins_with_mark (x ∷ xs) = is_mark x
 -- a text gets a circle: the flags require it, there is no context before, it begins with a mark, and the font has the
 -- glyph
 abbrev pub needs_circle : BufferFlags → List ℕ → FaceParts → List Item → Bool
-needs_circle flags context font xs = asks_circle flags && length context == 0 && begins_with_mark xs && is_some (nominal_glyph DOTTED_CIRCLE font)
+needs_circle flags context font xs = flags_want_circle flags && length context == 0 && begins_with_mark xs && is_some (nominal_glyph DOTTED_CIRCLE font)
 
 -- the circle before a character, with its mask
 abbrev pub circle_like : Tables → Item → Item
@@ -48,14 +48,14 @@ circle_like t x = record {
 }
 
 -- a list with a circle before its first item
-abbrev pub circled : Tables → List Item → List Item
-circled t [] = []
-circled t (x ∷ xs) = circle_like t x ∷ x ∷ xs
+abbrev pub circled_items : Tables → List Item → List Item
+circled_items t [] = []
+circled_items t (x ∷ xs) = circle_like t x ∷ x ∷ xs
 
 -- the stage that inserts a circle before the first character, with its cluster
 abbrev pub with_circle : Tables → Stage
 with_circle t v = if nat_le (length v.items + 1) v.max_len
-    then Ok (with_events (Circle false 0 0 ∷ []) (record v { items = circled t v.items; positions = zero_positions (length v.items + 1); told = bit_or v.told (scratch_flags_of DOTTED_CIRCLE) }))
+    then Ok (with_events (Circle false 0 0 ∷ []) (record v { items = circled_items t v.items; positions = zero_positions (length v.items + 1); scratch_flags = bit_or v.scratch_flags (scratch_flags_of DOTTED_CIRCLE) }))
     else Err TooLong
 
 -- the stage that inserts a circle before a text that begins with a mark (HarfBuzz: hb_insert_dotted_circle)

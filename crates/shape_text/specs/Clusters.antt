@@ -27,9 +27,9 @@ grapheme_lengths xs = group_lengths (λ x y. continues y) xs
 
 -- the scratch flags say that the text has characters above U+007F
 abbrev pub has_non_ascii : ℕ → Bool
-has_non_ascii told = not (bit_and told 1 == 0)
+has_non_ascii scratch_flags = not (bit_and scratch_flags 1 == 0)
 
 -- the view with a cluster for each grapheme; a text without characters above U+007F is unchanged (HarfBuzz:
 -- hb_form_clusters)
 abbrev pub with_clusters : View → Read
-with_clusters v = record { view = v; events = λ level. if has_non_ascii v.told then grapheme_events level 0 (grapheme_lengths v.items) else [] }
+with_clusters v = record { view = v; events = λ level. if has_non_ascii v.scratch_flags then grapheme_events level 0 (grapheme_lengths v.items) else [] }

@@ -10,12 +10,12 @@ use Rattle.buffer_common.specs.declared.script.Script.{Script}
 use Rattle.buffer_properties.specs.Properties.{CONTINUATION, without_bits}
 use Rattle.buffer_glyphs.specs.Items.{Item}
 use Rattle.buffer_core.specs.Readings.{View, Read, then_read, with_events}
-use Rattle.buffer_groups.specs.Turning.{groups_turned}
+use Rattle.buffer_groups.specs.Turning.{groups_reversed_list}
 use Rattle.buffer_groups.specs.Facts.{positions_turned}
 use Rattle.buffer_groups.specs.Events.{groups_reversed}
 use Rattle.buffer_core.specs.Graphemes.{continues}
 use Rattle.buffer_properties.specs.Categories.{is_letter, is_decimal_number}
-use Rattle.buffer_stages.specs.Stages.{mapped}
+use Rattle.buffer_stages.specs.Stages.{with_items_mapped}
 use Rattle.shape_text.specs.Graphemes.{is_regional_indicator}
 
 -- a decimal number or a regional indicator: they run from left to right in every script
@@ -44,8 +44,8 @@ runs_against BottomToTop _ = true
 runs_against _ _ = false
 
 -- a text is reversed: its direction is against its script's, or that of numbers alone
-abbrev pub is_turned : Option Script → Direction → List Item → Bool
-is_turned script text xs = runs_against text (with_numbers (is_number_text xs) text (script_direction script))
+abbrev pub is_reversed : Option Script → Direction → List Item → Bool
+is_reversed script text xs = runs_against text (with_numbers (is_number_text xs) text (script_direction script))
 
 -- at level MonotoneCharacters graphemes are merged before the reversal, so that the order of clusters is kept
 abbrev pub merges_graphemes : BufferClusterLevel → Bool
@@ -54,14 +54,14 @@ merges_graphemes MonotoneCharacters = true
 merges_graphemes Characters = false
 
 -- two neighbours are in one grapheme: the second continues it
-abbrev pub goes_on : Item → Item → Bool
-goes_on x y = continues y
+abbrev pub continues_grapheme : Item → Item → Bool
+continues_grapheme x y = continues y
 
 -- the view with its graphemes reversed, each in its own order, and the direction reversed
-abbrev pub turned_text : View → Read
-turned_text v = record {
-  view = record v { items = groups_turned goes_on v.items; positions = positions_turned goes_on v.items v.positions; direction = opposite v.direction };
-  events = λ level. groups_reversed (merges_graphemes level) goes_on v.items;
+abbrev pub reversed_text : View → Read
+reversed_text v = record {
+  view = record v { items = groups_reversed_list continues_grapheme v.items; positions = positions_turned continues_grapheme v.items v.positions; direction = opposite v.direction };
+  events = λ level. groups_reversed (merges_graphemes level) continues_grapheme v.items;
 }
 
 -- an item without the continuation bit, which no later stage reads
@@ -69,9 +69,9 @@ abbrev pub without_continuation : Item → Item
 without_continuation x = record x { unicode_props = without_bits CONTINUATION x.unicode_props }
 
 -- the view of a text that is reversed if its direction is against its script's
-abbrev pub ordered : Option Script → View → Read
-ordered script v = if is_turned script v.direction v.items then turned_text v else with_events [] v
+abbrev pub in_native_order : Option Script → View → Read
+in_native_order script v = if is_reversed script v.direction v.items then reversed_text v else with_events [] v
 
 -- the view of a text in its script's direction (HarfBuzz: hb_ensure_native_direction)
 abbrev pub native_order : Option Script → View → Read
-native_order script v = then_read (ordered script v) (mapped without_continuation (ordered script v).view)
+native_order script v = then_read (in_native_order script v) (with_items_mapped without_continuation (in_native_order script v).view)

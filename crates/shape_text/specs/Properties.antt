@@ -12,12 +12,12 @@ use Rattle.shape_text.specs.declared.graphemes.Before.{Before}
 use Rattle.shape_text.specs.Graphemes.{continues}
 
 -- the property word of a character, with the continuation bit
-abbrev pub word_of : Bool → ℕ → ℕ
-word_of goes_on u = if goes_on then bit_or (properties_of u) CONTINUATION else properties_of u
+abbrev pub property_word_of : Bool → ℕ → ℕ
+property_word_of goes_on u = if goes_on then bit_or (properties_of u) CONTINUATION else properties_of u
 
 -- an item with its property word and combining class
 abbrev pub prepared_item : Tables → Bool → Item → Item
-prepared_item t goes_on x = record x { unicode_props = word_of goes_on x.number; class = character_class t x.number }
+prepared_item t goes_on x = record x { unicode_props = property_word_of goes_on x.number; class = character_class t x.number }
 
 -- an item's number is a Unicode scalar value
 abbrev pub is_character : Item → Bool
@@ -28,33 +28,33 @@ abbrev pub are_characters : List Item → Bool
 are_characters xs = list_all is_character xs
 
 -- what the next character reads of a character: it, and whether it continues a grapheme
-abbrev pub met : Tables → Option Before → ℕ → Before
-met t before u = record { character = u; continues = continues t before u }
+abbrev pub next_before : Tables → Option Before → ℕ → Before
+next_before t before u = record { character = u; continues = continues t before u }
 
 -- the items with their properties, by the character before them
-abbrev pub prepared : Tables → Option Before → List Item → List Item
-prepared t before [] = []
-prepared t before (x ∷ xs) = prepared_item t (continues t before x.number) x ∷ prepared t (Some (met t before x.number)) xs
+abbrev pub items_prepared : Tables → Option Before → List Item → List Item
+items_prepared t before [] = []
+items_prepared t before (x ∷ xs) = prepared_item t (continues t before x.number) x ∷ items_prepared t (Some (next_before t before x.number)) xs
 
 -- the scratch flags that a text's characters set
-abbrev pub told_by : List Item → ℕ → ℕ
-told_by xs told = fold (λ (f : ℕ) (x : Item). bit_or f (scratch_flags_of x.number)) told xs
+abbrev pub scratch_flags_of_items : List Item → ℕ → ℕ
+scratch_flags_of_items xs scratch_flags = fold (λ (f : ℕ) (x : Item). bit_or f (scratch_flags_of x.number)) scratch_flags xs
 
 -- the view with the properties of its characters (HarfBuzz: hb_set_unicode_props)
 abbrev pub with_properties : Tables → View → Read
-with_properties t v = with_events [] (record v { items = prepared t None v.items; told = told_by v.items v.told })
+with_properties t v = with_events [] (record v { items = items_prepared t None v.items; scratch_flags = scratch_flags_of_items v.items v.scratch_flags })
 
 -- ---- glyph records
 
 -- a glyph record with the properties of its character
 abbrev pub glyph_prepared : Tables → Bool → hb_glyph_info_t → hb_glyph_info_t
-glyph_prepared t goes_on g = record g { unicode_props = record { 0 = word_of goes_on g.glyph_id }; modified_combining_class = character_class t g.glyph_id }
+glyph_prepared t goes_on g = record g { unicode_props = record { 0 = property_word_of goes_on g.glyph_id }; modified_combining_class = character_class t g.glyph_id }
 
 -- glyph records with the properties of their characters
 abbrev pub glyphs_prepared : Tables → Option Before → List hb_glyph_info_t → List hb_glyph_info_t
 glyphs_prepared t before [] = []
-glyphs_prepared t before (g ∷ gs) = glyph_prepared t (continues t before g.glyph_id) g ∷ glyphs_prepared t (Some (met t before g.glyph_id)) gs
+glyphs_prepared t before (g ∷ gs) = glyph_prepared t (continues t before g.glyph_id) g ∷ glyphs_prepared t (Some (next_before t before g.glyph_id)) gs
 
 -- the scratch flags that glyph records' characters set
-abbrev pub glyphs_told : List hb_glyph_info_t → ℕ → ℕ
-glyphs_told gs told = fold (λ (f : ℕ) (g : hb_glyph_info_t). bit_or f (scratch_flags_of g.glyph_id)) told gs
+abbrev pub scratch_flags_of_glyphs : List hb_glyph_info_t → ℕ → ℕ
+scratch_flags_of_glyphs gs scratch_flags = fold (λ (f : ℕ) (g : hb_glyph_info_t). bit_or f (scratch_flags_of g.glyph_id)) scratch_flags gs

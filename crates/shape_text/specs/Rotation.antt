@@ -9,7 +9,7 @@ use Rattle.layout_face.specs.declared.parts.FaceParts.{FaceParts}
 use Rattle.layout_face.specs.Glyphs.{nominal_glyph}
 use Rattle.buffer_glyphs.specs.Items.{Item, without_flags}
 use Rattle.buffer_core.specs.Readings.{View, Read, then_read, with_events}
-use Rattle.buffer_stages.specs.Stages.{mapped}
+use Rattle.buffer_stages.specs.Stages.{with_items_mapped}
 
 -- a character, if the font has it
 abbrev pub if_known : FaceParts → Option ℕ → Option ℕ
@@ -30,8 +30,8 @@ mirrored_or mask x None = record x { mask = without_flags (bit_or x.mask mask) }
 mirrored_or mask x (Some c) = record x { number = c }
 
 -- an item of a backward text: its mirror image, or the mask of rtlm; its properties are unchanged
-abbrev pub mirrored : Tables → FaceParts → ℕ → Item → Item
-mirrored t font mask x = mirrored_or mask x (mirror_image t font x.number)
+abbrev pub mirrored_item : Tables → FaceParts → ℕ → Item → Item
+mirrored_item t font mask x = mirrored_or mask x (mirror_image t font x.number)
 
 -- an item with its vertical form, if there is one
 abbrev pub upright_or : Item → Option ℕ → Item
@@ -39,16 +39,16 @@ upright_or x None = x
 upright_or x (Some c) = record x { number = c }
 
 -- an item of a vertical text, with its vertical form; its properties are unchanged
-abbrev pub upright : Tables → FaceParts → Item → Item
-upright t font x = upright_or x (vertical_form t font x.number)
+abbrev pub with_vertical_form : Tables → FaceParts → Item → Item
+with_vertical_form t font x = upright_or x (vertical_form t font x.number)
 
 -- the view with each item mapped, if a condition holds
 abbrev pub mapped_where : Bool → (Item → Item) → View → Read
-mapped_where b k v = if b then mapped k v else with_events [] v
+mapped_where b k v = if b then with_items_mapped k v else with_events [] v
 
 -- the view with characters mirrored where the direction is backward, and with vertical forms where it is vertical and
 -- the font lacks vert (HarfBuzz: hb_ot_rotate_chars)
-abbrev pub rotated : Tables → FaceParts → Direction → ℕ → Bool → View → Read
-rotated t font target mask has_vert v =
-    let m = mapped_where (is_backward target) (mirrored t font mask) v in
-    then_read m (mapped_where (is_vertical target && not has_vert) (upright t font) m.view)
+abbrev pub with_rotated_characters : Tables → FaceParts → Direction → ℕ → Bool → View → Read
+with_rotated_characters t font target mask has_vert v =
+    let m = mapped_where (is_backward target) (mirrored_item t font mask) v in
+    then_read m (mapped_where (is_vertical target && not has_vert) (with_vertical_form t font) m.view)

@@ -1,11 +1,11 @@
 //! The dotted circle before a text that begins with a mark, insert_dotted_circle (rustybuzz: hb/ot_shape.rs).
 ghost use Rattle.std.specs.Prelude.{◌≡◌, ◌≢◌, ◌<◌, ◌≤◌, ◌+◌, length, bit_or, IfErr, OnOk, Err};
 ghost use Rattle.buffer_glyphs.specs.Items.{item_of, strip};
-ghost use Rattle.buffer_core.specs.Readings.{read_of};
-ghost use Rattle.buffer_core.specs.Sides.{items_of, run_of, all_glyphs};
+ghost use Rattle.buffer_core.specs.Readings.{reading_of};
+ghost use Rattle.buffer_core.specs.Sides.{items_of, state_of, all_glyphs};
 ghost use Rattle.buffer_stages.specs.Ready.{IsReady};
 ghost use Rattle.buffer_properties.specs.Characters.{is_mark};
-ghost use Rattle.shape_text.specs.Circle.{asks_circle, begins_with_mark, first_circle, glyph_circle, needs_circle, with_circle_put};
+ghost use Rattle.shape_text.specs.Circle.{flags_want_circle, begins_with_mark, first_circle, glyph_circle, needs_circle, with_circle_put};
 ghost use Rattle.buffer_properties.specs.Properties.{scratch_flags_of};
 ghost use Rattle.buffer_stages.specs.Stages.{IsFollowed};
 
@@ -38,7 +38,7 @@ pub fn insert_dotted_circle(
     ensures ok { OnOk result
         (IsFollowed (first_circle tables.now face.now buffer.old.flags buffer.old.pre_context) buffer.old buffer.new) }
     ensures err { IfErr result (λ e. e ≢ ShapeCause.OutOfMemory
-        → read_of (first_circle tables.now face.now buffer.old.flags buffer.old.pre_context) (run_of buffer.old)
+        → reading_of (first_circle tables.now face.now buffer.old.flags buffer.old.pre_context) (state_of buffer.old)
         ≡ Err e) }
 {
     if !needs_circle(face, buffer) {
@@ -59,7 +59,7 @@ fn needs_circle(face: &Face, buffer: &hb_buffer_t) -> bool
 }
 
 fn asks_circle(flags: BufferFlags) -> bool
-    ensures { result ≡ asks_circle flags }
+    ensures { result ≡ flags_want_circle flags }
 {
     flags.contains(BufferFlags::BEGINNING_OF_TEXT)
         && !flags.contains(BufferFlags::DO_NOT_INSERT_DOTTED_CIRCLE)
@@ -84,9 +84,9 @@ fn put_circle(tables: &UnicodeTables, buffer: &mut hb_buffer_t) -> Result<(), Sh
     ensures err { IfErr result (λ e. e ≢ ShapeCause.OutOfMemory
         → (e ≡ ShapeCause.TooLong) × (buffer.old.max_len < length (all_glyphs buffer.old) + 1)) }
 {
-    let mut told = buffer.scratch_flags();
-    let circle = circle_like(tables, buffer.cur(0), &mut told);
-    buffer.set_scratch_flags(told);
+    let mut scratch_flags = buffer.scratch_flags();
+    let circle = circle_like(tables, buffer.cur(0), &mut scratch_flags);
+    buffer.set_scratch_flags(scratch_flags);
     buffer.clear_output()?;
     if !buffer.output_info(circle)? {
         return Err(ShapeCause::TooLong);
@@ -101,10 +101,10 @@ fn put_circle(tables: &UnicodeTables, buffer: &mut hb_buffer_t) -> Result<(), Sh
 fn circle_like(
     tables: &UnicodeTables,
     glyph: &hb_glyph_info_t,
-    told: &mut hb_buffer_scratch_flags_t,
+    scratch_flags: &mut hb_buffer_scratch_flags_t,
 ) -> hb_glyph_info_t
     ensures circle { result ≡ glyph_circle tables.now glyph.now }
-    ensures told { told.new ≡ bit_or told.old (scratch_flags_of DOTTED_CIRCLE) }
+    ensures scratch_flags { scratch_flags.new ≡ bit_or scratch_flags.old (scratch_flags_of DOTTED_CIRCLE) }
 {
     let mut circle = hb_glyph_info_t {
         glyph_id: u32::from(DOTTED_CIRCLE),
@@ -112,6 +112,6 @@ fn circle_like(
         cluster: glyph.cluster,
         ..hb_glyph_info_t::default()
     };
-    init_unicode_props(&mut circle, tables, told);
+    init_unicode_props(&mut circle, tables, scratch_flags);
     circle
 }

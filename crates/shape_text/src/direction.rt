@@ -9,7 +9,7 @@ ghost use Rattle.buffer_core.specs.Sides.{items_of};
 ghost use Rattle.buffer_stages.specs.Ready.{IsReady};
 ghost use Rattle.buffer_properties.specs.Categories.{is_letter};
 ghost use Rattle.buffer_stages.specs.Stages.{IsFollowed};
-ghost use Rattle.shape_text.specs.NativeOrder.{is_number_text, is_numeral, is_turned, merges_graphemes, native_order, ordered, runs_against, script_direction, turned_text, with_numbers, without_continuation};
+ghost use Rattle.shape_text.specs.NativeOrder.{is_number_text, is_numeral, is_reversed, merges_graphemes, native_order, in_native_order, runs_against, script_direction, reversed_text, with_numbers, without_continuation};
 
 use buffer_common::direction::Direction;
 use buffer_common::script::Script;
@@ -111,7 +111,7 @@ pub fn ensure_native_direction(buffer: &mut hb_buffer_t)
 #[tactic(auto, using(crate::proofs::Turned::turned_ordered, crate::proofs::Turned::stays_ordered))]
 fn order_graphemes(buffer: &mut hb_buffer_t)
     requires { IsReady buffer.old }
-    ensures { IsFollowed (always (ordered buffer.old.script)) buffer.old buffer.new }
+    ensures { IsFollowed (always (in_native_order buffer.old.script)) buffer.old buffer.new }
 {
     if is_turned(buffer) {
         turn_graphemes(buffer);
@@ -120,7 +120,7 @@ fn order_graphemes(buffer: &mut hb_buffer_t)
 
 fn is_turned(buffer: &hb_buffer_t) -> bool
     requires { buffer.now.is_open ≡ false }
-    ensures { result ≡ is_turned buffer.now.script buffer.now.direction (items_of buffer.now) }
+    ensures { result ≡ is_reversed buffer.now.script buffer.now.direction (items_of buffer.now) }
 {
     let text = buffer.direction();
     let numbers = is_number_text(buffer.info_slice());
@@ -132,7 +132,7 @@ fn is_turned(buffer: &hb_buffer_t) -> bool
 
 fn turn_graphemes(buffer: &mut hb_buffer_t)
     requires { IsReady buffer.old }
-    ensures { IsFollowed (always turned_text) buffer.old buffer.new }
+    ensures { IsFollowed (always reversed_text) buffer.old buffer.new }
 {
     let merge = merges_graphemes(buffer.cluster_level());
     let direction = buffer.direction().reverse();

@@ -7,7 +7,7 @@ ghost use Rattle.buffer_glyphs.specs.Items.{strip};
 ghost use Rattle.buffer_core.specs.Readings.{always};
 ghost use Rattle.buffer_core.specs.Sides.{items_of};
 ghost use Rattle.buffer_stages.specs.Ready.{IsReady};
-ghost use Rattle.shape_text.specs.Properties.{are_characters, glyph_prepared, glyphs_prepared, glyphs_told, with_properties, word_of};
+ghost use Rattle.shape_text.specs.Properties.{are_characters, glyph_prepared, glyphs_prepared, scratch_flags_of_glyphs, with_properties, property_word_of};
 ghost use Rattle.buffer_stages.specs.Stages.{IsFollowed};
 
 use crate::graphemes::{Before, continues};
@@ -27,26 +27,26 @@ pub fn set_unicode_props(tables: &UnicodeTables, buffer: &mut hb_buffer_t)
     requires characters { are_characters (items_of buffer.old) ≡ true }
     ensures { IsFollowed (always (with_properties tables.now)) buffer.old buffer.new }
 {
-    let mut told = buffer.scratch_flags();
-    prepare(tables, buffer.info_slice_mut(), &mut told);
-    buffer.set_scratch_flags(told);
+    let mut scratch_flags = buffer.scratch_flags();
+    prepare(tables, buffer.info_slice_mut(), &mut scratch_flags);
+    buffer.set_scratch_flags(scratch_flags);
 }
 
 #[tactic(auto, using(crate::proofs::Prepared::none_prepared, crate::proofs::Prepared::next_character, crate::proofs::Prepared::next_prepared, crate::proofs::Prepared::all_prepared))]
 fn prepare(
     tables: &UnicodeTables,
     glyphs: &mut [hb_glyph_info_t],
-    told: &mut hb_buffer_scratch_flags_t,
+    scratch_flags: &mut hb_buffer_scratch_flags_t,
 )
     requires { are_characters (strip glyphs.old) ≡ true }
     ensures glyphs { glyphs.new ≡ glyphs_prepared tables.now None glyphs.old }
-    ensures told { told.new ≡ glyphs_told glyphs.old told.old }
+    ensures scratch_flags { scratch_flags.new ≡ scratch_flags_of_glyphs glyphs.old scratch_flags.old }
 {
     let mut before = None;
     for glyph in glyphs.iter_mut() {
         let u = glyph.as_char();
         let goes_on = continues(tables, before, u);
-        prepare_glyph(tables, goes_on, glyph, told);
+        prepare_glyph(tables, goes_on, glyph, scratch_flags);
         before = Some(Before {
             character: u,
             continues: goes_on,
@@ -59,19 +59,19 @@ fn prepare_glyph(
     tables: &UnicodeTables,
     goes_on: bool,
     glyph: &mut hb_glyph_info_t,
-    told: &mut hb_buffer_scratch_flags_t,
+    scratch_flags: &mut hb_buffer_scratch_flags_t,
 )
     requires { IsScalar glyph.old.glyph_id }
     ensures glyph { glyph.new ≡ glyph_prepared tables.now goes_on glyph.old }
-    ensures told { told.new ≡ bit_or told.old (scratch_flags_of glyph.old.glyph_id) }
+    ensures scratch_flags { scratch_flags.new ≡ bit_or scratch_flags.old (scratch_flags_of glyph.old.glyph_id) }
 {
     let u = glyph.as_char();
-    init_unicode_props(glyph, tables, told);
+    init_unicode_props(glyph, tables, scratch_flags);
     glyph.unicode_props = UnicodeProps(word_of(goes_on, u));
 }
 
 fn word_of(goes_on: bool, u: char) -> u16
-    ensures { result ≡ word_of goes_on u }
+    ensures { result ≡ property_word_of goes_on u }
 {
     if goes_on {
         properties_of(u) | UnicodeProps::CONTINUATION.0

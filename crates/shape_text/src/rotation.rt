@@ -9,7 +9,7 @@ ghost use Rattle.buffer_core.specs.Readings.{always};
 ghost use Rattle.buffer_stages.specs.Ready.{IsReady};
 ghost use Rattle.buffer_common.specs.Direction.{is_backward, is_vertical};
 ghost use Rattle.buffer_stages.specs.Stages.{IsFollowed};
-ghost use Rattle.shape_text.specs.Rotation.{if_known, mapped_where, mirror_image, mirrored, rotated, upright, vertical_form};
+ghost use Rattle.shape_text.specs.Rotation.{if_known, mapped_where, mirror_image, mirrored_item, with_rotated_characters, with_vertical_form, vertical_form};
 
 use buffer_common::direction::Direction;
 use buffer_core::buffer::hb_buffer_t;
@@ -41,7 +41,7 @@ pub fn rotate_chars(
     requires ready { IsReady buffer.old }
     requires flagless { bit_and rotation.rtlm_mask DEFINED ≡ 0 }
     ensures { IsFollowed
-        (always (rotated tables.now face.now rotation.target_direction rotation.rtlm_mask rotation.has_vert))
+        (always (with_rotated_characters tables.now face.now rotation.target_direction rotation.rtlm_mask rotation.has_vert))
         buffer.old buffer.new }
 {
     mirror_chars(rotation, face, tables, buffer);
@@ -54,7 +54,7 @@ fn mirror_chars(rotation: Rotation, face: &Face, tables: &UnicodeTables, buffer:
     requires flagless { bit_and rotation.rtlm_mask DEFINED ≡ 0 }
     ensures { IsFollowed
         (always (mapped_where (is_backward rotation.target_direction)
-        (mirrored tables.now face.now rotation.rtlm_mask)))
+        (mirrored_item tables.now face.now rotation.rtlm_mask)))
         buffer.old buffer.new }
 {
     if rotation.target_direction.is_backward() {
@@ -68,7 +68,7 @@ fn raise_chars(rotation: Rotation, face: &Face, tables: &UnicodeTables, buffer: 
     requires ready { IsReady buffer.old }
     ensures { IsFollowed
         (always (mapped_where (is_vertical rotation.target_direction && not rotation.has_vert)
-        (upright tables.now face.now)))
+        (with_vertical_form tables.now face.now)))
         buffer.old buffer.new }
 {
     if raises_chars(rotation) {
@@ -89,7 +89,7 @@ fn mirrored(
     mask: hb_mask_t,
     glyph: &hb_glyph_info_t,
 ) -> hb_glyph_info_t
-    ensures item { item_of result ≡ mirrored tables.now face.now mask (item_of glyph.now) }
+    ensures item { item_of result ≡ mirrored_item tables.now face.now mask (item_of glyph.now) }
     ensures origin { bit_and mask DEFINED ≡ 0 → origin_of result ≡ origin_of glyph.now }
 {
     match mirror_image(tables, face, glyph.glyph_id) {
@@ -105,7 +105,7 @@ fn mirrored(
 }
 
 fn upright(tables: &UnicodeTables, face: &Face, glyph: &hb_glyph_info_t) -> hb_glyph_info_t
-    ensures item { item_of result ≡ upright tables.now face.now (item_of glyph.now) }
+    ensures item { item_of result ≡ with_vertical_form tables.now face.now (item_of glyph.now) }
     ensures origin { origin_of result ≡ origin_of glyph.now }
 {
     match vertical_form(tables, face, glyph.glyph_id) {

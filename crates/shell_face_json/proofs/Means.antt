@@ -10,7 +10,7 @@ use Rattle.serde_json.specs.declared.value.Value.{Value}
 use Rattle.shell_json_values.specs.declared.fault.JsonFault.{JsonFault}
 use Rattle.shell_json_values.specs.declared.fault.JsonFault.TheVariants.{NotJson, WrongShape, FloatNumber, UnknownName, OutOfOrder, OutOfRange, SplitDepth, OutOfMemory}
 use Rattle.shell_json_values.specs.Cell.{rank_of, first_fault, both}
-use Rattle.shell_face_json.specs.Lists.{in_front, after_all, parts_of}
+use Rattle.shell_face_json.specs.Lists.{in_front, after_all, items_of}
 
 abbrev pub Means : {A : Type 0} → Result A JsonFault → Result A JsonFault → Type 0
 Means meant (Ok a) = meant ≡ Ok a
@@ -110,10 +110,10 @@ first_part (Err e) = refl
 
 -- one part more
 parts_snoc : {A : Type 0} (read : Data → Result A JsonFault) (vs : List Value) (i : ℕ) (d : Value) → i < length vs
-    → parts_of read (items_view (take (suc i) vs)) ≡ after_all (parts_of read (items_view (take i vs))) (read (view (get_or vs i d)))
+    → items_of read (items_view (take (suc i) vs)) ≡ after_all (items_of read (items_view (take i vs))) (read (view (get_or vs i d)))
 parts_snoc read [] i d h = absurd (omega (arith, h))
 parts_snoc read (v ∷ vs) zero d h = first_part (read (view v))
-parts_snoc read (v ∷ vs) (suc i) d h = ap (λ x. in_front (read (view v)) x) (parts_snoc read vs i d (omega (arith, h))) ∙ front_after (read (view v)) (parts_of read (items_view (take i vs))) (read (view (get_or vs i d)))
+parts_snoc read (v ∷ vs) (suc i) d h = ap (λ x. in_front (read (view v)) x) (parts_snoc read vs i d (omega (arith, h))) ∙ front_after (read (view v)) (items_of read (items_view (take i vs))) (read (view (get_or vs i d)))
 
 of_items : {A : Type 0} (m a : Result (List A) JsonFault) (answer : Result (Vec A) JsonFault) → Means m a
     → IfOk answer (λ v. a ≡ Ok v.items) → IfErr answer (λ e. e ≢ OutOfMemory → a ≡ Err e) → Means m (result_map_both (λ v. v.items) (λ e. e) answer)
@@ -123,11 +123,11 @@ of_items m a (Err e) h ok refused = λ ne. let p : Means m (Err e) = subst (λ r
 -- a list of parts with one part more
 pub parts_step : {A : Type 0} (read : Data → Result A JsonFault) (vs : List Value) (i : ℕ) (v : Value) → i < length vs → v ≡ get_or vs i v
     → (so_far : Result (List A) JsonFault) (part : Result A JsonFault) (answer : Result (Vec A) JsonFault)
-    → Means (parts_of read (items_view (take i vs))) so_far
+    → Means (items_of read (items_view (take i vs))) so_far
     → IfOk part (λ p. read (view v) ≡ Ok p) → IfErr part (λ e. e ≢ OutOfMemory → read (view v) ≡ Err e)
     → IfOk answer (λ w. after_all so_far part ≡ Ok w.items) → IfErr answer (λ e. e ≢ OutOfMemory → after_all so_far part ≡ Err e)
-    → Means (parts_of read (items_view (take (i + 1) vs))) (result_map_both (λ w. w.items) (λ e. e) answer)
+    → Means (items_of read (items_view (take (i + 1) vs))) (result_map_both (λ w. w.items) (λ e. e) answer)
 parts_step read vs i v h is so_far part answer before ok refused ok' refused' =
-    let read_one : parts_of read (items_view (take (suc i) vs)) ≡ after_all (parts_of read (items_view (take i vs))) (read (view v)) =
-    parts_snoc read vs i v h ∙ ap (λ x. after_all (parts_of read (items_view (take i vs))) (read (view x))) (sym is) in
+    let read_one : items_of read (items_view (take (suc i) vs)) ≡ after_all (items_of read (items_view (take i vs))) (read (view v)) =
+    parts_snoc read vs i v h ∙ ap (λ x. after_all (items_of read (items_view (take i vs))) (read (view x))) (sym is) in
     rw (add-one, read_one) (of_items _ (after_all so_far part) answer (means_after _ _ so_far part before (means_of _ part ok refused)) ok' refused')

@@ -5,8 +5,8 @@ use Rattle.serde_json.specs.Data.{Data}
 use Rattle.serde_json.specs.Find.{get}
 use Rattle.shell_json_values.specs.declared.fault.JsonFault.{JsonFault}
 use Rattle.shell_json_values.specs.declared.fault.JsonFault.TheVariants.{OutOfRange}
-use Rattle.shell_json_values.specs.Cell.{and_then, word, signed_word}
-use Rattle.shell_json_values.specs.Objects.{read_or, read_if_there}
+use Rattle.shell_json_values.specs.Cell.{and_then, u16_value, i16_value}
+use Rattle.shell_json_values.specs.Objects.{read_or, optional_value}
 use Rattle.layout_common.specs.declared.glyph_row.GlyphRow.{GlyphRow}
 use Rattle.buffer_glyphs.specs.declared.names.hb_glyph_extents_t.{hb_glyph_extents_t}
 use Rattle.layout_face.specs.declared.positioning.PositioningTable.{PositioningTable}
@@ -37,7 +37,7 @@ few_sets sets = if nat_le (length sets) set_limit then Ok sets else Err OutOfRan
 abbrev pub glyph_definition : Data → Result GlyphDefinition JsonFault
 glyph_definition d =
     and_then (is_object d) (λ _.
-    and_then (read_if_there (class_definition glyph_limit) (get (codes "classes") d)) (λ classes.
+    and_then (optional_value (class_definition glyph_limit) (get (codes "classes") d)) (λ classes.
     and_then (rows_at (codes "attach") (classes_in glyph_limit) d) (λ attach.
     and_then (and_then (rows_at (codes "sets") (rows_in_turn (coverage glyph_limit)) d) few_sets) (λ sets.
     Ok (record { classes = classes; attach = attach; sets = sets })))))
@@ -70,7 +70,7 @@ advance_keys d =
 -- the vertical origins, extents and names of glyphs
 abbrev pub drawing_keys : Data → Result (List (GlyphRow ℤ) × (List (GlyphRow hb_glyph_extents_t) × List GlyphName)) JsonFault
 drawing_keys d =
-    and_then (rows_at (codes "origins") (glyph_rows (only signed_word)) d) (λ origins.
+    and_then (rows_at (codes "origins") (glyph_rows (only i16_value)) d) (λ origins.
     and_then (rows_at (codes "extents") (glyph_rows extents) d) (λ boxes.
     and_then (rows_at (codes "names") (rows_by_key nat_cmp (λ r. r.glyph) (name_row glyph_limit) None) d) (λ names.
     Ok (origins, (boxes, names)))))
@@ -79,15 +79,15 @@ drawing_keys d =
 abbrev pub layout_keys : Data → Result (GlyphDefinition × (Option SubstitutionTable × Option PositioningTable)) JsonFault
 layout_keys d =
     and_then (glyph_definition_in (get (codes "gdef") d)) (λ gdef.
-    and_then (read_if_there (substitution_table (length gdef.sets)) (get (codes "gsub") d)) (λ gsub.
-    and_then (read_if_there (positioning_table (length gdef.sets)) (get (codes "gpos") d)) (λ gpos.
+    and_then (optional_value (substitution_table (length gdef.sets)) (get (codes "gsub") d)) (λ gsub.
+    and_then (optional_value (positioning_table (length gdef.sets)) (get (codes "gpos") d)) (λ gpos.
     Ok (gdef, (gsub, gpos)))))
 
 -- the keys of a font in the order of their faults
 abbrev pub face_keys : Data → Result FaceParts JsonFault
 face_keys d =
-    and_then (read_or 0 word (get (codes "upem") d)) (λ upem.
-    and_then (read_or (pos 0) signed_word (get (codes "ascender") d)) (λ ascender.
+    and_then (read_or 0 u16_value (get (codes "upem") d)) (λ upem.
+    and_then (read_or (pos 0) i16_value (get (codes "ascender") d)) (λ ascender.
     and_then (character_keys d) (λ characters.
     and_then (advance_keys d) (λ advances.
     and_then (drawing_keys d) (λ drawing.

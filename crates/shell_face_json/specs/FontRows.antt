@@ -5,7 +5,7 @@ use Rattle.serde_json.specs.Data.{Data, Items}
 use Rattle.serde_json.specs.Find.{as_str}
 use Rattle.shell_json_values.specs.declared.fault.JsonFault.{JsonFault}
 use Rattle.shell_json_values.specs.declared.fault.JsonFault.TheVariants.{WrongShape}
-use Rattle.shell_json_values.specs.Cell.{and_then, character, signed_word}
+use Rattle.shell_json_values.specs.Cell.{and_then, character, i16_value}
 use Rattle.buffer_glyphs.specs.declared.names.hb_glyph_extents_t.{hb_glyph_extents_t}
 use Rattle.shell_face_json.specs.Lists.{number_below}
 use Rattle.shell_face_json.specs.Row.{first_and_rest, no_more, row_of_two, row_of_three}
@@ -25,7 +25,7 @@ variation_row limit d =
 -- glyph extents: x and y bearing, width and height
 abbrev pub extents : Items → Result hb_glyph_extents_t JsonFault
 extents ds =
-    and_then (first_and_rest signed_word (first_and_rest signed_word (first_and_rest signed_word (first_and_rest signed_word no_more))) ds) (λ p.
+    and_then (first_and_rest i16_value (first_and_rest i16_value (first_and_rest i16_value (first_and_rest i16_value no_more))) ds) (λ p.
     Ok (record { x_bearing = p.0; y_bearing = p.1.0; width = p.1.1.0; height = p.1.1.1.0 }))
 
 -- the name of a glyph: any text

@@ -3,7 +3,7 @@ use Rattle.std.specs.Prelude.{ℕ, List, codes, None, Result, Ok}
 use Rattle.std.specs.Ordering.{nat_cmp}
 use Rattle.serde_json.specs.Data.{Data, Items}
 use Rattle.shell_json_values.specs.declared.fault.JsonFault.{JsonFault}
-use Rattle.shell_json_values.specs.Cell.{and_then, word}
+use Rattle.shell_json_values.specs.Cell.{and_then, u16_value}
 use Rattle.shell_json_values.specs.Parts.{list_of}
 use Rattle.shell_face_json.specs.Lists.{number_below, part_list, rows_at, rows_in_turn}
 use Rattle.shell_face_json.specs.Row.{first_and_rest, only, row_of}
@@ -18,7 +18,7 @@ glyph_limit = 65536
 
 -- a glyph, followed by the fields of its row
 abbrev pub glyph_row : {V : Type 0} → (Items → Result V JsonFault) → Data → Result (GlyphRow V) JsonFault
-glyph_row rest d = and_then (row_of (first_and_rest word rest) d) (λ p. Ok (record { glyph = p.0; value = p.1 }))
+glyph_row rest d = and_then (row_of (first_and_rest u16_value rest) d) (λ p. Ok (record { glyph = p.0; value = p.1 }))
 
 -- rows of glyphs, by rising glyphs
 abbrev pub glyph_rows : {V : Type 0} → (Items → Result V JsonFault) → Items → Result (List (GlyphRow V)) JsonFault

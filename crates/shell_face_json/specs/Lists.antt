@@ -5,7 +5,7 @@ use Rattle.serde_json.specs.Data.{Data, null, boolean, number, string, array, ob
 use Rattle.serde_json.specs.Find.{get, as_array, as_object}
 use Rattle.shell_json_values.specs.declared.fault.JsonFault.{JsonFault}
 use Rattle.shell_json_values.specs.declared.fault.JsonFault.TheVariants.{WrongShape, OutOfRange}
-use Rattle.shell_json_values.specs.Cell.{and_then, first_fault, word}
+use Rattle.shell_json_values.specs.Cell.{and_then, first_fault, u16_value}
 use Rattle.shell_json_values.specs.Parts.{list_of, list_at}
 use Rattle.shell_json_values.specs.Rows.{after}
 
@@ -17,7 +17,7 @@ below limit n = if nat_lt n limit then Ok n else Err OutOfRange
 
 -- a number of 16 bits: a glyph, or an index into a list of that many items
 abbrev pub number_below : ℕ → Data → Result ℕ JsonFault
-number_below limit d = and_then (word d) (below limit)
+number_below limit d = and_then (u16_value d) (below limit)
 
 -- ---- null
 
@@ -49,9 +49,9 @@ in_front (Err e) (Ok rest) = Err e
 in_front (Err e) (Err f) = Err (first_fault e f)
 
 -- a list inside a row: of its items' faults the one that is first by its kind is the result
-abbrev pub parts_of : {A : Type 0} → (Data → Result A JsonFault) → Items → Result (List A) JsonFault
-parts_of read no_items = Ok []
-parts_of read (item d ds) = in_front (read d) (parts_of read ds)
+abbrev pub items_of : {A : Type 0} → (Data → Result A JsonFault) → Items → Result (List A) JsonFault
+items_of read no_items = Ok []
+items_of read (item d ds) = in_front (read d) (items_of read ds)
 
 -- an item after other items; the fault that is first by its kind is the result
 abbrev pub after_all : {A : Type 0} → Result (List A) JsonFault → Result A JsonFault → Result (List A) JsonFault
@@ -62,7 +62,7 @@ after_all (Err e) (Err f) = Err (first_fault e f)
 
 -- a list value inside a row
 abbrev pub part_list : {A : Type 0} → (Data → Result A JsonFault) → Data → Result (List A) JsonFault
-part_list read d = and_then (list_of d) (parts_of read)
+part_list read d = and_then (list_of d) (items_of read)
 
 -- a list of rows: the fault of the first faulty row is the result
 abbrev pub rows_in_turn : {A : Type 0} → (Data → Result A JsonFault) → Items → Result (List A) JsonFault

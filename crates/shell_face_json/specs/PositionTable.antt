@@ -6,8 +6,8 @@ use Rattle.serde_json.specs.Data.{Data}
 use Rattle.serde_json.specs.Find.{get, as_str}
 use Rattle.shell_json_values.specs.declared.fault.JsonFault.{JsonFault}
 use Rattle.shell_json_values.specs.declared.fault.JsonFault.TheVariants.{WrongShape, UnknownName}
-use Rattle.shell_json_values.specs.Cell.{and_then, word}
-use Rattle.shell_json_values.specs.Objects.{read_or, read_if_there}
+use Rattle.shell_json_values.specs.Cell.{and_then, u16_value}
+use Rattle.shell_json_values.specs.Objects.{read_or, optional_value}
 use Rattle.layout_face.specs.declared.positioning.PositioningSubtables.{PositioningSubtables}
 use Rattle.layout_face.specs.declared.positioning.PositioningSubtables.TheVariants as Subtables
 use Rattle.layout_face.specs.declared.positioning.PositioningLookup.{PositioningLookup}
@@ -54,8 +54,8 @@ positionings ChainContext d = and_then (subtables_of (context glyph_limit) d) (�
 abbrev pub positioning_lookup : ℕ → Data → Result PositioningLookup JsonFault
 positioning_lookup sets d =
     and_then (is_object d) (λ _.
-    and_then (read_or 0 word (get (codes "flags") d)) (λ flags.
-    and_then (read_if_there (number_below sets) (get (codes "set") d)) (λ set.
+    and_then (read_or 0 u16_value (get (codes "flags") d)) (λ flags.
+    and_then (optional_value (number_below sets) (get (codes "set") d)) (λ set.
     and_then (positioning_type_in (get (codes "type") d)) (λ lookup_type.
     and_then (positionings lookup_type d) (λ subtables.
     Ok (record { flags = flags; mark_filtering_set = set; subtables = subtables }))))))

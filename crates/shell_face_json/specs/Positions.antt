@@ -5,7 +5,7 @@ use Rattle.std.specs.Ordering.{nat_cmp, ordering_then}
 use Rattle.serde_json.specs.Data.{Data, Items}
 use Rattle.serde_json.specs.Find.{as_object}
 use Rattle.shell_json_values.specs.declared.fault.JsonFault.{JsonFault}
-use Rattle.shell_json_values.specs.Cell.{and_then, signed_word}
+use Rattle.shell_json_values.specs.Cell.{and_then, i16_value}
 use Rattle.shell_json_values.specs.Parts.{list_of}
 use Rattle.shell_face_json.specs.Lists.{number_below, or_null, part_list, rows_at, rows_in_turn, count_at}
 use Rattle.shell_face_json.specs.Row.{first_and_rest, no_more, only, row_of_two, row_of_four}
@@ -26,12 +26,12 @@ use Rattle.layout_subtables.specs.declared.cursive.CursivePos.{CursivePos}
 
 -- an anchor: x and y
 abbrev pub anchor : Data → Result Anchor JsonFault
-anchor d = and_then (row_of_two signed_word signed_word d) (λ p. Ok (record { x = p.0; y = p.1.0 }))
+anchor d = and_then (row_of_two i16_value i16_value d) (λ p. Ok (record { x = p.0; y = p.1.0 }))
 
 -- a value record: x and y placement, x and y advance
 abbrev pub value_record : Data → Result ValueRecord JsonFault
 value_record d =
-    and_then (row_of_four signed_word signed_word signed_word signed_word d) (λ p.
+    and_then (row_of_four i16_value i16_value i16_value i16_value d) (λ p.
     Ok (record { x_placement = p.0; y_placement = p.1.0; x_advance = p.1.1.0; y_advance = p.1.1.1.0 }))
 
 -- a single adjustment subtable: rows of a glyph and its value record (GPOS lookup type 1)

@@ -6,8 +6,8 @@ use Rattle.serde_json.specs.Find.{get}
 use Rattle.shell_json_values.specs.declared.fault.JsonFault.{JsonFault}
 use Rattle.shell_json_values.specs.declared.fault.JsonFault.TheVariants.{OutOfOrder}
 use Rattle.shell_json_values.specs.Cell.{and_then, both}
-use Rattle.shell_json_values.specs.Objects.{read_if_there}
-use Rattle.shell_face_json.specs.Lists.{number_below, or_null, is_object, parts_of, part_list, rows_at, rows_in_turn, count_at}
+use Rattle.shell_json_values.specs.Objects.{optional_value}
+use Rattle.shell_face_json.specs.Lists.{number_below, or_null, is_object, items_of, part_list, rows_at, rows_in_turn, count_at}
 use Rattle.shell_face_json.specs.Row.{row_of_two, row_of_three}
 use Rattle.shell_face_json.specs.Sorted.{rows_by_key}
 use Rattle.layout_tables.specs.Keyed.{is_rising}
@@ -19,11 +19,11 @@ use Rattle.shell_json_values.specs.Parts.{tag}
 
 -- the index of the required feature, none where the key is missing
 abbrev pub required_feature : ℕ → Data → Result (Option ℕ) JsonFault
-required_feature limit d = read_if_there (number_below limit) (get (codes "required") d)
+required_feature limit d = optional_value (number_below limit) (get (codes "required") d)
 
 -- the feature indices of a language system
 abbrev pub system_features : ℕ → Data → Result (List ℕ) JsonFault
-system_features limit d = rows_at (codes "features") (parts_of (number_below limit)) d
+system_features limit d = rows_at (codes "features") (items_of (number_below limit)) d
 
 -- a language system: of its keys' faults the one that is first by its kind is the result
 abbrev pub lang_sys : ℕ → Data → Result LangSysTable JsonFault
@@ -37,15 +37,15 @@ abbrev pub lang_sys_entry : ℕ → Data → Result LangSysEntry JsonFault
 lang_sys_entry limit d = and_then (row_of_two tag (lang_sys limit) d) (λ p. Ok (record { tag = p.0; lang_sys = p.1.0 }))
 
 -- a script whose language systems rise by their tags
-abbrev pub script_parts : Tag × (Option LangSysTable × (List LangSysEntry × ⊤)) → Result ScriptTable JsonFault
-script_parts p =
+abbrev pub script_of_fields : Tag × (Option LangSysTable × (List LangSysEntry × ⊤)) → Result ScriptTable JsonFault
+script_of_fields p =
     if is_rising (λ s. s.tag.0) None p.1.1.0
     then Ok (record { tag = p.0; default_lang_sys = p.1.0; lang_systems = p.1.1.0 })
     else Err OutOfOrder
 
 -- a script: its tag, a default language system or null, and language systems by rising tags
 abbrev pub script : ℕ → Data → Result ScriptTable JsonFault
-script limit d = and_then (row_of_three tag (or_null (lang_sys limit)) (part_list (lang_sys_entry limit)) d) script_parts
+script limit d = and_then (row_of_three tag (or_null (lang_sys limit)) (part_list (lang_sys_entry limit)) d) script_of_fields
 
 -- ---- features, in a table whose number of lookups is the limit
 

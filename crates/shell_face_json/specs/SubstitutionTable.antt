@@ -6,8 +6,8 @@ use Rattle.serde_json.specs.Data.{Data}
 use Rattle.serde_json.specs.Find.{get, as_str}
 use Rattle.shell_json_values.specs.declared.fault.JsonFault.{JsonFault}
 use Rattle.shell_json_values.specs.declared.fault.JsonFault.TheVariants.{WrongShape, UnknownName}
-use Rattle.shell_json_values.specs.Cell.{and_then, word}
-use Rattle.shell_json_values.specs.Objects.{read_or, read_if_there}
+use Rattle.shell_json_values.specs.Cell.{and_then, u16_value}
+use Rattle.shell_json_values.specs.Objects.{read_or, optional_value}
 use Rattle.layout_face.specs.declared.substitution.SubstitutionSubtables.{SubstitutionSubtables}
 use Rattle.layout_face.specs.declared.substitution.SubstitutionSubtables.TheVariants as Subtables
 use Rattle.layout_face.specs.declared.substitution.SubstLookup.{SubstLookup}
@@ -51,8 +51,8 @@ substitutions ReverseChainSingle d = and_then (subtables_of (reverse glyph_limit
 abbrev pub substitution_lookup : ℕ → Data → Result SubstLookup JsonFault
 substitution_lookup sets d =
     and_then (is_object d) (λ _.
-    and_then (read_or 0 word (get (codes "flags") d)) (λ flags.
-    and_then (read_if_there (number_below sets) (get (codes "set") d)) (λ set.
+    and_then (read_or 0 u16_value (get (codes "flags") d)) (λ flags.
+    and_then (optional_value (number_below sets) (get (codes "set") d)) (λ set.
     and_then (substitution_type_in (get (codes "type") d)) (λ lookup_type.
     and_then (substitutions lookup_type d) (λ subtables.
     Ok (record { flags = flags; mark_filtering_set = set; subtables = subtables }))))))

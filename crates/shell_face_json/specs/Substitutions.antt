@@ -6,7 +6,7 @@ use Rattle.serde_json.specs.Find.{as_number}
 use Rattle.shell_json_values.specs.declared.fault.JsonFault.{JsonFault}
 use Rattle.shell_json_values.specs.Cell.{and_then}
 use Rattle.shell_json_values.specs.Parts.{list_of}
-use Rattle.shell_face_json.specs.Lists.{number_below, parts_of, part_list}
+use Rattle.shell_face_json.specs.Lists.{number_below, items_of, part_list}
 use Rattle.shell_face_json.specs.Row.{only, row_of_two, row_of_three}
 use Rattle.shell_face_json.specs.Sorted.{rows_by_key}
 use Rattle.shell_face_json.specs.Glyphs.{glyph_rows, glyph_row_list, coverage}
@@ -55,7 +55,7 @@ is_ligature (item a (item b (item c ds))) = false
 -- one ligature, or a list of them
 abbrev pub ligatures : ℕ → Data → Result (List LigatureTable) JsonFault
 ligatures limit d = and_then (list_of d) (λ ds.
-    if is_ligature ds then and_then (ligature limit d) (λ l. Ok (l ∷ [])) else parts_of (ligature limit) ds)
+    if is_ligature ds then and_then (ligature limit d) (λ l. Ok (l ∷ [])) else items_of (ligature limit) ds)
 
 -- a first glyph, and its ligatures
 abbrev pub ligature_set : ℕ → Data → Result LigatureSetTable JsonFault

@@ -2,7 +2,7 @@
 ghost use Rattle.std.specs.Prelude.{◌≡◌, ◌≢◌, IfOk, IfErr, Ok, Err};
 ghost use Rattle.std.specs.Result.{result_map_both};
 ghost use Rattle.serde_json.specs.View.{items_view};
-ghost use Rattle.shell_face_json.specs.Lists.{after_all, parts_of, part_list, rows_in_turn};
+ghost use Rattle.shell_face_json.specs.Lists.{after_all, items_of, part_list, rows_in_turn};
 
 use crate::value::Part;
 use layout_common::array::Array;
@@ -28,9 +28,9 @@ pub(crate) fn read_list<P: Part>(
     values: &[Value],
     limit: usize,
 ) -> Result<Vec<P>, JsonFault>
-    ensures ok { IfOk result (λ v. parts_of (P.part limit) (items_view values.now) ≡ Ok v.items) }
+    ensures ok { IfOk result (λ v. items_of (P.part limit) (items_view values.now) ≡ Ok v.items) }
     ensures refused { IfErr result (λ e. e ≢ JsonFault.OutOfMemory
-        → parts_of (P.part limit) (items_view values.now) ≡ Err e) }
+        → items_of (P.part limit) (items_view values.now) ≡ Err e) }
 {
     let mut parts = Ok(Vec::new(alloc));
     for value in values {

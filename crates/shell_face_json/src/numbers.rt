@@ -1,5 +1,5 @@
 //! Reads numbers and tags.
-ghost use Rattle.shell_json_values.specs.Cell.{signed_word, character};
+ghost use Rattle.shell_json_values.specs.Cell.{i16_value, character};
 ghost use Rattle.shell_json_values.specs.Parts.{tag};
 ghost use Rattle.shell_face_json.specs.Lists.{number_below};
 
@@ -24,7 +24,7 @@ impl Part for u16 {
 }
 
 impl Part for i16 {
-    ghost part = { λ _. signed_word };
+    ghost part = { λ _. i16_value };
 
     fn read_part(_alloc: Global, value: &Value, _limit: usize) -> Result<i16, JsonFault> {
         i16::read(value)

@@ -2,8 +2,8 @@
 ghost use Rattle.std.specs.Prelude.{◌≡◌, ◌≢◌, IfOk, IfErr, Ok, Err, None};
 ghost use Rattle.serde_json.specs.Find.{get};
 ghost use Rattle.serde_json.specs.View.{view};
-ghost use Rattle.shell_json_values.specs.Objects.{read_if_there};
-ghost use Rattle.shell_face_json.specs.Lists.{rows_at, rows_in_turn, parts_of, count_at, is_object};
+ghost use Rattle.shell_json_values.specs.Objects.{optional_value};
+ghost use Rattle.shell_face_json.specs.Lists.{rows_at, rows_in_turn, items_of, count_at, is_object};
 ghost use Rattle.shell_face_json.specs.Sorted.{rows_by_key};
 ghost use Rattle.shell_face_json.specs.Glyphs.{glyph_limit, subtables_of};
 
@@ -67,9 +67,9 @@ pub fn read_list_at<P: Part>(
     limit: usize,
 ) -> Result<Vec<P>, JsonFault>
     ensures ok { IfOk result (λ v.
-        rows_at key.now (parts_of (P.part limit)) (view value.now) ≡ Ok v.items) }
+        rows_at key.now (items_of (P.part limit)) (view value.now) ≡ Ok v.items) }
     ensures refused { IfErr result (λ e. e ≢ JsonFault.OutOfMemory
-        → rows_at key.now (parts_of (P.part limit)) (view value.now) ≡ Err e) }
+        → rows_at key.now (items_of (P.part limit)) (view value.now) ≡ Err e) }
 {
     read_list(alloc, list_at(value, key)?, limit)
 }
@@ -82,9 +82,9 @@ pub fn read_optional_at<P: Part>(
     limit: usize,
 ) -> Result<Option<P>, JsonFault>
     ensures ok { IfOk result (λ v.
-        read_if_there (P.part limit) (get key.now (view value.now)) ≡ Ok v) }
+        optional_value (P.part limit) (get key.now (view value.now)) ≡ Ok v) }
     ensures refused { IfErr result (λ e. e ≢ JsonFault.OutOfMemory
-        → read_if_there (P.part limit) (get key.now (view value.now)) ≡ Err e) }
+        → optional_value (P.part limit) (get key.now (view value.now)) ≡ Err e) }
 {
     match value.get(key) {
         Some(value) => Ok(Some(P::read_part(alloc, value, limit)?)),

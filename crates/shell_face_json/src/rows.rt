@@ -3,7 +3,7 @@ ghost use Rattle.std.specs.Prelude.{◌≡◌, ◌≢◌, ℕ, IfOk, IfErr, Ok, 
 ghost use Rattle.serde_json.specs.Data.{Items};
 ghost use Rattle.serde_json.specs.View.{view, items_view};
 ghost use Rattle.shell_json_values.specs.declared.fault.JsonFault.{JsonFault};
-ghost use Rattle.shell_json_values.specs.Cell.{and_then, signed_word};
+ghost use Rattle.shell_json_values.specs.Cell.{and_then, i16_value};
 ghost use Rattle.shell_json_values.specs.Parts.{list_of};
 ghost use Rattle.shell_face_json.specs.Lists.{number_below};
 ghost use Rattle.shell_face_json.specs.Row.{no_more, only, first_and_rest, first_in, row_of};
@@ -60,7 +60,7 @@ impl Parts for u16 {
 
 /// A row of one signed number.
 impl Parts for i16 {
-    ghost parts = { λ _. only signed_word };
+    ghost parts = { λ _. only i16_value };
 
     fn read_parts(alloc: Global, values: &[Value], limit: usize) -> Result<i16, JsonFault> {
         read_only(alloc, values, limit)

@@ -6,7 +6,7 @@ use Rattle.serde_json.specs.Find.{get, get_member}
 use Rattle.shell_json_text.specs.Part.{IsFound, HasMember}
 use Rattle.shell_json_values.specs.declared.fault.JsonFault.{JsonFault}
 use Rattle.shell_json_values.specs.Cell.{and_then}
-use Rattle.shell_json_values.specs.Objects.{read_if_there}
+use Rattle.shell_json_values.specs.Objects.{optional_value}
 use Rattle.shell_json_values.specs.Parts.{list_of, list_or_none}
 use Rattle.shell_face_json.specs.Lists.{number_below, rows_in_turn}
 use Rattle.shell_face_json.specs.Row.{only}
@@ -29,7 +29,7 @@ rows_of_list (Err f) read rows e = absurd (cc)
 pub classes_taken : (limit : ℕ) (d : Data) (rows : List (GlyphRow ℕ)) → limit ≡ glyph_limit → and_then (list_of d) (glyph_rows (only (number_below limit))) ≡ Ok rows → class_definition glyph_limit d ≡ of_rows rows
 classes_taken limit d rows l e = ap (λ n. class_definition n d) (sym l) ∙ rows_of_list (list_of d) (glyph_rows (only (number_below limit))) rows e
 
-there_found : {A : Type 0} (read : Data → Result A JsonFault) (o : Option Data) (found : Option A) → IsFound (λ d a. read d ≡ Ok a) o found → read_if_there read o ≡ Ok found
+there_found : {A : Type 0} (read : Data → Result A JsonFault) (o : Option Data) (found : Option A) → IsFound (λ d a. read d ≡ Ok a) o found → optional_value read o ≡ Ok found
 there_found read None found e = ap (λ f. Ok f) (sym e)
 there_found read (Some d) None h = absurd h
 there_found read (Some d) (Some a) e = ap (λ x. and_then x (λ y. Ok (Some y))) e
@@ -65,7 +65,7 @@ definition_taken limit n0 n1 n2 d ms classes attach found attached listed few na
     let a = there_found (class_definition glyph_limit) (get_member (codes "classes") ms) classes first in
     let b = classes_found glyph_limit (get_member (codes "attach") ms) attach second ∙ ap (λ c. Ok c) (sym is) in
     let c = list_found (rows_in_turn (coverage glyph_limit)) (get_member (codes "sets") ms) found refl third ∙ ap (λ xs. Ok xs) (sym was) in
-    let r0 = read_if_there (class_definition glyph_limit) (get_member (codes "classes") ms) in
+    let r0 = optional_value (class_definition glyph_limit) (get_member (codes "classes") ms) in
     let r1 = and_then (list_or_none (get_member (codes "attach") ms)) (classes_in glyph_limit) in
     let r2 = and_then (list_or_none (get_member (codes "sets") ms)) (rows_in_turn (coverage glyph_limit)) in
     ap glyph_definition e ∙ ap (λ x. joined x r1 r2) a ∙ ap (λ x. joined (Ok classes) x r2) b ∙ ap (λ x. joined (Ok classes) (Ok attached) x) c

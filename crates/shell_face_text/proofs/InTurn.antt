@@ -6,7 +6,7 @@ use Rattle.serde_json.specs.Data.{Data, Items, no_items, item}
 use Rattle.shell_json_values.specs.declared.fault.JsonFault.{JsonFault}
 use Rattle.shell_json_values.specs.Cell.{and_then}
 use Rattle.shell_json_values.specs.Parts.{list_of}
-use Rattle.shell_json_values.specs.Rows.{after, in_place, rows_after, ok_cons}
+use Rattle.shell_json_values.specs.Rows.{after, row_in_order, rows_after, ok_cons}
 use Rattle.buffer_rows.specs.Keys.{is_above, is_rising}
 use Rattle.shell_face_json.specs.Lists.{rows_in_turn}
 use Rattle.shell_face_json.specs.Sorted.{rows_by_key}
@@ -15,11 +15,11 @@ module _ {R K : Type 0} (order : K → K → Ordering) (key : R → K) (read : D
   one_row : (before : Option K) (ds : Items) (x : Result R JsonFault) (rows : List R)
       → and_then x (λ r. after (r ∷ []) (rows_in_turn read ds)) ≡ Ok rows → is_rising order key before rows ≡ true
       → ((r : R) (xs : List R) → rows_in_turn read ds ≡ Ok xs → is_rising order key (Some (key r)) xs ≡ true → rows_after (is_above order) key read (Some (key r)) ds ≡ Ok xs)
-      → and_then (and_then x (in_place (is_above order) key before)) (λ r. after (r ∷ []) (rows_after (is_above order) key read (Some (key r)) ds)) ≡ Ok rows
+      → and_then (and_then x (row_in_order (is_above order) key before)) (λ r. after (r ∷ []) (rows_after (is_above order) key read (Some (key r)) ds)) ≡ Ok rows
   one_row before ds (Err e) rows is rising more = let no : ⊥ = cc in absurd no
   one_row before ds (Ok r) rows is rising more =
       ok_cons r (rows_in_turn read ds) rows
-      (λ xs. is_rising order key before xs ≡ true → and_then (and_then (Ok r) (in_place (is_above order) key before)) (λ y. after (y ∷ []) (rows_after (is_above order) key read (Some (key y)) ds)) ≡ Ok xs)
+      (λ xs. is_rising order key before xs ≡ true → and_then (and_then (Ok r) (row_in_order (is_above order) key before)) (λ y. after (y ∷ []) (rows_after (is_above order) key read (Some (key y)) ds)) ≡ Ok xs)
       is
       (λ xs was up.
       let parts = and_parts (is_above order before (key r)) (is_rising order key (Some (key r)) xs) up in

@@ -10,7 +10,7 @@ use Rattle.serde_json.specs.Read.{read}
 use Rattle.shell_json_text.specs.Part.{IsFound, HasMember}
 use Rattle.shell_json_values.specs.declared.fault.JsonFault.{JsonFault}
 use Rattle.shell_json_values.specs.Cell.{and_then}
-use Rattle.shell_json_values.specs.Objects.{read_if_there}
+use Rattle.shell_json_values.specs.Objects.{optional_value}
 use Rattle.shell_json_values.specs.Parts.{list_of}
 use Rattle.shell_face_json.specs.Lists.{is_object, rows_at, rows_in_turn}
 use Rattle.shell_face_json.specs.Sorted.{rows_by_key}
@@ -47,21 +47,21 @@ abbrev pub IsTable : {L : Type 0} → (Data → Result L JsonFault) → Data →
 IsTable read d t = (is_object d ≡ Ok tt) × (layout_of d ≡ Ok t.0) × (rows_at (codes "lookups") (rows_in_turn read) d ≡ Ok t.1)
 
 substitution_in : (sets : ℕ) (o : Option Data) (found : Option (LayoutLists × List SubstLookup)) → IsFound (IsTable (substitution_lookup sets)) o found
-    → read_if_there (substitution_table sets) o ≡ Ok (option_map (λ t. record { inner = t.0; lookups = t.1 }) found)
+    → optional_value (substitution_table sets) o ≡ Ok (option_map (λ t. record { inner = t.0; lookups = t.1 }) found)
 substitution_in sets None found e = ap (λ f. Ok (option_map (λ t. record { inner = t.0; lookups = t.1 }) f)) (sym e)
 substitution_in sets (Some d) None h = absurd h
 substitution_in sets (Some d) (Some t) e = rw (e.0, e.1, e.2) refl
 
 pub substitution_found : (sets : ℕ) (d : Data) (ms : Members) (found : Option (LayoutLists × List SubstLookup)) → d ≡ object ms → HasMember (IsTable (substitution_lookup sets)) (codes "gsub") ms found
-    → read_if_there (substitution_table sets) (get (codes "gsub") d) ≡ Ok (option_map (λ t. record { inner = t.0; lookups = t.1 }) found)
-substitution_found sets d ms found e h = ap (λ x. read_if_there (substitution_table sets) (get (codes "gsub") x)) e ∙ substitution_in sets (get_member (codes "gsub") ms) found h
+    → optional_value (substitution_table sets) (get (codes "gsub") d) ≡ Ok (option_map (λ t. record { inner = t.0; lookups = t.1 }) found)
+substitution_found sets d ms found e h = ap (λ x. optional_value (substitution_table sets) (get (codes "gsub") x)) e ∙ substitution_in sets (get_member (codes "gsub") ms) found h
 
 positioning_in : (sets : ℕ) (o : Option Data) (found : Option (LayoutLists × List PositioningLookup)) → IsFound (IsTable (positioning_lookup sets)) o found
-    → read_if_there (positioning_table sets) o ≡ Ok (option_map (λ t. record { inner = t.0; lookups = t.1 }) found)
+    → optional_value (positioning_table sets) o ≡ Ok (option_map (λ t. record { inner = t.0; lookups = t.1 }) found)
 positioning_in sets None found e = ap (λ f. Ok (option_map (λ t. record { inner = t.0; lookups = t.1 }) f)) (sym e)
 positioning_in sets (Some d) None h = absurd h
 positioning_in sets (Some d) (Some t) e = rw (e.0, e.1, e.2) refl
 
 pub positioning_found : (sets : ℕ) (d : Data) (ms : Members) (found : Option (LayoutLists × List PositioningLookup)) → d ≡ object ms → HasMember (IsTable (positioning_lookup sets)) (codes "gpos") ms found
-    → read_if_there (positioning_table sets) (get (codes "gpos") d) ≡ Ok (option_map (λ t. record { inner = t.0; lookups = t.1 }) found)
-positioning_found sets d ms found e h = ap (λ x. read_if_there (positioning_table sets) (get (codes "gpos") x)) e ∙ positioning_in sets (get_member (codes "gpos") ms) found h
+    → optional_value (positioning_table sets) (get (codes "gpos") d) ≡ Ok (option_map (λ t. record { inner = t.0; lookups = t.1 }) found)
+positioning_found sets d ms found e h = ap (λ x. optional_value (positioning_table sets) (get (codes "gpos") x)) e ∙ positioning_in sets (get_member (codes "gpos") ms) found h

@@ -5,8 +5,8 @@ ghost use Rattle.serde_json.specs.Data.{Data};
 ghost use Rattle.serde_json.specs.Find.{get};
 ghost use Rattle.serde_json.specs.Read.{read};
 ghost use Rattle.serde_json.specs.View.{view};
-ghost use Rattle.shell_json_values.specs.Cell.{word, signed_word};
-ghost use Rattle.shell_json_values.specs.Objects.{read_or, read_if_there};
+ghost use Rattle.shell_json_values.specs.Cell.{u16_value, i16_value};
+ghost use Rattle.shell_json_values.specs.Objects.{read_or, optional_value};
 ghost use Rattle.shell_face_json.specs.Lists.{is_object, rows_at};
 ghost use Rattle.shell_face_json.specs.Sorted.{rows_by_key};
 ghost use Rattle.shell_face_json.specs.Glyphs.{glyph_limit};
@@ -40,8 +40,8 @@ pub fn take_metrics(
     scratch: &mut Scratch,
 ) -> Result<(u16, i16, GlyphDefinition), Unread>
     ensures { IfOk result (λ p. (d : Data) → read text.now ≡ Some d → (is_object d ≡ Ok tt)
-        × (read_or 0 word (get (codes "upem") d) ≡ Ok p.0)
-        × (read_or (pos 0) signed_word (get (codes "ascender") d) ≡ Ok p.1)
+        × (read_or 0 u16_value (get (codes "upem") d) ≡ Ok p.0)
+        × (read_or (pos 0) i16_value (get (codes "ascender") d) ≡ Ok p.1)
         × (glyph_definition_in (get (codes "gdef") d) ≡ Ok p.2)) }
 {
     let gdef = Key {
@@ -67,8 +67,8 @@ fn read_metrics(
     ascender: &Option<Value>,
     gdef: Option<GlyphDefinition>,
 ) -> Result<(u16, i16, GlyphDefinition), Unread>
-    ensures { IfOk result (λ p. (read_or 0 word (option_map view upem.now) ≡ Ok p.0)
-        × (read_or (pos 0) signed_word (option_map view ascender.now) ≡ Ok p.1)
+    ensures { IfOk result (λ p. (read_or 0 u16_value (option_map view upem.now) ≡ Ok p.0)
+        × (read_or (pos 0) i16_value (option_map view ascender.now) ≡ Ok p.1)
         × (p.2 ≡ unwrap_or gdef no_definition)) }
 {
     let upem = cell_or(upem, 0u16)?;
@@ -151,8 +151,8 @@ pub fn take_tables(
     set_count: usize,
 ) -> Result<Tables, Unread>
     ensures { IfOk result (λ p. (d : Data) → read text.now ≡ Some d
-        → (read_if_there (substitution_table set_count) (get (codes "gsub") d) ≡ Ok p.0)
-        × (read_if_there (positioning_table set_count) (get (codes "gpos") d) ≡ Ok p.1)) }
+        → (optional_value (substitution_table set_count) (get (codes "gsub") d) ≡ Ok p.0)
+        × (optional_value (positioning_table set_count) (get (codes "gpos") d) ≡ Ok p.1)) }
 {
     let gsub = Key {
         name: "gsub",

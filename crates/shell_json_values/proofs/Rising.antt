@@ -4,7 +4,7 @@ use Rattle.serde_json.specs.Data.{Data, Items, no_items, item}
 use Rattle.shell_json_values.specs.declared.fault.JsonFault.{JsonFault}
 use Rattle.shell_json_values.specs.declared.fault.JsonFault.TheVariants.{OutOfOrder}
 use Rattle.shell_json_values.specs.Cell.{and_then}
-use Rattle.shell_json_values.specs.Rows.{after, in_place, rows_after, all_follow, ok_cons}
+use Rattle.shell_json_values.specs.Rows.{after, row_in_order, rows_after, all_follow, ok_cons}
 
 module _ {R K : Type 0} (follows : Option K → K → Bool) (key : R → K) where
   placed : (next : R → Result (List R) JsonFault) (before : Option K) (r : R) (rows : List R) (b : Bool) → follows before (key r) ≡ b
@@ -14,7 +14,7 @@ module _ {R K : Type 0} (follows : Option K → K → Bool) (key : R → K) wher
   placed next before r rows false above e have = let no : ⊥ = cc in absurd no
 
   read_one : (next : R → Result (List R) JsonFault) (before : Option K) (o : Result R JsonFault) (rows : List R)
-      → and_then (and_then o (in_place follows key before)) (λ x. after (x ∷ []) (next x)) ≡ Ok rows
+      → and_then (and_then o (row_in_order follows key before)) (λ x. after (x ∷ []) (next x)) ≡ Ok rows
       → ((r : R) (xs : List R) → next r ≡ Ok xs → all_follow follows key (Some (key r)) xs ≡ true) → all_follow follows key before rows ≡ true
   read_one next before (Ok r) rows e have = placed next before r rows (follows before (key r)) refl e (have r)
   read_one next before (Err f) rows e have = let no : ⊥ = cc in absurd no

@@ -51,16 +51,16 @@ in_word (pos n) = if nat_lt n 65536 then Ok n else Err OutOfRange
 in_word (negsuc n) = Err OutOfRange
 
 -- a value from 0 to 65,535: a glyph, an advance
-abbrev pub word : Data → Result ℕ JsonFault
-word d = and_then (integer d) in_word
+abbrev pub u16_value : Data → Result ℕ JsonFault
+u16_value d = and_then (integer d) in_word
 
 -- an integer from -32,768 to 32,767
 abbrev pub in_signed_word : ℤ → Result ℤ JsonFault
 in_signed_word z = if int_le (negsuc 32767) z && int_le z (pos 32767) then Ok z else Err OutOfRange
 
 -- a value from -32,768 to 32,767: a distance in font units
-abbrev pub signed_word : Data → Result ℤ JsonFault
-signed_word d = and_then (integer d) in_signed_word
+abbrev pub i16_value : Data → Result ℤ JsonFault
+i16_value d = and_then (integer d) in_signed_word
 
 -- a number is a Unicode scalar value
 abbrev pub is_scalar_value : ℕ → Bool

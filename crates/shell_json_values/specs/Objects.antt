@@ -12,9 +12,9 @@ read_or missing read None = Ok missing
 read_or missing read (Some d) = read d
 
 -- the value of a key as `read` reads it, `None` without the key
-abbrev pub read_if_there : {A : Type 0} → (Data → Result A JsonFault) → Option Data → Result (Option A) JsonFault
-read_if_there read None = Ok None
-read_if_there read (Some d) = and_then (read d) (λ a. Ok (Some a))
+abbrev pub optional_value : {A : Type 0} → (Data → Result A JsonFault) → Option Data → Result (Option A) JsonFault
+optional_value read None = Ok None
+optional_value read (Some d) = and_then (read d) (λ a. Ok (Some a))
 
 -- an object has one of the keys
 abbrev pub has_some : List (List ℕ) → Data → Bool

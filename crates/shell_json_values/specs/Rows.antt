@@ -14,12 +14,12 @@ after front (Ok rows) = Ok (front ++ rows)
 after front (Err e) = Err e
 
 -- a row, if its key may follow the key before it
-abbrev pub in_place : {R K : Type 0} → (Option K → K → Bool) → (R → K) → Option K → R → Result R JsonFault
-in_place follows key before r = if follows before (key r) then Ok r else Err OutOfOrder
+abbrev pub row_in_order : {R K : Type 0} → (Option K → K → Bool) → (R → K) → Option K → R → Result R JsonFault
+row_in_order follows key before r = if follows before (key r) then Ok r else Err OutOfOrder
 
 -- a row after a row with the key `before`: the row's own faults come before that of its order
 abbrev pub row_after : {R K : Type 0} → (Option K → K → Bool) → (R → K) → (Data → Result R JsonFault) → Option K → Data → Result R JsonFault
-row_after follows key read before d = and_then (read d) (in_place follows key before)
+row_after follows key read before d = and_then (read d) (row_in_order follows key before)
 
 -- the rows of a list, after a row with the key `before`: the fault of the first faulty row is the result
 abbrev pub rows_after : {R K : Type 0} → (Option K → K → Bool) → (R → K) → (Data → Result R JsonFault) → Option K → Items → Result (List R) JsonFault

@@ -4,7 +4,7 @@ ghost use Rattle.std.specs.Prelude.{◌≡◌, Result};
 ghost use Rattle.serde_json.specs.Data.{Data};
 ghost use Rattle.serde_json.specs.View.{view, items_view};
 ghost use Rattle.shell_json_values.specs.declared.fault.JsonFault.{JsonFault};
-ghost use Rattle.shell_json_values.specs.Cell.{rank_of, first_fault, both, integer, word, signed_word, character, pair_of, two_of};
+ghost use Rattle.shell_json_values.specs.Cell.{rank_of, first_fault, both, integer, u16_value, i16_value, character, pair_of, two_of};
 
 use crate::fault::JsonFault;
 use serde_json::Value;
@@ -18,7 +18,7 @@ pub trait Cell: Drop {
 }
 
 impl Cell for u16 {
-    ghost cell = { word };
+    ghost cell = { u16_value };
 
     fn read(value: &Value) -> Result<u16, JsonFault> {
         match integer(value)? {
@@ -29,7 +29,7 @@ impl Cell for u16 {
 }
 
 impl Cell for i16 {
-    ghost cell = { signed_word };
+    ghost cell = { i16_value };
 
     fn read(value: &Value) -> Result<i16, JsonFault> {
         match integer(value)? {

@@ -21,9 +21,9 @@ use Rattle.shell_readers.specs.Input.{IsInput, RunParts}
 use Rattle.shell_readers.specs.Tables.{RunTables, language_tags}
 use Rattle.shell_readers.specs.Values.{then_run}
 use Rattle.buffer_glyphs.specs.Items.{Position}
-use Rattle.buffer_core.specs.Readings.{Reading, Run, run_after}
+use Rattle.buffer_core.specs.Readings.{Reading, BufferState, state_after}
 use Rattle.buffer_serialize.specs.Printed.{printed_text}
-use Rattle.buffer_core.specs.Sides.{Sides, empty_buffer, run_of}
+use Rattle.buffer_core.specs.Sides.{Sides, empty_buffer, state_of}
 use Rattle.buffer_core.specs.Text.{fits_text}
 use Rattle.script_categories.specs.Fronts.{syllable_at}
 use Rattle.shell_run.specs.Output.{glyphs_of}
@@ -49,18 +49,18 @@ abbrev pub shaping : RunTables → FaceParts → List Feature → Sides → Shap
 shaping t font features s = by_text font t.characters (language_tags t.languages) (syllable_at t.syllables) features s
 
 -- the line of a run: its items with the clusters and the glyph flags of their origins
-abbrev pub line_of_run : FaceParts → SerializeFlags → Run → List ℕ
+abbrev pub line_of_run : FaceParts → SerializeFlags → BufferState → List ℕ
 line_of_run font flags run = printed_line font flags (glyphs_of run.view.items run.origins) run.view.positions
 
 -- the line of a reading, whose clusters and glyph flags are those of the text after its events at the level
-abbrev pub line_of_reading : FaceParts → SerializeFlags → Run → Reading → Result (List ℕ) RunFault
-line_of_reading font flags run (Ok r) = Ok (line_of_run font flags (run_after r run))
+abbrev pub line_of_reading : FaceParts → SerializeFlags → BufferState → Reading → Result (List ℕ) RunFault
+line_of_reading font flags run (Ok r) = Ok (line_of_run font flags (state_after r run))
 line_of_reading font flags run (Err e) = Err (fault_of_cause e)
 
 -- the line of a shaped text, or the fault of a text that needs the Indic shaper
 abbrev pub line_of_text : Options → RunTables → FaceParts → Sides → Result (List ℕ) RunFault
 line_of_text options t font s = if script_waits s.script then Err NotYet
-    else line_of_reading font options.flags (run_of s) (text_reading (shaping t font options.features.items s) (run_of s))
+    else line_of_reading font options.flags (state_of s) (text_reading (shaping t font options.features.items s) (state_of s))
 
 -- the reason why a text is not shaped: it needs the Indic shaper, or its reading fails
 abbrev pub IsUnshaped : Bool → Reading → RunFault → Type 0

@@ -1,15 +1,15 @@
 -- The buffer of a text at the start of shaping.
 use Rattle.std.specs.Prelude.{ℕ, List}
 use Rattle.buffer_core.specs.Sides.{Sides, with_added, with_flags, with_level, empty_buffer}
-use Rattle.buffer_core.specs.Segment.{guessed, with_segment}
+use Rattle.buffer_core.specs.Segment.{after_guess_segment_properties, with_segment}
 use Rattle.buffer_core.specs.Settings.{with_language}
 use Rattle.buffer_core.specs.Text.{added_text}
 use Rattle.shell_readers.specs.declared.options.Options.{Options}
 
 -- an empty buffer with the settings of the options
-abbrev pub asked_buffer : Options → Sides
-asked_buffer options = with_language options.language (with_segment options.direction options.script (with_flags options.buffer_flags (with_level options.cluster_level empty_buffer)))
+abbrev pub options_buffer : Options → Sides
+options_buffer options = with_language options.language (with_segment options.direction options.script (with_flags options.buffer_flags (with_level options.cluster_level empty_buffer)))
 
 -- the buffer of a text; settings that the options lack are guessed
 abbrev pub text_buffer : Options → List ℕ → Sides
-text_buffer options text = guessed (with_added (added_text text) (asked_buffer options))
+text_buffer options text = after_guess_segment_properties (with_added (added_text text) (options_buffer options))

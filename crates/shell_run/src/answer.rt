@@ -5,7 +5,7 @@ ghost use Rattle.buffer_core.specs.Text.{fits_text};
 ghost use Rattle.shell_run.specs.Answer.{IsAnswer, line_in, line_of, printed_line, text_of, without_line_feed};
 ghost use Rattle.shell_readers.specs.Faults.{IsOfRun};
 ghost use Rattle.shell_readers.specs.Tables.{tables_value};
-ghost use Rattle.shell_run.specs.Asked.{asked_buffer, text_buffer};
+ghost use Rattle.shell_run.specs.Asked.{options_buffer, text_buffer};
 
 use crate::shape::shape;
 use buffer_glyphs::cause::ShapeCause;
@@ -42,7 +42,7 @@ fn read_text(bytes: &[u8]) -> Result<&str, RunFault>
 
 /// A buffer with the settings of the options. The language is moved into it.
 fn new_text(alloc: Global, options: &mut Options) -> UnicodeBuffer
-    ensures text { result ≡ asked_buffer options.old }
+    ensures text { result ≡ options_buffer options.old }
     ensures features { options.new.features.items ≡ options.old.features.items }
     ensures flags { options.new.flags ≡ options.old.flags }
 {

@@ -8,13 +8,13 @@ use shell_readers::fault::RunFault;
 
 /// The empty text gives the empty line, in every font.
 #[tactic(auto, using(crate::proofs::Empty::empty_text_gives_empty_line))]
-pub fn empty_text_gives_empty_line()
+pub fn law_empty_text_gives_empty_line()
     ensures { EmptyTextGivesEmptyLine }
 {}
 
 /// Tables, a font and a text have at most one answer: the relation that specifies a run is a function.
 #[tactic(auto, using(crate::proofs::Reading::answers_are_one))]
-pub fn answers_are_one()
+pub fn law_answers_are_one()
     ensures { AnswersAreOne }
 {}
 

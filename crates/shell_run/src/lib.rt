@@ -8,6 +8,6 @@ pub mod laws;
 pub mod program;
 mod read;
 mod report;
-pub mod run;
+pub mod running;
 mod shape;
 mod write;

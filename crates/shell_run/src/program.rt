@@ -4,7 +4,7 @@ ghost use Rattle.shell_run.specs.Program.{Ends};
 
 use crate::files::{Files, open_files};
 use crate::report::report;
-use crate::run::run;
+use crate::running::run;
 use shell_readers::fault::RunFault;
 use shell_words::parse_options;
 use std::alloc::Global;

@@ -1,8 +1,8 @@
 //! Shapes a text that is wholly in memory.
 ghost use Rattle.std.specs.Prelude.{◌≡◌, ◌≢◌, false, IfOk, IfErr, OnOk};
 ghost use Rattle.buffer_core.specs.Readings.{Follows};
-ghost use Rattle.buffer_core.specs.Segment.{guessed};
-ghost use Rattle.buffer_core.specs.Sides.{run_of};
+ghost use Rattle.buffer_core.specs.Segment.{after_guess_segment_properties};
+ghost use Rattle.buffer_core.specs.Sides.{state_of};
 ghost use Rattle.shape_pipeline.specs.Dispatch.{script_waits};
 ghost use Rattle.shape_pipeline.specs.Shaped.{text_reading};
 ghost use Rattle.shell_run.specs.Answer.{IsUnshaped, shaping};
@@ -27,10 +27,10 @@ fn shape_text(
     text: UnicodeBuffer,
 ) -> Result<GlyphBuffer, RunFault>
     ensures ok { IfOk result (λ glyphs. Follows
-        (text_reading (shaping (tables_value tables.now) face.now features.now (guessed text)) (run_of (guessed text)))
-        (run_of (guessed text)) (run_of glyphs)) }
+        (text_reading (shaping (tables_value tables.now) face.now features.now (after_guess_segment_properties text)) (state_of (after_guess_segment_properties text)))
+        (state_of (after_guess_segment_properties text)) (state_of glyphs)) }
     ensures refused { IfErr result (λ e. e ≢ RunFault.OutOfMemory → IsUnshaped false
-        (text_reading (shaping (tables_value tables.now) face.now features.now (guessed text)) (run_of (guessed text)))
+        (text_reading (shaping (tables_value tables.now) face.now features.now (after_guess_segment_properties text)) (state_of (after_guess_segment_properties text)))
         e) }
     ensures kind { IfErr result IsOfRun }
 {
@@ -39,7 +39,7 @@ fn shape_text(
         spans: &tables.syllables,
         languages: &tables.languages,
     };
-    match shape_pipeline::shape::shape(alloc, face, shape_data, features, text) {
+    match shape_pipeline::shaping::shape(alloc, face, shape_data, features, text) {
         Ok(glyphs) => Ok(glyphs),
         Err(fault) => Err(RunFault::from(fault.cause)),
     }
@@ -55,10 +55,10 @@ pub(crate) fn shape(
 ) -> Result<GlyphBuffer, RunFault>
     ensures shaped { OnOk result (script_waits text.script ≡ false) }
     ensures ok { IfOk result (λ glyphs. Follows
-        (text_reading (shaping (tables_value tables.now) face.now features.now (guessed text)) (run_of (guessed text)))
-        (run_of (guessed text)) (run_of glyphs)) }
+        (text_reading (shaping (tables_value tables.now) face.now features.now (after_guess_segment_properties text)) (state_of (after_guess_segment_properties text)))
+        (state_of (after_guess_segment_properties text)) (state_of glyphs)) }
     ensures refused { IfErr result (λ e. e ≢ RunFault.OutOfMemory → IsUnshaped (script_waits text.script)
-        (text_reading (shaping (tables_value tables.now) face.now features.now (guessed text)) (run_of (guessed text)))
+        (text_reading (shaping (tables_value tables.now) face.now features.now (after_guess_segment_properties text)) (state_of (after_guess_segment_properties text)))
         e) }
     ensures kind { IfErr result IsOfRun }
 {

@@ -9,14 +9,14 @@ use Rattle.shell_json_values.specs.declared.fault.JsonFault.{JsonFault}
 use Rattle.shell_json_values.specs.declared.fault.JsonFault.TheVariants.{WrongShape, FloatNumber, UnknownName, OutOfOrder, OutOfRange, SplitDepth}
 use Rattle.shell_json_values.specs.Cell.{and_then, both, character, first_fault, in_characters, integer, integer_of, is_scalar_value, rank_of}
 use Rattle.shell_json_values.specs.Parts.{four_in, in_natural_numbers_below, list_at, list_of, list_or_none, natural_number_below, row_of_four, row_of_three, row_of_two, text, three_in, two_in}
-use Rattle.shell_json_values.specs.Rows.{after, in_place, row_after, rows_after}
+use Rattle.shell_json_values.specs.Rows.{after, row_in_order, row_after, rows_after}
 use Rattle.script_categories.specs.Indic.{ot_categories, ot_positions}
 use Rattle.script_categories.specs.Joining.{joining_type_names}
 use Rattle.script_categories.specs.Names.{number_of}
 use Rattle.script_categories.specs.Thai.{thai_actions}
 use Rattle.script_categories.specs.Universal.{universal_categories}
-use Rattle.shell_tables_json.specs.Rows.{named, number_named, rows_at}
-use Rattle.shell_tables_json.specs.Characters.{character_class, character_range, counterpart, indic_row, joining_row, pair, split, thai_row, universal_row}
+use Rattle.shell_tables_json.specs.Rows.{number_of_name, number_named, rows_at}
+use Rattle.shell_tables_json.specs.Characters.{character_class, character_range, counterpart, indic_row, joining_row, pair, split_row, thai_row, universal_row}
 use Rattle.shell_tables_json.specs.Unicode.{tables_keys}
 use Rattle.buffer_unicode_rows.specs.Keys.{follows}
 
@@ -86,7 +86,7 @@ in_numbers_shallow limit (negsuc n) = out_of_range
 number_shallow : (limit : ℕ) (d : Data) → Shallow (natural_number_below limit d)
 number_shallow limit d = then_shallow (integer d) (in_natural_numbers_below limit) (integer_of_shallow (as_number d)) (in_numbers_shallow limit)
 
-named_shallow : (names : List (List ℕ × ℕ)) (d : Data) → Shallow (named names d)
+named_shallow : (names : List (List ℕ × ℕ)) (d : Data) → Shallow (number_of_name names d)
 named_shallow names d =
     then_shallow (text d) (number_named names) (some_shallow (as_str d) WrongShape wrong_shape) (λ name. some_shallow (number_of names name) UnknownName unknown_name)
 
@@ -141,7 +141,7 @@ list_or_none_shallow None = tt
 list_or_none_shallow (Some d) = list_shallow d
 
 module _ {R : Type 0} (high low : R → ℕ) (row : Data → Result R JsonFault) (h : (d : Data) → Shallow (row d)) where
-  place_shallow : (before : Option R) (r : R) → Shallow (in_place (follows high low) (λ x. x) before r)
+  place_shallow : (before : Option R) (r : R) → Shallow (row_in_order (follows high low) (λ x. x) before r)
   place_shallow before r = if_shallow (follows high low before r) (Ok r) (Err OutOfOrder) tt out_of_order
 
   rows_shallow : (before : Option R) (ds : Items) → Shallow (rows_after (follows high low) (λ x. x) row before ds)
@@ -162,7 +162,7 @@ record IsShallow {A : Type 0} (r : Result A JsonFault) : Type 0 where
 then_is : {A B : Type 0} {r : Result A JsonFault} {next : A → Result B JsonFault} → IsShallow r → ((a : A) → IsShallow (next a)) → IsShallow (and_then r next)
 then_is {r = r} {next = next} h hs = record { shallow = then_shallow r next h.shallow (λ a. (hs a).shallow) }
 
-split_shallow : (d : Data) → Shallow (split d)
+split_shallow : (d : Data) → Shallow (split_row d)
 split_shallow d = then_shallow (row_of_three character character character d) (λ p. Ok (record { whole = p.0; first = p.1.0; second = p.1.1 })) (row_3 character character character character_shallow character_shallow character_shallow d) (λ _. tt)
 
 pair_shallow : (d : Data) → Shallow (pair d)
@@ -179,30 +179,30 @@ range_shallow d = then_shallow (row_of_two character character d) (λ p. Ok (rec
 
 joining_shallow : (d : Data) → Shallow (joining_row d)
 joining_shallow d =
-    then_shallow (row_of_two character (named joining_type_names) d) (λ p. Ok (record { character = p.0; joining_type = p.1 }))
-    (row_2 character (named joining_type_names) character_shallow (named_shallow joining_type_names) d) (λ _. tt)
+    then_shallow (row_of_two character (number_of_name joining_type_names) d) (λ p. Ok (record { character = p.0; joining_type = p.1 }))
+    (row_2 character (number_of_name joining_type_names) character_shallow (named_shallow joining_type_names) d) (λ _. tt)
 
 indic_shallow : (d : Data) → Shallow (indic_row d)
 indic_shallow d =
-    then_shallow (row_of_three character (named ot_categories) (named ot_positions) d) (λ p. Ok (record { character = p.0; category = p.1.0; position = p.1.1 }))
-    (row_3 character (named ot_categories) (named ot_positions) character_shallow (named_shallow ot_categories) (named_shallow ot_positions) d) (λ _. tt)
+    then_shallow (row_of_three character (number_of_name ot_categories) (number_of_name ot_positions) d) (λ p. Ok (record { character = p.0; category = p.1.0; position = p.1.1 }))
+    (row_3 character (number_of_name ot_categories) (number_of_name ot_positions) character_shallow (named_shallow ot_categories) (named_shallow ot_positions) d) (λ _. tt)
 
 universal_shallow : (d : Data) → Shallow (universal_row d)
 universal_shallow d =
-    then_shallow (row_of_two character (named universal_categories) d) (λ p. Ok (record { character = p.0; category = p.1 }))
-    (row_2 character (named universal_categories) character_shallow (named_shallow universal_categories) d) (λ _. tt)
+    then_shallow (row_of_two character (number_of_name universal_categories) d) (λ p. Ok (record { character = p.0; category = p.1 }))
+    (row_2 character (number_of_name universal_categories) character_shallow (named_shallow universal_categories) d) (λ _. tt)
 
 thai_shallow : (d : Data) → Shallow (thai_row d)
 thai_shallow d =
-    then_shallow (row_of_four character (named thai_actions) character character d) (λ p. Ok (record { character = p.0; action = p.1.0; first = p.1.1.0; second = p.1.1.1 }))
-    (row_4 character (named thai_actions) character character character_shallow (named_shallow thai_actions) character_shallow character_shallow d) (λ _. tt)
+    then_shallow (row_of_four character (number_of_name thai_actions) character character d) (λ p. Ok (record { character = p.0; action = p.1.0; first = p.1.1.0; second = p.1.1.1 }))
+    (row_4 character (number_of_name thai_actions) character character character_shallow (named_shallow thai_actions) character_shallow character_shallow d) (λ _. tt)
 
 at_is : {R : Type 0} (key : List ℕ) (high low : R → ℕ) (row : Data → Result R JsonFault) → ((e : Data) → Shallow (row e)) → (d : Data) → IsShallow (rows_at key high low row d)
 at_is key high low row h d = record { shallow = at_shallow high low row h key d }
 
 keys_shallow : (d : Data) → IsShallow (tables_keys d)
 keys_shallow d =
-    then_is (at_is (codes "splits") (λ _. 0) (λ r. r.whole) split split_shallow d) (λ _.
+    then_is (at_is (codes "splits") (λ _. 0) (λ r. r.whole) split_row split_shallow d) (λ _.
     then_is (at_is (codes "pairs") (λ r. r.first) (λ r. r.second) pair pair_shallow d) (λ _.
     then_is (at_is (codes "classes") (λ _. 0) (λ r. r.character) character_class class_shallow d) (λ _.
     then_is (at_is (codes "mirrored") (λ _. 0) (λ r. r.character) counterpart counterpart_shallow d) (λ _.

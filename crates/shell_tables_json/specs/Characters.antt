@@ -8,7 +8,7 @@ use Rattle.script_categories.specs.Indic.{ot_categories, ot_positions}
 use Rattle.script_categories.specs.Joining.{joining_type_names}
 use Rattle.script_categories.specs.Thai.{thai_actions}
 use Rattle.script_categories.specs.Universal.{universal_categories}
-use Rattle.shell_tables_json.specs.Rows.{named}
+use Rattle.shell_tables_json.specs.Rows.{number_of_name}
 use Rattle.buffer_unicode_rows.specs.declared.rows.Split.{Split}
 use Rattle.buffer_unicode_rows.specs.declared.rows.Pair.{Pair}
 use Rattle.buffer_unicode_rows.specs.declared.rows.CharacterClass.{CharacterClass}
@@ -20,8 +20,8 @@ use Rattle.buffer_unicode_rows.specs.declared.rows.UniversalRow.{UniversalRow}
 use Rattle.buffer_unicode_rows.specs.declared.rows.ThaiRow.{ThaiRow}
 
 -- [u, a, b]: a character and the two halves of its decomposition, the second 0 where there is only one
-abbrev pub split : Data → Result Split JsonFault
-split d = and_then (row_of_three character character character d) (λ p. Ok (record { whole = p.0; first = p.1.0; second = p.1.1 }))
+abbrev pub split_row : Data → Result Split JsonFault
+split_row d = and_then (row_of_three character character character d) (λ p. Ok (record { whole = p.0; first = p.1.0; second = p.1.1 }))
 
 -- [a, b, u]: two characters and their composition
 abbrev pub pair : Data → Result Pair JsonFault
@@ -41,21 +41,21 @@ character_range d = and_then (row_of_two character character d) (λ p. Ok (recor
 
 -- [u, type]: a character and the name of its joining type
 abbrev pub joining_row : Data → Result JoiningRow JsonFault
-joining_row d = and_then (row_of_two character (named joining_type_names) d) (λ p. Ok (record { character = p.0; joining_type = p.1 }))
+joining_row d = and_then (row_of_two character (number_of_name joining_type_names) d) (λ p. Ok (record { character = p.0; joining_type = p.1 }))
 
 -- [u, category, position]: a character and the names of its Indic syllabic category and of its position
 abbrev pub indic_row : Data → Result IndicRow JsonFault
 indic_row d =
-    and_then (row_of_three character (named ot_categories) (named ot_positions) d) (λ p.
+    and_then (row_of_three character (number_of_name ot_categories) (number_of_name ot_positions) d) (λ p.
     Ok (record { character = p.0; category = p.1.0; position = p.1.1 }))
 
 -- [u, category]: a character and the name of its category for the universal shaper
 abbrev pub universal_row : Data → Result UniversalRow JsonFault
-universal_row d = and_then (row_of_two character (named universal_categories) d) (λ p. Ok (record { character = p.0; category = p.1 }))
+universal_row d = and_then (row_of_two character (number_of_name universal_categories) d) (λ p. Ok (record { character = p.0; category = p.1 }))
 
 -- [u, action, first, second]: a character, the name of an action, and two private-use characters, the first of which
 -- that a font has replaces it by that action
 abbrev pub thai_row : Data → Result ThaiRow JsonFault
 thai_row d =
-    and_then (row_of_four character (named thai_actions) character character d) (λ p.
+    and_then (row_of_four character (number_of_name thai_actions) character character d) (λ p.
     Ok (record { character = p.0; action = p.1.0; first = p.1.1.0; second = p.1.1.1 }))

@@ -19,5 +19,5 @@ abbrev pub number_named : List (List ℕ × ℕ) → List ℕ → Result ℕ Jso
 number_named names name = ok_or (number_of names name) UnknownName
 
 -- a value that is one of the names
-abbrev pub named : List (List ℕ × ℕ) → Data → Result ℕ JsonFault
-named names d = and_then (text d) (number_named names)
+abbrev pub number_of_name : List (List ℕ × ℕ) → Data → Result ℕ JsonFault
+number_of_name names d = and_then (text d) (number_named names)

@@ -12,20 +12,20 @@ use Rattle.script_categories.specs.declared.shaper.hb_ot_script_shaper_t.TheVari
 use Rattle.script_categories.specs.declared.machine.Accept.{Accept}
 use Rattle.script_categories.specs.declared.machine.Step.{Step}
 use Rattle.script_categories.specs.Machines.{Machine, Machines}
-use Rattle.shell_tables_json.specs.Rows.{rows_at, named}
+use Rattle.shell_tables_json.specs.Rows.{rows_at, number_of_name}
 
 -- ---- rows of a machine, by its number of states
 
 -- [state, category, state]: a category leads from one state to another
 abbrev pub step : hb_ot_script_shaper_t → ℕ → Data → Result Step JsonFault
 step shaper states d =
-    and_then (row_of_three (natural_number_below states) (named (categories_of shaper)) (natural_number_below states) d) (λ p.
+    and_then (row_of_three (natural_number_below states) (number_of_name (categories_of shaper)) (natural_number_below states) d) (λ p.
     Ok (record { state = p.0; category = p.1.0; next = p.1.1 }))
 
 -- [state, kind]: a syllable of a kind may end in a state
 abbrev pub accept : hb_ot_script_shaper_t → ℕ → Data → Result Accept JsonFault
 accept shaper states d =
-    and_then (row_of_two (natural_number_below states) (named (kinds_of shaper)) d) (λ p. Ok (record { state = p.0; kind = p.1 }))
+    and_then (row_of_two (natural_number_below states) (number_of_name (kinds_of shaper)) d) (λ p. Ok (record { state = p.0; kind = p.1 }))
 
 -- ---- keys
 

@@ -5,13 +5,13 @@ use Rattle.shell_json_values.specs.declared.fault.JsonFault.{JsonFault}
 use Rattle.shell_json_values.specs.Cell.{and_then}
 use Rattle.shell_json_values.specs.Objects.{of_object}
 use Rattle.shell_tables_json.specs.Rows.{rows_at}
-use Rattle.shell_tables_json.specs.Characters.{split, pair, character_class, counterpart, character_range, joining_row, indic_row, universal_row, thai_row}
+use Rattle.shell_tables_json.specs.Characters.{split_row, pair, character_class, counterpart, character_range, joining_row, indic_row, universal_row, thai_row}
 use Rattle.buffer_unicode_tables.specs.Tables.{Tables}
 
 -- the keys in the order of their faults
 abbrev pub tables_keys : Data → Result Tables JsonFault
 tables_keys d =
-    and_then (rows_at (codes "splits") (λ _. 0) (λ r. r.whole) split d) (λ splits.
+    and_then (rows_at (codes "splits") (λ _. 0) (λ r. r.whole) split_row d) (λ splits.
     and_then (rows_at (codes "pairs") (λ r. r.first) (λ r. r.second) pair d) (λ pairs.
     and_then (rows_at (codes "classes") (λ _. 0) (λ r. r.character) character_class d) (λ classes.
     and_then (rows_at (codes "mirrored") (λ _. 0) (λ r. r.character) counterpart d) (λ mirrored.

@@ -3,8 +3,8 @@ ghost use Rattle.std.specs.Prelude.{◌≡◌};
 ghost use Rattle.serde_json.specs.View.{view};
 ghost use Rattle.shell_json_values.specs.Cell.{both, character};
 ghost use Rattle.script_categories.specs.Thai.{thai_actions};
-ghost use Rattle.shell_tables_json.specs.Rows.{named};
-ghost use Rattle.shell_tables_json.specs.Characters.{split, pair, character_class, counterpart, character_range, joining_row, indic_row, universal_row, thai_row};
+ghost use Rattle.shell_tables_json.specs.Rows.{number_of_name};
+ghost use Rattle.shell_tables_json.specs.Characters.{split_row, pair, character_class, counterpart, character_range, joining_row, indic_row, universal_row, thai_row};
 
 use crate::names::{indic_category, indic_position, joining_type, thai_action, universal_category};
 use crate::rows::RowReader;
@@ -24,7 +24,7 @@ pub struct Splits;
 impl RowReader for Splits {
     type Row = Split;
 
-    ghost means = { λ _. split };
+    ghost means = { λ _. split_row };
 
     fn read_row(self, value: &Value) -> Result<Split, JsonFault> {
         let (whole, first, second) = three_parts(value)?;
@@ -196,7 +196,7 @@ fn action_and_forms(
     first: &Value,
     second: &Value,
 ) -> Result<(u8, (char, char)), JsonFault>
-    ensures { result ≡ both (named thai_actions (view action.now))
+    ensures { result ≡ both (number_of_name thai_actions (view action.now))
         (both (character (view first.now)) (character (view second.now))) }
 {
     let forms = pair(char::read(first), char::read(second));

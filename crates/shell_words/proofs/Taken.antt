@@ -8,7 +8,7 @@ use Rattle.clap.specs.declared.error.kind.ErrorKind.TheVariants as kind
 use Rattle.clap.specs.declared.parser.matches.ArgMatches.{ArgMatches}
 use Rattle.clap.proofs.WalkLemmas.{first_value-rows, raw_values-rows}
 use Rattle.shell_readers.specs.declared.fault.RunFault.TheVariants.{Words, OutOfMemory}
-use Rattle.shell_words.specs.Words.{Lookup, hb_shape, asked, options_of, refusal_of, settings_of, values_in}
+use Rattle.shell_words.specs.Words.{Lookup, hb_shape, settings_or_fault, options_of, refusal_of, settings_of, values_in}
 
 simple : is_simple hb_shape ≡ true
 simple = refl
@@ -16,10 +16,10 @@ simple = refl
 simple_and_free : is_simple_and_free hb_shape ≡ true
 simple_and_free = refl
 
-asked_of_none : (faults : Kinds) (rows : List Row) → faults ≡ [] → asked faults rows ≡ settings_of (λ id. first_of id rows) (values_in (all_of (codes "features") rows))
-asked_of_none faults rows none = ap (λ (ks : Kinds). asked ks rows) none
+asked_of_none : (faults : Kinds) (rows : List Row) → faults ≡ [] → settings_or_fault faults rows ≡ settings_of (λ id. first_of id rows) (values_in (all_of (codes "features") rows))
+asked_of_none faults rows none = ap (λ (ks : Kinds). settings_or_fault ks rows) none
 
-asked_of_some : (faults : Kinds) (rows : List Row) (k : ErrorKind) → IsAmong k faults → asked faults rows ≡ Err Words
+asked_of_some : (faults : Kinds) (rows : List Row) (k : ErrorKind) → IsAmong k faults → settings_or_fault faults rows ≡ Err Words
 asked_of_some [] rows k among = absurd among
 asked_of_some (fault ∷ faults) rows k among = refl
 

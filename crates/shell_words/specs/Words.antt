@@ -178,8 +178,8 @@ abbrev pub level_in : Lookup → Result BufferClusterLevel RunFault
 level_in value = level_or_default (value (codes "cluster-level"))
 
 -- the pieces of a text between its commas
-abbrev pub parts_of : List ℕ → List (List ℕ)
-parts_of text = slice_split (λ byte. byte == 44) text
+abbrev pub pieces_of : List ℕ → List (List ℕ)
+pieces_of text = slice_split (λ byte. byte == 44) text
 
 -- features before other features
 abbrev pub after : List Feature → Result (List Feature) RunFault → Result (List Feature) RunFault
@@ -193,7 +193,7 @@ features_of (part ∷ parts) = and_then (or_words (feature_of_text part)) (λ fe
 
 -- the features of the values of an option
 abbrev pub features_in : List (List ℕ) → Result (List Feature) RunFault
-features_in values = features_of (flat_map parts_of values)
+features_in values = features_of (flat_map pieces_of values)
 
 -- a switch is given
 abbrev pub is_given : List ℕ → Lookup → Bool
@@ -264,11 +264,11 @@ abbrev pub feature_values : Found → List (List ℕ)
 feature_values found = values_in (option_map raw_values (matched_of found (codes "features")))
 
 -- the options, where the command has these faults and values
-abbrev pub asked : Kinds → List Row → Result Settings RunFault
-asked [] rows = settings_of (λ id. first_of id rows) (values_in (all_of (codes "features") rows))
-asked (fault ∷ faults) rows = Err Words
+abbrev pub settings_or_fault : Kinds → List Row → Result Settings RunFault
+settings_or_fault [] rows = settings_of (λ id. first_of id rows) (values_in (all_of (codes "features") rows))
+settings_or_fault (fault ∷ faults) rows = Err Words
 
 -- the options of the command-line words, the first of which is the program's name; they are refused where the command
 -- refuses them, and where the value of an option is not of its type
 unfoldable pub options_of : List (List ℕ) → Result Settings RunFault
-options_of words = asked (fault_of hb_shape words) (matches_of hb_shape words)
+options_of words = settings_or_fault (fault_of hb_shape words) (matches_of hb_shape words)

@@ -3,7 +3,7 @@
 ghost use Rattle.std.specs.Prelude.{◌≡◌, ◌≢◌, ◌≤◌, IfOk, IfErr, OnOk, Ok, Err, map, string_bytes};
 ghost use Rattle.buffer_features.specs.FeatureText.{feature_of_text};
 ghost use Rattle.clap.specs.Words.{found_of, first_value};
-ghost use Rattle.shell_words.specs.Words.{options_of, refusal_of, settings_of, settings_in, file_in, direction_in, script_in, flag_of, flags_in, feature_values, features_in, features_of, parts_of, after, or_words, language_in, language_of_text, level_in, level_of_text, buffer_flags_in};
+ghost use Rattle.shell_words.specs.Words.{options_of, refusal_of, settings_of, settings_in, file_in, direction_in, script_in, flag_of, flags_in, feature_values, features_in, features_of, pieces_of, after, or_words, language_in, language_of_text, level_in, level_of_text, buffer_flags_in};
 ghost use Rattle.std.specs.Option.{option_map};
 ghost use Rattle.buffer_common.specs.Language.{language_text};
 
@@ -189,9 +189,9 @@ fn read_values(alloc: Global, values: &[&str]) -> Result<Vec<Feature>, RunFault>
 
 /// Adds the features of a value, separated by commas.
 fn add_features(alloc: Global, features: &mut Vec<Feature>, value: &str) -> Result<(), RunFault>
-    ensures ok { OnOk result (after features.old.items (features_of (parts_of value.now)) ≡ Ok features.new.items) }
+    ensures ok { OnOk result (after features.old.items (features_of (pieces_of value.now)) ≡ Ok features.new.items) }
     ensures refused { IfErr result (λ e. e ≢ RunFault.OutOfMemory
-        → after features.old.items (features_of (parts_of value.now)) ≡ Err e) }
+        → after features.old.items (features_of (pieces_of value.now)) ≡ Err e) }
 {
     let parts = split_at_commas(alloc, value)?;
     for part in &parts {
@@ -201,7 +201,7 @@ fn add_features(alloc: Global, features: &mut Vec<Feature>, value: &str) -> Resu
 }
 
 fn split_at_commas<'a>(alloc: Global, text: &'a str) -> Result<Vec<&'a str>, AllocError>
-    ensures { IfOk result (λ v. map (λ t. t.now) v.items ≡ parts_of text.entry.now) }
+    ensures { IfOk result (λ v. map (λ t. t.now) v.items ≡ pieces_of text.entry.now) }
 {
     text.split(',').collect(alloc)
 }

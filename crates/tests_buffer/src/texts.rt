@@ -131,8 +131,8 @@ fn prints_glyphs_as_they_stand(rt: HostRuntime) -> Result<(), Fail> {
 fn tell(text: &mut UnicodeBuffer) {
     text.set_flags(BufferFlags::BEGINNING_OF_TEXT);
     text.set_cluster_level(BufferClusterLevel::Characters);
-    text.set_invisible_glyph(3);
-    text.set_not_found_variation_selector_glyph(4);
+    text.set_invisible_glyph(GlyphId(3));
+    text.set_not_found_variation_selector_glyph(GlyphId(4));
     text.set_pre_context("ab");
     text.set_post_context("cd");
     text.reset_clusters();
@@ -144,8 +144,8 @@ fn was_told(text: &UnicodeBuffer) -> bool {
 }
 
 fn has_kept(buffer: &hb_buffer_t) -> bool {
-    buffer.invisible() == Some(3)
-        && buffer.not_found_variation_selector() == Some(4)
+    buffer.invisible() == Some(GlyphId(3))
+        && buffer.not_found_variation_selector() == Some(GlyphId(4))
         && buffer.pre_context() == ['b', 'a'].as_slice()
         && buffer.post_context() == ['c', 'd'].as_slice()
 }

@@ -1,12 +1,21 @@
-//! Requests for features, from their merging to the stages of lookups, and whether a lookup would act on glyphs: tests
-//! that cross the crates of the layout.
+//! Tests of fonts: what a font is read as, requests for features up to the stages of lookups, and what lookups would do.
 #![tactic(auto)]
 
 #[cfg(test)]
+mod faults;
+#[cfg(test)]
+mod fonts;
+#[cfg(test)]
 mod maps;
+#[cfg(test)]
+mod positions;
 #[cfg(test)]
 mod requests;
 #[cfg(test)]
+mod rows;
+#[cfg(test)]
 mod scripts;
+#[cfg(test)]
+mod substitutions;
 #[cfg(test)]
 mod would_apply;

@@ -4,7 +4,7 @@ use layout_map_features::field::GLOBAL_BIT;
 use layout_map_features::flags::{
     F_GLOBAL, F_HAS_FALLBACK, F_MANUAL_ZWJ, F_MANUAL_ZWNJ, F_PER_SYLLABLE, F_RANDOM,
 };
-use layout_map_features::kept::{KeptField, kept_fields};
+use layout_map_features::kept_fields::{KeptField, kept_fields};
 use layout_map_features::lookup::lookup_map_t;
 use layout_map_features::merge::{merged_lookups, merged_requests};
 use layout_map_features::per_table::PerTable;

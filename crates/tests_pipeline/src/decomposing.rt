@@ -79,7 +79,7 @@ impl hb_ot_shaper_t for DecomposingShaper {
     ghost use Rattle.std.specs.Prelude.{refl, true};
     ghost use Rattle.buffer_unicode_tables.specs.Tables.{split_of};
     ghost use Rattle.script_plan.specs.Rules.{plain_rules};
-    ghost use Rattle.script_plan.specs.Lemmas.Unchanged.{nine_splits, plain_order};
+    ghost use Rattle.script_plan.specs.Lemmas.Unchanged.{nine_splits, plain_rules_depend_on_no_limit, plain_rules_keep_parts};
 
     ghost rules = { λ _ _. plain_rules };
 
@@ -89,7 +89,9 @@ impl hb_ot_shaper_t for DecomposingShaper {
 
     ghost keeps_count = { λ _ _ _. refl };
 
-    ghost rules_keep_order = { λ _ _ _. plain_order };
+    ghost rules_keep_parts = { λ _ _ _. plain_rules_keep_parts };
+
+    ghost rules_depend_on_no_limit = { λ _ _. plain_rules_depend_on_no_limit };
 
     fn preprocess_text(
         &self,

@@ -1,4 +1,6 @@
-//! Texts that are shaped with and without a plan.
+//! Texts that are shaped with a plan and without one.
+ghost use Rattle.buffer_wrappers.specs.Wrappers.{AreGlyphs};
+
 use crate::data::{Tables, face_of, value};
 use crate::plans::{decomposing_plan_of_row, plan_of_row};
 use crate::rows::{flags_of, part, text_of};
@@ -11,7 +13,7 @@ use script_plan::hb_ot_shaper_t;
 use script_plan::plan::hb_ot_shape_plan_t;
 use serde_json::Value;
 use shape_pipeline::hb_ot_any_shaper_t;
-use shape_pipeline::shape::{ShapeFault, shape, shape_with_plan};
+use shape_pipeline::shaping::{ShapeFault, shape, shape_with_plan};
 use shell_tables_json::{read_languages, read_syllables, read_tables};
 use std::alloc::{AllocError, Global};
 use std::process::Abort;
@@ -44,7 +46,31 @@ fn answer(
     }
 }
 
-/// Whether a text shaped without a plan prints as the line.
+/// The greatest number of a result's glyphs: each is a glyph's, so none is tested before `as_glyph`.
+fn greatest_glyph(glyphs: &GlyphBuffer) -> u16
+    requires { AreGlyphs glyphs.now }
+{
+    let mut greatest = 0;
+    for glyph in glyphs.glyph_infos() {
+        greatest = greatest.max(glyph.as_glyph().0);
+    }
+    greatest
+}
+
+/// The greatest glyph of a text, where it is shaped.
+fn greatest_of_text(
+    alloc: Global,
+    face: &Face,
+    tables: Tables<'_>,
+    text: UnicodeBuffer,
+) -> Option<u16> {
+    match shape(alloc, face, tables.data(), &[], text) {
+        Ok(glyphs) => Some(greatest_glyph(&glyphs)),
+        Err(_) => None,
+    }
+}
+
+/// A text without a plan becomes the line.
 fn gives_by_itself(
     alloc: Global,
     row: &str,
@@ -107,9 +133,11 @@ fn gives(alloc: Global, row: &str, face: &Face, tables: Tables<'_>) -> Result<bo
     if part(row, 5) == "decomposing" {
         return gives_decomposed(alloc, row, face, tables);
     }
+    let greatest = greatest_of_text(alloc, face, tables, text_of(alloc, row)?);
+    let known = greatest.unwrap_or(0) <= 10;
     let by_itself = gives_by_itself(alloc, row, face, tables)?;
     let planned = gives_planned(alloc, row, face, tables)?;
-    Ok(by_itself && planned)
+    Ok(known && by_itself && planned)
 }
 
 fn row_agrees(alloc: Global, row: &str, tables: Tables<'_>) -> Result<bool, Fail> {

@@ -5,7 +5,7 @@ use buffer_glyphs::flags::SerializeFlags;
 use buffer_glyphs::level::BufferClusterLevel;
 use shell_readers::fault::RunFault;
 use shell_readers::options::Options;
-use shell_run::run::run;
+use shell_run::running::run;
 use std::alloc::Global;
 
 const NUMBERS: SerializeFlags = SerializeFlags(4);

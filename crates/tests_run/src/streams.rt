@@ -1,7 +1,7 @@
 //! Readers and writers that give and take a byte a call, or fail.
 use crate::memory::plain_options;
 use shell_readers::fault::RunFault;
-use shell_run::run::run;
+use shell_run::running::run;
 use std::alloc::Global;
 use std::io;
 use std::io::{ErrorKind, Read, Write};

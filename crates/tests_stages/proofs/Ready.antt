@@ -7,11 +7,11 @@ use Rattle.buffer_glyphs.specs.Items.{Item, Position, zero_position}
 use Rattle.buffer_core.specs.Sides.{Sides, with_added}
 use Rattle.buffer_core.specs.Lending.{with_glyph_ahead, with_positions_refilled}
 use Rattle.buffer_stages.specs.Ready.{IsReady}
-use Rattle.buffer_glyphs.specs.Arranged.{kept}
+use Rattle.buffer_glyphs.specs.Rewriting.{eventless_arrangement}
 use Rattle.buffer_stages.specs.Rearranged.{Rearranges}
 use Rattle.buffer_stages.specs.Lemmas.Written.{refilled_whole}
 
-pub unchanged : (start end : ℕ) (s : Sides) → IsReady s → Rearranges (λ (run : List Item). kept run) start end s s
+pub unchanged : (start end : ℕ) (s : Sides) → IsReady s → Rearranges (λ (run : List Item). eventless_arrangement run) start end s s
 unchanged start end s ready front run rest e len upto = record { items = e; happened = refl; frame = refl; ready = ready }
 
 length_set : {X : Type 0} (xs : List X) (i : ℕ) (x : X) → length (slice_set xs i x) ≡ length xs

@@ -1,13 +1,26 @@
-//! Tests of the pipeline stages around the lookups, each called alone.
+//! Tests of stages around the lookups, normalizing among them, and of what the shapers of scripts do to a text.
 #![tactic(auto)]
 
 #[cfg(test)]
 mod buffers;
 #[cfg(test)]
+mod bytes;
+#[cfg(test)]
+mod joining;
+#[cfg(test)]
+mod marks;
+#[cfg(test)]
 mod normalizing;
+#[cfg(test)]
+mod numbers;
 #[cfg(test)]
 mod positions;
 #[cfg(test)]
 mod rows;
+pub mod spans;
 #[cfg(test)]
 mod stages;
+#[cfg(test)]
+mod syllables;
+#[cfg(test)]
+mod thai;

@@ -1,5 +1,4 @@
-//! Tests of characters, of parsed settings, names, features, command-line words and JSON values, of sorted rows, and of
-//! the printed text and faults.
+//! Tests of texts, characters, words, JSON values, tables, syllables and languages.
 #![tactic(auto)]
 
 #[cfg(test)]
@@ -9,13 +8,25 @@ mod faults;
 #[cfg(test)]
 mod features;
 #[cfg(test)]
+mod machines;
+#[cfg(test)]
 mod names;
 #[cfg(test)]
 mod printing;
 #[cfg(test)]
+mod properties;
+#[cfg(test)]
+mod rows;
+#[cfg(test)]
 mod sorted;
 #[cfg(test)]
+mod syllables;
+#[cfg(test)]
+mod table_faults;
+#[cfg(test)]
 mod texts;
+#[cfg(test)]
+mod unicode_characters;
 #[cfg(test)]
 mod values;
 #[cfg(test)]

@@ -2,7 +2,7 @@
 ghost use Rattle.std.specs.Prelude.{◌≡◌, ◌+◌, ◌-◌, ◌≤◌, ◌<◌, if◌then◌else◌, nat_lt, true, length, ◌∷◌, []};
 ghost use Rattle.buffer_core.specs.Sides.{items_of, origins_of, origins_by};
 ghost use Rattle.buffer_core.specs.Merging.{index_in_all, with_output_merged};
-ghost use Rattle.buffer_core.specs.Marking.{asks_concat, concat_marked_across, end_or, marked_across, start_or, with_flagged, with_marked, end_in_all};
+ghost use Rattle.buffer_core.specs.Marking.{requests_concat, concat_marked_across, end_or, after_mark_across, start_or, with_flagged, with_flagged_apart, end_in_all};
 ghost use Rattle.buffer_glyphs.specs.Levels.{InOutput};
 ghost use Rattle.buffer_glyphs.specs.Events.{Merge, Break, Concat};
 
@@ -42,7 +42,7 @@ impl hb_buffer_t {
         requires begins { start_or start ≤ length self.old.behind }
         requires unread { self.old.read ≤ end_or end self.old }
         requires within { end_or end self.old ≤ self.old.read + length self.old.ahead }
-        ensures marked { self.new ≡ marked_across 3 start end self.old }
+        ensures marked { self.new ≡ after_mark_across 3 start end self.old }
         ensures items { items_of self.new ≡ items_of self.old }
         ensures origins { origins_of self.new
             ≡ origins_by (Break (start_or start) (end_in_all end self.old) ∷ []) self.old }
@@ -84,7 +84,7 @@ impl hb_buffer_t {
         requires begins { start ≤ length self.old.behind }
         requires unread { self.old.read ≤ end }
         requires within { end ≤ self.old.read + length self.old.ahead }
-        ensures marked { self.new ≡ with_marked flags start (index_in_all end self.old) self.old }
+        ensures marked { self.new ≡ with_flagged_apart flags start (index_in_all end self.old) self.old }
     {
         let input = &mut self.info[self.idx..end];
         let any = mark_across(&mut self.out_info[start..], input, flags);

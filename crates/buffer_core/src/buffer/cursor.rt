@@ -1,8 +1,8 @@
 //! The buffer's cursor calls (rustybuzz: hb/buffer.rs).
 ghost use Rattle.std.specs.Prelude.{◌≡◌, ◌<◌, ◌≤◌, ◌+◌, ◌-◌, ◌^◌, ◌++◌, [], drop, length, vec_len, true, false, Some, OnOk, OnErr, IfOk, slice_get};
 ghost use Rattle.std.specs.Borrow.{sem};
-ghost use Rattle.buffer_core.specs.Sides.{all_glyphs, has_output_room, with_output, moved_on, fits_next, fits_joined, synced, refused, zero_positions};
-ghost use Rattle.buffer_core.specs.Lending.{LendsGlyph, LendsLast, LendsPlace};
+ghost use Rattle.buffer_core.specs.Sides.{all_glyphs, has_output_room, with_output, after_next_glyphs, fits_next, fits_joined, after_sync, after_refusal, zero_positions};
+ghost use Rattle.buffer_core.specs.Lending.{LendsGlyph, LendsLast, LendsPosition};
 
 use super::hb_buffer_t;
 use buffer_glyphs::info::hb_glyph_info_t;
@@ -117,7 +117,7 @@ impl hb_buffer_t {
         requires closed { self.old.is_open ≡ false }
         requires there { 0 < length self.old.ahead }
         ensures value { slice_get self.old.positions self.old.read ≡ Some result.now }
-        ensures* writes_back { sem 𝓛 (LendsPlace self.entry result) }
+        ensures* writes_back { sem 𝓛 (LendsPosition self.entry result) }
     {
         &mut self.pos[self.idx]
     }
@@ -128,9 +128,9 @@ impl hb_buffer_t {
     pub fn next_glyph(&mut self) -> Result<bool, AllocError>
         requires { 0 < length self.old.ahead }
         ensures held { IfOk result (λ b. b ≡ fits_next 1 self.old) }
-        ensures moved { result ≡ Ok true → self.new ≡ moved_on 1 self.old }
+        ensures moved { result ≡ Ok true → self.new ≡ after_next_glyphs 1 self.old }
         ensures kept { all_glyphs self.new ≡ all_glyphs self.old }
-        ensures full { result ≡ Ok false → self.new ≡ refused self.old }
+        ensures full { result ≡ Ok false → self.new ≡ after_refusal self.old }
         ensures err { OnErr result (self.new ≡ self.old) }
         ensures in_place { self.old.is_open ≡ false → result ≡ Ok true }
     {
@@ -149,7 +149,7 @@ impl hb_buffer_t {
         requires open { self.old.is_open ≡ true }
         requires there { 0 < length self.old.ahead }
         requires room { has_output_room 1 self.old ≡ true }
-        ensures moved { OnOk result (self.new ≡ moved_on 1 self.old) }
+        ensures moved { OnOk result (self.new ≡ after_next_glyphs 1 self.old) }
         ensures err { OnErr result (self.new ≡ self.old) }
     {
         self.order.settle(&self.out_info, &self.info);
@@ -164,9 +164,9 @@ impl hb_buffer_t {
     pub fn sync(&mut self) -> Result<bool, AllocError>
         requires { self.old.is_open ≡ true }
         ensures held { IfOk result (λ b. b ≡ fits_joined self.old) }
-        ensures joined { result ≡ Ok true → self.new ≡ synced self.old }
+        ensures joined { result ≡ Ok true → self.new ≡ after_sync self.old }
         ensures kept { all_glyphs self.new ≡ all_glyphs self.old }
-        ensures full { result ≡ Ok false → self.new ≡ refused self.old }
+        ensures full { result ≡ Ok false → self.new ≡ after_refusal self.old }
         ensures err { OnErr result (self.new ≡ self.old) }
     {
         if !self.fits_joined() {
@@ -186,7 +186,7 @@ impl hb_buffer_t {
     fn join(&mut self) -> Result<(), AllocError>
         requires open { self.old.is_open ≡ true }
         requires fits { fits_joined self.old ≡ true }
-        ensures joined { OnOk result (self.new ≡ synced self.old) }
+        ensures joined { OnOk result (self.new ≡ after_sync self.old) }
         ensures err { OnErr result (self.new ≡ self.old) }
     {
         self.order.settle(&self.out_info, &self.info);

@@ -2,7 +2,7 @@
 ghost use Rattle.std.specs.Prelude.{◌≡◌, ◌+◌, ◌<◌, ◌++◌, ◌∷◌, true, List, length, drop, []};
 ghost use Rattle.buffer_glyphs.specs.declared.info.hb_glyph_info_t.{hb_glyph_info_t as Glyph};
 ghost use Rattle.buffer_glyphs.specs.Items.{strip};
-ghost use Rattle.buffer_glyphs.specs.Deletions.{deleted};
+ghost use Rattle.buffer_glyphs.specs.Deletions.{number_deleted};
 ghost use Rattle.buffer_core.specs.Sides.{items_of, origins_of, origins_by};
 ghost use Rattle.buffer_core.specs.Grouping.{with_deleted};
 ghost use Rattle.buffer_glyphs.specs.Events.{Delete};

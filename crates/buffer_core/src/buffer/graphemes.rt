@@ -5,9 +5,9 @@ ghost use Rattle.buffer_glyphs.specs.Events.{Sort};
 ghost use Rattle.buffer_stable_order.specs.Keys.{key_order};
 ghost use Rattle.buffer_groups.specs.Events.{deletions, groups_reversed, order_of};
 ghost use Rattle.buffer_groups.specs.Facts.{items_kept, positions_kept, positions_turned};
-ghost use Rattle.buffer_groups.specs.Turning.{groups_turned};
+ghost use Rattle.buffer_groups.specs.Turning.{groups_reversed_list};
 ghost use Rattle.buffer_core.specs.Graphemes.{continues, is_default_ignorable};
-ghost use Rattle.buffer_core.specs.Grouping.{with_groups_turned, with_picked_deleted};
+ghost use Rattle.buffer_core.specs.Grouping.{with_groups_reversed, with_picked_deleted};
 ghost use Rattle.buffer_core.specs.Sides.{all_glyphs, items_of, origins_by, origins_of};
 ghost use Rattle.buffer_core.specs.Sorting.{with_range_sorted};
 
@@ -22,8 +22,8 @@ impl hb_buffer_t {
     /// set, the glyphs of each grapheme are merged before.
     pub fn reverse_graphemes(&mut self, merge: bool)
         requires { self.old.is_open ≡ false }
-        ensures turned { self.new ≡ with_groups_turned merge (λ g h. continues (item_of h)) self.old }
-        ensures items { items_of self.new ≡ groups_turned (λ x y. continues y) (items_of self.old) }
+        ensures turned { self.new ≡ with_groups_reversed merge (λ g h. continues (item_of h)) self.old }
+        ensures items { items_of self.new ≡ groups_reversed_list (λ x y. continues y) (items_of self.old) }
         ensures positions { self.new.positions
             ≡ positions_turned (λ x y. continues y) (items_of self.old) self.old.positions }
         ensures origins { origins_of self.new
@@ -35,8 +35,8 @@ impl hb_buffer_t {
     /// Reverses the order of the clusters, each in its own order; positions move with their glyphs.
     pub fn reverse_clusters(&mut self)
         requires { self.old.is_open ≡ false }
-        ensures turned { self.new ≡ with_groups_turned false (λ g h. g.cluster == h.cluster) self.old }
-        ensures glyphs { all_glyphs self.new ≡ groups_turned (λ g h. g.cluster == h.cluster) (all_glyphs self.old) }
+        ensures turned { self.new ≡ with_groups_reversed false (λ g h. g.cluster == h.cluster) self.old }
+        ensures glyphs { all_glyphs self.new ≡ groups_reversed_list (λ g h. g.cluster == h.cluster) (all_glyphs self.old) }
     {
         self.reverse_groups(|before, glyph| before.cluster == glyph.cluster, false);
     }

@@ -7,10 +7,10 @@ ghost use Rattle.buffer_groups.specs.Runs.{grapheme_length, run_length};
 ghost use Rattle.buffer_core.specs.Sides.{all_glyphs, items_of, origins_by, origins_of};
 ghost use Rattle.buffer_glyphs.specs.Items.{Item, item_of};
 ghost use Rattle.buffer_groups.specs.Events.{deletions, groups_reversed};
-ghost use Rattle.buffer_groups.specs.Turning.{groups_turned};
+ghost use Rattle.buffer_groups.specs.Turning.{groups_reversed_list};
 ghost use Rattle.buffer_groups.specs.Facts.{items_kept, positions_kept, positions_turned};
-ghost use Rattle.buffer_groups.specs.DeletionWalk.{Tells};
-ghost use Rattle.buffer_core.specs.Grouping.{with_groups_turned, with_picked_deleted};
+ghost use Rattle.buffer_groups.specs.DeletionWalk.{AnswersAs};
+ghost use Rattle.buffer_core.specs.Grouping.{with_groups_reversed, with_picked_deleted};
 
 use super::hb_buffer_t;
 use super::merges::telling_flags;
@@ -71,11 +71,11 @@ impl hb_buffer_t {
         requires callable { F.IsAlwaysCallable group }
         requires closed { self.old.is_open ≡ false }
         ensures turned { (joins : Glyph → Glyph → Bool) → Decides F.Fn group joins →
-            self.new ≡ with_groups_turned merge joins self.old }
+            self.new ≡ with_groups_reversed merge joins self.old }
         ensures plain { (joins : Glyph → Glyph → Bool) → Decides F.Fn group joins → merge ≡ false →
-            all_glyphs self.new ≡ groups_turned joins (all_glyphs self.old) }
+            all_glyphs self.new ≡ groups_reversed_list joins (all_glyphs self.old) }
         ensures items { (q : Item → Item → Bool) → Decides F.Fn group (λ g h. q (item_of g) (item_of h)) →
-            items_of self.new ≡ groups_turned q (items_of self.old) }
+            items_of self.new ≡ groups_reversed_list q (items_of self.old) }
         ensures positions { (q : Item → Item → Bool) → Decides F.Fn group (λ g h. q (item_of g) (item_of h)) →
             self.new.positions ≡ positions_turned q (items_of self.old) self.old.positions }
         ensures origins { (q : Item → Item → Bool) → Decides F.Fn group (λ g h. q (item_of g) (item_of h)) →
@@ -102,13 +102,13 @@ impl hb_buffer_t {
     pub fn delete_glyphs_inplace<F: Fn(&hb_glyph_info_t) -> bool>(&mut self, filter: F)
         requires callable { F.IsAlwaysCallable filter }
         requires closed { self.old.is_open ≡ false }
-        ensures deleted { (goes : Glyph → Bool) → Tells F.Fn filter goes →
+        ensures deleted { (goes : Glyph → Bool) → AnswersAs F.Fn filter goes →
             self.new ≡ with_picked_deleted goes self.old }
-        ensures items { (q : Item → Bool) → Tells F.Fn filter (λ g. q (item_of g)) →
+        ensures items { (q : Item → Bool) → AnswersAs F.Fn filter (λ g. q (item_of g)) →
             items_of self.new ≡ items_kept q (items_of self.old) }
-        ensures positions { (q : Item → Bool) → Tells F.Fn filter (λ g. q (item_of g)) →
+        ensures positions { (q : Item → Bool) → AnswersAs F.Fn filter (λ g. q (item_of g)) →
             self.new.positions ≡ positions_kept q (items_of self.old) self.old.positions }
-        ensures origins { (q : Item → Bool) → Tells F.Fn filter (λ g. q (item_of g)) →
+        ensures origins { (q : Item → Bool) → AnswersAs F.Fn filter (λ g. q (item_of g)) →
             origins_of self.new ≡ origins_by (deletions q (items_of self.old)) self.old }
         ensures closed { self.new.is_open ≡ false }
         ensures cursor { self.new.read ≡ min self.old.read (length (all_glyphs self.new)) }

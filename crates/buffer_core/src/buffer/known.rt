@@ -5,6 +5,7 @@ ghost use Rattle.buffer_lists.specs.Known.{HasOrder};
 ghost use Rattle.buffer_core.specs.Sides.{all_glyphs};
 
 use super::hb_buffer_t;
+use buffer_glyphs::level::BufferClusterLevel;
 use buffer_lists::order::{ClusterOrder, KnownOrder};
 
 impl hb_buffer_t {
@@ -20,7 +21,21 @@ impl hb_buffer_t {
         known
     }
 
-    /// Learns whether the clusters are in order, where that is not known, so that ranges of one cluster are flagged
+    /// What is known of the order of clusters before merges: where clusters are kept apart the list is not walked for it.
+    pub(super) fn order_before_merges(&mut self) -> KnownOrder
+        requires { self.old.is_open ≡ false }
+        ensures same { self.new ≡ self.old }
+        ensures order { HasOrder result (clusters (all_glyphs self.old)) }
+    {
+        match self.cluster_level {
+            BufferClusterLevel::Characters => self.known_order(),
+            BufferClusterLevel::MonotoneGraphemes | BufferClusterLevel::MonotoneCharacters => {
+                self.walked_order()
+            }
+        }
+    }
+
+    /// Learns whether the clusters stand in order, where that is not known, so that ranges of one cluster are marked
     /// without a walk. It takes linear time, and changes nothing that is seen.
     pub fn learn_order(&mut self)
         requires { self.old.is_open ≡ false }

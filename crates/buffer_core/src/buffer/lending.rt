@@ -3,7 +3,7 @@
 ghost use Rattle.std.specs.Prelude.{◌≡◌, false, true};
 ghost use Rattle.std.specs.Borrow.{sem};
 ghost use Rattle.buffer_core.specs.Sides.{all_glyphs};
-ghost use Rattle.buffer_core.specs.Lending.{LendsGlyphs, LendsOutput, LendsPlaces};
+ghost use Rattle.buffer_core.specs.Lending.{LendsGlyphs, LendsOutput, LendsPositions};
 
 use super::hb_buffer_t;
 use buffer_glyphs::info::hb_glyph_info_t;
@@ -57,7 +57,7 @@ impl hb_buffer_t {
     pub fn pos_slice_mut(&mut self) -> &mut [GlyphPosition]
         requires { self.old.is_open ≡ false }
         ensures value { result.now ≡ self.old.positions }
-        ensures* writes_back { sem 𝓛 (LendsPlaces self.entry result) }
+        ensures* writes_back { sem 𝓛 (LendsPositions self.entry result) }
     {
         &mut self.pos
     }

@@ -3,7 +3,7 @@
 ghost use Rattle.std.specs.Prelude.{◌≡◌, ◌+◌, ◌-◌, ◌≤◌, ◌<◌, if◌then◌else◌, true, length, ◌∷◌, []};
 ghost use Rattle.buffer_core.specs.Sides.{items_of, origins_of, origins_by};
 ghost use Rattle.buffer_core.specs.Merging.{index_in_all};
-ghost use Rattle.buffer_core.specs.Marking.{asks_concat, concat_marked, end_or, marked_range, start_or, tatweel_marked, with_flagged, with_marked, start_in_all, end_in_all};
+ghost use Rattle.buffer_core.specs.Marking.{requests_concat, concat_marked, end_or, range_flagged_apart, start_or, tatweel_marked, with_flagged, with_flagged_apart, start_in_all, end_in_all};
 ghost use Rattle.buffer_glyphs.specs.Events.{Break, Concat, Tatweel};
 
 use super::hb_buffer_t;
@@ -20,7 +20,7 @@ impl hb_buffer_t {
         requires ordered { start_or start ≤ end_or end self.old }
         requires within { end_or end self.old ≤ self.old.read + length self.old.ahead }
         requires unread { self.old.is_open ≡ true → self.old.read ≤ start_or start }
-        ensures marked { self.new ≡ marked_range 3 start end self.old }
+        ensures marked { self.new ≡ range_flagged_apart 3 start end self.old }
         ensures items { items_of self.new ≡ items_of self.old }
         ensures origins { origins_of self.new
             ≡ origins_by (Break (start_in_all start self.old) (end_in_all end self.old) ∷ []) self.old }
@@ -76,7 +76,7 @@ impl hb_buffer_t {
     }
 
     pub(super) fn asks_concat(&self) -> bool
-        ensures { result ≡ asks_concat self.now }
+        ensures { result ≡ requests_concat self.now }
     {
         self.flags.contains(BufferFlags::PRODUCE_UNSAFE_TO_CONCAT)
     }
@@ -87,7 +87,7 @@ impl hb_buffer_t {
         requires within { end ≤ self.old.read + length self.old.ahead }
         requires unread { self.old.is_open ≡ true → self.old.read ≤ start }
         ensures marked { self.new
-            ≡ with_marked flags (index_in_all start self.old) (index_in_all end self.old) self.old }
+            ≡ with_flagged_apart flags (index_in_all start self.old) (index_in_all end self.old) self.old }
     {
         self.order.settle(&self.out_info, &self.info);
         let in_order = self.order.known.is_known();

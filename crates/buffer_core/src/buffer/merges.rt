@@ -2,7 +2,7 @@
 ghost use Rattle.std.specs.Prelude.{◌≡◌, ◌+◌, ◌-◌, ◌≤◌, if◌then◌else◌, true, length, ◌∷◌, []};
 ghost use Rattle.buffer_glyphs.specs.Deleting.{recast};
 ghost use Rattle.buffer_core.specs.Sides.{items_of, origins_of, origins_by};
-ghost use Rattle.buffer_core.specs.Merging.{index_in_all, telling_flags, with_merged};
+ghost use Rattle.buffer_core.specs.Merging.{index_in_all, with_has_glyph_flags, with_merged};
 ghost use Rattle.buffer_glyphs.specs.Levels.{InList};
 ghost use Rattle.buffer_glyphs.specs.Events.{Merge};
 
@@ -60,7 +60,7 @@ pub(super) fn telling_flags(
     any: bool,
     flags: hb_buffer_scratch_flags_t,
 ) -> hb_buffer_scratch_flags_t
-    ensures { result ≡ telling_flags any flags }
+    ensures { result ≡ with_has_glyph_flags any flags }
 {
     if any {
         flags | HB_BUFFER_SCRATCH_FLAG_HAS_GLYPH_FLAGS

@@ -1,9 +1,9 @@
 //! Moves of the cursor (rustybuzz: hb/buffer.rs, `next_glyphs`, `skip_glyph`, `move_to`).
 ghost use Rattle.std.specs.Prelude.{◌≡◌, ◌<◌, ◌≤◌, ◌+◌, ◌-◌, ◌++◌, length, drop, true, false, Ok, OnOk, OnErr, IfOk, ◌∷◌, []};
 ghost use Rattle.buffer_glyphs.specs.Items.{strip};
-ghost use Rattle.buffer_core.specs.Sides.{all_glyphs, fits_next, has_output_room, items_of, moved_on, refused, origins_of, origins_by};
-ghost use Rattle.buffer_core.specs.Merging.{with_skipped};
-ghost use Rattle.buffer_core.specs.Moving.{fits_moved, has_room_back, moved_to};
+ghost use Rattle.buffer_core.specs.Sides.{all_glyphs, fits_next, has_output_room, items_of, after_next_glyphs, after_refusal, origins_of, origins_by};
+ghost use Rattle.buffer_core.specs.Merging.{with_glyph_skipped};
+ghost use Rattle.buffer_core.specs.Moving.{fits_moved, has_room_back, after_move_to};
 ghost use Rattle.buffer_glyphs.specs.Events.{Replace};
 
 use super::hb_buffer_t;
@@ -17,9 +17,9 @@ impl hb_buffer_t {
     pub fn next_glyphs(&mut self, count: usize) -> Result<bool, AllocError>
         requires { count ≤ length self.old.ahead }
         ensures held { IfOk result (λ b. b ≡ fits_next count self.old) }
-        ensures moved { result ≡ Ok true → self.new ≡ moved_on count self.old }
+        ensures moved { result ≡ Ok true → self.new ≡ after_next_glyphs count self.old }
         ensures kept { all_glyphs self.new ≡ all_glyphs self.old }
-        ensures full { result ≡ Ok false → self.new ≡ refused self.old }
+        ensures full { result ≡ Ok false → self.new ≡ after_refusal self.old }
         ensures err { OnErr result (self.new ≡ self.old) }
         ensures in_place { self.old.is_open ≡ false → result ≡ Ok true }
     {
@@ -38,7 +38,7 @@ impl hb_buffer_t {
         requires open { self.old.is_open ≡ true }
         requires there { count ≤ length self.old.ahead }
         requires room { has_output_room count self.old ≡ true }
-        ensures moved { OnOk result (self.new ≡ moved_on count self.old) }
+        ensures moved { OnOk result (self.new ≡ after_next_glyphs count self.old) }
         ensures err { OnErr result (self.new ≡ self.old) }
     {
         self.order.settle(&self.out_info, &self.info);
@@ -53,7 +53,7 @@ impl hb_buffer_t {
     pub fn skip_glyph(&mut self)
         requires open { self.old.is_open ≡ true }
         requires there { 0 < length self.old.ahead }
-        ensures skipped { self.new ≡ with_skipped self.old }
+        ensures skipped { self.new ≡ with_glyph_skipped self.old }
         ensures items { items_of self.new ≡ strip self.old.behind ++ drop 1 (strip self.old.ahead) }
         ensures origins { origins_of self.new ≡ origins_by (Replace (length self.old.behind) 1 0 ∷ []) self.old }
     {
@@ -66,9 +66,9 @@ impl hb_buffer_t {
     pub fn move_to(&mut self, i: usize) -> Result<bool, AllocError>
         requires { i ≤ length (all_glyphs self.old) }
         ensures held { IfOk result (λ b. b ≡ fits_moved i self.old) }
-        ensures moved { result ≡ Ok true → self.new ≡ moved_to i self.old }
+        ensures moved { result ≡ Ok true → self.new ≡ after_move_to i self.old }
         ensures kept { all_glyphs self.new ≡ all_glyphs self.old }
-        ensures full { result ≡ Ok false → self.new ≡ refused self.old }
+        ensures full { result ≡ Ok false → self.new ≡ after_refusal self.old }
         ensures err { OnErr result (self.new ≡ self.old) }
         ensures in_place { self.old.is_open ≡ false → result ≡ Ok true }
     {
@@ -92,9 +92,9 @@ impl hb_buffer_t {
         requires open { self.old.is_open ≡ true }
         requires there { i ≤ length self.old.behind }
         ensures held { IfOk result (λ b. b ≡ has_room_back i self.old) }
-        ensures moved { result ≡ Ok true → self.new ≡ moved_to i self.old }
+        ensures moved { result ≡ Ok true → self.new ≡ after_move_to i self.old }
         ensures kept { all_glyphs self.new ≡ all_glyphs self.old }
-        ensures full { result ≡ Ok false → self.new ≡ refused self.old }
+        ensures full { result ≡ Ok false → self.new ≡ after_refusal self.old }
         ensures err { OnErr result (self.new ≡ self.old) }
     {
         if !self.has_room_back(i) {
@@ -118,7 +118,7 @@ impl hb_buffer_t {
         requires open { self.old.is_open ≡ true }
         requires there { i ≤ length self.old.behind }
         requires room { has_room_back i self.old ≡ true }
-        ensures moved { OnOk result (self.new ≡ moved_to i self.old) }
+        ensures moved { OnOk result (self.new ≡ after_move_to i self.old) }
         ensures err { OnErr result (self.new ≡ self.old) }
     {
         self.order.settle(&self.out_info, &self.info);

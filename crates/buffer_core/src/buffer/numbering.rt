@@ -1,7 +1,7 @@
 //! Clusters by index (rustybuzz: hb/buffer.rs, `reset_clusters`).
 ghost use Rattle.std.specs.Prelude.{◌≡◌, false, vec_len};
 ghost use Rattle.buffer_core.specs.Sides.{items_of, origins_of};
-ghost use Rattle.buffer_core.specs.Settings.{glyphs_counted, with_counted, origins_counted};
+ghost use Rattle.buffer_core.specs.Settings.{glyphs_counted, with_reset_clusters, origins_counted};
 
 use super::hb_buffer_t;
 use buffer_glyphs::info::hb_glyph_info_t;
@@ -11,7 +11,7 @@ impl hb_buffer_t {
     /// Sets the clusters of the glyphs to 0, 1, 2 and so on; those past `u32::MAX` get that number.
     pub fn reset_clusters(&mut self)
         requires { self.old.is_open ≡ false }
-        ensures counted { self.new ≡ with_counted self.old }
+        ensures counted { self.new ≡ with_reset_clusters self.old }
         ensures items { items_of self.new ≡ items_of self.old }
         ensures origins { origins_of self.new ≡ origins_counted 0 (origins_of self.old) }
     {

@@ -1,8 +1,8 @@
 //! Some glyphs replaced by others (rustybuzz: hb/buffer.rs, `replace_glyphs`).
 ghost use Rattle.std.specs.Prelude.{◌≡◌, ◌+◌, ◌≤◌, length, true, false, Ok, OnOk, OnErr, IfOk, ◌∷◌, []};
-ghost use Rattle.buffer_glyphs.specs.Parts.{replaced};
+ghost use Rattle.buffer_glyphs.specs.Parts.{numbers_replaced};
 ghost use Rattle.buffer_glyphs.specs.Replacements.{items_replaced};
-ghost use Rattle.buffer_core.specs.Sides.{items_of, refused, origins_of, origins_by};
+ghost use Rattle.buffer_core.specs.Sides.{items_of, after_refusal, origins_of, origins_by};
 ghost use Rattle.buffer_core.specs.Merging.{fits_copies, with_replaced};
 ghost use Rattle.buffer_glyphs.specs.Events.{Replace};
 
@@ -30,7 +30,7 @@ impl hb_buffer_t {
             items_of self.new ≡ items_replaced (length self.old.behind) num_in glyph_data.now (items_of self.old) }
         ensures origins { result ≡ Ok true →
             origins_of self.new ≡ origins_by (Replace (length self.old.behind) num_in num_out ∷ []) self.old }
-        ensures full { result ≡ Ok false → self.new ≡ refused self.old }
+        ensures full { result ≡ Ok false → self.new ≡ after_refusal self.old }
         ensures err { OnErr result (self.new ≡ self.old) }
     {
         if !self.fits_copies(num_out) {

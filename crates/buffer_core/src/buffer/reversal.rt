@@ -1,6 +1,6 @@
 //! Reversals of a buffer's list (rustybuzz: hb/buffer.rs, `reverse`, `reverse_range`, `clear_positions`).
 ghost use Rattle.std.specs.Prelude.{◌≡◌, ◌≤◌, ◌-◌, false, length, reverse, vec_len, ◌∷◌, []};
-ghost use Rattle.buffer_core.specs.Sides.{all_glyphs, items_of, reversed, with_cleared_positions, origins_of, origins_by};
+ghost use Rattle.buffer_core.specs.Sides.{all_glyphs, items_of, after_reverse, with_cleared_positions, origins_of, origins_by};
 ghost use Rattle.buffer_core.specs.Moving.{range_reversed, with_range_reversed, indices_reversed};
 ghost use Rattle.buffer_glyphs.specs.Events.{Reverse, Arrange};
 
@@ -13,7 +13,7 @@ impl hb_buffer_t {
     /// Reverses the list of glyphs, and their positions with it.
     pub fn reverse(&mut self)
         requires { self.old.is_open ≡ false }
-        ensures turned { self.new ≡ reversed self.old }
+        ensures turned { self.new ≡ after_reverse self.old }
         ensures items { items_of self.new ≡ reverse (items_of self.old) }
         ensures origins { origins_of self.new ≡ origins_by (Reverse ∷ []) self.old }
     {

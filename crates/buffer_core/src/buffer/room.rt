@@ -1,6 +1,6 @@
 //! Whether a list may grow, and refusals for length (rustybuzz: hb/buffer.rs, `ensure`, `successful`).
 ghost use Rattle.std.specs.Prelude.{◌≡◌, false, true};
-ghost use Rattle.buffer_core.specs.Sides.{has_output_room, refused};
+ghost use Rattle.buffer_core.specs.Sides.{has_output_room, after_refusal};
 
 use super::hb_buffer_t;
 
@@ -16,7 +16,7 @@ impl hb_buffer_t {
     /// Records that a list would have more glyphs than it may: no later `sync` succeeds. Answers false.
     pub(super) fn refuse(&mut self) -> bool
         ensures answer { result ≡ false }
-        ensures after { self.new ≡ refused self.old }
+        ensures after { self.new ≡ after_refusal self.old }
     {
         self.successful = false;
         false

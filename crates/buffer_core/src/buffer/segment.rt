@@ -1,7 +1,7 @@
 //! Script and direction of a text where none was set (rustybuzz: hb/buffer.rs, `guess_segment_properties`).
 ghost use Rattle.std.specs.Prelude.{◌≡◌, if◌then◌else◌, Some, None, false};
 ghost use Rattle.buffer_unicode.specs.Scripts.{script_of};
-ghost use Rattle.buffer_core.specs.Segment.{first_script, guessed, guessed_direction, is_shared, tells_script, with_segment};
+ghost use Rattle.buffer_core.specs.Segment.{first_script, after_guess_segment_properties, guessed_direction, is_shared, has_own_script, with_segment};
 
 use super::hb_buffer_t;
 use buffer_common::direction::Direction;
@@ -42,7 +42,7 @@ impl hb_buffer_t {
     /// not set to that of the script, else to left to right.
     pub fn guess_segment_properties(&mut self)
         requires { self.old.is_open ≡ false }
-        ensures { self.new ≡ guessed self.old }
+        ensures { self.new ≡ after_guess_segment_properties self.old }
     {
         self.script = self.script.or(first_script(&self.info));
         self.direction = guessed_direction(self.direction, self.script);
@@ -62,7 +62,7 @@ pub fn first_script(glyphs: &[hb_glyph_info_t]) -> Option<Script>
 }
 
 fn told_script(number: u32) -> Option<Script>
-    ensures { result ≡ (if tells_script number then Some (script_of number) else None) }
+    ensures { result ≡ (if has_own_script number then Some (script_of number) else None) }
 {
     let script = char::from_u32(number)?.script();
     if is_shared(script) {

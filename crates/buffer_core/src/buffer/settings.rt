@@ -2,12 +2,13 @@
 ghost use Rattle.std.specs.Prelude.{◌≡◌};
 ghost use Rattle.std.specs.Option.{option_copied};
 ghost use Rattle.buffer_core.specs.Sides.{with_flags, with_level, with_scratch_flags};
-ghost use Rattle.buffer_core.specs.Settings.{with_invisible, with_language, with_not_found_variation_selector};
+ghost use Rattle.buffer_core.specs.Settings.{number_set, with_invisible, with_language, with_not_found_variation_selector};
 
 use super::hb_buffer_t;
 use buffer_common::constants::{BufferFlags, hb_buffer_scratch_flags_t};
 use buffer_common::language::Language;
 use buffer_glyphs::level::BufferClusterLevel;
+use buffer_glyphs::names::GlyphId;
 
 impl hb_buffer_t {
     /// The cluster level.
@@ -66,30 +67,28 @@ impl hb_buffer_t {
         self.language = language;
     }
 
-    /// The glyph that replaces invisible characters; none for a space of zero width.
-    pub fn invisible(&self) -> Option<u32>
-        ensures { result ≡ self.now.invisible }
+    /// The glyph that stands for a character that is not to be seen, none for a space of no width.
+    pub fn invisible(&self) -> Option<GlyphId>
+        ensures { number_set result ≡ self.now.invisible }
     {
         self.invisible
     }
 
-    /// Sets the glyph that replaces invisible characters.
-    pub fn set_invisible(&mut self, glyph: Option<u32>)
-        ensures { self.new ≡ with_invisible glyph self.old }
+    pub fn set_invisible(&mut self, glyph: Option<GlyphId>)
+        ensures { self.new ≡ with_invisible (number_set glyph) self.old }
     {
         self.invisible = glyph;
     }
 
-    /// The glyph that replaces a variation selector that the font does not support.
-    pub fn not_found_variation_selector(&self) -> Option<u32>
-        ensures { result ≡ self.now.not_found_variation_selector }
+    /// The glyph that stands for a variation selector that the font does not know.
+    pub fn not_found_variation_selector(&self) -> Option<GlyphId>
+        ensures { number_set result ≡ self.now.not_found_variation_selector }
     {
         self.not_found_variation_selector
     }
 
-    /// Sets the glyph that replaces a variation selector that the font does not support.
-    pub fn set_not_found_variation_selector(&mut self, glyph: Option<u32>)
-        ensures { self.new ≡ with_not_found_variation_selector glyph self.old }
+    pub fn set_not_found_variation_selector(&mut self, glyph: Option<GlyphId>)
+        ensures { self.new ≡ with_not_found_variation_selector (number_set glyph) self.old }
     {
         self.not_found_variation_selector = glyph;
     }

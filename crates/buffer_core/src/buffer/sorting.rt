@@ -17,8 +17,9 @@ use buffer_lists::order::ClusterOrder;
 use std::alloc::{AllocError, Global};
 
 impl hb_buffer_t {
-    /// Sorts the glyphs from `start` up to before `end` stably by their keys, and merges each smallest span that the
-    /// order permutes, as `merge_clusters` does. Positions stay at their indices.
+    /// Puts the glyphs from `start` up to before `end` in stable order by the keys that they have, and merges each smallest
+    /// span that the order permutes, as `merge_clusters` does. Places stay where they are. A range whose keys stand in order
+    /// takes no memory; where clusters are kept apart only the range is walked.
     pub fn sort<F: Fn(&hb_glyph_info_t) -> u32>(
         &mut self,
         alloc: Global,
@@ -43,7 +44,7 @@ impl hb_buffer_t {
         ensures count { length (all_glyphs self.new) ≡ length (all_glyphs self.old) }
         ensures err { OnErr result (self.new ≡ self.old) }
     {
-        let known = self.walked_order();
+        let known = self.order_before_merges();
         let level = self.cluster_level;
         let in_order = known.is_known();
         let sorted = sort(alloc, &mut self.info, level, in_order, start, end, key)?;

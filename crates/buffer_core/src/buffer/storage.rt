@@ -1,7 +1,7 @@
 //! The list of a buffer: its length, its characters, its slices (rustybuzz: hb/buffer.rs).
 ghost use Rattle.std.specs.Prelude.{◌≡◌, ◌+◌, ◌≤◌, ◌<◌, ◌^◌, ◌==◌, ◌++◌, ◌∷◌, [], length, not, nat_le, false, true, Ok, OnOk, OnErr, IfOk, IsTrue, vec_len, vec_capacity};
 ghost use Rattle.std.specs.Str.{chars};
-ghost use Rattle.buffer_core.specs.Sides.{all_glyphs, items_of, with_added, has_room, refused, zero_positions, origins_of};
+ghost use Rattle.buffer_core.specs.Sides.{all_glyphs, items_of, with_added, has_room, after_refusal, zero_positions, origins_of};
 ghost use Rattle.buffer_glyphs.specs.Items.{clusters, item_of, zero_position};
 ghost use Rattle.buffer_lists.specs.Known.{HasOrder};
 ghost use Rattle.buffer_core.specs.Text.{added_glyph, added_text, fits_text, offsets_fit, text_items, unflagged_origin, text_origins};
@@ -103,7 +103,7 @@ impl hb_buffer_t {
         ensures items { result ≡ Ok true → items_of self.new ≡ of_length n (item_of zero_glyph) (items_of self.old) }
         ensures origins { result ≡ Ok true → origins_of self.new
             ≡ of_length n (unflagged_origin 0) (origins_of self.old) }
-        ensures full { result ≡ Ok false → self.new ≡ refused self.old }
+        ensures full { result ≡ Ok false → self.new ≡ after_refusal self.old }
         ensures err { OnErr result (self.new ≡ self.old) }
     {
         if n > self.max_len {

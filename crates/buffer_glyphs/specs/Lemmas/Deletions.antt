@@ -7,10 +7,10 @@ use Rattle.std.proofs.lemmas.List.{drop-drop, take-map, drop-map, map-append, ma
 use Rattle.std.proofs.lemmas.Option.{slice_get-get_or}
 use Rattle.buffer_glyphs.specs.declared.level.BufferClusterLevel.{BufferClusterLevel}
 use Rattle.buffer_glyphs.specs.declared.level.BufferClusterLevel.TheVariants.{MonotoneGraphemes, MonotoneCharacters, Characters}
-use Rattle.buffer_glyphs.specs.Parts.{stretch, united, united_all, last_from, first_of, last_of, is_number, with_neighbour, united_if_last, united_without, before_deletion, without}
+use Rattle.buffer_glyphs.specs.Parts.{range_of, united_number, united_numbers, last_from, first_of, last_of, is_number, with_neighbour, numbers_united_if_last, numbers_united_without, before_deletion, numbers_without}
 use Rattle.buffer_glyphs.specs.Order.{IsChain, IsInOrder, BringsNone}
-use Rattle.buffer_glyphs.specs.Deletions.{end_renumbered, deleted_alone, deleted}
-use Rattle.buffer_glyphs.specs.Merges.{merged_numbers, merged_at}
+use Rattle.buffer_glyphs.specs.Deletions.{end_renumbered, numbers_deleted_alone, number_deleted}
+use Rattle.buffer_glyphs.specs.Merges.{merged_numbers, numbers_merged_at}
 use Rattle.buffer_glyphs.specs.Levels.{IsMonotone}
 use Rattle.buffer_glyphs.specs.Laws.{DeletionIsEvent}
 use Rattle.buffer_glyphs.specs.Lemmas.Drawn.{last_more}
@@ -30,7 +30,7 @@ no_last (n ∷ ns) e =
     let there = slice_get-get_or (n ∷ ns) (length (n ∷ ns) - 1) n within in
     cc
 
-pub without_map : (f : ℕ → ℕ) (at : ℕ) (ns : List ℕ) → without at (map f ns) ≡ map f (without at ns)
+pub without_map : (f : ℕ → ℕ) (at : ℕ) (ns : List ℕ) → numbers_without at (map f ns) ≡ map f (numbers_without at ns)
 without_map f at ns = rw (take-map f at ns, drop-map f (at + 1) ns) (sym (map-append f (take at ns) (drop (at + 1) ns)))
 
 pub last_is : (x : ℕ) (xs : List ℕ) → last_of (x ∷ xs) ≡ Some (last_from x xs)
@@ -48,15 +48,15 @@ drop_front (x ∷ xs) ys = drop_front xs ys
 beyond_front : (front : List ℕ) (n : ℕ) (back : List ℕ) → drop (length front + 1) (front ++ n ∷ back) ≡ back
 beyond_front front n back = sym (drop-drop 1 (length front) (front ++ n ∷ back)) ∙ ap (drop 1) (drop_front front (n ∷ back))
 
-rest_of : (front : List ℕ) (n : ℕ) (back : List ℕ) → without (length front) (front ++ n ∷ back) ≡ front ++ back
+rest_of : (front : List ℕ) (n : ℕ) (back : List ℕ) → numbers_without (length front) (front ++ n ∷ back) ≡ front ++ back
 rest_of front n back = rw (take_front front (n ∷ back), beyond_front front n back) refl
 
-left_is : (front : List ℕ) (n : ℕ) (back : List ℕ) → before_deletion (length front) (front ++ n ∷ back) ≡ united_if_last (last_of front) (first_of back) n (front ++ n ∷ back)
+left_is : (front : List ℕ) (n : ℕ) (back : List ℕ) → before_deletion (length front) (front ++ n ∷ back) ≡ numbers_united_if_last (last_of front) (first_of back) n (front ++ n ∷ back)
 left_is front n back =
     let ns = front ++ n ∷ back in
-    ap (λ ms. united_without (last_of ms) (first_of (drop (length front) ns)) (first_of (drop (length front + 1) ns)) ns) (take_front front (n ∷ back))
-    ∙ ap (λ ms. united_without (last_of front) (first_of ms) (first_of (drop (length front + 1) ns)) ns) (drop_front front (n ∷ back))
-    ∙ ap (λ ms. united_without (last_of front) (Some n) (first_of ms) ns) (beyond_front front n back)
+    ap (λ ms. numbers_united_without (last_of ms) (first_of (drop (length front) ns)) (first_of (drop (length front + 1) ns)) ns) (take_front front (n ∷ back))
+    ∙ ap (λ ms. numbers_united_without (last_of front) (first_of ms) (first_of (drop (length front + 1) ns)) ns) (drop_front front (n ∷ back))
+    ∙ ap (λ ms. numbers_united_without (last_of front) (Some n) (first_of ms) ns) (beyond_front front n back)
 
 -- numbers p, and no other
 all_same : (p : ℕ) (ns : List ℕ) → ((k : ℕ) → Has ns k → k ≡ p) → list_all (λ k. k == p) ns ≡ true
@@ -77,14 +77,14 @@ same_all p k (n ∷ ns) e h =
     and_cases true t a = (refl, a)
     and_cases false t a = cc
 
-united_high : (p n : ℕ) → n ≤ p → n ≡ united (min p n) (max p n) p
+united_high : (p n : ℕ) → n ≤ p → n ≡ united_number (min p n) (max p n) p
 united_high p n le = grind (arith, nat_tests, common_steps)
 
-united_low : (p n k : ℕ) → p ≤ n → k ≤ p → united (min p n) (max p n) k ≡ k
+united_low : (p n k : ℕ) → p ≤ n → k ≤ p → united_number (min p n) (max p n) k ≡ k
 united_low p n k le h = grind (arith, nat_tests, common_steps)
 
 -- in a falling list that ends in p, a union with a lesser n changes the p at the end
-end_united : (p n : ℕ) (ns : List ℕ) → n ≤ p → IsChain (Stands true) ns → ((k : ℕ) → Has ns k → p ≤ k) → end_renumbered p n ns ≡ map (united (min p n) (max p n)) ns
+end_united : (p n : ℕ) (ns : List ℕ) → n ≤ p → IsChain (Stands true) ns → ((k : ℕ) → Has ns k → p ≤ k) → end_renumbered p n ns ≡ map (united_number (min p n) (max p n)) ns
 end_united p n [] le o low = refl
 end_united p n (m ∷ ms) le o low = by_test (list_all (λ k. k == p) (m ∷ ms)) refl (end_united p n ms le o.1 (λ k h. low k (has_more m k ms h)))
   where
@@ -94,26 +94,26 @@ end_united p n (m ∷ ms) le o low = by_test (list_all (λ k. k == p) (m ∷ ms)
         let bad : true ≡ false = sym all ∙ e in
         cc
 
-    by_test : (t : Bool) → list_all (λ k. k == p) (m ∷ ms) ≡ t → end_renumbered p n ms ≡ map (united (min p n) (max p n)) ms
-        → (if t then map (λ (k : ℕ). n) (m ∷ ms) else m ∷ end_renumbered p n ms) ≡ map (united (min p n) (max p n)) (m ∷ ms)
-    by_test true e later = map_alike (λ k. n) (united (min p n) (max p n)) (m ∷ ms) (λ k h. united_high p n le ∙ ap (united (min p n) (max p n)) (sym (same_all p k (m ∷ ms) e h)))
+    by_test : (t : Bool) → list_all (λ k. k == p) (m ∷ ms) ≡ t → end_renumbered p n ms ≡ map (united_number (min p n) (max p n)) ms
+        → (if t then map (λ (k : ℕ). n) (m ∷ ms) else m ∷ end_renumbered p n ms) ≡ map (united_number (min p n) (max p n)) (m ∷ ms)
+    by_test true e later = map_alike (λ k. n) (united_number (min p n) (max p n)) (m ∷ ms) (λ k h. united_high p n le ∙ ap (united_number (min p n) (max p n)) (sym (same_all p k (m ∷ ms) e h)))
     by_test false e later =
-        let first : m ≡ united (min p n) (max p n) m = sym (outside true p n m le (inl (low m (has_here m ms), not_all e))) in
-        ap (λ j. j ∷ end_renumbered p n ms) first ∙ ap (λ js. united (min p n) (max p n) m ∷ js) later
+        let first : m ≡ united_number (min p n) (max p n) m = sym (outside true p n m le (inl (low m (has_here m ms), not_all e))) in
+        ap (λ j. j ∷ end_renumbered p n ms) first ∙ ap (λ js. united_number (min p n) (max p n) m ∷ js) later
 
 -- the front, where p is its last number and n comes next
 front_united : (falls : Bool) (p n : ℕ) (front : List ℕ) → IsChain (Stands falls) front → ((k : ℕ) → Has front k → Stands falls k p) → Stands falls p n → p ≢ n
-    → (if nat_lt n p then end_renumbered p n front else front) ≡ map (united (min p n) (max p n)) front
+    → (if nat_lt n p then end_renumbered p n front else front) ≡ map (united_number (min p n) (max p n)) front
 front_united false p n front o low le ne =
     let test : nat_lt n p ≡ false = grind (arith, nat_tests, common_steps) in
-    rw test (sym (map_alike (united (min p n) (max p n)) (λ k. k) front (λ k h. united_low p n k le (low k h)) ∙ map-id front))
+    rw test (sym (map_alike (united_number (min p n) (max p n)) (λ k. k) front (λ k h. united_low p n k le (low k h)) ∙ map-id front))
 front_united true p n front o low le ne =
     let test : nat_lt n p ≡ true = grind (arith, nat_tests, common_steps) in
     rw test (end_united p n front le o low)
 
 -- what comes after n stays as it is
-back_united : (falls : Bool) (p n : ℕ) (back : List ℕ) → Stands falls p n → ((k : ℕ) → Has back k → Stands falls n k × k ≢ n) → back ≡ map (united (min p n) (max p n)) back
-back_united falls p n back le far = sym (map_alike (united (min p n) (max p n)) (λ k. k) back (λ k h. outside falls p n k le (inr (far k h))) ∙ map-id back)
+back_united : (falls : Bool) (p n : ℕ) (back : List ℕ) → Stands falls p n → ((k : ℕ) → Has back k → Stands falls n k × k ≢ n) → back ≡ map (united_number (min p n) (max p n)) back
+back_united falls p n back le far = sym (map_alike (united_number (min p n) (max p n)) (λ k. k) back (λ k h. outside falls p n k le (inr (far k h))) ∙ map-id back)
 
 stands_both : (falls : Bool) (m n : ℕ) → Stands falls m n → Stands falls n m → m ≡ n
 stands_both false m n h k = omega arith
@@ -133,17 +133,17 @@ or_none : (s t : Bool) → (s || t) ≡ false → (s ≡ false) × (t ≡ false)
 or_none true t e = cc
 or_none false t e = (refl, e)
 
-without_united : (front : List ℕ) (f : ℕ → ℕ) (n : ℕ) (back : List ℕ) → without (length front) (map f (front ++ n ∷ back)) ≡ map f front ++ map f back
+without_united : (front : List ℕ) (f : ℕ → ℕ) (n : ℕ) (back : List ℕ) → numbers_without (length front) (map f (front ++ n ∷ back)) ≡ map f front ++ map f back
 without_united front f n back = without_map f (length front) (front ++ n ∷ back) ∙ ap (map f) (rest_of front n back) ∙ map-append f front back
 
 -- the last number of the front, and n
 alone_after : (level : BufferClusterLevel) (falls : Bool) (p : ℕ) (front : List ℕ) (n : ℕ) (back : List ℕ) → IsChain (Stands falls) (front ++ n ∷ back) → last_of front ≡ Some p → is_number (Some p) n ≡ false → is_number (first_of back) n ≡ false
-    → deleted_alone level (Some p) front n back ≡ without (length front) (united_all p n (front ++ n ∷ back))
+    → numbers_deleted_alone level (Some p) front n back ≡ numbers_without (length front) (united_numbers p n (front ++ n ∷ back))
 alone_after level falls p [] n back o last off next = cc
 alone_after level falls p (x ∷ xs) n back o last off next =
     let R = Stands falls in
     let front = x ∷ xs in
-    let f = united (min p n) (max p n) in
+    let f = united_number (min p n) (max p n) in
     let is : last_from x xs ≡ p = some_is (sym (last_is x xs) ∙ last) in
     let near = chain_left R front (n ∷ back) o in
     let low : (k : ℕ) → Has front k → Stands falls k p = λ k h. subst (R k) is (to_last R (stands_self falls) x k xs near h) in
@@ -155,25 +155,25 @@ alone_after level falls p (x ∷ xs) n back o last off next =
     some_is : {a b : ℕ} → Some a ≡ Some b → a ≡ b
     some_is e = cc
 
-first_merged : (falls : Bool) (n : ℕ) (back : List ℕ) → IsInOrder falls (n ∷ back) → drop 1 (merged_numbers (stretch 0 2 (n ∷ back)) (n ∷ back)) ≡ without 0 (with_neighbour None (first_of back) n (n ∷ back))
+first_merged : (falls : Bool) (n : ℕ) (back : List ℕ) → IsInOrder falls (n ∷ back) → drop 1 (merged_numbers (range_of 0 2 (n ∷ back)) (n ∷ back)) ≡ numbers_without 0 (with_neighbour None (first_of back) n (n ∷ back))
 first_merged falls n [] o = refl
 first_merged falls n (q ∷ qs) o = ap (drop 1) (merge_is_join falls [] (n ∷ q ∷ []) qs o)
 
 -- nothing is before n
 alone_first : (level : BufferClusterLevel) (falls : Bool) (front : List ℕ) (n : ℕ) (back : List ℕ) → IsMonotone level → IsInOrder falls (front ++ n ∷ back) → last_of front ≡ None
-    → deleted_alone level None front n back ≡ without (length front) (with_neighbour None (first_of back) n (front ++ n ∷ back))
+    → numbers_deleted_alone level None front n back ≡ numbers_without (length front) (with_neighbour None (first_of back) n (front ++ n ∷ back))
 alone_first MonotoneGraphemes falls [] n back mono o last = first_merged falls n back o
 alone_first MonotoneCharacters falls [] n back mono o last = first_merged falls n back o
 alone_first Characters falls [] n back mono o last = absurd mono
 alone_first level falls (x ∷ xs) n back mono o last = let none = no_last (x ∷ xs) last in cc
 
 alone : (level : BufferClusterLevel) (falls : Bool) (before : Option ℕ) (front : List ℕ) (n : ℕ) (back : List ℕ) → IsMonotone level → IsInOrder falls (front ++ n ∷ back) → last_of front ≡ before → is_number before n ≡ false → is_number (first_of back) n ≡ false
-    → deleted_alone level before front n back ≡ without (length front) (with_neighbour before (first_of back) n (front ++ n ∷ back))
+    → numbers_deleted_alone level before front n back ≡ numbers_without (length front) (with_neighbour before (first_of back) n (front ++ n ∷ back))
 alone level falls None front n back mono o last off next = alone_first level falls front n back mono o last
 alone level falls (Some p) front n back mono o last off next = alone_after level falls p front n back (stands_chain falls (front ++ n ∷ back) o) last off next
 
 by_neighbours : (level : BufferClusterLevel) (falls : Bool) (front : List ℕ) (n : ℕ) (back : List ℕ) → IsMonotone level → IsInOrder falls (front ++ n ∷ back) → (t : Bool) → (is_number (last_of front) n || is_number (first_of back) n) ≡ t
-    → (if t then front ++ back else deleted_alone level (last_of front) front n back) ≡ without (length front) (if t then front ++ n ∷ back else with_neighbour (last_of front) (first_of back) n (front ++ n ∷ back))
+    → (if t then front ++ back else numbers_deleted_alone level (last_of front) front n back) ≡ numbers_without (length front) (if t then front ++ n ∷ back else with_neighbour (last_of front) (first_of back) n (front ++ n ∷ back))
 by_neighbours level falls front n back mono o true e = sym (rest_of front n back)
 by_neighbours level falls front n back mono o false e =
     let off = or_none (is_number (last_of front) n) (is_number (first_of back) n) e in
@@ -181,7 +181,7 @@ by_neighbours level falls front n back mono o false e =
 
 pub deletion_is_event : DeletionIsEvent
 deletion_is_event level falls front n back mono o =
-    by_neighbours level falls front n back mono o (is_number (last_of front) n || is_number (first_of back) n) refl ∙ ap (without (length front)) (sym (left_is front n back))
+    by_neighbours level falls front n back mono o (is_number (last_of front) n || is_number (first_of back) n) refl ∙ ap (numbers_without (length front)) (sym (left_is front n back))
 
 end_brings : (p n k : ℕ) (ns : List ℕ) → Has (end_renumbered p n ns) k → (n ≡ k) ⊎ Has ns k
 end_brings p n k [] h = inr h
@@ -200,10 +200,10 @@ rest_brings front n back k h = elim (has_either k front back h) [
   | inr beyond ↦ has_right k front (n ∷ back) (has_more n k back beyond)
 ]
 
-alone_brings : (level : BufferClusterLevel) (before : Option ℕ) (front : List ℕ) (n : ℕ) (back : List ℕ) → BringsNone (front ++ n ∷ back) (deleted_alone level before front n back)
-alone_brings level None front n back k h = elim (has_either k front (drop 1 (merged_at level 0 2 (n ∷ back))) h) [
+alone_brings : (level : BufferClusterLevel) (before : Option ℕ) (front : List ℕ) (n : ℕ) (back : List ℕ) → BringsNone (front ++ n ∷ back) (numbers_deleted_alone level before front n back)
+alone_brings level None front n back k h = elim (has_either k front (drop 1 (numbers_merged_at level 0 2 (n ∷ back))) h) [
   | inl there ↦ has_left k front (n ∷ back) there
-  | inr beyond ↦ has_right k front (n ∷ back) (merged_at_brings level 0 2 (n ∷ back) k (has_drop k 1 (merged_at level 0 2 (n ∷ back)) beyond))
+  | inr beyond ↦ has_right k front (n ∷ back) (merged_at_brings level 0 2 (n ∷ back) k (has_drop k 1 (numbers_merged_at level 0 2 (n ∷ back)) beyond))
 ]
 alone_brings level (Some p) front n back k h = by_test (nat_lt n p) h
   where
@@ -218,9 +218,9 @@ alone_brings level (Some p) front n back k h = by_test (nat_lt n p) h
     ]
 
 -- a deletion brings no number
-pub deletion_brings_none : (level : BufferClusterLevel) (front : List ℕ) (n : ℕ) (back : List ℕ) → BringsNone (front ++ n ∷ back) (deleted level front n back)
+pub deletion_brings_none : (level : BufferClusterLevel) (front : List ℕ) (n : ℕ) (back : List ℕ) → BringsNone (front ++ n ∷ back) (number_deleted level front n back)
 deletion_brings_none level front n back k h = by_test (is_number (last_of front) n || is_number (first_of back) n) h
   where
-    by_test : (t : Bool) → Has (if t then front ++ back else deleted_alone level (last_of front) front n back) k → Has (front ++ n ∷ back) k
+    by_test : (t : Bool) → Has (if t then front ++ back else numbers_deleted_alone level (last_of front) front n back) k → Has (front ++ n ∷ back) k
     by_test true g = rest_brings front n back k g
     by_test false g = alone_brings level (last_of front) front n back k g

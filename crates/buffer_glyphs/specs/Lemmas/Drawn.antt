@@ -2,7 +2,7 @@
 use Rattle.std.proofs.Common.{ℕ, zero, suc, ◌≡◌, ◌+◌, ◌-◌, List, [], ◌∷◌, ◌++◌, take, drop, replicate, length, refl, arith, ap, sym, ◌∙◌, append_assoc}
 use Rattle.std.proofs.lemmas.List.{append-nil, drop-drop, take-append-drop}
 use Rattle.std.proofs.Math.Seq.{drop-nil}
-use Rattle.buffer_glyphs.specs.Parts.{first_of, last_of, or, copies, replaced, without}
+use Rattle.buffer_glyphs.specs.Parts.{first_of, last_of, or, copies, numbers_replaced, numbers_without}
 use Rattle.buffer_glyphs.specs.Order.{AllFrom, IsChain}
 
 pub data IsDrawn : (xs ys : List ℕ) → Type 0 where
@@ -72,11 +72,11 @@ replaced_at at given gone xs [] e =
 replaced_at at given gone xs (x ∷ rest) e = rw append_assoc (drawn_after at xs (replicate given x ++ drop gone (x ∷ rest)) (rw e (drawn_copied given gone (x ∷ rest))))
 
 -- so is a list in which items are replaced by others
-pub drawn_replaced : (at gone given : ℕ) (xs : List ℕ) → IsDrawn xs (replaced at gone given xs)
+pub drawn_replaced : (at gone given : ℕ) (xs : List ℕ) → IsDrawn xs (numbers_replaced at gone given xs)
 drawn_replaced at gone given xs = rw (← drop-drop gone at xs) (replaced_at at given gone xs (drop at xs) refl)
 
 -- or one goes
-pub drawn_without : (at : ℕ) (xs : List ℕ) → IsDrawn xs (without at xs)
+pub drawn_without : (at : ℕ) (xs : List ℕ) → IsDrawn xs (numbers_without at xs)
 drawn_without at xs = drawn_after at xs (drop (at + 1) xs) (rw (← drop-drop 1 at xs) (drawn_drop 1 (drop at xs)))
 
 -- or one is doubled

@@ -2,7 +2,7 @@
 use Rattle.std.proofs.Common.{ℕ, ◌≡◌, ◌≤◌, inl, inr, Bool, true, false, min, max, List, [], ◌∷◌, arith, subst, sym}
 use Rattle.std.proofs.lemmas.Bool.Decides.{nat_tests}
 use Rattle.std.proofs.lemmas.Grind.{common_steps}
-use Rattle.buffer_glyphs.specs.Parts.{united, last_from}
+use Rattle.buffer_glyphs.specs.Parts.{united_number, last_from}
 use Rattle.buffer_glyphs.specs.Order.{AllFrom, IsChain, IsInOrder}
 use Rattle.buffer_glyphs.specs.Lemmas.Parts.{Stands, stands_self}
 use Rattle.buffer_glyphs.specs.Lemmas.Numbers.{Has, has_cases, has_last_from}
@@ -24,13 +24,13 @@ to_last R same m n (k ∷ ks) h has = elim (has_cases m n (k ∷ ks) has) [
   | inr later ↦ to_last R same k n ks h.1 later
 ]
 
-united_rising : (x n y : ℕ) → x ≤ n → n ≤ y → united (min x y) (max x y) n ≡ min x y
+united_rising : (x n y : ℕ) → x ≤ n → n ≤ y → united_number (min x y) (max x y) n ≡ min x y
 united_rising x n y h k = grind (arith, nat_tests, common_steps)
 
-united_falling : (x n y : ℕ) → n ≤ x → y ≤ n → united (min x y) (max x y) n ≡ min x y
+united_falling : (x n y : ℕ) → n ≤ x → y ≤ n → united_number (min x y) (max x y) n ≡ min x y
 united_falling x n y h k = grind (arith, nat_tests, common_steps)
 
 -- in order, a join makes all numbers of its range one
-pub joined_alike : (falls : Bool) (x n : ℕ) (xs : List ℕ) → IsInOrder falls (x ∷ xs) → Has (x ∷ xs) n → united (min x (last_from x xs)) (max x (last_from x xs)) n ≡ min x (last_from x xs)
+pub joined_alike : (falls : Bool) (x n : ℕ) (xs : List ℕ) → IsInOrder falls (x ∷ xs) → Has (x ∷ xs) n → united_number (min x (last_from x xs)) (max x (last_from x xs)) n ≡ min x (last_from x xs)
 joined_alike false x n xs h has = united_rising x n (last_from x xs) (from_first (Stands false) (stands_self false) x n xs h.0 has) (to_last (Stands false) (stands_self false) x n xs h has)
 joined_alike true x n xs h has = united_falling x n (last_from x xs) (from_first (Stands true) (stands_self true) x n xs h.0 has) (to_last (Stands true) (stands_self true) x n xs h has)

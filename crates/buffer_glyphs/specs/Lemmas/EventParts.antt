@@ -10,11 +10,11 @@ use Rattle.std.proofs.lemmas.List.{append-nil, map-append, take-map, drop-map, d
 use Rattle.std.proofs.lemmas.List.Sums.{fold-append}
 use Rattle.buffer_glyphs.specs.declared.level.BufferClusterLevel.{BufferClusterLevel}
 use Rattle.buffer_glyphs.specs.declared.level.BufferClusterLevel.TheVariants.{MonotoneGraphemes, MonotoneCharacters, Characters}
-use Rattle.buffer_glyphs.specs.Parts.{JoinParts, ReplaceParts, DeletePart, CirclePart, first_of, stretch, copies, replaced, replaced_among, after_part_event, after_part_events}
+use Rattle.buffer_glyphs.specs.Parts.{JoinParts, ReplaceParts, DeletePart, CirclePart, first_of, range_of, copies, numbers_replaced, elements_replaced, after_part_event, after_part_events}
 use Rattle.buffer_glyphs.specs.Order.{BringsNone, IsOrdered}
-use Rattle.buffer_glyphs.specs.Merges.{least_number, merged, merged_numbers}
-use Rattle.buffer_glyphs.specs.Deletions.{deleted}
-use Rattle.buffer_glyphs.specs.Origins.{Origin, numbers, Asks, Manner, Unites, Marks, Keeps, Merging, InList, InOutput, manner, merged_as, origins_marked, first_deleted, origins_deleted, picked, arranged, Span, spans, spans_merged, flags_at, first_circled, origins_circled, spread_after, spread_flags, settled, run_flags, tatweel_settled, origins_spread, without_marks}
+use Rattle.buffer_glyphs.specs.Merges.{least_number, merged_number, merged_numbers}
+use Rattle.buffer_glyphs.specs.Deletions.{number_deleted}
+use Rattle.buffer_glyphs.specs.Origins.{Origin, numbers, Asks, Manner, Unites, Marks, Keeps, Merging, InList, InOutput, manner, origins_merged_as, origins_marked, first_deleted, origins_deleted, picked_elements, with_range_arranged, Span, spans, spans_merged, flags_at, first_circled, origins_circled, origins_spread_after, spread_flags, settled_flags, run_flags, tatweel_settled, origins_spread, without_marks}
 use Rattle.buffer_glyphs.specs.Events.{Event, StaysInSpans, Merge, Replace, Circle, Delete, Move, Arrange, Sort, Reverse, Break, Concat, Tatweel, Spread, Reset, concat_marked, tatweel_marked, origins_after_event, origins_after, IsPlain}
 use Rattle.buffer_glyphs.specs.EventParts.{joins_of, span_joins, parts_of_event, parts_of, IsEven, AreEvenRuns, HaveNoConcat}
 use Rattle.buffer_glyphs.specs.Lemmas.Drawn.{drawn_replaced, drawn_doubled}
@@ -45,7 +45,7 @@ numbers_with_circle after beside like os =
     ∙ ap (λ ns. take beside (numbers os) ++ ns) (numbers_circled after (flags_at like os) (drop beside os) ∙ ap (λ ns. copies 2 (first_of ns) ++ drop 1 ns) (sym (drop-map n beside os)) ∙ ap (λ ns. copies 2 (first_of (drop beside (numbers os))) ++ ns) (drop-drop 1 beside (numbers os)))
     ∙ sym (append_assoc (take beside (numbers os)) (copies 2 (first_of (drop beside (numbers os)))) (drop (beside + 1) (numbers os)))
 
-numbers_picked : (all : List Origin) (order : List ℕ) (os : List Origin) → numbers (picked all order os) ≡ picked (numbers all) order (numbers os)
+numbers_picked : (all : List Origin) (order : List ℕ) (os : List Origin) → numbers (picked_elements all order os) ≡ picked_elements (numbers all) order (numbers os)
 numbers_picked all [] os = refl
 numbers_picked all (i ∷ order) [] = refl
 numbers_picked all (i ∷ order) (o ∷ os) = rw (got all i, numbers_picked all order os) refl
@@ -55,16 +55,16 @@ numbers_picked all (i ∷ order) (o ∷ os) = rw (got all i, numbers_picked all 
     got (q ∷ qs) zero = refl
     got (q ∷ qs) (suc k) = got qs k
 
-numbers_arranged : (from : ℕ) (order : List ℕ) (os : List Origin) → numbers (arranged from order os) ≡ arranged from order (numbers os)
+numbers_arranged : (from : ℕ) (order : List ℕ) (os : List Origin) → numbers (with_range_arranged from order os) ≡ with_range_arranged from order (numbers os)
 numbers_arranged from order os =
     let n : Origin → ℕ = λ o. o.cluster in
-    map-append n (take from os) (picked (take (length order) (drop from os)) order (drop from os))
-    ∙ ap (λ ns. ns ++ numbers (picked (take (length order) (drop from os)) order (drop from os))) (sym (take-map n from os))
-    ∙ ap (λ ns. take from (numbers os) ++ ns) (numbers_picked (take (length order) (drop from os)) order (drop from os) ∙ ap (λ ns. picked ns order (numbers (drop from os))) (sym (take-map n (length order) (drop from os))) ∙ ap (λ ns. picked (take (length order) ns) order ns) (sym (drop-map n from os)))
+    map-append n (take from os) (picked_elements (take (length order) (drop from os)) order (drop from os))
+    ∙ ap (λ ns. ns ++ numbers (picked_elements (take (length order) (drop from os)) order (drop from os))) (sym (take-map n from os))
+    ∙ ap (λ ns. take from (numbers os) ++ ns) (numbers_picked (take (length order) (drop from os)) order (drop from os) ∙ ap (λ ns. picked_elements ns order (numbers (drop from os))) (sym (take-map n (length order) (drop from os))) ∙ ap (λ ns. picked_elements (take (length order) ns) order ns) (sym (drop-map n from os)))
 
-pub numbers_spread : (asks : Asks) (before : Option Origin) (os : List Origin) → numbers (spread_after asks before os) ≡ numbers os
+pub numbers_spread : (asks : Asks) (before : Option Origin) (os : List Origin) → numbers (origins_spread_after asks before os) ≡ numbers os
 numbers_spread asks before [] = refl
-numbers_spread asks before (o ∷ os) = ap (λ ns. o.cluster ∷ ns) (numbers_spread asks (Some (record { cluster = o.cluster; flags = spread_flags before o.cluster (settled asks (run_flags o.cluster (o ∷ os))) })) os)
+numbers_spread asks before (o ∷ os) = ap (λ ns. o.cluster ∷ ns) (numbers_spread asks (Some (record { cluster = o.cluster; flags = spread_flags before o.cluster (settled_flags asks (run_flags o.cluster (o ∷ os))) })) os)
 
 numbers_reset : (os : List Origin) → numbers (without_marks os) ≡ numbers os
 numbers_reset [] = refl
@@ -83,15 +83,15 @@ numbers_tatweel false from to os = numbers_marked 3 from to os
 same_brings : (old new : List ℕ) → new ≡ old → BringsNone old new
 same_brings old new e = λ n h. subst (λ (ns : List ℕ). Has ns n) e h
 
-merged_brings : (m : Manner) (from to : ℕ) (os : List Origin) → BringsNone (numbers os) (numbers (merged_as m from to os))
-merged_brings Unites from to os = λ n h. merged_at_brings MonotoneGraphemes from to (numbers os) n (subst (λ (ns : List ℕ). Has ns n) (numbers_merged (stretch from to (numbers os)) os) h)
+merged_brings : (m : Manner) (from to : ℕ) (os : List Origin) → BringsNone (numbers os) (numbers (origins_merged_as m from to os))
+merged_brings Unites from to os = λ n h. merged_at_brings MonotoneGraphemes from to (numbers os) n (subst (λ (ns : List ℕ). Has ns n) (numbers_merged (range_of from to (numbers os)) os) h)
 merged_brings Marks from to os = same_brings (numbers os) (numbers (origins_marked 3 from to os)) (numbers_marked 3 from to os)
 merged_brings Keeps from to os = λ n h. h
 
-picked_brings : (all : List ℕ) (order ns : List ℕ) (n : ℕ) → Has (picked all order ns) n → Has all n ⊎ Has ns n
+picked_brings : (all : List ℕ) (order ns : List ℕ) (n : ℕ) → Has (picked_elements all order ns) n → Has all n ⊎ Has ns n
 picked_brings all [] ns n h = inr h
 picked_brings all (i ∷ order) [] n h = inr h
-picked_brings all (i ∷ order) (m ∷ ns) n h = elim (has_cases (unwrap_or (slice_get all i) m) n (picked all order ns) h) [
+picked_brings all (i ∷ order) (m ∷ ns) n h = elim (has_cases (unwrap_or (slice_get all i) m) n (picked_elements all order ns) h) [
   | inl e ↦ by_get (slice_get all i) refl e
   | inr later ↦ elim (picked_brings all order ns n later) [ inl there ↦ inl there | inr old ↦ inr (has_more m n ns old) ]
 ]
@@ -105,8 +105,8 @@ picked_brings all (i ∷ order) (m ∷ ns) n h = elim (has_cases (unwrap_or (sli
     by_get None e is = let P : ℕ → Type 0 = λ l. Has (m ∷ ns) l in inr (subst P is (has_here m ns))
     by_get (Some k) e is = inl (subst (Has all) is (at_place all i k e))
 
-arranged_brings : (from : ℕ) (order ns : List ℕ) → BringsNone ns (arranged from order ns)
-arranged_brings from order ns n h = elim (has_either n (take from ns) (picked (take (length order) (drop from ns)) order (drop from ns)) h) [
+arranged_brings : (from : ℕ) (order ns : List ℕ) → BringsNone ns (with_range_arranged from order ns)
+arranged_brings from order ns n h = elim (has_either n (take from ns) (picked_elements (take (length order) (drop from ns)) order (drop from ns)) h) [
   | inl there ↦ has_take n from ns there
   | inr beyond ↦ elim (picked_brings (take (length order) (drop from ns)) order (drop from ns) n beyond) [
     | inl range ↦ has_drop n from ns (has_take n (length order) (drop from ns) range)
@@ -126,19 +126,19 @@ deleted_brings level at os = λ n h. subst (λ (qs : List Origin). Has (numbers 
 spans_bring : (m : Manner) (at : ℕ) (ss : List Span) (os : List Origin) → BringsNone (numbers os) (numbers (spans_merged m at ss os))
 spans_bring m at [] os = λ n h. h
 spans_bring m at (s ∷ ss) os =
-    let mid = merged_as m (at + s.from) (at + s.to) os in
+    let mid = origins_merged_as m (at + s.from) (at + s.to) os in
     numbers_through (numbers os) (numbers mid) _ (merged_brings m (at + s.from) (at + s.to) os) (spans_bring m at ss mid)
 
 pub event_brings : (asks : Asks) (level : BufferClusterLevel) (os : List Origin) (e : Event) → BringsNone (numbers os) (numbers (origins_after_event asks level os e))
 event_brings asks level os (Merge how from to) = merged_brings (manner how level) from to os
 event_brings asks level os (Replace at taken given) =
-    let mid = merged_as (manner InList level) at (at + taken) os in
+    let mid = origins_merged_as (manner InList level) at (at + taken) os in
     numbers_through (numbers os) (numbers mid) _ (merged_brings (manner InList level) at (at + taken) os)
     (λ n h. drawn_brings (drawn_replaced at taken given (numbers mid)) n (subst (λ (ns : List ℕ). Has ns n) (among_seen (λ (o : Origin). o.cluster) at taken given mid) h))
 event_brings asks level os (Circle after beside like) = λ n h. drawn_brings (drawn_doubled beside (numbers os)) n (subst (λ (ns : List ℕ). Has ns n) (numbers_with_circle after beside like os) h)
 event_brings asks level os (Delete at) = deleted_brings level at os
 event_brings asks level os (Move how from order) =
-    let mid = merged_as (manner how level) from (from + length order) os in
+    let mid = origins_merged_as (manner how level) from (from + length order) os in
     numbers_through (numbers os) (numbers mid) _ (merged_brings (manner how level) from (from + length order) os)
     (λ n h. arranged_brings from order (numbers mid) n (subst (λ (ns : List ℕ). Has ns n) (numbers_arranged from order mid) h))
 event_brings asks level os (Arrange from order) = λ n h. arranged_brings from order (numbers os) n (subst (λ (ns : List ℕ). Has ns n) (numbers_arranged from order os) h)
@@ -162,31 +162,31 @@ origins_keep_numbers asks level (e ∷ es) os = numbers_through (numbers os) (nu
 none_left : {X : Type 0} (n : ℕ) (xs : List X) → n ≡ 0 → take n xs ≡ []
 none_left n xs e = rw e refl
 
-unites_joins : (from to : ℕ) (ns : List ℕ) → IsOrdered ns → merged_numbers (stretch from to ns) ns ≡ after_part_event ns (JoinParts from to)
+unites_joins : (from to : ℕ) (ns : List ℕ) → IsOrdered ns → merged_numbers (range_of from to ns) ns ≡ after_part_event ns (JoinParts from to)
 unites_joins from to ns o = by_test (nat_le from to) refl
   where
-    by_test : (t : Bool) → nat_le from to ≡ t → merged_numbers (stretch from to ns) ns ≡ after_part_event ns (JoinParts from to)
+    by_test : (t : Bool) → nat_le from to ≡ t → merged_numbers (range_of from to ns) ns ≡ after_part_event ns (JoinParts from to)
     by_test true e = merge_joins MonotoneGraphemes from to ns (grind (arith, nat_tests, e)) tt o
     by_test false e =
         let gap : to - from ≡ 0 = grind (arith, nat_tests, e) in
-        let none : stretch from to ns ≡ [] = none_left (to - from) (drop from ns) gap in
+        let none : range_of from to ns ≡ [] = none_left (to - from) (drop from ns) gap in
         rw none (map-id ns)
 
-merged_parts : (how : Merging) (level : BufferClusterLevel) (from to : ℕ) (os : List Origin) → IsMonotone level → IsOrdered (numbers os) → numbers (merged_as (manner how level) from to os) ≡ after_part_events (joins_of (manner how level) from to) (numbers os)
-merged_parts InList MonotoneGraphemes from to os mono o = numbers_merged (stretch from to (numbers os)) os ∙ unites_joins from to (numbers os) o
-merged_parts InList MonotoneCharacters from to os mono o = numbers_merged (stretch from to (numbers os)) os ∙ unites_joins from to (numbers os) o
+merged_parts : (how : Merging) (level : BufferClusterLevel) (from to : ℕ) (os : List Origin) → IsMonotone level → IsOrdered (numbers os) → numbers (origins_merged_as (manner how level) from to os) ≡ after_part_events (joins_of (manner how level) from to) (numbers os)
+merged_parts InList MonotoneGraphemes from to os mono o = numbers_merged (range_of from to (numbers os)) os ∙ unites_joins from to (numbers os) o
+merged_parts InList MonotoneCharacters from to os mono o = numbers_merged (range_of from to (numbers os)) os ∙ unites_joins from to (numbers os) o
 merged_parts InList Characters from to os mono o = absurd mono
-merged_parts InOutput MonotoneGraphemes from to os mono o = numbers_merged (stretch from to (numbers os)) os ∙ unites_joins from to (numbers os) o
-merged_parts InOutput MonotoneCharacters from to os mono o = numbers_merged (stretch from to (numbers os)) os ∙ unites_joins from to (numbers os) o
+merged_parts InOutput MonotoneGraphemes from to os mono o = numbers_merged (range_of from to (numbers os)) os ∙ unites_joins from to (numbers os) o
+merged_parts InOutput MonotoneCharacters from to os mono o = numbers_merged (range_of from to (numbers os)) os ∙ unites_joins from to (numbers os) o
 merged_parts InOutput Characters from to os mono o = absurd mono
 
 replaced_parts : (level : BufferClusterLevel) (at taken given : ℕ) (os : List Origin) → IsMonotone level → IsOrdered (numbers os)
-    → numbers (replaced_among at taken given (merged_as (manner InList level) at (at + taken) os)) ≡ after_part_event (numbers os) (ReplaceParts at taken given)
+    → numbers (elements_replaced at taken given (origins_merged_as (manner InList level) at (at + taken) os)) ≡ after_part_event (numbers os) (ReplaceParts at taken given)
 replaced_parts level at taken given os mono o =
-    among_seen (λ (q : Origin). q.cluster) at taken given (merged_as (manner InList level) at (at + taken) os)
-    ∙ ap (replaced at taken given) (numbers_listed level at (at + taken) os ∙ merge_joins level at (at + taken) (numbers os) (omega arith) mono o)
+    among_seen (λ (q : Origin). q.cluster) at taken given (origins_merged_as (manner InList level) at (at + taken) os)
+    ∙ ap (numbers_replaced at taken given) (numbers_listed level at (at + taken) os ∙ merge_joins level at (at + taken) (numbers os) (omega arith) mono o)
 
-deletion_parts : (level : BufferClusterLevel) (front : List ℕ) (n : ℕ) (back : List ℕ) → IsMonotone level → IsOrdered (front ++ n ∷ back) → deleted level front n back ≡ after_part_event (front ++ n ∷ back) (DeletePart (length front))
+deletion_parts : (level : BufferClusterLevel) (front : List ℕ) (n : ℕ) (back : List ℕ) → IsMonotone level → IsOrdered (front ++ n ∷ back) → number_deleted level front n back ≡ after_part_event (front ++ n ∷ back) (DeletePart (length front))
 deletion_parts level front n back m o = elim o [ inl rises ↦ deletion_is_event level false front n back m rises | inr falls ↦ deletion_is_event level true front n back m falls ]
 
 past_end : (at : ℕ) (ns : List ℕ) → drop at ns ≡ [] → take at ns ≡ after_part_event ns (DeletePart at)
@@ -211,42 +211,42 @@ first_parts level at os (q ∷ back) mono o e =
     let place : length front ≡ at = length-map (take at os) n ∙ length_of_front at os q back e in
     numbers_deleted level (take at os) q back ∙ deletion_parts level front q.cluster (numbers back) mono (subst IsOrdered (sym whole) o) ∙ ap (λ ns. after_part_event ns (DeletePart (length front))) whole ∙ ap (λ k. after_part_event (numbers os) (DeletePart k)) place
 
-picked_alike : (low : ℕ) (all order ns : List ℕ) → ((k : ℕ) → Has all k → k ≡ low) → ((k : ℕ) → Has (take (length order) ns) k → k ≡ low) → picked all order ns ≡ ns
+picked_alike : (low : ℕ) (all order ns : List ℕ) → ((k : ℕ) → Has all k → k ≡ low) → ((k : ℕ) → Has (take (length order) ns) k → k ≡ low) → picked_elements all order ns ≡ ns
 picked_alike low all [] ns one near = refl
 picked_alike low all (i ∷ order) [] one near = refl
 picked_alike low all (i ∷ order) (m ∷ ns) one near =
     let here : m ≡ low = near m (has_here m (take (length order) ns)) in
     let rest = picked_alike low all order ns one (λ k h. near k (has_more m k (take (length order) ns) h)) in
-    ap (λ x. x ∷ picked all order ns) (got all i one here) ∙ ap (λ xs. m ∷ xs) rest
+    ap (λ x. x ∷ picked_elements all order ns) (got all i one here) ∙ ap (λ xs. m ∷ xs) rest
   where
     got : (ks : List ℕ) (j : ℕ) → ((k : ℕ) → Has ks k → k ≡ low) → m ≡ low → unwrap_or (slice_get ks j) m ≡ m
     got [] j alike is = refl
     got (k ∷ ks) zero alike is = alike k (has_here k ks) ∙ sym is
     got (k ∷ ks) (suc j) alike is = got ks j (λ l h. alike l (has_more k l ks h)) is
 
-merged_alike : (range : List ℕ) (k : ℕ) → Has (map (merged range) range) k → k ≡ least_number range
-merged_alike range k h = let source = has_map (merged range) k range h in sym source.2 ∙ merged_in range source.0 source.1
+merged_alike : (range : List ℕ) (k : ℕ) → Has (map (merged_number range) range) k → k ≡ least_number range
+merged_alike range k h = let source = has_map (merged_number range) k range h in sym source.2 ∙ merged_in range source.0 source.1
 
 -- what one merge made one stays as it is in whatever order
-moved_alike : (from : ℕ) (order ns : List ℕ) → arranged from order (merged_numbers (stretch from (from + length order) ns) ns) ≡ merged_numbers (stretch from (from + length order) ns) ns
+moved_alike : (from : ℕ) (order ns : List ℕ) → with_range_arranged from order (merged_numbers (range_of from (from + length order) ns) ns) ≡ merged_numbers (range_of from (from + length order) ns) ns
 moved_alike from order ns =
-    let range = stretch from (from + length order) ns in
+    let range = range_of from (from + length order) ns in
     let ms = merged_numbers range ns in
     let n : from + length order - from ≡ length order = omega arith in
-    let near : take (length order) (drop from ms) ≡ map (merged range) range =
-    ap (take (length order)) (drop-map (merged range) from ns) ∙ take-map (merged range) (length order) (drop from ns) ∙ ap (λ k. map (merged range) (take k (drop from ns))) (sym n) in
+    let near : take (length order) (drop from ms) ≡ map (merged_number range) range =
+    ap (take (length order)) (drop-map (merged_number range) from ns) ∙ take-map (merged_number range) (length order) (drop from ns) ∙ ap (λ k. map (merged_number range) (take k (drop from ns))) (sym n) in
     let one : (k : ℕ) → Has (take (length order) (drop from ms)) k → k ≡ least_number range = λ k h. merged_alike range k (subst (λ (ks : List ℕ). Has ks k) near h) in
     ap (λ ks. take from ms ++ ks) (picked_alike (least_number range) (take (length order) (drop from ms)) order (drop from ms) one one) ∙ take-append-drop from ms
 
 moved_parts : (how : Merging) (level : BufferClusterLevel) (from : ℕ) (order : List ℕ) (os : List Origin) → IsMonotone level → IsOrdered (numbers os)
-    → numbers (arranged from order (merged_as (manner how level) from (from + length order) os)) ≡ after_part_events (joins_of (manner how level) from (from + length order)) (numbers os)
+    → numbers (with_range_arranged from order (origins_merged_as (manner how level) from (from + length order) os)) ≡ after_part_events (joins_of (manner how level) from (from + length order)) (numbers os)
 moved_parts how level from order os mono o =
-    numbers_arranged from order (merged_as (manner how level) from (from + length order) os) ∙ by_level how level mono ∙ merged_parts how level from (from + length order) os mono o
+    numbers_arranged from order (origins_merged_as (manner how level) from (from + length order) os) ∙ by_level how level mono ∙ merged_parts how level from (from + length order) os mono o
   where
-    united : arranged from order (numbers (merged_as Unites from (from + length order) os)) ≡ numbers (merged_as Unites from (from + length order) os)
-    united = rw (numbers_merged (stretch from (from + length order) (numbers os)) os) (moved_alike from order (numbers os))
+    united : with_range_arranged from order (numbers (origins_merged_as Unites from (from + length order) os)) ≡ numbers (origins_merged_as Unites from (from + length order) os)
+    united = rw (numbers_merged (range_of from (from + length order) (numbers os)) os) (moved_alike from order (numbers os))
 
-    by_level : (h : Merging) (l : BufferClusterLevel) → IsMonotone l → arranged from order (numbers (merged_as (manner h l) from (from + length order) os)) ≡ numbers (merged_as (manner h l) from (from + length order) os)
+    by_level : (h : Merging) (l : BufferClusterLevel) → IsMonotone l → with_range_arranged from order (numbers (origins_merged_as (manner h l) from (from + length order) os)) ≡ numbers (origins_merged_as (manner h l) from (from + length order) os)
     by_level InList MonotoneGraphemes m = united
     by_level InList MonotoneCharacters m = united
     by_level InList Characters m = absurd m
@@ -256,22 +256,22 @@ moved_parts how level from order os mono o =
 
 numbers_spans : (at : ℕ) (ss : List Span) (os : List Origin) → numbers (spans_merged Unites at ss os) ≡ spans_united at ss (numbers os)
 numbers_spans at [] os = refl
-numbers_spans at (s ∷ ss) os = numbers_spans at ss (merged_as Unites (at + s.from) (at + s.to) os) ∙ ap (spans_united at ss) (numbers_merged (stretch (at + s.from) (at + s.to) (numbers os)) os)
+numbers_spans at (s ∷ ss) os = numbers_spans at ss (origins_merged_as Unites (at + s.from) (at + s.to) os) ∙ ap (spans_united at ss) (numbers_merged (range_of (at + s.from) (at + s.to) (numbers os)) os)
 
 spans_parts : (at : ℕ) (ss : List Span) (ns : List ℕ) → IsOrdered ns → spans_united at ss ns ≡ after_part_events (span_joins Unites at ss) ns
 spans_parts at [] ns o = refl
 spans_parts at (s ∷ ss) ns o =
-    let first : merged_numbers (stretch (at + s.from) (at + s.to) ns) ns ≡ after_part_event ns (JoinParts (at + s.from) (at + s.to)) = unites_joins (at + s.from) (at + s.to) ns o in
+    let first : merged_numbers (range_of (at + s.from) (at + s.to) ns) ns ≡ after_part_event ns (JoinParts (at + s.from) (at + s.to)) = unites_joins (at + s.from) (at + s.to) ns o in
     let ordered = stays_ordered (JoinParts (at + s.from) (at + s.to) ∷ []) ns o in
     ap (spans_united at ss) first ∙ spans_parts at ss (after_part_event ns (JoinParts (at + s.from) (at + s.to))) ordered
 
 sorted_parts : (level : BufferClusterLevel) (from : ℕ) (order : List ℕ) (os : List Origin) → IsMonotone level → StaysInSpans order → IsOrdered (numbers os)
-    → numbers (arranged from order (spans_merged (manner InList level) from (spans order) os)) ≡ after_part_events (span_joins (manner InList level) from (spans order)) (numbers os)
+    → numbers (with_range_arranged from order (spans_merged (manner InList level) from (spans order) os)) ≡ after_part_events (span_joins (manner InList level) from (spans order)) (numbers os)
 sorted_parts level from order os mono s o = by_manner (manner InList level) mono
   where
-    by_manner : (m : Manner) → IsUniting m → numbers (arranged from order (spans_merged m from (spans order) os)) ≡ after_part_events (span_joins m from (spans order)) (numbers os)
+    by_manner : (m : Manner) → IsUniting m → numbers (with_range_arranged from order (spans_merged m from (spans order) os)) ≡ after_part_events (span_joins m from (spans order)) (numbers os)
     by_manner Unites u =
-        numbers_arranged from order (spans_merged Unites from (spans order) os) ∙ ap (arranged from order) (numbers_spans from (spans order) os) ∙ sorted_alike from order (numbers os) s ∙ spans_parts from (spans order) (numbers os) o
+        numbers_arranged from order (spans_merged Unites from (spans order) os) ∙ ap (with_range_arranged from order) (numbers_spans from (spans order) os) ∙ sorted_alike from order (numbers os) s ∙ spans_parts from (spans order) (numbers os) o
     by_manner Marks u = absurd u
     by_manner Keeps u = absurd u
 
@@ -316,19 +316,19 @@ origins_are_parts asks level (e ∷ es) os mono plain o =
 
 -- ---- flags that were spread
 
-even_after : (asks : Asks) (p : Origin) (os : List Origin) → IsEven p (spread_after asks (Some p) os)
+even_after : (asks : Asks) (p : Origin) (os : List Origin) → IsEven p (origins_spread_after asks (Some p) os)
 even_after asks p [] = tt
 even_after asks p (o ∷ os) = (
   λ e. same e,
-  even_after asks (record { cluster = o.cluster; flags = spread_flags (Some p) o.cluster (settled asks (run_flags o.cluster (o ∷ os))) }) os,
+  even_after asks (record { cluster = o.cluster; flags = spread_flags (Some p) o.cluster (settled_flags asks (run_flags o.cluster (o ∷ os))) }) os,
 )
   where
-    same : p.cluster ≡ o.cluster → p.flags ≡ spread_flags (Some p) o.cluster (settled asks (run_flags o.cluster (o ∷ os)))
+    same : p.cluster ≡ o.cluster → p.flags ≡ spread_flags (Some p) o.cluster (settled_flags asks (run_flags o.cluster (o ∷ os)))
     same e = let yes : (p.cluster == o.cluster) ≡ true = grind (arith, common_steps, e) in rw yes refl
 
 pub spread_is_even : (asks : Asks) (os : List Origin) → AreEvenRuns (origins_spread asks os)
 spread_is_even asks [] = tt
-spread_is_even asks (o ∷ os) = even_after asks (record { cluster = o.cluster; flags = settled asks (run_flags o.cluster (o ∷ os)) }) os
+spread_is_even asks (o ∷ os) = even_after asks (record { cluster = o.cluster; flags = settled_flags asks (run_flags o.cluster (o ∷ os)) }) os
 
 no_concat : (m : ℕ) → bit_and (bit_and m 5) 2 ≡ 0
 no_concat m = and_assoc 2 m 5 ∙ and_zero_r m
@@ -337,16 +337,16 @@ abbrev MayConcat : Option Origin → Type 0
 MayConcat None = Unit {0}
 MayConcat (Some p) = bit_and p.flags 2 ≡ 0
 
-none_after : (tatweel : Bool) (before : Option Origin) (os : List Origin) → MayConcat before → HaveNoConcat (spread_after (record { concat = false; tatweel = tatweel }) before os)
+none_after : (tatweel : Bool) (before : Option Origin) (os : List Origin) → MayConcat before → HaveNoConcat (origins_spread_after (record { concat = false; tatweel = tatweel }) before os)
 none_after tatweel before [] h = tt
 none_after tatweel before (o ∷ os) h =
-    let flags = settled (record { concat = false; tatweel = tatweel }) (run_flags o.cluster (o ∷ os)) in
+    let flags = settled_flags (record { concat = false; tatweel = tatweel }) (run_flags o.cluster (o ∷ os)) in
     let here : bit_and (spread_flags before o.cluster flags) 2 ≡ 0 = by_before before h in
     (here, none_after tatweel (Some (record { cluster = o.cluster; flags = spread_flags before o.cluster flags })) os here)
   where
-    by_before : (b : Option Origin) → MayConcat b → bit_and (spread_flags b o.cluster (settled (record { concat = false; tatweel = tatweel }) (run_flags o.cluster (o ∷ os)))) 2 ≡ 0
+    by_before : (b : Option Origin) → MayConcat b → bit_and (spread_flags b o.cluster (settled_flags (record { concat = false; tatweel = tatweel }) (run_flags o.cluster (o ∷ os)))) 2 ≡ 0
     by_before None k = no_concat (tatweel_settled tatweel (run_flags o.cluster (o ∷ os)))
-    by_before (Some p) k = elim (p.cluster == o.cluster) as (λ t. bit_and (if t then p.flags else settled (record { concat = false; tatweel = tatweel }) (run_flags o.cluster (o ∷ os))) 2 ≡ 0)
+    by_before (Some p) k = elim (p.cluster == o.cluster) as (λ t. bit_and (if t then p.flags else settled_flags (record { concat = false; tatweel = tatweel }) (run_flags o.cluster (o ∷ os))) 2 ≡ 0)
         [ true ↦ k | false ↦ no_concat (tatweel_settled tatweel (run_flags o.cluster (o ∷ os))) ]
 
 pub spread_has_no_concat : (tatweel : Bool) (os : List Origin) → HaveNoConcat (origins_spread (record { concat = false; tatweel = tatweel }) os)

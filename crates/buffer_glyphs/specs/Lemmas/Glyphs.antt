@@ -11,9 +11,9 @@ use Rattle.buffer_glyphs.specs.declared.info.hb_glyph_info_t.{hb_glyph_info_t}
 use Rattle.buffer_glyphs.specs.declared.level.BufferClusterLevel.{BufferClusterLevel}
 use Rattle.buffer_glyphs.specs.declared.level.BufferClusterLevel.TheVariants.{MonotoneGraphemes, MonotoneCharacters, Characters}
 use Rattle.buffer_glyphs.specs.Items.{item_of, strip, clusters, without_flags, glyph_flags}
-use Rattle.buffer_glyphs.specs.Parts.{stretch}
-use Rattle.buffer_glyphs.specs.Merges.{least_number, merged, merged_numbers, merged_at}
-use Rattle.buffer_glyphs.specs.Glyphs.{in_cluster, glyphs_merged, marked_outside, glyphs_marked, glyphs_merged_at, beside_merged, flagged, glyphs_flagged}
+use Rattle.buffer_glyphs.specs.Parts.{range_of}
+use Rattle.buffer_glyphs.specs.Merges.{least_number, merged_number, merged_numbers, numbers_merged_at}
+use Rattle.buffer_glyphs.specs.Glyphs.{in_cluster, glyphs_merged, marked_outside, glyphs_marked, glyphs_merged_at, beside_merged, glyph_flagged, glyphs_flagged}
 
 -- the three flags are gone once
 pub without_flags_again : (m : ℕ) → without_flags (without_flags m) ≡ without_flags m
@@ -64,11 +64,11 @@ flags_in_cluster c g =
 
 pub strip_merged : (range : List ℕ) (gs : List hb_glyph_info_t) → strip (glyphs_merged range gs) ≡ strip gs
 strip_merged range [] = refl
-strip_merged range (g ∷ gs) = rw (item_in_cluster (merged range g.cluster) g, strip_merged range gs) refl
+strip_merged range (g ∷ gs) = rw (item_in_cluster (merged_number range g.cluster) g, strip_merged range gs) refl
 
 pub clusters_merged : (range : List ℕ) (gs : List hb_glyph_info_t) → clusters (glyphs_merged range gs) ≡ merged_numbers range (clusters gs)
 clusters_merged range [] = refl
-clusters_merged range (g ∷ gs) = rw (cluster_in_cluster (merged range g.cluster) g, clusters_merged range gs) refl
+clusters_merged range (g ∷ gs) = rw (cluster_in_cluster (merged_number range g.cluster) g, clusters_merged range gs) refl
 
 -- a list is cut in three
 pub cut_out : {X : Type 0} (from to : ℕ) (xs : List X) → from ≤ to → take from xs ++ slice_range xs from to ++ drop to xs ≡ xs
@@ -92,21 +92,21 @@ seen_marked v bits low (g ∷ gs) same = rw (same g, seen_marked v bits low gs s
 
 pub stays_marked : {Y : Type 0} (v : hb_glyph_info_t → Y) (bits from to : ℕ) (gs : List hb_glyph_info_t) → from ≤ to → ((low : ℕ) (g : hb_glyph_info_t) → v (marked_outside bits low g) ≡ v g) → map v (glyphs_marked bits from to gs) ≡ map v gs
 stays_marked v bits from to gs le same =
-    let low = least_number (stretch from to (clusters gs)) in
+    let low = least_number (range_of from to (clusters gs)) in
     let range = slice_range gs from to in
     let kept = seen_marked v bits low range (same low) in
     rw (map-append v (take from gs ++ map (marked_outside bits low) range) (drop to gs), map-append v (take from gs) (map (marked_outside bits low) range), kept, ← map-append v (take from gs) range, ← map-append v (take from gs ++ range) (drop to gs), cut_out from to gs le) refl
 
 -- a merge changes no item
 pub strip_merged_at : (level : BufferClusterLevel) (from to : ℕ) (gs : List hb_glyph_info_t) → from ≤ to → strip (glyphs_merged_at level from to gs) ≡ strip gs
-strip_merged_at MonotoneGraphemes from to gs le = strip_merged (stretch from to (clusters gs)) gs
-strip_merged_at MonotoneCharacters from to gs le = strip_merged (stretch from to (clusters gs)) gs
+strip_merged_at MonotoneGraphemes from to gs le = strip_merged (range_of from to (clusters gs)) gs
+strip_merged_at MonotoneCharacters from to gs le = strip_merged (range_of from to (clusters gs)) gs
 strip_merged_at Characters from to gs le = stays_marked item_of 3 from to gs le (λ low g. item_marked 3 low g (omega arith))
 
 -- its clusters and flags
-pub clusters_merged_at : (level : BufferClusterLevel) (from to : ℕ) (gs : List hb_glyph_info_t) → from ≤ to → clusters (glyphs_merged_at level from to gs) ≡ merged_at level from to (clusters gs)
-clusters_merged_at MonotoneGraphemes from to gs le = clusters_merged (stretch from to (clusters gs)) gs
-clusters_merged_at MonotoneCharacters from to gs le = clusters_merged (stretch from to (clusters gs)) gs
+pub clusters_merged_at : (level : BufferClusterLevel) (from to : ℕ) (gs : List hb_glyph_info_t) → from ≤ to → clusters (glyphs_merged_at level from to gs) ≡ numbers_merged_at level from to (clusters gs)
+clusters_merged_at MonotoneGraphemes from to gs le = clusters_merged (range_of from to (clusters gs)) gs
+clusters_merged_at MonotoneCharacters from to gs le = clusters_merged (range_of from to (clusters gs)) gs
 clusters_merged_at Characters from to gs le = stays_marked (λ (g : hb_glyph_info_t). g.cluster) 3 from to gs le (λ low g. cluster_marked 3 low g)
 
 -- as many glyphs as before
@@ -125,12 +125,12 @@ slice_beyond xs ys i j =
     rw (drop-append-add xs ys i, wide) refl
 
 -- the clusters of a range
-pub stretch_is : (xs : List hb_glyph_info_t) (i j : ℕ) → stretch i j (clusters xs) ≡ clusters (slice_range xs i j)
+pub stretch_is : (xs : List hb_glyph_info_t) (i j : ℕ) → range_of i j (clusters xs) ≡ clusters (slice_range xs i j)
 stretch_is xs i j =
     let cluster_of : hb_glyph_info_t → ℕ = λ g. g.cluster in
     ap (take (j - i)) (drop-map cluster_of i xs) ∙ take-map cluster_of (j - i) (drop i xs)
 
-pub stretch_beyond : (xs ys : List hb_glyph_info_t) (i j : ℕ) → stretch (length xs + i) (length xs + j) (clusters (xs ++ ys)) ≡ stretch i j (clusters ys)
+pub stretch_beyond : (xs ys : List hb_glyph_info_t) (i j : ℕ) → range_of (length xs + i) (length xs + j) (clusters (xs ++ ys)) ≡ range_of i j (clusters ys)
 stretch_beyond xs ys i j =
     let cluster_of : hb_glyph_info_t → ℕ = λ g. g.cluster in
     let cut = slice_beyond (clusters xs) (clusters ys) i j in
@@ -139,17 +139,17 @@ stretch_beyond xs ys i j =
 
 pub marked_beyond : (bits : ℕ) (xs ys : List hb_glyph_info_t) (i j : ℕ) → glyphs_marked bits (length xs + i) (length xs + j) (xs ++ ys) ≡ xs ++ glyphs_marked bits i j ys
 marked_beyond bits xs ys i j =
-    let low = least_number (stretch i j (clusters ys)) in
+    let low = least_number (range_of i j (clusters ys)) in
     rw (stretch_beyond xs ys i j, slice_beyond xs ys i j, take-append-add xs ys i, drop-append-add xs ys j)
     (append_assoc (xs ++ take i ys) (map (marked_outside bits low) (slice_range ys i j)) (drop j ys) ∙ append_assoc xs (take i ys) (map (marked_outside bits low) (slice_range ys i j) ++ drop j ys)
     ∙ ap (λ zs. xs ++ zs) (sym (append_assoc (take i ys) (map (marked_outside bits low) (slice_range ys i j)) (drop j ys))))
 
-merged_beyond : (xs ys : List hb_glyph_info_t) (i j : ℕ) → glyphs_merged (stretch (length xs + i) (length xs + j) (clusters (xs ++ ys))) (xs ++ ys) ≡ glyphs_merged (stretch i j (clusters ys)) xs ++ glyphs_merged (stretch i j (clusters ys)) ys
-merged_beyond xs ys i j = rw (stretch_beyond xs ys i j) (map-append (λ (g : hb_glyph_info_t). in_cluster (merged (stretch i j (clusters ys)) g.cluster) g) xs ys)
+merged_beyond : (xs ys : List hb_glyph_info_t) (i j : ℕ) → glyphs_merged (range_of (length xs + i) (length xs + j) (clusters (xs ++ ys))) (xs ++ ys) ≡ glyphs_merged (range_of i j (clusters ys)) xs ++ glyphs_merged (range_of i j (clusters ys)) ys
+merged_beyond xs ys i j = rw (stretch_beyond xs ys i j) (map-append (λ (g : hb_glyph_info_t). in_cluster (merged_number (range_of i j (clusters ys)) g.cluster) g) xs ys)
 
 -- a merge of a range of the second of two lists
 pub merged_at_beyond : (level : BufferClusterLevel) (xs ys : List hb_glyph_info_t) (i j : ℕ)
-    → glyphs_merged_at level (length xs + i) (length xs + j) (xs ++ ys) ≡ beside_merged level (stretch i j (clusters ys)) xs ++ glyphs_merged_at level i j ys
+    → glyphs_merged_at level (length xs + i) (length xs + j) (xs ++ ys) ≡ beside_merged level (range_of i j (clusters ys)) xs ++ glyphs_merged_at level i j ys
 merged_at_beyond MonotoneGraphemes xs ys i j = merged_beyond xs ys i j
 merged_at_beyond MonotoneCharacters xs ys i j = merged_beyond xs ys i j
 merged_at_beyond Characters xs ys i j = marked_beyond 3 xs ys i j
@@ -160,15 +160,15 @@ strip_marked bits from to gs lt le = stays_marked item_of bits from to gs le (λ
 pub clusters_marked : (bits from to : ℕ) (gs : List hb_glyph_info_t) → from ≤ to → clusters (glyphs_marked bits from to gs) ≡ clusters gs
 clusters_marked bits from to gs le = stays_marked (λ (g : hb_glyph_info_t). g.cluster) bits from to gs le (λ low g. cluster_marked bits low g)
 
-seen_flagged : {Y : Type 0} (v : hb_glyph_info_t → Y) (bits : ℕ) (gs : List hb_glyph_info_t) → ((g : hb_glyph_info_t) → v (flagged bits g) ≡ v g) → map v (map (flagged bits) gs) ≡ map v gs
+seen_flagged : {Y : Type 0} (v : hb_glyph_info_t → Y) (bits : ℕ) (gs : List hb_glyph_info_t) → ((g : hb_glyph_info_t) → v (glyph_flagged bits g) ≡ v g) → map v (map (glyph_flagged bits) gs) ≡ map v gs
 seen_flagged v bits [] same = refl
 seen_flagged v bits (g ∷ gs) same = rw (same g, seen_flagged v bits gs same) refl
 
-stays_flagged : {Y : Type 0} (v : hb_glyph_info_t → Y) (bits from to : ℕ) (gs : List hb_glyph_info_t) → from ≤ to → ((g : hb_glyph_info_t) → v (flagged bits g) ≡ v g) → map v (glyphs_flagged bits from to gs) ≡ map v gs
+stays_flagged : {Y : Type 0} (v : hb_glyph_info_t → Y) (bits from to : ℕ) (gs : List hb_glyph_info_t) → from ≤ to → ((g : hb_glyph_info_t) → v (glyph_flagged bits g) ≡ v g) → map v (glyphs_flagged bits from to gs) ≡ map v gs
 stays_flagged v bits from to gs le same =
     let range = slice_range gs from to in
     let kept = seen_flagged v bits range same in
-    rw (map-append v (take from gs ++ map (flagged bits) range) (drop to gs), map-append v (take from gs) (map (flagged bits) range), kept, ← map-append v (take from gs) range, ← map-append v (take from gs ++ range) (drop to gs), cut_out from to gs le) refl
+    rw (map-append v (take from gs ++ map (glyph_flagged bits) range) (drop to gs), map-append v (take from gs) (map (glyph_flagged bits) range), kept, ← map-append v (take from gs) range, ← map-append v (take from gs ++ range) (drop to gs), cut_out from to gs le) refl
 
 pub strip_flagged : (bits from to : ℕ) (gs : List hb_glyph_info_t) → bits < 8 → from ≤ to → strip (glyphs_flagged bits from to gs) ≡ strip gs
 strip_flagged bits from to gs lt le = stays_flagged item_of bits from to gs le (λ g. rw (without_flags_set g.mask bits lt) refl)
@@ -179,8 +179,8 @@ clusters_flagged bits from to gs le = stays_flagged (λ (g : hb_glyph_info_t). g
 pub flagged_beyond : (bits : ℕ) (xs ys : List hb_glyph_info_t) (i j : ℕ) → glyphs_flagged bits (length xs + i) (length xs + j) (xs ++ ys) ≡ xs ++ glyphs_flagged bits i j ys
 flagged_beyond bits xs ys i j =
     rw (slice_beyond xs ys i j, take-append-add xs ys i, drop-append-add xs ys j)
-    (append_assoc (xs ++ take i ys) (map (flagged bits) (slice_range ys i j)) (drop j ys) ∙ append_assoc xs (take i ys) (map (flagged bits) (slice_range ys i j) ++ drop j ys)
-    ∙ ap (λ zs. xs ++ zs) (sym (append_assoc (take i ys) (map (flagged bits) (slice_range ys i j)) (drop j ys))))
+    (append_assoc (xs ++ take i ys) (map (glyph_flagged bits) (slice_range ys i j)) (drop j ys) ∙ append_assoc xs (take i ys) (map (glyph_flagged bits) (slice_range ys i j) ++ drop j ys)
+    ∙ ap (λ zs. xs ++ zs) (sym (append_assoc (take i ys) (map (glyph_flagged bits) (slice_range ys i j)) (drop j ys))))
 
 -- a glyph keeps its flags where it is moved to its own cluster, and so do all where nothing merges
 pub same_cluster : (g : hb_glyph_info_t) → in_cluster g.cluster g ≡ g

@@ -6,9 +6,9 @@ use Rattle.std.proofs.lemmas.Grind.{common_steps}
 use Rattle.std.proofs.lemmas.List.{map-id, drop-drop, take-append-drop}
 use Rattle.buffer_glyphs.specs.declared.level.BufferClusterLevel.{BufferClusterLevel}
 use Rattle.buffer_glyphs.specs.declared.level.BufferClusterLevel.TheVariants.{MonotoneGraphemes, MonotoneCharacters, Characters}
-use Rattle.buffer_glyphs.specs.Parts.{JoinParts, united, last_from, joined, stretch, after_part_event}
+use Rattle.buffer_glyphs.specs.Parts.{JoinParts, united_number, last_from, joined_numbers, range_of, after_part_event}
 use Rattle.buffer_glyphs.specs.Order.{AllFrom, IsChain, IsInOrder, IsOrdered, IsLeast, BringsNone, has_number}
-use Rattle.buffer_glyphs.specs.Merges.{least_number, merged, merged_numbers, merged_at, IsOneOn}
+use Rattle.buffer_glyphs.specs.Merges.{least_number, merged_number, merged_numbers, numbers_merged_at, IsOneOn}
 use Rattle.buffer_glyphs.specs.Levels.{IsMonotone}
 use Rattle.buffer_glyphs.specs.Laws.{MergeUnites, MergeIsJoin}
 use Rattle.buffer_glyphs.specs.Lemmas.Parts.{Stands, stands_self}
@@ -48,7 +48,7 @@ has_least : (n : ℕ) (range : List ℕ) → Has range n → Has range (least_nu
 has_least n [] h = cc
 has_least n (x ∷ xs) h = (least_number_is x xs).among
 
-pub merged_in : (range : List ℕ) (n : ℕ) → Has range n → merged range n ≡ least_number range
+pub merged_in : (range : List ℕ) (n : ℕ) → Has range n → merged_number range n ≡ least_number range
 merged_in range n h = rw h refl
 
 merged_same : (range : List ℕ) (f : ℕ → ℕ) → IsOneOn range f → (n : ℕ) (t : Bool) → has_number range n ≡ t → f (if t then least_number range else n) ≡ f n
@@ -88,20 +88,20 @@ chain_across R m n (x ∷ xs) ys h hm hn = elim (has_cases x m xs hm) [
   | inr later ↦ chain_across R m n xs ys h.1 later hn
 ]
 
-before_rising : (x y n : ℕ) → x ≤ y → n ≤ x → n ≢ x → united (min x y) (max x y) n ≡ n
+before_rising : (x y n : ℕ) → x ≤ y → n ≤ x → n ≢ x → united_number (min x y) (max x y) n ≡ n
 before_rising x y n h k ne = grind (arith, nat_tests, common_steps)
 
-after_rising : (x y n : ℕ) → x ≤ y → y ≤ n → n ≢ y → united (min x y) (max x y) n ≡ n
+after_rising : (x y n : ℕ) → x ≤ y → y ≤ n → n ≢ y → united_number (min x y) (max x y) n ≡ n
 after_rising x y n h k ne = grind (arith, nat_tests, common_steps)
 
-before_falling : (x y n : ℕ) → y ≤ x → x ≤ n → n ≢ x → united (min x y) (max x y) n ≡ n
+before_falling : (x y n : ℕ) → y ≤ x → x ≤ n → n ≢ x → united_number (min x y) (max x y) n ≡ n
 before_falling x y n h k ne = grind (arith, nat_tests, common_steps)
 
-after_falling : (x y n : ℕ) → y ≤ x → n ≤ y → n ≢ y → united (min x y) (max x y) n ≡ n
+after_falling : (x y n : ℕ) → y ≤ x → n ≤ y → n ≢ y → united_number (min x y) (max x y) n ≡ n
 after_falling x y n h k ne = grind (arith, nat_tests, common_steps)
 
 -- a number on either side of a range stays as it is
-pub outside : (falls : Bool) (x y n : ℕ) → Stands falls x y → (Stands falls n x × n ≢ x) ⊎ (Stands falls y n × n ≢ y) → united (min x y) (max x y) n ≡ n
+pub outside : (falls : Bool) (x y n : ℕ) → Stands falls x y → (Stands falls n x × n ≢ x) ⊎ (Stands falls y n × n ≢ y) → united_number (min x y) (max x y) n ≡ n
 outside false x y n h (inl k) = before_rising x y n h k.0 k.1
 outside false x y n h (inr k) = after_rising x y n h k.0 k.1
 outside true x y n h (inl k) = before_falling x y n h k.0 k.1
@@ -135,7 +135,7 @@ least_of_ends : (falls : Bool) (x : ℕ) (xs : List ℕ) → IsChain (Stands fal
 least_of_ends falls x xs o = same_least (least_number (x ∷ xs)) (min x (last_from x xs)) (x ∷ xs) (least_number_is x xs) (least_end falls x xs o)
 
 joined_at : (falls : Bool) (x n : ℕ) (front xs back : List ℕ) → IsChain (Stands falls) (front ++ (x ∷ xs) ++ back) → Has (front ++ (x ∷ xs) ++ back) n → (t : Bool) → has_number (x ∷ xs) n ≡ t
-    → (if t then least_number (x ∷ xs) else n) ≡ united (min x (last_from x xs)) (max x (last_from x xs)) n
+    → (if t then least_number (x ∷ xs) else n) ≡ united_number (min x (last_from x xs)) (max x (last_from x xs)) n
 joined_at falls x n front xs back o h true e =
     let range = chain_right (Stands falls) front (x ∷ xs) (chain_left (Stands falls) (front ++ (x ∷ xs)) back o) in
     least_of_ends falls x xs range ∙ sym (joined_alike falls x n xs (in_order falls (x ∷ xs) range) e)
@@ -155,44 +155,44 @@ joined_at falls x n front xs back o h false e =
 pub merge_is_join : MergeIsJoin
 merge_is_join falls front [] back o = map-id (front ++ [] ++ back)
 merge_is_join falls front (x ∷ xs) back o =
-    map_alike (merged (x ∷ xs)) (united (min x (last_from x xs)) (max x (last_from x xs))) (front ++ (x ∷ xs) ++ back)
+    map_alike (merged_number (x ∷ xs)) (united_number (min x (last_from x xs)) (max x (last_from x xs))) (front ++ (x ∷ xs) ++ back)
     (λ n h. joined_at falls x n front xs back (stands_chain falls (front ++ (x ∷ xs) ++ back) o) h (has_number (x ∷ xs) n) refl)
 
-cut_out : (from to : ℕ) (ns : List ℕ) → from ≤ to → take from ns ++ stretch from to ns ++ drop to ns ≡ ns
+cut_out : (from to : ℕ) (ns : List ℕ) → from ≤ to → take from ns ++ range_of from to ns ++ drop to ns ≡ ns
 cut_out from to ns le =
     let there : from + (to - from) ≡ to = omega arith in
     let beyond : drop (to - from) (drop from ns) ≡ drop to ns = drop-drop (to - from) from ns ∙ ap (λ n. drop n ns) there in
-    append_assoc (take from ns) (stretch from to ns) (drop to ns) ∙ ap (λ ms. take from ns ++ (stretch from to ns ++ ms)) (sym beyond) ∙ ap (λ ms. take from ns ++ ms) (take-append-drop (to - from) (drop from ns)) ∙ take-append-drop from ns
+    append_assoc (take from ns) (range_of from to ns) (drop to ns) ∙ ap (λ ms. take from ns ++ (range_of from to ns ++ ms)) (sym beyond) ∙ ap (λ ms. take from ns ++ ms) (take-append-drop (to - from) (drop from ns)) ∙ take-append-drop from ns
 
-merge_joins_order : (falls : Bool) (from to : ℕ) (ns : List ℕ) → from ≤ to → IsInOrder falls ns → merged_numbers (stretch from to ns) ns ≡ after_part_event ns (JoinParts from to)
+merge_joins_order : (falls : Bool) (from to : ℕ) (ns : List ℕ) → from ≤ to → IsInOrder falls ns → merged_numbers (range_of from to ns) ns ≡ after_part_event ns (JoinParts from to)
 merge_joins_order falls from to ns le o =
-    let P : List ℕ → Type 0 = λ ms. IsInOrder falls ms → merged_numbers (stretch from to ns) ms ≡ joined (stretch from to ns) ms in
-    subst P (cut_out from to ns le) (merge_is_join falls (take from ns) (stretch from to ns) (drop to ns)) o
+    let P : List ℕ → Type 0 = λ ms. IsInOrder falls ms → merged_numbers (range_of from to ns) ms ≡ joined_numbers (range_of from to ns) ms in
+    subst P (cut_out from to ns le) (merge_is_join falls (take from ns) (range_of from to ns) (drop to ns)) o
 
-merge_joins_ordered : (from to : ℕ) (ns : List ℕ) → from ≤ to → IsOrdered ns → merged_numbers (stretch from to ns) ns ≡ after_part_event ns (JoinParts from to)
+merge_joins_ordered : (from to : ℕ) (ns : List ℕ) → from ≤ to → IsOrdered ns → merged_numbers (range_of from to ns) ns ≡ after_part_event ns (JoinParts from to)
 merge_joins_ordered from to ns le o = elim o [ inl rises ↦ merge_joins_order false from to ns le rises | inr falls ↦ merge_joins_order true from to ns le falls ]
 
 -- in order, at a monotone level, a merge of the indices from `from` up to before `to` is a join
-pub merge_joins : (level : BufferClusterLevel) (from to : ℕ) (ns : List ℕ) → from ≤ to → IsMonotone level → IsOrdered ns → merged_at level from to ns ≡ after_part_event ns (JoinParts from to)
+pub merge_joins : (level : BufferClusterLevel) (from to : ℕ) (ns : List ℕ) → from ≤ to → IsMonotone level → IsOrdered ns → numbers_merged_at level from to ns ≡ after_part_event ns (JoinParts from to)
 merge_joins MonotoneGraphemes from to ns le mono o = merge_joins_ordered from to ns le o
 merge_joins MonotoneCharacters from to ns le mono o = merge_joins_ordered from to ns le o
 merge_joins Characters from to ns le mono o = absurd mono
 
-in_stretch : (from to n : ℕ) (ns : List ℕ) → Has (stretch from to ns) n → Has ns n
+in_stretch : (from to n : ℕ) (ns : List ℕ) → Has (range_of from to ns) n → Has ns n
 in_stretch from to n ns h = has_drop n from ns (has_take n (to - from) (drop from ns) h)
 
 merged_known : (range ns : List ℕ) → ((n : ℕ) → Has range n → Has ns n) → (n : ℕ) → Has ns n → (t : Bool) → has_number range n ≡ t → Has ns (if t then least_number range else n)
 merged_known range ns known n h true e = known (least_number range) (has_least n range e)
 merged_known range ns known n h false e = h
 
-merge_brings_none : (from to : ℕ) (ns : List ℕ) → BringsNone ns (merged_numbers (stretch from to ns) ns)
+merge_brings_none : (from to : ℕ) (ns : List ℕ) → BringsNone ns (merged_numbers (range_of from to ns) ns)
 merge_brings_none from to ns n h =
-    let range = stretch from to ns in
-    let source = has_map (merged range) n ns h in
+    let range = range_of from to ns in
+    let source = has_map (merged_number range) n ns h in
     subst (Has ns) source.2 (merged_known range ns (λ m k. in_stretch from to m ns k) source.0 source.1 (has_number range source.0) refl)
 
 -- a merge brings no number
-pub merged_at_brings : (level : BufferClusterLevel) (from to : ℕ) (ns : List ℕ) → BringsNone ns (merged_at level from to ns)
+pub merged_at_brings : (level : BufferClusterLevel) (from to : ℕ) (ns : List ℕ) → BringsNone ns (numbers_merged_at level from to ns)
 merged_at_brings MonotoneGraphemes from to ns = merge_brings_none from to ns
 merged_at_brings MonotoneCharacters from to ns = merge_brings_none from to ns
 merged_at_brings Characters from to ns = λ n h. h

@@ -9,12 +9,12 @@ use Rattle.buffer_glyphs.specs.declared.info.hb_glyph_info_t.{hb_glyph_info_t}
 use Rattle.buffer_glyphs.specs.declared.level.BufferClusterLevel.{BufferClusterLevel}
 use Rattle.buffer_glyphs.specs.declared.level.BufferClusterLevel.TheVariants.{MonotoneGraphemes, MonotoneCharacters, Characters}
 use Rattle.buffer_glyphs.specs.Items.{clusters, glyph_flags}
-use Rattle.buffer_glyphs.specs.Parts.{first_of, last_of, is_number, stretch, replaced_among}
-use Rattle.buffer_glyphs.specs.Merges.{least_number, merged, merged_numbers, merged_at}
-use Rattle.buffer_glyphs.specs.Deletions.{end_renumbered, deleted_alone, deleted}
-use Rattle.buffer_glyphs.specs.Glyphs.{in_cluster, glyphs_merged, marked_outside, glyphs_marked, glyphs_merged_at, flagged, glyphs_flagged}
+use Rattle.buffer_glyphs.specs.Parts.{first_of, last_of, is_number, range_of, elements_replaced}
+use Rattle.buffer_glyphs.specs.Merges.{least_number, merged_number, merged_numbers, numbers_merged_at}
+use Rattle.buffer_glyphs.specs.Deletions.{end_renumbered, numbers_deleted_alone, number_deleted}
+use Rattle.buffer_glyphs.specs.Glyphs.{in_cluster, glyphs_merged, marked_outside, glyphs_marked, glyphs_merged_at, glyph_flagged, glyphs_flagged}
 use Rattle.buffer_glyphs.specs.Replacements.{glyph_numbered, glyphs_replaced}
-use Rattle.buffer_glyphs.specs.Origins.{Origin, origin_of, origins, numbers, cast, origins_merged, flags_added, added_outside, changed_within, origins_marked, origins_flagged, InList, manner, merged_as, end_cast, alone_deleted, one_deleted, Asks}
+use Rattle.buffer_glyphs.specs.Origins.{Origin, origin_of, origins, numbers, cast, origins_merged, flags_added, added_outside, with_range_changed, origins_marked, origins_flagged, InList, manner, origins_merged_as, end_cast, alone_deleted, one_deleted, Asks}
 use Rattle.buffer_glyphs.specs.Lemmas.Glyphs.{cluster_in_cluster, flags_in_cluster, flags_set}
 use Rattle.buffer_glyphs.specs.Lemmas.Replacements.{replaced_seen, replaced_alike}
 use Rattle.std.proofs.lemmas.List.Sums.{fold-append}
@@ -46,14 +46,14 @@ pub slice_seen : {X Y : Type 0} (v : X → Y) (from to : ℕ) (xs : List X) → 
 slice_seen v from to xs = sym (take-map v (to - from) (drop from xs)) ∙ ap (take (to - from)) (sym (drop-map v from xs))
 
 -- what is seen of each element stays
-pub within_kept : {X Y : Type 0} (v : X → Y) (f : X → X) (from to : ℕ) (xs : List X) → ((x : X) → v (f x) ≡ v x) → map v (changed_within f from to xs) ≡ map v xs
+pub within_kept : {X Y : Type 0} (v : X → Y) (f : X → X) (from to : ℕ) (xs : List X) → ((x : X) → v (f x) ≡ v x) → map v (with_range_changed f from to xs) ≡ map v xs
 within_kept v f from to xs same =
     let range = slice_range xs from to in
     map-append v (take from xs ++ map f range) (drop (max from to) xs) ∙ ap (λ ys. ys ++ map v (drop (max from to) xs)) (map-append v (take from xs) (map f range) ∙ ap (λ ys. map v (take from xs) ++ ys) (map_kept v f range same) ∙ sym (map-append v (take from xs) range))
     ∙ sym (map-append v (take from xs ++ range) (drop (max from to) xs)) ∙ ap (map v) (cut_in_three from to xs)
 
 -- what is seen changes alike
-pub within_seen : {X Y : Type 0} (v : X → Y) (f : X → X) (h : Y → Y) (from to : ℕ) (xs : List X) → ((x : X) → v (f x) ≡ h (v x)) → map v (changed_within f from to xs) ≡ changed_within h from to (map v xs)
+pub within_seen : {X Y : Type 0} (v : X → Y) (f : X → X) (h : Y → Y) (from to : ℕ) (xs : List X) → ((x : X) → v (f x) ≡ h (v x)) → map v (with_range_changed f from to xs) ≡ with_range_changed h from to (map v xs)
 within_seen v f h from to xs same =
     let range = slice_range xs from to in
     map-append v (take from xs ++ map f range) (drop (max from to) xs) ∙ ap (λ ys. ys ++ map v (drop (max from to) xs)) (map-append v (take from xs) (map f range) ∙ ap (λ ys. map v (take from xs) ++ ys) (map_turned v f h range same ∙ ap (map h) (slice_seen v from to xs)))
@@ -72,17 +72,17 @@ pub number_outside : (bits low : ℕ) (o : Origin) → (added_outside bits low o
 number_outside bits low o = elim (o.cluster == low) as (λ t. (if t then o else flags_added bits o).cluster ≡ o.cluster) [ true ↦ refl | false ↦ refl ]
 
 pub numbers_merged : (range : List ℕ) (os : List Origin) → numbers (origins_merged range os) ≡ merged_numbers range (numbers os)
-numbers_merged range os = map_turned (λ (o : Origin). o.cluster) (λ (o : Origin). cast (merged range o.cluster) 0 o) (merged range) os (λ o. number_cast (merged range o.cluster) 0 o)
+numbers_merged range os = map_turned (λ (o : Origin). o.cluster) (λ (o : Origin). cast (merged_number range o.cluster) 0 o) (merged_number range) os (λ o. number_cast (merged_number range o.cluster) 0 o)
 
 pub numbers_marked : (bits from to : ℕ) (os : List Origin) → numbers (origins_marked bits from to os) ≡ numbers os
-numbers_marked bits from to os = within_kept (λ (o : Origin). o.cluster) (added_outside bits (least_number (stretch from to (numbers os)))) from to os (λ o. number_outside bits (least_number (stretch from to (numbers os))) o)
+numbers_marked bits from to os = within_kept (λ (o : Origin). o.cluster) (added_outside bits (least_number (range_of from to (numbers os)))) from to os (λ o. number_outside bits (least_number (range_of from to (numbers os))) o)
 
 pub numbers_flagged : (bits from to : ℕ) (os : List Origin) → numbers (origins_flagged bits from to os) ≡ numbers os
 numbers_flagged bits from to os = within_kept (λ (o : Origin). o.cluster) (flags_added bits) from to os (λ o. refl)
 
-pub numbers_listed : (level : BufferClusterLevel) (from to : ℕ) (os : List Origin) → numbers (merged_as (manner InList level) from to os) ≡ merged_at level from to (numbers os)
-numbers_listed MonotoneGraphemes from to os = numbers_merged (stretch from to (numbers os)) os
-numbers_listed MonotoneCharacters from to os = numbers_merged (stretch from to (numbers os)) os
+pub numbers_listed : (level : BufferClusterLevel) (from to : ℕ) (os : List Origin) → numbers (origins_merged_as (manner InList level) from to os) ≡ numbers_merged_at level from to (numbers os)
+numbers_listed MonotoneGraphemes from to os = numbers_merged (range_of from to (numbers os)) os
+numbers_listed MonotoneCharacters from to os = numbers_merged (range_of from to (numbers os)) os
 numbers_listed Characters from to os = numbers_marked 3 from to os
 
 all_of_cluster : (p : ℕ) (os : List Origin) → list_all (λ (k : Origin). k.cluster == p) os ≡ list_all (λ k. k == p) (numbers os)
@@ -101,20 +101,20 @@ numbers_end p o (q ∷ qs) = rw (← all_of_cluster p (q ∷ qs)) (by_test (list
     by_test true later = numbers_alike o.cluster o.flags (q ∷ qs)
     by_test false later = ap (λ ns. q.cluster ∷ ns) later
 
-numbers_alone : (level : BufferClusterLevel) (before : Option ℕ) (front : List Origin) (o : Origin) (back : List Origin) → numbers (alone_deleted level before front o back) ≡ deleted_alone level before (numbers front) o.cluster (numbers back)
+numbers_alone : (level : BufferClusterLevel) (before : Option ℕ) (front : List Origin) (o : Origin) (back : List Origin) → numbers (alone_deleted level before front o back) ≡ numbers_deleted_alone level before (numbers front) o.cluster (numbers back)
 numbers_alone level (Some p) front o back = by_test (nat_lt o.cluster p)
   where
     by_test : (t : Bool) → numbers ((if t then end_cast p o front else front) ++ back) ≡ (if t then end_renumbered p o.cluster (numbers front) else numbers front) ++ numbers back
     by_test true = map-append (λ (q : Origin). q.cluster) (end_cast p o front) back ∙ ap (λ ns. ns ++ numbers back) (numbers_end p o front)
     by_test false = map-append (λ (q : Origin). q.cluster) front back
 numbers_alone level None front o back =
-    map-append (λ (q : Origin). q.cluster) front (drop 1 (merged_as (manner InList level) 0 2 (o ∷ back)))
-    ∙ ap (λ ns. numbers front ++ ns) (sym (drop-map (λ (q : Origin). q.cluster) 1 (merged_as (manner InList level) 0 2 (o ∷ back))) ∙ ap (drop 1) (numbers_listed level 0 2 (o ∷ back)))
+    map-append (λ (q : Origin). q.cluster) front (drop 1 (origins_merged_as (manner InList level) 0 2 (o ∷ back)))
+    ∙ ap (λ ns. numbers front ++ ns) (sym (drop-map (λ (q : Origin). q.cluster) 1 (origins_merged_as (manner InList level) 0 2 (o ∷ back))) ∙ ap (drop 1) (numbers_listed level 0 2 (o ∷ back)))
 
-pub numbers_deleted : (level : BufferClusterLevel) (front : List Origin) (o : Origin) (back : List Origin) → numbers (one_deleted level front o back) ≡ deleted level (numbers front) o.cluster (numbers back)
+pub numbers_deleted : (level : BufferClusterLevel) (front : List Origin) (o : Origin) (back : List Origin) → numbers (one_deleted level front o back) ≡ number_deleted level (numbers front) o.cluster (numbers back)
 numbers_deleted level front o back = by_test (is_number (last_of (numbers front)) o.cluster || is_number (first_of (numbers back)) o.cluster)
   where
-    by_test : (t : Bool) → numbers (if t then front ++ back else alone_deleted level (last_of (numbers front)) front o back) ≡ (if t then numbers front ++ numbers back else deleted_alone level (last_of (numbers front)) (numbers front) o.cluster (numbers back))
+    by_test : (t : Bool) → numbers (if t then front ++ back else alone_deleted level (last_of (numbers front)) front o back) ≡ (if t then numbers front ++ numbers back else numbers_deleted_alone level (last_of (numbers front)) (numbers front) o.cluster (numbers back))
     by_test true = map-append (λ (q : Origin). q.cluster) front back
     by_test false = numbers_alone level (last_of (numbers front)) front o back
 
@@ -132,38 +132,38 @@ origin_in_cluster c g = rw (cluster_in_cluster c g, flags_in_cluster c g) (by_te
     by_test false e = refl
 
 pub origins_of_merged : (range : List ℕ) (gs : List hb_glyph_info_t) → origins (glyphs_merged range gs) ≡ origins_merged range (origins gs)
-origins_of_merged range gs = map_turned origin_of (λ (g : hb_glyph_info_t). in_cluster (merged range g.cluster) g) (λ (o : Origin). cast (merged range o.cluster) 0 o) gs (λ g. origin_in_cluster (merged range g.cluster) g)
+origins_of_merged range gs = map_turned origin_of (λ (g : hb_glyph_info_t). in_cluster (merged_number range g.cluster) g) (λ (o : Origin). cast (merged_number range o.cluster) 0 o) gs (λ g. origin_in_cluster (merged_number range g.cluster) g)
 
 origin_marked : (bits low : ℕ) (g : hb_glyph_info_t) → bits < 8 → origin_of (marked_outside bits low g) ≡ added_outside bits low (origin_of g)
 origin_marked bits low g lt = by_test (g.cluster == low)
   where
-    by_test : (t : Bool) → origin_of (if t then g else flagged bits g) ≡ (if t then origin_of g else flags_added bits (origin_of g))
+    by_test : (t : Bool) → origin_of (if t then g else glyph_flagged bits g) ≡ (if t then origin_of g else flags_added bits (origin_of g))
     by_test true = refl
     by_test false = ap (λ f. record { cluster = g.cluster; flags = f }) (flags_set g.mask bits lt)
 
 pub origins_of_marked : (bits from to : ℕ) (gs : List hb_glyph_info_t) → bits < 8 → from ≤ to → origins (glyphs_marked bits from to gs) ≡ origins_marked bits from to (origins gs)
 origins_of_marked bits from to gs lt le =
-    let low = least_number (stretch from to (clusters gs)) in
+    let low = least_number (range_of from to (clusters gs)) in
     let last : drop to gs ≡ drop (max from to) gs = ap (λ n. drop n gs) (sym (after_both from to le)) in
     ap (λ ys. origins (take from gs ++ map (marked_outside bits low) (slice_range gs from to) ++ ys)) last
     ∙ within_seen origin_of (marked_outside bits low) (added_outside bits low) from to gs (λ g. origin_marked bits low g lt)
-    ∙ ap (λ ns. changed_within (added_outside bits (least_number (stretch from to ns))) from to (origins gs)) (sym (numbers_origins gs))
+    ∙ ap (λ ns. with_range_changed (added_outside bits (least_number (range_of from to ns))) from to (origins gs)) (sym (numbers_origins gs))
 
 pub origins_of_flagged : (bits from to : ℕ) (gs : List hb_glyph_info_t) → bits < 8 → from ≤ to → origins (glyphs_flagged bits from to gs) ≡ origins_flagged bits from to (origins gs)
 origins_of_flagged bits from to gs lt le =
     let last : drop to gs ≡ drop (max from to) gs = ap (λ n. drop n gs) (sym (after_both from to le)) in
-    ap (λ ys. origins (take from gs ++ map (flagged bits) (slice_range gs from to) ++ ys)) last
-    ∙ within_seen origin_of (flagged bits) (flags_added bits) from to gs (λ g. ap (λ f. record { cluster = g.cluster; flags = f }) (flags_set g.mask bits lt))
+    ap (λ ys. origins (take from gs ++ map (glyph_flagged bits) (slice_range gs from to) ++ ys)) last
+    ∙ within_seen origin_of (glyph_flagged bits) (flags_added bits) from to gs (λ g. ap (λ f. record { cluster = g.cluster; flags = f }) (flags_set g.mask bits lt))
 
-merged_over : (from to : ℕ) (gs : List hb_glyph_info_t) → origins (glyphs_merged (stretch from to (clusters gs)) gs) ≡ origins_merged (stretch from to (numbers (origins gs))) (origins gs)
-merged_over from to gs = origins_of_merged (stretch from to (clusters gs)) gs ∙ ap (λ ns. origins_merged (stretch from to ns) (origins gs)) (sym (numbers_origins gs))
+merged_over : (from to : ℕ) (gs : List hb_glyph_info_t) → origins (glyphs_merged (range_of from to (clusters gs)) gs) ≡ origins_merged (range_of from to (numbers (origins gs))) (origins gs)
+merged_over from to gs = origins_of_merged (range_of from to (clusters gs)) gs ∙ ap (λ ns. origins_merged (range_of from to ns) (origins gs)) (sym (numbers_origins gs))
 
-pub origins_of_merged_at : (level : BufferClusterLevel) (from to : ℕ) (gs : List hb_glyph_info_t) → from ≤ to → origins (glyphs_merged_at level from to gs) ≡ merged_as (manner InList level) from to (origins gs)
+pub origins_of_merged_at : (level : BufferClusterLevel) (from to : ℕ) (gs : List hb_glyph_info_t) → from ≤ to → origins (glyphs_merged_at level from to gs) ≡ origins_merged_as (manner InList level) from to (origins gs)
 origins_of_merged_at MonotoneGraphemes from to gs le = merged_over from to gs
 origins_of_merged_at MonotoneCharacters from to gs le = merged_over from to gs
 origins_of_merged_at Characters from to gs le = origins_of_marked 3 from to gs (omega arith) le
 
-pub origins_of_replaced : (at taken : ℕ) (ns : List ℕ) (gs : List hb_glyph_info_t) → origins (glyphs_replaced at taken ns gs) ≡ replaced_among at taken (length ns) (origins gs)
+pub origins_of_replaced : (at taken : ℕ) (ns : List ℕ) (gs : List hb_glyph_info_t) → origins (glyphs_replaced at taken ns gs) ≡ elements_replaced at taken (length ns) (origins gs)
 origins_of_replaced at taken ns gs = replaced_seen origin_of glyph_numbered (λ o n. o) at taken ns gs (λ g n. refl) ∙ replaced_alike at taken ns (origins gs)
 
 -- some events, and then others

@@ -2,7 +2,7 @@
 use Rattle.std.proofs.Common.{ℕ, ◌≡◌, ◌≤◌, ◌+◌, ◌⊎◌, inl, inr, Bool, true, false, not, min, max, List, [], ◌∷◌, reverse, arith, refl, subst, sym, ◌∙◌}
 use Rattle.std.proofs.lemmas.Bool.Decides.{nat_tests}
 use Rattle.std.proofs.lemmas.Grind.{common_steps}
-use Rattle.buffer_glyphs.specs.Parts.{PartEvent, JoinParts, ReplaceParts, DeletePart, CirclePart, ReverseParts, united, united_all, joined, stretch, before_deletion, replaced, after_part_event, after_part_events}
+use Rattle.buffer_glyphs.specs.Parts.{PartEvent, JoinParts, ReplaceParts, DeletePart, CirclePart, ReverseParts, united_number, united_numbers, joined_numbers, range_of, before_deletion, numbers_replaced, after_part_event, after_part_events}
 use Rattle.buffer_glyphs.specs.Order.{IsInOrder, IsOrdered, BringsNone, falls_after}
 use Rattle.buffer_glyphs.specs.Laws.{KeepsOrder, KeepsNumbers}
 use Rattle.buffer_glyphs.specs.Lemmas.Chains.{chain_map, chain_reverse}
@@ -19,16 +19,16 @@ pub stands_self : (falls : Bool) (x : ℕ) → Stands falls x x
 stands_self false x = omega arith
 stands_self true x = omega arith
 
-united_rises : (m n x y : ℕ) → x ≤ y → united (min m n) (max m n) x ≤ united (min m n) (max m n) y
+united_rises : (m n x y : ℕ) → x ≤ y → united_number (min m n) (max m n) x ≤ united_number (min m n) (max m n) y
 united_rises m n x y h = grind (arith, nat_tests, common_steps)
 
-united_stands : (falls : Bool) (m n x y : ℕ) → Stands falls x y → Stands falls (united (min m n) (max m n) x) (united (min m n) (max m n) y)
+united_stands : (falls : Bool) (m n x y : ℕ) → Stands falls x y → Stands falls (united_number (min m n) (max m n) x) (united_number (min m n) (max m n) y)
 united_stands false m n x y h = united_rises m n x y h
 united_stands true m n x y h = united_rises m n y x h
 
-order_united : (falls : Bool) (m n : ℕ) (ns : List ℕ) → IsInOrder falls ns → IsInOrder falls (united_all m n ns)
-order_united false m n ns h = chain_map (Stands false) (united (min m n) (max m n)) (united_stands false m n) ns h
-order_united true m n ns h = chain_map (Stands true) (united (min m n) (max m n)) (united_stands true m n) ns h
+order_united : (falls : Bool) (m n : ℕ) (ns : List ℕ) → IsInOrder falls ns → IsInOrder falls (united_numbers m n ns)
+order_united false m n ns h = chain_map (Stands false) (united_number (min m n) (max m n)) (united_stands false m n) ns h
+order_united true m n ns h = chain_map (Stands true) (united_number (min m n) (max m n)) (united_stands true m n) ns h
 
 pub order_drawn : (falls : Bool) {xs ys : List ℕ} → IsDrawn xs ys → IsInOrder falls xs → IsInOrder falls ys
 order_drawn false d h = chain_drawn (Stands false) (stands_self false) d h
@@ -45,7 +45,7 @@ order_unites falls ns h = record { same = h; union = λ m n _ _. order_united fa
 pub event_keeps_order : (e : PartEvent) (falls : Bool) (ns : List ℕ) → IsInOrder falls ns → IsInOrder (falls_after falls (e ∷ [])) (after_part_event ns e)
 event_keeps_order (JoinParts from to) falls ns h = joined_unites (IsInOrder falls) from to ns (order_unites falls ns h)
 event_keeps_order (ReplaceParts at taken given) falls ns h =
-    order_drawn falls (drawn_replaced at taken given (joined (stretch at (at + taken) ns) ns)) (joined_unites (IsInOrder falls) at (at + taken) ns (order_unites falls ns h))
+    order_drawn falls (drawn_replaced at taken given (joined_numbers (range_of at (at + taken) ns) ns)) (joined_unites (IsInOrder falls) at (at + taken) ns (order_unites falls ns h))
 event_keeps_order (DeletePart at) falls ns h = order_drawn falls (drawn_without at (before_deletion at ns)) (left_unites (IsInOrder falls) at ns (order_unites falls ns h))
 event_keeps_order (CirclePart beside) falls ns h = order_drawn falls (drawn_doubled beside ns) h
 event_keeps_order ReverseParts falls ns h = order_reverse falls ns h
@@ -69,13 +69,13 @@ stays_ordered es ns h = elim h [ inl rises ↦ ordered_from (falls_after false e
     ordered_from false ms o = inl o
     ordered_from true ms o = inr o
 
-united_cases : (m n k : ℕ) → (united (min m n) (max m n) k ≡ k) ⊎ (united (min m n) (max m n) k ≡ m) ⊎ (united (min m n) (max m n) k ≡ n)
+united_cases : (m n k : ℕ) → (united_number (min m n) (max m n) k ≡ k) ⊎ (united_number (min m n) (max m n) k ≡ m) ⊎ (united_number (min m n) (max m n) k ≡ n)
 united_cases m n k = grind (arith, nat_tests, common_steps)
 
-numbers_united : (ns : List ℕ) (m n : ℕ) → Has ns m → Has ns n → BringsNone ns (united_all m n ns)
+numbers_united : (ns : List ℕ) (m n : ℕ) → Has ns m → Has ns n → BringsNone ns (united_numbers m n ns)
 numbers_united ns m n hm hn k h =
     let P : ℕ → Type 0 = λ j. Has ns j in
-    let from = has_map (united (min m n) (max m n)) k ns h in
+    let from = has_map (united_number (min m n) (max m n)) k ns h in
     subst P from.2 (elim (united_cases m n from.0) [ inl e ↦ subst P (sym e) from.1 | inr (inl e) ↦ subst P (sym e) hm | inr (inr e) ↦ subst P (sym e) hn ])
 
 numbers_unite : (ns : List ℕ) → Unites (BringsNone ns) ns
@@ -88,8 +88,8 @@ numbers_through old mid new h k n has = h n (k n has)
 pub event_keeps_numbers : (e : PartEvent) (ns : List ℕ) → BringsNone ns (after_part_event ns e)
 event_keeps_numbers (JoinParts from to) ns = joined_unites (BringsNone ns) from to ns (numbers_unite ns)
 event_keeps_numbers (ReplaceParts at taken given) ns =
-    let mid = joined (stretch at (at + taken) ns) ns in
-    numbers_through ns mid (replaced at taken given mid) (joined_unites (BringsNone ns) at (at + taken) ns (numbers_unite ns)) (drawn_brings (drawn_replaced at taken given mid))
+    let mid = joined_numbers (range_of at (at + taken) ns) ns in
+    numbers_through ns mid (numbers_replaced at taken given mid) (joined_unites (BringsNone ns) at (at + taken) ns (numbers_unite ns)) (drawn_brings (drawn_replaced at taken given mid))
 event_keeps_numbers (DeletePart at) ns = numbers_through ns (before_deletion at ns) (after_part_event ns (DeletePart at)) (left_unites (BringsNone ns) at ns (numbers_unite ns)) (drawn_brings (drawn_without at (before_deletion at ns)))
 event_keeps_numbers (CirclePart beside) ns = drawn_brings (drawn_doubled beside ns)
 event_keeps_numbers ReverseParts ns = λ n h. sym (has_reverse n ns) ∙ h

@@ -6,9 +6,9 @@ use Rattle.std.proofs.lemmas.Bool.Decides.{nat_tests}
 use Rattle.std.proofs.lemmas.Grind.{common_steps}
 use Rattle.std.proofs.lemmas.List.{take-append-drop}
 use Rattle.std.proofs.lemmas.Option.{slice_get_within, slice_get-get_or}
-use Rattle.buffer_glyphs.specs.Parts.{stretch}
-use Rattle.buffer_glyphs.specs.Merges.{merged, merged_numbers}
-use Rattle.buffer_glyphs.specs.Origins.{Span, is_seam, spans_from, spans, picked, arranged}
+use Rattle.buffer_glyphs.specs.Parts.{range_of}
+use Rattle.buffer_glyphs.specs.Merges.{merged_number, merged_numbers}
+use Rattle.buffer_glyphs.specs.Origins.{Span, is_seam, spans_from, spans, picked_elements, with_range_arranged}
 use Rattle.buffer_glyphs.specs.Events.{StaysInSpans}
 use Rattle.buffer_glyphs.specs.Lemmas.Numbers.{Has, has_here, has_more}
 use Rattle.buffer_glyphs.specs.Lemmas.Merges.{merged_in}
@@ -16,7 +16,7 @@ use Rattle.buffer_glyphs.specs.Lemmas.Merges.{merged_in}
 -- what the merges of spans make of numbers
 abbrev pub spans_united : ℕ → List Span → List ℕ → List ℕ
 spans_united at [] ns = ns
-spans_united at (s ∷ ss) ns = spans_united at ss (merged_numbers (stretch (at + s.from) (at + s.to) ns) ns)
+spans_united at (s ∷ ss) ns = spans_united at ss (merged_numbers (range_of (at + s.from) (at + s.to) ns) ns)
 
 -- where both indices have a number, it is the same
 abbrev AreSame : ℕ → ℕ → List ℕ → Type 0
@@ -35,7 +35,7 @@ map_same f a b ns h x y at_a at_b =
 
 united_same : (at : ℕ) (ss : List Span) (a b : ℕ) (ns : List ℕ) → AreSame a b ns → AreSame a b (spans_united at ss ns)
 united_same at [] a b ns h = h
-united_same at (s ∷ ss) a b ns h = united_same at ss a b (merged_numbers (stretch (at + s.from) (at + s.to) ns) ns) (map_same (merged (stretch (at + s.from) (at + s.to) ns)) a b ns h)
+united_same at (s ∷ ss) a b ns h = united_same at ss a b (merged_numbers (range_of (at + s.from) (at + s.to) ns) ns) (map_same (merged_number (range_of (at + s.from) (at + s.to) ns)) a b ns h)
 
 got_drop : {X : Type 0} (n : ℕ) (xs : List X) (i : ℕ) → slice_get (drop n xs) i ≡ slice_get xs (n + i)
 got_drop zero xs i = ap (slice_get xs) (omega arith)
@@ -60,18 +60,18 @@ got_has [] i x e = cc
 got_has (n ∷ ns) zero x e = let same : n ≡ x = cc in subst (Has (n ∷ ns)) same (has_here n ns)
 got_has (n ∷ ns) (suc i) x e = has_more n x ns (got_has ns i x e)
 
-stretch_has : (from to a x : ℕ) (ns : List ℕ) → from ≤ a → a < to → slice_get ns a ≡ Some x → Has (stretch from to ns) x
+stretch_has : (from to a x : ℕ) (ns : List ℕ) → from ≤ a → a < to → slice_get ns a ≡ Some x → Has (range_of from to ns) x
 stretch_has from to a x ns le lt e =
     let there : from + (a - from) ≡ a = omega arith in
     let here : slice_get (drop from ns) (a - from) ≡ Some x = got_drop from ns (a - from) ∙ ap (slice_get ns) there ∙ e in
-    got_has (stretch from to ns) (a - from) x (got_taken (to - from) (drop from ns) (a - from) x (omega arith) here)
+    got_has (range_of from to ns) (a - from) x (got_taken (to - from) (drop from ns) (a - from) x (omega arith) here)
 
 -- a merge makes the numbers of its range one
-range_same : (from to a b : ℕ) (ns : List ℕ) → from ≤ a → a < to → from ≤ b → b < to → AreSame a b (merged_numbers (stretch from to ns) ns)
+range_same : (from to a b : ℕ) (ns : List ℕ) → from ≤ a → a < to → from ≤ b → b < to → AreSame a b (merged_numbers (range_of from to ns) ns)
 range_same from to a b ns la ha lb hb x y at_a at_b =
-    let range = stretch from to ns in
-    let p = got_map (merged range) ns a x at_a in
-    let q = got_map (merged range) ns b y at_b in
+    let range = range_of from to ns in
+    let p = got_map (merged_number range) ns a x at_a in
+    let q = got_map (merged_number range) ns b y at_b in
     sym p.2 ∙ merged_in range p.0 (stretch_has from to a p.0 ns la ha p.1) ∙ sym (merged_in range q.0 (stretch_has from to b q.0 ns lb hb q.1)) ∙ q.2
 
 -- neighbours between which no seam is get one number
@@ -88,7 +88,7 @@ unseamed_same at order (suc left) begin index t ns le total whole begun low high
     (λ ms later. unseamed_same at order left (index + 1) (index + 1) t ms (omega arith) (omega arith) whole (inl refl) later high off)
     (λ onward. unseamed_same at order left begin (index + 1) t ns (omega arith) (omega arith) whole (inr onward) low high off)
   where
-    before : (ms : List ℕ) → t ≤ index → is_seam order (index + 1) ≡ true → AreSame (at + t) (at + (t + 1)) (merged_numbers (stretch (at + begin) (at + (index + 1)) ms) ms)
+    before : (ms : List ℕ) → t ≤ index → is_seam order (index + 1) ≡ true → AreSame (at + t) (at + (t + 1)) (merged_numbers (range_of (at + begin) (at + (index + 1)) ms) ms)
     before ms near on =
         let other : t < index = by_last (t == index) refl in
         range_same (at + begin) (at + (index + 1)) (at + t) (at + (t + 1)) ms (omega arith) (omega arith) (omega arith) (omega arith)
@@ -102,12 +102,12 @@ unseamed_same at order (suc left) begin index t ns le total whole begun low high
         → (is_seam order (index + 1) ≡ false → AreSame (at + t) (at + (t + 1)) (spans_united at (spans_from order begin (index + 1) left) ns))
         → AreSame (at + t) (at + (t + 1)) (spans_united at (if b then record { from = begin; to = index + 1 } ∷ spans_from order (index + 1) (index + 1) left else spans_from order begin (index + 1) left) ns)
     by_seam true on later onward =
-        let ms = merged_numbers (stretch (at + begin) (at + (index + 1)) ns) ns in
+        let ms = merged_numbers (range_of (at + begin) (at + (index + 1)) ns) ns in
         by_half (nat_lt index t) refl
       where
-        by_half : (b : Bool) → nat_lt index t ≡ b → AreSame (at + t) (at + (t + 1)) (spans_united at (spans_from order (index + 1) (index + 1) left) (merged_numbers (stretch (at + begin) (at + (index + 1)) ns) ns))
-        by_half true e = later (merged_numbers (stretch (at + begin) (at + (index + 1)) ns) ns) (grind (arith, nat_tests, e))
-        by_half false e = united_same at (spans_from order (index + 1) (index + 1) left) (at + t) (at + (t + 1)) (merged_numbers (stretch (at + begin) (at + (index + 1)) ns) ns) (before ns (grind (arith, nat_tests, e)) on)
+        by_half : (b : Bool) → nat_lt index t ≡ b → AreSame (at + t) (at + (t + 1)) (spans_united at (spans_from order (index + 1) (index + 1) left) (merged_numbers (range_of (at + begin) (at + (index + 1)) ns) ns))
+        by_half true e = later (merged_numbers (range_of (at + begin) (at + (index + 1)) ns) ns) (grind (arith, nat_tests, e))
+        by_half false e = united_same at (spans_from order (index + 1) (index + 1) left) (at + t) (at + (t + 1)) (merged_numbers (range_of (at + begin) (at + (index + 1)) ns) ns) (before ns (grind (arith, nat_tests, e)) on)
     by_seam false off later onward = onward off
 
 got_before : (ms : List ℕ) (i y : ℕ) → slice_get ms (i + 1) ≡ Some y → (w : ℕ) × (slice_get ms i ≡ Some w)
@@ -159,11 +159,11 @@ none_down order i j t s e low high = by_seam (is_seam order (t + 1)) refl
     by_seam true on = let past = s.stays i j (t + 1) e on (omega (arith, high)) in absurd (omega (arith, past, low))
     by_seam false off = refl
 
-picked_same : (all order xs : List ℕ) → ((i j x y : ℕ) → slice_get order i ≡ Some j → slice_get xs i ≡ Some x → slice_get all j ≡ Some y → y ≡ x) → picked all order xs ≡ xs
+picked_same : (all order xs : List ℕ) → ((i j x y : ℕ) → slice_get order i ≡ Some j → slice_get xs i ≡ Some x → slice_get all j ≡ Some y → y ≡ x) → picked_elements all order xs ≡ xs
 picked_same all [] xs h = refl
 picked_same all (j ∷ order) [] h = refl
 picked_same all (j ∷ order) (x ∷ xs) h =
-    ap (λ y. y ∷ picked all order xs) (got (slice_get all j) refl) ∙ ap (λ ys. x ∷ ys) (picked_same all order xs (λ i k y z a b c. h (suc i) k y z a b c))
+    ap (λ y. y ∷ picked_elements all order xs) (got (slice_get all j) refl) ∙ ap (λ ys. x ∷ ys) (picked_same all order xs (λ i k y z a b c. h (suc i) k y z a b c))
   where
     got : (o : Option ℕ) → slice_get all j ≡ o → unwrap_or o x ≡ x
     got None e = refl
@@ -190,7 +190,7 @@ span_same at order ns i j x y s e at_i at_j =
         chain_same at j (i - j) (spans_united at (spans order) ns) (λ t low high. step t (omega (arith, down, within, high)) (none_down order i j t s e low (omega (arith, down, high)))) y x at_j (ap (slice_get (spans_united at (spans order) ns)) there ∙ at_i)
 
 -- what united spans leave stays as it is in that order
-pub sorted_alike : (at : ℕ) (order ns : List ℕ) → StaysInSpans order → arranged at order (spans_united at (spans order) ns) ≡ spans_united at (spans order) ns
+pub sorted_alike : (at : ℕ) (order ns : List ℕ) → StaysInSpans order → with_range_arranged at order (spans_united at (spans order) ns) ≡ spans_united at (spans order) ns
 sorted_alike at order ns s =
     let ms = spans_united at (spans order) ns in
     ap (λ ks. take at ms ++ ks) (picked_same (take (length order) (drop at ms)) order (drop at ms) (λ i j x y e at_i at_j. span_same at order ns i j x y s e (sym (got_drop at ms i) ∙ at_i) (sym (got_drop at ms j) ∙ got_first (length order) (drop at ms) j y at_j)))

@@ -3,7 +3,7 @@ use Rattle.std.specs.Int.RustNames.{bit_and, bit_or}
 use Rattle.std.proofs.Common.{ℕ, ◌≡◌, ◌<◌, ◌+◌, ◌==◌, Bool, true, false, if◌then◌else◌, List, [], ◌∷◌, ◌++◌, Some, None, Option, length, take, drop, set, get_or, arith, ap, sym, subst, ◌∙◌, append_assoc}
 use Rattle.buffer_glyphs.specs.declared.info.hb_glyph_info_t.{hb_glyph_info_t as Glyph}
 use Rattle.buffer_glyphs.specs.Items.{glyph_flags, glyph_masked, item_masked, item_of, without_flags}
-use Rattle.buffer_glyphs.specs.Origins.{Asks, Origin, origin_of, origins, concat_settled, run_flags, settled, spread_after, tatweel_settled}
+use Rattle.buffer_glyphs.specs.Origins.{Asks, Origin, origin_of, origins, concat_settled, run_flags, settled_flags, origins_spread_after, tatweel_settled}
 use Rattle.buffer_groups.specs.Flags.{before_of, cluster_flags}
 use Rattle.std.proofs.lemmas.List.{drop_more, drop-set-lt, map-append, take_more_set}
 use Rattle.std.proofs.lemmas.Nat.{and_le_r, and_mask, or_lt}
@@ -37,7 +37,7 @@ cluster_defined : (asks : Asks) (before : Option Glyph) (gs : List Glyph) → cl
 cluster_defined asks before [] = omega arith
 cluster_defined asks None (g ∷ gs) = concat_defined asks.concat _ (tatweel_defined asks.tatweel _ (run_defined g.cluster (g ∷ gs)))
 cluster_defined asks (Some p) (g ∷ gs) =
-    elim (p.cluster == g.cluster) as (λ t. (if t then glyph_flags p else settled asks (run_flags g.cluster (origins (g ∷ gs)))) < 8)
+    elim (p.cluster == g.cluster) as (λ t. (if t then glyph_flags p else settled_flags asks (run_flags g.cluster (origins (g ∷ gs)))) < 8)
     [ true ↦ defined p.mask | false ↦ concat_defined asks.concat _ (tatweel_defined asks.tatweel _ (run_defined g.cluster (g ∷ gs))) ]
 
 same_defined : (m : ℕ) → m < 8 → bit_and m 7 ≡ m
@@ -56,8 +56,8 @@ flagged_origin : (flags : ℕ) (g : Glyph) → flags < 8 → origin_of (glyph_ma
 flagged_origin flags g lt = ap (λ (f : ℕ). record { cluster = g.cluster; flags = f }) (same_defined (bit_and flags 7) (defined flags) ∙ same_defined flags lt)
 
 pub spread_step : (asks : Asks) (before : Option Glyph) (at flags : ℕ) (gs : List Glyph) (d g : Glyph) (whole : List Origin) → at < length gs → flags ≡ cluster_flags asks before (drop at gs) → g ≡ glyph_masked (bit_and flags 7) (get_or gs at d)
-    → origins (take at gs) ++ spread_after asks (before_of before) (origins (drop at gs)) ≡ whole
-    → origins (take (at + 1) (set gs at g)) ++ spread_after asks (Some (origin_of g)) (origins (drop (at + 1) (set gs at g))) ≡ whole
+    → origins (take at gs) ++ origins_spread_after asks (before_of before) (origins (drop at gs)) ≡ whole
+    → origins (take (at + 1) (set gs at g)) ++ origins_spread_after asks (Some (origin_of g)) (origins (drop (at + 1) (set gs at g))) ≡ whole
 spread_step asks before at flags gs d g whole lt f e prior =
     let h = get_or gs at d in
     let rest = drop (at + 1) gs in
@@ -69,6 +69,6 @@ spread_step asks before at flags gs d g whole lt f e prior =
     let is : origin_of g ≡ now = ap origin_of e ∙ flagged_origin flags h small ∙ ap (λ (n : ℕ). record { cluster = h.cluster; flags = n }) same in
     let taken : origins (take (at + 1) (set gs at g)) ≡ front ++ origin_of g ∷ [] = ap origins (take_more_set gs at g lt) ∙ map-append origin_of (take at gs) (g ∷ []) in
     let left : drop (at + 1) (set gs at g) ≡ rest = drop-set-lt (at + 1) gs at g (omega arith) in
-    ap (λ os. os ++ spread_after asks (Some (origin_of g)) (origins (drop (at + 1) (set gs at g)))) taken ∙ ap (λ hs. (front ++ origin_of g ∷ []) ++ spread_after asks (Some (origin_of g)) (origins hs)) left
-    ∙ append_assoc front (origin_of g ∷ []) (spread_after asks (Some (origin_of g)) (origins rest)) ∙ ap (λ (o : Origin). front ++ o ∷ spread_after asks (Some o) (origins rest)) is
-    ∙ ap (λ hs. front ++ spread_after asks (before_of before) (origins hs)) (sym cut) ∙ prior
+    ap (λ os. os ++ origins_spread_after asks (Some (origin_of g)) (origins (drop (at + 1) (set gs at g)))) taken ∙ ap (λ hs. (front ++ origin_of g ∷ []) ++ origins_spread_after asks (Some (origin_of g)) (origins hs)) left
+    ∙ append_assoc front (origin_of g ∷ []) (origins_spread_after asks (Some (origin_of g)) (origins rest)) ∙ ap (λ (o : Origin). front ++ o ∷ origins_spread_after asks (Some o) (origins rest)) is
+    ∙ ap (λ hs. front ++ origins_spread_after asks (before_of before) (origins hs)) (sym cut) ∙ prior

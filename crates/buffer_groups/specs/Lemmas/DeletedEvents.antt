@@ -8,36 +8,36 @@ use Rattle.buffer_glyphs.specs.Origins.{Asks, origins}
 use Rattle.buffer_glyphs.specs.Events.{Delete, origins_after, IsPlain}
 use Rattle.buffer_glyphs.specs.Deleting.{glyphs_deleted}
 use Rattle.buffer_glyphs.specs.Deleted.{items_deleted}
-use Rattle.buffer_glyphs.specs.DeletedOrigins.{deleted_behind}
-use Rattle.buffer_groups.specs.DeletionWalk.{Passed, with_glyph, without_glyph, many_passed, all_passed}
+use Rattle.buffer_glyphs.specs.DeletedOrigins.{deletion_after_front}
+use Rattle.buffer_groups.specs.DeletionWalk.{DeletionState, with_glyph, without_glyph, many_steps, whole_walk}
 use Rattle.buffer_groups.specs.Events.{deletions_from, deletions}
-use Rattle.buffer_groups.specs.Lemmas.Kept.{back_length}
+use Rattle.buffer_groups.specs.Lemmas.KeptItems.{back_length}
 
 front_length : (level : Level) (front : List Glyph) (g : Glyph) (back : List Glyph) → length (glyphs_deleted level front g back).front ≡ length front
 front_length level front g back = sym (length-map (glyphs_deleted level front g back).front item_of) ∙ ap length (items_deleted level front g back).0 ∙ length-map front item_of
 
 deletions_many : (n : ℕ) (asks : Asks) (level : Level) (q : Item → Bool) (ks : List Glyph) (kp : List Position) (ahead : List Glyph) (pa : List Position) (m : Bool) → length ahead ≤ n
-    → origins (many_passed level (λ g. q (item_of g)) n (record { kept = ks; kept_positions = kp; ahead = ahead; positions_ahead = pa; is_marked = m })).kept ≡ origins_after asks level (deletions_from q (length ks) (strip ahead)) (origins (ks ++ ahead))
+    → origins (many_steps level (λ g. q (item_of g)) n (record { kept = ks; kept_positions = kp; ahead = ahead; positions_ahead = pa; is_marked = m })).kept ≡ origins_after asks level (deletions_from q (length ks) (strip ahead)) (origins (ks ++ ahead))
 deletions_many zero asks level q ks kp [] pa m le = ap origins (sym (append-nil ks))
 deletions_many zero asks level q ks kp (g ∷ back) pa m le = absurd (omega arith)
 deletions_many (suc n) asks level q ks kp [] pa m le = deletions_many n asks level q ks kp [] pa m (omega arith)
 deletions_many (suc n) asks level q ks kp (g ∷ back) pa m le =
-    let w : Passed = record { kept = ks; kept_positions = kp; ahead = g ∷ back; positions_ahead = pa; is_marked = m } in
+    let w : DeletionState = record { kept = ks; kept_positions = kp; ahead = g ∷ back; positions_ahead = pa; is_marked = m } in
     let at = length ks in
     let left = glyphs_deleted level ks g back in
     elim (q (item_of g))
-    as (λ t. origins (many_passed level (λ h. q (item_of h)) n (if t then without_glyph level w g back else with_glyph w g back)).kept ≡ origins_after asks level (if t then Delete at ∷ deletions_from q at (strip back) else deletions_from q (at + 1) (strip back)) (origins (ks ++ g ∷ back))) [
+    as (λ t. origins (many_steps level (λ h. q (item_of h)) n (if t then without_glyph level w g back else with_glyph w g back)).kept ≡ origins_after asks level (if t then Delete at ∷ deletions_from q at (strip back) else deletions_from q (at + 1) (strip back)) (origins (ks ++ g ∷ back))) [
       | true ↦ deletions_many n asks level q left.front kp left.back (drop 1 pa) _ (omega (arith, back_length level ks g back))
           ∙ ap (λ i. origins_after asks level (deletions_from q i (strip left.back)) (origins (left.front ++ left.back))) (front_length level ks g back)
           ∙ ap (λ xs. origins_after asks level (deletions_from q at xs) (origins (left.front ++ left.back))) (items_deleted level ks g back).1
-          ∙ ap (origins_after asks level (deletions_from q at (strip back))) (deleted_behind level ks g back)
+          ∙ ap (origins_after asks level (deletions_from q at (strip back))) (deletion_after_front level ks g back)
       | false ↦ deletions_many n asks level q (ks ++ g ∷ []) (kp ++ take 1 pa) back (drop 1 pa) m (omega arith)
           ∙ ap (λ i. origins_after asks level (deletions_from q i (strip back)) (origins ((ks ++ g ∷ []) ++ back))) (length-append ks (g ∷ []))
           ∙ ap (λ hs. origins_after asks level (deletions_from q (at + 1) (strip back)) (origins hs)) (append_assoc ks (g ∷ []) back)
     ]
 
 -- the origins of the glyphs that a walk of deletions leaves
-pub deletions_are_events : (asks : Asks) (level : Level) (q : Item → Bool) (gs : List Glyph) (ps : List Position) → origins (all_passed level (λ g. q (item_of g)) gs ps).kept ≡ origins_after asks level (deletions q (strip gs)) (origins gs)
+pub deletions_are_events : (asks : Asks) (level : Level) (q : Item → Bool) (gs : List Glyph) (ps : List Position) → origins (whole_walk level (λ g. q (item_of g)) gs ps).kept ≡ origins_after asks level (deletions q (strip gs)) (origins gs)
 deletions_are_events asks level q gs ps = deletions_many (length gs) asks level q [] [] gs ps false (omega arith)
 
 -- none of them rearranges glyphs

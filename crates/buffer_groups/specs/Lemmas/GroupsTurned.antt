@@ -8,21 +8,21 @@ use Rattle.std.proofs.Math.Seq.{take-append_seam, drop-append_seam}
 use Rattle.buffer_glyphs.specs.declared.info.hb_glyph_info_t.{hb_glyph_info_t as Glyph}
 use Rattle.buffer_glyphs.specs.declared.level.BufferClusterLevel.{BufferClusterLevel}
 use Rattle.buffer_glyphs.specs.Items.{Position}
-use Rattle.buffer_groups.specs.Groups.{joined_after, group_length}
-use Rattle.buffer_groups.specs.Turning.{in_front, groups, groups_turned, all_turned, turning_of}
-use Rattle.buffer_groups.specs.Laws.{cut_into, GroupsAreAll, TurnsGroups}
+use Rattle.buffer_groups.specs.Groups.{joined_count, group_length}
+use Rattle.buffer_groups.specs.Turning.{in_front, groups, groups_reversed_list, all_turned, turning_of}
+use Rattle.buffer_groups.specs.Laws.{pieces_of_lengths, GroupsAreAll, TurnsGroups}
 
 -- the first group, and those after it
 pub groups_cut : {X : Type 0} (p : X → X → Bool) (x : X) (xs : List X) → groups p (x ∷ xs) ≡ take (group_length p (x ∷ xs)) (x ∷ xs) ∷ groups p (drop (group_length p (x ∷ xs)) (x ∷ xs))
 groups_cut p x [] = refl
 groups_cut p x (y ∷ ys) =
     let rest = groups_cut p y ys in
-    let j = joined_after p y ys in
+    let j = joined_count p y ys in
     ap (in_front p x) rest
     ∙ elim (p x y) as (λ t. (if t then (x ∷ y ∷ take j ys) ∷ groups p (drop j ys) else (x ∷ []) ∷ (y ∷ take j ys) ∷ groups p (drop j ys)) ≡ take (suc (if t then suc j else 0)) (x ∷ y ∷ ys) ∷ groups p (drop (suc (if t then suc j else 0)) (x ∷ y ∷ ys)))
     [ true ↦ refl | false ↦ ap (λ gss. (x ∷ []) ∷ gss) (sym rest) ]
 
-pub turned_onto : {X : Type 0} (p : X → X → Bool) (x : X) (xs : List X) → groups_turned p (x ∷ xs) ≡ groups_turned p (drop (group_length p (x ∷ xs)) (x ∷ xs)) ++ take (group_length p (x ∷ xs)) (x ∷ xs)
+pub turned_onto : {X : Type 0} (p : X → X → Bool) (x : X) (xs : List X) → groups_reversed_list p (x ∷ xs) ≡ groups_reversed_list p (drop (group_length p (x ∷ xs)) (x ∷ xs)) ++ take (group_length p (x ∷ xs)) (x ∷ xs)
 turned_onto p x xs =
     let n = group_length p (x ∷ xs) in
     let first = take n (x ∷ xs) in
@@ -30,7 +30,7 @@ turned_onto p x xs =
     ap (λ gss. flat_map (λ ys. ys) (reverse gss)) (groups_cut p x xs) ∙ ap (flat_map (λ ys. ys)) (reverse_onto rest first []) ∙ flat_map-append (λ ys. ys) (reverse rest) (first ∷ []) ∙ ap (λ zs. flat_map (λ ys. ys) (reverse rest) ++ zs) (append-nil first)
 
 all_plain : (n : ℕ) (level : BufferClusterLevel) (p : Glyph → Glyph → Bool) (gs : List Glyph) (ps pa : List Position) (m : Bool) (ahead : List Glyph) → length ahead ≤ n
-    → (all_turned false level p n (record { glyphs = gs; positions = ps; ahead = ahead; positions_ahead = pa; is_marked = m })).glyphs ≡ groups_turned p ahead ++ gs
+    → (all_turned false level p n (record { glyphs = gs; positions = ps; ahead = ahead; positions_ahead = pa; is_marked = m })).glyphs ≡ groups_reversed_list p ahead ++ gs
 all_plain zero level p gs ps pa m [] le = refl
 all_plain zero level p gs ps pa m (x ∷ xs) le = absurd (omega arith)
 all_plain (suc n) level p gs ps pa m [] le = all_plain n level p gs ps pa _ [] (omega arith)
@@ -38,10 +38,10 @@ all_plain (suc n) level p gs ps pa m (x ∷ xs) le =
     let k = group_length p (x ∷ xs) in
     let few : length (drop k (x ∷ xs)) ≤ n = omega (arith, length-drop k (x ∷ xs)) in
     all_plain n level p (take k (x ∷ xs) ++ gs) (take k pa ++ ps) (drop k pa) _ (drop k (x ∷ xs)) few
-    ∙ sym (append_assoc (groups_turned p (drop k (x ∷ xs))) (take k (x ∷ xs)) gs) ∙ ap (λ ys. ys ++ gs) (sym (turned_onto p x xs))
+    ∙ sym (append_assoc (groups_reversed_list p (drop k (x ∷ xs))) (take k (x ∷ xs)) gs) ∙ ap (λ ys. ys ++ gs) (sym (turned_onto p x xs))
 
-pub turned_plain : (level : BufferClusterLevel) (p : Glyph → Glyph → Bool) (gs : List Glyph) (ps : List Position) → (turning_of false level p gs ps).glyphs ≡ groups_turned p gs
-turned_plain level p gs ps = all_plain (length gs) level p [] [] ps false gs (omega arith) ∙ append-nil (groups_turned p gs)
+pub turned_plain : (level : BufferClusterLevel) (p : Glyph → Glyph → Bool) (gs : List Glyph) (ps : List Position) → (turning_of false level p gs ps).glyphs ≡ groups_reversed_list p gs
+turned_plain level p gs ps = all_plain (length gs) level p [] [] ps false gs (omega arith) ∙ append-nil (groups_reversed_list p gs)
 
 onto_flat : {X : Type 0} (p : X → X → Bool) (x : X) (gss : List (List X)) → flat_map (λ ys. ys) (in_front p x gss) ≡ x ∷ flat_map (λ ys. ys) gss
 onto_flat p x [] = refl
@@ -52,7 +52,7 @@ pub flat_groups : GroupsAreAll
 flat_groups p [] = refl
 flat_groups p (g ∷ gs) = onto_flat p g (groups p gs) ∙ ap (λ hs. g ∷ hs) (flat_groups p gs)
 
-cut_flat : {X : Type 0} (gss : List (List X)) → cut_into (map (λ hs. length hs) gss) (flat_map (λ hs. hs) gss) ≡ gss
+cut_flat : {X : Type 0} (gss : List (List X)) → pieces_of_lengths (map (λ hs. length hs) gss) (flat_map (λ hs. hs) gss) ≡ gss
 cut_flat [] = refl
 cut_flat (g ∷ gss) = rw (take-append_seam g (flat_map (λ hs. hs) gss), drop-append_seam g (flat_map (λ hs. hs) gss), cut_flat gss) refl
 

@@ -5,39 +5,39 @@ use Rattle.std.proofs.lemmas.List.{drop_more, drop_all, take_all, length-drop}
 use Rattle.std.proofs.lemmas.List.Sums.{prefix_len-le-length}
 use Rattle.buffer_glyphs.specs.declared.info.hb_glyph_info_t.{hb_glyph_info_t as Glyph}
 use Rattle.buffer_groups.specs.Runs.{run_length, continues, grapheme_length}
-use Rattle.buffer_groups.specs.Groups.{joined_after, group_length}
+use Rattle.buffer_groups.specs.Groups.{joined_count, group_length}
 
 -- what an index past the end would give
 abbrev pub no_glyph : Glyph
 no_glyph = record { glyph_id = 0; mask = 0; cluster = 0; glyph_index = 0; unicode_props = record { 0 = 0 }; modified_combining_class = 0; glyph_props = record { 0 = 0 }; lig_props = 0; syllable = 0; category = 0; auxiliary = 0 }
 
 -- a group begins with one
-pub group_begins : {X : Type 0} (p : X → X → Bool) (xs : List X) (i : ℕ) (d : X) → i < length xs → i + group_length p (drop i xs) ≡ i + 1 + joined_after p (get_or xs (i + 1 - 1) d) (drop (i + 1) xs)
+pub group_begins : {X : Type 0} (p : X → X → Bool) (xs : List X) (i : ℕ) (d : X) → i < length xs → i + group_length p (drop i xs) ≡ i + 1 + joined_count p (get_or xs (i + 1 - 1) d) (drop (i + 1) xs)
 group_begins p xs i d lt =
     let here : i + 1 - 1 ≡ i = omega arith in
     rw (here, drop_more xs i d lt) (omega arith)
 
 -- and goes on with one more
 pub group_goes_on : {X : Type 0} (p : X → X → Bool) (xs : List X) (i n : ℕ) (d : X) → i < length xs → p (get_or xs (i - 1) d) (get_or xs i d) ≡ true
-    → n ≡ i + joined_after p (get_or xs (i - 1) d) (drop i xs) → n ≡ i + 1 + joined_after p (get_or xs (i + 1 - 1) d) (drop (i + 1) xs)
+    → n ≡ i + joined_count p (get_or xs (i - 1) d) (drop i xs) → n ≡ i + 1 + joined_count p (get_or xs (i + 1 - 1) d) (drop (i + 1) xs)
 group_goes_on p xs i n d lt so before =
     let here : i + 1 - 1 ≡ i = omega arith in
-    let cut : joined_after p (get_or xs (i - 1) d) (drop i xs) ≡ suc (joined_after p (get_or xs i d) (drop (i + 1) xs)) = rw (drop_more xs i d lt, so) refl in
+    let cut : joined_count p (get_or xs (i - 1) d) (drop i xs) ≡ suc (joined_count p (get_or xs i d) (drop (i + 1) xs)) = rw (drop_more xs i d lt, so) refl in
     rw here (omega (arith, before, cut))
 
 -- until the test fails
 pub group_stops : {X : Type 0} (p : X → X → Bool) (xs : List X) (i n : ℕ) (d : X) → i < length xs → p (get_or xs (i - 1) d) (get_or xs i d) ≡ false
-    → n ≡ i + joined_after p (get_or xs (i - 1) d) (drop i xs) → i ≡ n
+    → n ≡ i + joined_count p (get_or xs (i - 1) d) (drop i xs) → i ≡ n
 group_stops p xs i n d lt off before =
-    let cut : joined_after p (get_or xs (i - 1) d) (drop i xs) ≡ 0 = rw (drop_more xs i d lt, off) refl in
+    let cut : joined_count p (get_or xs (i - 1) d) (drop i xs) ≡ 0 = rw (drop_more xs i d lt, off) refl in
     omega (arith, before, cut)
 
 -- or no glyph is left
 pub group_ends : {X : Type 0} (p : X → X → Bool) (xs : List X) (i n : ℕ) (d : X) → i ≤ length xs → length xs ≤ i
-    → n ≡ i + joined_after p (get_or xs (i - 1) d) (drop i xs) → i ≡ n
+    → n ≡ i + joined_count p (get_or xs (i - 1) d) (drop i xs) → i ≡ n
 group_ends p xs i n d le ge before =
     let none : drop i xs ≡ [] = drop_all i xs ge in
-    let cut : joined_after p (get_or xs (i - 1) d) (drop i xs) ≡ 0 = rw none refl in
+    let cut : joined_count p (get_or xs (i - 1) d) (drop i xs) ≡ 0 = rw none refl in
     omega (arith, before, cut)
 
 pub front_within : {X : Type 0} (p : X → Bool) (n : ℕ) (xs : List X) → n ≡ prefix_len p xs → n ≤ length xs

@@ -2,7 +2,7 @@
 use Rattle.std.proofs.Common.{ℕ, ◌≡◌, ◌≤◌, ◌+◌, List, [], ◌∷◌, ◌++◌, Some, slice_get, length, take, drop, reverse, arith, refl, ap, sym, subst, ◌∙◌, append_assoc}
 use Rattle.std.specs.List.{range_with_len}
 use Rattle.std.proofs.lemmas.List.{drop-drop, length-append, length-drop, reverse-append}
-use Rattle.buffer_glyphs.specs.Origins.{picked, arranged}
+use Rattle.buffer_glyphs.specs.Origins.{picked_elements, with_range_arranged}
 
 -- at the indices of an order stand these elements
 abbrev pub AreAt : {X : Type 0} → List X → List ℕ → List X → Type 0
@@ -11,7 +11,7 @@ AreAt all [] (z ∷ zs) = ⊥
 AreAt all (i ∷ order) [] = ⊥
 AreAt all (i ∷ order) (z ∷ zs) = (slice_get all i ≡ Some z) × AreAt all order zs
 
-picked_are : {X : Type 0} (all : List X) (order : List ℕ) (zs ys : List X) → AreAt all order zs → length order ≤ length ys → picked all order ys ≡ zs ++ drop (length order) ys
+picked_are : {X : Type 0} (all : List X) (order : List ℕ) (zs ys : List X) → AreAt all order zs → length order ≤ length ys → picked_elements all order ys ≡ zs ++ drop (length order) ys
 picked_are all [] [] ys h le = refl
 picked_are all [] (z ∷ zs) ys h le = absurd h
 picked_are all (i ∷ order) [] ys h le = absurd h
@@ -20,7 +20,7 @@ picked_are all (i ∷ order) (z ∷ zs) (y ∷ ys) h le = rw h.0 (ap (λ xs. z �
 
 -- a range of a list that stands in an order
 pub arranged_as : {X : Type 0} (from : ℕ) (order : List ℕ) (zs xs : List X) → AreAt (take (length order) (drop from xs)) order zs → from + length order ≤ length xs
-    → arranged from order xs ≡ take from xs ++ zs ++ drop (from + length order) xs
+    → with_range_arranged from order xs ≡ take from xs ++ zs ++ drop (from + length order) xs
 arranged_as from order zs xs h le =
     let few : length order ≤ length (drop from xs) = omega (arith, length-drop from xs) in
     ap (λ ys. take from xs ++ ys) (picked_are (take (length order) (drop from xs)) order zs (drop from xs) h few ∙ ap (λ ys. zs ++ ys) (drop-drop (length order) from xs))

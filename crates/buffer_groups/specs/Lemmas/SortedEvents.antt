@@ -16,20 +16,20 @@ use Rattle.buffer_stable_order.specs.Orders.{key_order_map}
 use Rattle.buffer_glyphs.specs.declared.info.hb_glyph_info_t.{hb_glyph_info_t as Glyph}
 use Rattle.buffer_glyphs.specs.declared.level.BufferClusterLevel.{BufferClusterLevel as Level}
 use Rattle.buffer_glyphs.specs.Items.{Item, clusters, item_of, strip}
-use Rattle.buffer_glyphs.specs.Merges.{least_number, merged}
+use Rattle.buffer_glyphs.specs.Merges.{least_number, merged_number}
 use Rattle.buffer_glyphs.specs.Glyphs.{glyphs_merged_at, is_marked_at}
-use Rattle.buffer_glyphs.specs.Origins.{Origin, Asks, InList, Manner, Unites, Marks, Keeps, manner, numbers, cast, added_outside, origins_merged, merged_as, origin_of, origins, arranged, is_seam as is_seam_of, spans_from, spans, spans_merged as all_merged}
+use Rattle.buffer_glyphs.specs.Origins.{Origin, Asks, InList, Manner, Unites, Marks, Keeps, manner, numbers, cast, added_outside, origins_merged, origins_merged_as, origin_of, origins, with_range_arranged, is_seam as is_seam_of, spans_from, spans, spans_merged as all_merged}
 use Rattle.buffer_glyphs.specs.Events.{Sort, origins_after}
 use Rattle.buffer_glyphs.specs.Lemmas.Origins.{cut_in_three, origins_of_merged_at, slice_seen}
 use Rattle.buffer_groups.specs.declared.sorting.Keyed.{Keyed}
 use Rattle.buffer_groups.specs.Events.{order_of}
-use Rattle.buffer_groups.specs.Places.{places_within}
-use Rattle.buffer_groups.specs.Sorting.{keyed_from, places_by_key, is_seam, Spanned, span_merged, spans_merged, range_spanned, range_sorted, glyph_at, put_in_order}
+use Rattle.buffer_groups.specs.Indices.{indices_within}
+use Rattle.buffer_groups.specs.Sorting.{keyed_indices_from, indices_by_key, is_seam, Spanned, span_merged, spans_merged, range_spanned, range_sorted, glyph_at, put_in_order}
 use Rattle.buffer_groups.specs.Lemmas.KeyOrder.{all_below, by_key_moves}
 use Rattle.buffer_groups.specs.Lemmas.Neighbours.{no_glyph}
 use Rattle.buffer_groups.specs.Lemmas.Picked.{AreAt, arranged_as}
 use Rattle.buffer_groups.specs.Lemmas.SortedItems.{spans_strip}
-use Rattle.buffer_groups.specs.Lemmas.Stretches.{map_twice}
+use Rattle.buffer_groups.specs.Lemmas.Ranges.{map_twice}
 
 -- ---- the order of the indices
 
@@ -40,19 +40,19 @@ place_of e = e.place
 abbrev keyed_in : List ℕ → ℕ → Keyed
 keyed_in keys i = record { key = slice_index_or keys i 0; place = i }
 
-keyed_all : (k : Glyph → ℕ) (front : List ℕ) (gs : List Glyph) → keyed_from k (length front) gs ≡ map (keyed_in (front ++ map k gs)) (range_with_len (length front) (length gs))
+keyed_all : (k : Glyph → ℕ) (front : List ℕ) (gs : List Glyph) → keyed_indices_from k (length front) gs ≡ map (keyed_in (front ++ map k gs)) (range_with_len (length front) (length gs))
 keyed_all k front [] = refl
 keyed_all k front (g ∷ gs) =
     let keys = front ++ k g ∷ map k gs in
     let long : length (front ++ k g ∷ []) ≡ length front + 1 = length-append front (k g ∷ []) in
     let rest = keyed_all k (front ++ k g ∷ []) gs in
-    let at : keyed_from k (length front + 1) gs ≡ map (keyed_in ((front ++ k g ∷ []) ++ map k gs)) (range_with_len (length front + 1) (length gs)) =
-    subst (λ n. keyed_from k n gs ≡ map (keyed_in ((front ++ k g ∷ []) ++ map k gs)) (range_with_len n (length gs))) long rest in
-    let whole : keyed_from k (length front + 1) gs ≡ map (keyed_in keys) (range_with_len (length front + 1) (length gs)) = at ∙ ap (λ ks. map (keyed_in ks) (range_with_len (length front + 1) (length gs))) (append_assoc front (k g ∷ []) (map k gs)) in
+    let at : keyed_indices_from k (length front + 1) gs ≡ map (keyed_in ((front ++ k g ∷ []) ++ map k gs)) (range_with_len (length front + 1) (length gs)) =
+    subst (λ n. keyed_indices_from k n gs ≡ map (keyed_in ((front ++ k g ∷ []) ++ map k gs)) (range_with_len n (length gs))) long rest in
+    let whole : keyed_indices_from k (length front + 1) gs ≡ map (keyed_in keys) (range_with_len (length front + 1) (length gs)) = at ∙ ap (λ ks. map (keyed_in ks) (range_with_len (length front + 1) (length gs))) (append_assoc front (k g ∷ []) (map k gs)) in
     let first : k g ≡ slice_index_or keys (length front) 0 = sym (get_or-append_seam front (k g) (map k gs) 0) in
-    ap (λ (n : ℕ). record { key = n; place = length front } ∷ keyed_from k (length front + 1) gs) first ∙ ap (λ es. keyed_in keys (length front) ∷ es) whole
+    ap (λ (n : ℕ). record { key = n; place = length front } ∷ keyed_indices_from k (length front + 1) gs) first ∙ ap (λ es. keyed_in keys (length front) ∷ es) whole
 
-places_are : (k : Glyph → ℕ) (gs : List Glyph) → map place_of (places_by_key k gs) ≡ order_of (map k gs)
+places_are : (k : Glyph → ℕ) (gs : List Glyph) → map place_of (indices_by_key k gs) ≡ order_of (map k gs)
 places_are k gs =
     let keys = map k gs in
     let indices = range_with_len 0 (length gs) in
@@ -75,18 +75,18 @@ seam_same es i = ap (list_all (λ j. nat_lt j i)) (take-map place_of i es) ∙ l
 cast_same : (o : Origin) → cast o.cluster 0 o ≡ o
 cast_same o = let same : (o.cluster == o.cluster) ≡ true = grind (arith, common_steps) in rw same refl
 
-merged_none : (n : ℕ) → merged [] n ≡ n
+merged_none : (n : ℕ) → merged_number [] n ≡ n
 merged_none n = refl
 
-merged_one : (m n : ℕ) → merged (m ∷ []) n ≡ n
+merged_one : (m n : ℕ) → merged_number (m ∷ []) n ≡ n
 merged_one m n = grind (arith, nat_tests, common_steps)
 
-all_cast : (range : List ℕ) (os : List Origin) → ((n : ℕ) → merged range n ≡ n) → origins_merged range os ≡ os
+all_cast : (range : List ℕ) (os : List Origin) → ((n : ℕ) → merged_number range n ≡ n) → origins_merged range os ≡ os
 all_cast range [] same = refl
 all_cast range (o ∷ os) same = rw (same o.cluster, cast_same o, all_cast range os same) refl
 
 -- the merge of one index changes nothing
-lone_united : (from : ℕ) (os : List Origin) → merged_as Unites from (from + 1) os ≡ os
+lone_united : (from : ℕ) (os : List Origin) → origins_merged_as Unites from (from + 1) os ≡ os
 lone_united from os =
     let one : from + 1 - from ≡ 1 = omega arith in
     ap (λ n. origins_merged (take n (drop from (numbers os))) os) one ∙ by_rest (drop from (numbers os))
@@ -95,7 +95,7 @@ lone_united from os =
     by_rest [] = all_cast [] os merged_none
     by_rest (n ∷ ns) = all_cast (n ∷ []) os (merged_one n)
 
-lone_marked : (from : ℕ) (os : List Origin) → merged_as Marks from (from + 1) os ≡ os
+lone_marked : (from : ℕ) (os : List Origin) → origins_merged_as Marks from (from + 1) os ≡ os
 lone_marked from os =
     let one : from + 1 - from ≡ 1 = omega arith in
     let range = slice_range os from (from + 1) in
@@ -108,19 +108,19 @@ lone_marked from os =
     by_rest [] = refl
     by_rest (q ∷ qs) = let same : (q.cluster == q.cluster) ≡ true = grind (arith, common_steps) in rw same refl
 
-lone_merged : (m : Manner) (from : ℕ) (os : List Origin) → merged_as m from (from + 1) os ≡ os
+lone_merged : (m : Manner) (from : ℕ) (os : List Origin) → origins_merged_as m from (from + 1) os ≡ os
 lone_merged Unites from os = lone_united from os
 lone_merged Marks from os = lone_marked from os
 lone_merged Keeps from os = refl
 
-span_origins : (level : Level) (from to : ℕ) (s : Spanned) → from < to → origins (span_merged level from to s).glyphs ≡ merged_as (manner InList level) from to (origins s.glyphs)
+span_origins : (level : Level) (from to : ℕ) (s : Spanned) → from < to → origins (span_merged level from to s).glyphs ≡ origins_merged_as (manner InList level) from to (origins s.glyphs)
 span_origins level from to s lt = by_test (nat_lt (from + 1) to) refl
   where
-    by_test : (t : Bool) → nat_lt (from + 1) to ≡ t → origins (if t then record { glyphs = glyphs_merged_at level from to s.glyphs; is_marked = s.is_marked || is_marked_at level from to (clusters s.glyphs) } else s).glyphs ≡ merged_as (manner InList level) from to (origins s.glyphs)
+    by_test : (t : Bool) → nat_lt (from + 1) to ≡ t → origins (if t then record { glyphs = glyphs_merged_at level from to s.glyphs; is_marked = s.is_marked || is_marked_at level from to (clusters s.glyphs) } else s).glyphs ≡ origins_merged_as (manner InList level) from to (origins s.glyphs)
     by_test true e = origins_of_merged_at level from to s.glyphs (omega arith)
     by_test false e =
         let one : from + 1 ≡ to = grind (arith, nat_tests, e, lt) in
-        sym (lone_merged (manner InList level) from (origins s.glyphs)) ∙ ap (λ n. merged_as (manner InList level) from n (origins s.glyphs)) one
+        sym (lone_merged (manner InList level) from (origins s.glyphs)) ∙ ap (λ n. origins_merged_as (manner InList level) from n (origins s.glyphs)) one
 
 spans_origins : (level : Level) (start : ℕ) (es : List Keyed) (left begin place : ℕ) (s : Spanned) → begin ≤ place
     → origins (spans_merged level start es begin place left s).glyphs ≡ all_merged (manner InList level) start (spans_from (map place_of es) begin place left) (origins s.glyphs)
@@ -148,7 +148,7 @@ taken_at range (e ∷ es) h =
     (slice_get-map origin_of range e.place ∙ ap (λ o. option_map origin_of o) (slice_get-get_or range e.place no_glyph lt), taken_at range es (All-tail (λ (f : Keyed). f.place < length range) e es h))
 
 put_origins : (start end : ℕ) (es : List Keyed) (gs : List Glyph) → start ≤ end → end ≤ length gs → length es ≡ end - start → All (λ (e : Keyed). e.place < length (slice_range gs start end)) es
-    → origins (put_in_order start end es gs) ≡ arranged start (map place_of es) (origins gs)
+    → origins (put_in_order start end es gs) ≡ with_range_arranged start (map place_of es) (origins gs)
 put_origins start end es gs le within long h =
     let range = slice_range gs start end in
     let order = map place_of es in
@@ -171,7 +171,7 @@ sort_is_event asks level start end k gs le within =
     let key : Glyph → ℕ = λ g. k (item_of g) in
     let m = manner InList level in
     let range = slice_range gs start end in
-    let es = places_by_key key range in
+    let es = indices_by_key key range in
     let order = map place_of es in
     let whole : Spanned = record { glyphs = gs; is_marked = false } in
     let mid = (range_spanned level start es gs).glyphs in
@@ -181,8 +181,8 @@ sort_is_event asks level start end k gs le within =
     let same_range : length (slice_range mid start end) ≡ end - start = length-take-le (end - start) (drop start mid) (omega (arith, as_long, length-drop start mid)) in
     let is : order ≡ order_of (map key range) = places_are key range in
     let many : length es ≡ end - start = sym (length-map es place_of) ∙ ap length is ∙ order_length (map key range) ∙ length-map range key ∙ wide in
-    let inside : All (λ (e : Keyed). e.place < length (slice_range mid start end)) es = subst (λ n. All (λ (e : Keyed). e.place < n) es) (wide ∙ sym same_range) (places_within key range) in
+    let inside : All (λ (e : Keyed). e.place < length (slice_range mid start end)) es = subst (λ n. All (λ (e : Keyed). e.place < n) es) (wide ∙ sym same_range) (indices_within key range) in
     let items : map key range ≡ map k (slice_range (strip gs) start end) = items_keyed k range ∙ ap (map k) (slice_seen item_of start end gs) in
     put_origins start end es mid le (omega (arith, as_long, within)) many inside
-    ∙ ap (arranged start order) (spans_origins level start es (length es) 0 0 whole (omega arith) ∙ ap (λ n. all_merged m start (spans_from order 0 0 n) (origins gs)) (sym (length-map es place_of)))
-    ∙ ap (λ is. arranged start is (all_merged m start (spans is) (origins gs))) (is ∙ ap order_of items)
+    ∙ ap (with_range_arranged start order) (spans_origins level start es (length es) 0 0 whole (omega arith) ∙ ap (λ n. all_merged m start (spans_from order 0 0 n) (origins gs)) (sym (length-map es place_of)))
+    ∙ ap (λ is. with_range_arranged start is (all_merged m start (spans is) (origins gs))) (is ∙ ap order_of items)

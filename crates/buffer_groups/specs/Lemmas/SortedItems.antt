@@ -7,12 +7,12 @@ use Rattle.buffer_glyphs.specs.declared.info.hb_glyph_info_t.{hb_glyph_info_t as
 use Rattle.buffer_glyphs.specs.declared.level.BufferClusterLevel.{BufferClusterLevel as Level}
 use Rattle.buffer_glyphs.specs.Items.{Item, item_of, strip, clusters}
 use Rattle.buffer_glyphs.specs.Glyphs.{glyphs_merged_at, is_marked_at}
-use Rattle.buffer_glyphs.specs.Lists.{seen_at}
+use Rattle.buffer_glyphs.specs.Lists.{get_or_mapped}
 use Rattle.buffer_glyphs.specs.Lemmas.Glyphs.{strip_merged_at}
 use Rattle.buffer_stable_order.specs.Keys.{key_order}
 use Rattle.buffer_stable_order.specs.Orders.{Agree, key_order_agree, key_order_map}
 use Rattle.buffer_groups.specs.declared.sorting.Keyed.{Keyed}
-use Rattle.buffer_groups.specs.Sorting.{keyed_from, places_by_key, is_seam, Spanned, span_merged, spans_merged, range_spanned, range_sorted, glyph_at, put_in_order}
+use Rattle.buffer_groups.specs.Sorting.{keyed_indices_from, indices_by_key, is_seam, Spanned, span_merged, spans_merged, range_spanned, range_sorted, glyph_at, put_in_order}
 use Rattle.buffer_groups.specs.Lemmas.Neighbours.{no_glyph}
 
 -- what stands at an index of items
@@ -28,24 +28,24 @@ pushed front x xs = append_assoc front (x ∷ []) xs
 one_longer : (front : List Item) (x : Item) (i : ℕ) → length front ≡ i → length (front ++ x ∷ []) ≡ i + 1
 one_longer front x i e = omega (arith, e, length-append front (x ∷ []))
 
-placed_from : (k : Glyph → ℕ) (gs : List Glyph) (front : List Item) (i : ℕ) → length front ≡ i → map (item_at (front ++ strip gs)) (keyed_from k i gs) ≡ strip gs
+placed_from : (k : Glyph → ℕ) (gs : List Glyph) (front : List Item) (i : ℕ) → length front ≡ i → map (item_at (front ++ strip gs)) (keyed_indices_from k i gs) ≡ strip gs
 placed_from k [] front i e = refl
 placed_from k (g ∷ gs) front i e =
     let rest = placed_from k gs (front ++ item_of g ∷ []) (i + 1) (one_longer front (item_of g) i e) in
-    let moved = subst (λ (xs : List Item). map (item_at xs) (keyed_from k (i + 1) gs) ≡ strip gs) (pushed front (item_of g) (strip gs)) rest in
-    ap (λ (x : Item). x ∷ map (item_at (front ++ item_of g ∷ strip gs)) (keyed_from k (i + 1) gs)) (here front (item_of g) (strip gs) i e) ∙ ap (λ xs. item_of g ∷ xs) moved
+    let moved = subst (λ (xs : List Item). map (item_at xs) (keyed_indices_from k (i + 1) gs) ≡ strip gs) (pushed front (item_of g) (strip gs)) rest in
+    ap (λ (x : Item). x ∷ map (item_at (front ++ item_of g ∷ strip gs)) (keyed_indices_from k (i + 1) gs)) (here front (item_of g) (strip gs) i e) ∙ ap (λ xs. item_of g ∷ xs) moved
 
-agree_from : (key : Item → ℕ) (gs : List Glyph) (front : List Item) (i : ℕ) → length front ≡ i → Agree (λ (e : Keyed). e.key) (λ (e : Keyed). key (item_at (front ++ strip gs) e)) (keyed_from (λ g. key (item_of g)) i gs)
+agree_from : (key : Item → ℕ) (gs : List Glyph) (front : List Item) (i : ℕ) → length front ≡ i → Agree (λ (e : Keyed). e.key) (λ (e : Keyed). key (item_at (front ++ strip gs) e)) (keyed_indices_from (λ g. key (item_of g)) i gs)
 agree_from key [] front i e = tt
 agree_from key (g ∷ gs) front i e =
     let rest = agree_from key gs (front ++ item_of g ∷ []) (i + 1) (one_longer front (item_of g) i e) in
-    let moved = subst (λ (xs : List Item). Agree (λ (e : Keyed). e.key) (λ (e : Keyed). key (item_at xs e)) (keyed_from (λ h. key (item_of h)) (i + 1) gs)) (pushed front (item_of g) (strip gs)) rest in
+    let moved = subst (λ (xs : List Item). Agree (λ (e : Keyed). e.key) (λ (e : Keyed). key (item_at xs e)) (keyed_indices_from (λ h. key (item_of h)) (i + 1) gs)) (pushed front (item_of g) (strip gs)) rest in
     (ap key (sym (here front (item_of g) (strip gs) i e)), moved)
 
 -- items at the indices by key are the items in the order of the key
-items_by_key : (key : Item → ℕ) (gs : List Glyph) → map (item_at (strip gs)) (places_by_key (λ g. key (item_of g)) gs) ≡ key_order key (strip gs)
+items_by_key : (key : Item → ℕ) (gs : List Glyph) → map (item_at (strip gs)) (indices_by_key (λ g. key (item_of g)) gs) ≡ key_order key (strip gs)
 items_by_key key gs =
-    let keyed = keyed_from (λ g. key (item_of g)) 0 gs in
+    let keyed = keyed_indices_from (λ g. key (item_of g)) 0 gs in
     ap (map (item_at (strip gs))) (key_order_agree (λ (e : Keyed). e.key) (λ (e : Keyed). key (item_at (strip gs) e)) keyed (agree_from key gs [] 0 refl))
     ∙ sym (key_order_map key (item_at (strip gs)) keyed) ∙ ap (key_order key) (placed_from (λ g. key (item_of g)) gs [] 0 refl)
 
@@ -71,7 +71,7 @@ strip_range start end gs = sym (ap (take (end - start)) (drop-map item_of start 
 
 taken : (zs : List Glyph) (order : List Keyed) → strip (map (λ (e : Keyed). glyph_at zs e.place) order) ≡ map (item_at (strip zs)) order
 taken zs [] = refl
-taken zs (e ∷ es) = ap (λ (x : Item). x ∷ strip (map (λ (f : Keyed). glyph_at zs f.place) es)) (sym (seen_at item_of zs e.place no_glyph)) ∙ ap (λ xs. item_at (strip zs) e ∷ xs) (taken zs es)
+taken zs (e ∷ es) = ap (λ (x : Item). x ∷ strip (map (λ (f : Keyed). glyph_at zs f.place) es)) (sym (get_or_mapped item_of zs e.place no_glyph)) ∙ ap (λ xs. item_at (strip zs) e ∷ xs) (taken zs es)
 
 put_strip : (start end : ℕ) (order : List Keyed) (gs : List Glyph) → strip (put_in_order start end order gs) ≡ take start (strip gs) ++ map (item_at (slice_range (strip gs) start end)) order ++ drop end (strip gs)
 put_strip start end order gs =
@@ -84,7 +84,7 @@ put_strip start end order gs =
 -- the items of a sorted range, by a key of items
 pub items_sorted : (level : Level) (start end : ℕ) (key : Item → ℕ) (gs : List Glyph) → strip (range_sorted level start end (λ g. key (item_of g)) gs).glyphs ≡ take start (strip gs) ++ key_order key (slice_range (strip gs) start end) ++ drop end (strip gs)
 items_sorted level start end key gs =
-    let order = places_by_key (λ g. key (item_of g)) (slice_range gs start end) in
+    let order = indices_by_key (λ g. key (item_of g)) (slice_range gs start end) in
     let spanned = (range_spanned level start order gs).glyphs in
     let same : strip spanned ≡ strip gs = spans_strip level start order (length order) 0 0 (record { glyphs = gs; is_marked = false }) (omega arith) in
     put_strip start end order spanned ∙ ap (λ xs. take start xs ++ map (item_at (slice_range xs start end)) order ++ drop end xs) same

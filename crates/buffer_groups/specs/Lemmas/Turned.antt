@@ -8,16 +8,16 @@ use Rattle.buffer_glyphs.specs.declared.info.hb_glyph_info_t.{hb_glyph_info_t as
 use Rattle.buffer_glyphs.specs.declared.level.BufferClusterLevel.{BufferClusterLevel}
 use Rattle.buffer_glyphs.specs.declared.level.BufferClusterLevel.TheVariants.{MonotoneGraphemes, MonotoneCharacters, Characters}
 use Rattle.buffer_glyphs.specs.Items.{Position, clusters}
-use Rattle.buffer_glyphs.specs.Parts.{stretch}
-use Rattle.buffer_glyphs.specs.Merges.{least_number, merged}
+use Rattle.buffer_glyphs.specs.Parts.{range_of}
+use Rattle.buffer_glyphs.specs.Merges.{least_number, merged_number}
 use Rattle.buffer_glyphs.specs.Order.{IsOrdered}
 use Rattle.buffer_glyphs.specs.Levels.{IsMonotone}
 use Rattle.buffer_glyphs.specs.Lemmas.Merges.{map_alike}
 use Rattle.buffer_glyphs.specs.Merging.{order_merged}
-use Rattle.buffer_glyphs.specs.Glyphs.{glyphs_merged_at, beside_merged, glyphs_merged, tells_apart}
+use Rattle.buffer_glyphs.specs.Glyphs.{glyphs_merged_at, beside_merged, glyphs_merged, has_several_numbers}
 use Rattle.buffer_glyphs.specs.Lemmas.Glyphs.{merged_at_beyond, stretch_is, length_beside, length_merged_at, clusters_merged, cut_out, nothing_merged}
 use Rattle.buffer_groups.specs.Groups.{group_length}
-use Rattle.buffer_groups.specs.Turning.{Turning, range_reversed, merged_if, is_marked_if, beside_if, first_turned, group_turned, turning_at, all_turned, turning_of}
+use Rattle.buffer_groups.specs.Turning.{Turning, range_reversed, glyphs_merged_if, is_marked_if, beside_if, first_turned, group_turned, turning_at, all_turned, turning_of}
 use Rattle.buffer_glyphs.specs.Lemmas.EventParts.{map-reverse}
 
 pub turned_put : {X : Type 0} (start end : ℕ) (xs range : List X) → start ≤ end → range ≡ reverse (slice_range xs start end) → put_mid start (end - start) xs range ≡ range_reversed start end xs
@@ -51,7 +51,7 @@ beside_reverse Characters range gs = refl
 
 -- a merge after an index, on both sides of it
 merged_cut : (merge : Bool) (level : BufferClusterLevel) (start end : ℕ) (gs : List Glyph) → start ≤ end → start ≤ length gs
-    → merged_if merge level start end gs ≡ beside_if merge level (stretch 0 (end - start) (clusters (drop start gs))) (take start gs) ++ merged_if merge level 0 (end - start) (drop start gs)
+    → glyphs_merged_if merge level start end gs ≡ beside_if merge level (range_of 0 (end - start) (clusters (drop start gs))) (take start gs) ++ glyphs_merged_if merge level 0 (end - start) (drop start gs)
 merged_cut false level start end gs le within = sym (take-append-drop start gs)
 merged_cut true level start end gs le within =
     let long : length (take start gs) ≡ start = length-take-le start gs within in
@@ -76,20 +76,20 @@ marked_cut true MonotoneCharacters start end gs = refl
 marked_cut true Characters start end gs =
     let f : Glyph → ℕ = λ g. g.cluster in
     let none : end - start - 0 ≡ end - start = omega arith in
-    ap tells_apart (ap (take (end - start)) (drop-map f start gs) ∙ ap (λ n. take n (clusters (drop start gs))) (sym none))
+    ap has_several_numbers (ap (take (end - start)) (drop-map f start gs) ∙ ap (λ n. take n (clusters (drop start gs))) (sym none))
 
-merged_length : (merge : Bool) (level : BufferClusterLevel) (start end : ℕ) (gs : List Glyph) → start ≤ end → length (merged_if merge level start end gs) ≡ length gs
+merged_length : (merge : Bool) (level : BufferClusterLevel) (start end : ℕ) (gs : List Glyph) → start ≤ end → length (glyphs_merged_if merge level start end gs) ≡ length gs
 merged_length false level start end gs le = refl
 merged_length true level start end gs le = length_merged_at level start end gs le
 
 -- a group was merged and reversed in its place: the glyphs up to its end in reversed order, and those after it
-pub placed_glyphs : (merge : Bool) (level : BufferClusterLevel) (start end : ℕ) (gs mid new : List Glyph) → start ≤ end → end ≤ length gs → mid ≡ merged_if merge level start end gs → new ≡ range_reversed start end mid
-    → (reverse (take end new) ≡ take (end - start) (merged_if merge level 0 (end - start) (drop start gs)) ++ beside_if merge level (stretch 0 (end - start) (clusters (drop start gs))) (reverse (take start gs)))
-    × (drop end new ≡ drop (end - start) (merged_if merge level 0 (end - start) (drop start gs)))
+pub placed_glyphs : (merge : Bool) (level : BufferClusterLevel) (start end : ℕ) (gs mid new : List Glyph) → start ≤ end → end ≤ length gs → mid ≡ glyphs_merged_if merge level start end gs → new ≡ range_reversed start end mid
+    → (reverse (take end new) ≡ take (end - start) (glyphs_merged_if merge level 0 (end - start) (drop start gs)) ++ beside_if merge level (range_of 0 (end - start) (clusters (drop start gs))) (reverse (take start gs)))
+    × (drop end new ≡ drop (end - start) (glyphs_merged_if merge level 0 (end - start) (drop start gs)))
 placed_glyphs merge level start end gs mid new le within m n =
-    let range = stretch 0 (end - start) (clusters (drop start gs)) in
+    let range = range_of 0 (end - start) (clusters (drop start gs)) in
     let front = beside_if merge level range (take start gs) in
-    let ahead = merged_if merge level 0 (end - start) (drop start gs) in
+    let ahead = glyphs_merged_if merge level 0 (end - start) (drop start gs) in
     let cut : mid ≡ front ++ ahead = m ∙ merged_cut merge level start end gs le (omega arith) in
     let at : length front ≡ start = beside_length merge level range (take start gs) ∙ length-take-le start gs (omega arith) in
     let first : take start mid ≡ front = ap (take start) cut ∙ ap (λ i. take i (front ++ ahead)) (sym at) ∙ take-append_seam front ahead in
@@ -102,7 +102,7 @@ placed_glyphs merge level start end gs mid new le within m n =
 
 -- and its positions beside it
 pub group_placed : (merge : Bool) (level : BufferClusterLevel) (start end : ℕ) (gs mid new : List Glyph) (ps positions : List Position) (before marked : Bool) → start ≤ end → end ≤ length gs → length ps ≡ length gs
-    → mid ≡ merged_if merge level start end gs → marked ≡ is_marked_if merge level start end (clusters gs) → new ≡ range_reversed start end mid → positions ≡ range_reversed start end ps
+    → mid ≡ glyphs_merged_if merge level start end gs → marked ≡ is_marked_if merge level start end (clusters gs) → new ≡ range_reversed start end mid → positions ≡ range_reversed start end ps
     → turning_at end new positions (before || marked) ≡ first_turned merge level (end - start) (turning_at start gs ps before)
 group_placed merge level start end gs mid new ps positions before marked le within long m k n p =
     let moved = placed_glyphs merge level start end gs mid new le within m n in
@@ -122,12 +122,12 @@ all_one c ns = sym (map-reverse (λ (n : ℕ). c) ns) ∙ alike c (reverse ns) n
     alike k (x ∷ xs) [] e = cc
     alike k (x ∷ xs) (y ∷ ys) e = ap (λ zs. k ∷ zs) (alike k xs ys (omega (arith, e)))
 
-in_range : (start end : ℕ) (gs : List Glyph) → let range = stretch start end (clusters gs) in reverse (clusters (slice_range (glyphs_merged range gs) start end)) ≡ clusters (slice_range (glyphs_merged range gs) start end)
+in_range : (start end : ℕ) (gs : List Glyph) → let range = range_of start end (clusters gs) in reverse (clusters (slice_range (glyphs_merged range gs) start end)) ≡ clusters (slice_range (glyphs_merged range gs) start end)
 in_range start end gs =
-    let range = stretch start end (clusters gs) in
-    let seen : clusters (slice_range (glyphs_merged range gs) start end) ≡ map (merged range) range =
-    sym (stretch_is (glyphs_merged range gs) start end) ∙ ap (stretch start end) (clusters_merged range gs) ∙ ap (take (end - start)) (drop-map (merged range) start (clusters gs)) ∙ take-map (merged range) (end - start) (drop start (clusters gs)) in
-    let one : map (merged range) range ≡ map (λ (n : ℕ). least_number range) range = map_alike (merged range) (λ n. least_number range) range (λ n h. rw h refl) in
+    let range = range_of start end (clusters gs) in
+    let seen : clusters (slice_range (glyphs_merged range gs) start end) ≡ map (merged_number range) range =
+    sym (stretch_is (glyphs_merged range gs) start end) ∙ ap (range_of start end) (clusters_merged range gs) ∙ ap (take (end - start)) (drop-map (merged_number range) start (clusters gs)) ∙ take-map (merged_number range) (end - start) (drop start (clusters gs)) in
+    let one : map (merged_number range) range ≡ map (λ (n : ℕ). least_number range) range = map_alike (merged_number range) (λ n. least_number range) range (λ n h. rw h refl) in
     rw (seen, one) (all_one (least_number range) range)
 
 -- positions that were merged have one cluster, at the levels that keep the order
@@ -146,7 +146,7 @@ clusters_part level start end gs mid mono le m =
     map-append f (take start mid ++ reverse range) (drop end mid) ∙ ap (λ ns. ns ++ clusters (drop end mid)) (map-append f (take start mid) (reverse range) ∙ ap (λ ns. clusters (take start mid) ++ ns) turned ∙ sym (map-append f (take start mid) range)) ∙ sym (map-append f (take start mid ++ range) (drop end mid)) ∙ ap clusters (cut_out start end mid le)
 
 -- and so the order
-pub group_ordered : (merge : Bool) (level : BufferClusterLevel) (start end : ℕ) (gs mid new : List Glyph) → start ≤ end → mid ≡ merged_if merge level start end gs → new ≡ range_reversed start end mid
+pub group_ordered : (merge : Bool) (level : BufferClusterLevel) (start end : ℕ) (gs mid new : List Glyph) → start ≤ end → mid ≡ glyphs_merged_if merge level start end gs → new ≡ range_reversed start end mid
     → merge ≡ true → IsMonotone level → IsOrdered (clusters gs) → IsOrdered (clusters new)
 group_ordered false level start end gs mid new le m n asked mono o = cc
 group_ordered true level start end gs mid new le m n asked mono o =

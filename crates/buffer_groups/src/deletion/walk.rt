@@ -5,8 +5,8 @@ ghost use Rattle.buffer_glyphs.specs.declared.level.BufferClusterLevel.{BufferCl
 ghost use Rattle.buffer_glyphs.specs.Items.{Position, clusters};
 ghost use Rattle.buffer_glyphs.specs.Parts.{first_of, last_of, is_number};
 ghost use Rattle.buffer_glyphs.specs.Order.{IsOrdered};
-ghost use Rattle.buffer_glyphs.specs.Deleting.{Deletes, Left, deletion_marks, end_recast, glyphs_deleted};
-ghost use Rattle.buffer_groups.specs.DeletionWalk.{IsDue, IsWalk, Tells, first_passed, passed_at, settled, without_glyph};
+ghost use Rattle.buffer_glyphs.specs.Deleting.{Deletes, DeletionSides, deletion_marks, end_recast, glyphs_deleted};
+ghost use Rattle.buffer_groups.specs.DeletionWalk.{IsDue, IsWalk, AnswersAs, first_step, walk_at, settled_glyphs, without_glyph};
 
 use buffer_glyphs::deletion::{delete_at_front, next_has, recast_end};
 use buffer_glyphs::info::hb_glyph_info_t;
@@ -30,7 +30,7 @@ pub(super) struct Walk {
 #[tactic(auto, using(crate::proofs::Walking::settled_put))]
 pub(super) fn settle(glyphs: &mut [hb_glyph_info_t], kept: usize, due: Option<hb_glyph_info_t>)
     requires { kept ≤ length glyphs.old }
-    ensures { glyphs.new ≡ settled due (take kept glyphs.old) ++ drop kept glyphs.old }
+    ensures { glyphs.new ≡ settled_glyphs due (take kept glyphs.old) ++ drop kept glyphs.old }
 {
     if let Some(glyph) = due {
         recast_end(&mut glyphs[..kept], &glyph);
@@ -49,7 +49,7 @@ fn keep_glyph(
     requires placed { length positions.old ≡ length glyphs.old }
     requires few { walk.kept ≤ at }
     ensures glyphs { take (walk.kept + 1) glyphs.new
-        ≡ settled walk.due (take walk.kept glyphs.old) ++ take 1 (drop at glyphs.old) }
+        ≡ settled_glyphs walk.due (take walk.kept glyphs.old) ++ take 1 (drop at glyphs.old) }
     ensures ahead { drop (at + 1) glyphs.new ≡ drop (at + 1) glyphs.old }
     ensures positions { take (walk.kept + 1) positions.new
         ≡ take walk.kept positions.old ++ take 1 (drop at positions.old) }
@@ -91,7 +91,7 @@ fn move_position(positions: &mut [GlyphPosition], to: usize, from: usize)
 fn last_kept(glyphs: &[hb_glyph_info_t], kept: usize, due: Option<hb_glyph_info_t>) -> u32
     requires some { 0 < kept }
     requires within { kept ≤ length glyphs.now }
-    ensures { last_of (clusters (settled due (take kept glyphs.now))) ≡ Some result }
+    ensures { last_of (clusters (settled_glyphs due (take kept glyphs.now))) ≡ Some result }
 {
     match due {
         Some(glyph) => glyph.cluster,
@@ -105,8 +105,8 @@ fn delete_behind(glyphs: &mut [hb_glyph_info_t], at: usize, walk: Walk, in_order
     requires within { at < length glyphs.old }
     requires sound { IsWalk in_order at walk glyphs.old }
     ensures deletes { (level : Level) →
-        Deletes level (settled walk.due (take walk.kept glyphs.old)) (drop at glyphs.old)
-        (settled result.due (take result.kept glyphs.new)) (drop (at + 1) glyphs.new) false }
+        Deletes level (settled_glyphs walk.due (take walk.kept glyphs.old)) (drop at glyphs.old)
+        (settled_glyphs result.due (take result.kept glyphs.new)) (drop (at + 1) glyphs.new) false }
     ensures due { IsDue in_order result.due (take result.kept glyphs.new) }
     ensures kept { result.kept ≡ walk.kept }
     ensures marked { result.marked ≡ walk.marked }
@@ -140,7 +140,7 @@ pub(super) fn delete_glyph(
     requires within { at < length glyphs.old }
     requires sound { IsWalk in_order at walk glyphs.old }
     ensures passed { (ps : List Position) (g : Glyph) (back : List Glyph) → drop at glyphs.old ≡ g ∷ back →
-        passed_at (at + 1) result glyphs.new ps ≡ without_glyph level (passed_at at walk glyphs.old ps) g back }
+        walk_at (at + 1) result glyphs.new ps ≡ without_glyph level (walk_at at walk glyphs.old ps) g back }
     ensures sound { IsWalk in_order (at + 1) result glyphs.new }
 {
     if walk.kept == 0 {
@@ -168,9 +168,9 @@ pub(super) fn pass_glyph<F: Fn(&hb_glyph_info_t) -> bool>(
     requires within { at < length glyphs.old }
     requires placed { length positions.old ≡ length glyphs.old }
     requires sound { IsWalk in_order at walk glyphs.old }
-    ensures passed { (goes : Glyph → Bool) → Tells F.Fn filter.now goes →
-        passed_at (at + 1) result glyphs.new positions.new
-        ≡ first_passed level goes (passed_at at walk glyphs.old positions.old) }
+    ensures passed { (goes : Glyph → Bool) → AnswersAs F.Fn filter.now goes →
+        walk_at (at + 1) result glyphs.new positions.new
+        ≡ first_step level goes (walk_at at walk glyphs.old positions.old) }
     ensures sound { IsWalk in_order (at + 1) result glyphs.new }
 {
     if filter(&glyphs[at]) {

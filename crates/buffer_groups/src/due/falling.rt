@@ -1,10 +1,10 @@
 //! Merges over clusters that decrease, of which the last waits.
 ghost use Rattle.std.specs.Prelude.{◌≡◌, ◌≤◌, ◌<◌, true, length, map};
 ghost use Rattle.buffer_glyphs.specs.Items.{clusters};
-ghost use Rattle.buffer_glyphs.specs.Parts.{stretch};
+ghost use Rattle.buffer_glyphs.specs.Parts.{range_of};
 ghost use Rattle.buffer_glyphs.specs.Order.{IsFalling, IsOrdered};
 ghost use Rattle.buffer_glyphs.specs.Glyphs.{glyphs_merged, in_cluster};
-ghost use Rattle.buffer_groups.specs.Falling.{IsDueBefore, IsRound, carried};
+ghost use Rattle.buffer_groups.specs.Falling.{IsDueBefore, IsRound, with_range_in_cluster};
 
 use buffer_glyphs::deletion::end_run;
 use buffer_glyphs::info::hb_glyph_info_t;
@@ -25,7 +25,7 @@ pub(crate) struct Stretch {
 pub(super) fn carry_out(glyphs: &mut [hb_glyph_info_t], due: Stretch)
     requires ordered { due.from ≤ due.to }
     requires within { due.to ≤ length glyphs.old }
-    ensures { glyphs.new ≡ carried due glyphs.old }
+    ensures { glyphs.new ≡ with_range_in_cluster due glyphs.old }
 {
     set_clusters(&mut glyphs[due.from..due.to], due.cluster);
 }
@@ -50,8 +50,8 @@ pub(super) fn merge_falling(
     requires some { start < end }
     requires within { end ≤ length glyphs.old }
     requires due { IsDueBefore start due glyphs.old }
-    ensures merged { carried result glyphs.new
-        ≡ glyphs_merged (stretch start end (clusters (carried due glyphs.old))) (carried due glyphs.old) }
+    ensures merged { with_range_in_cluster result glyphs.new
+        ≡ glyphs_merged (range_of start end (clusters (with_range_in_cluster due glyphs.old))) (with_range_in_cluster due glyphs.old) }
     ensures due { IsDueBefore end result glyphs.new }
     ensures round { IsRound start end result }
 {

@@ -8,16 +8,16 @@ use Rattle.buffer_glyphs.specs.Events.{Event}
 use Rattle.buffer_core.specs.Readings.{View}
 use Rattle.buffer_core.specs.Sides.{Settings, Sides, all_glyphs, fits_joined, with_output}
 use Rattle.buffer_stages.specs.Ready.{IsReady}
-use Rattle.buffer_stages.specs.Walks.{Walked}
+use Rattle.buffer_stages.specs.Walks.{HasWalked}
 
-pub level_same : (o r : List Item) (es : List Event) (s t : Sides) → Walked o r es s t → t.level ≡ s.level
+pub level_same : (o r : List Item) (es : List Event) (s t : Sides) → HasWalked o r es s t → t.level ≡ s.level
 level_same o r es s t w = ap (λ (st : Settings). st.level) w.settings
 
-pub limit_same : (o r : List Item) (es : List Event) (s t : Sides) → Walked o r es s t → t.max_len ≡ s.max_len
+pub limit_same : (o r : List Item) (es : List Event) (s t : Sides) → HasWalked o r es s t → t.max_len ≡ s.max_len
 limit_same o r es s t w = ap (λ (v : View). v.max_len) w.view
 
 -- at the end of a walk a buffer holds what was written
-count_written : (xs : List Item) (es : List Event) (s t : Sides) → Walked xs [] es s t → length (all_glyphs t) ≡ length xs
+count_written : (xs : List Item) (es : List Event) (s t : Sides) → HasWalked xs [] es s t → length (all_glyphs t) ≡ length xs
 count_written xs es s t w =
     let a = length-append t.behind t.ahead in
     let b : length t.behind ≡ length xs = sym (length-map t.behind item_of) ∙ ap (λ (ys : List Item). length ys) w.behind in
@@ -25,7 +25,7 @@ count_written xs es s t w =
     omega (arith, a, b, c)
 
 -- where both sides fit, so do the items that were written
-pub written_fit : (xs : List Item) (es : List Event) (s t : Sides) → Walked xs [] es (with_output s) t → fits_joined t ≡ true → nat_le (length xs) s.max_len ≡ true
+pub written_fit : (xs : List Item) (es : List Event) (s t : Sides) → HasWalked xs [] es (with_output s) t → fits_joined t ≡ true → nat_le (length xs) s.max_len ≡ true
 written_fit xs es s t w fits =
     let limit = limit_same xs [] es (with_output s) t w in
     let many = count_written xs es (with_output s) t w in
@@ -37,7 +37,7 @@ unless true b n e = cc
 unless false b n e = e
 
 -- and where they don't, the items are too many
-pub written_exceed : (xs : List Item) (es : List Event) (s t : Sides) → IsReady s → Walked xs [] es (with_output s) t → fits_joined t ≡ false → nat_le (length xs) s.max_len ≡ false
+pub written_exceed : (xs : List Item) (es : List Event) (s t : Sides) → IsReady s → HasWalked xs [] es (with_output s) t → fits_joined t ≡ false → nat_le (length xs) s.max_len ≡ false
 written_exceed xs es s t ready w over =
     let limit = limit_same xs [] es (with_output s) t w in
     let many = count_written xs es (with_output s) t w in

@@ -8,9 +8,9 @@ use Rattle.buffer_glyphs.specs.Items.{item_of}
 use Rattle.buffer_glyphs.specs.Origins.{Asks}
 use Rattle.buffer_glyphs.specs.Events.{Event, origins_after}
 use Rattle.buffer_glyphs.specs.Lemmas.Origins.{origins_after_both}
-use Rattle.buffer_core.specs.Sides.{Sides, Settings, settings_of, items_of, origins_of, asks_of}
+use Rattle.buffer_core.specs.Sides.{Sides, Settings, settings_of, items_of, origins_of, flag_requests_of}
 use Rattle.buffer_stages.specs.Actions.{Cut, whole}
-use Rattle.buffer_stages.specs.Buffers.{cut_of, Frame, IsStill, Happened}
+use Rattle.buffer_stages.specs.Buffers.{cut_of, Frame, IsStill, HasHappened}
 
 abbrev pub asks_with : BufferFlags → Asks
 asks_with f = record { concat = bit_and f.0 64 == 64; tatweel = bit_and f.0 128 == 128 }
@@ -20,7 +20,7 @@ asks_with f = record { concat = bit_and f.0 64 == 64; tatweel = bit_and f.0 128 
 pub same_level : (a b : Sides) → settings_of b ≡ settings_of a → b.level ≡ a.level
 same_level a b e = ap (λ (s : Settings). s.level) e
 
-pub same_asks : (a b : Sides) → settings_of b ≡ settings_of a → asks_of b ≡ asks_of a
+pub same_asks : (a b : Sides) → settings_of b ≡ settings_of a → flag_requests_of b ≡ flag_requests_of a
 same_asks a b e = ap (λ (s : Settings). asks_with s.flags) e
 
 -- a frame that stays
@@ -41,10 +41,10 @@ pub still_direction : (a b : Sides) → IsStill a b → b.direction ≡ a.direct
 still_direction a b e = ap (λ (f : Frame). f.direction) e
 
 -- events one after another
-pub then_happened : (es fs : List Event) (a b c : Sides) → settings_of b ≡ settings_of a → Happened es a b → Happened fs b c → Happened (es ++ fs) a c
+pub then_happened : (es fs : List Event) (a b c : Sides) → settings_of b ≡ settings_of a → HasHappened es a b → HasHappened fs b c → HasHappened (es ++ fs) a c
 then_happened es fs a b c same f g =
-    g ∙ ap (λ (l : BufferClusterLevel). origins_after (asks_of b) l fs (origins_of b)) (same_level a b same) ∙ ap (λ (k : Asks). origins_after k a.level fs (origins_of b)) (same_asks a b same)
-    ∙ ap (origins_after (asks_of a) a.level fs) f ∙ sym (origins_after_both (asks_of a) a.level es fs (origins_of a))
+    g ∙ ap (λ (l : BufferClusterLevel). origins_after (flag_requests_of b) l fs (origins_of b)) (same_level a b same) ∙ ap (λ (k : Asks). origins_after k a.level fs (origins_of b)) (same_asks a b same)
+    ∙ ap (origins_after (flag_requests_of a) a.level fs) f ∙ sym (origins_after_both (flag_requests_of a) a.level es fs (origins_of a))
 
 -- both sides are as long where the cut is the same
 pub same_lengths : (a b : Sides) → cut_of b ≡ cut_of a → (length b.behind ≡ length a.behind) × (length b.ahead ≡ length a.ahead)

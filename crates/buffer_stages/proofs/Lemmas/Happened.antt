@@ -6,13 +6,13 @@ use Rattle.buffer_glyphs.specs.declared.info.hb_glyph_info_t.{hb_glyph_info_t}
 use Rattle.buffer_glyphs.specs.Items.{Item, clusters, item_of}
 use Rattle.buffer_glyphs.specs.Events.{Event, Break, Merge, origins_after}
 use Rattle.buffer_glyphs.specs.Lemmas.Origins.{origins_after_both}
-use Rattle.buffer_core.specs.Sides.{Sides, Settings, all_glyphs, asks_of, items_of, origins_by, origins_of, settings_of, told_of, view_of}
-use Rattle.buffer_core.specs.Merging.{index_in_all, telling_flags, with_glyphs, with_merged}
-use Rattle.buffer_core.specs.Marking.{marked_range}
-use Rattle.buffer_glyphs.specs.Glyphs.{glyphs_marked, glyphs_merged_at, is_marked_at, tells_apart}
+use Rattle.buffer_core.specs.Sides.{Sides, Settings, all_glyphs, flag_requests_of, items_of, origins_by, origins_of, settings_of, stage_flags, view_of}
+use Rattle.buffer_core.specs.Merging.{index_in_all, with_has_glyph_flags, with_glyphs, with_merged}
+use Rattle.buffer_core.specs.Marking.{range_flagged_apart}
+use Rattle.buffer_glyphs.specs.Glyphs.{glyphs_marked, glyphs_merged_at, is_marked_at, has_several_numbers}
 use Rattle.buffer_glyphs.specs.Levels.{InList}
-use Rattle.buffer_glyphs.specs.Parts.{stretch}
-use Rattle.buffer_core.proofs.Told.{told_telling}
+use Rattle.buffer_glyphs.specs.Parts.{range_of}
+use Rattle.buffer_core.proofs.Told.{stage_flags_ignore_glyph_flags}
 use Rattle.buffer_stages.specs.Ready.{IsReady}
 use Rattle.buffer_stages.specs.Stages.{Happens}
 
@@ -20,27 +20,27 @@ pub nothing_happens : (s : Sides) → IsReady s → Happens [] s s
 nothing_happens s ready = record { view = refl; origins = refl; settings = refl; ready = ready }
 
 -- the same events from a buffer with the same settings
-by_settings : (es : List Event) (a b : Sides) → settings_of b ≡ settings_of a → origins_by es b ≡ origins_after (asks_of a) a.level es (origins_of b)
+by_settings : (es : List Event) (a b : Sides) → settings_of b ≡ settings_of a → origins_by es b ≡ origins_after (flag_requests_of a) a.level es (origins_of b)
 by_settings es a b e =
-    ap (λ (st : Settings). origins_after (asks_of b) st.level es (origins_of b)) e
+    ap (λ (st : Settings). origins_after (flag_requests_of b) st.level es (origins_of b)) e
     ∙ ap (λ (st : Settings). origins_after (record { concat = bit_and st.flags.0 64 == 64; tatweel = bit_and st.flags.0 128 == 128 }) a.level es (origins_of b)) e
 
 pub both_happen : (es fs : List Event) (a b c : Sides) → Happens es a b → Happens fs b c → Happens (es ++ fs) a c
 both_happen es fs a b c h k = record {
   view = k.view ∙ h.view;
-  origins = k.origins ∙ by_settings fs a b h.settings ∙ ap (λ os. origins_after (asks_of a) a.level fs os) h.origins ∙ sym (origins_after_both (asks_of a) a.level es fs (origins_of a));
+  origins = k.origins ∙ by_settings fs a b h.settings ∙ ap (λ os. origins_after (flag_requests_of a) a.level fs os) h.origins ∙ sym (origins_after_both (flag_requests_of a) a.level es fs (origins_of a));
   settings = k.settings ∙ h.settings;
   ready = k.ready;
 }
 
 -- a call that writes clusters or glyph flags alone
-pub call_happens : (gs : List hb_glyph_info_t) (any : Bool) (es : List Event) (s new : Sides) → new ≡ record (with_glyphs gs s) { scratch_flags = telling_flags any s.scratch_flags }
+pub call_happens : (gs : List hb_glyph_info_t) (any : Bool) (es : List Event) (s new : Sides) → new ≡ record (with_glyphs gs s) { scratch_flags = with_has_glyph_flags any s.scratch_flags }
     → items_of new ≡ items_of s → origins_of new ≡ origins_by es s → IsReady s → Happens es s new
 call_happens gs any es s new e items from ready =
     let P : Sides → Type 0 = λ n. items_of n ≡ items_of s → origins_of n ≡ origins_by es s → Happens es s n in
-    let there : Sides = record (with_glyphs gs s) { scratch_flags = telling_flags any s.scratch_flags } in
+    let there : Sides = record (with_glyphs gs s) { scratch_flags = with_has_glyph_flags any s.scratch_flags } in
     subst P (sym e) (λ same o. record {
-      view = ap (λ xs. record (view_of s) { items = xs; told = told_of (telling_flags any s.scratch_flags) }) same ∙ ap (λ n. record (view_of s) { told = n }) (told_telling any s.scratch_flags);
+      view = ap (λ xs. record (view_of s) { items = xs; scratch_flags = stage_flags (with_has_glyph_flags any s.scratch_flags) }) same ∙ ap (λ n. record (view_of s) { scratch_flags = n }) (stage_flags_ignore_glyph_flags any s.scratch_flags);
       origins = o;
       settings = refl;
       ready = record {
@@ -72,9 +72,9 @@ merge_happens from to s new e items origins ready =
     (Merge InList from to ∷ []) s new e items
     (origins ∙ ap (λ i. origins_by (Merge InList i (index_in_all to s) ∷ []) s) (whole_index from s ready) ∙ ap (λ i. origins_by (Merge InList from i ∷ []) s) (whole_index to s ready)) ready
 
-pub break_happens : (from to : ℕ) (s new : Sides) → new ≡ marked_range 3 (Some from) (Some to) s → items_of new ≡ items_of s
+pub break_happens : (from to : ℕ) (s new : Sides) → new ≡ range_flagged_apart 3 (Some from) (Some to) s → items_of new ≡ items_of s
     → origins_of new ≡ origins_by (Break (index_in_all from s) (index_in_all to s) ∷ []) s → IsReady s → Happens (Break from to ∷ []) s new
 break_happens from to s new e items origins ready =
-    call_happens (glyphs_marked 3 (index_in_all from s) (index_in_all to s) (all_glyphs s)) (tells_apart (stretch (index_in_all from s) (index_in_all to s) (clusters (all_glyphs s))))
+    call_happens (glyphs_marked 3 (index_in_all from s) (index_in_all to s) (all_glyphs s)) (has_several_numbers (range_of (index_in_all from s) (index_in_all to s) (clusters (all_glyphs s))))
     (Break from to ∷ []) s new e items
     (origins ∙ ap (λ i. origins_by (Break i (index_in_all to s) ∷ []) s) (whole_index from s ready) ∙ ap (λ i. origins_by (Break from i ∷ []) s) (whole_index to s ready)) ready

@@ -6,7 +6,7 @@ use Rattle.buffer_glyphs.specs.Events.{Event}
 use Rattle.buffer_core.specs.Sides.{Sides, items_of}
 use Rattle.buffer_stages.specs.Actions.{Cut, Outcome, Passes, Acts, Refuses, Action, later, first_rule}
 use Rattle.buffer_stages.specs.Buffers.{cut_of, are_glyphs, IsStill, IsPassed, IsActed}
-use Rattle.buffer_stages.specs.Performing.{cut_with, IsMade, Performed, Performs}
+use Rattle.buffer_stages.specs.Performing.{cut_with, IsMade, IsPerformed, Performs}
 use Rattle.buffer_stages.proofs.Lemmas.Frames.{still_open, still_refused, still_settings, then_happened, same_lengths, same_numbers}
 use Rattle.buffer_stages.proofs.Lemmas.Does.{passed_same, then_passed}
 
@@ -27,8 +27,8 @@ made_of_acted cut es r old new a =
     }
 
 -- nothing was done by a rule that passes without events
-pub passes_nothing : (r : ℕ) (s : Sides) (o : Outcome) → o ≡ Passes [] → Performed o false r r s s
-passes_nothing r s o e = let P : Outcome → Type 0 = λ p. Performed p false r r s s in subst P (sym e) (refl, refl, passed_same s)
+pub passes_nothing : (r : ℕ) (s : Sides) (o : Outcome) → o ≡ Passes [] → IsPerformed o false r r s s
+passes_nothing r s o e = let P : Outcome → Type 0 = λ p. IsPerformed p false r r s s in subst P (sym e) (refl, refl, passed_same s)
 
 then_made : (es fs : List Event) (cut : Cut) (r : ℕ) (a b c : Sides) → IsPassed es a b → IsMade cut fs r b c → IsMade cut (es ++ fs) r a c
 then_made es fs cut r a b c f g =
@@ -77,7 +77,7 @@ passed_numbers act all left r start now t e = ap are_glyphs (same_numbers start 
 
 -- one more rule passes
 one_more : {R : Type 0} (act : R → Action) (all left rest : List R) (x : R) (r after : ℕ) (start now next : Sides) → left ≡ x ∷ rest → ArePassed act all left r start now
-    → (o : Outcome) → act x (cut_with r now) ≡ o → Performed o false r after now next → ArePassed act all rest r start next × (after ≡ r)
+    → (o : Outcome) → act x (cut_with r now) ≡ o → IsPerformed o false r after now next → ArePassed act all rest r start next × (after ≡ r)
 one_more act all left rest x r after start now next at t (Passes es) is d =
     let p = d.2 in
     let long = same_lengths now next p.cut_is in (
@@ -98,7 +98,7 @@ one_more act all left rest x r after start now next at t (Acts cut es) is d = cc
 one_more act all left rest x r after start now next at t (Refuses cause) is d = absurd d
 
 -- the next passes too
-pub passed_next : {R : Type 0} (act : R → Action) (all : List R) (k : ℕ) (x : R) (r after : ℕ) (start now next : Sides) → k < length all → x ≡ get_or all k x → ArePassed act all (drop k all) r start now → Performed (act x (cut_with r now)) false r after now next
+pub passed_next : {R : Type 0} (act : R → Action) (all : List R) (k : ℕ) (x : R) (r after : ℕ) (start now next : Sides) → k < length all → x ≡ get_or all k x → ArePassed act all (drop k all) r start now → IsPerformed (act x (cut_with r now)) false r after now next
     → ArePassed act all (drop (k + 1) all) r start next × (after ≡ r)
 passed_next act all k x r after start now next lt at t d =
     let left : drop k all ≡ x ∷ drop (k + 1) all = drop_more all k x lt ∙ ap (λ q. q ∷ drop (k + 1) all) (sym at) in
@@ -125,7 +125,7 @@ passed_done act all k x r after result start now final lt at t other d =
     by_first act all (drop k all) (drop (k + 1) all) x r after result start now final left t other (act x (cut_with r now)) refl d
 
 -- none is left
-pub passed_all : {R : Type 0} (act : R → Action) (all : List R) (k r : ℕ) (start now : Sides) → length all ≤ k → ArePassed act all (drop k all) r start now → Performed (first_rule act all (cut_with r start)) false r r start now
+pub passed_all : {R : Type 0} (act : R → Action) (all : List R) (k r : ℕ) (start now : Sides) → length all ≤ k → ArePassed act all (drop k all) r start now → IsPerformed (first_rule act all (cut_with r start)) false r r start now
 passed_all act all k r start now le t =
     let none : first_rule act (drop k all) (cut_with r now) ≡ Passes [] = rw (drop_all k all le) refl in
     t.performs (Ok false) r now (passes_nothing r now (first_rule act (drop k all) (cut_with r now)) none)

@@ -9,21 +9,21 @@ use Rattle.std.proofs.lemmas.List.{map-append, map-id, length-append, length-map
 use Rattle.std.proofs.lemmas.List.Folds.{list_any-append}
 use Rattle.std.proofs.lemmas.Nat.{and_or_self}
 use Rattle.std.specs.Int.Bits.{or_add_and}
-use Rattle.buffer_glyphs.specs.Parts.{stretch}
+use Rattle.buffer_glyphs.specs.Parts.{range_of}
 use Rattle.buffer_glyphs.specs.Order.{has_number}
-use Rattle.buffer_glyphs.specs.Merges.{least_number, merged}
-use Rattle.buffer_glyphs.specs.Origins.{Origin, numbers, cast, added_outside, Manner, Unites, Marks, Keeps, merged_as}
+use Rattle.buffer_glyphs.specs.Merges.{least_number, merged_number}
+use Rattle.buffer_glyphs.specs.Origins.{Origin, numbers, cast, added_outside, Manner, Unites, Marks, Keeps, origins_merged_as}
 use Rattle.buffer_glyphs.specs.Lemmas.Numbers.{Has, has_here, has_more, has_left, has_map, map_has}
 use Rattle.buffer_glyphs.specs.Lemmas.Merges.{least_number_is, merged_in}
 use Rattle.buffer_glyphs.specs.Lemmas.Origins.{number_cast, number_outside, numbers_merged, numbers_marked}
-use Rattle.buffer_glyphs.specs.Origins.{arranged}
+use Rattle.buffer_glyphs.specs.Origins.{with_range_arranged}
 use Rattle.buffer_glyphs.specs.Levels.{InList, manner}
 use Rattle.buffer_glyphs.specs.Origins.{Asks}
 use Rattle.buffer_glyphs.specs.Events.{origins_after}
 use Rattle.buffer_glyphs.specs.declared.level.BufferClusterLevel.{BufferClusterLevel}
-use Rattle.buffer_stages.specs.Moves.{FrontMove, IsGrowing, MovesMergeOnce, all_moved, move_events, moved, order_of_move, reach}
+use Rattle.buffer_stages.specs.Moves.{FrontMove, IsGrowing, MovesMergeOnce, all_moved, move_events, with_range_moved, order_of_move, reach}
 use Rattle.buffer_stages.specs.Lemmas.Alone.{merged_alone}
-use Rattle.buffer_stages.specs.Lemmas.Moved.{arranged_moved, moved_length, moved_seen, order_long}
+use Rattle.buffer_stages.specs.Lemmas.Moves.{arranged_moved, moved_length, moved_seen, order_long}
 
 map_alike : {X Y : Type 0} (f g : X → Y) (xs : List X) → ((x : X) → f x ≡ g x) → map f xs ≡ map g xs
 map_alike f g [] same = refl
@@ -59,7 +59,7 @@ least_alike (x ∷ xs) (y ∷ ys) same =
     let b = least_below other (x ∷ xs) (same other ∙ (least_number_is y ys).among) in
     omega (arith, a, b)
 
-merged_alike : (xs ys : List ℕ) (n : ℕ) → ((m : ℕ) → has_number xs m ≡ has_number ys m) → merged xs n ≡ merged ys n
+merged_alike : (xs ys : List ℕ) (n : ℕ) → ((m : ℕ) → has_number xs m ≡ has_number ys m) → merged_number xs n ≡ merged_number ys n
 merged_alike xs ys n same = ap (λ t. if t then least_number xs else n) (same n) ∙ ap (λ m. if has_number ys n then m else n) (least_alike xs ys same)
 
 -- ---- one range within another
@@ -73,66 +73,66 @@ merged_below range n true e = least_below n range e
 merged_below range n false e = omega arith
 
 -- a merge of a part of a range leaves its least number
-nested_least : (range ys : List ℕ) (n : ℕ) → ((m : ℕ) → Has range m → Has ys m) → Has ys n → least_number (map (merged range) ys) ≡ least_number ys
+nested_least : (range ys : List ℕ) (n : ℕ) → ((m : ℕ) → Has range m → Has ys m) → Has ys n → least_number (map (merged_number range) ys) ≡ least_number ys
 nested_least range [] n sub h = cc
 nested_least range (y ∷ ys) n sub h =
-    let zs = map (merged range) (y ∷ ys) in
-    let first = (least_number_is (merged range y) (map (merged range) ys)).among in
-    let from = has_map (merged range) (least_number zs) (y ∷ ys) first in
-    let there : Has (y ∷ ys) (merged range from.0) = merged_has range (y ∷ ys) from.0 sub from.1 (has_number range from.0) refl in
-    let low = least_below (merged range from.0) (y ∷ ys) there in
+    let zs = map (merged_number range) (y ∷ ys) in
+    let first = (least_number_is (merged_number range y) (map (merged_number range) ys)).among in
+    let from = has_map (merged_number range) (least_number zs) (y ∷ ys) first in
+    let there : Has (y ∷ ys) (merged_number range from.0) = merged_has range (y ∷ ys) from.0 sub from.1 (has_number range from.0) refl in
+    let low = least_below (merged_number range from.0) (y ∷ ys) there in
     let same = from.2 in
     let least = least_number (y ∷ ys) in
-    let high = least_below (merged range least) zs (map_has (merged range) least (y ∷ ys) (least_number_is y ys).among) in
+    let high = least_below (merged_number range least) zs (map_has (merged_number range) least (y ∷ ys) (least_number_is y ys).among) in
     let down = merged_below range least (has_number range least) refl in
     omega (arith, low, same, high, down)
 
-not_merged : (range : List ℕ) (n : ℕ) → has_number range n ≡ false → merged range n ≡ n
+not_merged : (range : List ℕ) (n : ℕ) → has_number range n ≡ false → merged_number range n ≡ n
 not_merged range n e = ap (λ t. if t then least_number range else n) e
 
-nested_none : (range ys : List ℕ) (n : ℕ) → has_number range n ≡ false → has_number ys n ≡ false → has_number (map (merged range) ys) n ≡ false
-nested_none range ys n e f = by_test (has_number (map (merged range) ys) n) refl
+nested_none : (range ys : List ℕ) (n : ℕ) → has_number range n ≡ false → has_number ys n ≡ false → has_number (map (merged_number range) ys) n ≡ false
+nested_none range ys n e f = by_test (has_number (map (merged_number range) ys) n) refl
   where
     from_range : (k : ℕ) → Has ys k → (t : Bool) → has_number range k ≡ t → (if t then least_number range else k) ≡ n → true ≡ false
     from_range k h true g is = sym (subst (Has range) is (has_least k range g)) ∙ e
     from_range k h false g is = sym (subst (Has ys) is h) ∙ f
 
-    by_test : (t : Bool) → has_number (map (merged range) ys) n ≡ t → t ≡ false
-    by_test true g = let k = has_map (merged range) n ys g in from_range k.0 k.1 (has_number range k.0) refl k.2
+    by_test : (t : Bool) → has_number (map (merged_number range) ys) n ≡ t → t ≡ false
+    by_test true g = let k = has_map (merged_number range) n ys g in from_range k.0 k.1 (has_number range k.0) refl k.2
     by_test false g = refl
 
 -- a merge of a part, and then of all, is one of all
-nested_number : (range ys : List ℕ) (n : ℕ) → ((m : ℕ) → Has range m → Has ys m) → merged (map (merged range) ys) (merged range n) ≡ merged ys n
+nested_number : (range ys : List ℕ) (n : ℕ) → ((m : ℕ) → Has range m → Has ys m) → merged_number (map (merged_number range) ys) (merged_number range n) ≡ merged_number ys n
 nested_number range ys n sub = by_part (has_number range n) refl
   where
     zs : List ℕ
-    zs = map (merged range) ys
+    zs = map (merged_number range) ys
 
-    by_all : has_number range n ≡ false → (t : Bool) → has_number ys n ≡ t → merged zs n ≡ merged ys n
+    by_all : has_number range n ≡ false → (t : Bool) → has_number ys n ≡ t → merged_number zs n ≡ merged_number ys n
     by_all e true f =
-        let there : Has zs n = subst (Has zs) (not_merged range n e) (map_has (merged range) n ys f) in
+        let there : Has zs n = subst (Has zs) (not_merged range n e) (map_has (merged_number range) n ys f) in
         merged_in zs n there ∙ nested_least range ys n sub f ∙ sym (merged_in ys n f)
     by_all e false f = not_merged zs n (nested_none range ys n e f) ∙ sym (not_merged ys n f)
 
-    by_part : (t : Bool) → has_number range n ≡ t → merged zs (merged range n) ≡ merged ys n
+    by_part : (t : Bool) → has_number range n ≡ t → merged_number zs (merged_number range n) ≡ merged_number ys n
     by_part true e =
         let low = least_number range in
         let among : Has range low = has_least n range e in
-        let there : Has zs low = subst (Has zs) (merged_in range low among) (map_has (merged range) low ys (sub low among)) in
-        ap (merged zs) (merged_in range n e) ∙ merged_in zs low there ∙ nested_least range ys n sub (sub n e) ∙ sym (merged_in ys n (sub n e))
-    by_part false e = ap (merged zs) (not_merged range n e) ∙ by_all e (has_number ys n) refl
+        let there : Has zs low = subst (Has zs) (merged_in range low among) (map_has (merged_number range) low ys (sub low among)) in
+        ap (merged_number zs) (merged_in range n e) ∙ merged_in zs low there ∙ nested_least range ys n sub (sub n e) ∙ sym (merged_in ys n (sub n e))
+    by_part false e = ap (merged_number zs) (not_merged range n e) ∙ by_all e (has_number ys n) refl
 
 -- where a part's merge changes a number, that of all changes it
-nested_apart : (range ys : List ℕ) (n : ℕ) → ((m : ℕ) → Has range m → Has ys m) → (n == merged range n) ≡ false → (n == merged ys n) ≡ false
+nested_apart : (range ys : List ℕ) (n : ℕ) → ((m : ℕ) → Has range m → Has ys m) → (n == merged_number range n) ≡ false → (n == merged_number ys n) ≡ false
 nested_apart range ys n sub e = by_test (has_number range n) refl
   where
-    by_test : (t : Bool) → has_number range n ≡ t → (n == merged ys n) ≡ false
+    by_test : (t : Bool) → has_number range n ≡ t → (n == merged_number ys n) ≡ false
     by_test true f =
         let low = least_number range in
         let less = least_below n range f in
-        let is : merged range n ≡ low = merged_in range n f in
+        let is : merged_number range n ≡ low = merged_in range n f in
         let other : (n == low) ≡ false = ap (λ m. n == m) (sym is) ∙ e in
-        let all : merged ys n ≡ least_number ys = merged_in ys n (sub n f) in
+        let all : merged_number ys n ≡ least_number ys = merged_in ys n (sub n f) in
         let lower = least_below low ys (sub low (has_least n range f)) in
         let apart : (n == least_number ys) ≡ false = grind (arith, nat_tests, common_steps, less, other, lower) in
         ap (λ m. n == m) all ∙ apart
@@ -141,12 +141,12 @@ nested_apart range ys n sub e = by_test (has_number range n) refl
 -- ---- a merge of the middle of three parts
 
 abbrev outer : Manner → List Origin → Origin → Origin
-outer Unites ms o = cast (merged (numbers ms) o.cluster) 0 o
+outer Unites ms o = cast (merged_number (numbers ms) o.cluster) 0 o
 outer Marks ms o = o
 outer Keeps ms o = o
 
 abbrev inner : Manner → List Origin → Origin → Origin
-inner Unites ms o = cast (merged (numbers ms) o.cluster) 0 o
+inner Unites ms o = cast (merged_number (numbers ms) o.cluster) 0 o
 inner Marks ms o = added_outside 3 (least_number (numbers ms)) o
 inner Keeps ms o = o
 
@@ -158,13 +158,13 @@ slice_middle fs ms es =
     let count : length fs + length ms - length fs ≡ length ms = omega arith in
     ap (λ n. take n (drop (length fs) (fs ++ (ms ++ es)))) count ∙ ap (take (length ms)) (drop-append_seam fs (ms ++ es)) ∙ take-append_seam ms es
 
-stretch_middle : (fs ms es : List Origin) → stretch (length fs) (length fs + length ms) (numbers (fs ++ (ms ++ es))) ≡ numbers ms
+stretch_middle : (fs ms es : List Origin) → range_of (length fs) (length fs + length ms) (numbers (fs ++ (ms ++ es))) ≡ numbers ms
 stretch_middle fs ms es =
     let n : Origin → ℕ = λ o. o.cluster in
     let whole : numbers (fs ++ (ms ++ es)) ≡ numbers fs ++ (numbers ms ++ numbers es) = map-append n fs (ms ++ es) ∙ ap (λ ns. numbers fs ++ ns) (map-append n ms es) in
-    ap (stretch (length fs) (length fs + length ms)) whole
-    ∙ ap (λ i. stretch i (i + length ms) (numbers fs ++ (numbers ms ++ numbers es))) (sym (length-map fs n))
-    ∙ ap (λ i. stretch (length (numbers fs)) (length (numbers fs) + i) (numbers fs ++ (numbers ms ++ numbers es))) (sym (length-map ms n))
+    ap (range_of (length fs) (length fs + length ms)) whole
+    ∙ ap (λ i. range_of i (i + length ms) (numbers fs ++ (numbers ms ++ numbers es))) (sym (length-map fs n))
+    ∙ ap (λ i. range_of (length (numbers fs)) (length (numbers fs) + i) (numbers fs ++ (numbers ms ++ numbers es))) (sym (length-map ms n))
     ∙ slice_middle (numbers fs) (numbers ms) (numbers es)
 
 after_middle : {X : Type 0} (fs ms es : List X) → drop (max (length fs) (length fs + length ms)) (fs ++ (ms ++ es)) ≡ es
@@ -172,10 +172,10 @@ after_middle fs ms es =
     let last : max (length fs) (length fs + length ms) ≡ length fs + length ms = grind (arith, nat_tests, common_steps) in
     ap (λ n. drop n (fs ++ (ms ++ es))) last ∙ drop-append-add fs (ms ++ es) (length ms) ∙ drop-append_seam ms es
 
-middle_is : (m : Manner) (fs ms es : List Origin) → merged_as m (length fs) (length fs + length ms) (fs ++ (ms ++ es)) ≡ merged_middle m fs ms es
+middle_is : (m : Manner) (fs ms es : List Origin) → origins_merged_as m (length fs) (length fs + length ms) (fs ++ (ms ++ es)) ≡ merged_middle m fs ms es
 middle_is Unites fs ms es =
     let u : Origin → Origin = outer Unites ms in
-    ap (λ ns. map (λ (o : Origin). cast (merged ns o.cluster) 0 o) (fs ++ (ms ++ es))) (stretch_middle fs ms es) ∙ map-append u fs (ms ++ es) ∙ ap (λ os. map u fs ++ os) (map-append u ms es)
+    ap (λ ns. map (λ (o : Origin). cast (merged_number ns o.cluster) 0 o) (fs ++ (ms ++ es))) (stretch_middle fs ms es) ∙ map-append u fs (ms ++ es) ∙ ap (λ os. map u fs ++ os) (map-append u ms es)
 middle_is Marks fs ms es =
     let f : Origin → Origin = inner Marks ms in
     let i = length fs in
@@ -218,7 +218,7 @@ has_three xs ys zs n =
 has_swapped : (bs cs ds : List Origin) (n : ℕ) → has_number (numbers (cs ++ (bs ++ ds))) n ≡ has_number (numbers (bs ++ (cs ++ ds))) n
 has_swapped bs cs ds n = has_three cs bs ds n ∙ or_swapped (has_number (numbers cs) n) (has_number (numbers bs) n) (has_number (numbers ds) n) ∙ sym (has_three bs cs ds n)
 
-pub moved_middle : {X : Type 0} (fs bs cs ds es : List X) → moved (length fs) (length bs) (length cs) (fs ++ ((bs ++ (cs ++ ds)) ++ es)) ≡ fs ++ ((cs ++ (bs ++ ds)) ++ es)
+pub moved_middle : {X : Type 0} (fs bs cs ds es : List X) → with_range_moved (length fs) (length bs) (length cs) (fs ++ ((bs ++ (cs ++ ds)) ++ es)) ≡ fs ++ ((cs ++ (bs ++ ds)) ++ es)
 moved_middle fs bs cs ds es =
     let tail = cs ++ (ds ++ es) in
     let flat : fs ++ ((bs ++ (cs ++ ds)) ++ es) ≡ fs ++ (bs ++ tail) = ap (λ xs. fs ++ xs) (append_assoc bs (cs ++ ds) es) ∙ ap (λ xs. fs ++ (bs ++ xs)) (append_assoc cs ds es) in
@@ -228,7 +228,7 @@ moved_middle fs bs cs ds es =
     let at_n : drop (b + n) (fs ++ (bs ++ tail)) ≡ tail = drop-append-add fs (bs ++ tail) n ∙ drop-append_seam bs tail in
     let at_b : drop b (fs ++ (bs ++ tail)) ≡ bs ++ tail = drop-append_seam fs (bs ++ tail) in
     let last : drop (b + (n + k)) (fs ++ (bs ++ tail)) ≡ ds ++ es = drop-append-add fs (bs ++ tail) (n + k) ∙ drop-append-add bs tail k ∙ drop-append_seam cs (ds ++ es) in
-    ap (moved b n k) flat
+    ap (with_range_moved b n k) flat
     ∙ ap (λ xs. xs ++ (take k (drop (b + n) (fs ++ (bs ++ tail))) ++ take n (drop b (fs ++ (bs ++ tail)))) ++ drop (b + (n + k)) (fs ++ (bs ++ tail))) (take-append_seam fs (bs ++ tail))
     ∙ ap (λ xs. fs ++ (take k xs ++ take n (drop b (fs ++ (bs ++ tail)))) ++ drop (b + (n + k)) (fs ++ (bs ++ tail))) at_n
     ∙ ap (λ xs. fs ++ (xs ++ take n (drop b (fs ++ (bs ++ tail)))) ++ drop (b + (n + k)) (fs ++ (bs ++ tail))) (take-append_seam cs (ds ++ es))
@@ -247,15 +247,15 @@ map_three : {X Y : Type 0} (f : X → Y) (xs ys zs : List X) → map f (xs ++ (y
 map_three f xs ys zs = map-append f xs (ys ++ zs) ∙ ap (λ ws. map f xs ++ ws) (map-append f ys zs)
 
 merged_moved_middle : (m : Manner) (fs bs cs ds es : List Origin)
-    → merged_as m (length fs) (length fs + length (bs ++ (cs ++ ds))) (moved (length fs) (length bs) (length cs) (fs ++ ((bs ++ (cs ++ ds)) ++ es)))
-    ≡ moved (length fs) (length bs) (length cs) (merged_as m (length fs) (length fs + length (bs ++ (cs ++ ds))) (fs ++ ((bs ++ (cs ++ ds)) ++ es)))
+    → origins_merged_as m (length fs) (length fs + length (bs ++ (cs ++ ds))) (with_range_moved (length fs) (length bs) (length cs) (fs ++ ((bs ++ (cs ++ ds)) ++ es)))
+    ≡ with_range_moved (length fs) (length bs) (length cs) (origins_merged_as m (length fs) (length fs + length (bs ++ (cs ++ ds))) (fs ++ ((bs ++ (cs ++ ds)) ++ es)))
 merged_moved_middle m fs bs cs ds es =
     let ms = bs ++ (cs ++ ds) in
     let ns = cs ++ (bs ++ ds) in
     let f = outer m ms in
     let g = inner m ms in
-    let first : merged_as m (length fs) (length fs + length ms) (moved (length fs) (length bs) (length cs) (fs ++ (ms ++ es))) ≡ merged_middle m fs ns es =
-    ap (merged_as m (length fs) (length fs + length ms)) (moved_middle fs bs cs ds es) ∙ ap (λ j. merged_as m (length fs) (length fs + j) (fs ++ (ns ++ es))) (sym (swapped_length bs cs ds)) ∙ middle_is m fs ns es in
+    let first : origins_merged_as m (length fs) (length fs + length ms) (with_range_moved (length fs) (length bs) (length cs) (fs ++ (ms ++ es))) ≡ merged_middle m fs ns es =
+    ap (origins_merged_as m (length fs) (length fs + length ms)) (moved_middle fs bs cs ds es) ∙ ap (λ j. origins_merged_as m (length fs) (length fs + j) (fs ++ (ns ++ es))) (sym (swapped_length bs cs ds)) ∙ middle_is m fs ns es in
     let same : (n : ℕ) → has_number (numbers ns) n ≡ has_number (numbers ms) n = has_swapped bs cs ds in
     let out : (o : Origin) → outer m ns o ≡ outer m ms o = λ o. outer_alike m ns ms o same in
     let within : (o : Origin) → inner m ns o ≡ inner m ms o = λ o. inner_alike m ns ms o same in
@@ -263,14 +263,14 @@ merged_moved_middle m fs bs cs ds es =
     ap (λ xs. xs ++ (map (inner m ns) ns ++ map (outer m ns) es)) (map_alike (outer m ns) f fs out)
     ∙ ap (λ xs. map f fs ++ (xs ++ map (outer m ns) es)) (map_alike (inner m ns) g ns within ∙ map_three g cs bs ds)
     ∙ ap (λ xs. map f fs ++ ((map g cs ++ (map g bs ++ map g ds)) ++ xs)) (map_alike (outer m ns) f es out) in
-    let second : merged_as m (length fs) (length fs + length ms) (fs ++ (ms ++ es)) ≡ map f fs ++ ((map g bs ++ (map g cs ++ map g ds)) ++ map f es) =
+    let second : origins_merged_as m (length fs) (length fs + length ms) (fs ++ (ms ++ es)) ≡ map f fs ++ ((map g bs ++ (map g cs ++ map g ds)) ++ map f es) =
     middle_is m fs ms es ∙ ap (λ xs. map f fs ++ (xs ++ map f es)) (map_three g bs cs ds) in
-    let last : moved (length fs) (length bs) (length cs) (map f fs ++ ((map g bs ++ (map g cs ++ map g ds)) ++ map f es)) ≡ map f fs ++ ((map g cs ++ (map g bs ++ map g ds)) ++ map f es) =
-    ap (λ i. moved i (length bs) (length cs) (map f fs ++ ((map g bs ++ (map g cs ++ map g ds)) ++ map f es))) (sym (length-map fs f))
-    ∙ ap (λ i. moved (length (map f fs)) i (length cs) (map f fs ++ ((map g bs ++ (map g cs ++ map g ds)) ++ map f es))) (sym (length-map bs g))
-    ∙ ap (λ i. moved (length (map f fs)) (length (map g bs)) i (map f fs ++ ((map g bs ++ (map g cs ++ map g ds)) ++ map f es))) (sym (length-map cs g))
+    let last : with_range_moved (length fs) (length bs) (length cs) (map f fs ++ ((map g bs ++ (map g cs ++ map g ds)) ++ map f es)) ≡ map f fs ++ ((map g cs ++ (map g bs ++ map g ds)) ++ map f es) =
+    ap (λ i. with_range_moved i (length bs) (length cs) (map f fs ++ ((map g bs ++ (map g cs ++ map g ds)) ++ map f es))) (sym (length-map fs f))
+    ∙ ap (λ i. with_range_moved (length (map f fs)) i (length cs) (map f fs ++ ((map g bs ++ (map g cs ++ map g ds)) ++ map f es))) (sym (length-map bs g))
+    ∙ ap (λ i. with_range_moved (length (map f fs)) (length (map g bs)) i (map f fs ++ ((map g bs ++ (map g cs ++ map g ds)) ++ map f es))) (sym (length-map cs g))
     ∙ moved_middle (map f fs) (map g bs) (map g cs) (map g ds) (map f es) in
-    first ∙ alike ∙ sym last ∙ ap (moved (length fs) (length bs) (length cs)) (sym second)
+    first ∙ alike ∙ sym last ∙ ap (with_range_moved (length fs) (length bs) (length cs)) (sym second)
 
 cut_at : {X : Type 0} (i n : ℕ) (xs : List X) → drop i xs ≡ take n (drop i xs) ++ drop (i + n) xs
 cut_at i n xs = sym (take-append-drop n (drop i xs)) ∙ ap (λ ys. take n (drop i xs) ++ ys) (drop-drop n i xs)
@@ -285,7 +285,7 @@ parted b n k d xs =
     (cut_at b n xs ∙ ap (λ ys. bs ++ ys) (cut_at (b + n) k xs ∙ ap (λ ys. cs ++ ys) (cut_at (b + n + k) d xs)) ∙ ap (λ ys. bs ++ ys) (sym (append_assoc cs ds rest)) ∙ sym (append_assoc bs (cs ++ ds) rest))
 
 -- a merge of a range, within which something moved, and the move after the merge
-pub merged_moved : (m : Manner) (b n k c : ℕ) (os : List Origin) → b + (n + k) ≤ c → c ≤ length os → merged_as m b c (moved b n k os) ≡ moved b n k (merged_as m b c os)
+pub merged_moved : (m : Manner) (b n k c : ℕ) (os : List Origin) → b + (n + k) ≤ c → c ≤ length os → origins_merged_as m b c (with_range_moved b n k os) ≡ with_range_moved b n k (origins_merged_as m b c os)
 merged_moved m b n k c os le fits =
     let d = c - (b + n + k) in
     let fs = take b os in
@@ -299,7 +299,7 @@ merged_moved m b n k c os le fits =
     let g : length cs ≡ k = length-take-le k (drop (b + n) os) (omega (arith, le, fits, length-drop (b + n) os)) in
     let h : length ds ≡ d = length-take-le d (drop (b + n + k) os) (omega (arith, le, fits, length-drop (b + n + k) os)) in
     let total : length fs + length ms ≡ c = omega (arith, a, e, g, h, length-append bs (cs ++ ds), length-append cs ds, le) in
-    let P : ℕ → ℕ → ℕ → ℕ → List Origin → Type 0 = λ i x y j xs. merged_as m i j (moved i x y xs) ≡ moved i x y (merged_as m i j xs) in
+    let P : ℕ → ℕ → ℕ → ℕ → List Origin → Type 0 = λ i x y j xs. origins_merged_as m i j (with_range_moved i x y xs) ≡ with_range_moved i x y (origins_merged_as m i j xs) in
     let base : P (length fs) (length bs) (length cs) (length fs + length ms) (fs ++ (ms ++ es)) = merged_moved_middle m fs bs cs ds es in
     let one = subst (λ j. P (length fs) (length bs) (length cs) j (fs ++ (ms ++ es))) total base in
     let two = subst (λ i. P i (length bs) (length cs) c (fs ++ (ms ++ es))) a one in
@@ -324,11 +324,11 @@ cast_again m1 m o false e apart =
     by_test false f = refl
 
 cast_nested : (range ys : List ℕ) (o : Origin) → ((n : ℕ) → Has range n → Has ys n)
-    → cast (merged (map (merged range) ys) (cast (merged range o.cluster) 0 o).cluster) 0 (cast (merged range o.cluster) 0 o) ≡ cast (merged ys o.cluster) 0 o
+    → cast (merged_number (map (merged_number range) ys) (cast (merged_number range o.cluster) 0 o).cluster) 0 (cast (merged_number range o.cluster) 0 o) ≡ cast (merged_number ys o.cluster) 0 o
 cast_nested range ys o sub =
-    let m1 = merged range o.cluster in
-    let m = merged ys o.cluster in
-    ap (λ n. cast (merged (map (merged range) ys) n) 0 (cast m1 0 o)) (number_cast m1 0 o)
+    let m1 = merged_number range o.cluster in
+    let m = merged_number ys o.cluster in
+    ap (λ n. cast (merged_number (map (merged_number range) ys) n) 0 (cast m1 0 o)) (number_cast m1 0 o)
     ∙ ap (λ n. cast n 0 (cast m1 0 o)) (nested_number range ys o.cluster sub)
     ∙ cast_again m1 m o (o.cluster == m1) refl (nested_apart range ys o.cluster sub)
 
@@ -360,7 +360,7 @@ part_has ms gs n h = subst (λ ns. Has ns n) (sym (numbers_both ms gs)) (has_lef
 left_of : Manner → List Origin → List Origin → List Origin
 left_of m ms gs = map (inner m ms) ms ++ map (outer m ms) gs
 
-numbers_united : (ms gs : List Origin) → numbers (map (inner Unites ms) ms ++ map (outer Unites ms) gs) ≡ map (merged (numbers ms)) (numbers (ms ++ gs))
+numbers_united : (ms gs : List Origin) → numbers (map (inner Unites ms) ms ++ map (outer Unites ms) gs) ≡ map (merged_number (numbers ms)) (numbers (ms ++ gs))
 numbers_united ms gs = ap numbers (sym (map-append (outer Unites ms) ms gs)) ∙ numbers_merged (numbers ms) (ms ++ gs)
 
 numbers_left : (ms gs : List Origin) → numbers (map (inner Marks ms) ms ++ map (outer Marks ms) gs) ≡ numbers (ms ++ gs)
@@ -370,8 +370,8 @@ numbers_left ms gs =
 
 outer_again : (m : Manner) (ms gs : List Origin) (o : Origin) → outer m (map (inner m ms) ms ++ map (outer m ms) gs) (outer m ms o) ≡ outer m (ms ++ gs) o
 outer_again Unites ms gs o =
-    let moved_to = cast (merged (numbers ms) o.cluster) 0 o in
-    ap (λ ns. cast (merged ns moved_to.cluster) 0 moved_to) (numbers_united ms gs) ∙ cast_nested (numbers ms) (numbers (ms ++ gs)) o (part_has ms gs)
+    let moved_to = cast (merged_number (numbers ms) o.cluster) 0 o in
+    ap (λ ns. cast (merged_number ns moved_to.cluster) 0 moved_to) (numbers_united ms gs) ∙ cast_nested (numbers ms) (numbers (ms ++ gs)) o (part_has ms gs)
 outer_again Marks ms gs o = refl
 outer_again Keeps ms gs o = refl
 
@@ -390,19 +390,19 @@ inner_again Marks ms gs o h =
 inner_again Keeps ms gs o h = refl
 
 merged_again_middle : (m : Manner) (fs ms gs es : List Origin)
-    → merged_as m (length fs) (length fs + length (ms ++ gs)) (merged_as m (length fs) (length fs + length ms) (fs ++ ((ms ++ gs) ++ es)))
-    ≡ merged_as m (length fs) (length fs + length (ms ++ gs)) (fs ++ ((ms ++ gs) ++ es))
+    → origins_merged_as m (length fs) (length fs + length (ms ++ gs)) (origins_merged_as m (length fs) (length fs + length ms) (fs ++ ((ms ++ gs) ++ es)))
+    ≡ origins_merged_as m (length fs) (length fs + length (ms ++ gs)) (fs ++ ((ms ++ gs) ++ es))
 merged_again_middle m fs ms gs es =
     let f = outer m ms in
     let g = inner m ms in
     let ws = map g ms ++ map f gs in
-    let first : merged_as m (length fs) (length fs + length ms) (fs ++ ((ms ++ gs) ++ es)) ≡ map f fs ++ (ws ++ map f es) =
-    ap (λ xs. merged_as m (length fs) (length fs + length ms) (fs ++ xs)) (append_assoc ms gs es) ∙ middle_is m fs ms (gs ++ es)
+    let first : origins_merged_as m (length fs) (length fs + length ms) (fs ++ ((ms ++ gs) ++ es)) ≡ map f fs ++ (ws ++ map f es) =
+    ap (λ xs. origins_merged_as m (length fs) (length fs + length ms) (fs ++ xs)) (append_assoc ms gs es) ∙ middle_is m fs ms (gs ++ es)
     ∙ ap (λ xs. map f fs ++ (map g ms ++ xs)) (map-append f gs es) ∙ ap (λ xs. map f fs ++ xs) (sym (append_assoc (map g ms) (map f gs) (map f es))) in
     let count : length ws ≡ length (ms ++ gs) = omega (arith, length-append (map g ms) (map f gs), length-append ms gs, length-map ms g, length-map gs f) in
-    let second : merged_as m (length fs) (length fs + length (ms ++ gs)) (map f fs ++ (ws ++ map f es)) ≡ merged_middle m (map f fs) ws (map f es) =
-    ap (λ i. merged_as m i (i + length (ms ++ gs)) (map f fs ++ (ws ++ map f es))) (sym (length-map fs f))
-    ∙ ap (λ i. merged_as m (length (map f fs)) (length (map f fs) + i) (map f fs ++ (ws ++ map f es))) (sym count)
+    let second : origins_merged_as m (length fs) (length fs + length (ms ++ gs)) (map f fs ++ (ws ++ map f es)) ≡ merged_middle m (map f fs) ws (map f es) =
+    ap (λ i. origins_merged_as m i (i + length (ms ++ gs)) (map f fs ++ (ws ++ map f es))) (sym (length-map fs f))
+    ∙ ap (λ i. origins_merged_as m (length (map f fs)) (length (map f fs) + i) (map f fs ++ (ws ++ map f es))) (sym count)
     ∙ middle_is m (map f fs) ws (map f es) in
     let fronts : map (outer m ws) (map f fs) ≡ map (outer m (ms ++ gs)) fs = map_both f (outer m ws) (outer m (ms ++ gs)) fs (outer_again m ms gs) in
     let backs : map (outer m ws) (map f es) ≡ map (outer m (ms ++ gs)) es = map_both f (outer m ws) (outer m (ms ++ gs)) es (outer_again m ms gs) in
@@ -411,7 +411,7 @@ merged_again_middle m fs ms gs es =
     ∙ ap (λ xs. xs ++ map (inner m ws) (map f gs)) (map_both_among g (inner m ws) (inner m (ms ++ gs)) ms (inner_again m ms gs))
     ∙ ap (λ xs. map (inner m (ms ++ gs)) ms ++ xs) (map_both f (inner m ws) (inner m (ms ++ gs)) gs (inner_outer_again m ms gs))
     ∙ sym (map-append (inner m (ms ++ gs)) ms gs) in
-    ap (merged_as m (length fs) (length fs + length (ms ++ gs))) first ∙ second
+    ap (origins_merged_as m (length fs) (length fs + length (ms ++ gs))) first ∙ second
     ∙ ap (λ xs. xs ++ (map (inner m ws) ws ++ map (outer m ws) (map f es))) fronts
     ∙ ap (λ xs. map (outer m (ms ++ gs)) fs ++ (xs ++ map (outer m ws) (map f es))) within
     ∙ ap (λ xs. map (outer m (ms ++ gs)) fs ++ (map (inner m (ms ++ gs)) (ms ++ gs) ++ xs)) backs
@@ -424,7 +424,7 @@ parted_twice b n k xs =
     (cut_at b n xs ∙ ap (λ ys. bs ++ ys) (cut_at (b + n) k xs) ∙ sym (append_assoc bs (take k (drop (b + n) xs)) (drop (b + n + k) xs)))
 
 -- a merge of a range, and then of one that is as long or longer, is that of the longer
-pub merged_again : (m : Manner) (b n k : ℕ) (os : List Origin) → n ≤ k → b + k ≤ length os → merged_as m b (b + k) (merged_as m b (b + n) os) ≡ merged_as m b (b + k) os
+pub merged_again : (m : Manner) (b n k : ℕ) (os : List Origin) → n ≤ k → b + k ≤ length os → origins_merged_as m b (b + k) (origins_merged_as m b (b + n) os) ≡ origins_merged_as m b (b + k) os
 merged_again m b n k os le fits =
     let d = k - n in
     let fs = take b os in
@@ -435,7 +435,7 @@ merged_again m b n k os le fits =
     let e : length ms ≡ n = length-take-le n (drop b os) (omega (arith, le, fits, length-drop b os)) in
     let g : length gs ≡ d = length-take-le d (drop (b + n) os) (omega (arith, le, fits, length-drop (b + n) os)) in
     let total : length (ms ++ gs) ≡ k = omega (arith, e, g, length-append ms gs, le) in
-    let P : ℕ → ℕ → ℕ → List Origin → Type 0 = λ i x y xs. merged_as m i (i + y) (merged_as m i (i + x) xs) ≡ merged_as m i (i + y) xs in
+    let P : ℕ → ℕ → ℕ → List Origin → Type 0 = λ i x y xs. origins_merged_as m i (i + y) (origins_merged_as m i (i + x) xs) ≡ origins_merged_as m i (i + y) xs in
     let base : P (length fs) (length ms) (length (ms ++ gs)) (fs ++ ((ms ++ gs) ++ es)) = merged_again_middle m fs ms gs es in
     let one = subst (λ y. P (length fs) (length ms) y (fs ++ ((ms ++ gs) ++ es))) total base in
     let two = subst (λ i. P i (length ms) k (fs ++ ((ms ++ gs) ++ es))) a one in
@@ -444,11 +444,11 @@ merged_again m b n k os le fits =
 
 -- ---- moves to one index, each of a range as long as those before it or longer
 
-merged_length : (m : Manner) (from to : ℕ) (os : List Origin) → length (merged_as m from to os) ≡ length os
-merged_length Unites from to os = length-map os (λ (o : Origin). cast (merged (stretch from to (numbers os)) o.cluster) 0 o)
+merged_length : (m : Manner) (from to : ℕ) (os : List Origin) → length (origins_merged_as m from to os) ≡ length os
+merged_length Unites from to os = length-map os (λ (o : Origin). cast (merged_number (range_of from to (numbers os)) o.cluster) 0 o)
 merged_length Marks from to os =
     let n : Origin → ℕ = λ o. o.cluster in
-    sym (length-map (merged_as Marks from to os) n) ∙ ap length (numbers_marked 3 from to os) ∙ length-map os n
+    sym (length-map (origins_merged_as Marks from to os) n) ∙ ap length (numbers_marked 3 from to os) ∙ length-map os n
 merged_length Keeps from to os = refl
 
 pub reach_grows : (n : ℕ) (ms : List FrontMove) → IsGrowing n ms → n ≤ reach n ms
@@ -456,7 +456,7 @@ reach_grows n [] g = omega arith
 reach_grows n (m ∷ ms) g = let rest = reach_grows (m.passed + m.taken) ms g.1 in let first = g.0 in omega (arith, first, rest)
 
 moves_after : (asks : Asks) (level : BufferClusterLevel) (b n : ℕ) (ms : List FrontMove) (os : List Origin) → IsGrowing n ms → b + reach n ms ≤ length os
-    → origins_after asks level (move_events b ms) (merged_as (manner InList level) b (b + n) os) ≡ all_moved b ms (merged_as (manner InList level) b (b + reach n ms) os)
+    → origins_after asks level (move_events b ms) (origins_merged_as (manner InList level) b (b + n) os) ≡ all_moved b ms (origins_merged_as (manner InList level) b (b + reach n ms) os)
 moves_after asks level b n [] os g fits = refl
 moves_after asks level b n (m ∷ ms) os g fits =
     let how = manner InList level in
@@ -468,11 +468,11 @@ moves_after asks level b n (m ∷ ms) os g fits =
     let inside : b + (p + t) ≤ length os = omega (arith, up, fits) in
     let order = order_of_move p t in
     let long = order_long p t in
-    let swapped = moved b p t os in
-    let event : arranged b order (merged_as how b (b + length order) (merged_as how b (b + n) os)) ≡ merged_as how b (b + r) swapped =
-    ap (λ j. arranged b order (merged_as how b (b + j) (merged_as how b (b + n) os))) long
-    ∙ ap (arranged b order) (merged_again how b n r os g.0 inside)
-    ∙ arranged_moved b p t (merged_as how b (b + r) os) (omega (arith, inside, merged_length how b (b + r) os))
+    let swapped = with_range_moved b p t os in
+    let event : with_range_arranged b order (origins_merged_as how b (b + length order) (origins_merged_as how b (b + n) os)) ≡ origins_merged_as how b (b + r) swapped =
+    ap (λ j. with_range_arranged b order (origins_merged_as how b (b + j) (origins_merged_as how b (b + n) os))) long
+    ∙ ap (with_range_arranged b order) (merged_again how b n r os g.0 inside)
+    ∙ arranged_moved b p t (origins_merged_as how b (b + r) os) (omega (arith, inside, merged_length how b (b + r) os))
     ∙ sym (merged_moved how b p t (b + r) os (omega arith) inside) in
     let size = moved_length b p t os inside in
     ap (origins_after asks level (move_events b ms)) event
@@ -487,4 +487,4 @@ moves_merge_once asks level b ms os g fits =
 -- what is seen of elements that moved
 pub all_moved_seen : {X Y : Type 0} (f : X → Y) (b : ℕ) (ms : List FrontMove) (xs : List X) → map f (all_moved b ms xs) ≡ all_moved b ms (map f xs)
 all_moved_seen f b [] xs = refl
-all_moved_seen f b (m ∷ ms) xs = all_moved_seen f b ms (moved b m.passed m.taken xs) ∙ ap (all_moved b ms) (moved_seen f b m.passed m.taken xs)
+all_moved_seen f b (m ∷ ms) xs = all_moved_seen f b ms (with_range_moved b m.passed m.taken xs) ∙ ap (all_moved b ms) (moved_seen f b m.passed m.taken xs)

@@ -13,8 +13,8 @@ use Rattle.buffer_lists.specs.Known.{HasOrder}
 use Rattle.buffer_core.specs.Sides.{Sides, all_glyphs}
 use Rattle.buffer_core.specs.Lending.{with_refilled}
 use Rattle.buffer_stages.specs.Lemmas.Written.{written_all}
-use Rattle.buffer_stages.specs.Moves.{FrontMove, IsGrowing, all_moved, are_one_cluster, moved, reach}
-use Rattle.buffer_stages.specs.Lemmas.Moved.{moved_seen, take_both}
+use Rattle.buffer_stages.specs.Moves.{FrontMove, IsGrowing, all_moved, are_one_cluster, with_range_moved, reach}
+use Rattle.buffer_stages.specs.Lemmas.Moves.{moved_seen, take_both}
 use Rattle.buffer_stages.specs.Lemmas.Nested.{all_moved_seen, reach_grows}
 
 -- such a number after so many of it
@@ -38,7 +38,7 @@ both_all p ms ns e =
     (grind (arith, common_steps, both), grind (arith, common_steps, both))
 
 -- numbers that are all the same
-numbers_moved : (c start n k : ℕ) (ns : List ℕ) → list_all (λ m. m == c) (take (n + k) (drop start ns)) ≡ true → moved start n k ns ≡ ns
+numbers_moved : (c start n k : ℕ) (ns : List ℕ) → list_all (λ m. m == c) (take (n + k) (drop start ns)) ≡ true → with_range_moved start n k ns ≡ ns
 numbers_moved c start n k ns e =
     let ms = drop start ns in
     let both = both_all (λ m. m == c) (take n ms) (take k (drop n ms)) (ap (list_all (λ m. m == c)) (sym (take_both n k ms)) ∙ e) in
@@ -53,7 +53,7 @@ one_all (g ∷ gs) e k =
     k g.cluster (rw self (list_all-map (λ n. n == g.cluster) cluster_of gs ∙ e))
 
 -- glyphs of one cluster that changed places
-pub clusters_moved : (start n k : ℕ) (gs : List hb_glyph_info_t) → are_one_cluster (take (n + k) (drop start gs)) ≡ true → clusters (moved start n k gs) ≡ clusters gs
+pub clusters_moved : (start n k : ℕ) (gs : List hb_glyph_info_t) → are_one_cluster (take (n + k) (drop start gs)) ≡ true → clusters (with_range_moved start n k gs) ≡ clusters gs
 clusters_moved start n k gs e =
     let cluster_of : hb_glyph_info_t → ℕ = λ g. g.cluster in
     one_all (take (n + k) (drop start gs)) e (λ c all.
@@ -93,23 +93,23 @@ as_many c (m ∷ ms) (n ∷ ns) a b e =
 
 -- glyphs of one cluster instead of as many, of which the same order is known
 pub clusters_among : (gs hs : List hb_glyph_info_t) → are_one_cluster gs ≡ true → length hs ≡ length gs → ((p : hb_glyph_info_t → Bool) → list_all p gs ≡ true → list_all p hs ≡ true) → clusters hs ≡ clusters gs
-clusters_among gs hs one many told =
+clusters_among gs hs one many scratch_flags =
     let cluster_of : hb_glyph_info_t → ℕ = λ g. g.cluster in
     one_all gs one (λ c all.
     let is_c : ℕ → Bool = λ n. n == c in
     let ours : list_all (λ g. is_c (cluster_of g)) gs ≡ true = sym (list_all-map is_c cluster_of gs) ∙ all in
-    let theirs : list_all is_c (clusters hs) ≡ true = list_all-map is_c cluster_of hs ∙ told (λ g. is_c (cluster_of g)) ours in
+    let theirs : list_all is_c (clusters hs) ≡ true = list_all-map is_c cluster_of hs ∙ scratch_flags (λ g. is_c (cluster_of g)) ours in
     as_many c (clusters hs) (clusters gs) theirs all (length-map hs cluster_of ∙ many ∙ sym (length-map gs cluster_of)))
 
 -- what is known of glyphs of which a range of the output changes places, if it is of one cluster
 pub order_moved_behind : (o p : KnownOrder) (is_one : Bool) (start end : ℕ) (gs hs : List hb_glyph_info_t) → ((old new : List ℕ) → ((falls : Bool) → is_one ≡ true → IsInOrder falls old → IsInOrder falls new) → HasOrder o old → HasOrder p new)
-    → is_one ≡ are_one_cluster (slice_range gs start end) → HasOrder o (clusters (gs ++ hs)) → (n k : ℕ) → start + (n + k) ≡ end → HasOrder p (clusters (moved start n k gs ++ hs))
+    → is_one ≡ are_one_cluster (slice_range gs start end) → HasOrder o (clusters (gs ++ hs)) → (n k : ℕ) → start + (n + k) ≡ end → HasOrder p (clusters (with_range_moved start n k gs ++ hs))
 order_moved_behind o p is_one start end gs hs kept one h n k at =
     let cluster_of : hb_glyph_info_t → ℕ = λ g. g.cluster in
     let wide : n + k ≡ end - start = omega (arith, at) in
-    kept (clusters (gs ++ hs)) (clusters (moved start n k gs ++ hs)) (λ falls is_one h.
+    kept (clusters (gs ++ hs)) (clusters (with_range_moved start n k gs ++ hs)) (λ falls is_one h.
     let same : are_one_cluster (take (n + k) (drop start gs)) ≡ true = ap (λ m. are_one_cluster (take m (drop start gs))) wide ∙ sym one ∙ is_one in
-    let all : clusters (moved start n k gs ++ hs) ≡ clusters (gs ++ hs) = map-append cluster_of (moved start n k gs) hs ∙ ap (λ ns. ns ++ clusters hs) (clusters_moved start n k gs same) ∙ sym (map-append cluster_of gs hs) in
+    let all : clusters (with_range_moved start n k gs ++ hs) ≡ clusters (gs ++ hs) = map-append cluster_of (with_range_moved start n k gs) hs ∙ ap (λ ns. ns ++ clusters hs) (clusters_moved start n k gs same) ∙ sym (map-append cluster_of gs hs) in
     subst (IsInOrder falls) (sym all) h) h
 
 -- glyphs whose clusters are as they were

@@ -11,7 +11,7 @@ use Rattle.buffer_glyphs.specs.Items.{Item, clusters, item_of, strip, without_fl
 use Rattle.buffer_glyphs.specs.Levels.{InList}
 use Rattle.buffer_glyphs.specs.Events.{Move}
 use Rattle.buffer_glyphs.specs.Origins.{origins, origin_of}
-use Rattle.buffer_core.specs.Readings.{Run, always}
+use Rattle.buffer_core.specs.Readings.{BufferState, always}
 use Rattle.buffer_lists.specs.declared.order.KnownOrder.{KnownOrder}
 use Rattle.buffer_lists.specs.Known.{HasOrder}
 use Rattle.buffer_core.specs.Sides.{Sides, all_glyphs, items_of, origins_of, origins_by, view_of}
@@ -19,11 +19,12 @@ use Rattle.buffer_core.specs.Lending.{with_refilled}
 use Rattle.buffer_stages.specs.Ready.{IsReady}
 use Rattle.buffer_stages.specs.Stages.{IsFollowed}
 use Rattle.buffer_stages.specs.Lemmas.Written.{written_all, written_ready}
-use Rattle.buffer_stages.specs.Moves.{moved, order_of_move, with_move}
+use Rattle.buffer_stages.specs.Moves.{with_range_moved, order_of_move, with_move}
 use Rattle.buffer_stages.specs.Lemmas.Ordered.{order_written}
-use Rattle.buffer_stages.specs.Rewriting.{Rewritten, kept, shifted, within}
+use Rattle.buffer_glyphs.specs.Rewriting.{Arrangement, eventless_arrangement, shifted_event}
+use Rattle.buffer_stages.specs.Rewriting.{within}
 use Rattle.buffer_stages.specs.SyllableBuffers.{IsRewritten}
-use Rattle.buffer_stages.specs.Parts.{masked, glyph_masked, masked_all, first_to_back}
+use Rattle.buffer_stages.specs.Parts.{item_with_features, glyph_masked, items_with_features, first_to_back}
 use Rattle.buffer_stages.specs.Lemmas.Shifts.{shift_events}
 use Rattle.buffer_stages.specs.Lemmas.Rewritings.{whole_cut}
 
@@ -60,7 +61,7 @@ back_part start end to xs le fits =
 five : {X : Type 0} (ws bs cs ds es : List X) → ws ++ bs ++ cs ++ (ds ++ es) ≡ ws ++ (bs ++ cs ++ ds) ++ es
 five ws bs cs ds es = simp append_assoc
 
-pub rewritten_within : (rule : List Item → Rewritten) (start end from to : ℕ) (a b : Sides) → from ≤ to → start + to ≤ end → end ≤ length (items_of a)
+pub rewritten_within : (rule : List Item → Arrangement) (start end from to : ℕ) (a b : Sides) → from ≤ to → start + to ≤ end → end ≤ length (items_of a)
     → IsRewritten (rule (slice_range (items_of a) (start + from) (start + to))) (start + from) (start + to) a b
     → IsRewritten (within from to rule (slice_range (items_of a) start end)) start end a b
 rewritten_within rule start end from to a b le last fits f =
@@ -68,7 +69,7 @@ rewritten_within rule start end from to a b le last fits f =
     let part = slice_range xs start end in
     let r = rule (slice_range xs (start + from) (start + to)) in
     let same : rule (slice_range part from to) ≡ r = ap rule (range_within start end from to xs le last) in
-    let P : Rewritten → Type 0 = λ q. IsRewritten (record { items = take from part ++ q.items ++ drop to part; events = map (shifted from) q.events }) start end a b in
+    let P : Arrangement → Type 0 = λ q. IsRewritten (record { items = take from part ++ q.items ++ drop to part; events = map (shifted_event from) q.events }) start end a b in
     subst P (sym same) (record {
       view = f.view ∙ ap (λ ys. record (view_of a) { items = ys }) (ap (λ ys. ys ++ r.items ++ drop (start + to) xs) (front_part start end from xs (omega (arith, le, last))) ∙ ap (λ ys. take start xs ++ take from part ++ r.items ++ ys) (back_part start end to xs last fits) ∙ five (take start xs) (take from part) r.items (drop to part) (drop end xs));
       origins = f.origins ∙ ap (λ es. origins_by es a) (sym (shift_events start from r.events));
@@ -77,7 +78,7 @@ rewritten_within rule start end from to a b le last fits f =
     })
 
 -- a part whose ends are told as indices of the list
-pub rewritten_part : (rule : List Item → Rewritten) (start end from to p q : ℕ) (a b : Sides) → p ≡ start + from → q ≡ start + to → from ≤ to → start + to ≤ end → end ≤ length (items_of a)
+pub rewritten_part : (rule : List Item → Arrangement) (start end from to p q : ℕ) (a b : Sides) → p ≡ start + from → q ≡ start + to → from ≤ to → start + to ≤ end → end ≤ length (items_of a)
     → IsRewritten (rule (slice_range (items_of a) p q)) p q a b → IsRewritten (within from to rule (slice_range (items_of a) start end)) start end a b
 rewritten_part rule start end from to p q a b at last le inside fits f =
     let P : ℕ → Type 0 = λ n. IsRewritten (rule (slice_range (items_of a) n q)) n q a b in
@@ -87,7 +88,7 @@ rewritten_part rule start end from to p q a b at last le inside fits f =
 -- ---- lengths
 
 -- a rule that keeps the length of each list does so for a part
-pub within_size : (rule : List Item → Rewritten) (from to : ℕ) (xs : List Item) → ((ys : List Item) → length (rule ys).items ≡ length ys) → from ≤ to → to ≤ length xs
+pub within_size : (rule : List Item → Arrangement) (from to : ℕ) (xs : List Item) → ((ys : List Item) → length (rule ys).items ≡ length ys) → from ≤ to → to ≤ length xs
     → length (within from to rule xs).items ≡ length xs
 within_size rule from to xs keeps le fits =
     let part = slice_range xs from to in
@@ -95,8 +96,8 @@ within_size rule from to xs keeps le fits =
     let b = length-append (take from xs) (rule part).items in
     omega (arith, a, b, keeps part, range_size from to xs le fits, le, fits, length-take-le from xs (omega (arith, le, fits)), length-drop to xs)
 
-pub masked_size : (bits : ℕ) (xs : List Item) → length (masked_all bits xs).items ≡ length xs
-masked_size bits xs = length-map xs (masked bits)
+pub masked_size : (bits : ℕ) (xs : List Item) → length (items_with_features bits xs).items ≡ length xs
+masked_size bits xs = length-map xs (item_with_features bits)
 
 -- of a list that is cut in two, both parts
 both_parts : {X : Type 0} (n : ℕ) (xs : List X) → length (drop n xs ++ take n xs) ≡ length xs
@@ -111,7 +112,7 @@ moved_size n xs = both_parts n xs
 
 -- a move of a range is one of its part of the list
 pub moved_range : {X : Type 0} (start end n : ℕ) (xs : List X) → start + n ≤ end → end ≤ length xs
-    → moved start n (end - start - n) xs ≡ take start xs ++ (drop n (slice_range xs start end) ++ take n (slice_range xs start end)) ++ drop end xs
+    → with_range_moved start n (end - start - n) xs ≡ take start xs ++ (drop n (slice_range xs start end) ++ take n (slice_range xs start end)) ++ drop end xs
 moved_range start end n xs le fits =
     let last : start + (n + (end - start - n)) ≡ end = omega (arith, le) in
     let total : end - start ≡ n + (end - start - n) = omega (arith, le) in
@@ -133,8 +134,8 @@ move_rewrites start end n middle a b at le fits f =
     let size : length (slice_range (items_of a) start end) ≡ end - start = range_size start end (items_of a) (omega (arith, le)) fits in
     let none : start + 0 ≡ start = omega arith in
     record {
-      view = ap (λ (r : Run). r.view) g.follows ∙ ap (λ xs. record (view_of a) { items = xs }) (moved_range start end n (items_of a) le fits);
-      origins = ap (λ (r : Run). r.origins) g.follows
+      view = ap (λ (r : BufferState). r.view) g.follows ∙ ap (λ xs. record (view_of a) { items = xs }) (moved_range start end n (items_of a) le fits);
+      origins = ap (λ (r : BufferState). r.origins) g.follows
           ∙ ap (λ i. origins_by (Move InList i (order_of_move n (end - start - n)) ∷ []) a) (sym none)
           ∙ ap (λ m. origins_by (Move InList (start + 0) (order_of_move n (m - n)) ∷ []) a) (sym size);
       settings = g.settings;
@@ -166,13 +167,13 @@ flags_again m bits =
     let none : bit_and (without_flags bits) 7 ≡ 0 = and_mask (without_flags bits) 3 ∙ omega (arith, put) in
     and_or_apart 7 m (without_flags bits) none
 
-pub item_masked_is : (bits : ℕ) (g : hb_glyph_info_t) → item_of (glyph_masked bits g) ≡ masked bits (item_of g)
+pub item_masked_is : (bits : ℕ) (g : hb_glyph_info_t) → item_of (glyph_masked bits g) ≡ item_with_features bits (item_of g)
 item_masked_is bits g = rw (without_again g.mask bits) refl
 
 pub origin_masked_is : (bits : ℕ) (g : hb_glyph_info_t) → origin_of (glyph_masked bits g) ≡ origin_of g
 origin_masked_is bits g = rw (flags_again g.mask bits) refl
 
-items_masked : (bits : ℕ) (gs : List hb_glyph_info_t) → strip (map (glyph_masked bits) gs) ≡ map (masked bits) (strip gs)
+items_masked : (bits : ℕ) (gs : List hb_glyph_info_t) → strip (map (glyph_masked bits) gs) ≡ map (item_with_features bits) (strip gs)
 items_masked bits [] = refl
 items_masked bits (g ∷ gs) = rw (without_again g.mask bits, items_masked bits gs) refl
 
@@ -196,7 +197,7 @@ between from to xs ys le inside len =
 
 pub part_written : (from to : ℕ) (ys : List Item) (hs gs : List hb_glyph_info_t) (a : Sides) → IsReady a → from ≤ to → to ≤ length (all_glyphs a)
     → gs ≡ take from (all_glyphs a) ++ hs ++ drop to (all_glyphs a) → strip hs ≡ ys → origins hs ≡ origins (slice_range (all_glyphs a) from to)
-    → IsRewritten (kept ys) from to a (with_refilled gs a)
+    → IsRewritten (eventless_arrangement ys) from to a (with_refilled gs a)
 part_written from to ys hs gs a ready le fits e items from_where =
     let range = slice_range (all_glyphs a) from to in
     let count : length hs ≡ to - from = sym (length-map hs origin_of) ∙ ap length from_where ∙ length-map range origin_of ∙ range_size from to (all_glyphs a) le fits in
@@ -211,11 +212,11 @@ part_written from to ys hs gs a ready le fits e items from_where =
 
 pub mask_rewrites : (from to bits : ℕ) (gs : List hb_glyph_info_t) (a : Sides) → IsReady a → from ≤ to → to ≤ length (all_glyphs a)
     → gs ≡ take from (all_glyphs a) ++ map (glyph_masked bits) (slice_range (all_glyphs a) from to) ++ drop to (all_glyphs a)
-    → IsRewritten (masked_all bits (slice_range (items_of a) from to)) from to a (with_refilled gs a)
+    → IsRewritten (items_with_features bits (slice_range (items_of a) from to)) from to a (with_refilled gs a)
 mask_rewrites from to bits gs a ready le fits e =
     let range = slice_range (all_glyphs a) from to in
-    part_written from to (map (masked bits) (slice_range (items_of a) from to)) (map (glyph_masked bits) range) gs a ready le fits e
-    (items_masked bits range ∙ ap (map (masked bits)) (range_seen item_of from to (all_glyphs a))) (origins_masked bits range)
+    part_written from to (map (item_with_features bits) (slice_range (items_of a) from to)) (map (glyph_masked bits) range) gs a ready le fits e
+    (items_masked bits range ∙ ap (map (item_with_features bits)) (range_seen item_of from to (all_glyphs a))) (origins_masked bits range)
 
 -- ---- what is known of the order of clusters
 

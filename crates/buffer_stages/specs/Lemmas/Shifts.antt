@@ -1,12 +1,12 @@
 -- Events by indices that are counted from further back.
 use Rattle.std.proofs.Common.{ℕ, ◌≡◌, ◌+◌, List, [], ◌∷◌, map, refl, arith}
 use Rattle.buffer_glyphs.specs.Events.{Event, Merge, Replace, Circle, Delete, Move, Arrange, Sort, Reverse, Break, Concat, Tatweel, Spread, Reset}
-use Rattle.buffer_stages.specs.Rewriting.{shifted}
+use Rattle.buffer_glyphs.specs.Rewriting.{shifted_event}
 
 further : (n m i : ℕ) → n + (m + i) ≡ n + m + i
 further n m i = omega arith
 
-shift_event : (n m : ℕ) (e : Event) → shifted n (shifted m e) ≡ shifted (n + m) e
+shift_event : (n m : ℕ) (e : Event) → shifted_event n (shifted_event m e) ≡ shifted_event (n + m) e
 shift_event n m (Merge how from to) = rw (further n m from, further n m to) refl
 shift_event n m (Replace at taken given) = rw (further n m at) refl
 shift_event n m (Circle after beside like) = rw (further n m beside, further n m like) refl
@@ -22,14 +22,14 @@ shift_event n m Spread = refl
 shift_event n m Reset = refl
 
 -- counted from further back twice is once by both
-pub shift_events : (n m : ℕ) (es : List Event) → map (shifted n) (map (shifted m) es) ≡ map (shifted (n + m)) es
+pub shift_events : (n m : ℕ) (es : List Event) → map (shifted_event n) (map (shifted_event m) es) ≡ map (shifted_event (n + m)) es
 shift_events n m [] = refl
 shift_events n m (e ∷ es) = rw (shift_event n m e, shift_events n m es) refl
 
 none_more : (n : ℕ) → 0 + n ≡ n
 none_more n = omega arith
 
-shift_by_none : (e : Event) → shifted 0 e ≡ e
+shift_by_none : (e : Event) → shifted_event 0 e ≡ e
 shift_by_none (Merge how from to) = rw (none_more from, none_more to) refl
 shift_by_none (Replace at taken given) = rw (none_more at) refl
 shift_by_none (Circle after beside like) = rw (none_more beside, none_more like) refl
@@ -44,6 +44,6 @@ shift_by_none (Tatweel from to) = rw (none_more from, none_more to) refl
 shift_by_none Spread = refl
 shift_by_none Reset = refl
 
-pub shift_none : (es : List Event) → map (shifted 0) es ≡ es
+pub shift_none : (es : List Event) → map (shifted_event 0) es ≡ es
 shift_none [] = refl
 shift_none (e ∷ es) = rw (shift_by_none e, shift_none es) refl

@@ -8,22 +8,22 @@ use Rattle.buffer_glyphs.specs.Events.{Event, origins_after}
 use Rattle.buffer_glyphs.specs.Origins.{origins}
 use Rattle.buffer_core.specs.Readings.{Read, View, Stage, always, with_events, Follows}
 use Rattle.buffer_core.specs.Steps.{follows_events}
-use Rattle.buffer_core.specs.Sides.{Sides, all_glyphs, asks_of, items_of, origins_by, origins_of, view_of, run_of, Settings, settings_of}
-use Rattle.buffer_core.specs.Lending.{refilled, with_refilled, with_positions_refilled}
+use Rattle.buffer_core.specs.Sides.{Sides, all_glyphs, flag_requests_of, items_of, origins_by, origins_of, view_of, state_of, Settings, settings_of}
+use Rattle.buffer_core.specs.Lending.{refilled_list, with_refilled, with_positions_refilled}
 use Rattle.buffer_stages.specs.Ready.{IsReady}
-use Rattle.buffer_stages.specs.Stages.{IsFollowed, Happens, Becomes, AreMapped, mapped}
+use Rattle.buffer_stages.specs.Stages.{IsFollowed, Happens, Becomes, AreMapped, with_items_mapped}
 
 -- a list of the same length takes the whole place
-pub refilled_whole : {X : Type 0} (new old : List X) → length new ≡ length old → refilled new old ≡ new
+pub refilled_whole : {X : Type 0} (new old : List X) → length new ≡ length old → refilled_list new old ≡ new
 refilled_whole new old e = take_at new (drop (length new) old) (length old) e
 
 pub written_all : (gs : List hb_glyph_info_t) (s : Sides) → length gs ≡ length (all_glyphs s) → all_glyphs (with_refilled gs s) ≡ gs
-written_all gs s e = take-append-drop (length s.behind) (refilled gs (all_glyphs s)) ∙ refilled_whole gs (all_glyphs s) e
+written_all gs s e = take-append-drop (length s.behind) (refilled_list gs (all_glyphs s)) ∙ refilled_whole gs (all_glyphs s) e
 
 pub written_ready : (gs : List hb_glyph_info_t) (s : Sides) → length gs ≡ length (all_glyphs s) → IsReady s → IsReady (with_refilled gs s)
 written_ready gs s e ready = record {
   closed = ready.closed;
-  front = ap (λ (ys : List hb_glyph_info_t). take (length ys) (refilled gs (all_glyphs s))) ready.front;
+  front = ap (λ (ys : List hb_glyph_info_t). take (length ys) (refilled_list gs (all_glyphs s))) ready.front;
   unread = ready.unread;
   placed = ready.placed ∙ sym e ∙ ap (λ (ys : List hb_glyph_info_t). length ys) (sym (written_all gs s e));
   unrefused = ready.unrefused;
@@ -61,12 +61,12 @@ placed_becomes ps s e ready = record {
 }
 
 -- what happens to the origins of the glyphs, beside what becomes of them, is a stage
-pub happened_followed : (es : List Event) (v : View) (stage : Stage) (old new : Sides) → view_of new ≡ v → (run_of new).origins ≡ (origins_after (run_of old).asks old.level es (run_of old).origins)
+pub happened_followed : (es : List Event) (v : View) (stage : Stage) (old new : Sides) → view_of new ≡ v → (state_of new).origins ≡ (origins_after (state_of old).asks old.level es (state_of old).origins)
     → settings_of new ≡ settings_of old → IsReady new → stage (view_of old) ≡ Ok (with_events es v) → IsFollowed stage old new
 happened_followed es v stage old new view from settings ready e = record {
   follows =
       let asks = ap (λ (st : Settings). record { concat = bit_and st.flags.0 64 == 64; tatweel = bit_and st.flags.0 128 == 128 }) settings in
-      subst (λ q. Follows q (run_of old) (run_of new)) (sym e) (follows_events es v (run_of old) (run_of new) view from (ap (λ (st : Settings). st.level) settings) asks);
+      subst (λ q. Follows q (state_of old) (state_of new)) (sym e) (follows_events es v (state_of old) (state_of new) view from (ap (λ (st : Settings). st.level) settings) asks);
   settings = settings;
   ready = ready;
 }
@@ -80,8 +80,8 @@ pub happens_followed : (es : List Event) (old new : Sides) (stage : Stage) → H
 happens_followed es old new stage h e = happened_followed es (view_of old) stage old new h.view h.origins h.settings h.ready e
 
 -- glyphs that were mapped
-pub mapped_followed : (k : Item → Item) (gs : List hb_glyph_info_t) (s : Sides) → AreMapped k (all_glyphs s) gs → IsReady s → IsFollowed (always (mapped k)) s (with_refilled gs s)
-mapped_followed k gs s m ready = becomes_followed (map k (items_of s)) s.positions s (with_refilled gs s) (always (mapped k)) (mapped_becomes gs s k m.items m.origins ready) refl
+pub mapped_followed : (k : Item → Item) (gs : List hb_glyph_info_t) (s : Sides) → AreMapped k (all_glyphs s) gs → IsReady s → IsFollowed (always (with_items_mapped k)) s (with_refilled gs s)
+mapped_followed k gs s m ready = becomes_followed (map k (items_of s)) s.positions s (with_refilled gs s) (always (with_items_mapped k)) (mapped_becomes gs s k m.items m.origins ready) refl
 
 -- a stage whose events may depend on the level
 pub read_followed : (r : View → Read) (es : List Event) (v : View) (old new : Sides) → view_of new ≡ v → origins_of new ≡ origins_by es old → settings_of new ≡ settings_of old → IsReady new
@@ -89,9 +89,9 @@ pub read_followed : (r : View → Read) (es : List Event) (v : View) (old new : 
 read_followed r es v old new view from settings ready e f = record {
   follows =
       let asks = ap (λ (st : Settings). record { concat = bit_and st.flags.0 64 == 64; tatweel = bit_and st.flags.0 128 == 128 }) settings in
-      follows_events es v (run_of old) (run_of new) view from (ap (λ (st : Settings). st.level) settings) asks
-      ∙ ap (λ w. record { view = w; origins = origins_by es old; level = old.level; asks = asks_of old }) (sym e)
-      ∙ ap (λ fs. record { view = (r (view_of old)).view; origins = origins_by fs old; level = old.level; asks = asks_of old }) (sym f);
+      follows_events es v (state_of old) (state_of new) view from (ap (λ (st : Settings). st.level) settings) asks
+      ∙ ap (λ w. record { view = w; origins = origins_by es old; level = old.level; asks = flag_requests_of old }) (sym e)
+      ∙ ap (λ fs. record { view = (r (view_of old)).view; origins = origins_by fs old; level = old.level; asks = flag_requests_of old }) (sym f);
   settings = settings;
   ready = ready;
 }

@@ -5,15 +5,15 @@ use Rattle.buffer_glyphs.specs.declared.cause.ShapeCause.{ShapeCause}
 use Rattle.buffer_glyphs.specs.declared.cause.ShapeCause.TheVariants.{TooLong}
 use Rattle.buffer_glyphs.specs.Items.{item_of}
 use Rattle.buffer_core.specs.Sides.{Sides}
-use Rattle.layout_match.specs.Applied.{Applied}
+use Rattle.layout_match.specs.Applied.{ApplyContext}
 use Rattle.buffer_stages.specs.Actions.{Cut, Action, Outcome, Passes, Acts, Refuses, whole}
 use Rattle.buffer_stages.specs.Buffers.{cut_of}
 use Rattle.buffer_stages.specs.Performing.{cut_with, Performs}
 use Rattle.buffer_stages.proofs.Lemmas.Frames.{same_lengths}
-use Rattle.layout_contexts.specs.Places.{AreRising}
+use Rattle.layout_contexts.specs.MatchIndices.{AreRising}
 use Rattle.layout_contexts.specs.Inside.{StaysInside}
 use Rattle.layout_contexts.specs.Chains.{Chain, chain_rule}
-use Rattle.layout_contexts.specs.Nested.{Walks, cut_at, cut_behind, each_nested, holds}
+use Rattle.layout_contexts.specs.Nested.{Walks, cut_at, cut_after_match, each_nested, holds}
 use Rattle.layout_contexts.specs.Nesting.{Nests, Walking}
 use Rattle.layout_contexts.specs.Fitting.{IsMatched}
 use Rattle.layout_contexts.proofs.Lemmas.Lengths.{front_length, whole_length}
@@ -42,7 +42,7 @@ behind_there p true acted random u final h = h.1.cut_is
 behind_there p false acted random u final h = absurd h
 
 -- so many glyphs are on both sides then
-ended_lengths : (at : ℕ) (random : ℕ) (u final : Sides) → Nests (cut_behind (Walks (cut_with random u) [] at [])) (Ok true) random random u final
+ended_lengths : (at : ℕ) (random : ℕ) (u final : Sides) → Nests (cut_after_match (Walks (cut_with random u) [] at [])) (Ok true) random random u final
     → (length final.behind ≡ min at (length (whole (cut_of u)))) × (length final.ahead ≡ length (whole (cut_of u)) - at)
 ended_lengths at random u final h =
     let all = whole (cut_of u) in
@@ -55,11 +55,11 @@ ended_lengths at random u final h =
     (omega (arith, front, taken), omega (arith, rest, dropped))
 
 -- what the indices of a match are, on the list that they are in
-pub match_inside : (a : Applied) (r : Chain) (before end : ℕ) (ps : List ℕ) (s t : Sides) → IsMatched a r before end ps s t → AreRising 0 (length (whole (cut_of t)) + 1) ps
+pub match_inside : (a : ApplyContext) (r : Chain) (before end : ℕ) (ps : List ℕ) (s t : Sides) → IsMatched a r before end ps s t → AreRising 0 (length (whole (cut_of t)) + 1) ps
 match_inside a r before end ps s t m = wider (length s.behind) 0 (length (whole (cut_of t))) (length (whole (cut_of t)) + 1) ps (omega arith) (omega arith) m.rising
 
-went_on : (a : Applied) (r : Chain) (before random end at : ℕ) (ps qs : List ℕ) (s t u final : Sides) → IsMatched a r before end ps s t → StaysInside (length (whole (cut_of t))) (length (whole (cut_of u))) ps qs end at
-    → Nests (cut_behind (Walks (cut_with random u) [] at [])) (Ok true) random random u final → IsFurther s final
+went_on : (a : ApplyContext) (r : Chain) (before random end at : ℕ) (ps qs : List ℕ) (s t u final : Sides) → IsMatched a r before end ps s t → StaysInside (length (whole (cut_of t))) (length (whole (cut_of u))) ps qs end at
+    → Nests (cut_after_match (Walks (cut_with random u) [] at [])) (Ok true) random random u final → IsFurther s final
 went_on a r before random end at ps qs s t u final m inside h =
     let n = length (whole (cut_of t)) in
     let sides = ended_lengths at random u final h in
@@ -76,20 +76,20 @@ went_on a r before random end at ps qs s t u final m inside h =
     (omega (arith, sides.1, fewer, from, within, long, same.0, same.1), omega (arith, sides.0, kept, ends))
 
 -- the records were done, and the cursor went after the match
-pub rule_acted : (a : Applied) (nest : Option (ℕ → Action)) (r : Chain) (before random end at : ℕ) (ps qs : List ℕ) (y : Result Bool ShapeCause) (s t u final : Sides) → IsMatched a r before end ps s t
+pub rule_acted : (a : ApplyContext) (nest : Option (ℕ → Action)) (r : Chain) (before random end at : ℕ) (ps qs : List ℕ) (y : Result Bool ShapeCause) (s t u final : Sides) → IsMatched a r before end ps s t
     → Walking (each_nested nest r.records (cut_with before t) ps end) (Ok at) qs random t u → StaysInside (length (whole (cut_of t))) (length (whole (cut_of u))) ps qs end at
-    → Nests (cut_behind (Walks (cut_with random u) [] at [])) y random random u final → Performs (chain_rule nest a r (cut_with before s)) y before random s final
+    → Nests (cut_after_match (Walks (cut_with random u) [] at [])) y random random u final → Performs (chain_rule nest a r (cut_with before s)) y before random s final
 rule_acted a nest r before random end at ps qs y s t u final m w inside h =
     let all = m.nests nest y random final (act_ended (each_nested nest r.records (cut_with before t) ps end) at before random random qs y t u final w h) in
-    let N : Result Bool ShapeCause → Type 0 = λ z. Nests (cut_behind (Walks (cut_with random u) [] at [])) z random random u final in
+    let N : Result Bool ShapeCause → Type 0 = λ z. Nests (cut_after_match (Walks (cut_with random u) [] at [])) z random random u final in
     nests_performs (chain_rule nest a r (cut_with before s)) y before random s final (λ e. went_on a r before random end at ps qs s t u final m inside (subst N e h)) all
 
 -- a record refused
-pub rule_failed : (a : Applied) (nest : Option (ℕ → Action)) (r : Chain) (before random end : ℕ) (ps qs : List ℕ) (x : ShapeCause) (s t u : Sides) → IsMatched a r before end ps s t → Walking (each_nested nest r.records (cut_with before t) ps end) (Err x) qs random t u
+pub rule_failed : (a : ApplyContext) (nest : Option (ℕ → Action)) (r : Chain) (before random end : ℕ) (ps qs : List ℕ) (x : ShapeCause) (s t u : Sides) → IsMatched a r before end ps s t → Walking (each_nested nest r.records (cut_with before t) ps end) (Err x) qs random t u
     → Performs (chain_rule nest a r (cut_with before s)) (Err x) before random s u
 rule_failed a nest r before random end ps qs x s t u m w =
     nests_performs (chain_rule nest a r (cut_with before s)) (Err x) before random s u (λ e. cc) (m.nests nest (Err x) random u (act_failed (each_nested nest r.records (cut_with before t) ps end) x before random qs t u w))
 
 -- the rule doesn't fit
-pub rule_passed : (a : Applied) (nest : Option (ℕ → Action)) (r : Chain) (before : ℕ) (s t : Sides) → Nests (chain_rule nest a r (cut_with before s)) (Ok false) before before s t → Performs (chain_rule nest a r (cut_with before s)) (Ok false) before before s t
+pub rule_passed : (a : ApplyContext) (nest : Option (ℕ → Action)) (r : Chain) (before : ℕ) (s t : Sides) → Nests (chain_rule nest a r (cut_with before s)) (Ok false) before before s t → Performs (chain_rule nest a r (cut_with before s)) (Ok false) before before s t
 rule_passed a nest r before s t h = nests_performs (chain_rule nest a r (cut_with before s)) (Ok false) before before s t (λ e. cc) h

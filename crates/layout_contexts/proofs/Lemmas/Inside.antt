@@ -4,8 +4,8 @@ use Rattle.std.proofs.lemmas.Option.{slice_get_within, get_or_from_slice_get}
 use Rattle.buffer_core.specs.Sides.{Sides}
 use Rattle.layout_subtables.specs.declared.context.SequenceLookupRecord.{SequenceLookupRecord}
 use Rattle.layout_contexts.specs.Inside.{StaysInside}
-use Rattle.layout_contexts.specs.Records.{IsBegun}
-use Rattle.layout_contexts.specs.Shifts.{moved_end, resized}
+use Rattle.layout_contexts.specs.Records.{IsRecordBegun}
+use Rattle.layout_contexts.specs.Shifts.{moved_end, indices_after_resize}
 use Rattle.layout_contexts.proofs.Lemmas.Rising.{place_rises}
 use Rattle.layout_contexts.proofs.Lemmas.Walks.{end_inside, still_inside}
 
@@ -28,7 +28,7 @@ then_stays n m k ps qs rs end at to f g =
     }
 
 -- a lookup that keeps what is before its index acted there
-pub acted_stays : (record_of : SequenceLookupRecord) (ps rs : List ℕ) (p n m end to : ℕ) (s t : Sides) → IsBegun record_of ps p s t → p ≤ m → rs ≡ resized record_of.sequence_index n m ps → to ≡ moved_end p n m end → StaysInside n m ps rs end to
+pub acted_stays : (record_of : SequenceLookupRecord) (ps rs : List ℕ) (p n m end to : ℕ) (s t : Sides) → IsRecordBegun record_of ps p s t → p ≤ m → rs ≡ indices_after_resize record_of.sequence_index n m ps → to ≡ moved_end p n m end → StaysInside n m ps rs end to
 acted_stays r ps rs p n m end to s t b below er et =
     let is : get_or ps r.sequence_index 0 ≡ p = get_or_from_slice_get ps r.sequence_index p 0 b.place in
     let there : r.sequence_index < length ps = slice_get_within ps r.sequence_index p b.place in

@@ -6,9 +6,9 @@ use Rattle.buffer_glyphs.specs.declared.info.hb_glyph_info_t.{hb_glyph_info_t}
 use Rattle.buffer_glyphs.specs.Items.{Item, item_of, strip}
 use Rattle.layout_match.specs.declared.search.match_t.{match_t}
 use Rattle.layout_match.specs.declared.search.match_t.TheVariants.{MATCH, SKIP, NOT_MATCH}
-use Rattle.layout_match.specs.Matches.{by_answer, nearest, nearest_from, then_reached, reached, with_index, indices}
-use Rattle.layout_contexts.specs.Places.{AreRising}
-use Rattle.layout_contexts.specs.Shifts.{following, resized}
+use Rattle.layout_match.specs.Matches.{by_answer, nearest, nearest_from, then_sequence_end, sequence_end, with_index, indices}
+use Rattle.layout_contexts.specs.MatchIndices.{AreRising}
+use Rattle.layout_contexts.specs.Shifts.{following, indices_after_resize}
 use Rattle.std.specs.List.{All}
 use Rattle.std.proofs.lemmas.List.Elements.{All-nil, All-cons}
 
@@ -86,7 +86,7 @@ following_rise p (suc n) =
     (omega arith, omega arith, subst P e (following_rise (p + 1) n))
 
 -- the index of the lookup stays inside the list
-pub resized_rise : (i low before after : ℕ) (ps : List ℕ) → i < length ps → AreRising low (before + 1) ps → get_or ps i 0 ≤ after → AreRising low (after + 1) (resized i before after ps)
+pub resized_rise : (i low before after : ℕ) (ps : List ℕ) → i < length ps → AreRising low (before + 1) ps → get_or ps i 0 ≤ after → AreRising low (after + 1) (indices_after_resize i before after ps)
 resized_rise i low before after ps lt r le =
     let p = get_or ps i 0 in
     let come = after - before in
@@ -123,11 +123,11 @@ indices_rise (ask ∷ asks) at xs = by (nearest_from ask at xs) refl (λ p. indi
     by (Ok p) e more = let one = nearest_inside ask at p xs e in (one.0, one.1, more p)
     by (Err end) e more = tt
 
-pub reached_low : (asks : List (Item → match_t)) (at end : ℕ) (xs : List Item) → reached asks at xs ≡ Ok end → at ≤ end
+pub reached_low : (asks : List (Item → match_t)) (at end : ℕ) (xs : List Item) → sequence_end asks at xs ≡ Ok end → at ≤ end
 reached_low [] at end xs e = let same : at ≡ end = cc in omega (arith, same)
 reached_low (ask ∷ asks) at end xs e = by (nearest_from ask at xs) refl (λ p f. reached_low asks (p + 1) end xs f) e
   where
-    by : (r : Result ℕ ℕ) → nearest_from ask at xs ≡ r → ((p : ℕ) → reached asks (p + 1) xs ≡ Ok end → p + 1 ≤ end) → then_reached r (λ next. reached asks next xs) ≡ Ok end → at ≤ end
+    by : (r : Result ℕ ℕ) → nearest_from ask at xs ≡ r → ((p : ℕ) → sequence_end asks (p + 1) xs ≡ Ok end → p + 1 ≤ end) → then_sequence_end r (λ next. sequence_end asks next xs) ≡ Ok end → at ≤ end
     by (Ok p) f more g =
         let one = nearest_inside ask at p xs f in
         let next = more p g in

@@ -9,7 +9,7 @@ use Rattle.buffer_stages.specs.Performing.{cut_with, IsMade, Performs}
 use Rattle.buffer_stages.proofs.Lemmas.Frames.{still_settings, then_happened, same_numbers}
 use Rattle.buffer_stages.proofs.Lemmas.Does.{then_passed}
 use Rattle.buffer_stages.proofs.Lemmas.Performed.{same_with}
-use Rattle.layout_contexts.specs.Nested.{Walked, Walks, Stops, walked_later}
+use Rattle.layout_contexts.specs.Nested.{RecordsOutcome, Walks, Stops, walked_later}
 use Rattle.layout_contexts.specs.Nesting.{IsLeft, Nests, Walking}
 
 -- nothing was done
@@ -49,15 +49,15 @@ nests_later es (Acts cut fs) (Err e) before after a b final f d = λ h. ap (late
 nests_later es (Refuses cause) (Err e) before after a b final f d = λ h. ap (later es) (d h)
 
 -- a walk that begins where something was left
-pub walk_behind : (c : Cut) (es : List Event) (r after : ℕ) (w : Walked) (result : Result ℕ ShapeCause) (qs : List ℕ) (a b final : Sides) → IsLeft c es r a b → Walking w result qs after b final → Walking (walked_later es w) result qs after a final
+pub walk_behind : (c : Cut) (es : List Event) (r after : ℕ) (w : RecordsOutcome) (result : Result ℕ ShapeCause) (qs : List ℕ) (a b final : Sides) → IsLeft c es r a b → Walking w result qs after b final → Walking (walked_later es w) result qs after a final
 walk_behind c es r after (Walks cut ps end fs) (Ok at) qs a b final f h = (h.0, h.1, then_left c cut es fs r after a b final f h.2)
 walk_behind c es r after (Stops cause) (Ok at) qs a b final f h = absurd h
 walk_behind c es r after (Walks cut ps end fs) (Err e) qs a b final f h = λ n. ap (walked_later es) (h n)
 walk_behind c es r after (Stops cause) (Err e) qs a b final f h = λ n. ap (walked_later es) (h n)
 
-later_none : (w : Walked) → walked_later [] w ≡ w
+later_none : (w : RecordsOutcome) → walked_later [] w ≡ w
 later_none (Walks cut ps end es) = refl
 later_none (Stops cause) = refl
 
-pub walk_there : (c : Cut) (r after : ℕ) (w : Walked) (result : Result ℕ ShapeCause) (qs : List ℕ) (a b final : Sides) → IsLeft c [] r a b → Walking w result qs after b final → Walking w result qs after a final
-walk_there c r after w result qs a b final f h = let P : Walked → Type 0 = λ v. Walking v result qs after a final in subst P (later_none w) (walk_behind c [] r after w result qs a b final f h)
+pub walk_there : (c : Cut) (r after : ℕ) (w : RecordsOutcome) (result : Result ℕ ShapeCause) (qs : List ℕ) (a b final : Sides) → IsLeft c [] r a b → Walking w result qs after b final → Walking w result qs after a final
+walk_there c r after w result qs a b final f h = let P : RecordsOutcome → Type 0 = λ v. Walking v result qs after a final in subst P (later_none w) (walk_behind c [] r after w result qs a b final f h)

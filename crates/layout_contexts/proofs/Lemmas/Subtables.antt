@@ -5,7 +5,7 @@ use Rattle.buffer_glyphs.specs.Items.{item_of}
 use Rattle.buffer_core.specs.Sides.{Sides}
 use Rattle.layout_subtables.specs.declared.context.ContextSubtable.{ContextSubtable}
 use Rattle.layout_subtables.specs.declared.context.ContextSubtable.TheVariants.{Glyphs, Classes, Coverage}
-use Rattle.layout_match.specs.Applied.{Applied}
+use Rattle.layout_match.specs.Applied.{ApplyContext}
 use Rattle.layout_match.specs.Sequences.{is_covered_by}
 use Rattle.buffer_stages.specs.Actions.{Cut, Action, Passes, at_first, first_rule, or_else}
 use Rattle.buffer_stages.specs.Performing.{cut_with}
@@ -18,7 +18,7 @@ first_of_map act f [] c = refl
 first_of_map act f (r ∷ rules) c = ap (or_else (act (f r) c)) (first_of_map act f rules c)
 
 -- at the glyph at the cursor a subtable does what the first of its rules does, where they are tried
-pub subtable_rules : (nest : Option (ℕ → Action)) (a : Applied) (subtable : ContextSubtable) (r : ℕ) (s : Sides) (g : hb_glyph_info_t) → slice_get s.ahead 0 ≡ Some g
+pub subtable_rules : (nest : Option (ℕ → Action)) (a : ApplyContext) (subtable : ContextSubtable) (r : ℕ) (s : Sides) (g : hb_glyph_info_t) → slice_get s.ahead 0 ≡ Some g
     → context_subtable nest a subtable (cut_with r s) ≡ (if is_tried_at subtable (item_of g) then first_rule (chain_rule nest a) (chains_of subtable) (cut_with r s) else Passes [])
 subtable_rules nest a (Glyphs rules) r s g at = first_of_map (chain_rule nest a) glyph_chain rules (cut_with r s)
 subtable_rules nest a (Coverage rules) r s g at = first_of_map (chain_rule nest a) coverage_chain rules (cut_with r s)

@@ -20,15 +20,15 @@ use Rattle.layout_subtables.specs.declared.mark.MarkLigPos.{MarkLigPos}
 use Rattle.layout_subtables.specs.declared.mark.MarkRecord.{MarkRecord}
 use Rattle.layout_subtables.specs.declared.pair.PairPos.{PairPos}
 use Rattle.layout_subtables.specs.declared.pair.PairValues.{PairValues}
-use Rattle.layout_match.specs.Applied.{Applied}
+use Rattle.layout_match.specs.Applied.{ApplyContext}
 use Rattle.buffer_glyphs.specs.LigatureWords.{is_mark}
 use Rattle.buffer_stages.specs.Actions.{Cut, whole, Outcome, Passes, Acts, Refuses, Action, later, or_else, first_rule, at_first, attempt_around}
-use Rattle.buffer_stages.specs.Performing.{Performed, cut_with}
+use Rattle.buffer_stages.specs.Performing.{IsPerformed, cut_with}
 use Rattle.buffer_stages.proofs.Lemmas.Frames.{same_numbers}
 use Rattle.layout_gpos.specs.Moving.{KeepsItems, ItemsStay}
 use Rattle.layout_gpos.specs.Singles.{single_adjusted, single_subtable}
 use Rattle.layout_gpos.specs.Pairs.{begins_pair, next_item, pair_from, pair_length, pair_of, pair_second, pair_subtable, pair_values}
-use Rattle.layout_gpos.specs.Marks.{attach_if, base_before, among_marks, belong_together, component_in, is_there, item_before, mark_on_base, mark_on_ligature, mark_on_mark, mark_to_base, mark_to_ligature, mark_to_mark, on_base, on_component, on_ligature, on_mark, with_found, without_marks}
+use Rattle.layout_gpos.specs.Marks.{attach_if, base_before, among_marks, belong_together, component_in, is_there, item_before, ligature_before, mark_on_base, mark_on_ligature, mark_on_mark, mark_to_base, mark_to_ligature, mark_to_mark, on_base, on_component, on_ligature, on_mark, with_found}
 
 -- ---- rules of any kind
 
@@ -63,7 +63,7 @@ either_way true o p c h k = h
 either_way false o p c h k = k
 
 -- what a call that performs such a rule leaves
-pub performed_left : (o : Outcome) (acted : Bool) (r after : ℕ) (s new : Sides) → ItemsStay o (cut_with r s) → Performed o acted r after s new → items_of new ≡ items_of s
+pub performed_left : (o : Outcome) (acted : Bool) (r after : ℕ) (s new : Sides) → ItemsStay o (cut_with r s) → IsPerformed o acted r after s new → items_of new ≡ items_of s
 performed_left (Passes es) acted r after s new k d = same_numbers s new d.2.cut_is
 performed_left (Acts cut es) acted r after s new k d = map-append item_of new.behind new.ahead ∙ ap (λ (c : Cut). whole c) d.1.cut_is ∙ k ∙ sym (map-append item_of s.behind s.ahead)
 performed_left (Refuses cause) acted r after s new k d = absurd d
@@ -85,10 +85,10 @@ second_left : (d : Direction) (values : Item → Option PairValues) (found : Res
 second_left d values (Err end) c = tt
 second_left d values (Ok apart) c = of_left d apart (option_and_then values (slice_get c.rest apart)) c
 
-from_left : (d : Direction) (a : Applied) (s : PairPos) (x : Item) → KeepsItems (pair_from d a s x)
+from_left : (d : Direction) (a : ApplyContext) (s : PairPos) (x : Item) → KeepsItems (pair_from d a s x)
 from_left d a s x c = either_way (begins_pair s x.number) _ (Passes []) c (second_left d (λ y. pair_values s x.number y.number) (next_item a c.rest) c) tt
 
-pub pair_keeps : (d : Direction) (a : Applied) (s : PairPos) → KeepsItems (pair_subtable d a s)
+pub pair_keeps : (d : Direction) (a : ApplyContext) (s : PairPos) → KeepsItems (pair_subtable d a s)
 pair_keeps d a s c = at_first_left (pair_from d a s) (first_of c.rest) (from_left d a s) c
 
 -- ---- marks
@@ -102,11 +102,11 @@ on_base_left : (bases : List BaseRow) (m : MarkRecord) (back : ℕ) (o : Option 
 on_base_left bases m back None c = tt
 on_base_left bases m back (Some x) c = either_way (is_there (row_of (λ (b : BaseRow). b.glyph) x.number bases)) _ (attempt_around (back + 1) 1 c) c (attach_left (base_anchor x.number m.class bases) m.anchor back c) tt
 
-mark_on_base_left : (a : Applied) (bases : List BaseRow) (o : Option MarkRecord) → KeepsItems (mark_on_base a bases o)
+mark_on_base_left : (a : ApplyContext) (bases : List BaseRow) (o : Option MarkRecord) → KeepsItems (mark_on_base a bases o)
 mark_on_base_left a bases None c = tt
 mark_on_base_left a bases (Some m) c = found_left (on_base bases m) (base_before a c) (on_base_left bases m) c
 
-pub base_keeps : (a : Applied) (t : MarkBasePos) → KeepsItems (mark_to_base a t)
+pub base_keeps : (a : ApplyContext) (t : MarkBasePos) → KeepsItems (mark_to_base a t)
 base_keeps a t c = at_first_left (λ x. mark_on_base a t.bases (value_of x.number t.marks)) (first_of c.rest) (λ x. mark_on_base_left a t.bases (value_of x.number t.marks)) c
 
 on_component_left : (ligatures : List LigatureRow) (m : MarkRecord) (back glyph : ℕ) (k : Option ℕ) → KeepsItems (on_component ligatures m back glyph k)
@@ -117,20 +117,20 @@ on_ligature_left : (ligatures : List LigatureRow) (m : MarkRecord) (x : Item) (b
 on_ligature_left ligatures m x back None c = tt
 on_ligature_left ligatures m x back (Some l) c = on_component_left ligatures m back l.number (component_in (component_count l.number ligatures) l x) c
 
-mark_on_ligature_left : (a : Applied) (ligatures : List LigatureRow) (x : Item) (o : Option MarkRecord) → KeepsItems (mark_on_ligature a ligatures x o)
+mark_on_ligature_left : (a : ApplyContext) (ligatures : List LigatureRow) (x : Item) (o : Option MarkRecord) → KeepsItems (mark_on_ligature a ligatures x o)
 mark_on_ligature_left a ligatures x None c = tt
-mark_on_ligature_left a ligatures x (Some m) c = found_left (on_ligature ligatures m x) (item_before (without_marks a) c) (on_ligature_left ligatures m x) c
+mark_on_ligature_left a ligatures x (Some m) c = found_left (on_ligature ligatures m x) (ligature_before a c) (on_ligature_left ligatures m x) c
 
-pub ligature_keeps : (a : Applied) (t : MarkLigPos) → KeepsItems (mark_to_ligature a t)
+pub ligature_keeps : (a : ApplyContext) (t : MarkLigPos) → KeepsItems (mark_to_ligature a t)
 ligature_keeps a t c = at_first_left (λ x. mark_on_ligature a t.ligatures x (value_of x.number t.marks)) (first_of c.rest) (λ x. mark_on_ligature_left a t.ligatures x (value_of x.number t.marks)) c
 
 on_mark_left : (bases : List BaseRow) (m : MarkRecord) (x : Item) (back : ℕ) (o : Option Item) → KeepsItems (on_mark bases m x back o)
 on_mark_left bases m x back None c = tt
 on_mark_left bases m x back (Some b) c = either_way (is_mark b && belong_together x b) _ (attempt_around (back + 1) 1 c) c (on_base_left bases m back (Some b) c) tt
 
-mark_on_mark_left : (a : Applied) (bases : List BaseRow) (x : Item) (o : Option MarkRecord) → KeepsItems (mark_on_mark a bases x o)
+mark_on_mark_left : (a : ApplyContext) (bases : List BaseRow) (x : Item) (o : Option MarkRecord) → KeepsItems (mark_on_mark a bases x o)
 mark_on_mark_left a bases x None c = tt
 mark_on_mark_left a bases x (Some m) c = found_left (on_mark bases m x) (item_before (among_marks a) c) (on_mark_left bases m x) c
 
-pub mark_keeps : (a : Applied) (t : MarkBasePos) → KeepsItems (mark_to_mark a t)
+pub mark_keeps : (a : ApplyContext) (t : MarkBasePos) → KeepsItems (mark_to_mark a t)
 mark_keeps a t c = at_first_left (λ x. mark_on_mark a t.bases x (value_of x.number t.marks)) (first_of c.rest) (λ x. mark_on_mark_left a t.bases x (value_of x.number t.marks)) c

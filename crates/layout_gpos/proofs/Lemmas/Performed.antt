@@ -7,20 +7,20 @@ use Rattle.std.proofs.lemmas.List.{append-nil}
 use Rattle.buffer_glyphs.specs.declared.info.hb_glyph_info_t.{hb_glyph_info_t}
 use Rattle.buffer_glyphs.specs.Items.{Item, Position, item_of}
 use Rattle.buffer_glyphs.specs.Events.{Event, Concat}
-use Rattle.buffer_core.specs.Sides.{Sides, moved_on, told_of}
+use Rattle.buffer_core.specs.Sides.{Sides, after_next_glyphs, stage_flags}
 use Rattle.buffer_stages.specs.Actions.{Cut, Acts, Action, attempt_around}
 use Rattle.buffer_stages.specs.Buffers.{IsPassed}
-use Rattle.buffer_stages.specs.Performing.{IsMade, Performed, cut_with}
+use Rattle.buffer_stages.specs.Performing.{IsMade, IsPerformed, cut_with}
 use Rattle.buffer_stages.proofs.Lemmas.Performed.{performs_later, same_with}
-use Rattle.layout_gpos.specs.Anchors.{told_if}
-use Rattle.layout_gpos.specs.Moving.{placed_past}
+use Rattle.layout_gpos.specs.Anchors.{with_attachment_flag}
+use Rattle.layout_gpos.specs.Moving.{cut_with_positions}
 use Rattle.layout_gpos.specs.Marks.{with_found}
 use Rattle.layout_gpos.proofs.Lemmas.Nearest.{item_back}
 use Rattle.layout_gpos.proofs.Lemmas.Placed.{front_count, placed_made}
 
 -- ---- an attempt that failed
 
-pub attempt_performed : (back ahead r : ℕ) (s new : Sides) → IsPassed (Concat (length s.behind - back) (length s.behind + ahead) ∷ []) s new → Performed (attempt_around back ahead (cut_with r s)) false r r s new
+pub attempt_performed : (back ahead r : ℕ) (s new : Sides) → IsPassed (Concat (length s.behind - back) (length s.behind + ahead) ∷ []) s new → IsPerformed (attempt_around back ahead (cut_with r s)) false r r s new
 attempt_performed back ahead r s new p =
     let P : ℕ → Type 0 = λ k. IsPassed (Concat (k - back) (k + ahead) ∷ []) s new in
     (refl, refl, subst P (front_count r s) p)
@@ -28,14 +28,14 @@ attempt_performed back ahead r s new p =
 -- ---- rules that act after a mark: the marks come first
 
 pub marked_made : (es : List Event) (n r : ℕ) (ps : Cut → List Position) (s mid new : Sides) → IsPassed es s mid → 0 < n → n ≤ length mid.ahead
-    → new ≡ moved_on n (record mid { positions = ps (cut_with r mid) }) → IsMade (placed_past n (ps (cut_with r s)) (cut_with r s)) es r s new
+    → new ≡ after_next_glyphs n (record mid { positions = ps (cut_with r mid) }) → IsMade (cut_with_positions n (ps (cut_with r s)) (cut_with r s)) es r s new
 marked_made es n r ps s mid new p some le e =
-    let Q : Sides → Type 0 = λ t. IsMade (placed_past n (ps (cut_with r mid)) (cut_with r mid)) [] r mid t in
+    let Q : Sides → Type 0 = λ t. IsMade (cut_with_positions n (ps (cut_with r mid)) (cut_with r mid)) [] r mid t in
     let made = subst Q (sym e) (placed_made n r mid.scratch_flags (ps (cut_with r mid)) mid some le) in
-    let all = (performs_later es (Acts (placed_past n (ps (cut_with r mid)) (cut_with r mid)) []) (Ok true) r r s mid new p (refl, made)).1 in
-    let R : Cut → Type 0 = λ c. IsMade (placed_past n (ps c) c) (es ++ []) r s new in
+    let all = (performs_later es (Acts (cut_with_positions n (ps (cut_with r mid)) (cut_with r mid)) []) (Ok true) r r s mid new p (refl, made)).1 in
+    let R : Cut → Type 0 = λ c. IsMade (cut_with_positions n (ps c) c) (es ++ []) r s new in
     let at_start = subst R (same_with r s mid p.cut_is) all in
-    subst (λ (fs : List Event). IsMade (placed_past n (ps (cut_with r s)) (cut_with r s)) fs r s new) (append-nil es) at_start
+    subst (λ (fs : List Event). IsMade (cut_with_positions n (ps (cut_with r s)) (cut_with r s)) fs r s new) (append-nil es) at_start
 
 and_or : (n a m : ℕ) → bit_and (bit_or a m) n ≡ bit_or (bit_and a n) (bit_and m n)
 and_or n a m =
@@ -47,22 +47,22 @@ and_or n a m =
     let five = bit_at_and m n i in
     omega (arith, one, two, three, four, five))
 
-pub told_same : (near : Bool) (flags : ℕ) → told_of (told_if near flags) ≡ told_if near (told_of flags)
+pub told_same : (near : Bool) (flags : ℕ) → stage_flags (with_attachment_flag near flags) ≡ with_attachment_flag near (stage_flags flags)
 told_same true flags = and_or 0xFFFF_FFDF flags 8
 told_same false flags = refl
 
 -- a rule that acts after a mark and tells of it
-pub marked_told : (es : List Event) (n r f : ℕ) (ps : Cut → List Position) (t : Cut → ℕ) (s mid new : Sides) → IsPassed es s mid → 0 < n → n ≤ length mid.ahead → told_of f ≡ t (cut_with r mid)
-    → new ≡ moved_on n (record mid { positions = ps (cut_with r mid); scratch_flags = f }) → IsMade (record (placed_past n (ps (cut_with r s)) (cut_with r s)) { told = t (cut_with r s) }) es r s new
-marked_told es n r f ps t s mid new p some le told e =
+pub marked_told : (es : List Event) (n r f : ℕ) (ps : Cut → List Position) (t : Cut → ℕ) (s mid new : Sides) → IsPassed es s mid → 0 < n → n ≤ length mid.ahead → stage_flags f ≡ t (cut_with r mid)
+    → new ≡ after_next_glyphs n (record mid { positions = ps (cut_with r mid); scratch_flags = f }) → IsMade (record (cut_with_positions n (ps (cut_with r s)) (cut_with r s)) { scratch_flags = t (cut_with r s) }) es r s new
+marked_told es n r f ps t s mid new p some le scratch_flags e =
     let c = cut_with r mid in
-    let cut : ℕ → Cut = λ k. record (placed_past n (ps c) c) { told = k } in
-    let Q : Sides → Type 0 = λ u. IsMade (cut (told_of f)) [] r mid u in
-    let made = subst (λ (k : ℕ). IsMade (cut k) [] r mid new) told (subst Q (sym e) (placed_made n r f (ps c) mid some le)) in
+    let cut : ℕ → Cut = λ k. record (cut_with_positions n (ps c) c) { scratch_flags = k } in
+    let Q : Sides → Type 0 = λ u. IsMade (cut (stage_flags f)) [] r mid u in
+    let made = subst (λ (k : ℕ). IsMade (cut k) [] r mid new) scratch_flags (subst Q (sym e) (placed_made n r f (ps c) mid some le)) in
     let all = (performs_later es (Acts (cut (t c)) []) (Ok true) r r s mid new p (refl, made)).1 in
-    let R : Cut → Type 0 = λ c. IsMade (record (placed_past n (ps c) c) { told = t c }) (es ++ []) r s new in
+    let R : Cut → Type 0 = λ c. IsMade (record (cut_with_positions n (ps c) c) { scratch_flags = t c }) (es ++ []) r s new in
     let at_start = subst R (same_with r s mid p.cut_is) all in
-    subst (λ (fs : List Event). IsMade (record (placed_past n (ps (cut_with r s)) (cut_with r s)) { told = t (cut_with r s) }) fs r s new) (append-nil es) at_start
+    subst (λ (fs : List Event). IsMade (record (cut_with_positions n (ps (cut_with r s)) (cut_with r s)) { scratch_flags = t (cut_with r s) }) fs r s new) (append-nil es) at_start
 
 -- ---- what was found before the cursor
 

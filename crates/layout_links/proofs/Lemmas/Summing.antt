@@ -4,16 +4,16 @@ use Rattle.buffer_glyphs.specs.Items.{Position}
 use Rattle.layout_links.specs.declared.sums.Pen.{Pen}
 use Rattle.layout_links.specs.Links.{kinds_tested}
 use Rattle.layout_offsets.specs.Links.{position_at}
-use Rattle.layout_links.specs.Sums.{Fits, summed_from, summed, apart_from, taken_apart}
+use Rattle.layout_links.specs.Sums.{Fits, advance_sums_from, advance_sums, advances_of_sums_from, advances_of_sums}
 
 -- those that are left to be summed up lead to all
 pub record IsSumming (old : List Position) (i : ℕ) (pen : Pen) (ps : List Position) : Type 0 where
-  pub leads : take i ps ++ summed_from pen (kinds_tested (drop i ps)) ≡ summed (kinds_tested old)
+  pub leads : take i ps ++ advance_sums_from pen (kinds_tested (drop i ps)) ≡ advance_sums (kinds_tested old)
   pub long : length ps ≡ length old
   pub left : (k : ℕ) → i ≤ k → position_at k ps ≡ position_at k old
   pub fit : (k : ℕ) → k < i → Fits (position_at k old)
 
 -- those that are left to be taken apart lead to all
 pub record IsParting (old : List Position) (i : ℕ) (pen : Pen) (ps : List Position) : Type 0 where
-  pub leads : take i ps ++ apart_from pen (drop i ps) ≡ taken_apart old
+  pub leads : take i ps ++ advances_of_sums_from pen (drop i ps) ≡ advances_of_sums old
   pub long : length ps ≡ length old

@@ -15,19 +15,19 @@ some_left xs k x at = drop_more xs k x (slice_get_within xs k x at) ∙ ap (λ y
 
 -- what comes of the items from one on
 nearest_there : (ask : Item → match_t) (at : ℕ) (xs : List Item) (x : Item) (r : match_t) → slice_get xs at ≡ Some x → r ≡ ask x → nearest_from ask at xs ≡ by_answer r at (nearest_from ask (at + 1) xs)
-nearest_there ask at xs x r there told = rw (some_left xs at x there, told) refl
+nearest_there ask at xs x r there scratch_flags = rw (some_left xs at x there, scratch_flags) refl
 
 pub item_there : (gs : List hb_glyph_info_t) (at : ℕ) (g : hb_glyph_info_t) → slice_get gs at ≡ Some g → slice_get (strip gs) at ≡ Some (item_of g)
 item_there gs at g there = slice_get-map item_of gs at ∙ ap (option_map item_of) there
 
 pub taken_there : (ask : Item → match_t) (at : ℕ) (gs : List hb_glyph_info_t) (g : hb_glyph_info_t) (r : match_t) → slice_get gs at ≡ Some g → r ≡ ask (item_of g) → r ≡ MATCH → nearest_from ask at (strip gs) ≡ Ok at
-taken_there ask at gs g r there told e = nearest_there ask at (strip gs) (item_of g) r (item_there gs at g there) told ∙ ap (λ a. by_answer a at (nearest_from ask (at + 1) (strip gs))) e
+taken_there ask at gs g r there scratch_flags e = nearest_there ask at (strip gs) (item_of g) r (item_there gs at g there) scratch_flags ∙ ap (λ a. by_answer a at (nearest_from ask (at + 1) (strip gs))) e
 
 pub refused_there : (ask : Item → match_t) (at : ℕ) (gs : List hb_glyph_info_t) (g : hb_glyph_info_t) (r : match_t) → slice_get gs at ≡ Some g → r ≡ ask (item_of g) → r ≡ NOT_MATCH → nearest_from ask at (strip gs) ≡ Err (at + 1)
-refused_there ask at gs g r there told e = nearest_there ask at (strip gs) (item_of g) r (item_there gs at g there) told ∙ ap (λ a. by_answer a at (nearest_from ask (at + 1) (strip gs))) e
+refused_there ask at gs g r there scratch_flags e = nearest_there ask at (strip gs) (item_of g) r (item_there gs at g there) scratch_flags ∙ ap (λ a. by_answer a at (nearest_from ask (at + 1) (strip gs))) e
 
 pub passed_there : (ask : Item → match_t) (at : ℕ) (gs : List hb_glyph_info_t) (g : hb_glyph_info_t) (r : match_t) → slice_get gs at ≡ Some g → r ≡ ask (item_of g) → r ≡ SKIP → nearest_from ask at (strip gs) ≡ nearest_from ask (at + 1) (strip gs)
-passed_there ask at gs g r there told e = nearest_there ask at (strip gs) (item_of g) r (item_there gs at g there) told ∙ ap (λ a. by_answer a at (nearest_from ask (at + 1) (strip gs))) e
+passed_there ask at gs g r there scratch_flags e = nearest_there ask at (strip gs) (item_of g) r (item_there gs at g there) scratch_flags ∙ ap (λ a. by_answer a at (nearest_from ask (at + 1) (strip gs))) e
 
 nearest_end : (ask : Item → match_t) (at : ℕ) (xs : List Item) → length xs ≡ at → nearest_from ask at xs ≡ Err at
 nearest_end ask at xs e = let le : length xs ≤ at = omega (arith, e) in rw (drop_all at xs le) refl
@@ -41,13 +41,13 @@ pub strip_reversed : (gs : List hb_glyph_info_t) → reverse (strip gs) ≡ stri
 strip_reversed gs = sym (map-reverse item_of gs)
 
 pub taken_before : (ask : Item → match_t) (at : ℕ) (gs : List hb_glyph_info_t) (g : hb_glyph_info_t) (r : match_t) → slice_get (reverse gs) at ≡ Some g → r ≡ ask (item_of g) → r ≡ MATCH → nearest_from ask at (reverse (strip gs)) ≡ Ok at
-taken_before ask at gs g r there told e = rw (strip_reversed gs) (taken_there ask at (reverse gs) g r there told e)
+taken_before ask at gs g r there scratch_flags e = rw (strip_reversed gs) (taken_there ask at (reverse gs) g r there scratch_flags e)
 
 pub refused_before : (ask : Item → match_t) (at : ℕ) (gs : List hb_glyph_info_t) (g : hb_glyph_info_t) (r : match_t) → slice_get (reverse gs) at ≡ Some g → r ≡ ask (item_of g) → r ≡ NOT_MATCH → nearest_from ask at (reverse (strip gs)) ≡ Err (at + 1)
-refused_before ask at gs g r there told e = rw (strip_reversed gs) (refused_there ask at (reverse gs) g r there told e)
+refused_before ask at gs g r there scratch_flags e = rw (strip_reversed gs) (refused_there ask at (reverse gs) g r there scratch_flags e)
 
 pub passed_before : (ask : Item → match_t) (at : ℕ) (gs : List hb_glyph_info_t) (g : hb_glyph_info_t) (r : match_t) → slice_get (reverse gs) at ≡ Some g → r ≡ ask (item_of g) → r ≡ SKIP → nearest_from ask at (reverse (strip gs)) ≡ nearest_from ask (at + 1) (reverse (strip gs))
-passed_before ask at gs g r there told e = rw (strip_reversed gs) (passed_there ask at (reverse gs) g r there told e)
+passed_before ask at gs g r there scratch_flags e = rw (strip_reversed gs) (passed_there ask at (reverse gs) g r there scratch_flags e)
 
 pub ended_before : (ask : Item → match_t) (at : ℕ) (gs : List hb_glyph_info_t) → length gs ≡ at → nearest_from ask at (reverse (strip gs)) ≡ Err at
 ended_before ask at gs e = rw (strip_reversed gs) (ended_there ask at (reverse gs) (length-reverse gs ∙ e))

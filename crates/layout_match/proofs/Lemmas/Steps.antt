@@ -6,45 +6,45 @@ use Rattle.buffer_glyphs.specs.declared.cause.ShapeCause.TheVariants.{TooLong}
 use Rattle.buffer_glyphs.specs.Items.{Item, item_of, strip}
 use Rattle.buffer_glyphs.specs.Origins.{origins}
 use Rattle.buffer_glyphs.specs.Events.{Event}
-use Rattle.buffer_core.specs.Readings.{View, Reading, Run, Follows, then_reading, with_events}
+use Rattle.buffer_core.specs.Readings.{View, Reading, BufferState, Follows, then_reading, with_events}
 use Rattle.buffer_core.specs.Steps.{follows_happened}
-use Rattle.buffer_core.specs.Sides.{Sides, all_glyphs, run_of, moved_on, fits_next}
+use Rattle.buffer_core.specs.Sides.{Sides, all_glyphs, state_of, after_next_glyphs, fits_next}
 use Rattle.buffer_stages.specs.Actions.{Cut, view_at, past_item, Outcome, Passes, Acts, Refuses, Action}
-use Rattle.buffer_stages.specs.Buffers.{are_glyphs, IsStill, Happened, IsPassed}
-use Rattle.buffer_stages.specs.Performing.{cut_with, Performed}
+use Rattle.buffer_stages.specs.Buffers.{are_glyphs, IsStill, HasHappened, IsPassed}
+use Rattle.buffer_stages.specs.Performing.{cut_with, IsPerformed}
 use Rattle.buffer_stages.proofs.Lemmas.Frames.{still_settings, still_limit, still_open, same_level, same_asks, same_lengths, same_numbers}
 use Rattle.buffer_stages.proofs.Lemmas.Performed.{same_with}
-use Rattle.layout_match.specs.Trying.{tried, tried_before, after_outcome, gone_over}
+use Rattle.layout_match.specs.Trying.{trials, trial_at, after_outcome, outcome_past_item}
 use Rattle.layout_match.specs.Steps.{IsStep, IsGivenUp}
 
 empty : {X : Type 0} (xs : List X) → length xs ≡ 0 → xs ≡ []
 empty [] e = refl
 empty (x ∷ xs) e = cc
 
-ended : (act : Action) (v : View) (n : ℕ) (c : Cut) → c.rest ≡ [] → tried act v n c ≡ Ok (with_events [] (view_at v c))
+ended : (act : Action) (v : View) (n : ℕ) (c : Cut) → c.rest ≡ [] → trials act v n c ≡ Ok (with_events [] (view_at v c))
 ended act v zero c e = refl
-ended act v (suc n) c e = ap (λ (xs : List Item). tried_before act (tried act v n) v xs c) e
+ended act v (suc n) c e = ap (λ (xs : List Item). trial_at act (trials act v n) v xs c) e
 
-going : (act : Action) (v : View) (n : ℕ) (c : Cut) (rest : List Item) → c.rest ≡ rest → 0 < length rest → tried act v (suc n) c ≡ after_outcome (gone_over (act c) c) (tried act v n) v c
+going : (act : Action) (v : View) (n : ℕ) (c : Cut) (rest : List Item) → c.rest ≡ rest → 0 < length rest → trials act v (suc n) c ≡ after_outcome (outcome_past_item (act c) c) (trials act v n) v c
 going act v n c [] e lt = absurd (omega (arith, lt))
-going act v n c (x ∷ rest) e lt = ap (λ (xs : List Item). tried_before act (tried act v n) v xs c) e
+going act v n c (x ∷ rest) e lt = ap (λ (xs : List Item). trial_at act (trials act v n) v xs c) e
 
 -- at a buffer with glyphs ahead a rule is tried
-going_on : (act : Action) (v : View) (n r : ℕ) (s : Sides) → 0 < length s.ahead → tried act v (suc n) (cut_with r s) ≡ after_outcome (gone_over (act (cut_with r s)) (cut_with r s)) (tried act v n) v (cut_with r s)
+going_on : (act : Action) (v : View) (n r : ℕ) (s : Sides) → 0 < length s.ahead → trials act v (suc n) (cut_with r s) ≡ after_outcome (outcome_past_item (act (cut_with r s)) (cut_with r s)) (trials act v n) v (cut_with r s)
 going_on act v n r s lt = let long = length-map s.ahead item_of in going act v n (cut_with r s) (strip s.ahead) refl (omega (arith, long, lt))
 
 -- what follows after events, and what is refused after them
-then_tried : (act : Action) (v : View) (n before after : ℕ) (es : List Event) (w : View) (c : Cut) (s new : Sides) (final : Run) → tried act v (suc n) (cut_with before s) ≡ then_reading (with_events es w) (tried act v n c) → cut_with after new ≡ c
-    → IsStill s new → Happened es s new → Follows (tried act v n (cut_with after new)) (run_of new) final → Follows (tried act v (suc n) (cut_with before s)) (run_of s) final
+then_tried : (act : Action) (v : View) (n before after : ℕ) (es : List Event) (w : View) (c : Cut) (s new : Sides) (final : BufferState) → trials act v (suc n) (cut_with before s) ≡ then_reading (with_events es w) (trials act v n c) → cut_with after new ≡ c
+    → IsStill s new → HasHappened es s new → Follows (trials act v n (cut_with after new)) (state_of new) final → Follows (trials act v (suc n) (cut_with before s)) (state_of s) final
 then_tried act v n before after es w c s new final is at still happened f =
-    let P : Reading → Type 0 = λ r. Follows r (run_of s) final in
-    let Q : Cut → Type 0 = λ d. Follows (tried act v n d) (run_of new) final in
+    let P : Reading → Type 0 = λ r. Follows r (state_of s) final in
+    let Q : Cut → Type 0 = λ d. Follows (trials act v n d) (state_of new) final in
     let settings = still_settings s new still in
-    subst P (sym is) (follows_happened es w (tried act v n c) (run_of s) (run_of new) final happened (same_level s new settings) (same_asks s new settings) (subst Q at f))
+    subst P (sym is) (follows_happened es w (trials act v n c) (state_of s) (state_of new) final happened (same_level s new settings) (same_asks s new settings) (subst Q at f))
 
-then_refused : (act : Action) (v : View) (n before after : ℕ) (es : List Event) (w : View) (c : Cut) (s new : Sides) (cause : ShapeCause) → tried act v (suc n) (cut_with before s) ≡ then_reading (with_events es w) (tried act v n c) → cut_with after new ≡ c
-    → tried act v n (cut_with after new) ≡ Err cause → tried act v (suc n) (cut_with before s) ≡ Err cause
-then_refused act v n before after es w c s new cause is at e = is ∙ ap (then_reading (with_events es w)) (ap (tried act v n) (sym at) ∙ e)
+then_refused : (act : Action) (v : View) (n before after : ℕ) (es : List Event) (w : View) (c : Cut) (s new : Sides) (cause : ShapeCause) → trials act v (suc n) (cut_with before s) ≡ then_reading (with_events es w) (trials act v n c) → cut_with after new ≡ c
+    → trials act v n (cut_with after new) ≡ Err cause → trials act v (suc n) (cut_with before s) ≡ Err cause
+then_refused act v n before after es w c s new cause is at e = is ∙ ap (then_reading (with_events es w)) (ap (trials act v n) (sym at) ∙ e)
 
 -- at the end nothing is tried
 pub step_ended : (act : Action) (r : ℕ) (s : Sides) → length s.ahead ≡ 0 → IsStep act r r s s
@@ -56,21 +56,21 @@ step_ended act r s e =
       less = omega (arith, e);
       numbers = λ h. h;
       follows = λ v n final f.
-          let same : tried act v n c ≡ tried act v (suc n) c = ended act v n c none ∙ sym (ended act v (suc n) c none) in
-          let P : Reading → Type 0 = λ q. Follows q (run_of s) final in
+          let same : trials act v n c ≡ trials act v (suc n) c = ended act v n c none ∙ sym (ended act v (suc n) c none) in
+          let P : Reading → Type 0 = λ q. Follows q (state_of s) final in
           subst P same f;
       refuses = λ v n cause g. ended act v (suc n) c none ∙ sym (ended act v n c none) ∙ g;
     }
 
 -- ---- a rule that acts
 
-acted_step : (act : Action) (before after : ℕ) (s new : Sides) (o : Outcome) → 0 < length s.ahead → act (cut_with before s) ≡ o → Performed o true before after s new → IsStep act before after s new
+acted_step : (act : Action) (before after : ℕ) (s new : Sides) (o : Outcome) → 0 < length s.ahead → act (cut_with before s) ≡ o → IsPerformed o true before after s new → IsStep act before after s new
 acted_step act before after s new (Passes es) lt e d = cc
 acted_step act before after s new (Refuses cause) lt e d = absurd d
 acted_step act before after s new (Acts cut es) lt e d =
     let a = d.1 in
     let fewer = a.fewer in
-    let is : (v : View) (n : ℕ) → tried act v (suc n) (cut_with before s) ≡ then_reading (with_events es (view_at v cut)) (tried act v n cut) = λ v n. going_on act v n before s lt ∙ ap (λ o. after_outcome (gone_over o (cut_with before s)) (tried act v n) v (cut_with before s)) e in
+    let is : (v : View) (n : ℕ) → trials act v (suc n) (cut_with before s) ≡ then_reading (with_events es (view_at v cut)) (trials act v n cut) = λ v n. going_on act v n before s lt ∙ ap (λ o. after_outcome (outcome_past_item o (cut_with before s)) (trials act v n) v (cut_with before s)) e in
     record {
       still = a.still;
       less = omega (arith, fewer);
@@ -79,28 +79,28 @@ acted_step act before after s new (Acts cut es) lt e d =
       refuses = λ v n cause g. then_refused act v n before after es (view_at v cut) cut s new cause (is v n) a.cut_is g;
     }
 
-pub step_acted : (act : Action) (before after : ℕ) (acted : Bool) (s new : Sides) → acted ≡ true → 0 < length s.ahead → Performed (act (cut_with before s)) acted before after s new → IsStep act before after s new
+pub step_acted : (act : Action) (before after : ℕ) (acted : Bool) (s new : Sides) → acted ≡ true → 0 < length s.ahead → IsPerformed (act (cut_with before s)) acted before after s new → IsStep act before after s new
 step_acted act before after acted s new acts lt d =
-    let P : Bool → Type 0 = λ b. Performed (act (cut_with before s)) b before after s new in
+    let P : Bool → Type 0 = λ b. IsPerformed (act (cut_with before s)) b before after s new in
     acted_step act before after s new (act (cut_with before s)) lt refl (subst P acts d)
 
 -- ---- a rule that passes
 
-passes_of : (act : Action) (before after : ℕ) (s new : Sides) (o : Outcome) → act (cut_with before s) ≡ o → Performed o false before after s new → (es : List Event) × (act (cut_with before s) ≡ Passes es) × (after ≡ before) × IsPassed es s new
+passes_of : (act : Action) (before after : ℕ) (s new : Sides) (o : Outcome) → act (cut_with before s) ≡ o → IsPerformed o false before after s new → (es : List Event) × (act (cut_with before s) ≡ Passes es) × (after ≡ before) × IsPassed es s new
 passes_of act before after s new (Passes es) e d = (es, e, d.1, d.2)
 passes_of act before after s new (Acts cut es) e d = cc
 passes_of act before after s new (Refuses cause) e d = absurd d
 
-pub passed_there : (act : Action) (before after : ℕ) (acted : Bool) (s mid : Sides) → acted ≡ false → Performed (act (cut_with before s)) acted before after s mid → length mid.ahead ≡ length s.ahead
+pub passed_there : (act : Action) (before after : ℕ) (acted : Bool) (s mid : Sides) → acted ≡ false → IsPerformed (act (cut_with before s)) acted before after s mid → length mid.ahead ≡ length s.ahead
 passed_there act before after acted s mid fails d =
-    let P : Bool → Type 0 = λ b. Performed (act (cut_with before s)) b before after s mid in
+    let P : Bool → Type 0 = λ b. IsPerformed (act (cut_with before s)) b before after s mid in
     let p = passes_of act before after s mid (act (cut_with before s)) refl (subst P fails d) in
     (same_lengths s mid p.3.cut_is).1
 
-moved_cut : (r : ℕ) (s : Sides) → cut_with r (moved_on 1 s) ≡ past_item (cut_with r s)
+moved_cut : (r : ℕ) (s : Sides) → cut_with r (after_next_glyphs 1 s) ≡ past_item (cut_with r s)
 moved_cut r s = rw (map-append, take-map, drop-map) refl
 
-moved_all : (s : Sides) → all_glyphs (moved_on 1 s) ≡ all_glyphs s
+moved_all : (s : Sides) → all_glyphs (after_next_glyphs 1 s) ≡ all_glyphs s
 moved_all s = append_assoc s.behind (take 1 s.ahead) (drop 1 s.ahead) ∙ ap (λ gs. s.behind ++ gs) (take-append-drop 1 s.ahead)
 
 -- the limit of the cut is that of the buffer, before a rule passed and after
@@ -113,50 +113,50 @@ room_of r es s mid opened_before p =
     ap (λ k. nat_le (k + 1) s.max_len) front ∙ ap (nat_le (length mid.behind + 1)) (sym limit) ∙ rw opened refl
 
 -- the rule passed, and the cursor went over the glyph
-over_step : (act : Action) (before : ℕ) (s mid : Sides) (es : List Event) → 0 < length s.ahead → nat_le (length (cut_with before s).front + 1) (cut_with before s).max_len ≡ true → act (cut_with before s) ≡ Passes es → IsPassed es s mid → IsStep act before before s (moved_on 1 mid)
+over_step : (act : Action) (before : ℕ) (s mid : Sides) (es : List Event) → 0 < length s.ahead → nat_le (length (cut_with before s).front + 1) (cut_with before s).max_len ≡ true → act (cut_with before s) ≡ Passes es → IsPassed es s mid → IsStep act before before s (after_next_glyphs 1 mid)
 over_step act before s mid es lt room passes q =
     let c = cut_with before s in
     let long = same_lengths s mid q.cut_is in
     let left = length-drop 1 mid.ahead in
-    let cut : cut_with before (moved_on 1 mid) ≡ past_item c = moved_cut before mid ∙ ap past_item (same_with before s mid q.cut_is) in
-    let kept : IsStill s (moved_on 1 mid) = q.still in
-    let over : gone_over (act c) c ≡ Acts (past_item c) es = ap (λ o. gone_over o c) passes ∙ rw room refl in
-    let followed : (v : View) (n : ℕ) → tried act v (suc n) c ≡ then_reading (with_events es (view_at v (past_item c))) (tried act v n (past_item c)) = λ v n. going_on act v n before s lt ∙ ap (λ o. after_outcome o (tried act v n) v c) over in
+    let cut : cut_with before (after_next_glyphs 1 mid) ≡ past_item c = moved_cut before mid ∙ ap past_item (same_with before s mid q.cut_is) in
+    let kept : IsStill s (after_next_glyphs 1 mid) = q.still in
+    let over : outcome_past_item (act c) c ≡ Acts (past_item c) es = ap (λ o. outcome_past_item o c) passes ∙ rw room refl in
+    let followed : (v : View) (n : ℕ) → trials act v (suc n) c ≡ then_reading (with_events es (view_at v (past_item c))) (trials act v n (past_item c)) = λ v n. going_on act v n before s lt ∙ ap (λ o. after_outcome o (trials act v n) v c) over in
     record {
       still = kept;
       less = omega (arith, left, long.1);
       numbers = λ h. ap (λ gs. are_glyphs (strip gs)) (moved_all mid) ∙ ap are_glyphs (same_numbers s mid q.cut_is) ∙ h;
-      follows = λ v n final f. then_tried act v n before before es (view_at v (past_item c)) (past_item c) s (moved_on 1 mid) final (followed v n) cut kept (ap origins (moved_all mid) ∙ q.happened) f;
-      refuses = λ v n cause g. then_refused act v n before before es (view_at v (past_item c)) (past_item c) s (moved_on 1 mid) cause (followed v n) cut g;
+      follows = λ v n final f. then_tried act v n before before es (view_at v (past_item c)) (past_item c) s (after_next_glyphs 1 mid) final (followed v n) cut kept (ap origins (moved_all mid) ∙ q.happened) f;
+      refuses = λ v n cause g. then_refused act v n before before es (view_at v (past_item c)) (past_item c) s (after_next_glyphs 1 mid) cause (followed v n) cut g;
     }
 
 -- a glyph at which the rule doesn't act is passed, where what is done may have one more
-pub step_over : (act : Action) (before after : ℕ) (acted : Bool) (s mid new : Sides) → acted ≡ false → 0 < length s.ahead → nat_le (length (cut_with before s).front + 1) (cut_with before s).max_len ≡ true → Performed (act (cut_with before s)) acted before after s mid → new ≡ moved_on 1 mid
+pub step_over : (act : Action) (before after : ℕ) (acted : Bool) (s mid new : Sides) → acted ≡ false → 0 < length s.ahead → nat_le (length (cut_with before s).front + 1) (cut_with before s).max_len ≡ true → IsPerformed (act (cut_with before s)) acted before after s mid → new ≡ after_next_glyphs 1 mid
     → IsStep act before after s new
 step_over act before after acted s mid new fails lt room d is =
-    let D : Bool → Type 0 = λ b. Performed (act (cut_with before s)) b before after s mid in
+    let D : Bool → Type 0 = λ b. IsPerformed (act (cut_with before s)) b before after s mid in
     let p = passes_of act before after s mid (act (cut_with before s)) refl (subst D fails d) in
     let P : Sides → Type 0 = λ t. IsStep act before after s t in
-    let Q : ℕ → Type 0 = λ k. IsStep act before k s (moved_on 1 mid) in
+    let Q : ℕ → Type 0 = λ k. IsStep act before k s (after_next_glyphs 1 mid) in
     subst P (sym is) (subst Q (sym p.2) (over_step act before s mid p.0 lt room p.1 p.3))
 
 -- the same with an output open
-pub step_passed : (act : Action) (before after : ℕ) (acted : Bool) (s mid new : Sides) → acted ≡ false → 0 < length s.ahead → s.is_open ≡ true → Performed (act (cut_with before s)) acted before after s mid → fits_next 1 mid ≡ true → new ≡ moved_on 1 mid
+pub step_passed : (act : Action) (before after : ℕ) (acted : Bool) (s mid new : Sides) → acted ≡ false → 0 < length s.ahead → s.is_open ≡ true → IsPerformed (act (cut_with before s)) acted before after s mid → fits_next 1 mid ≡ true → new ≡ after_next_glyphs 1 mid
     → IsStep act before after s new
 step_passed act before after acted s mid new fails lt opened_before d room is =
-    let D : Bool → Type 0 = λ b. Performed (act (cut_with before s)) b before after s mid in
+    let D : Bool → Type 0 = λ b. IsPerformed (act (cut_with before s)) b before after s mid in
     let p = passes_of act before after s mid (act (cut_with before s)) refl (subst D fails d) in
     step_over act before after acted s mid new fails lt (room_of before p.0 s mid opened_before p.3 ∙ room) d is
 
 -- ---- a step that is refused
 
 pub given_up : (act : Action) (before : ℕ) (s : Sides) (cause : ShapeCause) → 0 < length s.ahead → act (cut_with before s) ≡ Refuses cause → IsGivenUp act before s cause
-given_up act before s cause lt e = λ v n. going_on act v n before s lt ∙ ap (λ o. after_outcome (gone_over o (cut_with before s)) (tried act v n) v (cut_with before s)) e
+given_up act before s cause lt e = λ v n. going_on act v n before s lt ∙ ap (λ o. after_outcome (outcome_past_item o (cut_with before s)) (trials act v n) v (cut_with before s)) e
 
-pub given_up_full : (act : Action) (before after : ℕ) (acted : Bool) (s mid : Sides) → acted ≡ false → 0 < length s.ahead → s.is_open ≡ true → Performed (act (cut_with before s)) acted before after s mid → fits_next 1 mid ≡ false → IsGivenUp act before s TooLong
+pub given_up_full : (act : Action) (before after : ℕ) (acted : Bool) (s mid : Sides) → acted ≡ false → 0 < length s.ahead → s.is_open ≡ true → IsPerformed (act (cut_with before s)) acted before after s mid → fits_next 1 mid ≡ false → IsGivenUp act before s TooLong
 given_up_full act before after acted s mid fails lt opened_before d full =
-    let D : Bool → Type 0 = λ b. Performed (act (cut_with before s)) b before after s mid in
+    let D : Bool → Type 0 = λ b. IsPerformed (act (cut_with before s)) b before after s mid in
     let p = passes_of act before after s mid (act (cut_with before s)) refl (subst D fails d) in
     let c = cut_with before s in
-    let over : gone_over (act c) c ≡ Refuses TooLong = ap (λ o. gone_over o c) p.1 ∙ rw (room_of before p.0 s mid opened_before p.3 ∙ full) refl in
-    λ v n. going_on act v n before s lt ∙ ap (λ o. after_outcome o (tried act v n) v c) over
+    let over : outcome_past_item (act c) c ≡ Refuses TooLong = ap (λ o. outcome_past_item o c) p.1 ∙ rw (room_of before p.0 s mid opened_before p.3 ∙ full) refl in
+    λ v n. going_on act v n before s lt ∙ ap (λ o. after_outcome o (trials act v n) v c) over

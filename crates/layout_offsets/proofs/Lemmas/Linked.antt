@@ -2,7 +2,7 @@
 use Rattle.std.proofs.Common.{ℕ, ℤ, pos, negsuc, ◌+ℤ◌, ◌≡◌, ◌<◌, ◌==◌, ◌&&◌, Bool, true, false, if◌then◌else◌, Some, None, arith, refl, ap, sym}
 use Rattle.std.specs.Prelude.{nat_abs, int_le, int_lt}
 use Rattle.std.proofs.lemmas.Bool.Decides.{nat_tests}
-use Rattle.layout_offsets.specs.Links.{linked}
+use Rattle.layout_offsets.specs.Links.{link_target}
 
 both_tests : (a b : Bool) (m j : ℕ) → (if a && b then Some m else None) ≡ Some j → (b ≡ true) × (m ≡ j)
 both_tests true true m j e = (refl, cc)
@@ -20,5 +20,5 @@ linked_by : (none : Bool) (n : ℕ) (t : ℤ) (j : ℕ) → (if none then None e
 linked_by true n t j e = cc
 linked_by false n t j e = inside_is n t j e
 
-pub linked_there : (n i : ℕ) (d : ℤ) (j : ℕ) → linked n i d ≡ Some j → (j < n) × (pos j ≡ pos i +ℤ d)
+pub linked_there : (n i : ℕ) (d : ℤ) (j : ℕ) → link_target n i d ≡ Some j → (j < n) × (pos j ≡ pos i +ℤ d)
 linked_there n i d j e = linked_by (nat_abs d == 0) n (pos i +ℤ d) j e

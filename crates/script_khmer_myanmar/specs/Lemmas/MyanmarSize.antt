@@ -7,47 +7,44 @@ use Rattle.script_categories.specs.declared.ot_position_t.TheConstants as positi
 use Rattle.script_categories.specs.declared.shaper.hb_ot_script_shaper_t.TheVariants.{MYANMAR_SHAPER}
 use Rattle.script_categories.specs.Shapers.{is_reordered}
 use Rattle.buffer_glyphs.specs.Items.{Item}
-use Rattle.buffer_stages.specs.Rewriting.{Rewritten, kept, within}
+use Rattle.buffer_glyphs.specs.Rewriting.{Arrangement, eventless_arrangement}
+use Rattle.buffer_stages.specs.Rewriting.{within}
 use Rattle.buffer_stages.specs.Lemmas.Parts.{within_size}
-use Rattle.script_khmer_myanmar.specs.Myanmar.{all_placed, groups_reversed, has_two_matras, matras_of, matras_reversed, myanmar_first, myanmar_places, myanmar_reordered, myanmar_syllable, same_group, sorted_by_place, with_places}
-use Rattle.script_khmer_myanmar.specs.Lemmas.Sizes.{key_order_size, groups_turned_size, places_size}
+use Rattle.script_khmer_myanmar.specs.Myanmar.{items_with_positions, has_two_matras, is_left_matra, matras_of, matras_reversed, myanmar_first, myanmar_positions, myanmar_reordered, myanmar_syllable, with_positions}
+use Rattle.script_khmer_myanmar.specs.Lemmas.Sizes.{places_size}
+use Rattle.buffer_stages.specs.Ordering.{groups_reversed, sorted_by_place}
+use Rattle.buffer_stages.specs.Lemmas.Sorted.{reversed_size, sorted_size}
 
-placed_size : (ps : List ℕ) (xs : List Item) → length ps ≤ length xs → length (with_places ps xs) ≡ length xs
+placed_size : (ps : List ℕ) (xs : List Item) → length ps ≤ length xs → length (with_positions ps xs) ≡ length xs
 placed_size [] xs le = refl
 placed_size (p ∷ ps) [] le = absurd (omega (arith, le))
 placed_size (p ∷ ps) (x ∷ xs) le = ap suc (placed_size ps xs (omega (arith, le)))
 
-pub all_placed_size : (xs : List Item) → length (all_placed xs).items ≡ length xs
+pub all_placed_size : (xs : List Item) → length (items_with_positions xs).items ≡ length xs
 all_placed_size xs =
     let n = places_size (map (λ (x : Item). x.category) xs) in
-    placed_size (myanmar_places (map (λ (x : Item). x.category) xs)) xs (omega (arith, n, length-map xs (λ (x : Item). x.category)))
-
-pub sorted_size : (xs : List Item) → length (sorted_by_place xs).items ≡ length xs
-sorted_size xs = key_order_size (λ (x : Item). x.auxiliary) xs
-
-reversed_size : (xs : List Item) → length (groups_reversed xs).items ≡ length xs
-reversed_size xs = groups_turned_size same_group xs
+    placed_size (myanmar_positions (map (λ (x : Item). x.category) xs)) xs (omega (arith, n, length-map xs (λ (x : Item). x.category)))
 
 pub matras_size : (xs : List Item) → length (matras_reversed xs).items ≡ length xs
 matras_size xs = by_test (has_two_matras (take (matras_of xs) xs))
   where
-    count_of : Rewritten → ℕ
+    count_of : Arrangement → ℕ
     count_of r = length r.items
 
-    by_test : (t : Bool) → count_of (if t then within 0 (matras_of xs) groups_reversed xs else kept xs) ≡ length xs
-    by_test true = within_size groups_reversed 0 (matras_of xs) xs reversed_size (omega arith) (prefix_len-le-length (λ (x : Item). x.auxiliary == position.POS_PRE_M) xs)
+    by_test : (t : Bool) → count_of (if t then within 0 (matras_of xs) (groups_reversed is_left_matra) xs else eventless_arrangement xs) ≡ length xs
+    by_test true = within_size (groups_reversed is_left_matra) 0 (matras_of xs) xs (reversed_size is_left_matra) (omega arith) (prefix_len-le-length (λ (x : Item). x.auxiliary == position.POS_PRE_M) xs)
     by_test false = refl
 
 pub reordered_size : (xs : List Item) → length (myanmar_reordered xs).items ≡ length xs
-reordered_size xs = matras_size (sorted_by_place (all_placed xs).items).items ∙ sorted_size (all_placed xs).items ∙ all_placed_size xs
+reordered_size xs = matras_size (sorted_by_place (items_with_positions xs).items).items ∙ sorted_size (items_with_positions xs).items ∙ all_placed_size xs
 
 pub myanmar_keeps : (xs : List Item) → length (myanmar_syllable xs).items ≡ length xs
 myanmar_keeps xs = by_first (slice_get xs 0)
   where
-    count_of : Rewritten → ℕ
+    count_of : Arrangement → ℕ
     count_of r = length r.items
 
-    by_kind : (t : Bool) → count_of (if t then myanmar_reordered xs else kept xs) ≡ length xs
+    by_kind : (t : Bool) → count_of (if t then myanmar_reordered xs else eventless_arrangement xs) ≡ length xs
     by_kind true = reordered_size xs
     by_kind false = refl
 

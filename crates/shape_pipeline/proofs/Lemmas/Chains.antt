@@ -1,9 +1,9 @@
 -- Stages done one after another on a buffer.
 use Rattle.std.proofs.Common.{◌≡◌, Bool, true, false, List, [], ◌∷◌, Err, refl, sym, subst, ◌∙◌}
 use Rattle.buffer_glyphs.specs.declared.cause.ShapeCause.{ShapeCause}
-use Rattle.buffer_core.specs.Readings.{Stage, read_of}
+use Rattle.buffer_core.specs.Readings.{Stage, reading_of}
 use Rattle.buffer_core.specs.Steps.{follows_then, follows_same, refused_first, refused_then}
-use Rattle.buffer_core.specs.Sides.{Sides, run_of}
+use Rattle.buffer_core.specs.Sides.{Sides, state_of}
 use Rattle.buffer_stages.specs.Ready.{IsDone, IsReady}
 use Rattle.buffer_stages.specs.Stages.{IsFollowed}
 use Rattle.shape_pipeline.specs.Chains.{in_order, only_if}
@@ -20,7 +20,7 @@ acts_followed b stage old new holds f = let P : Bool → Type 0 = λ c. IsFollow
 pub rests_followed : (b : Bool) (stage : Stage) (s : Sides) → b ≡ false → IsReady s → IsFollowed (only_if b stage) s s
 rests_followed b stage s fails ready =
     let P : Bool → Type 0 = λ c. IsFollowed (only_if c stage) s s in
-    subst P (sym fails) (record { follows = follows_same (run_of s); settings = refl; ready = ready })
+    subst P (sym fails) (record { follows = follows_same (state_of s); settings = refl; ready = ready })
 
 pub acts_done : (b : Bool) (stage : Stage) (old new : Sides) → b ≡ true → IsDone stage old new → IsDone (only_if b stage) old new
 acts_done b stage old new holds d = let P : Bool → Type 0 = λ c. IsDone (only_if c stage) old new in subst P (sym holds) d
@@ -28,19 +28,19 @@ acts_done b stage old new holds d = let P : Bool → Type 0 = λ c. IsDone (only
 pub rests_done : (b : Bool) (stage : Stage) (s : Sides) → b ≡ false → IsReady s → IsDone (only_if b stage) s s
 rests_done b stage s fails ready =
     let P : Bool → Type 0 = λ c. IsDone (only_if c stage) s s in
-    subst P (sym fails) (record { follows = follows_same (run_of s); settings = refl; ready = ready; numbers = λ h. h })
+    subst P (sym fails) (record { follows = follows_same (state_of s); settings = refl; ready = ready; numbers = λ h. h })
 
-pub acts_refused : (b : Bool) (stage : Stage) (old : Sides) (cause : ShapeCause) → b ≡ true → read_of stage (run_of old) ≡ Err cause → read_of (only_if b stage) (run_of old) ≡ Err cause
-acts_refused b stage old cause holds e = let P : Bool → Type 0 = λ c. read_of (only_if c stage) (run_of old) ≡ Err cause in subst P (sym holds) e
+pub acts_refused : (b : Bool) (stage : Stage) (old : Sides) (cause : ShapeCause) → b ≡ true → reading_of stage (state_of old) ≡ Err cause → reading_of (only_if b stage) (state_of old) ≡ Err cause
+acts_refused b stage old cause holds e = let P : Bool → Type 0 = λ c. reading_of (only_if c stage) (state_of old) ≡ Err cause in subst P (sym holds) e
 
 -- ---- stages that were followed
 
 none_followed : (s : Sides) → IsReady s → IsFollowed (in_order []) s s
-none_followed s ready = record { follows = follows_same (run_of s); settings = refl; ready = ready }
+none_followed s ready = record { follows = follows_same (state_of s); settings = refl; ready = ready }
 
 next_followed : (a : Stage) (rest : List Stage) (s t u : Sides) → IsFollowed a s t → IsFollowed (in_order rest) t u → IsFollowed (in_order (a ∷ rest)) s u
 next_followed a rest s t u f g = record {
-  follows = follows_then (read_of a (run_of s)) (in_order rest) (run_of s) (run_of t) (run_of u) f.follows g.follows;
+  follows = follows_then (reading_of a (state_of s)) (in_order rest) (state_of s) (state_of t) (state_of u) f.follows g.follows;
   settings = g.settings ∙ f.settings;
   ready = g.ready;
 }
@@ -66,11 +66,11 @@ six_followed a b c d e i s t u v w x y f g h k l m = next_followed a (b ∷ c �
 -- ---- stages that were done, which keep numbers of glyphs
 
 none_done : (s : Sides) → IsReady s → IsDone (in_order []) s s
-none_done s ready = record { follows = follows_same (run_of s); settings = refl; ready = ready; numbers = λ h. h }
+none_done s ready = record { follows = follows_same (state_of s); settings = refl; ready = ready; numbers = λ h. h }
 
 next_done : (a : Stage) (rest : List Stage) (s t u : Sides) → IsDone a s t → IsDone (in_order rest) t u → IsDone (in_order (a ∷ rest)) s u
 next_done a rest s t u f g = record {
-  follows = follows_then (read_of a (run_of s)) (in_order rest) (run_of s) (run_of t) (run_of u) f.follows g.follows;
+  follows = follows_then (reading_of a (state_of s)) (in_order rest) (state_of s) (state_of t) (state_of u) f.follows g.follows;
   settings = g.settings ∙ f.settings;
   ready = g.ready;
   numbers = λ h. g.numbers (f.numbers h);
@@ -88,20 +88,23 @@ three_done a b c s t u v f g h = next_done a (b ∷ c ∷ []) s t v f (two_done 
 pub four_done : (a b c d : Stage) (s t u v w : Sides) → IsDone a s t → IsDone b t u → IsDone c u v → IsDone d v w → IsDone (in_order (a ∷ b ∷ c ∷ d ∷ [])) s w
 four_done a b c d s t u v w f g h k = next_done a (b ∷ c ∷ d ∷ []) s t w f (three_done b c d t u v w g h k)
 
+pub five_done : (a b c d e : Stage) (s t u v w x : Sides) → IsDone a s t → IsDone b t u → IsDone c u v → IsDone d v w → IsDone e w x → IsDone (in_order (a ∷ b ∷ c ∷ d ∷ e ∷ [])) s x
+five_done a b c d e s t u v w x f g h k l = next_done a (b ∷ c ∷ d ∷ e ∷ []) s t x f (four_done b c d e t u v w x g h k l)
+
 -- ---- the first stage that refuses
 
-pub first_refused : (a : Stage) (rest : List Stage) (s : Sides) (cause : ShapeCause) → read_of a (run_of s) ≡ Err cause → read_of (in_order (a ∷ rest)) (run_of s) ≡ Err cause
-first_refused a rest s cause e = refused_first (read_of a (run_of s)) (in_order rest) cause e
+pub first_refused : (a : Stage) (rest : List Stage) (s : Sides) (cause : ShapeCause) → reading_of a (state_of s) ≡ Err cause → reading_of (in_order (a ∷ rest)) (state_of s) ≡ Err cause
+first_refused a rest s cause e = refused_first (reading_of a (state_of s)) (in_order rest) cause e
 
-later_refused : (a : Stage) (rest : List Stage) (s t : Sides) (cause : ShapeCause) → IsFollowed a s t → read_of (in_order rest) (run_of t) ≡ Err cause → read_of (in_order (a ∷ rest)) (run_of s) ≡ Err cause
-later_refused a rest s t cause f e = refused_then (read_of a (run_of s)) (in_order rest) (run_of s) (run_of t) cause f.follows e
+later_refused : (a : Stage) (rest : List Stage) (s t : Sides) (cause : ShapeCause) → IsFollowed a s t → reading_of (in_order rest) (state_of t) ≡ Err cause → reading_of (in_order (a ∷ rest)) (state_of s) ≡ Err cause
+later_refused a rest s t cause f e = refused_then (reading_of a (state_of s)) (in_order rest) (state_of s) (state_of t) cause f.follows e
 
-pub second_refused : (a b : Stage) (rest : List Stage) (s t : Sides) (cause : ShapeCause) → IsFollowed a s t → read_of b (run_of t) ≡ Err cause → read_of (in_order (a ∷ b ∷ rest)) (run_of s) ≡ Err cause
+pub second_refused : (a b : Stage) (rest : List Stage) (s t : Sides) (cause : ShapeCause) → IsFollowed a s t → reading_of b (state_of t) ≡ Err cause → reading_of (in_order (a ∷ b ∷ rest)) (state_of s) ≡ Err cause
 second_refused a b rest s t cause f e = later_refused a (b ∷ rest) s t cause f (first_refused b rest t cause e)
 
-pub third_refused : (a b c : Stage) (rest : List Stage) (s t u : Sides) (cause : ShapeCause) → IsFollowed a s t → IsFollowed b t u → read_of c (run_of u) ≡ Err cause → read_of (in_order (a ∷ b ∷ c ∷ rest)) (run_of s) ≡ Err cause
+pub third_refused : (a b c : Stage) (rest : List Stage) (s t u : Sides) (cause : ShapeCause) → IsFollowed a s t → IsFollowed b t u → reading_of c (state_of u) ≡ Err cause → reading_of (in_order (a ∷ b ∷ c ∷ rest)) (state_of s) ≡ Err cause
 third_refused a b c rest s t u cause f g e = later_refused a (b ∷ c ∷ rest) s t cause f (second_refused b c rest t u cause g e)
 
-pub fourth_refused : (a b c d : Stage) (rest : List Stage) (s t u v : Sides) (cause : ShapeCause) → IsFollowed a s t → IsFollowed b t u → IsFollowed c u v → read_of d (run_of v) ≡ Err cause
-    → read_of (in_order (a ∷ b ∷ c ∷ d ∷ rest)) (run_of s) ≡ Err cause
+pub fourth_refused : (a b c d : Stage) (rest : List Stage) (s t u v : Sides) (cause : ShapeCause) → IsFollowed a s t → IsFollowed b t u → IsFollowed c u v → reading_of d (state_of v) ≡ Err cause
+    → reading_of (in_order (a ∷ b ∷ c ∷ d ∷ rest)) (state_of s) ≡ Err cause
 fourth_refused a b c d rest s t u v cause f g h e = later_refused a (b ∷ c ∷ d ∷ rest) s t cause f (third_refused b c d rest t u v cause g h e)

@@ -1,6 +1,6 @@
 //! A normaliser whose font and hooks are rows.
 ghost use Rattle.std.specs.Prelude.{◌≡◌, refl};
-ghost use Rattle.buffer_glyphs.specs.Arranged.{kept};
+ghost use Rattle.buffer_glyphs.specs.Rewriting.{eventless_arrangement};
 ghost use Rattle.tests_stages.specs.Rows.{glyph_in, pair_in, parts_in};
 
 use buffer_core::buffer::hb_buffer_t;
@@ -35,7 +35,7 @@ impl Normalizing for RowNormalizer<'_> {
       unjoined_glyph = n.unjoined_glyph;
       splits = parts_in n.splits.now;
       composes = pair_in n.pairs.now;
-      reorders = λ run. kept run;
+      reorders = λ run. eventless_arrangement run;
     } };
 
     ghost keeps_count = { λ n run. refl };

@@ -1,5 +1,5 @@
 use Rattle.std.proofs.Common.{ap, arith, sym, ◌∙◌}
-use Rattle.buffer_glyphs.specs.Glyphs.{renamed}
+use Rattle.buffer_glyphs.specs.Glyphs.{glyphs_renumbered}
 use Rattle.buffer_glyphs.proofs.Ends.{renamed_self, StopsAt, renamed_front, stops_at}
 use Rattle.buffer_glyphs.proofs.runs.rename_front.Goals as goal
 use Rattle.buffer_glyphs.proofs.runs.rename_front.Goals.{then-loop-at-test+else-glyphs-at, else-loop-at-test}
@@ -12,4 +12,4 @@ returns c =
     renamed_front c.args.cluster c.args.low c.loop-at.at c.args.glyphs.now c.set_clusters.new.glyphs c.requires stop inv.passed c.set_clusters.ensures
 
 pub returns-then-cluster-low : goal.returns-then-cluster-low
-returns-then-cluster-low c = sym (ap (λ n. renamed c.args.cluster n c.args.glyphs.now) (sym c.if-cluster-low.true) ∙ renamed_self c.args.cluster c.args.glyphs.now)
+returns-then-cluster-low c = sym (ap (λ n. glyphs_renumbered c.args.cluster n c.args.glyphs.now) (sym c.if-cluster-low.true) ∙ renamed_self c.args.cluster c.args.glyphs.now)

@@ -1,5 +1,5 @@
 use Rattle.std.proofs.Common.{arith, ap, ◌∙◌, ◌≤◌, length}
-use Rattle.buffer_groups.specs.DeletionWalk.{Passed}
+use Rattle.buffer_groups.specs.DeletionWalk.{DeletionState}
 use Rattle.buffer_groups.proofs.Walking.{settled_front}
 use Rattle.buffer_groups.proofs.Passing.{passes_on, passes_begin, passes_end}
 use Rattle.buffer_groups.proofs.deletion.delete_within.Goals as goal
@@ -27,10 +27,10 @@ returns-clause-within g c = omega (arith, c.loop-at.invariant.sound.few)
 pub returns-clause-glyphs : goal.returns-clause-glyphs
 returns-clause-glyphs g c = λ goes same.
     let few : c.loop-at.walk.kept ≤ length c.loop-at.glyphs = omega (arith, c.loop-at.invariant.sound.few) in
-    settled_front c.loop-at.walk.due c.loop-at.walk.kept c.loop-at.glyphs c.settle.new.glyphs few c.settle.ensures ∙ ap (λ (w : Passed). w.kept) (passes_end c.args.level goes c.loop-at.at c.loop-at.walk c.loop-at.glyphs c.loop-at.positions _ (omega arith) (c.loop-at.invariant.rest goes same))
+    settled_front c.loop-at.walk.due c.loop-at.walk.kept c.loop-at.glyphs c.settle.new.glyphs few c.settle.ensures ∙ ap (λ (w : DeletionState). w.kept) (passes_end c.args.level goes c.loop-at.at c.loop-at.walk c.loop-at.glyphs c.loop-at.positions _ (omega arith) (c.loop-at.invariant.rest goes same))
 
 pub returns-clause-positions : goal.returns-clause-positions
-returns-clause-positions g c = λ goes same. ap (λ (w : Passed). w.kept_positions) (passes_end c.args.level goes c.loop-at.at c.loop-at.walk c.loop-at.glyphs c.loop-at.positions _ (omega arith) (c.loop-at.invariant.rest goes same))
+returns-clause-positions g c = λ goes same. ap (λ (w : DeletionState). w.kept_positions) (passes_end c.args.level goes c.loop-at.at c.loop-at.walk c.loop-at.glyphs c.loop-at.positions _ (omega arith) (c.loop-at.invariant.rest goes same))
 
 pub returns-clause-marked : goal.returns-clause-marked
-returns-clause-marked g c = λ goes same. ap (λ (w : Passed). w.is_marked) (passes_end c.args.level goes c.loop-at.at c.loop-at.walk c.loop-at.glyphs c.loop-at.positions _ (omega arith) (c.loop-at.invariant.rest goes same))
+returns-clause-marked g c = λ goes same. ap (λ (w : DeletionState). w.is_marked) (passes_end c.args.level goes c.loop-at.at c.loop-at.walk c.loop-at.glyphs c.loop-at.positions _ (omega arith) (c.loop-at.invariant.rest goes same))

@@ -1,5 +1,5 @@
 use Rattle.std.proofs.Common.{◌-◌, arith}
-use Rattle.buffer_stages.specs.Lemmas.Moved.{part_moved}
+use Rattle.buffer_stages.specs.Lemmas.Moves.{part_moved}
 use Rattle.buffer_stages.proofs.moves.rotate.Goals as goal
 
 pub returns : goal.returns

@@ -6,7 +6,7 @@ use Rattle.buffer_lists.specs.Known.{HasOrder}
 use Rattle.buffer_core.specs.Sides.{Sides, all_glyphs, items_of}
 use Rattle.buffer_core.specs.Lending.{with_refilled}
 use Rattle.buffer_stages.specs.SyllableBuffers.{IsRewritten}
-use Rattle.buffer_stages.specs.Parts.{glyph_masked, masked_all}
+use Rattle.buffer_stages.specs.Parts.{glyph_masked, items_with_features}
 use Rattle.buffer_stages.specs.Lemmas.Parts.{clusters_masked, mask_rewrites, order_kept, part_clusters}
 use Rattle.buffer_stages.proofs.parts.add_mask.Goals as goal
 
@@ -19,7 +19,7 @@ returns c =
     let s = c.args.buffer.now in
     let gs = c.mask_within.new.glyphs in
     let same = c.known_order-known.ensures.same in
-    let done : Sides → Type 0 = λ t. IsRewritten (masked_all bits (slice_range (items_of s) start end)) start end s t in
+    let done : Sides → Type 0 = λ t. IsRewritten (items_with_features bits (slice_range (items_of s) start end)) start end s t in
     let masked : List hb_glyph_info_t → List hb_glyph_info_t = λ hs. take start hs ++ map (glyph_masked bits) (slice_range hs start end) ++ drop end hs in
     subst done (sym c.keep_order.ensures) (subst (λ t. done (with_refilled gs t)) (sym same)
     (mask_rewrites start end bits gs s r.ready r.ordered r.within (c.mask_within.ensures ∙ ap masked c.info_slice_mut.ensures.value ∙ ap (λ t. masked (all_glyphs t)) same)))

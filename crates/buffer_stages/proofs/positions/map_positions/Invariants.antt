@@ -1,6 +1,6 @@
 use Rattle.std.proofs.Common.{◌≡◌, length}
 use Rattle.buffer_glyphs.specs.Items.{Item, Position}
-use Rattle.buffer_stages.specs.Places.{MakesPositions}
+use Rattle.buffer_stages.specs.PositionMaps.{MakesPositions}
 use Rattle.buffer_core.specs.Sides.{all_glyphs}
 use Rattle.buffer_stages.proofs.Placing.{AreOnlyPlaced, AreWritten}
 use Rattle.buffer_stages.proofs.positions.map_positions.Given as goal

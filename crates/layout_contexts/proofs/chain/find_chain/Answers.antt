@@ -1,7 +1,7 @@
 use Rattle.std.proofs.Common.{◌≡◌, Ok, sym, ap, ◌∙◌, arith}
 use Rattle.buffer_glyphs.specs.Items.{item_of, strip}
-use Rattle.layout_match.specs.Applied.{applied_of, own_search}
-use Rattle.layout_match.specs.Matches.{asks_of, input_end, input_indices, reached}
+use Rattle.layout_match.specs.Applied.{apply_context_of, own_search}
+use Rattle.layout_match.specs.Matches.{answers_of, input_end, input_indices, sequence_end}
 use Rattle.layout_match.specs.Sequences.{tests_of}
 use Rattle.buffer_stages.proofs.Lemmas.Glyphs.{first_item}
 use Rattle.buffer_stages.specs.Performing.{cut_with}
@@ -14,19 +14,19 @@ pub returns-then-not-fits-clause-says : goal.returns-then-not-fits-clause-says
 returns-then-not-fits-clause-says c = λ nest.
     let s = c.args.buffer.now in
     let g = c.cur.result.now in
-    other_first nest (applied_of c.args.ctx.now) (chain_of c.args.rule.now) (item_of g) (cut_with c.args.ctx.now.random_state s) (first_item s.ahead g c.cur.ensures) (sym c.fits.ensures ∙ c.if-not-fits.true)
+    other_first nest (apply_context_of c.args.ctx.now) (chain_of c.args.rule.now) (item_of g) (cut_with c.args.ctx.now.random_state s) (first_item s.ahead g c.cur.ensures) (sym c.fits.ensures ∙ c.if-not-fits.true)
 
 pub returns-then-len-gt-MAX_CONTEXT_LENGTH-clause-says : goal.returns-then-len-gt-MAX_CONTEXT_LENGTH-clause-says
 returns-then-len-gt-MAX_CONTEXT_LENGTH-clause-says c = λ nest.
     let s = c.args.buffer.now in
     let g = c.cur.result.now in
-    too_many nest (applied_of c.args.ctx.now) (chain_of c.args.rule.now) (item_of g) (cut_with c.args.ctx.now.random_state s) (first_item s.ahead g c.cur.ensures) (omega (arith, c.len.ensures, c.if-len-gt-MAX_CONTEXT_LENGTH.true))
+    too_many nest (apply_context_of c.args.ctx.now) (chain_of c.args.rule.now) (item_of g) (cut_with c.args.ctx.now.random_state s) (first_item s.ahead g c.cur.ensures) (omega (arith, c.len.ensures, c.if-len-gt-MAX_CONTEXT_LENGTH.true))
 
 pub returns-in-Err-clause-says : goal.returns-in-Err-clause-says
 returns-in-Err-clause-says c = λ nest.
     let s = c.args.buffer.now in
     let g = c.cur.result.now in
-    let a = applied_of c.args.ctx.now in
+    let a = apply_context_of c.args.ctx.now in
     let found = ap (λ ts. input_end (own_search a (strip s.ahead)) ts (strip s.ahead)) (sym c.behind_first-input.ensures) ∙ sym c.match_input.ensures.end ∙ c.in-Err.is in
     input_fails nest a (chain_of c.args.rule.now) (item_of g) (cut_with c.args.ctx.now.random_state s) c.in-Err.ahead (first_item s.ahead g c.cur.ensures) (sym c.fits.ensures ∙ c.if-not-fits.false) (omega (arith, c.len.ensures, c.if-len-gt-MAX_CONTEXT_LENGTH.false)) found
 
@@ -34,7 +34,7 @@ pub returns-in-Err-match_lookahead-clause-says : goal.returns-in-Err-match_looka
 returns-in-Err-match_lookahead-clause-says c = λ nest.
     let s = c.args.buffer.now in
     let g = c.cur.result.now in
-    let a = applied_of c.args.ctx.now in
+    let a = apply_context_of c.args.ctx.now in
     let found = ap (λ ts. input_end (own_search a (strip s.ahead)) ts (strip s.ahead)) (sym c.behind_first-input.ensures) ∙ sym c.match_input.ensures.end ∙ c.in-Ok.is in
     lookahead_fails nest a (chain_of c.args.rule.now) (item_of g) (cut_with c.args.ctx.now.random_state s) c.in-Ok.end c.in-Err-match_lookahead.ahead (first_item s.ahead g c.cur.ensures) (sym c.fits.ensures ∙ c.if-not-fits.false) (omega (arith, c.len.ensures, c.if-len-gt-MAX_CONTEXT_LENGTH.false)) found
     (sym c.match_lookahead.ensures.end ∙ c.in-Err-match_lookahead.is)
@@ -43,7 +43,7 @@ pub returns-in-Ok-match_backtrack-clause-says : goal.returns-in-Ok-match_backtra
 returns-in-Ok-match_backtrack-clause-says c = λ nest.
     let s = c.args.buffer.now in
     let g = c.cur.result.now in
-    let a = applied_of c.args.ctx.now in
+    let a = apply_context_of c.args.ctx.now in
     let found = ap (λ ts. input_end (own_search a (strip s.ahead)) ts (strip s.ahead)) (sym c.behind_first-input.ensures) ∙ sym c.match_input.ensures.end ∙ c.in-Ok.is in
     all_fits nest a (chain_of c.args.rule.now) (item_of g) (cut_with c.args.ctx.now.random_state s) c.match_input.new.match_positions.items c.in-Ok.end c.in-Ok-match_lookahead.ahead c.in-Ok-match_backtrack.back (first_item s.ahead g c.cur.ensures) (sym c.fits.ensures ∙ c.if-not-fits.false)
     (omega (arith, c.len.ensures, c.if-len-gt-MAX_CONTEXT_LENGTH.false)) found (sym c.match_lookahead.ensures.end ∙ c.in-Ok-match_lookahead.is) (sym c.match_backtrack.ensures.end ∙ c.in-Ok-match_backtrack.is)
@@ -52,9 +52,9 @@ returns-in-Ok-match_backtrack-clause-says c = λ nest.
 pub returns-in-Ok-match_backtrack-clause-inside : goal.returns-in-Ok-match_backtrack-clause-inside
 returns-in-Ok-match_backtrack-clause-inside c =
     let s = c.args.buffer.now in
-    let a = applied_of c.args.ctx.now in
-    let asks = asks_of (own_search a (strip s.ahead)) (tests_of c.behind_first-input.result) in
-    let reaches : reached asks 1 (strip s.ahead) ≡ Ok c.in-Ok.end = sym c.match_input.ensures.end ∙ c.in-Ok.is in (
+    let a = apply_context_of c.args.ctx.now in
+    let asks = answers_of (own_search a (strip s.ahead)) (tests_of c.behind_first-input.result) in
+    let reaches : sequence_end asks 1 (strip s.ahead) ≡ Ok c.in-Ok.end = sym c.match_input.ensures.end ∙ c.in-Ok.is in (
       c.in-Ok-match_backtrack.ensures.inside,
       c.in-Ok-match_lookahead.ensures.inside,
       c.in-Ok.ensures.inside,
@@ -66,7 +66,7 @@ pub returns-in-Err-match_backtrack-clause-says : goal.returns-in-Err-match_backt
 returns-in-Err-match_backtrack-clause-says c = λ nest.
     let s = c.args.buffer.now in
     let g = c.cur.result.now in
-    let a = applied_of c.args.ctx.now in
+    let a = apply_context_of c.args.ctx.now in
     let found = ap (λ ts. input_end (own_search a (strip s.ahead)) ts (strip s.ahead)) (sym c.behind_first-input.ensures) ∙ sym c.match_input.ensures.end ∙ c.in-Ok.is in
     backtrack_fails nest a (chain_of c.args.rule.now) (item_of g) (cut_with c.args.ctx.now.random_state s) c.in-Ok.end c.in-Ok-match_lookahead.ahead c.in-Err-match_backtrack.back (first_item s.ahead g c.cur.ensures) (sym c.fits.ensures ∙ c.if-not-fits.false)
     (omega (arith, c.len.ensures, c.if-len-gt-MAX_CONTEXT_LENGTH.false)) found (sym c.match_lookahead.ensures.end ∙ c.in-Ok-match_lookahead.is) (sym c.match_backtrack.ensures.end ∙ c.in-Err-match_backtrack.is)

@@ -1,5 +1,5 @@
 use Rattle.std.proofs.Common.{◌<◌, ◌^◌, length, refl, arith}
-use Rattle.layout_match.specs.Applied.{applied_of}
+use Rattle.layout_match.specs.Applied.{apply_context_of}
 use Rattle.layout_contexts.specs.Fitting.{chain_of}
 use Rattle.layout_contexts.proofs.Matching.{matched}
 use Rattle.layout_contexts.proofs.Lemmas.Rising.{room_to_move}
@@ -15,5 +15,5 @@ pub returns-in-Fits : goal.returns-in-Fits
 returns-in-Fits c =
     let ctx = c.args.ctx.now in
     let s = c.args.buffer.now in
-    matched (applied_of ctx) (chain_of c.args.rule.now) ctx.random_state c.in-Fits.back c.in-Fits.end c.in-Fits.ahead c.backtrack_len-front.result _ c.find_chain.new.places.items c.move_places.new.places.items s c.mark_match.new.buffer c.in-Fits.ensures.says c.in-Fits.ensures.inside
+    matched (apply_context_of ctx) (chain_of c.args.rule.now) ctx.random_state c.in-Fits.back c.in-Fits.end c.in-Fits.ahead c.backtrack_len-front.result _ c.find_chain.new.places.items c.move_places.new.places.items s c.mark_match.new.buffer c.in-Fits.ensures.says c.in-Fits.ensures.inside
     c.backtrack_len-front.ensures.count c.move_places.ensures refl c.mark_match.ensures

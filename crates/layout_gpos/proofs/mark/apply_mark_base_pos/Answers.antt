@@ -1,5 +1,5 @@
 use Rattle.std.proofs.Common.{sym, ◌∙◌}
-use Rattle.layout_match.specs.Applied.{applied_of}
+use Rattle.layout_match.specs.Applied.{apply_context_of}
 use Rattle.layout_gpos.specs.declared.bases.Sought.TheVariants.{Base}
 use Rattle.layout_gpos.specs.Bases.{any_sought}
 use Rattle.layout_gpos.specs.Marks.{mark_to_base}
@@ -10,12 +10,12 @@ use Rattle.layout_gpos.proofs.mark.apply_mark_base_pos.Goals as goal
 
 pub returns-clause-performed : goal.returns-clause-performed
 returns-clause-performed c = λ r.
-    base_mark r c.as_glyph.result.0 (applied_of c.args.ctx.now) c.args.subtable.now c.in-Some.mark c.found_before-found.result c.attach_found.result c.args.buffer.now c.attach_found.new.buffer c.cur.result.now c.cur.ensures c.as_glyph.ensures
+    base_mark r c.as_glyph.result.0 (apply_context_of c.args.ctx.now) c.args.subtable.now c.in-Some.mark c.found_before-found.result c.attach_found.result c.args.buffer.now c.attach_found.new.buffer c.cur.result.now c.cur.ensures c.as_glyph.ensures
     (sym c.mark.ensures ∙ c.in-Some.is) c.found_before-found.ensures.found (c.attach_found.ensures r)
 
 pub returns-clause-kept : goal.returns-clause-kept
 returns-clause-kept c =
-    let a = applied_of c.args.ctx.now in
+    let a = apply_context_of c.args.ctx.now in
     kept_on (any_sought Base a) (mark_to_base a c.args.subtable.now) c.attach_found.result c.found_before-found.new.last c.args.buffer.now c.attach_found.new.buffer c.found_before-found.ensures.kept (base_keeps a c.args.subtable.now)
     (λ r. base_mark r c.as_glyph.result.0 a c.args.subtable.now c.in-Some.mark c.found_before-found.result c.attach_found.result c.args.buffer.now c.attach_found.new.buffer c.cur.result.now c.cur.ensures c.as_glyph.ensures
     (sym c.mark.ensures ∙ c.in-Some.is) c.found_before-found.ensures.found (c.attach_found.ensures r))

@@ -3,7 +3,7 @@ use Rattle.std.proofs.lemmas.Option.{slice_get-get_or}
 use Rattle.buffer_glyphs.specs.Items.{item_of, strip}
 use Rattle.buffer_core.specs.Settings.{next_lig_id}
 use Rattle.buffer_stages.specs.Actions.{Cut}
-use Rattle.layout_gsub.specs.Ligating.{after_parts, following_items, items_at, last_place, passed_items}
+use Rattle.layout_gsub.specs.Ligating.{after_components, following_items, items_at, last_index, passed_items}
 use Rattle.layout_gsub.specs.Uniting.{IsMerged}
 use Rattle.layout_gsub.proofs.LigatureMade.{after_is, after_small, first_is, last_ends, ligature_made, number_is, passed_is}
 use Rattle.layout_gsub.proofs.ligate.ligate_input.Goals as goal
@@ -21,7 +21,7 @@ returns-clause-made c = λ r.
     let end = c.args.end in
     let gdef = c.args.face.now.gdef in
     let p = c.new-parts.result in
-    let told = c.new-parts.ensures in
+    let scratch_flags = c.new-parts.ensures in
     let id = c.merge_parts-lig_id.result in
     let g = c.cur.result.now in
     let x = item_of c.ligature_info-first.result in
@@ -33,15 +33,15 @@ returns-clause-made c = λ r.
     let before : end - 1 < length s.ahead = omega (arith, last, ends, within) in
     let h = get_or s.ahead (end - 1) g in
     let at : slice_get s.ahead (end - 1) ≡ _ = slice_get-get_or s.ahead (end - 1) g before in
-    let id-is = number_is id s.lig_id p.have_own_number ps told.own c.merge_parts-lig_id.ensures.given in
+    let id-is = number_is id s.lig_id p.have_own_number ps scratch_flags.own c.merge_parts-lig_id.ensures.given in
     let P : Bool → Type 0 = λ own. IsMerged end (if own then next_lig_id s.lig_id else s.lig_id) s a in
-    let merged = subst P told.own c.merge_parts-lig_id.ensures.merged in
+    let merged = subst P scratch_flags.own c.merge_parts-lig_id.ensures.merged in
     let ahead-a = ap (λ (t : Cut). t.rest) merged.cut_is in
-    let first = first_is gdef c.args.glyph id p.component_count s.lig_id p.have_own_number ps x (item_of g) told.own told.count id-is c.ligature_info-first.ensures.item in
+    let first = first_is gdef c.args.glyph id p.component_count s.lig_id p.have_own_number ps x (item_of g) scratch_flags.own scratch_flags.count id-is c.ligature_info-first.ensures.item in
     let passed = passed_items p.have_own_number id c.from.result p.first_components 1 others (strip a.ahead) in
-    let is-passed = passed_is id c.from.result p.first_components s.lig_id p.have_own_number others s a told.own id-is c.from.ensures told.first ahead-a in
+    let is-passed = passed_is id c.from.result p.first_components s.lig_id p.have_own_number others s a scratch_flags.own id-is c.from.ensures scratch_flags.first ahead-a in
     let behind = if p.are_marks || (p.last_lig_id == 0) then strip b.ahead else following_items id p.last_lig_id p.component_count p.last_components (strip b.ahead) in
-    let tells = told.last h at in
-    let is-ahead = after_is p.are_marks p.last_lig_id p.last_components p.component_count id end others s h (strip b.ahead) ends at told.marks told.count tells.0 tells.1 ∙ ap (λ n. after_parts ps n (slice_get (strip s.ahead) (last_place (0 ∷ others))) (strip b.ahead)) id-is in
+    let tells = scratch_flags.last h at in
+    let is-ahead = after_is p.are_marks p.last_lig_id p.last_components p.component_count id end others s h (strip b.ahead) ends at scratch_flags.marks scratch_flags.count tells.0 tells.1 ∙ ap (λ n. after_components ps n (slice_get (strip s.ahead) (last_index (0 ∷ others))) (strip b.ahead)) id-is in
     ligature_made gdef c.args.glyph end r others x passed behind s a b new g small ends within c.cur.ensures merged first is-passed c.in_ok-unite_parts.ensures.united is-ahead
     (λ k. after_small (p.are_marks || (p.last_lig_id == 0)) id p.last_lig_id p.component_count p.last_components (strip b.ahead) ∙ k) c.renumber_behind.ensures

@@ -53,15 +53,15 @@ loop-at-preserved c =
     let Q : ℕ → Type 0 = λ j. ArePassedAs (passed_item n.renumbers j m.ended m.own) (i - c.loop-at.from) c.loop-at.buffer mid in
     let passed = subst Q v.number (subst P v.renumbers c.in_ok-pass_between.ensures.passed) in
     let gone = next_gone (item_of c.args.first) n.renumbers n.lig_id n.ended n.own xs s k c.loop-at.from m.ended m.own i c.loop-at.buffer mid next g c.loop-at-test.true refl there c.cur.ensures v.united passed c.skip_glyph.ensures.skipped c.skip_glyph.ensures.origins in
-    let told = c.behind-numbering.ensures.numbering in
+    let scratch_flags = c.behind-numbering.ensures.numbering in
     let E : ℕ → Type 0 = λ e. IsUniting (item_of c.args.first) n.renumbers n.lig_id n.ended n.own xs s (k + 1) (i + 1) e (lig_num_comps (item_of g)) next in
     let O : ℕ → Type 0 = λ o. IsUniting (item_of c.args.first) n.renumbers n.lig_id n.ended n.own xs s (k + 1) (i + 1) r.ended o next in
     let long = c.behind-numbering.ensures.bound in
     let before = v.bound in
     record {
-      united = subst O (sym (ap (λ (t : PartNumbering). t.own) told)) (subst E (sym (ap (λ (t : PartNumbering). t.ended) told)) gone);
-      renumbers = ap (λ (t : PartNumbering). t.renumbers) told ∙ v.renumbers;
-      number = ap (λ (t : PartNumbering). t.lig_id) told ∙ v.number;
+      united = subst O (sym (ap (λ (t : PartNumbering). t.own) scratch_flags)) (subst E (sym (ap (λ (t : PartNumbering). t.ended) scratch_flags)) gone);
+      renumbers = ap (λ (t : PartNumbering). t.renumbers) scratch_flags ∙ v.renumbers;
+      number = ap (λ (t : PartNumbering). t.lig_id) scratch_flags ∙ v.number;
       bound = omega (arith, long, before);
     }
 

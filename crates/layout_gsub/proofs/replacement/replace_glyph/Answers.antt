@@ -1,5 +1,5 @@
 use Rattle.std.proofs.Common.{ℕ, ◌≤◌, Ok, sym, ap, ◌∙◌, arith}
-use Rattle.buffer_core.specs.Merging.{with_renumbered}
+use Rattle.buffer_core.specs.Merging.{with_replaced_glyph}
 use Rattle.layout_gsub.proofs.Replaced.{glyph_performed}
 use Rattle.layout_gsub.proofs.replacement.replace_glyph.Goals as goal
 
@@ -8,5 +8,5 @@ returns-then-held c =
     let mid = c.set_glyph_props.new.buffer in
     let ctx = c.args.ctx.now in
     let small : c.args.glyph ≤ 65535 = omega arith in
-    let after = c.in_ok-held.ensures.replaced (ap Ok c.if-held.true) ∙ ap (λ (k : ℕ). with_renumbered k mid) c.from.ensures in
+    let after = c.in_ok-held.ensures.replaced (ap Ok c.if-held.true) ∙ ap (λ (k : ℕ). with_replaced_glyph k mid) c.from.ensures in
     glyph_performed ctx.face.now.gdef c.args.glyph ctx.random_state c.substituted_props-props.result c.args.buffer.now mid c.replace_glyph.new.self c.cur.result.now c.cur.ensures c.requires.there small c.substituted_props-props.ensures (c.set_glyph_props.ensures.set c.cur.result.now c.cur.ensures) (sym c.in_ok-held.ensures.held ∙ c.if-held.true) after c.in_ok-held.ensures.origins

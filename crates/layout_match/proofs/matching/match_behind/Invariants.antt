@@ -1,10 +1,10 @@
 use Rattle.std.proofs.Common.{◌≡◌, ◌≤◌, length, drop, reverse}
 use Rattle.buffer_glyphs.specs.Items.{strip}
-use Rattle.layout_match.specs.Matches.{asks_of, reached}
+use Rattle.layout_match.specs.Matches.{answers_of, sequence_end}
 use Rattle.layout_match.specs.Searches.{search_of}
 use Rattle.layout_match.specs.Sequences.{tests_of}
 use Rattle.layout_match.proofs.matching.match_behind.Given as goal
 
 -- what is left decides
 abbrev pub invariant-loop-k : goal.invariant-loop-k
-invariant-loop-k l = (l.from ≤ length l.buffer.behind) × (reached (drop l.k (asks_of (search_of l.search) (tests_of l.sequence))) l.from (reverse (strip l.buffer.behind)) ≡ reached (asks_of (search_of l.search) (tests_of l.sequence)) 0 (reverse (strip l.buffer.behind)))
+invariant-loop-k l = (l.from ≤ length l.buffer.behind) × (sequence_end (drop l.k (answers_of (search_of l.search) (tests_of l.sequence))) l.from (reverse (strip l.buffer.behind)) ≡ sequence_end (answers_of (search_of l.search) (tests_of l.sequence)) 0 (reverse (strip l.buffer.behind)))

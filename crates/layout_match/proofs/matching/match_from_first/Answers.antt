@@ -1,7 +1,7 @@
 use Rattle.std.proofs.Common.{◌≡◌, ◌+◌, ◌∷◌, Ok, length, sym, ap, ◌∙◌, arith, ◌<◌}
 use Rattle.buffer_glyphs.specs.Items.{strip}
 use Rattle.layout_match.specs.Searches.{answer, search_of}
-use Rattle.layout_match.specs.Matches.{asks_of, indices, nearest_from}
+use Rattle.layout_match.specs.Matches.{answers_of, indices, nearest_from}
 use Rattle.layout_match.specs.Sequences.{test_at, tests_of}
 use Rattle.layout_match.proofs.Each.{noted_all, noted_low, noted_one, one_reached}
 use Rattle.layout_match.proofs.matching.match_from_first.Goals as goal
@@ -10,7 +10,7 @@ pub returns-in-Err-clause-positions : goal.returns-in-Err-clause-positions
 returns-in-Err-clause-positions c =
     let xs = strip c.args.buffer.now.ahead in
     let lt : c.loop-k.k < length (tests_of c.args.sequence.now) = omega (arith, c.loop-k-test.true, c.len-k-end.ensures) in
-    noted_all (search_of c.args.search.now) (tests_of c.args.sequence.now) c.loop-k.k c.loop-k.from c.in-Err.end xs c.loop-k.match_positions.items (0 ∷ indices (asks_of (search_of c.args.search.now) (tests_of c.args.sequence.now)) 1 xs) lt (rw c.in-Err.is at c.nearest_ahead.ensures.found) c.loop-k.invariant.3
+    noted_all (search_of c.args.search.now) (tests_of c.args.sequence.now) c.loop-k.k c.loop-k.from c.in-Err.end xs c.loop-k.match_positions.items (0 ∷ indices (answers_of (search_of c.args.search.now) (tests_of c.args.sequence.now)) 1 xs) lt (rw c.in-Err.is at c.nearest_ahead.ensures.found) c.loop-k.invariant.3
 
 pub loop-k-preserved : goal.loop-k-preserved
 loop-k-preserved c =
@@ -24,6 +24,6 @@ loop-k-preserved c =
       omega (arith, c.in-Ok.ensures.inside),
       c.push-in-Ok.ensures.len ∙ ap (λ n. n + 1) c.loop-k.invariant.1,
       sym (one_reached s tests k c.loop-k.from p xs lt found) ∙ c.loop-k.invariant.2,
-      noted_one s tests k c.loop-k.from p xs c.loop-k.match_positions.items c.push-in-Ok.new.self.items (0 ∷ indices (asks_of s tests) 1 xs) lt found c.loop-k.invariant.3 c.push-in-Ok.ensures.items,
+      noted_one s tests k c.loop-k.from p xs c.loop-k.match_positions.items c.push-in-Ok.new.self.items (0 ∷ indices (answers_of s tests) 1 xs) lt found c.loop-k.invariant.3 c.push-in-Ok.ensures.items,
       noted_low (length c.args.buffer.now.ahead) p c.loop-k.match_positions.items c.push-in-Ok.new.self.items c.loop-k.invariant.4 c.in-Ok.ensures.inside c.push-in-Ok.ensures.items,
     )

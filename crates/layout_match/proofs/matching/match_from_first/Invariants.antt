@@ -1,7 +1,7 @@
 use Rattle.std.proofs.Common.{◌≡◌, ◌≤◌, ◌<◌, ◌+◌, ◌++◌, ◌∷◌, length, drop}
 use Rattle.std.specs.List.{All}
 use Rattle.buffer_glyphs.specs.Items.{strip}
-use Rattle.layout_match.specs.Matches.{asks_of, indices, reached}
+use Rattle.layout_match.specs.Matches.{answers_of, indices, sequence_end}
 use Rattle.layout_match.specs.Searches.{search_of}
 use Rattle.layout_match.specs.Sequences.{tests_of}
 use Rattle.layout_match.proofs.matching.match_from_first.Given as goal
@@ -9,6 +9,6 @@ use Rattle.layout_match.proofs.matching.match_from_first.Given as goal
 -- what is left decides
 abbrev pub invariant-loop-k : goal.invariant-loop-k
 invariant-loop-k l = (l.from ≤ length l.buffer.ahead) × (length l.match_positions.items ≡ l.k + 1)
-    × (reached (drop l.k (asks_of (search_of l.search) (tests_of l.sequence))) l.from (strip l.buffer.ahead) ≡ reached (asks_of (search_of l.search) (tests_of l.sequence)) 1 (strip l.buffer.ahead))
-    × (l.match_positions.items ++ indices (drop l.k (asks_of (search_of l.search) (tests_of l.sequence))) l.from (strip l.buffer.ahead) ≡ 0 ∷ indices (asks_of (search_of l.search) (tests_of l.sequence)) 1 (strip l.buffer.ahead))
+    × (sequence_end (drop l.k (answers_of (search_of l.search) (tests_of l.sequence))) l.from (strip l.buffer.ahead) ≡ sequence_end (answers_of (search_of l.search) (tests_of l.sequence)) 1 (strip l.buffer.ahead))
+    × (l.match_positions.items ++ indices (drop l.k (answers_of (search_of l.search) (tests_of l.sequence))) l.from (strip l.buffer.ahead) ≡ 0 ∷ indices (answers_of (search_of l.search) (tests_of l.sequence)) 1 (strip l.buffer.ahead))
     × All (λ q. q < length l.buffer.ahead) l.match_positions.items

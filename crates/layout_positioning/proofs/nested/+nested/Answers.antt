@@ -3,9 +3,9 @@ use Rattle.std.proofs.lemmas.Option.{get_or_from_slice_get}
 use Rattle.buffer_common.specs.declared.direction.Direction.{Direction}
 use Rattle.layout_subtables.specs.declared.context.ContextSubtable.{ContextSubtable}
 use Rattle.layout_subtables.specs.declared.context.SequenceLookupRecord.{SequenceLookupRecord}
-use Rattle.layout_match.specs.Applied.{applied_of}
+use Rattle.layout_match.specs.Applied.{apply_context_of}
 use Rattle.buffer_stages.specs.Actions.{Action, first_rule}
-use Rattle.buffer_stages.specs.Performing.{Performed, cut_with}
+use Rattle.buffer_stages.specs.Performing.{IsPerformed, cut_with}
 use Rattle.buffer_stages.proofs.Lemmas.Frames.{still_direction}
 use Rattle.buffer_stages.proofs.Lemmas.Performed.{passed_all}
 use Rattle.buffer_stages.proofs.Lemmas.Firsts.{first_acts, first_refuses, first_passes}
@@ -13,7 +13,7 @@ use Rattle.layout_contexts.specs.Chains.{Chain, chain_rule, context_subtable}
 use Rattle.layout_contexts.specs.Fitting.{IsMatched, chain_of}
 use Rattle.layout_contexts.specs.Nested.{each_nested}
 use Rattle.layout_contexts.specs.Nesting.{Walking}
-use Rattle.layout_contexts.specs.Records.{IsBegun}
+use Rattle.layout_contexts.specs.Records.{IsRecordBegun}
 use Rattle.layout_contexts.specs.Rules.{chains_of}
 use Rattle.layout_contexts.proofs.Lemmas.Acting.{match_inside, rule_acted, rule_failed}
 use Rattle.layout_contexts.proofs.Lemmas.Inside.{then_stays}
@@ -25,7 +25,7 @@ use Rattle.layout_gpos.specs.Singles.{single_subtable}
 use Rattle.layout_gpos.proofs.Lemmas.Left.{first_left, mark_keeps, pair_keeps, single_keeps}
 use Rattle.layout_subtables.specs.declared.cursive.CursivePos.{CursivePos}
 use Rattle.layout_subtables.specs.declared.single_pos.SinglePos.{SinglePos}
-use Rattle.layout_positioning.specs.Lookups.{nested, nested_act}
+use Rattle.layout_positioning.specs.Lookups.{nested_actions, nested_act}
 use Rattle.layout_positioning.proofs.Kept.{begun_kept, behind_kept, matched_kept, performed_kept, unmatched_kept}
 use Rattle.layout_positioning.proofs.Left.{cursive_keeps}
 use Rattle.layout_positioning.proofs.Levels.{no_depth, some_depth, record_lookup_refused}
@@ -33,40 +33,40 @@ use Rattle.layout_positioning.proofs.nested.+nested.Goals as goal
 
 pub apply_context-returns-then-not-is_tried_at-clause-performs : goal.apply_context-returns-then-not-is_tried_at-clause-performs
 apply_context-returns-then-not-is_tried_at-clause-performs t c =
-    not_tried (nested c.args.table.now.lookups c.args.depth c.args.buffer.now.direction (applied_of c.args.ctx.now)) (applied_of c.args.ctx.now) c.args.subtable.now c.is_tried_at.result c.args.ctx.now.random_state c.args.buffer.now c.cur.result.now c.cur.ensures c.is_tried_at.ensures c.if-not-is_tried_at.true
+    not_tried (nested_actions c.args.table.now.lookups c.args.depth c.args.buffer.now.direction (apply_context_of c.args.ctx.now)) (apply_context_of c.args.ctx.now) c.args.subtable.now c.is_tried_at.result c.args.ctx.now.random_state c.args.buffer.now c.cur.result.now c.cur.ensures c.is_tried_at.ensures c.if-not-is_tried_at.true
 
 pub apply_context-returns-clause-performs : goal.apply_context-returns-clause-performs
 apply_context-returns-clause-performs t c =
-    tried_there (nested c.args.table.now.lookups c.args.depth c.args.buffer.now.direction (applied_of c.args.ctx.now)) (applied_of c.args.ctx.now) c.args.subtable.now c.is_tried_at.result c.args.ctx.now.random_state c.args.ctx.now.random_state c.apply_rules.result c.args.buffer.now c.apply_rules.new.buffer c.cur.result.now c.cur.ensures c.is_tried_at.ensures c.if-not-is_tried_at.false c.apply_rules.ensures.performs
+    tried_there (nested_actions c.args.table.now.lookups c.args.depth c.args.buffer.now.direction (apply_context_of c.args.ctx.now)) (apply_context_of c.args.ctx.now) c.args.subtable.now c.is_tried_at.result c.args.ctx.now.random_state c.args.ctx.now.random_state c.apply_rules.result c.args.buffer.now c.apply_rules.new.buffer c.cur.result.now c.cur.ensures c.is_tried_at.ensures c.if-not-is_tried_at.false c.apply_rules.ensures.performs
 
 pub apply_contexts-returns-in-Ok-true-clause-performs : goal.apply_contexts-returns-in-Ok-true-clause-performs
 apply_contexts-returns-in-Ok-true-clause-performs t c =
     let i = c.loop-subtable.invariant.passed in
-    let act : ContextSubtable → Direction → Action = λ x d. context_subtable (nested c.args.table.now.lookups c.args.depth d (applied_of c.args.ctx.now)) (applied_of c.args.ctx.now) x in
+    let act : ContextSubtable → Direction → Action = λ x d. context_subtable (nested_actions c.args.table.now.lookups c.args.depth d (apply_context_of c.args.ctx.now)) (apply_context_of c.args.ctx.now) x in
     first_acts act c.args.subtables.now c.loop-subtable.subtable-index c.subtable-item.result c.loop-subtable.buffer.direction c.args.buffer.now.direction c.args.ctx.now.random_state c.args.ctx.now.random_state c.args.ctx.now.random_state c.in-Ok-true.field-0 c.args.buffer.now c.loop-subtable.buffer c.apply_context.new.buffer c.loop-subtable-test.true c.subtable-item.is i (still_direction c.args.buffer.now c.loop-subtable.buffer i.still) refl c.in-Ok-true.field-0-test c.in-Ok-true.ensures.performs
 
 pub apply_contexts-returns-in-Err-clause-performs : goal.apply_contexts-returns-in-Err-clause-performs
 apply_contexts-returns-in-Err-clause-performs t c =
     let i = c.loop-subtable.invariant.passed in
-    let act : ContextSubtable → Direction → Action = λ x d. context_subtable (nested c.args.table.now.lookups c.args.depth d (applied_of c.args.ctx.now)) (applied_of c.args.ctx.now) x in
+    let act : ContextSubtable → Direction → Action = λ x d. context_subtable (nested_actions c.args.table.now.lookups c.args.depth d (apply_context_of c.args.ctx.now)) (apply_context_of c.args.ctx.now) x in
     first_refuses act c.args.subtables.now c.loop-subtable.subtable-index c.subtable-item.result c.loop-subtable.buffer.direction c.args.buffer.now.direction c.args.ctx.now.random_state c.args.ctx.now.random_state c.args.ctx.now.random_state c.in-Err.cause c.args.buffer.now c.loop-subtable.buffer c.apply_context.new.buffer c.loop-subtable-test.true c.subtable-item.is i (still_direction c.args.buffer.now c.loop-subtable.buffer i.still) refl c.in-Err.ensures.performs
 
 pub apply_contexts-loop-subtable-preserved : goal.apply_contexts-loop-subtable-preserved
 apply_contexts-loop-subtable-preserved t c =
     let i = c.loop-subtable.invariant.passed in
-    let act : ContextSubtable → Direction → Action = λ x d. context_subtable (nested c.args.table.now.lookups c.args.depth d (applied_of c.args.ctx.now)) (applied_of c.args.ctx.now) x in
+    let act : ContextSubtable → Direction → Action = λ x d. context_subtable (nested_actions c.args.table.now.lookups c.args.depth d (apply_context_of c.args.ctx.now)) (apply_context_of c.args.ctx.now) x in
     record { passed = (first_passes act c.args.subtables.now c.loop-subtable.subtable-index c.subtable-item.result c.loop-subtable.buffer.direction c.args.buffer.now.direction c.args.ctx.now.random_state c.args.ctx.now.random_state c.args.ctx.now.random_state c.in-Ok-false.field-0 c.args.buffer.now c.loop-subtable.buffer c.apply_context.new.buffer c.loop-subtable-test.true c.subtable-item.is i (still_direction c.args.buffer.now c.loop-subtable.buffer i.still) refl c.in-Ok-false.field-0-test c.in-Ok-false.ensures.performs).0; kept = c.in-Ok-false.ensures.kept }
 
 pub apply_contexts-returns-clause-performs : goal.apply_contexts-returns-clause-performs
 apply_contexts-returns-clause-performs t c =
-    passed_all (context_subtable (nested c.args.table.now.lookups c.args.depth c.args.buffer.now.direction (applied_of c.args.ctx.now)) (applied_of c.args.ctx.now)) c.args.subtables.now c.loop-subtable.subtable-index c.args.ctx.now.random_state c.args.buffer.now c.loop-subtable.buffer c.loop-subtable-test.false c.loop-subtable.invariant.passed
+    passed_all (context_subtable (nested_actions c.args.table.now.lookups c.args.depth c.args.buffer.now.direction (apply_context_of c.args.ctx.now)) (apply_context_of c.args.ctx.now)) c.args.subtables.now c.loop-subtable.subtable-index c.args.ctx.now.random_state c.args.buffer.now c.loop-subtable.buffer c.loop-subtable-test.false c.loop-subtable.invariant.passed
 
 pub apply_rules-returns-in-Ok-true-clause-performs : goal.apply_rules-returns-in-Ok-true-clause-performs
 apply_rules-returns-in-Ok-true-clause-performs t c =
     let i = c.loop-i.invariant.passed in
     let all = chains_of c.args.subtable.now in
     let x = chain_of c.rule_at-rule.result in
-    let act : Chain → Direction → Action = λ r d. chain_rule (nested c.args.table.now.lookups c.args.depth d (applied_of c.args.ctx.now)) (applied_of c.args.ctx.now) r in
+    let act : Chain → Direction → Action = λ r d. chain_rule (nested_actions c.args.table.now.lookups c.args.depth d (apply_context_of c.args.ctx.now)) (apply_context_of c.args.ctx.now) r in
     let at : x ≡ get_or all c.loop-i.i x = sym (get_or_from_slice_get all c.loop-i.i x x c.rule_at-rule.ensures) in
     first_acts act all c.loop-i.i x c.loop-i.buffer.direction c.args.buffer.now.direction c.args.ctx.now.random_state c.args.ctx.now.random_state c.args.ctx.now.random_state c.in-Ok-true.field-0 c.args.buffer.now c.loop-i.buffer c.apply_rule.new.buffer (omega (arith, c.loop-i-test.true, c.rule_count-i-end.ensures)) at i (still_direction c.args.buffer.now c.loop-i.buffer i.still) refl c.in-Ok-true.field-0-test c.in-Ok-true.ensures.performs
 
@@ -75,7 +75,7 @@ apply_rules-returns-in-Err-clause-performs t c =
     let i = c.loop-i.invariant.passed in
     let all = chains_of c.args.subtable.now in
     let x = chain_of c.rule_at-rule.result in
-    let act : Chain → Direction → Action = λ r d. chain_rule (nested c.args.table.now.lookups c.args.depth d (applied_of c.args.ctx.now)) (applied_of c.args.ctx.now) r in
+    let act : Chain → Direction → Action = λ r d. chain_rule (nested_actions c.args.table.now.lookups c.args.depth d (apply_context_of c.args.ctx.now)) (apply_context_of c.args.ctx.now) r in
     let at : x ≡ get_or all c.loop-i.i x = sym (get_or_from_slice_get all c.loop-i.i x x c.rule_at-rule.ensures) in
     first_refuses act all c.loop-i.i x c.loop-i.buffer.direction c.args.buffer.now.direction c.args.ctx.now.random_state c.args.ctx.now.random_state c.args.ctx.now.random_state c.in-Err.cause c.args.buffer.now c.loop-i.buffer c.apply_rule.new.buffer (omega (arith, c.loop-i-test.true, c.rule_count-i-end.ensures)) at i (still_direction c.args.buffer.now c.loop-i.buffer i.still) refl c.in-Err.ensures.performs
 
@@ -84,23 +84,23 @@ apply_rules-loop-i-preserved t c =
     let i = c.loop-i.invariant.passed in
     let all = chains_of c.args.subtable.now in
     let x = chain_of c.rule_at-rule.result in
-    let act : Chain → Direction → Action = λ r d. chain_rule (nested c.args.table.now.lookups c.args.depth d (applied_of c.args.ctx.now)) (applied_of c.args.ctx.now) r in
+    let act : Chain → Direction → Action = λ r d. chain_rule (nested_actions c.args.table.now.lookups c.args.depth d (apply_context_of c.args.ctx.now)) (apply_context_of c.args.ctx.now) r in
     let at : x ≡ get_or all c.loop-i.i x = sym (get_or_from_slice_get all c.loop-i.i x x c.rule_at-rule.ensures) in
     record { passed = (first_passes act all c.loop-i.i x c.loop-i.buffer.direction c.args.buffer.now.direction c.args.ctx.now.random_state c.args.ctx.now.random_state c.args.ctx.now.random_state c.in-Ok-false.field-0 c.args.buffer.now c.loop-i.buffer c.apply_rule.new.buffer (omega (arith, c.loop-i-test.true, c.rule_count-i-end.ensures)) at i (still_direction c.args.buffer.now c.loop-i.buffer i.still) refl c.in-Ok-false.field-0-test c.in-Ok-false.ensures.performs).0; kept = c.in-Ok-false.ensures.kept }
 
 pub apply_rules-returns-clause-performs : goal.apply_rules-returns-clause-performs
 apply_rules-returns-clause-performs t c =
-    passed_all (chain_rule (nested c.args.table.now.lookups c.args.depth c.args.buffer.now.direction (applied_of c.args.ctx.now)) (applied_of c.args.ctx.now)) (chains_of c.args.subtable.now) c.loop-i.i c.args.ctx.now.random_state c.args.buffer.now c.loop-i.buffer (omega (arith, c.loop-i-test.false, c.rule_count-i-end.ensures)) c.loop-i.invariant.passed
+    passed_all (chain_rule (nested_actions c.args.table.now.lookups c.args.depth c.args.buffer.now.direction (apply_context_of c.args.ctx.now)) (apply_context_of c.args.ctx.now)) (chains_of c.args.subtable.now) c.loop-i.i c.args.ctx.now.random_state c.args.buffer.now c.loop-i.buffer (omega (arith, c.loop-i-test.false, c.rule_count-i-end.ensures)) c.loop-i.invariant.passed
 
 pub apply_record-returns-in-Ok-true-clause-walks : goal.apply_record-returns-in-Ok-true-clause-walks
 apply_record-returns-in-Ok-true-clause-walks t c =
     let s = c.args.buffer.now in
     let mid = c.begin_record.new.buffer in
     let final = c.recurse.new.buffer in
-    let b : IsBegun c.args.lookup_record.now c.args.places.now.items c.in-Ok-Some.place s mid = begun_some c.args.lookup_record.now c.args.places.now.items c.in-Ok-Some.place c.in-Ok-Some.field-0 s mid (let f = c.in-Ok-Some.field-0-is in let g = c.in-Ok-Some.place-is in cc) c.in-Ok-Some.ensures in
-    let P : Direction → Type 0 = λ d. Performed (nested_act c.args.table.now.lookups c.args.depth d (applied_of c.args.ctx.now) c.args.lookup_record.now.lookup_index (cut_with c.args.ctx.now.random_state mid)) c.in-Ok-true.field-0 c.args.ctx.now.random_state c.args.ctx.now.random_state mid final in
+    let b : IsRecordBegun c.args.lookup_record.now c.args.places.now.items c.in-Ok-Some.place s mid = begun_some c.args.lookup_record.now c.args.places.now.items c.in-Ok-Some.place c.in-Ok-Some.field-0 s mid (let f = c.in-Ok-Some.field-0-is in let g = c.in-Ok-Some.place-is in cc) c.in-Ok-Some.ensures in
+    let P : Direction → Type 0 = λ d. IsPerformed (nested_act c.args.table.now.lookups c.args.depth d (apply_context_of c.args.ctx.now) c.args.lookup_record.now.lookup_index (cut_with c.args.ctx.now.random_state mid)) c.in-Ok-true.field-0 c.args.ctx.now.random_state c.args.ctx.now.random_state mid final in
     let there = subst P (still_direction s mid (b.left c.args.ctx.now.random_state).still) c.in-Ok-true.ensures.performs in
-    record_acted (nested_act c.args.table.now.lookups c.args.depth s.direction (applied_of c.args.ctx.now)) c.args.lookup_record.now c.args.places.now.items c.settle_match.new.places.items c.in-Ok-Some.place c.args.end c.settle_match.result c.glyph_count-before.result c.args.ctx.now.random_state c.args.ctx.now.random_state c.in-Ok-true.field-0
+    record_acted (nested_act c.args.table.now.lookups c.args.depth s.direction (apply_context_of c.args.ctx.now)) c.args.lookup_record.now c.args.places.now.items c.settle_match.new.places.items c.in-Ok-Some.place c.args.end c.settle_match.result c.glyph_count-before.result c.args.ctx.now.random_state c.args.ctx.now.random_state c.in-Ok-true.field-0
     s mid final b c.in-Ok-true.field-0-test there c.glyph_count-before.ensures.count c.settle_match.ensures.places c.settle_match.ensures.end
 
 pub apply_record-returns-in-Ok-true-clause-inside : goal.apply_record-returns-in-Ok-true-clause-inside
@@ -108,7 +108,7 @@ apply_record-returns-in-Ok-true-clause-inside t c =
     let s = c.args.buffer.now in
     let mid = c.begin_record.new.buffer in
     let final = c.recurse.new.buffer in
-    let b : IsBegun c.args.lookup_record.now c.args.places.now.items c.in-Ok-Some.place s mid = begun_some c.args.lookup_record.now c.args.places.now.items c.in-Ok-Some.place c.in-Ok-Some.field-0 s mid (let f = c.in-Ok-Some.field-0-is in let g = c.in-Ok-Some.place-is in cc) c.in-Ok-Some.ensures in
+    let b : IsRecordBegun c.args.lookup_record.now c.args.places.now.items c.in-Ok-Some.place s mid = begun_some c.args.lookup_record.now c.args.places.now.items c.in-Ok-Some.place c.in-Ok-Some.field-0 s mid (let f = c.in-Ok-Some.field-0-is in let g = c.in-Ok-Some.place-is in cc) c.in-Ok-Some.ensures in
     record_inside _ c.args.lookup_record.now c.args.places.now.items c.settle_match.new.places.items c.in-Ok-Some.place c.args.end c.settle_match.result c.glyph_count-before.result c.args.ctx.now.random_state c.args.ctx.now.random_state c.in-Ok-true.field-0
     s mid final b c.in-Ok-true.field-0-test c.in-Ok-true.ensures.performs c.glyph_count-before.ensures.count c.settle_match.ensures.places c.settle_match.ensures.end
 
@@ -117,22 +117,22 @@ apply_record-returns-in-Ok-false-clause-walks t c =
     let s = c.args.buffer.now in
     let mid = c.begin_record.new.buffer in
     let final = c.recurse.new.buffer in
-    let b : IsBegun c.args.lookup_record.now c.args.places.now.items c.in-Ok-Some.place s mid = begun_some c.args.lookup_record.now c.args.places.now.items c.in-Ok-Some.place c.in-Ok-Some.field-0 s mid (let f = c.in-Ok-Some.field-0-is in let g = c.in-Ok-Some.place-is in cc) c.in-Ok-Some.ensures in
-    let P : Direction → Type 0 = λ d. Performed (nested_act c.args.table.now.lookups c.args.depth d (applied_of c.args.ctx.now) c.args.lookup_record.now.lookup_index (cut_with c.args.ctx.now.random_state mid)) c.in-Ok-false.field-0 c.args.ctx.now.random_state c.args.ctx.now.random_state mid final in
+    let b : IsRecordBegun c.args.lookup_record.now c.args.places.now.items c.in-Ok-Some.place s mid = begun_some c.args.lookup_record.now c.args.places.now.items c.in-Ok-Some.place c.in-Ok-Some.field-0 s mid (let f = c.in-Ok-Some.field-0-is in let g = c.in-Ok-Some.place-is in cc) c.in-Ok-Some.ensures in
+    let P : Direction → Type 0 = λ d. IsPerformed (nested_act c.args.table.now.lookups c.args.depth d (apply_context_of c.args.ctx.now) c.args.lookup_record.now.lookup_index (cut_with c.args.ctx.now.random_state mid)) c.in-Ok-false.field-0 c.args.ctx.now.random_state c.args.ctx.now.random_state mid final in
     let there = subst P (still_direction s mid (b.left c.args.ctx.now.random_state).still) c.in-Ok-false.ensures.performs in
-    record_passed (nested_act c.args.table.now.lookups c.args.depth s.direction (applied_of c.args.ctx.now)) c.args.lookup_record.now c.args.places.now.items c.in-Ok-Some.place c.args.end c.args.ctx.now.random_state c.args.ctx.now.random_state c.in-Ok-false.field-0
+    record_passed (nested_act c.args.table.now.lookups c.args.depth s.direction (apply_context_of c.args.ctx.now)) c.args.lookup_record.now c.args.places.now.items c.in-Ok-Some.place c.args.end c.args.ctx.now.random_state c.args.ctx.now.random_state c.in-Ok-false.field-0
     s mid final b c.in-Ok-false.field-0-test there
 
 pub apply_record-returns-in-Err-recurse-clause-walks : goal.apply_record-returns-in-Err-recurse-clause-walks
 apply_record-returns-in-Err-recurse-clause-walks t c =
     let s = c.args.buffer.now in
     let mid = c.begin_record.new.buffer in
-    let b : IsBegun c.args.lookup_record.now c.args.places.now.items c.in-Ok-Some.place s mid = begun_some c.args.lookup_record.now c.args.places.now.items c.in-Ok-Some.place c.in-Ok-Some.field-0 s mid (let f = c.in-Ok-Some.field-0-is in let g = c.in-Ok-Some.place-is in cc) c.in-Ok-Some.ensures in
-    record_lookup_refused c.args.table.now.lookups c.args.depth (applied_of c.args.ctx.now) c.args.lookup_record.now c.args.places.now.items c.args.places.now.items c.in-Ok-Some.place c.args.end c.args.ctx.now.random_state c.in-Err-recurse.cause s mid c.recurse.new.buffer b c.in-Err-recurse.ensures.performs
+    let b : IsRecordBegun c.args.lookup_record.now c.args.places.now.items c.in-Ok-Some.place s mid = begun_some c.args.lookup_record.now c.args.places.now.items c.in-Ok-Some.place c.in-Ok-Some.field-0 s mid (let f = c.in-Ok-Some.field-0-is in let g = c.in-Ok-Some.place-is in cc) c.in-Ok-Some.ensures in
+    record_lookup_refused c.args.table.now.lookups c.args.depth (apply_context_of c.args.ctx.now) c.args.lookup_record.now c.args.places.now.items c.args.places.now.items c.in-Ok-Some.place c.args.end c.args.ctx.now.random_state c.in-Err-recurse.cause s mid c.recurse.new.buffer b c.in-Err-recurse.ensures.performs
 
 pub apply_records-returns-then-depth-eq0-clause-walks : goal.apply_records-returns-then-depth-eq0-clause-walks
 apply_records-returns-then-depth-eq0-clause-walks t c =
-    none_nested (nested c.args.table.now.lookups c.args.depth c.args.buffer.now.direction (applied_of c.args.ctx.now)) c.args.records.now c.args.ctx.now.random_state c.args.end c.args.places.now.items c.args.buffer.now (no_depth c.args.table.now.lookups c.args.depth c.args.buffer.now.direction (applied_of c.args.ctx.now) (omega (arith, c.if-depth-eq0.true)))
+    none_nested (nested_actions c.args.table.now.lookups c.args.depth c.args.buffer.now.direction (apply_context_of c.args.ctx.now)) c.args.records.now c.args.ctx.now.random_state c.args.end c.args.places.now.items c.args.buffer.now (no_depth c.args.table.now.lookups c.args.depth c.args.buffer.now.direction (apply_context_of c.args.ctx.now) (omega (arith, c.if-depth-eq0.true)))
 
 pub apply_records-returns-in-Err-clause-walks : goal.apply_records-returns-in-Err-clause-walks
 apply_records-returns-in-Err-clause-walks t c =
@@ -140,10 +140,10 @@ apply_records-returns-in-Err-clause-walks t c =
     let none : SequenceLookupRecord = record { sequence_index = 0; lookup_index = 0 } in
     let r = get_or c.args.records.now c.loop-lookup_record.lookup_record-index none in
     let is : r ≡ get_or c.args.records.now c.loop-lookup_record.lookup_record-index r = get_or_any c.args.records.now c.loop-lookup_record.lookup_record-index none r c.loop-lookup_record-test.true in
-    let act : Direction → ℕ → Action = λ d. nested_act c.args.table.now.lookups (c.args.depth - 1) d (applied_of c.args.ctx.now) in
+    let act : Direction → ℕ → Action = λ d. nested_act c.args.table.now.lookups (c.args.depth - 1) d (apply_context_of c.args.ctx.now) in
     let same = still_direction c.args.buffer.now c.loop-lookup_record.buffer i.walked.still in
-    next_failed act (nested c.args.table.now.lookups c.args.depth c.args.buffer.now.direction (applied_of c.args.ctx.now)) c.loop-lookup_record.buffer.direction c.args.buffer.now.direction c.args.records.now c.loop-lookup_record.lookup_record-index r c.args.ctx.now.random_state c.args.ctx.now.random_state c.args.ctx.now.random_state c.args.buffer.now c.loop-lookup_record.buffer c.apply_record.new.buffer
-    c.args.places.now.items c.loop-lookup_record.places.items c.apply_record.new.places.items c.args.end c.loop-lookup_record.at c.in-Err.cause (some_depth c.args.table.now.lookups c.args.depth c.args.buffer.now.direction (applied_of c.args.ctx.now) (λ e. absurd (omega (arith, e, c.if-depth-eq0.false)))) same c.loop-lookup_record-test.true is i.walked c.in-Err.ensures.walks
+    next_failed act (nested_actions c.args.table.now.lookups c.args.depth c.args.buffer.now.direction (apply_context_of c.args.ctx.now)) c.loop-lookup_record.buffer.direction c.args.buffer.now.direction c.args.records.now c.loop-lookup_record.lookup_record-index r c.args.ctx.now.random_state c.args.ctx.now.random_state c.args.ctx.now.random_state c.args.buffer.now c.loop-lookup_record.buffer c.apply_record.new.buffer
+    c.args.places.now.items c.loop-lookup_record.places.items c.apply_record.new.places.items c.args.end c.loop-lookup_record.at c.in-Err.cause (some_depth c.args.table.now.lookups c.args.depth c.args.buffer.now.direction (apply_context_of c.args.ctx.now) (λ e. absurd (omega (arith, e, c.if-depth-eq0.false)))) same c.loop-lookup_record-test.true is i.walked c.in-Err.ensures.walks
 
 pub apply_records-loop-lookup_record-preserved : goal.apply_records-loop-lookup_record-preserved
 apply_records-loop-lookup_record-preserved t c =
@@ -151,7 +151,7 @@ apply_records-loop-lookup_record-preserved t c =
     let none : SequenceLookupRecord = record { sequence_index = 0; lookup_index = 0 } in
     let r = get_or c.args.records.now c.loop-lookup_record.lookup_record-index none in
     let is : r ≡ get_or c.args.records.now c.loop-lookup_record.lookup_record-index r = get_or_any c.args.records.now c.loop-lookup_record.lookup_record-index none r c.loop-lookup_record-test.true in
-    let act : Direction → ℕ → Action = λ d. nested_act c.args.table.now.lookups (c.args.depth - 1) d (applied_of c.args.ctx.now) in
+    let act : Direction → ℕ → Action = λ d. nested_act c.args.table.now.lookups (c.args.depth - 1) d (apply_context_of c.args.ctx.now) in
     let same = still_direction c.args.buffer.now c.loop-lookup_record.buffer i.walked.still in
     record {
       walked =
@@ -164,32 +164,32 @@ apply_records-loop-lookup_record-preserved t c =
 pub apply_records-returns-clause-walks : goal.apply_records-returns-clause-walks
 apply_records-returns-clause-walks t c =
     let i = c.loop-lookup_record.invariant in
-    last_walked (nested_act c.args.table.now.lookups (c.args.depth - 1) c.args.buffer.now.direction (applied_of c.args.ctx.now)) (nested c.args.table.now.lookups c.args.depth c.args.buffer.now.direction (applied_of c.args.ctx.now)) c.args.records.now c.loop-lookup_record.lookup_record-index c.args.ctx.now.random_state c.args.ctx.now.random_state c.args.buffer.now c.loop-lookup_record.buffer c.args.places.now.items c.loop-lookup_record.places.items c.args.end c.loop-lookup_record.at
-    (some_depth c.args.table.now.lookups c.args.depth c.args.buffer.now.direction (applied_of c.args.ctx.now) (λ e. absurd (omega (arith, e, c.if-depth-eq0.false)))) c.loop-lookup_record-test.false i.walked
+    last_walked (nested_act c.args.table.now.lookups (c.args.depth - 1) c.args.buffer.now.direction (apply_context_of c.args.ctx.now)) (nested_actions c.args.table.now.lookups c.args.depth c.args.buffer.now.direction (apply_context_of c.args.ctx.now)) c.args.records.now c.loop-lookup_record.lookup_record-index c.args.ctx.now.random_state c.args.ctx.now.random_state c.args.buffer.now c.loop-lookup_record.buffer c.args.places.now.items c.loop-lookup_record.places.items c.args.end c.loop-lookup_record.at
+    (some_depth c.args.table.now.lookups c.args.depth c.args.buffer.now.direction (apply_context_of c.args.ctx.now) (λ e. absurd (omega (arith, e, c.if-depth-eq0.false)))) c.loop-lookup_record-test.false i.walked
 
 pub apply_rule-returns-in-Ok-clause-performs : goal.apply_rule-returns-in-Ok-clause-performs
 apply_rule-returns-in-Ok-clause-performs t c =
     let s = c.args.buffer.now in
     let mid = c.match_chain.new.buffer in
-    let m : IsMatched (applied_of c.args.ctx.now) (chain_of c.args.rule.now) c.args.ctx.now.random_state c.in-Some.end c.match_chain.new.places.items s mid = c.in-Some.ensures in
-    let P : Direction → Type 0 = λ d. Walking (each_nested (nested c.args.table.now.lookups c.args.depth d (applied_of c.args.ctx.now)) (chain_of c.args.rule.now).records (cut_with c.args.ctx.now.random_state mid) c.match_chain.new.places.items c.in-Some.end) (Ok c.in-Ok.at) c.apply_records.new.places.items c.args.ctx.now.random_state mid c.apply_records.new.buffer in
-    rule_acted (applied_of c.args.ctx.now) (nested c.args.table.now.lookups c.args.depth c.args.buffer.now.direction (applied_of c.args.ctx.now)) (chain_of c.args.rule.now) c.args.ctx.now.random_state c.args.ctx.now.random_state c.in-Some.end c.in-Ok.at c.match_chain.new.places.items c.apply_records.new.places.items c.go_behind.result
+    let m : IsMatched (apply_context_of c.args.ctx.now) (chain_of c.args.rule.now) c.args.ctx.now.random_state c.in-Some.end c.match_chain.new.places.items s mid = c.in-Some.ensures in
+    let P : Direction → Type 0 = λ d. Walking (each_nested (nested_actions c.args.table.now.lookups c.args.depth d (apply_context_of c.args.ctx.now)) (chain_of c.args.rule.now).records (cut_with c.args.ctx.now.random_state mid) c.match_chain.new.places.items c.in-Some.end) (Ok c.in-Ok.at) c.apply_records.new.places.items c.args.ctx.now.random_state mid c.apply_records.new.buffer in
+    rule_acted (apply_context_of c.args.ctx.now) (nested_actions c.args.table.now.lookups c.args.depth c.args.buffer.now.direction (apply_context_of c.args.ctx.now)) (chain_of c.args.rule.now) c.args.ctx.now.random_state c.args.ctx.now.random_state c.in-Some.end c.in-Ok.at c.match_chain.new.places.items c.apply_records.new.places.items c.go_behind.result
     s mid c.apply_records.new.buffer c.go_behind.new.buffer m (subst P (still_direction s mid m.still) c.in-Ok.ensures.walks) c.in-Ok.ensures.inside (c.go_behind.ensures c.args.ctx.now.random_state)
 
 pub apply_rule-returns-in-Err-clause-performs : goal.apply_rule-returns-in-Err-clause-performs
 apply_rule-returns-in-Err-clause-performs t c =
     let s = c.args.buffer.now in
     let mid = c.match_chain.new.buffer in
-    let m : IsMatched (applied_of c.args.ctx.now) (chain_of c.args.rule.now) c.args.ctx.now.random_state c.in-Some.end c.match_chain.new.places.items s mid = c.in-Some.ensures in
-    let P : Direction → Type 0 = λ d. Walking (each_nested (nested c.args.table.now.lookups c.args.depth d (applied_of c.args.ctx.now)) (chain_of c.args.rule.now).records (cut_with c.args.ctx.now.random_state mid) c.match_chain.new.places.items c.in-Some.end) (Err c.in-Err.cause) c.apply_records.new.places.items c.args.ctx.now.random_state mid c.apply_records.new.buffer in
-    rule_failed (applied_of c.args.ctx.now) (nested c.args.table.now.lookups c.args.depth c.args.buffer.now.direction (applied_of c.args.ctx.now)) (chain_of c.args.rule.now) c.args.ctx.now.random_state c.args.ctx.now.random_state c.in-Some.end c.match_chain.new.places.items c.apply_records.new.places.items c.in-Err.cause s mid c.apply_records.new.buffer m (subst P (still_direction s mid m.still) c.in-Err.ensures.walks)
+    let m : IsMatched (apply_context_of c.args.ctx.now) (chain_of c.args.rule.now) c.args.ctx.now.random_state c.in-Some.end c.match_chain.new.places.items s mid = c.in-Some.ensures in
+    let P : Direction → Type 0 = λ d. Walking (each_nested (nested_actions c.args.table.now.lookups c.args.depth d (apply_context_of c.args.ctx.now)) (chain_of c.args.rule.now).records (cut_with c.args.ctx.now.random_state mid) c.match_chain.new.places.items c.in-Some.end) (Err c.in-Err.cause) c.apply_records.new.places.items c.args.ctx.now.random_state mid c.apply_records.new.buffer in
+    rule_failed (apply_context_of c.args.ctx.now) (nested_actions c.args.table.now.lookups c.args.depth c.args.buffer.now.direction (apply_context_of c.args.ctx.now)) (chain_of c.args.rule.now) c.args.ctx.now.random_state c.args.ctx.now.random_state c.in-Some.end c.match_chain.new.places.items c.apply_records.new.places.items c.in-Err.cause s mid c.apply_records.new.buffer m (subst P (still_direction s mid m.still) c.in-Err.ensures.walks)
 
 pub apply_rule-apply_records-requires : goal.apply_rule-apply_records-requires
 apply_rule-apply_records-requires t c =
     let s = c.args.buffer.now in
     let mid = c.match_chain.new.buffer in
-    let m : IsMatched (applied_of c.args.ctx.now) (chain_of c.args.rule.now) c.args.ctx.now.random_state c.in-Some.end c.match_chain.new.places.items s mid = c.in-Some.ensures in
-    let a = (applied_of c.args.ctx.now) in
+    let m : IsMatched (apply_context_of c.args.ctx.now) (chain_of c.args.rule.now) c.args.ctx.now.random_state c.in-Some.end c.match_chain.new.places.items s mid = c.in-Some.ensures in
+    let a = (apply_context_of c.args.ctx.now) in
     let r = chain_of c.args.rule.now in
     let ps = c.match_chain.new.places.items in
     let end = c.in-Some.end in
@@ -206,21 +206,21 @@ apply_record-recurse-requires t c =
     let k = c.args.lookup_record.now in
     let ps = c.args.places.now.items in
     let p = c.in-Ok-Some.place in
-    let b : IsBegun k ps p s mid = begun_some k ps p c.in-Ok-Some.field-0 s mid (let f = c.in-Ok-Some.field-0-is in let g = c.in-Ok-Some.place-is in cc) c.in-Ok-Some.ensures in
-    (omega (arith, c.decreases), (begun_closed k ps p s mid b c.requires.closed, (begun_unrefused k ps p s mid b c.requires.unrefused, (b.ahead, (begun_numbers k ps p s mid b c.requires.number, begun_kept k ps p (applied_of c.args.ctx.now) c.args.last.now s mid b c.requires.kept)))))
+    let b : IsRecordBegun k ps p s mid = begun_some k ps p c.in-Ok-Some.field-0 s mid (let f = c.in-Ok-Some.field-0-is in let g = c.in-Ok-Some.place-is in cc) c.in-Ok-Some.ensures in
+    (omega (arith, c.decreases), (begun_closed k ps p s mid b c.requires.closed, (begun_unrefused k ps p s mid b c.requires.unrefused, (b.ahead, (begun_numbers k ps p s mid b c.requires.number, begun_kept k ps p (apply_context_of c.args.ctx.now) c.args.last.now s mid b c.requires.kept)))))
 
 pub apply_rule-returns-in_default-clause-kept : goal.apply_rule-returns-in_default-clause-kept
 apply_rule-returns-in_default-clause-kept t c =
-    unmatched_kept (applied_of c.args.ctx.now) (chain_of c.args.rule.now) c.args.ctx.now.random_state c.match_chain.new.places.items c.match_chain.result c.args.last.now c.args.buffer.now c.match_chain.new.buffer c.in_default.is c.match_chain.ensures c.requires.kept
+    unmatched_kept (apply_context_of c.args.ctx.now) (chain_of c.args.rule.now) c.args.ctx.now.random_state c.match_chain.new.places.items c.match_chain.result c.args.last.now c.args.buffer.now c.match_chain.new.buffer c.in_default.is c.match_chain.ensures c.requires.kept
 
 pub apply_rule-returns-in-Ok-clause-kept : goal.apply_rule-returns-in-Ok-clause-kept
-apply_rule-returns-in-Ok-clause-kept t c = behind_kept (applied_of c.args.ctx.now) c.in-Ok.at c.go_behind.result c.apply_records.new.last c.apply_records.new.buffer c.go_behind.new.buffer c.in-Ok.ensures.kept c.go_behind.ensures
+apply_rule-returns-in-Ok-clause-kept t c = behind_kept (apply_context_of c.args.ctx.now) c.in-Ok.at c.go_behind.result c.apply_records.new.last c.apply_records.new.buffer c.go_behind.new.buffer c.in-Ok.ensures.kept c.go_behind.ensures
 
 pub apply_subtables-returns-in-Single-clause-kept : goal.apply_subtables-returns-in-Single-clause-kept
 apply_subtables-returns-in-Single-clause-kept t c =
     let s = c.args.buffer.now in
     let d = s.direction in
-    let a = applied_of c.args.ctx.now in
+    let a = apply_context_of c.args.ctx.now in
     let ts = c.as_slice.result.now in
     performed_kept (first_rule (λ (x : SinglePos). single_subtable d x.rows) ts) a c.apply_first.result c.args.ctx.now.random_state c.args.last.now s c.apply_first.new.buffer (first_left (λ (x : SinglePos). single_subtable d x.rows) ts (λ x. single_keeps d x.rows)) c.requires.kept c.apply_first.ensures
 
@@ -228,7 +228,7 @@ pub apply_subtables-returns-in-Pair-clause-kept : goal.apply_subtables-returns-i
 apply_subtables-returns-in-Pair-clause-kept t c =
     let s = c.args.buffer.now in
     let d = s.direction in
-    let a = applied_of c.args.ctx.now in
+    let a = apply_context_of c.args.ctx.now in
     let ts = c.as_slice-in-Pair.result.now in
     performed_kept (first_rule (pair_subtable d a) ts) a c.apply_first-in-Pair.result c.args.ctx.now.random_state c.args.last.now s c.apply_first-in-Pair.new.buffer (first_left (pair_subtable d a) ts (pair_keeps d a)) c.requires.kept c.apply_first-in-Pair.ensures
 
@@ -236,7 +236,7 @@ pub apply_subtables-returns-in-Cursive-clause-kept : goal.apply_subtables-return
 apply_subtables-returns-in-Cursive-clause-kept t c =
     let s = c.args.buffer.now in
     let d = s.direction in
-    let a = applied_of c.args.ctx.now in
+    let a = apply_context_of c.args.ctx.now in
     let ts = c.as_slice-in-Cursive.result.now in
     performed_kept (first_rule (λ (x : CursivePos). cursive_subtable d a x.rows) ts) a c.apply_first_cursive.result c.args.ctx.now.random_state c.args.last.now s c.apply_first_cursive.new.buffer (first_left (λ (x : CursivePos). cursive_subtable d a x.rows) ts (λ x. cursive_keeps d a x.rows)) c.requires.kept c.apply_first_cursive.ensures
 
@@ -244,6 +244,6 @@ pub apply_subtables-returns-in-MarkToMark-clause-kept : goal.apply_subtables-ret
 apply_subtables-returns-in-MarkToMark-clause-kept t c =
     let s = c.args.buffer.now in
     let d = s.direction in
-    let a = applied_of c.args.ctx.now in
+    let a = apply_context_of c.args.ctx.now in
     let ts = c.as_slice-in-MarkToMark.result.now in
     performed_kept (first_rule (mark_to_mark a) ts) a c.apply_first_mark.result c.args.ctx.now.random_state c.args.last.now s c.apply_first_mark.new.buffer (first_left (mark_to_mark a) ts (mark_keeps a)) c.requires.kept c.apply_first_mark.ensures

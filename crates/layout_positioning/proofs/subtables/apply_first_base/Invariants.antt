@@ -1,6 +1,6 @@
 use Rattle.std.proofs.Common.{drop}
 use Rattle.buffer_core.specs.Sides.{items_of}
-use Rattle.layout_match.specs.Applied.{applied_of}
+use Rattle.layout_match.specs.Applied.{apply_context_of}
 use Rattle.buffer_stages.proofs.Lemmas.Performed.{ArePassed}
 use Rattle.layout_gpos.specs.Bases.{AreKept}
 use Rattle.layout_gpos.specs.Marks.{mark_to_base}
@@ -9,6 +9,6 @@ use Rattle.layout_positioning.proofs.subtables.apply_first_base.Given as goal
 -- none so far acted
 abbrev pub invariant-loop-subtable : goal.invariant-loop-subtable
 invariant-loop-subtable l = record {
-  passed : ArePassed (mark_to_base (applied_of l.ctx)) l.subtables (drop l.subtable-index l.subtables) l.ctx.random_state l.fn.buffer l.buffer;
-  kept : AreKept (applied_of l.ctx) (items_of l.buffer) l.last;
+  passed : ArePassed (mark_to_base (apply_context_of l.ctx)) l.subtables (drop l.subtable-index l.subtables) l.ctx.random_state l.fn.buffer l.buffer;
+  kept : AreKept (apply_context_of l.ctx) (items_of l.buffer) l.last;
 }

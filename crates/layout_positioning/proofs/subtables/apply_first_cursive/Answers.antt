@@ -1,5 +1,5 @@
 use Rattle.std.proofs.Common.{refl}
-use Rattle.layout_match.specs.Applied.{applied_of}
+use Rattle.layout_match.specs.Applied.{apply_context_of}
 use Rattle.buffer_stages.proofs.Lemmas.Frames.{still_direction}
 use Rattle.buffer_stages.proofs.Lemmas.Performed.{passed_all}
 use Rattle.buffer_stages.proofs.Lemmas.Firsts.{first_acts, first_passes}
@@ -10,13 +10,13 @@ pub returns-then-apply_cursive_pos : goal.returns-then-apply_cursive_pos
 returns-then-apply_cursive_pos c =
     let i = c.loop-subtable.invariant in
     let r = c.args.ctx.now.random_state in
-    first_acts (λ s d. cursive_subtable d (applied_of c.args.ctx.now) s.rows) c.args.subtables.now c.loop-subtable.subtable-index c.subtable-item.result c.loop-subtable.buffer.direction c.args.buffer.now.direction r r r c.apply_cursive_pos.result c.args.buffer.now c.loop-subtable.buffer c.apply_cursive_pos.new.buffer c.loop-subtable-test.true c.subtable-item.is i (still_direction c.args.buffer.now c.loop-subtable.buffer i.still) refl c.if-apply_cursive_pos.true (c.apply_cursive_pos.ensures r)
+    first_acts (λ s d. cursive_subtable d (apply_context_of c.args.ctx.now) s.rows) c.args.subtables.now c.loop-subtable.subtable-index c.subtable-item.result c.loop-subtable.buffer.direction c.args.buffer.now.direction r r r c.apply_cursive_pos.result c.args.buffer.now c.loop-subtable.buffer c.apply_cursive_pos.new.buffer c.loop-subtable-test.true c.subtable-item.is i (still_direction c.args.buffer.now c.loop-subtable.buffer i.still) refl c.if-apply_cursive_pos.true (c.apply_cursive_pos.ensures r)
 
 pub loop-subtable-preserved : goal.loop-subtable-preserved
 loop-subtable-preserved c =
     let i = c.loop-subtable.invariant in
     let r = c.args.ctx.now.random_state in
-    (first_passes (λ s d. cursive_subtable d (applied_of c.args.ctx.now) s.rows) c.args.subtables.now c.loop-subtable.subtable-index c.subtable-item.result c.loop-subtable.buffer.direction c.args.buffer.now.direction r r r c.apply_cursive_pos.result c.args.buffer.now c.loop-subtable.buffer c.apply_cursive_pos.new.buffer c.loop-subtable-test.true c.subtable-item.is i (still_direction c.args.buffer.now c.loop-subtable.buffer i.still) refl c.if-apply_cursive_pos.false (c.apply_cursive_pos.ensures r)).0
+    (first_passes (λ s d. cursive_subtable d (apply_context_of c.args.ctx.now) s.rows) c.args.subtables.now c.loop-subtable.subtable-index c.subtable-item.result c.loop-subtable.buffer.direction c.args.buffer.now.direction r r r c.apply_cursive_pos.result c.args.buffer.now c.loop-subtable.buffer c.apply_cursive_pos.new.buffer c.loop-subtable-test.true c.subtable-item.is i (still_direction c.args.buffer.now c.loop-subtable.buffer i.still) refl c.if-apply_cursive_pos.false (c.apply_cursive_pos.ensures r)).0
 
 pub returns : goal.returns
-returns c = passed_all (λ s. cursive_subtable c.args.buffer.now.direction (applied_of c.args.ctx.now) s.rows) c.args.subtables.now c.loop-subtable.subtable-index c.args.ctx.now.random_state c.args.buffer.now c.loop-subtable.buffer c.loop-subtable-test.false c.loop-subtable.invariant
+returns c = passed_all (λ s. cursive_subtable c.args.buffer.now.direction (apply_context_of c.args.ctx.now) s.rows) c.args.subtables.now c.loop-subtable.subtable-index c.args.ctx.now.random_state c.args.buffer.now c.loop-subtable.buffer c.loop-subtable-test.false c.loop-subtable.invariant

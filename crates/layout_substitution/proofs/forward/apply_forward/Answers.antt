@@ -1,6 +1,6 @@
 use Rattle.std.proofs.Common.{◌≡◌, ◌-◌, true, false, Ok, ap, sym, subst, arith, ◌∙◌}
 use Rattle.buffer_core.specs.Sides.{Sides, fits_joined}
-use Rattle.layout_match.specs.Applied.{applied_of}
+use Rattle.layout_match.specs.Applied.{apply_context_of}
 use Rattle.layout_substitution.specs.Lookups.{lookup_action}
 use Rattle.layout_match.proofs.Lemmas.Passage.{IsUnderway, gone_on_by, looked_up_done, looked_up_long, looked_up_refused_by, passed_on}
 use Rattle.layout_substitution.proofs.forward.apply_forward.Goals as goal
@@ -12,7 +12,7 @@ returns-in_err-apply_next-clause-err c =
     let cause = c.in_err-apply_next.field-0.0 in
     passed_on c.from_residual-in_err-apply_next.result cause _ c.from_residual-in_err-apply_next.ensures.1
     (λ not_memory.
-    looked_up_refused_by (λ a. lookup_action c.args.table.now.lookups a c.args.lookup.now) (applied_of c.loop.ctx) (applied_of ctx) c.len-count.result c.loop.counter ctx.random_state c.loop.ctx.random_state s c.clear_output.new.self c.loop.buffer cause (c.len-count.ensures.count c.requires.ready.closed)
+    looked_up_refused_by (λ a. lookup_action c.args.table.now.lookups a c.args.lookup.now) (apply_context_of c.loop.ctx) (apply_context_of ctx) c.len-count.result c.loop.counter ctx.random_state c.loop.ctx.random_state s c.clear_output.new.self c.loop.buffer cause (c.len-count.ensures.count c.requires.ready.closed)
     c.loop-test.true c.loop.invariant.context c.in_ok-clear_output.ensures.after c.loop.invariant.underway (c.in_err-apply_next.ensures.err not_memory))
 
 pub loop-preserved : goal.loop-preserved
@@ -20,7 +20,7 @@ loop-preserved c =
     let ctx = c.args.ctx.now in
     record {
       underway =
-          gone_on_by (λ a. lookup_action c.args.table.now.lookups a c.args.lookup.now) (applied_of c.loop.ctx) (applied_of ctx) c.len-count.result c.loop.counter ctx.random_state c.loop.ctx.random_state c.apply_next.new.ctx.random_state c.clear_output.new.self c.loop.buffer c.apply_next.new.buffer c.loop-test.true
+          gone_on_by (λ a. lookup_action c.args.table.now.lookups a c.args.lookup.now) (apply_context_of c.loop.ctx) (apply_context_of ctx) c.len-count.result c.loop.counter ctx.random_state c.loop.ctx.random_state c.apply_next.new.ctx.random_state c.clear_output.new.self c.loop.buffer c.apply_next.new.buffer c.loop-test.true
           c.loop.invariant.context c.loop.invariant.underway c.in_ok-apply_next.ensures.ok;
       context = c.apply_next.ensures.context ∙ c.loop.invariant.context;
     }
@@ -29,7 +29,7 @@ pub returns-then-not-branch-clause-err : goal.returns-then-not-branch-clause-err
 returns-then-not-branch-clause-err c =
     let ctx = c.args.ctx.now in
     let s = c.args.buffer.now in
-    let act = lookup_action c.args.table.now.lookups (applied_of ctx) c.args.lookup.now in
+    let act = lookup_action c.args.table.now.lookups (apply_context_of ctx) c.args.lookup.now in
     let count = c.len-count.result in
     let P : Sides → Type 0 = λ t. IsUnderway act count (count - c.loop.counter) ctx.random_state c.loop.ctx.random_state t c.loop.buffer in
     let u = subst P c.in_ok-clear_output.ensures.after c.loop.invariant.underway in
@@ -40,7 +40,7 @@ pub returns-clause-ok : goal.returns-clause-ok
 returns-clause-ok c =
     let ctx = c.args.ctx.now in
     let s = c.args.buffer.now in
-    let act = lookup_action c.args.table.now.lookups (applied_of ctx) c.args.lookup.now in
+    let act = lookup_action c.args.table.now.lookups (apply_context_of ctx) c.args.lookup.now in
     let count = c.len-count.result in
     let P : Sides → Type 0 = λ t. IsUnderway act count (count - c.loop.counter) ctx.random_state c.loop.ctx.random_state t c.loop.buffer in
     let u = subst P c.in_ok-clear_output.ensures.after c.loop.invariant.underway in

@@ -1,5 +1,5 @@
 use Rattle.std.proofs.Common.{◌≡◌, ◌-◌}
-use Rattle.layout_match.specs.Applied.{applied_of}
+use Rattle.layout_match.specs.Applied.{apply_context_of}
 use Rattle.layout_substitution.specs.Lookups.{lookup_action}
 use Rattle.layout_match.proofs.Lemmas.Passage.{IsUnderway}
 use Rattle.layout_substitution.proofs.forward.apply_forward.Given as goal
@@ -7,6 +7,6 @@ use Rattle.layout_substitution.proofs.forward.apply_forward.Given as goal
 -- as many steps are left as were not made
 abbrev pub invariant-loop : goal.invariant-loop
 invariant-loop l = record {
-  underway : IsUnderway (lookup_action l.table.lookups (applied_of l.fn.ctx) l.lookup) l.count (l.count - l.counter) l.fn.ctx.random_state l.ctx.random_state l.initial.buffer l.buffer;
-  context : applied_of l.ctx ≡ applied_of l.fn.ctx;
+  underway : IsUnderway (lookup_action l.table.lookups (apply_context_of l.fn.ctx) l.lookup) l.count (l.count - l.counter) l.fn.ctx.random_state l.ctx.random_state l.initial.buffer l.buffer;
+  context : apply_context_of l.ctx ≡ apply_context_of l.fn.ctx;
 }

@@ -1,5 +1,5 @@
 use Rattle.std.proofs.Common.{Bool, subst}
-use Rattle.layout_match.specs.Applied.{applied_of}
+use Rattle.layout_match.specs.Applied.{apply_context_of}
 use Rattle.layout_gsub.specs.Reverses.{reverse_subtable}
 use Rattle.buffer_stages.specs.Buffers.{cut_of}
 use Rattle.buffer_stages.specs.Performing.{PerformsInPlace}
@@ -8,7 +8,7 @@ use Rattle.layout_substitution.proofs.lookup.apply_reverse_subtables.Goals as go
 
 pub loop-subtable-preserved : goal.loop-subtable-preserved
 loop-subtable-preserved c =
-    let a = applied_of c.args.ctx.now in
+    let a = apply_context_of c.args.ctx.now in
     let now = c.loop-subtable.buffer in
     let next = c.apply_reverse_chain_single_subst.new.buffer in
     let P : Bool → Type 0 = λ b. PerformsInPlace (reverse_subtable a c.subtable-item.result (cut_of now)) b now next in

@@ -1,9 +1,9 @@
 use Rattle.std.proofs.Common.{◌≡◌, ◌-◌, ◌∙◌, false, get_or, sym, subst, arith, ℕ}
 use Rattle.std.proofs.lemmas.Option.{get_or_from_slice_get}
 use Rattle.layout_subtables.specs.declared.context.ContextSubtable.{ContextSubtable}
-use Rattle.layout_match.specs.Applied.{Applied, applied_of}
+use Rattle.layout_match.specs.Applied.{ApplyContext, apply_context_of}
 use Rattle.buffer_stages.specs.Actions.{Action, first_rule}
-use Rattle.buffer_stages.specs.Performing.{Performed, cut_with}
+use Rattle.buffer_stages.specs.Performing.{IsPerformed, cut_with}
 use Rattle.buffer_stages.proofs.Lemmas.Performed.{passed_all}
 use Rattle.buffer_stages.proofs.Lemmas.Firsts.{first_acts, first_refuses, first_passes}
 use Rattle.layout_contexts.specs.Chains.{Chain, chain_rule, context_subtable}
@@ -11,7 +11,7 @@ use Rattle.layout_contexts.specs.Fitting.{IsMatched, chain_of}
 use Rattle.layout_contexts.specs.Rules.{chains_of}
 use Rattle.layout_contexts.proofs.Lemmas.Acting.{match_inside, rule_acted, rule_failed}
 use Rattle.layout_contexts.proofs.Lemmas.Inside.{then_stays}
-use Rattle.layout_substitution.specs.Lookups.{nested, nested_act}
+use Rattle.layout_substitution.specs.Lookups.{nested_actions, nested_act}
 use Rattle.layout_subtables.specs.declared.context.SequenceLookupRecord.{SequenceLookupRecord}
 use Rattle.layout_contexts.proofs.Lemmas.Nested.{begun_some, get_or_any, last_walked, matched_numbers, matched_open, matched_unrefused, next_failed, next_walked, none_nested, not_tried, record_acted, record_inside, record_passed, tried_there}
 use Rattle.layout_substitution.proofs.Levels.{no_depth, some_depth}
@@ -19,40 +19,40 @@ use Rattle.layout_substitution.proofs.nested.+nested.Goals as goal
 
 pub apply_context-returns-then-not-is_tried_at-clause-performs : goal.apply_context-returns-then-not-is_tried_at-clause-performs
 apply_context-returns-then-not-is_tried_at-clause-performs t c =
-    let a = applied_of c.args.ctx.now in
-    not_tried (nested c.args.table.now.lookups c.args.depth a) a c.args.subtable.now c.is_tried_at.result c.args.ctx.now.random_state c.args.buffer.now c.cur.result.now c.cur.ensures c.is_tried_at.ensures c.if-not-is_tried_at.true
+    let a = apply_context_of c.args.ctx.now in
+    not_tried (nested_actions c.args.table.now.lookups c.args.depth a) a c.args.subtable.now c.is_tried_at.result c.args.ctx.now.random_state c.args.buffer.now c.cur.result.now c.cur.ensures c.is_tried_at.ensures c.if-not-is_tried_at.true
 
 pub apply_context-returns-clause-performs : goal.apply_context-returns-clause-performs
 apply_context-returns-clause-performs t c =
-    let a = applied_of c.args.ctx.now in
-    tried_there (nested c.args.table.now.lookups c.args.depth a) a c.args.subtable.now c.is_tried_at.result c.args.ctx.now.random_state c.apply_rules.new.ctx.random_state c.apply_rules.result c.args.buffer.now c.apply_rules.new.buffer c.cur.result.now c.cur.ensures c.is_tried_at.ensures c.if-not-is_tried_at.false c.apply_rules.ensures.performs
+    let a = apply_context_of c.args.ctx.now in
+    tried_there (nested_actions c.args.table.now.lookups c.args.depth a) a c.args.subtable.now c.is_tried_at.result c.args.ctx.now.random_state c.apply_rules.new.ctx.random_state c.apply_rules.result c.args.buffer.now c.apply_rules.new.buffer c.cur.result.now c.cur.ensures c.is_tried_at.ensures c.if-not-is_tried_at.false c.apply_rules.ensures.performs
 
 pub apply_contexts-returns-in-Ok-true-clause-performs : goal.apply_contexts-returns-in-Ok-true-clause-performs
 apply_contexts-returns-in-Ok-true-clause-performs t c =
     let i = c.loop-subtable.invariant in
-    let act : ContextSubtable → Applied → Action = λ x a. context_subtable (nested c.args.table.now.lookups c.args.depth a) a x in
-    first_acts act c.args.subtables.now c.loop-subtable.subtable-index c.subtable-item.result (applied_of c.loop-subtable.ctx) (applied_of c.args.ctx.now) c.loop-subtable.ctx.random_state c.args.ctx.now.random_state c.apply_context.new.ctx.random_state c.in-Ok-true.field-0 c.args.buffer.now c.loop-subtable.buffer c.apply_context.new.buffer c.loop-subtable-test.true c.subtable-item.is i.passed i.context i.random c.in-Ok-true.field-0-test c.in-Ok-true.ensures.performs
+    let act : ContextSubtable → ApplyContext → Action = λ x a. context_subtable (nested_actions c.args.table.now.lookups c.args.depth a) a x in
+    first_acts act c.args.subtables.now c.loop-subtable.subtable-index c.subtable-item.result (apply_context_of c.loop-subtable.ctx) (apply_context_of c.args.ctx.now) c.loop-subtable.ctx.random_state c.args.ctx.now.random_state c.apply_context.new.ctx.random_state c.in-Ok-true.field-0 c.args.buffer.now c.loop-subtable.buffer c.apply_context.new.buffer c.loop-subtable-test.true c.subtable-item.is i.passed i.context i.random c.in-Ok-true.field-0-test c.in-Ok-true.ensures.performs
 
 pub apply_contexts-returns-in-Err-clause-performs : goal.apply_contexts-returns-in-Err-clause-performs
 apply_contexts-returns-in-Err-clause-performs t c =
     let i = c.loop-subtable.invariant in
-    let act : ContextSubtable → Applied → Action = λ x a. context_subtable (nested c.args.table.now.lookups c.args.depth a) a x in
-    first_refuses act c.args.subtables.now c.loop-subtable.subtable-index c.subtable-item.result (applied_of c.loop-subtable.ctx) (applied_of c.args.ctx.now) c.loop-subtable.ctx.random_state c.args.ctx.now.random_state c.apply_context.new.ctx.random_state c.in-Err.cause c.args.buffer.now c.loop-subtable.buffer c.apply_context.new.buffer c.loop-subtable-test.true c.subtable-item.is i.passed i.context i.random c.in-Err.ensures.performs
+    let act : ContextSubtable → ApplyContext → Action = λ x a. context_subtable (nested_actions c.args.table.now.lookups c.args.depth a) a x in
+    first_refuses act c.args.subtables.now c.loop-subtable.subtable-index c.subtable-item.result (apply_context_of c.loop-subtable.ctx) (apply_context_of c.args.ctx.now) c.loop-subtable.ctx.random_state c.args.ctx.now.random_state c.apply_context.new.ctx.random_state c.in-Err.cause c.args.buffer.now c.loop-subtable.buffer c.apply_context.new.buffer c.loop-subtable-test.true c.subtable-item.is i.passed i.context i.random c.in-Err.ensures.performs
 
 pub apply_contexts-loop-subtable-preserved : goal.apply_contexts-loop-subtable-preserved
 apply_contexts-loop-subtable-preserved t c =
     let i = c.loop-subtable.invariant in
-    let act : ContextSubtable → Applied → Action = λ x a. context_subtable (nested c.args.table.now.lookups c.args.depth a) a x in
-    let p = first_passes act c.args.subtables.now c.loop-subtable.subtable-index c.subtable-item.result (applied_of c.loop-subtable.ctx) (applied_of c.args.ctx.now) c.loop-subtable.ctx.random_state c.args.ctx.now.random_state c.apply_context.new.ctx.random_state c.in-Ok-false.field-0 c.args.buffer.now c.loop-subtable.buffer c.apply_context.new.buffer c.loop-subtable-test.true c.subtable-item.is i.passed i.context i.random c.in-Ok-false.field-0-test c.in-Ok-false.ensures.performs in
+    let act : ContextSubtable → ApplyContext → Action = λ x a. context_subtable (nested_actions c.args.table.now.lookups c.args.depth a) a x in
+    let p = first_passes act c.args.subtables.now c.loop-subtable.subtable-index c.subtable-item.result (apply_context_of c.loop-subtable.ctx) (apply_context_of c.args.ctx.now) c.loop-subtable.ctx.random_state c.args.ctx.now.random_state c.apply_context.new.ctx.random_state c.in-Ok-false.field-0 c.args.buffer.now c.loop-subtable.buffer c.apply_context.new.buffer c.loop-subtable-test.true c.subtable-item.is i.passed i.context i.random c.in-Ok-false.field-0-test c.in-Ok-false.ensures.performs in
     record { passed = p.0; context = c.apply_context.ensures.context ∙ i.context; random = p.1 }
 
 pub apply_contexts-returns-clause-performs : goal.apply_contexts-returns-clause-performs
 apply_contexts-returns-clause-performs t c =
     let i = c.loop-subtable.invariant in
-    let a = applied_of c.args.ctx.now in
-    let act = context_subtable (nested c.args.table.now.lookups c.args.depth a) a in
+    let a = apply_context_of c.args.ctx.now in
+    let act = context_subtable (nested_actions c.args.table.now.lookups c.args.depth a) a in
     let all = passed_all act c.args.subtables.now c.loop-subtable.subtable-index c.args.ctx.now.random_state c.args.buffer.now c.loop-subtable.buffer c.loop-subtable-test.false i.passed in
-    let P : ℕ → Type 0 = λ n. Performed (first_rule act c.args.subtables.now (cut_with c.args.ctx.now.random_state c.args.buffer.now)) false c.args.ctx.now.random_state n c.args.buffer.now c.loop-subtable.buffer in
+    let P : ℕ → Type 0 = λ n. IsPerformed (first_rule act c.args.subtables.now (cut_with c.args.ctx.now.random_state c.args.buffer.now)) false c.args.ctx.now.random_state n c.args.buffer.now c.loop-subtable.buffer in
     subst P (sym i.random) all
 
 pub apply_rules-returns-in-Ok-true-clause-performs : goal.apply_rules-returns-in-Ok-true-clause-performs
@@ -60,42 +60,42 @@ apply_rules-returns-in-Ok-true-clause-performs t c =
     let i = c.loop-i.invariant in
     let all = chains_of c.args.subtable.now in
     let x = chain_of c.rule_at-rule.result in
-    let act : Chain → Applied → Action = λ r a. chain_rule (nested c.args.table.now.lookups c.args.depth a) a r in
+    let act : Chain → ApplyContext → Action = λ r a. chain_rule (nested_actions c.args.table.now.lookups c.args.depth a) a r in
     let at : x ≡ get_or all c.loop-i.i x = sym (get_or_from_slice_get all c.loop-i.i x x c.rule_at-rule.ensures) in
-    first_acts act all c.loop-i.i x (applied_of c.loop-i.ctx) (applied_of c.args.ctx.now) c.loop-i.ctx.random_state c.args.ctx.now.random_state c.apply_rule.new.ctx.random_state c.in-Ok-true.field-0 c.args.buffer.now c.loop-i.buffer c.apply_rule.new.buffer (omega (arith, c.loop-i-test.true, c.rule_count-i-end.ensures)) at i.passed i.context i.random c.in-Ok-true.field-0-test c.in-Ok-true.ensures.performs
+    first_acts act all c.loop-i.i x (apply_context_of c.loop-i.ctx) (apply_context_of c.args.ctx.now) c.loop-i.ctx.random_state c.args.ctx.now.random_state c.apply_rule.new.ctx.random_state c.in-Ok-true.field-0 c.args.buffer.now c.loop-i.buffer c.apply_rule.new.buffer (omega (arith, c.loop-i-test.true, c.rule_count-i-end.ensures)) at i.passed i.context i.random c.in-Ok-true.field-0-test c.in-Ok-true.ensures.performs
 
 pub apply_rules-returns-in-Err-clause-performs : goal.apply_rules-returns-in-Err-clause-performs
 apply_rules-returns-in-Err-clause-performs t c =
     let i = c.loop-i.invariant in
     let all = chains_of c.args.subtable.now in
     let x = chain_of c.rule_at-rule.result in
-    let act : Chain → Applied → Action = λ r a. chain_rule (nested c.args.table.now.lookups c.args.depth a) a r in
+    let act : Chain → ApplyContext → Action = λ r a. chain_rule (nested_actions c.args.table.now.lookups c.args.depth a) a r in
     let at : x ≡ get_or all c.loop-i.i x = sym (get_or_from_slice_get all c.loop-i.i x x c.rule_at-rule.ensures) in
-    first_refuses act all c.loop-i.i x (applied_of c.loop-i.ctx) (applied_of c.args.ctx.now) c.loop-i.ctx.random_state c.args.ctx.now.random_state c.apply_rule.new.ctx.random_state c.in-Err.cause c.args.buffer.now c.loop-i.buffer c.apply_rule.new.buffer (omega (arith, c.loop-i-test.true, c.rule_count-i-end.ensures)) at i.passed i.context i.random c.in-Err.ensures.performs
+    first_refuses act all c.loop-i.i x (apply_context_of c.loop-i.ctx) (apply_context_of c.args.ctx.now) c.loop-i.ctx.random_state c.args.ctx.now.random_state c.apply_rule.new.ctx.random_state c.in-Err.cause c.args.buffer.now c.loop-i.buffer c.apply_rule.new.buffer (omega (arith, c.loop-i-test.true, c.rule_count-i-end.ensures)) at i.passed i.context i.random c.in-Err.ensures.performs
 
 pub apply_rules-loop-i-preserved : goal.apply_rules-loop-i-preserved
 apply_rules-loop-i-preserved t c =
     let i = c.loop-i.invariant in
     let all = chains_of c.args.subtable.now in
     let x = chain_of c.rule_at-rule.result in
-    let act : Chain → Applied → Action = λ r a. chain_rule (nested c.args.table.now.lookups c.args.depth a) a r in
+    let act : Chain → ApplyContext → Action = λ r a. chain_rule (nested_actions c.args.table.now.lookups c.args.depth a) a r in
     let at : x ≡ get_or all c.loop-i.i x = sym (get_or_from_slice_get all c.loop-i.i x x c.rule_at-rule.ensures) in
-    let p = first_passes act all c.loop-i.i x (applied_of c.loop-i.ctx) (applied_of c.args.ctx.now) c.loop-i.ctx.random_state c.args.ctx.now.random_state c.apply_rule.new.ctx.random_state c.in-Ok-false.field-0 c.args.buffer.now c.loop-i.buffer c.apply_rule.new.buffer (omega (arith, c.loop-i-test.true, c.rule_count-i-end.ensures)) at i.passed i.context i.random c.in-Ok-false.field-0-test c.in-Ok-false.ensures.performs in
+    let p = first_passes act all c.loop-i.i x (apply_context_of c.loop-i.ctx) (apply_context_of c.args.ctx.now) c.loop-i.ctx.random_state c.args.ctx.now.random_state c.apply_rule.new.ctx.random_state c.in-Ok-false.field-0 c.args.buffer.now c.loop-i.buffer c.apply_rule.new.buffer (omega (arith, c.loop-i-test.true, c.rule_count-i-end.ensures)) at i.passed i.context i.random c.in-Ok-false.field-0-test c.in-Ok-false.ensures.performs in
     record { passed = p.0; context = c.apply_rule.ensures.context ∙ i.context; random = p.1 }
 
 pub apply_rules-returns-clause-performs : goal.apply_rules-returns-clause-performs
 apply_rules-returns-clause-performs t c =
     let i = c.loop-i.invariant in
-    let a = applied_of c.args.ctx.now in
+    let a = apply_context_of c.args.ctx.now in
     let all = chains_of c.args.subtable.now in
-    let act = chain_rule (nested c.args.table.now.lookups c.args.depth a) a in
+    let act = chain_rule (nested_actions c.args.table.now.lookups c.args.depth a) a in
     let done = passed_all act all c.loop-i.i c.args.ctx.now.random_state c.args.buffer.now c.loop-i.buffer (omega (arith, c.loop-i-test.false, c.rule_count-i-end.ensures)) i.passed in
-    let P : ℕ → Type 0 = λ n. Performed (first_rule act all (cut_with c.args.ctx.now.random_state c.args.buffer.now)) false c.args.ctx.now.random_state n c.args.buffer.now c.loop-i.buffer in
+    let P : ℕ → Type 0 = λ n. IsPerformed (first_rule act all (cut_with c.args.ctx.now.random_state c.args.buffer.now)) false c.args.ctx.now.random_state n c.args.buffer.now c.loop-i.buffer in
     subst P (sym i.random) done
 
 pub apply_record-returns-in-Ok-true-clause-walks : goal.apply_record-returns-in-Ok-true-clause-walks
 apply_record-returns-in-Ok-true-clause-walks t c =
-    record_acted (nested_act c.args.table.now.lookups c.args.depth (applied_of c.args.ctx.now)) c.args.lookup_record.now c.args.places.now.items c.settle_match.new.places.items c.in-Ok-Some.place c.args.end c.settle_match.result c.glyph_count-before.result c.args.ctx.now.random_state c.recurse.new.ctx.random_state c.in-Ok-true.field-0
+    record_acted (nested_act c.args.table.now.lookups c.args.depth (apply_context_of c.args.ctx.now)) c.args.lookup_record.now c.args.places.now.items c.settle_match.new.places.items c.in-Ok-Some.place c.args.end c.settle_match.result c.glyph_count-before.result c.args.ctx.now.random_state c.recurse.new.ctx.random_state c.in-Ok-true.field-0
     c.args.buffer.now c.begin_record.new.buffer c.recurse.new.buffer (begun_some c.args.lookup_record.now c.args.places.now.items c.in-Ok-Some.place c.in-Ok-Some.field-0 c.args.buffer.now c.begin_record.new.buffer (let f = c.in-Ok-Some.field-0-is in let g = c.in-Ok-Some.place-is in cc) c.in-Ok-Some.ensures) c.in-Ok-true.field-0-test c.in-Ok-true.ensures.performs c.glyph_count-before.ensures.count c.settle_match.ensures.places c.settle_match.ensures.end
 
 pub apply_record-returns-in-Ok-true-clause-inside : goal.apply_record-returns-in-Ok-true-clause-inside
@@ -105,12 +105,12 @@ apply_record-returns-in-Ok-true-clause-inside t c =
 
 pub apply_record-returns-in-Ok-false-clause-walks : goal.apply_record-returns-in-Ok-false-clause-walks
 apply_record-returns-in-Ok-false-clause-walks t c =
-    record_passed (nested_act c.args.table.now.lookups c.args.depth (applied_of c.args.ctx.now)) c.args.lookup_record.now c.args.places.now.items c.in-Ok-Some.place c.args.end c.args.ctx.now.random_state c.recurse.new.ctx.random_state c.in-Ok-false.field-0
+    record_passed (nested_act c.args.table.now.lookups c.args.depth (apply_context_of c.args.ctx.now)) c.args.lookup_record.now c.args.places.now.items c.in-Ok-Some.place c.args.end c.args.ctx.now.random_state c.recurse.new.ctx.random_state c.in-Ok-false.field-0
     c.args.buffer.now c.begin_record.new.buffer c.recurse.new.buffer (begun_some c.args.lookup_record.now c.args.places.now.items c.in-Ok-Some.place c.in-Ok-Some.field-0 c.args.buffer.now c.begin_record.new.buffer (let f = c.in-Ok-Some.field-0-is in let g = c.in-Ok-Some.place-is in cc) c.in-Ok-Some.ensures) c.in-Ok-false.field-0-test c.in-Ok-false.ensures.performs
 
 pub apply_records-returns-then-depth-eq0-clause-walks : goal.apply_records-returns-then-depth-eq0-clause-walks
 apply_records-returns-then-depth-eq0-clause-walks t c =
-    none_nested (nested c.args.table.now.lookups c.args.depth (applied_of c.args.ctx.now)) c.args.records.now c.args.ctx.now.random_state c.args.end c.args.places.now.items c.args.buffer.now (no_depth c.args.table.now.lookups c.args.depth (applied_of c.args.ctx.now) (omega (arith, c.if-depth-eq0.true)))
+    none_nested (nested_actions c.args.table.now.lookups c.args.depth (apply_context_of c.args.ctx.now)) c.args.records.now c.args.ctx.now.random_state c.args.end c.args.places.now.items c.args.buffer.now (no_depth c.args.table.now.lookups c.args.depth (apply_context_of c.args.ctx.now) (omega (arith, c.if-depth-eq0.true)))
 
 pub apply_records-returns-in-Err-clause-walks : goal.apply_records-returns-in-Err-clause-walks
 apply_records-returns-in-Err-clause-walks t c =
@@ -118,8 +118,8 @@ apply_records-returns-in-Err-clause-walks t c =
     let none : SequenceLookupRecord = record { sequence_index = 0; lookup_index = 0 } in
     let r = get_or c.args.records.now c.loop-lookup_record.lookup_record-index none in
     let is : r ≡ get_or c.args.records.now c.loop-lookup_record.lookup_record-index r = get_or_any c.args.records.now c.loop-lookup_record.lookup_record-index none r c.loop-lookup_record-test.true in
-    next_failed (nested_act c.args.table.now.lookups (c.args.depth - 1)) (nested c.args.table.now.lookups c.args.depth (applied_of c.args.ctx.now)) (applied_of c.loop-lookup_record.ctx) (applied_of c.args.ctx.now) c.args.records.now c.loop-lookup_record.lookup_record-index r c.args.ctx.now.random_state c.loop-lookup_record.ctx.random_state c.apply_record.new.ctx.random_state c.args.buffer.now c.loop-lookup_record.buffer c.apply_record.new.buffer
-    c.args.places.now.items c.loop-lookup_record.places.items c.apply_record.new.places.items c.args.end c.loop-lookup_record.at c.in-Err.cause (some_depth c.args.table.now.lookups c.args.depth (applied_of c.args.ctx.now) (λ e. absurd (omega (arith, e, c.if-depth-eq0.false)))) i.context c.loop-lookup_record-test.true is i.walked c.in-Err.ensures.walks
+    next_failed (nested_act c.args.table.now.lookups (c.args.depth - 1)) (nested_actions c.args.table.now.lookups c.args.depth (apply_context_of c.args.ctx.now)) (apply_context_of c.loop-lookup_record.ctx) (apply_context_of c.args.ctx.now) c.args.records.now c.loop-lookup_record.lookup_record-index r c.args.ctx.now.random_state c.loop-lookup_record.ctx.random_state c.apply_record.new.ctx.random_state c.args.buffer.now c.loop-lookup_record.buffer c.apply_record.new.buffer
+    c.args.places.now.items c.loop-lookup_record.places.items c.apply_record.new.places.items c.args.end c.loop-lookup_record.at c.in-Err.cause (some_depth c.args.table.now.lookups c.args.depth (apply_context_of c.args.ctx.now) (λ e. absurd (omega (arith, e, c.if-depth-eq0.false)))) i.context c.loop-lookup_record-test.true is i.walked c.in-Err.ensures.walks
 
 pub apply_records-loop-lookup_record-preserved : goal.apply_records-loop-lookup_record-preserved
 apply_records-loop-lookup_record-preserved t c =
@@ -129,7 +129,7 @@ apply_records-loop-lookup_record-preserved t c =
     let is : r ≡ get_or c.args.records.now c.loop-lookup_record.lookup_record-index r = get_or_any c.args.records.now c.loop-lookup_record.lookup_record-index none r c.loop-lookup_record-test.true in
     record {
       walked =
-          next_walked (nested_act c.args.table.now.lookups (c.args.depth - 1)) (applied_of c.loop-lookup_record.ctx) (applied_of c.args.ctx.now) c.args.records.now c.loop-lookup_record.lookup_record-index r c.args.ctx.now.random_state c.loop-lookup_record.ctx.random_state c.apply_record.new.ctx.random_state c.args.buffer.now c.loop-lookup_record.buffer c.apply_record.new.buffer
+          next_walked (nested_act c.args.table.now.lookups (c.args.depth - 1)) (apply_context_of c.loop-lookup_record.ctx) (apply_context_of c.args.ctx.now) c.args.records.now c.loop-lookup_record.lookup_record-index r c.args.ctx.now.random_state c.loop-lookup_record.ctx.random_state c.apply_record.new.ctx.random_state c.args.buffer.now c.loop-lookup_record.buffer c.apply_record.new.buffer
           c.args.places.now.items c.loop-lookup_record.places.items c.apply_record.new.places.items c.args.end c.loop-lookup_record.at c.in-Ok.settled i.context c.loop-lookup_record-test.true is i.walked c.in-Ok.ensures.walks;
       inside = then_stays _ _ _ _ _ _ _ _ _ i.inside c.in-Ok.ensures.inside;
       context = c.apply_record.ensures.context ∙ i.context;
@@ -138,23 +138,23 @@ apply_records-loop-lookup_record-preserved t c =
 pub apply_records-returns-clause-walks : goal.apply_records-returns-clause-walks
 apply_records-returns-clause-walks t c =
     let i = c.loop-lookup_record.invariant in
-    last_walked (nested_act c.args.table.now.lookups (c.args.depth - 1) (applied_of c.args.ctx.now)) (nested c.args.table.now.lookups c.args.depth (applied_of c.args.ctx.now)) c.args.records.now c.loop-lookup_record.lookup_record-index c.args.ctx.now.random_state c.loop-lookup_record.ctx.random_state c.args.buffer.now c.loop-lookup_record.buffer c.args.places.now.items c.loop-lookup_record.places.items c.args.end c.loop-lookup_record.at
-    (some_depth c.args.table.now.lookups c.args.depth (applied_of c.args.ctx.now) (λ e. absurd (omega (arith, e, c.if-depth-eq0.false)))) c.loop-lookup_record-test.false i.walked
+    last_walked (nested_act c.args.table.now.lookups (c.args.depth - 1) (apply_context_of c.args.ctx.now)) (nested_actions c.args.table.now.lookups c.args.depth (apply_context_of c.args.ctx.now)) c.args.records.now c.loop-lookup_record.lookup_record-index c.args.ctx.now.random_state c.loop-lookup_record.ctx.random_state c.args.buffer.now c.loop-lookup_record.buffer c.args.places.now.items c.loop-lookup_record.places.items c.args.end c.loop-lookup_record.at
+    (some_depth c.args.table.now.lookups c.args.depth (apply_context_of c.args.ctx.now) (λ e. absurd (omega (arith, e, c.if-depth-eq0.false)))) c.loop-lookup_record-test.false i.walked
 
 pub apply_rule-returns-in-Ok-clause-performs : goal.apply_rule-returns-in-Ok-clause-performs
 apply_rule-returns-in-Ok-clause-performs t c =
-    let a = applied_of c.args.ctx.now in
-    rule_acted a (nested c.args.table.now.lookups c.args.depth a) (chain_of c.args.rule.now) c.args.ctx.now.random_state c.apply_records.new.ctx.random_state c.in-Some.end c.in-Ok.at c.match_chain.new.places.items c.apply_records.new.places.items c.go_behind.result
+    let a = apply_context_of c.args.ctx.now in
+    rule_acted a (nested_actions c.args.table.now.lookups c.args.depth a) (chain_of c.args.rule.now) c.args.ctx.now.random_state c.apply_records.new.ctx.random_state c.in-Some.end c.in-Ok.at c.match_chain.new.places.items c.apply_records.new.places.items c.go_behind.result
     c.args.buffer.now c.match_chain.new.buffer c.apply_records.new.buffer c.go_behind.new.buffer c.in-Some.ensures c.in-Ok.ensures.walks c.in-Ok.ensures.inside (c.go_behind.ensures c.apply_records.new.ctx.random_state)
 
 pub apply_rule-returns-in-Err-clause-performs : goal.apply_rule-returns-in-Err-clause-performs
 apply_rule-returns-in-Err-clause-performs t c =
-    let a = applied_of c.args.ctx.now in
-    rule_failed a (nested c.args.table.now.lookups c.args.depth a) (chain_of c.args.rule.now) c.args.ctx.now.random_state c.apply_records.new.ctx.random_state c.in-Some.end c.match_chain.new.places.items c.apply_records.new.places.items c.in-Err.cause c.args.buffer.now c.match_chain.new.buffer c.apply_records.new.buffer c.in-Some.ensures c.in-Err.ensures.walks
+    let a = apply_context_of c.args.ctx.now in
+    rule_failed a (nested_actions c.args.table.now.lookups c.args.depth a) (chain_of c.args.rule.now) c.args.ctx.now.random_state c.apply_records.new.ctx.random_state c.in-Some.end c.match_chain.new.places.items c.apply_records.new.places.items c.in-Err.cause c.args.buffer.now c.match_chain.new.buffer c.apply_records.new.buffer c.in-Some.ensures c.in-Err.ensures.walks
 
 pub apply_rule-apply_records-requires : goal.apply_rule-apply_records-requires
 apply_rule-apply_records-requires t c =
-    let a = applied_of c.args.ctx.now in
+    let a = apply_context_of c.args.ctx.now in
     let r = chain_of c.args.rule.now in
     let old = c.args.buffer.now in
     let new = c.match_chain.new.buffer in

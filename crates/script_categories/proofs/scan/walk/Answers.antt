@@ -1,5 +1,5 @@
 use Rattle.std.proofs.Common.{ℕ, ◌≡◌, ◌+◌, take, get_or, Option, None, Some, sym, ap, ◌∙◌}
-use Rattle.script_categories.specs.Fronts.{front_or, kind_in, kind_of_front, led}
+use Rattle.script_categories.specs.Fronts.{front_or, kind_in, kind_of_front, state_by}
 use Rattle.script_categories.specs.Machines.{machine_in}
 use Rattle.script_categories.proofs.Walks.{led_on, longer_front, ends_here}
 use Rattle.script_categories.proofs.scan.walk.Goals as goal
@@ -10,7 +10,7 @@ returns-in_default c =
     let cs = c.args.categories.now in
     let i = c.loop-i.i in
     let on = led_on m cs i 0 c.loop-i.state c.loop-i-test.true c.loop-i.invariant.state in
-    let none : led m (Some c.loop-i.state) (get_or cs i 0) ≡ None = sym c.next_state.ensures ∙ c.in_default.is in
+    let none : state_by m (Some c.loop-i.state) (get_or cs i 0) ≡ None = sym c.next_state.ensures ∙ c.in_default.is in
     c.loop-i.invariant.front ∙ sym (ends_here m cs i c.loop-i-test.true (on ∙ none))
 
 pub loop-i-preserved : goal.loop-i-preserved
@@ -19,7 +19,7 @@ loop-i-preserved c =
     let cs = c.args.categories.now in
     let i = c.loop-i.i in
     let on = led_on m cs i 0 c.loop-i.state c.loop-i-test.true c.loop-i.invariant.state in
-    let some : led m (Some c.loop-i.state) (get_or cs i 0) ≡ Some c.in-Some.next = sym c.next_state.ensures ∙ c.in-Some.is in
+    let some : state_by m (Some c.loop-i.state) (get_or cs i 0) ≡ Some c.in-Some.next = sym c.next_state.ensures ∙ c.in-Some.is in
     let kind = c.kind_of.ensures ∙ ap (kind_in m) (sym (on ∙ some)) in
     record {
       front = c.longer-front.ensures ∙ ap (λ (k : Option ℕ). front_or k (i + 1) c.loop-i.front) kind

@@ -1,7 +1,7 @@
 use Rattle.std.proofs.Common.{ap, arith, refl, subst, sym, ◌≡◌, ◌+◌, ◌-◌, ℕ, List, length, ◌∙◌}
 use Rattle.buffer_glyphs.specs.declared.info.hb_glyph_info_t.{hb_glyph_info_t}
 use Rattle.buffer_glyphs.specs.Items.{clusters}
-use Rattle.buffer_glyphs.specs.Origins.{changed_within}
+use Rattle.buffer_glyphs.specs.Origins.{with_range_changed}
 use Rattle.buffer_glyphs.specs.Lemmas.Origins.{within_kept}
 use Rattle.buffer_core.specs.Readings.{always}
 use Rattle.buffer_lists.specs.Known.{HasOrder}
@@ -9,7 +9,7 @@ use Rattle.buffer_core.specs.Sides.{Sides, all_glyphs}
 use Rattle.buffer_stages.specs.Stages.{IsFollowed}
 use Rattle.buffer_stages.specs.Moves.{with_move}
 use Rattle.buffer_stages.specs.Lemmas.Ordered.{order_written}
-use Rattle.script_joining.specs.Marks.{led}
+use Rattle.script_joining.specs.Marks.{with_leading_marks}
 use Rattle.script_joining.specs.Classed.{glyph_classed}
 use Rattle.script_joining.proofs.Reordered.{changed_length, led_followed, some_leading}
 use Rattle.script_joining.proofs.marks.put_first.Goals as goal
@@ -27,9 +27,9 @@ returns c =
     subst (IsFollowed (always (with_move start below leading)) s) (sym c.known_order-known.ensures.same)
     (subst (λ (m : ℕ). IsFollowed (always (with_move start below m)) s c.move_back.new.buffer) k
     (subst (λ (m : ℕ). IsFollowed (always (with_move start m (start + below + leading - (start + below)))) s c.move_back.new.buffer) n c.move_back.ensures)) in
-    subst (IsFollowed (always (led c.args.new_class start below leading)) s) (sym c.keep_order.ensures)
+    subst (IsFollowed (always (with_leading_marks c.args.new_class start below leading)) s) (sym c.keep_order.ensures)
     (led_followed c.args.new_class start below leading s t c.set_classes.new.glyphs (some_leading leading c.if-leading-eq0.false) moved
-    (c.set_classes.ensures ∙ ap (changed_within (glyph_classed c.args.new_class) start (start + leading)) c.info_slice_mut.ensures.value))
+    (c.set_classes.ensures ∙ ap (with_range_changed (glyph_classed c.args.new_class) start (start + leading)) c.info_slice_mut.ensures.value))
 
 pub keep_order-requires : goal.keep_order-requires
 keep_order-requires c =
@@ -38,7 +38,7 @@ keep_order-requires c =
     let f = glyph_classed c.args.new_class in
     let t = c.known_order-known.new.self in
     let gs = c.set_classes.new.glyphs in
-    let e : gs ≡ changed_within f start end (all_glyphs t) = c.set_classes.ensures ∙ ap (changed_within f start end) c.info_slice_mut.ensures.value in
+    let e : gs ≡ with_range_changed f start end (all_glyphs t) = c.set_classes.ensures ∙ ap (with_range_changed f start end) c.info_slice_mut.ensures.value in
     let long : length gs ≡ length (all_glyphs t) = ap (λ (hs : List hb_glyph_info_t). length hs) e ∙ changed_length f start end (all_glyphs t) in
     let same : clusters gs ≡ clusters (all_glyphs t) = ap clusters e ∙ within_kept (λ (g : hb_glyph_info_t). g.cluster) f start end (all_glyphs t) (λ g. refl) in
     let known : HasOrder c.known_order-known.result (clusters (all_glyphs t)) =

@@ -5,8 +5,8 @@ use Rattle.buffer_glyphs.specs.Items.{clusters}
 use Rattle.buffer_lists.specs.Known.{HasOrder}
 use Rattle.buffer_core.specs.Sides.{Sides, all_glyphs, items_of}
 use Rattle.buffer_core.specs.Lending.{with_refilled}
-use Rattle.buffer_stages.specs.Rewriting.{kept}
-use Rattle.buffer_stages.specs.Parts.{masked}
+use Rattle.buffer_glyphs.specs.Rewriting.{eventless_arrangement}
+use Rattle.buffer_stages.specs.Parts.{item_with_features}
 use Rattle.buffer_stages.specs.SyllableBuffers.{IsRewritten}
 use Rattle.buffer_stages.specs.Lemmas.Parts.{order_kept}
 use Rattle.script_khmer_myanmar.specs.Runs.{forms_masked, together}
@@ -22,7 +22,7 @@ returns c =
     let s = c.args.buffer.now in
     let gs = c.mask_part.new.glyphs in
     let same = c.known_order-known.ensures.same in
-    let done : Sides → Type 0 = λ t. IsRewritten (kept (forms_masked (together true) (masked bits) (slice_range (items_of s) start end))) start end s t in
+    let done : Sides → Type 0 = λ t. IsRewritten (eventless_arrangement (forms_masked (together true) (item_with_features bits) (slice_range (items_of s) start end))) start end s t in
     let formed : List hb_glyph_info_t → List hb_glyph_info_t = λ hs. take start hs ++ glyphs_formed bits (slice_range hs start end) ++ drop end hs in
     subst done (sym c.keep_order.ensures) (subst (λ t. done (with_refilled gs t)) (sym same)
     (formed_rewrites start end bits gs s r.ready r.ordered r.within (c.mask_part.ensures ∙ ap formed c.info_slice_mut.ensures.value ∙ ap (λ t. formed (all_glyphs t)) same)))

@@ -1,10 +1,10 @@
 use Rattle.std.proofs.Common.{refl}
 use Rattle.script_pauses.specs.Syllables.{without_syllable, syllables_cleared}
-use Rattle.script_pauses.proofs.Lemmas.Quiet.{mapped_quiet, quiet_brings_none, quiet_done}
+use Rattle.script_pauses.specs.Lemmas.Quiet.{mapped_quiet, quiet_brings_none, quiet_done}
 use Rattle.script_pauses.proofs.clearing.clear_syllables.Goals as goal
 
 pub returns-clause-ok : goal.returns-clause-ok
 returns-clause-ok c = quiet_done syllables_cleared c.args.buffer.now c.without_syllables.new.buffer (mapped_quiet without_syllable c.args.buffer.now c.without_syllables.new.buffer (λ x. refl) c.without_syllables.ensures)
 
-pub returns-clause-told : goal.returns-clause-told
-returns-clause-told c = quiet_brings_none syllables_cleared c.args.buffer.now c.without_syllables.new.buffer (mapped_quiet without_syllable c.args.buffer.now c.without_syllables.new.buffer (λ x. refl) c.without_syllables.ensures)
+pub returns-clause-brings_none : goal.returns-clause-brings_none
+returns-clause-brings_none c = quiet_brings_none syllables_cleared c.args.buffer.now c.without_syllables.new.buffer (mapped_quiet without_syllable c.args.buffer.now c.without_syllables.new.buffer (λ x. refl) c.without_syllables.ensures)

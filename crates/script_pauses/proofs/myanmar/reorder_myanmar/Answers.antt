@@ -2,10 +2,10 @@ use Rattle.std.proofs.Common.{None}
 use Rattle.script_categories.specs.declared.ot_category_t.TheConstants as category
 use Rattle.script_categories.specs.declared.syllable_kinds.myanmar.TheConstants as myanmar
 use Rattle.script_khmer_myanmar.specs.Myanmar.{myanmar_syllable}
-use Rattle.script_khmer_myanmar.proofs.Lemmas.MyanmarPermuted.{syllable_permutes}
+use Rattle.script_khmer_myanmar.specs.Lemmas.MyanmarPermuted.{syllable_permutes}
 use Rattle.script_syllabic.specs.Rules.{circle_rule}
 use Rattle.buffer_stages.proofs.Lemmas.Walked.{passed_on}
-use Rattle.script_pauses.proofs.Lemmas.Quiet.{circles_refused, ordered_brings_none, ordered_done, ok_is}
+use Rattle.script_pauses.specs.Lemmas.Quiet.{circles_refused, ordered_brings_none, ordered_done, ok_is}
 use Rattle.script_pauses.proofs.myanmar.reorder_myanmar.Goals as goal
 
 pub returns-clause-ok : goal.returns-clause-ok
@@ -13,10 +13,10 @@ returns-clause-ok c =
     let i = c.in_ok-inserted.ensures in
     ordered_done c.args.face.now c.args.buffer.now.flags myanmar.BROKEN_CLUSTER category.OT_DOTTEDCIRCLE None None myanmar_syllable c.args.buffer.now c.insert_dotted_circles.new.buffer c.reorder_myanmar.new.buffer syllable_permutes i.ok i.glyphs c.in_ok-reorder_myanmar.ensures
 
-pub returns-clause-told : goal.returns-clause-told
-returns-clause-told c = λ e.
+pub returns-clause-brings_none : goal.returns-clause-brings_none
+returns-clause-brings_none c = λ e.
     let i = c.in_ok-inserted.ensures in
-    ordered_brings_none (circle_rule c.args.face.now c.args.buffer.now.flags myanmar.BROKEN_CLUSTER category.OT_DOTTEDCIRCLE None None) myanmar_syllable c.args.buffer.now c.insert_dotted_circles.new.buffer c.reorder_myanmar.new.buffer c.in_ok-inserted.inserted syllable_permutes i.told i.ok c.in_ok-reorder_myanmar.ensures (ok_is c.in_ok-inserted.inserted e)
+    ordered_brings_none (circle_rule c.args.face.now c.args.buffer.now.flags myanmar.BROKEN_CLUSTER category.OT_DOTTEDCIRCLE None None) myanmar_syllable c.args.buffer.now c.insert_dotted_circles.new.buffer c.reorder_myanmar.new.buffer c.in_ok-inserted.inserted syllable_permutes i.inserted i.ok c.in_ok-reorder_myanmar.ensures (ok_is c.in_ok-inserted.inserted e)
 
 pub returns-in_err-inserted-clause-err : goal.returns-in_err-inserted-clause-err
 returns-in_err-inserted-clause-err c =

@@ -1,5 +1,5 @@
 use Rattle.std.proofs.Common.{ap, rules, ◌∙◌}
-use Rattle.script_tiles.specs.Placing.{laid}
+use Rattle.script_tiles.specs.TilePositions.{all_positions}
 use Rattle.script_pauses.proofs.Laid.{laid_done}
 use Rattle.script_pauses.proofs.stretch.lay_tiles.Goals as goal
 
@@ -7,4 +7,4 @@ pub returns-clause-ok : goal.returns-clause-ok
 returns-clause-ok c =
     let ts = c.args.tiles.now in
     laid_done ts _ c.args.buffer.now c.copy_tiles.new.buffer c.put_places.new.buffer c.requires.ready c.in_ok-copy_tiles.ensures.ok
-    (c.deref-2.ensures.value ∙ c.in_ok-places.ensures ∙ ap (λ ps. laid ps ts) (c.deref.ensures.value ∙ (search rules) ∙ c.pos_slice.ensures.same)) c.put_places.ensures
+    (c.deref-2.ensures.value ∙ c.in_ok-places.ensures ∙ ap (λ ps. all_positions ps ts) (c.deref.ensures.value ∙ (search rules) ∙ c.pos_slice.ensures.same)) c.put_places.ensures

@@ -3,7 +3,7 @@ use Rattle.script_categories.specs.declared.arabic_action_t.TheConstants as acti
 use Rattle.buffer_glyphs.specs.LigatureWords.{is_multiplied, lig_comp}
 use Rattle.buffer_glyphs.specs.Items.{Item}
 use Rattle.script_pauses.specs.Tiles.{tile_recorded}
-use Rattle.script_pauses.proofs.Lemmas.Quiet.{mapped_quiet}
+use Rattle.script_pauses.specs.Lemmas.Quiet.{mapped_quiet}
 use Rattle.script_pauses.proofs.tiles.record_tiles.Goals as goal
 
 same_number : (x : Item) → (tile_recorded x).number ≡ x.number

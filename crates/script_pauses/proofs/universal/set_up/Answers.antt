@@ -2,8 +2,8 @@ use Rattle.script_categories.specs.declared.shaper.hb_ot_script_shaper_t.TheVari
 use Rattle.script_syllabic.specs.Features.{rphf_masked}
 use Rattle.script_syllabic.specs.Spans.{universal_set}
 use Rattle.script_pauses.specs.Syllables.{forms_set, syllables_by, then_syllables}
-use Rattle.script_pauses.proofs.Lemmas.Quiet.{quiet_then, syllables_quiet}
-use Rattle.script_pauses.proofs.Lemmas.Rules.{rphf_permutes, universal_set_quiet}
+use Rattle.script_pauses.specs.Lemmas.Quiet.{quiet_then, syllables_quiet}
+use Rattle.script_pauses.specs.Lemmas.Rules.{rphf_permutes, universal_set_quiet}
 use Rattle.script_pauses.proofs.universal.set_up.Goals as goal
 
 pub returns-clause-ok : goal.returns-clause-ok

@@ -1,5 +1,5 @@
 use Rattle.std.proofs.Common.{sym, ap, ◌∙◌}
-use Rattle.buffer_core.specs.Sides.{moved_on}
+use Rattle.buffer_core.specs.Sides.{after_next_glyphs}
 use Rattle.script_syllabic.proofs.Underway.{circle_put, circle_refused, rephas_refused, first_stands, less_circled, rephas_within}
 use Rattle.script_syllabic.proofs.circles.put_circles.Goals as goal
 use Rattle.buffer_stages.proofs.Lemmas.Walked.{passed_on}
@@ -7,34 +7,34 @@ use Rattle.buffer_stages.proofs.Lemmas.Walked.{passed_on}
 pub put_circle-requires-clause-passed : goal.put_circle-requires-clause-passed
 put_circle-requires-clause-passed c =
     let count = c.in_ok-rephas.ensures.count in
-    let moved = c.in_ok-rephas.ensures.moved ∙ ap (λ n. moved_on n c.loop-buffer.buffer) (sym count) in
+    let moved = c.in_ok-rephas.ensures.moved ∙ ap (λ n. after_next_glyphs n c.loop-buffer.buffer) (sym count) in
     (rephas_within c.args.rule.now c.cur.result.now.syllable c.in_ok-rephas.rephas c.loop-buffer.buffer c.pass_rephas.new.buffer count moved).1
 
 pub put_circle-requires-clause-first : goal.put_circle-requires-clause-first
 put_circle-requires-clause-first c =
     let count = c.in_ok-rephas.ensures.count in
-    let moved = c.in_ok-rephas.ensures.moved ∙ ap (λ n. moved_on n c.loop-buffer.buffer) (sym count) in
+    let moved = c.in_ok-rephas.ensures.moved ∙ ap (λ n. after_next_glyphs n c.loop-buffer.buffer) (sym count) in
     let inside = rephas_within c.args.rule.now c.cur.result.now.syllable c.in_ok-rephas.rephas c.loop-buffer.buffer c.pass_rephas.new.buffer count moved in
     first_stands c.in_ok-rephas.rephas c.cur.result.now c.loop-buffer.buffer c.pass_rephas.new.buffer c.cur.ensures moved inside.0
 
 pub loop-buffer-smaller-in_ok-put_circle : goal.loop-buffer-smaller-in_ok-put_circle
 loop-buffer-smaller-in_ok-put_circle c =
     let count = c.in_ok-rephas.ensures.count in
-    let moved = c.in_ok-rephas.ensures.moved ∙ ap (λ n. moved_on n c.loop-buffer.buffer) (sym count) in
+    let moved = c.in_ok-rephas.ensures.moved ∙ ap (λ n. after_next_glyphs n c.loop-buffer.buffer) (sym count) in
     let inside = rephas_within c.args.rule.now c.cur.result.now.syllable c.in_ok-rephas.rephas c.loop-buffer.buffer c.pass_rephas.new.buffer count moved in
     less_circled c.args.rule.now c.loop-buffer.last c.in_ok-rephas.rephas c.cur.result.now c.loop-buffer.buffer c.pass_rephas.new.buffer c.put_circle.new.buffer c.cur.ensures (sym c.begins.ensures ∙ c.if-begins.true) moved inside.0 c.in_ok-put_circle.ensures.ok.ahead
 
 pub loop-buffer-preserved-in_ok-put_circle : goal.loop-buffer-preserved-in_ok-put_circle
 loop-buffer-preserved-in_ok-put_circle c =
     let count = c.in_ok-rephas.ensures.count in
-    let moved = c.in_ok-rephas.ensures.moved ∙ ap (λ n. moved_on n c.loop-buffer.buffer) (sym count) in
+    let moved = c.in_ok-rephas.ensures.moved ∙ ap (λ n. after_next_glyphs n c.loop-buffer.buffer) (sym count) in
     let inside = rephas_within c.args.rule.now c.cur.result.now.syllable c.in_ok-rephas.rephas c.loop-buffer.buffer c.pass_rephas.new.buffer count moved in
     circle_put c.args.rule.now c.loop-buffer.last c.in_ok-rephas.rephas c.cur.result.now c.args.buffer.now c.loop-buffer.buffer c.pass_rephas.new.buffer c.put_circle.new.buffer c.loop-buffer.invariant c.cur.ensures (sym c.begins.ensures ∙ c.if-begins.true) count moved inside.0 c.in_ok-put_circle.ensures.ok
 
 pub returns-in_err-put_circle-clause-err : goal.returns-in_err-put_circle-clause-err
 returns-in_err-put_circle-clause-err c =
     let count = c.in_ok-rephas.ensures.count in
-    let moved = c.in_ok-rephas.ensures.moved ∙ ap (λ n. moved_on n c.loop-buffer.buffer) (sym count) in
+    let moved = c.in_ok-rephas.ensures.moved ∙ ap (λ n. after_next_glyphs n c.loop-buffer.buffer) (sym count) in
     let inside = rephas_within c.args.rule.now c.cur.result.now.syllable c.in_ok-rephas.rephas c.loop-buffer.buffer c.pass_rephas.new.buffer count moved in
     let cause = c.in_err-put_circle.field-0.0 in
     passed_on c.from_residual-in_err-put_circle.result cause _ c.from_residual-in_err-put_circle.ensures.1

@@ -1,6 +1,6 @@
 use Rattle.std.proofs.Common.{ap, ◌∙◌}
 use Rattle.buffer_glyphs.specs.Glyphs.{glyphs_flagged}
-use Rattle.shape_masks.proofs.Stretches.{stretch_becomes}
+use Rattle.shape_masks.proofs.RangeMasks.{stretch_becomes}
 use Rattle.shape_masks.proofs.fractions.mask_stretch.Goals as goal
 
 pub returns : goal.returns

@@ -1,10 +1,10 @@
 use Rattle.std.proofs.Common.{take}
 use Rattle.std.specs.Result.{result_map_both}
 use Rattle.serde_json.specs.View.{items_view}
-use Rattle.shell_face_json.specs.Lists.{parts_of}
+use Rattle.shell_face_json.specs.Lists.{items_of}
 use Rattle.shell_face_json.proofs.Means.{Means}
 use Rattle.shell_face_json.proofs.lists.read_list.Given as goal
 
 -- the parts so far
 abbrev pub invariant-loop-value : goal.invariant-loop-value
-invariant-loop-value g l = Means (parts_of (g.P.Part.part l.limit) (items_view (take l.value-index l.values))) (result_map_both (λ v. v.items) (λ e. e) l.parts)
+invariant-loop-value g l = Means (items_of (g.P.Part.part l.limit) (items_view (take l.value-index l.values))) (result_map_both (λ v. v.items) (λ e. e) l.parts)

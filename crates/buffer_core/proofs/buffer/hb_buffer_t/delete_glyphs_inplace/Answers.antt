@@ -3,7 +3,7 @@ use Rattle.std.proofs.lemmas.Grind.{common_steps}
 use Rattle.buffer_glyphs.specs.Items.{item_of}
 use Rattle.buffer_core.specs.Grouping.{with_picked_deleted}
 use Rattle.buffer_core.specs.Inside.{sides_of}
-use Rattle.buffer_core.specs.Merging.{telling_flags}
+use Rattle.buffer_core.specs.Merging.{with_has_glyph_flags}
 use Rattle.buffer_core.specs.Sides.{Sides, items_of, origins_of}
 use Rattle.buffer_core.proofs.Grouped.{picked_items, picked_origins, picked_positions}
 use Rattle.buffer_core.proofs.Picked.{picked_view}
@@ -27,7 +27,7 @@ returns-clause-deleted g c goes tells =
     picked_view b c.truncate.new.self c.truncate-2.new.self c.of-self-inside.result goes c.min-self-inside.result _ closed
     (c.truncate.ensures.items ∙ ap (take walk.result.0) (all_put b.info walk.new.glyphs walk.new.glyphs in_info refl wide) ∙ glyphs)
     (c.truncate-2.ensures.items ∙ ap (take walk.result.0) (all_put_positions b.pos walk.new.positions walk.new.positions in_pos refl long) ∙ positions)
-    (c.min-self-inside.ensures ∙ ap (min b.idx) count) (c.telling_flags-self-inside.ensures ∙ ap (λ m. telling_flags m b.scratch_flags) marks)
+    (c.min-self-inside.ensures ∙ ap (min b.idx) count) (c.telling_flags-self-inside.ensures ∙ ap (λ m. with_has_glyph_flags m b.scratch_flags) marks)
     ∙ ap (with_picked_deleted goes) same
 
 pub returns-clause-items : goal.returns-clause-items

@@ -7,9 +7,9 @@ use Rattle.std.proofs.Common.{◌≡◌, ◌≤◌, ◌+◌, ◌-◌, ◌++◌, 
 use Rattle.std.proofs.lemmas.Grind.{common_steps}
 use Rattle.std.proofs.lemmas.List.{drop_at, length-append, length-drop, length-map, length-take-le, take_rest}
 use Rattle.buffer_glyphs.specs.Items.{clusters}
-use Rattle.buffer_glyphs.specs.Glyphs.{flagged}
+use Rattle.buffer_glyphs.specs.Glyphs.{glyph_flagged}
 use Rattle.buffer_core.specs.Sides.{Sides}
-use Rattle.buffer_core.specs.Merging.{index_in_all, telling_flags}
+use Rattle.buffer_core.specs.Merging.{index_in_all, with_has_glyph_flags}
 use Rattle.buffer_core.specs.Marking.{with_flagged}
 use Rattle.buffer_core.proofs.Across.{flagged_across_view, drop_on}
 use Rattle.buffer_core.proofs.Slices.{part_kept, part_put, rest_kept, rest_put}
@@ -40,39 +40,39 @@ begins c = grind (arith, common_steps)
 ends : (c : After-self-3-1) → c.args.end ≤ length (old_info c)
 ends c = first_of (search rules, grind (arith, common_steps))
 
-input : (c : After-self-3-1) → c.flag_all-2.new.glyphs ≡ map (flagged c.args.flags) (slice_range (old_info c) c.self.inside.idx c.args.end)
+input : (c : After-self-3-1) → c.flag_all-2.new.glyphs ≡ map (glyph_flagged c.args.flags) (slice_range (old_info c) c.self.inside.idx c.args.end)
 input c = rw c.deref_mut-2.ensures.value at c.flag_all-2.ensures
 
-output : (c : After-self-3-1) → c.flag_all.new.glyphs ≡ map (flagged c.args.flags) (drop c.args.start (old_out c))
+output : (c : After-self-3-1) → c.flag_all.new.glyphs ≡ map (glyph_flagged c.args.flags) (drop c.args.start (old_out c))
 output c = rw (c.deref_mut.ensures.value, take_rest (old_out c) c.args.start) at c.flag_all.ensures
 
-info_is : (c : After-self-3-1) → (new_info c).items ≡ take c.self.inside.idx (old_info c) ++ (map (flagged c.args.flags) (slice_range (old_info c) c.self.inside.idx c.args.end) ++ drop (c.args.end - c.self.inside.idx) (drop c.self.inside.idx (old_info c)))
+info_is : (c : After-self-3-1) → (new_info c).items ≡ take c.self.inside.idx (old_info c) ++ (map (glyph_flagged c.args.flags) (slice_range (old_info c) c.self.inside.idx c.args.end) ++ drop (c.args.end - c.self.inside.idx) (drop c.self.inside.idx (old_info c)))
 info_is c =
     let b = c.self.inside in
     let in_info : b.info.len ≡ length b.info.items = first_of (search rules, grind (arith, common_steps)) in
     let n = c.args.end - b.idx in
     let range = slice_range b.info.items b.idx c.args.end in
-    part_put b.info c.deref_mut-2.result.now c.flag_all-2.new.glyphs b.idx n in_info c.deref_mut-2.ensures.value (omega (arith, begins c, ends c)) (ap length (input c) ∙ length-map range (flagged c.args.flags) ∙ length-take-le n (drop b.idx b.info.items) (omega (arith, length-drop b.idx b.info.items, ends c)))
+    part_put b.info c.deref_mut-2.result.now c.flag_all-2.new.glyphs b.idx n in_info c.deref_mut-2.ensures.value (omega (arith, begins c, ends c)) (ap length (input c) ∙ length-map range (glyph_flagged c.args.flags) ∙ length-take-le n (drop b.idx b.info.items) (omega (arith, length-drop b.idx b.info.items, ends c)))
     ∙ ap (λ gs. take b.idx b.info.items ++ (gs ++ drop n (drop b.idx b.info.items))) (input c)
 
-out_is : (c : After-self-3-1) → (new_out c).items ≡ take c.args.start (old_out c) ++ map (flagged c.args.flags) (drop c.args.start (old_out c))
+out_is : (c : After-self-3-1) → (new_out c).items ≡ take c.args.start (old_out c) ++ map (glyph_flagged c.args.flags) (drop c.args.start (old_out c))
 out_is c =
     let b = c.self.inside in
     let in_out : b.out_info.len ≡ length b.out_info.items = first_of (search rules, grind (arith, common_steps)) in
     let count : length c.deref_mut.result.now ≡ length b.out_info.items = ap length c.deref_mut.ensures.value in
     let rest = drop c.args.start b.out_info.items in
-    rest_put b.out_info c.deref_mut.result.now c.flag_all.new.glyphs c.args.start in_out c.deref_mut.ensures.value (there c) (omega (arith, ap length (output c), length-map rest (flagged c.args.flags), length-drop c.args.start b.out_info.items, count))
+    rest_put b.out_info c.deref_mut.result.now c.flag_all.new.glyphs c.args.start in_out c.deref_mut.ensures.value (there c) (omega (arith, ap length (output c), length-map rest (glyph_flagged c.args.flags), length-drop c.args.start b.out_info.items, count))
     ∙ ap (λ gs. take c.args.start b.out_info.items ++ gs) (output c)
 
-some : (c : After-self-3-1) → c.telling_flags-self-inside.result ≡ telling_flags (nat_lt c.args.start (length (old_out c) + (c.args.end - c.self.inside.idx))) c.self.inside.scratch_flags
-some c = c.telling_flags-self-inside.ensures ∙ ap (λ any. telling_flags any c.self.inside.scratch_flags) (c.any_within-any.ensures ∙ ap (λ n. nat_lt c.args.start (n + (c.args.end - c.self.inside.idx))) (first_of (search rules, grind (arith, common_steps))))
+some : (c : After-self-3-1) → c.telling_flags-self-inside.result ≡ with_has_glyph_flags (nat_lt c.args.start (length (old_out c) + (c.args.end - c.self.inside.idx))) c.self.inside.scratch_flags
+some c = c.telling_flags-self-inside.ensures ∙ ap (λ any. with_has_glyph_flags any c.self.inside.scratch_flags) (c.any_within-any.ensures ∙ ap (λ n. nat_lt c.args.start (n + (c.args.end - c.self.inside.idx))) (first_of (search rules, grind (arith, common_steps))))
 
-ahead_is : (c : After-self-3-1) → drop c.self.inside.idx (new_info c).items ≡ map (flagged c.args.flags) (slice_range (old_info c) c.self.inside.idx c.args.end) ++ drop c.args.end (old_info c)
+ahead_is : (c : After-self-3-1) → drop c.self.inside.idx (new_info c).items ≡ map (glyph_flagged c.args.flags) (slice_range (old_info c) c.self.inside.idx c.args.end) ++ drop c.args.end (old_info c)
 ahead_is c =
     let b = c.self.inside in
     let range = slice_range b.info.items b.idx c.args.end in
-    ap (drop b.idx) (info_is c) ∙ drop_at (take b.idx b.info.items) (map (flagged c.args.flags) range ++ drop (c.args.end - b.idx) (drop b.idx b.info.items)) b.idx (length-take-le b.idx b.info.items c.self.invariant.cursor)
-    ∙ ap (λ gs. map (flagged c.args.flags) range ++ gs) (drop_on b.info.items b.idx c.args.end (begins c))
+    ap (drop b.idx) (info_is c) ∙ drop_at (take b.idx b.info.items) (map (glyph_flagged c.args.flags) range ++ drop (c.args.end - b.idx) (drop b.idx b.info.items)) b.idx (length-take-le b.idx b.info.items c.self.invariant.cursor)
+    ∙ ap (λ gs. map (glyph_flagged c.args.flags) range ++ gs) (drop_on b.info.items b.idx c.args.end (begins c))
 
 pub returns : goal.returns
 returns c = record {
@@ -85,18 +85,18 @@ info_long c =
     let b = c.self.inside in
     let range = slice_range b.info.items b.idx c.args.end in
     let rest = drop (c.args.end - b.idx) (drop b.idx b.info.items) in
-    ap length (info_is c) ∙ omega (arith, length-append (take b.idx b.info.items) (map (flagged c.args.flags) range ++ rest), length-append (map (flagged c.args.flags) range) rest, length-map range (flagged c.args.flags), length-take-le b.idx b.info.items c.self.invariant.cursor, length-take-le (c.args.end - b.idx) (drop b.idx b.info.items) (omega (arith, length-drop b.idx b.info.items, ends c)), length-drop (c.args.end - b.idx) (drop b.idx b.info.items), length-drop b.idx b.info.items, begins c, ends c)
+    ap length (info_is c) ∙ omega (arith, length-append (take b.idx b.info.items) (map (glyph_flagged c.args.flags) range ++ rest), length-append (map (glyph_flagged c.args.flags) range) rest, length-map range (glyph_flagged c.args.flags), length-take-le b.idx b.info.items c.self.invariant.cursor, length-take-le (c.args.end - b.idx) (drop b.idx b.info.items) (omega (arith, length-drop b.idx b.info.items, ends c)), length-drop (c.args.end - b.idx) (drop b.idx b.info.items), length-drop b.idx b.info.items, begins c, ends c)
 
 out_long : (c : After-self-3-1) → length (new_out c).items ≡ length (old_out c)
 out_long c =
     let rest = drop c.args.start (old_out c) in
-    ap length (out_is c) ∙ omega (arith, length-append (take c.args.start (old_out c)) (map (flagged c.args.flags) rest), length-map rest (flagged c.args.flags), length-take-le c.args.start (old_out c) (there c), length-drop c.args.start (old_out c), there c)
+    ap length (out_is c) ∙ omega (arith, length-append (take c.args.start (old_out c)) (map (glyph_flagged c.args.flags) rest), length-map rest (glyph_flagged c.args.flags), length-take-le c.args.start (old_out c) (there c), length-drop c.args.start (old_out c), there c)
 
 pub invariant_of-self : goal.invariant_of-self
 invariant_of-self c =
     let b = c.self.inside in
-    let kept_info = ap clusters (info_is c) ∙ part_kept (flagged c.args.flags) (λ g. refl) b.idx (c.args.end - b.idx) b.info.items in
-    let kept_out = ap clusters (out_is c) ∙ rest_kept (flagged c.args.flags) (λ g. refl) c.args.start b.out_info.items in
+    let kept_info = ap clusters (info_is c) ∙ part_kept (glyph_flagged c.args.flags) (λ g. refl) b.idx (c.args.end - b.idx) b.info.items in
+    let kept_out = ap clusters (out_is c) ∙ rest_kept (glyph_flagged c.args.flags) (λ g. refl) c.args.start b.out_info.items in
     let cursor : b.idx ≤ length (new_info c).items = omega (arith, info_long c, c.self.invariant.cursor) in
     let input_within : length (new_info c).items ≤ b.max_len = omega (arith, info_long c, c.self.invariant.input_within) in
     let output_within : length (new_out c).items ≤ b.max_len = omega (arith, out_long c, c.self.invariant.output_within) in

@@ -1,5 +1,5 @@
 use Rattle.std.proofs.Common.{◌≡◌, ◌++◌, not, true, drop, arith, ap, ◌∙◌}
-use Rattle.buffer_core.specs.Sides.{synced}
+use Rattle.buffer_core.specs.Sides.{after_sync}
 use Rattle.buffer_core.proofs.Ordered.{none_lent, order_joined}
 use Rattle.buffer_core.proofs.Room.{joined_places, joined_view, joined_within}
 use Rattle.buffer_core.proofs.buffer.hb_buffer_t.join.Goals as goal
@@ -8,7 +8,7 @@ pub returns-clause-joined : goal.returns-clause-joined
 returns-clause-joined c =
     let b = c.self.inside in
     let open_now : b.have_output ≡ true = rw (← c.self.view_is) at c.requires.open in
-    joined_view b c.join_lists.new.info c.join_lists.new.output c.join_lists.new.positions c.settle.new.self open_now c.in_ok-join_lists.ensures.joined c.in_ok-join_lists.ensures.placed ∙ ap synced c.self.view_is
+    joined_view b c.join_lists.new.info c.join_lists.new.output c.join_lists.new.positions c.settle.new.self open_now c.in_ok-join_lists.ensures.joined c.in_ok-join_lists.ensures.placed ∙ ap after_sync c.self.view_is
 
 pub invariant_of-self : goal.invariant_of-self
 invariant_of-self c =

@@ -7,12 +7,12 @@ use Rattle.std.proofs.Common.{List, ◌≡◌, ◌≤◌, ◌-◌, ◌++◌, ◌
 use Rattle.std.proofs.lemmas.Grind.{common_steps}
 use Rattle.std.proofs.lemmas.List.{drop_at, length-append, length-drop, length-map, length-take-le, take_rest}
 use Rattle.buffer_glyphs.specs.Items.{clusters}
-use Rattle.buffer_glyphs.specs.Glyphs.{marked_outside, tells_apart}
+use Rattle.buffer_glyphs.specs.Glyphs.{marked_outside, has_several_numbers}
 use Rattle.buffer_glyphs.specs.Merges.{least_number}
 use Rattle.buffer_glyphs.specs.Lemmas.Glyphs.{cluster_marked}
 use Rattle.buffer_core.specs.Sides.{Sides}
-use Rattle.buffer_core.specs.Merging.{index_in_all, telling_flags}
-use Rattle.buffer_core.specs.Marking.{with_marked}
+use Rattle.buffer_core.specs.Merging.{index_in_all, with_has_glyph_flags}
+use Rattle.buffer_core.specs.Marking.{with_flagged_apart}
 use Rattle.buffer_core.proofs.Across.{marked_across_view, drop_on}
 use Rattle.buffer_core.proofs.Slices.{part_kept, part_put, rest_kept, rest_put}
 use Rattle.buffer_core.proofs.buffer.hb_buffer_t.mark_both.Goals as goal
@@ -69,8 +69,8 @@ out_is c =
     rest_put b.out_info c.deref_mut-2.result.now c.mark_across-any.new.behind c.args.start in_out c.deref_mut-2.ensures.value (there c) (omega (arith, ap length (output c), length-map rest (mark c), length-drop c.args.start b.out_info.items, count))
     ∙ ap (λ gs. take c.args.start b.out_info.items ++ gs) (output c)
 
-marks : (c : After-self-3-1) → c.telling_flags-self-inside.result ≡ telling_flags (tells_apart (clusters (drop c.args.start (old_out c)) ++ clusters (slice_range (old_info c) c.self.inside.idx c.args.end))) c.self.inside.scratch_flags
-marks c = c.telling_flags-self-inside.ensures ∙ ap (λ any. telling_flags any c.self.inside.scratch_flags) (rw (c.deref_mut.ensures.value, c.deref_mut-2.ensures.value, take_rest (old_out c) c.args.start) at c.mark_across-any.ensures.any)
+marks : (c : After-self-3-1) → c.telling_flags-self-inside.result ≡ with_has_glyph_flags (has_several_numbers (clusters (drop c.args.start (old_out c)) ++ clusters (slice_range (old_info c) c.self.inside.idx c.args.end))) c.self.inside.scratch_flags
+marks c = c.telling_flags-self-inside.ensures ∙ ap (λ any. with_has_glyph_flags any c.self.inside.scratch_flags) (rw (c.deref_mut.ensures.value, c.deref_mut-2.ensures.value, take_rest (old_out c) c.args.start) at c.mark_across-any.ensures.any)
 
 ahead_is : (c : After-self-3-1) → drop c.self.inside.idx (new_info c).items ≡ map (mark c) (slice_range (old_info c) c.self.inside.idx c.args.end) ++ drop c.args.end (old_info c)
 ahead_is c =
@@ -82,7 +82,7 @@ ahead_is c =
 pub returns : goal.returns
 returns c = record {
   marked = marked_across_view c.self.inside (new_info c) (new_out c) c.self.inside.order c.args.flags c.args.start c.args.end c.telling_flags-self-inside.result (open_now c) (there c) (begins c) (out_is c) (ahead_is c) (marks c)
-      ∙ ap (λ (s : Sides). with_marked c.args.flags c.args.start (index_in_all c.args.end s) s) c.self.view_is;
+      ∙ ap (λ (s : Sides). with_flagged_apart c.args.flags c.args.start (index_in_all c.args.end s) s) c.self.view_is;
 }
 
 info_long : (c : After-self-3-1) → length (new_info c).items ≡ length (old_info c)

@@ -1,12 +1,12 @@
 use Rattle.std.specs.Vec.{with_items}
 use Rattle.std.proofs.Common.{◌≡◌, ◌≤◌, true, length, rules, arith, refl, drop, ap, sym, ◌∙◌}
 use Rattle.std.proofs.lemmas.Grind.{common_steps}
-use Rattle.buffer_glyphs.specs.Glyphs.{glyphs_marked, tells_apart}
+use Rattle.buffer_glyphs.specs.Glyphs.{glyphs_marked, has_several_numbers}
 use Rattle.buffer_glyphs.specs.Lemmas.Glyphs.{clusters_marked}
 use Rattle.buffer_core.specs.Inside.{start_of}
 use Rattle.buffer_core.specs.Sides.{Sides}
-use Rattle.buffer_core.specs.Merging.{index_in_all, telling_flags}
-use Rattle.buffer_core.specs.Marking.{with_marked}
+use Rattle.buffer_core.specs.Merging.{index_in_all, with_has_glyph_flags}
+use Rattle.buffer_core.specs.Marking.{with_flagged_apart}
 use Rattle.buffer_core.proofs.Marked.{marked_view, marked_rest, marked_length, stretch_rest, start_before, start_within}
 use Rattle.buffer_core.proofs.Ordered.{none_lent, range_ordered}
 use Rattle.buffer_core.proofs.Slices.{all_put}
@@ -24,8 +24,8 @@ returns c =
     let begins = start_before b c.args.start unread in
     record {
       marked = marked_view b (with_items b.info c.mark_within-any.new.glyphs) c.settle.new.self c.args.flags (start_of b) c.args.start c.args.end _ c.self.invariant.cursor c.requires.ordered unread refl
-          (ap (drop (start_of b)) info ∙ marked_rest c.args.flags c.args.start c.args.end (start_of b) b.info.items before begins c.requires.ordered) (c.telling_flags-self-inside.ensures ∙ ap (λ any. telling_flags any b.scratch_flags) (marks ∙ ap tells_apart (stretch_rest c.args.start c.args.end (start_of b) b.info.items before begins c.requires.ordered)))
-          ∙ ap (λ (s : Sides). with_marked c.args.flags (index_in_all c.args.start s) (index_in_all c.args.end s) s) c.self.view_is;
+          (ap (drop (start_of b)) info ∙ marked_rest c.args.flags c.args.start c.args.end (start_of b) b.info.items before begins c.requires.ordered) (c.telling_flags-self-inside.ensures ∙ ap (λ any. with_has_glyph_flags any b.scratch_flags) (marks ∙ ap has_several_numbers (stretch_rest c.args.start c.args.end (start_of b) b.info.items before begins c.requires.ordered)))
+          ∙ ap (λ (s : Sides). with_flagged_apart c.args.flags (index_in_all c.args.start s) (index_in_all c.args.end s) s) c.self.view_is;
     }
 
 pub mark_within-any-requires-clause-known : goal.mark_within-any-requires-clause-known

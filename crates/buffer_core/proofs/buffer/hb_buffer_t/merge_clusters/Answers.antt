@@ -5,11 +5,11 @@ use Rattle.std.proofs.Common.{◌≡◌, ◌≤◌, ◌-◌, refl, rules, arith,
 use Rattle.std.proofs.lemmas.Grind.{common_steps}
 use Rattle.std.proofs.lemmas.List.{length-drop, take_rest}
 use Rattle.buffer_glyphs.specs.Items.{clusters}
-use Rattle.buffer_glyphs.specs.Parts.{stretch}
+use Rattle.buffer_glyphs.specs.Parts.{range_of}
 use Rattle.buffer_glyphs.specs.Lemmas.Glyphs.{length_beside, length_merged_at}
 use Rattle.buffer_core.specs.Inside.{start_of}
 use Rattle.buffer_core.specs.Sides.{Sides, items_of, origins_of}
-use Rattle.buffer_core.specs.Merging.{index_in_all, telling_flags, with_merged}
+use Rattle.buffer_core.specs.Merging.{index_in_all, with_has_glyph_flags, with_merged}
 use Rattle.buffer_core.proofs.Marked.{start_within}
 use Rattle.buffer_core.proofs.Merged.{merged_view, merged_items}
 use Rattle.buffer_core.proofs.Ordered.{known_ahead, known_back, none_lent}
@@ -37,7 +37,7 @@ returns-clause-merged c =
     let le : c.args.start - from ≤ c.args.end - from = omega (arith, c.requires.ordered) in
     let within : from ≤ length b.info.items = omega (arith, begins, start_within b c.self.invariant.cursor) in
     let rest = drop from b.info.items in
-    let range = stretch (c.args.start - from) (c.args.end - from) (clusters rest) in
+    let range = range_of (c.args.start - from) (c.args.end - from) (clusters rest) in
     let input = rw (c.deref_mut-2.ensures.value, take_rest b.info.items from) at merged.ensures.input in
     let output = rw (c.deref_mut.ensures.value, c.deref_mut-2.ensures.value, take_rest b.info.items from) at merged.ensures.output in
     let any = rw (c.deref_mut-2.ensures.value, take_rest b.info.items from) at merged.ensures.any in
@@ -47,7 +47,7 @@ returns-clause-merged c =
     let behind = all_put b.out_info merged.new.output _ in_out output (length_beside b.cluster_level range b.out_info.items) in
     let info = with_items b.info (put_mid from (length c.deref_mut-2.result.now - from) c.deref_mut-2.result.now merged.new.input) in
     let out = with_items b.out_info merged.new.output in
-    merged_view b info out (record { known = merged.result.1; lent = c.settle.new.self.lent }) from c.args.start c.args.end _ c.self.invariant.cursor c.requires.ordered (rw (← c.self.view_is) at c.requires.unread) begins ahead behind (c.telling_flags-self-inside.ensures ∙ ap (λ m. telling_flags m b.scratch_flags) any)
+    merged_view b info out (record { known = merged.result.1; lent = c.settle.new.self.lent }) from c.args.start c.args.end _ c.self.invariant.cursor c.requires.ordered (rw (← c.self.view_is) at c.requires.unread) begins ahead behind (c.telling_flags-self-inside.ensures ∙ ap (λ m. with_has_glyph_flags m b.scratch_flags) any)
     ∙ ap (λ (s : Sides). with_merged (index_in_all c.args.start s) (index_in_all c.args.end s) s) c.self.view_is
 
 pub returns-clause-items : goal.returns-clause-items
@@ -67,7 +67,7 @@ invariant_of-self c =
     let le : c.args.start - from ≤ c.args.end - from = omega (arith, c.requires.ordered) in
     let within : from ≤ length b.info.items = omega (arith, begins, start_within b c.self.invariant.cursor) in
     let rest = drop from b.info.items in
-    let range = stretch (c.args.start - from) (c.args.end - from) (clusters rest) in
+    let range = range_of (c.args.start - from) (c.args.end - from) (clusters rest) in
     let input = rw (c.deref_mut-2.ensures.value, take_rest b.info.items from) at merged.ensures.input in
     let output = rw (c.deref_mut.ensures.value, c.deref_mut-2.ensures.value, take_rest b.info.items from) at merged.ensures.output in
     let count : length c.deref_mut-2.result.now ≡ length b.info.items = ap length c.deref_mut-2.ensures.value in

@@ -4,7 +4,7 @@ use Rattle.std.proofs.Common.{◌≡◌, ◌≤◌, ◌-◌, true, refl, length,
 use Rattle.std.proofs.lemmas.Grind.{common_steps}
 use Rattle.std.proofs.lemmas.List.{length-drop, take_rest}
 use Rattle.buffer_glyphs.specs.Items.{clusters}
-use Rattle.buffer_glyphs.specs.Parts.{stretch}
+use Rattle.buffer_glyphs.specs.Parts.{range_of}
 use Rattle.buffer_core.specs.Sides.{items_of, origins_of}
 use Rattle.buffer_core.specs.Merging.{with_output_merged}
 use Rattle.buffer_core.proofs.Across.{length_beside_output, length_output_merged, output_items, output_merged_view}
@@ -30,7 +30,7 @@ returns-clause-merged c =
     let merged = c.merge_output-self-inside in
     let input = rw (c.deref_mut.ensures.value, c.deref_mut-2.ensures.value, take_rest b.info.items b.idx) at merged.ensures.input in
     let output = rw c.deref_mut.ensures.value at merged.ensures.output in
-    let range = stretch c.args.start c.args.end (clusters b.out_info.items) in
+    let range = range_of c.args.start c.args.end (clusters b.out_info.items) in
     let count : length c.deref_mut-2.result.now ≡ length b.info.items = ap length c.deref_mut-2.ensures.value in
     let long : length merged.new.input ≡ length c.deref_mut-2.result.now - b.idx = omega (arith, ap length input, length_beside_output b.cluster_level range (drop b.idx b.info.items), length-drop b.idx b.info.items, count) in
     let ahead = rest_is b.info c.deref_mut-2.result.now merged.new.input b.idx in_info c.deref_mut-2.ensures.value c.self.invariant.cursor long ∙ input in
@@ -55,7 +55,7 @@ invariant_of-self c =
     let merged = c.merge_output-self-inside in
     let input = rw (c.deref_mut.ensures.value, c.deref_mut-2.ensures.value, take_rest b.info.items b.idx) at merged.ensures.input in
     let output = rw c.deref_mut.ensures.value at merged.ensures.output in
-    let range = stretch c.args.start c.args.end (clusters b.out_info.items) in
+    let range = range_of c.args.start c.args.end (clusters b.out_info.items) in
     let count : length c.deref_mut-2.result.now ≡ length b.info.items = ap length c.deref_mut-2.ensures.value in
     let long : length merged.new.input ≡ length c.deref_mut-2.result.now - b.idx = omega (arith, ap length input, length_beside_output b.cluster_level range (drop b.idx b.info.items), length-drop b.idx b.info.items, count) in
     let ahead = rest_is b.info c.deref_mut-2.result.now merged.new.input b.idx in_info c.deref_mut-2.ensures.value c.self.invariant.cursor long in

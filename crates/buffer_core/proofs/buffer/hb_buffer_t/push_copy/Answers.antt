@@ -1,6 +1,6 @@
 use Rattle.std.proofs.Common.{◌≡◌, ◌∷◌, [], true, drop, refl, ap, ◌∙◌}
 use Rattle.std.proofs.lemmas.List.{take_rest}
-use Rattle.buffer_core.specs.Merging.{with_copy}
+use Rattle.buffer_core.specs.Merging.{with_output_glyph}
 use Rattle.buffer_core.proofs.Apart.{copied_view}
 use Rattle.buffer_core.proofs.Ordered.{none_lent, known_ahead, known_back}
 use Rattle.buffer_core.proofs.Replaced.{replaced_within}
@@ -11,7 +11,7 @@ returns-clause-put c =
     let b = c.self.inside in
     let open_now : b.have_output ≡ true = rw (← c.self.view_is) at c.requires.open in
     let items = rw (c.in_ok-reserve.ensures.items, c.deref-3.ensures.value, take_rest b.info.items b.idx) at c.push_copies.ensures.copied in
-    copied_view b c.push_copies.new.output c.settle.new.self c.args.glyph_index open_now items ∙ ap (with_copy c.args.glyph_index) c.self.view_is
+    copied_view b c.push_copies.new.output c.settle.new.self c.args.glyph_index open_now items ∙ ap (with_output_glyph c.args.glyph_index) c.self.view_is
 
 pub invariant_of-self : goal.invariant_of-self
 invariant_of-self c =

@@ -1,6 +1,6 @@
 use Rattle.std.proofs.Common.{◌≡◌, ◌<◌, ◌++◌, ◌∷◌, [], true, length, refl, arith, ap, ◌∙◌}
 use Rattle.buffer_glyphs.specs.declared.info.hb_glyph_info_t.{hb_glyph_info_t}
-use Rattle.buffer_core.specs.Sides.{moved_on}
+use Rattle.buffer_core.specs.Sides.{after_next_glyphs}
 use Rattle.buffer_core.proofs.Kept.{moved_open}
 use Rattle.buffer_core.proofs.Ordered.{none_lent, order_moved}
 use Rattle.buffer_core.proofs.Room.{one_behind, put_within, some_ahead}
@@ -12,7 +12,7 @@ returns-clause-moved c =
     let open_now : b.have_output ≡ true = rw (← c.self.view_is) at c.requires.open in
     let there : b.idx < length b.info.items = some_ahead b.info.items b.idx (rw (← c.self.view_is) at c.requires.there) in
     let items = one_behind b.out_info.items c.push.new.self.items b.info.items b.idx _ _ there c.index.ensures c.in_ok-push.ensures.items in
-    moved_open b c.push.new.self c.settle.new.self 1 open_now items ∙ ap (moved_on 1) c.self.view_is
+    moved_open b c.push.new.self c.settle.new.self 1 open_now items ∙ ap (after_next_glyphs 1) c.self.view_is
 
 pub invariant_of-self : goal.invariant_of-self
 invariant_of-self c =

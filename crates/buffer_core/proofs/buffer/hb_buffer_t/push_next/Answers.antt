@@ -1,6 +1,6 @@
 use Rattle.std.proofs.Common.{◌≡◌, ◌≤◌, ◌++◌, ◌+◌, ◌-◌, true, length, take, drop, arith, ap, ◌∙◌}
 use Rattle.std.proofs.lemmas.List.{length-take-le}
-use Rattle.buffer_core.specs.Sides.{moved_on}
+use Rattle.buffer_core.specs.Sides.{after_next_glyphs}
 use Rattle.buffer_core.proofs.Kept.{moved_open}
 use Rattle.buffer_core.proofs.Ordered.{none_lent, order_moved_on}
 use Rattle.buffer_core.proofs.Room.{more_ahead, put_within}
@@ -12,7 +12,7 @@ returns-clause-moved c =
     let open_now : b.have_output ≡ true = rw (← c.self.view_is) at c.requires.open in
     let wide : b.idx + c.args.count - b.idx ≡ c.args.count = omega arith in
     let items : c.extend_from_slice.new.self.items ≡ b.out_info.items ++ take c.args.count (drop b.idx b.info.items) = rw (wide, c.deref-3.ensures.value) at c.in_ok-extend_from_slice.ensures.items in
-    moved_open b c.extend_from_slice.new.self c.settle.new.self c.args.count open_now items ∙ ap (moved_on c.args.count) c.self.view_is
+    moved_open b c.extend_from_slice.new.self c.settle.new.self c.args.count open_now items ∙ ap (after_next_glyphs c.args.count) c.self.view_is
 
 pub invariant_of-self : goal.invariant_of-self
 invariant_of-self c =

@@ -1,6 +1,6 @@
 use Rattle.std.proofs.Common.{◌≡◌, ◌<◌, ◌∙◌, true, length, refl, arith, ap}
 use Rattle.buffer_glyphs.specs.declared.info.hb_glyph_info_t.{hb_glyph_info_t}
-use Rattle.buffer_core.specs.Merging.{with_renumbered}
+use Rattle.buffer_core.specs.Merging.{with_replaced_glyph}
 use Rattle.buffer_core.proofs.Apart.{renumbered_view}
 use Rattle.buffer_core.proofs.Ordered.{none_lent, order_renumbered}
 use Rattle.buffer_core.proofs.Room.{put_within, some_ahead}
@@ -11,7 +11,7 @@ returns-clause-replaced c =
     let b = c.self.inside in
     let open_now : b.have_output ≡ true = rw (← c.self.view_is) at c.requires.open in
     let there : b.idx < length b.info.items = some_ahead b.info.items b.idx (rw (← c.self.view_is) at c.requires.there) in
-    renumbered_view b c.push.new.self c.settle.new.self c.args.glyph_index _ _ open_now there c.index.ensures c.in_ok-push.ensures.items ∙ ap (with_renumbered c.args.glyph_index) c.self.view_is
+    renumbered_view b c.push.new.self c.settle.new.self c.args.glyph_index _ _ open_now there c.index.ensures c.in_ok-push.ensures.items ∙ ap (with_replaced_glyph c.args.glyph_index) c.self.view_is
 
 pub invariant_of-self : goal.invariant_of-self
 invariant_of-self c =

@@ -4,10 +4,10 @@ use Rattle.std.proofs.Common.{true, ◌≡◌, ◌≤◌, ◌+◌, ◌-◌, rule
 use Rattle.std.proofs.lemmas.Grind.{common_steps}
 use Rattle.std.proofs.lemmas.List.{drop-drop, length-drop, take_rest}
 use Rattle.buffer_glyphs.specs.Items.{clusters}
-use Rattle.buffer_glyphs.specs.Parts.{stretch}
+use Rattle.buffer_glyphs.specs.Parts.{range_of}
 use Rattle.buffer_glyphs.specs.Glyphs.{beside_merged}
 use Rattle.buffer_glyphs.specs.Lemmas.Glyphs.{length_beside, length_merged_at}
-use Rattle.buffer_core.specs.Merging.{telling_flags, with_replaced}
+use Rattle.buffer_core.specs.Merging.{with_has_glyph_flags, with_replaced}
 use Rattle.buffer_core.proofs.Ordered.{known_ahead, known_back, none_lent}
 use Rattle.buffer_core.proofs.Replaced.{replaced_within, replaced_view}
 use Rattle.buffer_core.proofs.Room.{more_ahead}
@@ -36,7 +36,7 @@ returns-clause-replaced c =
     let seen = rest_is b.info c.deref_mut.result.now done.new.input b.idx in_info c.deref_mut.ensures.value c.self.invariant.cursor long in
     let output = rw (c.deref_mut.ensures.value, take_rest b.info.items b.idx, c.in_ok-reserve.ensures.items, ← seen) at done.ensures.output in
     let info = with_items b.info (put_mid b.idx (length c.deref_mut.result.now - b.idx) c.deref_mut.result.now done.new.input) in
-    replaced_view b info done.new.output (record { known = done.result.1; lent = c.settle.new.self.lent }) c.args.num_in _ c.args.glyph_data.now open_now (seen ∙ input) output (c.telling_flags-self-inside.ensures ∙ ap (λ m. telling_flags m b.scratch_flags) any)
+    replaced_view b info done.new.output (record { known = done.result.1; lent = c.settle.new.self.lent }) c.args.num_in _ c.args.glyph_data.now open_now (seen ∙ input) output (c.telling_flags-self-inside.ensures ∙ ap (λ m. with_has_glyph_flags m b.scratch_flags) any)
     ∙ ap (with_replaced c.args.num_in c.args.glyph_data.now) c.self.view_is
 
 pub invariant_of-self : goal.invariant_of-self
@@ -59,7 +59,7 @@ invariant_of-self-2 c =
     let done = c.replace_first-marked in
     let in_info : b.info.len ≡ length b.info.items = first_of (search rules, grind (arith, common_steps)) in
     let rest = drop b.idx b.info.items in
-    let range = stretch 0 c.args.num_in (clusters rest) in
+    let range = range_of 0 c.args.num_in (clusters rest) in
     let input = rw (c.deref_mut.ensures.value, take_rest b.info.items b.idx) at done.ensures.input in
     let count : length c.deref_mut.result.now ≡ length b.info.items = ap length c.deref_mut.ensures.value in
     let wide = length_merged_at b.cluster_level 0 c.args.num_in rest (omega arith) in

@@ -1,14 +1,14 @@
 use Rattle.std.proofs.Common.{[], ◌≡◌, false, rules, arith, ap, ◌∙◌}
 use Rattle.std.proofs.lemmas.Grind.{common_steps}
 use Rattle.buffer_core.specs.Sides.{items_of, origins_of}
-use Rattle.buffer_core.specs.Settings.{with_counted}
+use Rattle.buffer_core.specs.Settings.{with_reset_clusters}
 use Rattle.buffer_core.proofs.Counted.{clusters_counted, counted_view, counted_items, counted_rises, counted_origins}
 use Rattle.buffer_core.proofs.buffer.hb_buffer_t.reset_clusters.Goals as goal
 
 pub returns-clause-counted : goal.returns-clause-counted
 returns-clause-counted c =
     let closed : c.self.inside.have_output ≡ false = rw (← c.self.view_is) at c.requires in
-    counted_view c.self.inside c.number_all.new.glyphs c.of-self-inside.result closed c.self.invariant.cursor c.number_all.ensures.items ∙ ap with_counted c.self.view_is
+    counted_view c.self.inside c.number_all.new.glyphs c.of-self-inside.result closed c.self.invariant.cursor c.number_all.ensures.items ∙ ap with_reset_clusters c.self.view_is
 
 pub returns-clause-items : goal.returns-clause-items
 returns-clause-items c = ap items_of (returns-clause-counted c) ∙ counted_items c.args.self.now

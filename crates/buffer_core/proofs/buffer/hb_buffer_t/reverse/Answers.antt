@@ -3,15 +3,15 @@ use Rattle.std.proofs.lemmas.List.{length-reverse}
 use Rattle.buffer_glyphs.specs.Items.{clusters}
 use Rattle.buffer_core.proofs.Ordered.{clusters_reversed}
 use Rattle.buffer_core.specs.Inside.{sides_of}
-use Rattle.buffer_core.specs.Sides.{items_of, reversed, origins_of}
+use Rattle.buffer_core.specs.Sides.{items_of, after_reverse, origins_of}
 use Rattle.buffer_core.proofs.Kept.{turned_view, reversed_items}
 use Rattle.buffer_core.proofs.buffer.hb_buffer_t.reverse.Goals as goal
 use Rattle.buffer_core.proofs.MergedOrigins.{reversed_origins}
 
-turned : (c : goal.After-reverse-2) → sides_of (record c.self.inside { info = c.reverse.new.self; pos = c.reverse-2.new.self }) ≡ reversed c.args.self.now
+turned : (c : goal.After-reverse-2) → sides_of (record c.self.inside { info = c.reverse.new.self; pos = c.reverse-2.new.self }) ≡ after_reverse c.args.self.now
 turned c =
     let closed : c.self.inside.have_output ≡ false = rw (← c.self.view_is) at c.requires in
-    turned_view c.self.inside c.reverse.new.self c.reverse-2.new.self closed c.reverse.ensures.items c.reverse-2.ensures.items ∙ ap reversed c.self.view_is
+    turned_view c.self.inside c.reverse.new.self c.reverse-2.new.self closed c.reverse.ensures.items c.reverse-2.ensures.items ∙ ap after_reverse c.self.view_is
 
 pub returns-clause-items : goal.returns-clause-items
 returns-clause-items c = ap items_of (turned c) ∙ reversed_items c.args.self.now

@@ -2,9 +2,9 @@ use Rattle.std.specs.Vec.{with_items}
 use Rattle.std.proofs.Common.{◌≡◌, false, length, rules, arith, ap, sym, ◌∙◌}
 use Rattle.std.proofs.lemmas.Grind.{common_steps}
 use Rattle.buffer_glyphs.specs.Items.{item_of}
-use Rattle.buffer_core.specs.Grouping.{with_groups_turned}
+use Rattle.buffer_core.specs.Grouping.{with_groups_reversed}
 use Rattle.buffer_core.specs.Inside.{sides_of}
-use Rattle.buffer_core.specs.Merging.{telling_flags}
+use Rattle.buffer_core.specs.Merging.{with_has_glyph_flags}
 use Rattle.buffer_core.specs.Sides.{Sides, all_glyphs, items_of, origins_of}
 use Rattle.buffer_core.proofs.Grouped.{grouped_view, groups_items, groups_origins, groups_plain, groups_positions}
 use Rattle.buffer_core.proofs.Slices.{all_put, all_put_positions}
@@ -24,8 +24,8 @@ returns-clause-turned g c joins decides =
     let wide : length groups.new.glyphs ≡ length b.info.items = first_of (search rules, grind (arith, common_steps)) in
     let long : length groups.new.positions ≡ length b.pos.items = first_of (search rules, grind (arith, common_steps)) in
     grouped_view c.args.merge joins b (with_items b.info groups.new.glyphs) (with_items b.pos groups.new.positions) c.of-self-inside.result _ closed
-    (all_put b.info groups.new.glyphs _ in_info glyphs (sym (ap length glyphs) ∙ wide)) (all_put_positions b.pos groups.new.positions _ in_pos positions (sym (ap length positions) ∙ long)) (c.telling_flags-self-inside.ensures ∙ ap (λ m. telling_flags m b.scratch_flags) marks)
-    ∙ ap (with_groups_turned c.args.merge joins) same
+    (all_put b.info groups.new.glyphs _ in_info glyphs (sym (ap length glyphs) ∙ wide)) (all_put_positions b.pos groups.new.positions _ in_pos positions (sym (ap length positions) ∙ long)) (c.telling_flags-self-inside.ensures ∙ ap (λ m. with_has_glyph_flags m b.scratch_flags) marks)
+    ∙ ap (with_groups_reversed c.args.merge joins) same
 
 pub returns-clause-plain : goal.returns-clause-plain
 returns-clause-plain g c joins decides off = ap all_glyphs (returns-clause-turned g c joins decides) ∙ groups_plain c.args.merge joins c.args.self.now off

@@ -1,7 +1,7 @@
 use Rattle.std.proofs.Common.{◌≡◌, ◌≤◌, ◌+◌, ◌-◌, ◌++◌, true, length, drop, rules, arith, ap, ◌∙◌}
 use Rattle.std.proofs.lemmas.Grind.{common_steps}
 use Rattle.std.proofs.lemmas.List.{length-drop}
-use Rattle.buffer_core.specs.Moving.{moved_to}
+use Rattle.buffer_core.specs.Moving.{after_move_to}
 use Rattle.buffer_core.proofs.Ordered.{none_lent}
 use Rattle.buffer_core.proofs.Moved.{moved_back, order_back}
 use Rattle.buffer_core.proofs.Room.{within}
@@ -14,7 +14,7 @@ returns-clause-moved c =
     let there : c.args.i ≤ length b.out_info.items = rw (← c.self.view_is, open_now) at c.requires.there in
     let first : c.in_ok-first.first ≡ b.idx - (length b.out_info.items - c.args.i) = first_of (search rules, grind (arith, common_steps)) in
     let input : drop c.in_ok-first.first c.put_in_front.new.info.items ≡ drop c.args.i b.out_info.items ++ drop b.idx b.info.items = first_of (search rules, grind (arith, common_steps)) in
-    moved_back b c.put_in_front.new.info c.truncate.new.self c.settle.new.self c.args.i c.in_ok-first.first open_now there first input c.truncate.ensures.items ∙ ap (moved_to c.args.i) c.self.view_is
+    moved_back b c.put_in_front.new.info c.truncate.new.self c.settle.new.self c.args.i c.in_ok-first.first open_now there first input c.truncate.ensures.items ∙ ap (after_move_to c.args.i) c.self.view_is
 
 pub invariant_of-self-2 : goal.invariant_of-self-2
 invariant_of-self-2 c =

@@ -1,5 +1,5 @@
 use Rattle.buffer_core.proofs.MarkedOrigins.{range_told, concat_items, concat_origins}
-use Rattle.buffer_core.specs.Marking.{concat_marked, with_flagged, flagged_range, asks_concat}
+use Rattle.buffer_core.specs.Marking.{concat_marked, with_flagged, flagged_range, requests_concat}
 use Rattle.buffer_core.specs.Sides.{items_of, origins_of}
 use Rattle.std.proofs.lemmas.Grind.{common_steps}
 use Rattle.std.proofs.Common.{◌≡◌, ◌∙◌, ap, rules, arith, ◌+◌, length, sym, true, if◌then◌else◌}
@@ -10,7 +10,7 @@ marked : (c : goal.After-flag_range) → c.flag_range.new.self ≡ concat_marked
 marked c =
     let s = c.args.self.now in
     let count : c.len-count.result ≡ s.read + length s.ahead = first_of (search rules, grind (arith, common_steps)) in
-    let asked : asks_concat s ≡ true = sym c.asks_concat.ensures ∙ c.if-asks_concat.true in
+    let asked : requests_concat s ≡ true = sym c.asks_concat.ensures ∙ c.if-asks_concat.true in
     c.flag_range.ensures.marked ∙ range_told (λ i j. with_flagged 2 (index_in_all i s) (index_in_all j s) s) c.args.start c.args.end s _ _ _ c.unwrap_or.ensures count c.unwrap_or-then-asks_concat.ensures
     ∙ sym (ap (λ b. if b then flagged_range 2 c.args.start c.args.end s else s) asked)
 

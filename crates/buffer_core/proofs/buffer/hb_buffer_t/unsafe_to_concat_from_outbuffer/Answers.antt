@@ -1,5 +1,5 @@
 use Rattle.buffer_core.proofs.MarkedOrigins.{range_told, concat_items_across, concat_across}
-use Rattle.buffer_core.specs.Marking.{concat_marked_across, with_flagged, flagged_across, asks_concat}
+use Rattle.buffer_core.specs.Marking.{concat_marked_across, with_flagged, after_flag_across, requests_concat}
 use Rattle.buffer_core.specs.Sides.{items_of, origins_of}
 use Rattle.std.proofs.lemmas.Grind.{common_steps}
 use Rattle.std.proofs.Common.{◌≡◌, ◌∙◌, ap, rules, arith, ◌+◌, length, sym, true, if◌then◌else◌}
@@ -10,9 +10,9 @@ marked : (c : goal.After-flag_both) → c.flag_both.new.self ≡ concat_marked_a
 marked c =
     let s = c.args.self.now in
     let count : c.len-count.result ≡ s.read + length s.ahead = first_of (search rules, grind (arith, common_steps)) in
-    let asked : asks_concat s ≡ true = sym c.asks_concat.ensures ∙ c.if-asks_concat.true in
+    let asked : requests_concat s ≡ true = sym c.asks_concat.ensures ∙ c.if-asks_concat.true in
     c.flag_both.ensures.marked ∙ range_told (λ i j. with_flagged 2 i (index_in_all j s) s) c.args.start c.args.end s _ _ _ c.unwrap_or.ensures count c.unwrap_or-then-asks_concat.ensures
-    ∙ sym (ap (λ b. if b then flagged_across 2 c.args.start c.args.end s else s) asked)
+    ∙ sym (ap (λ b. if b then after_flag_across 2 c.args.start c.args.end s else s) asked)
 
 pub returns-then-asks_concat-clause-marked : goal.returns-then-asks_concat-clause-marked
 returns-then-asks_concat-clause-marked c = marked c

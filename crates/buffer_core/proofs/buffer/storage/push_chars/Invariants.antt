@@ -2,7 +2,7 @@ use Rattle.std.proofs.Common.{◌≡◌, ◌≤◌, ◌+◌, ◌++◌, IsTrue, l
 use Rattle.std.specs.Prelude.{vec_capacity}
 use Rattle.std.specs.Str.{chars, IsUtf8}
 use Rattle.std.specs.Str.Iter.{char_indices_rest, char_indices_offset}
-use Rattle.buffer_core.specs.Text.{added_from, offsets_fit}
+use Rattle.buffer_core.specs.Text.{added_text_from, offsets_fit}
 use Rattle.buffer_core.proofs.buffer.storage.push_chars.Given as goal
 
 -- what was added, and then what is left, are all characters
@@ -13,5 +13,5 @@ invariant-loop-at l = record {
   utf8 : IsUtf8 (char_indices_rest l.at-iterator);
   room : vec_len l.glyphs + length (chars (char_indices_rest l.at-iterator)) ≤ vec_capacity l.glyphs;
   fit : IsTrue (offsets_fit (char_indices_offset l.at-iterator) (chars (char_indices_rest l.at-iterator)));
-  rest : l.glyphs.items ++ added_from (char_indices_offset l.at-iterator) (chars (char_indices_rest l.at-iterator)) ≡ l.initial.glyphs.items ++ added_from 0 (chars l.text);
+  rest : l.glyphs.items ++ added_text_from (char_indices_offset l.at-iterator) (chars (char_indices_rest l.at-iterator)) ≡ l.initial.glyphs.items ++ added_text_from 0 (chars l.text);
 }

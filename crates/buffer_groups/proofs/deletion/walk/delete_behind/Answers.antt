@@ -1,7 +1,7 @@
 use Rattle.std.proofs.Common.{arith, ◌≤◌, ◌<◌, ◌+◌, length, take, drop, sym, ◌∙◌, subst, Some, false, get_or, ◌++◌}
 use Rattle.std.proofs.lemmas.List.{drop_more, length-take-le}
 use Rattle.buffer_glyphs.specs.Deleting.{Deletes}
-use Rattle.buffer_groups.specs.DeletionWalk.{settled}
+use Rattle.buffer_groups.specs.DeletionWalk.{settled_glyphs}
 use Rattle.buffer_glyphs.specs.Items.{clusters}
 use Rattle.buffer_glyphs.specs.Order.{IsOrdered}
 use Rattle.buffer_glyphs.proofs.OneDeleted.{taken_less}
@@ -22,7 +22,7 @@ returns-then-in_order-clause-due c =
     let some : 0 < length kept = omega (arith, length-take-le c.args.walk.kept c.args.glyphs.now (omega arith), c.requires.some) in
     due_new c.args.walk.due c.args.in_order (get_or c.args.glyphs.now c.args.at no_glyph) kept (drop (c.args.at + 1) c.args.glyphs.now) c.last_kept-last.result c.if-in_order.true some
     c.requires.sound.due
-    (subst (λ hs. IsOrdered (clusters (settled c.args.walk.due kept) ++ clusters hs)) (drop_more c.args.glyphs.now c.args.at no_glyph c.requires.within) (c.requires.sound.known c.if-in_order.true))
+    (subst (λ hs. IsOrdered (clusters (settled_glyphs c.args.walk.due kept) ++ clusters hs)) (drop_more c.args.glyphs.now c.args.at no_glyph c.requires.within) (c.requires.sound.known c.if-in_order.true))
     c.last_kept-last.ensures c.if-last-glyph.false
 
 pub returns-clause-deletes : goal.returns-clause-deletes
@@ -32,7 +32,7 @@ returns-clause-deletes c = λ level.
     let within : c.args.walk.kept ≤ length c.args.glyphs.now = omega (arith, c.requires.sound.few) in
     let front = settled_front (Some g) c.args.walk.kept c.args.glyphs.now c.settle.new.glyphs within c.settle.ensures in
     let back = settled_back (Some g) c.args.walk.kept (c.args.at + 1) c.args.glyphs.now c.settle.new.glyphs (omega (arith, c.requires.sound.few)) within c.settle.ensures in
-    subst (λ hs. Deletes level (settled c.args.walk.due kept) (drop c.args.at c.args.glyphs.now) (take c.args.walk.kept c.settle.new.glyphs) hs false) (sym back)
-    (taken_less level (settled c.args.walk.due kept) (drop c.args.at c.args.glyphs.now) (take c.args.walk.kept c.settle.new.glyphs) g (drop (c.args.at + 1) c.args.glyphs.now) c.last_kept-last.result
+    subst (λ hs. Deletes level (settled_glyphs c.args.walk.due kept) (drop c.args.at c.args.glyphs.now) (take c.args.walk.kept c.settle.new.glyphs) hs false) (sym back)
+    (taken_less level (settled_glyphs c.args.walk.due kept) (drop c.args.at c.args.glyphs.now) (take c.args.walk.kept c.settle.new.glyphs) g (drop (c.args.at + 1) c.args.glyphs.now) c.last_kept-last.result
     (drop_more c.args.glyphs.now c.args.at no_glyph c.requires.within) c.last_kept-last.ensures c.if-last-glyph.false (sym c.next_has.ensures ∙ c.if-next_has.false)
     (front ∙ recast_due c.args.walk.due c.args.in_order g kept c.last_kept-last.result c.requires.sound.due c.last_kept-last.ensures c.if-last-glyph.false))

@@ -4,7 +4,7 @@ use Rattle.std.proofs.lemmas.List.{length-take-le, length-drop}
 use Rattle.buffer_glyphs.specs.declared.info.hb_glyph_info_t.{hb_glyph_info_t as Glyph}
 use Rattle.buffer_glyphs.specs.Items.{clusters}
 use Rattle.buffer_glyphs.specs.Merges.{least_number}
-use Rattle.buffer_groups.specs.Falling.{IsDueBefore, carried}
+use Rattle.buffer_groups.specs.Falling.{IsDueBefore, with_range_in_cluster}
 use Rattle.buffer_groups.specs.Lemmas.Neighbours.{no_glyph}
 use Rattle.buffer_groups.proofs.Carried.{range_at, kept_merged, joined_merged, joined_due, begun_merged, begun_due, low_below, all_ahead}
 use Rattle.buffer_groups.proofs.due.falling.merge_falling.Goals as goal
@@ -26,7 +26,7 @@ returns-then-due-cluster-clause-merged c =
     let range = range_at c.args.start c.args.end c.args.due gs no_glyph c.requires.some c.requires.within c.requires.due in
     let less = low_below a c.least_cluster-low.result (clusters (slice_range gs c.args.start c.args.end)) xs range.is c.least_cluster-low.ensures c.if-cluster-low.false in
     let low : c.least_cluster-low.result ≡ least_number (a ∷ xs) = c.least_cluster-low.ensures ∙ ap least_number range.is in
-    ap (λ (n : ℕ). carried (record { from = c.args.due.from; to = c.args.end; cluster = n }) gs) low
+    ap (λ (n : ℕ). with_range_in_cluster (record { from = c.args.due.from; to = c.args.end; cluster = n }) gs) low
     ∙ joined_merged c.args.start c.args.end a xs c.args.due gs range less c.if-due-cluster.true (λ n h. all_ahead a n c.end_run-ahead.result (slice_range gs c.args.due.to c.args.start) c.if-ahead-eq0.true c.end_run-ahead.ensures.begins h)
 
 pub returns-then-due-cluster-clause-due : goal.returns-then-due-cluster-clause-due
@@ -51,8 +51,8 @@ returns-clause-merged c =
     let low : c.least_cluster-low.result ≡ least_number (a ∷ xs) = c.least_cluster-low.ensures ∙ ap least_number range.is in
     let few : due.to + ahead ≤ c.args.start = omega (arith, c.end_run-ahead.ensures.within, length-take-le (c.args.start - due.to) (drop due.to gs) (omega (arith, length-drop due.to gs, c.requires.some, c.requires.within)), c.requires.due.before) in
     let other : ahead ≡ 0 → due.cluster ≢ a = λ none. elim c.else-ahead-eq0.branch [ else-ahead-eq0-via-then-ahead-eq0+else-due-cluster w ↦ w.if-due-cluster.false | else-ahead-eq0-via-else-ahead-eq0 w ↦ absurd (w.if-ahead-eq0.false none) ] in
-    ap (carried (record { from = due.to + ahead; to = c.args.end; cluster = c.least_cluster-low.result })) c.carry_out.ensures
-    ∙ ap (λ (n : ℕ). carried (record { from = due.to + ahead; to = c.args.end; cluster = n }) (carried due gs)) low
+    ap (with_range_in_cluster (record { from = due.to + ahead; to = c.args.end; cluster = c.least_cluster-low.result })) c.carry_out.ensures
+    ∙ ap (λ (n : ℕ). with_range_in_cluster (record { from = due.to + ahead; to = c.args.end; cluster = n }) (with_range_in_cluster due gs)) low
     ∙ begun_merged c.args.start c.args.end a ahead xs due gs range few c.end_run-ahead.ensures.begins other
 
 pub returns-clause-due : goal.returns-clause-due
@@ -68,5 +68,5 @@ returns-clause-due c =
     let few : due.to + ahead ≤ c.args.start = omega (arith, c.end_run-ahead.ensures.within, length-take-le (c.args.start - due.to) (drop due.to gs) (omega (arith, length-drop due.to gs, c.requires.some, c.requires.within)), c.requires.due.before) in
     let other : ahead ≡ 0 → due.cluster ≢ a = λ none. elim c.else-ahead-eq0.branch [ else-ahead-eq0-via-then-ahead-eq0+else-due-cluster w ↦ w.if-due-cluster.false | else-ahead-eq0-via-else-ahead-eq0 w ↦ absurd (w.if-ahead-eq0.false none) ] in
     subst (λ (hs : List Glyph). IsDueBefore c.args.end (record { from = due.to + ahead; to = c.args.end; cluster = c.least_cluster-low.result }) hs) (sym c.carry_out.ensures)
-    (subst (λ (n : ℕ). IsDueBefore c.args.end (record { from = due.to + ahead; to = c.args.end; cluster = n }) (carried due gs)) (sym low)
+    (subst (λ (n : ℕ). IsDueBefore c.args.end (record { from = due.to + ahead; to = c.args.end; cluster = n }) (with_range_in_cluster due gs)) (sym low)
     (begun_due c.args.start c.args.end a ahead xs due gs range few c.end_run-ahead.ensures.begins other less))

@@ -1,6 +1,6 @@
 use Rattle.std.proofs.Common.{ap, ◌∙◌}
 use Rattle.script_plan.proofs.Plans.{choices_by, data_by, plan_made, requests_are}
-use Rattle.layout_map.specs.Compiled.{compiled}
+use Rattle.layout_map.specs.Compiled.{compiled_map}
 use Rattle.script_plan.specs.Traits.{ShaperKind}
 use Rattle.script_plan.proofs.plan.hb_ot_shape_plan_t.new.Goals as goal
 
@@ -22,6 +22,6 @@ returns g c =
     (made.direction ∙ ap (λ p. p.direction) asked ∙ first.direction)
     (made.script ∙ ap (λ p. p.script) asked ∙ first.script)
     made.map
-    (choices_by kind c.args.face.now _ _ _ (compiled c.collect_features.new.self.ot_map) _ (ap (λ p. p.shaper) asked) (ap (λ p. p.face.now) asked ∙ first.face) made.choices)
-    (data_by kind _ _ (compiled c.collect_features.new.self.ot_map) _ _ _ (ap (λ p. p.shaper) asked) (ap (λ p. p.script) asked ∙ first.script) made.data)
+    (choices_by kind c.args.face.now _ _ _ (compiled_map c.collect_features.new.self.ot_map) _ (ap (λ p. p.shaper) asked) (ap (λ p. p.face.now) asked ∙ first.face) made.choices)
+    (data_by kind _ _ (compiled_map c.collect_features.new.self.ot_map) _ _ _ (ap (λ p. p.shaper) asked) (ap (λ p. p.script) asked ∙ first.script) made.data)
     made.features

@@ -1,12 +1,11 @@
-use Rattle.std.proofs.Common.{◌≡◌, refl, ◌∙◌}
-use Rattle.buffer_core.specs.Sides.{settings_of}
-use Rattle.shape_pipeline.proofs.Numbers.{sets_as}
+use Rattle.std.proofs.Common.{refl}
+use Rattle.shape_pipeline.proofs.Lemmas.Chains.{done_followed}
 use Rattle.shape_pipeline.proofs.Phases.{after_followed, after_refused_last, after_refused_later, after_refused_then, passed_on}
 use Rattle.shape_pipeline.proofs.context.hb_ot_shape_context_t.lay_out.Goals as goal
 
 pub returns-clause-ok : goal.returns-clause-ok
 returns-clause-ok g c =
-    after_followed _ c.args.buffer.now c.take_glyphs.new.buffer c.substitute_glyphs.new.buffer c.position.new.buffer c.end_text.new.buffer refl c.take_glyphs.ensures.followed c.in_ok-substitute_glyphs.ensures.ok c.in_ok-position.ensures.ok c.in_ok-end_text.ensures.ok
+    after_followed _ c.args.buffer.now c.take_glyphs.new.buffer c.substitute_glyphs.new.buffer c.position.new.buffer c.end_text.new.buffer refl c.take_glyphs.ensures.followed c.in_ok-substitute_glyphs.ensures.ok c.in_ok-position.ensures.ok (done_followed _ c.position.new.buffer c.end_text.new.buffer c.in_ok-end_text.ensures.ok)
 
 pub returns-in_err-substitute_glyphs-clause-err : goal.returns-in_err-substitute_glyphs-clause-err
 returns-in_err-substitute_glyphs-clause-err g c =
@@ -21,6 +20,5 @@ returns-in_err-end_text-clause-err g c =
     passed_on c.from_residual-in_err-end_text.result c.in_err-end_text.field-0.0 _ c.from_residual-in_err-end_text.ensures.1 (λ not_memory. after_refused_last _ c.args.buffer.now c.take_glyphs.new.buffer c.substitute_glyphs.new.buffer c.position.new.buffer c.in_err-end_text.field-0.0 refl c.take_glyphs.ensures.followed c.in_ok-substitute_glyphs.ensures.ok c.in_ok-position.ensures.ok (c.in_err-end_text.ensures.err not_memory))
 
 pub returns-clause-numbers : goal.returns-clause-numbers
-returns-clause-numbers g c sets =
-    let upto : settings_of c.position.new.buffer ≡ settings_of c.args.buffer.now = c.in_ok-position.ensures.ok.settings ∙ c.in_ok-substitute_glyphs.ensures.ok.settings ∙ c.take_glyphs.ensures.followed.settings in
-    c.in_ok-end_text.ensures.numbers (sets_as c.args.buffer.now c.position.new.buffer upto sets) (c.in_ok-position.ensures.ok.numbers (c.in_ok-substitute_glyphs.ensures.ok.numbers c.take_glyphs.ensures.numbers))
+returns-clause-numbers g c =
+    c.in_ok-end_text.ensures.ok.numbers (c.in_ok-position.ensures.ok.numbers (c.in_ok-substitute_glyphs.ensures.ok.numbers c.take_glyphs.ensures.numbers))

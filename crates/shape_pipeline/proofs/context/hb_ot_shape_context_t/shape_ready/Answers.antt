@@ -1,6 +1,5 @@
-use Rattle.std.proofs.Common.{◌≡◌, refl, ◌∙◌}
-use Rattle.buffer_core.specs.Sides.{settings_of}
-use Rattle.shape_pipeline.proofs.Numbers.{sets_as}
+use Rattle.std.proofs.Common.{refl, ◌∙◌}
+use Rattle.shape_pipeline.proofs.Numbers.{result_of}
 use Rattle.shape_pipeline.proofs.Whole.{reading_followed, reading_refused, reading_refused_late}
 use Rattle.shape_pipeline.proofs.Phases.{passed_on}
 use Rattle.shape_pipeline.proofs.context.hb_ot_shape_context_t.shape_ready.Goals as goal
@@ -17,7 +16,7 @@ pub returns-in_err-lay_out-clause-err : goal.returns-in_err-lay_out-clause-err
 returns-in_err-lay_out-clause-err g c =
     passed_on c.from_residual-in_err-lay_out.result c.in_err-lay_out.field-0.0 _ c.from_residual-in_err-lay_out.ensures.1 (λ not_memory. reading_refused_late _ c.args.buffer.now c.prepare_text.new.buffer c.setup_ranges.new.buffer c.in_err-lay_out.field-0.0 refl c.in_ok-prepare_text.ensures.ok c.setup_ranges.ensures (c.in_err-lay_out.ensures.err not_memory))
 
-pub returns-clause-numbers : goal.returns-clause-numbers
-returns-clause-numbers g c sets =
-    let upto : settings_of c.setup_ranges.new.buffer ≡ settings_of c.args.buffer.now = c.setup_ranges.ensures.settings ∙ c.in_ok-prepare_text.ensures.ok.settings in
-    c.in_ok-lay_out.ensures.numbers (sets_as c.args.buffer.now c.setup_ranges.new.buffer upto sets)
+pub returns-clause-handed_on : goal.returns-clause-handed_on
+returns-clause-handed_on g c =
+    let laid_out = c.in_ok-lay_out.ensures in
+    result_of c.args.self.now.plan.now.script_plan.direction c.args.buffer.now c.lay_out.new.buffer (laid_out.ok.settings ∙ c.setup_ranges.ensures.settings ∙ c.in_ok-prepare_text.ensures.ok.settings) laid_out.numbers laid_out.ok.ready laid_out.left

@@ -1,5 +1,0 @@
-use Rattle.buffer_glyphs.proofs.Least.{keeps_least}
-use Rattle.buffer_glyphs.proofs.laws.keeps_least.Goals as goal
-
-pub returns : goal.returns
-returns c = keeps_least

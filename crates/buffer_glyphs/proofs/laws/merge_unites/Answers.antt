@@ -1,5 +1,0 @@
-use Rattle.buffer_glyphs.specs.Lemmas.Merges.{merge_unites}
-use Rattle.buffer_glyphs.proofs.laws.merge_unites.Goals as goal
-
-pub returns : goal.returns
-returns c = merge_unites

@@ -1,5 +1,0 @@
-use Rattle.buffer_glyphs.proofs.Least.{origins_keep_least}
-use Rattle.buffer_glyphs.proofs.laws.origins_keep_least.Goals as goal
-
-pub returns : goal.returns
-returns c = origins_keep_least

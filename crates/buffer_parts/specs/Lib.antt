@@ -1,0 +1,14 @@
+pub mod Lemmas
+pub mod Orderly
+pub mod CharacterParts
+pub mod Slices
+pub mod Groups
+pub mod Fits
+pub mod Turns
+pub mod Counts
+pub mod Keeping
+pub mod Plainly
+pub mod Laws
+pub mod TextLaws
+pub mod CountLaws
+pub mod KeepingLaws

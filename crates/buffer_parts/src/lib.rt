@@ -1,0 +1,7 @@
+// The parts of a text: events that keep clusters in order, the part of each character, slices, and how many glyphs events leave.
+#![tactic(auto)]
+
+pub mod count_laws;
+pub mod keeping_laws;
+pub mod laws;
+pub mod text_laws;

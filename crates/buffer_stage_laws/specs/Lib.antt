@@ -1,0 +1,10 @@
+pub mod Lemmas
+pub mod Chains
+pub mod Alike
+pub mod AlikeLaws
+pub mod Counting
+pub mod CountLaws
+pub mod Stages
+pub mod Plainly
+pub mod Rules
+pub mod Laws

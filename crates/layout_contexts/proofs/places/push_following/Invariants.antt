@@ -1,6 +1,0 @@
-use Rattle.std.proofs.Common.{◌≡◌, ◌≤◌, ◌+◌, ◌-◌, ◌++◌, length, take}
-use Rattle.layout_contexts.specs.Shifts.{following}
-use Rattle.layout_contexts.proofs.places.push_following.Given as goal
-
-abbrev pub invariant-loop-k : goal.invariant-loop-k
-invariant-loop-k l = (length l.places.items ≤ 64) × (take 64 (l.places.items ++ following (l.place + l.k) (l.count - l.k)) ≡ take 64 (l.initial.places.items ++ following l.place l.count))

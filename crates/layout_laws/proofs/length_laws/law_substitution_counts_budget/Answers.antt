@@ -1,0 +1,5 @@
+use Rattle.layout_laws.specs.Lemmas.Budgets.{substitution_counts_budget}
+use Rattle.layout_laws.proofs.length_laws.law_substitution_counts_budget.Goals as goal
+
+pub returns : goal.returns
+returns c = substitution_counts_budget

@@ -1,0 +1,4 @@
+pub mod Lemmas
+pub mod Lengths
+pub mod Nesting
+pub mod Parts

@@ -1,5 +1,0 @@
-use Rattle.layout_match.proofs.Law.{failed_read}
-use Rattle.layout_match.proofs.laws.failed_searches_read.Goals as goal
-
-pub returns : goal.returns
-returns c = failed_read

@@ -1,0 +1,54 @@
+-- The rules of scripts keep the parts of a text whatever its clusters are.
+use Rattle.std.specs.Prelude.{ℕ, Bool, List, Option}
+use Rattle.buffer_common.specs.declared.constants.BufferFlags.{BufferFlags}
+use Rattle.buffer_common.specs.declared.script.Script.{Script}
+use Rattle.buffer_unicode_tables.specs.Tables.{Tables}
+use Rattle.layout_face.specs.declared.parts.FaceParts.{FaceParts}
+use Rattle.buffer_core.specs.Readings.{always}
+use Rattle.layout_map.specs.Compiled.{OtMapValue}
+use Rattle.buffer_stages.specs.Stages.{with_items_mapped}
+use Rattle.buffer_stage_laws.specs.Plainly.{KeepsPlainly}
+use Rattle.script_plan.specs.Rules.{EndAfterStart, Spans}
+use Rattle.script_categories.specs.declared.shaper.hb_ot_script_shaper_t.{hb_ot_script_shaper_t}
+use Rattle.script_hebrew_thai.specs.ThaiPrivate.{with_private}
+use Rattle.script_hebrew_thai.specs.ThaiVowel.{vowels_split}
+use Rattle.script_hangul.specs.declared.masks.JamoMasks.{JamoMasks}
+use Rattle.script_hangul.specs.Hangul.{syllables_formed}
+use Rattle.script_hangul.specs.Masks.{with_letter_mask}
+use Rattle.script_syllabic.specs.Bytes.{syllables_set}
+use Rattle.script_khmer_myanmar.specs.declared.khmer.KhmerMasks.{KhmerMasks}
+use Rattle.script_syllabic.specs.declared.forms.FormMasks.{FormMasks}
+use Rattle.script_syllabic.specs.Features.{pref_recorded, rphf_recorded}
+use Rattle.script_pauses.specs.Categories.{categories_set}
+use Rattle.script_pauses.specs.Syllables.{khmer_order, myanmar_order, substitutions_cleared, syllables_by, syllables_cleared, universal_order, universal_syllables_set}
+use Rattle.script_dispatch.specs.Masks.{letters_joined, universal_masks_set}
+use Rattle.script_pauses.specs.Tiles.{tiles_recorded}
+
+-- vowels of Thai and Lao, private forms of Thai, and syllables of Hangul
+pub record TextsKeepPlainly : Type 0 where
+  pub thai : KeepsPlainly vowels_split
+  pub private_forms : (t : Tables) (font : FaceParts) → KeepsPlainly (always (with_private t font))
+  pub hangul : (font : FaceParts) (flags : BufferFlags) → KeepsPlainly (syllables_formed font flags)
+
+-- where syllables are, the features of their glyphs and what is recorded
+pub record SyllablesKeepPlainly : Type 0 where
+  pub bytes : (span_of : Spans) (shaper : hb_ot_script_shaper_t) → EndAfterStart span_of → KeepsPlainly (syllables_set span_of shaper)
+  pub universal : (span_of : Spans) (rphf : ℕ) (forms : Option FormMasks) → EndAfterStart span_of → KeepsPlainly (universal_syllables_set span_of rphf forms)
+  pub rphf : (mask : ℕ) → KeepsPlainly (syllables_by (rphf_recorded mask))
+  pub pref : KeepsPlainly (syllables_by pref_recorded)
+  pub cleared : KeepsPlainly syllables_cleared
+  pub forgotten : KeepsPlainly substitutions_cleared
+
+-- dotted circles and the order of syllables
+pub record OrdersKeepPlainly : Type 0 where
+  pub khmer : (font : FaceParts) (flags : BufferFlags) (masks : KhmerMasks) → KeepsPlainly (khmer_order font flags masks)
+  pub myanmar : (font : FaceParts) (flags : BufferFlags) → KeepsPlainly (myanmar_order font flags)
+  pub universal : (font : FaceParts) (flags : BufferFlags) → KeepsPlainly (universal_order font flags)
+
+-- the forms of letters, their positions in syllables, the categories of characters, and which glyphs are tiles
+pub record MasksKeepPlainly : Type 0 where
+  pub joined : (m : OtMapValue) (s : Option Script) (t : Tables) (pre post : List ℕ) → KeepsPlainly (letters_joined m s t pre post)
+  pub places : (masks : JamoMasks) → KeepsPlainly (always (with_items_mapped (with_letter_mask masks)))
+  pub categories : (category_of : ℕ → ℕ) → KeepsPlainly (categories_set category_of)
+  pub universal : (m : OtMapValue) (s : Option Script) (t : Tables) (pre post : List ℕ) → KeepsPlainly (universal_masks_set m s t pre post)
+  pub tiles : (has_stch : Bool) → KeepsPlainly (tiles_recorded has_stch)

@@ -1,3 +1,0 @@
--- Lemmas.
-pub mod KhmerPermuted
-pub mod MyanmarPermuted

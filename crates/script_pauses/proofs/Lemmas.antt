@@ -1,4 +1,0 @@
--- Lemmas.
-pub mod Quiet
-pub mod Numbers
-pub mod Rules

@@ -1,0 +1,172 @@
+//! Shaping of a text, with a plan or without one.
+ghost use Rattle.std.specs.Prelude.{◌≡◌, ◌≢◌, Err, IfErr, IfOk, Ok, [], length, true, false};
+ghost use Rattle.buffer_core.specs.Readings.{Follows};
+ghost use Rattle.buffer_core.specs.Segment.{after_guess_segment_properties};
+ghost use Rattle.buffer_core.specs.Settings.{after_leave};
+ghost use Rattle.buffer_core.specs.Sides.{all_glyphs, empty_buffer, items_of, state_of};
+ghost use Rattle.buffer_stages.specs.Settings.{text_settings};
+ghost use Rattle.shape_text.specs.Properties.{are_characters};
+ghost use Rattle.shape_pipeline.specs.Results.{IsResultOf};
+ghost use Rattle.shape_pipeline.specs.Shaped.{by_plan, by_text, text_reading};
+
+use crate::context::{Shaped, hb_ot_shape_context_t};
+use crate::data::hb_shape_data_t;
+use buffer_common::language_tags::LanguageTags;
+use buffer_core::buffer::hb_buffer_t;
+use buffer_features::feature::Feature;
+use buffer_glyphs::cause::ShapeCause;
+use buffer_wrappers::glyphs::GlyphBuffer;
+use buffer_wrappers::unicode_buffer::UnicodeBuffer;
+use layout_face::Face;
+use script_categories::SyllableSpans;
+use script_dispatch::hb_ot_any_shaper_t;
+use script_plan::hb_ot_shaper_t;
+use script_plan::plan::hb_ot_shape_plan_t;
+use std::alloc::Global;
+
+/// Why a text was not shaped, and the buffer, cleared for another text.
+#[derive(Drop)]
+pub struct ShapeFault {
+    pub cause: ShapeCause,
+    pub buffer: UnicodeBuffer,
+}
+
+fn fault(cause: ShapeCause, mut buffer: hb_buffer_t) -> ShapeFault
+    ensures cause { result.cause ≡ cause }
+    ensures cleared { result.buffer ≡ empty_buffer }
+{
+    buffer.clear();
+    ShapeFault {
+        cause,
+        buffer: UnicodeBuffer::from_buffer(buffer),
+    }
+}
+
+/// A text without characters stays as it is, with the limits as at first.
+fn leave_empty(mut buffer: hb_buffer_t) -> GlyphBuffer
+    requires { buffer.is_open ≡ false }
+    ensures left { result ≡ after_leave buffer }
+    ensures placed { length buffer.positions ≡ length (all_glyphs buffer) }
+{
+    let is_placed = buffer.pos_slice().len() == buffer.len();
+    prove!(is_placed);
+    buffer.leave();
+    GlyphBuffer::from_buffer(buffer)
+}
+
+/// Shapes a text whose direction and script are known. A text without characters stays as it is.
+fn shape_guessed<'a, S: hb_ot_shaper_t, P: SyllableSpans>(
+    context: &hb_ot_shape_context_t<'a, S, P>,
+    mut buffer: hb_buffer_t,
+) -> Result<GlyphBuffer, ShapeFault>
+    requires closed { buffer.is_open ≡ false }
+    requires unrefused { buffer.has_refused ≡ false }
+    requires characters { are_characters (items_of buffer) ≡ true }
+    ensures ok { IfOk result (λ glyphs. Follows
+        (text_reading (⟦<hb_ot_shape_context_t<'a, S, P> as Shaped>⟧.shaping context.now (text_settings buffer))
+        (state_of buffer))
+        (state_of buffer) (state_of glyphs)) }
+    ensures refused { IfErr result (λ e. e.cause ≢ ShapeCause.OutOfMemory → text_reading
+        (⟦<hb_ot_shape_context_t<'a, S, P> as Shaped>⟧.shaping context.now (text_settings buffer)) (state_of buffer)
+        ≡ Err e.cause) }
+    ensures cleared { IfErr result (λ e. e.buffer ≡ empty_buffer) }
+    ensures empty { all_glyphs buffer ≡ [] → result ≡ Ok (after_leave buffer) }
+    ensures handed_on { IfOk result (λ glyphs. IsResultOf buffer glyphs) }
+    ensures direction { context.now.plan.now.script_plan.direction ≡ buffer.direction
+        → IfOk result (λ glyphs. glyphs.direction ≡ buffer.direction) }
+{
+    if buffer.is_empty() {
+        return Ok(leave_empty(buffer));
+    }
+    match context.shape_internal(&mut buffer) {
+        Ok(()) => Ok(GlyphBuffer::from_buffer(buffer)),
+        Err(cause) => Err(fault(cause, buffer)),
+    }
+}
+
+/// Shapes a text by a plan for this font, for the text's direction and script, which are guessed where they are not set. The
+/// glyphs, where they stand, and the clusters and flags that they come from are those of the text's reading. What was set for
+/// the text stays, and each glyph has a number that a glyph can have. It refuses by the reading's own cause, or for want of
+/// memory, and then hands back the buffer, cleared. A text without characters is not refused.
+pub fn shape_with_plan<S: hb_ot_shaper_t, P: SyllableSpans, L: LanguageTags>(
+    alloc: Global,
+    face: &Face,
+    shape_data: hb_shape_data_t<'_, P, L>,
+    plan: &hb_ot_shape_plan_t<S>,
+    mut buffer: UnicodeBuffer,
+) -> Result<GlyphBuffer, ShapeFault>
+    ensures ok { IfOk result (λ glyphs. Follows
+        (text_reading (by_plan (S.traits plan.now.shaper) (S.rules plan.now.shaper plan.now.script_plan) plan.now
+        face.now
+        shape_data.entry.tables.now (P.span_of shape_data.entry.spans.now) (text_settings (after_guess_segment_properties buffer)))
+        (state_of (after_guess_segment_properties buffer)))
+        (state_of (after_guess_segment_properties buffer)) (state_of glyphs)) }
+    ensures refused { IfErr result (λ e. e.cause ≢ ShapeCause.OutOfMemory → text_reading
+        (by_plan (S.traits plan.now.shaper) (S.rules plan.now.shaper plan.now.script_plan) plan.now face.now
+        shape_data.entry.tables.now (P.span_of shape_data.entry.spans.now) (text_settings (after_guess_segment_properties buffer)))
+        (state_of (after_guess_segment_properties buffer)) ≡ Err e.cause) }
+    ensures cleared { IfErr result (λ e. e.buffer ≡ empty_buffer) }
+    ensures empty { all_glyphs buffer ≡ [] → result ≡ Ok (after_leave (after_guess_segment_properties buffer)) }
+    ensures handed_on { IfOk result (λ glyphs. IsResultOf (after_guess_segment_properties buffer) glyphs) }
+    ensures direction { plan.now.script_plan.direction ≡ (after_guess_segment_properties buffer).direction
+        → IfOk result (λ glyphs. glyphs.direction ≡ (after_guess_segment_properties buffer).direction) }
+{
+    buffer.guess_segment_properties();
+    let context = hb_ot_shape_context_t {
+        plan,
+        face,
+        tables: shape_data.tables,
+        spans: shape_data.spans,
+        alloc,
+    };
+    shape_guessed(&context, buffer.into_buffer())
+}
+
+/// Shapes a text in a font, with the features that are asked for: by a plan that serves this text alone. A text without
+/// characters takes no memory.
+pub fn shape<P: SyllableSpans, L: LanguageTags>(
+    alloc: Global,
+    face: &Face,
+    shape_data: hb_shape_data_t<'_, P, L>,
+    features: &[Feature],
+    mut buffer: UnicodeBuffer,
+) -> Result<GlyphBuffer, ShapeFault>
+    ensures ok { IfOk result (λ glyphs. Follows
+        (text_reading (by_text face.now shape_data.entry.tables.now (L.tags_of shape_data.entry.languages.now)
+        (P.span_of shape_data.entry.spans.now) features.now
+        (after_guess_segment_properties buffer)) (state_of (after_guess_segment_properties buffer))) (state_of (after_guess_segment_properties buffer)) (state_of glyphs)) }
+    ensures refused { IfErr result (λ e. e.cause ≢ ShapeCause.OutOfMemory → text_reading
+        (by_text face.now shape_data.entry.tables.now (L.tags_of shape_data.entry.languages.now)
+        (P.span_of shape_data.entry.spans.now) features.now
+        (after_guess_segment_properties buffer)) (state_of (after_guess_segment_properties buffer)) ≡ Err e.cause) }
+    ensures cleared { IfErr result (λ e. e.buffer ≡ empty_buffer) }
+    ensures empty { all_glyphs buffer ≡ [] → result ≡ Ok (after_leave (after_guess_segment_properties buffer)) }
+    ensures handed_on { IfOk result (λ glyphs. IsResultOf (after_guess_segment_properties buffer) glyphs) }
+    ensures direction { IfOk result (λ glyphs. glyphs.direction ≡ (after_guess_segment_properties buffer).direction) }
+{
+    buffer.guess_segment_properties();
+    let buffer = buffer.into_buffer();
+    if buffer.is_empty() {
+        return Ok(leave_empty(buffer));
+    }
+    let plan = match hb_ot_shape_plan_t::<hb_ot_any_shaper_t>::new(
+        alloc,
+        face,
+        shape_data.languages,
+        buffer.direction(),
+        buffer.script(),
+        buffer.language(),
+        features,
+    ) {
+        Ok(plan) => plan,
+        Err(_) => return Err(fault(ShapeCause::OutOfMemory, buffer)),
+    };
+    let context = hb_ot_shape_context_t {
+        plan: &plan,
+        face,
+        tables: shape_data.tables,
+        spans: shape_data.spans,
+        alloc,
+    };
+    shape_guessed(&context, buffer)
+}

@@ -1,0 +1,198 @@
+//! Texts of tables that are refused, each with the fault that comes first.
+use crate::unicode_characters::tables_of;
+use buffer_unicode_tables::{LawFault, UnicodeTables};
+use serde_json::Value;
+use shell_json_values::fault::JsonFault;
+use shell_tables_json::{read_languages, read_syllables, read_tables};
+use std::alloc::Global;
+use std::process::Abort;
+use std::test::Fail;
+
+// Each key, its row's items one by one; then several faults: keys come before rows, rows before the items of one row,
+// and these are in the order of their kinds. Last, chains of decompositions: each character decomposes to the one
+// before, eight decompositions in a chain are allowed, nine are too many, and a syllable with a trailing consonant
+// decomposes twice before its leading consonant does.
+const TABLES: &str = r#"none: {}
+none: {"unicode":"15.0","languages":3}
+J2 WrongShape: []
+J2 WrongShape: {"splits":{}}
+J2 WrongShape: {"splits":[3]}
+J2 WrongShape: {"splits":[[98,97]]}
+J2 WrongShape: {"splits":[[98,97,0,0]]}
+J3 FloatNumber: {"splits":[[98,97,0.0]]}
+U2 OutOfRange: {"splits":[[98,-97,0]]}
+U2 OutOfRange: {"splits":[[55296,97,0]]}
+U1 OutOfOrder: {"splits":[[98,97,0],[97,98,0]]}
+U3 SplitDepth: {"splits":[[97,97,98]]}
+U1 OutOfOrder: {"pairs":[[97,769,225],[97,769,226]]}
+none: {"pairs":[[97,769,225],[97,776,228],[98,0,9]]}
+U2 OutOfRange: {"pairs":[[97,769,1114112]]}
+J2 WrongShape: {"classes":[[769,false]]}
+J3 FloatNumber: {"classes":[[769,230.0]]}
+none: {"classes":[[769,255]]}
+U2 OutOfRange: {"classes":[[769,256]]}
+U2 OutOfRange: {"mirrored":[[40,1114112]]}
+U1 OutOfOrder: {"mirrored":[[40,41],[40,41]]}
+U2 OutOfRange: {"vertical":[[40,57343]]}
+U1 OutOfOrder: {"vertical":[[41,40],[40,41]]}
+none: {"pictographic":[[9,3],[10,4]]}
+U1 OutOfOrder: {"pictographic":[[9,12],[9,13]]}
+J2 WrongShape: {"pictographic":[[9,"x"]]}
+J4 UnknownName: {"joining":[[1576,"D"],[1577,"X"]]}
+J2 WrongShape: {"joining":[[1576,3]]}
+U1 OutOfOrder: {"joining":[[1576,"D"],[1575,"R"]]}
+J4 UnknownName: {"indic":[[2309,"QQ","END"]]}
+J4 UnknownName: {"indic":[[2309,"V","QQ"]]}
+U1 OutOfOrder: {"indic":[[2309,"V","END"],[9,"V","END"]]}
+J4 UnknownName: {"universal":[[6917,"Repha"]]}
+U1 OutOfOrder: {"universal":[[6917,"B"],[6917,"B"]]}
+U1 OutOfOrder: {"thai":[[3640,"SD",63256,63257],[3640,"SD",1,1]]}
+none: {"thai":[[3640,"SD",63256,63257],[3640,"RD",1,1]]}
+J4 UnknownName: {"thai":[[3640,"DR",63256,63257]]}
+J2 WrongShape: {"thai":[[3640,"SD",63256]]}
+U2 OutOfRange: {"thai":[[3640,"SD",63256,-1]]}
+J3 FloatNumber: {"classes":[[769,18446744073709551616]]}
+J3 FloatNumber: {"pairs":[[2,1,1],[1,1,1]],"splits":[[1,2,1.5]]}
+J4 UnknownName: {"splits":[[1,1,1]],"thai":[[1,"QQ",1,1]]}
+J4 UnknownName: {"thai":3,"universal":[[6917,"QQ"]]}
+U1 OutOfOrder: {"classes":[[770,1],[769,1],[771,"x"]]}
+U2 OutOfRange: {"classes":[[770,1],[769,256]]}
+J3 FloatNumber: {"classes":[[770,1],[769,1.5]]}
+J2 WrongShape: {"classes":[[1.5,"x"]]}
+J3 FloatNumber: {"indic":[[1.5,"QQ","QQ"]]}
+J4 UnknownName: {"indic":[[55296,"QQ","END"]]}
+J2 WrongShape: {"indic":[[55296,"QQ",3]]}
+U2 OutOfRange: {"splits":[[97,97,98],[98,1114112,0]]}
+U1 OutOfOrder: {"splits":[[97,97,98]],"classes":[[1,1],[1,1]]}
+none: {"splits":[[4097,4096,768],[4098,4097,768],[4099,4098,768],[4100,4099,0],[4101,4100,768],[4102,4101,768],[4103,4102,768],[4104,4103,768]]}
+U3 SplitDepth: {"splits":[[4097,4096,768],[4098,4097,768],[4099,4098,768],[4100,4099,0],[4101,4100,768],[4102,4101,768],[4103,4102,768],[4104,4103,768],[4105,4104,768]]}
+none: {"splits":[[4097,4096,768],[4098,4097,768],[4099,4098,768],[4100,4099,0],[4101,4100,768],[4352,4101,0]]}
+U3 SplitDepth: {"splits":[[4097,4096,768],[4098,4097,768],[4099,4098,768],[4100,4099,0],[4101,4100,768],[4102,4101,0],[4352,4102,0]]}"#;
+
+// The value of `syllables`; in the last two, states come before steps, steps before accepting states, and Indic before
+// Khmer.
+const SYLLABLES: &str = r#"J2 WrongShape: []
+none: {"splits":3}
+J2 WrongShape: {"syllables":[]}
+none: {"syllables":{"thai":3}}
+J2 WrongShape: {"syllables":{"khmer":3}}
+J2 WrongShape: {"syllables":{"khmer":{"states":"x"}}}
+J3 FloatNumber: {"syllables":{"khmer":{"states":1.0}}}
+U2 OutOfRange: {"syllables":{"khmer":{"states":4294967296}}}
+U2 OutOfRange: {"syllables":{"khmer":{"states":-1}}}
+U2 OutOfRange: {"syllables":{"khmer":{"next":[[0,"C",0]]}}}
+U2 OutOfRange: {"syllables":{"khmer":{"states":1,"next":[[0,"C",1]]}}}
+J4 UnknownName: {"syllables":{"khmer":{"states":1,"next":[[0,"B",0]]}}}
+none: {"syllables":{"universal":{"states":1,"next":[[0,"B",0]]}}}
+U1 OutOfOrder: {"syllables":{"khmer":{"states":1,"next":[[0,"C",0],[0,"C",0]]}}}
+J4 UnknownName: {"syllables":{"khmer":{"states":1,"accept":[[0,"virama"]]}}}
+U2 OutOfRange: {"syllables":{"khmer":{"states":1,"accept":[[1,"non"]]}}}
+J2 WrongShape: {"syllables":{"indic":{"accept":3,"next":[[0]]},"khmer":{"states":1.5}}}
+J4 UnknownName: {"syllables":{"khmer":{"accept":3,"next":[[0,"QQ",9]]}}}"#;
+
+// The value of `languages`.
+const LANGUAGES: &str = r#"J2 WrongShape: 3
+none: {"syllables":3}
+J2 WrongShape: {"languages":{}}
+J2 WrongShape: {"languages":[["en",["ENG"],3]]}
+J2 WrongShape: {"languages":[[1.5,["ENG"]]]}
+none: {"languages":[["en",[]],["en-GB",["ENG ","E","EN"]]]}
+J2 WrongShape: {"languages":[["en",["A","B","C","D"]]]}
+J2 WrongShape: {"languages":[["en",["ENGLI"]]]}
+J2 WrongShape: {"languages":[["en",[""]]]}
+J2 WrongShape: {"languages":[["en",["\u007f"]]]}
+U1 OutOfOrder: {"languages":[["en",[]],["de",[]]]}
+U1 OutOfOrder: {"languages":[["en",[]],["en",[]],["fr",3]]}"#;
+
+// Tables that are not lawful. U+1EA1 U+0301 is U+00E1 U+0323 in another order, as long as their classes differ.
+const LAWS: &str = r#"ClassOnNonMark: {"classes":[[97,230]]}
+none: {"splits":[[225,97,769]],"classes":[[769,230]]}
+SplitLosesClass: {"splits":[[836,776,769]],"classes":[[769,230],[836,230]]}
+SecondPartSplits: {"splits":[[836,776,769],[901,168,836]]}
+SecondPartSplits: {"splits":[[4520,97,0]]}
+none: {"splits":[[225,97,769],[7841,97,803],[983040,225,803]],"pairs":[[7841,769,983040]],"classes":[[769,230],[803,220]]}
+PairNotEquivalent: {"splits":[[225,97,769],[7841,97,803],[983040,225,803]],"pairs":[[7841,769,983040]],"classes":[[769,230],[803,230]]}
+PairNotEquivalent: {"splits":[[225,97,769]],"pairs":[[97,769,226]]}"#;
+
+fn name_of(fault: Option<JsonFault>) -> &'static str {
+    match fault {
+        Some(fault) => fault.name(),
+        None => "none",
+    }
+}
+
+fn tables_fault(alloc: Global, text: &str) -> Result<&'static str, Fail> {
+    let value = Value::from_str(alloc, text)?;
+    Ok(name_of(read_tables(alloc, &value).err()))
+}
+
+fn syllables_fault(alloc: Global, text: &str) -> Result<&'static str, Fail> {
+    let value = Value::from_str(alloc, text)?;
+    Ok(name_of(read_syllables(alloc, &value).err()))
+}
+
+fn languages_fault(alloc: Global, text: &str) -> Result<&'static str, Fail> {
+    let value = Value::from_str(alloc, text)?;
+    Ok(name_of(read_languages(alloc, &value).err()))
+}
+
+fn law_name(fault: Option<LawFault>) -> &'static str {
+    match fault {
+        Some(LawFault::SecondPartSplits) => "SecondPartSplits",
+        Some(LawFault::PairNotEquivalent) => "PairNotEquivalent",
+        Some(LawFault::ClassOnNonMark) => "ClassOnNonMark",
+        Some(LawFault::SplitLosesClass) => "SplitLosesClass",
+        Some(LawFault::AsciiMark) => "AsciiMark",
+        None => "none",
+    }
+}
+
+fn broken_law(tables: &UnicodeTables) -> &'static str {
+    law_name(tables.law_fault())
+}
+
+fn law_fault(alloc: Global, text: &str) -> Result<&'static str, Fail> {
+    let tables = tables_of(alloc, text)?;
+    Ok(broken_law(&tables))
+}
+
+/// The readers of a text.
+#[derive(Clone, Copy)]
+enum Reader {
+    Tables,
+    Syllables,
+    Languages,
+    Laws,
+}
+
+fn fault_of(alloc: Global, reader: Reader, text: &str) -> Result<&'static str, Fail> {
+    match reader {
+        Reader::Tables => tables_fault(alloc, text),
+        Reader::Syllables => syllables_fault(alloc, text),
+        Reader::Languages => languages_fault(alloc, text),
+        Reader::Laws => law_fault(alloc, text),
+    }
+}
+
+fn is_first_fault(alloc: Global, reader: Reader, line: &str) -> Result<bool, Fail> {
+    let (fault, text) = line.split_once(": ").ok_or("no case")?;
+    let found = fault_of(alloc, reader, text)?;
+    Ok(found == fault)
+}
+
+fn check_faults(rt: &impl Abort, alloc: Global, reader: Reader, lines: &str) -> Result<(), Fail> {
+    for line in lines.lines() {
+        let is_first = is_first_fault(alloc, reader, line)?;
+        assert!(rt; is_first, "{line}");
+    }
+    Ok(())
+}
+
+#[test]
+fn first_faults(rt: HostRuntime) -> Result<(), Fail> {
+    let alloc = rt.alloc();
+    check_faults(&rt, alloc, Reader::Tables, TABLES)?;
+    check_faults(&rt, alloc, Reader::Syllables, SYLLABLES)?;
+    check_faults(&rt, alloc, Reader::Languages, LANGUAGES)?;
+    check_faults(&rt, alloc, Reader::Laws, LAWS)
+}

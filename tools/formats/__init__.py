@@ -1,0 +1,1 @@
+"""The rules of the two JSON formats, and where a value breaks one."""

@@ -1,0 +1,81 @@
+"""Where a file breaks its format: the program names the kind of a fault alone, this the key, the row and the value."""
+
+import json
+import unicodedata
+from pathlib import Path
+from typing import Any, Callable, Iterator
+
+from formats.rules import font_faults, tables_faults
+from unicodejson.lawful import law_fault
+
+Rules = Callable[[dict[str, Any]], Iterator[str]]
+# Past this a number is no number of the format, whatever it is for.
+WORD64 = 1 << 63
+
+
+def font_fault(path: Path) -> str | None:
+    """The first fault of a font, with its place; None where none is found."""
+    return fault_of(path, font_faults)
+
+
+def tables_fault(path: Path) -> str | None:
+    """The first fault of tables, with its place, or the law that they break; None where none is found."""
+    found = fault_of(path, tables_faults)
+    if found is not None:
+        return found
+    law = law_fault(json.loads(path.read_bytes()), category)
+    return None if law is None else f"unlawful: {law}"
+
+
+def category(character: int) -> str:
+    """The general category; what this Python's Unicode has not assigned yet may be a mark."""
+    found = unicodedata.category(chr(character))
+    return "Mn" if found == "Cn" else found
+
+
+def fault_of(path: Path, rules: Rules) -> str | None:
+    try:
+        value = json.loads(path.read_bytes().decode("utf-8"), parse_constant=no_constant)
+    except UnicodeDecodeError as error:
+        return f"no UTF-8 at byte {error.start}"
+    except json.JSONDecodeError as error:
+        byte = len(error.doc[: error.pos].encode())
+        return f"no JSON at line {error.lineno}, column {error.colno} (byte {byte}): {error.msg}"
+    except (ValueError, RecursionError) as error:
+        return f"no JSON: {error}"
+    if not isinstance(value, dict):
+        return "no object at the top"
+    wrong = next(floats(value, ""), None)
+    if wrong is not None:
+        return wrong
+    try:
+        return next(rules(value), None)
+    except (AttributeError, IndexError, KeyError, TypeError, ValueError):
+        return wrong_shape(value, rules)
+
+
+def no_constant(word: str) -> Any:
+    raise ValueError(f"{word} is no number of JSON")
+
+
+def floats(value: Any, where: str) -> Iterator[str]:
+    """Numbers with a fraction or an exponent, and those past 64 bits, wherever they stand."""
+    if isinstance(value, float) or (isinstance(value, int) and not -WORD64 <= value < WORD64):
+        yield f"{where}: no whole number of 64 bits: {value}"
+    elif isinstance(value, dict):
+        for key, part in value.items():
+            yield from floats(part, f"{where} {key}".strip())
+    elif isinstance(value, list):
+        for at, part in enumerate(value):
+            yield from floats(part, f"{where}[{at}]")
+
+
+def wrong_shape(value: dict[str, Any], rules: Rules) -> str:
+    """The key whose value has a shape that the rules can't read."""
+    for key, part in value.items():
+        try:
+            for _ in rules({key: part}):
+                pass
+        except (AttributeError, IndexError, KeyError, TypeError, ValueError):
+            return f"{key}: another shape than the format's"
+    return "another shape than the format's"

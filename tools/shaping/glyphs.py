@@ -1,0 +1,61 @@
+"""The glyphs of a printed line, and the same as JSON."""
+
+import json
+import re
+from dataclasses import dataclass
+
+from common.faults import DATA, ToolFault
+from shaping.options import Given
+
+GLYPH = re.compile(
+    r"(?P<number>\d+)(?:=(?P<cluster>\d+))?(?:@(?P<dx>-?\d+),(?P<dy>-?\d+))?(?:\+(?P<ax>-?\d+)(?:,(?P<ay>-?\d+))?)?"
+    r"(?:#(?P<flags>[0-9a-f]+))?(?:<(?P<box>-?\d+,-?\d+,-?\d+,-?\d+)>)?"
+)
+
+
+@dataclass(frozen=True)
+class Glyph:
+    """A glyph as the program prints it by its number; what is not printed is 0, or None where it may be left out."""
+
+    number: int
+    cluster: int
+    x_offset: int
+    y_offset: int
+    x_advance: int
+    y_advance: int
+    flags: int
+    box: tuple[int, ...] | None
+
+
+def read_line(line: str) -> list[Glyph]:
+    """The glyphs of a line that was printed with --no-glyph-names."""
+    found = []
+    for part in line.rstrip("\n").split("|") if line.strip() else []:
+        glyph = GLYPH.fullmatch(part)
+        if glyph is None:
+            raise ToolFault(DATA, f"the program printed what is no glyph: {part!r}")
+        numbers = [int(glyph[name] or 0) for name in ("number", "cluster", "dx", "dy", "ax", "ay")]
+        box = tuple(map(int, glyph["box"].split(","))) if glyph["box"] else None
+        found.append(Glyph(*numbers, int(glyph["flags"] or "0", 16), box))
+    return found
+
+
+def as_json(glyphs: list[Glyph], names: dict[int, str], given: Given) -> str:
+    """A line of JSON as hb-shape prints it: glyph, cluster, offsets, advances, and flags and boxes where asked for."""
+    return "[" + ",".join(json.dumps(entry(glyph, names, given), separators=(",", ":")) for glyph in glyphs) + "]"
+
+
+def entry(glyph: Glyph, names: dict[int, str], given: Given) -> dict[str, int | str]:
+    is_number = given.has("no-glyph-names")
+    made: dict[str, int | str] = {"g": glyph.number if is_number else names.get(glyph.number, f"gid{glyph.number}")}
+    if not given.has("no-clusters"):
+        made["cl"] = glyph.cluster
+    if not given.has("no-positions"):
+        made |= {"dx": glyph.x_offset, "dy": glyph.y_offset}
+        if not given.has("no-advances"):
+            made |= {"ax": glyph.x_advance, "ay": glyph.y_advance}
+    if given.has("show-flags") and glyph.flags:
+        made["fl"] = glyph.flags
+    if glyph.box is not None:
+        made |= dict(zip(("xb", "yb", "w", "h"), glyph.box))
+    return made

@@ -1,0 +1,199 @@
+"""The words of the command line of shape: a font, a text, options of its own and those of hb_shape."""
+
+import difflib
+import re
+from dataclasses import dataclass, field
+from pathlib import Path
+from typing import Callable
+
+from common.faults import WORDS, ToolFault
+
+NAME = "shape"
+HELP = """usage: shape FONT TEXT [options]
+       shape FONT --text-file FILE [options]
+
+Shapes a text in a font, and prints its glyphs as hb-shape does: glyph=cluster@x,y+advance, with | between them.
+FONT is a .ttf, .otf, .ttc, .otc, .woff or .woff2 file, or a .json file as font_to_json writes it.
+
+examples:
+  tools/shape DejaVuSans.ttf office
+  tools/shape DejaVuSans.ttf office --features=-liga,kern=2 --no-glyph-names
+  tools/shape NotoNaskhArabic-Regular.ttf سلام --direction=rtl --script=Arab --language=ur-PK
+  tools/shape NotoSansCJK.ttc 骨 --font-index=2 --language=zh-Hant
+  tools/shape DejaVuSans.ttf --text-file=words.txt          a line of glyphs for each line of the file
+  tools/shape DejaVuSans.ttf office --json                  the glyphs as HarfBuzz prints them in JSON
+  tools/shape DejaVuSans.ttf office --svg=office.svg        a picture: glyphs in their positions, clusters below
+
+"""
+AFTER = """
+The program is built first where it is not there (tools/build). The font is converted once, and kept with the tables in
+$XDG_CACHE_HOME/kuspveli (~/.cache/kuspveli). Needs fontTools: Debian's python3-fonttools, under /usr/bin/python3.
+Marks, splits and mirror images are known where Debian's unicode-data is there. docs/TOOLS.md says more.
+
+A fault is one line on standard error that says where it is, and a status: 2 the words, 3 the font or the tables, 4 the
+text, 5 what can't be shaped, 6 files. Characters that the font lacks are named there too, and are no fault."""
+
+
+def any_text(text: str) -> str:
+    return text
+
+
+def direction(text: str) -> str:
+    if text[:1].lower() not in ("l", "r", "t", "b"):
+        raise ValueError("a direction begins with l, r, t or b (ltr, rtl, ttb, btt)")
+    return text
+
+
+def script(text: str) -> str:
+    if not re.fullmatch(r"[A-Za-z]{4}", text):
+        raise ValueError("a script is a tag of four letters, as Latn or Arab (ISO 15924)")
+    return text
+
+
+def language(text: str) -> str:
+    """A tag of BCP 47; the underscores of system languages are hyphens there."""
+    tag = text.split(".")[0].replace("_", "-")
+    if not re.fullmatch(r"[A-Za-z0-9]{1,8}(-[A-Za-z0-9]{1,8})*", tag):
+        raise ValueError("a language is a tag as en, zh-Hant or ur-PK (BCP 47)")
+    return tag
+
+
+def level(text: str) -> str:
+    if text not in ("0", "1", "2"):
+        raise ValueError("a cluster level is 0, 1 or 2")
+    return text
+
+
+def features(text: str) -> str:
+    for part in text.split(","):
+        if not re.match(r"""\s*[+-]?\s*(?:\w{1,4}(?!\w)|"\w{1,4}"|'\w{1,4}')""", part, re.ASCII):
+            raise ValueError(f"no feature: {part!r}; features are as -liga, kern=2 or ss01[3:5], with commas")
+    return text
+
+
+def index(text: str) -> str:
+    if not (text.isascii() and text.isdigit()):
+        raise ValueError("an index is a number, from 0 on")
+    return text
+
+
+@dataclass(frozen=True)
+class Option:
+    """An option with a value, which `read` checks, or without one."""
+
+    name: str
+    about: str
+    value: str = ""
+    read: Callable[[str], str] = any_text
+    is_own: bool = False
+
+
+OPTIONS = (
+    Option("text-file", "shape each line of a file (- is standard input)", "FILE", any_text, True),
+    Option("text", "the text, also where it begins with --", "TEXT", any_text, True),
+    Option("font-index", "the font of a collection, from 0 on (--face-index, --index)", "N", index, True),
+    Option("json", "print JSON, as hb-shape --output-format=json does", is_own=True),
+    Option("svg", "draw the glyphs and their clusters into a file", "FILE", any_text, True),
+    Option("direction", "ltr, rtl, ttb or btt; guessed from the text", "D", direction),
+    Option("script", "an ISO 15924 tag; guessed from the text", "S", script),
+    Option("language", "a BCP 47 tag, as ro or de-CH", "L", language),
+    Option("features", "features with commas, as -liga,kern=2; may be given again", "F", features),
+    Option("cluster-level", "0: graphemes share a cluster; 1: characters merge; 2: clusters never merge", "N", level),
+    Option("bot", "the text begins a paragraph"),
+    Option("eot", "the text ends a paragraph"),
+    Option("preserve-default-ignorables", "show characters that are to be invisible"),
+    Option("remove-default-ignorables", "remove their glyphs"),
+    Option("no-dotted-circle", "put no dotted circle before a lone mark"),
+    Option("unsafe-to-concat", "mark where texts may not be put together"),
+    Option("safe-to-insert-tatweel", "mark where a tatweel may stand"),
+    Option("no-glyph-names", "print glyph numbers"),
+    Option("no-clusters", "print no clusters"),
+    Option("no-positions", "print no positions"),
+    Option("no-advances", "print no advances"),
+    Option("show-extents", "print the box of each glyph"),
+    Option("show-flags", "print glyph flags"),
+)
+OTHER_NAMES = {"index": "font-index", "face-index": "font-index"}
+REPEATED = ("features",)
+BY_NAME = {option.name: option for option in OPTIONS}
+
+
+@dataclass
+class Given:
+    """What the words ask for: a font, a text or a file of texts, and options."""
+
+    font: Path
+    text: str | None
+    own: dict[str, str] = field(default_factory=dict)
+    program: list[str] = field(default_factory=list)
+
+    def has(self, switch: str) -> bool:
+        return switch in self.own or f"--{switch}" in self.program
+
+
+def usage() -> str:
+    """The help: what the words are, examples, and each option."""
+    lines = []
+    for option in OPTIONS:
+        shown = f"--{option.name}={option.value}" if option.value else f"--{option.name}"
+        lines.append(f"  {shown:<31}{option.about}\n")
+    return f"{HELP}options:\n{''.join(lines)}{AFTER}"
+
+
+def read_words(words: list[str]) -> Given:
+    """Reads all words before anything is made; a fault names the word."""
+    files: list[str] = []
+    own: dict[str, str] = {}
+    program: list[str] = []
+    rest = list(words)
+    while rest:
+        word = rest.pop(0)
+        if not word.startswith("--") or word == "--":
+            files.append(word)
+            continue
+        name, mark, value = word.removeprefix("--").partition("=")
+        option = option_of(name)
+        if option.value and not mark:
+            if not rest:
+                raise ToolFault(WORDS, f"--{name}: its value is missing: --{name}={option.value}")
+            value = rest.pop(0)
+        elif mark and not option.value:
+            raise ToolFault(WORDS, f"--{name}: it takes no value: {value!r}")
+        try:
+            value = option.read(value)
+        except ValueError as error:
+            raise ToolFault(WORDS, f"--{name}: {error}: {value!r}") from error
+        note_option(option, value, own, program)
+    return with_text(files, own, program)
+
+
+def note_option(option: Option, value: str, own: dict[str, str], program: list[str]) -> None:
+    said = f"--{option.name}"
+    given = option.name in own or any(word.split("=")[0] == said for word in program)
+    if given and option.name not in REPEATED:
+        raise ToolFault(WORDS, f"{said}: given twice")
+    if option.is_own:
+        own[option.name] = value
+    else:
+        program.append(f"{said}={value}" if option.value else said)
+
+
+def option_of(name: str) -> Option:
+    """The option of a name, also under its other names."""
+    found = BY_NAME.get(OTHER_NAMES.get(name, name))
+    if found is None:
+        near = difflib.get_close_matches(name, [*BY_NAME, *OTHER_NAMES], 1)
+        meant = f"; is --{near[0]} meant?" if near else ""
+        raise ToolFault(WORDS, f"--{name}: no such option{meant} (shape --help lists them)")
+    return found
+
+
+def with_text(files: list[str], own: dict[str, str], program: list[str]) -> Given:
+    """The font, and the one text or file of texts."""
+    if not files:
+        raise ToolFault(WORDS, "the font is missing: shape FONT TEXT [options] (shape --help has examples)")
+    texts = [*files[1:], *([own["text"]] if "text" in own else [])]
+    if len(texts) + ("text-file" in own) != 1:
+        found = "no text is given" if not texts else f"more than one text is given: {', '.join(map(repr, texts))}"
+        raise ToolFault(WORDS, f"{found}: shape FONT TEXT, or shape FONT --text-file=FILE")
+    return Given(Path(files[0]), texts[0] if texts else None, own, program)

@@ -1,0 +1,77 @@
+"""The program: there before it is used, and its faults with their place."""
+
+import os
+import subprocess
+import sys
+import tempfile
+from concurrent.futures import ThreadPoolExecutor
+from dataclasses import dataclass
+from pathlib import Path
+
+from common.faults import DATA, FILES, ToolFault, one_line
+from formats.where import font_fault, tables_fault
+from shaping.texts import Text
+
+ROOT = Path(__file__).parent.parent.parent
+PROGRAM = ROOT / "crates" / "hb_shape" / "out" / "hb_shape"
+BUILD = ROOT / "tools" / "build"
+OWN = "hb_shape: "
+
+
+@dataclass(frozen=True)
+class Line:
+    """What the program made of a text: its line, and its status with a fault."""
+
+    text: Text
+    glyphs: str
+    status: int
+    fault: str
+
+
+def make_ready(program: Path) -> None:
+    """Builds the program where it is not there; tells where sources are newer than it."""
+    if not os.access(program, os.X_OK):
+        print(f"shape: {program} is not there: tools/build proves and builds it first", file=sys.stderr, flush=True)
+        if subprocess.run([BUILD], stdout=sys.stderr, check=False).returncode != 0:
+            raise ToolFault(FILES, "the program was not built, so nothing is shaped (tools/build says why)")
+    elif is_old(program):
+        print("shape: sources are newer than the program: tools/build builds it anew", file=sys.stderr)
+
+
+def is_old(program: Path) -> bool:
+    """Whether a source is newer than the program, where it stands in a folder with crates."""
+    crates = program.parent.parent.parent
+    if crates.name != "crates":
+        return False
+    made = program.stat().st_mtime
+    return any(path.stat().st_mtime > made for path in crates.glob("*/src/**/*.rt"))
+
+
+def run_all(program: Path, tables: Path, font: Path, texts: list[Text], options: list[str]) -> list[Line]:
+    """The lines of all texts in their order, shaped side by side."""
+    with ThreadPoolExecutor(os.cpu_count()) as pool:
+        return list(pool.map(lambda text: run_one(program, tables, font, text, options), texts))
+
+
+def run_one(program: Path, tables: Path, font: Path, text: Text, options: list[str]) -> Line:
+    """Runs the program on files. It drops one line feed at the text's end, so it is given one more."""
+    with tempfile.NamedTemporaryFile() as file:
+        file.write(text.bytes + b"\n")
+        file.flush()
+        words = [program, *options, tables, font, file.name]
+        ran = subprocess.run(words, stdin=subprocess.DEVNULL, capture_output=True, check=False)
+    fault = one_line(ran.stderr.decode("utf-8", "replace")).removeprefix(OWN)
+    status = ran.returncode if ran.returncode >= 0 else 128 - ran.returncode
+    return Line(text, ran.stdout.decode("utf-8", "replace"), status, fault)
+
+
+def told(line: Line, tables: Path, font: Path) -> str:
+    """A fault with its place: of tables and fonts the key, row and value, else the text."""
+    if line.status != DATA:
+        return f"{line.text.where}: {line.fault}"
+    # The program reads the tables first.
+    for path, find in ((tables, tables_fault), (font, font_fault)):
+        found = find(path)
+        if found is not None:
+            return f"{path}: {line.fault}: {found}"
+    return f"{tables} or {font}: {line.fault}"

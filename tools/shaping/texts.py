@@ -1,0 +1,101 @@
+"""The texts to shape, and the characters of them that a font lacks."""
+
+import os
+import sys
+import unicodedata
+from dataclasses import dataclass
+from pathlib import Path
+from typing import Iterator
+
+from common.faults import TEXT, ToolFault
+from shaping.options import Given
+
+# Characters without a glyph of their own are hidden, as HarfBuzz has them.
+IGNORABLE = (
+    (0xAD, 0xAD), (0x34F, 0x34F), (0x61C, 0x61C), (0x17B4, 0x17B5), (0x180B, 0x180F), (0x200B, 0x200F),
+    (0x202A, 0x202E), (0x2060, 0x206F), (0xFE00, 0xFE0F), (0xFEFF, 0xFEFF), (0xFFF0, 0xFFF8), (0x1D173, 0x1D17A), (0xE0000, 0xE0FFF),
+)  # fmt: skip
+SPACES = {0xA0, *range(0x2000, 0x200B), 0x202F, 0x205F, 0x3000}
+# The hyphen stands for the one that does not break.
+OTHERS = {0x2011: 0x2010}
+SHOWN = 5
+
+
+@dataclass(frozen=True)
+class Text:
+    """A text, and where it comes from: the line of a file, or the command line."""
+
+    bytes: bytes
+    where: str
+
+    @property
+    def characters(self) -> str:
+        return self.bytes.decode("utf-8")
+
+
+def read_texts(given: Given) -> list[Text]:
+    """The text of the command line, or the lines of the file; each has to be UTF-8."""
+    if given.text is not None:
+        return [checked(os.fsencode(given.text), "the text")]
+    name = given.own["text-file"]
+    whole = sys.stdin.buffer.read() if name == "-" else Path(name).read_bytes()
+    lines = whole.split(b"\n")
+    if not lines[-1]:
+        lines.pop()
+    return [checked(line, f"{name}: line {number}") for number, line in enumerate(lines, 1)]
+
+
+def checked(given: bytes, where: str) -> Text:
+    """A text; where it is no UTF-8 the fault says at which byte and after which character."""
+    try:
+        given.decode("utf-8")
+    except UnicodeDecodeError as error:
+        before = given[: error.start].decode("utf-8")
+        after = f", after {len(before)} characters, the last {name_of(before[-1])}" if before else ""
+        what = f"byte {error.start} (0x{given[error.start]:02X}){after}"
+        raise ToolFault(TEXT, f"{where} is no UTF-8 at {what}: {error.reason}") from error
+    return Text(given, where)
+
+
+def name_of(character: str) -> str:
+    return f"U+{ord(character):04X} {unicodedata.name(character, '')}".strip()
+
+
+def lacking(text: str, has: set[int]) -> Iterator[tuple[int, str]]:
+    """Each character, with its index, for which the font has nothing to show."""
+    for at, character in enumerate(text):
+        if not (is_shown(ord(character), has) or is_composed(text, at, has)):
+            yield at, character
+
+
+def is_shown(character: int, has: set[int]) -> bool:
+    """Whether the font has the character, its pieces, or what stands for it; or nothing is to be shown."""
+    if character in has or any(first <= character <= last for first, last in IGNORABLE):
+        return True
+    if character in SPACES:
+        return 0x20 in has
+    if OTHERS.get(character) in has:
+        return True
+    pieces = unicodedata.normalize("NFD", chr(character))
+    return len(pieces) > 1 and all(ord(piece) in has for piece in pieces)
+
+
+def is_composed(text: str, at: int, has: set[int]) -> bool:
+    """Whether a mark becomes one character that the font has, with what stands before it."""
+    start = at
+    while start > 0 and unicodedata.combining(text[start]):
+        start -= 1
+    whole = unicodedata.normalize("NFC", text[start : at + 1])
+    return start < at and len(whole) < at + 1 - start and all(ord(one) in has for one in whole)
+
+
+def lack_notes(text: Text, has: set[int]) -> Iterator[str]:
+    """What the font lacks of a text, with the byte and character where each first stands."""
+    met: dict[str, int] = {}
+    for at, character in lacking(text.characters, has):
+        met.setdefault(character, at)
+    for character, at in list(met.items())[:SHOWN]:
+        byte = len(text.characters[:at].encode("utf-8"))
+        yield f"{text.where}: the font lacks {name_of(character)} (byte {byte}, character {at + 1})"
+    if len(met) > SHOWN:
+        yield f"{text.where}: the font lacks {len(met) - SHOWN} characters more"
