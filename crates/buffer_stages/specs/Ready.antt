@@ -1,5 +1,7 @@
 -- The state of a buffer before and after a stage of lookups.
-use Rattle.std.specs.Prelude.{ℕ, ◌≡◌, true, false, [], length}
+use Rattle.std.specs.Prelude.{ℕ, ◌≡◌, ◌≢◌, true, false, [], length, Result, Ok, Err}
+use Rattle.buffer_glyphs.specs.declared.cause.ShapeCause.{ShapeCause}
+use Rattle.buffer_glyphs.specs.declared.cause.ShapeCause.TheVariants.{OutOfMemory}
 use Rattle.buffer_core.specs.Readings.{BufferState, Stage, Follows, reading_of}
 use Rattle.buffer_core.specs.Sides.{Sides, settings_of, all_glyphs, items_of, view_of, state_of}
 use Rattle.buffer_stages.specs.Buffers.{are_glyphs}
@@ -19,6 +21,12 @@ pub record IsDone (stage : Stage) (old new : Sides) : Type 0 where
   pub ready : IsReady new
   pub numbers : are_glyphs (items_of old) ≡ true → are_glyphs (items_of new) ≡ true
 
+-- what a call that does a stage on glyphs leaves: where it answers Ok, the stage was done; where it answers Err, the
+-- cause is the reading's own or want of memory
+abbrev pub DoesGlyphStage : {X : Type 0} → Stage → Result X ShapeCause → Sides → Sides → Type 0
+DoesGlyphStage stage (Ok x) old new = IsDone stage old new
+DoesGlyphStage stage (Err e) old new = e ≢ OutOfMemory → reading_of stage (state_of old) ≡ Err e
+
 -- the state of a buffer, with the state of the random numbers, which is outside the buffer
 abbrev pub state_with : ℕ → Sides → BufferState
 state_with random s = record (state_of s) { view = record (view_of s) { random = random } }
@@ -29,3 +37,9 @@ pub record IsDoneFrom (before after : ℕ) (stage : Stage) (old new : Sides) : T
   pub settings : settings_of new ≡ settings_of old
   pub ready : IsReady new
   pub numbers : are_glyphs (items_of old) ≡ true → are_glyphs (items_of new) ≡ true
+
+-- what a call that does a stage on glyphs leaves, from one state of the random numbers to another
+abbrev pub DoesGlyphStageFrom : {X : Type 0} → ℕ → ℕ → Stage → Result X ShapeCause → Sides → Sides → Type 0
+DoesGlyphStageFrom before after stage (Ok x) old new = IsDoneFrom before after stage old new
+DoesGlyphStageFrom before after stage (Err e) old new = e ≢ OutOfMemory
+    → reading_of stage (state_with before old) ≡ Err e

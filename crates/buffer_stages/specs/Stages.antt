@@ -1,7 +1,9 @@
 -- What a pipeline stage before or after the lookups leaves of a buffer.
-use Rattle.std.specs.Prelude.{◌≡◌, List, [], map}
+use Rattle.std.specs.Prelude.{◌≡◌, ◌≢◌, List, [], map, Result, Ok, Err}
 use Rattle.std.specs.Fn.{Shared, FnReturnsAt}
 use denote.Ref.{Bor}
+use Rattle.buffer_glyphs.specs.declared.cause.ShapeCause.{ShapeCause}
+use Rattle.buffer_glyphs.specs.declared.cause.ShapeCause.TheVariants.{OutOfMemory}
 use Rattle.buffer_glyphs.specs.declared.info.hb_glyph_info_t.{hb_glyph_info_t}
 use Rattle.buffer_glyphs.specs.Items.{Item, Position, item_of, strip}
 use Rattle.buffer_glyphs.specs.Origins.{origin_of, origins}
@@ -15,6 +17,12 @@ pub record IsFollowed (stage : Stage) (old new : Sides) : Type 0 where
   pub follows : Follows (reading_of stage (state_of old)) (state_of old) (state_of new)
   pub settings : settings_of new ≡ settings_of old
   pub ready : IsReady new
+
+-- what a call that does a pipeline stage leaves: where it answers Ok, the buffer follows the stage's reading; where it
+-- answers Err, the cause is the reading's own or want of memory
+abbrev pub DoesStage : {X : Type 0} → Stage → Result X ShapeCause → Sides → Sides → Type 0
+DoesStage stage (Ok x) old new = IsFollowed stage old new
+DoesStage stage (Err e) old new = e ≢ OutOfMemory → reading_of stage (state_of old) ≡ Err e
 
 -- the clusters and flags follow some events, and all else stays
 pub record Happens (events : List Event) (old new : Sides) : Type 0 where
