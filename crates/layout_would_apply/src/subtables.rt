@@ -2,7 +2,7 @@
 ghost use Rattle.std.specs.Prelude.{◌≡◌, ℕ, Bool, List, nat_eq};
 ghost use Rattle.std.specs.List.{list_any};
 ghost use Rattle.std.specs.Cmp.Lexicographic.{pointwise};
-ghost use Rattle.layout_gsub.specs.Woulds.{ligature_would, sequence_would, single_would};
+ghost use Rattle.layout_would_apply.specs.Subtables.{ligature_would, sequence_would, single_would};
 
 use layout_subtables::reverse::ReverseChainSubst;
 use layout_subtables::sequence::{AlternateSubst, MultipleSubst};
