@@ -19,7 +19,7 @@ abbrev pub SourceSlicesJoin : Type 0
 SourceSlicesJoin = (falls : Bool) (text ns : List ℕ) (ss : List SourceSlice) → IsUtf8 text → FitsText (character_starts text) ns → IsInOrder falls ns → AreSourceSlices ns (length text) ss
     → AreJoined 0 (length text) (along_glyphs falls (map byte_range ss))
 
--- so their bytes, concatenated, are the text
+-- the bytes of the slices of clusters that fit a text, concatenated in the order of the text, are the text
 abbrev pub SourceSlicesAreText : Type 0
 SourceSlicesAreText = (falls : Bool) (text ns : List ℕ) (ss : List SourceSlice) → IsUtf8 text → FitsText (character_starts text) ns → IsInOrder falls ns → AreSourceSlices ns (length text) ss
     → text_of_slices text (along_glyphs falls (map byte_range ss)) ≡ text
