@@ -73,7 +73,7 @@ pub fn override_features(
 /// # Errors
 ///
 /// `TooLong` where the text would have more characters than the buffer may hold, or lack of memory.
-#[tactic(auto, using(crate::proofs::Kept::unchanged_followed))]
+#[tactic(auto, using(script_plan::specs::Lemmas::Unchanged::unchanged_followed))]
 pub fn preprocess_text<D>(
     shaper: hb_ot_script_shaper_t,
     plan: &hb_script_plan_t<D>,
@@ -129,7 +129,7 @@ pub fn compose(
 }
 
 /// Reorders the run of marks `start..end`, which is sorted by combining class, in the shaper's own order.
-#[tactic(auto, using(crate::proofs::Kept::unchanged_run))]
+#[tactic(auto, using(script_plan::specs::Lemmas::Unchanged::unchanged_run))]
 pub fn reorder_marks(
     shaper: hb_ot_script_shaper_t,
     buffer: &mut hb_buffer_t,
@@ -150,7 +150,7 @@ pub fn reorder_marks(
 
 /// Sets the masks of features that apply to some characters only, and the characters' categories (`setup_masks`). It
 /// takes no memory.
-#[tactic(auto, using(crate::proofs::Kept::unchanged_followed))]
+#[tactic(auto, using(script_plan::specs::Lemmas::Unchanged::unchanged_followed))]
 pub fn setup_masks<D>(
     shaper: hb_ot_script_shaper_t,
     plan: &hb_script_plan_t<D>,
@@ -205,7 +205,7 @@ fn setup_syllables<D, P: SyllableSpans>(
 ///
 /// `TooLong` where circles would make the text too long, `UnknownSyllableKind` where the spans name a kind that the
 /// shaper does not have, or lack of memory.
-#[tactic(auto, using(crate::proofs::Kept::unchanged_done, crate::proofs::Kept::brings_none))]
+#[tactic(auto, using(script_plan::specs::Lemmas::Unchanged::unchanged_done, script_plan::specs::Lemmas::Unchanged::brings_none))]
 pub fn run_pause<D, P: SyllableSpans>(
     shaper: hb_ot_script_shaper_t,
     alloc: Global,
@@ -242,7 +242,7 @@ pub fn run_pause<D, P: SyllableSpans>(
 ///
 /// `StretchRange` where a word or its tiles have a width outside 32 bits, `TooLong` where the text would have more
 /// glyphs than the buffer may hold, or lack of memory.
-#[tactic(auto, using(crate::proofs::Kept::unchanged_done))]
+#[tactic(auto, using(script_plan::specs::Lemmas::Unchanged::unchanged_done))]
 pub fn postprocess_glyphs(
     shaper: hb_ot_script_shaper_t,
     alloc: Global,
