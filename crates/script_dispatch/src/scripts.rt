@@ -104,6 +104,7 @@ pub fn decompose(
     ensures { result ≡ splits_by shaper tables.now ab }
 {
     match shaper {
+        INDIC_SHAPER => script_indic::characters::decompose(tables, ab),
         KHMER_SHAPER => script_khmer::khmer::decompose(tables, ab),
         _ => buffer_unicode_tables::decompose(tables, ab),
     }
@@ -121,9 +122,8 @@ pub fn compose(
 {
     match shaper {
         HEBREW_SHAPER => script_hebrew::hebrew::compose(tables, has_gpos_mark, a, b),
-        INDIC_SHAPER | KHMER_SHAPER | UNIVERSAL_SHAPER => {
-            script_syllabic::characters::compose(tables, a, b)
-        }
+        INDIC_SHAPER => script_indic::characters::compose(tables, a, b),
+        KHMER_SHAPER | UNIVERSAL_SHAPER => script_syllabic::characters::compose(tables, a, b),
         _ => buffer_unicode_tables::compose(tables, a, b),
     }
 }
@@ -166,6 +166,7 @@ pub fn setup_masks<D>(
             script_arabic::masks::setup_masks(&plan.map, plan.script, tables, buffer)
         }
         HANGUL_SHAPER => script_hangul::map_masks::setup_masks(&plan.map, buffer),
+        INDIC_SHAPER => script_indic::categories::setup_masks(tables, buffer),
         KHMER_SHAPER | MYANMAR_SHAPER => {
             script_syllabic::categories::set_ot_categories(tables, buffer)
         }
@@ -198,14 +199,12 @@ fn setup_syllables<D, P: SyllableSpans>(
     }
 }
 
-/// Performs a pause, and returns true whenever a glyph number was inserted. The pauses of the Indic shaper do nothing:
-/// it is not ported whole.
+/// Performs a pause, and returns true whenever a glyph number was inserted.
 ///
 /// # Errors
 ///
 /// `TooLong` where circles would make the text too long, `UnknownSyllableKind` where the spans name a kind that the
 /// shaper does not have, or lack of memory.
-#[tactic(auto, using(script_plan::specs::Lemmas::Unchanged::unchanged_done, script_plan::specs::Lemmas::Unchanged::brings_none))]
 pub fn run_pause<D, P: SyllableSpans>(
     shaper: hb_ot_script_shaper_t,
     alloc: Global,
@@ -231,7 +230,16 @@ pub fn run_pause<D, P: SyllableSpans>(
         RecordStch => script_arabic::pauses::record_stch(&plan.map, buffer),
         ClearSyllables => script_syllabic::pauses::clear_syllables(buffer),
         ClearSubstitutionFlags => script_syllabic::pauses::clear_substitution_flags(buffer),
-        InitialReordering | FinalReordering => Ok(false),
+        InitialReordering => script_indic::reordering::initial_reordering(
+            alloc,
+            &plan.map,
+            plan.script,
+            face,
+            buffer,
+        ),
+        FinalReordering => {
+            script_indic::reordering::final_reordering(&plan.map, plan.script, buffer)
+        }
     }
 }
 
