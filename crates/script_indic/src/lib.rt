@@ -1,18 +1,9 @@
-// Indic: how the glyphs of a syllable are put in order, before its forms are made and after.
+//! The Indic shaper for the nine scripts of India (rustybuzz: hb/ot_shaper_indic.rs): its scripts' rows, the forms and
 #![tactic(auto)]
 
-mod base;
-pub mod consonants;
-mod features;
-pub mod final_order;
-mod formed;
-pub mod forms;
-mod glyphs;
-pub mod initial;
-pub mod laws;
-mod left;
-mod places;
-mod reph;
-pub mod script;
-mod sought;
-mod words;
+pub mod categories;
+pub mod characters;
+pub mod config;
+pub mod font_forms;
+pub mod masks;
+pub mod would_substitute;

@@ -3,7 +3,7 @@ ghost use Rattle.std.specs.Prelude.{◌≡◌, ◌∷◌};
 ghost use Rattle.std.specs.List.{list_any};
 ghost use Rattle.std.specs.Str.{bytes_eq};
 
-use script_indic::forms::IndicForms;
+use script_indic_reordering::forms::IndicForms;
 
 /// The glyphs that a font would form, by the form.
 #[derive(Drop)]
@@ -31,19 +31,23 @@ impl IndicForms for ListedForms {
       post = λ ns. list_any (λ r. bytes_eq r.items ns) f.post.items;
     } };
 
-    fn forms_reph(&self, glyphs: &[u32]) -> bool {
-        lists(&self.reph, glyphs)
+    fn forms_reph(&self, ra: u32, halant: u32) -> bool {
+        lists(&self.reph, &[ra, halant])
     }
 
-    fn forms_pref(&self, glyphs: &[u32]) -> bool {
-        lists(&self.pref, glyphs)
+    fn forms_reph_with_joiner(&self, ra: u32, halant: u32, joiner: u32) -> bool {
+        lists(&self.reph, &[ra, halant, joiner])
     }
 
-    fn forms_below(&self, glyphs: &[u32]) -> bool {
-        lists(&self.below, glyphs)
+    fn forms_pref(&self, halant: u32, consonant: u32) -> bool {
+        lists(&self.pref, &[halant, consonant])
     }
 
-    fn forms_post(&self, glyphs: &[u32]) -> bool {
-        lists(&self.post, glyphs)
+    fn forms_below(&self, first: u32, second: u32) -> bool {
+        lists(&self.below, &[first, second])
+    }
+
+    fn forms_post(&self, first: u32, second: u32) -> bool {
+        lists(&self.post, &[first, second])
     }
 }

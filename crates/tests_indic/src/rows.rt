@@ -7,10 +7,10 @@ use crate::text::{buffer, has, lists, numbers};
 use buffer_core::buffer::hb_buffer_t;
 use buffer_glyphs::cause::ShapeCause;
 use script_categories::ot_position_t::Position;
-use script_indic::consonants::place_consonants;
-use script_indic::final_order::reorder_final;
-use script_indic::initial::reorder_initial;
-use script_indic::script::{IndicMasks, RephMode};
+use script_indic_reordering::consonants::update_consonant_positions;
+use script_indic_reordering::final_order::reorder_final;
+use script_indic_reordering::initial::reorder_initial;
+use script_indic_reordering::script::{IndicMasks, RephMode};
 use std::alloc::Global;
 use std::test::Fail;
 
@@ -79,32 +79,32 @@ fn order_initial(
     ensures { OnOk result (IsReady buffer.new) }
 {
     if let Some(virama) = virama {
-        place_consonants(forms, virama, buffer);
+        update_consonant_positions(forms, virama, buffer);
     }
     reorder_initial(alloc, forms, mode, masks, buffer)?;
     Ok(())
 }
 
 fn check_final(alloc: Global, line: &str) -> Result<bool, Fail> {
-    let place = field(line, 0).parse::<u8>()?;
+    let reph_pos = field(line, 0).parse::<u8>()?;
     let level = field(line, 1);
     let masks = masks(alloc, field(line, 2))?;
     let given = lists(alloc, field(line, 3))?;
     let wanted = lists(alloc, field(line, 4))?;
     let mut buffer = buffer(alloc, level, &given)?;
-    order_final(place, &masks, &mut buffer)?;
+    order_final(reph_pos, &masks, &mut buffer)?;
     Ok(has(&buffer, &wanted))
 }
 
 fn order_final(
-    place: Position,
+    reph_pos: Position,
     masks: &IndicMasks,
     buffer: &mut hb_buffer_t,
 ) -> Result<(), ShapeCause>
     requires { IsReady buffer.old }
     ensures { OnOk result (IsReady buffer.new) }
 {
-    reorder_final(place, masks, buffer)?;
+    reorder_final(reph_pos, masks, buffer)?;
     Ok(())
 }
 

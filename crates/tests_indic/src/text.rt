@@ -89,7 +89,7 @@ fn read(info: hb_glyph_info_t, glyph: &[u32]) -> hb_glyph_info_t {
             glyph_properties,
             syllable,
             category,
-            place,
+            pos,
         ] => {
             hb_glyph_info_t {
                 glyph_id: *number,
@@ -99,7 +99,7 @@ fn read(info: hb_glyph_info_t, glyph: &[u32]) -> hb_glyph_info_t {
                 glyph_props: GlyphPropsFlags(word(*glyph_properties)),
                 syllable: byte(*syllable),
                 category: byte(*category),
-                auxiliary: byte(*place),
+                auxiliary: byte(*pos),
                 ..info
             }
         }

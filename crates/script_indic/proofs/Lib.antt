@@ -1,0 +1,2 @@
+mod Flagless
+pub mod Splits
