@@ -15,9 +15,9 @@ indic_split t u = if list_any (λ v. u == v) whole_letters then None else split_
 
 -- the composition of two characters, the first of which is no mark: U+09AF YA and U+09BC NUKTA of Bengali give U+09DF
 -- YYA, which Unicode excludes from composition
-abbrev pub unmarked_pair : Tables → ℕ → ℕ → Option ℕ
-unmarked_pair t a b = if a == 0x09AF && b == 0x09BC then Some 0x09DF else pair_of t a b
+abbrev pub letter_pair : Tables → ℕ → ℕ → Option ℕ
+letter_pair t a b = if a == 0x09AF && b == 0x09BC then Some 0x09DF else pair_of t a b
 
 -- the composition of two characters for the Indic shaper: marks compose with nothing
 abbrev pub indic_pair : Tables → ℕ → ℕ → Option ℕ
-indic_pair t a b = if is_mark_character a then None else unmarked_pair t a b
+indic_pair t a b = if is_mark_character a then None else letter_pair t a b

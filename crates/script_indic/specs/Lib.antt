@@ -3,4 +3,5 @@ pub mod Characters
 pub mod Config
 pub mod FontForms
 pub mod Masks
+pub mod Reordering
 pub mod WouldSubstitute

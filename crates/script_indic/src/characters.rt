@@ -1,6 +1,6 @@
 //! How the Indic shaper decomposes and composes characters (rustybuzz: hb/ot_shaper_indic.rs).
 ghost use Rattle.std.specs.Prelude.{◌≡◌};
-ghost use Rattle.script_indic.specs.Characters.{indic_pair, indic_split, unmarked_pair};
+ghost use Rattle.script_indic.specs.Characters.{indic_pair, indic_split, letter_pair};
 
 use buffer_unicode::{CharExt, GeneralCategoryExt};
 use buffer_unicode_tables::UnicodeTables;
@@ -24,11 +24,11 @@ pub fn compose(tables: &UnicodeTables, a: char, b: char) -> Option<char>
     if a.general_category().is_mark() {
         return None;
     }
-    compose_unmarked(tables, a, b)
+    compose_letters(tables, a, b)
 }
 
-fn compose_unmarked(tables: &UnicodeTables, a: char, b: char) -> Option<char>
-    ensures { result ≡ unmarked_pair tables.now a b }
+fn compose_letters(tables: &UnicodeTables, a: char, b: char) -> Option<char>
+    ensures { result ≡ letter_pair tables.now a b }
 {
     if a == '\u{09AF}' && b == '\u{09BC}' {
         return Some('\u{09DF}');
