@@ -2,7 +2,7 @@
 ghost use Rattle.std.specs.Prelude.{◌≡◌, false, IfOk, OnOk};
 ghost use Rattle.buffer_stages.specs.Ready.{IsReady};
 
-use crate::forms::ListedForms;
+use crate::forms::NoForms;
 use crate::text::settle;
 use buffer_core::buffer::hb_buffer_t;
 use buffer_glyphs::cause::ShapeCause;
@@ -104,13 +104,7 @@ fn order_initial(alloc: Global, buffer: &mut hb_buffer_t) -> Result<(), ShapeCau
     requires { IsReady buffer.old }
     ensures { OnOk result (IsReady buffer.new) }
 {
-    let forms = ListedForms {
-        reph: Vec::new(alloc),
-        pref: Vec::new(alloc),
-        below: Vec::new(alloc),
-        post: Vec::new(alloc),
-    };
-    reorder_initial(alloc, &forms, RephMode::Implicit, &MASKS, buffer)?;
+    reorder_initial(alloc, &NoForms, RephMode::Implicit, &MASKS, buffer)?;
     Ok(())
 }
 

@@ -1,5 +1,5 @@
 //! Rows of the two pauses with a font: which forms its lookups would make, and the masks of its map.
-ghost use Rattle.std.specs.Prelude.{OnOk, true, ◌≡◌, nat_le, IfOk, IfSome};
+ghost use Rattle.std.specs.Prelude.{OnOk, true, ◌≡◌, nat_le};
 ghost use Rattle.std.specs.List.{list_all};
 ghost use Rattle.buffer_core.specs.Sides.{items_of};
 ghost use Rattle.buffer_stages.specs.Buffers.{are_glyphs};
@@ -7,7 +7,7 @@ ghost use Rattle.buffer_stages.specs.Ready.{IsReady};
 
 use crate::font_rows::{FINAL, INITIAL};
 use crate::text::{buffer, has, lists, numbers};
-use buffer_common::script::Script;
+use buffer_common::script::{KANNADA, Script, TELUGU};
 use buffer_common::script_tags::script_tags;
 use buffer_common::tag::Tag;
 use buffer_core::buffer::hb_buffer_t;
@@ -76,7 +76,7 @@ fn field(line: &str, index: usize) -> &str {
 
 /// Whether each number is at most 65,535.
 #[tactic(auto, using(crate::proofs::Numbers::items_fit))]
-fn are_glyphs(buffer: &hb_buffer_t) -> bool
+pub(crate) fn are_glyphs(buffer: &hb_buffer_t) -> bool
     requires { IsReady buffer.now }
     ensures { result ≡ are_glyphs (items_of buffer.now) }
 {
@@ -122,6 +122,11 @@ fn face_of(alloc: Global, line: &str) -> Result<Face, Fail> {
     Ok(read_face(alloc, &value)?)
 }
 
+/// Whether blwf forms consonants before the base in a script too.
+fn forms_before_base(script: Script) -> bool {
+    script != TELUGU && script != KANNADA
+}
+
 /// Whether the masks are those of rphf, pref, blwf, abvf, half, pstf and init in a row.
 fn has_masks(alloc: Global, map: &hb_ot_map_t, script: Script, line: &str) -> Result<bool, Fail> {
     let wanted = numbers(alloc, field(line, 3))?;
@@ -134,6 +139,12 @@ fn has_masks(alloc: Global, map: &hb_ot_map_t, script: Script, line: &str) -> Re
             && masks.pref == *pref
             && masks.half == *half
             && masks.init == *init
+            && masks.before_base
+                == if forms_before_base(script) {
+                    *half | *blwf
+                } else {
+                    *half
+                }
             && masks.after_base == (*blwf | *abvf | *pstf),
     )
 }

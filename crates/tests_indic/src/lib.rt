@@ -13,7 +13,7 @@ mod normalized_rows;
 #[cfg(test)]
 mod normalizing;
 #[cfg(test)]
-mod rows;
+mod shaped;
 #[cfg(test)]
 mod text;
 #[cfg(test)]
