@@ -1,7 +1,6 @@
 -- A stage that inserts no glyph number, before one that may.
 use Rattle.std.proofs.Common.{◌≡◌, Bool, true, List, Ok, Err, sym, ap, subst, ◌∙◌}
 use Rattle.std.specs.Prelude.{◌≢◌, Result}
-use Rattle.std.specs.Result.{IsErrAnd}
 use Rattle.buffer_glyphs.specs.declared.cause.ShapeCause.{ShapeCause}
 use Rattle.buffer_glyphs.specs.declared.cause.ShapeCause.TheVariants.{OutOfMemory}
 use Rattle.buffer_glyphs.specs.Items.{Item}
@@ -12,8 +11,8 @@ use Rattle.buffer_stages.specs.Buffers.{are_glyphs}
 use Rattle.buffer_stages.specs.Pauses.{BringsNoGlyph}
 use Rattle.buffer_stages.specs.Ready.{DoesGlyphStage}
 use Rattle.buffer_stages.specs.Settings.{text_settings, text_settings_of}
-use Rattle.script_pauses.specs.Quiet.{IsQuiet}
-use Rattle.script_pauses.specs.Lemmas.Numbers.{permuted_brings_none, permuted_glyphs}
+use Rattle.script_syllabic.specs.Quiet.{IsQuiet}
+use Rattle.script_syllabic.proofs.PermutedNumbers.{permuted_brings_none, permuted_glyphs}
 
 pub done_then : (s t : Stage) (a b c : Sides) (r : Result Bool ShapeCause) → IsQuiet s a b → DoesGlyphStage t r b c → DoesGlyphStage (λ v. and_then (s v) t) r a c
 done_then s t a b c (Ok x) q d = record {
@@ -32,9 +31,3 @@ same_flags s a b q = ap (λ (k : Settings). (text_settings_of k).flags) q.follow
 
 pub numbers_stay : (s : Stage) (a b : Sides) → IsQuiet s a b → are_glyphs (items_of a) ≡ true → are_glyphs (items_of b) ≡ true
 numbers_stay s a b q e = permuted_glyphs (items_of a) (items_of b) q.numbers e
-
--- ---- answers that are passed on
-
-pub passed_glyph_stage : {X : Type 0} (stage : Stage) (r : Result X ShapeCause) (e : ShapeCause) (old new : Sides) → IsErrAnd r (λ (f : ShapeCause). f ≡ e) → (e ≢ OutOfMemory → reading_of stage (state_of old) ≡ Err e) → DoesGlyphStage stage r old new
-passed_glyph_stage stage (Ok x) e old new is h = absurd is
-passed_glyph_stage stage (Err f) e old new is h = let P : ShapeCause → Type 0 = λ k. k ≢ OutOfMemory → reading_of stage (state_of old) ≡ Err k in subst P (sym is) h

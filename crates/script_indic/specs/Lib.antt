@@ -4,4 +4,5 @@ pub mod Config
 pub mod FontForms
 pub mod Masks
 pub mod Reordering
+pub mod Requests
 pub mod WouldSubstitute

@@ -1,18 +1,12 @@
 -- The masks that the Indic shaper reads of a compiled map (HarfBuzz: indic_shape_plan_t::mask_array).
 use Rattle.std.specs.Prelude.{ℕ, ◌≡◌, List, codes}
 use Rattle.std.specs.Int.RustNames.{bit_and, bit_or}
-use Rattle.std.specs.Option.{option_map_or}
-use Rattle.buffer_common.specs.Tag.{tag_of}
 use Rattle.buffer_glyphs.specs.declared.info.TheConstants.{DEFINED}
-use Rattle.layout_map.specs.Compiled.{OtMapValue, feature_at}
-use Rattle.layout_map.specs.declared.chosen_feature.feature_map_t.{feature_map_t}
+use Rattle.layout_map.specs.Compiled.{OtMapValue}
+use Rattle.layout_map.specs.Masks.{mask_at_one}
 use Rattle.script_indic_reordering.specs.declared.script.IndicMasks.{IndicMasks}
 use Rattle.script_indic.specs.declared.config.BlwfMode.{BlwfMode}
 use Rattle.script_indic.specs.declared.config.BlwfMode.TheVariants.{PostOnly, PreAndPost}
-
--- the mask of a feature with value 1, 0 where the map lacks it
-abbrev pub mask_at_one : List ℕ → OtMapValue → ℕ
-mask_at_one name m = option_map_or (λ (f : feature_map_t). f.one_mask) (feature_at (tag_of name) m) 0
 
 -- the mask of items before the base: half, and blwf where it forms consonants before the base too
 abbrev pub before_base_mask : ℕ → ℕ → BlwfMode → ℕ

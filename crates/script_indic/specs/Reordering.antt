@@ -17,7 +17,7 @@ use Rattle.buffer_stages.specs.SyllableBuffers.{with_rule}
 use Rattle.script_syllabic.specs.declared.circles.CircleRule.{CircleRule}
 use Rattle.script_syllabic.specs.Circles.{circles_by}
 use Rattle.script_syllabic.specs.Rules.{circle_rule}
-use Rattle.script_pauses.specs.Syllables.{then_syllables}
+use Rattle.script_syllabic.specs.Syllables.{then_syllables}
 use Rattle.script_indic_reordering.specs.declared.script.IndicMasks.{IndicMasks}
 use Rattle.script_indic_reordering.specs.declared.script.RephMode.{RephMode}
 use Rattle.script_indic_reordering.specs.Base.{Forms}

@@ -1,8 +1,7 @@
 //! How the Indic shaper decomposes and composes characters (rustybuzz: hb/ot_shaper_indic.rs).
 ghost use Rattle.std.specs.Prelude.{◌≡◌};
-ghost use Rattle.script_indic.specs.Characters.{indic_pair, indic_split, letter_pair};
+ghost use Rattle.script_indic.specs.Characters.{indic_pair, indic_split};
 
-use buffer_unicode::{CharExt, GeneralCategoryExt};
 use buffer_unicode_tables::UnicodeTables;
 
 /// The decomposition of a character (`decompose`): four letters that fonts have as one glyph do not decompose, all others
@@ -21,17 +20,8 @@ pub fn decompose(tables: &UnicodeTables, ab: char) -> Option<(char, char)>
 pub fn compose(tables: &UnicodeTables, a: char, b: char) -> Option<char>
     ensures { result ≡ indic_pair tables.now a b }
 {
-    if a.general_category().is_mark() {
-        return None;
-    }
-    compose_letters(tables, a, b)
-}
-
-fn compose_letters(tables: &UnicodeTables, a: char, b: char) -> Option<char>
-    ensures { result ≡ letter_pair tables.now a b }
-{
     if a == '\u{09AF}' && b == '\u{09BC}' {
         return Some('\u{09DF}');
     }
-    buffer_unicode_tables::compose(tables, a, b)
+    script_syllabic::characters::compose(tables, a, b)
 }

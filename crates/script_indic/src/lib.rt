@@ -8,4 +8,5 @@ pub mod config;
 pub mod font_forms;
 pub mod masks;
 pub mod reordering;
+pub mod requests;
 pub mod would_substitute;

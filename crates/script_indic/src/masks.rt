@@ -2,7 +2,8 @@
 ghost use Rattle.std.specs.Prelude.{◌≡◌, codes, List, ℕ};
 ghost use Rattle.buffer_glyphs.specs.declared.info.TheConstants.{DEFINED};
 ghost use Rattle.std.specs.Int.RustNames.{bit_and, bit_or};
-ghost use Rattle.script_indic.specs.Masks.{before_base_mask, indic_masks, mask_at_one, AreFlagless};
+ghost use Rattle.layout_map.specs.Masks.{mask_at_one};
+ghost use Rattle.script_indic.specs.Masks.{before_base_mask, indic_masks, AreFlagless};
 
 use crate::config::BlwfMode;
 use buffer_common::tag::Tag;

@@ -6,7 +6,7 @@ ghost use Rattle.buffer_stages.specs.Pauses.{BringsNoGlyph};
 ghost use Rattle.buffer_stages.specs.Ready.{DoesGlyphStage, IsReady};
 ghost use Rattle.buffer_stages.specs.Settings.{text_settings};
 ghost use Rattle.script_indic_reordering.specs.Orders.{initial_syllable};
-ghost use Rattle.script_pauses.specs.Quiet.{IsQuiet};
+ghost use Rattle.script_syllabic.specs.Quiet.{IsQuiet};
 ghost use Rattle.script_indic.specs.Reordering.{circles_order, consonants_updated, final_stage, indic_final, indic_initial, initial_stage, virama_glyph};
 
 use crate::config::indic_config;

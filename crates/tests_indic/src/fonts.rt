@@ -9,7 +9,6 @@ use crate::font_rows::{FINAL, INITIAL};
 use crate::text::{buffer, has, lists, numbers};
 use buffer_common::script::{KANNADA, Script, TELUGU};
 use buffer_common::script_tags::script_tags;
-use buffer_common::tag::Tag;
 use buffer_core::buffer::hb_buffer_t;
 use buffer_glyphs::cause::ShapeCause;
 use buffer_glyphs::info::hb_glyph_info_t;
@@ -19,53 +18,19 @@ use layout_map::map::hb_ot_map_t;
 use script_indic::config::indic_config;
 use script_indic::masks::indic_masks;
 use script_indic::reordering::{final_reordering, initial_reordering};
+use script_indic::requests::collect_features;
 use serde_json::Value;
 use shell_face_json::read_face;
 use std::alloc::Global;
 use std::str::FromStr;
 use std::test::Fail;
 
-/// The shaper's features in the order of their stages, and whether each is for every glyph.
-const FEATURES: [(&[u8; 4], bool); 18] = [
-    (b"locl", true),
-    (b"ccmp", true),
-    (b"nukt", true),
-    (b"akhn", true),
-    (b"rphf", false),
-    (b"rkrf", true),
-    (b"pref", false),
-    (b"blwf", false),
-    (b"abvf", false),
-    (b"half", false),
-    (b"pstf", false),
-    (b"vatu", true),
-    (b"cjct", true),
-    (b"init", false),
-    (b"pres", true),
-    (b"abvs", true),
-    (b"blws", true),
-    (b"psts", true),
-];
-
-/// A map with a stage for each of the features.
+/// The map of the shaper's features.
 pub(crate) fn map_of(alloc: Global, face: &Face, script: Script) -> Result<hb_ot_map_t, Fail> {
     let scripts = script_tags(Some(script));
-    let mut builder = hb_ot_map_builder_t::new(
-        alloc,
-        face.gsub(),
-        face.gpos(),
-        scripts.as_slice(),
-        &[],
-    );
-    for (name, is_global) in FEATURES {
-        let tag = Tag::from_bytes(name);
-        if is_global {
-            builder.enable_feature(tag, 0, 1)?;
-        } else {
-            builder.add_feature(tag, 0, 1)?;
-        }
-        builder.add_gsub_pause(0)?;
-    }
+    let mut builder =
+        hb_ot_map_builder_t::new(alloc, face.gsub(), face.gpos(), scripts.as_slice(), &[]);
+    collect_features(&mut builder)?;
     Ok(builder.compile(alloc)?)
 }
 

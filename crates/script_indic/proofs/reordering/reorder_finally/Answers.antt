@@ -1,5 +1,5 @@
 use Rattle.buffer_core.specs.Sides.{items_of}
-use Rattle.script_pauses.specs.Lemmas.Quiet.{quiet_brings_none, quiet_done, rule_quiet}
+use Rattle.script_syllabic.proofs.Quiet.{quiet_brings_none, quiet_done, rule_quiet}
 use Rattle.script_indic_reordering.specs.Orders.{final_order}
 use Rattle.script_indic.specs.Reordering.{final_stage}
 use Rattle.script_indic.proofs.Keeping.{final_order_permutes}

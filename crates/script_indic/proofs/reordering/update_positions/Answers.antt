@@ -1,6 +1,6 @@
 use Rattle.std.proofs.Common.{subst, sym}
-use Rattle.script_pauses.specs.Lemmas.Quiet.{mapped_quiet}
-use Rattle.script_pauses.specs.Quiet.{IsQuiet}
+use Rattle.script_syllabic.proofs.Quiet.{mapped_quiet}
+use Rattle.script_syllabic.specs.Quiet.{IsQuiet}
 use Rattle.script_indic_reordering.specs.Orders.{consonant_with_position}
 use Rattle.script_indic.specs.Reordering.{consonants_updated}
 use Rattle.script_indic.proofs.Keeping.{number_stays}
