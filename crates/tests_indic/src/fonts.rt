@@ -28,8 +28,13 @@ use std::test::Fail;
 /// The map of the shaper's features.
 pub(crate) fn map_of(alloc: Global, face: &Face, script: Script) -> Result<hb_ot_map_t, Fail> {
     let scripts = script_tags(Some(script));
-    let mut builder =
-        hb_ot_map_builder_t::new(alloc, face.gsub(), face.gpos(), scripts.as_slice(), &[]);
+    let mut builder = hb_ot_map_builder_t::new(
+        alloc,
+        face.gsub(),
+        face.gpos(),
+        scripts.as_slice(),
+        &[],
+    );
     collect_features(&mut builder)?;
     Ok(builder.compile(alloc)?)
 }
