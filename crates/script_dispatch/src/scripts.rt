@@ -190,9 +190,7 @@ fn setup_syllables<D, P: SyllableSpans>(
 {
     match shaper {
         UNIVERSAL_SHAPER => {
-            script_universal::pauses::setup_syllables(
-                alloc, spans, &plan.map, plan.script, buffer,
-            )
+            script_universal::pauses::setup_syllables(alloc, spans, &plan.map, plan.script, buffer)
         }
         _ => script_syllabic::pauses::setup_syllables(alloc, spans, shaper, buffer),
     }
