@@ -1,7 +1,6 @@
 -- The hooks of the scripts' shapers, as stages on a text.
-use Rattle.std.specs.Prelude.{ℕ, not, Bool, List, Option, Some, None, codes}
+use Rattle.std.specs.Prelude.{ℕ, Bool, List, Option, Some, None, codes}
 use Rattle.buffer_common.specs.declared.script.Script.{Script}
-use Rattle.buffer_common.specs.declared.script.TheConstants as script
 use Rattle.buffer_unicode_tables.specs.Expansion.{Splits}
 use Rattle.buffer_unicode_tables.specs.Tables.{Tables, pair_of, split_of}
 use Rattle.layout_face.specs.declared.parts.FaceParts.{FaceParts}
