@@ -7,9 +7,9 @@ ghost use Rattle.buffer_stages.specs.Performing.{cut_with};
 ghost use Rattle.layout_contexts.specs.Fitting.{IsInside, Matched, Says, chain_of};
 
 use crate::counts::backtrack_len;
-use crate::marks::{mark_attempt, mark_match};
 use crate::match_indices::move_places;
 use buffer_core::buffer::hb_buffer_t;
+use layout_match::marking::{mark_attempt, mark_match};
 use layout_match::{
     MAX_CONTEXT_LENGTH, MatchPositions, MatchSequence, hb_ot_apply_context_t, match_backtrack,
     match_input, match_lookahead,

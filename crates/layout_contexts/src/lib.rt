@@ -4,7 +4,6 @@
 
 pub mod chain;
 pub mod counts;
-pub mod marks;
 pub mod match_indices;
 pub mod records;
 pub mod rules;

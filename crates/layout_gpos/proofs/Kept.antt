@@ -8,15 +8,11 @@ use Rattle.buffer_glyphs.specs.Parts.{first_of}
 use Rattle.buffer_core.specs.Sides.{Sides, items_of}
 use Rattle.layout_match.specs.Applied.{ApplyContext, own_search}
 use Rattle.layout_match.specs.Searches.{Search}
-use Rattle.buffer_stages.specs.Actions.{Action}
 use Rattle.buffer_stages.specs.Buffers.{cut_of}
-use Rattle.buffer_stages.specs.Performing.{IsPerformed, cut_with}
 use Rattle.layout_gpos.specs.declared.bases.LastSearch.{LastSearch}
 use Rattle.layout_gpos.specs.declared.bases.Sought.{Sought}
 use Rattle.layout_gpos.specs.Bases.{IsKept, any_sought, search_result_from, takes}
 use Rattle.layout_gpos.specs.Marks.{nearest_taken, taken_before, without_marks}
-use Rattle.layout_gpos.specs.Moving.{KeepsItems}
-use Rattle.layout_gpos.proofs.Lemmas.Left.{performed_left}
 
 pub kept_first : (test : Item → Option Item → Bool) (xs : List Item) → IsKept test xs (record { before = 0; found = Err 0 })
 kept_first test xs = record { within = omega arith; inside = tt; read = omega arith; is = refl }
@@ -84,10 +80,3 @@ kept_now k a n found s free count is inside read =
       read = subst Q (sym count) read;
       is = is ∙ ap (λ q. nearest_taken q 0 (reverse xs)) (same_tests k a (strip s.ahead) free) ∙ ap (λ ys. nearest_taken (any_sought k a) 0 (reverse ys)) (sym whole);
     }
-
--- ---- no item changes where a mark is hung
-
--- what was kept is kept on
-pub kept_on : (test : Item → Option Item → Bool) (act : Action) (acted : Bool) (l : LastSearch) (s new : Sides) → IsKept test (items_of s) l → KeepsItems act → ((r : ℕ) → IsPerformed (act (cut_with r s)) acted r r s new) → IsKept test (items_of new) l
-kept_on test act acted l s new kept leaves done =
-    subst (λ (xs : List Item). IsKept test xs l) (sym (performed_left (act (cut_with 1 s)) acted 1 1 s new (leaves (cut_with 1 s)) (done 1))) kept

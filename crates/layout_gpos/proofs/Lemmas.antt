@@ -5,3 +5,5 @@ pub mod Placed
 pub mod Performed
 pub mod Left
 pub mod Taken
+pub mod Passed
+pub mod Kept

@@ -7,7 +7,6 @@ pub mod bases;
 pub mod mark;
 pub mod mark_lig;
 pub mod mark_mark;
-pub mod marking;
 pub mod pair;
 pub mod placing;
 pub mod search;

@@ -13,13 +13,13 @@ ghost use Rattle.layout_gpos.specs.Marks.{attach, attach_if, is_there, mark_to_b
 
 use crate::anchor::hang_mark;
 use crate::apply::Apply;
-use crate::bases::{LastSearch, Sought, found_before};
-use crate::marking::{mark_attempt, mark_match};
+use crate::bases::{LastSearches, Sought, found_before};
 use crate::placing::pass;
 use crate::search::glyph_before;
 use buffer_common::constants::HB_BUFFER_SCRATCH_FLAG_HAS_GPOS_ATTACHMENT;
 use buffer_core::buffer::hb_buffer_t;
 use layout_match::hb_ot_apply_context_t;
+use layout_match::marking::{mark_attempt, mark_match};
 use layout_offsets::links::is_near;
 use layout_subtables::mark::{MarkBasePos, MarkRecord};
 use layout_subtables::value::Anchor;
@@ -137,62 +137,30 @@ pub fn attach_to_base(
 
 /// Mark to base attachment (OpenType, GPOS lookup type 4): where the subtable covers the mark at the cursor, it is
 /// attached to the nearest glyph before it that is neither of GDEF class MARK nor a later component of a multiple
-/// substitution, anchor on anchor. It answers whether it acted; where it didn't, it changed glyph flags only. The
-/// search for the base continues the last one of the same lookup on these glyphs.
-#[tactic(auto, using(buffer_stages::proofs::Lemmas::Glyphs::number_ahead, crate::proofs::Attached::no_base_mark, crate::proofs::Attached::base_mark))]
-pub fn apply_mark_base_pos(
-    subtable: &MarkBasePos,
-    ctx: &hb_ot_apply_context_t,
-    last: &mut LastSearch,
-    buffer: &mut hb_buffer_t,
-) -> bool
-    requires closed { buffer.old.is_open ≡ false }
-    requires there { 0 < length buffer.old.ahead }
-    requires placed { length buffer.old.positions ≡ length (all_glyphs buffer.old) }
-    requires number { are_glyphs (items_of buffer.old) ≡ true }
-    requires kept { IsKept (any_sought Base (apply_context_of ctx.now)) (items_of buffer.old) last.old }
-    ensures performed { (random : ℕ) → IsPerformed (mark_to_base (apply_context_of ctx.now) subtable.now (cut_with random
-        buffer.old)) result random random buffer.old buffer.new }
-    ensures kept { IsKept (any_sought Base (apply_context_of ctx.now)) (items_of buffer.new) last.new }
-{
-    let Some(mark) = subtable.mark(buffer.cur(0).as_glyph().0) else {
-        return false;
-    };
-    let found = found_before(Sought::Base, ctx, last, buffer);
-    attach_found(subtable, mark, found, buffer)
-}
+/// substitution, anchor on anchor.
+pub struct MarkToBase;
 
-/// Mark to base attachment, given the result of the search for the base.
-#[tactic(auto, using(crate::proofs::Lemmas::Performed::attempt_performed))]
-fn attach_found(
-    subtable: &MarkBasePos,
-    mark: MarkRecord,
-    found: Result<usize, usize>,
-    buffer: &mut hb_buffer_t,
-) -> bool
-    requires closed { buffer.old.is_open ≡ false }
-    requires there { 0 < length buffer.old.ahead }
-    requires inside { IfOk found (λ at. at < length buffer.old.behind) }
-    requires read { IfErr found (λ end. end ≤ length buffer.old.behind) }
-    requires placed { length buffer.old.positions ≡ length (all_glyphs buffer.old) }
-    requires number { are_glyphs (items_of buffer.old) ≡ true }
-    ensures { (random : ℕ) → IsPerformed (with_found (on_base subtable.now.bases mark) found (cut_with random
-        buffer.old)) result random random buffer.old buffer.new }
-{
-    match found {
-        Ok(back) => attach_to_base(subtable, mark, back, buffer),
-        Err(end) => {
-            mark_attempt(end, 1, buffer);
-            false
-        }
-    }
-}
+impl Apply for MarkToBase {
+    type Subtable = MarkBasePos;
 
-/// The subtable in a lookup of mark to base attachment.
-impl Apply for MarkBasePos {
     ghost action = { λ s d a. mark_to_base a s };
 
-    fn apply(&self, ctx: &hb_ot_apply_context_t, buffer: &mut hb_buffer_t) -> bool {
-        apply_mark_base_pos(self, ctx, &mut LastSearch::new(), buffer)
+    #[tactic(auto, using(buffer_stages::proofs::Lemmas::Glyphs::number_ahead, crate::proofs::Attached::no_base_mark))]
+    fn apply(
+        subtable: &MarkBasePos,
+        ctx: &hb_ot_apply_context_t,
+        last: &mut LastSearches,
+        buffer: &mut hb_buffer_t,
+    ) -> bool {
+        let Some(mark) = subtable.mark(buffer.cur(0).as_glyph().0) else {
+            return false;
+        };
+        match found_before(Sought::Base, ctx, &mut last.base, buffer) {
+            Ok(back) => attach_to_base(subtable, mark, back, buffer),
+            Err(end) => {
+                mark_attempt(end, 1, buffer);
+                false
+            }
+        }
     }
 }

@@ -11,14 +11,14 @@ ghost use Rattle.layout_gpos.specs.declared.bases.Sought.TheVariants.{Ligature};
 ghost use Rattle.layout_gpos.specs.Marks.{component_in, component_of, mark_to_ligature, on_ligature, with_found};
 
 use crate::apply::Apply;
-use crate::bases::{LastSearch, Sought, found_before};
+use crate::bases::{LastSearches, Sought, found_before};
 use crate::mark::attach_if;
-use crate::marking::mark_attempt;
 use crate::search::glyph_before;
 use buffer_core::buffer::hb_buffer_t;
 use buffer_glyphs::info::hb_glyph_info_t;
 use buffer_glyphs::ligature_words::{_hb_glyph_info_get_lig_comp, _hb_glyph_info_get_lig_id};
 use layout_match::hb_ot_apply_context_t;
+use layout_match::marking::mark_attempt;
 use layout_subtables::mark::{MarkLigPos, MarkRecord};
 
 /// The index of the mark's component among so many of the ligature, where it belongs to that ligature; else of the last
@@ -80,65 +80,33 @@ fn attach_to_ligature(
     attach_if(anchor, mark.anchor, back, buffer)
 }
 
-/// Mark to ligature attachment, given the result of the search for the ligature.
-#[tactic(auto, using(crate::proofs::Lemmas::Performed::attempt_performed))]
-fn attach_ligature_found(
-    subtable: &MarkLigPos,
-    mark: MarkRecord,
-    info: &hb_glyph_info_t,
-    found: Result<usize, usize>,
-    buffer: &mut hb_buffer_t,
-) -> bool
-    requires closed { buffer.old.is_open ≡ false }
-    requires there { 0 < length buffer.old.ahead }
-    requires inside { IfOk found (λ at. at < length buffer.old.behind) }
-    requires read { IfErr found (λ end. end ≤ length buffer.old.behind) }
-    requires placed { length buffer.old.positions ≡ length (all_glyphs buffer.old) }
-    requires number { are_glyphs (items_of buffer.old) ≡ true }
-    ensures { (random : ℕ) → IsPerformed (with_found (on_ligature subtable.now.ligatures mark (item_of info.now)) found
-        (cut_with random buffer.old)) result random random buffer.old buffer.new }
-{
-    match found {
-        Ok(back) => attach_to_ligature(subtable, mark, info, back, buffer),
-        Err(end) => {
-            mark_attempt(end, 1, buffer);
-            false
-        }
-    }
-}
-
 /// Mark to ligature attachment (OpenType, GPOS lookup type 5): where the subtable covers the mark at the cursor, it is
 /// attached to the nearest glyph before it that is not of GDEF class MARK: to the component of that ligature that it
-/// belongs to, or to the last, anchor on anchor. It answers whether it acted; where it didn't, it changed glyph flags
-/// only. The search for the ligature continues the last one of the same lookup on these glyphs.
-#[tactic(auto, using(buffer_stages::proofs::Lemmas::Glyphs::number_ahead, crate::proofs::MarkLig::no_ligature_mark))]
-pub fn apply_mark_lig_pos(
-    subtable: &MarkLigPos,
-    ctx: &hb_ot_apply_context_t,
-    last: &mut LastSearch,
-    buffer: &mut hb_buffer_t,
-) -> bool
-    requires closed { buffer.old.is_open ≡ false }
-    requires there { 0 < length buffer.old.ahead }
-    requires placed { length buffer.old.positions ≡ length (all_glyphs buffer.old) }
-    requires number { are_glyphs (items_of buffer.old) ≡ true }
-    requires kept { IsKept (any_sought Ligature (apply_context_of ctx.now)) (items_of buffer.old) last.old }
-    ensures performed { (random : ℕ) → IsPerformed (mark_to_ligature (apply_context_of ctx.now) subtable.now (cut_with random
-        buffer.old)) result random random buffer.old buffer.new }
-    ensures kept { IsKept (any_sought Ligature (apply_context_of ctx.now)) (items_of buffer.new) last.new }
-{
-    let info = *buffer.cur(0);
-    let Some(mark) = subtable.mark(info.as_glyph().0) else {
-        return false;
-    };
-    let found = found_before(Sought::Ligature, ctx, last, buffer);
-    attach_ligature_found(subtable, mark, &info, found, buffer)
-}
+/// belongs to, or to the last, anchor on anchor.
+pub struct MarkToLigature;
 
-impl Apply for MarkLigPos {
+impl Apply for MarkToLigature {
+    type Subtable = MarkLigPos;
+
     ghost action = { λ s d a. mark_to_ligature a s };
 
-    fn apply(&self, ctx: &hb_ot_apply_context_t, buffer: &mut hb_buffer_t) -> bool {
-        apply_mark_lig_pos(self, ctx, &mut LastSearch::new(), buffer)
+    #[tactic(auto, using(buffer_stages::proofs::Lemmas::Glyphs::number_ahead, crate::proofs::MarkLig::no_ligature_mark))]
+    fn apply(
+        subtable: &MarkLigPos,
+        ctx: &hb_ot_apply_context_t,
+        last: &mut LastSearches,
+        buffer: &mut hb_buffer_t,
+    ) -> bool {
+        let info = *buffer.cur(0);
+        let Some(mark) = subtable.mark(info.as_glyph().0) else {
+            return false;
+        };
+        match found_before(Sought::Ligature, ctx, &mut last.ligature, buffer) {
+            Ok(back) => attach_to_ligature(subtable, mark, &info, back, buffer),
+            Err(end) => {
+                mark_attempt(end, 1, buffer);
+                false
+            }
+        }
     }
 }

@@ -10,11 +10,12 @@ ghost use Rattle.layout_gpos.specs.Values.{is_zero};
 ghost use Rattle.layout_gpos.specs.Pairs.{begins_pair, has_no_effect, next_item, pair_adjusted, pair_events, pair_length, pair_of, pair_second, pair_subtable, pair_values};
 
 use crate::apply::Apply;
-use crate::marking::{mark_attempt, mark_match};
+use crate::bases::LastSearches;
 use crate::placing::{adjust_glyph, pass};
 use crate::value::is_zero;
 use buffer_core::buffer::hb_buffer_t;
 use buffer_rows::SortedRows;
+use layout_match::marking::{mark_attempt, mark_match};
 use layout_match::{hb_ot_apply_context_t, skipping_iterator_t};
 use layout_subtables::pair::{PairPos, PairRow, PairValues};
 use layout_subtables::value::ValueRecord;
@@ -136,13 +137,23 @@ fn apply_values(values: Option<PairValues>, apart: usize, buffer: &mut hb_buffer
     true
 }
 
-impl Apply for PairPos {
+/// Pair adjustment (OpenType, GPOS lookup type 2).
+pub struct PairAdjustment;
+
+impl Apply for PairAdjustment {
+    type Subtable = PairPos;
+
     ghost action = { λ s d a. pair_subtable d a s };
 
     #[tactic(auto, using(buffer_stages::proofs::Lemmas::Glyphs::number_ahead, crate::proofs::Paired::pair_begun, crate::proofs::Paired::pair_not_begun))]
-    fn apply(&self, ctx: &hb_ot_apply_context_t, buffer: &mut hb_buffer_t) -> bool {
+    fn apply(
+        subtable: &PairPos,
+        ctx: &hb_ot_apply_context_t,
+        _last: &mut LastSearches,
+        buffer: &mut hb_buffer_t,
+    ) -> bool {
         let first = buffer.cur(0).as_glyph().0;
-        begins_pair(self, first) && apply_from(self, first, ctx, buffer)
+        begins_pair(subtable, first) && apply_from(subtable, first, ctx, buffer)
     }
 }
 

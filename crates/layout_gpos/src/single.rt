@@ -4,6 +4,7 @@ ghost use Rattle.buffer_core.specs.Sides.{all_glyphs};
 ghost use Rattle.layout_gpos.specs.Singles.{single_subtable};
 
 use crate::apply::Apply;
+use crate::bases::LastSearches;
 use crate::placing::{adjust_glyph, pass};
 use buffer_core::buffer::hb_buffer_t;
 use layout_match::hb_ot_apply_context_t;
@@ -11,12 +12,21 @@ use layout_subtables::single_pos::SinglePos;
 
 /// Single adjustment (OpenType, GPOS lookup type 1): where the subtable covers the glyph at the cursor, its position is
 /// adjusted.
-impl Apply for SinglePos {
+pub struct SingleAdjustment;
+
+impl Apply for SingleAdjustment {
+    type Subtable = SinglePos;
+
     ghost action = { λ s d a. single_subtable d s.rows };
 
     #[tactic(auto, using(buffer_stages::proofs::Lemmas::Glyphs::number_ahead, crate::proofs::Lemmas::Placed::single_acted, crate::proofs::Lemmas::Placed::single_passed))]
-    fn apply(&self, _ctx: &hb_ot_apply_context_t, buffer: &mut hb_buffer_t) -> bool {
-        let Some(value) = self.value(buffer.cur(0).as_glyph().0) else {
+    fn apply(
+        subtable: &SinglePos,
+        _ctx: &hb_ot_apply_context_t,
+        _last: &mut LastSearches,
+        buffer: &mut hb_buffer_t,
+    ) -> bool {
+        let Some(value) = subtable.value(buffer.cur(0).as_glyph().0) else {
             return false;
         };
         let at = buffer.out_len();

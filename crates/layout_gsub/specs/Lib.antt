@@ -3,6 +3,5 @@ pub mod Alternates
 pub mod Putting
 pub mod Multiples
 pub mod Reverses
-pub mod Woulds
 pub mod Ligating
 pub mod Uniting

@@ -10,4 +10,3 @@ mod parts;
 pub mod replacement;
 pub mod reverse;
 pub mod single;
-pub mod would_apply;

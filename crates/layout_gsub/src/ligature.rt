@@ -10,9 +10,9 @@ ghost use Rattle.layout_gsub.specs.Ligating.{ligature_found, ligature_over, liga
 use crate::apply::{Apply, apply_first};
 use crate::ligate::ligate_input;
 use crate::replacement::replace_glyph;
-use crate::reverse::mark_attempt;
 use buffer_core::buffer::hb_buffer_t;
 use buffer_glyphs::cause::ShapeCause;
+use layout_match::marking::mark_attempt;
 use layout_match::{
     MAX_CONTEXT_LENGTH, MatchPositions, MatchSequence, hb_ot_apply_context_t, match_input,
 };

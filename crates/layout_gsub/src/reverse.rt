@@ -2,14 +2,13 @@
 ghost use Rattle.std.specs.Prelude.{◌≡◌, ◌<◌, ◌≤◌, ◌+◌, ◌-◌, ◌∷◌, true, Some, [], length, map, slice_get};
 ghost use Rattle.buffer_glyphs.specs.declared.info.hb_glyph_info_t.{hb_glyph_info_t as Glyph};
 ghost use Rattle.buffer_core.specs.Lending.{with_glyph_ahead};
-ghost use Rattle.buffer_glyphs.specs.Events.{Break, Concat};
 ghost use Rattle.buffer_glyphs.specs.Items.{strip};
 ghost use Rattle.buffer_core.specs.Sides.{items_of};
 ghost use Rattle.layout_match.specs.Applied.{apply_context_of, context_search};
 ghost use Rattle.layout_match.specs.Matches.{backtrack_end};
 ghost use Rattle.layout_match.specs.Sequences.{is_covered_by};
 ghost use Rattle.buffer_stages.specs.Actions.{Acts};
-ghost use Rattle.buffer_stages.specs.Buffers.{IsPassed, are_glyphs, cut_of};
+ghost use Rattle.buffer_stages.specs.Buffers.{are_glyphs, cut_of};
 ghost use Rattle.buffer_stages.specs.Performing.{PerformsInPlace};
 ghost use Rattle.layout_gsub.specs.Reverses.{reverse_after_backtrack, cut_with_substitute_kept, reverse_subtable};
 
@@ -17,34 +16,9 @@ use crate::replacement::substituted_props;
 use buffer_core::buffer::hb_buffer_t;
 use buffer_glyphs::flags::GlyphPropsFlags;
 use layout_common::coverage::Coverage;
+use layout_match::marking::{mark_attempt, mark_match};
 use layout_match::{MatchSequence, hb_ot_apply_context_t, match_backtrack, match_lookahead};
 use layout_subtables::reverse::ReverseChainSubst;
-
-/// Flags so many glyphs before the cursor, and so many from there on, as unsafe to concat, where that is requested.
-pub(crate) fn mark_attempt(back: usize, ahead: usize, buffer: &mut hb_buffer_t)
-    requires before { back ≤ length buffer.old.behind }
-    requires after { ahead ≤ length buffer.old.ahead }
-    ensures { IsPassed (Concat (length buffer.old.behind - back) (length buffer.old.behind + ahead)
-        ∷ []) buffer.old buffer.new }
-{
-    let _end = buffer.len();
-    let start = buffer.out_len() - back;
-    let end = buffer.idx() + ahead;
-    buffer.unsafe_to_concat_from_outbuffer(Some(start), Some(end));
-}
-
-/// Flags such glyphs outside the least cluster among them as unsafe to break.
-fn mark_match(back: usize, ahead: usize, buffer: &mut hb_buffer_t)
-    requires before { back ≤ length buffer.old.behind }
-    requires after { ahead ≤ length buffer.old.ahead }
-    ensures { IsPassed (Break (length buffer.old.behind - back) (length buffer.old.behind + ahead)
-        ∷ []) buffer.old buffer.new }
-{
-    let _end = buffer.len();
-    let start = buffer.out_len() - back;
-    let end = buffer.idx() + ahead;
-    buffer.unsafe_to_break_from_outbuffer(Some(start), Some(end));
-}
 
 /// Gives the glyph at the cursor another number and other properties.
 fn put_glyph(glyph: u16, props: GlyphPropsFlags, buffer: &mut hb_buffer_t)

@@ -2,4 +2,6 @@ pub mod Chosen
 pub mod Lookups
 pub mod Features
 pub mod Compiled
+pub mod Masks
+pub mod Requests
 pub mod Laws

@@ -8,4 +8,6 @@ pub mod chosen_feature;
 pub mod features;
 pub mod laws;
 pub mod map;
+pub mod masks;
+pub mod request;
 pub mod stages;

@@ -3,3 +3,4 @@ pub mod Nearest
 pub mod Met
 pub mod Passage
 pub mod Steps
+pub mod Stages

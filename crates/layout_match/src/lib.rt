@@ -5,6 +5,7 @@
 pub mod apply_context;
 pub mod laws;
 pub mod lookup;
+pub mod marking;
 pub mod matching;
 pub mod search;
 pub mod sequence;

@@ -10,27 +10,20 @@ use Rattle.layout_face.specs.declared.positioning.PositioningLookup.{Positioning
 use Rattle.layout_face.specs.declared.positioning.PositioningSubtables.{PositioningSubtables}
 use Rattle.layout_match.specs.Applied.{ApplyContext}
 use Rattle.buffer_stages.specs.Actions.{Cut, whole, Action, Outcome, Passes, Acts, Refuses}
-use Rattle.buffer_stages.specs.Performing.{IsPerformed, Performs, cut_with}
+use Rattle.buffer_stages.specs.Performing.{Performs, cut_with}
 use Rattle.buffer_stages.proofs.Lemmas.Frames.{same_numbers}
 use Rattle.layout_contexts.specs.Chains.{Chain, chain_rule}
 use Rattle.layout_contexts.specs.Fitting.{IsMatched, Matched}
 use Rattle.layout_contexts.specs.Nested.{Walks, cut_at, cut_after_match, holds, with_budget_spent}
 use Rattle.layout_contexts.specs.Nesting.{Nests}
 use Rattle.layout_contexts.specs.Records.{IsRecordBegun}
-use Rattle.layout_subtables.specs.declared.mark.MarkBasePos.{MarkBasePos}
-use Rattle.layout_subtables.specs.declared.mark.MarkLigPos.{MarkLigPos}
-use Rattle.layout_gpos.specs.Bases.{AreKept, IsKept, any_sought}
-use Rattle.layout_gpos.specs.Marks.{mark_to_base, mark_to_ligature}
-use Rattle.layout_gpos.specs.declared.bases.LastSearch.{LastSearch}
-use Rattle.layout_gpos.specs.declared.bases.Sought.TheVariants.{Base, Ligature}
-use Rattle.layout_gpos.specs.Moving.{KeepsItems, ItemsStay}
-use Rattle.layout_gpos.proofs.Lemmas.Left.{base_keeps, either_way, ligature_keeps, performed_left}
+use Rattle.layout_gpos.specs.Bases.{AreKept}
+use Rattle.layout_gpos.specs.Moving.{ItemsStay}
+use Rattle.layout_gpos.proofs.Lemmas.Kept.{kept_same}
+use Rattle.layout_gpos.proofs.Lemmas.Left.{either_way, performed_left}
 use Rattle.layout_gpos.specs.declared.bases.LastSearches.{LastSearches}
 use Rattle.layout_positioning.specs.Lookups.{first_subtable, nested_actions}
 use Rattle.layout_positioning.proofs.Left.{chain_keeps, cut_whole, nest_keeps, subtable_keeps}
-
-pub kept_same : (a : ApplyContext) (l : LastSearches) (s new : Sides) → items_of new ≡ items_of s → AreKept a (items_of s) l → AreKept a (items_of new) l
-kept_same a l s new e kept = subst (λ (xs : List Item). AreKept a xs l) (sym e) kept
 
 -- the cursor went over a glyph
 pub passed_kept : (a : ApplyContext) (l : LastSearches) (mid new : Sides) → AreKept a (items_of mid) l → new ≡ after_next_glyphs 1 mid → AreKept a (items_of new) l
@@ -46,16 +39,6 @@ performs_left o (Err cause) r after s new stay d = tt
 on_ok_kept : (a : ApplyContext) (l : LastSearches) (y : Result Bool ShapeCause) (s new : Sides) → OnOk y (items_of new ≡ items_of s) → AreKept a (items_of s) l → OnOk y (AreKept a (items_of new) l)
 on_ok_kept a l (Ok acted) s new e kept = kept_same a l s new e kept
 on_ok_kept a l (Err cause) s new e kept = tt
-
-pub performed_kept : (act : Action) (a : ApplyContext) (acted : Bool) (r : ℕ) (l : LastSearches) (s new : Sides) → KeepsItems act → AreKept a (items_of s) l → IsPerformed (act (cut_with r s)) acted r r s new → AreKept a (items_of new) l
-performed_kept act a acted r l s new keeps kept d = kept_same a l s new (performed_left (act (cut_with r s)) acted r r s new (keeps (cut_with r s)) d) kept
-
--- a search for a base went on, or one for a ligature
-pub base_kept : (a : ApplyContext) (t : MarkBasePos) (acted : Bool) (l : LastSearches) (b : LastSearch) (s new : Sides) → AreKept a (items_of s) l → ((r : ℕ) → IsPerformed (mark_to_base a t (cut_with r s)) acted r r s new) → IsKept (any_sought Base a) (items_of new) b → AreKept a (items_of new) (record l { base = b })
-base_kept a t acted l b s new kept done now = record { base = now; ligature = (performed_kept (mark_to_base a t) a acted 1 l s new (base_keeps a t) kept (done 1)).ligature }
-
-pub ligature_kept : (a : ApplyContext) (t : MarkLigPos) (acted : Bool) (l : LastSearches) (b : LastSearch) (s new : Sides) → AreKept a (items_of s) l → ((r : ℕ) → IsPerformed (mark_to_ligature a t (cut_with r s)) acted r r s new) → IsKept (any_sought Ligature a) (items_of new) b → AreKept a (items_of new) (record l { ligature = b })
-ligature_kept a t acted l b s new kept done now = record { base = (performed_kept (mark_to_ligature a t) a acted 1 l s new (ligature_keeps a t) kept (done 1)).base; ligature = now }
 
 -- the subtables of a lookup
 pub subtables_kept : (table : List PositioningLookup) (depth : ℕ) (a : ApplyContext) (t : PositioningSubtables) (y : Result Bool ShapeCause) (r : ℕ) (l : LastSearches) (s new : Sides) → AreKept a (items_of s) l

@@ -1,5 +1,4 @@
 pub mod Joined
-pub mod Passed
 pub mod Levels
 pub mod Over
 pub mod Ways

@@ -1,6 +1,6 @@
 -- The stages of positioning one after another.
-use Rattle.std.proofs.Common.{ℕ, ◌≡◌, ◌≤◌, ◌<◌, ◌+◌, List, [], ◌∷◌, length, drop, get_or, Err, Option, None, sym, subst}
-use Rattle.std.specs.Prelude.{slice_get}
+use Rattle.std.proofs.Common.{ℕ, ◌≡◌, ◌≤◌, ◌<◌, ◌+◌, List, [], ◌∷◌, length, drop, get_or, Ok, Err, Option, None, sym, subst}
+use Rattle.std.specs.Prelude.{slice_get, Result}
 use Rattle.std.specs.Option.{option_map_or}
 use Rattle.std.proofs.lemmas.List.{drop_more, drop_all}
 use Rattle.buffer_glyphs.specs.declared.cause.ShapeCause.{ShapeCause}
@@ -13,7 +13,7 @@ use Rattle.layout_face.specs.declared.positioning.PositioningLookup.{Positioning
 use Rattle.layout_face.specs.declared.positioning.PositioningTable.{PositioningTable}
 use Rattle.layout_map_features.specs.declared.lookup.lookup_map_t.{lookup_map_t}
 use Rattle.layout_map.specs.Compiled.{TableStages, lookups_of_stage}
-use Rattle.buffer_stages.specs.Ready.{IsReady, IsDone, IsDoneFrom, state_with}
+use Rattle.buffer_stages.specs.Ready.{DoesGlyphStage, DoesGlyphStageFrom, IsReady, IsDone, IsDoneFrom, state_with}
 use Rattle.buffer_stages.specs.Pauses.{Pauses, pause_stage}
 use Rattle.buffer_stages.proofs.Lemmas.Ways.{AreStagesDone, both_done, first_refused, next_done, next_refused, no_stage_done, nothing_done, second_refused, stages_done}
 use Rattle.layout_positioning.specs.Lookups.{lookup_stage}
@@ -112,5 +112,9 @@ all_stages_done font lookups t pauses i old now le a =
     stages_done (table_stages font lookups t pauses 0 t.stages) (table_stages font lookups t pauses i []) 1 1 old now (follows_same (state_with 1 now)) (subst P (drop_all i t.stages le) a)
 
 -- a buffer's run is one whose random state is 1
-pub done_from_one : (stage : Stage) (old new : Sides) → IsDoneFrom 1 1 stage old new → IsDone stage old new
+done_from_one : (stage : Stage) (old new : Sides) → IsDoneFrom 1 1 stage old new → IsDone stage old new
 done_from_one stage old new d = record { follows = d.follows; settings = d.settings; ready = d.ready; numbers = d.numbers }
+
+pub does_from_one : {X : Type 0} (stage : Stage) (result : Result X ShapeCause) (old new : Sides) → DoesGlyphStageFrom 1 1 stage result old new → DoesGlyphStage stage result old new
+does_from_one stage (Ok x) old new d = done_from_one stage old new d
+does_from_one stage (Err e) old new d = d

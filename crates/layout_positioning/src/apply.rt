@@ -1,10 +1,9 @@
 //! Applies positioning lookups to a whole buffer (rustybuzz: hb/ot_layout.rs, `apply_string`, `apply_layout_table`).
-ghost use Rattle.std.specs.Prelude.{◌≡◌, ◌≢◌, true, Err, slice_get, IfErr, OnOk};
-ghost use Rattle.buffer_core.specs.Readings.{reading_of};
+ghost use Rattle.std.specs.Prelude.{◌≡◌, true, slice_get};
 ghost use Rattle.buffer_core.specs.Sides.{items_of};
 ghost use Rattle.layout_match.specs.Applied.{apply_context_of};
 ghost use Rattle.buffer_stages.specs.Buffers.{are_glyphs};
-ghost use Rattle.buffer_stages.specs.Ready.{IsDoneFrom, IsReady, state_with};
+ghost use Rattle.buffer_stages.specs.Ready.{DoesGlyphStageFrom, IsReady};
 ghost use Rattle.layout_positioning.specs.Lookups.{lookup_context, lookup_stage};
 ghost use Rattle.layout_positioning.specs.Positioning.{lookups_stage};
 
@@ -46,10 +45,8 @@ fn apply_mapped(
 ) -> Result<(), ShapeCause>
     requires ready { IsReady buffer.old }
     requires numbers { are_glyphs (items_of buffer.old) ≡ true }
-    ensures ok { OnOk result (IsDoneFrom 1 1 (lookup_stage face.now table.now.lookups
-        (slice_get table.now.lookups lookup_map.now.index) lookup_map.now) buffer.old buffer.new) }
-    ensures err { IfErr result (λ e. e ≢ ShapeCause.OutOfMemory → reading_of (lookup_stage face.now table.now.lookups
-        (slice_get table.now.lookups lookup_map.now.index) lookup_map.now) (state_with 1 buffer.old) ≡ Err e) }
+    ensures { DoesGlyphStageFrom 1 1 (lookup_stage face.now table.now.lookups (slice_get table.now.lookups
+        lookup_map.now.index) lookup_map.now) result buffer.old buffer.new }
 {
     let Some(lookup) = table.get_lookup(lookup_map.index) else {
         return Ok(());
@@ -69,10 +66,8 @@ pub fn apply_lookups(
 ) -> Result<(), ShapeCause>
     requires ready { IsReady buffer.old }
     requires numbers { are_glyphs (items_of buffer.old) ≡ true }
-    ensures ok { OnOk result
-        (IsDoneFrom 1 1 (lookups_stage face.now table.now.lookups lookups.now) buffer.old buffer.new) }
-    ensures err { IfErr result (λ e. e ≢ ShapeCause.OutOfMemory → reading_of
-        (lookups_stage face.now table.now.lookups lookups.now) (state_with 1 buffer.old) ≡ Err e) }
+    ensures { DoesGlyphStageFrom 1 1 (lookups_stage face.now table.now.lookups lookups.now) result buffer.old
+        buffer.new }
 {
     for lookup_map in lookups {
         apply_mapped(face, table, lookup_map, buffer)?;

@@ -9,11 +9,13 @@ ghost use Rattle.layout_offsets.specs.Cursive.{cursive_attachment};
 ghost use Rattle.layout_gpos.specs.Marks.{with_found};
 
 use buffer_core::buffer::hb_buffer_t;
+use layout_gpos::apply::Apply;
+use layout_gpos::bases::LastSearches;
 use layout_gpos::mark::tell_attached;
-use layout_gpos::marking::{mark_attempt, mark_match};
 use layout_gpos::placing::pass;
 use layout_gpos::search::{glyph_before, item_before};
 use layout_match::hb_ot_apply_context_t;
+use layout_match::marking::{mark_attempt, mark_match};
 use layout_offsets::cursive_join::{Joint, hangs_earlier, join_both};
 use layout_offsets::links::is_near;
 use layout_subtables::cursive::CursivePos;
@@ -136,24 +138,25 @@ fn join_found(
 
 /// Cursive attachment (OpenType, GPOS lookup type 3): where the subtable has an entry for the glyph at the cursor, and
 /// an exit for the nearest before it, the two are joined. With RIGHT_TO_LEFT in the lookup flag the earlier glyph is
-/// attached to the later one. It answers whether it acted; where it didn't, it changed glyph flags only. It takes no
-/// memory.
-#[tactic(auto, using(buffer_stages::proofs::Lemmas::Glyphs::number_ahead, crate::proofs::Joined::no_entry))]
-pub fn apply_cursive_pos(
-    subtable: &CursivePos,
-    ctx: &hb_ot_apply_context_t,
-    buffer: &mut hb_buffer_t,
-) -> bool
-    requires closed { buffer.old.is_open ≡ false }
-    requires there { 0 < length buffer.old.ahead }
-    requires placed { length buffer.old.positions ≡ length (all_glyphs buffer.old) }
-    requires number { are_glyphs (items_of buffer.old) ≡ true }
-    ensures { (random : ℕ) → IsPerformed (cursive_subtable buffer.old.direction (apply_context_of ctx.now) subtable.now.rows
-        (cut_with random buffer.old)) result random random buffer.old buffer.new }
-{
-    let Some(entry) = entry_of(subtable, buffer.cur(0).as_glyph().0) else {
-        return false;
-    };
-    let found = item_before(ctx, buffer);
-    join_found(subtable, ctx, entry, found, buffer)
+/// attached to the later one.
+pub struct CursiveAttachment;
+
+impl Apply for CursiveAttachment {
+    type Subtable = CursivePos;
+
+    ghost action = { λ s d a. cursive_subtable d a s.rows };
+
+    #[tactic(auto, using(buffer_stages::proofs::Lemmas::Glyphs::number_ahead, crate::proofs::Joined::no_entry))]
+    fn apply(
+        subtable: &CursivePos,
+        ctx: &hb_ot_apply_context_t,
+        _last: &mut LastSearches,
+        buffer: &mut hb_buffer_t,
+    ) -> bool {
+        let Some(entry) = entry_of(subtable, buffer.cur(0).as_glyph().0) else {
+            return false;
+        };
+        let found = item_before(ctx, buffer);
+        join_found(subtable, ctx, entry, found, buffer)
+    }
 }

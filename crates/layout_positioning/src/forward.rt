@@ -1,10 +1,9 @@
 //! A positioning lookup over a buffer (rustybuzz: hb/ot_layout.rs, `apply_forward`).
-ghost use Rattle.std.specs.Prelude.{◌≡◌, ◌≢◌, true, false, Err, IfErr, OnOk};
-ghost use Rattle.buffer_core.specs.Readings.{reading_of};
+ghost use Rattle.std.specs.Prelude.{◌≡◌, ◌≢◌, true, false, IfErr, OnOk};
 ghost use Rattle.buffer_core.specs.Sides.{items_of};
 ghost use Rattle.layout_match.specs.Applied.{apply_context_of};
 ghost use Rattle.buffer_stages.specs.Buffers.{are_glyphs};
-ghost use Rattle.buffer_stages.specs.Ready.{IsDoneFrom, IsReady, state_with};
+ghost use Rattle.buffer_stages.specs.Ready.{DoesGlyphStageFrom, IsReady};
 ghost use Rattle.layout_match.specs.Steps.{IsGivenUp, IsStep};
 ghost use Rattle.layout_gpos.specs.Bases.{AreKept};
 ghost use Rattle.layout_positioning.specs.Lookups.{positioning_pass, lookup_action};
@@ -18,7 +17,7 @@ use layout_gpos::placing::pass;
 use layout_match::hb_ot_apply_context_t;
 
 /// Tries a lookup at the cursor, and moves over the glyph where it doesn't act; at the end it does nothing.
-#[tactic(auto, using(layout_match::proofs::Lemmas::Steps::step_ended, layout_match::proofs::Lemmas::Steps::given_up, layout_match::proofs::Lemmas::Steps::passed_there, crate::proofs::Passed::closed_there, crate::proofs::Kept::passed_kept))]
+#[tactic(auto, using(layout_match::proofs::Lemmas::Steps::step_ended, layout_match::proofs::Lemmas::Steps::given_up, layout_match::proofs::Lemmas::Steps::passed_there, layout_gpos::proofs::Lemmas::Passed::closed_there, crate::proofs::Kept::passed_kept))]
 fn apply_next(
     table: &PositioningTable,
     lookup: &PositioningLookup,
@@ -57,10 +56,8 @@ pub fn apply_forward(
 ) -> Result<(), ShapeCause>
     requires ready { IsReady buffer.old }
     requires numbers { are_glyphs (items_of buffer.old) ≡ true }
-    ensures ok { OnOk result (IsDoneFrom ctx.now.random_state ctx.now.random_state (positioning_pass (lookup_action
-        table.now.lookups buffer.old.direction (apply_context_of ctx.now) lookup.now)) buffer.old buffer.new) }
-    ensures err { IfErr result (λ e. e ≢ ShapeCause.OutOfMemory → reading_of (positioning_pass (lookup_action table.now.lookups
-        buffer.old.direction (apply_context_of ctx.now) lookup.now)) (state_with ctx.now.random_state buffer.old) ≡ Err e) }
+    ensures { DoesGlyphStageFrom ctx.now.random_state ctx.now.random_state (positioning_pass (lookup_action
+        table.now.lookups buffer.old.direction (apply_context_of ctx.now) lookup.now)) result buffer.old buffer.new }
 {
     let count = buffer.len();
     let mut last = LastSearches::new();

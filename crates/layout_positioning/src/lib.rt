@@ -9,4 +9,3 @@ pub mod kerning;
 pub mod lookup;
 pub mod nested;
 pub mod position;
-pub mod subtables;

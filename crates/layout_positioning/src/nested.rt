@@ -19,9 +19,7 @@ ghost use Rattle.buffer_stages.specs.Buffers.{are_glyphs, cut_of};
 ghost use Rattle.buffer_stages.specs.Performing.{Performs, cut_with};
 ghost use Rattle.layout_positioning.specs.Lookups.{first_subtable, nested_actions, nested_act, nested_lookup, under_flag};
 
-use crate::subtables::{
-    apply_first, apply_first_base, apply_first_cursive, apply_first_ligature, apply_first_mark,
-};
+use crate::cursive_join::CursiveAttachment;
 use buffer_core::buffer::hb_buffer_t;
 use buffer_glyphs::cause::ShapeCause;
 use layout_contexts::{
@@ -29,7 +27,13 @@ use layout_contexts::{
     settle_match,
 };
 use layout_face::positioning::{PositioningLookup, PositioningSubtables, PositioningTable};
+use layout_gpos::apply::apply_first;
 use layout_gpos::bases::LastSearches;
+use layout_gpos::mark::MarkToBase;
+use layout_gpos::mark_lig::MarkToLigature;
+use layout_gpos::mark_mark::MarkToMark;
+use layout_gpos::pair::PairAdjustment;
+use layout_gpos::single::SingleAdjustment;
 use layout_match::{MatchPositions, hb_ot_apply_context_t};
 use layout_subtables::context::{ContextSubtable, SequenceLookupRecord};
 
@@ -100,22 +104,22 @@ pub(crate) fn apply_subtables(
 {
     match subtables {
         PositioningSubtables::Single(subtables) => {
-            Ok(apply_first(subtables.as_slice(), ctx, buffer))
+            Ok(apply_first::<SingleAdjustment>(subtables.as_slice(), ctx, last, buffer))
         }
         PositioningSubtables::Pair(subtables) => {
-            Ok(apply_first(subtables.as_slice(), ctx, buffer))
+            Ok(apply_first::<PairAdjustment>(subtables.as_slice(), ctx, last, buffer))
         }
         PositioningSubtables::Cursive(subtables) => {
-            Ok(apply_first_cursive(subtables.as_slice(), ctx, buffer))
+            Ok(apply_first::<CursiveAttachment>(subtables.as_slice(), ctx, last, buffer))
         }
         PositioningSubtables::MarkToBase(subtables) => {
-            Ok(apply_first_base(subtables.as_slice(), ctx, last, buffer))
+            Ok(apply_first::<MarkToBase>(subtables.as_slice(), ctx, last, buffer))
         }
         PositioningSubtables::MarkToLigature(subtables) => {
-            Ok(apply_first_ligature(subtables.as_slice(), ctx, last, buffer))
+            Ok(apply_first::<MarkToLigature>(subtables.as_slice(), ctx, last, buffer))
         }
         PositioningSubtables::MarkToMark(subtables) => {
-            Ok(apply_first_mark(subtables.as_slice(), ctx, buffer))
+            Ok(apply_first::<MarkToMark>(subtables.as_slice(), ctx, last, buffer))
         }
         PositioningSubtables::Context(subtables) | PositioningSubtables::ChainContext(subtables) =>
             { apply_contexts(table, depth, subtables.as_slice(), ctx, last, buffer) }
@@ -124,7 +128,7 @@ pub(crate) fn apply_subtables(
 
 /// Applies the first matching context at the cursor.
 #[cycle(nested)]
-#[tactic(auto, using(buffer_stages::proofs::Lemmas::Performed::passed_first, crate::proofs::Passed::passed_closed, buffer_stages::proofs::Lemmas::Performed::passed_unrefused, buffer_stages::proofs::Lemmas::Performed::passed_numbers))]
+#[tactic(auto, using(buffer_stages::proofs::Lemmas::Performed::passed_first, layout_gpos::proofs::Lemmas::Passed::passed_closed, buffer_stages::proofs::Lemmas::Performed::passed_unrefused, buffer_stages::proofs::Lemmas::Performed::passed_numbers))]
 fn apply_contexts(
     table: &PositioningTable,
     depth: u32,
@@ -182,7 +186,7 @@ fn apply_context(
 
 /// Applies the first matching rule of a context at the cursor.
 #[cycle(nested)]
-#[tactic(auto, using(buffer_stages::proofs::Lemmas::Performed::passed_first, crate::proofs::Passed::passed_closed, buffer_stages::proofs::Lemmas::Performed::passed_unrefused, buffer_stages::proofs::Lemmas::Performed::passed_numbers))]
+#[tactic(auto, using(buffer_stages::proofs::Lemmas::Performed::passed_first, layout_gpos::proofs::Lemmas::Passed::passed_closed, buffer_stages::proofs::Lemmas::Performed::passed_unrefused, buffer_stages::proofs::Lemmas::Performed::passed_numbers))]
 fn apply_rules(
     table: &PositioningTable,
     depth: u32,

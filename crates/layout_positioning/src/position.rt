@@ -1,10 +1,9 @@
 //! Positioning, GPOS stage after GPOS stage (rustybuzz: hb/ot_layout_gpos_table.rs, `position`; hb/ot_layout.rs,
 //! `apply_layout_table`).
-ghost use Rattle.std.specs.Prelude.{ℕ, ◌≡◌, ◌≢◌, true, Err, IfErr, OnOk};
-ghost use Rattle.buffer_core.specs.Readings.{reading_of};
-ghost use Rattle.buffer_core.specs.Sides.{items_of, state_of};
+ghost use Rattle.std.specs.Prelude.{ℕ, ◌≡◌, true, OnOk};
+ghost use Rattle.buffer_core.specs.Sides.{items_of};
 ghost use Rattle.buffer_stages.specs.Buffers.{are_glyphs};
-ghost use Rattle.buffer_stages.specs.Ready.{IsDone, IsDoneFrom, IsReady, state_with};
+ghost use Rattle.buffer_stages.specs.Ready.{DoesGlyphStage, DoesGlyphStageFrom, IsReady};
 ghost use Rattle.buffer_stages.specs.Settings.{text_settings};
 ghost use Rattle.layout_positioning.specs.Positioning.{LeavesItems, lookups_stage, positioning_stages, positioning_lookups, table_stages};
 
@@ -25,10 +24,8 @@ fn apply_stage(
 ) -> Result<(), ShapeCause>
     requires ready { IsReady buffer.old }
     requires numbers { are_glyphs (items_of buffer.old) ≡ true }
-    ensures ok { OnOk result (IsDoneFrom 1 1 (lookups_stage face.now (positioning_lookups face.now) lookups.now)
-        buffer.old buffer.new) }
-    ensures err { IfErr result (λ e. e ≢ ShapeCause.OutOfMemory → reading_of (lookups_stage face.now
-        (positioning_lookups face.now) lookups.now) (state_with 1 buffer.old) ≡ Err e) }
+    ensures { DoesGlyphStageFrom 1 1 (lookups_stage face.now (positioning_lookups face.now) lookups.now) result
+        buffer.old buffer.new }
 {
     match face.gpos() {
         Some(table) => apply_lookups(face, table, lookups, buffer),
@@ -46,12 +43,8 @@ fn apply_layout_table<P: Pause>(
 ) -> Result<(), ShapeCause>
     requires ready { IsReady buffer.old }
     requires numbers { are_glyphs (items_of buffer.old) ≡ true }
-    ensures ok { OnOk result (IsDoneFrom 1 1 (table_stages face.now (positioning_lookups face.now) map.now.tables.gpos
-        (P.stage pause.now (text_settings buffer.old)) 0 map.now.tables.gpos.stages) buffer.old buffer.new) }
-    ensures err { IfErr result (λ e. e ≢ ShapeCause.OutOfMemory → reading_of (table_stages face.now
-        (positioning_lookups face.now) map.now.tables.gpos (P.stage pause.now (text_settings buffer.old)) 0
-        map.now.tables.gpos.stages)
-        (state_with 1 buffer.old) ≡ Err e) }
+    ensures { DoesGlyphStageFrom 1 1 (table_stages face.now (positioning_lookups face.now) map.now.tables.gpos
+        (P.stage pause.now (text_settings buffer.old)) 0 map.now.tables.gpos.stages) result buffer.old buffer.new }
 {
     let stages = map.stages(TableIndex::GPOS);
     for i in 0..stages.len() {
@@ -65,7 +58,7 @@ fn apply_layout_table<P: Pause>(
 /// indices, each at all glyphs, and then the stage's pause. Attached glyphs keep links until `position_finish_offsets`;
 /// `position_start` clears older links before. It takes no memory except in pauses, and refuses with a pause's cause,
 /// or where a list has more glyphs than it may.
-#[tactic(auto, using(crate::proofs::Ways::done_from_one, crate::proofs::Left::positioned_left))]
+#[tactic(auto, using(crate::proofs::Ways::does_from_one, crate::proofs::Left::positioned_left))]
 pub fn position<P: Pause>(
     map: &hb_ot_map_t,
     face: &Face,
@@ -74,11 +67,8 @@ pub fn position<P: Pause>(
 ) -> Result<(), ShapeCause>
     requires ready { IsReady buffer.old }
     requires numbers { are_glyphs (items_of buffer.old) ≡ true }
-    ensures ok { OnOk result (IsDone (positioning_stages face.now map.now (P.stage pause.now (text_settings buffer.old)))
-        buffer.old buffer.new) }
-    ensures err { IfErr result (λ e. e ≢ ShapeCause.OutOfMemory
-        → reading_of (positioning_stages face.now map.now (P.stage pause.now (text_settings buffer.old))) (state_of buffer.old)
-        ≡ Err e) }
+    ensures stage { DoesGlyphStage (positioning_stages face.now map.now (P.stage pause.now (text_settings
+        buffer.old))) result buffer.old buffer.new }
     ensures items { OnOk result (((i : ℕ) → LeavesItems (P.stage pause.now (text_settings buffer.old) i)) →
         items_of buffer.new ≡ items_of buffer.old) }
 {

@@ -1,6 +1,6 @@
 -- Lookups one after another.
-use Rattle.std.proofs.Common.{ℕ, ◌≡◌, ◌≤◌, ◌<◌, ◌+◌, List, [], ◌∷◌, length, drop, get_or, true, false, Err, refl, sym, subst, ◌∙◌}
-use Rattle.std.specs.Prelude.{slice_get, None, Option, Bool, if◌then◌else◌}
+use Rattle.std.proofs.Common.{ℕ, ◌≡◌, ◌≤◌, ◌<◌, ◌+◌, List, [], ◌∷◌, length, drop, get_or, true, false, Ok, Err, refl, sym, subst, ◌∙◌}
+use Rattle.std.specs.Prelude.{slice_get, None, Option, Bool, Result, if◌then◌else◌}
 use Rattle.std.proofs.lemmas.List.{drop_more, drop_all}
 use Rattle.buffer_glyphs.specs.declared.cause.ShapeCause.{ShapeCause}
 use Rattle.buffer_core.specs.Readings.{View, BufferState, Stage, Follows, reading_of, always, with_events}
@@ -10,7 +10,7 @@ use Rattle.layout_face.specs.declared.parts.FaceParts.{FaceParts}
 use Rattle.layout_face.specs.declared.substitution.SubstLookup.{SubstLookup}
 use Rattle.layout_map_features.specs.declared.lookup.lookup_map_t.{lookup_map_t}
 use Rattle.buffer_stages.specs.Buffers.{are_glyphs}
-use Rattle.buffer_stages.specs.Ready.{IsReady, IsDone, IsDoneFrom, state_with}
+use Rattle.buffer_stages.specs.Ready.{DoesGlyphStage, DoesGlyphStageFrom, IsReady, IsDone, IsDoneFrom, state_with}
 use Rattle.buffer_stages.specs.Pauses.{with_own_random}
 use Rattle.layout_substitution.specs.Lookups.{lookup_stage, lookups_stage}
 
@@ -18,8 +18,8 @@ use Rattle.layout_substitution.specs.Lookups.{lookup_stage, lookups_stage}
 pub either_done : (b : Bool) (back forth : Stage) (r after : ℕ) (old new : Sides) → b ≡ true → IsDoneFrom r after back old new → IsDoneFrom r after (λ v. if b then back v else forth v) old new
 either_done b back forth r after old new acts d = let P : Bool → Type 0 = λ p. IsDoneFrom r after (λ v. if p then back v else forth v) old new in subst P (sym acts) d
 
-pub other_done : (b : Bool) (back forth : Stage) (r after : ℕ) (old new : Sides) → b ≡ false → IsDoneFrom r after forth old new → IsDoneFrom r after (λ v. if b then back v else forth v) old new
-other_done b back forth r after old new fails d = let P : Bool → Type 0 = λ p. IsDoneFrom r after (λ v. if p then back v else forth v) old new in subst P (sym fails) d
+pub other_does : {X : Type 0} (b : Bool) (back forth : Stage) (result : Result X ShapeCause) (r after : ℕ) (old new : Sides) → b ≡ false → DoesGlyphStageFrom r after forth result old new → DoesGlyphStageFrom r after (λ v. if b then back v else forth v) result old new
+other_does b back forth result r after old new fails d = let P : Bool → Type 0 = λ p. DoesGlyphStageFrom r after (λ v. if p then back v else forth v) result old new in subst P (sym fails) d
 
 -- some lookups were done; whatever follows, or is refused, by those that are left is so by all
 pub record AreDone (font : FaceParts) (table : List SubstLookup) (all left : List lookup_map_t) (before r : ℕ) (old now : Sides) : Type 0 where
@@ -100,3 +100,7 @@ own_done stage after old new d = record {
 
 pub own_refused : (stage : Stage) (old : Sides) (cause : ShapeCause) → reading_of stage (state_with 1 old) ≡ Err cause → reading_of (with_own_random stage) (state_of old) ≡ Err cause
 own_refused stage old cause e = refused_first (reading_of stage (state_with 1 old)) (always (λ (w : View). with_events [] (record w { random = 1 }))) cause e
+
+pub own_does : {X : Type 0} (stage : Stage) (result : Result X ShapeCause) (after : ℕ) (old new : Sides) → DoesGlyphStageFrom 1 after stage result old new → DoesGlyphStage (with_own_random stage) result old new
+own_does stage (Ok x) after old new d = own_done stage after old new d
+own_does stage (Err e) after old new d = λ h. own_refused stage old e (d h)

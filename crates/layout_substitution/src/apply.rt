@@ -1,11 +1,10 @@
 //! Applies lookups to a whole buffer (rustybuzz: hb/ot_layout.rs, `apply_string`, `apply_layout_table`).
-ghost use Rattle.std.specs.Prelude.{◌≡◌, ◌≢◌, true, Err, slice_get, IfErr, OnOk};
-ghost use Rattle.buffer_core.specs.Readings.{reading_of};
-ghost use Rattle.buffer_core.specs.Sides.{items_of, state_of};
+ghost use Rattle.std.specs.Prelude.{◌≡◌, true, slice_get};
+ghost use Rattle.buffer_core.specs.Sides.{items_of};
 ghost use Rattle.layout_map_features.specs.declared.per_table.TableIndex.TheVariants.{GSUB};
 ghost use Rattle.layout_match.specs.Applied.{apply_context_of};
 ghost use Rattle.buffer_stages.specs.Buffers.{are_glyphs};
-ghost use Rattle.buffer_stages.specs.Ready.{IsDone, IsDoneFrom, IsReady, state_with};
+ghost use Rattle.buffer_stages.specs.Ready.{DoesGlyphStage, DoesGlyphStageFrom, IsReady};
 ghost use Rattle.buffer_stages.specs.Pauses.{with_own_random};
 ghost use Rattle.layout_substitution.specs.Lookups.{lookup_context, lookup_applied, lookup_stage, lookups_stage};
 
@@ -28,12 +27,8 @@ fn apply_everywhere(
 ) -> Result<(), ShapeCause>
     requires ready { IsReady buffer.old }
     requires numbers { are_glyphs (items_of buffer.old) ≡ true }
-    ensures ok { OnOk result
-        (IsDoneFrom ctx.old.random_state ctx.new.random_state (lookup_applied table.now.lookups
-        (apply_context_of ctx.old) lookup.now) buffer.old buffer.new) }
-    ensures err { IfErr result (λ e. e ≢ ShapeCause.OutOfMemory → reading_of
-        (lookup_applied table.now.lookups (apply_context_of ctx.old) lookup.now) (state_with ctx.old.random_state buffer.old)
-        ≡ Err e) }
+    ensures stage { DoesGlyphStageFrom ctx.old.random_state ctx.new.random_state (lookup_applied table.now.lookups
+        (apply_context_of ctx.old) lookup.now) result buffer.old buffer.new }
     ensures context { apply_context_of ctx.new ≡ apply_context_of ctx.old }
 {
     if lookup.is_reverse() {
@@ -67,13 +62,9 @@ fn apply_mapped(
     requires substitution { ctx.old.table_index ≡ GSUB }
     requires ready { IsReady buffer.old }
     requires numbers { are_glyphs (items_of buffer.old) ≡ true }
-    ensures ok { OnOk result
-        (IsDoneFrom ctx.old.random_state ctx.new.random_state (lookup_stage ctx.old.face.now table.now.lookups
-        (slice_get table.now.lookups lookup_map.now.index) lookup_map.now) buffer.old buffer.new) }
-    ensures err { IfErr result (λ e. e ≢ ShapeCause.OutOfMemory
-        → reading_of (lookup_stage ctx.old.face.now table.now.lookups
-        (slice_get table.now.lookups lookup_map.now.index) lookup_map.now)
-        (state_with ctx.old.random_state buffer.old) ≡ Err e) }
+    ensures stage { DoesGlyphStageFrom ctx.old.random_state ctx.new.random_state (lookup_stage ctx.old.face.now
+        table.now.lookups (slice_get table.now.lookups lookup_map.now.index) lookup_map.now) result buffer.old
+        buffer.new }
     ensures table { ctx.new.table_index ≡ GSUB }
     ensures face { ctx.new.face.now ≡ ctx.old.face.now }
 {
@@ -93,12 +84,8 @@ pub(crate) fn apply_all(
     requires substitution { ctx.old.table_index ≡ GSUB }
     requires ready { IsReady buffer.old }
     requires numbers { are_glyphs (items_of buffer.old) ≡ true }
-    ensures ok { OnOk result
-        (IsDoneFrom ctx.old.random_state ctx.new.random_state (lookups_stage
-        ctx.old.face.now table.now.lookups lookups.now) buffer.old buffer.new) }
-    ensures err { IfErr result (λ e. e ≢ ShapeCause.OutOfMemory → reading_of
-        (lookups_stage ctx.old.face.now table.now.lookups lookups.now)
-        (state_with ctx.old.random_state buffer.old) ≡ Err e) }
+    ensures stage { DoesGlyphStageFrom ctx.old.random_state ctx.new.random_state (lookups_stage ctx.old.face.now
+        table.now.lookups lookups.now) result buffer.old buffer.new }
     ensures table { ctx.new.table_index ≡ GSUB }
     ensures face { ctx.new.face.now ≡ ctx.old.face.now }
 {
@@ -119,10 +106,8 @@ pub fn apply_lookups(
 ) -> Result<(), ShapeCause>
     requires ready { IsReady buffer.old }
     requires numbers { are_glyphs (items_of buffer.old) ≡ true }
-    ensures ok { OnOk result
-        (IsDone (with_own_random (lookups_stage face.now table.now.lookups lookups.now)) buffer.old buffer.new) }
-    ensures err { IfErr result (λ e. e ≢ ShapeCause.OutOfMemory → reading_of
-        (with_own_random (lookups_stage face.now table.now.lookups lookups.now)) (state_of buffer.old) ≡ Err e) }
+    ensures { DoesGlyphStage (with_own_random (lookups_stage face.now table.now.lookups lookups.now)) result
+        buffer.old buffer.new }
 {
     let mut ctx = hb_ot_apply_context_t::new(TableIndex::GSUB, face);
     apply_all(table, lookups, &mut ctx, buffer)

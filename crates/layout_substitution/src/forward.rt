@@ -1,10 +1,9 @@
 //! A lookup over a buffer with an open output (rustybuzz: hb/ot_layout.rs, `apply_forward`).
 ghost use Rattle.std.specs.Prelude.{◌≡◌, ◌≢◌, true, false, Err, IfErr, OnOk};
-ghost use Rattle.buffer_core.specs.Readings.{reading_of};
 ghost use Rattle.buffer_core.specs.Sides.{items_of};
 ghost use Rattle.layout_match.specs.Applied.{apply_context_of};
 ghost use Rattle.buffer_stages.specs.Buffers.{are_glyphs};
-ghost use Rattle.buffer_stages.specs.Ready.{IsDoneFrom, IsReady, state_with};
+ghost use Rattle.buffer_stages.specs.Ready.{DoesGlyphStageFrom, IsReady};
 ghost use Rattle.layout_match.specs.Trying.{forward_pass};
 ghost use Rattle.layout_substitution.specs.Lookups.{lookup_action};
 ghost use Rattle.layout_match.specs.Steps.{IsGivenUp, IsStep};
@@ -55,12 +54,8 @@ pub fn apply_forward(
 ) -> Result<(), ShapeCause>
     requires ready { IsReady buffer.old }
     requires numbers { are_glyphs (items_of buffer.old) ≡ true }
-    ensures ok { OnOk result
-        (IsDoneFrom ctx.old.random_state ctx.new.random_state (forward_pass
-        (lookup_action table.now.lookups (apply_context_of ctx.old) lookup.now)) buffer.old buffer.new) }
-    ensures err { IfErr result (λ e. e ≢ ShapeCause.OutOfMemory → reading_of (forward_pass
-        (lookup_action table.now.lookups (apply_context_of ctx.old) lookup.now)) (state_with ctx.old.random_state buffer.old)
-        ≡ Err e) }
+    ensures stage { DoesGlyphStageFrom ctx.old.random_state ctx.new.random_state (forward_pass (lookup_action
+        table.now.lookups (apply_context_of ctx.old) lookup.now)) result buffer.old buffer.new }
     ensures context { apply_context_of ctx.new ≡ apply_context_of ctx.old }
 {
     let count = buffer.len();

@@ -1,12 +1,11 @@
 //! Substitution, GSUB stage after GSUB stage (rustybuzz: hb/ot_layout_gsub_table.rs, `substitute`; hb/ot_layout.rs,
 //! `apply_layout_table`).
-ghost use Rattle.std.specs.Prelude.{ℕ, ◌≡◌, ◌≢◌, true, Err, IfErr, OnOk};
+ghost use Rattle.std.specs.Prelude.{ℕ, ◌≡◌, true};
 ghost use Rattle.std.specs.Option.{option_map_or, option_map};
-ghost use Rattle.buffer_core.specs.Readings.{reading_of};
-ghost use Rattle.buffer_core.specs.Sides.{items_of, state_of};
+ghost use Rattle.buffer_core.specs.Sides.{items_of};
 ghost use Rattle.layout_map_features.specs.declared.per_table.TableIndex.TheVariants.{GSUB};
 ghost use Rattle.buffer_stages.specs.Buffers.{are_glyphs};
-ghost use Rattle.buffer_stages.specs.Ready.{IsDone, IsDoneFrom, IsReady, state_with};
+ghost use Rattle.buffer_stages.specs.Ready.{DoesGlyphStage, DoesGlyphStageFrom, IsReady};
 ghost use Rattle.layout_substitution.specs.Lookups.{lookups_stage};
 ghost use Rattle.buffer_stages.specs.Settings.{text_settings};
 ghost use Rattle.layout_substitution.specs.Substituting.{substitution_stages, substitution_lookups, table_stage, table_stages};
@@ -30,11 +29,8 @@ fn apply_stage(
     requires substitution { ctx.old.table_index ≡ GSUB }
     requires ready { IsReady buffer.old }
     requires numbers { are_glyphs (items_of buffer.old) ≡ true }
-    ensures ok { OnOk result
-        (IsDoneFrom ctx.old.random_state ctx.new.random_state (lookups_stage ctx.old.face.now
-        (substitution_lookups ctx.old.face.now) lookups.now) buffer.old buffer.new) }
-    ensures err { IfErr result (λ e. e ≢ ShapeCause.OutOfMemory → reading_of (lookups_stage ctx.old.face.now
-        (substitution_lookups ctx.old.face.now) lookups.now) (state_with ctx.old.random_state buffer.old) ≡ Err e) }
+    ensures stage { DoesGlyphStageFrom ctx.old.random_state ctx.new.random_state (lookups_stage ctx.old.face.now
+        (substitution_lookups ctx.old.face.now) lookups.now) result buffer.old buffer.new }
     ensures table { ctx.new.table_index ≡ GSUB }
     ensures face { ctx.new.face.now ≡ ctx.old.face.now }
 {
@@ -55,15 +51,9 @@ fn apply_layout_table<P: Pause>(
     requires substitution { ctx.old.table_index ≡ GSUB }
     requires ready { IsReady buffer.old }
     requires numbers { are_glyphs (items_of buffer.old) ≡ true }
-    ensures ok { OnOk result
-        (IsDoneFrom ctx.old.random_state ctx.new.random_state (table_stages ctx.old.face.now
+    ensures { DoesGlyphStageFrom ctx.old.random_state ctx.new.random_state (table_stages ctx.old.face.now
         (substitution_lookups ctx.old.face.now) map.now.tables.gsub (P.stage pause.now (text_settings buffer.old)) 0
-        map.now.tables.gsub.stages)
-        buffer.old buffer.new) }
-    ensures err { IfErr result (λ e. e ≢ ShapeCause.OutOfMemory → reading_of (table_stages ctx.old.face.now
-        (substitution_lookups ctx.old.face.now) map.now.tables.gsub (P.stage pause.now (text_settings buffer.old)) 0
-        map.now.tables.gsub.stages)
-        (state_with ctx.old.random_state buffer.old) ≡ Err e) }
+        map.now.tables.gsub.stages) result buffer.old buffer.new }
 {
     let stages = map.stages(TableIndex::GSUB);
     for i in 0..stages.len() {
@@ -84,11 +74,8 @@ pub fn substitute<P: Pause>(
 ) -> Result<(), ShapeCause>
     requires ready { IsReady buffer.old }
     requires numbers { are_glyphs (items_of buffer.old) ≡ true }
-    ensures ok { OnOk result (IsDone (substitution_stages face.now map.now (P.stage pause.now (text_settings buffer.old)))
-        buffer.old buffer.new) }
-    ensures err { IfErr result (λ e. e ≢ ShapeCause.OutOfMemory
-        → reading_of (substitution_stages face.now map.now (P.stage pause.now (text_settings buffer.old))) (state_of buffer.old)
-        ≡ Err e) }
+    ensures { DoesGlyphStage (substitution_stages face.now map.now (P.stage pause.now (text_settings buffer.old)))
+        result buffer.old buffer.new }
 {
     let mut ctx = hb_ot_apply_context_t::new(TableIndex::GSUB, face);
     apply_layout_table(map, &mut ctx, buffer, pause)

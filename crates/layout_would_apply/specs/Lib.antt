@@ -1,1 +1,2 @@
+pub mod Subtables
 pub mod Woulds

@@ -8,7 +8,7 @@ use Rattle.layout_subtables.specs.declared.context.SequenceRule.{SequenceRule}
 use Rattle.layout_subtables.specs.declared.context.ClassRules.{ClassRules}
 use Rattle.layout_subtables.specs.declared.context.ContextSubtable.{ContextSubtable}
 use Rattle.layout_subtables.specs.declared.context.ContextSubtable.TheVariants.{Glyphs, Classes, Coverage}
-use Rattle.layout_gsub.specs.Woulds.{ligature_would, sequence_would, single_would}
+use Rattle.layout_would_apply.specs.Subtables.{ligature_would, sequence_would, single_would}
 use Rattle.layout_face.specs.declared.substitution.SubstitutionSubtables.{SubstitutionSubtables}
 use Rattle.layout_face.specs.declared.substitution.SubstitutionSubtables.TheVariants.{Single, Multiple, Alternate, Ligature, Context, ChainContext, ReverseChainSingle}
 

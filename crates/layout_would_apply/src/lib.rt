@@ -3,3 +3,4 @@
 #![tactic(auto)]
 
 pub mod lookup;
+pub mod subtables;

@@ -5,10 +5,10 @@ ghost use Rattle.layout_common.specs.Classes.{class_of};
 ghost use Rattle.layout_common.specs.Coverage.{is_covered};
 ghost use Rattle.layout_would_apply.specs.Woulds.{any_rule_would, class_rule_would, context_would, counts, coverage_rule_would, fit, glyph_rule_would, is_first_covered, lookup_would};
 
+use crate::subtables::{WouldApply, WouldApplyContext};
 use layout_common::class_definition::ClassDefinition;
 use layout_common::coverage::Coverage;
 use layout_face::substitution::{SubstLookup, SubstitutionSubtables};
-use layout_gsub::would_apply::{WouldApply, WouldApplyContext};
 use layout_subtables::context::{ClassRules, ContextSubtable, SequenceRule};
 
 /// Whether a rule counts: without context around the glyphs, one that requires glyphs before or after its input

@@ -2,6 +2,7 @@ pub mod Arabic
 pub mod Indic
 pub mod Joining
 pub mod Names
+pub mod Pauses
 pub mod Shapers
 pub mod Thai
 pub mod Universal

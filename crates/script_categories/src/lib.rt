@@ -14,6 +14,7 @@ pub mod machine;
 mod names;
 pub mod ot_category_t;
 pub mod ot_position_t;
+pub mod pause;
 pub mod scan;
 pub mod shaper;
 pub mod spans;
@@ -26,6 +27,7 @@ pub use joining_types::{hb_arabic_joining_type_t, joining_type_number, joining_t
 pub use machine::{Accept, Step, SyllableMachine, SyllableMachines};
 pub use ot_category_t::indic_category_number;
 pub use ot_position_t::indic_position_number;
+pub use pause::hb_script_pause_t;
 pub use shaper::{hb_ot_script_shaper_t, machine_shaper};
 pub use spans::SyllableSpans;
 pub use table::SyllableTable;

@@ -1,57 +1,46 @@
 -- The hooks of the scripts' shapers, as stages on a text.
-use Rattle.std.specs.Prelude.{ℕ, ◌==◌, ◌&&◌, not, Bool, false, if◌then◌else◌, List, Option, Some, None, codes}
+use Rattle.std.specs.Prelude.{ℕ, not, Bool, List, Option, Some, None, codes}
 use Rattle.buffer_common.specs.declared.script.Script.{Script}
 use Rattle.buffer_common.specs.declared.script.TheConstants as script
 use Rattle.buffer_unicode_tables.specs.Expansion.{Splits}
 use Rattle.buffer_unicode_tables.specs.Tables.{Tables, pair_of, split_of}
 use Rattle.layout_face.specs.declared.parts.FaceParts.{FaceParts}
-use Rattle.buffer_properties.specs.Properties.{is_mark_character}
 use Rattle.buffer_glyphs.specs.Items.{Item}
-use Rattle.buffer_core.specs.Readings.{Stage, always, and_then, as_it_is}
+use Rattle.buffer_core.specs.Readings.{Stage, always, as_it_is}
 use Rattle.layout_map.specs.Compiled.{OtMapValue}
+use Rattle.layout_map.specs.Masks.{has_mask, joining_masks, mask_at_one}
 use Rattle.buffer_stages.specs.Pauses.{Pauses}
 use Rattle.buffer_stages.specs.Settings.{TextSettings}
 use Rattle.buffer_glyphs.specs.Rewriting.{Arrangement, eventless_arrangement}
 use Rattle.buffer_stages.specs.Stages.{with_items_mapped}
-use Rattle.script_plan.specs.Plans.{has_mask, mask_at_one}
-use Rattle.script_plan.specs.declared.pause.hb_script_pause_t.{hb_script_pause_t}
-use Rattle.script_plan.specs.declared.pause.hb_script_pause_t.TheVariants.{RecordStch, SetupSyllables, ReorderKhmer, ReorderMyanmar, ClearSyllables, ClearSubstitutionFlags, RecordRphf, RecordPref, ReorderUse, InitialReordering, FinalReordering}
-use Rattle.script_plan.specs.Pauses.{pause_of_number}
+use Rattle.script_categories.specs.declared.pause.hb_script_pause_t.{hb_script_pause_t}
+use Rattle.script_categories.specs.declared.pause.hb_script_pause_t.TheVariants.{RecordStch, SetupSyllables, ReorderKhmer, ReorderMyanmar, ClearSyllables, ClearSubstitutionFlags, RecordRphf, RecordPref, ReorderUse, InitialReordering, FinalReordering}
+use Rattle.script_categories.specs.Pauses.{pause_of_number}
 use Rattle.script_categories.specs.declared.shaper.hb_ot_script_shaper_t.{hb_ot_script_shaper_t}
 use Rattle.script_categories.specs.declared.shaper.hb_ot_script_shaper_t.TheVariants.{ARABIC_SHAPER, HANGUL_SHAPER, HEBREW_SHAPER, INDIC_SHAPER, KHMER_SHAPER, MYANMAR_SHAPER, THAI_SHAPER, UNIVERSAL_SHAPER}
-use Rattle.script_hebrew_thai.specs.Hebrew.{hebrew_pair}
-use Rattle.script_hebrew_thai.specs.ThaiPrivate.{with_private}
-use Rattle.script_hebrew_thai.specs.ThaiVowel.{vowels_split}
+use Rattle.script_hebrew.specs.Hebrew.{hebrew_pair}
+use Rattle.script_hebrew.specs.MarkOrder.{hebrew_order}
+use Rattle.script_thai.specs.Texts.{thai_text}
 use Rattle.script_hangul.specs.Hangul.{syllables_formed}
+use Rattle.script_hangul.specs.MapMasks.{jamo_masks}
 use Rattle.script_hangul.specs.Masks.{with_letter_mask}
-use Rattle.script_khmer_myanmar.specs.Khmer.{khmer_split}
-use Rattle.script_mark_orders.specs.Orders.{arabic_order, hebrew_order}
+use Rattle.script_khmer.specs.Khmer.{khmer_split}
+use Rattle.script_khmer.specs.Masks.{khmer_masks}
+use Rattle.script_khmer.specs.Pauses.{khmer_order}
+use Rattle.script_myanmar.specs.Pauses.{myanmar_order}
+use Rattle.script_universal.specs.Masks.{form_masks, universal_masks_set}
+use Rattle.script_universal.specs.Pauses.{universal_order, universal_syllables_set}
+use Rattle.script_joining.specs.Joining.{letters_joined}
+use Rattle.script_arabic.specs.MarkOrder.{arabic_order}
+use Rattle.script_arabic.specs.Stretch.{tiles_laid}
+use Rattle.script_arabic.specs.Tiles.{tiles_recorded}
 use Rattle.script_syllabic.specs.Bytes.{syllables_set}
+use Rattle.script_syllabic.specs.Categories.{categories_set, ot_category_of}
+use Rattle.script_syllabic.specs.Characters.{unmarked_pair}
 use Rattle.script_syllabic.specs.Features.{pref_recorded, rphf_recorded}
-use Rattle.script_pauses.specs.Categories.{categories_set, ot_category_of}
-use Rattle.script_pauses.specs.Syllables.{khmer_order, myanmar_order, substitutions_cleared, syllables_by, syllables_cleared, universal_order, universal_syllables_set}
-use Rattle.script_pauses.specs.Tiles.{tiles_recorded}
-use Rattle.script_pauses.specs.Stretch.{tiles_laid}
-use Rattle.script_dispatch.specs.Masks.{form_masks, jamo_masks, khmer_masks, letters_joined, universal_masks_set}
+use Rattle.script_syllabic.specs.Syllables.{substitutions_cleared, syllables_by, syllables_cleared}
 
 -- ---- the text
-
--- a text's script is Thai
-abbrev pub is_thai : Option Script → Bool
-is_thai None = false
-is_thai (Some s) = s.0.0 == script.THAI.0.0
-
--- the text is Thai and the font has no GSUB script for it, so it may have private-use forms of its marks
-abbrev pub has_private_forms : OtMapValue → Option Script → Bool
-has_private_forms m s = is_thai s && not m.tables.gsub.found_script
-
--- the stage of Thai private-use forms, if a condition holds
-abbrev pub private_if : Bool → Tables → FaceParts → Stage
-private_if b t font v = if b then always (with_private t font) v else as_it_is v
-
--- the stage of Thai and Lao texts: vowels are decomposed, then marks replaced by private-use forms
-abbrev pub thai_text : OtMapValue → Option Script → Tables → FaceParts → Stage
-thai_text m s t font v = and_then (vowels_split v) (private_if (has_private_forms m s) t font)
 
 -- the stage before normalizing: vowels of Thai and Lao, syllables of Hangul (HarfBuzz: preprocess_text)
 abbrev pub preprocessing_by : hb_ot_script_shaper_t → OtMapValue → Option Script → FaceParts → Tables → TextSettings → Stage
@@ -65,10 +54,6 @@ preprocessing_by _ m s font t settings = as_it_is
 abbrev pub splits_by : hb_ot_script_shaper_t → Tables → Splits
 splits_by KHMER_SHAPER t = khmer_split t
 splits_by _ t = split_of t
-
--- the composition of two characters, the first of which is no mark
-abbrev pub unmarked_pair : Tables → ℕ → ℕ → Option ℕ
-unmarked_pair t a b = if is_mark_character a then None else pair_of t a b
 
 -- the compositions of characters: Unicode's, with presentation forms in Hebrew where the font has no GPOS mark
 -- positioning (HarfBuzz: compose)
@@ -89,7 +74,7 @@ reorders_by _ = λ run. eventless_arrangement run
 
 -- the stage that sets letters' forms, jamo masks and categories (HarfBuzz: setup_masks)
 abbrev pub masks_set_by : hb_ot_script_shaper_t → OtMapValue → Option Script → Tables → TextSettings → Stage
-masks_set_by ARABIC_SHAPER m s t settings = letters_joined m s t settings.pre_context settings.post_context
+masks_set_by ARABIC_SHAPER m s t settings = letters_joined (joining_masks m) s t settings.pre_context settings.post_context
 masks_set_by HANGUL_SHAPER m s t settings = always (with_items_mapped (with_letter_mask (jamo_masks m)))
 masks_set_by KHMER_SHAPER m s t settings = categories_set (ot_category_of t)
 masks_set_by MYANMAR_SHAPER m s t settings = categories_set (ot_category_of t)

@@ -10,19 +10,23 @@ use Rattle.buffer_stages.specs.Stages.{with_items_mapped}
 use Rattle.buffer_stage_laws.specs.Plainly.{KeepsPlainly}
 use Rattle.script_plan.specs.Rules.{EndAfterStart, Spans}
 use Rattle.script_categories.specs.declared.shaper.hb_ot_script_shaper_t.{hb_ot_script_shaper_t}
-use Rattle.script_hebrew_thai.specs.ThaiPrivate.{with_private}
-use Rattle.script_hebrew_thai.specs.ThaiVowel.{vowels_split}
+use Rattle.script_thai.specs.ThaiPrivate.{with_private}
+use Rattle.script_thai.specs.ThaiVowel.{vowels_split}
 use Rattle.script_hangul.specs.declared.masks.JamoMasks.{JamoMasks}
 use Rattle.script_hangul.specs.Hangul.{syllables_formed}
 use Rattle.script_hangul.specs.Masks.{with_letter_mask}
 use Rattle.script_syllabic.specs.Bytes.{syllables_set}
-use Rattle.script_khmer_myanmar.specs.declared.khmer.KhmerMasks.{KhmerMasks}
+use Rattle.script_khmer.specs.declared.khmer.KhmerMasks.{KhmerMasks}
 use Rattle.script_syllabic.specs.declared.forms.FormMasks.{FormMasks}
 use Rattle.script_syllabic.specs.Features.{pref_recorded, rphf_recorded}
-use Rattle.script_pauses.specs.Categories.{categories_set}
-use Rattle.script_pauses.specs.Syllables.{khmer_order, myanmar_order, substitutions_cleared, syllables_by, syllables_cleared, universal_order, universal_syllables_set}
-use Rattle.script_dispatch.specs.Masks.{letters_joined, universal_masks_set}
-use Rattle.script_pauses.specs.Tiles.{tiles_recorded}
+use Rattle.script_syllabic.specs.Categories.{categories_set}
+use Rattle.script_khmer.specs.Pauses.{khmer_order}
+use Rattle.script_myanmar.specs.Pauses.{myanmar_order}
+use Rattle.script_syllabic.specs.Syllables.{substitutions_cleared, syllables_by, syllables_cleared}
+use Rattle.script_universal.specs.Pauses.{universal_order, universal_syllables_set}
+use Rattle.script_joining.specs.Joining.{letters_joined}
+use Rattle.script_universal.specs.Masks.{universal_masks_set}
+use Rattle.script_arabic.specs.Tiles.{tiles_recorded}
 
 -- vowels of Thai and Lao, private forms of Thai, and syllables of Hangul
 pub record TextsKeepPlainly : Type 0 where
@@ -47,7 +51,7 @@ pub record OrdersKeepPlainly : Type 0 where
 
 -- the forms of letters, their positions in syllables, the categories of characters, and which glyphs are tiles
 pub record MasksKeepPlainly : Type 0 where
-  pub joined : (m : OtMapValue) (s : Option Script) (t : Tables) (pre post : List ℕ) → KeepsPlainly (letters_joined m s t pre post)
+  pub joined : (masks : List ℕ) (s : Option Script) (t : Tables) (pre post : List ℕ) → KeepsPlainly (letters_joined masks s t pre post)
   pub places : (masks : JamoMasks) → KeepsPlainly (always (with_items_mapped (with_letter_mask masks)))
   pub categories : (category_of : ℕ → ℕ) → KeepsPlainly (categories_set category_of)
   pub universal : (m : OtMapValue) (s : Option Script) (t : Tables) (pre post : List ℕ) → KeepsPlainly (universal_masks_set m s t pre post)

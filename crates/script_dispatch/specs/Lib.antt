@@ -1,5 +1,4 @@
 pub mod Lemmas
-pub mod Masks
 pub mod Shapers
 pub mod Dispatch
 pub mod Requests

@@ -8,7 +8,7 @@ use Rattle.buffer_core.specs.Readings.{as_it_is}
 use Rattle.layout_map.specs.Compiled.{OtMapValue}
 use Rattle.buffer_stages.specs.Settings.{TextSettings}
 use Rattle.buffer_glyphs.specs.Rewriting.{eventless_arrangement}
-use Rattle.script_plan.specs.Lists.{features_of, overrides_of}
+use Rattle.script_dispatch.specs.Shapers.{features_of, overrides_of}
 use Rattle.script_categories.specs.declared.shaper.hb_ot_script_shaper_t.{hb_ot_script_shaper_t}
 use Rattle.script_categories.specs.declared.shaper.hb_ot_script_shaper_t.TheVariants.{ARABIC_SHAPER, HANGUL_SHAPER, HEBREW_SHAPER, INDIC_SHAPER, KHMER_SHAPER, MYANMAR_SHAPER, THAI_SHAPER, UNIVERSAL_SHAPER}
 use Rattle.script_dispatch.specs.Hooks.{composes_by, masks_set_by, postprocessing_by, preprocessing_by, reorders_by, splits_by}

@@ -4,7 +4,7 @@ use Rattle.buffer_common.specs.declared.script.Script.{Script}
 use Rattle.buffer_common.specs.Tag.{tag_of}
 use Rattle.layout_map.specs.Compiled.{MapRequests}
 use Rattle.layout_map.specs.Features.{in_any, system_features}
-use Rattle.script_plan.specs.Asks.{with_ask}
+use Rattle.layout_map.specs.Requests.{with_map_request}
 use Rattle.script_plan.specs.Traits.{ShaperKind}
 use Rattle.script_dispatch.specs.declared.any_shaper.hb_ot_any_shaper_t.{hb_ot_any_shaper_t}
 use Rattle.script_dispatch.specs.Dispatch.{shaper_of}
@@ -16,11 +16,11 @@ has_rclt b = in_any (system_features (tag_of (codes "rclt")) b.tables)
 
 -- the requests with a shaper's features, between the common ones
 abbrev pub collected_requests : hb_ot_any_shaper_t → Option Script → MapRequests → MapRequests
-collected_requests shaper script b = fold with_ask b (shaper_features shaper script (has_rclt b))
+collected_requests shaper script b = fold with_map_request b (shaper_features shaper script (has_rclt b))
 
 -- the requests with a shaper's features after the user's
 abbrev pub overridden : hb_ot_any_shaper_t → Option Script → MapRequests → MapRequests
-overridden shaper script b = fold with_ask b (shaper_overrides shaper)
+overridden shaper script b = fold with_map_request b (shaper_overrides shaper)
 
 -- the family of this stack's shapers, which have no data of their own in a plan
 abbrev pub any_kind : ShaperKind hb_ot_any_shaper_t ⊤

@@ -6,8 +6,13 @@ use Rattle.buffer_properties.specs.declared.normal_mode.NormalizationMode.TheVar
 use Rattle.script_plan.specs.Traits.{ShaperTraits}
 use Rattle.script_categories.specs.declared.shaper.hb_ot_script_shaper_t.{hb_ot_script_shaper_t}
 use Rattle.script_categories.specs.declared.shaper.hb_ot_script_shaper_t.TheVariants.{ARABIC_SHAPER, HANGUL_SHAPER, HEBREW_SHAPER, INDIC_SHAPER, KHMER_SHAPER, MYANMAR_SHAPER, MYANMAR_ZAWGYI_SHAPER, THAI_SHAPER, UNIVERSAL_SHAPER}
-use Rattle.script_plan.specs.declared.ask.Ask.{Ask}
-use Rattle.script_plan.specs.Lists.{features_of, overrides_of}
+use Rattle.layout_map.specs.declared.request.MapRequest.{MapRequest}
+use Rattle.script_arabic.specs.Requests.{arabic_features, is_arabic}
+use Rattle.script_hangul.specs.Requests.{hangul_features, hangul_overrides}
+use Rattle.script_indic.specs.Requests.{indic_features, indic_overrides}
+use Rattle.script_khmer.specs.Requests.{khmer_features, khmer_overrides}
+use Rattle.script_myanmar.specs.Requests.{myanmar_features}
+use Rattle.script_universal.specs.Requests.{universal_features}
 use Rattle.script_dispatch.specs.declared.any_shaper.hb_ot_any_shaper_t.{hb_ot_any_shaper_t}
 use Rattle.script_dispatch.specs.declared.any_shaper.hb_ot_any_shaper_t.TheVariants as any
 use Rattle.script_plan.specs.declared.planned.TheConstants.{HB_OT_SHAPE_ZERO_WIDTH_MARKS_NONE, HB_OT_SHAPE_ZERO_WIDTH_MARKS_BY_GDEF_EARLY, HB_OT_SHAPE_ZERO_WIDTH_MARKS_BY_GDEF_LATE}
@@ -42,13 +47,30 @@ traits_of any.Default = simple_traits
 traits_of any.Dumber = record simple_traits { zero_width_marks = HB_OT_SHAPE_ZERO_WIDTH_MARKS_NONE; fallback_position = false }
 traits_of (any.Script s) = script_traits s
 
+-- the requests of a script's shaper, between the common ones (HarfBuzz: collect_features)
+abbrev pub features_of : hb_ot_script_shaper_t → Option Script → Bool → List MapRequest
+features_of ARABIC_SHAPER script has_rclt = arabic_features (is_arabic script) has_rclt
+features_of HANGUL_SHAPER script has_rclt = hangul_features
+features_of INDIC_SHAPER script has_rclt = indic_features
+features_of KHMER_SHAPER script has_rclt = khmer_features
+features_of MYANMAR_SHAPER script has_rclt = myanmar_features
+features_of UNIVERSAL_SHAPER script has_rclt = universal_features
+features_of _ script has_rclt = []
+
+-- the requests of a script's shaper after the user's (HarfBuzz: override_features)
+abbrev pub overrides_of : hb_ot_script_shaper_t → List MapRequest
+overrides_of HANGUL_SHAPER = hangul_overrides
+overrides_of INDIC_SHAPER = indic_overrides
+overrides_of KHMER_SHAPER = khmer_overrides
+overrides_of _ = []
+
 -- the requests of a shaper between the common ones, where the font has or lacks `rclt`
-abbrev pub shaper_features : hb_ot_any_shaper_t → Option Script → Bool → List Ask
+abbrev pub shaper_features : hb_ot_any_shaper_t → Option Script → Bool → List MapRequest
 shaper_features (any.Script s) script has_rclt = features_of s script has_rclt
 shaper_features _ script has_rclt = []
 
 -- the requests of a shaper after the user's
-abbrev pub shaper_overrides : hb_ot_any_shaper_t → List Ask
+abbrev pub shaper_overrides : hb_ot_any_shaper_t → List MapRequest
 shaper_overrides (any.Script s) = overrides_of s
 shaper_overrides _ = []
 

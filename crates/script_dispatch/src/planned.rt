@@ -1,19 +1,17 @@
 //! The planner's hooks of the shapers of this stack.
-ghost use Rattle.std.specs.Prelude.{◌≡◌, OnOk, fold};
-ghost use Rattle.script_plan.specs.Asks.{with_ask};
 ghost use Rattle.script_dispatch.specs.Dispatch.{shaper_of};
-ghost use Rattle.script_dispatch.specs.Requests.{collected_requests, overridden, has_rclt};
-ghost use Rattle.script_dispatch.specs.Shapers.{shaper_features, shaper_overrides, traits_of};
+ghost use Rattle.script_dispatch.specs.Requests.{collected_requests, overridden};
+ghost use Rattle.script_dispatch.specs.Shapers.{traits_of};
 
 use crate::any_shaper::{DEFAULT_SHAPER, hb_ot_any_shaper_t};
 use crate::dispatch::hb_ot_shape_complex_categorize;
+use crate::scripts;
 use buffer_common::direction::Direction;
 use buffer_common::script::Script;
 use buffer_common::tag::Tag;
 use buffer_properties::NormalizationMode;
 use layout_map::builder::hb_ot_map_builder_t;
 use layout_map::map::hb_ot_map_t;
-use script_plan::collecting;
 use script_plan::planned::{CategorizedShaper, PlannedShaper, hb_ot_shape_zero_width_marks_type_t};
 use std::alloc::{AllocError, Global};
 
@@ -51,7 +49,7 @@ impl PlannedShaper for hb_ot_any_shaper_t {
     ) -> Result<(), AllocError> {
         match *self {
             hb_ot_any_shaper_t::Script(shaper) => {
-                collecting::collect_features(shaper, builder, script)
+                scripts::collect_features(shaper, builder, script)
             }
             _ => Ok(()),
         }
@@ -63,7 +61,7 @@ impl PlannedShaper for hb_ot_any_shaper_t {
         _script: Option<Script>,
     ) -> Result<(), AllocError> {
         match *self {
-            hb_ot_any_shaper_t::Script(shaper) => collecting::override_features(shaper, builder),
+            hb_ot_any_shaper_t::Script(shaper) => scripts::override_features(shaper, builder),
             _ => Ok(()),
         }
     }

@@ -1,11 +1,11 @@
 //! The pipeline's hooks of the shapers of this stack.
 use crate::any_shaper::hb_ot_any_shaper_t;
-use crate::{characters, glyphs, masks, pauses, text};
+use crate::scripts;
 use buffer_core::buffer::hb_buffer_t;
 use buffer_glyphs::cause::ShapeCause;
 use buffer_unicode_tables::UnicodeTables;
 use layout_face::Face;
-use script_categories::SyllableSpans;
+use script_categories::{SyllableSpans, hb_script_pause_t};
 use script_plan::hb_ot_shaper_t;
 use script_plan::plan::hb_script_plan_t;
 use std::alloc::Global;
@@ -39,7 +39,7 @@ impl hb_ot_shaper_t for hb_ot_any_shaper_t {
     ) -> Result<(), ShapeCause> {
         match *self {
             hb_ot_any_shaper_t::Script(shaper) => {
-                text::preprocess_text(shaper, plan, face, tables, buffer)
+                scripts::preprocess_text(shaper, plan, face, tables, buffer)
             }
             _ => Ok(()),
         }
@@ -52,7 +52,7 @@ impl hb_ot_shaper_t for hb_ot_any_shaper_t {
         ab: char,
     ) -> Option<(char, char)> {
         match *self {
-            hb_ot_any_shaper_t::Script(shaper) => characters::decompose(shaper, tables, ab),
+            hb_ot_any_shaper_t::Script(shaper) => scripts::decompose(shaper, tables, ab),
             _ => buffer_unicode_tables::decompose(tables, ab),
         }
     }
@@ -66,7 +66,7 @@ impl hb_ot_shaper_t for hb_ot_any_shaper_t {
     ) -> Option<char> {
         match *self {
             hb_ot_any_shaper_t::Script(shaper) => {
-                characters::compose(shaper, plan.choices.has_gpos_mark, tables, a, b)
+                scripts::compose(shaper, plan.choices.has_gpos_mark, tables, a, b)
             }
             _ => buffer_unicode_tables::compose(tables, a, b),
         }
@@ -81,7 +81,7 @@ impl hb_ot_shaper_t for hb_ot_any_shaper_t {
         end: usize,
     ) {
         if let hb_ot_any_shaper_t::Script(shaper) = *self {
-            characters::reorder_marks(shaper, buffer, start, end);
+            scripts::reorder_marks(shaper, buffer, start, end);
         }
     }
 
@@ -93,7 +93,7 @@ impl hb_ot_shaper_t for hb_ot_any_shaper_t {
         buffer: &mut hb_buffer_t,
     ) -> Result<(), ShapeCause> {
         if let hb_ot_any_shaper_t::Script(shaper) = *self {
-            masks::setup_masks(shaper, plan, tables, buffer);
+            scripts::setup_masks(shaper, plan, tables, buffer);
         }
         Ok(())
     }
@@ -108,9 +108,9 @@ impl hb_ot_shaper_t for hb_ot_any_shaper_t {
         spans: &P,
         buffer: &mut hb_buffer_t,
     ) -> Result<bool, ShapeCause> {
-        match *self {
-            hb_ot_any_shaper_t::Script(shaper) => {
-                pauses::run_pause(shaper, alloc, pause, plan, face, spans, buffer)
+        match (*self, hb_script_pause_t::from_number(pause)) {
+            (hb_ot_any_shaper_t::Script(shaper), Some(pause)) => {
+                scripts::run_pause(shaper, alloc, pause, plan, face, spans, buffer)
             }
             _ => Ok(false),
         }
@@ -125,7 +125,7 @@ impl hb_ot_shaper_t for hb_ot_any_shaper_t {
     ) -> Result<(), ShapeCause> {
         match *self {
             hb_ot_any_shaper_t::Script(shaper) => {
-                glyphs::postprocess_glyphs(shaper, alloc, face, buffer)
+                scripts::postprocess_glyphs(shaper, alloc, face, buffer)
             }
             _ => Ok(()),
         }

@@ -2,3 +2,4 @@ pub mod Put
 pub mod Fits
 pub mod Walk
 pub mod Masked
+pub mod Requested

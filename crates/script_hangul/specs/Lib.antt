@@ -4,3 +4,5 @@ pub mod Steps
 pub mod Stepped
 pub mod Hangul
 pub mod Masks
+pub mod MapMasks
+pub mod Requests

@@ -1,15 +1,13 @@
 //! The Hangul shaper's preprocess_text (rustybuzz: hb/ot_shaper_hangul.rs).
 ghost use Rattle.std.specs.Prelude.{◌≡◌, ◌≢◌, ◌<◌, ◌≤◌, true, false, length, IfOk, OnOk, IfErr, Err};
 ghost use Rattle.buffer_glyphs.specs.Items.{strip};
-ghost use Rattle.buffer_core.specs.Readings.{reading_of};
-ghost use Rattle.buffer_core.specs.Sides.{state_of};
 ghost use Rattle.buffer_stages.specs.Ready.{IsReady};
 ghost use Rattle.script_hangul.specs.Actions.{action_on};
 ghost use Rattle.script_hangul.specs.Steps.{step_of};
 ghost use Rattle.script_hangul.specs.Hangul.{character_at, step, syllables_formed, wants_circles};
 ghost use Rattle.script_hangul.specs.Stepped.{Passes, Refuses, IsStepped};
 ghost use Rattle.buffer_stages.specs.Walks.{RefusesLength};
-ghost use Rattle.buffer_stages.specs.Stages.{IsFollowed};
+ghost use Rattle.buffer_stages.specs.Stages.{DoesStage};
 
 use crate::actions::action_on;
 use crate::jamo::is_tone;
@@ -31,9 +29,7 @@ use layout_face::Face;
 /// `TooLong` where the text would have more characters than the buffer may hold, or lack of memory.
 pub fn preprocess_text(face: &Face, buffer: &mut hb_buffer_t) -> Result<(), ShapeCause>
     requires ready { IsReady buffer.old }
-    ensures ok { OnOk result (IsFollowed (syllables_formed face.now buffer.old.flags) buffer.old buffer.new) }
-    ensures err { IfErr result (λ e. e ≢ ShapeCause.OutOfMemory
-        → reading_of (syllables_formed face.now buffer.old.flags) (state_of buffer.old) ≡ Err e) }
+    ensures { DoesStage (syllables_formed face.now buffer.old.flags) result buffer.old buffer.new }
 {
     let circles = wants_circles(buffer.flags());
     let count = buffer.len();

@@ -4,6 +4,9 @@
 pub mod actions;
 pub mod hangul;
 pub mod jamo;
+pub mod map_masks;
 pub mod masks;
 mod performing;
+pub mod requests;
+pub mod text;
 mod tones;

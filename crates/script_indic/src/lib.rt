@@ -13,6 +13,7 @@ pub mod laws;
 mod left;
 mod places;
 mod reph;
+pub mod requests;
 pub mod script;
 mod sought;
 mod words;

@@ -1,4 +1,3 @@
 pub mod Formed
 pub mod Marked
 pub mod Joined
-pub mod Reordered

@@ -4,7 +4,9 @@ use Rattle.script_categories.specs.declared.joining_types.hb_arabic_joining_type
 use Rattle.buffer_unicode_tables.specs.Tables.{Tables}
 use Rattle.buffer_glyphs.specs.Items.{Item, without_flags}
 use Rattle.buffer_glyphs.specs.Events.{Event, Concat, Tatweel}
-use Rattle.buffer_core.specs.Readings.{View, Read, with_events}
+use Rattle.buffer_common.specs.declared.script.Script.{Script}
+use Rattle.buffer_common.specs.declared.script.TheConstants as script
+use Rattle.buffer_core.specs.Readings.{Stage, View, Read, always, with_events}
 use Rattle.script_joining.specs.declared.flags.Letter.{Letter}
 use Rattle.script_joining.specs.Types.{JoiningType, type_of_item, type_of_character}
 use Rattle.script_joining.specs.Forms.{letter_form}
@@ -115,3 +117,12 @@ abbrev pub letters_with_forms : Tables → Bool → List ℕ → List ℕ → Li
 letters_with_forms t mongolian masks pre post v =
     with_events (neighbour_events (nearest (types_of_characters t pre)) None 0 (types_of_items t v.items))
     (record v { items = items_with_forms t mongolian masks pre post v.items })
+
+-- a text's script is Mongolian
+abbrev pub is_mongolian : Option Script → Bool
+is_mongolian None = false
+is_mongolian (Some s) = s.0.0 == script.MONGOLIAN.0.0
+
+-- the stage that sets letters' forms and their masks, by a text's script and the contexts before and after it
+abbrev pub letters_joined : List ℕ → Option Script → Tables → List ℕ → List ℕ → Stage
+letters_joined masks s t pre post = always (letters_with_forms t (is_mongolian s) masks pre post)

@@ -1,11 +1,11 @@
-//! Arabic joining: the letters' forms between their neighbours, and the order of Arabic marks.
+//! Arabic joining: the letters' forms between their neighbours, for Arabic and for the scripts of the universal shaper
+//! that join (rustybuzz: hb/ot_shaper_arabic.rs).
 #![tactic(auto)]
 
 mod flags;
 mod forms;
 pub mod laws;
 mod letters;
-pub mod marks;
 mod masks;
 mod types;
 

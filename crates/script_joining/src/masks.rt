@@ -3,24 +3,50 @@ ghost use Rattle.std.specs.Prelude.{◌≡◌};
 ghost use Rattle.buffer_core.specs.Readings.{always};
 ghost use Rattle.buffer_stages.specs.Ready.{IsReady};
 ghost use Rattle.script_joining.specs.Glyphs.{AreFlagless, item_typed};
-ghost use Rattle.script_joining.specs.Joining.{letters_with_forms};
+ghost use Rattle.script_joining.specs.Joining.{is_mongolian, letters_joined, letters_with_forms};
 ghost use Rattle.buffer_stages.specs.Stages.{IsFollowed, with_items_mapped};
 
 use crate::flags::flag_neighbours;
 use crate::letters::join;
 use crate::types::{nearest_in_context, typed};
-use buffer_common::script::Script;
+use buffer_common::script::{MONGOLIAN, Script};
 use buffer_core::buffer::hb_buffer_t;
 use buffer_glyphs::info::hb_mask_t;
 use buffer_stages::glyphs::map_glyphs;
 use buffer_unicode_tables::UnicodeTables;
+
+/// Sets each letter's form in a text of a script by its neighbours, and adds the mask of the form's feature
+/// (`setup_masks_inner`). It takes linear time and no memory.
+pub fn setup_masks_inner(
+    tables: &UnicodeTables,
+    script: Option<Script>,
+    masks: &[hb_mask_t],
+    buffer: &mut hb_buffer_t,
+)
+    requires ready { IsReady buffer.old }
+    requires flagless { AreFlagless masks.now }
+    ensures { IsFollowed
+        (letters_joined masks.now script tables.now buffer.old.pre_context buffer.old.post_context)
+        buffer.old buffer.new }
+{
+    join_letters(tables, is_mongolian(script), masks, buffer);
+}
+
+fn is_mongolian(script: Option<Script>) -> bool
+    ensures { result ≡ is_mongolian script }
+{
+    match script {
+        Some(script) => script == MONGOLIAN,
+        None => false,
+    }
+}
 
 /// Sets each letter's form, as its `auxiliary`, and adds the mask of the form's feature (`setup_masks`): `masks` has
 /// those of ISOL, FINA, FIN2, FIN3, MEDI, MED2 and INIT, in this order. The letters of the contexts count as
 /// neighbours. In Mongolian a variation selector gets the form of the character before it. Two neighbouring letters are
 /// flagged as safe to insert a tatweel where the second changes the form of the first, else as unsafe to concat. It
 /// takes linear time and no memory.
-pub fn setup_masks_inner(
+fn join_letters(
     tables: &UnicodeTables,
     is_mongolian: bool,
     masks: &[hb_mask_t],

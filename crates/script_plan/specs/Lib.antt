@@ -1,8 +1,5 @@
 pub mod Lemmas
-pub mod Asks
 pub mod Common
-pub mod Lists
-pub mod Pauses
 pub mod Requests
 pub mod Traits
 pub mod Plans

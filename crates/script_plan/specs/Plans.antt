@@ -1,15 +1,14 @@
 -- The plan for texts of one direction, script and language, and one font.
-use Rattle.std.specs.Prelude.{ℕ, Bool, false, ◌≡◌, ◌==◌, ◌&&◌, ◌||◌, not, List, Option, Some, None, is_some, codes}
-use Rattle.std.specs.Option.{option_map_or}
+use Rattle.std.specs.Prelude.{Bool, false, ◌≡◌, ◌==◌, ◌&&◌, ◌||◌, not, List, Option, Some, None, is_some, codes}
 use Rattle.buffer_common.specs.declared.tag.Tag.{Tag}
 use Rattle.buffer_common.specs.declared.script.Script.{Script}
 use Rattle.buffer_common.specs.declared.direction.Direction.{Direction}
-use Rattle.buffer_common.specs.Tag.{tag_of}
 use Rattle.buffer_common.specs.ScriptTags.{wanted_tags}
 use Rattle.buffer_features.specs.declared.feature.Feature.{Feature}
 use Rattle.layout_face.specs.declared.parts.FaceParts.{FaceParts}
-use Rattle.layout_map.specs.Compiled.{MapRequests, OtMapValue, compiled_map, feature_at, no_requests}
+use Rattle.layout_map.specs.Compiled.{MapRequests, OtMapValue, compiled_map, no_requests}
 use Rattle.layout_map.specs.Chosen.{script_tag}
+use Rattle.layout_map.specs.Masks.{has_mask}
 use Rattle.script_plan.specs.declared.planned.TheConstants.{HB_OT_SHAPE_ZERO_WIDTH_MARKS_NONE}
 use Rattle.script_plan.specs.declared.plan.PlanChoices.{PlanChoices}
 use Rattle.script_plan.specs.declared.plan.hb_ot_shape_plan_t.{hb_ot_shape_plan_t}
@@ -24,14 +23,6 @@ nothing_asked font script languages = no_requests (wanted_tags script) languages
 -- the GSUB script that is chosen for the text
 abbrev pub gsub_script : FaceParts → Option Script → List Tag → Option Tag
 gsub_script font script languages = script_tag (nothing_asked font script languages).tables.gsub
-
--- the mask of a feature with value 1, 0 where the map lacks it
-abbrev pub mask_at_one : List ℕ → OtMapValue → ℕ
-mask_at_one name m = option_map_or (λ f. f.one_mask) (feature_at (tag_of name) m) 0
-
--- the map has a mask for the feature
-abbrev pub has_mask : List ℕ → OtMapValue → Bool
-has_mask name m = not (mask_at_one name m == 0)
 
 -- the map has the feature frac, or both numr and dnom
 abbrev pub has_fractions : OtMapValue → Bool

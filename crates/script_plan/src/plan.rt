@@ -1,7 +1,7 @@
 //! The shape plan for one direction, script, language and font (rustybuzz: hb/ot_shape_plan.rs).
 ghost use Rattle.std.specs.Prelude.{◌≡◌, codes};
 ghost use Rattle.std.specs.Int.RustNames.{bit_and};
-ghost use Rattle.script_plan.specs.Plans.{mask_at_one};
+ghost use Rattle.layout_map.specs.Masks.{mask_at_one};
 ghost use Rattle.buffer_glyphs.specs.declared.info.TheConstants.{DEFINED};
 
 use crate::planned::PlannedShaper;

@@ -1,10 +1,11 @@
 //! The planner, hb_ot_shape_planner_t (rustybuzz: hb/ot_shape.rs).
-ghost use Rattle.std.specs.Prelude.{◌≡◌, ◌&&◌, not, codes, IfOk, is_some};
+ghost use Rattle.std.specs.Prelude.{◌≡◌, ◌&&◌, IfOk, is_some};
 ghost use Rattle.std.specs.Option.{option_copied};
 ghost use Rattle.buffer_common.specs.ScriptTags.{wanted_language_tags};
-ghost use Rattle.script_plan.specs.Plans.{IsPlanned, choices, disables_gpos, gsub_script, has_fractions, has_mask, nothing_asked, planned_map, uses_gpos};
-ghost use Rattle.script_plan.specs.Requests.{with_requests, with_user};
+ghost use Rattle.script_plan.specs.Plans.{IsPlanned, choices, disables_gpos, gsub_script, has_fractions, nothing_asked, uses_gpos};
+ghost use Rattle.script_plan.specs.Requests.{with_requests};
 ghost use Rattle.layout_map.specs.Compiled.{compiled_map};
+ghost use Rattle.layout_map.specs.Masks.{has_mask};
 ghost use Rattle.std.specs.Prelude.{OnOk};
 
 use crate::plan::{PlanChoices, hb_ot_shape_plan_t, hb_script_plan_t};
@@ -128,10 +129,10 @@ impl<'a, S: PlannedShaper> hb_ot_shape_planner_t<'a, S> {
               self.old.direction self.old.script features.now self.old.ot_map;
         }) }
     {
-        common::ask_first(&mut self.ot_map, self.direction)?;
+        common::request_first(&mut self.ot_map, self.direction)?;
         self.shaper.collect_features(&mut self.ot_map, self.script)?;
-        common::ask_after(&mut self.ot_map, self.direction)?;
-        user::ask_features(&mut self.ot_map, features)?;
+        common::request_after(&mut self.ot_map, self.direction)?;
+        user::request_features(&mut self.ot_map, features)?;
         self.shaper.override_features(&mut self.ot_map, self.script)
     }
 

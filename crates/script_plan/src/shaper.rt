@@ -13,18 +13,17 @@ use std::alloc::Global;
 /// positions, the font, the tables, the plan and the text's settings; it doesn't depend on clusters, the cluster level
 /// or requests for glyph flags.
 pub trait hb_ot_shaper_t: PlannedShaper {
-    ghost use Rattle.std.specs.Prelude.{◌≡◌, ◌≢◌, ◌≤◌, Bool, true, false, List, Ok, Err, IfErr, OnOk, length};
+    ghost use Rattle.std.specs.Prelude.{◌≡◌, ◌≤◌, Bool, true, false, List, Ok, length};
     ghost use Rattle.buffer_unicode_tables.specs.Expansion.{EndWithin};
     ghost use Rattle.buffer_unicode_tables.specs.Tables.{Tables, split_of};
     ghost use Rattle.buffer_glyphs.specs.Items.{Item};
-    ghost use Rattle.buffer_core.specs.Readings.{reading_of};
-    ghost use Rattle.buffer_core.specs.Sides.{all_glyphs, items_of, state_of};
+    ghost use Rattle.buffer_core.specs.Sides.{all_glyphs, items_of};
     ghost use Rattle.buffer_stages.specs.Buffers.{are_glyphs};
-    ghost use Rattle.buffer_stages.specs.Ready.{IsDone, IsReady};
+    ghost use Rattle.buffer_stages.specs.Ready.{DoesGlyphStage, IsReady};
     ghost use Rattle.buffer_stages.specs.Settings.{text_settings};
     ghost use Rattle.buffer_stages.specs.Pauses.{BringsNoGlyph};
     ghost use Rattle.buffer_stages.specs.Rearranged.{Rearranges};
-    ghost use Rattle.buffer_stages.specs.Stages.{IsFollowed};
+    ghost use Rattle.buffer_stages.specs.Stages.{DoesStage};
     ghost use Rattle.script_plan.specs.declared.plan.hb_script_plan_t.{hb_script_plan_t};
     ghost use Rattle.script_plan.specs.Rules.{RulesDependOnNoLimit, RulesKeepParts, ShaperRules};
 
@@ -41,12 +40,7 @@ pub trait hb_ot_shaper_t: PlannedShaper {
         buffer: &mut hb_buffer_t,
     ) -> Result<(), ShapeCause>
         requires ready { IsReady buffer.old }
-        ensures ok { OnOk result (IsFollowed
-            ((rules self.now plan.now).preprocesses face.now tables.now (text_settings buffer.old))
-            buffer.old buffer.new) }
-        ensures err { IfErr result (λ e. e ≢ ShapeCause.OutOfMemory → reading_of
-            ((rules self.now plan.now).preprocesses face.now tables.now (text_settings buffer.old)) (state_of buffer.old)
-            ≡ Err e) };
+        ensures { DoesStage ((rules self.now plan.now).preprocesses face.now tables.now (text_settings buffer.old)) result buffer.old buffer.new };
 
     /// The two halves of a character's decomposition; the second is U+0000 where there is only one.
     fn decompose(
@@ -89,12 +83,7 @@ pub trait hb_ot_shaper_t: PlannedShaper {
         buffer: &mut hb_buffer_t,
     ) -> Result<(), ShapeCause>
         requires ready { IsReady buffer.old }
-        ensures ok { OnOk result (IsFollowed
-            ((rules self.now plan.now).sets_masks face.now tables.now (text_settings buffer.old))
-            buffer.old buffer.new) }
-        ensures err { IfErr result (λ e. e ≢ ShapeCause.OutOfMemory → reading_of
-            ((rules self.now plan.now).sets_masks face.now tables.now (text_settings buffer.old)) (state_of buffer.old)
-            ≡ Err e) };
+        ensures { DoesStage ((rules self.now plan.now).sets_masks face.now tables.now (text_settings buffer.old)) result buffer.old buffer.new };
 
     /// Performs the pause of a number between two GSUB stages, and returns true whenever a glyph number was inserted.
     fn run_pause<P: SyllableSpans>(
@@ -109,15 +98,8 @@ pub trait hb_ot_shaper_t: PlannedShaper {
     ) -> Result<bool, ShapeCause>
         requires ready { IsReady buffer.old }
         requires numbers { are_glyphs (items_of buffer.old) ≡ true }
-        ensures ok { OnOk result (IsDone
-            ((rules self.now plan.now).pauses face.now tables.now (P.span_of spans.now) (text_settings buffer.old)
-            pause)
-            buffer.old buffer.new) }
-        ensures brings_none { result ≡ Ok false → BringsNoGlyph (items_of buffer.old) (items_of buffer.new) }
-        ensures err { IfErr result (λ e. e ≢ ShapeCause.OutOfMemory → reading_of
-            ((rules self.now plan.now).pauses face.now tables.now (P.span_of spans.now) (text_settings buffer.old)
-            pause)
-            (state_of buffer.old) ≡ Err e) };
+        ensures stage { DoesGlyphStage ((rules self.now plan.now).pauses face.now tables.now (P.span_of spans.now) (text_settings buffer.old) pause) result buffer.old buffer.new }
+        ensures brings_none { result ≡ Ok false → BringsNoGlyph (items_of buffer.old) (items_of buffer.new) };
 
     /// Changes the glyphs, which are in visual order, and their positions.
     fn postprocess_glyphs(
@@ -128,11 +110,7 @@ pub trait hb_ot_shaper_t: PlannedShaper {
         buffer: &mut hb_buffer_t,
     ) -> Result<(), ShapeCause>
         requires ready { IsReady buffer.old }
-        ensures ok { OnOk result (IsDone
-            ((rules self.now plan.now).postprocesses face.now (text_settings buffer.old)) buffer.old buffer.new) }
-        ensures err { IfErr result (λ e. e ≢ ShapeCause.OutOfMemory → reading_of
-            ((rules self.now plan.now).postprocesses face.now (text_settings buffer.old))
-            (state_of buffer.old) ≡ Err e) };
+        ensures { DoesGlyphStage ((rules self.now plan.now).postprocesses face.now (text_settings buffer.old)) result buffer.old buffer.new };
 
     /// Whether the order of clusters is kept at the monotone levels.
     fn keeps_cluster_order(&self) -> bool

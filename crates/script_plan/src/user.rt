@@ -1,18 +1,18 @@
 //! The feature requests of the caller.
 ghost use Rattle.std.specs.Prelude.{◌≡◌, fold, map, OnOk};
-ghost use Rattle.script_plan.specs.Asks.{with_ask};
+ghost use Rattle.layout_map.specs.Requests.{with_map_request};
 ghost use Rattle.script_plan.specs.Common.{request_of};
 
-use crate::ask::{Ask, make};
 use buffer_features::feature::Feature;
 use layout_map::builder::hb_ot_map_builder_t;
+use layout_map::request::{MapRequest, add_request};
 use layout_map_features::flags::{F_GLOBAL, F_NONE};
 use std::alloc::AllocError;
 
-fn ask_of(feature: &Feature) -> Ask
+fn request_of(feature: &Feature) -> MapRequest
     ensures { result ≡ request_of feature.now }
 {
-    Ask::Feature {
+    MapRequest::Feature {
         tag: feature.tag,
         flags: if feature.is_global() {
             F_GLOBAL
@@ -24,14 +24,14 @@ fn ask_of(feature: &Feature) -> Ask
 }
 
 /// Requests the user's features in order, each for all glyphs or for a range.
-pub fn ask_features(
+pub fn request_features(
     builder: &mut hb_ot_map_builder_t,
     features: &[Feature],
 ) -> Result<(), AllocError>
-    ensures { OnOk result (builder.new ≡ fold with_ask builder.old (map request_of features.now)) }
+    ensures { OnOk result (builder.new ≡ fold with_map_request builder.old (map request_of features.now)) }
 {
     for feature in features {
-        make(builder, ask_of(feature))?;
+        add_request(builder, request_of(feature))?;
     }
     Ok(())
 }

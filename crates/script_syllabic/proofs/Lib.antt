@@ -8,3 +8,9 @@ pub mod Counting
 pub mod Forming
 pub mod Masked
 pub mod Marks
+pub mod Does
+pub mod PermutedNumbers
+pub mod Quiet
+pub mod QuietRules
+pub mod RangesBetween
+pub mod There

@@ -1,8 +1,12 @@
 pub mod Lemmas
+pub mod Categories
+pub mod Characters
 pub mod Circles
 pub mod Bytes
 pub mod Rules
 pub mod Spans
 pub mod Features
 pub mod Recorded
+pub mod Quiet
+pub mod Syllables
 pub mod Formed

@@ -1,13 +1,12 @@
 //! Inserts a dotted circle into each broken syllable, insert_dotted_circles (rustybuzz: hb/ot_shaper_syllabic.rs).
-ghost use Rattle.std.specs.Prelude.{◌≡◌, ◌≢◌, ◌<◌, ◌≤◌, ◌+◌, ◌-◌, Err, Some, true, length, slice_get, IfOk, IfErr, OnOk};
+ghost use Rattle.std.specs.Prelude.{◌≡◌, ◌<◌, ◌≤◌, ◌+◌, ◌-◌, Err, Some, true, length, slice_get, IfOk, IfErr, OnOk};
 ghost use Rattle.std.specs.List.{list_any, prefix_len};
-ghost use Rattle.buffer_glyphs.specs.Items.{glyph_flags, item_of, strip};
+ghost use Rattle.buffer_glyphs.specs.Items.{item_of, strip};
 ghost use Rattle.buffer_glyphs.specs.Origins.{origin_of};
-ghost use Rattle.buffer_core.specs.Readings.{reading_of};
-ghost use Rattle.buffer_core.specs.Sides.{all_glyphs, items_of, after_next_glyphs, origins_of, state_of};
+ghost use Rattle.buffer_core.specs.Sides.{all_glyphs, items_of, after_next_glyphs, origins_of};
 ghost use Rattle.buffer_stages.specs.Buffers.{are_glyphs};
 ghost use Rattle.buffer_stages.specs.Ready.{IsReady};
-ghost use Rattle.buffer_stages.specs.Stages.{IsFollowed};
+ghost use Rattle.buffer_stages.specs.Stages.{DoesStage};
 ghost use Rattle.script_syllabic.specs.Circles.{begins, circle_glyph, circle_item, circles_by, circles_put, is_broken, is_repha, puts_circles, with_circles};
 ghost use Rattle.script_syllabic.specs.Rules.{circle_rule, IsCircled, IsTooLong};
 
@@ -58,12 +57,9 @@ pub fn insert_dotted_circles(
     ensures inserted { IfOk result (λ b. b ≡ puts_circles
         (circle_rule face.now buffer.old.flags kind circle_category repha_category circle_position)
         (items_of buffer.old)) }
-    ensures ok { OnOk result (IsFollowed
-        (circles_by (circle_rule face.now buffer.old.flags kind circle_category repha_category circle_position))
-        buffer.old buffer.new) }
-    ensures err { IfErr result (λ e. e ≢ ShapeCause.OutOfMemory → reading_of
-        (circles_by (circle_rule face.now buffer.old.flags kind circle_category repha_category circle_position))
-        (state_of buffer.old) ≡ Err e) }
+    ensures stage { DoesStage
+        (circles_by (circle_rule face.now buffer.old.flags kind circle_category repha_category circle_position)) result
+        buffer.old buffer.new }
 {
     let Some(glyph) = circle_glyph(face, buffer.flags()) else {
         return Ok(false);
@@ -84,9 +80,7 @@ fn circles_by(rule: &CircleRule, buffer: &mut hb_buffer_t) -> Result<bool, Shape
     ensures glyphs { OnOk result (rule.now.glyph ≤ 65535 → are_glyphs (items_of buffer.old) ≡ true
         → are_glyphs (items_of buffer.new) ≡ true) }
     ensures inserted { IfOk result (λ b. b ≡ puts_circles (Some rule.now) (items_of buffer.old)) }
-    ensures ok { OnOk result (IsFollowed (circles_by (Some rule.now)) buffer.old buffer.new) }
-    ensures err { IfErr result (λ e. e ≢ ShapeCause.OutOfMemory
-        → reading_of (circles_by (Some rule.now)) (state_of buffer.old) ≡ Err e) }
+    ensures stage { DoesStage (circles_by (Some rule.now)) result buffer.old buffer.new }
 {
     if !has_broken(rule, buffer.info_slice()) {
         return Ok(false);
@@ -140,9 +134,7 @@ fn is_repha(rule: &CircleRule, byte: u8, glyph: &hb_glyph_info_t) -> bool
 #[tactic(auto, using(crate::proofs::Underway::glyph_refused, crate::proofs::Underway::rephas_refused))]
 fn put_circles(rule: &CircleRule, buffer: &mut hb_buffer_t) -> Result<(), ShapeCause>
     requires ready { IsReady buffer.old }
-    ensures ok { OnOk result (IsFollowed (λ v. circles_put (with_circles rule.now v.items) v) buffer.old buffer.new) }
-    ensures err { IfErr result (λ e. e ≢ ShapeCause.OutOfMemory
-        → reading_of (λ v. circles_put (with_circles rule.now v.items) v) (state_of buffer.old) ≡ Err e) }
+    ensures { DoesStage (λ v. circles_put (with_circles rule.now v.items) v) result buffer.old buffer.new }
 {
     buffer.clear_output()?;
     let mut last = 0;

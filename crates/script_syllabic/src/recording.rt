@@ -1,7 +1,7 @@
 //! Records which glyphs the features rphf and pref formed, record_rphf and record_pref (rustybuzz:
 //! hb/ot_shaper_use.rs).
 ghost use Rattle.std.specs.Prelude.{◌≡◌, ◌≤◌, ◌++◌, length, take, drop, slice_range, OnOk};
-ghost use Rattle.buffer_glyphs.specs.Items.{item_of, strip};
+ghost use Rattle.buffer_glyphs.specs.Items.{item_of};
 ghost use Rattle.buffer_core.specs.Readings.{always};
 ghost use Rattle.buffer_stages.specs.Ready.{IsReady};
 ghost use Rattle.buffer_stages.specs.Stages.{IsFollowed};

@@ -1,11 +1,9 @@
 //! The universal shaper's syllables, which the machine finds in a text without some of its glyphs
 //! (rustybuzz: hb/ot_shaper_use.rs).
-ghost use Rattle.std.specs.Prelude.{◌≡◌, ◌≢◌, ◌≤◌, ◌++◌, Err, find, length, map, not, slice_get, unwrap_or, IfErr, IfOk, OnOk};
+ghost use Rattle.std.specs.Prelude.{◌≡◌, ◌++◌, length, not, unwrap_or, IfErr, IfOk, OnOk};
 ghost use Rattle.buffer_glyphs.specs.Items.{item_of, strip};
-ghost use Rattle.buffer_core.specs.Readings.{reading_of};
-ghost use Rattle.buffer_core.specs.Sides.{state_of};
 ghost use Rattle.buffer_stages.specs.Ready.{IsReady};
-ghost use Rattle.buffer_stages.specs.Stages.{IsFollowed};
+ghost use Rattle.buffer_stages.specs.Stages.{DoesStage};
 ghost use Rattle.script_syllabic.specs.Spans.{categories_counted, if_counted, is_counted, is_grapheme_joiner, counted_indices_from, precedes_mark, universal_set};
 
 use crate::syllables::{SyllablePlaces, set_bytes};
@@ -55,9 +53,7 @@ pub fn find_syllables<S: SyllableSpans>(
     buffer: &mut hb_buffer_t,
 ) -> Result<(), ShapeCause>
     requires ready { IsReady buffer.old }
-    ensures ok { OnOk result (IsFollowed (universal_set (S.span_of spans.now)) buffer.old buffer.new) }
-    ensures err { IfErr result (λ e. e ≢ ShapeCause.OutOfMemory
-        → reading_of (universal_set (S.span_of spans.now)) (state_of buffer.old) ≡ Err e) }
+    ensures { DoesStage (universal_set (S.span_of spans.now)) result buffer.old buffer.new }
 {
     let counted = count_glyphs(alloc, buffer.info_slice())?;
     set_bytes(

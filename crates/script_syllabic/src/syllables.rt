@@ -1,13 +1,12 @@
 //! Syllable bytes: a serial number in the high four bits, a kind in the low four (rustybuzz: hb/ot_shaper_syllabic.rs).
-ghost use Rattle.std.specs.Prelude.{◌≡◌, ◌≢◌, ◌≤◌, ◌<◌, ◌++◌, ℕ, Err, List, length, map, take, drop, slice_range, IfErr, IfOk, OnOk};
-ghost use Rattle.buffer_glyphs.specs.Items.{Item};
+ghost use Rattle.std.specs.Prelude.{◌≡◌, ◌≤◌, ◌<◌, ◌++◌, ℕ, Err, length, map, take, drop, slice_range, IfErr, IfOk, OnOk};
 ghost use Rattle.buffer_core.specs.Readings.{reading_of};
 ghost use Rattle.buffer_core.specs.Sides.{all_glyphs, items_of, state_of};
 ghost use Rattle.buffer_stages.specs.Ready.{IsReady};
 ghost use Rattle.script_categories.specs.Shapers.{kinds_of};
 ghost use Rattle.buffer_stages.specs.Bytes.{syllable_byte};
 ghost use Rattle.buffer_stages.specs.Cuts.{syllables};
-ghost use Rattle.buffer_stages.specs.Stages.{IsFollowed};
+ghost use Rattle.buffer_stages.specs.Stages.{DoesStage, IsFollowed};
 ghost use Rattle.buffer_stages.specs.SyllableBuffers.{IsRewritten};
 ghost use Rattle.script_syllabic.specs.Bytes.{bytes_of, one_syllable, syllables_set};
 ghost use Rattle.script_syllabic.specs.Rules.{glyph_with_byte};
@@ -55,9 +54,7 @@ pub fn setup_syllables<S: SyllableSpans>(
     buffer: &mut hb_buffer_t,
 ) -> Result<(), ShapeCause>
     requires ready { IsReady buffer.old }
-    ensures ok { OnOk result (IsFollowed (syllables_set (S.span_of spans.now) shaper) buffer.old buffer.new) }
-    ensures err { IfErr result (λ e. e ≢ ShapeCause.OutOfMemory
-        → reading_of (syllables_set (S.span_of spans.now) shaper) (state_of buffer.old) ≡ Err e) }
+    ensures { DoesStage (syllables_set (S.span_of spans.now) shaper) result buffer.old buffer.new }
 {
     let categories = categories_of(alloc, buffer.info_slice())?;
     set_bytes(spans, shaper, &categories, &Each, buffer)

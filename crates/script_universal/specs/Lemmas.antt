@@ -1,3 +1,2 @@
 -- Lemmas on the rules of a syllable.
 pub mod Sizes
-pub mod Permuted

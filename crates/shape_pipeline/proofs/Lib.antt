@@ -11,3 +11,4 @@ mod Numbers
 mod Shaped
 mod Texts
 mod Agreeing
+mod Paused

@@ -4,7 +4,7 @@ use lib.Utf8.{scalar}
 use Rattle.layout_face.specs.Glyphs.{nominal_glyph, variation_glyph}
 use Rattle.buffer_core.specs.Readings.{View, Read, Stage, always}
 use Rattle.buffer_properties.specs.Normalizer.{Normalizer}
-use Rattle.script_plan.specs.Plans.{mask_at_one}
+use Rattle.layout_map.specs.Masks.{mask_at_one}
 use Rattle.shape_masks.specs.Masks.{with_one_mask}
 use Rattle.shape_text.specs.Properties.{with_properties}
 use Rattle.shape_text.specs.Circle.{first_circle}

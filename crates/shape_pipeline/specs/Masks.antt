@@ -2,7 +2,7 @@
 use Rattle.std.specs.Prelude.{ℕ, List, [], ◌∷◌, codes}
 use Rattle.buffer_core.specs.Readings.{Stage, always}
 use Rattle.layout_map.specs.Compiled.{OtMapValue}
-use Rattle.script_plan.specs.Plans.{mask_at_one}
+use Rattle.layout_map.specs.Masks.{mask_at_one}
 use Rattle.shape_masks.specs.Fractions.{with_fractions}
 use Rattle.shape_masks.specs.declared.fractions.FractionMasks.{FractionMasks}
 use Rattle.shape_masks.specs.Ranges.{with_ranges}

@@ -4,7 +4,7 @@ ghost use Rattle.buffer_core.specs.Readings.{always, reading_of};
 ghost use Rattle.buffer_core.specs.Sides.{items_of, state_of};
 ghost use Rattle.buffer_stages.specs.Ready.{IsReady};
 ghost use Rattle.buffer_stages.specs.Settings.{text_settings};
-ghost use Rattle.buffer_stages.specs.Stages.{IsFollowed};
+ghost use Rattle.buffer_stages.specs.Stages.{DoesStage, IsFollowed};
 ghost use Rattle.shape_text.specs.Properties.{are_characters};
 ghost use Rattle.shape_normalize.specs.Rounds.{normalization};
 ghost use Rattle.shape_pipeline.specs.Characters.{characters_chosen, normalizer, text_begun, turned_to_line};
@@ -82,12 +82,9 @@ impl<S: hb_ot_shaper_t, P: SyllableSpans> hb_ot_shape_context_t<'_, S, P> {
     }
 
     fn preprocess_text(&self, buffer: &mut hb_buffer_t) -> Result<(), ShapeCause>
-        requires { IsReady buffer.old }
-        ensures ok { OnOk result (IsFollowed
-            (preprocessing_stage (⟦<Self as Shaped>⟧.shaping self.now (text_settings buffer.old))) buffer.old buffer.new) }
-        ensures err { IfErr result (λ e. e ≢ ShapeCause.OutOfMemory → reading_of
-            (preprocessing_stage (⟦<Self as Shaped>⟧.shaping self.now (text_settings buffer.old)))
-            (state_of buffer.old) ≡ Err e) }
+        requires ready { IsReady buffer.old }
+        ensures { DoesStage (preprocessing_stage (⟦<Self as Shaped>⟧.shaping self.now (text_settings buffer.old))) result
+            buffer.old buffer.new }
     {
         let plan = self.plan;
         plan.shaper

@@ -2,7 +2,7 @@
 ghost use Rattle.std.specs.Prelude.{◌≡◌, ◌≢◌, Err, IfErr, OnOk};
 ghost use Rattle.buffer_core.specs.Readings.{always, reading_of};
 ghost use Rattle.buffer_core.specs.Sides.{state_of};
-ghost use Rattle.buffer_stages.specs.Ready.{IsDone, IsReady};
+ghost use Rattle.buffer_stages.specs.Ready.{DoesGlyphStage, IsDone, IsReady};
 ghost use Rattle.buffer_stages.specs.Settings.{text_settings};
 ghost use Rattle.shape_glyphs.specs.Ignorables.{ignorables_hidden};
 ghost use Rattle.shape_pipeline.specs.Endings.{text_ended};
@@ -43,12 +43,9 @@ fn leave(direction: Direction, buffer: &mut hb_buffer_t)
 
 impl<S: hb_ot_shaper_t, P: SyllableSpans> hb_ot_shape_context_t<'_, S, P> {
     fn postprocess_glyphs(&self, buffer: &mut hb_buffer_t) -> Result<(), ShapeCause>
-        requires { IsReady buffer.old }
-        ensures ok { OnOk result (IsDone
-            (postprocessing_stage (⟦<Self as Shaped>⟧.shaping self.now (text_settings buffer.old))) buffer.old buffer.new) }
-        ensures err { IfErr result (λ e. e ≢ ShapeCause.OutOfMemory → reading_of
-            (postprocessing_stage (⟦<Self as Shaped>⟧.shaping self.now (text_settings buffer.old))) (state_of buffer.old)
-            ≡ Err e) }
+        requires ready { IsReady buffer.old }
+        ensures { DoesGlyphStage (postprocessing_stage (⟦<Self as Shaped>⟧.shaping self.now (text_settings buffer.old))) result
+            buffer.old buffer.new }
     {
         let plan = self.plan;
         plan.shaper

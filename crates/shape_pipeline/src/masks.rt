@@ -5,7 +5,7 @@ ghost use Rattle.buffer_core.specs.Readings.{always, reading_of};
 ghost use Rattle.buffer_core.specs.Sides.{all_glyphs, state_of};
 ghost use Rattle.buffer_stages.specs.Ready.{IsReady};
 ghost use Rattle.buffer_stages.specs.Settings.{text_settings};
-ghost use Rattle.buffer_stages.specs.Stages.{IsFollowed};
+ghost use Rattle.buffer_stages.specs.Stages.{DoesStage, IsFollowed};
 ghost use Rattle.shape_masks.specs.Fractions.{with_fractions};
 ghost use Rattle.shape_pipeline.specs.Chains.{only_if};
 ghost use Rattle.shape_pipeline.specs.Masks.{fraction_masks, masks_set, ranges_set};
@@ -40,12 +40,9 @@ fn setup_masks_fraction<D>(plan: &hb_script_plan_t<D>, buffer: &mut hb_buffer_t)
 
 impl<S: hb_ot_shaper_t, P: SyllableSpans> hb_ot_shape_context_t<'_, S, P> {
     fn setup_shaper_masks(&self, buffer: &mut hb_buffer_t) -> Result<(), ShapeCause>
-        requires { IsReady buffer.old }
-        ensures ok { OnOk result (IsFollowed
-            (shaper_masks_set (⟦<Self as Shaped>⟧.shaping self.now (text_settings buffer.old))) buffer.old buffer.new) }
-        ensures err { IfErr result (λ e. e ≢ ShapeCause.OutOfMemory → reading_of
-            (shaper_masks_set (⟦<Self as Shaped>⟧.shaping self.now (text_settings buffer.old))) (state_of buffer.old)
-            ≡ Err e) }
+        requires ready { IsReady buffer.old }
+        ensures { DoesStage (shaper_masks_set (⟦<Self as Shaped>⟧.shaping self.now (text_settings buffer.old))) result
+            buffer.old buffer.new }
     {
         let plan = self.plan;
         plan.shaper

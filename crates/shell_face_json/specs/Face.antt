@@ -16,7 +16,7 @@ use Rattle.layout_face.specs.declared.parts.CharacterRow.{CharacterRow}
 use Rattle.layout_face.specs.declared.parts.VariationRow.{VariationRow}
 use Rattle.layout_face.specs.declared.parts.GlyphDefinition.{GlyphDefinition}
 use Rattle.layout_face.specs.declared.parts.FaceParts.{FaceParts}
-use Rattle.layout_face.specs.Indices.{indices_fit, set_limit}
+use Rattle.layout_face.specs.Indices.{set_limit}
 use Rattle.shell_face_json.specs.Lists.{number_below, is_object, rows_at, rows_in_turn}
 use Rattle.shell_face_json.specs.Row.{only}
 use Rattle.shell_face_json.specs.Sorted.{rows_by_key}
@@ -107,10 +107,6 @@ face_keys d =
       gpos = layout.1.1;
     })))))))
 
--- the font, whose indices were checked against their lists row by row
-abbrev pub with_indices : FaceParts → Result FaceParts JsonFault
-with_indices font = if indices_fit font then Ok font else Err OutOfRange
-
 -- the font of a JSON value
 abbrev pub face_of : Data → Result FaceParts JsonFault
-face_of d = and_then (is_object d) (λ _. and_then (face_keys d) with_indices)
+face_of d = and_then (is_object d) (λ _. face_keys d)

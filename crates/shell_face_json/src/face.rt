@@ -25,17 +25,14 @@ use std::alloc::Global;
 /// Reads a font. Unknown keys are skipped. Of several faults it returns the first by the order of the format's keys,
 /// then by the order of their rows; of one row's faults wrong shapes come first, then floats, ranges, and the order of
 /// rows.
+#[tactic(auto, using(crate::proofs::FaceFits::keys_fit))]
 pub fn read_face(alloc: Global, value: &Value) -> Result<Face, JsonFault>
     ensures ok { IfOk result (λ f. face_of (view value.now) ≡ Ok f) }
     ensures refused { IfErr result (λ e. e ≢ JsonFault.OutOfMemory
         → face_of (view value.now) ≡ Err e) }
 {
     object(value)?;
-    let parts = read_face_parts(alloc, value)?;
-    if !parts.indices_fit() {
-        return Err(JsonFault::OutOfRange);
-    }
-    Ok(Face::new(parts))
+    Ok(Face::new(read_face_parts(alloc, value)?))
 }
 
 fn read_face_parts(alloc: Global, value: &Value) -> Result<FaceParts, JsonFault>

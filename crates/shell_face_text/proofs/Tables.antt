@@ -1,8 +1,8 @@
 -- What was found of a table's keys is what the table has.
-use Rattle.std.proofs.Common.{◌≡◌, ℕ, suc, List, [], ◌∷◌, length, codes, Option, Some, None, Result, Ok, Err, option_map, refl, sym, ap, ◌∙◌, subst}
+use Rattle.std.proofs.Common.{◌≡◌, ℕ, List, [], ◌∷◌, length, codes, Option, Some, None, Result, Ok, option_map, refl, sym, ap, ◌∙◌, subst}
 use Rattle.std.specs.Prelude.{unwrap_or}
 use Rattle.std.specs.Option.{ok_or, option_map_or}
-use Rattle.serde_json.specs.Data.{Data, Items, no_items, item, Members, object}
+use Rattle.serde_json.specs.Data.{Data, Items, no_items, Members, object}
 use Rattle.serde_json.specs.Find.{get_member, as_array}
 use Rattle.serde_json.specs.View.{view, items_view}
 use Rattle.serde_json.specs.declared.value.Value.{Value}
@@ -11,10 +11,10 @@ use Rattle.shell_json_values.specs.declared.fault.JsonFault.{JsonFault}
 use Rattle.shell_json_values.specs.declared.fault.JsonFault.TheVariants.{WrongShape}
 use Rattle.shell_json_values.specs.Cell.{and_then}
 use Rattle.shell_json_values.specs.Parts.{list_of, list_or_none}
-use Rattle.shell_json_values.specs.Rows.{after, ok_cons}
 use Rattle.shell_face_json.specs.Lists.{item_count, count_of, is_object, rows_at, rows_in_turn}
 use Rattle.shell_face_json.specs.Sorted.{rows_by_key}
 use Rattle.shell_face_json.proofs.Split.{count_is_length}
+use Rattle.shell_face_json.proofs.Inverted.{list_length}
 use Rattle.shell_face_json.specs.Scripts.{layout_of, script, feature}
 use Rattle.shell_face_text.specs.Table.{layout_in}
 use Rattle.layout_tables.specs.Layout.{LayoutLists, ScriptTable, FeatureTable}
@@ -34,23 +34,6 @@ list_found read (Some d) None none h = absurd h
 list_found read (Some d) (Some a) none e = e
 
 module _ {L : Type 0} (read : Data → Result L JsonFault) where
-  one_length : (ds : Items) (x : Result L JsonFault) (rows : List L) → and_then x (λ r. after (r ∷ []) (rows_in_turn read ds)) ≡ Ok rows
-      → ((xs : List L) → rows_in_turn read ds ≡ Ok xs → item_count ds ≡ length xs) → suc (item_count ds) ≡ length rows
-  one_length ds (Err e) rows is more = absurd (cc)
-  one_length ds (Ok r) rows is more = ok_cons r (rows_in_turn read ds) rows (λ xs. suc (item_count ds) ≡ length xs) is (λ xs was. ap suc (more xs was))
-
-  same_length : (ds : Items) (rows : List L) → rows_in_turn read ds ≡ Ok rows → item_count ds ≡ length rows
-  same_length no_items rows is = let none : [] ≡ rows = cc in ap length none
-  same_length (item d ds) rows is = one_length ds (read d) rows is (λ xs. same_length ds xs)
-
-  counted : (o : Option Items) (rows : List L) → and_then (ok_or o WrongShape) (rows_in_turn read) ≡ Ok rows → option_map_or item_count o 0 ≡ length rows
-  counted None rows is = absurd (cc)
-  counted (Some ds) rows is = same_length ds rows is
-
-  list_length : (o : Option Data) (rows : List L) → and_then (list_or_none o) (rows_in_turn read) ≡ Ok rows → count_of o ≡ length rows
-  list_length None rows is = let none : [] ≡ rows = cc in ap length none
-  list_length (Some d) rows is = counted (as_array d) rows is
-
   pub table_found : (ms : Members) (scripts features : Option Value) (found : Option (List L)) (layout : LayoutLists)
       → HasMember (λ d v. view v ≡ d) (codes "scripts") ms scripts → HasMember (λ d v. view v ≡ d) (codes "features") ms features
       → HasMember (λ d a. and_then (list_of d) (rows_in_turn read) ≡ Ok a) (codes "lookups") ms found
@@ -58,7 +41,7 @@ module _ {L : Type 0} (read : Data → Result L JsonFault) where
       → (layout_of (object ms) ≡ Ok layout) × (rows_at (codes "lookups") (rows_in_turn read) (object ms) ≡ Ok (unwrap_or found []))
   table_found ms scripts features found layout s f l e =
       let lookups = list_found (rows_in_turn read) (get_member (codes "lookups") ms) found refl l in
-      let count = list_length (get_member (codes "lookups") ms) (unwrap_or found []) lookups in
+      let count = list_length read (get_member (codes "lookups") ms) (unwrap_or found []) lookups in
       let by_scripts = ap (λ x. layout_in x (get_member (codes "features") ms) (count_of (get_member (codes "lookups") ms))) (sym (whole_found (get_member (codes "scripts") ms) scripts s)) in
       let by_features = ap (λ x. layout_in (option_map view scripts) x (count_of (get_member (codes "lookups") ms))) (sym (whole_found (get_member (codes "features") ms) features f)) in
       (by_scripts ∙ by_features ∙ ap (layout_in (option_map view scripts) (option_map view features)) count ∙ e, lookups)

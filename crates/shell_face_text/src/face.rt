@@ -51,11 +51,7 @@ pub fn read_by_parts(alloc: Global, text: &str) -> Result<Face, Unread>
     if !has_value {
         return Err(Unread);
     }
-    let parts = take_parts(alloc, text, &mut scratch)?;
-    if !parts.indices_fit() {
-        return Err(Unread);
-    }
-    Ok(Face::new(parts))
+    Ok(Face::new(take_parts(alloc, text, &mut scratch)?))
 }
 
 fn take_parts(alloc: Global, text: &str, scratch: &mut Scratch) -> Result<FaceParts, Unread>

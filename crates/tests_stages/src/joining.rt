@@ -1,5 +1,6 @@
 //! Arabic joining: the form and the mask of each character.
 use crate::numbers::Numbers;
+use buffer_common::script::{ARABIC, MONGOLIAN};
 use buffer_glyphs::info::hb_glyph_info_t;
 use buffer_unicode_tables::{UnicodeRows, UnicodeTables};
 use script_joining::setup_masks_inner;
@@ -37,7 +38,11 @@ fn check(alloc: Global, row: &str) -> Result<bool, Fail> {
 }
 
 fn check_with(alloc: Global, tables: &UnicodeTables, numbers: &mut Numbers) -> Result<bool, Fail> {
-    let is_mongolian = numbers.next() == 1;
+    let script = if numbers.next() == 1 {
+        MONGOLIAN
+    } else {
+        ARABIC
+    };
     let masks = [
         numbers.mask(),
         numbers.mask(),
@@ -52,7 +57,7 @@ fn check_with(alloc: Global, tables: &UnicodeTables, numbers: &mut Numbers) -> R
     let mut buffer = numbers.buffer(alloc)?;
     buffer.set_pre_context(&pre);
     buffer.set_post_context(&post);
-    setup_masks_inner(tables, is_mongolian, &masks, &mut buffer);
+    setup_masks_inner(tables, Some(script), &masks, &mut buffer);
     Ok(are_wanted(buffer.info_slice(), numbers))
 }
 

@@ -13,10 +13,10 @@ fn check(alloc: Global, row: &str, is_hebrew: bool) -> Result<bool, Fail> {
         return Ok(false);
     }
     if is_hebrew {
-        script_hebrew_thai::hebrew::reorder_marks(&mut buffer, start, end);
+        script_hebrew::hebrew::reorder_marks(&mut buffer, start, end);
         return Ok(are_wanted(buffer.info_slice(), &mut numbers));
     }
-    script_joining::marks::reorder_marks(&mut buffer, start, end);
+    script_arabic::marks::reorder_marks(&mut buffer, start, end);
     Ok(are_wanted(buffer.info_slice(), &mut numbers))
 }
 

@@ -3,7 +3,7 @@ ghost use Rattle.std.specs.Prelude.{◌≡◌, false};
 
 use crate::numbers::Numbers;
 use buffer_core::buffer::hb_buffer_t;
-use script_hebrew_thai::thai_vowel::preprocess_text;
+use script_thai::thai_vowel::preprocess_text;
 use std::alloc::Global;
 use std::test::Fail;
 

@@ -1,6 +1,5 @@
 -- A lookup on its way over a buffer.
 use Rattle.std.proofs.Common.{ℕ, suc, ◌≡◌, ◌≤◌, ◌<◌, ◌+◌, ◌-◌, true, false, nat_le, length, Ok, Err, refl, sym, ap, subst, ◌∙◌, arith}
-use Rattle.std.specs.Prelude.{Result, IfErr, IsErrAnd}
 use Rattle.std.proofs.lemmas.List.{map-append, length-map, length-replicate}
 use Rattle.buffer_glyphs.specs.declared.cause.ShapeCause.{ShapeCause}
 use Rattle.buffer_glyphs.specs.declared.cause.ShapeCause.TheVariants.{TooLong}
@@ -132,8 +131,3 @@ looked_up_refused_by act a b count at r after s start now cause len lt same open
     let P : ApplyContext → Type 0 = λ k. IsGivenUp (act k) after now cause in
     let S : Sides → Type 0 = λ t. IsUnderway (act b) count (count - at) r after t now in
     looked_up_refused (act b) count at r after s now cause len lt (subst S opened u) (subst P same given)
-
--- an error that `?` passes on
-pub passed_on : {A E : Type 0} (r : Result A E) (e : E) (P : E → Type 0) → IsErrAnd r (λ (f : E). f ≡ e) → P e → IfErr r P
-passed_on (Ok a) e P h p = tt
-passed_on (Err f) e P h p = subst P (sym h) p

@@ -16,24 +16,24 @@ use Rattle.buffer_stages.specs.Rewriting.{by_syllable}
 use Rattle.buffer_stages.specs.Settings.{TextSettings}
 use Rattle.buffer_stages.specs.Stages.{with_items_mapped}
 use Rattle.buffer_stages.specs.SyllableBuffers.{with_rule}
-use Rattle.script_tiles.specs.TilePositions.{all_positions}
-use Rattle.script_plan.specs.Plans.{has_mask, mask_at_one}
-use Rattle.script_plan.specs.Pauses.{pause_of_number}
+use Rattle.script_arabic.specs.TilePositions.{all_positions}
+use Rattle.layout_map.specs.Masks.{has_mask, mask_at_one}
+use Rattle.script_categories.specs.Pauses.{pause_of_number}
 use Rattle.script_plan.specs.Rules.{DependsOnNoLimit, RulesDependOnNoLimit, Spans}
 use Rattle.script_plan.specs.Lemmas.Limits.{always_by, chosen_by, either_by, limited_by, refused_by, same_by, then_by}
 use Rattle.script_plan.specs.Lemmas.Unchanged.{plain_rules_depend_on_no_limit}
 use Rattle.script_plan.specs.declared.plan.hb_script_plan_t.{hb_script_plan_t}
-use Rattle.script_plan.specs.declared.pause.hb_script_pause_t.{hb_script_pause_t}
-use Rattle.script_plan.specs.declared.pause.hb_script_pause_t.TheVariants.{RecordStch, SetupSyllables, ReorderKhmer, ReorderMyanmar, ClearSyllables, ClearSubstitutionFlags, RecordRphf, RecordPref, ReorderUse, InitialReordering, FinalReordering}
+use Rattle.script_categories.specs.declared.pause.hb_script_pause_t.{hb_script_pause_t}
+use Rattle.script_categories.specs.declared.pause.hb_script_pause_t.TheVariants.{RecordStch, SetupSyllables, ReorderKhmer, ReorderMyanmar, ClearSyllables, ClearSubstitutionFlags, RecordRphf, RecordPref, ReorderUse, InitialReordering, FinalReordering}
 use Rattle.script_categories.specs.declared.shaper.hb_ot_script_shaper_t.{hb_ot_script_shaper_t}
 use Rattle.script_categories.specs.declared.shaper.hb_ot_script_shaper_t.TheVariants.{ARABIC_SHAPER, HANGUL_SHAPER, HEBREW_SHAPER, INDIC_SHAPER, KHMER_SHAPER, MYANMAR_SHAPER, MYANMAR_ZAWGYI_SHAPER, THAI_SHAPER, UNIVERSAL_SHAPER}
-use Rattle.script_hebrew_thai.specs.ThaiPrivate.{with_private}
-use Rattle.script_hebrew_thai.specs.ThaiVowel as thai
+use Rattle.script_thai.specs.ThaiPrivate.{with_private}
+use Rattle.script_thai.specs.ThaiVowel as thai
 use Rattle.script_hangul.specs.Hangul.{events_after, syllables_formed, text_after, wants_circles}
 use Rattle.script_hangul.specs.Masks.{with_letter_mask}
 use Rattle.script_joining.specs.Joining.{letters_with_forms}
-use Rattle.script_khmer_myanmar.specs.Khmer.{khmer_syllable}
-use Rattle.script_khmer_myanmar.specs.Myanmar.{myanmar_syllable}
+use Rattle.script_khmer.specs.Khmer.{khmer_syllable}
+use Rattle.script_myanmar.specs.Myanmar.{myanmar_syllable}
 use Rattle.script_universal.specs.Reordering.{universal_syllable}
 use Rattle.buffer_stages.specs.Cuts.{Syllable, syllables}
 use Rattle.script_syllabic.specs.declared.circles.CircleRule.{CircleRule}
@@ -42,14 +42,23 @@ use Rattle.script_syllabic.specs.Bytes.{bytes_of, bytes_set, is_known, itself, s
 use Rattle.script_syllabic.specs.Circles.{circle_events, circled_items, circles_by, circles_put, is_broken, with_circles}
 use Rattle.script_syllabic.specs.Features.{pref_recorded, rphf_masked, rphf_recorded, topography}
 use Rattle.script_syllabic.specs.Spans.{categories_counted, counted_index, universal_set}
-use Rattle.script_pauses.specs.Categories.{categories_set, ot_category_of, universal_category_of, with_category}
-use Rattle.script_pauses.specs.Copying.{with_tile_copies, events_from}
-use Rattle.script_pauses.specs.Laying.{is_in_range, tiles}
-use Rattle.script_pauses.specs.Stretch.{with_tiles_laid, text_runs, tiles_laid}
-use Rattle.script_pauses.specs.Syllables.{forms_set, khmer_circles, khmer_order, myanmar_circles, myanmar_order, syllables_by, then_syllables, universal_circles, universal_order, universal_syllables_set, item_not_substituted, without_syllable}
-use Rattle.script_pauses.specs.Tiles.{tile_recorded, tiles_recorded}
-use Rattle.script_dispatch.specs.Hooks.{has_private_forms, masks_set_by, pause_done, pause_if, pauses_by, postprocessing_by, preprocessing_by, private_if, syllables_found_by}
-use Rattle.script_dispatch.specs.Masks.{arabic_masks, form_masks, is_mongolian, jamo_masks, letters_joined_if, khmer_masks, letters_join, letters_joined, universal_masks_set}
+use Rattle.script_syllabic.specs.Categories.{categories_set, ot_category_of, with_category}
+use Rattle.script_universal.specs.Categories.{universal_category_of}
+use Rattle.script_arabic.specs.Copying.{with_tile_copies, events_from}
+use Rattle.script_arabic.specs.Laying.{is_in_range, tiles}
+use Rattle.script_arabic.specs.Stretch.{with_tiles_laid, text_runs, tiles_laid}
+use Rattle.script_universal.specs.Pauses.{forms_set, universal_circles, universal_syllables_set}
+use Rattle.script_khmer.specs.Pauses.{khmer_circles}
+use Rattle.script_myanmar.specs.Pauses.{myanmar_circles}
+use Rattle.script_syllabic.specs.Syllables.{syllables_by, then_syllables, item_not_substituted, without_syllable}
+use Rattle.script_arabic.specs.Tiles.{tile_recorded}
+use Rattle.script_thai.specs.Texts.{has_private_forms, private_if}
+use Rattle.script_dispatch.specs.Hooks.{masks_set_by, pause_done, pause_if, postprocessing_by, preprocessing_by, syllables_found_by}
+use Rattle.layout_map.specs.Masks.{joining_masks}
+use Rattle.script_universal.specs.Masks.{form_masks, letters_joined_if, letters_join, universal_masks_set}
+use Rattle.script_joining.specs.Joining.{is_mongolian, letters_joined}
+use Rattle.script_hangul.specs.MapMasks.{jamo_masks}
+use Rattle.script_khmer.specs.Masks.{khmer_masks}
 use Rattle.script_dispatch.specs.Rules.{rules_of, script_rules}
 use Rattle.script_dispatch.specs.declared.any_shaper.hb_ot_any_shaper_t.{hb_ot_any_shaper_t}
 use Rattle.script_dispatch.specs.declared.any_shaper.hb_ot_any_shaper_t.TheVariants as any
@@ -93,15 +102,15 @@ text_limits UNIVERSAL_SHAPER m s font t settings = same_by
 mapped_limits : (k : Item → Item) → DependsOnNoLimit (always (with_items_mapped k))
 mapped_limits k = always_by (with_items_mapped k) record { seen = λ v limit scratch_flags. refl; scratch_flags = λ v. refl; tested = λ change v. refl; budgeted = λ change v. refl; budget = λ v. refl }
 
-joined_limits : (m : OtMapValue) (s : Option Script) (t : Tables) (pre post : List ℕ) → DependsOnNoLimit (letters_joined m s t pre post)
-joined_limits m s t pre post = always_by (letters_with_forms t (is_mongolian s) (arabic_masks m) pre post) record { seen = λ v limit scratch_flags. refl; scratch_flags = λ v. refl; tested = λ change v. refl; budgeted = λ change v. refl; budget = λ v. refl }
+joined_limits : (masks : List ℕ) (s : Option Script) (t : Tables) (pre post : List ℕ) → DependsOnNoLimit (letters_joined masks s t pre post)
+joined_limits masks s t pre post = always_by (letters_with_forms t (is_mongolian s) masks pre post) record { seen = λ v limit scratch_flags. refl; scratch_flags = λ v. refl; tested = λ change v. refl; budgeted = λ change v. refl; budget = λ v. refl }
 
 universal_limits : (m : OtMapValue) (s : Option Script) (t : Tables) (pre post : List ℕ) → DependsOnNoLimit (universal_masks_set m s t pre post)
 universal_limits m s t pre post =
-    then_by (letters_joined_if m s t pre post) (categories_set (universal_category_of t)) (either_by (letters_joined m s t pre post) as_it_is (joined_limits m s t pre post) same_by (letters_join s)) (mapped_limits (with_category (universal_category_of t)))
+    then_by (letters_joined_if m s t pre post) (categories_set (universal_category_of t)) (either_by (letters_joined (joining_masks m) s t pre post) as_it_is (joined_limits (joining_masks m) s t pre post) same_by (letters_join s)) (mapped_limits (with_category (universal_category_of t)))
 
 masks_limits : (shaper : hb_ot_script_shaper_t) (m : OtMapValue) (s : Option Script) (t : Tables) (settings : TextSettings) → DependsOnNoLimit (masks_set_by shaper m s t settings)
-masks_limits ARABIC_SHAPER m s t settings = joined_limits m s t settings.pre_context settings.post_context
+masks_limits ARABIC_SHAPER m s t settings = joined_limits (joining_masks m) s t settings.pre_context settings.post_context
 masks_limits HANGUL_SHAPER m s t settings = mapped_limits (with_letter_mask (jamo_masks m))
 masks_limits KHMER_SHAPER m s t settings = mapped_limits (with_category (ot_category_of t))
 masks_limits MYANMAR_SHAPER m s t settings = mapped_limits (with_category (ot_category_of t))

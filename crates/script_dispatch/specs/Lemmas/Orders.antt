@@ -8,7 +8,7 @@ use Rattle.buffer_glyphs.specs.Items.{Item}
 use Rattle.buffer_core.specs.Readings.{always, as_it_is}
 use Rattle.layout_map.specs.Compiled.{OtMapValue}
 use Rattle.buffer_stages.specs.Settings.{TextSettings}
-use Rattle.script_plan.specs.Plans.{has_mask, mask_at_one}
+use Rattle.layout_map.specs.Masks.{has_mask, joining_masks, mask_at_one}
 use Rattle.script_plan.specs.declared.plan.hb_script_plan_t.{hb_script_plan_t}
 use Rattle.buffer_stage_laws.specs.Plainly.{KeepsPlainly}
 use Rattle.buffer_stage_laws.specs.Lemmas.Plainly.{either_plainly, plain_stages_keep_parts, same_plainly, then_plainly}
@@ -16,23 +16,28 @@ use Rattle.buffer_glyphs.specs.Rewriting.{eventless_arrangement}
 use Rattle.script_plan.specs.Rules.{EndAfterStart, IsArrangedInLine, RulesKeepParts, Spans}
 use Rattle.script_plan.specs.Lemmas.Arranged.{steady_arranged}
 use Rattle.script_plan.specs.Lemmas.Unchanged.{plain_rules_keep_parts}
-use Rattle.script_plan.specs.declared.pause.hb_script_pause_t.{hb_script_pause_t}
-use Rattle.script_plan.specs.declared.pause.hb_script_pause_t.TheVariants.{RecordStch, SetupSyllables, ReorderKhmer, ReorderMyanmar, ClearSyllables, ClearSubstitutionFlags, RecordRphf, RecordPref, ReorderUse, InitialReordering, FinalReordering}
-use Rattle.script_plan.specs.Pauses.{pause_of_number}
+use Rattle.script_categories.specs.declared.pause.hb_script_pause_t.{hb_script_pause_t}
+use Rattle.script_categories.specs.declared.pause.hb_script_pause_t.TheVariants.{RecordStch, SetupSyllables, ReorderKhmer, ReorderMyanmar, ClearSyllables, ClearSubstitutionFlags, RecordRphf, RecordPref, ReorderUse, InitialReordering, FinalReordering}
+use Rattle.script_categories.specs.Pauses.{pause_of_number}
 use Rattle.script_categories.specs.declared.shaper.hb_ot_script_shaper_t.{hb_ot_script_shaper_t}
 use Rattle.script_categories.specs.declared.shaper.hb_ot_script_shaper_t.TheVariants.{ARABIC_SHAPER, HANGUL_SHAPER, HEBREW_SHAPER, INDIC_SHAPER, KHMER_SHAPER, MYANMAR_SHAPER, MYANMAR_ZAWGYI_SHAPER, THAI_SHAPER, UNIVERSAL_SHAPER}
-use Rattle.script_hebrew_thai.specs.ThaiPrivate.{with_private}
-use Rattle.script_hebrew_thai.specs.ThaiVowel.{vowels_split}
-use Rattle.script_mark_orders.specs.Orders.{arabic_order, hebrew_order}
-use Rattle.script_mark_orders.specs.Lemmas.Counts.{orders_are_steady, orders_keep_count}
-use Rattle.script_pauses.specs.Categories.{ot_category_of}
-use Rattle.script_dispatch.specs.Masks.{form_masks, jamo_masks, khmer_masks}
-use Rattle.script_pauses.specs.Lemmas.Plainly.{tiles_keep_plainly}
+use Rattle.script_thai.specs.ThaiPrivate.{with_private}
+use Rattle.script_thai.specs.ThaiVowel.{vowels_split}
+use Rattle.script_arabic.specs.MarkOrder.{arabic_order}
+use Rattle.script_hebrew.specs.MarkOrder.{hebrew_order}
+use Rattle.script_arabic.proofs.MarkCounts.{arabic_length, arabic_steady}
+use Rattle.script_hebrew.proofs.MarkCounts.{hebrew_length, hebrew_steady}
+use Rattle.script_syllabic.specs.Categories.{ot_category_of}
+use Rattle.script_universal.specs.Masks.{form_masks}
+use Rattle.script_hangul.specs.MapMasks.{jamo_masks}
+use Rattle.script_khmer.specs.Masks.{khmer_masks}
+use Rattle.script_arabic.proofs.Plainly.{tiles_keep_plainly}
 use Rattle.script_dispatch.specs.Lemmas.Keeping.Hangul.{texts_keep_plainly}
 use Rattle.script_dispatch.specs.Lemmas.Keeping.Masks.{masks_keep_plainly}
 use Rattle.script_dispatch.specs.Lemmas.Keeping.Orders.{orders_keep_plainly}
 use Rattle.script_dispatch.specs.Lemmas.Keeping.Syllables.{syllables_keep_plainly}
-use Rattle.script_dispatch.specs.Hooks.{has_private_forms, masks_set_by, pause_done, pause_if, pauses_by, postprocessing_by, preprocessing_by, private_if, reorders_by, syllables_found_by}
+use Rattle.script_thai.specs.Texts.{has_private_forms, private_if}
+use Rattle.script_dispatch.specs.Hooks.{masks_set_by, pause_done, pause_if, pauses_by, postprocessing_by, preprocessing_by, reorders_by, syllables_found_by}
 use Rattle.script_dispatch.specs.declared.any_shaper.hb_ot_any_shaper_t.{hb_ot_any_shaper_t}
 use Rattle.script_dispatch.specs.declared.any_shaper.hb_ot_any_shaper_t.TheVariants as any
 use Rattle.script_dispatch.specs.Rules.{rules_of, script_rules}
@@ -40,8 +45,8 @@ use Rattle.script_dispatch.specs.Rules.{rules_of, script_rules}
 -- ---- how many marks
 
 count_by : (shaper : hb_ot_script_shaper_t) (run : List Item) → length (reorders_by shaper run).items ≡ length run
-count_by ARABIC_SHAPER run = orders_keep_count.arabic run
-count_by HEBREW_SHAPER run = orders_keep_count.hebrew run
+count_by ARABIC_SHAPER run = arabic_length run
+count_by HEBREW_SHAPER run = hebrew_length run
 count_by HANGUL_SHAPER run = refl
 count_by INDIC_SHAPER run = refl
 count_by KHMER_SHAPER run = refl
@@ -71,8 +76,8 @@ text_kept MYANMAR_ZAWGYI_SHAPER m s font t settings = same_plainly
 text_kept UNIVERSAL_SHAPER m s font t settings = same_plainly
 
 marks_arranged : (shaper : hb_ot_script_shaper_t) (run : List Item) → IsArrangedInLine run (reorders_by shaper run)
-marks_arranged ARABIC_SHAPER run = steady_arranged run (arabic_order run) (orders_are_steady.arabic run)
-marks_arranged HEBREW_SHAPER run = steady_arranged run (hebrew_order run) (orders_are_steady.hebrew run)
+marks_arranged ARABIC_SHAPER run = steady_arranged run (arabic_order run) (arabic_steady run)
+marks_arranged HEBREW_SHAPER run = steady_arranged run (hebrew_order run) (hebrew_steady run)
 marks_arranged HANGUL_SHAPER run = steady_arranged run (eventless_arrangement run) tt
 marks_arranged INDIC_SHAPER run = steady_arranged run (eventless_arrangement run) tt
 marks_arranged KHMER_SHAPER run = steady_arranged run (eventless_arrangement run) tt
@@ -82,7 +87,7 @@ marks_arranged THAI_SHAPER run = steady_arranged run (eventless_arrangement run)
 marks_arranged UNIVERSAL_SHAPER run = steady_arranged run (eventless_arrangement run) tt
 
 masks_kept : (shaper : hb_ot_script_shaper_t) (m : OtMapValue) (s : Option Script) (t : Tables) (settings : TextSettings) → KeepsPlainly (masks_set_by shaper m s t settings)
-masks_kept ARABIC_SHAPER m s t settings = masks_keep_plainly.joined m s t settings.pre_context settings.post_context
+masks_kept ARABIC_SHAPER m s t settings = masks_keep_plainly.joined (joining_masks m) s t settings.pre_context settings.post_context
 masks_kept HANGUL_SHAPER m s t settings = masks_keep_plainly.places (jamo_masks m)
 masks_kept KHMER_SHAPER m s t settings = masks_keep_plainly.categories (ot_category_of t)
 masks_kept MYANMAR_SHAPER m s t settings = masks_keep_plainly.categories (ot_category_of t)

@@ -3,7 +3,8 @@ use Rattle.buffer_core.specs.Sides.{all_glyphs, items_of}
 use Rattle.buffer_core.specs.Moving.{after_move_to}
 use Rattle.layout_match.specs.Applied.{apply_context_of}
 use Rattle.buffer_stages.proofs.Lemmas.Frames.{still_open}
-use Rattle.layout_match.proofs.Lemmas.Passage.{begun, passed_on}
+use Rattle.layout_match.proofs.Lemmas.Passage.{begun}
+use Rattle.layout_match.proofs.Lemmas.Stages.{stage_refused}
 use Rattle.layout_positioning.specs.Lookups.{lookup_action}
 use Rattle.layout_positioning.proofs.Over.{looked_over_done, over_next, over_refused}
 use Rattle.layout_positioning.proofs.forward.apply_forward.Goals as goal
@@ -24,15 +25,15 @@ loop-preserved c =
       kept = c.in_ok-apply_next.ensures.kept;
     }
 
-pub returns-in_err-apply_next-clause-err : goal.returns-in_err-apply_next-clause-err
-returns-in_err-apply_next-clause-err c =
+pub returns-in_err-apply_next : goal.returns-in_err-apply_next
+returns-in_err-apply_next c =
     let cause = c.in_err-apply_next.field-0.0 in
-    passed_on c.from_residual.result cause _ c.from_residual.ensures.1
+    stage_refused c.from_residual.result cause _ _ _ _ _ c.from_residual.ensures.1
     (λ not_memory.
     over_refused (λ d. lookup_action c.args.table.now.lookups d (apply_context_of c.args.ctx.now) c.args.lookup.now) c.len-count.result c.loop.counter c.args.ctx.now.random_state c.args.buffer.now c.loop.buffer cause c.requires.ready (c.len-count.ensures.count c.requires.ready.closed) c.loop-test.true c.loop.invariant.underway (c.in_err-apply_next.ensures.err not_memory))
 
-pub returns-clause-ok : goal.returns-clause-ok
-returns-clause-ok c =
+pub returns : goal.returns
+returns c =
     let s = c.args.buffer.now in
     let now = c.loop.buffer in
     let closed : now.is_open ≡ false = still_open s now c.loop.invariant.underway.still ∙ c.requires.ready.closed in

@@ -4,7 +4,7 @@ use Rattle.buffer_common.specs.declared.direction.Direction.{Direction}
 use Rattle.layout_subtables.specs.declared.context.ContextSubtable.{ContextSubtable}
 use Rattle.layout_subtables.specs.declared.context.SequenceLookupRecord.{SequenceLookupRecord}
 use Rattle.layout_match.specs.Applied.{apply_context_of}
-use Rattle.buffer_stages.specs.Actions.{Action, first_rule}
+use Rattle.buffer_stages.specs.Actions.{Action}
 use Rattle.buffer_stages.specs.Performing.{IsPerformed, cut_with}
 use Rattle.buffer_stages.proofs.Lemmas.Frames.{still_direction}
 use Rattle.buffer_stages.proofs.Lemmas.Performed.{passed_all}
@@ -18,16 +18,8 @@ use Rattle.layout_contexts.specs.Rules.{chains_of}
 use Rattle.layout_contexts.proofs.Lemmas.Acting.{match_inside, rule_acted, rule_failed}
 use Rattle.layout_contexts.proofs.Lemmas.Inside.{then_stays}
 use Rattle.layout_contexts.proofs.Lemmas.Nested.{begun_closed, begun_numbers, begun_some, begun_unrefused, get_or_any, last_walked, matched_closed, matched_numbers, matched_unrefused, next_failed, next_walked, none_nested, not_tried, record_acted, record_inside, record_passed, tried_there}
-use Rattle.layout_positioning.specs.Joins.{cursive_subtable}
-use Rattle.layout_gpos.specs.Marks.{mark_to_mark}
-use Rattle.layout_gpos.specs.Pairs.{pair_subtable}
-use Rattle.layout_gpos.specs.Singles.{single_subtable}
-use Rattle.layout_gpos.proofs.Lemmas.Left.{first_left, mark_keeps, pair_keeps, single_keeps}
-use Rattle.layout_subtables.specs.declared.cursive.CursivePos.{CursivePos}
-use Rattle.layout_subtables.specs.declared.single_pos.SinglePos.{SinglePos}
 use Rattle.layout_positioning.specs.Lookups.{nested_actions, nested_act}
-use Rattle.layout_positioning.proofs.Kept.{begun_kept, behind_kept, matched_kept, performed_kept, unmatched_kept}
-use Rattle.layout_positioning.proofs.Left.{cursive_keeps}
+use Rattle.layout_positioning.proofs.Kept.{begun_kept, behind_kept, matched_kept, unmatched_kept}
 use Rattle.layout_positioning.proofs.Levels.{no_depth, some_depth, record_lookup_refused}
 use Rattle.layout_positioning.proofs.nested.+nested.Goals as goal
 
@@ -215,35 +207,3 @@ apply_rule-returns-in_default-clause-kept t c =
 
 pub apply_rule-returns-in-Ok-clause-kept : goal.apply_rule-returns-in-Ok-clause-kept
 apply_rule-returns-in-Ok-clause-kept t c = behind_kept (apply_context_of c.args.ctx.now) c.in-Ok.at c.go_behind.result c.apply_records.new.last c.apply_records.new.buffer c.go_behind.new.buffer c.in-Ok.ensures.kept c.go_behind.ensures
-
-pub apply_subtables-returns-in-Single-clause-kept : goal.apply_subtables-returns-in-Single-clause-kept
-apply_subtables-returns-in-Single-clause-kept t c =
-    let s = c.args.buffer.now in
-    let d = s.direction in
-    let a = apply_context_of c.args.ctx.now in
-    let ts = c.as_slice.result.now in
-    performed_kept (first_rule (λ (x : SinglePos). single_subtable d x.rows) ts) a c.apply_first.result c.args.ctx.now.random_state c.args.last.now s c.apply_first.new.buffer (first_left (λ (x : SinglePos). single_subtable d x.rows) ts (λ x. single_keeps d x.rows)) c.requires.kept c.apply_first.ensures
-
-pub apply_subtables-returns-in-Pair-clause-kept : goal.apply_subtables-returns-in-Pair-clause-kept
-apply_subtables-returns-in-Pair-clause-kept t c =
-    let s = c.args.buffer.now in
-    let d = s.direction in
-    let a = apply_context_of c.args.ctx.now in
-    let ts = c.as_slice-in-Pair.result.now in
-    performed_kept (first_rule (pair_subtable d a) ts) a c.apply_first-in-Pair.result c.args.ctx.now.random_state c.args.last.now s c.apply_first-in-Pair.new.buffer (first_left (pair_subtable d a) ts (pair_keeps d a)) c.requires.kept c.apply_first-in-Pair.ensures
-
-pub apply_subtables-returns-in-Cursive-clause-kept : goal.apply_subtables-returns-in-Cursive-clause-kept
-apply_subtables-returns-in-Cursive-clause-kept t c =
-    let s = c.args.buffer.now in
-    let d = s.direction in
-    let a = apply_context_of c.args.ctx.now in
-    let ts = c.as_slice-in-Cursive.result.now in
-    performed_kept (first_rule (λ (x : CursivePos). cursive_subtable d a x.rows) ts) a c.apply_first_cursive.result c.args.ctx.now.random_state c.args.last.now s c.apply_first_cursive.new.buffer (first_left (λ (x : CursivePos). cursive_subtable d a x.rows) ts (λ x. cursive_keeps d a x.rows)) c.requires.kept c.apply_first_cursive.ensures
-
-pub apply_subtables-returns-in-MarkToMark-clause-kept : goal.apply_subtables-returns-in-MarkToMark-clause-kept
-apply_subtables-returns-in-MarkToMark-clause-kept t c =
-    let s = c.args.buffer.now in
-    let d = s.direction in
-    let a = apply_context_of c.args.ctx.now in
-    let ts = c.as_slice-in-MarkToMark.result.now in
-    performed_kept (first_rule (mark_to_mark a) ts) a c.apply_first_mark.result c.args.ctx.now.random_state c.args.last.now s c.apply_first_mark.new.buffer (first_left (mark_to_mark a) ts (mark_keeps a)) c.requires.kept c.apply_first_mark.ensures

@@ -17,7 +17,7 @@ loop-lookup_map-preserved c =
     record {
       done =
           one_done c.args.ctx.now.face.now c.args.table.now.lookups c.args.lookups.now c.loop-lookup_map.lookup_map-index none c.args.ctx.now.random_state r after c.args.buffer.now c.loop-lookup_map.buffer c.apply_mapped.new.buffer c.loop-lookup_map-test.true i.done
-          (subst P i.face c.in_ok-apply_mapped.ensures.ok);
+          (subst P i.face c.in_ok-apply_mapped.ensures.stage);
       substitution = c.apply_mapped.ensures.table;
       face = c.apply_mapped.ensures.face ∙ i.face;
     }

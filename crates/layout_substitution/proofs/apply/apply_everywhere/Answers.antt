@@ -6,8 +6,8 @@ use Rattle.layout_substitution.specs.Lookups.{backward_pass, lookup_action, reve
 use Rattle.layout_substitution.proofs.Stages.{either_done}
 use Rattle.layout_substitution.proofs.apply.apply_everywhere.Goals as goal
 
-pub returns-then-is_reverse-clause-ok : goal.returns-then-is_reverse-clause-ok
-returns-then-is_reverse-clause-ok c =
+pub returns-then-is_reverse-clause-stage : goal.returns-then-is_reverse-clause-stage
+returns-then-is_reverse-clause-stage c =
     let a = apply_context_of c.args.ctx.now in
     let lookup = c.args.lookup.now in
     let r = c.args.ctx.now.random_state in

@@ -2,15 +2,16 @@ use Rattle.std.proofs.Common.{◌≡◌, ◌-◌, true, false, Ok, ap, sym, subs
 use Rattle.buffer_core.specs.Sides.{Sides, fits_joined}
 use Rattle.layout_match.specs.Applied.{apply_context_of}
 use Rattle.layout_substitution.specs.Lookups.{lookup_action}
-use Rattle.layout_match.proofs.Lemmas.Passage.{IsUnderway, gone_on_by, looked_up_done, looked_up_long, looked_up_refused_by, passed_on}
+use Rattle.layout_match.proofs.Lemmas.Passage.{IsUnderway, gone_on_by, looked_up_done, looked_up_long, looked_up_refused_by}
+use Rattle.layout_match.proofs.Lemmas.Stages.{stage_refused}
 use Rattle.layout_substitution.proofs.forward.apply_forward.Goals as goal
 
-pub returns-in_err-apply_next-clause-err : goal.returns-in_err-apply_next-clause-err
-returns-in_err-apply_next-clause-err c =
+pub returns-in_err-apply_next-clause-stage : goal.returns-in_err-apply_next-clause-stage
+returns-in_err-apply_next-clause-stage c =
     let ctx = c.args.ctx.now in
     let s = c.args.buffer.now in
     let cause = c.in_err-apply_next.field-0.0 in
-    passed_on c.from_residual-in_err-apply_next.result cause _ c.from_residual-in_err-apply_next.ensures.1
+    stage_refused c.from_residual-in_err-apply_next.result cause _ _ _ _ _ c.from_residual-in_err-apply_next.ensures.1
     (λ not_memory.
     looked_up_refused_by (λ a. lookup_action c.args.table.now.lookups a c.args.lookup.now) (apply_context_of c.loop.ctx) (apply_context_of ctx) c.len-count.result c.loop.counter ctx.random_state c.loop.ctx.random_state s c.clear_output.new.self c.loop.buffer cause (c.len-count.ensures.count c.requires.ready.closed)
     c.loop-test.true c.loop.invariant.context c.in_ok-clear_output.ensures.after c.loop.invariant.underway (c.in_err-apply_next.ensures.err not_memory))
@@ -25,8 +26,8 @@ loop-preserved c =
       context = c.apply_next.ensures.context ∙ c.loop.invariant.context;
     }
 
-pub returns-then-not-branch-clause-err : goal.returns-then-not-branch-clause-err
-returns-then-not-branch-clause-err c =
+pub returns-then-not-branch-clause-stage : goal.returns-then-not-branch-clause-stage
+returns-then-not-branch-clause-stage c =
     let ctx = c.args.ctx.now in
     let s = c.args.buffer.now in
     let act = lookup_action c.args.table.now.lookups (apply_context_of ctx) c.args.lookup.now in
@@ -36,8 +37,8 @@ returns-then-not-branch-clause-err c =
     let full : fits_joined c.loop.buffer ≡ false = sym c.in_ok-sync.ensures.held ∙ c.if-not-branch.true in
     λ not_memory. looked_up_long act count c.loop.counter ctx.random_state c.loop.ctx.random_state s c.loop.buffer c.requires.ready (c.len-count.ensures.count c.requires.ready.closed) (omega (arith, c.loop-test.false)) u full
 
-pub returns-clause-ok : goal.returns-clause-ok
-returns-clause-ok c =
+pub returns-clause-stage : goal.returns-clause-stage
+returns-clause-stage c =
     let ctx = c.args.ctx.now in
     let s = c.args.buffer.now in
     let act = lookup_action c.args.table.now.lookups (apply_context_of ctx) c.args.lookup.now in

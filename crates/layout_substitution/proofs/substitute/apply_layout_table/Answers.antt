@@ -14,8 +14,8 @@ loop-i-preserved g c =
     record {
       done = stage_done c.args.ctx.now.face.now c.loop-i.ctx.face.now t (g.P.Pause.stage c.args.pause.now (text_settings c.args.buffer.now)) c.loop-i.i none c.stage_lookups.result.now _ c.args.ctx.now.random_state c.loop-i.ctx.random_state
           c.apply_stage.new.ctx.random_state c.args.buffer.now c.loop-i.buffer c.apply_stage.new.buffer c.run_pause.new.buffer (search rules) was.done was.face c.stage_lookups.ensures (ap (λ (s : StageMap). s.pause) there)
-          c.in_ok-apply_stage.ensures.ok
-          (paused_as_set (g.P.Pause.stage c.args.pause.now) _ c.apply_stage.new.ctx.random_state c.args.buffer.now c.apply_stage.new.buffer c.run_pause.new.buffer (c.in_ok-apply_stage.ensures.ok.settings ∙ was.done.settings)
+          c.in_ok-apply_stage.ensures.stage
+          (paused_as_set (g.P.Pause.stage c.args.pause.now) _ c.apply_stage.new.ctx.random_state c.args.buffer.now c.apply_stage.new.buffer c.run_pause.new.buffer (c.in_ok-apply_stage.ensures.stage.settings ∙ was.done.settings)
           (c.in_ok-run_pause.ensures.ok c.apply_stage.new.ctx.random_state));
       substitution = c.apply_stage.ensures.table;
       face = c.apply_stage.ensures.face ∙ was.face;

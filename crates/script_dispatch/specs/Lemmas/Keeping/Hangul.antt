@@ -1,5 +1,5 @@
 -- The events of syllables of Hangul, and of texts.
-use Rattle.std.proofs.Common.{ℕ, zero, suc, ◌≡◌, ◌≤◌, ◌<◌, ◌+◌, ◌-◌, Bool, true, false, if◌then◌else◌, List, [], ◌∷◌, ◌++◌, length, map, take, drop, Option, None, Some, arith, refl, ap, sym, ◌∙◌}
+use Rattle.std.proofs.Common.{ℕ, zero, suc, ◌≡◌, ◌≤◌, ◌<◌, ◌+◌, ◌-◌, Bool, true, false, if◌then◌else◌, List, [], ◌∷◌, ◌++◌, length, take, drop, Option, None, Some, arith, refl, ap, sym, ◌∙◌}
 use Rattle.std.specs.Prelude.{min, nat_le, nat_lt, is_some, ◌&&◌}
 use Rattle.std.proofs.lemmas.List.{length-append, length-drop, length-map, length-take, take-append-drop}
 use Rattle.std.proofs.lemmas.Grind.{common_steps}
@@ -22,10 +22,10 @@ use Rattle.buffer_parts.specs.Plainly.{ArePlainlyKept, AreSteady}
 use Rattle.buffer_parts.specs.Lemmas.Plainly.{plainly_in_turn, replacement_kept, steady_kept}
 use Rattle.buffer_stage_laws.specs.Plainly.{KeepsPlainly}
 use Rattle.buffer_stage_laws.specs.Lemmas.Plainly.{always_plainly, even_plainly, limited_plainly}
-use Rattle.script_pauses.specs.Lemmas.Plainly.{kept_between}
-use Rattle.script_hebrew_thai.specs.declared.thai_private.State.{State}
-use Rattle.script_hebrew_thai.specs.declared.thai_private.Consonant.TheVariants.{NotConsonant}
-use Rattle.script_hebrew_thai.specs.ThaiPrivate.{items_shaped, start_state, state_after, with_private}
+use Rattle.script_arabic.proofs.Plainly.{kept_between}
+use Rattle.script_thai.specs.declared.thai_private.State.{State}
+use Rattle.script_thai.specs.declared.thai_private.Consonant.TheVariants.{NotConsonant}
+use Rattle.script_thai.specs.ThaiPrivate.{items_shaped, start_state, state_after, with_private}
 use Rattle.script_hangul.specs.declared.jamo.Letters.{Letters}
 use Rattle.script_hangul.specs.declared.jamo.Letters.TheVariants.{Two, Three}
 use Rattle.script_hangul.specs.declared.actions.Action.{Action}

@@ -21,15 +21,18 @@ use Rattle.buffer_stages.specs.Parts.{first_to_back, items_with_features}
 use Rattle.script_syllabic.specs.declared.circles.CircleRule.{CircleRule}
 use Rattle.script_syllabic.specs.Circles.{CircledItem, Due, There, Inserted, begins, circled_at_start, circle_events, circle_item, circled_from, circled_items, circles_by, circles_put, items_without_circles, is_broken, is_repha, with_circles}
 use Rattle.script_syllabic.proofs.Erased.{erasing_circles}
-use Rattle.script_khmer_myanmar.specs.declared.khmer.KhmerMasks.{KhmerMasks}
-use Rattle.script_khmer_myanmar.specs.Khmer as khmer
-use Rattle.script_khmer_myanmar.specs.Myanmar as myanmar
+use Rattle.script_khmer.specs.declared.khmer.KhmerMasks.{KhmerMasks}
+use Rattle.script_khmer.specs.Khmer as khmer
+use Rattle.script_myanmar.specs.Myanmar as myanmar
 use Rattle.script_universal.specs.Reordering as universal
-use Rattle.script_khmer_myanmar.specs.Lemmas.KhmerPermuted.{syllable_permutes as khmer_permutes}
-use Rattle.script_khmer_myanmar.specs.Lemmas.MyanmarPermuted.{syllable_permutes as myanmar_permutes}
-use Rattle.script_universal.specs.Lemmas.Permuted.{syllable_permutes as universal_permutes}
-use Rattle.script_pauses.specs.Lemmas.Plainly.{kept_between}
-use Rattle.script_pauses.specs.Syllables.{khmer_circles, myanmar_circles, syllables_by, then_syllables, universal_circles}
+use Rattle.script_khmer.proofs.KhmerPermuted.{syllable_permutes as khmer_permutes}
+use Rattle.script_myanmar.proofs.MyanmarPermuted.{syllable_permutes as myanmar_permutes}
+use Rattle.script_universal.proofs.Permuted.{syllable_permutes as universal_permutes}
+use Rattle.script_arabic.proofs.Plainly.{kept_between}
+use Rattle.script_khmer.specs.Pauses.{khmer_circles}
+use Rattle.script_myanmar.specs.Pauses.{myanmar_circles}
+use Rattle.script_syllabic.specs.Syllables.{syllables_by, then_syllables}
+use Rattle.script_universal.specs.Pauses.{universal_circles}
 use Rattle.buffer_stage_laws.specs.Plainly.{KeepsPlainly}
 use Rattle.buffer_stage_laws.specs.Lemmas.Plainly.{IsSteady, ReadsPlainly, limited_plainly, same_plainly, syllables_plainly, then_plainly, then_steady, within_steady}
 use Rattle.script_dispatch.specs.Keeping.{OrdersKeepPlainly}

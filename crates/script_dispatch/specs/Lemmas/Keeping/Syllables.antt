@@ -19,8 +19,9 @@ use Rattle.script_syllabic.specs.declared.forms.FormMasks.{FormMasks}
 use Rattle.script_syllabic.specs.Features.{pref_recorded, reph_size, rphf_masked, rphf_recorded, topography}
 use Rattle.script_syllabic.specs.Spans.{categories_counted, index_or_end, counted_index, counted_indices_from, universal_set}
 use Rattle.script_syllabic.proofs.Counting.{places_rise}
-use Rattle.script_pauses.specs.Lemmas.Rules.{bytes_permute, pref_recorded_permutes, rphf_permutes, rphf_recorded_permutes, topography_permutes}
-use Rattle.script_pauses.specs.Syllables.{forms_set, syllables_by, then_syllables, universal_syllables_set, item_not_substituted, without_syllable}
+use Rattle.script_syllabic.proofs.QuietRules.{bytes_permute, pref_recorded_permutes, rphf_permutes, rphf_recorded_permutes, topography_permutes}
+use Rattle.script_universal.specs.Pauses.{forms_set, universal_syllables_set}
+use Rattle.script_syllabic.specs.Syllables.{syllables_by, then_syllables, item_not_substituted, without_syllable}
 use Rattle.buffer_stage_laws.specs.Plainly.{KeepsPlainly}
 use Rattle.buffer_stage_laws.specs.Lemmas.Plainly.{IsSteady, ReadsPlainly, even_plainly, limited_plainly, mapped_plainly, permuted_even, rule_plainly, same_plainly, syllables_plainly, then_plainly, then_steady, within_steady}
 use Rattle.script_plan.specs.Rules.{EndAfterStart, Spans}

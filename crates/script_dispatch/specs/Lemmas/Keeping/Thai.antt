@@ -14,8 +14,8 @@ use Rattle.buffer_parts.specs.Lemmas.Plainly.{plainly_in_turn, replacement_kept,
 use Rattle.buffer_stage_laws.specs.Plainly.{KeepsPlainly}
 use Rattle.buffer_stage_laws.specs.Lemmas.Plainly.{limited_plainly}
 use Rattle.buffer_core.specs.Sides.{zero_positions}
-use Rattle.script_pauses.specs.Lemmas.Plainly.{kept_between}
-use Rattle.script_hebrew_thai.specs.ThaiVowel.{count_above, split_events, events_of_character, events_of_vowel, is_sara_am, merge_of_vowel, nikhahit, move_of_vowel, sara_aa, text_with_splits, vowels_split, with_character, with_vowel}
+use Rattle.script_arabic.proofs.Plainly.{kept_between}
+use Rattle.script_thai.specs.ThaiVowel.{count_above, split_events, events_of_character, events_of_vowel, is_sara_am, merge_of_vowel, nikhahit, move_of_vowel, sara_aa, text_with_splits, vowels_split, with_character, with_vowel}
 
 merge_steady : (level : BufferClusterLevel) (at : ℕ) → AreSteady (merge_of_vowel level at)
 merge_steady MonotoneGraphemes at = elim (at == 0) as (λ t. AreSteady (if t then [] else Merge InOutput (at - 1) (at + 2) ∷ [])) [ true ↦ tt | false ↦ tt ]

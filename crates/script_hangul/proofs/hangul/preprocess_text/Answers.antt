@@ -1,15 +1,15 @@
 use Rattle.std.proofs.Common.{Bool, ◌≡◌, ◌+◌, ◌-◌, arith, ap, subst, ◌∙◌}
 use Rattle.buffer_core.specs.Sides.{Sides, with_output}
-use Rattle.buffer_stages.proofs.Lemmas.Walked.{passed_on}
-use Rattle.script_hangul.specs.Hangul.{step, wants_circles}
+use Rattle.script_syllabic.proofs.Does.{passed_stage}
+use Rattle.script_hangul.specs.Hangul.{step, syllables_formed, wants_circles}
 use Rattle.buffer_stages.specs.Walks.{RefusesLength}
 use Rattle.std.proofs.Common.{length}
 use Rattle.buffer_glyphs.specs.Items.{strip}
 use Rattle.script_hangul.proofs.Walk.{IsUnderway, more, too_long}
 use Rattle.script_hangul.proofs.hangul.preprocess_text.Goals as goal
 
-pub returns-in_err-start-clause-err : goal.returns-in_err-start-clause-err
-returns-in_err-start-clause-err c =
+pub returns-in_err-start : goal.returns-in_err-start
+returns-in_err-start c =
     let e = c.in_err-start.field-0.0 in
     let lt = c.loop-test.true in
     let n = c.len-count.result - c.loop.counter in
@@ -21,7 +21,7 @@ returns-in_err-start-clause-err c =
     let h : IsUnderway font c.wants_circles-circles.result n c.loop.start (with_output s) t = subst (λ (b : Sides). IsUnderway font c.wants_circles-circles.result n c.loop.start (with_output b) t) c.clear_output.ensures.after c.loop.invariant in
     let h' : IsUnderway font (wants_circles flags) n c.loop.start (with_output s) t = subst (λ (b : Bool). IsUnderway font b n c.loop.start (with_output s) t) circles h in
     let over : RefusesLength (length (step font (wants_circles flags) c.loop.start (strip t.behind) (strip t.ahead)).out) e t = subst (λ (b : Bool). RefusesLength (length (step font b c.loop.start (strip t.behind) (strip t.ahead)).out) e t) circles c.in_err-start.ensures.err in
-    passed_on c.from_residual-in_err-start.result e _ c.from_residual-in_err-start.ensures.1
+    passed_stage (syllables_formed font flags) c.from_residual-in_err-start.result e s c.pass.new.buffer c.from_residual-in_err-start.ensures.1
     (too_long font flags n c.loop.start e s t (omega (arith, lt)) h' over)
 
 pub loop-preserved : goal.loop-preserved

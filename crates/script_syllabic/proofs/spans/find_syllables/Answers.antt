@@ -1,4 +1,6 @@
 use Rattle.std.proofs.Common.{◌∙◌, length}
+use Rattle.script_syllabic.specs.Spans.{universal_set}
+use Rattle.script_syllabic.proofs.Does.{does_stage}
 use Rattle.script_syllabic.proofs.Counting.{rises, ends_within, found, found_refused}
 use Rattle.script_syllabic.proofs.spans.find_syllables.Goals as goal
 
@@ -12,14 +14,13 @@ set_bytes-requires-clause-within g c =
     let n = c.in_ok-counted.counted.places in
     ends_within c.info_slice.result.now n.indices.items n.end (length c.deref.result.now) c.args.buffer.now c.info_slice.ensures c.in_ok-counted.ensures.indices c.in_ok-counted.ensures.end
 
-pub returns-clause-ok : goal.returns-clause-ok
-returns-clause-ok g c =
+pub returns : goal.returns
+returns g c =
     let n = c.in_ok-counted.counted.places in
-    found (g.S.SyllableSpans.span_of c.args.spans.now) c.deref.result.now n.indices.items n.end c.info_slice.result.now c.args.buffer.now c.set_bytes.new.buffer c.set_bytes.result
-    c.info_slice.ensures (c.deref.ensures.value ∙ c.in_ok-counted.ensures.categories) c.in_ok-counted.ensures.indices c.in_ok-counted.ensures.end c.set_bytes.ensures.ok
-
-pub returns-clause-err : goal.returns-clause-err
-returns-clause-err g c =
-    let n = c.in_ok-counted.counted.places in
-    found_refused (g.S.SyllableSpans.span_of c.args.spans.now) c.deref.result.now n.indices.items n.end c.info_slice.result.now c.args.buffer.now c.set_bytes.result
-    c.info_slice.ensures (c.deref.ensures.value ∙ c.in_ok-counted.ensures.categories) c.in_ok-counted.ensures.indices c.in_ok-counted.ensures.end c.set_bytes.ensures.err
+    let spans = g.S.SyllableSpans.span_of c.args.spans.now in
+    let same = c.deref.ensures.value ∙ c.in_ok-counted.ensures.categories in
+    does_stage (universal_set spans) c.set_bytes.result c.args.buffer.now c.set_bytes.new.buffer
+    (found spans c.deref.result.now n.indices.items n.end c.info_slice.result.now c.args.buffer.now c.set_bytes.new.buffer c.set_bytes.result
+    c.info_slice.ensures same c.in_ok-counted.ensures.indices c.in_ok-counted.ensures.end c.set_bytes.ensures.ok)
+    (found_refused spans c.deref.result.now n.indices.items n.end c.info_slice.result.now c.args.buffer.now c.set_bytes.result
+    c.info_slice.ensures same c.in_ok-counted.ensures.indices c.in_ok-counted.ensures.end c.set_bytes.ensures.err)

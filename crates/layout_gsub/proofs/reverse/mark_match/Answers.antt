@@ -1,5 +1,0 @@
-use Rattle.buffer_stages.proofs.Lemmas.Around.{break_around}
-use Rattle.layout_gsub.proofs.reverse.mark_match.Goals as goal
-
-pub returns : goal.returns
-returns c = let m = c.unsafe_to_break_from_outbuffer in break_around c.args.back c.args.ahead c.idx.result c.out_len.result c.args.buffer.now m.new.self c.idx.ensures c.out_len.ensures c.requires.before m.ensures.marked m.ensures.origins

@@ -1,0 +1,17 @@
+pub mod JoiningMasks
+pub mod Reordered
+pub mod MarkCounts
+pub mod MarksPlaced
+pub mod Measured
+pub mod Walked
+pub mod Shared
+pub mod Listed
+pub mod Wrapped
+pub mod Places
+pub mod Copied
+pub mod Underway
+pub mod Laid
+pub mod Numbers
+pub mod Reach
+pub mod Untouched
+pub mod Plainly

@@ -1,0 +1,10 @@
+use Rattle.std.proofs.Common.{ap, rules, ◌∙◌}
+use Rattle.script_arabic.specs.TilePositions.{all_positions}
+use Rattle.script_arabic.proofs.Laid.{laid_done}
+use Rattle.script_arabic.proofs.stretch.lay_tiles.Goals as goal
+
+pub returns : goal.returns
+returns c =
+    let ts = c.args.tiles.now in
+    laid_done ts _ c.args.buffer.now c.copy_tiles.new.buffer c.put_places.new.buffer c.requires.ready c.in_ok-copy_tiles.ensures
+    (c.deref-2.ensures.value ∙ c.in_ok-places.ensures ∙ ap (λ ps. all_positions ps ts) (c.deref.ensures.value ∙ (search rules) ∙ c.pos_slice.ensures.same)) c.put_places.ensures

@@ -1,0 +1,13 @@
+pub mod Requests
+pub mod Classed
+pub mod Marks
+pub mod MarkOrder
+pub mod Tiles
+pub mod Words
+pub mod Runs
+pub mod Copies
+pub mod Laying
+pub mod Copying
+pub mod TilePositions
+pub mod Stretch
+pub mod TileLaws

@@ -1,0 +1,3 @@
+pub mod Swapped
+pub mod MarkCounts
+pub mod MarksPlaced

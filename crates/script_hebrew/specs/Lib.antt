@@ -1,0 +1,3 @@
+pub mod Hebrew
+pub mod Neighbours
+pub mod MarkOrder

@@ -1,5 +1,0 @@
-pub mod Swapped
-pub mod Shaped
-pub mod Counted
-pub mod Vowel
-pub mod Vowels

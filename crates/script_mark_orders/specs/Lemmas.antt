@@ -1,2 +1,0 @@
--- Lemmas on the orders of marks.
-pub mod Counts

@@ -1,2 +1,0 @@
-pub mod Lemmas
-pub mod Orders

@@ -1,0 +1,3 @@
+pub mod MyanmarPermuted
+pub mod Placing
+pub mod MyanmarSteps

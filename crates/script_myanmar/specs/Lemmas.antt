@@ -1,0 +1,3 @@
+-- Lemmas on the rules of a syllable.
+pub mod Sizes
+pub mod MyanmarSize

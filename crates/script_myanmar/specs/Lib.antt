@@ -1,0 +1,5 @@
+pub mod Lemmas
+pub mod Myanmar
+pub mod Turned
+pub mod Pauses
+pub mod Requests

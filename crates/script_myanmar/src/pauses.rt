@@ -1,0 +1,45 @@
+//! The pauses of the Myanmar shaper (rustybuzz: hb/ot_shaper_myanmar.rs).
+ghost use Rattle.std.specs.Prelude.{◌≡◌, true, false, Ok};
+ghost use Rattle.buffer_core.specs.Sides.{items_of};
+ghost use Rattle.buffer_stages.specs.Buffers.{are_glyphs};
+ghost use Rattle.buffer_stages.specs.Ready.{DoesGlyphStage, IsReady};
+ghost use Rattle.buffer_stages.specs.Pauses.{BringsNoGlyph};
+ghost use Rattle.buffer_stages.specs.Settings.{text_settings};
+ghost use Rattle.script_myanmar.specs.Pauses.{myanmar_order};
+
+use crate::myanmar;
+use buffer_core::buffer::hb_buffer_t;
+use buffer_glyphs::cause::ShapeCause;
+use layout_face::Face;
+use script_categories::ot_category_t::OT_DOTTEDCIRCLE;
+use script_categories::syllable_kinds::myanmar::BROKEN_CLUSTER;
+use script_syllabic::circles::insert_dotted_circles;
+use std::alloc::Global;
+
+/// Inserts a dotted circle into each broken syllable, and reorders each syllable (`reorder_myanmar`). Returns whether
+/// circles were inserted.
+///
+/// # Errors
+///
+/// `TooLong` where the text would have more glyphs than the buffer may hold, or lack of memory.
+pub fn reorder_myanmar(
+    alloc: Global,
+    face: &Face,
+    buffer: &mut hb_buffer_t,
+) -> Result<bool, ShapeCause>
+    requires ready { IsReady buffer.old }
+    requires numbers { are_glyphs (items_of buffer.old) ≡ true }
+    ensures stage { DoesGlyphStage (myanmar_order face.now (text_settings buffer.old).flags) result buffer.old buffer.new }
+    ensures brings_none { result ≡ Ok false → BringsNoGlyph (items_of buffer.old) (items_of buffer.new) }
+{
+    let inserted = insert_dotted_circles(
+        face,
+        buffer,
+        BROKEN_CLUSTER,
+        OT_DOTTEDCIRCLE,
+        None,
+        None,
+    )?;
+    myanmar::reorder_myanmar(alloc, buffer)?;
+    Ok(inserted)
+}

@@ -1,6 +1,0 @@
-use Rattle.script_pauses.proofs.Copied.{AreCopied}
-use Rattle.script_pauses.proofs.copying.pass.Given as goal
-
--- that many copies are output
-abbrev pub invariant-loop : goal.invariant-loop
-invariant-loop l = AreCopied l.counter l.initial.buffer l.buffer

@@ -1,0 +1,48 @@
+//! The categories of a text's characters for the Khmer and Myanmar shapers (rustybuzz: hb/ot_shaper_khmer.rs and
+//! hb/ot_shaper_myanmar.rs, setup_masks).
+ghost use Rattle.std.specs.Prelude.{◌≡◌};
+ghost use Rattle.buffer_glyphs.specs.Items.{item_of};
+ghost use Rattle.buffer_glyphs.specs.Origins.{origin_of};
+ghost use Rattle.buffer_stages.specs.Ready.{IsReady};
+ghost use Rattle.buffer_stages.specs.Stages.{IsFollowed};
+ghost use Rattle.script_syllabic.specs.Categories.{categories_set, listed_category, ot_category_of, with_category};
+
+use buffer_core::buffer::hb_buffer_t;
+use buffer_glyphs::info::hb_glyph_info_t;
+use buffer_stages::glyphs::map_glyphs;
+use buffer_unicode_tables::UnicodeTables;
+use script_categories::ot_category_t::OT_X;
+
+/// Stores in each glyph its character's category for the Khmer and Myanmar shapers. It takes linear time and no memory.
+pub fn set_ot_categories(tables: &UnicodeTables, buffer: &mut hb_buffer_t)
+    requires ready { IsReady buffer.old }
+    ensures { IsFollowed (categories_set (ot_category_of tables.now)) buffer.old buffer.new }
+{
+    map_glyphs(buffer, |glyph| with_ot_category(tables, glyph));
+}
+
+fn with_ot_category(tables: &UnicodeTables, glyph: &hb_glyph_info_t) -> hb_glyph_info_t
+    ensures item { item_of result ≡ with_category (ot_category_of tables.now) (item_of glyph.now) }
+    ensures origin { origin_of result ≡ origin_of glyph.now }
+{
+    let category = ot_category(tables, glyph.glyph_id);
+    hb_glyph_info_t { category, ..*glyph }
+}
+
+fn ot_category(tables: &UnicodeTables, u: u32) -> u8
+    ensures { result ≡ ot_category_of tables.now u }
+{
+    match char::from_u32(u) {
+        Some(c) => listed_category(tables, c),
+        None => OT_X,
+    }
+}
+
+fn listed_category(tables: &UnicodeTables, c: char) -> u8
+    ensures { result ≡ listed_category tables.now c }
+{
+    match tables.indic(c) {
+        Some((category, _)) => category,
+        None => OT_X,
+    }
+}

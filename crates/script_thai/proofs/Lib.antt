@@ -1,0 +1,5 @@
+pub mod Shaped
+pub mod Counted
+pub mod Vowel
+pub mod Vowels
+pub mod PrivateForms

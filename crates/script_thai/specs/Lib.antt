@@ -1,0 +1,4 @@
+pub mod ThaiPrivate
+pub mod ThaiGlyphs
+pub mod ThaiVowel
+pub mod Texts

@@ -1,0 +1,181 @@
+//! Decomposes Thai SARA AM and Lao AM (rustybuzz: hb/ot_shaper_thai.rs).
+ghost use Rattle.std.specs.Prelude.{◌≡◌, ◌<◌, ◌≤◌, ◌+◌, ◌-◌, ◌∷◌, List, Some, true, length, slice_get, OnOk, IfErr};
+ghost use Rattle.buffer_glyphs.specs.Items.{Item, item_of, strip};
+ghost use Rattle.buffer_glyphs.specs.Origins.{origin_of};
+ghost use Rattle.buffer_stages.specs.Ready.{IsReady};
+ghost use Rattle.script_thai.specs.ThaiVowel.{count_above, events_of_character, events_of_vowel, is_mark_above, is_sara_am, nikhahit, nonspacing, move_of_vowel, sara_aa, thai_or_lao, vowels_split, with_character, with_vowel};
+ghost use Rattle.buffer_stages.specs.Moves.{with_range_moved};
+ghost use Rattle.buffer_stages.specs.Walks.{RefusesLength, HasWalked};
+ghost use Rattle.buffer_stages.specs.Stages.{DoesStage};
+
+use buffer_core::buffer::hb_buffer_t;
+use buffer_glyphs::cause::ShapeCause;
+use buffer_glyphs::flags::UnicodeProps;
+use buffer_glyphs::info::hb_glyph_info_t;
+use buffer_glyphs::level::BufferClusterLevel;
+use buffer_stages::walks::{advance, finish, merge_behind, move_behind, replace_current};
+use buffer_unicode::category::GeneralCategoryExt;
+use unicode::properties::GeneralCategory;
+
+const SARA_AM: u32 = 0x0E33;
+
+/// The difference between a character of Lao and the one of Thai at the same offset of its block.
+const LAO: u32 = 0x80;
+
+/// Decomposes each SARA AM, and each AM of Lao, into a mark above, which is moved before the marks above that precede
+/// it, and a vowel after these (`preprocess_text`). It takes linear time.
+///
+/// # Errors
+///
+/// `TooLong` where the text would have more characters than the buffer may hold, or lack of memory.
+pub fn preprocess_text(buffer: &mut hb_buffer_t) -> Result<(), ShapeCause>
+    requires ready { IsReady buffer.old }
+    ensures { DoesStage vowels_split result buffer.old buffer.new }
+{
+    let count = buffer.len();
+    buffer.clear_output()?;
+    for _ in 0..count {
+        pass(buffer)?;
+    }
+    finish(buffer)?;
+    Ok(())
+}
+
+/// Outputs the current character, as two halves where it is such a vowel.
+fn pass(buffer: &mut hb_buffer_t) -> Result<(), ShapeCause>
+    requires open { buffer.old.is_open ≡ true }
+    requires there { 0 < length buffer.old.ahead }
+    ensures ok { OnOk result ((x : Item) (xs : List Item) → strip buffer.old.ahead ≡ x ∷ xs
+        → HasWalked (with_character (strip buffer.old.behind) x) xs
+        (events_of_character buffer.old.level (strip buffer.old.behind) x) buffer.old buffer.new) }
+    ensures err { IfErr result (λ e. (x : Item) (xs : List Item) → strip buffer.old.ahead ≡ x ∷ xs
+        → RefusesLength (length (with_character (strip buffer.old.behind) x)) e buffer.old) }
+{
+    let glyph = *buffer.cur(0);
+    if is_sara_am(&glyph) {
+        split(&glyph, buffer)?;
+        return Ok(());
+    }
+    advance(buffer)?;
+    Ok(())
+}
+
+/// Outputs the current vowel as its two halves.
+fn split(glyph: &hb_glyph_info_t, buffer: &mut hb_buffer_t) -> Result<(), ShapeCause>
+    requires open { buffer.old.is_open ≡ true }
+    requires there { slice_get buffer.old.ahead 0 ≡ Some glyph.now }
+    requires vowel { is_sara_am (item_of glyph.now) ≡ true }
+    ensures ok { OnOk result ((x : Item) (xs : List Item) → strip buffer.old.ahead ≡ x ∷ xs
+        → HasWalked (with_vowel (strip buffer.old.behind) x) xs
+        (events_of_vowel buffer.old.level (length buffer.old.behind) (count_above (strip buffer.old.behind))) buffer.old
+        buffer.new) }
+    ensures err { IfErr result (λ e. RefusesLength (length buffer.old.behind + 2) e buffer.old) }
+{
+    let at = buffer.out_len();
+    let marks = count_above(buffer.out_info());
+    replace_current(&[nikhahit(glyph), sara_aa(glyph)], buffer)?;
+    place(at, marks, buffer);
+    Ok(())
+}
+
+/// Moves the first half of a vowel, whose halves begin at `at` of the output, before the marks above, and merges it
+/// with them; without marks both halves are merged with the character before them, at level MonotoneGraphemes.
+fn place(at: usize, marks: usize, buffer: &mut hb_buffer_t)
+    requires open { buffer.old.is_open ≡ true }
+    requires parts { at + 2 ≡ length buffer.old.behind }
+    requires before { marks ≤ at }
+    ensures { HasWalked (with_range_moved (at - marks) marks 1 (strip buffer.old.behind)) (strip buffer.old.ahead)
+        (move_of_vowel buffer.old.level at marks) buffer.old buffer.new }
+{
+    if marks == 0 {
+        return join(at, buffer);
+    }
+    let end = buffer.out_len();
+    move_behind(at - marks, at, end - 1, buffer);
+}
+
+/// Merges both halves of a vowel with the character before them, at level MonotoneGraphemes.
+fn join(at: usize, buffer: &mut hb_buffer_t)
+    requires open { buffer.old.is_open ≡ true }
+    requires parts { at + 2 ≡ length buffer.old.behind }
+    ensures { HasWalked (strip buffer.old.behind) (strip buffer.old.ahead) (move_of_vowel buffer.old.level at 0) buffer.old
+        buffer.new }
+{
+    if at == 0 {
+        return;
+    }
+    let end = buffer.out_len();
+    match buffer.cluster_level() {
+        BufferClusterLevel::MonotoneGraphemes => merge_behind(at - 1, end, buffer),
+        BufferClusterLevel::MonotoneCharacters | BufferClusterLevel::Characters => {}
+    }
+}
+
+/// The first half, NIKHAHIT: a nonspacing mark that continues the grapheme.
+fn nikhahit(glyph: &hb_glyph_info_t) -> hb_glyph_info_t
+    requires vowel { is_sara_am (item_of glyph.now) ≡ true }
+    ensures item { item_of result ≡ nikhahit (item_of glyph.now) }
+    ensures origin { origin_of result ≡ origin_of glyph.now }
+{
+    hb_glyph_info_t {
+        glyph_id: glyph.glyph_id + 0x1A,
+        unicode_props: nonspacing(glyph.unicode_props),
+        ..*glyph
+    }
+}
+
+/// The second half, SARA AA.
+fn sara_aa(glyph: &hb_glyph_info_t) -> hb_glyph_info_t
+    requires vowel { is_sara_am (item_of glyph.now) ≡ true }
+    ensures item { item_of result ≡ sara_aa (item_of glyph.now) }
+    ensures origin { origin_of result ≡ origin_of glyph.now }
+{
+    hb_glyph_info_t {
+        glyph_id: glyph.glyph_id - 1,
+        ..*glyph
+    }
+}
+
+/// The property word of a nonspacing mark that continues the grapheme.
+fn nonspacing(props: UnicodeProps) -> UnicodeProps
+    ensures { result.0 ≡ nonspacing props.0 }
+{
+    let category = GeneralCategory::NonspacingMark.to_rb() as u16;
+    UnicodeProps((props.0 - (props.0 & 0x1F) + category) | UnicodeProps::CONTINUATION.0)
+}
+
+/// The number of marks above that end a text.
+fn count_above(glyphs: &[hb_glyph_info_t]) -> usize
+    ensures count { result ≡ count_above (strip glyphs.now) }
+    ensures within { result ≤ length glyphs.now }
+{
+    let count = glyphs.len();
+    for i in 0..count {
+        if !is_mark_above(&glyphs[count - 1 - i]) {
+            return i;
+        }
+    }
+    count
+}
+
+fn is_sara_am(glyph: &hb_glyph_info_t) -> bool
+    ensures { result ≡ is_sara_am (item_of glyph.now) }
+{
+    thai_or_lao(glyph.glyph_id) == SARA_AM
+}
+
+fn is_mark_above(glyph: &hb_glyph_info_t) -> bool
+    ensures { result ≡ is_mark_above (item_of glyph.now) }
+{
+    matches!(
+        thai_or_lao(glyph.glyph_id),
+        0x0E31 | 0x0E34..=0x0E37 | 0x0E3B | 0x0E47..=0x0E4E
+    )
+}
+
+/// The Thai character of one of Thai or Lao, at the same offset of its block.
+fn thai_or_lao(u: u32) -> u32
+    ensures { result ≡ thai_or_lao u }
+{
+    u - (u & LAO)
+}
