@@ -1,0 +1,5 @@
+//! Tests of the conditions under which canonically equivalent texts shape alike.
+#![tactic(auto)]
+
+#[cfg(test)]
+mod premises;

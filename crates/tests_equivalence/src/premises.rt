@@ -1,0 +1,106 @@
+//! Texts that are regular, and those of which one condition fails.
+use buffer_unicode_tables::UnicodeTables;
+use layout_face::Face;
+use serde_json::Value;
+use shape_premises::{has_full_expansion, has_short_runs, is_regular};
+use shell_face_json::read_face;
+use shell_tables_json::read_tables;
+use std::alloc::Global;
+use std::test::Fail;
+
+// U+1026 is U+1025 with U+102E, and U+1B06 is U+1B05 with U+1B34; U+0301 is a mark above.
+const TABLES: &str =
+    "{\"splits\":[[4134,4133,4142],[6918,6917,6964]],\"classes\":[[769,230],[6964,7],[6980,9]]}";
+
+// The characters of the decompositions, without the composites.
+const FONT: &str = "{\"cmap\":[[4133,1],[4142,2],[4150,3],[6917,4],[6964,5],[6980,6]]}";
+
+// A composite, without the first half of its decomposition.
+const POOR_FONT: &str = "{\"cmap\":[[4134,1],[4142,2],[4150,3]]}";
+
+fn face_of(alloc: Global, text: &str) -> Result<Face, Fail> {
+    let value = Value::from_str(alloc, text)?;
+    Ok(read_face(alloc, &value)?)
+}
+
+fn tables_of(alloc: Global, text: &str) -> Result<UnicodeTables, Fail> {
+    let value = Value::from_str(alloc, text)?;
+    Ok(read_tables(alloc, &value)?)
+}
+
+fn passes_with(alloc: Global, tables: &UnicodeTables, text: &str) -> Result<bool, Fail> {
+    let face = face_of(alloc, FONT)?;
+    Ok(is_regular(&face, tables, text))
+}
+
+fn passes(alloc: Global, text: &str) -> Result<bool, Fail> {
+    let tables = tables_of(alloc, TABLES)?;
+    passes_with(alloc, &tables, text)
+}
+
+// The first two are equivalent, and so are the last two.
+const REGULAR: &str =
+    "\u{1026}\u{1036}\n\u{1025}\u{102E}\u{1036}\n\u{1B05}\u{1B34}\u{1B44}\n\u{1B05}\u{1B44}\u{1B34}";
+
+#[test]
+fn regular_texts(rt: HostRuntime) -> Result<(), Fail> {
+    for text in REGULAR.lines() {
+        let passes = passes(rt.alloc(), text)?;
+        assert!(rt; passes, "{text}");
+    }
+    Ok(())
+}
+
+// A mark at first, no mark after the first character, a variation selector, and a character that the font lacks.
+const IRREGULAR: &str =
+    "\u{1036}\u{1025}\u{102E}\n\u{1026}\n\u{1025}\u{102E}\u{FE00}\n\u{1025}\u{102E}\u{1037}";
+
+#[test]
+fn irregular_texts(rt: HostRuntime) -> Result<(), Fail> {
+    for text in IRREGULAR.lines() {
+        let passes = passes(rt.alloc(), text)?;
+        assert!(rt; !passes, "{text}");
+    }
+    Ok(())
+}
+
+fn has_halves_with(alloc: Global, tables: &UnicodeTables, text: &str) -> Result<bool, Fail> {
+    let face = face_of(alloc, POOR_FONT)?;
+    Ok(has_full_expansion(&face, tables, text))
+}
+
+fn has_halves(alloc: Global, text: &str) -> Result<bool, Fail> {
+    let tables = tables_of(alloc, TABLES)?;
+    has_halves_with(alloc, &tables, text)
+}
+
+#[test]
+fn font_without_a_half(rt: HostRuntime) -> Result<(), Fail> {
+    let halves = has_halves(rt.alloc(), "\u{1026}\u{1036}")?;
+    assert!(rt; !halves);
+    Ok(())
+}
+
+fn with_marks(alloc: Global, count: usize) -> Result<String, Fail> {
+    let mut text = String::new(alloc);
+    text.push('a')?;
+    for _ in 0..count {
+        text.push('\u{301}')?;
+    }
+    Ok(text)
+}
+
+fn is_short(alloc: Global, count: usize) -> Result<bool, Fail> {
+    let tables = tables_of(alloc, TABLES)?;
+    let text = with_marks(alloc, count)?;
+    Ok(has_short_runs(&tables, &text))
+}
+
+#[test]
+fn runs_of_marks(rt: HostRuntime) -> Result<(), Fail> {
+    let sorted = is_short(rt.alloc(), 32)?;
+    assert!(rt; sorted);
+    let unsorted = !is_short(rt.alloc(), 33)?;
+    assert!(rt; unsorted);
+    Ok(())
+}
