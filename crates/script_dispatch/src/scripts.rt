@@ -10,7 +10,7 @@ ghost use Rattle.buffer_stages.specs.Settings.{text_settings};
 ghost use Rattle.buffer_stages.specs.Stages.{DoesStage, IsFollowed};
 ghost use Rattle.layout_map.specs.Features.{in_any, system_features};
 ghost use Rattle.layout_map.specs.Requests.{with_map_request};
-ghost use Rattle.script_dispatch.specs.Hooks.{composes_by, masks_set_by, pause_done, postprocessing_by, preprocessing_by, reorders_by, splits_by, syllables_found_by};
+ghost use Rattle.script_dispatch.specs.Hooks.{composes_by, masks_set_by, pause_done, postprocessing_by, preprocessing_by, reorders_by, splits_by};
 ghost use Rattle.script_dispatch.specs.Shapers.{features_of, overrides_of};
 
 use buffer_common::script::Script;
@@ -29,6 +29,8 @@ use script_categories::hb_script_pause_t::{
     RecordRphf, RecordStch, ReorderKhmer, ReorderMyanmar, ReorderUse, SetupSyllables,
 };
 use script_plan::plan::hb_script_plan_t;
+use script_syllabic::pauses::setup_syllables;
+use script_universal::pauses::setup_syllables as setup_use_syllables;
 use std::alloc::{AllocError, Global};
 
 /// Requests a shaper's features for a script (`collect_features`), between the common requests of every text.
@@ -177,26 +179,6 @@ pub fn setup_masks<D>(
     }
 }
 
-fn setup_syllables<D, P: SyllableSpans>(
-    shaper: hb_ot_script_shaper_t,
-    alloc: Global,
-    plan: &hb_script_plan_t<D>,
-    spans: &P,
-    buffer: &mut hb_buffer_t,
-) -> Result<bool, ShapeCause>
-    requires ready { IsReady buffer.old }
-    ensures stage { DoesGlyphStage (syllables_found_by shaper plan.now.map plan.now.script (P.span_of spans.now)) result
-        buffer.old buffer.new }
-    ensures brings_none { result ≡ Ok false → BringsNoGlyph (items_of buffer.old) (items_of buffer.new) }
-{
-    match shaper {
-        UNIVERSAL_SHAPER => {
-            script_universal::pauses::setup_syllables(alloc, spans, &plan.map, plan.script, buffer)
-        }
-        _ => script_syllabic::pauses::setup_syllables(alloc, spans, shaper, buffer),
-    }
-}
-
 /// Performs a pause, and returns true whenever a glyph number was inserted.
 ///
 /// # Errors
@@ -219,7 +201,12 @@ pub fn run_pause<D, P: SyllableSpans>(
     ensures brings_none { result ≡ Ok false → BringsNoGlyph (items_of buffer.old) (items_of buffer.new) }
 {
     match pause {
-        SetupSyllables => setup_syllables(shaper, alloc, plan, spans, buffer),
+        SetupSyllables => match shaper {
+            UNIVERSAL_SHAPER => {
+                setup_use_syllables(alloc, spans, &plan.map, plan.script, buffer)
+            }
+            _ => setup_syllables(alloc, spans, shaper, buffer),
+        },
         ReorderKhmer => script_khmer::pauses::reorder_khmer(&plan.map, face, buffer),
         ReorderMyanmar => script_myanmar::pauses::reorder_myanmar(alloc, face, buffer),
         ReorderUse => script_universal::pauses::reorder_use(face, buffer),
