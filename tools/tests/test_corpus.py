@@ -15,8 +15,6 @@ CORPUS = Path(__file__).parent / "corpus.txt"
 DEJAVU = "/usr/share/fonts/truetype/dejavu/"
 # Words that the program shapes otherwise than hb-shape, with the reason; anything else that differs is a fault.
 DIFFERENCES: dict[str, str] = {}
-# Faults that say that a script waits for its shaper.
-WAITS = ("NotYet",)
 SCRIPTS = 20
 
 
@@ -73,8 +71,7 @@ class Corpus(unittest.TestCase):
         for font, words in corpus().items():
             expected, _ = lines_of(["hb-shape", "--utf8-clusters", font], words)
             for word, wanted, (found, told) in zip(words, expected, shaped(font, words), strict=True):
-                waits = any(fault in told for fault in WAITS)
-                if found != wanted and not waits and word not in DIFFERENCES:
+                if found != wanted and word not in DIFFERENCES:
                     unexplained.append(f"{Path(font).name}: {word}: {found or told} where hb-shape has {wanted}")
         self.assertEqual(unexplained, [], "\n".join(unexplained))
 

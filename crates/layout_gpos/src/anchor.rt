@@ -13,7 +13,7 @@ fn difference(a: i16, b: i16) -> i32
     i32::from(a) - i32::from(b)
 }
 
-fn anchored(base: Anchor, mark: Anchor, link: i16, position: GlyphPosition) -> GlyphPosition
+fn anchor_mark(base: Anchor, mark: Anchor, link: i16, position: GlyphPosition) -> GlyphPosition
     ensures { result ≡ anchored_position base mark link position }
 {
     GlyphPosition {
@@ -37,6 +37,6 @@ pub fn hang_mark(
     ensures { positions.new ≡ with_mark_attached at base base_anchor mark_anchor positions.old }
 {
     if is_near(at, base) {
-        positions[at] = anchored(base_anchor, mark_anchor, link_to(at, base), positions[at]);
+        positions[at] = anchor_mark(base_anchor, mark_anchor, link_to(at, base), positions[at]);
     }
 }

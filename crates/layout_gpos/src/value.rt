@@ -7,7 +7,7 @@ use buffer_glyphs::position::GlyphPosition;
 use layout_offsets::sums::{minus, plus};
 use layout_subtables::value::ValueRecord;
 
-fn moved(value: ValueRecord, position: GlyphPosition) -> GlyphPosition
+fn add_placement(value: ValueRecord, position: GlyphPosition) -> GlyphPosition
     ensures { result ≡ position_with_placement value position }
 {
     GlyphPosition {
@@ -17,7 +17,7 @@ fn moved(value: ValueRecord, position: GlyphPosition) -> GlyphPosition
     }
 }
 
-fn advanced(is_horizontal: bool, value: ValueRecord, position: GlyphPosition) -> GlyphPosition
+fn add_advance(is_horizontal: bool, value: ValueRecord, position: GlyphPosition) -> GlyphPosition
     ensures { result ≡ position_with_advance is_horizontal value position }
 {
     if is_horizontal {
@@ -35,11 +35,19 @@ fn advanced(is_horizontal: bool, value: ValueRecord, position: GlyphPosition) ->
     }
 }
 
-/// A position adjusted: placements always apply, an advance only along the line.
-pub fn adjusted(direction: Direction, value: ValueRecord, position: GlyphPosition) -> GlyphPosition
+/// Adjusts a position: placements always apply, an advance only along the line.
+fn adjust_position(
+    direction: Direction,
+    value: ValueRecord,
+    position: GlyphPosition,
+) -> GlyphPosition
     ensures { result ≡ adjusted_position direction value position }
 {
-    advanced(direction.is_horizontal(), value, moved(value, position))
+    add_advance(
+        direction.is_horizontal(),
+        value,
+        add_placement(value, position),
+    )
 }
 
 /// Adjusts the position at an index.
@@ -47,7 +55,7 @@ pub fn adjust(positions: &mut [GlyphPosition], at: usize, value: ValueRecord, di
     requires here { at < length positions.old }
     ensures { positions.new ≡ with_adjusted_position direction at value positions.old }
 {
-    positions[at] = adjusted(direction, value, positions[at]);
+    positions[at] = adjust_position(direction, value, positions[at]);
 }
 
 /// Whether all values of a record are zero.

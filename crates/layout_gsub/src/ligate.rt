@@ -122,7 +122,7 @@ impl PartNumbering {
     }
 
     /// A glyph between this component and the next, renumbered where it is to be.
-    fn passed(&self, info: &hb_glyph_info_t) -> hb_glyph_info_t
+    fn renumber(&self, info: &hb_glyph_info_t) -> hb_glyph_info_t
         requires number { self.now.lig_id < 8 }
         requires bound { self.now.ended < 2 ^ 60 }
         ensures item { item_of result
@@ -194,7 +194,7 @@ fn pass_between(
     ensures full { IfErr result (λ e. e ≢ ShapeCause.OutOfMemory → has_output_room count buffer.old ≡ false) }
 {
     for _ in 0..count {
-        let info = numbering.passed(buffer.cur(0));
+        let info = numbering.renumber(buffer.cur(0));
         pass_as(info, buffer)?;
     }
     Ok(())

@@ -12,3 +12,9 @@ pub mod LigatureLengths
 pub mod KeptRules
 pub mod Kept
 pub mod Unturned
+pub mod Alike
+pub mod NestedAlike
+pub mod Counting
+pub mod NestedCounting
+pub mod Lookups
+pub mod Nested

@@ -1,4 +1,9 @@
 pub mod Lemmas
+pub mod Alike
+pub mod RuleLengths
+pub mod Counting
+pub mod RuleBudgets
+pub mod RuleParts
 pub mod Lengths
 pub mod Nesting
 pub mod Parts

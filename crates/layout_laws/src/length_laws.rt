@@ -1,3 +1,4 @@
+//! The lookups of a text depend on no length limit, and count the budget of nested lookups.
 ghost use Rattle.layout_laws.specs.Lengths.{PositioningCountsBudget, PositioningDependsOnNoLength, SubstitutionCountsBudget, SubstitutionDependsOnNoLength};
 ghost use Rattle.layout_laws.specs.Nesting.{NestsWithinBudget, NothingNestsWithoutBudget};
 

@@ -1,3 +1,4 @@
+//! The lookups of a text keep its parts, and reverse no list.
 ghost use Rattle.layout_laws.specs.Parts.{PositioningKeepsParts, PositioningStaysUnturned, SubstitutionKeepsParts, SubstitutionStaysUnturned};
 
 /// Substitution keeps the parts of a text where each pause does.

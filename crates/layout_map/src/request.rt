@@ -21,10 +21,7 @@ pub enum MapRequest {
 }
 
 /// Adds a feature to the builder, or ends the GSUB stage.
-pub fn add_request(
-    builder: &mut hb_ot_map_builder_t,
-    request: MapRequest,
-) -> Result<(), AllocError>
+pub fn add_request(builder: &mut hb_ot_map_builder_t, request: MapRequest) -> Result<(), AllocError>
     ensures { OnOk result (builder.new ≡ with_map_request builder.old request) }
 {
     match request {

@@ -145,11 +145,11 @@ fn set_class(glyphs: &mut [hb_glyph_info_t], class: u8)
     ensures { glyphs.new ≡ map (glyph_classed class) glyphs.old }
 {
     for glyph in glyphs.iter_mut() {
-        *glyph = classed(class, glyph);
+        *glyph = with_class(class, glyph);
     }
 }
 
-fn classed(class: u8, glyph: &hb_glyph_info_t) -> hb_glyph_info_t
+fn with_class(class: u8, glyph: &hb_glyph_info_t) -> hb_glyph_info_t
     ensures { result ≡ glyph_classed class glyph.now }
 {
     hb_glyph_info_t {

@@ -14,7 +14,6 @@ use layout_map_features::flags::{F_HAS_FALLBACK, F_MANUAL_ZWJ, F_NONE};
 use script_categories::hb_script_pause_t::RecordStch;
 use std::alloc::AllocError;
 
-
 const WITH_FALLBACK: u32 = F_MANUAL_ZWJ | F_HAS_FALLBACK;
 
 const ARABIC_FORMS: [MapRequest; 20] = [
@@ -63,7 +62,10 @@ const SYRIAC_FORMS: [MapRequest; 20] = [
     enable_feature!(b"rlig", WITH_FALLBACK),
 ];
 
-const REQUIRED_CONTEXTS: [MapRequest; 2] = [MapRequest::GsubPause(0), enable_feature!(b"rclt", F_MANUAL_ZWJ)];
+const REQUIRED_CONTEXTS: [MapRequest; 2] = [
+    MapRequest::GsubPause(0),
+    enable_feature!(b"rclt", F_MANUAL_ZWJ),
+];
 
 const LIGATURES: [MapRequest; 3] = [
     enable_feature!(b"liga", F_MANUAL_ZWJ),

@@ -1,2 +1,1 @@
-mod Kept
 pub mod Present

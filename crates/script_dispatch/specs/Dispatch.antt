@@ -163,10 +163,3 @@ script_shaper s direction chosen =
 abbrev pub shaper_of : Option Script → Direction → Option Tag → hb_ot_any_shaper_t
 shaper_of None direction chosen = any.Default
 shaper_of (Some s) direction chosen = script_shaper s direction chosen
-
--- ---- scripts whose shaper is not implemented yet
-
--- a text of the script may need the Indic shaper, which is not implemented yet
-abbrev pub script_waits : Option Script → Bool
-script_waits None = false
-script_waits (Some s) = is_among indic_scripts s

@@ -1,7 +1,6 @@
 -- The hooks of the scripts' shapers, as stages on a text.
-use Rattle.std.specs.Prelude.{ℕ, not, Bool, List, Option, Some, None, codes}
+use Rattle.std.specs.Prelude.{ℕ, Bool, List, Option, Some, None, codes}
 use Rattle.buffer_common.specs.declared.script.Script.{Script}
-use Rattle.buffer_common.specs.declared.script.TheConstants as script
 use Rattle.buffer_unicode_tables.specs.Expansion.{Splits}
 use Rattle.buffer_unicode_tables.specs.Tables.{Tables, pair_of, split_of}
 use Rattle.layout_face.specs.declared.parts.FaceParts.{FaceParts}
@@ -27,6 +26,9 @@ use Rattle.script_hangul.specs.Masks.{with_letter_mask}
 use Rattle.script_khmer.specs.Khmer.{khmer_split}
 use Rattle.script_khmer.specs.Masks.{khmer_masks}
 use Rattle.script_khmer.specs.Pauses.{khmer_order}
+use Rattle.script_indic.specs.Categories.{properties_set}
+use Rattle.script_indic.specs.Characters.{indic_pair, indic_split}
+use Rattle.script_indic.specs.Reordering.{indic_final, indic_initial}
 use Rattle.script_myanmar.specs.Pauses.{myanmar_order}
 use Rattle.script_universal.specs.Masks.{form_masks, universal_masks_set}
 use Rattle.script_universal.specs.Pauses.{universal_order, universal_syllables_set}
@@ -50,8 +52,10 @@ preprocessing_by _ m s font t settings = as_it_is
 
 -- ---- characters
 
--- the decompositions of characters: Unicode's, but for Khmer vowels with a left half (HarfBuzz: decompose)
+-- the decompositions of characters: Unicode's, but for Khmer vowels with a left half and Indic letters that fonts have
+-- whole (HarfBuzz: decompose)
 abbrev pub splits_by : hb_ot_script_shaper_t → Tables → Splits
+splits_by INDIC_SHAPER t = indic_split t
 splits_by KHMER_SHAPER t = khmer_split t
 splits_by _ t = split_of t
 
@@ -59,7 +63,7 @@ splits_by _ t = split_of t
 -- positioning (HarfBuzz: compose)
 abbrev pub composes_by : hb_ot_script_shaper_t → Bool → Tables → ℕ → ℕ → Option ℕ
 composes_by HEBREW_SHAPER has_gpos_mark t = hebrew_pair t has_gpos_mark
-composes_by INDIC_SHAPER has_gpos_mark t = unmarked_pair t
+composes_by INDIC_SHAPER has_gpos_mark t = indic_pair t
 composes_by KHMER_SHAPER has_gpos_mark t = unmarked_pair t
 composes_by UNIVERSAL_SHAPER has_gpos_mark t = unmarked_pair t
 composes_by _ has_gpos_mark t = pair_of t
@@ -76,6 +80,7 @@ reorders_by _ = λ run. eventless_arrangement run
 abbrev pub masks_set_by : hb_ot_script_shaper_t → OtMapValue → Option Script → Tables → TextSettings → Stage
 masks_set_by ARABIC_SHAPER m s t settings = letters_joined (joining_masks m) s t settings.pre_context settings.post_context
 masks_set_by HANGUL_SHAPER m s t settings = always (with_items_mapped (with_letter_mask (jamo_masks m)))
+masks_set_by INDIC_SHAPER m s t settings = properties_set t
 masks_set_by KHMER_SHAPER m s t settings = categories_set (ot_category_of t)
 masks_set_by MYANMAR_SHAPER m s t settings = categories_set (ot_category_of t)
 masks_set_by UNIVERSAL_SHAPER m s t settings = universal_masks_set m s t settings.pre_context settings.post_context
@@ -92,7 +97,7 @@ abbrev pub syllables_found_by : hb_ot_script_shaper_t → OtMapValue → Option 
 syllables_found_by UNIVERSAL_SHAPER m s spans = universal_syllables_set spans (mask_at_one (codes "rphf") m) (form_masks m s)
 syllables_found_by shaper m s spans = syllables_set spans shaper
 
--- the stage of a pause; the reordering of Indic syllables is not implemented yet
+-- the stage of a pause
 abbrev pub pause_done : hb_ot_script_shaper_t → OtMapValue → Option Script → FaceParts → Spans → TextSettings → hb_script_pause_t → Stage
 pause_done shaper m s font spans settings RecordStch = tiles_recorded (has_mask (codes "stch") m)
 pause_done shaper m s font spans settings SetupSyllables = syllables_found_by shaper m s spans
@@ -103,8 +108,8 @@ pause_done shaper m s font spans settings ClearSubstitutionFlags = substitutions
 pause_done shaper m s font spans settings RecordRphf = syllables_by (rphf_recorded (mask_at_one (codes "rphf") m))
 pause_done shaper m s font spans settings RecordPref = syllables_by pref_recorded
 pause_done shaper m s font spans settings ReorderUse = universal_order font settings.flags
-pause_done shaper m s font spans settings InitialReordering = as_it_is
-pause_done shaper m s font spans settings FinalReordering = as_it_is
+pause_done shaper m s font spans settings InitialReordering = indic_initial m s font settings.flags
+pause_done shaper m s font spans settings FinalReordering = indic_final m s
 
 -- the stage of a pause, if there is one
 abbrev pub pause_if : hb_ot_script_shaper_t → OtMapValue → Option Script → FaceParts → Spans → TextSettings → Option hb_script_pause_t → Stage

@@ -20,6 +20,8 @@ use Rattle.script_khmer.specs.declared.khmer.KhmerMasks.{KhmerMasks}
 use Rattle.script_syllabic.specs.declared.forms.FormMasks.{FormMasks}
 use Rattle.script_syllabic.specs.Features.{pref_recorded, rphf_recorded}
 use Rattle.script_syllabic.specs.Categories.{categories_set}
+use Rattle.script_indic.specs.Categories.{properties_set}
+use Rattle.script_indic.specs.Reordering.{indic_final, indic_initial}
 use Rattle.script_khmer.specs.Pauses.{khmer_order}
 use Rattle.script_myanmar.specs.Pauses.{myanmar_order}
 use Rattle.script_syllabic.specs.Syllables.{substitutions_cleared, syllables_by, syllables_cleared}
@@ -45,6 +47,8 @@ pub record SyllablesKeepPlainly : Type 0 where
 
 -- dotted circles and the order of syllables
 pub record OrdersKeepPlainly : Type 0 where
+  pub indic_initial : (m : OtMapValue) (s : Option Script) (font : FaceParts) (flags : BufferFlags) → KeepsPlainly (indic_initial m s font flags)
+  pub indic_final : (m : OtMapValue) (s : Option Script) → KeepsPlainly (indic_final m s)
   pub khmer : (font : FaceParts) (flags : BufferFlags) (masks : KhmerMasks) → KeepsPlainly (khmer_order font flags masks)
   pub myanmar : (font : FaceParts) (flags : BufferFlags) → KeepsPlainly (myanmar_order font flags)
   pub universal : (font : FaceParts) (flags : BufferFlags) → KeepsPlainly (universal_order font flags)
@@ -54,5 +58,6 @@ pub record MasksKeepPlainly : Type 0 where
   pub joined : (masks : List ℕ) (s : Option Script) (t : Tables) (pre post : List ℕ) → KeepsPlainly (letters_joined masks s t pre post)
   pub places : (masks : JamoMasks) → KeepsPlainly (always (with_items_mapped (with_letter_mask masks)))
   pub categories : (category_of : ℕ → ℕ) → KeepsPlainly (categories_set category_of)
+  pub indic : (t : Tables) → KeepsPlainly (properties_set t)
   pub universal : (m : OtMapValue) (s : Option Script) (t : Tables) (pre post : List ℕ) → KeepsPlainly (universal_masks_set m s t pre post)
   pub tiles : (has_stch : Bool) → KeepsPlainly (tiles_recorded has_stch)

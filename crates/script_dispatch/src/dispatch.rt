@@ -1,6 +1,6 @@
 //! The choice of a shaper for a script, hb_ot_shape_complex_categorize (rustybuzz: hb/ot_shaper.rs).
 ghost use Rattle.std.specs.Prelude.{◌≡◌};
-ghost use Rattle.script_dispatch.specs.Dispatch.{script_shaper, ends_in_three, indic_shaper, is_default_or_latin, joins, myanmar_shaper, own_shaper, script_waits, universal_shaper};
+ghost use Rattle.script_dispatch.specs.Dispatch.{script_shaper, ends_in_three, indic_shaper, is_default_or_latin, joins, myanmar_shaper, own_shaper, universal_shaper};
 
 use crate::any_shaper::{DEFAULT_SHAPER, hb_ot_any_shaper_t};
 use buffer_common::direction::Direction;
@@ -102,16 +102,6 @@ const UNIVERSAL: [Script; 84] = [
     TODHRI,
     TULU_TIGALARI,
 ];
-
-/// Whether a text of the script may need the Indic shaper, which is not implemented yet.
-pub fn script_waits(script: Option<Script>) -> bool
-    ensures { result ≡ script_waits script }
-{
-    match script {
-        Some(script) => INDIC.contains(&script),
-        None => false,
-    }
-}
 
 /// The shaper of a text by its script, its direction, and the GSUB script `chosen_script`.
 pub fn hb_ot_shape_complex_categorize(

@@ -11,7 +11,7 @@ pub fn law_syllables_keep_plainly()
     ensures { SyllablesKeepPlainly }
 {}
 
-/// Dotted circles and the order of syllables of Khmer, Myanmar and the universal shaper.
+/// Dotted circles and the order of syllables of the Indic, the Khmer, the Myanmar and the universal shaper.
 pub fn law_orders_keep_plainly()
     ensures { OrdersKeepPlainly }
 {}

@@ -11,4 +11,4 @@ mod scripts;
 pub mod shaper;
 
 pub use any_shaper::{DEFAULT_SHAPER, DUMBER_SHAPER, hb_ot_any_shaper_t};
-pub use dispatch::{hb_ot_shape_complex_categorize, script_waits};
+pub use dispatch::hb_ot_shape_complex_categorize;

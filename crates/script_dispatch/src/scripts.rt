@@ -10,7 +10,7 @@ ghost use Rattle.buffer_stages.specs.Settings.{text_settings};
 ghost use Rattle.buffer_stages.specs.Stages.{DoesStage, IsFollowed};
 ghost use Rattle.layout_map.specs.Features.{in_any, system_features};
 ghost use Rattle.layout_map.specs.Requests.{with_map_request};
-ghost use Rattle.script_dispatch.specs.Hooks.{composes_by, masks_set_by, pause_done, postprocessing_by, preprocessing_by, reorders_by, splits_by, syllables_found_by};
+ghost use Rattle.script_dispatch.specs.Hooks.{composes_by, masks_set_by, pause_done, postprocessing_by, preprocessing_by, reorders_by, splits_by};
 ghost use Rattle.script_dispatch.specs.Shapers.{features_of, overrides_of};
 
 use buffer_common::script::Script;
@@ -29,6 +29,8 @@ use script_categories::hb_script_pause_t::{
     RecordRphf, RecordStch, ReorderKhmer, ReorderMyanmar, ReorderUse, SetupSyllables,
 };
 use script_plan::plan::hb_script_plan_t;
+use script_syllabic::pauses::setup_syllables;
+use script_universal::pauses::setup_syllables as setup_use_syllables;
 use std::alloc::{AllocError, Global};
 
 /// Requests a shaper's features for a script (`collect_features`), between the common requests of every text.
@@ -73,7 +75,7 @@ pub fn override_features(
 /// # Errors
 ///
 /// `TooLong` where the text would have more characters than the buffer may hold, or lack of memory.
-#[tactic(auto, using(crate::proofs::Kept::unchanged_followed))]
+#[tactic(auto, using(script_plan::specs::Lemmas::Unchanged::unchanged_followed))]
 pub fn preprocess_text<D>(
     shaper: hb_ot_script_shaper_t,
     plan: &hb_script_plan_t<D>,
@@ -104,6 +106,7 @@ pub fn decompose(
     ensures { result ≡ splits_by shaper tables.now ab }
 {
     match shaper {
+        INDIC_SHAPER => script_indic::characters::decompose(tables, ab),
         KHMER_SHAPER => script_khmer::khmer::decompose(tables, ab),
         _ => buffer_unicode_tables::decompose(tables, ab),
     }
@@ -121,15 +124,14 @@ pub fn compose(
 {
     match shaper {
         HEBREW_SHAPER => script_hebrew::hebrew::compose(tables, has_gpos_mark, a, b),
-        INDIC_SHAPER | KHMER_SHAPER | UNIVERSAL_SHAPER => {
-            script_syllabic::characters::compose(tables, a, b)
-        }
+        INDIC_SHAPER => script_indic::characters::compose(tables, a, b),
+        KHMER_SHAPER | UNIVERSAL_SHAPER => script_syllabic::characters::compose(tables, a, b),
         _ => buffer_unicode_tables::compose(tables, a, b),
     }
 }
 
 /// Reorders the run of marks `start..end`, which is sorted by combining class, in the shaper's own order.
-#[tactic(auto, using(crate::proofs::Kept::unchanged_run))]
+#[tactic(auto, using(script_plan::specs::Lemmas::Unchanged::unchanged_run))]
 pub fn reorder_marks(
     shaper: hb_ot_script_shaper_t,
     buffer: &mut hb_buffer_t,
@@ -150,7 +152,7 @@ pub fn reorder_marks(
 
 /// Sets the masks of features that apply to some characters only, and the characters' categories (`setup_masks`). It
 /// takes no memory.
-#[tactic(auto, using(crate::proofs::Kept::unchanged_followed))]
+#[tactic(auto, using(script_plan::specs::Lemmas::Unchanged::unchanged_followed))]
 pub fn setup_masks<D>(
     shaper: hb_ot_script_shaper_t,
     plan: &hb_script_plan_t<D>,
@@ -166,6 +168,7 @@ pub fn setup_masks<D>(
             script_arabic::masks::setup_masks(&plan.map, plan.script, tables, buffer)
         }
         HANGUL_SHAPER => script_hangul::map_masks::setup_masks(&plan.map, buffer),
+        INDIC_SHAPER => script_indic::categories::setup_masks(tables, buffer),
         KHMER_SHAPER | MYANMAR_SHAPER => {
             script_syllabic::categories::set_ot_categories(tables, buffer)
         }
@@ -176,36 +179,12 @@ pub fn setup_masks<D>(
     }
 }
 
-fn setup_syllables<D, P: SyllableSpans>(
-    shaper: hb_ot_script_shaper_t,
-    alloc: Global,
-    plan: &hb_script_plan_t<D>,
-    spans: &P,
-    buffer: &mut hb_buffer_t,
-) -> Result<bool, ShapeCause>
-    requires ready { IsReady buffer.old }
-    ensures stage { DoesGlyphStage (syllables_found_by shaper plan.now.map plan.now.script (P.span_of spans.now)) result
-        buffer.old buffer.new }
-    ensures brings_none { result ≡ Ok false → BringsNoGlyph (items_of buffer.old) (items_of buffer.new) }
-{
-    match shaper {
-        UNIVERSAL_SHAPER => {
-            script_universal::pauses::setup_syllables(
-                alloc, spans, &plan.map, plan.script, buffer,
-            )
-        }
-        _ => script_syllabic::pauses::setup_syllables(alloc, spans, shaper, buffer),
-    }
-}
-
-/// Performs a pause, and returns true whenever a glyph number was inserted. The pauses of the Indic shaper do nothing:
-/// it is not ported whole.
+/// Performs a pause, and returns true whenever a glyph number was inserted.
 ///
 /// # Errors
 ///
 /// `TooLong` where circles would make the text too long, `UnknownSyllableKind` where the spans name a kind that the
 /// shaper does not have, or lack of memory.
-#[tactic(auto, using(crate::proofs::Kept::unchanged_done, crate::proofs::Kept::brings_none))]
 pub fn run_pause<D, P: SyllableSpans>(
     shaper: hb_ot_script_shaper_t,
     alloc: Global,
@@ -222,7 +201,12 @@ pub fn run_pause<D, P: SyllableSpans>(
     ensures brings_none { result ≡ Ok false → BringsNoGlyph (items_of buffer.old) (items_of buffer.new) }
 {
     match pause {
-        SetupSyllables => setup_syllables(shaper, alloc, plan, spans, buffer),
+        SetupSyllables => match shaper {
+            UNIVERSAL_SHAPER => {
+                setup_use_syllables(alloc, spans, &plan.map, plan.script, buffer)
+            }
+            _ => setup_syllables(alloc, spans, shaper, buffer),
+        },
         ReorderKhmer => script_khmer::pauses::reorder_khmer(&plan.map, face, buffer),
         ReorderMyanmar => script_myanmar::pauses::reorder_myanmar(alloc, face, buffer),
         ReorderUse => script_universal::pauses::reorder_use(face, buffer),
@@ -231,7 +215,16 @@ pub fn run_pause<D, P: SyllableSpans>(
         RecordStch => script_arabic::pauses::record_stch(&plan.map, buffer),
         ClearSyllables => script_syllabic::pauses::clear_syllables(buffer),
         ClearSubstitutionFlags => script_syllabic::pauses::clear_substitution_flags(buffer),
-        InitialReordering | FinalReordering => Ok(false),
+        InitialReordering => script_indic::reordering::initial_reordering(
+            alloc,
+            &plan.map,
+            plan.script,
+            face,
+            buffer,
+        ),
+        FinalReordering => {
+            script_indic::reordering::final_reordering(&plan.map, plan.script, buffer)
+        }
     }
 }
 
@@ -242,7 +235,7 @@ pub fn run_pause<D, P: SyllableSpans>(
 ///
 /// `StretchRange` where a word or its tiles have a width outside 32 bits, `TooLong` where the text would have more
 /// glyphs than the buffer may hold, or lack of memory.
-#[tactic(auto, using(crate::proofs::Kept::unchanged_done))]
+#[tactic(auto, using(script_plan::specs::Lemmas::Unchanged::unchanged_done))]
 pub fn postprocess_glyphs(
     shaper: hb_ot_script_shaper_t,
     alloc: Global,

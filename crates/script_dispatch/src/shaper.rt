@@ -98,6 +98,7 @@ impl hb_ot_shaper_t for hb_ot_any_shaper_t {
         Ok(())
     }
 
+    #[tactic(auto, using(script_plan::specs::Lemmas::Unchanged::unchanged_done, script_plan::specs::Lemmas::Unchanged::brings_none))]
     fn run_pause<P: SyllableSpans>(
         &self,
         alloc: Global,
@@ -108,10 +109,13 @@ impl hb_ot_shaper_t for hb_ot_any_shaper_t {
         spans: &P,
         buffer: &mut hb_buffer_t,
     ) -> Result<bool, ShapeCause> {
-        match (*self, hb_script_pause_t::from_number(pause)) {
-            (hb_ot_any_shaper_t::Script(shaper), Some(pause)) => {
-                scripts::run_pause(shaper, alloc, pause, plan, face, spans, buffer)
-            }
+        match *self {
+            hb_ot_any_shaper_t::Script(shaper) => match hb_script_pause_t::from_number(pause) {
+                Some(pause) => {
+                    scripts::run_pause(shaper, alloc, pause, plan, face, spans, buffer)
+                }
+                None => Ok(false),
+            },
             _ => Ok(false),
         }
     }

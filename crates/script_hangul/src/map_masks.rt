@@ -6,10 +6,10 @@ ghost use Rattle.buffer_stages.specs.Stages.{IsFollowed, with_items_mapped};
 ghost use Rattle.script_hangul.specs.Masks.{AreFlagless, with_letter_mask};
 ghost use Rattle.script_hangul.specs.MapMasks.{jamo_masks};
 
+use crate::masks::{self, JamoMasks};
 use buffer_common::tag::Tag;
 use buffer_core::buffer::hb_buffer_t;
 use layout_map::map::hb_ot_map_t;
-use crate::masks::{self, JamoMasks};
 
 /// Adds to the mask of each jamo the mask of its feature. It takes linear time and no memory.
 pub fn setup_masks(map: &hb_ot_map_t, buffer: &mut hb_buffer_t)

@@ -1,11 +1,8 @@
-pub mod Lemmas
-pub mod Glyphs
-pub mod Indices
-pub mod Base
+pub mod Categories
+pub mod Characters
+pub mod Config
+pub mod FontForms
 pub mod Masks
-pub mod Initial
-pub mod Final
-pub mod Left
-pub mod Sought
-pub mod Orders
+pub mod Reordering
 pub mod Requests
+pub mod WouldSubstitute

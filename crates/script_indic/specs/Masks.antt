@@ -1,26 +1,34 @@
--- Masks of a part of a list, and bits that are cleared.
-use Rattle.std.specs.Prelude.{ℕ, zero, suc, ◌-◌, bit_and, List, [], ◌∷◌, ◌++◌, drop, map, slice_range, take}
-use Rattle.buffer_glyphs.specs.Items.{Item}
-use Rattle.buffer_stages.specs.Parts.{item_with_features}
+-- The masks that the Indic shaper reads of a compiled map (HarfBuzz: indic_shape_plan_t::mask_array).
+use Rattle.std.specs.Prelude.{ℕ, ◌≡◌, List, codes}
+use Rattle.std.specs.Int.RustNames.{bit_and, bit_or}
+use Rattle.buffer_glyphs.specs.declared.info.TheConstants.{DEFINED}
+use Rattle.layout_map.specs.Compiled.{OtMapValue}
+use Rattle.layout_map.specs.Masks.{mask_at_one}
+use Rattle.script_indic_reordering.specs.declared.script.IndicMasks.{IndicMasks}
+use Rattle.script_indic.specs.declared.config.BlwfMode.{BlwfMode}
+use Rattle.script_indic.specs.declared.config.BlwfMode.TheVariants.{PostOnly, PreAndPost}
 
--- the items from `from` up to before `to` get the features of a mask
-abbrev pub part_masked : ℕ → ℕ → ℕ → List Item → List Item
-part_masked from to bits xs = take from xs ++ map (item_with_features bits) (slice_range xs from to) ++ drop to xs
+-- the mask of items before the base: half, and blwf where it forms consonants before the base too
+abbrev pub before_base_mask : ℕ → ℕ → BlwfMode → ℕ
+before_base_mask half blwf PreAndPost = bit_or half blwf
+before_base_mask half blwf PostOnly = half
 
--- all but the first n items get the features of a mask
-abbrev pub after_masked : ℕ → ℕ → List Item → List Item
-after_masked n bits xs = take n xs ++ map (item_with_features bits) (drop n xs)
+-- the masks of the Indic shaper
+abbrev pub indic_masks : BlwfMode → OtMapValue → IndicMasks
+indic_masks blwf_mode m = record {
+  rphf = mask_at_one (codes "rphf") m;
+  before_base = before_base_mask (mask_at_one (codes "half") m) (mask_at_one (codes "blwf") m) blwf_mode;
+  after_base = bit_or (bit_or (mask_at_one (codes "blwf") m) (mask_at_one (codes "abvf") m)) (mask_at_one (codes "pstf") m);
+  half = mask_at_one (codes "half") m;
+  pref = mask_at_one (codes "pref") m;
+  init = mask_at_one (codes "init") m;
+}
 
--- the item at an index and the one after it do, where both are there
-abbrev pub pair_masked : ℕ → ℕ → List Item → List Item
-pair_masked i bits [] = []
-pair_masked zero bits (x ∷ []) = x ∷ []
-pair_masked zero bits (x ∷ y ∷ zs) = item_with_features bits x ∷ item_with_features bits y ∷ zs
-pair_masked (suc i) bits (x ∷ xs) = x ∷ pair_masked i bits xs
-
--- the bits of a mask that are a feature's own: neither the bit that every glyph has nor a glyph flag
-abbrev pub own_bits : ℕ → ℕ
-own_bits bits = bits - bit_and bits 0x8000_0007
-
-abbrev pub without_bits : ℕ → Item → Item
-without_bits bits x = record x { mask = x.mask - bit_and x.mask bits }
+-- masks without a glyph flag
+pub record AreFlagless (m : IndicMasks) : Type 0 where
+  pub rphf : bit_and m.rphf DEFINED ≡ 0
+  pub before_base : bit_and m.before_base DEFINED ≡ 0
+  pub after_base : bit_and m.after_base DEFINED ≡ 0
+  pub half : bit_and m.half DEFINED ≡ 0
+  pub pref : bit_and m.pref DEFINED ≡ 0
+  pub init : bit_and m.init DEFINED ≡ 0

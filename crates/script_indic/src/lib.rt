@@ -1,19 +1,12 @@
-// Indic: how the glyphs of a syllable are put in order, before its forms are made and after.
+//! The Indic shaper for the nine scripts of India (rustybuzz: hb/ot_shaper_indic.rs): its scripts' values, the forms and
+//! masks that it reads of a font, the categories, decompositions and compositions of its characters, and its two pauses.
 #![tactic(auto)]
 
-mod base;
-pub mod consonants;
-mod features;
-pub mod final_order;
-mod formed;
-pub mod forms;
-mod glyphs;
-pub mod initial;
-pub mod laws;
-mod left;
-mod places;
-mod reph;
+pub mod categories;
+pub mod characters;
+pub mod config;
+pub mod font_forms;
+pub mod masks;
+pub mod reordering;
 pub mod requests;
-pub mod script;
-mod sought;
-mod words;
+pub mod would_substitute;

@@ -7,7 +7,9 @@ use layout_map::builder::hb_ot_map_builder_t;
 use layout_map::request::{MapRequest, add_requests};
 use layout_map::{add_feature, disable_feature, enable_feature};
 use layout_map_features::flags::{F_MANUAL_JOINERS, F_PER_SYLLABLE};
-use script_categories::hb_script_pause_t::{ClearSyllables, FinalReordering, InitialReordering, SetupSyllables};
+use script_categories::hb_script_pause_t::{
+    ClearSyllables, FinalReordering, InitialReordering, SetupSyllables,
+};
 use std::alloc::AllocError;
 
 const JOINERS_IN_SYLLABLE: u32 = F_MANUAL_JOINERS | F_PER_SYLLABLE;

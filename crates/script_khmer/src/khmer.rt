@@ -11,7 +11,6 @@ ghost use Rattle.buffer_stages.specs.SyllableBuffers.{IsRewritten, with_rule};
 ghost use Rattle.script_khmer.specs.Khmer.{coeng_step, coeng_moved, khmer_at, khmer_reordered, khmer_split, khmer_syllable, khmer_walk, vowel_step};
 ghost use Rattle.script_khmer.specs.Runs.{IsRun, IsWalked, OpensForms};
 
-use script_syllabic::syllable_glyphs::glyph_in;
 use crate::runs::{move_forms, move_run, opens_forms, run_length};
 use buffer_core::buffer::hb_buffer_t;
 use buffer_glyphs::info::{hb_glyph_info_t, hb_mask_t};
@@ -20,6 +19,7 @@ use buffer_stages::walk::{SyllableRule, each_syllable};
 use buffer_unicode_tables::UnicodeTables;
 use script_categories::hb_ot_script_shaper_t::KHMER_SHAPER;
 use script_categories::ot_category_t::{OT_H, OT_Ra, OT_VPre};
+use script_syllabic::syllable_glyphs::glyph_in;
 use std::alloc::AllocError;
 
 /// The masks of the features of a syllable's glyphs.

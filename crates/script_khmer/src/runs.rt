@@ -208,15 +208,15 @@ fn merged_at(glyphs: &[hb_glyph_info_t], i: usize, forms: bool, merged: usize) -
         ≡ reach merged (front_moves (together forms) is_vowel i (drop i (strip glyphs.now))) }
     ensures within { result ≤ length glyphs.now }
 {
-    let taken = taken(glyphs, i, forms);
-    if taken == 0 {
+    let count = front_count(glyphs, i, forms);
+    if count == 0 {
         return merged;
     }
-    i + taken
+    i + count
 }
 
 /// The number of glyphs that move to the front from an index.
-fn taken(glyphs: &[hb_glyph_info_t], i: usize, forms: bool) -> usize
+fn front_count(glyphs: &[hb_glyph_info_t], i: usize, forms: bool) -> usize
     requires there { i < length glyphs.now }
     ensures value { result ≡ front_count forms (strip (drop i glyphs.now)) }
     ensures within { i + result ≤ length glyphs.now }

@@ -10,7 +10,6 @@ ghost use Rattle.buffer_stages.specs.SyllableBuffers.{IsRewritten, with_rule};
 ghost use Rattle.script_myanmar.specs.Myanmar.{items_with_positions, has_two_matras, is_left_matra, matras_of, matras_reversed, myanmar_positions, myanmar_reordered, myanmar_syllable};
 ghost use Rattle.script_myanmar.specs.Turned.{glyphs_at};
 
-use script_syllabic::syllable_glyphs::glyph_in;
 use crate::myanmar_positions::set_places;
 use buffer_core::buffer::hb_buffer_t;
 use buffer_glyphs::info::hb_glyph_info_t;
@@ -20,6 +19,7 @@ use buffer_stages::walk::{SyllableRule, each_syllable};
 use script_categories::hb_ot_script_shaper_t::MYANMAR_SHAPER;
 use script_categories::ot_category_t::OT_VPre;
 use script_categories::ot_position_t::POS_PRE_M;
+use script_syllabic::syllable_glyphs::glyph_in;
 use std::alloc::{AllocError, Global};
 
 /// Reorders each Myanmar syllable of a kind that is reordered (`initial_reordering_consonant_syllable`): its glyphs get

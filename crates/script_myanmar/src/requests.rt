@@ -4,8 +4,8 @@ ghost use Rattle.layout_map.specs.Requests.{with_map_request};
 ghost use Rattle.script_myanmar.specs.Requests.{myanmar_features};
 
 use layout_map::builder::hb_ot_map_builder_t;
-use layout_map::request::{MapRequest, add_requests};
 use layout_map::enable_feature;
+use layout_map::request::{MapRequest, add_requests};
 use layout_map_features::flags::{F_MANUAL_ZWJ, F_PER_SYLLABLE};
 use script_categories::hb_script_pause_t::{ClearSyllables, ReorderMyanmar, SetupSyllables};
 use std::alloc::AllocError;

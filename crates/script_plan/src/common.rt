@@ -17,9 +17,15 @@ pub const MAX_VALUE: u32 = 255;
 
 const VARIATIONS: [MapRequest; 2] = [enable_feature!(b"rvrn", F_NONE), MapRequest::GsubPause(0)];
 
-const LEFT_TO_RIGHT: [MapRequest; 2] = [enable_feature!(b"ltra", F_NONE), enable_feature!(b"ltrm", F_NONE)];
+const LEFT_TO_RIGHT: [MapRequest; 2] = [
+    enable_feature!(b"ltra", F_NONE),
+    enable_feature!(b"ltrm", F_NONE),
+];
 
-const RIGHT_TO_LEFT: [MapRequest; 2] = [enable_feature!(b"rtla", F_NONE), add_feature!(b"rtlm", F_NONE)];
+const RIGHT_TO_LEFT: [MapRequest; 2] = [
+    enable_feature!(b"rtla", F_NONE),
+    add_feature!(b"rtlm", F_NONE),
+];
 
 const FIRST: [MapRequest; 7] = [
     add_feature!(b"frac", F_NONE),
@@ -60,7 +66,10 @@ const HORIZONTAL: [MapRequest; 7] = [
 const VERTICAL: [MapRequest; 1] = [enable_feature!(b"vert", F_GLOBAL_SEARCH)];
 
 /// Requests the features of horizontal lines in one direction: ltra and ltrm, or rtla and rtlm.
-fn request_of_side(builder: &mut hb_ot_map_builder_t, direction: Direction) -> Result<(), AllocError>
+fn request_of_side(
+    builder: &mut hb_ot_map_builder_t,
+    direction: Direction,
+) -> Result<(), AllocError>
     ensures { OnOk result (builder.new ≡ fold with_map_request builder.old (of_side direction)) }
 {
     match direction {
@@ -71,7 +80,10 @@ fn request_of_side(builder: &mut hb_ot_map_builder_t, direction: Direction) -> R
 }
 
 /// Requests the features of horizontal or of vertical lines.
-fn request_of_line(builder: &mut hb_ot_map_builder_t, direction: Direction) -> Result<(), AllocError>
+fn request_of_line(
+    builder: &mut hb_ot_map_builder_t,
+    direction: Direction,
+) -> Result<(), AllocError>
     ensures { OnOk result (builder.new ≡ fold with_map_request builder.old (of_line direction)) }
 {
     if direction.is_horizontal() {
@@ -82,7 +94,10 @@ fn request_of_line(builder: &mut hb_ot_map_builder_t, direction: Direction) -> R
 }
 
 /// Requests the features of every text that precede its shaper's.
-pub fn request_first(builder: &mut hb_ot_map_builder_t, direction: Direction) -> Result<(), AllocError>
+pub fn request_first(
+    builder: &mut hb_ot_map_builder_t,
+    direction: Direction,
+) -> Result<(), AllocError>
     ensures { OnOk result (builder.new ≡ fold with_map_request builder.old (first_requests direction)) }
 {
     add_requests(builder, &VARIATIONS)?;
@@ -91,7 +106,10 @@ pub fn request_first(builder: &mut hb_ot_map_builder_t, direction: Direction) ->
 }
 
 /// Requests the features of every text that follow its shaper's.
-pub fn request_after(builder: &mut hb_ot_map_builder_t, direction: Direction) -> Result<(), AllocError>
+pub fn request_after(
+    builder: &mut hb_ot_map_builder_t,
+    direction: Direction,
+) -> Result<(), AllocError>
     ensures { OnOk result (builder.new ≡ fold with_map_request builder.old (common_features_after direction)) }
 {
     add_requests(builder, &AFTER)?;

@@ -2,6 +2,7 @@
 //! hb/ot_shaper_use.rs, compose).
 ghost use Rattle.std.specs.Prelude.{◌≡◌};
 ghost use Rattle.script_syllabic.specs.Characters.{unmarked_pair};
+
 use buffer_unicode::{CharExt, GeneralCategoryExt};
 use buffer_unicode_tables::UnicodeTables;
 

@@ -52,10 +52,10 @@ fn without_substitutions(buffer: &mut hb_buffer_t)
     requires ready { IsReady buffer.old }
     ensures { IsFollowed substitutions_cleared buffer.old buffer.new }
 {
-    map_glyphs(buffer, |glyph| unsubstituted(glyph));
+    map_glyphs(buffer, |glyph| without_substitution(glyph));
 }
 
-fn unsubstituted(glyph: &hb_glyph_info_t) -> hb_glyph_info_t
+fn without_substitution(glyph: &hb_glyph_info_t) -> hb_glyph_info_t
     ensures item { item_of result ≡ item_not_substituted (item_of glyph.now) }
     ensures origin { origin_of result ≡ origin_of glyph.now }
 {

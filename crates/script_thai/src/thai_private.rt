@@ -79,7 +79,7 @@ pub fn shape_private(face: &Face, tables: &UnicodeTables, buffer: &mut hb_buffer
     shape(
         face,
         tables,
-        started(Consonant::NotConsonant),
+        start_state(Consonant::NotConsonant),
         buffer.info_slice_mut(),
     );
 }
@@ -199,7 +199,7 @@ fn state_after(state: State, u: u32) -> State
 {
     let mark = mark_of(u);
     match mark {
-        Mark::NotMark => started(consonant_of(u)),
+        Mark::NotMark => start_state(consonant_of(u)),
         Mark::AV | Mark::BV | Mark::T => State {
             above: above_next(state.above, mark),
             below: below_next(state.below, mark),
@@ -226,7 +226,7 @@ fn below_next(below: Below, mark: Mark) -> Below
     }
 }
 
-fn started(consonant: Consonant) -> State
+fn start_state(consonant: Consonant) -> State
     ensures { result ≡ start_state consonant }
 {
     State {

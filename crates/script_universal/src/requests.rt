@@ -7,7 +7,9 @@ use layout_map::builder::hb_ot_map_builder_t;
 use layout_map::request::{MapRequest, add_requests};
 use layout_map::{add_feature, enable_feature};
 use layout_map_features::flags::{F_MANUAL_ZWJ, F_NONE, F_PER_SYLLABLE};
-use script_categories::hb_script_pause_t::{ClearSubstitutionFlags, ClearSyllables, RecordPref, RecordRphf, ReorderUse, SetupSyllables};
+use script_categories::hb_script_pause_t::{
+    ClearSubstitutionFlags, ClearSyllables, RecordPref, RecordRphf, ReorderUse, SetupSyllables,
+};
 use std::alloc::AllocError;
 
 const ZWJ_IN_SYLLABLE: u32 = F_MANUAL_ZWJ | F_PER_SYLLABLE;

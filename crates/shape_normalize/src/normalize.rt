@@ -1,11 +1,10 @@
 //! All three rounds of normalizing, _hb_ot_shape_normalize (rustybuzz: hb/ot_shape_normalize.rs).
-ghost use Rattle.std.specs.Prelude.{◌≡◌, ◌≢◌, length, IfErr, OnOk, Err};
+ghost use Rattle.std.specs.Prelude.{◌≡◌, length, IfErr, OnOk};
 ghost use Rattle.std.specs.List.{list_any};
 ghost use Rattle.buffer_glyphs.specs.Items.{item_of, strip};
-ghost use Rattle.buffer_core.specs.Readings.{reading_of};
-ghost use Rattle.buffer_core.specs.Sides.{all_glyphs, items_of, state_of, zero_positions};
+ghost use Rattle.buffer_core.specs.Sides.{all_glyphs, items_of, zero_positions};
 ghost use Rattle.buffer_stages.specs.Ready.{IsReady};
-ghost use Rattle.buffer_stages.specs.Stages.{IsFollowed};
+ghost use Rattle.buffer_stages.specs.Stages.{DoesStage};
 ghost use Rattle.buffer_properties.specs.Characters.{is_mark};
 ghost use Rattle.buffer_properties.specs.Normalizer.{is_composing};
 ghost use Rattle.buffer_properties.specs.NormalizedList.{arranged_marks, has_later_mark};
@@ -95,9 +94,7 @@ pub fn _hb_ot_shape_normalize<N: Normalizing>(
     buffer: &mut hb_buffer_t,
 ) -> Result<(), ShapeCause>
     requires ready { IsReady buffer.old }
-    ensures ok { OnOk result (IsFollowed (normalization (N.normalizer by.now)) buffer.old buffer.new) }
-    ensures err { IfErr result (λ e. e ≢ ShapeCause.OutOfMemory
-        → reading_of (normalization (N.normalizer by.now)) (state_of buffer.old) ≡ Err e) }
+    ensures { DoesStage (normalization (N.normalizer by.now)) result buffer.old buffer.new }
 {
     let is_marked = has_later_mark(buffer.info_slice());
     expand_characters(by, buffer)?;

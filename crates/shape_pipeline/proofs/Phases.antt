@@ -5,12 +5,12 @@ use Rattle.buffer_glyphs.specs.declared.cause.ShapeCause.TheVariants.{OutOfMemor
 use Rattle.buffer_glyphs.specs.declared.cause.ShapeCause.{ShapeCause}
 use Rattle.buffer_core.specs.Readings.{Stage, always, reading_of}
 use Rattle.buffer_core.specs.Sides.{Sides, state_of, settings_of}
-use Rattle.buffer_stages.specs.Ready.{IsDone}
+use Rattle.buffer_stages.specs.Ready.{DoesGlyphStage, IsDone}
 use Rattle.layout_links.specs.Finishing.{links_followed}
 use Rattle.buffer_stages.specs.Settings.{text_settings}
 use Rattle.layout_substitution.specs.Substituting.{substitution_stages}
 use Rattle.layout_positioning.specs.Positioning.{positioning_stages}
-use Rattle.buffer_stages.specs.Stages.{IsFollowed}
+use Rattle.buffer_stages.specs.Stages.{DoesStage, IsFollowed}
 use Rattle.shape_masks.specs.Fractions.{with_fractions}
 use Rattle.shape_glyphs.specs.Classes.{with_font_classes}
 use Rattle.shape_glyphs.specs.Flags.{with_flags_spread}
@@ -37,14 +37,23 @@ pub passed_on : {A E : Type 0} (r : Result A E) (e : E) (P : E → Type 0) → I
 passed_on (Ok a) e P h p = tt
 passed_on (Err f) e P h p = subst P (sym h) p
 
+-- the refusal of a stage by such a cause
+pub stage_refused : {X : Type 0} (r : Result X ShapeCause) (e : ShapeCause) (stage : Stage) (old new : Sides) → IsErrAnd r (λ (f : ShapeCause). f ≡ e) → (e ≢ OutOfMemory → reading_of stage (state_of old) ≡ Err e) → DoesStage stage r old new
+stage_refused (Ok x) e stage old new h p = absurd h
+stage_refused (Err f) e stage old new h p = subst (λ (k : ShapeCause). k ≢ OutOfMemory → reading_of stage (state_of old) ≡ Err k) (sym h) p
+
+pub glyph_stage_refused : {X : Type 0} (r : Result X ShapeCause) (e : ShapeCause) (stage : Stage) (old new : Sides) → IsErrAnd r (λ (f : ShapeCause). f ≡ e) → (e ≢ OutOfMemory → reading_of stage (state_of old) ≡ Err e) → DoesGlyphStage stage r old new
+glyph_stage_refused (Ok x) e stage old new h p = absurd h
+glyph_stage_refused (Err f) e stage old new h p = subst (λ (k : ShapeCause). k ≢ OutOfMemory → reading_of stage (state_of old) ≡ Err k) (sym h) p
+
 -- ---- characters
 
 -- normalising knows the glyphs that are set in the buffer
-pub normal_refused_as_set : {A : Type 0} (r : Result A ShapeCause) (q : Shaping) (i u : Option ℕ) (s : Sides) → i ≡ q.settings.invisible → u ≡ q.settings.not_found_variation_selector
-    → IfErr r (λ (e : ShapeCause). e ≢ OutOfMemory → reading_of (normalization (record (normalizer q) { invisible = i; unjoined_glyph = u })) (state_of s) ≡ Err e) → IfErr r (λ (e : ShapeCause). e ≢ OutOfMemory → reading_of (normalization (normalizer q)) (state_of s) ≡ Err e)
-normal_refused_as_set r q i u s invisible unjoined h =
-    let P : Option ℕ → Type 0 = λ j. IfErr r (λ (e : ShapeCause). e ≢ OutOfMemory → reading_of (normalization (record (normalizer q) { invisible = j; unjoined_glyph = u })) (state_of s) ≡ Err e) in
-    let R : Option ℕ → Type 0 = λ w. IfErr r (λ (e : ShapeCause). e ≢ OutOfMemory → reading_of (normalization (record (normalizer q) { unjoined_glyph = w })) (state_of s) ≡ Err e) in
+pub normal_as_set : {X : Type 0} (r : Result X ShapeCause) (q : Shaping) (i u : Option ℕ) (s new : Sides) → i ≡ q.settings.invisible → u ≡ q.settings.not_found_variation_selector
+    → DoesStage (normalization (record (normalizer q) { invisible = i; unjoined_glyph = u })) r s new → DoesStage (normalization (normalizer q)) r s new
+normal_as_set r q i u s new invisible unjoined h =
+    let P : Option ℕ → Type 0 = λ j. DoesStage (normalization (record (normalizer q) { invisible = j; unjoined_glyph = u })) r s new in
+    let R : Option ℕ → Type 0 = λ w. DoesStage (normalization (record (normalizer q) { unjoined_glyph = w })) r s new in
     subst R unjoined (subst P invisible h)
 
 abbrev normalized : Shaping → Stage

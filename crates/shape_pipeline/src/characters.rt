@@ -1,9 +1,8 @@
 //! The pipeline stages on characters, up to normalizing (rustybuzz: hb/ot_shape.rs).
-ghost use Rattle.std.specs.Prelude.{◌≡◌, ◌≢◌, Err, IfErr, OnOk, true};
-ghost use Rattle.buffer_core.specs.Readings.{always, reading_of};
-ghost use Rattle.buffer_core.specs.Sides.{items_of, state_of};
+ghost use Rattle.std.specs.Prelude.{◌≡◌, true};
+ghost use Rattle.buffer_core.specs.Readings.{always};
+ghost use Rattle.buffer_core.specs.Sides.{items_of};
 ghost use Rattle.buffer_stages.specs.Ready.{IsReady};
-ghost use Rattle.buffer_stages.specs.Settings.{text_settings};
 ghost use Rattle.buffer_stages.specs.Stages.{DoesStage, IsFollowed};
 ghost use Rattle.shape_text.specs.Properties.{are_characters};
 ghost use Rattle.shape_normalize.specs.Rounds.{normalization};
@@ -30,10 +29,7 @@ impl<S: hb_ot_shaper_t, P: SyllableSpans> hb_ot_shape_context_t<'_, S, P> {
     pub(crate) fn begin_text(&self, buffer: &mut hb_buffer_t) -> Result<(), ShapeCause>
         requires ready { IsReady buffer.old }
         requires characters { are_characters (items_of buffer.old) ≡ true }
-        ensures ok { OnOk result (IsFollowed
-            (text_begun (⟦<Self as Shaped>⟧.shaping self.now (text_settings buffer.old))) buffer.old buffer.new) }
-        ensures err { IfErr result (λ e. e ≢ ShapeCause.OutOfMemory → reading_of
-            (text_begun (⟦<Self as Shaped>⟧.shaping self.now (text_settings buffer.old))) (state_of buffer.old) ≡ Err e) }
+        ensures { DoesStage (text_begun (⟦<Self as Shaped>⟧.shaping self.now buffer.old)) result buffer.old buffer.new }
     {
         buffer.enter();
         initialize_masks(self.plan.script_plan.map.get_global_mask(), buffer);
@@ -47,8 +43,7 @@ impl<S: hb_ot_shaper_t, P: SyllableSpans> hb_ot_shape_context_t<'_, S, P> {
     /// Mirrors characters, or replaces them by vertical forms, by the text's direction.
     fn rotate_chars(&self, buffer: &mut hb_buffer_t)
         requires { IsReady buffer.old }
-        ensures { IsFollowed
-            (always (turned_to_line (⟦<Self as Shaped>⟧.shaping self.now (text_settings buffer.old)))) buffer.old
+        ensures { IsFollowed (always (turned_to_line (⟦<Self as Shaped>⟧.shaping self.now buffer.old))) buffer.old
             buffer.new }
     {
         let plan = &self.plan.script_plan;
@@ -63,12 +58,8 @@ impl<S: hb_ot_shaper_t, P: SyllableSpans> hb_ot_shape_context_t<'_, S, P> {
     /// Normalizes the text as the font and the shaper require.
     fn normalize(&self, buffer: &mut hb_buffer_t) -> Result<(), ShapeCause>
         requires { IsReady buffer.old }
-        ensures ok { OnOk result (IsFollowed
-            (normalization (normalizer (⟦<Self as Shaped>⟧.shaping self.now (text_settings buffer.old))))
-            buffer.old buffer.new) }
-        ensures err { IfErr result (λ e. e ≢ ShapeCause.OutOfMemory → reading_of
-            (normalization (normalizer (⟦<Self as Shaped>⟧.shaping self.now (text_settings buffer.old))))
-            (state_of buffer.old) ≡ Err e) }
+        ensures { DoesStage (normalization (normalizer (⟦<Self as Shaped>⟧.shaping self.now buffer.old))) result
+            buffer.old buffer.new }
     {
         let by = hb_ot_shape_normalize_context_t {
             shaper: &self.plan.shaper,
@@ -83,8 +74,8 @@ impl<S: hb_ot_shaper_t, P: SyllableSpans> hb_ot_shape_context_t<'_, S, P> {
 
     fn preprocess_text(&self, buffer: &mut hb_buffer_t) -> Result<(), ShapeCause>
         requires ready { IsReady buffer.old }
-        ensures { DoesStage (preprocessing_stage (⟦<Self as Shaped>⟧.shaping self.now (text_settings buffer.old))) result
-            buffer.old buffer.new }
+        ensures { DoesStage (preprocessing_stage (⟦<Self as Shaped>⟧.shaping self.now buffer.old)) result buffer.old
+            buffer.new }
     {
         let plan = self.plan;
         plan.shaper
@@ -95,12 +86,8 @@ impl<S: hb_ot_shaper_t, P: SyllableSpans> hb_ot_shape_context_t<'_, S, P> {
     /// and the text is normalized.
     pub(crate) fn choose_characters(&self, buffer: &mut hb_buffer_t) -> Result<(), ShapeCause>
         requires { IsReady buffer.old }
-        ensures ok { OnOk result (IsFollowed
-            (characters_chosen (⟦<Self as Shaped>⟧.shaping self.now (text_settings buffer.old)))
-            buffer.old buffer.new) }
-        ensures err { IfErr result (λ e. e ≢ ShapeCause.OutOfMemory → reading_of
-            (characters_chosen (⟦<Self as Shaped>⟧.shaping self.now (text_settings buffer.old))) (state_of buffer.old)
-            ≡ Err e) }
+        ensures { DoesStage (characters_chosen (⟦<Self as Shaped>⟧.shaping self.now buffer.old)) result buffer.old
+            buffer.new }
     {
         self.preprocess_text(buffer)?;
         self.rotate_chars(buffer);

@@ -17,19 +17,21 @@ pub struct hb_ot_shape_context_t<'a, S: hb_ot_shaper_t, P: SyllableSpans> {
     pub alloc: Global,
 }
 
-/// What a text is shaped by, as its reading has it.
+/// What the text of a buffer is shaped by, as its reading has it.
 pub trait Shaped {
-    ghost use Rattle.buffer_stages.specs.Settings.{TextSettings};
+    ghost use Rattle.buffer_core.specs.Sides.{Sides};
     ghost use Rattle.shape_pipeline.specs.Shaping.{Shaping};
 
-    ghost shaping: { Self → TextSettings → Shaping };
+    ghost shaping: { Self → Sides → Shaping };
 }
 
 impl<S: hb_ot_shaper_t, P: SyllableSpans> Shaped for hb_ot_shape_context_t<'_, S, P> {
-    ghost shaping = { λ c settings. record {
+    ghost use Rattle.buffer_stages.specs.Settings.{text_settings};
+
+    ghost shaping = { λ c text. record {
       font = c.face.now;
       tables = c.tables.now;
-      settings = settings;
+      settings = text_settings text;
       direction = c.plan.now.script_plan.direction;
       script = c.plan.now.script_plan.script;
       map = c.plan.now.script_plan.map;

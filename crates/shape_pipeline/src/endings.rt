@@ -1,7 +1,6 @@
 //! The end of shaping.
-ghost use Rattle.std.specs.Prelude.{◌≡◌, ◌≢◌, Err, IfErr, OnOk};
-ghost use Rattle.buffer_core.specs.Readings.{always, reading_of};
-ghost use Rattle.buffer_core.specs.Sides.{state_of};
+ghost use Rattle.std.specs.Prelude.{◌≡◌, OnOk};
+ghost use Rattle.buffer_core.specs.Readings.{always};
 ghost use Rattle.buffer_stages.specs.Ready.{DoesGlyphStage, IsDone, IsReady};
 ghost use Rattle.buffer_stages.specs.Settings.{text_settings};
 ghost use Rattle.shape_glyphs.specs.Ignorables.{ignorables_hidden};
@@ -44,7 +43,7 @@ fn leave(direction: Direction, buffer: &mut hb_buffer_t)
 impl<S: hb_ot_shaper_t, P: SyllableSpans> hb_ot_shape_context_t<'_, S, P> {
     fn postprocess_glyphs(&self, buffer: &mut hb_buffer_t) -> Result<(), ShapeCause>
         requires ready { IsReady buffer.old }
-        ensures { DoesGlyphStage (postprocessing_stage (⟦<Self as Shaped>⟧.shaping self.now (text_settings buffer.old))) result
+        ensures { DoesGlyphStage (postprocessing_stage (⟦<Self as Shaped>⟧.shaping self.now buffer.old)) result
             buffer.old buffer.new }
     {
         let plan = self.plan;
@@ -56,11 +55,9 @@ impl<S: hb_ot_shaper_t, P: SyllableSpans> hb_ot_shape_context_t<'_, S, P> {
     /// clusters.
     pub(crate) fn end_text(&self, buffer: &mut hb_buffer_t) -> Result<(), ShapeCause>
         requires { IsReady buffer.old }
-        ensures ok { OnOk result (IsDone
-            (text_ended (⟦<Self as Shaped>⟧.shaping self.now (text_settings buffer.old))) buffer.old buffer.new) }
+        ensures stage { DoesGlyphStage (text_ended (⟦<Self as Shaped>⟧.shaping self.now buffer.old)) result buffer.old
+            buffer.new }
         ensures left { OnOk result (IsLeft self.now.plan.now.script_plan.direction buffer.new) }
-        ensures err { IfErr result (λ e. e ≢ ShapeCause.OutOfMemory → reading_of
-            (text_ended (⟦<Self as Shaped>⟧.shaping self.now (text_settings buffer.old))) (state_of buffer.old) ≡ Err e) }
     {
         deal_with_variation_selectors(buffer);
         hide_ignorables(self.face, buffer);

@@ -1,10 +1,9 @@
 //! The pipeline stages that map characters to glyphs and substitute them, substitute_pre (rustybuzz: hb/ot_shape.rs).
-ghost use Rattle.std.specs.Prelude.{◌≡◌, ◌≢◌, Err, IfErr, OnOk, true};
-ghost use Rattle.buffer_core.specs.Readings.{always, reading_of};
-ghost use Rattle.buffer_core.specs.Sides.{items_of, state_of};
+ghost use Rattle.std.specs.Prelude.{◌≡◌, true};
+ghost use Rattle.buffer_core.specs.Readings.{always};
+ghost use Rattle.buffer_core.specs.Sides.{items_of};
 ghost use Rattle.buffer_stages.specs.Buffers.{are_glyphs};
-ghost use Rattle.buffer_stages.specs.Ready.{IsDone, IsReady};
-ghost use Rattle.buffer_stages.specs.Settings.{text_settings};
+ghost use Rattle.buffer_stages.specs.Ready.{DoesGlyphStage, IsDone, IsReady};
 ghost use Rattle.layout_substitution.specs.Substituting.{substitution_stages};
 ghost use Rattle.buffer_stages.specs.Stages.{IsFollowed};
 ghost use Rattle.shape_fallback.specs.Classes.{with_fallback_classes};
@@ -51,8 +50,8 @@ impl<S: hb_ot_shaper_t, P: SyllableSpans> hb_ot_shape_context_t<'_, S, P> {
     #[tactic(auto, unfolding(crate::specs::Glyphs::glyphs_taken), using(crate::proofs::Lemmas::Chains::two_followed))]
     pub(crate) fn take_glyphs(&self, buffer: &mut hb_buffer_t)
         requires { IsReady buffer.old }
-        ensures followed { IsFollowed
-            (glyphs_taken (⟦<Self as Shaped>⟧.shaping self.now (text_settings buffer.old))) buffer.old buffer.new }
+        ensures followed { IsFollowed (glyphs_taken (⟦<Self as Shaped>⟧.shaping self.now buffer.old)) buffer.old
+            buffer.new }
         ensures numbers { are_glyphs (items_of buffer.new) ≡ true }
     {
         recategorize_marks(self.plan.script_plan.choices, buffer);
@@ -62,11 +61,8 @@ impl<S: hb_ot_shaper_t, P: SyllableSpans> hb_ot_shape_context_t<'_, S, P> {
     fn apply_substitutions(&self, buffer: &mut hb_buffer_t) -> Result<(), ShapeCause>
         requires ready { IsReady buffer.old }
         requires numbers { are_glyphs (items_of buffer.old) ≡ true }
-        ensures ok { OnOk result (IsDone (substitution_stages self.now.face.now self.now.plan.now.script_plan.map
-            (pauses_of (⟦<Self as Shaped>⟧.shaping self.now (text_settings buffer.old)))) buffer.old buffer.new) }
-        ensures err { IfErr result (λ e. e ≢ ShapeCause.OutOfMemory → reading_of
-            (substitution_stages self.now.face.now self.now.plan.now.script_plan.map
-            (pauses_of (⟦<Self as Shaped>⟧.shaping self.now (text_settings buffer.old)))) (state_of buffer.old) ≡ Err e) }
+        ensures { DoesGlyphStage (substitution_stages self.now.face.now self.now.plan.now.script_plan.map (pauses_of
+            (⟦<Self as Shaped>⟧.shaping self.now buffer.old))) result buffer.old buffer.new }
     {
         substitute(&self.plan.script_plan.map, self.face, buffer, self)
     }
@@ -75,12 +71,8 @@ impl<S: hb_ot_shaper_t, P: SyllableSpans> hb_ot_shape_context_t<'_, S, P> {
     pub(crate) fn substitute_glyphs(&self, buffer: &mut hb_buffer_t) -> Result<(), ShapeCause>
         requires ready { IsReady buffer.old }
         requires numbers { are_glyphs (items_of buffer.old) ≡ true }
-        ensures ok { OnOk result (IsDone
-            (glyphs_substituted (⟦<Self as Shaped>⟧.shaping self.now (text_settings buffer.old)))
-            buffer.old buffer.new) }
-        ensures err { IfErr result (λ e. e ≢ ShapeCause.OutOfMemory → reading_of
-            (glyphs_substituted (⟦<Self as Shaped>⟧.shaping self.now (text_settings buffer.old)))
-            (state_of buffer.old) ≡ Err e) }
+        ensures { DoesGlyphStage (glyphs_substituted (⟦<Self as Shaped>⟧.shaping self.now buffer.old)) result
+            buffer.old buffer.new }
     {
         hb_ot_layout_substitute_start(self.face, buffer);
         synthesize_classes(self.plan.script_plan.choices, buffer);

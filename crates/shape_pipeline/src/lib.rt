@@ -17,7 +17,7 @@ pub mod shaping;
 mod stages;
 
 pub use data::hb_shape_data_t;
-pub use script_dispatch::{hb_ot_any_shaper_t, script_waits};
+pub use script_dispatch::hb_ot_any_shaper_t;
 use script_plan::plan::hb_ot_shape_plan_t;
 pub use shaping::{ShapeFault, shape, shape_with_plan};
 

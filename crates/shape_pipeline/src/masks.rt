@@ -1,10 +1,9 @@
 //! The pipeline stage that sets the characters' masks (rustybuzz: hb/ot_shape.rs).
-ghost use Rattle.std.specs.Prelude.{◌≡◌, ◌≢◌, Err, IfErr, OnOk};
+ghost use Rattle.std.specs.Prelude.{◌≡◌};
 ghost use Rattle.buffer_glyphs.specs.Items.{clusters};
-ghost use Rattle.buffer_core.specs.Readings.{always, reading_of};
-ghost use Rattle.buffer_core.specs.Sides.{all_glyphs, state_of};
+ghost use Rattle.buffer_core.specs.Readings.{always};
+ghost use Rattle.buffer_core.specs.Sides.{all_glyphs};
 ghost use Rattle.buffer_stages.specs.Ready.{IsReady};
-ghost use Rattle.buffer_stages.specs.Settings.{text_settings};
 ghost use Rattle.buffer_stages.specs.Stages.{DoesStage, IsFollowed};
 ghost use Rattle.shape_masks.specs.Fractions.{with_fractions};
 ghost use Rattle.shape_pipeline.specs.Chains.{only_if};
@@ -41,8 +40,8 @@ fn setup_masks_fraction<D>(plan: &hb_script_plan_t<D>, buffer: &mut hb_buffer_t)
 impl<S: hb_ot_shaper_t, P: SyllableSpans> hb_ot_shape_context_t<'_, S, P> {
     fn setup_shaper_masks(&self, buffer: &mut hb_buffer_t) -> Result<(), ShapeCause>
         requires ready { IsReady buffer.old }
-        ensures { DoesStage (shaper_masks_set (⟦<Self as Shaped>⟧.shaping self.now (text_settings buffer.old))) result
-            buffer.old buffer.new }
+        ensures { DoesStage (shaper_masks_set (⟦<Self as Shaped>⟧.shaping self.now buffer.old)) result buffer.old
+            buffer.new }
     {
         let plan = self.plan;
         plan.shaper
@@ -52,10 +51,7 @@ impl<S: hb_ot_shaper_t, P: SyllableSpans> hb_ot_shape_context_t<'_, S, P> {
     /// Sets the masks of fractions, and those of the shaper's `setup_masks`.
     pub(crate) fn setup_masks(&self, buffer: &mut hb_buffer_t) -> Result<(), ShapeCause>
         requires { IsReady buffer.old }
-        ensures ok { OnOk result (IsFollowed
-            (masks_set (⟦<Self as Shaped>⟧.shaping self.now (text_settings buffer.old))) buffer.old buffer.new) }
-        ensures err { IfErr result (λ e. e ≢ ShapeCause.OutOfMemory → reading_of
-            (masks_set (⟦<Self as Shaped>⟧.shaping self.now (text_settings buffer.old))) (state_of buffer.old) ≡ Err e) }
+        ensures { DoesStage (masks_set (⟦<Self as Shaped>⟧.shaping self.now buffer.old)) result buffer.old buffer.new }
     {
         setup_masks_fraction(&self.plan.script_plan, buffer);
         self.setup_shaper_masks(buffer)?;
@@ -65,8 +61,8 @@ impl<S: hb_ot_shaper_t, P: SyllableSpans> hb_ot_shape_context_t<'_, S, P> {
     /// Sets the masks of features that are requested for a range of the text.
     pub(crate) fn setup_ranges(&self, buffer: &mut hb_buffer_t)
         requires { IsReady buffer.old }
-        ensures { IsFollowed (ranges_set (⟦<Self as Shaped>⟧.shaping self.now (text_settings buffer.old))
-            (clusters (all_glyphs buffer.old))) buffer.old buffer.new }
+        ensures { IsFollowed (ranges_set (⟦<Self as Shaped>⟧.shaping self.now buffer.old) (clusters (all_glyphs
+            buffer.old))) buffer.old buffer.new }
     {
         set_ranged_masks(&self.plan.script_plan.map, &self.plan.user_features, buffer);
     }

@@ -1,10 +1,10 @@
 //! The pipeline stages that position glyphs, position (rustybuzz: hb/ot_shape.rs).
-ghost use Rattle.std.specs.Prelude.{◌≡◌, ◌≢◌, ◌==◌, ◌&&◌, Err, IfErr, OnOk, true};
+ghost use Rattle.std.specs.Prelude.{◌≡◌, ◌==◌, ◌&&◌, true};
 ghost use Rattle.buffer_common.specs.Direction.{is_forward};
-ghost use Rattle.buffer_core.specs.Readings.{always, reading_of};
-ghost use Rattle.buffer_core.specs.Sides.{items_of, state_of};
+ghost use Rattle.buffer_core.specs.Readings.{always};
+ghost use Rattle.buffer_core.specs.Sides.{items_of};
 ghost use Rattle.buffer_stages.specs.Buffers.{are_glyphs};
-ghost use Rattle.buffer_stages.specs.Ready.{IsDone, IsReady};
+ghost use Rattle.buffer_stages.specs.Ready.{DoesGlyphStage, IsDone, IsReady};
 ghost use Rattle.buffer_stages.specs.Settings.{text_settings};
 ghost use Rattle.layout_positioning.specs.Positioning.{positioning_stages};
 ghost use Rattle.shape_glyphs.specs.Widths.{zero_widths};
@@ -64,8 +64,7 @@ impl<S: hb_ot_shaper_t, P: SyllableSpans> hb_ot_shape_context_t<'_, S, P> {
     #[tactic(auto, unfolding(crate::specs::Positioning::positions_begun), using(crate::proofs::Lemmas::Chains::four_done))]
     fn begin_positions(&self, buffer: &mut hb_buffer_t)
         requires { IsReady buffer.old }
-        ensures { IsDone (positions_begun (⟦<Self as Shaped>⟧.shaping self.now (text_settings buffer.old)))
-            buffer.old buffer.new }
+        ensures { IsDone (positions_begun (⟦<Self as Shaped>⟧.shaping self.now buffer.old)) buffer.old buffer.new }
     {
         clear_positions(buffer);
         position_default(self.face, buffer);
@@ -94,8 +93,8 @@ impl<S: hb_ot_shaper_t, P: SyllableSpans> hb_ot_shape_context_t<'_, S, P> {
     #[tactic(auto, using(crate::proofs::Placed::zeroed_done))]
     fn zero_all_marks(&self, buffer: &mut hb_buffer_t)
         requires { IsReady buffer.old }
-        ensures { IsDone (always (marks_zeroed (⟦<Self as Shaped>⟧.shaping self.now (text_settings buffer.old))))
-            buffer.old buffer.new }
+        ensures { IsDone (always (marks_zeroed (⟦<Self as Shaped>⟧.shaping self.now buffer.old))) buffer.old
+            buffer.new }
     {
         let adjusts = self.adjusts_marks(buffer.direction());
         zero_mark_widths_by_gdef(buffer, adjusts);
@@ -105,10 +104,8 @@ impl<S: hb_ot_shaper_t, P: SyllableSpans> hb_ot_shape_context_t<'_, S, P> {
     #[tactic(auto, using(crate::proofs::Lemmas::Chains::acts_done, crate::proofs::Lemmas::Chains::rests_done))]
     fn zero_marks(&self, time: hb_ot_shape_zero_width_marks_type_t, buffer: &mut hb_buffer_t)
         requires { IsReady buffer.old }
-        ensures { IsDone
-            (only_if (zeroes_marks time (⟦<Self as Shaped>⟧.shaping self.now (text_settings buffer.old)))
-            (always (marks_zeroed (⟦<Self as Shaped>⟧.shaping self.now (text_settings buffer.old))))) buffer.old
-            buffer.new }
+        ensures { IsDone (only_if (zeroes_marks time (⟦<Self as Shaped>⟧.shaping self.now buffer.old)) (always
+            (marks_zeroed (⟦<Self as Shaped>⟧.shaping self.now buffer.old)))) buffer.old buffer.new }
     {
         if self.zeroes_marks(time) {
             self.zero_all_marks(buffer);
@@ -116,18 +113,13 @@ impl<S: hb_ot_shaper_t, P: SyllableSpans> hb_ot_shape_context_t<'_, S, P> {
     }
 
     /// Applies the GPOS lookups, if the plan uses them.
-    #[tactic(auto, using(crate::proofs::Lemmas::Chains::acts_done, crate::proofs::Lemmas::Chains::rests_done, crate::proofs::Lemmas::Chains::acts_refused))]
+    #[tactic(auto, using(crate::proofs::Lemmas::Chains::acts_does, crate::proofs::Lemmas::Chains::rests_done))]
     fn position_by_lookups(&self, buffer: &mut hb_buffer_t) -> Result<(), ShapeCause>
         requires ready { IsReady buffer.old }
         requires numbers { are_glyphs (items_of buffer.old) ≡ true }
-        ensures ok { OnOk result (IsDone (only_if self.now.plan.now.script_plan.choices.apply_gpos
-            (positioning_stages self.now.face.now self.now.plan.now.script_plan.map
-            (pauses_of (⟦<Self as Shaped>⟧.shaping self.now (text_settings buffer.old))))) buffer.old buffer.new) }
-        ensures err { IfErr result (λ e. e ≢ ShapeCause.OutOfMemory → reading_of
-            (only_if self.now.plan.now.script_plan.choices.apply_gpos
-            (positioning_stages self.now.face.now self.now.plan.now.script_plan.map
-            (pauses_of (⟦<Self as Shaped>⟧.shaping self.now (text_settings buffer.old)))))
-            (state_of buffer.old) ≡ Err e) }
+        ensures { DoesGlyphStage (only_if self.now.plan.now.script_plan.choices.apply_gpos (positioning_stages
+            self.now.face.now self.now.plan.now.script_plan.map (pauses_of
+            (⟦<Self as Shaped>⟧.shaping self.now buffer.old)))) result buffer.old buffer.new }
     {
         if !self.plan.script_plan.choices.apply_gpos {
             return Ok(());
@@ -148,14 +140,9 @@ impl<S: hb_ot_shaper_t, P: SyllableSpans> hb_ot_shape_context_t<'_, S, P> {
     fn position_by_plan(&self, buffer: &mut hb_buffer_t) -> Result<(), ShapeCause>
         requires ready { IsReady buffer.old }
         requires numbers { are_glyphs (items_of buffer.old) ≡ true }
-        ensures ok { OnOk result (IsDone (only_if self.now.plan.now.script_plan.choices.apply_gpos
-            (positioning_stages self.now.face.now self.now.plan.now.script_plan.map
-            (pauses_of (⟦<Self as Shaped>⟧.shaping self.now (text_settings buffer.old))))) buffer.old buffer.new) }
-        ensures err { IfErr result (λ e. e ≢ ShapeCause.OutOfMemory → reading_of
-            (only_if self.now.plan.now.script_plan.choices.apply_gpos
-            (positioning_stages self.now.face.now self.now.plan.now.script_plan.map
-            (pauses_of (⟦<Self as Shaped>⟧.shaping self.now (text_settings buffer.old)))))
-            (state_of buffer.old) ≡ Err e) }
+        ensures { DoesGlyphStage (only_if self.now.plan.now.script_plan.choices.apply_gpos (positioning_stages
+            self.now.face.now self.now.plan.now.script_plan.map (pauses_of
+            (⟦<Self as Shaped>⟧.shaping self.now buffer.old)))) result buffer.old buffer.new }
     {
         self.position_by_lookups(buffer)?;
         self.kern(buffer);
@@ -166,12 +153,8 @@ impl<S: hb_ot_shaper_t, P: SyllableSpans> hb_ot_shape_context_t<'_, S, P> {
     fn adjust_positions(&self, buffer: &mut hb_buffer_t) -> Result<(), ShapeCause>
         requires ready { IsReady buffer.old }
         requires numbers { are_glyphs (items_of buffer.old) ≡ true }
-        ensures ok { OnOk result (IsDone
-            (positions_adjusted (⟦<Self as Shaped>⟧.shaping self.now (text_settings buffer.old)))
-            buffer.old buffer.new) }
-        ensures err { IfErr result (λ e. e ≢ ShapeCause.OutOfMemory → reading_of
-            (positions_adjusted (⟦<Self as Shaped>⟧.shaping self.now (text_settings buffer.old)))
-            (state_of buffer.old) ≡ Err e) }
+        ensures { DoesGlyphStage (positions_adjusted (⟦<Self as Shaped>⟧.shaping self.now buffer.old)) result
+            buffer.old buffer.new }
     {
         self.zero_marks(HB_OT_SHAPE_ZERO_WIDTH_MARKS_BY_GDEF_EARLY, buffer);
         self.position_by_plan(buffer)?;
@@ -183,8 +166,8 @@ impl<S: hb_ot_shaper_t, P: SyllableSpans> hb_ot_shape_context_t<'_, S, P> {
     fn place_all_marks(&self, buffer: &mut hb_buffer_t)
         requires ready { IsReady buffer.old }
         requires numbers { are_glyphs (items_of buffer.old) ≡ true }
-        ensures { IsDone (always (marks_positioned (⟦<Self as Shaped>⟧.shaping self.now (text_settings buffer.old))))
-            buffer.old buffer.new }
+        ensures { IsDone (always (marks_positioned (⟦<Self as Shaped>⟧.shaping self.now buffer.old))) buffer.old
+            buffer.new }
     {
         let plan = &self.plan.script_plan;
         let components = components_direction(plan.direction, plan.script);
@@ -197,9 +180,8 @@ impl<S: hb_ot_shaper_t, P: SyllableSpans> hb_ot_shape_context_t<'_, S, P> {
     fn place_marks(&self, buffer: &mut hb_buffer_t)
         requires ready { IsReady buffer.old }
         requires numbers { are_glyphs (items_of buffer.old) ≡ true }
-        ensures { IsDone (only_if self.now.plan.now.script_plan.choices.fallback_mark_positioning
-            (always (marks_positioned (⟦<Self as Shaped>⟧.shaping self.now (text_settings buffer.old))))) buffer.old
-            buffer.new }
+        ensures { IsDone (only_if self.now.plan.now.script_plan.choices.fallback_mark_positioning (always
+            (marks_positioned (⟦<Self as Shaped>⟧.shaping self.now buffer.old)))) buffer.old buffer.new }
     {
         if self.plan.script_plan.choices.fallback_mark_positioning {
             self.place_all_marks(buffer);
@@ -210,8 +192,7 @@ impl<S: hb_ot_shaper_t, P: SyllableSpans> hb_ot_shape_context_t<'_, S, P> {
     fn end_positions(&self, buffer: &mut hb_buffer_t)
         requires ready { IsReady buffer.old }
         requires numbers { are_glyphs (items_of buffer.old) ≡ true }
-        ensures { IsDone (positions_ended (⟦<Self as Shaped>⟧.shaping self.now (text_settings buffer.old)))
-            buffer.old buffer.new }
+        ensures { IsDone (positions_ended (⟦<Self as Shaped>⟧.shaping self.now buffer.old)) buffer.old buffer.new }
     {
         zero_ignorables(buffer);
         position_finish_offsets(buffer);
@@ -223,10 +204,8 @@ impl<S: hb_ot_shaper_t, P: SyllableSpans> hb_ot_shape_context_t<'_, S, P> {
     pub(crate) fn position(&self, buffer: &mut hb_buffer_t) -> Result<(), ShapeCause>
         requires ready { IsReady buffer.old }
         requires numbers { are_glyphs (items_of buffer.old) ≡ true }
-        ensures ok { OnOk result (IsDone
-            (positioning_stage (⟦<Self as Shaped>⟧.shaping self.now (text_settings buffer.old))) buffer.old buffer.new) }
-        ensures err { IfErr result (λ e. e ≢ ShapeCause.OutOfMemory → reading_of
-            (positioning_stage (⟦<Self as Shaped>⟧.shaping self.now (text_settings buffer.old))) (state_of buffer.old) ≡ Err e) }
+        ensures { DoesGlyphStage (positioning_stage (⟦<Self as Shaped>⟧.shaping self.now buffer.old)) result
+            buffer.old buffer.new }
     {
         self.begin_positions(buffer);
         self.adjust_positions(buffer)?;

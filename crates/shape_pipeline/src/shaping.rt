@@ -62,13 +62,11 @@ fn shape_guessed<'a, S: hb_ot_shaper_t, P: SyllableSpans>(
     requires closed { buffer.is_open ≡ false }
     requires unrefused { buffer.has_refused ≡ false }
     requires characters { are_characters (items_of buffer) ≡ true }
-    ensures ok { IfOk result (λ glyphs. Follows
-        (text_reading (⟦<hb_ot_shape_context_t<'a, S, P> as Shaped>⟧.shaping context.now (text_settings buffer))
-        (state_of buffer))
-        (state_of buffer) (state_of glyphs)) }
+    ensures ok { IfOk result (λ glyphs. Follows (text_reading
+        (⟦<hb_ot_shape_context_t<'a, S, P> as Shaped>⟧.shaping context.now buffer) (state_of buffer)) (state_of
+        buffer) (state_of glyphs)) }
     ensures refused { IfErr result (λ e. e.cause ≢ ShapeCause.OutOfMemory → text_reading
-        (⟦<hb_ot_shape_context_t<'a, S, P> as Shaped>⟧.shaping context.now (text_settings buffer)) (state_of buffer)
-        ≡ Err e.cause) }
+        (⟦<hb_ot_shape_context_t<'a, S, P> as Shaped>⟧.shaping context.now buffer) (state_of buffer) ≡ Err e.cause) }
     ensures cleared { IfErr result (λ e. e.buffer ≡ empty_buffer) }
     ensures empty { all_glyphs buffer ≡ [] → result ≡ Ok (after_leave buffer) }
     ensures handed_on { IfOk result (λ glyphs. IsResultOf buffer glyphs) }

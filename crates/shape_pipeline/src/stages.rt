@@ -1,11 +1,10 @@
 //! All pipeline stages in order, shape_internal (rustybuzz: hb/ot_shape.rs).
 ghost use Rattle.std.specs.Prelude.{◌≡◌, ◌≢◌, Err, IfErr, OnOk, true, false};
-ghost use Rattle.buffer_core.specs.Readings.{Follows, reading_of};
+ghost use Rattle.buffer_core.specs.Readings.{Follows};
 ghost use Rattle.buffer_core.specs.Sides.{items_of, state_of, settings_of};
 ghost use Rattle.buffer_stages.specs.Buffers.{are_glyphs};
 ghost use Rattle.buffer_stages.specs.Ready.{IsReady};
-ghost use Rattle.buffer_stages.specs.Settings.{text_settings};
-ghost use Rattle.buffer_stages.specs.Stages.{IsFollowed};
+ghost use Rattle.buffer_stages.specs.Stages.{DoesStage};
 ghost use Rattle.shape_text.specs.Properties.{are_characters};
 ghost use Rattle.shape_pipeline.specs.Reading.{after_ranges, before_ranges, reading};
 ghost use Rattle.shape_pipeline.specs.Results.{IsLeft, IsResultOf};
@@ -35,11 +34,8 @@ impl<S: hb_ot_shaper_t, P: SyllableSpans> hb_ot_shape_context_t<'_, S, P> {
     fn prepare_text(&self, buffer: &mut hb_buffer_t) -> Result<(), ShapeCause>
         requires ready { IsReady buffer.old }
         requires characters { are_characters (items_of buffer.old) ≡ true }
-        ensures ok { OnOk result (IsFollowed
-            (before_ranges (⟦<Self as Shaped>⟧.shaping self.now (text_settings buffer.old))) buffer.old buffer.new) }
-        ensures err { IfErr result (λ e. e ≢ ShapeCause.OutOfMemory → reading_of
-            (before_ranges (⟦<Self as Shaped>⟧.shaping self.now (text_settings buffer.old))) (state_of buffer.old)
-            ≡ Err e) }
+        ensures { DoesStage (before_ranges (⟦<Self as Shaped>⟧.shaping self.now buffer.old)) result buffer.old
+            buffer.new }
     {
         self.begin_text(buffer)?;
         self.choose_characters(buffer)?;
@@ -50,13 +46,10 @@ impl<S: hb_ot_shaper_t, P: SyllableSpans> hb_ot_shape_context_t<'_, S, P> {
     /// Performs the pipeline stages after the masks of ranges.
     fn lay_out(&self, buffer: &mut hb_buffer_t) -> Result<(), ShapeCause>
         requires { IsReady buffer.old }
-        ensures ok { OnOk result (IsFollowed
-            (after_ranges (⟦<Self as Shaped>⟧.shaping self.now (text_settings buffer.old))) buffer.old buffer.new) }
+        ensures stage { DoesStage (after_ranges (⟦<Self as Shaped>⟧.shaping self.now buffer.old)) result buffer.old
+            buffer.new }
         ensures numbers { OnOk result (are_glyphs (items_of buffer.new) ≡ true) }
         ensures left { OnOk result (IsLeft self.now.plan.now.script_plan.direction buffer.new) }
-        ensures err { IfErr result (λ e. e ≢ ShapeCause.OutOfMemory → reading_of
-            (after_ranges (⟦<Self as Shaped>⟧.shaping self.now (text_settings buffer.old)))
-            (state_of buffer.old) ≡ Err e) }
     {
         self.take_glyphs(buffer);
         self.substitute_glyphs(buffer)?;
@@ -69,13 +62,13 @@ impl<S: hb_ot_shaper_t, P: SyllableSpans> hb_ot_shape_context_t<'_, S, P> {
     fn shape_ready(&self, buffer: &mut hb_buffer_t) -> Result<(), ShapeCause>
         requires ready { IsReady buffer.old }
         requires characters { are_characters (items_of buffer.old) ≡ true }
-        ensures ok { OnOk result (Follows (reading (⟦<Self as Shaped>⟧.shaping self.now (text_settings buffer.old))
-            (state_of buffer.old)) (state_of buffer.old) (state_of buffer.new)) }
+        ensures ok { OnOk result (Follows (reading (⟦<Self as Shaped>⟧.shaping self.now buffer.old) (state_of
+            buffer.old)) (state_of buffer.old) (state_of buffer.new)) }
         ensures handed_on { OnOk result (IsResultOf buffer.old buffer.new) }
         ensures direction { OnOk result (buffer.new.direction ≡ self.now.plan.now.script_plan.direction) }
         ensures still_closed { OnOk result (buffer.new.is_open ≡ false) }
         ensures err { IfErr result (λ e. e ≢ ShapeCause.OutOfMemory → reading
-            (⟦<Self as Shaped>⟧.shaping self.now (text_settings buffer.old)) (state_of buffer.old) ≡ Err e) }
+            (⟦<Self as Shaped>⟧.shaping self.now buffer.old) (state_of buffer.old) ≡ Err e) }
     {
         self.prepare_text(buffer)?;
         self.setup_ranges(buffer);
@@ -90,13 +83,13 @@ impl<S: hb_ot_shaper_t, P: SyllableSpans> hb_ot_shape_context_t<'_, S, P> {
         requires closed { buffer.old.is_open ≡ false }
         requires unrefused { buffer.old.has_refused ≡ false }
         requires characters { are_characters (items_of buffer.old) ≡ true }
-        ensures ok { OnOk result (Follows (reading (⟦<Self as Shaped>⟧.shaping self.now (text_settings buffer.old))
-            (state_of buffer.old)) (state_of buffer.old) (state_of buffer.new)) }
+        ensures ok { OnOk result (Follows (reading (⟦<Self as Shaped>⟧.shaping self.now buffer.old) (state_of
+            buffer.old)) (state_of buffer.old) (state_of buffer.new)) }
         ensures handed_on { OnOk result (IsResultOf buffer.old buffer.new) }
         ensures direction { OnOk result (buffer.new.direction ≡ self.now.plan.now.script_plan.direction) }
         ensures still_closed { OnOk result (buffer.new.is_open ≡ false) }
         ensures err { IfErr result (λ e. e ≢ ShapeCause.OutOfMemory → reading
-            (⟦<Self as Shaped>⟧.shaping self.now (text_settings buffer.old)) (state_of buffer.old) ≡ Err e) }
+            (⟦<Self as Shaped>⟧.shaping self.now buffer.old) (state_of buffer.old) ≡ Err e) }
     {
         rewind(buffer);
         self.shape_ready(buffer)

@@ -1,13 +1,12 @@
 //! The dotted circle before a text that begins with a mark, insert_dotted_circle (rustybuzz: hb/ot_shape.rs).
 ghost use Rattle.std.specs.Prelude.{◌≡◌, ◌≢◌, ◌<◌, ◌≤◌, ◌+◌, length, bit_or, IfErr, OnOk, Err};
 ghost use Rattle.buffer_glyphs.specs.Items.{item_of, strip};
-ghost use Rattle.buffer_core.specs.Readings.{reading_of};
-ghost use Rattle.buffer_core.specs.Sides.{items_of, state_of, all_glyphs};
+ghost use Rattle.buffer_core.specs.Sides.{items_of, all_glyphs};
 ghost use Rattle.buffer_stages.specs.Ready.{IsReady};
 ghost use Rattle.buffer_properties.specs.Characters.{is_mark};
 ghost use Rattle.shape_text.specs.Circle.{flags_want_circle, begins_with_mark, first_circle, glyph_circle, needs_circle, with_circle_put};
 ghost use Rattle.buffer_properties.specs.Properties.{scratch_flags_of};
-ghost use Rattle.buffer_stages.specs.Stages.{IsFollowed};
+ghost use Rattle.buffer_stages.specs.Stages.{DoesStage};
 
 use bitflags::Flags;
 use buffer_common::constants::{BufferFlags, hb_buffer_scratch_flags_t};
@@ -35,11 +34,8 @@ pub fn insert_dotted_circle(
     buffer: &mut hb_buffer_t,
 ) -> Result<(), ShapeCause>
     requires ready { IsReady buffer.old }
-    ensures ok { OnOk result
-        (IsFollowed (first_circle tables.now face.now buffer.old.flags buffer.old.pre_context) buffer.old buffer.new) }
-    ensures err { IfErr result (λ e. e ≢ ShapeCause.OutOfMemory
-        → reading_of (first_circle tables.now face.now buffer.old.flags buffer.old.pre_context) (state_of buffer.old)
-        ≡ Err e) }
+    ensures { DoesStage (first_circle tables.now face.now buffer.old.flags buffer.old.pre_context) result buffer.old
+        buffer.new }
 {
     if !needs_circle(face, buffer) {
         return Ok(());

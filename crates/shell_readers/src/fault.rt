@@ -24,8 +24,6 @@ pub enum RunFault {
     Unlawful,
     /// The text is not UTF-8.
     NotUtf8,
-    /// The text's script needs the Indic shaper, which is not implemented yet.
-    NotYet,
     /// The text could not be shaped.
     Shape(ShapeCause),
     Write,
@@ -43,7 +41,7 @@ impl RunFault {
             RunFault::Json(JsonFault::OutOfMemory) => 5,
             RunFault::Json(_) | RunFault::Unlawful => 3,
             RunFault::NotUtf8 => 4,
-            RunFault::NotYet | RunFault::Shape(_) | RunFault::OutOfMemory => 5,
+            RunFault::Shape(_) | RunFault::OutOfMemory => 5,
             RunFault::Read | RunFault::ReadLimit | RunFault::Write => 6,
         }
     }
@@ -61,7 +59,6 @@ impl RunFault {
             RunFault::Json(fault) => fault.name(),
             RunFault::Unlawful => "Unlawful",
             RunFault::NotUtf8 => "NotUtf8",
-            RunFault::NotYet => "NotYet",
             RunFault::Shape(ShapeCause::OutOfMemory) => "S1 OutOfMemory",
             RunFault::Shape(ShapeCause::TooLong) => "S2 TooLong",
             RunFault::Shape(ShapeCause::StretchRange) => "S3 StretchRange",

@@ -1,11 +1,8 @@
 -- Faults of bytes.
-use Rattle.std.proofs.Common.{◌≡◌, ◌≢◌, ℕ, Bool, true, false, List, Ok, Err, refl, sym, ap, subst, ◌∙◌}
-use Rattle.std.specs.Prelude.{Option, Some, None, IfSome, Result, IfErr, IsErrAnd, OnOk, unwrap_or}
+use Rattle.std.proofs.Common.{◌≡◌, ◌≢◌, ℕ, List, Err, ap, ◌∙◌}
+use Rattle.std.specs.Prelude.{Option, Some, None, IfSome}
 use Rattle.shell_readers.specs.declared.fault.RunFault.{RunFault}
-use Rattle.shell_readers.specs.declared.fault.RunFault.TheVariants.{NotYet, OutOfMemory}
-use Rattle.buffer_common.specs.declared.script.Script.{Script}
-use Rattle.buffer_common.specs.declared.script.TheConstants.{UNKNOWN}
-use Rattle.shape_pipeline.specs.Dispatch.{script_waits}
+use Rattle.shell_readers.specs.declared.fault.RunFault.TheVariants.{OutOfMemory}
 use Rattle.shell_readers.specs.declared.options.Options.{Options}
 use Rattle.shell_readers.specs.Fault.{fault_of_cause}
 use Rattle.buffer_glyphs.specs.declared.cause.ShapeCause.{ShapeCause}
@@ -30,21 +27,5 @@ known_refused options (Some ts) None xs a b c e p q r h k = tt
 known_refused options None fs xs a b c e p q r h k = tt
 
 -- a text whose reading refuses
-pub refused_as : (r : Reading) (cause : ShapeCause) (e : RunFault) → e ≡ fault_of_cause cause → (cause ≢ NoMemory → r ≡ Err cause) → e ≢ OutOfMemory → IsUnshaped false r e
+pub refused_as : (r : Reading) (cause : ShapeCause) (e : RunFault) → e ≡ fault_of_cause cause → (cause ≢ NoMemory → r ≡ Err cause) → e ≢ OutOfMemory → IsUnshaped r e
 refused_as r cause e is h not_memory = (cause, h (λ m. not_memory (is ∙ ap fault_of_cause m)), is)
-
--- ---- whether a text waits
-
-pub known_script : (o : Option Script) → script_waits (Some (unwrap_or o UNKNOWN)) ≡ script_waits o
-known_script None = refl
-known_script (Some s) = refl
-
-pub waiting_unshaped : (b : Bool) (r : Reading) → b ≡ true → IsUnshaped b r NotYet
-waiting_unshaped b r waits = let P : Bool → Type 0 = λ x. IsUnshaped x r NotYet in subst P (sym waits) refl
-
-pub still_unshaped : (b : Bool) (r : Reading) (e : RunFault) → b ≡ false → IsUnshaped false r e → IsUnshaped b r e
-still_unshaped b r e here h = let P : Bool → Type 0 = λ x. IsUnshaped x r e in subst P (sym here) h
-
-pub on_ok : {A E : Type 0} (r : Result A E) (P : Type 0) → P → OnOk r P
-on_ok (Ok a) P p = p
-on_ok (Err e) P p = tt

@@ -1,5 +1,5 @@
 -- The printed line for the bytes of tables, a font and a text, or the first fault in them.
-use Rattle.std.specs.Prelude.{ℕ, Bool, true, false, ◌≡◌, ◌==◌, ◌-◌, if◌then◌else◌, List, [], ◌∷◌, ◌++◌, length, take, slice_index, Result, Ok, Err}
+use Rattle.std.specs.Prelude.{ℕ, ◌≡◌, ◌==◌, ◌-◌, if◌then◌else◌, List, [], ◌∷◌, ◌++◌, length, take, slice_index, Result, Ok, Err}
 use Rattle.std.specs.Str.{is_utf8}
 use Rattle.buffer_glyphs.specs.declared.info.hb_glyph_info_t.{hb_glyph_info_t}
 use Rattle.buffer_glyphs.specs.declared.flags.SerializeFlags.{SerializeFlags}
@@ -7,13 +7,12 @@ use Rattle.buffer_features.specs.declared.feature.Feature.{Feature}
 use Rattle.buffer_glyphs.specs.declared.cause.ShapeCause.{ShapeCause}
 use Rattle.buffer_glyphs.specs.declared.cause.ShapeCause.TheVariants.{TooLong}
 use Rattle.shell_readers.specs.declared.fault.RunFault.{RunFault}
-use Rattle.shell_readers.specs.declared.fault.RunFault.TheVariants.{NotUtf8, NotYet, Shape}
+use Rattle.shell_readers.specs.declared.fault.RunFault.TheVariants.{NotUtf8, Shape}
 use Rattle.shell_readers.specs.declared.options.Options.{Options}
 use Rattle.shell_readers.specs.Fault.{fault_of_cause}
 use Rattle.layout_common.specs.Rows.{value_of}
 use Rattle.layout_face.specs.Glyphs.{name_of}
 use Rattle.layout_face.specs.declared.parts.FaceParts.{FaceParts}
-use Rattle.shape_pipeline.specs.Dispatch.{script_waits}
 use Rattle.shape_pipeline.specs.Shaping.{Shaping}
 use Rattle.shape_pipeline.specs.Shaped.{by_text, text_reading}
 use Rattle.shell_run.specs.Asked.{text_buffer}
@@ -57,15 +56,14 @@ abbrev pub line_of_reading : FaceParts → SerializeFlags → BufferState → Re
 line_of_reading font flags run (Ok r) = Ok (line_of_run font flags (state_after r run))
 line_of_reading font flags run (Err e) = Err (fault_of_cause e)
 
--- the line of a shaped text, or the fault of a text that needs the Indic shaper
+-- the line of a shaped text
 abbrev pub line_of_text : Options → RunTables → FaceParts → Sides → Result (List ℕ) RunFault
-line_of_text options t font s = if script_waits s.script then Err NotYet
-    else line_of_reading font options.flags (state_of s) (text_reading (shaping t font options.features.items s) (state_of s))
+line_of_text options t font s =
+    line_of_reading font options.flags (state_of s) (text_reading (shaping t font options.features.items s) (state_of s))
 
--- the reason why a text is not shaped: it needs the Indic shaper, or its reading fails
-abbrev pub IsUnshaped : Bool → Reading → RunFault → Type 0
-IsUnshaped true reading e = e ≡ NotYet
-IsUnshaped false reading e = (cause : ShapeCause) × (reading ≡ Err cause) × (e ≡ fault_of_cause cause)
+-- the fault of a text whose reading refuses names the reading's cause
+abbrev pub IsUnshaped : Reading → RunFault → Type 0
+IsUnshaped reading e = (cause : ShapeCause) × (reading ≡ Err cause) × (e ≡ fault_of_cause cause)
 
 -- the line of a text
 abbrev pub line_of : Options → RunTables → FaceParts → List ℕ → Result (List ℕ) RunFault

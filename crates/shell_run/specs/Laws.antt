@@ -1,15 +1,14 @@
 -- Laws of every run.
-use Rattle.std.specs.Prelude.{ℕ, ◌≡◌, false, List, [], ◌∷◌, Result, Ok}
+use Rattle.std.specs.Prelude.{ℕ, ◌≡◌, List, [], ◌∷◌, Result, Ok}
 use Rattle.shell_readers.specs.declared.options.Options.{Options}
 use Rattle.layout_face.specs.declared.parts.FaceParts.{FaceParts}
-use Rattle.shape_pipeline.specs.Dispatch.{script_waits}
 use Rattle.shell_readers.specs.declared.fault.RunFault.{RunFault}
 use Rattle.shell_run.specs.Answer.{IsAnswer, line_of}
 use Rattle.shell_readers.specs.Tables.{RunTables}
 
--- law: the empty text gives a line feed only, where such a text needs no Indic shaper
+-- law: the empty text gives a line feed only
 abbrev pub EmptyTextGivesEmptyLine : Type 0
-EmptyTextGivesEmptyLine = (options : Options) (t : RunTables) (font : FaceParts) → script_waits options.script ≡ false → line_of options t font [] ≡ Ok (10 ∷ [])
+EmptyTextGivesEmptyLine = (options : Options) (t : RunTables) (font : FaceParts) → line_of options t font [] ≡ Ok (10 ∷ [])
 
 -- law: tables, a font and a text have at most one answer
 abbrev pub AnswersAreOne : Type 0

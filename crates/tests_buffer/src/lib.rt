@@ -9,6 +9,8 @@ mod growth;
 #[cfg(test)]
 mod lists;
 #[cfg(test)]
+mod memory;
+#[cfg(test)]
 mod parts;
 #[cfg(test)]
 mod rows;

@@ -1,8 +1,20 @@
-// Worked rows of the two reorderings of Indic syllables.
+//! Worked rows of the Indic shaper, and long syllables.
 #![tactic(auto)]
 
+#[cfg(test)]
+mod costs;
+#[cfg(test)]
+mod font_rows;
+#[cfg(test)]
+mod fonts;
 pub mod forms;
 #[cfg(test)]
-mod rows;
+mod normalized_rows;
+#[cfg(test)]
+mod normalizing;
+#[cfg(test)]
+mod shaped;
 #[cfg(test)]
 mod text;
+#[cfg(test)]
+mod would_substitute;

@@ -41,14 +41,15 @@ fn word(number: u32) -> u16 {
     u16::try_from(number).unwrap_or(0)
 }
 
-fn cluster_level(text: &str) -> BufferClusterLevel {
+pub(crate) fn cluster_level(text: &str) -> BufferClusterLevel {
     if text == "0" {
         return BufferClusterLevel::MonotoneGraphemes;
     }
     BufferClusterLevel::MonotoneCharacters
 }
 
-/// A buffer of glyphs, each by its number, cluster, mask, properties, glyph properties, syllable, category and place.
+/// A buffer of glyphs, each by its number, cluster, mask, properties, glyph properties, syllable, category and syllabic
+/// position.
 pub(crate) fn buffer(alloc: Global, level: &str, glyphs: &[Vec<u32>]) -> Result<hb_buffer_t, Fail>
     ensures { IfOk result (λ b. IsReady b) }
 {
@@ -89,7 +90,7 @@ fn read(info: hb_glyph_info_t, glyph: &[u32]) -> hb_glyph_info_t {
             glyph_properties,
             syllable,
             category,
-            place,
+            pos,
         ] => {
             hb_glyph_info_t {
                 glyph_id: *number,
@@ -99,7 +100,7 @@ fn read(info: hb_glyph_info_t, glyph: &[u32]) -> hb_glyph_info_t {
                 glyph_props: GlyphPropsFlags(word(*glyph_properties)),
                 syllable: byte(*syllable),
                 category: byte(*category),
-                auxiliary: byte(*place),
+                auxiliary: byte(*pos),
                 ..info
             }
         }
@@ -107,8 +108,8 @@ fn read(info: hb_glyph_info_t, glyph: &[u32]) -> hb_glyph_info_t {
     }
 }
 
-/// The buffer stands ready, with a position for each glyph.
-fn settle(buffer: &mut hb_buffer_t) -> Result<(), Fail>
+/// Gives a buffer a position for each glyph.
+pub(crate) fn settle(buffer: &mut hb_buffer_t) -> Result<(), Fail>
     requires { buffer.old.is_open ≡ false }
     ensures { OnOk result (IsReady buffer.new) }
 {
@@ -119,7 +120,7 @@ fn settle(buffer: &mut hb_buffer_t) -> Result<(), Fail>
     Ok(())
 }
 
-/// Whether a buffer has glyphs with these numbers, clusters, masks, categories and places.
+/// Whether a buffer has glyphs with these numbers, clusters, masks, categories and syllabic positions.
 pub(crate) fn has(buffer: &hb_buffer_t, glyphs: &[Vec<u32>]) -> bool
     requires { IsReady buffer.now }
 {

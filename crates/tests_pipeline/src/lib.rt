@@ -6,6 +6,8 @@ mod data;
 #[cfg(test)]
 mod decomposing;
 #[cfg(test)]
+mod dispatch;
+#[cfg(test)]
 mod plans;
 #[cfg(test)]
 mod rows;

@@ -6,6 +6,8 @@ mod asked;
 #[cfg(test)]
 mod faults;
 #[cfg(test)]
+mod indic;
+#[cfg(test)]
 mod languages;
 #[cfg(test)]
 mod lines;

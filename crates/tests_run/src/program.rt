@@ -57,7 +57,7 @@ hb_shape tables broken text;text;6;;hb_shape: Read;tables,broken,text,
 hb_shape broken broken broken;;3;;hb_shape: J1 NotJson;broken,broken,broken,
 hb_shape tables text broken;;3;;hb_shape: J1 NotJson;tables,text,broken,
 hb_shape tables font broken;;4;;hb_shape: NotUtf8;tables,font,broken,
-hb_shape --script=deva tables font text;;5;;hb_shape: NotYet;tables,font,text,";
+hb_shape --script=deva tables font text;;0;gid1=0+500|gid2=1+600;;tables,font,text,";
 
 /// Whether these bytes are this line and its line feed, or nothing where there is no line.
 fn is_line(bytes: &[u8], line: &str) -> bool {

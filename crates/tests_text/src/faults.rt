@@ -5,7 +5,7 @@ use shell_readers::fault::RunFault;
 use std::alloc::{AllocError, AllocFailed, Global};
 use std::test::Fail;
 
-static FAULTS: [(RunFault, &str, u8); 18] = [
+static FAULTS: [(RunFault, &str, u8); 17] = [
     (RunFault::Words, "words", 2),
     (RunFault::Read, "Read", 6),
     (RunFault::ReadLimit, "ReadLimit", 6),
@@ -18,7 +18,6 @@ static FAULTS: [(RunFault, &str, u8); 18] = [
     (RunFault::Json(JsonFault::SplitDepth), "U3 SplitDepth", 3),
     (RunFault::Unlawful, "Unlawful", 3),
     (RunFault::NotUtf8, "NotUtf8", 4),
-    (RunFault::NotYet, "NotYet", 5),
     (RunFault::Shape(ShapeCause::TooLong), "S2 TooLong", 5),
     (
         RunFault::Shape(ShapeCause::StretchRange),

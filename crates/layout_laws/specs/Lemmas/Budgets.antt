@@ -18,9 +18,9 @@ use Rattle.layout_substitution.specs.Lookups.{cut_at_index, backward_trials, bac
 use Rattle.layout_positioning.specs.Lookups.{positioning_pass}
 use Rattle.buffer_stage_laws.specs.Counting.{IsFair, rebudgeted, CountsBudget}
 use Rattle.buffer_stage_laws.specs.Lemmas.Counting.{and_then_counts, same_counts, two_count_budget}
-use Rattle.layout_rule_laws.specs.Counting.{rebudgeted_cut, OutcomeCounts, RuleCounts, RuleCountsBudget, NestCountsBudget}
-use Rattle.layout_rule_laws.specs.Lemmas.Counting.{limited_counts, later_counts, or_else_counts, after_counts, NextCounts, tried_counts, lookups_count_budget}
-use Rattle.layout_rule_laws.specs.Lemmas.NestedCounting.{nested_count_budget}
+use Rattle.layout_laws.specs.Counting.{rebudgeted_cut, OutcomeCounts, RuleCounts, RuleCountsBudget, NestCountsBudget}
+use Rattle.layout_laws.specs.Lemmas.Counting.{limited_counts, later_counts, or_else_counts, after_counts, NextCounts, tried_counts, lookups_count_budget}
+use Rattle.layout_laws.specs.Lemmas.NestedCounting.{nested_count_budget}
 use Rattle.layout_laws.specs.Lengths.{SubstitutionCountsBudget, PositioningCountsBudget}
 use Rattle.layout_laws.specs.Lemmas.Rules.{Limits, Related, NestRelated, IsClosed}
 use Rattle.layout_laws.specs.Lemmas.Substitutions.{IsSubstituted, forward_related, backward_related}

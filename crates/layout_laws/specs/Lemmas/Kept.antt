@@ -10,7 +10,7 @@ use Rattle.layout_positioning.specs.Lookups.{positioning_pass}
 use Rattle.buffer_stage_laws.specs.Rules.{RuleKeepsParts}
 use Rattle.buffer_stage_laws.specs.Stages.{KeepsParts}
 use Rattle.buffer_stage_laws.specs.Lemmas.Stages.{ReadsParts, nothing_keeps, read_now, then_reads, stages_keep_parts, same_keeps}
-use Rattle.layout_rule_laws.specs.Lemmas.Lookups.{after_keeps, tried_keeps, lookups_keep_parts}
+use Rattle.layout_laws.specs.Lemmas.Lookups.{after_keeps, tried_keeps, lookups_keep_parts}
 use Rattle.layout_laws.specs.Parts.{SubstitutionKeepsParts, PositioningKeepsParts}
 use Rattle.layout_laws.specs.Lemmas.Substitutions.{forward_related, backward_related}
 use Rattle.layout_laws.specs.Lemmas.Positionings.{action_related}

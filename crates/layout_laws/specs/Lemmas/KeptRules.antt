@@ -31,7 +31,7 @@ use Rattle.buffer_stage_laws.specs.Lemmas.Stages.{nothing_keeps}
 use Rattle.layout_laws.specs.Lemmas.Rules.{Limits, NestRelated, IsClosed}
 use Rattle.layout_laws.specs.Lemmas.Substitutions.{IsSubstituted}
 use Rattle.layout_laws.specs.Lemmas.Positionings.{IsPositioned}
-use Rattle.layout_rule_laws.specs.Lemmas.Nested.{nested_keep_parts}
+use Rattle.layout_laws.specs.Lemmas.Nested.{nested_keep_parts}
 use Rattle.layout_laws.specs.Lemmas.Ligatures.{passed_between, ligated_cut, ligated_events}
 use Rattle.layout_laws.specs.Lemmas.LigatureLengths.{AreFound, match_found, found_between, ligated_length}
 

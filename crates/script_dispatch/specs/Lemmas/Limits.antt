@@ -31,6 +31,15 @@ use Rattle.script_thai.specs.ThaiPrivate.{with_private}
 use Rattle.script_thai.specs.ThaiVowel as thai
 use Rattle.script_hangul.specs.Hangul.{events_after, syllables_formed, text_after, wants_circles}
 use Rattle.script_hangul.specs.Masks.{with_letter_mask}
+use Rattle.script_indic_reordering.specs.Base.{Forms}
+use Rattle.script_indic_reordering.specs.Orders.{consonant_with_position, final_order, initial_syllable}
+use Rattle.script_indic_reordering.specs.declared.script.IndicMasks.{IndicMasks}
+use Rattle.script_indic_reordering.specs.declared.script.RephMode.{RephMode}
+use Rattle.script_indic.specs.Categories.{with_properties}
+use Rattle.script_indic.specs.Config.{indic_config}
+use Rattle.script_indic.specs.FontForms.{font_forms}
+use Rattle.script_indic.specs.Masks.{indic_masks}
+use Rattle.script_indic.specs.Reordering.{circles_order, consonants_updated, indic_circles, initial_stage, virama_glyph}
 use Rattle.script_joining.specs.Joining.{letters_with_forms}
 use Rattle.script_khmer.specs.Khmer.{khmer_syllable}
 use Rattle.script_myanmar.specs.Myanmar.{myanmar_syllable}
@@ -116,7 +125,7 @@ masks_limits KHMER_SHAPER m s t settings = mapped_limits (with_category (ot_cate
 masks_limits MYANMAR_SHAPER m s t settings = mapped_limits (with_category (ot_category_of t))
 masks_limits UNIVERSAL_SHAPER m s t settings = universal_limits m s t settings.pre_context settings.post_context
 masks_limits HEBREW_SHAPER m s t settings = same_by
-masks_limits INDIC_SHAPER m s t settings = same_by
+masks_limits INDIC_SHAPER m s t settings = mapped_limits (with_properties t)
 masks_limits MYANMAR_ZAWGYI_SHAPER m s t settings = same_by
 masks_limits THAI_SHAPER m s t settings = same_by
 
@@ -165,6 +174,14 @@ circles_limits (Some r) = chosen_by (λ v. list_any (is_broken r) v.items) (λ v
 order_limits : (circles : Option CircleRule) (rule : List Item → Arrangement) → DependsOnNoLimit (then_syllables (circles_by circles) rule)
 order_limits circles rule = then_by (circles_by circles) (syllables_by rule) (circles_limits circles) (rule_limits (by_syllable rule))
 
+consonants_limits : (forms : Forms) (virama : Option ℕ) → DependsOnNoLimit (consonants_updated forms virama)
+consonants_limits forms None = same_by
+consonants_limits forms (Some virama) = mapped_limits (consonant_with_position forms virama)
+
+initial_limits : (font : FaceParts) (flags : BufferFlags) (forms : Forms) (virama : Option ℕ) (mode : RephMode) (masks : IndicMasks) → DependsOnNoLimit (initial_stage font flags forms virama mode masks)
+initial_limits font flags forms virama mode masks =
+    then_by (consonants_updated forms virama) (circles_order font flags (initial_syllable mode masks forms)) (consonants_limits forms virama) (order_limits (indic_circles font flags) (initial_syllable mode masks forms))
+
 pause_limits : (shaper : hb_ot_script_shaper_t) (m : OtMapValue) (s : Option Script) (font : FaceParts) (spans : Spans) (settings : TextSettings) (pause : hb_script_pause_t) → DependsOnNoLimit (pause_done shaper m s font spans settings pause)
 pause_limits shaper m s font spans settings RecordStch = either_by (always (with_items_mapped tile_recorded)) as_it_is (mapped_limits tile_recorded) same_by (has_mask (codes "stch") m)
 pause_limits shaper m s font spans settings SetupSyllables = found_limits shaper m s spans
@@ -175,8 +192,9 @@ pause_limits shaper m s font spans settings ClearSubstitutionFlags = mapped_limi
 pause_limits shaper m s font spans settings RecordRphf = rule_limits (by_syllable (rphf_recorded (mask_at_one (codes "rphf") m)))
 pause_limits shaper m s font spans settings RecordPref = rule_limits (by_syllable pref_recorded)
 pause_limits shaper m s font spans settings ReorderUse = order_limits (universal_circles font settings.flags) universal_syllable
-pause_limits shaper m s font spans settings InitialReordering = same_by
-pause_limits shaper m s font spans settings FinalReordering = same_by
+pause_limits shaper m s font spans settings InitialReordering =
+    initial_limits font settings.flags (font_forms (indic_config s).zero_context m font) (virama_glyph (indic_config s).virama font) (indic_config s).reph_mode (indic_masks (indic_config s).blwf_mode m)
+pause_limits shaper m s font spans settings FinalReordering = rule_limits (final_order (indic_config s).reph_pos (indic_masks (indic_config s).blwf_mode m))
 
 pauses_limits : (shaper : hb_ot_script_shaper_t) (m : OtMapValue) (s : Option Script) (font : FaceParts) (spans : Spans) (settings : TextSettings) (pause : Option hb_script_pause_t) → DependsOnNoLimit (pause_if shaper m s font spans settings pause)
 pauses_limits shaper m s font spans settings None = same_by

@@ -93,7 +93,7 @@ masks_kept KHMER_SHAPER m s t settings = masks_keep_plainly.categories (ot_categ
 masks_kept MYANMAR_SHAPER m s t settings = masks_keep_plainly.categories (ot_category_of t)
 masks_kept UNIVERSAL_SHAPER m s t settings = masks_keep_plainly.universal m s t settings.pre_context settings.post_context
 masks_kept HEBREW_SHAPER m s t settings = same_plainly
-masks_kept INDIC_SHAPER m s t settings = same_plainly
+masks_kept INDIC_SHAPER m s t settings = masks_keep_plainly.indic t
 masks_kept MYANMAR_ZAWGYI_SHAPER m s t settings = same_plainly
 masks_kept THAI_SHAPER m s t settings = same_plainly
 
@@ -118,8 +118,8 @@ pause_kept shaper m s font spans settings ClearSubstitutionFlags after = syllabl
 pause_kept shaper m s font spans settings RecordRphf after = syllables_keep_plainly.rphf (mask_at_one (codes "rphf") m)
 pause_kept shaper m s font spans settings RecordPref after = syllables_keep_plainly.pref
 pause_kept shaper m s font spans settings ReorderUse after = orders_keep_plainly.universal font settings.flags
-pause_kept shaper m s font spans settings InitialReordering after = same_plainly
-pause_kept shaper m s font spans settings FinalReordering after = same_plainly
+pause_kept shaper m s font spans settings InitialReordering after = orders_keep_plainly.indic_initial m s font settings.flags
+pause_kept shaper m s font spans settings FinalReordering after = orders_keep_plainly.indic_final m s
 
 pauses_kept : (shaper : hb_ot_script_shaper_t) (m : OtMapValue) (s : Option Script) (font : FaceParts) (spans : Spans) (settings : TextSettings) (pause : Option hb_script_pause_t) → EndAfterStart spans → KeepsPlainly (pause_if shaper m s font spans settings pause)
 pauses_kept shaper m s font spans settings None after = same_plainly

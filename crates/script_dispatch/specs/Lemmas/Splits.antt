@@ -8,6 +8,8 @@ use Rattle.script_plan.specs.declared.plan.hb_script_plan_t.{hb_script_plan_t}
 use Rattle.script_plan.specs.Lemmas.Unchanged.{by_more, nine_splits, none_more}
 use Rattle.script_categories.specs.declared.shaper.hb_ot_script_shaper_t.{hb_ot_script_shaper_t}
 use Rattle.script_categories.specs.declared.shaper.hb_ot_script_shaper_t.TheVariants.{ARABIC_SHAPER, HANGUL_SHAPER, HEBREW_SHAPER, INDIC_SHAPER, KHMER_SHAPER, MYANMAR_SHAPER, MYANMAR_ZAWGYI_SHAPER, THAI_SHAPER, UNIVERSAL_SHAPER}
+use Rattle.script_indic.specs.Characters.{indic_split}
+use Rattle.script_indic.proofs.Splits.{indic_splits_end}
 use Rattle.script_khmer.specs.Khmer.{LEFT_PART, khmer_split, split_vowels}
 use Rattle.script_dispatch.specs.Hooks.{splits_by}
 use Rattle.script_dispatch.specs.declared.any_shaper.hb_ot_any_shaper_t.{hb_ot_any_shaper_t}
@@ -41,7 +43,7 @@ by_shaper KHMER_SHAPER t e = λ u. khmer_more t 8 u (e u)
 by_shaper ARABIC_SHAPER t e = nine_splits (split_of t) e
 by_shaper HANGUL_SHAPER t e = nine_splits (split_of t) e
 by_shaper HEBREW_SHAPER t e = nine_splits (split_of t) e
-by_shaper INDIC_SHAPER t e = nine_splits (split_of t) e
+by_shaper INDIC_SHAPER t e = nine_splits (indic_split t) (indic_splits_end t 8 e)
 by_shaper MYANMAR_SHAPER t e = nine_splits (split_of t) e
 by_shaper MYANMAR_ZAWGYI_SHAPER t e = nine_splits (split_of t) e
 by_shaper THAI_SHAPER t e = nine_splits (split_of t) e

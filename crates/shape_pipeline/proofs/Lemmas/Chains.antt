@@ -1,10 +1,10 @@
 -- Stages done one after another on a buffer.
-use Rattle.std.proofs.Common.{◌≡◌, Bool, true, false, List, [], ◌∷◌, Err, refl, sym, subst, ◌∙◌}
+use Rattle.std.proofs.Common.{◌≡◌, Bool, true, false, List, [], ◌∷◌, Result, Err, refl, sym, subst, ◌∙◌}
 use Rattle.buffer_glyphs.specs.declared.cause.ShapeCause.{ShapeCause}
 use Rattle.buffer_core.specs.Readings.{Stage, reading_of}
 use Rattle.buffer_core.specs.Steps.{follows_then, follows_same, refused_first, refused_then}
 use Rattle.buffer_core.specs.Sides.{Sides, state_of}
-use Rattle.buffer_stages.specs.Ready.{IsDone, IsReady}
+use Rattle.buffer_stages.specs.Ready.{DoesGlyphStage, IsDone, IsReady}
 use Rattle.buffer_stages.specs.Stages.{IsFollowed}
 use Rattle.shape_pipeline.specs.Chains.{in_order, only_if}
 
@@ -30,8 +30,8 @@ rests_done b stage s fails ready =
     let P : Bool → Type 0 = λ c. IsDone (only_if c stage) s s in
     subst P (sym fails) (record { follows = follows_same (state_of s); settings = refl; ready = ready; numbers = λ h. h })
 
-pub acts_refused : (b : Bool) (stage : Stage) (old : Sides) (cause : ShapeCause) → b ≡ true → reading_of stage (state_of old) ≡ Err cause → reading_of (only_if b stage) (state_of old) ≡ Err cause
-acts_refused b stage old cause holds e = let P : Bool → Type 0 = λ c. reading_of (only_if c stage) (state_of old) ≡ Err cause in subst P (sym holds) e
+pub acts_does : {X : Type 0} (b : Bool) (stage : Stage) (result : Result X ShapeCause) (old new : Sides) → b ≡ true → DoesGlyphStage stage result old new → DoesGlyphStage (only_if b stage) result old new
+acts_does b stage result old new holds d = let P : Bool → Type 0 = λ c. DoesGlyphStage (only_if c stage) result old new in subst P (sym holds) d
 
 -- ---- stages that were followed
 

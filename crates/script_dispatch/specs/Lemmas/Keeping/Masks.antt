@@ -8,6 +8,7 @@ use Rattle.buffer_core.specs.Readings.{always, as_it_is}
 use Rattle.buffer_stages.specs.Stages.{with_items_mapped}
 use Rattle.buffer_stage_laws.specs.Plainly.{KeepsPlainly}
 use Rattle.buffer_stage_laws.specs.Lemmas.Plainly.{always_plainly, either_plainly, even_plainly, mapped_plainly, same_plainly, then_plainly}
+use Rattle.script_indic.proofs.Keeping.{properties_keep_plainly}
 use Rattle.script_joining.specs.Joining.{forms, letters_with_forms, items_with_forms, nearest, neighbour_events, settled_forms, types_of_characters, types_of_items, with_forms}
 use Rattle.script_joining.specs.Lemmas.Steady.{joining_is_steady}
 use Rattle.script_hangul.specs.Masks.{with_letter_mask}
@@ -40,6 +41,7 @@ masks_keep_plainly = record {
   joined = joined_kept;
   places = λ masks. mapped_plainly (with_letter_mask masks);
   categories = λ category_of. mapped_plainly (with_category category_of);
+  indic = properties_keep_plainly;
   universal = universal_masks_kept;
   tiles = either_plainly (always (with_items_mapped tile_recorded)) as_it_is (mapped_plainly tile_recorded) same_plainly;
 }

@@ -21,6 +21,20 @@ use Rattle.buffer_stages.specs.Parts.{first_to_back, items_with_features}
 use Rattle.script_syllabic.specs.declared.circles.CircleRule.{CircleRule}
 use Rattle.script_syllabic.specs.Circles.{CircledItem, Due, There, Inserted, begins, circled_at_start, circle_events, circle_item, circled_from, circled_items, circles_by, circles_put, items_without_circles, is_broken, is_repha, with_circles}
 use Rattle.script_syllabic.proofs.Erased.{erasing_circles}
+use Rattle.buffer_common.specs.declared.constants.BufferFlags.{BufferFlags}
+use Rattle.buffer_common.specs.declared.script.Script.{Script}
+use Rattle.layout_face.specs.declared.parts.FaceParts.{FaceParts}
+use Rattle.layout_map.specs.Compiled.{OtMapValue}
+use Rattle.script_indic_reordering.specs.Base.{Forms}
+use Rattle.script_indic_reordering.specs.Orders.{initial_syllable}
+use Rattle.script_indic_reordering.specs.Lemmas.InitialPermuted.{initial_syllable_permutes}
+use Rattle.script_indic_reordering.specs.declared.script.IndicMasks.{IndicMasks}
+use Rattle.script_indic_reordering.specs.declared.script.RephMode.{RephMode}
+use Rattle.script_indic.specs.Config.{indic_config}
+use Rattle.script_indic.specs.FontForms.{font_forms}
+use Rattle.script_indic.specs.Masks.{indic_masks}
+use Rattle.script_indic.specs.Reordering.{circles_order, consonants_updated, indic_circles, indic_initial, initial_stage, virama_glyph}
+use Rattle.script_indic.proofs.Keeping.{consonants_keep_plainly, final_keeps_plainly, initial_steady}
 use Rattle.script_khmer.specs.declared.khmer.KhmerMasks.{KhmerMasks}
 use Rattle.script_khmer.specs.Khmer as khmer
 use Rattle.script_myanmar.specs.Myanmar as myanmar
@@ -247,8 +261,15 @@ universal_steady xs = by_first (slice_get xs 0)
 order_kept : (circles : Option CircleRule) (rule : List Item → Arrangement) → ((ys : List Item) → IsSteady (rule ys)) → ((ys : List Item) → IsPermuted ys (rule ys)) → KeepsPlainly (then_syllables (circles_by circles) rule)
 order_kept circles rule p q = then_plainly (circles_by circles) (syllables_by rule) (circles_keep_plainly circles) (syllables_plainly rule p q)
 
+initially_kept : (font : FaceParts) (flags : BufferFlags) (forms : Forms) (virama : Option ℕ) (mode : RephMode) (masks : IndicMasks) → KeepsPlainly (initial_stage font flags forms virama mode masks)
+initially_kept font flags forms virama mode masks =
+    then_plainly (consonants_updated forms virama) (circles_order font flags (initial_syllable mode masks forms)) (consonants_keep_plainly forms virama)
+    (order_kept (indic_circles font flags) (initial_syllable mode masks forms) (initial_steady mode masks forms) (initial_syllable_permutes mode masks forms))
+
 pub orders_keep_plainly : OrdersKeepPlainly
 orders_keep_plainly = record {
+  indic_initial = λ m s font flags. initially_kept font flags (font_forms (indic_config s).zero_context m font) (virama_glyph (indic_config s).virama font) (indic_config s).reph_mode (indic_masks (indic_config s).blwf_mode m);
+  indic_final = λ m s. final_keeps_plainly (indic_config s).reph_pos (indic_masks (indic_config s).blwf_mode m);
   khmer = λ font flags masks. order_kept (khmer_circles font flags) (khmer.khmer_syllable masks) (khmer_steady masks) (khmer_permutes masks);
   myanmar = λ font flags. order_kept (myanmar_circles font flags) myanmar.myanmar_syllable myanmar_steady myanmar_permutes;
   universal = λ font flags. order_kept (universal_circles font flags) universal.universal_syllable universal_steady universal_permutes;

@@ -10,5 +10,5 @@ returns c =
     let t = c.args.tables.now in
     let font = c.args.face.now in
     shaped_followed t font c.shape.new.glyphs c.args.buffer.now
-    (c.shape.ensures ∙ ap (λ s. glyphs_shaped t font s c.info_slice_mut.result.now) c.started.ensures ∙ ap (glyphs_shaped t font (start_state NotConsonant)) c.info_slice_mut.ensures.value)
+    (c.shape.ensures ∙ ap (λ s. glyphs_shaped t font s c.info_slice_mut.result.now) c.start_state.ensures ∙ ap (glyphs_shaped t font (start_state NotConsonant)) c.info_slice_mut.ensures.value)
     c.requires.ready

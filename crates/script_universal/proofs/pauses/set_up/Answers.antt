@@ -16,6 +16,6 @@ returns-clause-ok g c =
     let bytes = universal_set (g.S.SyllableSpans.span_of c.args.spans.now) in
     quiet_then (then_syllables bytes rule) (forms_set c.args.forms) a d c.setup_forms.new.buffer
     (quiet_then bytes (syllables_by rule) a b d
-    (universal_set_quiet (g.S.SyllableSpans.span_of c.args.spans.now) a b (λ cs start lt. g.met.S.SyllableSpans.ends_after_start c.args.spans.now UNIVERSAL_SHAPER cs start lt) c.in_ok-find_syllables.ensures.ok)
+    (universal_set_quiet (g.S.SyllableSpans.span_of c.args.spans.now) a b (λ cs start lt. g.met.S.SyllableSpans.ends_after_start c.args.spans.now UNIVERSAL_SHAPER cs start lt) c.in_ok-find_syllables.ensures)
     (syllables_quiet rule b d (rphf_permutes c.args.rphf_mask) c.in_ok-setup_rphf_mask.ensures))
     c.setup_forms.ensures

@@ -4,7 +4,6 @@ use Rattle.buffer_features.specs.declared.feature.Feature.{Feature}
 use Rattle.buffer_core.specs.Readings.{Follows}
 use Rattle.buffer_core.specs.Segment.{after_guess_segment_properties}
 use Rattle.buffer_core.specs.Sides.{Sides, all_glyphs, state_of}
-use Rattle.shape_pipeline.specs.Dispatch.{script_waits}
 use Rattle.shape_pipeline.specs.Shaped.{text_reading}
 use Rattle.shell_run.specs.Answer.{IsUnshaped, printed_line, shaping}
 use Rattle.shell_run.specs.Asked.{text_buffer}
@@ -25,7 +24,7 @@ returns-clause-ok c =
     let F : List Feature → Sides → Type 0 = λ fs x. Follows (text_reading (shaping t face fs x) (state_of x)) (state_of x) (state_of glyphs) in
     let follows = subst (F options.features.items) same (subst (λ (fs : List Feature). F fs (after_guess_segment_properties s)) (c.deref.ensures.value ∙ c.in_ok-text.ensures.features) c.in_ok-glyphs.ensures.ok) in
     let P : SerializeFlags → Type 0 = λ flags. string_bytes c.in_ok-line.line ≡ printed_line face flags (all_glyphs glyphs) glyphs.positions in
-    line_shaped options t face c.args.text.now s glyphs _ c.in_ok-text.ensures.text c.in_ok-text.ensures.fits c.in_ok-glyphs.ensures.shaped follows (subst P c.in_ok-text.ensures.flags c.in_ok-line.ensures)
+    line_shaped options t face c.args.text.now s glyphs _ c.in_ok-text.ensures.text c.in_ok-text.ensures.fits follows (subst P c.in_ok-text.ensures.flags c.in_ok-line.ensures)
 
 pub returns-in_err-glyphs-clause-refused : goal.returns-in_err-glyphs-clause-refused
 returns-in_err-glyphs-clause-refused c =
@@ -35,7 +34,7 @@ returns-in_err-glyphs-clause-refused c =
     let s = c.in_ok-text.text in
     let fault = c.in_err-glyphs.field-0.0 in
     let same : after_guess_segment_properties s ≡ s = guessed_text options c.args.text.now s c.in_ok-text.ensures.text in
-    let U : List Feature → Sides → Type 0 = λ fs x. IsUnshaped (script_waits s.script) (text_reading (shaping t face fs x) (state_of x)) fault in
+    let U : List Feature → Sides → Type 0 = λ fs x. IsUnshaped (text_reading (shaping t face fs x) (state_of x)) fault in
     passed_on c.from_residual-in_err-glyphs.result fault _ c.from_residual-in_err-glyphs.ensures.1
     (λ not_memory.
     line_unshaped options t face c.args.text.now s fault c.in_ok-text.ensures.text c.in_ok-text.ensures.fits

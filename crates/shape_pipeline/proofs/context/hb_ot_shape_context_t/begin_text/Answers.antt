@@ -4,7 +4,7 @@ use Rattle.buffer_core.specs.Sides.{Sides}
 use Rattle.buffer_stages.specs.Ready.{IsDone}
 use Rattle.shape_masks.specs.Masks.{with_one_mask}
 use Rattle.shape_pipeline.proofs.Begun.{characters_masked, text_begun_followed, text_begun_refused}
-use Rattle.shape_pipeline.proofs.Phases.{passed_on}
+use Rattle.shape_pipeline.proofs.Phases.{stage_refused}
 use Rattle.shape_pipeline.proofs.context.hb_ot_shape_context_t.begin_text.Goals as goal
 
 pub set_unicode_props-requires-clause-characters : goal.set_unicode_props-requires-clause-characters
@@ -12,12 +12,12 @@ set_unicode_props-requires-clause-characters g c =
     let M : Sides → Type 0 = λ t. IsDone (always (with_one_mask c.get_global_mask.result)) t c.initialize_masks.new.buffer in
     characters_masked c.get_global_mask.result _ c.initialize_masks.new.buffer (subst M c.enter.ensures c.initialize_masks.ensures) c.requires.characters
 
-pub returns-clause-ok : goal.returns-clause-ok
-returns-clause-ok g c =
+pub returns : goal.returns
+returns g c =
     let M : Sides → Type 0 = λ t. IsDone (always (with_one_mask c.get_global_mask.result)) t c.initialize_masks.new.buffer in
-    text_begun_followed _ c.get_global_mask.result c.args.buffer.now c.initialize_masks.new.buffer c.set_unicode_props.new.buffer c.insert_dotted_circle.new.buffer c.form_clusters.new.buffer c.ensure_native_direction.new.buffer refl c.get_global_mask.ensures.value c.requires.ready (subst M c.enter.ensures c.initialize_masks.ensures) c.set_unicode_props.ensures c.in_ok-insert_dotted_circle.ensures.ok c.form_clusters.ensures c.ensure_native_direction.ensures
+    text_begun_followed _ c.get_global_mask.result c.args.buffer.now c.initialize_masks.new.buffer c.set_unicode_props.new.buffer c.insert_dotted_circle.new.buffer c.form_clusters.new.buffer c.ensure_native_direction.new.buffer refl c.get_global_mask.ensures.value c.requires.ready (subst M c.enter.ensures c.initialize_masks.ensures) c.set_unicode_props.ensures c.in_ok-insert_dotted_circle.ensures c.form_clusters.ensures c.ensure_native_direction.ensures
 
-pub returns-in_err-insert_dotted_circle-clause-err : goal.returns-in_err-insert_dotted_circle-clause-err
-returns-in_err-insert_dotted_circle-clause-err g c =
+pub returns-in_err-insert_dotted_circle : goal.returns-in_err-insert_dotted_circle
+returns-in_err-insert_dotted_circle g c =
     let M : Sides → Type 0 = λ t. IsDone (always (with_one_mask c.get_global_mask.result)) t c.initialize_masks.new.buffer in
-    passed_on c.from_residual.result c.in_err-insert_dotted_circle.field-0.0 _ c.from_residual.ensures.1 (λ not_memory. text_begun_refused _ c.get_global_mask.result c.args.buffer.now c.initialize_masks.new.buffer c.set_unicode_props.new.buffer c.in_err-insert_dotted_circle.field-0.0 refl c.get_global_mask.ensures.value c.requires.ready (subst M c.enter.ensures c.initialize_masks.ensures) c.set_unicode_props.ensures (c.in_err-insert_dotted_circle.ensures.err not_memory))
+    stage_refused c.from_residual.result c.in_err-insert_dotted_circle.field-0.0 _ _ _ c.from_residual.ensures.1 (λ not_memory. text_begun_refused _ c.get_global_mask.result c.args.buffer.now c.initialize_masks.new.buffer c.set_unicode_props.new.buffer c.in_err-insert_dotted_circle.field-0.0 refl c.get_global_mask.ensures.value c.requires.ready (subst M c.enter.ensures c.initialize_masks.ensures) c.set_unicode_props.ensures (c.in_err-insert_dotted_circle.ensures not_memory))

@@ -1,11 +1,11 @@
 use Rattle.std.proofs.Common.{refl}
-use Rattle.shape_pipeline.proofs.Phases.{masks_followed, masks_refused, passed_on}
+use Rattle.shape_pipeline.proofs.Phases.{masks_followed, masks_refused, stage_refused}
 use Rattle.shape_pipeline.proofs.context.hb_ot_shape_context_t.setup_masks.Goals as goal
 
-pub returns-clause-ok : goal.returns-clause-ok
-returns-clause-ok g c =
+pub returns : goal.returns
+returns g c =
     masks_followed _ c.args.buffer.now c.setup_masks_fraction.new.buffer c.setup_shaper_masks.new.buffer refl c.setup_masks_fraction.ensures c.in_ok-setup_shaper_masks.ensures
 
-pub returns-in_err-setup_shaper_masks-clause-err : goal.returns-in_err-setup_shaper_masks-clause-err
-returns-in_err-setup_shaper_masks-clause-err g c =
-    passed_on c.from_residual.result c.in_err-setup_shaper_masks.field-0.0 _ c.from_residual.ensures.1 (λ not_memory. masks_refused _ c.args.buffer.now c.setup_masks_fraction.new.buffer c.in_err-setup_shaper_masks.field-0.0 refl c.setup_masks_fraction.ensures (c.in_err-setup_shaper_masks.ensures not_memory))
+pub returns-in_err-setup_shaper_masks : goal.returns-in_err-setup_shaper_masks
+returns-in_err-setup_shaper_masks g c =
+    stage_refused c.from_residual.result c.in_err-setup_shaper_masks.field-0.0 _ _ _ c.from_residual.ensures.1 (λ not_memory. masks_refused _ c.args.buffer.now c.setup_masks_fraction.new.buffer c.in_err-setup_shaper_masks.field-0.0 refl c.setup_masks_fraction.ensures (c.in_err-setup_shaper_masks.ensures not_memory))

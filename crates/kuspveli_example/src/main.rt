@@ -1,0 +1,56 @@
+//! Shapes three texts over the crate `kuspveli` alone: tables and font are read once, and one plan serves all texts. The
+//! README shows these lines.
+#![tactic(auto)]
+
+use kuspveli::{
+    Direction, Face, RunFault, RunInput, Script, SerializeFlags, ShapeCause, ShapePlan, Tag,
+    TagExt, TextTables, UnicodeBuffer, hb_shape_data_t, read_input, shape_with_plan,
+};
+use std::alloc::{AllocError, Global};
+use std::fs;
+
+fn main(rt: HostRuntime) -> Result<(), RunFault> {
+    let RunInput { tables, face } = read(&rt)?;
+    let plan = latin_plan(rt.alloc(), &face, &tables)?;
+    for text in ["afi", "fib", "baffi"] {
+        let line = shape_line(rt.alloc(), &face, &tables, &plan, text)?;
+        println!(rt; "{line}").map_err(|_| RunFault::Write)?;
+    }
+    Ok(())
+}
+
+/// Reads tables and font from their files.
+fn read(rt: &HostRuntime) -> Result<RunInput, RunFault> {
+    let tables = fs::read(rt, "tables.json").map_err(|_| RunFault::Read)?;
+    let font = fs::read(rt, "font.json").map_err(|_| RunFault::Read)?;
+    read_input(rt.alloc(), &tables, &font)
+}
+
+/// A plan for Latin texts of any language, with the features that are on by default.
+fn latin_plan(alloc: Global, face: &Face, tables: &TextTables) -> Result<ShapePlan, AllocError> {
+    let latin = Script::from_iso15924_tag(Tag::from_bytes(b"Latn"));
+    let direction = Direction::LeftToRight;
+    ShapePlan::new(alloc, face, &tables.languages, direction, latin, None, &[])
+}
+
+/// Shapes a text, and prints its glyphs into a line.
+fn shape_line(
+    alloc: Global,
+    face: &Face,
+    tables: &TextTables,
+    plan: &ShapePlan,
+    text: &str,
+) -> Result<String, RunFault> {
+    let mut buffer = UnicodeBuffer::new(alloc);
+    if !buffer.push_str(text)? {
+        return Err(RunFault::Shape(ShapeCause::TooLong));
+    }
+    let data = hb_shape_data_t {
+        tables: &tables.characters,
+        spans: &tables.syllables,
+        languages: &tables.languages,
+    };
+    let glyphs = shape_with_plan(alloc, face, data, plan, buffer).map_err(|fault| fault.cause)?;
+    let line = glyphs.serialize(alloc, face, SerializeFlags::NO_GLYPH_NAMES)?;
+    Ok(line)
+}

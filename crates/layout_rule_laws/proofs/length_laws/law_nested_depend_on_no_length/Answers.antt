@@ -1,5 +1,0 @@
-use Rattle.layout_rule_laws.specs.Lemmas.NestedAlike.{nested_depend_on_no_length}
-use Rattle.layout_rule_laws.proofs.length_laws.law_nested_depend_on_no_length.Goals as goal
-
-pub returns : goal.returns
-returns c = nested_depend_on_no_length

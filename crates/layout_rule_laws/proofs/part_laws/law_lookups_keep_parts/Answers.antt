@@ -1,5 +1,0 @@
-use Rattle.layout_rule_laws.specs.Lemmas.Lookups.{lookups_keep_parts}
-use Rattle.layout_rule_laws.proofs.part_laws.law_lookups_keep_parts.Goals as goal
-
-pub returns : goal.returns
-returns c = lookups_keep_parts

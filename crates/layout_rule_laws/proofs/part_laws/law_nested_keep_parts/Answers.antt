@@ -1,5 +1,0 @@
-use Rattle.layout_rule_laws.specs.Lemmas.Nested.{nested_keep_parts}
-use Rattle.layout_rule_laws.proofs.part_laws.law_nested_keep_parts.Goals as goal
-
-pub returns : goal.returns
-returns c = nested_keep_parts

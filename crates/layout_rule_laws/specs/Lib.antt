@@ -1,6 +1,0 @@
-pub mod Lemmas
-pub mod Alike
-pub mod AlikeLaws
-pub mod Counting
-pub mod CountLaws
-pub mod Laws

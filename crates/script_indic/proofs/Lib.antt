@@ -1,0 +1,4 @@
+mod Composed
+mod Flagless
+pub mod Keeping
+pub mod Splits

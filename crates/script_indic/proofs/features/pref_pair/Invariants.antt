@@ -1,5 +1,0 @@
-use Rattle.script_indic.specs.Lemmas.Walks.{IsPairing}
-use Rattle.script_indic.proofs.features.pref_pair.Given as goal
-
-abbrev pub invariant-loop-i : goal.invariant-loop-i
-invariant-loop-i g l = IsPairing (g.F.IndicForms.forms_of l.forms) l.i l.glyphs

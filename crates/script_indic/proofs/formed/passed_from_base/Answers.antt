@@ -1,8 +1,0 @@
-use Rattle.script_indic.specs.Lemmas.Formed.{main_passed, sub_passed}
-use Rattle.script_indic.proofs.formed.passed_from_base.Goals as goal
-
-pub returns-then-place-eq-POS_AFTER_MAIN-clause-count : goal.returns-then-place-eq-POS_AFTER_MAIN-clause-count
-returns-then-place-eq-POS_AFTER_MAIN-clause-count c = main_passed c.args.place c.args.base c.count_to_main.result c.args.glyphs.now c.if-place-eq-POS_AFTER_MAIN.true c.count_to_main.ensures.count
-
-pub returns-then-place-eq-POS_AFTER_SUB-clause-count : goal.returns-then-place-eq-POS_AFTER_SUB-clause-count
-returns-then-place-eq-POS_AFTER_SUB-clause-count c = sub_passed c.args.place c.args.base c.count_to_post.result c.args.glyphs.now c.if-place-eq-POS_AFTER_SUB.true c.count_to_post.ensures.count

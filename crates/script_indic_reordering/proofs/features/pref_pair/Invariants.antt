@@ -1,0 +1,5 @@
+use Rattle.script_indic_reordering.specs.Lemmas.Walks.{IsPairing}
+use Rattle.script_indic_reordering.proofs.features.pref_pair.Given as goal
+
+abbrev pub invariant-loop-i : goal.invariant-loop-i
+invariant-loop-i g l = IsPairing (g.F.IndicForms.forms_of l.forms) l.i l.glyphs

@@ -1,0 +1,10 @@
+pub mod Lemmas
+pub mod Glyphs
+pub mod Indices
+pub mod Base
+pub mod Masks
+pub mod Initial
+pub mod Final
+pub mod Left
+pub mod Sought
+pub mod Orders
