@@ -1,5 +1,5 @@
 -- Texts that shape alike where they are canonically equivalent, and tables that decompose characters alone.
-use Rattle.std.specs.Prelude.{ℕ, ◌≡◌, ◌==◌, ◌+◌, nat_lt, fold, Bool, true, false, if◌then◌else◌, List, [], ◌∷◌, drop, Option, Some, None, is_some}
+use Rattle.std.specs.Prelude.{ℕ, ◌≡◌, ◌==◌, ◌+◌, nat_lt, Bool, true, false, if◌then◌else◌, List, [], ◌∷◌, drop, Option, Some, None, is_some}
 use Rattle.std.specs.List.{list_all, list_any}
 use lib.Utf8.{scalar}
 use Rattle.buffer_unicode_tables.specs.Tables.{Tables, class_of, first_row_fault, split_of}

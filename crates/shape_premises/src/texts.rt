@@ -14,7 +14,7 @@ use buffer_unicode_tables::{CharTablesExt, UnicodeTables, decompose};
 use layout_face::Face;
 
 /// How many decompositions a chain of first halves may have.
-const MAX_SPLITS: u32 = 8;
+pub(crate) const MAX_SPLITS: u32 = 8;
 
 /// How many combining marks of a run are sorted.
 const MAX_COMBINING_MARKS: usize = 32;
