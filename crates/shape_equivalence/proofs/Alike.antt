@@ -1,6 +1,6 @@
 -- Canonically equivalent texts shape alike.
-use Rattle.std.proofs.Common.{ℕ, suc, ℤ, pos, negsuc, ◌≡◌, ◌≢◌, ne_eqb, ◌≤◌, ◌+◌, ◌-◌, ◌==◌, ◌&&◌, ◌||◌, Bool, true, false, if◌then◌else◌, List, [], ◌∷◌, drop, map, length, refl, sym, ap, subst, ◌∙◌, arith}
-use Rattle.std.specs.Prelude.{bit_and, nat_le, Ok, Err, Option}
+use Rattle.std.proofs.Common.{ℕ, ℤ, pos, negsuc, ◌≡◌, ◌≢◌, ne_eqb, ◌≤◌, ◌+◌, ◌-◌, ◌==◌, ◌&&◌, Bool, true, false, if◌then◌else◌, List, [], ◌∷◌, drop, map, length, refl, sym, ap, subst, ◌∙◌, arith}
+use Rattle.std.specs.Prelude.{nat_le, Ok, Err, Option}
 use Rattle.std.specs.List.{list_any}
 use Rattle.std.proofs.lemmas.Bool.Decides.{nat_tests}
 use Rattle.std.proofs.lemmas.List.{length-map}
@@ -18,7 +18,7 @@ use Rattle.buffer_core.specs.Readings.{BufferState, Follows, Read, Reading, Stag
 use Rattle.buffer_core.specs.Segment.{after_guess_segment_properties}
 use Rattle.buffer_core.specs.Sides.{Sides, all_glyphs, state_of, view_of}
 use Rattle.buffer_stages.specs.Settings.{TextSettings, text_settings}
-use Rattle.buffer_stage_laws.specs.Alike.{attachment_bit, seen_as}
+use Rattle.buffer_stage_laws.specs.Alike.{attachment_bit}
 use Rattle.buffer_stage_laws.specs.Counting.{SeenAlikeInAll, Uses, at_budget}
 use Rattle.buffer_stage_laws.specs.Lemmas.Both.{used_alike_are_read}
 use Rattle.buffer_stage_laws.specs.Lemmas.Counting.{counting_has_uses, counting_spares_budget, sparing_reads_the_same}
@@ -35,7 +35,6 @@ use Rattle.shape_glyphs.specs.Ignorables.{ignorables_hidden}
 use Rattle.shape_glyphs.specs.Selectors.{with_selectors}
 use Rattle.shape_masks.specs.Ranges.{bits_of, shifted_value, with_all_ranges, with_range}
 use Rattle.shape_premises.specs.Texts.{IsRegularText}
-use Rattle.shape_pipeline.specs.Chains.{in_order}
 use Rattle.shape_pipeline.specs.Characters.{characters_chosen, text_begun}
 use Rattle.shape_pipeline.specs.Endings.{text_ended}
 use Rattle.shape_pipeline.specs.Glyphs.{glyphs_substituted, glyphs_taken}
@@ -43,13 +42,13 @@ use Rattle.shape_pipeline.specs.Limits.{final_view, unshaped}
 use Rattle.shape_pipeline.specs.Masks.{masks_set, ranges_set}
 use Rattle.shape_pipeline.specs.Reading.{after_ranges, before_ranges, clusters_after, positioning_stage, reading, shaping_stage}
 use Rattle.shape_pipeline.specs.ReadingLaws.{have_no_ranges}
-use Rattle.shape_pipeline.specs.Results.{AreSameItems, IsShapedBy}
+use Rattle.shape_pipeline.specs.Results.{IsShapedBy}
 use Rattle.shape_pipeline.specs.Shaped.{by_shaper, by_text, text_reading}
 use Rattle.shape_pipeline.specs.Shaping.{Shaping, postprocessing_stage}
 use Rattle.shape_equivalence.specs.Shapers.{NormalizesAsUnicode}
-use Rattle.shape_equivalence.specs.Stages.{AppliesNested, GreaterBudgetsReadTheSame, RunsCountNested, allows, budget_of, characters_stage, glyphs_stage}
-use Rattle.shape_equivalence.specs.Texts.{AreEquivalentTexts, AreOneShaping, ArePair, HasEnoughBudget, RunsFromLeft, text_characters}
-use Rattle.shape_equivalence.specs.Laws.{AreChosenAlike, AreReadAlike, EquivalentResultsAgree, EquivalentsLookAlike, EquivalentsReadAlike, EquivalentsShapeAlike}
+use Rattle.shape_equivalence.specs.Stages.{GreaterBudgetsReadTheSame, RunsCountNested, allows, budget_of, characters_stage, glyphs_stage}
+use Rattle.shape_equivalence.specs.Texts.{AreOneShaping, ArePair, HasEnoughBudget, RunsFromLeft, text_characters}
+use Rattle.shape_equivalence.specs.Laws.{AreChosenAlike, EquivalentResultsAgree, EquivalentsLookAlike, EquivalentsReadAlike, EquivalentsShapeAlike}
 use Rattle.shape_equivalence.proofs.Passing.{Passes, Reaches, always_led, in_order_passes, passes_in_order, reached_is, reaches_as, reaches_read}
 use Rattle.shape_equivalence.proofs.Begun.{IsBegun}
 use Rattle.shape_equivalence.proofs.Chosen.{chosen_is, normalized_view, views_alike}

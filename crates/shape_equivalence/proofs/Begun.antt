@@ -1,6 +1,6 @@
 -- A text begins as the items of its characters.
-use Rattle.std.proofs.Common.{ℕ, ◌≡◌, ◌≤◌, ◌<◌, ◌+◌, ◌&&◌, ◌==◌, Bool, true, false, if◌then◌else◌, List, [], ◌∷◌, map, length, get_or, suc, refl, sym, ap, subst, ◌∙◌, arith}
-use Rattle.std.specs.Prelude.{bit_and, bit_or, nat_le, Option, Some, None, is_some, Ok}
+use Rattle.std.proofs.Common.{ℕ, ◌≡◌, ◌+◌, ◌&&◌, ◌==◌, Bool, true, false, if◌then◌else◌, List, [], ◌∷◌, map, length, suc, refl, ap, ◌∙◌, arith}
+use Rattle.std.specs.Prelude.{bit_and, bit_or, nat_le, Option, Some, None, is_some}
 use Rattle.std.specs.List.{All}
 use Rattle.std.proofs.lemmas.Nat.{and_or_apart}
 use Rattle.std.proofs.lemmas.List.{length-map}
@@ -15,7 +15,6 @@ use Rattle.buffer_glyphs.specs.Items.{Item, item_masked, item_of, strip}
 use Rattle.buffer_core.specs.Readings.{Read, Stage, View, always, as_it_is, with_events}
 use Rattle.buffer_core.specs.Settings.{steps_limit}
 use Rattle.buffer_core.specs.Sides.{Sides, all_glyphs, view_of}
-use Rattle.buffer_core.specs.Text.{added_glyph}
 use Rattle.buffer_properties.specs.Characters.{items_of_text, standing_for}
 use Rattle.buffer_properties.specs.Properties.{bit_if, character_class, scratch_flags_of}
 use Rattle.buffer_wrappers.specs.Wrappers.{IsCharacter}
@@ -28,14 +27,14 @@ use Rattle.shape_text.specs.Graphemes.{continues}
 use Rattle.shape_text.specs.Properties.{next_before, items_prepared, prepared_item, scratch_flags_of_items, with_properties}
 use Rattle.shape_text.specs.Circle.{DOTTED_CIRCLE, flags_want_circle, begins_with_mark, first_circle, with_circle}
 use Rattle.shape_text.specs.Clusters.{with_clusters}
-use Rattle.shape_text.specs.NativeOrder.{is_number_text, is_reversed, native_order, in_native_order, runs_against, script_direction, reversed_text, with_numbers, without_continuation}
+use Rattle.shape_text.specs.NativeOrder.{is_number_text, is_reversed, native_order, runs_against, script_direction, reversed_text, with_numbers, without_continuation}
 use Rattle.shape_pipeline.specs.Characters.{text_begun}
 use Rattle.shape_pipeline.specs.Limits.{initial_view}
 use Rattle.shape_pipeline.specs.Shaping.{Shaping}
 use Rattle.shape_equivalence.specs.Texts.{RunsFromLeft, begun_item, text_characters}
 use Rattle.shape_equivalence.specs.Stages.{budget_of}
 use Rattle.shape_equivalence.proofs.Words.{word_alone, word_mark}
-use Rattle.shape_equivalence.proofs.Passing.{Passes, Reaches, always_reaches, passes_in_order, reaches_as}
+use Rattle.shape_equivalence.proofs.Passing.{Reaches, always_reaches, passes_in_order, reaches_as}
 
 -- the writing of a script does not run against a line from left to right
 abbrev pub RunsForth : Option Script → Type 0

@@ -1,19 +1,18 @@
 -- The characters of equivalent texts are chosen alike.
-use Rattle.std.proofs.Common.{ℕ, ◌≡◌, ◌≤◌, Bool, true, false, if◌then◌else◌, List, [], ◌∷◌, map, length, refl, sym, ap, subst, ◌∙◌}
-use Rattle.std.specs.Prelude.{bit_and, nat_le, codes, Ok, Err}
+use Rattle.std.proofs.Common.{ℕ, ◌≡◌, Bool, true, false, if◌then◌else◌, List, [], ◌∷◌, length, refl, sym, ap, subst, ◌∙◌}
+use Rattle.std.specs.Prelude.{nat_le, codes, Ok, Err}
 use Rattle.buffer_common.specs.declared.direction.Direction.{Direction}
 use Rattle.buffer_common.specs.declared.direction.Direction.TheVariants.{LeftToRight}
 use Rattle.buffer_glyphs.specs.declared.cause.ShapeCause.TheVariants.{TooLong}
 use Rattle.buffer_glyphs.specs.Items.{Item}
 use Rattle.buffer_core.specs.Readings.{Read, Reading, Stage, View, always, as_it_is, with_events}
 use Rattle.buffer_core.specs.Sides.{Sides, view_of, zero_positions}
-use Rattle.buffer_stages.specs.Brought.{with_arranged, within_limit}
+use Rattle.buffer_stages.specs.Brought.{with_arranged}
 use Rattle.buffer_stages.specs.Settings.{TextSettings, text_settings}
 use Rattle.buffer_unicode_tables.specs.Tables.{Tables}
-use Rattle.buffer_properties.specs.Characters.{characters_of, items_of_text}
+use Rattle.buffer_properties.specs.Characters.{items_of_text}
 use Rattle.buffer_properties.specs.Expanding.{expanded_list}
 use Rattle.buffer_properties.specs.NormalizedList.{normalized_items}
-use Rattle.buffer_properties.specs.Normalizer.{Normalizer}
 use Rattle.buffer_properties.specs.Premises.{IsRegular}
 use Rattle.buffer_properties.proofs.Alike.{equivalents_normalize_alike}
 use Rattle.buffer_properties.proofs.Preserved.{normalizing_keeps_equivalence}
@@ -21,13 +20,13 @@ use Rattle.buffer_properties.proofs.Short.{expansion_keeps_runs_short}
 use Rattle.layout_face.specs.declared.parts.FaceParts.{FaceParts}
 use Rattle.layout_map.specs.Masks.{mask_at_one}
 use Rattle.shape_normalize.specs.Rounds.{normalization}
-use Rattle.shape_premises.specs.Texts.{IsRegularText, SplitsCharacters, starts_with_mark}
+use Rattle.shape_premises.specs.Texts.{IsRegularText, starts_with_mark}
 use Rattle.shape_text.specs.Rotation.{with_rotated_characters}
 use Rattle.shape_pipeline.specs.Characters.{characters_chosen, normalizer, text_begun, turned_to_line}
 use Rattle.shape_pipeline.specs.Shaping.{Shaping, preprocessing_stage}
-use Rattle.shape_equivalence.specs.Shapers.{IsOfUnicode, NormalizesAsUnicode}
+use Rattle.shape_equivalence.specs.Shapers.{NormalizesAsUnicode}
 use Rattle.shape_equivalence.specs.Stages.{characters_stage}
-use Rattle.shape_equivalence.specs.Texts.{AreEquivalentTexts, AreLawfulTables, AreOneShaping, RunsFromLeft, begun_item, text_characters}
+use Rattle.shape_equivalence.specs.Texts.{AreEquivalentTexts, RunsFromLeft, begun_item, text_characters}
 use Rattle.shape_equivalence.specs.Laws.{AreChosenAlike, ChosenTextsAreEquivalent, EquivalentsAreChosenAlike, TextsBeginAsItems}
 use Rattle.shape_equivalence.proofs.Begun.{IsBegun, RunsForth, begun_view, text_is_begun, text_reaches}
 use Rattle.shape_equivalence.proofs.Passing.{Reaches, always_led, in_order_passes, reached_is, reaches_read, read_is}

@@ -1,23 +1,21 @@
 -- The stages on glyphs depend on no limit.
 use Rattle.std.proofs.Common.{ℕ, zero, suc, ℤ, ◌≡◌, ◌+◌, ◌-◌, ◌==◌, ◌||◌, not, reverse, Bool, true, false, if◌then◌else◌, List, [], ◌∷◌, length, refl, sym, ap, subst, ◌∙◌}
-use Rattle.std.specs.Prelude.{bit_and, Option, Some, None, Ok}
+use Rattle.std.specs.Prelude.{Option, Some, None, Ok}
 use Rattle.buffer_common.specs.Direction.{is_backward}
-use Rattle.buffer_common.specs.declared.constants.BufferFlags.{BufferFlags}
 use Rattle.buffer_glyphs.specs.Events.{Break, Concat, Reverse}
-use Rattle.buffer_core.specs.Readings.{Read, Stage, View, always, and_then, as_it_is, then_read, with_events}
+use Rattle.buffer_core.specs.Readings.{Read, Stage, View, always, then_read, with_events}
 use Rattle.buffer_stages.specs.PositionMaps.{with_positions_mapped}
 use Rattle.shape_glyphs.specs.Widths.{ignorable_position}
 use Rattle.buffer_stage_laws.specs.Alike.{ReadAlike, ReadingsAlike, attachment_bit, seen_as}
-use Rattle.buffer_stage_laws.specs.Counting.{ReadingCounts, rebudgeted, rebudgeted_read}
+use Rattle.buffer_stage_laws.specs.Counting.{ReadingCounts, rebudgeted}
 use Rattle.buffer_stage_laws.specs.Lemmas.Alike.{at_alike, views_alike}
-use Rattle.layout_face.specs.declared.parts.FaceParts.{FaceParts}
 use Rattle.layout_links.specs.Finishing.{all_drawn_if, has_attachments, links_followed}
 use Rattle.layout_links.specs.Starting.{links_cleared}
 use Rattle.layout_laws.specs.Lemmas.Budgets.{positioning_counts_budget, substitution_counts_budget}
 use Rattle.layout_laws.specs.Lemmas.Lengths.{positioning_depends_on_no_length, substitution_depends_on_no_length}
 use Rattle.layout_positioning.specs.Positioning.{positioning_stages}
 use Rattle.layout_substitution.specs.Substituting.{substitution_stages}
-use Rattle.script_plan.specs.Lemmas.Limits.{always_by, either_by, same_by, seen_read, then_by}
+use Rattle.script_plan.specs.Lemmas.Limits.{always_by, same_by, then_by}
 use Rattle.script_plan.specs.Rules.{DependsOnNoLimit, RulesDependOnNoLimit}
 use Rattle.script_plan.specs.declared.planned.TheConstants.{HB_OT_SHAPE_ZERO_WIDTH_MARKS_BY_GDEF_EARLY, HB_OT_SHAPE_ZERO_WIDTH_MARKS_BY_GDEF_LATE}
 use Rattle.shape_fallback.specs.Classes.{with_fallback_classes}

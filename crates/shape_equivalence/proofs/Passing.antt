@@ -1,8 +1,8 @@
 -- Views on the way through stages in order.
-use Rattle.std.proofs.Common.{◌≡◌, List, [], ◌∷◌, ◌++◌, Ok, Err, refl, sym, ap, subst, ◌∙◌}
-use Rattle.buffer_core.specs.Readings.{Read, Reading, Stage, View, always, and_then, as_it_is, then_read, then_reading, with_events}
+use Rattle.std.proofs.Common.{◌≡◌, List, [], ◌∷◌, Ok, Err, refl, sym, ap, ◌∙◌}
+use Rattle.buffer_core.specs.Readings.{Read, Reading, Stage, View, always, and_then, then_read, then_reading, with_events}
 use Rattle.buffer_stage_laws.specs.Lemmas.Stages.{both_read}
-use Rattle.shape_pipeline.specs.Chains.{in_order, only_if}
+use Rattle.shape_pipeline.specs.Chains.{in_order}
 
 -- a stage does not refuse a view, and leads to another
 pub record Reaches (stage : Stage) (v w : View) : Type 0 where

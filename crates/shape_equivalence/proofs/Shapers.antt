@@ -1,19 +1,15 @@
 -- The universal and the Myanmar shaper normalize as Unicode does.
 use Rattle.std.specs.Prelude.{⊤}
-use Rattle.std.proofs.Common.{ℕ, ◌≡◌, ◌&&◌, Bool, true, false, if◌then◌else◌, Option, Some, None, refl, sym, ap, ◌∙◌}
+use Rattle.std.proofs.Common.{ℕ, ◌≡◌, ◌&&◌, Bool, true, false, if◌then◌else◌, Option, Some, None, refl, sym}
 use lib.Utf8.{scalar}
-use Rattle.buffer_unicode_tables.specs.Tables.{Tables, pair_of, split_of}
+use Rattle.buffer_unicode_tables.specs.Tables.{pair_of, split_of}
 use Rattle.buffer_properties.specs.Properties.{is_mark_character}
 use Rattle.script_plan.specs.declared.plan.hb_script_plan_t.{hb_script_plan_t}
 use Rattle.script_categories.specs.declared.shaper.hb_ot_script_shaper_t.TheVariants.{ARABIC_SHAPER, HANGUL_SHAPER, HEBREW_SHAPER, INDIC_SHAPER, KHMER_SHAPER, MYANMAR_SHAPER, MYANMAR_ZAWGYI_SHAPER, THAI_SHAPER, UNIVERSAL_SHAPER}
-use Rattle.script_dispatch.specs.declared.any_shaper.hb_ot_any_shaper_t.{hb_ot_any_shaper_t}
 use Rattle.script_dispatch.specs.declared.any_shaper.hb_ot_any_shaper_t.TheVariants as any
 use Rattle.script_dispatch.specs.Rules.{rules_of}
 use Rattle.script_dispatch.specs.Shapers.{traits_of}
-use Rattle.shape_premises.specs.Texts.{SplitsCharacters}
-use Rattle.shape_pipeline.specs.Characters.{normalizer}
-use Rattle.shape_pipeline.specs.Shaping.{Shaping}
-use Rattle.shape_equivalence.specs.Shapers.{IsOfUnicode, NormalizersAreOfUnicode, NormalizesAsUnicode, ShapersNormalizeAsUnicode, keeps_equivalence}
+use Rattle.shape_equivalence.specs.Shapers.{NormalizersAreOfUnicode, NormalizesAsUnicode, ShapersNormalizeAsUnicode}
 
 -- a composition without marks is one of all
 unmarked_is_pair : (marked : Bool) (o : Option ℕ) (u : ℕ) → (if marked then None else o) ≡ Some u → o ≡ Some u

@@ -9,7 +9,7 @@ use Rattle.buffer_unicode.specs.Character.{is_default_ignorable_character}
 use Rattle.buffer_unicode_tables.specs.Tables.{Tables}
 use Rattle.buffer_glyphs.specs.Items.{Item}
 use Rattle.buffer_properties.specs.Properties.{bit_if, is_hidden_character, is_mark_character, properties_of, without_bits}
-use Rattle.buffer_properties.specs.Characters.{is_mark_number, standing_for}
+use Rattle.buffer_properties.specs.Characters.{is_mark_number}
 use Rattle.buffer_properties.proofs.PropertyWords.{category_fits}
 use Rattle.buffer_properties.proofs.Classes.{mark_of_character}
 use Rattle.shape_text.specs.Properties.{property_word_of}

@@ -1,5 +1,5 @@
 -- The pipeline in two: the stages on characters, which two equivalent texts differ in, and the stages on glyphs.
-use Rattle.std.specs.Prelude.{ℕ, ℤ, pos, negsuc, ◌≡◌, nat_le, Bool, true, false, [], ◌∷◌, length, suc, ◌+◌, Ok}
+use Rattle.std.specs.Prelude.{ℕ, ℤ, pos, negsuc, ◌≡◌, nat_le, Bool, false, [], ◌∷◌, length, suc, ◌+◌, Ok}
 use Rattle.buffer_core.specs.Readings.{Read, Stage, View, always}
 use Rattle.buffer_core.specs.Settings.{steps_limit}
 use Rattle.buffer_core.specs.Sides.{Sides, all_glyphs, view_of}
