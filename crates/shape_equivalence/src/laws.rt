@@ -42,7 +42,7 @@ pub fn law_glyphs_depend_on_no_limit()
     ensures { GlyphsDependOnNoLimit }
 {}
 
-/// A run of the stages on glyphs that leaves some of its budget tells how many nested lookups the text's reading applies.
+/// A run of the stages on glyphs that leaves some of its budget shows how many nested lookups the text's reading applies.
 pub fn law_runs_count_nested()
     ensures { RunsCountNested }
 {}
