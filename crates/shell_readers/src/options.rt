@@ -25,4 +25,6 @@ pub struct Options {
     pub buffer_flags: BufferFlags,
     /// What is printed of each glyph.
     pub flags: SerializeFlags,
+    /// Whether the slices of the text are printed after its glyphs.
+    pub slices: bool,
 }

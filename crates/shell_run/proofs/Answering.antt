@@ -3,10 +3,10 @@ use Rattle.std.proofs.Common.{ℕ, ◌≡◌, List, Result, Ok, Err, refl, sym}
 use Rattle.shell_readers.specs.declared.fault.RunFault.{RunFault}
 use Rattle.shell_readers.specs.declared.options.Options.{Options}
 use Rattle.shell_readers.specs.Input.{IsInput, RunParts}
-use Rattle.shell_run.specs.Answer.{IsAnswer, answer_by, line_in}
+use Rattle.shell_run.specs.Answer.{IsAnswer, answer_by, lines_in}
 
 module _ (options : Options) (tables font text : List ℕ) where
-  pub answered : (input : RunParts) (r : Result (List ℕ) RunFault) → IsInput tables font (Ok input) → line_in options input.tables input.font text ≡ r → IsAnswer options tables font text r
+  pub answered : (input : RunParts) (r : Result (List ℕ) RunFault) → IsInput tables font (Ok input) → lines_in options input.tables input.font text ≡ r → IsAnswer options tables font text r
   unfolding IsAnswer answer_by
   answered input r read same = (Ok input, read, sym same)
 

@@ -1,6 +1,7 @@
 pub mod Answering
 pub mod Reading
 pub mod Printing
+pub mod Slicing
 pub mod Faults
 pub mod Empty
 pub mod Writing

@@ -1,4 +1,4 @@
--- The printed line for the bytes of tables, a font and a text, or the first fault in them.
+-- The printed lines for the bytes of tables, a font and a text, or the first fault in them.
 use Rattle.std.specs.Prelude.{ℕ, ◌≡◌, ◌==◌, ◌-◌, if◌then◌else◌, List, [], ◌∷◌, ◌++◌, length, take, slice_index, Result, Ok, Err}
 use Rattle.std.specs.Str.{is_utf8}
 use Rattle.buffer_glyphs.specs.declared.info.hb_glyph_info_t.{hb_glyph_info_t}
@@ -20,12 +20,14 @@ use Rattle.shell_readers.specs.Input.{IsInput, RunParts}
 use Rattle.shell_readers.specs.Tables.{RunTables, language_tags}
 use Rattle.shell_readers.specs.Values.{then_run}
 use Rattle.buffer_glyphs.specs.Items.{Position}
+use Rattle.buffer_glyphs.specs.Origins.{numbers}
 use Rattle.buffer_core.specs.Readings.{Reading, BufferState, state_after}
 use Rattle.buffer_serialize.specs.Printed.{printed_text}
 use Rattle.buffer_core.specs.Sides.{Sides, empty_buffer, state_of}
 use Rattle.buffer_core.specs.Text.{fits_text}
 use Rattle.script_categories.specs.Fronts.{syllable_at}
 use Rattle.shell_run.specs.Output.{glyphs_of}
+use Rattle.shell_run.specs.Slices.{requested_lines}
 
 -- ---- bytes
 
@@ -51,33 +53,37 @@ shaping t font features s = by_text font t.characters (language_tags t.languages
 abbrev pub line_of_run : FaceParts → SerializeFlags → BufferState → List ℕ
 line_of_run font flags run = printed_line font flags (glyphs_of run.view.items run.origins) run.view.positions
 
--- the line of a reading, whose clusters and glyph flags are those of the text after its events at the level
-abbrev pub line_of_reading : FaceParts → SerializeFlags → BufferState → Reading → Result (List ℕ) RunFault
-line_of_reading font flags run (Ok r) = Ok (line_of_run font flags (state_after r run))
-line_of_reading font flags run (Err e) = Err (fault_of_cause e)
+-- the lines of a run: that of its glyphs, and after it, where they are requested, those of the text's slices by the clusters of its origins
+abbrev pub lines_of_run : FaceParts → Options → List ℕ → BufferState → List ℕ
+lines_of_run font options text run = line_of_run font options.flags run ++ requested_lines options.slices (numbers run.origins) text
 
--- the line of a shaped text
-abbrev pub line_of_text : Options → RunTables → FaceParts → Sides → Result (List ℕ) RunFault
-line_of_text options t font s =
-    line_of_reading font options.flags (state_of s) (text_reading (shaping t font options.features.items s) (state_of s))
+-- the lines of a reading, whose clusters and glyph flags are those of the text after its events at the level
+abbrev pub lines_of_reading : FaceParts → Options → List ℕ → BufferState → Reading → Result (List ℕ) RunFault
+lines_of_reading font options text run (Ok r) = Ok (lines_of_run font options text (state_after r run))
+lines_of_reading font options text run (Err e) = Err (fault_of_cause e)
+
+-- the lines of a text that is shaped in a buffer
+abbrev pub lines_of_text : Options → RunTables → FaceParts → List ℕ → Sides → Result (List ℕ) RunFault
+lines_of_text options t font text s =
+    lines_of_reading font options text (state_of s) (text_reading (shaping t font options.features.items s) (state_of s))
 
 -- the fault of a text whose reading refuses names the reading's cause
 abbrev pub IsUnshaped : Reading → RunFault → Type 0
 IsUnshaped reading e = (cause : ShapeCause) × (reading ≡ Err cause) × (e ≡ fault_of_cause cause)
 
--- the line of a text
-abbrev pub line_of : Options → RunTables → FaceParts → List ℕ → Result (List ℕ) RunFault
-line_of options t font text = if fits_text text empty_buffer then line_of_text options t font (text_buffer options text) else Err (Shape TooLong)
+-- the lines of a text
+abbrev pub lines_of : Options → RunTables → FaceParts → List ℕ → Result (List ℕ) RunFault
+lines_of options t font text = if fits_text text empty_buffer then lines_of_text options t font text (text_buffer options text) else Err (Shape TooLong)
 
 -- ---- a whole run
 
--- the line of a text's bytes
-unfoldable pub line_in : Options → RunTables → FaceParts → List ℕ → Result (List ℕ) RunFault
-line_in options t font bytes = then_run (text_of bytes) (line_of options t font)
+-- the lines of a text's bytes
+unfoldable pub lines_in : Options → RunTables → FaceParts → List ℕ → Result (List ℕ) RunFault
+lines_in options t font bytes = then_run (text_of bytes) (lines_of options t font)
 
--- the line of a text's bytes, where tables and a font were read; their faults come before the text's
+-- the lines of a text's bytes, where tables and a font were read; their faults come before the text's
 unfoldable pub answer_by : Options → Result RunParts RunFault → List ℕ → Result (List ℕ) RunFault
-answer_by options read text = then_run read (λ input. line_in options input.tables input.font text)
+answer_by options read text = then_run read (λ input. lines_in options input.tables input.font text)
 
 -- the answer to tables, a font and a text
 unfoldable pub IsAnswer : Options → List ℕ → List ℕ → List ℕ → Result (List ℕ) RunFault → Type 0

@@ -1,5 +1,6 @@
 pub mod Asked
 pub mod Output
+pub mod Slices
 pub mod Answer
 pub mod Run
 pub mod Program

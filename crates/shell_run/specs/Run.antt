@@ -10,10 +10,10 @@ OnKnown (Some a) (Some b) None P = ⊤
 OnKnown (Some a) None c P = ⊤
 OnKnown None b c P = ⊤
 
--- known bytes, with a prefix of the line appended
+-- known bytes, with a prefix of the lines appended
 abbrev pub AppendsFront : Option (List ℕ) → Option (List ℕ) → List ℕ → Type 0
 AppendsFront old new line = (count : ℕ) × Appends old new (take count line)
 
--- a proposition on some line that is an answer
-abbrev pub SomeLine : (Result (List ℕ) RunFault → Type 0) → (List ℕ → Type 0) → Type 0
-SomeLine Answers P = (line : List ℕ) × Answers (Ok line) × P line
+-- a proposition on some lines that are an answer
+abbrev pub SomeLines : (Result (List ℕ) RunFault → Type 0) → (List ℕ → Type 0) → Type 0
+SomeLines Answers P = (lines : List ℕ) × Answers (Ok lines) × P lines

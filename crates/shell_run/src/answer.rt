@@ -1,13 +1,16 @@
-//! From the bytes of tables, a font and a text to the printed line.
-ghost use Rattle.std.specs.Prelude.{◌≡◌, ◌≢◌, Ok, Err, IfOk, IfErr, OnOk, true, false, string_bytes};
+//! From the bytes of tables, a font and a text to the printed lines.
+ghost use Rattle.std.specs.Prelude.{◌≡◌, ◌≢◌, Ok, Err, IfOk, IfErr, OnOk, ◌++◌, true, false, string_bytes};
+ghost use Rattle.buffer_glyphs.specs.Items.{clusters};
 ghost use Rattle.buffer_core.specs.Sides.{all_glyphs, empty_buffer};
 ghost use Rattle.buffer_core.specs.Text.{fits_text};
-ghost use Rattle.shell_run.specs.Answer.{IsAnswer, line_in, line_of, printed_line, text_of, without_line_feed};
+ghost use Rattle.shell_run.specs.Answer.{IsAnswer, lines_in, lines_of, printed_line, text_of, without_line_feed};
+ghost use Rattle.shell_run.specs.Slices.{requested_lines};
 ghost use Rattle.shell_readers.specs.Faults.{IsOfRun};
 ghost use Rattle.shell_readers.specs.Tables.{tables_value};
 ghost use Rattle.shell_run.specs.Asked.{options_buffer, text_buffer};
 
 use crate::shape::shape;
+use crate::slices::push_requested;
 use buffer_glyphs::cause::ShapeCause;
 use buffer_glyphs::flags::SerializeFlags;
 use buffer_wrappers::glyphs::GlyphBuffer;
@@ -45,6 +48,7 @@ fn new_text(alloc: Global, options: &mut Options) -> UnicodeBuffer
     ensures text { result ≡ options_buffer options.old }
     ensures features { options.new.features.items ≡ options.old.features.items }
     ensures flags { options.new.flags ≡ options.old.flags }
+    ensures slices { options.new.slices ≡ options.old.slices }
 {
     let mut text = UnicodeBuffer::new(alloc);
     text.set_cluster_level(options.cluster_level);
@@ -65,6 +69,7 @@ fn text_buffer(alloc: Global, options: &mut Options, text: &str) -> Result<Unico
     ensures text { IfOk result (λ b. b ≡ text_buffer options.old text.now) }
     ensures features { options.new.features.items ≡ options.old.features.items }
     ensures flags { options.new.flags ≡ options.old.flags }
+    ensures slices { options.new.slices ≡ options.old.slices }
     ensures refused { IfErr result (λ e. e ≢ RunFault.OutOfMemory
         → (e ≡ RunFault.Shape ShapeCause.TooLong) × (fits_text text.now empty_buffer ≡ false)) }
     ensures kind { IfErr result IsOfRun }
@@ -78,7 +83,7 @@ fn text_buffer(alloc: Global, options: &mut Options, text: &str) -> Result<Unico
 }
 
 /// The printed text of glyphs, with the font's names and extents, and a line feed.
-fn print(
+fn print_glyphs(
     alloc: Global,
     face: &Face,
     flags: SerializeFlags,
@@ -92,45 +97,63 @@ fn print(
     Ok(line)
 }
 
-/// The printed line of a text in a font.
-fn line(
+/// The line of glyphs, and after it, where they are requested, the lines of the slices of their text.
+fn print(
+    alloc: Global,
+    face: &Face,
+    flags: SerializeFlags,
+    slices: bool,
+    glyphs: &GlyphBuffer,
+    text: &str,
+) -> Result<String, AllocError>
+    ensures { IfOk result (λ lines.
+        string_bytes lines ≡ printed_line face.now flags (all_glyphs glyphs.now) glyphs.now.positions
+        ++ requested_lines slices (clusters (all_glyphs glyphs.now)) text.now) }
+{
+    let mut lines = print_glyphs(alloc, face, flags, glyphs)?;
+    push_requested(alloc, &mut lines, slices, glyphs, text)?;
+    Ok(lines)
+}
+
+/// The printed lines of a text in a font.
+fn lines(
     alloc: Global,
     mut options: Options,
     tables: &TextTables,
     face: &Face,
     text: &str,
 ) -> Result<String, RunFault>
-    ensures ok { IfOk result (λ line.
-        line_of options (tables_value tables.now) face.now text.now ≡ Ok (string_bytes line)) }
+    ensures ok { IfOk result (λ lines.
+        lines_of options (tables_value tables.now) face.now text.now ≡ Ok (string_bytes lines)) }
     ensures refused { IfErr result (λ e. e ≢ RunFault.OutOfMemory
-        → line_of options (tables_value tables.now) face.now text.now ≡ Err e) }
+        → lines_of options (tables_value tables.now) face.now text.now ≡ Err e) }
     ensures kind { IfErr result IsOfRun }
 {
-    let text = text_buffer(alloc, &mut options, text)?;
-    let glyphs = shape(alloc, tables, face, &options.features, text)?;
-    let line = print(alloc, face, options.flags, &glyphs)?;
-    Ok(line)
+    let buffer = text_buffer(alloc, &mut options, text)?;
+    let glyphs = shape(alloc, tables, face, &options.features, buffer)?;
+    let lines = print(alloc, face, options.flags, options.slices, &glyphs, text)?;
+    Ok(lines)
 }
 
-#[tactic(auto, unfolding(crate::specs::Answer::line_in))]
-fn line_in(
+#[tactic(auto, unfolding(crate::specs::Answer::lines_in))]
+fn lines_in(
     alloc: Global,
     options: Options,
     tables: &TextTables,
     face: &Face,
     bytes: &[u8],
 ) -> Result<String, RunFault>
-    ensures ok { IfOk result (λ line.
-        line_in options (tables_value tables.now) face.now bytes.now ≡ Ok (string_bytes line)) }
+    ensures ok { IfOk result (λ lines.
+        lines_in options (tables_value tables.now) face.now bytes.now ≡ Ok (string_bytes lines)) }
     ensures refused { IfErr result (λ e. e ≢ RunFault.OutOfMemory
-        → line_in options (tables_value tables.now) face.now bytes.now ≡ Err e) }
+        → lines_in options (tables_value tables.now) face.now bytes.now ≡ Err e) }
     ensures kind { IfErr result IsOfRun }
 {
     let text = read_text(bytes)?;
-    line(alloc, options, tables, face, text)
+    lines(alloc, options, tables, face, text)
 }
 
-/// The printed line for the bytes of tables, a font and a text, which are read in this order.
+/// The printed lines for the bytes of tables, a font and a text, which are read in this order.
 pub(crate) fn answer(
     alloc: Global,
     options: Options,
@@ -138,12 +161,12 @@ pub(crate) fn answer(
     font: &[u8],
     text: &[u8],
 ) -> Result<String, RunFault>
-    ensures ok { IfOk result (λ line.
-        IsAnswer options tables.now font.now text.now (Ok (string_bytes line))) }
+    ensures ok { IfOk result (λ lines.
+        IsAnswer options tables.now font.now text.now (Ok (string_bytes lines))) }
     ensures refused { IfErr result (λ e. e ≢ RunFault.OutOfMemory
         → IsAnswer options tables.now font.now text.now (Err e)) }
     ensures kind { IfErr result IsOfRun }
 {
     let input = read_input(alloc, tables, font)?;
-    line_in(alloc, options, &input.tables, &input.face, text)
+    lines_in(alloc, options, &input.tables, &input.face, text)
 }

@@ -6,7 +6,7 @@ ghost use Rattle.shell_run.specs.Laws.{AnswersAreOne, EmptyTextGivesEmptyLine};
 use shell_json_values::fault::JsonFault;
 use shell_readers::fault::RunFault;
 
-/// The empty text gives the empty line, in every font.
+/// The empty text gives the empty line, in every font, and where slices are requested the line `no slices` after it.
 #[tactic(auto, using(crate::proofs::Empty::empty_text_gives_empty_line))]
 pub fn law_empty_text_gives_empty_line()
     ensures { EmptyTextGivesEmptyLine }

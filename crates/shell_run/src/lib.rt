@@ -1,4 +1,4 @@
-//! Runs the shaper: from the bytes of tables, a font and a text to the printed glyphs; and the program hb_shape, over
+//! Runs the shaper: from the bytes of tables, a font and a text to the printed glyphs and slices; and the program hb_shape, over
 //! its command-line words, the files that they name, and its output streams.
 #![tactic(auto)]
 
@@ -10,4 +10,5 @@ mod read;
 mod report;
 pub mod running;
 mod shape;
+mod slices;
 mod write;

@@ -11,7 +11,7 @@ use std::alloc::Global;
 use std::io;
 use std::io::{Read, Write};
 
-/// Runs the program with its command-line words, and returns its exit status: 0 where the line was written, else that
+/// Runs the program with its command-line words, and returns its exit status: 0 where the lines were written, else that
 /// of the fault, which is written to `err`.
 #[tactic(auto, using(crate::proofs::Ending::ends_well, crate::proofs::Ending::ends_with_fault))]
 pub fn shape<F: Read + Drop, O: Files<F>, W: Write, E: Write>(

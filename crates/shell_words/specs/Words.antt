@@ -66,7 +66,7 @@ value_names = codes "direction" ∷ codes "script" ∷ codes "language" ∷ code
 abbrev pub switch_names : List (List ℕ)
 switch_names = codes "bot" ∷ codes "eot" ∷ codes "preserve-default-ignorables" ∷ codes "remove-default-ignorables" ∷ codes "no-dotted-circle"
     ∷ codes "unsafe-to-concat" ∷ codes "safe-to-insert-tatweel"
-    ∷ codes "no-clusters" ∷ codes "no-positions" ∷ codes "no-glyph-names" ∷ codes "show-extents" ∷ codes "show-flags" ∷ codes "no-advances" ∷ []
+    ∷ codes "no-clusters" ∷ codes "no-positions" ∷ codes "no-glyph-names" ∷ codes "show-extents" ∷ codes "show-flags" ∷ codes "no-advances" ∷ codes "slices" ∷ []
 
 -- the names of the three files
 abbrev pub file_names : List (List ℕ)
@@ -95,6 +95,7 @@ pub record Settings : Type 0 where
   pub cluster_level : BufferClusterLevel
   pub buffer_flags : BufferFlags
   pub flags : SerializeFlags
+  pub slices : Bool
 
 -- the options and file names of a command line
 abbrev pub settings_in : CommandLine → Settings
@@ -109,6 +110,7 @@ settings_in c = record {
   cluster_level = c.options.cluster_level;
   buffer_flags = c.options.buffer_flags;
   flags = c.options.flags;
+  slices = c.options.slices;
 }
 
 -- the first value of an id among the parsed words, if there is one
@@ -214,6 +216,10 @@ flags_in value = record {
       + flag_of (codes "no-advances") 32 value))));
 }
 
+-- the switch `--slices` is given
+abbrev pub slices_in : Lookup → Bool
+slices_in value = is_given (codes "slices") value
+
 -- the buffer flags of the switches
 abbrev pub buffer_flags_in : Lookup → BufferFlags
 buffer_flags_in value = record {
@@ -248,6 +254,7 @@ settings_of value features =
       cluster_level = level;
       buffer_flags = buffer_flags_in value;
       flags = flags_in value;
+      slices = slices_in value;
     })))))))))
 
 -- the run's fault of a parsing error

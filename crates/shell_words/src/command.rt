@@ -22,7 +22,7 @@ pub(crate) enum Kind {
 
 const VALUES: [&str; 4] = ["direction", "script", "language", "cluster-level"];
 
-const SWITCHES: [&str; 13] = [
+const SWITCHES: [&str; 14] = [
     "bot",
     "eot",
     "preserve-default-ignorables",
@@ -36,6 +36,7 @@ const SWITCHES: [&str; 13] = [
     "show-extents",
     "show-flags",
     "no-advances",
+    "slices",
 ];
 
 const FILES: [&str; 3] = ["tables", "font", "text"];

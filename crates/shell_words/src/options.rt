@@ -3,7 +3,7 @@
 ghost use Rattle.std.specs.Prelude.{◌≡◌, ◌≢◌, ◌≤◌, IfOk, IfErr, OnOk, Ok, Err, map, string_bytes};
 ghost use Rattle.buffer_features.specs.FeatureText.{feature_of_text};
 ghost use Rattle.clap.specs.Words.{found_of, first_value};
-ghost use Rattle.shell_words.specs.Words.{options_of, refusal_of, settings_of, settings_in, file_in, direction_in, script_in, flag_of, flags_in, feature_values, features_in, features_of, pieces_of, after, or_words, language_in, language_of_text, level_in, level_of_text, buffer_flags_in};
+ghost use Rattle.shell_words.specs.Words.{options_of, refusal_of, settings_of, settings_in, file_in, direction_in, script_in, flag_of, flags_in, feature_values, features_in, features_of, pieces_of, after, or_words, language_in, language_of_text, level_in, level_of_text, buffer_flags_in, slices_in};
 ghost use Rattle.std.specs.Option.{option_map};
 ghost use Rattle.buffer_common.specs.Language.{language_text};
 
@@ -39,9 +39,9 @@ pub struct CommandLine {
 /// options may be anywhere among the names of the files, each at most once: `--direction D`, `--script S`, `--language
 /// L`, `--cluster-level 0` to `2`; for the text `--bot`, `--eot`, `--preserve-default-ignorables`,
 /// `--remove-default-ignorables`, `--no-dotted-circle`, `--unsafe-to-concat` and `--safe-to-insert-tatweel`; for the
-/// output `--no-clusters`, `--no-positions`, `--no-glyph-names`, `--show-extents`, `--show-flags` and `--no-advances`.
-/// Only `--features F` may be repeated; each F is features separated by commas. All other words, `--help` among them,
-/// are refused.
+/// output `--no-clusters`, `--no-positions`, `--no-glyph-names`, `--show-extents`, `--show-flags`, `--no-advances` and
+/// `--slices`. Only `--features F` may be repeated; each F is features separated by commas. All other words, `--help`
+/// among them, are refused.
 pub fn parse_options<'a, S: AsStr>(alloc: Global, words: &'a [S]) -> Result<CommandLine, RunFault>
     ensures ok { IfOk result (λ o. options_of (map S.text words.entry.now) ≡ Ok (settings_in o)) }
     ensures refused { IfErr result (λ e. e ≢ RunFault.OutOfMemory
@@ -82,6 +82,7 @@ fn read_options(alloc: Global, matches: &ArgMatches<'_>) -> Result<CommandLine, 
             cluster_level: read_level(matches)?,
             buffer_flags: read_buffer_flags(matches),
             flags: read_flags(matches),
+            slices: read_slices(matches),
         },
     })
 }
@@ -223,6 +224,13 @@ fn read_flags(matches: &ArgMatches<'_>) -> SerializeFlags
                         + (flag_of(matches, "show-flags", SerializeFlags::GLYPH_FLAGS)
                             + flag_of(matches, "no-advances", SerializeFlags::NO_ADVANCES))))),
     )
+}
+
+/// Whether the slices are requested.
+fn read_slices(matches: &ArgMatches<'_>) -> bool
+    ensures { result ≡ slices_in (first_value (found_of matches.now)) }
+{
+    matches.get_str("slices") == Some("true")
 }
 
 fn read_buffer_flags(matches: &ArgMatches<'_>) -> BufferFlags

@@ -1,10 +1,10 @@
 -- The tests of clusters decide whether they fit a text.
-use Rattle.std.proofs.Common.{ℕ, ◌≡◌, ◌≤◌, ◌==◌, ◌&&◌, ◌||◌, ◌⊎◌, ◌↔◌, inl, inr, Bool, true, false, nat_le, IsTrue, List, [], ◌∷◌, arith, refl, sym, ap, subst, ◌∙◌}
+use Rattle.std.proofs.Common.{ℕ, ◌≡◌, ◌≤◌, ◌==◌, ◌&&◌, ◌||◌, ◌⊎◌, ◌↔◌, inl, inr, Bool, true, false, not, nat_le, IsTrue, List, [], ◌∷◌, arith, refl, sym, ap, subst, ◌∙◌}
 use Rattle.std.specs.List.{list_all}
 use Rattle.std.proofs.lemmas.Bool.{and_parts}
 use Rattle.std.proofs.lemmas.Bool.Decides.{nat_tests}
 use Rattle.std.proofs.lemmas.Grind.{common_steps}
-use Rattle.buffer_glyphs.specs.Order.{AllFrom, BringsNone, IsFalling, IsOrdered, IsRising, has_number}
+use Rattle.buffer_glyphs.specs.Order.{AllFrom, BringsNone, IsFalling, IsInOrder, IsOrdered, IsRising, has_number}
 use Rattle.buffer_glyphs.specs.Lemmas.Numbers.{Has, has_cases, has_here, has_more}
 use Rattle.buffer_parts.specs.Fits.{FitsText}
 use Rattle.buffer_parts.specs.Slices.{first_or}
@@ -111,6 +111,18 @@ tests_from_fits starts ns f =
     both_true ((rise_from 0 ns || fall_from (first_or 0 ns) ns) && list_all (λ n. has_number starts n) ns) (has_number ns 0)
     (both_true (rise_from 0 ns || fall_from (first_or 0 ns) ns) (list_all (λ n. has_number starts n) ns) (from_ordered ns f.ordered) (from_starts starts ns f.starting))
     f.zero_there
+
+-- clusters that fit a text and don't rise fall
+pub order_of_fitting : (starts ns : List ℕ) → FitsText starts ns → IsInOrder (not (rise_from 0 ns)) ns
+order_of_fitting starts ns f = by_test (rise_from 0 ns) refl
+  where
+    falling : rise_from 0 ns ≡ false → IsOrdered ns → IsFalling ns
+    falling e (inl rises) = let bad : rise_from 0 ns ≡ true = rises_from 0 ns (from_zero ns, rises) in cc
+    falling e (inr falls) = falls
+
+    by_test : (b : Bool) → rise_from 0 ns ≡ b → IsInOrder (not b) ns
+    by_test true e = let h = rising_from 0 ns e in h.1
+    by_test false e = falling e f.ordered
 
 pub fits_exactly : (starts ns : List ℕ) → IsTrue (are_fitting starts ns) ↔ FitsText starts ns
 fits_exactly starts ns = (fits_from_tests starts ns, tests_from_fits starts ns)

@@ -4,8 +4,7 @@ use std::test::Fail;
 
 /// A machine of consonants with vowel signs. The vowel signs are all called left matras, also those of Telugu and
 /// Kannada, which have none.
-const TABLES: &str =
-    "{\"splits\":[[2353,2352,2364]],\"classes\":[[2364,7],[2492,7]],\
+const TABLES: &str = "{\"splits\":[[2353,2352,2364]],\"classes\":[[2364,7],[2492,7]],\
     \"indic\":[[2325,\"C\",\"END\"],[2367,\"M\",\"PRE_M\"],\
     [2453,\"C\",\"END\"],[2495,\"M\",\"PRE_M\"],\
     [2581,\"C\",\"END\"],[2623,\"M\",\"PRE_M\"],\

@@ -28,6 +28,8 @@ mod rules;
 #[cfg(test)]
 mod scripts;
 #[cfg(test)]
+mod slices;
+#[cfg(test)]
 mod streams;
 #[cfg(test)]
 mod substitutions;

@@ -20,6 +20,7 @@ pub(crate) fn plain_options(alloc: Global) -> Options {
         cluster_level: BufferClusterLevel::MonotoneGraphemes,
         buffer_flags: BufferFlags(0),
         flags: NUMBERS,
+        slices: false,
     }
 }
 

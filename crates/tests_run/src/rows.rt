@@ -1,11 +1,12 @@
-//! Rows of tests: fields are separated by semicolons; the first field holds the options, separated by spaces.
+//! Rows of tests: fields are separated by semicolons. The first field holds the options, separated by spaces, the second
+//! the text, and each other one a printed line.
 use crate::memory::{plain_options, ran};
 use buffer_common::constants::BufferFlags;
 use buffer_common::language::Language;
 use buffer_glyphs::flags::SerializeFlags;
 use buffer_glyphs::level::BufferClusterLevel;
 use shell_readers::options::Options;
-use std::alloc::Global;
+use std::alloc::{AllocError, Global};
 use std::process::Abort;
 use std::test::Fail;
 
@@ -23,6 +24,10 @@ pub(crate) fn level_of(number: &str) -> BufferClusterLevel {
 }
 
 fn ask(alloc: Global, options: &mut Options, word: &str) -> Result<(), Fail> {
+    if word == "slices" {
+        options.slices = true;
+        return Ok(());
+    }
     let (name, value) = word.split_once('=').ok_or("a word without a value")?;
     match name {
         "script" => options.script = Some(value.parse()?),
@@ -64,20 +69,26 @@ fn text_of(alloc: Global, field: &str) -> Result<String, Fail> {
     }
 }
 
-/// Whether a run writes this line and a line feed.
+/// Whether a run writes these lines, separated by line feeds, and a line feed.
 pub(crate) fn prints(
     alloc: Global,
     options: Options,
     tables: &str,
     font: &str,
     text: &str,
-    line: &str,
+    lines: &str,
 ) -> bool {
     let (answer, out) = ran(alloc, options, tables, font, text.as_bytes());
-    answer == Ok(()) && out.strip_suffix(b"\n") == Some(line.as_bytes())
+    answer == Ok(()) && out.strip_suffix(b"\n") == Some(lines.as_bytes())
 }
 
-/// Whether a row holds: its options, a text and the line.
+/// The printed lines of a row, separated by line feeds.
+fn lines_of(alloc: Global, row: &str) -> Result<String, AllocError> {
+    let lines = row.splitn(3, ';').nth(2).unwrap_or("");
+    lines.replace(alloc, ';', "\n")
+}
+
+/// Whether a row holds: its options, a text and the lines.
 pub(crate) fn is_followed(
     alloc: Global,
     tables: &str,
@@ -86,7 +97,8 @@ pub(crate) fn is_followed(
 ) -> Result<bool, Fail> {
     let text = text_of(alloc, part(row, 1))?;
     let options = asked(alloc, part(row, 0))?;
-    Ok(prints(alloc, options, tables, font, &text, part(row, 2)))
+    let lines = lines_of(alloc, row)?;
+    Ok(prints(alloc, options, tables, font, &text, &lines))
 }
 
 /// A font, and after it the rows that must hold in it.

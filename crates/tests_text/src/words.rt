@@ -18,7 +18,8 @@ hb_shape|--cluster-level=0|--cluster-level=0|a|b|c
 hb_shape|--eot|--eot|a|b|c
 hb_shape|--no-clusters|--no-clusters|a|b|c
 hb_shape|--show-flags=1|a|b|c
-hb_shape|--slices|a|b|c
+hb_shape|--slices|--slices|a|b|c
+hb_shape|--slices=1|a|b|c
 hb_shape|--foo|a|b|c
 hb_shape|-x|a|b|c
 hb_shape|--direction=x|a|b|c
@@ -167,6 +168,22 @@ fn options_are_read(rt: HostRuntime) -> Result<(), Fail> {
     for row in TAKEN.lines() {
         let is_taken = is_taken(rt.alloc(), row)?;
         assert!(rt; is_taken, "{row}");
+    }
+    Ok(())
+}
+
+#[test]
+fn slices_are_requested(rt: HostRuntime) -> Result<(), Fail> {
+    let cases = [
+        ("hb_shape|a|b|c", false),
+        ("hb_shape|--show-flags|--no-advances|a|b|c", false),
+        ("hb_shape|--slices|a|b|c", true),
+        ("hb_shape|a|b|--slices|c", true),
+        ("hb_shape|--show-flags|--slices|--direction=r|a|b|c", true),
+    ];
+    for (line, slices) in cases {
+        let found = command_line(rt.alloc(), line)??;
+        assert!(rt; found.options.slices == slices, "{line}");
     }
     Ok(())
 }

@@ -12,8 +12,8 @@ returns-in_err-input-clause-refused c =
 
 pub returns-clause-ok : goal.returns-clause-ok
 returns-clause-ok c =
-    IfOk-weaker c.line_in.result _ _ (λ line is. answered _ _ _ _ (input_value c.in_ok-input.input) _ c.in_ok-input.ensures.ok is) c.line_in.ensures.ok
+    IfOk-weaker c.lines_in.result _ _ (λ line is. answered _ _ _ _ (input_value c.in_ok-input.input) _ c.in_ok-input.ensures.ok is) c.lines_in.ensures.ok
 
 pub returns-clause-refused : goal.returns-clause-refused
 returns-clause-refused c =
-    IfErr-weaker c.line_in.result _ _ (λ e is not_memory. answered _ _ _ _ (input_value c.in_ok-input.input) _ c.in_ok-input.ensures.ok (is not_memory)) c.line_in.ensures.refused
+    IfErr-weaker c.lines_in.result _ _ (λ e is not_memory. answered _ _ _ _ (input_value c.in_ok-input.input) _ c.in_ok-input.ensures.ok (is not_memory)) c.lines_in.ensures.refused
