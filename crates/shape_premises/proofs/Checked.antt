@@ -9,7 +9,7 @@ use Rattle.buffer_unicode_rows.specs.Rows.{is_split_in_range}
 use Rattle.buffer_unicode_rows.specs.declared.fault.TablesFault.{TablesFault}
 use Rattle.buffer_unicode_rows.specs.declared.rows.Split.{Split}
 use Rattle.buffer_unicode_tables.specs.Hangul.{hangul_split, is_syllable}
-use Rattle.buffer_unicode_tables.specs.Tables.{Tables, fault_in, first_row_fault, split_in, split_of}
+use Rattle.buffer_unicode_tables.specs.Tables.{fault_in, split_in}
 use Rattle.buffer_unicode_tables.proofs.Syllables.{among_bounds, no_split_without_syllable}
 use Rattle.shape_premises.specs.Texts.{CheckedTablesSplitCharacters}
 

@@ -1,2 +1,3 @@
 mod Checked
 mod Runs
+mod Equivalents

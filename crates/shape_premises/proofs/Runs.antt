@@ -1,10 +1,10 @@
 -- The length of runs, and tests of the characters, of a decomposition.
-use Rattle.std.proofs.Common.{ℕ, ◌≡◌, ◌≢◌, ◌↔◌, ◌≤◌, ◌+◌, ◌-◌, ◌==◌, ◌&&◌, nat_lt, nat_le, Bool, true, false, if◌then◌else◌, IsTrue, List, [], ◌∷◌, ◌++◌, Option, Some, None, is_some, refl, sym, ap, subst, ◌∙◌, arith, ne_eqb, eq-eqb}
+use Rattle.std.proofs.Common.{ℕ, ◌≡◌, ◌≢◌, ◌↔◌, ◌≤◌, ◌+◌, ◌-◌, ◌==◌, ◌&&◌, nat_lt, Bool, true, false, if◌then◌else◌, IsTrue, List, [], ◌∷◌, ◌++◌, Option, Some, None, is_some, refl, ap, subst, ◌∙◌, arith, ne_eqb, eq-eqb}
 use Rattle.std.proofs.lemmas.Bool.Decides.{nat_tests}
 use Rattle.std.specs.List.{list_all, flat_map}
 use Rattle.std.specs.Prelude.{fold}
 use Rattle.std.proofs.lemmas.List.Folds.{list_all-append}
-use Rattle.buffer_unicode_tables.specs.Expansion.{Splits, expansion_by_splits, with_second_piece}
+use Rattle.buffer_unicode_tables.specs.Expansion.{Splits, expansion_by_splits}
 use Rattle.buffer_unicode_tables.proofs.Chains.{expanded_alone, expanded_at_zero, expanded_parts}
 use Rattle.buffer_properties.specs.Premises.{HasShortRuns}
 use Rattle.shape_premises.specs.Texts.{has_whole, is_in_font, run_after, run_grown, run_with_whole}

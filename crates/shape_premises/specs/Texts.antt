@@ -1,5 +1,5 @@
 -- Texts that shape alike where they are canonically equivalent, and tables that decompose characters alone.
-use Rattle.std.specs.Prelude.{ℕ, ◌≡◌, ◌==◌, ◌+◌, nat_lt, fold, Bool, true, false, if◌then◌else◌, List, [], ◌∷◌, drop, Option, Some, None, is_some}
+use Rattle.std.specs.Prelude.{ℕ, ◌≡◌, ◌==◌, ◌+◌, nat_lt, Bool, true, false, if◌then◌else◌, List, [], ◌∷◌, drop, Option, Some, None, is_some}
 use Rattle.std.specs.List.{list_all, list_any}
 use lib.Utf8.{scalar}
 use Rattle.buffer_unicode_tables.specs.Tables.{Tables, class_of, first_row_fault, split_of}
@@ -27,19 +27,19 @@ abbrev pub is_in_font : FaceParts → ℕ → Bool
 is_in_font font u = is_some (if scalar u then nominal_glyph u font else None)
 
 -- the first character is a combining mark
-abbrev pub begins_with_mark : List ℕ → Bool
-begins_with_mark [] = false
-begins_with_mark (u ∷ us) = is_mark_character u
+abbrev pub starts_with_mark : List ℕ → Bool
+starts_with_mark [] = false
+starts_with_mark (u ∷ us) = is_mark_character u
 
 -- a character after the first is a combining mark
-abbrev pub has_later_mark : List ℕ → Bool
-has_later_mark us = list_any is_mark_character (drop 1 us)
+abbrev pub has_mark_after_first : List ℕ → Bool
+has_mark_after_first us = list_any is_mark_character (drop 1 us)
 
 -- the first character is no combining mark and a later one is, none is a variation selector, and of the full canonical
 -- decomposition (UAX 15, D68) the font has each character and no run of nonzero class is longer than is sorted
 pub record IsRegularText (font : FaceParts) (t : Tables) (us : List ℕ) : Type 0 where
-  pub begins_unmarked : begins_with_mark us ≡ false
-  pub has_later_mark : has_later_mark us ≡ true
+  pub starts_unmarked : starts_with_mark us ≡ false
+  pub has_later_mark : has_mark_after_first us ≡ true
   pub has_no_selector : HasNoSelector us
   pub has_short_runs : HasShortRuns (class_of t) 0 (full_text t us)
   pub in_font : list_all (is_in_font font) (full_text t us) ≡ true

@@ -7,14 +7,14 @@ ghost use Rattle.buffer_unicode_tables.specs.Tables.{class_of, split_of};
 ghost use Rattle.buffer_unicode_tables.specs.Texts.{full_text};
 ghost use Rattle.buffer_properties.specs.Premises.{HasShortRuns};
 ghost use Rattle.buffer_properties.specs.Properties.{is_mark_character};
-ghost use Rattle.shape_premises.specs.Texts.{IsRegularText, begins_with_mark, has_later_mark, has_whole, is_in_font, run_after, run_grown, run_with_whole};
+ghost use Rattle.shape_premises.specs.Texts.{IsRegularText, starts_with_mark, has_mark_after_first, has_whole, is_in_font, run_after, run_grown, run_with_whole};
 
 use buffer_unicode::{CharExt, GeneralCategoryExt};
 use buffer_unicode_tables::{CharTablesExt, UnicodeTables, decompose};
 use layout_face::Face;
 
 /// How many decompositions a chain of first halves may have.
-const MAX_SPLITS: u32 = 8;
+pub(crate) const MAX_SPLITS: u32 = 8;
 
 /// How many combining marks of a run are sorted.
 const MAX_COMBINING_MARKS: usize = 32;
@@ -25,7 +25,7 @@ const MAX_COMBINING_MARKS: usize = 32;
 pub fn is_regular(face: &Face, tables: &UnicodeTables, text: &str) -> bool
     ensures { IsTrue result ↔ IsRegularText face.now tables.now (chars text.now) }
 {
-    if begins_with_mark(text) || !has_later_mark(text) {
+    if starts_with_mark(text) || !has_mark_after_first(text) {
         return false;
     }
     if has_selector(text) || !has_short_runs(tables, text) {
@@ -133,8 +133,8 @@ fn has_character(face: &Face, u: char) -> bool
     face.has_glyph(u)
 }
 
-fn begins_with_mark(text: &str) -> bool
-    ensures { result ≡ begins_with_mark (chars text.now) }
+fn starts_with_mark(text: &str) -> bool
+    ensures { result ≡ starts_with_mark (chars text.now) }
 {
     match text.chars().next() {
         Some(u) => is_mark(u),
@@ -142,8 +142,8 @@ fn begins_with_mark(text: &str) -> bool
     }
 }
 
-fn has_later_mark(text: &str) -> bool
-    ensures { result ≡ has_later_mark (chars text.now) }
+fn has_mark_after_first(text: &str) -> bool
+    ensures { result ≡ has_mark_after_first (chars text.now) }
 {
     text.chars().skip(1).any(is_mark)
 }

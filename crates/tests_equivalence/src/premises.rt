@@ -2,7 +2,7 @@
 use buffer_unicode_tables::UnicodeTables;
 use layout_face::Face;
 use serde_json::Value;
-use shape_premises::{has_full_expansion, has_short_runs, is_regular};
+use shape_premises::{are_equivalent, has_full_expansion, has_short_runs, is_regular};
 use shell_face_json::read_face;
 use shell_tables_json::read_tables;
 use std::alloc::Global;
@@ -102,5 +102,47 @@ fn runs_of_marks(rt: HostRuntime) -> Result<(), Fail> {
     assert!(rt; sorted);
     let unsorted = !is_short(rt.alloc(), 33)?;
     assert!(rt; unsorted);
+    Ok(())
+}
+
+/// Whether two texts are equivalent; `None` where the tables are not lawful.
+fn agree_with(
+    alloc: Global,
+    tables: &UnicodeTables,
+    first: &str,
+    second: &str,
+) -> Result<Option<bool>, Fail> {
+    match tables.law_fault() {
+        Some(_) => Ok(None),
+        None => Ok(Some(are_equivalent(alloc, tables, first, second)?)),
+    }
+}
+
+fn agree(alloc: Global, first: &str, second: &str) -> Result<Option<bool>, Fail> {
+    let tables = tables_of(alloc, TABLES)?;
+    agree_with(alloc, &tables, first, second)
+}
+
+// A decomposition, and marks of two classes in another order.
+#[test]
+fn equivalent_texts(rt: HostRuntime) -> Result<(), Fail> {
+    let split = agree(rt.alloc(), "\u{1026}\u{1036}", "\u{1025}\u{102E}\u{1036}")?;
+    assert_eq!(rt; split, Some(true));
+    let swapped = agree(rt.alloc(), "\u{1B06}\u{1B44}", "\u{1B05}\u{1B44}\u{1B34}")?;
+    assert_eq!(rt; swapped, Some(true));
+    Ok(())
+}
+
+// One mark more, and marks of class 0 in another order.
+#[test]
+fn other_texts(rt: HostRuntime) -> Result<(), Fail> {
+    let more = agree(rt.alloc(), "a\u{301}", "a\u{301}\u{301}")?;
+    assert_eq!(rt; more, Some(false));
+    let moved = agree(
+        rt.alloc(),
+        "\u{1025}\u{102E}\u{1036}",
+        "\u{1025}\u{1036}\u{102E}",
+    )?;
+    assert_eq!(rt; moved, Some(false));
     Ok(())
 }

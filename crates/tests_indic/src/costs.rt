@@ -1,9 +1,9 @@
 //! Long syllables whose rules would take quadratic time where each glyph walked to another.
-ghost use Rattle.std.specs.Prelude.{◌≡◌, false, IfOk, OnOk};
+ghost use Rattle.std.specs.Prelude.{IfOk, OnOk};
 ghost use Rattle.buffer_stages.specs.Ready.{IsReady};
 
 use crate::forms::NoForms;
-use crate::text::settle;
+use crate::text::{add_characters, settle};
 use buffer_core::buffer::hb_buffer_t;
 use buffer_glyphs::cause::ShapeCause;
 use buffer_glyphs::info::hb_glyph_info_t;
@@ -80,24 +80,10 @@ fn text(
     let glyphs = glyphs_of(alloc, parts)?;
     let mut buffer = hb_buffer_t::new(alloc);
     buffer.set_cluster_level(level);
-    add(&mut buffer, glyphs.len())?;
+    add_characters(&mut buffer, glyphs.len())?;
     write(buffer.info_slice_mut(), &glyphs, size);
     settle(&mut buffer)?;
     Ok(buffer)
-}
-
-fn add(buffer: &mut hb_buffer_t, count: usize) -> Result<(), Fail>
-    requires { buffer.old.is_open ≡ false }
-    ensures { OnOk result (buffer.new.is_open ≡ false) }
-{
-    for i in 0..count {
-        let number = u32::try_from(i)?;
-        let c = char::from_u32(number).unwrap_or('\u{FFFD}');
-        if !buffer.add(c, number)? {
-            return Err("too long".into());
-        }
-    }
-    Ok(())
 }
 
 fn order_initial(alloc: Global, buffer: &mut hb_buffer_t) -> Result<(), ShapeCause>

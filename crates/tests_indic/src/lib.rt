@@ -13,6 +13,8 @@ mod normalized_rows;
 #[cfg(test)]
 mod normalizing;
 #[cfg(test)]
+mod rows;
+#[cfg(test)]
 mod shaped;
 #[cfg(test)]
 mod text;

@@ -1,9 +1,9 @@
 //! Texts normalised with the Indic shaper's decompositions and compositions.
-ghost use Rattle.std.specs.Prelude.{◌≡◌, false, IfOk, OnOk};
+ghost use Rattle.std.specs.Prelude.{◌≡◌, false, IfOk};
 ghost use Rattle.buffer_stages.specs.Ready.{IsReady};
 
 use crate::normalized_rows::ROWS;
-use crate::text::{cluster_level, lists, settle};
+use crate::text::{add_characters, cluster_level, lists, settle};
 use buffer_core::buffer::hb_buffer_t;
 use buffer_glyphs::flags::UnicodeProps;
 use buffer_glyphs::info::hb_glyph_info_t;
@@ -30,12 +30,13 @@ impl Normalizing for IndicNormalizer<'_> {
     ghost use Rattle.std.specs.Prelude.{◌&&◌, None, if◌then◌else◌, refl};
     ghost use lib.Utf8.{scalar};
     ghost use Rattle.buffer_glyphs.specs.Rewriting.{eventless_arrangement};
+    ghost use Rattle.buffer_properties.specs.declared.normal_mode.NormalizationMode.TheVariants.{ComposedDiacriticsNoShortCircuit};
     ghost use Rattle.layout_face.specs.Glyphs.{nominal_glyph};
     ghost use Rattle.script_indic.specs.Characters.{indic_pair, indic_split};
 
     ghost normalizer = { λ n. record {
       tables = n.tables.now;
-      mode = NormalizationMode.ComposedDiacriticsNoShortCircuit;
+      mode = ComposedDiacriticsNoShortCircuit;
       glyph_of = λ u. if scalar u then nominal_glyph u n.face.now else None;
       variant_of = λ u s. None;
       invisible = None;
@@ -117,25 +118,13 @@ fn write(infos: &mut [hb_glyph_info_t], rows: &[Vec<u32>]) {
     }
 }
 
-fn add(buffer: &mut hb_buffer_t, count: usize) -> Result<(), Fail>
-    requires { buffer.old.is_open ≡ false }
-    ensures { OnOk result (buffer.new.is_open ≡ false) }
-{
-    for _ in 0..count {
-        if !buffer.add('a', 0)? {
-            return Err("too long".into());
-        }
-    }
-    Ok(())
-}
-
 /// A text of characters, each by its number, cluster, properties and class.
 fn text(alloc: Global, level: &str, rows: &[Vec<u32>]) -> Result<hb_buffer_t, Fail>
     ensures { IfOk result (λ b. IsReady b) }
 {
     let mut buffer = hb_buffer_t::new(alloc);
     buffer.set_cluster_level(cluster_level(level));
-    add(&mut buffer, rows.len())?;
+    add_characters(&mut buffer, rows.len())?;
     write(buffer.info_slice_mut(), rows);
     settle(&mut buffer)?;
     Ok(buffer)

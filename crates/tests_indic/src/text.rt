@@ -108,6 +108,21 @@ fn read(info: hb_glyph_info_t, glyph: &[u32]) -> hb_glyph_info_t {
     }
 }
 
+/// Adds characters, each with its index as its number and its cluster.
+pub(crate) fn add_characters(buffer: &mut hb_buffer_t, count: usize) -> Result<(), Fail>
+    requires { buffer.old.is_open ≡ false }
+    ensures { OnOk result (buffer.new.is_open ≡ false) }
+{
+    for i in 0..count {
+        let number = u32::try_from(i)?;
+        let c = char::from_u32(number).unwrap_or('\u{FFFD}');
+        if !buffer.add(c, number)? {
+            return Err("too long".into());
+        }
+    }
+    Ok(())
+}
+
 /// Gives a buffer a position for each glyph.
 pub(crate) fn settle(buffer: &mut hb_buffer_t) -> Result<(), Fail>
     requires { buffer.old.is_open ≡ false }

@@ -1,4 +1,4 @@
-use Rattle.std.proofs.Common.{◌≡◌, ◌∙◌, sym, arith, Some}
+use Rattle.std.proofs.Common.{◌∙◌, sym, arith, Some}
 use Rattle.buffer_unicode_tables.specs.Tables.{class_of, split_of}
 use Rattle.shape_premises.proofs.Runs.{run_both, run_first, run_long}
 use Rattle.shape_premises.proofs.texts.+run_of.Goals as goal

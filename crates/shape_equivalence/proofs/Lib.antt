@@ -1,0 +1,8 @@
+mod Words
+mod Passing
+mod Pushed
+mod Shapers
+mod Begun
+mod Chosen
+mod Limits
+mod Alike

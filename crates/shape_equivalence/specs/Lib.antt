@@ -1,0 +1,4 @@
+pub mod Shapers
+pub mod Stages
+pub mod Texts
+pub mod Laws

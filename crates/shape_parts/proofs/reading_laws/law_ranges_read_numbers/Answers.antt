@@ -1,0 +1,5 @@
+use Rattle.shape_parts.proofs.Parts.{ranges_read_numbers}
+use Rattle.shape_parts.proofs.reading_laws.law_ranges_read_numbers.Goals as goal
+
+pub returns : goal.returns
+returns c = ranges_read_numbers
