@@ -14,7 +14,8 @@ from building.machine import free_memory, processors
 from building.plan import Crate, plan
 from building.trees import OUT, clear
 from building.work import LOG, Work, tail
-from common.faults import FILES, WORDS, ToolFault
+from common.faults import FILES, ToolFault
+from common.parsing import Words
 from sources.crates import ROOT, all_needs, read_crates
 
 NAME = "build"
@@ -31,16 +32,16 @@ EXAMPLES = """examples:
 SHARE = 0.85
 
 
-class Words(argparse.ArgumentParser):
-    """A parser that tells a fault of the words in one line."""
+class BuildWords(Words):
+    """A parser whose faults name the help."""
 
     def error(self, message: str) -> Any:
-        raise ToolFault(WORDS, f"{message} (tools/build --help)")
+        super().error(f"{message} (tools/build --help)")
 
 
 def main(words: list[str]) -> int:
     """Builds; its status is 1 where a crate did not build."""
-    parser = Words(prog=NAME, description=ABOUT, epilog=EXAMPLES, formatter_class=argparse.RawDescriptionHelpFormatter)
+    parser = BuildWords(prog=NAME, description=ABOUT, epilog=EXAMPLES, formatter_class=argparse.RawDescriptionHelpFormatter)
     parser.add_argument("--jobs", type=positive, metavar="N", help="how many provers run at once (all processors)")
     parser.add_argument("--memory", type=positive, metavar="GB", help="how much memory they may take (what is free)")
     parser.add_argument("--list", action="store_true", help="build nothing, and list what would be built")

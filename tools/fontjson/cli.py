@@ -4,22 +4,16 @@ import argparse
 import sys
 from typing import Any
 
-from common.faults import DATA, WORDS, ToolFault
+from common.faults import DATA, ToolFault
 from common.notes import Notes, Progress
 from common.writing import write_object
+from common.parsing import Words
 from fontjson.keep import KEYS, Kept, kept_keys, listed
 
 NAME = "font_to_json"
 ABOUT = """Writes a TrueType or OpenType font as the JSON value that hb_shape reads as FONT, on standard output. What
 the format has no word for is named on standard error, with how often it was left out. Needs fontTools: Debian's
 python3-fonttools, under /usr/bin/python3."""
-
-
-class Words(argparse.ArgumentParser):
-    """A parser that tells a fault of the words in one line."""
-
-    def error(self, message: str) -> Any:
-        raise ToolFault(WORDS, message)
 
 
 def parser() -> argparse.ArgumentParser:

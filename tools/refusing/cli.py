@@ -1,12 +1,11 @@
 """The command line of short_memory."""
 
-import argparse
 import re
 import subprocess
 from itertools import count
-from typing import Any
 
 from common.faults import DATA, WORDS, ToolFault
+from common.parsing import Words
 from sources.crates import ROOT
 
 NAME = "short_memory"
@@ -16,13 +15,6 @@ none of them is refused one. A test that is refused memory may end for want of m
 ENDED = re.compile(r"^run=ended ", re.MULTILINE)
 TEST = re.compile(r"^test (\S+) \.\.\. (ok|FAILED)(?:\n +(.*))?$", re.MULTILINE)
 WANT = re.compile(r"error: (AllocError|AllocFailed|OutOfMemory)\b")
-
-
-class Words(argparse.ArgumentParser):
-    """A parser that tells a fault of the words in one line."""
-
-    def error(self, message: str) -> Any:
-        raise ToolFault(WORDS, message)
 
 
 def main(words: list[str]) -> int:

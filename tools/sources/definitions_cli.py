@@ -1,13 +1,11 @@
 """The command line of definitions."""
 
-import argparse
 import sys
 from collections import Counter
 from difflib import unified_diff
 from itertools import islice
-from typing import Any
 
-from common.faults import WORDS, ToolFault
+from common.parsing import Words
 from sources.crates import ROOT
 from sources.document import document, unclear
 from sources.reach import Sources
@@ -17,13 +15,6 @@ TARGET = ROOT / "docs" / "DEFINITIONS.md"
 ABOUT = """Makes docs/DEFINITIONS.md from the comments in crates/*/specs: what contracts cite (by the `ghost use` lines
 of src), with what that rests on."""
 SHOWN = 20
-
-
-class Words(argparse.ArgumentParser):
-    """A parser that tells a fault of the words in one line."""
-
-    def error(self, message: str) -> Any:
-        raise ToolFault(WORDS, message)
 
 
 def main(words: list[str]) -> int:

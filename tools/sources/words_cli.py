@@ -1,12 +1,11 @@
 """The command line of words."""
 
-import argparse
 import sys
 from collections import Counter
 from pathlib import Path
-from typing import Any
 
-from common.faults import DATA, WORDS, ToolFault
+from common.faults import DATA, ToolFault
+from common.parsing import Words
 from sources import wording
 from sources.crates import ROOT
 from sources.wording import CLASSES, Hit, Lists, find
@@ -18,13 +17,6 @@ hang, goes (for deletes), tell, place (for position or index), stretch (for rang
 laws that are not named law_.., definitions without a comment that stands by itself, code files without a heading.
 Allowed phrases and lists of words stand in tools/sources/data/words.txt."""
 SHOWN = 100
-
-
-class Words(argparse.ArgumentParser):
-    """A parser that tells a fault of the words in one line."""
-
-    def error(self, message: str) -> Any:
-        raise ToolFault(WORDS, message)
 
 
 def main(words: list[str]) -> int:

@@ -30,3 +30,11 @@ def json_of(tool: str, *words: str) -> dict[str, Any]:
     if result.returncode != 0:
         raise AssertionError(result.stderr.decode())
     return json.loads(result.stdout)
+
+
+def write_files(root: Path, files: dict[str, str]) -> None:
+    """Writes files by their paths below a folder."""
+    for name, text in files.items():
+        path = root / name
+        path.parent.mkdir(parents=True, exist_ok=True)
+        path.write_text(text, encoding="utf-8")

@@ -4,7 +4,7 @@ import tempfile
 import unittest
 from pathlib import Path
 
-from support import TOOLS  # noqa: F401  (it puts the tools on the path)
+from support import write_files  # (it puts the tools on the path too)
 
 from common.faults import ToolFault
 from sources.crates import all_needs, read_crates
@@ -82,10 +82,7 @@ class Definitions(unittest.TestCase):
         folder = tempfile.TemporaryDirectory()
         self.addCleanup(folder.cleanup)
         self.root = Path(folder.name)
-        for name, text in FILES.items():
-            path = self.root / name
-            path.parent.mkdir(parents=True, exist_ok=True)
-            path.write_text(text, encoding="utf-8")
+        write_files(self.root, FILES)
         self.sources = Sources(self.root)
 
     def test_reached(self) -> None:

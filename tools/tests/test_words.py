@@ -7,7 +7,7 @@ import unittest
 from pathlib import Path
 from unittest import mock
 
-from support import TOOLS  # noqa: F401  (it puts the tools on the path)
+from support import write_files  # (it puts the tools on the path too)
 
 from common.faults import ToolFault
 from sources import words_cli, wording
@@ -99,10 +99,7 @@ class Wording(unittest.TestCase):
         folder = tempfile.TemporaryDirectory()
         self.addCleanup(folder.cleanup)
         self.root = Path(folder.name)
-        for name, text in FILES.items():
-            path = self.root / name
-            path.parent.mkdir(parents=True, exist_ok=True)
-            path.write_text(text, encoding="utf-8")
+        write_files(self.root, FILES)
         self.lists = Lists(wording.DATA.read_text(encoding="utf-8"))
 
     def hits(self) -> list[Hit]:

@@ -8,6 +8,7 @@ from typing import Any, Callable
 from common.faults import DATA, WORDS, ToolFault
 from common.notes import Progress
 from common.writing import write_object
+from common.parsing import Words
 from unicodejson import forms, indic, lists, normal, universal
 from unicodejson.lawful import law_fault
 from unicodejson.ucd import Ucd, version_of
@@ -35,13 +36,6 @@ MAKERS: dict[str, Callable[[Ucd], Any]] = {
     "languages": lambda ucd: lists.language_rows(),
     "syllables": lambda ucd: {shaper: lists.machine_value(shaper) for shaper in lists.KINDS},
 }
-
-
-class Words(argparse.ArgumentParser):
-    """A parser that tells a fault of the words in one line."""
-
-    def error(self, message: str) -> Any:
-        raise ToolFault(WORDS, message)
 
 
 def parser() -> argparse.ArgumentParser:
