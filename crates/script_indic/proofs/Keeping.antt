@@ -65,7 +65,8 @@ matras_steady xs = by_test (has_two_matras (take (left_count xs) (drop (first_le
     by_test true = within_steady (groups_reversed is_matra) (first_left xs) (first_left xs + left_count xs) xs (λ ys. tt)
     by_test false = tt
 
-sorted_steady : (xs : List Item) → IsSteady (sorted_by_place xs)
+-- a sort by positions permutes glyphs only where it merges them
+pub sorted_steady : (xs : List Item) → IsSteady (sorted_by_place xs)
 sorted_steady xs = (order_stays (map (λ (x : Item). x.auxiliary) xs), tt)
 
 initially_steady : (mode : RephMode) (m : IndicMasks) (forms : Forms) (xs : List Item) → IsSteady (initial_reordered mode m forms xs)

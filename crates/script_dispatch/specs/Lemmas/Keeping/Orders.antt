@@ -1,5 +1,5 @@
 -- The events of circles and of the order of syllables.
-use Rattle.std.proofs.Common.{ℕ, zero, suc, ◌≡◌, ◌<◌, ◌+◌, ◌-◌, ◌==◌, ◌&&◌, Bool, true, false, if◌then◌else◌, List, [], ◌∷◌, length, map, take, Option, None, Some, Ok, slice_get, arith, refl, ap, subst, ◌∙◌}
+use Rattle.std.proofs.Common.{ℕ, zero, suc, ◌≡◌, ◌<◌, ◌+◌, ◌-◌, ◌==◌, ◌&&◌, Bool, true, false, if◌then◌else◌, List, [], ◌∷◌, length, take, Option, None, Some, Ok, slice_get, arith, refl, ap, subst, ◌∙◌}
 use Rattle.std.specs.Prelude.{bit_and, nat_le, nat_lt}
 use Rattle.std.specs.List.{list_any}
 use Rattle.buffer_glyphs.specs.declared.level.BufferClusterLevel.{BufferClusterLevel}
@@ -9,7 +9,6 @@ use Rattle.buffer_glyphs.specs.declared.cause.ShapeCause.TheVariants.{TooLong}
 use Rattle.buffer_core.specs.Readings.{Read, Reading, View, as_it_is}
 use Rattle.buffer_parts.specs.Plainly.{ArePlainlyKept}
 use Rattle.buffer_parts.specs.Lemmas.Plainly.{circle_kept, plainly_in_turn, steady_kept}
-use Rattle.buffer_groups.specs.Lemmas.OrderSpans.{order_stays}
 use Rattle.script_categories.specs.declared.ot_category_t.TheConstants as category
 use Rattle.script_categories.specs.declared.shaper.hb_ot_script_shaper_t.TheVariants.{KHMER_SHAPER, MYANMAR_SHAPER, UNIVERSAL_SHAPER}
 use Rattle.script_categories.specs.Shapers.{is_reordered}
@@ -34,7 +33,7 @@ use Rattle.script_indic.specs.Config.{indic_config}
 use Rattle.script_indic.specs.FontForms.{font_forms}
 use Rattle.script_indic.specs.Masks.{indic_masks}
 use Rattle.script_indic.specs.Reordering.{circles_order, consonants_updated, indic_circles, indic_initial, initial_stage, virama_glyph}
-use Rattle.script_indic.proofs.Keeping.{consonants_keep_plainly, final_keeps_plainly, initial_steady}
+use Rattle.script_indic.proofs.Keeping.{consonants_keep_plainly, final_keeps_plainly, initial_steady, sorted_steady}
 use Rattle.script_khmer.specs.declared.khmer.KhmerMasks.{KhmerMasks}
 use Rattle.script_khmer.specs.Khmer as khmer
 use Rattle.script_myanmar.specs.Myanmar as myanmar
@@ -192,9 +191,6 @@ matras_steady xs = by_test (myanmar.has_two_matras (take (myanmar.matras_of xs) 
     by_test : (t : Bool) → IsSteady (if t then within 0 (myanmar.matras_of xs) (groups_reversed myanmar.is_left_matra) xs else eventless_arrangement xs)
     by_test true = within_steady (groups_reversed myanmar.is_left_matra) 0 (myanmar.matras_of xs) xs (λ ys. tt)
     by_test false = tt
-
-sorted_steady : (xs : List Item) → IsSteady (sorted_by_place xs)
-sorted_steady xs = (order_stays (map (λ (x : Item). x.auxiliary) xs), tt)
 
 myanmar_steady : (xs : List Item) → IsSteady (myanmar.myanmar_syllable xs)
 myanmar_steady xs = by_first (slice_get xs 0)
