@@ -1,5 +1,5 @@
-//! What a user of the library needs, and no more: a text and a parsed font become placed glyphs. The names are rustybuzz's
-//! where it has them; the doors of the layers name what stands behind.
+//! What a user of the library needs, and no more: a text and a parsed font become positioned glyphs. The names are
+//! rustybuzz's where it has them. What else the crates have is no part of the library's surface.
 #![tactic(auto)]
 
 pub use buffer_common::constants::BufferFlags;

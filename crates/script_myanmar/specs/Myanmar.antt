@@ -90,8 +90,10 @@ items_with_positions xs = eventless_arrangement (with_positions (myanmar_positio
 
 -- ---- order
 
-abbrev pub is_left_matra : Item → Bool
-is_left_matra x = x.category == category.OT_VPre
+-- an item is a left matra: a vowel sign that is shown before its base (OpenType specification, Creating fonts for
+-- Myanmar: VPre)
+abbrev pub is_pre_base_vowel : Item → Bool
+is_pre_base_vowel x = x.category == category.OT_VPre
 
 -- how many items in front are left matras with their selectors, once they are sorted
 abbrev pub matras_of : List Item → ℕ
@@ -99,11 +101,11 @@ matras_of xs = prefix_len (λ (x : Item). x.auxiliary == position.POS_PRE_M) xs
 
 -- a syllable has two left matras or more
 abbrev pub has_two_matras : List Item → Bool
-has_two_matras xs = nat_lt 1 (length (filter is_left_matra xs))
+has_two_matras xs = nat_lt 1 (length (filter is_pre_base_vowel xs))
 
 -- two or more left matras are reversed, each with what stands after it up to the next
 abbrev pub matras_reversed : List Item → Arrangement
-matras_reversed xs = if has_two_matras (take (matras_of xs) xs) then within 0 (matras_of xs) (groups_reversed is_left_matra) xs else eventless_arrangement xs
+matras_reversed xs = if has_two_matras (take (matras_of xs) xs) then within 0 (matras_of xs) (groups_reversed is_pre_base_vowel) xs else eventless_arrangement xs
 
 -- a Myanmar syllable in its order (HarfBuzz: initial_reordering_consonant_syllable)
 abbrev pub myanmar_reordered : List Item → Arrangement

@@ -26,7 +26,7 @@ use Rattle.script_syllabic.specs.Bytes.{bytes_of, bytes_set, is_known, itself, o
 use Rattle.script_syllabic.specs.declared.forms.FormMasks.{FormMasks}
 use Rattle.script_syllabic.specs.Features.{each_formed, first_joins, form_of, syllable_with_form, has_feature, joins, pref_recorded, with_first_recorded, reph_size, rphf_masked, rphf_recorded, topography, with_category, with_form}
 use Rattle.script_syllabic.specs.Spans.{categories_counted, index_or_end, counted_index, counted_indices_from, universal_set}
-use Rattle.script_syllabic.proofs.Counting.{places_rise}
+use Rattle.script_syllabic.proofs.Counting.{indices_rise}
 use Rattle.script_syllabic.specs.Quiet.{IsQuiet}
 use Rattle.script_syllabic.proofs.Quiet.{rule_quiet}
 
@@ -109,7 +109,7 @@ universal_set_quiet span_of a b after f =
     let xs = items_of a in
     let cs = categories_counted xs in
     let none : 0 + length xs ≡ length xs = omega arith in
-    let rises : (i j : ℕ) → i ≤ j → counted_index xs i ≤ counted_index xs j = λ i j le. subst (λ n. index_or_end (counted_indices_from 0 xs) n i ≤ index_or_end (counted_indices_from 0 xs) n j) none (places_rise 0 xs i j le) in
+    let rises : (i j : ℕ) → i ≤ j → counted_index xs i ≤ counted_index xs j = λ i j le. subst (λ n. index_or_end (counted_indices_from 0 xs) n i ≤ index_or_end (counted_indices_from 0 xs) n j) none (indices_rise 0 xs i j le) in
     record {
       followed = f;
       numbers = bytes_quiet UNIVERSAL_SHAPER (counted_index xs) (syllables (span_of UNIVERSAL_SHAPER cs) (length cs)) a b

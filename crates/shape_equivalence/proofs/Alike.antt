@@ -38,7 +38,7 @@ use Rattle.shape_premises.specs.Texts.{IsRegularText}
 use Rattle.shape_pipeline.specs.Characters.{characters_chosen, text_begun}
 use Rattle.shape_pipeline.specs.Endings.{text_ended}
 use Rattle.shape_pipeline.specs.Glyphs.{glyphs_substituted, glyphs_taken}
-use Rattle.shape_pipeline.specs.Limits.{final_view, unshaped}
+use Rattle.shape_pipeline.specs.Limits.{final_view, unshaped_text}
 use Rattle.shape_pipeline.specs.Masks.{masks_set, ranges_set}
 use Rattle.shape_pipeline.specs.Reading.{after_ranges, before_ranges, clusters_after, positioning_stage, reading, shaping_stage}
 use Rattle.shape_pipeline.specs.ReadingLaws.{have_no_ranges}
@@ -151,7 +151,7 @@ marked_length [] h = cc
 marked_length (u ∷ us) h = let some : length (u ∷ us) ≢ 0 = omega arith in ne_eqb (length (u ∷ us)) 0 some
 
 -- where a text has characters its reading is that of its run
-read_if : (b : Bool) (p : Shaping) (run : BufferState) (r : Read) → b ≡ false → (if b then Ok (unshaped run.view) else reading p run) ≡ Ok r → reading p run ≡ Ok r
+read_if : (b : Bool) (p : Shaping) (run : BufferState) (r : Read) → b ≡ false → (if b then Ok (unshaped_text run.view) else reading p run) ≡ Ok r → reading p run ≡ Ok r
 read_if true p run r h e = cc
 read_if false p run r h e = e
 

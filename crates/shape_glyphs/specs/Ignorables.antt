@@ -25,6 +25,7 @@ removes_ignorables flags = bit_and flags.0 8 == 8
 abbrev pub invisible_glyph : BufferFlags → Option ℕ → FaceParts → Option ℕ
 invisible_glyph flags set font = if removes_ignorables flags then None else option_or set (nominal_glyph 0x20 font)
 
+-- an item that has the given glyph if it is a default ignorable (HarfBuzz: hb_ot_hide_default_ignorables)
 abbrev pub hidden_item : ℕ → Item → Item
 hidden_item glyph x = if is_default_ignorable x then record x { number = glyph } else x
 

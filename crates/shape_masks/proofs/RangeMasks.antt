@@ -53,9 +53,9 @@ origins_kept mask from to gs e le =
 
 -- ---- on a buffer
 
-pub stretch_becomes : (mask from to : ℕ) (gs : List hb_glyph_info_t) (s : Sides) → gs ≡ glyphs_flagged mask from to (all_glyphs s) → bit_and mask 7 ≡ 0 → from ≤ to → IsReady s
+pub range_becomes : (mask from to : ℕ) (gs : List hb_glyph_info_t) (s : Sides) → gs ≡ glyphs_flagged mask from to (all_glyphs s) → bit_and mask 7 ≡ 0 → from ≤ to → IsReady s
     → Becomes (with_features_within mask from to (items_of s)) s.positions s (with_refilled gs s)
-stretch_becomes mask from to gs s e flagless le ready =
+range_becomes mask from to gs s e flagless le ready =
     let from_same : origins gs ≡ origins_of s = ap origins e ∙ origins_kept mask from to (all_glyphs s) flagless le in
     let many : length gs ≡ length (all_glyphs s) = sym (length-map gs origin_of) ∙ ap (λ (os : List Origin). length os) from_same ∙ length-map (all_glyphs s) origin_of in
     written_becomes gs s (with_features_within mask from to (items_of s)) many (ap strip e ∙ items_flagged mask from to (all_glyphs s)) from_same ready

@@ -135,17 +135,17 @@ slash_there gs at d lt =
 read_alike : (f g : View → Read) (s new : Sides) → f (view_of s) ≡ g (view_of s) → IsFollowed (always f) s new → IsFollowed (always g) s new
 read_alike f g s new e h = record { follows = h.follows ∙ ap (λ r. state_after r (state_of s)) e; settings = h.settings; ready = h.ready }
 
-pub place_of_slash : (m : FractionMasks) (at before after : ℕ) (d : hb_glyph_info_t) (s new : Sides) → at < length (all_glyphs s) → is_slash (item_of (get_or (all_glyphs s) at d)) ≡ true
+pub fraction_at_slash : (m : FractionMasks) (at before after : ℕ) (d : hb_glyph_info_t) (s new : Sides) → at < length (all_glyphs s) → is_slash (item_of (get_or (all_glyphs s) at d)) ≡ true
     → before ≡ digits_before at (items_of s) → after ≡ digits_after at (items_of s) → IsFollowed (always (around_slash m at before after)) s new → IsFollowed (always (fraction_at m at)) s new
-place_of_slash m at before after d s new lt e b a f =
+fraction_at_slash m at before after d s new lt e b a f =
     let there = slash_there (all_glyphs s) at d lt ∙ e in
     read_alike (around_slash m at before after) (fraction_at m at) s new
     (ap (λ n. around_slash m at n after (view_of s)) b ∙ ap (λ n. around_slash m at (digits_before at (items_of s)) n (view_of s)) a
     ∙ sym (around_cases (is_slash_at at (items_of s)) _ _ _ there refl)) f
 
-pub place_of_none : (m : FractionMasks) (at : ℕ) (d : hb_glyph_info_t) (s : Sides) → at < length (all_glyphs s) → is_slash (item_of (get_or (all_glyphs s) at d)) ≡ false
+pub fraction_at_none : (m : FractionMasks) (at : ℕ) (d : hb_glyph_info_t) (s : Sides) → at < length (all_glyphs s) → is_slash (item_of (get_or (all_glyphs s) at d)) ≡ false
     → IsReady s → IsFollowed (always (fraction_at m at)) s s
-place_of_none m at d s lt e ready =
+fraction_at_none m at d s lt e ready =
     let there = slash_there (all_glyphs s) at d lt ∙ e in
     happens_followed [] s s (always (fraction_at m at)) (nothing_happens s ready) (ap (λ (r : Read). Ok r) (between_cases (is_slash_at at (items_of s)) _ _ (with_events [] (view_of s)) there refl))
 

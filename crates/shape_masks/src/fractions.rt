@@ -62,12 +62,12 @@ pub fn setup_masks_fraction(masks: FractionMasks, buffer: &mut hb_buffer_t)
 {
     let count = buffer.info_slice().len();
     for at in 0..count {
-        mark_place(masks, at, buffer);
+        mask_fraction_at(masks, at, buffer);
     }
 }
 
-#[tactic(auto, using(crate::proofs::Slashes::place_of_slash, crate::proofs::Slashes::place_of_none))]
-fn mark_place(masks: FractionMasks, at: usize, buffer: &mut hb_buffer_t)
+#[tactic(auto, using(crate::proofs::Slashes::fraction_at_slash, crate::proofs::Slashes::fraction_at_none))]
+fn mask_fraction_at(masks: FractionMasks, at: usize, buffer: &mut hb_buffer_t)
     requires ready { IsReady buffer.old }
     requires frac { bit_and masks.frac DEFINED ≡ 0 }
     requires numr { bit_and masks.numr DEFINED ≡ 0 }
@@ -167,13 +167,13 @@ fn mask_fraction(
         buffer.old buffer.new }
 {
     let direction = buffer.direction();
-    mask_stretch(masks.first(direction), start, at, buffer);
-    mask_stretch(masks.frac, at, at + 1, buffer);
-    mask_stretch(masks.last(direction), at + 1, end, buffer);
+    mask_range(masks.first(direction), start, at, buffer);
+    mask_range(masks.frac, at, at + 1, buffer);
+    mask_range(masks.last(direction), at + 1, end, buffer);
 }
 
-#[tactic(auto, using(crate::proofs::RangeMasks::stretch_becomes))]
-fn mask_stretch(mask: hb_mask_t, start: usize, end: usize, buffer: &mut hb_buffer_t)
+#[tactic(auto, using(crate::proofs::RangeMasks::range_becomes))]
+fn mask_range(mask: hb_mask_t, start: usize, end: usize, buffer: &mut hb_buffer_t)
     requires ready { IsReady buffer.old }
     requires flagless { bit_and mask DEFINED ≡ 0 }
     requires ordered { start ≤ end }

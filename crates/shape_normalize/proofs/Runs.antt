@@ -68,14 +68,14 @@ sort_rearranges t start end s new ready e count items happened front run rest is
     let one : take start (items_of s) ≡ front = front_of front run rest (items_of s) start is len in
     let two : slice_range (items_of s) start end ≡ run = run_of front run rest (items_of s) start end is len upto in
     let three : drop end (items_of s) ≡ rest = rest_of front run rest (items_of s) start end is len upto in
-    let place : start ≡ length front + 0 = omega (arith, len) in
+    let index : start ≡ length front + 0 = omega (arith, len) in
     record {
       items =
           items ∙ ap₂ (λ ys zs. ys ++ zs) (ap₂ (λ ys zs. ys ++ key_order mark_class zs) one two) three ∙ append_assoc front (key_order mark_class run) rest
           ∙ ap (λ ys. front ++ (ys ++ rest)) (sorted_items run);
       happened =
           happened ∙ ap (λ ys. origins_by (Sort start (order_of (map mark_class ys)) ∷ []) s) two ∙ ap (λ os. origins_by (Sort start os ∷ []) s) (sym (sorted_order_is (map mark_class run)))
-          ∙ ap (λ n. origins_by (Sort n (sorted_order (map mark_class run)) ∷ []) s) place;
+          ∙ ap (λ n. origins_by (Sort n (sorted_order (map mark_class run)) ∷ []) s) index;
       frame = sort_frame t s new e;
       ready = sort_ready t s new ready e count;
     }
@@ -169,8 +169,8 @@ item_there gs front y ys g seen at =
 pub item_met : (i : ℕ) (front run : List Item) (y : Item) (ys : List Item) (start : ℕ) (g : hb_glyph_info_t) (s : Sides) → items_of s ≡ front ++ (run ++ y ∷ ys) → length front ≡ start → start + length run ≡ i → slice_get (all_glyphs s) i ≡ Some g
     → item_of g ≡ y
 item_met i front run y ys start g s e len upto at =
-    let place : i ≡ length (front ++ run) = let all = length-append front run in omega (arith, all, len, upto) in
-    item_there (all_glyphs s) (front ++ run) y ys g (e ∙ sym (append_assoc front run (y ∷ ys))) (ap (slice_get (all_glyphs s)) (sym place) ∙ at)
+    let index : i ≡ length (front ++ run) = let all = length-append front run in omega (arith, all, len, upto) in
+    item_there (all_glyphs s) (front ++ run) y ys g (e ∙ sym (append_assoc front run (y ∷ ys))) (ap (slice_get (all_glyphs s)) (sym index) ∙ at)
 
 pub run_goes_on : (r : List Item → Arrangement) (start i n : ℕ) (g : hb_glyph_info_t) (s : Sides) → slice_get (all_glyphs s) i ≡ Some g → n ≡ mark_class (item_of g) → n ≢ 0 → Meets r start i start s s
 run_goes_on r start i n g s at class some front run y ys e len upto =

@@ -306,9 +306,9 @@ reaches_past n done x [] y ys g h s at some last next =
 reaches_past n done x (z ∷ zs) y ys g h s at some last next =
     let there = count_at done x (z ∷ zs) s at.behind in
     let sides = length-append done (x ∷ []) in
-    let place : length (done ++ x ∷ []) + length zs ≡ length s.behind - 1 = omega (arith, there, sides) in
+    let index : length (done ++ x ∷ []) + length zs ≡ length s.behind - 1 = omega (arith, there, sides) in
     let seen : slice_get ((done ++ x ∷ []) ++ z ∷ zs) (length (done ++ x ∷ []) + length zs) ≡ Some (item_of g) =
-    ap₂ slice_get (append_assoc done (x ∷ []) (z ∷ zs) ∙ sym at.behind) place ∙ (slice_get-map item_of s.behind (length s.behind - 1) ∙ ap (option_map item_of) last) in
+    ap₂ slice_get (append_assoc done (x ∷ []) (z ∷ zs) ∙ sym at.behind) index ∙ (slice_get-map item_of s.behind (length s.behind - 1) ∙ ap (option_map item_of) last) in
     ap₂ nat_lt (last_at (done ++ x ∷ []) z zs (item_of g) seen) (ap mark_class (sym (current_item n done x (z ∷ zs) y ys h s at next)))
 
 -- ---- what becomes of a mark and a starter

@@ -67,10 +67,10 @@ placed_arranged a s t zero is =
     let count : length (all_glyphs s) ≡ length a.items =
     let one = ap (λ (ps : List Position). length ps) (stay ∙ zero) in
     omega (arith, many, one, is.ready.placed, length-replicate (length (all_glyphs s)) zero_position, length-map (all_glyphs t) item_of) in
-    let places : t.positions ≡ zero_positions (length a.items) = stay ∙ zero ∙ ap zero_positions count in
+    let positions_are : t.positions ≡ zero_positions (length a.items) = stay ∙ zero ∙ ap zero_positions count in
     record {
       view =
-          ap (λ xs. record (view_of t) { items = xs }) items ∙ ap (λ ps. record (view_of t) { items = a.items; positions = ps }) places
+          ap (λ xs. record (view_of t) { items = xs }) items ∙ ap (λ ps. record (view_of t) { items = a.items; positions = ps }) positions_are
           ∙ ap (λ (f : Sides). record { items = a.items; positions = zero_positions (length a.items); lig_id = f.lig_id; max_ops = f.max_ops; random = 1; max_len = f.max_len; direction = f.direction; scratch_flags = f.scratch_flags }) is.frame;
       origins = is.happened ∙ ap (λ es. origins_by es s) (all_shifted_none a.events);
       settings = ap settings_of is.frame;

@@ -31,7 +31,7 @@ pub(crate) fn pass_glyph(buffer: &mut hb_buffer_t) -> Result<(), ShapeCause>
 
 /// Moves the cursor to an index of the list; both sides have room for the whole list.
 #[tactic(auto, using(crate::proofs::Room::fits_going))]
-fn go_to(at: usize, buffer: &mut hb_buffer_t) -> Result<(), ShapeCause>
+fn move_cursor(at: usize, buffer: &mut hb_buffer_t) -> Result<(), ShapeCause>
     requires room { HasRoom buffer.old }
     requires within { at ≤ length (all_glyphs buffer.old) }
     ensures moved { OnOk result (buffer.new ≡ after_move_to at buffer.old) }
@@ -60,7 +60,7 @@ fn take_mark(starter: usize, buffer: &mut hb_buffer_t) -> Result<(), ShapeCause>
     pass_glyph(buffer)?;
     let end = buffer.out_len();
     buffer.merge_out_clusters(starter, end);
-    go_to(count, buffer)?;
+    move_cursor(count, buffer)?;
     buffer.skip_glyph();
     Ok(())
 }
@@ -82,9 +82,9 @@ fn write_out(at: usize, info: hb_glyph_info_t, buffer: &mut hb_buffer_t) -> Resu
     ensures err { IfErr result (λ e. e ≡ ShapeCause.OutOfMemory) }
 {
     let count = buffer.out_len();
-    go_to(at, buffer)?;
+    move_cursor(at, buffer)?;
     write_ahead(0, info, buffer);
-    go_to(count, buffer)?;
+    move_cursor(count, buffer)?;
     Ok(())
 }
 

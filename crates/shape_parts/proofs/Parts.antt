@@ -27,7 +27,7 @@ use Rattle.shape_stage_laws.proofs.Glyphs.{followed_links_stay, ignorables_stay,
 use Rattle.shape_pipeline.specs.Chains.{only_if}
 use Rattle.shape_pipeline.specs.Endings.{text_ended}
 use Rattle.shape_pipeline.specs.Glyphs.{glyphs_substituted, glyphs_taken}
-use Rattle.shape_pipeline.specs.Limits.{final_view, unshaped}
+use Rattle.shape_pipeline.specs.Limits.{final_view, unshaped_text}
 use Rattle.shape_pipeline.specs.Masks.{ranges_set}
 use Rattle.shape_pipeline.specs.Positioning.{adjusts_marks, marks_positioned, positions_adjusted, positions_begun, positions_ended, visual_order}
 use Rattle.shape_pipeline.specs.Reading.{after_ranges, before_ranges, clusters_after, positioning_stage, reading, shaping_stage}
@@ -103,8 +103,8 @@ shaping_keeps_text_parts p clusters h =
 
 -- ---- a text
 
-unshaped_keeps : KeepsParts (always unshaped)
-unshaped_keeps v r level e = at_read (λ q. AreKept level (q.events level) (length v.items) (length q.view.items)) (unshaped v) r e (nothing_keeps level (length v.items))
+unshaped_keeps : KeepsParts (always unshaped_text)
+unshaped_keeps v r level e = at_read (λ q. AreKept level (q.events level) (length v.items) (length q.view.items)) (unshaped_text v) r e (nothing_keeps level (length v.items))
 
 read_by : (stage : Stage) (p : Shaping) (text : BufferState) (r : Read) (falls : Bool) → KeepsParts stage → stage text.view ≡ Ok r → HasOrderedClusters falls text
     → HaveParts falls text.asks text.level (r.events text.level) text.origins × (length (state_after r text).origins ≡ length r.view.items)
@@ -119,9 +119,9 @@ pub texts_have_parts : (p : Shaping) (text : BufferState) (r : Read) (falls : Bo
 unfolding text_reading
 texts_have_parts p text r falls h o e = by_test (length text.view.items == 0) e
   where
-    by_test : (b : Bool) → ◌≡◌ {A = Reading} (if b then Ok (unshaped text.view) else reading p text) (Ok r)
+    by_test : (b : Bool) → ◌≡◌ {A = Reading} (if b then Ok (unshaped_text text.view) else reading p text) (Ok r)
         → HaveParts falls text.asks text.level (r.events text.level) text.origins × (length (state_after r text).origins ≡ length r.view.items)
-    by_test true f = read_by (always unshaped) p text r falls unshaped_keeps f o
+    by_test true f = read_by (always unshaped_text) p text r falls unshaped_keeps f o
     by_test false f =
         let clusters = clusters_after (before_ranges p text.view) text in
         read_by (shaping_stage p clusters) p text r falls (shaping_keeps_text_parts p clusters h) (sym (read_as p text) ∙ f) o

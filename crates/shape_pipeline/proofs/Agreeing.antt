@@ -96,7 +96,7 @@ plans_serve_texts font tables tags spans features text plan is =
 
 -- ---- texts that are alike are guessed alike
 
--- the script that the numbers of items tell
+-- the script that the numbers of items show
 abbrev script_told : List Item → Option Script
 script_told [] = None
 script_told (x ∷ xs) = if has_own_script x.number then Some (script_of x.number) else script_told xs

@@ -153,8 +153,8 @@ item_there (h ∷ gs) (x ∷ front) y ys g seen at = let rest : strip gs ≡ fro
 
 pub mark_there : (g : hb_glyph_info_t) (k : ℕ) (s : Sides) (x : Item) (marks : List Item) (y : Item) (ys : List Item) → slice_get s.ahead (k + 1) ≡ Some g → strip s.ahead ≡ x ∷ (marks ++ y ∷ ys) → length marks ≡ k → is_mark (item_of g) ≡ is_mark y
 mark_there g k s x marks y ys at seen len =
-    let place : k + 1 ≡ length (x ∷ marks) = omega (arith, len) in
-    ap is_mark (item_there s.ahead (x ∷ marks) y ys g seen (ap (slice_get s.ahead) (sym place) ∙ at))
+    let index : k + 1 ≡ length (x ∷ marks) = omega (arith, len) in
+    ap is_mark (item_there s.ahead (x ∷ marks) y ys g seen (ap (slice_get s.ahead) (sym index) ∙ at))
 
 pub walk_last : (c : Normalizer) (count at k : ℕ) (start now : Sides) → IsWalking c count at k start now → k < length now.ahead
 walk_last c count at k start now w =

@@ -14,7 +14,7 @@ ghost use Rattle.shape_rounds.specs.Glyphs.{with_halves_output, Puts, count_of};
 
 use crate::characters::{has, is_selector, part_of, whole_of};
 use crate::normalizing::Normalizing;
-use crate::outputting::put_in_place;
+use crate::outputting::output_replacement;
 use crate::selecting::expand_selected;
 use buffer_core::buffer::hb_buffer_t;
 use buffer_glyphs::cause::ShapeCause;
@@ -169,7 +169,7 @@ fn expand_current<N: Normalizing>(
         buffer.skip_glyph();
         return Ok(());
     }
-    put_in_place(whole_of(by, &info), buffer)?;
+    output_replacement(whole_of(by, &info), buffer)?;
     Ok(())
 }
 

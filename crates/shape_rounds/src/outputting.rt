@@ -8,7 +8,7 @@ use buffer_glyphs::cause::ShapeCause;
 use buffer_glyphs::info::hb_glyph_info_t;
 
 /// Replaces the current glyph by another one, and outputs that.
-pub(crate) fn put_in_place(
+pub(crate) fn output_replacement(
     info: hb_glyph_info_t,
     buffer: &mut hb_buffer_t,
 ) -> Result<(), ShapeCause>

@@ -10,7 +10,7 @@ ghost use Rattle.shape_rounds.specs.Walking.{PutsWaiting, Selects, SelectsTooMan
 
 use crate::characters::{is_selector, unjoined, with_own_glyph};
 use crate::normalizing::Normalizing;
-use crate::outputting::put_in_place;
+use crate::outputting::output_replacement;
 use buffer_core::buffer::hb_buffer_t;
 use buffer_glyphs::cause::ShapeCause;
 use buffer_glyphs::info::hb_glyph_info_t;
@@ -25,7 +25,7 @@ fn put_unexpanded<N: Normalizing>(by: &N, buffer: &mut hb_buffer_t) -> Result<()
     ensures err { IfErr result (λ e. RefusesRoomFor 1 e buffer.old) }
 {
     let info = with_own_glyph(by, buffer.cur(0));
-    put_in_place(info, buffer)?;
+    output_replacement(info, buffer)?;
     Ok(())
 }
 
@@ -40,7 +40,7 @@ fn put_unjoined<N: Normalizing>(by: &N, buffer: &mut hb_buffer_t) -> Result<(), 
 {
     let selector = unjoined(buffer.cur(0), by.unjoined_glyph().is_some());
     let info = with_own_glyph(by, &selector);
-    put_in_place(info, buffer)?;
+    output_replacement(info, buffer)?;
     Ok(())
 }
 

@@ -118,8 +118,8 @@ abbrev pub CoverWithin : ℕ → List Arrangement → Type 0
 CoverWithin n [] = n ≡ 0
 CoverWithin n (a ∷ rest) = (k : ℕ) × ((m : ℕ) × ((n ≡ k + m) × (IsPlainWithin k a × CoverWithin m rest)))
 
-pub cover_as : (m n : ℕ) (stretches : List Arrangement) → m ≡ n → CoverWithin m stretches → CoverWithin n stretches
-cover_as m n stretches e p = subst (λ (k : ℕ). CoverWithin k stretches) e p
+pub cover_as : (m n : ℕ) (ranges : List Arrangement) → m ≡ n → CoverWithin m ranges → CoverWithin n ranges
+cover_as m n ranges e p = subst (λ (k : ℕ). CoverWithin k ranges) e p
 
 pub cover_first : (k m : ℕ) (a : Arrangement) (rest : List Arrangement) → IsPlainWithin k a → CoverWithin m rest → CoverWithin (k + m) (a ∷ rest)
 cover_first k m a rest p q = (k, (m, (refl, (p, q))))
@@ -131,7 +131,7 @@ pub cover_both : (m n : ℕ) (first second : List Arrangement) → CoverWithin m
 cover_both m n [] second p q = cover_as n (m + n) second (omega (arith, p)) q
 cover_both m n (a ∷ rest) second (k, (j, (e, (here, more)))) q = (k, (j + n, (omega (arith, e), (here, cover_both j n rest second more q))))
 
-pub cover_in_turn : (n : ℕ) (stretches : List Arrangement) → CoverWithin n stretches → IsPlainWithin n (in_turn stretches)
+pub cover_in_turn : (n : ℕ) (ranges : List Arrangement) → CoverWithin n ranges → IsPlainWithin n (in_turn ranges)
 cover_in_turn n [] p = record { plain = tt; unturned = tt; giving = tt; counted = λ from m le. omega (arith, le, p) }
 cover_in_turn n (a ∷ rest) (k, (m, (e, (here, more)))) = subst (λ (j : ℕ). IsPlainWithin j (beside a (in_turn rest))) (sym e) (beside_within k m a (in_turn rest) here (cover_in_turn m rest more))
 

@@ -55,7 +55,7 @@ IsRunValueOf d r = (read : Result RunTables JsonFault) × IsValueOf d read × (r
 unfoldable pub AreTables : List ℕ → Result RunTables RunFault → Type 0
 AreTables bytes r = then_answers (json_of bytes) IsRunValueOf r
 
--- refuses unlawful tables, and goes on with lawful ones
+-- the answer by a file's tables: a refusal where they are unlawful, else what follows for them
 abbrev pub IfLawful : {B : Type 0} → (RunTables → Result B RunFault) → RunTables → Result B RunFault → Type 0
 IfLawful next t answer = (IsLawful t.characters × (answer ≡ next t)) ⊎ ((¬ IsLawful t.characters) × (answer ≡ Err Unlawful))
 

@@ -141,13 +141,13 @@ list_or_none_shallow None = tt
 list_or_none_shallow (Some d) = list_shallow d
 
 module _ {R : Type 0} (high low : R → ℕ) (row : Data → Result R JsonFault) (h : (d : Data) → Shallow (row d)) where
-  place_shallow : (before : Option R) (r : R) → Shallow (row_in_order (follows high low) (λ x. x) before r)
-  place_shallow before r = if_shallow (follows high low before r) (Ok r) (Err OutOfOrder) tt out_of_order
+  order_shallow : (before : Option R) (r : R) → Shallow (row_in_order (follows high low) (λ x. x) before r)
+  order_shallow before r = if_shallow (follows high low before r) (Ok r) (Err OutOfOrder) tt out_of_order
 
   rows_shallow : (before : Option R) (ds : Items) → Shallow (rows_after (follows high low) (λ x. x) row before ds)
   rows_shallow before no_items = tt
   rows_shallow before (item d ds) =
-      then_shallow (row_after (follows high low) (λ x. x) row before d) _ (then_shallow (row d) _ (h d) (place_shallow before))
+      then_shallow (row_after (follows high low) (λ x. x) row before d) _ (then_shallow (row d) _ (h d) (order_shallow before))
       (λ r. after_shallow (r ∷ []) (rows_after (follows high low) (λ x. x) row (Some r) ds) (rows_shallow (Some r) ds))
 
   at_shallow : (key : List ℕ) (d : Data) → Shallow (rows_at key high low row d)

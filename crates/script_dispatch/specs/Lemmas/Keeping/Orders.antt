@@ -18,7 +18,7 @@ use Rattle.buffer_stages.specs.Rewriting.{within}
 use Rattle.buffer_stages.specs.SyllableLaws.{IsPermuted}
 use Rattle.buffer_stages.specs.Parts.{first_to_back, items_with_features}
 use Rattle.script_syllabic.specs.declared.circles.CircleRule.{CircleRule}
-use Rattle.script_syllabic.specs.Circles.{CircledItem, Due, There, Inserted, begins, circled_at_start, circle_events, circle_item, circled_from, circled_items, circles_by, circles_put, items_without_circles, is_broken, is_repha, with_circles}
+use Rattle.script_syllabic.specs.Circles.{CircledItem, Due, There, Inserted, begins, circled_at_start, circle_events, circle_item, circled_rest, circled_items, circles_by, circles_put, items_without_circles, is_broken, is_repha, with_circles}
 use Rattle.script_syllabic.proofs.Erased.{erasing_circles}
 use Rattle.buffer_common.specs.declared.constants.BufferFlags.{BufferFlags}
 use Rattle.buffer_common.specs.declared.script.Script.{Script}
@@ -99,16 +99,16 @@ begun_seated r last x rest at h = by_tests (begins r last x) (is_repha r x.sylla
     by_tests true false = (omega arith, h x.syllable None (at + 1 + 1) tt)
     by_tests false t = h last None (at + 1) tt
 
-circled_seated : (r : CircleRule) (xs : List Item) (last : ℕ) (d : Option Due) (at : ℕ) → IsDueAt at d → AreSeated at (circled_from r xs last d)
+circled_seated : (r : CircleRule) (xs : List Item) (last : ℕ) (d : Option Due) (at : ℕ) → IsDueAt at d → AreSeated at (circled_rest r xs last d)
 circled_seated r [] last None at due = tt
 circled_seated r [] last (Some d) at due = inserted_seated at d.rephas d.circle [] due.0 due.1 tt
-circled_seated r (x ∷ xs) last None at due = begun_seated r last x (circled_from r xs) at (circled_seated r xs)
+circled_seated r (x ∷ xs) last None at due = begun_seated r last x (circled_rest r xs) at (circled_seated r xs)
 circled_seated r (x ∷ xs) last (Some d) at due = by_test (is_repha r last x) (circled_seated r xs)
   where
-    by_test : (t : Bool) → ((n : ℕ) (e : Option Due) (i : ℕ) → IsDueAt i e → AreSeated i (circled_from r xs n e))
-        → AreSeated at (if t then There x ∷ circled_from r xs last (Some (record { rephas = suc d.rephas; circle = d.circle })) else Inserted d.rephas d.circle ∷ circled_at_start r last x (circled_from r xs))
+    by_test : (t : Bool) → ((n : ℕ) (e : Option Due) (i : ℕ) → IsDueAt i e → AreSeated i (circled_rest r xs n e))
+        → AreSeated at (if t then There x ∷ circled_rest r xs last (Some (record { rephas = suc d.rephas; circle = d.circle })) else Inserted d.rephas d.circle ∷ circled_at_start r last x (circled_rest r xs))
     by_test true h = h last (Some (record { rephas = suc d.rephas; circle = d.circle })) (at + 1) (omega arith, omega arith)
-    by_test false h = inserted_seated at d.rephas d.circle (circled_at_start r last x (circled_from r xs)) due.0 due.1 (begun_seated r last x (circled_from r xs) (at + 1) h)
+    by_test false h = inserted_seated at d.rephas d.circle (circled_at_start r last x (circled_rest r xs)) due.0 due.1 (begun_seated r last x (circled_rest r xs) (at + 1) h)
 
 all_kept : (r : CircleRule) (xs : List Item) → ArePlainlyKept (circle_events 0 (with_circles r xs)) (length xs) (length (circled_items (with_circles r xs)))
 all_kept r xs =
@@ -138,37 +138,37 @@ mask_steady bits from to xs = within_steady (items_with_features bits) from to x
 abbrev KhmerStep : khmer.Step → Type 0
 KhmerStep s = IsSteady s.rewritten
 
-coeng_steady : (m : KhmerMasks) (place : ℕ) (xs : List Item) → IsSteady (khmer.coeng_moved m place xs)
-coeng_steady m place xs =
-    let first = within place (place + 2) (items_with_features m.pref) xs in
-    let both = and_arranged first (within 0 (place + 2) (first_to_back place)) in
-    then_steady both (within (place + 2) (length xs) (items_with_features m.cfar)) (then_steady first (within 0 (place + 2) (first_to_back place)) (mask_steady m.pref place (place + 2) xs) (front_steady place 0 (place + 2) first.items)) (mask_steady m.cfar (place + 2) (length xs) both.items)
+coeng_steady : (m : KhmerMasks) (index : ℕ) (xs : List Item) → IsSteady (khmer.coeng_moved m index xs)
+coeng_steady m index xs =
+    let first = within index (index + 2) (items_with_features m.pref) xs in
+    let both = and_arranged first (within 0 (index + 2) (first_to_back index)) in
+    then_steady both (within (index + 2) (length xs) (items_with_features m.cfar)) (then_steady first (within 0 (index + 2) (first_to_back index)) (mask_steady m.pref index (index + 2) xs) (front_steady index 0 (index + 2) first.items)) (mask_steady m.cfar (index + 2) (length xs) both.items)
 
-khmer_at_steady : (m : KhmerMasks) (place count : ℕ) (xs : List Item) → KhmerStep (khmer.khmer_at m place count xs)
-khmer_at_steady m place count xs = by_items (slice_get xs place) (slice_get xs (place + 1))
+khmer_at_steady : (m : KhmerMasks) (index count : ℕ) (xs : List Item) → KhmerStep (khmer.khmer_at m index count xs)
+khmer_at_steady m index count xs = by_items (slice_get xs index) (slice_get xs (index + 1))
   where
-    vowel : (t : Bool) → KhmerStep (if t then record { rewritten = khmer.vowel_moved place xs; count = count } else record { rewritten = eventless_arrangement xs; count = count })
-    vowel true = front_steady place 0 (place + 1) xs
+    vowel : (t : Bool) → KhmerStep (if t then record { rewritten = khmer.vowel_moved index xs; count = count } else record { rewritten = eventless_arrangement xs; count = count })
+    vowel true = front_steady index 0 (index + 1) xs
     vowel false = tt
 
-    coeng : (t : Bool) → KhmerStep (if t then record { rewritten = khmer.coeng_moved m place xs; count = 2 } else record { rewritten = eventless_arrangement xs; count = count + 1 })
-    coeng true = coeng_steady m place xs
+    coeng : (t : Bool) → KhmerStep (if t then record { rewritten = khmer.coeng_moved m index xs; count = 2 } else record { rewritten = eventless_arrangement xs; count = count + 1 })
+    coeng true = coeng_steady m index xs
     coeng false = tt
 
-    either : (x y : Item) (t : Bool) → KhmerStep (if t then khmer.coeng_step m place count xs y else khmer.vowel_step place count xs x)
+    either : (x y : Item) (t : Bool) → KhmerStep (if t then khmer.coeng_step m index count xs y else khmer.vowel_step index count xs x)
     either x y true = coeng (y.category == category.OT_Ra)
     either x y false = vowel (x.category == category.OT_VPre)
 
-    by_items : (a b : Option Item) → KhmerStep (khmer.step_at m place count xs a b)
+    by_items : (a b : Option Item) → KhmerStep (khmer.step_at m index count xs a b)
     by_items None b = tt
     by_items (Some x) None = vowel (x.category == category.OT_VPre)
     by_items (Some x) (Some y) = either x y (khmer.is_coeng count x)
 
-khmer_walk_steady : (m : KhmerMasks) (n place count : ℕ) (xs : List Item) → IsSteady (khmer.khmer_walk m n place count xs)
-khmer_walk_steady m zero place count xs = tt
-khmer_walk_steady m (suc n) place count xs =
-    let s = khmer.khmer_at m place count xs in
-    then_steady s.rewritten (khmer.khmer_walk m n (place + 1) s.count) (khmer_at_steady m place count xs) (khmer_walk_steady m n (place + 1) s.count s.rewritten.items)
+khmer_walk_steady : (m : KhmerMasks) (n index count : ℕ) (xs : List Item) → IsSteady (khmer.khmer_walk m n index count xs)
+khmer_walk_steady m zero index count xs = tt
+khmer_walk_steady m (suc n) index count xs =
+    let s = khmer.khmer_at m index count xs in
+    then_steady s.rewritten (khmer.khmer_walk m n (index + 1) s.count) (khmer_at_steady m index count xs) (khmer_walk_steady m n (index + 1) s.count s.rewritten.items)
 
 khmer_steady : (m : KhmerMasks) (xs : List Item) → IsSteady (khmer.khmer_syllable m xs)
 khmer_steady m xs = by_first (slice_get xs 0)
@@ -188,8 +188,8 @@ khmer_steady m xs = by_first (slice_get xs 0)
 matras_steady : (xs : List Item) → IsSteady (myanmar.matras_reversed xs)
 matras_steady xs = by_test (myanmar.has_two_matras (take (myanmar.matras_of xs) xs))
   where
-    by_test : (t : Bool) → IsSteady (if t then within 0 (myanmar.matras_of xs) (groups_reversed myanmar.is_left_matra) xs else eventless_arrangement xs)
-    by_test true = within_steady (groups_reversed myanmar.is_left_matra) 0 (myanmar.matras_of xs) xs (λ ys. tt)
+    by_test : (t : Bool) → IsSteady (if t then within 0 (myanmar.matras_of xs) (groups_reversed myanmar.is_pre_base_vowel) xs else eventless_arrangement xs)
+    by_test true = within_steady (groups_reversed myanmar.is_pre_base_vowel) 0 (myanmar.matras_of xs) xs (λ ys. tt)
     by_test false = tt
 
 myanmar_steady : (xs : List Item) → IsSteady (myanmar.myanmar_syllable xs)
