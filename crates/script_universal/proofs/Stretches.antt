@@ -379,10 +379,10 @@ stretch_stays start end n gs a ready le fits seen e lt =
       ready = ready;
     }
 
-pub stretch_is : (start end i count : ℕ) (gs : List hb_glyph_info_t) (a b : Sides) → start + i < end → end ≤ length (all_glyphs a) → gs ≡ all_glyphs a
+pub range_clusters : (start end i count : ℕ) (gs : List hb_glyph_info_t) (a b : Sides) → start + i < end → end ≤ length (all_glyphs a) → gs ≡ all_glyphs a
     → count ≡ prefix_len passes (strip (slice_range gs (start + i) end)) → count ≤ length (slice_range gs (start + i) end)
     → IsRewritten (fronts_moved together is_left 0 (slice_range (items_of a) (start + i) (start + i + count))) (start + i) (start + i + count) a b → IsStretch start end i count a b
-stretch_is start end i count gs a b lt fits same e few f =
+range_clusters start end i count gs a b lt fits same e few f =
     let size = ap (λ hs. length (slice_range hs (start + i) end)) same ∙ range_size (start + i) end (all_glyphs a) (omega (arith, lt)) fits in
     record {
       inside = omega (arith, size, few, lt);
