@@ -137,7 +137,7 @@ ligature_keeps gdef glyph end others x c there found = limit_keeps (1 + length (
     let within : at + end ≤ length (whole c) = omega (arith, found.within (at_some c x there), length-append c.front c.rest) in
     subst (λ (es : List Event). AreKept level (Merge InList at (at + end) ∷ es) (length (whole c)) (length (whole (ligated_cut gdef glyph (0 ∷ others) end c)))) (sym (deletions_are at 0 others))
     (subst (λ (n : ℕ). AreKept level (Merge InList at (at + end) ∷ ligature_deletions at 0 others) (length (whole c)) n) (sym (ligated_length gdef glyph end others x c there found))
-    (ligatures_keep_parts InList level at end others (length (whole c)) within (found_between 0 1 end others (omega arith) found.ahead))))
+    (ligatures_keep_parts InList level at end others (length (whole c)) within (found_between 0 1 end others (omega arith) found.indices_rise))))
 
 -- ---- all rules
 
