@@ -12,7 +12,7 @@ use Rattle.std.proofs.lemmas.List.Folds.{length-prefix_len}
 use Rattle.std.proofs.lemmas.Bool.{eqb-true, ltb-true, leb-true}
 use Rattle.buffer_features.specs.TextParser.{after_run, after_spaces, is_quote, is_tag_byte, tag_in, natural_in, integer_in, decimal_value, bool_of_word, bool_in}
 use Rattle.buffer_features.specs.FeatureText.{no_end, sign_in, quoted_tag_in, text_after, range_close, range_end, range_maybe_end, range_after_start, range_without_start, range_in_brackets, range_in, index_of_integer, setting_in, value_in, whole_request, feature_with_value, feature_with_range, feature_with_tag, feature_of}
-use Rattle.buffer_features.specs.FeatureGrammar.{IsSign, IsTagName, BeginsWithout, IsTagText, IsNumber, IsInteger, IsIndex, IsEnd, IsRange, IsSetting, IsValue, IsRequest, no_sign, plus_sign, minus_sign, bare, in_quotes, numbered, switched_on, switched_off, by_sign, plain, after_equal, natural, positive, negative, open_end, placed_end, no_range, every_place, one_place, up_to, from, from_to}
+use Rattle.buffer_features.specs.FeatureGrammar.{IsSign, IsTagName, BeginsWithout, IsTagText, IsNumber, IsInteger, IsIndex, IsEnd, IsRange, IsSetting, IsValue, IsRequest, no_sign, plus_sign, minus_sign, bare, in_quotes, numbered, switched_on, switched_off, by_sign, plain, after_equal, natural, positive, negative, open_end, placed_end, no_range, every_index, single_index, up_to, from, from_to}
 use Rattle.buffer_features.proofs.Runs.{by_cases, both_true, list_all-run, run_and_rest, after_run-stops, after_run-none, list_all-whole}
 use Rattle.std.specs.Option.{option_map}
 use Rattle.buffer_features.proofs.Options.{chained, mapped, chosen, pair_parts, some_parts, some_is}
@@ -124,11 +124,11 @@ closed_read start end text found h =
     let f : List ℕ → (ℕ × ℕ) × List ℕ = λ left. ((start, end), left) in
     closed_parts start end text found (mapped f (text_after 93 text) found h)
 
-pub place_moved : (text : List ℕ) (place other : ℕ) → other ≡ place → IsIndex text place → IsIndex text other
-place_moved text place other e is_place = record { value = is_place.value; written = is_place.written; is = e ∙ is_place.is }
+pub index_moved : (text : List ℕ) (place other : ℕ) → other ≡ place → IsIndex text place → IsIndex text other
+index_moved text place other e is_place = record { value = is_place.value; written = is_place.written; is = e ∙ is_place.is }
 
-pub place_is : (text : List ℕ) (value : ℤ) → IsInteger text value → IsIndex text (index_of_integer value)
-place_is text value written = record { value = value; written = written; is = refl }
+pub index_is : (text : List ℕ) (value : ℤ) → IsInteger text value → IsIndex text (index_of_integer value)
+index_is text value written = record { value = value; written = written; is = refl }
 
 -- a start, and the end of a range with the text after it
 abbrev pub Placed : ℕ → List ℕ → (ℕ × ℕ) × List ℕ → Type 0
@@ -142,7 +142,7 @@ placed_parts : (start : ℕ) (text : List ℕ) (found : (ℕ × ℕ) × List ℕ
     → (found.0.0 ≡ start) × (found.0.1 ≡ index_of_integer number.0) × (number.1 ≡ 93 ∷ found.1)
     → Placed start text found
 placed_parts start text found number (b, written, whole) (s, e, bracket) =
-    (b, place_moved b (index_of_integer number.0) found.0.1 e (place_is b number.0 written), s, whole ∙ ap (λ t. b ++ t) bracket)
+    (b, index_moved b (index_of_integer number.0) found.0.1 e (index_is b number.0 written), s, whole ∙ ap (λ t. b ++ t) bracket)
 
 placed_found : (start : ℕ) (text : List ℕ) (found : (ℕ × ℕ) × List ℕ)
     → (number : ℤ × List ℕ) × (integer_in text ≡ Some number) × (range_close start (index_of_integer number.0) number.1 ≡ Some found)
@@ -185,20 +185,20 @@ one_place_read a start rest found place h =
     let equal = some_parts h in
     let ends = pair_parts equal.0 in (
       codes "]",
-      one_place a (place_moved a start found.0.0 (sym ends.0) place) refl (sym ends.1 ∙ ap (λ s. min (s + 1) no_end) ends.0),
+      single_index a (index_moved a start found.0.0 (sym ends.0) place) refl (sym ends.1 ∙ ap (λ s. min (s + 1) no_end) ends.0),
       ap (λ t. 93 ∷ t) equal.1,
     )
 
 from_read : (a : List ℕ) (start : ℕ) (rest : List ℕ) (found : (ℕ × ℕ) × List ℕ) → IsIndex a start
     → Ended start rest found → Bracketed a (58 ∷ rest) found
 from_read a start rest found place (end, is_end, s, whole) =
-    (58 ∷ end, from a end (place_moved a start found.0.0 s place) is_end refl, ap (λ t. 58 ∷ t) whole)
+    (58 ∷ end, from a end (index_moved a start found.0.0 s place) is_end refl, ap (λ t. 58 ∷ t) whole)
 
 from_to_read : (a : List ℕ) (start : ℕ) (rest : List ℕ) (found : (ℕ × ℕ) × List ℕ) → IsIndex a start
     → Placed start rest found → Bracketed a (59 ∷ rest) found
 from_to_read a start rest found place (b, is_place, s, whole) = (
   59 ∷ (b ++ codes "]"),
-  from_to a b (place_moved a start found.0.0 s place) is_place refl,
+  from_to a b (index_moved a start found.0.0 s place) is_place refl,
   ap (λ t. 59 ∷ t) (whole ∙ sym (append_assoc b (codes "]") found.1)),
 )
 
@@ -218,7 +218,7 @@ every_place_read : (rest : List ℕ) (found : (ℕ × ℕ) × List ℕ) → Some
 every_place_read rest found h =
     let equal = some_parts h in
     let ends = pair_parts equal.0 in
-    (codes "]", every_place refl (sym ends.0) (sym ends.1), ap (λ t. 93 ∷ t) equal.1)
+    (codes "]", every_index refl (sym ends.0) (sym ends.1), ap (λ t. 93 ∷ t) equal.1)
 
 up_to_read : (rest : List ℕ) (found : (ℕ × ℕ) × List ℕ) → Ended 0 rest found → Bracketed [] (58 ∷ rest) found
 up_to_read rest found (end, is_end, s, whole) = (58 ∷ end, up_to end is_end refl s, ap (λ t. 58 ∷ t) whole)
@@ -239,7 +239,7 @@ bracket_started text found a rest whole (tail, range, more) =
 bracket_number : (text : List ℕ) (found : (ℕ × ℕ) × List ℕ) (number : ℤ × List ℕ)
     → range_after_start (index_of_integer number.0) number.1 ≡ Some found → Integer text number → Bracketed [] text found
 bracket_number text found number h (a, written, whole) =
-    bracket_started text found a number.1 whole (started_read a (index_of_integer number.0) number.1 found (place_is a number.0 written) h)
+    bracket_started text found a number.1 whole (started_read a (index_of_integer number.0) number.1 found (index_is a number.0 written) h)
 
 bracket_either : (text : List ℕ) (found : (ℕ × ℕ) × List ℕ)
     → ((number : ℤ × List ℕ) × (integer_in text ≡ Some number) × (range_after_start (index_of_integer number.0) number.1 ≡ Some found))

@@ -11,7 +11,7 @@ use Rattle.buffer_common.specs.Tag.{tag_of_text}
 use Rattle.buffer_features.specs.declared.feature.Feature.{Feature}
 use Rattle.buffer_features.specs.TextParser.{after_run, after_spaces, is_quote, is_tag_byte, tag_in, natural_in, integer_in, decimal_value, bool_of_word, bool_in}
 use Rattle.buffer_features.specs.FeatureText.{no_end, sign_in, quoted_tag_in, text_after, range_maybe_end, range_in, index_of_integer, setting_in, value_in, feature_with_value, feature_with_range, feature_with_tag, feature_with_sign, feature_of}
-use Rattle.buffer_features.specs.FeatureGrammar.{AreSpaces, IsSign, IsTagName, BeginsWithout, IsTagText, IsNumber, IsInteger, IsIndex, IsEnd, IsRange, IsSetting, IsValue, IsRequest, no_sign, plus_sign, minus_sign, bare, in_quotes, numbered, switched_on, switched_off, by_sign, plain, after_equal, natural, positive, negative, open_end, placed_end, no_range, every_place, one_place, up_to, from, from_to}
+use Rattle.buffer_features.specs.FeatureGrammar.{AreSpaces, IsSign, IsTagName, BeginsWithout, IsTagText, IsNumber, IsInteger, IsIndex, IsEnd, IsRange, IsSetting, IsValue, IsRequest, no_sign, plus_sign, minus_sign, bare, in_quotes, numbered, switched_on, switched_off, by_sign, plain, after_equal, natural, positive, negative, open_end, placed_end, no_range, every_index, single_index, up_to, from, from_to}
 use Rattle.buffer_features.proofs.Runs.{both_true, prefix_len-run, take_while-run, after_run-run, after_run-more, after_run-none, after_run-stops}
 use Rattle.buffer_features.proofs.Bytes.{IsPlain, tag_byte_is_plain, tag_byte-quote, quote_is_plain, quote-tag_byte, digit_is_plain, space-digit, space-letter, letter, letter_is_plain, letter-digit}
 
@@ -93,9 +93,9 @@ from_to_written a b start end rest place last =
 pub range_written : (range : List ℕ) (start end : ℕ) → IsRange range start end
     → IsRead range start end ⊎ ((range ≡ []) × (start ≡ 0) × (end ≡ no_end))
 range_written range start end (no_range e s l) = inr (e, s, l)
-range_written range start end (every_place e s l) =
+range_written range start end (every_index e s l) =
     inl (record { inside = codes "]"; is = e; found = λ rest. rw (e, s, l) refl })
-range_written range start end (one_place n place e l) =
+range_written range start end (single_index n place e l) =
     inl (record { inside = n ++ codes "]"; is = e; found = λ rest. rw (e, l) (one_place_written n start rest place) })
 range_written range start end (up_to b is_end e s) =
     inl (record { inside = 58 ∷ b; is = e; found = λ rest. rw (e, s) (end_written 0 b end rest is_end) })

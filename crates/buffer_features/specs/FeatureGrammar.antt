@@ -62,8 +62,8 @@ pub data IsEnd (text : List ℕ) (end : ℕ) : Type 0 where
 -- a range: nothing, `[]`, `[n]`, `[:]`, `[:b]`, `[a:]`, `[a:b]` or `[a;b]`
 pub data IsRange (text : List ℕ) (start end : ℕ) : Type 0 where
   no_range : text ≡ [] → start ≡ 0 → end ≡ no_end → IsRange text start end
-  every_place : text ≡ codes "[]" → start ≡ 0 → end ≡ no_end → IsRange text start end
-  one_place : (n : List ℕ) → IsIndex n start → text ≡ 91 ∷ (n ++ codes "]") → end ≡ min (start + 1) no_end → IsRange text start end
+  every_index : text ≡ codes "[]" → start ≡ 0 → end ≡ no_end → IsRange text start end
+  single_index : (n : List ℕ) → IsIndex n start → text ≡ 91 ∷ (n ++ codes "]") → end ≡ min (start + 1) no_end → IsRange text start end
   up_to : (b : List ℕ) → IsEnd b end → text ≡ 91 ∷ 58 ∷ b → start ≡ 0 → IsRange text start end
   from : (a b : List ℕ) → IsIndex a start → IsEnd b end → text ≡ 91 ∷ (a ++ (58 ∷ b)) → IsRange text start end
   from_to : (a b : List ℕ) → IsIndex a start → IsIndex b end → text ≡ 91 ∷ (a ++ (59 ∷ (b ++ codes "]"))) → IsRange text start end

@@ -39,13 +39,13 @@ impl Feature {
         ensures end { result.end ≡ end_of end }
     {
         let start = match start {
-            Bound::Included(index) => place(index),
-            Bound::Excluded(index) => place(index.saturating_add(1)),
+            Bound::Included(index) => bounded_index(index),
+            Bound::Excluded(index) => bounded_index(index.saturating_add(1)),
             Bound::Unbounded => HB_FEATURE_GLOBAL_START,
         };
         let end = match end {
-            Bound::Included(index) => place(index),
-            Bound::Excluded(index) => place(index.saturating_sub(1)),
+            Bound::Included(index) => bounded_index(index),
+            Bound::Excluded(index) => bounded_index(index.saturating_sub(1)),
             Bound::Unbounded => HB_FEATURE_GLOBAL_END,
         };
         Feature {
@@ -64,7 +64,7 @@ impl Feature {
     }
 }
 
-fn place(index: usize) -> u32
+fn bounded_index(index: usize) -> u32
     ensures { result ≡ bounded_index index }
 {
     u32::try_from(index).unwrap_or(u32::MAX)

@@ -18,14 +18,14 @@ use Rattle.std.specs.List.{list_all}
 use Rattle.buffer_glyphs.specs.Merging.{direction_merged}
 use Rattle.buffer_glyphs.specs.Deleting.{IsEndRun}
 use Rattle.buffer_glyphs.specs.Lemmas.Ends.{from_first}
-use Rattle.buffer_glyphs.specs.Lemmas.Glyphs.{without_flags_again, cut_out, stretch_is, cluster_in_cluster, same_cluster}
+use Rattle.buffer_glyphs.specs.Lemmas.Glyphs.{without_flags_again, cut_out, range_clusters, cluster_in_cluster, same_cluster}
 use Rattle.buffer_glyphs.specs.Lemmas.Merges.{least_number_is, chain_left, chain_right, chain_across, merged_in}
 use Rattle.buffer_glyphs.specs.Lemmas.Numbers.{Has, has_here, has_more, has_cases, has_left, has_right, has_either}
-use Rattle.buffer_groups.specs.declared.due.falling.Stretch.{Stretch}
-use Rattle.buffer_groups.specs.Sorting.{Spanned, span_merged}
+use Rattle.buffer_groups.specs.declared.due.falling.DueRange.{DueRange}
+use Rattle.buffer_groups.specs.Sorting.{SpanMerge, span_merged}
 use Rattle.buffer_groups.specs.Falling.{with_range_in_cluster, IsDueBefore}
 
-pub carried_put : (d : Stretch) (gs range : List Glyph) → d.from ≤ d.to → range ≡ map (in_cluster d.cluster) (slice_range gs d.from d.to) → put_mid d.from (d.to - d.from) gs range ≡ with_range_in_cluster d gs
+pub carried_put : (d : DueRange) (gs range : List Glyph) → d.from ≤ d.to → range ≡ map (in_cluster d.cluster) (slice_range gs d.from d.to) → put_mid d.from (d.to - d.from) gs range ≡ with_range_in_cluster d gs
 carried_put d gs range le e =
     let there : d.from + (d.to - d.from) ≡ d.to = omega arith in
     let behind : drop (d.to - d.from) (drop d.from gs) ≡ drop d.to gs = drop-drop (d.to - d.from) d.from gs ∙ ap (λ n. drop n gs) there in
@@ -155,13 +155,13 @@ merged_from gs at start end a xs le lt is falling other same =
     let b = drop end gs in
     let cut : slice_range gs at end ≡ r ++ w = two_ranges at start end gs le (omega arith) in
     let whole : gs ≡ f ++ (r ++ w) ++ b = sym (cut_out at end gs (omega arith)) ∙ ap (λ hs. f ++ hs ++ b) cut in
-    let range : range_of start end (clusters gs) ≡ a ∷ xs = stretch_is gs start end ∙ is in
+    let range : range_of start end (clusters gs) ≡ a ∷ xs = range_clusters gs start end ∙ is in
     sym (ap (λ ns. gone (merged_number ns) gs) range ∙ ap (gone (merged_number (a ∷ xs))) whole ∙ merged_parts a xs f r w b is (subst (λ (hs : List Glyph). IsFalling (clusters hs)) whole falling) other same ∙ ap (λ hs. f ++ map (in_cluster (least_number (a ∷ xs))) hs ++ b) (sym cut))
 
 -- a range of one cluster
 merged_alone : (gs : List Glyph) (start end a : ℕ) (xs : List ℕ) → clusters (slice_range gs start end) ≡ a ∷ xs → IsFalling (clusters gs) → a ≡ least_number (a ∷ xs) → gs ≡ glyphs_merged (range_of start end (clusters gs)) gs
 merged_alone gs start end a xs is falling alone =
-    let range : range_of start end (clusters gs) ≡ a ∷ xs = stretch_is gs start end ∙ is in
+    let range : range_of start end (clusters gs) ≡ a ∷ xs = range_clusters gs start end ∙ is in
     let behind : IsChain Falls (clusters (drop start gs)) = chain_right Falls (clusters (take start gs)) (clusters (drop start gs)) (subst (IsChain Falls) (clusters_cut gs start) falling) in
     let inner : IsChain Falls (a ∷ xs) = subst (IsChain Falls) is (chain_left Falls (clusters (slice_range gs start end)) (clusters (drop (end - start) (drop start gs))) (subst (IsChain Falls) (clusters_cut (drop start gs) (end - start)) behind)) in
     sym (ap (λ ns. gone (merged_number ns) gs) range ∙ all_stay (merged_number (a ∷ xs)) gs (λ n h. by_test n (has_number (a ∷ xs) n) refl inner))
@@ -171,30 +171,30 @@ merged_alone gs start end a xs is falling alone =
     by_test n false e inner = refl
 
 -- what is carried out, part by part
-pub range_long : (d : Stretch) (gs : List Glyph) → d.from ≤ d.to → d.to ≤ length gs → length (map (in_cluster d.cluster) (slice_range gs d.from d.to)) ≡ d.to - d.from
+pub range_long : (d : DueRange) (gs : List Glyph) → d.from ≤ d.to → d.to ≤ length gs → length (map (in_cluster d.cluster) (slice_range gs d.from d.to)) ≡ d.to - d.from
 range_long d gs le within = length-map (slice_range gs d.from d.to) (in_cluster d.cluster) ∙ length-take-le (d.to - d.from) (drop d.from gs) (omega (arith, length-drop d.from gs))
 
-pub front_long : (d : Stretch) (gs : List Glyph) → d.from ≤ d.to → d.to ≤ length gs → length (take d.from gs ++ map (in_cluster d.cluster) (slice_range gs d.from d.to)) ≡ d.to
+pub front_long : (d : DueRange) (gs : List Glyph) → d.from ≤ d.to → d.to ≤ length gs → length (take d.from gs ++ map (in_cluster d.cluster) (slice_range gs d.from d.to)) ≡ d.to
 front_long d gs le within = omega (arith, length-append (take d.from gs) (map (in_cluster d.cluster) (slice_range gs d.from d.to)), length-take-le d.from gs (omega arith), range_long d gs le within)
 
-pub take_carried : (d : Stretch) (gs : List Glyph) → d.from ≤ d.to → d.to ≤ length gs → take d.to (with_range_in_cluster d gs) ≡ take d.from gs ++ map (in_cluster d.cluster) (slice_range gs d.from d.to)
+pub take_carried : (d : DueRange) (gs : List Glyph) → d.from ≤ d.to → d.to ≤ length gs → take d.to (with_range_in_cluster d gs) ≡ take d.from gs ++ map (in_cluster d.cluster) (slice_range gs d.from d.to)
 take_carried d gs le within =
     let f = take d.from gs ++ map (in_cluster d.cluster) (slice_range gs d.from d.to) in
     ap (λ n. take n (f ++ drop d.to gs)) (sym (front_long d gs le within)) ∙ take-append_seam f (drop d.to gs)
 
-pub drop_carried : (d : Stretch) (gs : List Glyph) (at : ℕ) → d.from ≤ d.to → d.to ≤ length gs → d.to ≤ at → drop at (with_range_in_cluster d gs) ≡ drop at gs
+pub drop_carried : (d : DueRange) (gs : List Glyph) (at : ℕ) → d.from ≤ d.to → d.to ≤ length gs → d.to ≤ at → drop at (with_range_in_cluster d gs) ≡ drop at gs
 drop_carried d gs at le within behind =
     let f = take d.from gs ++ map (in_cluster d.cluster) (slice_range gs d.from d.to) in
     let here : drop d.to (with_range_in_cluster d gs) ≡ drop d.to gs = ap (λ n. drop n (f ++ drop d.to gs)) (sym (front_long d gs le within)) ∙ drop-append_seam f (drop d.to gs) in
     sym (drop_beyond d.to at (with_range_in_cluster d gs) behind) ∙ ap (drop (at - d.to)) here ∙ drop_beyond d.to at gs behind
 
-pub from_carried : (d : Stretch) (gs : List Glyph) → d.from ≤ d.to → d.to ≤ length gs → take d.from (with_range_in_cluster d gs) ≡ take d.from gs
+pub from_carried : (d : DueRange) (gs : List Glyph) → d.from ≤ d.to → d.to ≤ length gs → take d.from (with_range_in_cluster d gs) ≡ take d.from gs
 from_carried d gs le within =
     let m = map (in_cluster d.cluster) (slice_range gs d.from d.to) in
     let long : length (take d.from gs) ≡ d.from = length-take-le d.from gs (omega arith) in
     ap (take d.from) (append_assoc (take d.from gs) m (drop d.to gs)) ∙ ap (λ n. take n (take d.from gs ++ (m ++ drop d.to gs))) (sym long) ∙ take-append_seam (take d.from gs) (m ++ drop d.to gs)
 
-pub range_carried : (d : Stretch) (gs : List Glyph) → d.from ≤ d.to → d.to ≤ length gs → slice_range (with_range_in_cluster d gs) d.from d.to ≡ map (in_cluster d.cluster) (slice_range gs d.from d.to)
+pub range_carried : (d : DueRange) (gs : List Glyph) → d.from ≤ d.to → d.to ≤ length gs → slice_range (with_range_in_cluster d gs) d.from d.to ≡ map (in_cluster d.cluster) (slice_range gs d.from d.to)
 range_carried d gs le within =
     let m = map (in_cluster d.cluster) (slice_range gs d.from d.to) in
     let long : length (take d.from gs) ≡ d.from = length-take-le d.from gs (omega arith) in
@@ -218,7 +218,7 @@ all_twice c z (g ∷ gs) other off =
     ∙ ap (λ hs. in_cluster z g ∷ hs) (all_twice c z gs other (λ n h. off n (has_more g.cluster n (clusters gs) h)))
 
 -- after what is due nothing changes
-pub same_range : (d : Stretch) (gs : List Glyph) (i j : ℕ) → d.from ≤ d.to → d.to ≤ length gs → d.to ≤ i → slice_range (with_range_in_cluster d gs) i j ≡ slice_range gs i j
+pub same_range : (d : DueRange) (gs : List Glyph) (i j : ℕ) → d.from ≤ d.to → d.to ≤ length gs → d.to ≤ i → slice_range (with_range_in_cluster d gs) i j ≡ slice_range gs i j
 same_range d gs i j le within behind = ap (take (j - i)) (drop_carried d gs i le within behind)
 
 has_before : (gs : List Glyph) (i j n : ℕ) → i ≤ j → Has (clusters (take i gs)) n → Has (clusters (take j gs)) n
@@ -232,7 +232,7 @@ has_within gs i j n le h =
     subst (λ ns. Has ns n) (sym cut) (has_right n (clusters (take i gs)) (clusters (slice_range gs i j)) h)
 
 -- what is carried out again to a lesser cluster
-twice : (d : Stretch) (gs : List Glyph) (end z : ℕ) → d.from ≤ d.to → d.to ≤ length gs → d.to ≤ end → z < d.cluster → ((n : ℕ) → Has (clusters (take d.to gs)) n → d.cluster ≤ n)
+twice : (d : DueRange) (gs : List Glyph) (end z : ℕ) → d.from ≤ d.to → d.to ≤ length gs → d.to ≤ end → z < d.cluster → ((n : ℕ) → Has (clusters (take d.to gs)) n → d.cluster ≤ n)
     → with_range_in_cluster (record { from = d.from; to = end; cluster = z }) (with_range_in_cluster d gs) ≡ with_range_in_cluster (record { from = d.from; to = end; cluster = z }) gs
 twice d gs end z le within behind less least =
     let m = with_range_in_cluster d gs in
@@ -273,20 +273,20 @@ all_are p n (g ∷ gs) e h = elim (has_cases g.cluster n (clusters gs) h) [
     rest false f = cc
 
 -- a range after what is due in falling clusters
-pub record IsRange (start end a : ℕ) (xs : List ℕ) (d : Stretch) (gs : List Glyph) : Type 0 where
+pub record IsRange (start end a : ℕ) (xs : List ℕ) (d : DueRange) (gs : List Glyph) : Type 0 where
   pub lt : start < end
   pub within : end ≤ length gs
   pub is : clusters (slice_range gs start end) ≡ a ∷ xs
   pub due : IsDueBefore start d gs
 
-range_meant : (start end a : ℕ) (xs : List ℕ) (d : Stretch) (gs : List Glyph) → IsRange start end a xs d gs → clusters (slice_range (with_range_in_cluster d gs) start end) ≡ a ∷ xs
+range_meant : (start end a : ℕ) (xs : List ℕ) (d : DueRange) (gs : List Glyph) → IsRange start end a xs d gs → clusters (slice_range (with_range_in_cluster d gs) start end) ≡ a ∷ xs
 range_meant start end a xs d gs r = ap clusters (same_range d gs start end r.due.ordered (omega (arith, r.due.before, r.lt, r.within)) r.due.before) ∙ r.is
 
 falls_merged : (start end : ℕ) (gs new : List Glyph) → start < end → IsFalling (clusters gs) → new ≡ glyphs_merged (range_of start end (clusters gs)) gs → IsFalling (clusters new)
 falls_merged start end gs new lt falling e = direction_merged MonotoneGraphemes start end gs new (omega arith) e true falling
 
 -- the due range joins
-pub joined_merged : (start end a : ℕ) (xs : List ℕ) (d : Stretch) (gs : List Glyph) → IsRange start end a xs d gs → least_number (a ∷ xs) < a → d.cluster ≡ a → ((n : ℕ) → Has (clusters (slice_range gs d.to start)) n → n ≡ a)
+pub joined_merged : (start end a : ℕ) (xs : List ℕ) (d : DueRange) (gs : List Glyph) → IsRange start end a xs d gs → least_number (a ∷ xs) < a → d.cluster ≡ a → ((n : ℕ) → Has (clusters (slice_range gs d.to start)) n → n ≡ a)
     → with_range_in_cluster (record { from = d.from; to = end; cluster = least_number (a ∷ xs) }) gs ≡ glyphs_merged (range_of start end (clusters (with_range_in_cluster d gs))) (with_range_in_cluster d gs)
 joined_merged start end a xs d gs r less joins all =
     let due = r.due in
@@ -304,7 +304,7 @@ joined_merged start end a xs d gs r less joins all =
     sym (twice d gs end (least_number (a ∷ xs)) due.ordered within (omega (arith, due.before, r.lt)) (omega (arith, joins, less)) due.least)
     ∙ merged_from m d.from start end a xs (omega (arith, due.ordered, due.before)) r.lt (range_meant start end a xs d gs r) due.falls other same
 
-pub joined_due : (start end a : ℕ) (xs : List ℕ) (d : Stretch) (gs : List Glyph) → IsRange start end a xs d gs → least_number (a ∷ xs) < a → d.cluster ≡ a → ((n : ℕ) → Has (clusters (slice_range gs d.to start)) n → n ≡ a)
+pub joined_due : (start end a : ℕ) (xs : List ℕ) (d : DueRange) (gs : List Glyph) → IsRange start end a xs d gs → least_number (a ∷ xs) < a → d.cluster ≡ a → ((n : ℕ) → Has (clusters (slice_range gs d.to start)) n → n ≡ a)
     → IsDueBefore end (record { from = d.from; to = end; cluster = least_number (a ∷ xs) }) gs
 joined_due start end a xs d gs r less joins all =
     let due = r.due in
@@ -326,7 +326,7 @@ joined_due start end a xs d gs r less joins all =
     }
 
 -- what is due goes to a cluster that is not less
-due_above : (start end a : ℕ) (xs : List ℕ) (d : Stretch) (gs : List Glyph) → IsRange start end a xs d gs → 0 < d.to → a ≤ d.cluster
+due_above : (start end a : ℕ) (xs : List ℕ) (d : DueRange) (gs : List Glyph) → IsRange start end a xs d gs → 0 < d.to → a ≤ d.cluster
 due_above start end a xs d gs r lt =
     let due = r.due in
     let m = with_range_in_cluster d gs in
@@ -339,7 +339,7 @@ due_above start end a xs d gs r lt =
     (has_before m d.to start d.cluster due.before (subst (λ ns. Has ns d.cluster) (sym there) (has_right d.cluster (clusters (take d.from gs)) (clusters go) (one_in d.cluster mid long))))
 
 -- none of it is of the first cluster of the range, nor is what is before it
-none_due : (start end a n : ℕ) (xs : List ℕ) (d : Stretch) (gs : List Glyph) → IsRange start end a xs d gs → d.cluster ≢ a → Has (clusters (take d.to (with_range_in_cluster d gs))) n → n ≢ a
+none_due : (start end a n : ℕ) (xs : List ℕ) (d : DueRange) (gs : List Glyph) → IsRange start end a xs d gs → d.cluster ≢ a → Has (clusters (take d.to (with_range_in_cluster d gs))) n → n ≢ a
 none_due start end a n xs d gs r other h e =
     let due = r.due in
     let within : d.to ≤ length gs = omega (arith, due.before, r.lt, r.within) in
@@ -364,7 +364,7 @@ behind_is gs to start ahead le =
     ap (λ n. drop ahead (take n (drop to gs))) wide ∙ drop-take ahead (start - (to + ahead)) (drop to gs) ∙ ap (take (start - (to + ahead))) (drop-drop ahead to gs)
 
 -- where the run before the range begins, all before it is of other clusters
-none_before : (start end a n ahead : ℕ) (xs : List ℕ) (d : Stretch) (gs : List Glyph) → IsRange start end a xs d gs → d.to + ahead ≤ start → IsEndRun a ahead (slice_range gs d.to start) → (ahead ≡ 0 → d.cluster ≢ a)
+none_before : (start end a n ahead : ℕ) (xs : List ℕ) (d : DueRange) (gs : List Glyph) → IsRange start end a xs d gs → d.to + ahead ≤ start → IsEndRun a ahead (slice_range gs d.to start) → (ahead ≡ 0 → d.cluster ≢ a)
     → Has (clusters (take (d.to + ahead) (with_range_in_cluster d gs))) n → n ≢ a
 none_before start end a n zero xs d gs r le run other h e =
     let here : d.to + 0 ≡ d.to = omega arith in
@@ -402,7 +402,7 @@ none_before start end a n (suc i) xs d gs r le run other h e =
         ]
 
 -- the due range is carried out, and another begins
-pub begun_merged : (start end a ahead : ℕ) (xs : List ℕ) (d : Stretch) (gs : List Glyph) → IsRange start end a xs d gs → d.to + ahead ≤ start → IsEndRun a ahead (slice_range gs d.to start) → (ahead ≡ 0 → d.cluster ≢ a)
+pub begun_merged : (start end a ahead : ℕ) (xs : List ℕ) (d : DueRange) (gs : List Glyph) → IsRange start end a xs d gs → d.to + ahead ≤ start → IsEndRun a ahead (slice_range gs d.to start) → (ahead ≡ 0 → d.cluster ≢ a)
     → with_range_in_cluster (record { from = d.to + ahead; to = end; cluster = least_number (a ∷ xs) }) (with_range_in_cluster d gs) ≡ glyphs_merged (range_of start end (clusters (with_range_in_cluster d gs))) (with_range_in_cluster d gs)
 begun_merged start end a ahead xs d gs r le run other =
     let due = r.due in
@@ -412,7 +412,7 @@ begun_merged start end a ahead xs d gs r le run other =
     (λ n h. none_before start end a n ahead xs d gs r le run other h)
     (λ n h. all_are a n (drop ahead (slice_range gs d.to start)) run.all (subst (λ (hs : List Glyph). Has (clusters hs) n) behind h))
 
-pub begun_due : (start end a ahead : ℕ) (xs : List ℕ) (d : Stretch) (gs : List Glyph) → IsRange start end a xs d gs → d.to + ahead ≤ start → IsEndRun a ahead (slice_range gs d.to start) → (ahead ≡ 0 → d.cluster ≢ a) → least_number (a ∷ xs) < a
+pub begun_due : (start end a ahead : ℕ) (xs : List ℕ) (d : DueRange) (gs : List Glyph) → IsRange start end a xs d gs → d.to + ahead ≤ start → IsEndRun a ahead (slice_range gs d.to start) → (ahead ≡ 0 → d.cluster ≢ a) → least_number (a ∷ xs) < a
     → IsDueBefore end (record { from = d.to + ahead; to = end; cluster = least_number (a ∷ xs) }) (with_range_in_cluster d gs)
 begun_due start end a ahead xs d gs r le run other less =
     let m = with_range_in_cluster d gs in
@@ -427,11 +427,11 @@ begun_due start end a ahead xs d gs r le run other less =
     }
 
 -- a range that begins with a glyph
-pub range_at : (start end : ℕ) (d : Stretch) (gs : List Glyph) (g : Glyph) → start < end → end ≤ length gs → IsDueBefore start d gs → IsRange start end (get_or gs start g).cluster (clusters (take (end - start - 1) (drop (start + 1) gs))) d gs
+pub range_at : (start end : ℕ) (d : DueRange) (gs : List Glyph) (g : Glyph) → start < end → end ≤ length gs → IsDueBefore start d gs → IsRange start end (get_or gs start g).cluster (clusters (take (end - start - 1) (drop (start + 1) gs))) d gs
 range_at start end d gs g lt within due = record { lt = lt; within = within; is = range_first gs start end g lt (omega arith); due = due }
 
 -- a range of one cluster changes nothing
-pub kept_merged : (start end a : ℕ) (xs : List ℕ) (d : Stretch) (gs : List Glyph) → IsRange start end a xs d gs → a ≡ least_number (a ∷ xs) → with_range_in_cluster d gs ≡ glyphs_merged (range_of start end (clusters (with_range_in_cluster d gs))) (with_range_in_cluster d gs)
+pub kept_merged : (start end a : ℕ) (xs : List ℕ) (d : DueRange) (gs : List Glyph) → IsRange start end a xs d gs → a ≡ least_number (a ∷ xs) → with_range_in_cluster d gs ≡ glyphs_merged (range_of start end (clusters (with_range_in_cluster d gs))) (with_range_in_cluster d gs)
 kept_merged start end a xs d gs r alone = merged_alone (with_range_in_cluster d gs) start end a xs (range_meant start end a xs d gs r) r.due.falls alone
 
 pub low_below : (a z : ℕ) (ns xs : List ℕ) → ns ≡ a ∷ xs → z ≡ least_number ns → a ≢ z → least_number (a ∷ xs) < a
@@ -461,14 +461,14 @@ falls_where_lower (g ∷ gs) d lt less o = elim o [
 ]
 
 -- a span keeps the order of clusters
-pub span_direction : (level : Level) (start end : ℕ) (s t : Spanned) → start ≤ end → t ≡ span_merged level start end s → (falls : Bool) → IsInOrder falls (clusters s.glyphs) → IsInOrder falls (clusters t.glyphs)
-span_direction level start end s t le e falls o = subst (λ (u : Spanned). IsInOrder falls (clusters u.glyphs)) (sym e) (by_test (nat_lt (start + 1) end))
+pub span_direction : (level : Level) (start end : ℕ) (s t : SpanMerge) → start ≤ end → t ≡ span_merged level start end s → (falls : Bool) → IsInOrder falls (clusters s.glyphs) → IsInOrder falls (clusters t.glyphs)
+span_direction level start end s t le e falls o = subst (λ (u : SpanMerge). IsInOrder falls (clusters u.glyphs)) (sym e) (by_test (nat_lt (start + 1) end))
   where
     by_test : (u : Bool) → IsInOrder falls (clusters (if u then record { glyphs = glyphs_merged_at level start end s.glyphs; is_marked = s.is_marked || is_marked_at level start end (clusters s.glyphs) } else s).glyphs)
     by_test true = direction_merged level start end s.glyphs (glyphs_merged_at level start end s.glyphs) le refl falls o
     by_test false = o
 
-pub span_ordered : (level : Level) (start end : ℕ) (s t : Spanned) → start ≤ end → t ≡ span_merged level start end s → IsOrdered (clusters s.glyphs) → IsOrdered (clusters t.glyphs)
+pub span_ordered : (level : Level) (start end : ℕ) (s t : SpanMerge) → start ≤ end → t ≡ span_merged level start end s → IsOrdered (clusters s.glyphs) → IsOrdered (clusters t.glyphs)
 span_ordered level start end s t le e o = elim o [
   | inl rises ↦ inl (span_direction level start end s t le e false rises)
   | inr falls ↦ inr (span_direction level start end s t le e true falls)

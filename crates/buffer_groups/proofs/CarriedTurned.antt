@@ -9,7 +9,7 @@ use Rattle.buffer_glyphs.specs.Items.{clusters}
 use Rattle.buffer_glyphs.specs.Order.{IsFalling}
 use Rattle.buffer_glyphs.specs.Glyphs.{in_cluster, glyphs_merged_at}
 use Rattle.buffer_glyphs.specs.Lemmas.Numbers.{Has, has_either, has_left, has_right, has_reverse}
-use Rattle.buffer_groups.specs.declared.due.falling.Stretch.{Stretch}
+use Rattle.buffer_groups.specs.declared.due.falling.DueRange.{DueRange}
 use Rattle.buffer_glyphs.specs.Levels.{IsMonotone}
 use Rattle.buffer_groups.specs.Turning.{range_reversed}
 use Rattle.buffer_groups.specs.Falling.{with_range_in_cluster, IsDueBefore, IsRound}
@@ -18,7 +18,7 @@ use Rattle.buffer_groups.proofs.Carried.{two_ranges, take_to, drop_beyond, take_
 use Rattle.buffer_glyphs.specs.Lemmas.EventParts.{map-reverse}
 
 -- as long as before
-pub carried_long : (d : Stretch) (gs : List Glyph) → d.from ≤ d.to → d.to ≤ length gs → length (with_range_in_cluster d gs) ≡ length gs
+pub carried_long : (d : DueRange) (gs : List Glyph) → d.from ≤ d.to → d.to ≤ length gs → length (with_range_in_cluster d gs) ≡ length gs
 carried_long d gs le within = omega (arith, length-append (take d.from gs ++ map (in_cluster d.cluster) (slice_range gs d.from d.to)) (drop d.to gs), front_long d gs le within, length-drop d.to gs)
 
 -- the parts of a list of which a part was reversed
@@ -57,7 +57,7 @@ turned_range i j start end xs le less within =
     by_take i j (range_reversed start end xs) le ∙ ap (drop i) (turned_front j start end xs less within) ∙ sym (by_take i j xs le)
 
 -- what is due goes with the part
-pub carried_turned : (d : Stretch) (start end : ℕ) (gs : List Glyph) → start ≤ end → end ≤ length gs → d.from ≤ d.to → IsRound start end d → with_range_in_cluster d (range_reversed start end gs) ≡ range_reversed start end (with_range_in_cluster d gs)
+pub carried_turned : (d : DueRange) (start end : ℕ) (gs : List Glyph) → start ≤ end → end ≤ length gs → d.from ≤ d.to → IsRound start end d → with_range_in_cluster d (range_reversed start end gs) ≡ range_reversed start end (with_range_in_cluster d gs)
 carried_turned d start end gs le within ordered (inl before) =
     let new = range_reversed start end gs in
     let long : length new ≡ length gs = turned_long start end gs le within in
@@ -94,7 +94,7 @@ carried_turned d start end gs le within ordered (inr round) =
     sym (take-append-drop d.to (with_range_in_cluster d new)) ∙ ap (λ hs. hs ++ drop d.to (with_range_in_cluster d new)) (left ∙ ap (λ hs. hs ++ reverse (go w)) (sym before) ∙ ap (λ hs. take start m ++ reverse hs) (sym among)) ∙ ap (λ hs. take start m ++ reverse (slice_range m start end) ++ hs) back
 
 -- a cluster that occurs before the end of what is due did so before
-turned_has : (d : Stretch) (start end n : ℕ) (gs : List Glyph) → start ≤ end → end ≤ length gs → IsRound start end d → Has (clusters (take d.to (range_reversed start end gs))) n → Has (clusters (take d.to gs)) n
+turned_has : (d : DueRange) (start end n : ℕ) (gs : List Glyph) → start ≤ end → end ≤ length gs → IsRound start end d → Has (clusters (take d.to (range_reversed start end gs))) n → Has (clusters (take d.to gs)) n
 turned_has d start end n gs le within (inl before) h = subst (λ (hs : List Glyph). Has (clusters hs) n) (turned_front d.to start end gs before (omega arith)) h
 turned_has d start end n gs le within (inr round) h =
     let v : Glyph → ℕ = λ g. g.cluster in
@@ -109,7 +109,7 @@ turned_has d start end n gs le within (inr round) h =
     ])
 
 -- a range is due where its group was merged and is reversed in its place
-pub stretch_turned : (level : Level) (d : Stretch) (start end : ℕ) (old gs : List Glyph) → IsMonotone level → start ≤ end → end ≤ length gs → IsDueBefore end d gs → IsRound start end d → with_range_in_cluster d gs ≡ glyphs_merged_at level start end old → IsDueBefore end d (range_reversed start end gs)
+pub stretch_turned : (level : Level) (d : DueRange) (start end : ℕ) (old gs : List Glyph) → IsMonotone level → start ≤ end → end ≤ length gs → IsDueBefore end d gs → IsRound start end d → with_range_in_cluster d gs ≡ glyphs_merged_at level start end old → IsDueBefore end d (range_reversed start end gs)
 stretch_turned level d start end old gs mono le within due round e =
     let new = range_reversed start end gs in
     let whole : clusters (with_range_in_cluster d new) ≡ clusters (with_range_in_cluster d gs) = ap clusters (carried_turned d start end gs le within due.ordered round) ∙ clusters_part level start end old (with_range_in_cluster d gs) mono le e in

@@ -2,7 +2,7 @@
 use Rattle.std.proofs.Common.{ℕ, ◌≡◌, ◌≤◌, Bool, true, false, List, length, drop, arith, refl}
 use Rattle.buffer_glyphs.specs.declared.info.hb_glyph_info_t.{hb_glyph_info_t as Glyph}
 use Rattle.buffer_glyphs.specs.declared.level.BufferClusterLevel.{BufferClusterLevel as Level}
-use Rattle.buffer_groups.specs.declared.due.falling.Stretch.{Stretch}
+use Rattle.buffer_groups.specs.declared.due.falling.DueRange.{DueRange}
 use Rattle.buffer_groups.specs.declared.due.Due.{Due}
 use Rattle.buffer_groups.specs.declared.due.Due.TheVariants.{Nothing, Falling}
 use Rattle.buffer_groups.specs.Turning.{glyphs_merged_if, range_reversed}
@@ -35,7 +35,7 @@ due_turned false level start end (Falling d) old gs le within h round plain e = 
 due_turned true level start end (Falling d) old gs le within h round plain e = (h.0, stretch_turned level d start end old gs h.0 le within h.1 round e)
 
 -- what is ahead is as it is meant where a range is due
-pub meant_ahead : (at : ℕ) (d : Stretch) (gs : List Glyph) → at ≤ length gs → IsDueBefore at d gs → drop at (with_range_in_cluster d gs) ≡ drop at gs
+pub meant_ahead : (at : ℕ) (d : DueRange) (gs : List Glyph) → at ≤ length gs → IsDueBefore at d gs → drop at (with_range_in_cluster d gs) ≡ drop at gs
 meant_ahead at d gs le h = drop_carried d gs at h.ordered (omega (arith, h.before, le)) h.before
 
 pub ahead_as_meant : (at : ℕ) (due : Due) (gs : List Glyph) → at ≤ length gs → IsDue at due gs → drop at (with_due due gs) ≡ drop at gs

@@ -13,7 +13,7 @@ use Rattle.buffer_glyphs.specs.declared.info.hb_glyph_info_t.{hb_glyph_info_t as
 use Rattle.buffer_glyphs.specs.declared.level.BufferClusterLevel.{BufferClusterLevel as Level}
 use Rattle.buffer_groups.specs.declared.sorting.Keyed.{Keyed}
 use Rattle.buffer_groups.specs.Lemmas.Neighbours.{no_glyph}
-use Rattle.buffer_groups.specs.Sorting.{keyed_indices_from, indices_by_key, is_seam, Spanned, span_merged, spans_merged, range_spanned, range_sorted, glyph_at, put_in_order}
+use Rattle.buffer_groups.specs.Sorting.{keyed_indices_from, indices_by_key, is_seam, SpanMerge, span_merged, spans_merged, range_spanned, range_sorted, glyph_at, put_in_order}
 use Rattle.buffer_groups.proofs.Seams.{keyed_length}
 
 -- one glyph more, whose key is not below the last
@@ -49,9 +49,9 @@ keyed_ordered k gs h i j d le lt =
 places_same : (k : Glyph → ℕ) (gs : List Glyph) → IsNonDecreasingBy k gs → indices_by_key k gs ≡ keyed_indices_from k 0 gs
 places_same k gs h =
     let keyed = keyed_indices_from k 0 gs in
-    sym (stable_sort_is (λ (e : Keyed). e.key) (λ c. record { key = c; place = 0 }) (λ c. refl) keyed keyed (keyed_ordered k gs h) (λ x. refl) (IsPermutation-refl keyed))
+    sym (stable_sort_is (λ (e : Keyed). e.key) (λ c. record { key = c; index = 0 }) (λ c. refl) keyed keyed (keyed_ordered k gs h) (λ x. refl) (IsPermutation-refl keyed))
 
-all_before : (k : Glyph → ℕ) (i j n : ℕ) (gs : List Glyph) → j + i ≤ n → list_all (λ (e : Keyed). nat_lt e.place n) (take i (keyed_indices_from k j gs)) ≡ true
+all_before : (k : Glyph → ℕ) (i j n : ℕ) (gs : List Glyph) → j + i ≤ n → list_all (λ (e : Keyed). nat_lt e.index n) (take i (keyed_indices_from k j gs)) ≡ true
 all_before k zero j n gs le = refl
 all_before k (suc i) j n [] le = refl
 all_before k (suc i) j n (g ∷ gs) le =
@@ -61,23 +61,23 @@ all_before k (suc i) j n (g ∷ gs) le =
 all_seams : (k : Glyph → ℕ) (gs : List Glyph) (i : ℕ) → is_seam (keyed_indices_from k 0 gs) i ≡ true
 all_seams k gs i = all_before k i 0 i gs (omega arith)
 
-one_alone : (level : Level) (start place : ℕ) (s : Spanned) → span_merged level (start + place) (start + (place + 1)) s ≡ s
-one_alone level start place s =
-    let off : nat_lt (start + place + 1) (start + (place + 1)) ≡ false = grind (arith, nat_tests) in
+one_alone : (level : Level) (start index : ℕ) (s : SpanMerge) → span_merged level (start + index) (start + (index + 1)) s ≡ s
+one_alone level start index s =
+    let off : nat_lt (start + index + 1) (start + (index + 1)) ≡ false = grind (arith, nat_tests) in
     cond-false _ _ _ off
 
-spans_same : (level : Level) (start : ℕ) (order : List Keyed) (left place : ℕ) (s : Spanned) → ((i : ℕ) → is_seam order i ≡ true) → spans_merged level start order place place left s ≡ s
-spans_same level start order zero place s seams = refl
-spans_same level start order (suc left) place s seams =
-    cond-true _ _ _ (seams (place + 1)) ∙ ap (spans_merged level start order (place + 1) (place + 1) left) (one_alone level start place s) ∙ spans_same level start order left (place + 1) s seams
+spans_same : (level : Level) (start : ℕ) (order : List Keyed) (left index : ℕ) (s : SpanMerge) → ((i : ℕ) → is_seam order i ≡ true) → spans_merged level start order index index left s ≡ s
+spans_same level start order zero index s seams = refl
+spans_same level start order (suc left) index s seams =
+    cond-true _ _ _ (seams (index + 1)) ∙ ap (spans_merged level start order (index + 1) (index + 1) left) (one_alone level start index s) ∙ spans_same level start order left (index + 1) s seams
 
-put_from : (k : Glyph → ℕ) (front gs : List Glyph) (i : ℕ) → length front ≡ i → map (λ (e : Keyed). glyph_at (front ++ gs) e.place) (keyed_indices_from k i gs) ≡ gs
+put_from : (k : Glyph → ℕ) (front gs : List Glyph) (i : ℕ) → length front ≡ i → map (λ (e : Keyed). glyph_at (front ++ gs) e.index) (keyed_indices_from k i gs) ≡ gs
 put_from k front [] i e = refl
 put_from k front (g ∷ gs) i e =
     let here : glyph_at (front ++ g ∷ gs) i ≡ g = ap (glyph_at (front ++ g ∷ gs)) (sym e) ∙ get_or-append_seam front g gs no_glyph in
     let longer : length (front ++ g ∷ []) ≡ i + 1 = omega (arith, e, length-append front (g ∷ [])) in
-    let rest = subst (λ (xs : List Glyph). map (λ (e : Keyed). glyph_at xs e.place) (keyed_indices_from k (i + 1) gs) ≡ gs) (append_assoc front (g ∷ []) gs) (put_from k (front ++ g ∷ []) gs (i + 1) longer) in
-    ap (λ (x : Glyph). x ∷ map (λ (e : Keyed). glyph_at (front ++ g ∷ gs) e.place) (keyed_indices_from k (i + 1) gs)) here ∙ ap (λ hs. g ∷ hs) rest
+    let rest = subst (λ (xs : List Glyph). map (λ (e : Keyed). glyph_at xs e.index) (keyed_indices_from k (i + 1) gs) ≡ gs) (append_assoc front (g ∷ []) gs) (put_from k (front ++ g ∷ []) gs (i + 1) longer) in
+    ap (λ (x : Glyph). x ∷ map (λ (e : Keyed). glyph_at (front ++ g ∷ gs) e.index) (keyed_indices_from k (i + 1) gs)) here ∙ ap (λ hs. g ∷ hs) rest
 
 put_same : (start end : ℕ) (k : Glyph → ℕ) (gs : List Glyph) → start ≤ end → put_in_order start end (keyed_indices_from k 0 (slice_range gs start end)) gs ≡ gs
 put_same start end k gs le =
@@ -94,8 +94,8 @@ pub ordered_sort : (level : Level) (start end : ℕ) (k : Glyph → ℕ) (gs : L
 ordered_sort level start end k gs le h =
     let range = slice_range gs start end in
     let keyed = keyed_indices_from k 0 range in
-    let s : Spanned = record { glyphs = gs; is_marked = false } in
+    let s : SpanMerge = record { glyphs = gs; is_marked = false } in
     let spanned : range_spanned level start keyed gs ≡ s = spans_same level start keyed (length keyed) 0 s (all_seams k range) in
     ap (λ es. record { glyphs = put_in_order start end es (range_spanned level start es gs).glyphs; is_marked = (range_spanned level start es gs).is_marked }) (places_same k range h)
-    ∙ ap (λ (t : Spanned). record { glyphs = put_in_order start end keyed t.glyphs; is_marked = t.is_marked }) spanned
+    ∙ ap (λ (t : SpanMerge). record { glyphs = put_in_order start end keyed t.glyphs; is_marked = t.is_marked }) spanned
     ∙ ap (λ hs. record { glyphs = hs; is_marked = false }) (put_same start end k gs le)

@@ -14,22 +14,22 @@ use Rattle.buffer_glyphs.specs.Lists.{get_or_mapped}
 use Rattle.buffer_glyphs.specs.declared.info.hb_glyph_info_t.{hb_glyph_info_t as Glyph}
 use Rattle.buffer_glyphs.specs.declared.level.BufferClusterLevel.{BufferClusterLevel as Level}
 use Rattle.buffer_groups.specs.declared.sorting.Keyed.{Keyed}
-use Rattle.buffer_groups.specs.Sorting.{keyed_indices_from, indices_by_key, is_seam, Spanned, span_merged, spans_merged, range_spanned, range_merged, range_sorted, glyph_at, put_in_order}
+use Rattle.buffer_groups.specs.Sorting.{keyed_indices_from, indices_by_key, is_seam, SpanMerge, span_merged, spans_merged, range_spanned, range_merged, range_sorted, glyph_at, put_in_order}
 
 -- what an index past the end would give
-abbrev pub no_place : Keyed
-no_place = record { key = 0; place = 0 }
+abbrev pub no_key : Keyed
+no_key = record { key = 0; index = 0 }
 
-pub keyed_step : (k : Glyph → ℕ) (gs : List Glyph) (i : ℕ) (d : Glyph) (v new whole : List Keyed) (r : ℕ) → i < length gs → new ≡ v ++ record { key = r; place = i } ∷ [] → r ≡ k (get_or gs i d)
+pub keyed_step : (k : Glyph → ℕ) (gs : List Glyph) (i : ℕ) (d : Glyph) (v new whole : List Keyed) (r : ℕ) → i < length gs → new ≡ v ++ record { key = r; index = i } ∷ [] → r ≡ k (get_or gs i d)
     → v ++ keyed_indices_from k i (drop i gs) ≡ whole → new ++ keyed_indices_from k (i + 1) (drop (i + 1) gs) ≡ whole
 keyed_step k gs i d v new whole r lt n e before =
-    let cut : keyed_indices_from k i (drop i gs) ≡ record { key = k (get_or gs i d); place = i } ∷ keyed_indices_from k (i + 1) (drop (i + 1) gs) = ap (keyed_indices_from k i) (drop_more gs i d lt) in
-    ap (λ es. es ++ keyed_indices_from k (i + 1) (drop (i + 1) gs)) n ∙ append_assoc v (record { key = r; place = i } ∷ []) (keyed_indices_from k (i + 1) (drop (i + 1) gs))
-    ∙ ap (λ (m : ℕ). v ++ record { key = m; place = i } ∷ keyed_indices_from k (i + 1) (drop (i + 1) gs)) e ∙ ap (λ es. v ++ es) (sym cut) ∙ before
+    let cut : keyed_indices_from k i (drop i gs) ≡ record { key = k (get_or gs i d); index = i } ∷ keyed_indices_from k (i + 1) (drop (i + 1) gs) = ap (keyed_indices_from k i) (drop_more gs i d lt) in
+    ap (λ es. es ++ keyed_indices_from k (i + 1) (drop (i + 1) gs)) n ∙ append_assoc v (record { key = r; index = i } ∷ []) (keyed_indices_from k (i + 1) (drop (i + 1) gs))
+    ∙ ap (λ (m : ℕ). v ++ record { key = m; index = i } ∷ keyed_indices_from k (i + 1) (drop (i + 1) gs)) e ∙ ap (λ es. v ++ es) (sym cut) ∙ before
 
-all_more : (i : ℕ) (xs ys : List Keyed) → list_all (λ (e : Keyed). nat_lt e.place i) (xs ++ ys) ≡ (list_all (λ (e : Keyed). nat_lt e.place i) xs && list_all (λ (e : Keyed). nat_lt e.place i) ys)
+all_more : (i : ℕ) (xs ys : List Keyed) → list_all (λ (e : Keyed). nat_lt e.index i) (xs ++ ys) ≡ (list_all (λ (e : Keyed). nat_lt e.index i) xs && list_all (λ (e : Keyed). nat_lt e.index i) ys)
 all_more i [] ys = refl
-all_more i (x ∷ xs) ys = ap (λ t. nat_lt x.place i && t) (all_more i xs ys) ∙ sym (and_assoc (nat_lt x.place i) (list_all (λ (e : Keyed). nat_lt e.place i) xs) (list_all (λ (e : Keyed). nat_lt e.place i) ys))
+all_more i (x ∷ xs) ys = ap (λ t. nat_lt x.index i && t) (all_more i xs ys) ∙ sym (and_assoc (nat_lt x.index i) (list_all (λ (e : Keyed). nat_lt e.index i) xs) (list_all (λ (e : Keyed). nat_lt e.index i) ys))
   where
     and_assoc : (s t u : Bool) → ((s && t) && u) ≡ (s && (t && u))
     and_assoc true t u = refl
@@ -46,35 +46,35 @@ pub max_is : (m n : ℕ) → ord_max nat_cmp m n ≡ max m n
 max_is m n = grind (arith, nat_tests, common_steps)
 
 -- one place more came
-pub reach_more : (order : List Keyed) (place reach : ℕ) (d : Keyed) → place < length order → ((i : ℕ) → 0 < i → list_all (λ (e : Keyed). nat_lt e.place i) (take place order) ≡ nat_lt reach i)
-    → (i : ℕ) → 0 < i → list_all (λ (e : Keyed). nat_lt e.place i) (take (place + 1) order) ≡ nat_lt (max reach (get_or order place d).place) i
-reach_more order place reach d lt before i some =
-    ap (list_all (λ (e : Keyed). nat_lt e.place i)) (take_more order place d lt) ∙ all_more i (take place order) (get_or order place d ∷ [])
-    ∙ ap (λ t. t && (nat_lt (get_or order place d).place i && true)) (before i some) ∙ ap (λ t. nat_lt reach i && t) (and_true (nat_lt (get_or order place d).place i)) ∙ max_less reach (get_or order place d).place i
+pub reach_more : (order : List Keyed) (index reach : ℕ) (d : Keyed) → index < length order → ((i : ℕ) → 0 < i → list_all (λ (e : Keyed). nat_lt e.index i) (take index order) ≡ nat_lt reach i)
+    → (i : ℕ) → 0 < i → list_all (λ (e : Keyed). nat_lt e.index i) (take (index + 1) order) ≡ nat_lt (max reach (get_or order index d).index) i
+reach_more order index reach d lt before i some =
+    ap (list_all (λ (e : Keyed). nat_lt e.index i)) (take_more order index d lt) ∙ all_more i (take index order) (get_or order index d ∷ [])
+    ∙ ap (λ t. t && (nat_lt (get_or order index d).index i && true)) (before i some) ∙ ap (λ t. nat_lt reach i && t) (and_true (nat_lt (get_or order index d).index i)) ∙ max_less reach (get_or order index d).index i
 
 -- no seam is after an index
-pub spans_go_on : (level : Level) (start : ℕ) (order : List Keyed) (begin place reach : ℕ) (s whole : Spanned) → place < length order → place < reach
-    → ((i : ℕ) → 0 < i → list_all (λ (e : Keyed). nat_lt e.place i) (take (place + 1) order) ≡ nat_lt reach i)
-    → spans_merged level start order begin place (length order - place) s ≡ whole → spans_merged level start order begin (place + 1) (length order - (place + 1)) s ≡ whole
-spans_go_on level start order begin place reach s whole lt far seen before =
-    let less : length order - place ≡ suc (length order - (place + 1)) = omega arith in
-    let off : nat_lt reach (place + 1) ≡ false = grind (arith, nat_tests, common_steps) in
-    let seam : is_seam order (place + 1) ≡ false = seen (place + 1) (omega arith) ∙ off in
+pub spans_go_on : (level : Level) (start : ℕ) (order : List Keyed) (begin index reach : ℕ) (s whole : SpanMerge) → index < length order → index < reach
+    → ((i : ℕ) → 0 < i → list_all (λ (e : Keyed). nat_lt e.index i) (take (index + 1) order) ≡ nat_lt reach i)
+    → spans_merged level start order begin index (length order - index) s ≡ whole → spans_merged level start order begin (index + 1) (length order - (index + 1)) s ≡ whole
+spans_go_on level start order begin index reach s whole lt far seen before =
+    let less : length order - index ≡ suc (length order - (index + 1)) = omega arith in
+    let off : nat_lt reach (index + 1) ≡ false = grind (arith, nat_tests, common_steps) in
+    let seam : is_seam order (index + 1) ≡ false = seen (index + 1) (omega arith) ∙ off in
     let opened = rw less at before in
-    sym (ap (λ t. if t then spans_merged level start order (place + 1) (place + 1) (length order - (place + 1)) (span_merged level (start + begin) (start + (place + 1)) s) else spans_merged level start order begin (place + 1) (length order - (place + 1)) s) seam) ∙ opened
+    sym (ap (λ t. if t then spans_merged level start order (index + 1) (index + 1) (length order - (index + 1)) (span_merged level (start + begin) (start + (index + 1)) s) else spans_merged level start order begin (index + 1) (length order - (index + 1)) s) seam) ∙ opened
 
 -- a seam is after it
-pub spans_end : (level : Level) (start : ℕ) (order : List Keyed) (begin place reach : ℕ) (s new whole : Spanned) → place < length order → reach ≤ place
-    → ((i : ℕ) → 0 < i → list_all (λ (e : Keyed). nat_lt e.place i) (take (place + 1) order) ≡ nat_lt reach i)
-    → new ≡ span_merged level (start + begin) (start + (place + 1)) s
-    → spans_merged level start order begin place (length order - place) s ≡ whole → spans_merged level start order (place + 1) (place + 1) (length order - (place + 1)) new ≡ whole
-spans_end level start order begin place reach s new whole lt near seen n before =
-    let less : length order - place ≡ suc (length order - (place + 1)) = omega arith in
-    let on : nat_lt reach (place + 1) ≡ true = grind (arith, nat_tests, common_steps) in
-    let seam : is_seam order (place + 1) ≡ true = seen (place + 1) (omega arith) ∙ on in
+pub spans_end : (level : Level) (start : ℕ) (order : List Keyed) (begin index reach : ℕ) (s new whole : SpanMerge) → index < length order → reach ≤ index
+    → ((i : ℕ) → 0 < i → list_all (λ (e : Keyed). nat_lt e.index i) (take (index + 1) order) ≡ nat_lt reach i)
+    → new ≡ span_merged level (start + begin) (start + (index + 1)) s
+    → spans_merged level start order begin index (length order - index) s ≡ whole → spans_merged level start order (index + 1) (index + 1) (length order - (index + 1)) new ≡ whole
+spans_end level start order begin index reach s new whole lt near seen n before =
+    let less : length order - index ≡ suc (length order - (index + 1)) = omega arith in
+    let on : nat_lt reach (index + 1) ≡ true = grind (arith, nat_tests, common_steps) in
+    let seam : is_seam order (index + 1) ≡ true = seen (index + 1) (omega arith) ∙ on in
     let opened = rw less at before in
-    ap (spans_merged level start order (place + 1) (place + 1) (length order - (place + 1))) n
-    ∙ sym (ap (λ t. if t then spans_merged level start order (place + 1) (place + 1) (length order - (place + 1)) (span_merged level (start + begin) (start + (place + 1)) s) else spans_merged level start order begin (place + 1) (length order - (place + 1)) s) seam) ∙ opened
+    ap (spans_merged level start order (index + 1) (index + 1) (length order - (index + 1))) n
+    ∙ sym (ap (λ t. if t then spans_merged level start order (index + 1) (index + 1) (length order - (index + 1)) (span_merged level (start + begin) (start + (index + 1)) s) else spans_merged level start order begin (index + 1) (length order - (index + 1)) s) seam) ∙ opened
 
 pub put_step : (f : Keyed → Glyph) (order : List Keyed) (old range : List Glyph) (i : ℕ) (d : Keyed) (z g : Glyph) → i < length order → length order ≡ length old → range ≡ map f (take i order) ++ drop i old → z ≡ f (get_or order i d)
     → set range i z ≡ map f (take (i + 1) order) ++ drop (i + 1) old
@@ -112,11 +112,11 @@ same_step f order old range i z d s lt long before same = (there, back)
         grind (arith, nat_tests, common_steps, known, alike)
 
 -- a range was put in order once its spans were merged
-put_range : (start end : ℕ) (order : List Keyed) (mid range : List Glyph) → start ≤ end → range ≡ map (λ (e : Keyed). glyph_at (slice_range mid start end) e.place) order → put_mid start (end - start) mid range ≡ put_in_order start end order mid
+put_range : (start end : ℕ) (order : List Keyed) (mid range : List Glyph) → start ≤ end → range ≡ map (λ (e : Keyed). glyph_at (slice_range mid start end) e.index) order → put_mid start (end - start) mid range ≡ put_in_order start end order mid
 put_range start end order mid range le e =
     let there : start + (end - start) ≡ end = omega arith in
     let behind : drop (end - start) (drop start mid) ≡ drop end mid = drop-drop (end - start) start mid ∙ ap (λ n. drop n mid) there in
-    rw (e, behind) (sym (append_assoc (take start mid) (map (λ (e : Keyed). glyph_at (slice_range mid start end) e.place) order) (drop end mid)))
+    rw (e, behind) (sym (append_assoc (take start mid) (map (λ (e : Keyed). glyph_at (slice_range mid start end) e.index) order) (drop end mid)))
 
 order_is : (k : Glyph → ℕ) (gs : List Glyph) (keyed order : List Keyed) → keyed ≡ keyed_indices_from k 0 gs → order ≡ key_order (λ (e : Keyed). e.key) keyed → order ≡ indices_by_key k gs
 order_is k gs keyed order e o = o ∙ ap (key_order (λ (e : Keyed). e.key)) e
@@ -125,19 +125,19 @@ order_is k gs keyed order e o = o ∙ ap (key_order (λ (e : Keyed). e.key)) e
 pub merged_is : (level : Level) (start end : ℕ) (k : Glyph → ℕ) (gs mid : List Glyph) (keyed order : List Keyed) (marked : Bool) → keyed ≡ keyed_indices_from k 0 (slice_range gs start end) → order ≡ key_order (λ (e : Keyed). e.key) keyed
     → record { glyphs = mid; is_marked = marked } ≡ range_spanned level start order gs → mid ≡ range_merged level start end k gs
 merged_is level start end k gs mid keyed order marked e o spanned =
-    ap (λ (s : Spanned). s.glyphs) spanned ∙ ap (λ es. (range_spanned level start es gs).glyphs) (order_is k (slice_range gs start end) keyed order e o)
+    ap (λ (s : SpanMerge). s.glyphs) spanned ∙ ap (λ es. (range_spanned level start es gs).glyphs) (order_is k (slice_range gs start end) keyed order e o)
 
 pub sorted_is : (level : Level) (start end : ℕ) (k : Glyph → ℕ) (gs mid range copy : List Glyph) (keyed order : List Keyed) (marked : Bool) → start ≤ end → keyed ≡ keyed_indices_from k 0 (slice_range gs start end) → order ≡ key_order (λ (e : Keyed). e.key) keyed
-    → record { glyphs = mid; is_marked = marked } ≡ range_spanned level start order gs → copy ≡ slice_range mid start end → range ≡ map (λ (e : Keyed). glyph_at copy e.place) order
+    → record { glyphs = mid; is_marked = marked } ≡ range_spanned level start order gs → copy ≡ slice_range mid start end → range ≡ map (λ (e : Keyed). glyph_at copy e.index) order
     → put_mid start (end - start) mid range ≡ (range_sorted level start end k gs).glyphs
 sorted_is level start end k gs mid range copy keyed order marked le e o spanned c r =
     let is = order_is k (slice_range gs start end) keyed order e o in
-    put_range start end order mid range le (r ∙ ap (λ hs. map (λ (e : Keyed). glyph_at hs e.place) order) c) ∙ ap (λ es. put_in_order start end es mid) is ∙ ap (put_in_order start end (indices_by_key k (slice_range gs start end))) (merged_is level start end k gs mid keyed order marked e o spanned)
+    put_range start end order mid range le (r ∙ ap (λ hs. map (λ (e : Keyed). glyph_at hs e.index) order) c) ∙ ap (λ es. put_in_order start end es mid) is ∙ ap (put_in_order start end (indices_by_key k (slice_range gs start end))) (merged_is level start end k gs mid keyed order marked e o spanned)
 
 pub sort_marks : (level : Level) (start end : ℕ) (k : Glyph → ℕ) (gs mid : List Glyph) (keyed order : List Keyed) (marked : Bool) → keyed ≡ keyed_indices_from k 0 (slice_range gs start end) → order ≡ key_order (λ (e : Keyed). e.key) keyed
     → record { glyphs = mid; is_marked = marked } ≡ range_spanned level start order gs → marked ≡ (range_sorted level start end k gs).is_marked
 sort_marks level start end k gs mid keyed order marked e o spanned =
-    ap (λ (s : Spanned). s.is_marked) spanned ∙ ap (λ es. (range_spanned level start es gs).is_marked) (order_is k (slice_range gs start end) keyed order e o)
+    ap (λ (s : SpanMerge). s.is_marked) spanned ∙ ap (λ es. (range_spanned level start es gs).is_marked) (order_is k (slice_range gs start end) keyed order e o)
 
 -- a range whose clusters are as they were leaves all of them so
 pub put_same : (start n : ℕ) (mid range : List Glyph) → clusters range ≡ clusters (take n (drop start mid)) → clusters (put_mid start n mid range) ≡ clusters mid

@@ -14,12 +14,13 @@ use Rattle.buffer_glyphs.specs.Deleting.{end_recast, glyphs_deleted, deletion_ma
 abbrev pub AnswersAs : {F : Type 0} → Shared F (Bor hb_glyph_info_t × Unit {0}) Bool → F → (hb_glyph_info_t → Bool) → Type 0
 AnswersAs calls f p = (g : hb_glyph_info_t) (b : Bool) → FnReturnsAt calls f g b → b ≡ p g
 
--- the glyphs and positions that are left so far, those ahead, and whether a merge flagged a glyph
+-- a walk of deletions on its way: glyphs and positions that are left so far, those still to be walked, and whether a merge
+-- flagged a glyph
 pub record DeletionState : Type 0 where
   pub kept : List hb_glyph_info_t
   pub kept_positions : List Position
-  pub ahead : List hb_glyph_info_t
-  pub positions_ahead : List Position
+  pub rest_glyphs : List hb_glyph_info_t
+  pub rest_positions : List Position
   pub is_marked : Bool
 
 -- the walk after it deleted a glyph
@@ -27,23 +28,23 @@ abbrev pub without_glyph : BufferClusterLevel → DeletionState → hb_glyph_inf
 without_glyph level w g back = record {
   kept = (glyphs_deleted level w.kept g back).front;
   kept_positions = w.kept_positions;
-  ahead = (glyphs_deleted level w.kept g back).back;
-  positions_ahead = drop 1 w.positions_ahead;
+  rest_glyphs = (glyphs_deleted level w.kept g back).back;
+  rest_positions = drop 1 w.rest_positions;
   is_marked = w.is_marked || deletion_marks level (clusters w.kept) g.cluster (clusters back);
 }
 
 -- the walk after it left a glyph
 abbrev pub with_glyph : DeletionState → hb_glyph_info_t → List hb_glyph_info_t → DeletionState
-with_glyph w g back = record w { kept = w.kept ++ g ∷ []; kept_positions = w.kept_positions ++ take 1 w.positions_ahead; ahead = back; positions_ahead = drop 1 w.positions_ahead }
+with_glyph w g back = record w { kept = w.kept ++ g ∷ []; kept_positions = w.kept_positions ++ take 1 w.rest_positions; rest_glyphs = back; rest_positions = drop 1 w.rest_positions }
 
 -- the walk over one glyph: deleted where the test picks it, else left
 abbrev pub walk_step : BufferClusterLevel → (hb_glyph_info_t → Bool) → DeletionState → List hb_glyph_info_t → DeletionState
 walk_step level p w [] = w
 walk_step level p w (g ∷ back) = if p g then without_glyph level w g back else with_glyph w g back
 
--- the walk over the first glyph ahead: deleted where the test picks it, else left
+-- the walk over the first glyph that is still to be walked: deleted where the test picks it, else left
 abbrev pub first_step : BufferClusterLevel → (hb_glyph_info_t → Bool) → DeletionState → DeletionState
-first_step level p w = walk_step level p w w.ahead
+first_step level p w = walk_step level p w w.rest_glyphs
 
 -- the walk over so many glyphs, one after another
 abbrev pub many_steps : BufferClusterLevel → (hb_glyph_info_t → Bool) → ℕ → DeletionState → DeletionState
@@ -52,7 +53,7 @@ many_steps level p (suc n) w = many_steps level p n (first_step level p w)
 
 -- the walk over all glyphs
 abbrev pub whole_walk : BufferClusterLevel → (hb_glyph_info_t → Bool) → List hb_glyph_info_t → List Position → DeletionState
-whole_walk level p gs ps = many_steps level p (length gs) (record { kept = []; kept_positions = []; ahead = gs; positions_ahead = ps; is_marked = false })
+whole_walk level p gs ps = many_steps level p (length gs) (record { kept = []; kept_positions = []; rest_glyphs = gs; rest_positions = ps; is_marked = false })
 
 -- glyphs whose last run takes the cluster and flags that it is still to take
 abbrev pub settled_glyphs : Option hb_glyph_info_t → List hb_glyph_info_t → List hb_glyph_info_t
@@ -61,7 +62,7 @@ settled_glyphs (Some d) gs = end_recast d gs
 
 -- the walk as it is at an index
 abbrev pub walk_at : ℕ → Walk → List hb_glyph_info_t → List Position → DeletionState
-walk_at at w gs ps = record { kept = settled_glyphs w.due (take w.kept gs); kept_positions = take w.kept ps; ahead = drop at gs; positions_ahead = drop at ps; is_marked = w.marked }
+walk_at at w gs ps = record { kept = settled_glyphs w.due (take w.kept gs); kept_positions = take w.kept ps; rest_glyphs = drop at gs; rest_positions = drop at ps; is_marked = w.marked }
 
 -- the cluster still to be taken is less than all that are left, and there is one only where these are in order
 abbrev pub IsDue : Bool → Option hb_glyph_info_t → List hb_glyph_info_t → Type 0

@@ -27,13 +27,13 @@ groups_reversed_list p xs = flat_map (λ ys. ys) (reverse (groups p xs))
 abbrev pub range_reversed : {X : Type 0} → ℕ → ℕ → List X → List X
 range_reversed start end xs = take start xs ++ reverse (slice_range xs start end) ++ drop end xs
 
--- a reversal of groups on its way: glyphs and positions of the groups found, the last first, and of those ahead; and
--- whether a merge flagged one
+-- a reversal of groups on its way: glyphs and positions of the groups found, the last first, and of those still to be found;
+-- and whether a merge flagged one
 pub record Turning : Type 0 where
   pub glyphs : List hb_glyph_info_t
   pub positions : List Position
-  pub ahead : List hb_glyph_info_t
-  pub positions_ahead : List Position
+  pub rest_glyphs : List hb_glyph_info_t
+  pub rest_positions : List Position
   pub is_marked : Bool
 
 -- a merge of some indices where it is requested
@@ -51,19 +51,19 @@ abbrev pub beside_if : Bool → BufferClusterLevel → List ℕ → List hb_glyp
 beside_if true level range gs = beside_merged level range gs
 beside_if false level range gs = gs
 
--- the first so many glyphs ahead, merged where that is requested, moved before the groups that were found
+-- the first so many of the other glyphs, merged where that is requested, moved before the groups that were found
 abbrev pub first_turned : Bool → BufferClusterLevel → ℕ → Turning → Turning
 first_turned merge level n t = record {
-  glyphs = take n (glyphs_merged_if merge level 0 n t.ahead) ++ beside_if merge level (range_of 0 n (clusters t.ahead)) t.glyphs;
-  positions = take n t.positions_ahead ++ t.positions;
-  ahead = drop n (glyphs_merged_if merge level 0 n t.ahead);
-  positions_ahead = drop n t.positions_ahead;
-  is_marked = t.is_marked || is_marked_if merge level 0 n (clusters t.ahead);
+  glyphs = take n (glyphs_merged_if merge level 0 n t.rest_glyphs) ++ beside_if merge level (range_of 0 n (clusters t.rest_glyphs)) t.glyphs;
+  positions = take n t.rest_positions ++ t.positions;
+  rest_glyphs = drop n (glyphs_merged_if merge level 0 n t.rest_glyphs);
+  rest_positions = drop n t.rest_positions;
+  is_marked = t.is_marked || is_marked_if merge level 0 n (clusters t.rest_glyphs);
 }
 
--- the first group ahead, merged where that is requested, moved before the groups that were found
+-- the next group, merged where that is requested, moved before the groups that were found
 abbrev pub group_turned : Bool → BufferClusterLevel → (hb_glyph_info_t → hb_glyph_info_t → Bool) → Turning → Turning
-group_turned merge level p t = first_turned merge level (group_length p t.ahead) t
+group_turned merge level p t = first_turned merge level (group_length p t.rest_glyphs) t
 
 -- so many groups moved so, one after another
 abbrev pub all_turned : Bool → BufferClusterLevel → (hb_glyph_info_t → hb_glyph_info_t → Bool) → ℕ → Turning → Turning
@@ -72,8 +72,8 @@ all_turned merge level p (suc n) t = all_turned merge level p n (group_turned me
 
 -- glyphs and positions of which those before an index were reversed
 abbrev pub turning_at : ℕ → List hb_glyph_info_t → List Position → Bool → Turning
-turning_at start gs ps marked = record { glyphs = reverse (take start gs); positions = reverse (take start ps); ahead = drop start gs; positions_ahead = drop start ps; is_marked = marked }
+turning_at start gs ps marked = record { glyphs = reverse (take start gs); positions = reverse (take start ps); rest_glyphs = drop start gs; rest_positions = drop start ps; is_marked = marked }
 
 -- all groups moved so; there are at most as many as glyphs
 abbrev pub turning_of : Bool → BufferClusterLevel → (hb_glyph_info_t → hb_glyph_info_t → Bool) → List hb_glyph_info_t → List Position → Turning
-turning_of merge level p gs ps = all_turned merge level p (length gs) (record { glyphs = []; positions = []; ahead = gs; positions_ahead = ps; is_marked = false })
+turning_of merge level p gs ps = all_turned merge level p (length gs) (record { glyphs = []; positions = []; rest_glyphs = gs; rest_positions = ps; is_marked = false })

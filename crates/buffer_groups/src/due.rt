@@ -10,7 +10,7 @@ ghost use Rattle.buffer_groups.specs.Due.{IsWithin, MayBeDue, MayBeRound, with_d
 
 mod falling;
 
-use self::falling::{Stretch, carry_out, ends_lower, merge_falling};
+use self::falling::{DueRange, carry_out, ends_lower, merge_falling};
 use buffer_glyphs::info::hb_glyph_info_t;
 use buffer_glyphs::level::BufferClusterLevel;
 use buffer_glyphs::ranges::merge_at;
@@ -22,7 +22,7 @@ pub(crate) enum Due {
     /// None: each merge is carried out at once.
     Nothing,
     /// Where clusters decrease, one range is still to be renumbered.
-    Falling(Stretch),
+    Falling(DueRange),
 }
 
 /// The state of the merges of a walk.
@@ -64,19 +64,19 @@ fn no_due(glyphs: &[hb_glyph_info_t], level: BufferClusterLevel, in_order: bool)
     match level {
         BufferClusterLevel::Characters => Due::Nothing,
         BufferClusterLevel::MonotoneGraphemes | BufferClusterLevel::MonotoneCharacters => {
-            no_stretch(glyphs)
+            no_due_range(glyphs)
         }
     }
 }
 
 #[tactic(auto, using(crate::proofs::Carried::nothing_due))]
-fn no_stretch(glyphs: &[hb_glyph_info_t]) -> Due
+fn no_due_range(glyphs: &[hb_glyph_info_t]) -> Due
     ensures due { (level : Level) → IsMonotone level → IsOrdered (clusters glyphs.now) →
         MayBeDue level 0 result glyphs.now }
     ensures with_due { with_due result glyphs.now ≡ glyphs.now }
 {
     if ends_lower(glyphs) {
-        Due::Falling(Stretch {
+        Due::Falling(DueRange {
             from: 0,
             to: 0,
             cluster: 0,

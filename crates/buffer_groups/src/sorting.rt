@@ -1,4 +1,7 @@
 //! Stable sort of a range, with merges (rustybuzz: hb/buffer.rs, `sort`).
+//!
+//! `sort` and `sort_by_indices` have the same clauses: the first one answers at once where the keys stand in order, and
+//! leaves the case that takes memory to the second one, so that no branches join in a proof.
 ghost use Rattle.std.specs.Prelude.{◌≡◌, ◌+◌, ◌-◌, ◌<◌, ◌≤◌, ◌↔◌, ◌++◌, ℕ, Bool, IsTrue, true, take, drop, length, map, vec_len, IfOk, OnOk, OnErr, slice_range};
 ghost use Rattle.std.specs.List.{All};
 ghost use Rattle.std.specs.List.Sorted.{IsNonDecreasingBy};
@@ -7,7 +10,7 @@ ghost use Rattle.buffer_glyphs.specs.Items.{clusters};
 ghost use Rattle.buffer_glyphs.specs.Order.{IsInOrder, IsOrdered};
 ghost use Rattle.buffer_stable_order.specs.Keys.{key_order};
 ghost use Rattle.buffer_groups.specs.Due.{MayBeDue, with_due};
-ghost use Rattle.buffer_groups.specs.Sorting.{Gives, Spanned, glyph_at, keyed_indices_from, put_in_order, range_merged, range_sorted, range_spanned, span_merged};
+ghost use Rattle.buffer_groups.specs.Sorting.{Gives, SpanMerge, glyph_at, keyed_indices_from, put_in_order, range_merged, range_sorted, range_spanned, span_merged};
 
 use crate::due::{Merges, merge_next, no_merges, settle};
 use buffer_glyphs::info::hb_glyph_info_t;
@@ -15,7 +18,7 @@ use buffer_glyphs::level::BufferClusterLevel;
 use std::alloc::{AllocError, Global};
 
 /// Puts the glyphs from `start` up to before `end` in stable order by the keys that they have, and merges each smallest
-/// span that the order permutes: one of more than one glyph, between places before which all came from before them. A range
+/// span that the order permutes: one of more than one glyph, between indices before which all came from before them. A range
 /// whose keys stand in order takes no memory. Where memory is short for the sort the slice stays as it was.
 pub fn sort<F: Fn(&hb_glyph_info_t) -> u32>(
     alloc: Global,
@@ -45,7 +48,7 @@ pub fn sort<F: Fn(&hb_glyph_info_t) -> u32>(
             in_order: true,
         });
     }
-    sort_by_places(alloc, glyphs, level, in_order, start, end, key)
+    sort_by_indices(alloc, glyphs, level, in_order, start, end, key)
 }
 
 /// Whether no glyph has a lower key than one before it.
@@ -64,9 +67,9 @@ fn has_keys_in_order<F: Fn(&hb_glyph_info_t) -> u32>(glyphs: &[hb_glyph_info_t],
     true
 }
 
-/// Sorts a range by the places that its glyphs are to have. The merges come first, on the glyphs as they stood, so that
+/// Sorts a range by the indices that its glyphs are to have. The merges come first, on the glyphs as they stood, so that
 /// where all clusters are known to stand in order they take linear time in all; else each compares all glyphs with its span.
-fn sort_by_places<F: Fn(&hb_glyph_info_t) -> u32>(
+fn sort_by_indices<F: Fn(&hb_glyph_info_t) -> u32>(
     alloc: Global,
     glyphs: &mut [hb_glyph_info_t],
     level: BufferClusterLevel,
@@ -88,8 +91,8 @@ fn sort_by_places<F: Fn(&hb_glyph_info_t) -> u32>(
         IsInOrder falls (clusters glyphs.new)) }
     ensures err { OnErr result (glyphs.new ≡ glyphs.old) }
 {
-    let mut order = keyed_places(alloc, &glyphs[start..end], &key)?;
-    sort_places(&mut order)?;
+    let mut order = keys_with_indices(alloc, &glyphs[start..end], &key)?;
+    sort_indices(&mut order)?;
     let mut copy = glyphs[start..end].to_vec(alloc)?;
     let marked = merge_spans(glyphs, level, in_order, start, &order);
     let range = &mut glyphs[start..end];
@@ -111,37 +114,37 @@ pub struct Sorted {
 #[derive(Clone, Copy)]
 struct Keyed {
     key: u32,
-    place: usize,
+    index: usize,
 }
 
 /// The key and the index of each glyph.
-fn keyed_places<F: Fn(&hb_glyph_info_t) -> u32>(
+fn keys_with_indices<F: Fn(&hb_glyph_info_t) -> u32>(
     alloc: Global,
     glyphs: &[hb_glyph_info_t],
     key: &F,
 ) -> Result<Vec<Keyed>, AllocError>
     requires { F.IsAlwaysCallable key.now }
     ensures keys { (k : Glyph → ℕ) → Gives F.Fn key.now k → IfOk result (λ v. v.items ≡ keyed_indices_from k 0 glyphs.now) }
-    ensures within { IfOk result (λ v. All (λ e. e.place < length glyphs.now) v.items) }
+    ensures within { IfOk result (λ v. All (λ e. e.index < length glyphs.now) v.items) }
     ensures len { IfOk result (λ v. vec_len v ≡ length glyphs.now) }
 {
-    let mut places = Vec::new(alloc);
-    for (place, glyph) in glyphs.iter().enumerate() {
+    let mut indices = Vec::new(alloc);
+    for (index, glyph) in glyphs.iter().enumerate() {
         let keyed = Keyed {
             key: key(glyph),
-            place,
+            index,
         };
-        places.push(keyed)?;
+        indices.push(keyed)?;
     }
-    Ok(places)
+    Ok(indices)
 }
 
 /// Sorts indices by their keys; those of one key keep their order.
-fn sort_places(places: &mut Vec<Keyed>) -> Result<(), AllocError>
-    ensures sorted { OnOk result (places.new.items ≡ key_order (λ e. e.key) places.old.items) }
-    ensures len { OnOk result (vec_len places.new ≡ vec_len places.old) }
+fn sort_indices(indices: &mut Vec<Keyed>) -> Result<(), AllocError>
+    ensures sorted { OnOk result (indices.new.items ≡ key_order (λ e. e.key) indices.old.items) }
+    ensures len { OnOk result (vec_len indices.new ≡ vec_len indices.old) }
 {
-    places.sort_by_key(|keyed| keyed.key)?;
+    indices.sort_by_key(|keyed| keyed.key)?;
     Ok(())
 }
 
@@ -186,12 +189,12 @@ fn merge_spans(
     let mut merges = no_merges(glyphs, level, in_order);
     let mut begin = 0;
     let mut reach = 0;
-    for place in 0..order.len() {
-        reach = reach.max(order[place].place);
-        if place < reach {
+    for index in 0..order.len() {
+        reach = reach.max(order[index].index);
+        if index < reach {
             continue;
         }
-        let end = place + 1;
+        let end = index + 1;
         merges = merge_span(glyphs, level, in_order, start + begin, start + end, merges);
         begin = end;
     }
@@ -203,15 +206,15 @@ fn merge_spans(
 /// cluster that it had.
 fn put_in_order(range: &mut [hb_glyph_info_t], copy: &[hb_glyph_info_t], order: &[Keyed]) -> bool
     requires long { length order.now ≡ length range.old }
-    requires within { All (λ e. e.place < length copy.now) order.now }
-    ensures put { range.new ≡ map (λ e. glyph_at copy.now e.place) order.now }
+    requires within { All (λ e. e.index < length copy.now) order.now }
+    ensures put { range.new ≡ map (λ e. glyph_at copy.now e.index) order.now }
     ensures same { IsTrue result ↔ (clusters range.new ≡ clusters range.old) }
 {
     let mut same = true;
-    for place in 0..order.len() {
-        let glyph = copy[order[place].place];
-        same &= range[place].cluster == glyph.cluster;
-        range[place] = glyph;
+    for index in 0..order.len() {
+        let glyph = copy[order[index].index];
+        same &= range[index].cluster == glyph.cluster;
+        range[index] = glyph;
     }
     same
 }

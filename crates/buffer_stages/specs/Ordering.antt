@@ -16,9 +16,9 @@ use Rattle.buffer_glyphs.specs.Rewriting.{Arrangement}
 abbrev pub merged_in_order : List ℕ → List Item → Arrangement
 merged_in_order order ys = record { items = ys; events = Move InList 0 order ∷ [] }
 
--- items in stable order by their places, which their `auxiliary` holds: each smallest span that the order permutes merges
-abbrev pub sorted_by_place : List Item → Arrangement
-sorted_by_place xs = record { items = key_order (λ (x : Item). x.auxiliary) xs; events = Sort 0 (order_of (map (λ (x : Item). x.auxiliary) xs)) ∷ [] }
+-- items in stable order by their `auxiliary` numbers: each smallest span that the order permutes merges
+abbrev pub auxiliary_order : List Item → Arrangement
+auxiliary_order xs = record { items = key_order (λ (x : Item). x.auxiliary) xs; events = Sort 0 (order_of (map (λ (x : Item). x.auxiliary) xs)) ∷ [] }
 
 -- an item that begins no group is of the group of the item before it
 abbrev pub same_group : (Item → Bool) → Item → Item → Bool

@@ -62,7 +62,7 @@ begun r ps p s t u e lt on spends room moves =
     let taken : length (take p whole_c) ≡ min p (length whole_c) = length-take p whole_c in
     let dropped : length (drop p whole_c) ≡ length whole_c - p = length-drop p whole_c in
     record {
-      place = sym e;
+      index = sym e;
       behind = omega (arith, front, taken, lt);
       count = ap (λ (c : Cut). length (whole c)) (left 1).cut_is ∙ ap length (take-append-drop p whole_c);
       ahead = omega (arith, ahead, dropped, lt);

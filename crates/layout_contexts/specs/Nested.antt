@@ -10,7 +10,7 @@ use Rattle.layout_contexts.specs.Shifts.{indices_after_resize, moved_end}
 
 -- a list on the way over some records: how it is cut, the indices and the end of the match
 pub data RecordsOutcome : Type 0 where
-  Walks : (cut : Cut) → (places : List ℕ) → (end : ℕ) → (events : List Event) → RecordsOutcome
+  Walks : (cut : Cut) → (indices : List ℕ) → (end : ℕ) → (events : List Event) → RecordsOutcome
   Stops : (cause : ShapeCause) → RecordsOutcome
 
 -- the list cut at an index

@@ -26,7 +26,7 @@ fn anchor_mark(base: Anchor, mark: Anchor, link: i16, position: GlyphPosition) -
 }
 
 /// Attaches a mark to its base, anchor on anchor. Where the base is more than 32767 glyphs away, nothing changes.
-pub fn hang_mark(
+pub fn attach_mark(
     positions: &mut [GlyphPosition],
     at: usize,
     base: usize,

@@ -20,7 +20,7 @@ MetRulesCountBudget = (a : ApplyContext) (act : Action) → RuleCountsBudget act
 abbrev pub LookupsCountBudget : Type 0
 LookupsCountBudget = (act : Action) → RuleCountsBudget act → CountsBudget (forward_pass act)
 
--- the lookups of a rule's records, at whatever places, count the budget where the nested ones do
+-- the lookups of a rule's records, at whatever indices, count the budget where the nested ones do
 abbrev pub NestedCountBudget : Type 0
 NestedCountBudget = (nest : Option (ℕ → Action)) (records : List SequenceLookupRecord) (ps : List ℕ) (end : ℕ) → NestCountsBudget nest
     → RuleCountsBudget (λ c. cut_after_match (each_nested nest records c ps end))

@@ -25,11 +25,11 @@ fn clear_links(positions: &mut [GlyphPosition])
     ensures { positions.new ≡ map unattached_position positions.old }
 {
     for i in 0..positions.len() {
-        positions[i] = unattached(positions[i]);
+        positions[i] = unattached_position(positions[i]);
     }
 }
 
-fn unattached(position: GlyphPosition) -> GlyphPosition
+fn unattached_position(position: GlyphPosition) -> GlyphPosition
     ensures { result ≡ unattached_position position }
 {
     GlyphPosition {

@@ -14,43 +14,43 @@ use buffer_glyphs::position::GlyphPosition;
 use layout_offsets::links::linked;
 use layout_offsets::sums::{minus, plus};
 
-fn offset_by(base: GlyphPosition, place: GlyphPosition) -> GlyphPosition
-    ensures { result ≡ offset_by base place }
+fn offset_by(base: GlyphPosition, position: GlyphPosition) -> GlyphPosition
+    ensures { result ≡ offset_by base position }
 {
-    let mut based = place;
-    based.x_offset = plus(place.x_offset, base.x_offset);
-    based.y_offset = plus(place.y_offset, base.y_offset);
+    let mut based = position;
+    based.x_offset = plus(position.x_offset, base.x_offset);
+    based.y_offset = plus(position.y_offset, base.y_offset);
     based
 }
 
-fn child_drawn(across: bool, base: GlyphPosition, place: GlyphPosition) -> GlyphPosition
-    ensures { result ≡ child_drawn across base place }
+fn child_drawn(across: bool, base: GlyphPosition, position: GlyphPosition) -> GlyphPosition
+    ensures { result ≡ child_drawn across base position }
 {
-    let mut drawn = place;
+    let mut drawn = position;
     if across {
-        drawn.y_offset = plus(place.y_offset, base.y_offset);
+        drawn.y_offset = plus(position.y_offset, base.y_offset);
     } else {
-        drawn.x_offset = plus(place.x_offset, base.x_offset);
+        drawn.x_offset = plus(position.x_offset, base.x_offset);
     }
     drawn
 }
 
 /// A position with a distance subtracted from its offsets.
-fn back_by(way: Pen, place: GlyphPosition) -> GlyphPosition
-    ensures { result ≡ back_by way place }
+fn back_by(way: Pen, position: GlyphPosition) -> GlyphPosition
+    ensures { result ≡ back_by way position }
 {
-    let mut moved = place;
-    moved.x_offset = minus(place.x_offset, way.x);
-    moved.y_offset = minus(place.y_offset, way.y);
+    let mut moved = position;
+    moved.x_offset = minus(position.x_offset, way.x);
+    moved.y_offset = minus(position.y_offset, way.y);
     moved
 }
 
-fn on_by(way: Pen, place: GlyphPosition) -> GlyphPosition
-    ensures { result ≡ on_by way place }
+fn on_by(way: Pen, position: GlyphPosition) -> GlyphPosition
+    ensures { result ≡ on_by way position }
 {
-    let mut moved = place;
-    moved.x_offset = plus(place.x_offset, way.x);
-    moved.y_offset = plus(place.y_offset, way.y);
+    let mut moved = position;
+    moved.x_offset = plus(position.x_offset, way.x);
+    moved.y_offset = plus(position.y_offset, way.y);
     moved
 }
 
@@ -94,14 +94,14 @@ fn mark_drawn(
 }
 
 /// Draws a glyph, once its parent is drawn.
-fn hang(positions: &mut [GlyphPosition], child: usize, parent: usize, direction: Direction)
+fn draw_child(positions: &mut [GlyphPosition], child: usize, parent: usize, direction: Direction)
     requires child { child < length positions.old }
     requires parent { parent < length positions.old }
     ensures { positions.new ≡ with_child_drawn (drawn_by_sums direction) child parent positions.old }
 {
-    let place = positions[child];
-    positions[child] = if place.attach_type == 2 {
-        child_drawn(direction.is_horizontal(), positions[parent], place)
+    let position = positions[child];
+    positions[child] = if position.attach_type == 2 {
+        child_drawn(direction.is_horizontal(), positions[parent], position)
     } else {
         mark_drawn(positions, child, parent, direction.is_forward())
     };
@@ -124,28 +124,28 @@ struct Walk {
     depth: usize,
 }
 
-fn is_open(place: &GlyphPosition) -> bool
-    ensures { result ≡ is_open place.now }
+fn is_open(position: &GlyphPosition) -> bool
+    ensures { result ≡ is_open position.now }
 {
-    place.attach_type >= OPEN && place.attach_chain != 0
+    position.attach_type >= OPEN && position.attach_chain != 0
 }
 
-fn opened(place: GlyphPosition, by: i16) -> GlyphPosition
-    requires { place.attach_type < 128 }
-    ensures { result ≡ opened_link by place }
+fn opened_link(position: GlyphPosition, by: i16) -> GlyphPosition
+    requires { position.attach_type < 128 }
+    ensures { result ≡ opened_link by position }
 {
-    let mut open = place;
+    let mut open = position;
     open.attach_chain = by;
     open.attach_type += OPEN;
     open
 }
 
-fn shut(place: GlyphPosition) -> GlyphPosition
-    requires { is_open place ≡ true }
-    ensures value { result ≡ closed_link place }
+fn closed_link(position: GlyphPosition) -> GlyphPosition
+    requires { is_open position ≡ true }
+    ensures value { result ≡ closed_link position }
     ensures closed { is_open result ≡ false }
 {
-    let mut closed = place;
+    let mut closed = position;
     closed.attach_chain = 0;
     closed.attach_type -= OPEN;
     closed
@@ -160,22 +160,22 @@ fn unlink(positions: &mut [GlyphPosition], at: usize)
 }
 
 /// Follows a glyph's link, and stores there the link by which the walk reached the glyph.
-fn go_on(positions: &mut [GlyphPosition], last: Step) -> Option<Step>
+fn step_to_parent(positions: &mut [GlyphPosition], last: Step) -> Option<Step>
     requires here { last.at < length positions.old }
     ensures { MatchOption result (WalkStops last.at positions.old positions.new)
         (λ s. StepsToParent s.at s.by last.at last.by positions.old positions.new) }
 {
     let at = last.at;
-    let place = positions[at];
-    if is_open(&place) {
+    let position = positions[at];
+    if is_open(&position) {
         return None;
     }
-    let link = place.attach_chain;
+    let link = position.attach_chain;
     let Some(there) = linked(positions.len(), at, link) else {
         unlink(positions, at);
         return None;
     };
-    positions[at] = opened(place, last.by);
+    positions[at] = opened_link(position, last.by);
     Some(Step {
         by: link,
         at: there,
@@ -184,7 +184,7 @@ fn go_on(positions: &mut [GlyphPosition], last: Step) -> Option<Step>
 
 /// The glyph that a walk came from.
 #[tactic(auto, using(crate::proofs::Going::came_open))]
-fn came_from(positions: &[GlyphPosition], last: Step) -> usize
+fn step_origin(positions: &[GlyphPosition], last: Step) -> usize
     requires here { last.at < length positions.now }
     requires came { HasReturn last.at last.by positions.now }
     ensures within { result < length positions.now }
@@ -196,16 +196,16 @@ fn came_from(positions: &[GlyphPosition], last: Step) -> usize
 }
 
 /// Returns to the glyph that a walk came from, and draws it.
-fn go_back(positions: &mut [GlyphPosition], last: Step, direction: Direction) -> Step
+fn step_to_child(positions: &mut [GlyphPosition], last: Step, direction: Direction) -> Step
     requires here { last.at < length positions.old }
     requires came { HasReturn last.at last.by positions.old }
     ensures { StepsBack direction result.at result.by last.at last.by positions.old positions.new }
 {
-    let child = came_from(positions, last);
-    let place = positions[child];
-    let link = place.attach_chain;
-    positions[child] = shut(place);
-    hang(positions, child, last.at, direction);
+    let child = step_origin(positions, last);
+    let position = positions[child];
+    let link = position.attach_chain;
+    positions[child] = closed_link(position);
+    draw_child(positions, child, last.at, direction);
     Step {
         by: link,
         at: child,
@@ -213,7 +213,7 @@ fn go_back(positions: &mut [GlyphPosition], last: Step, direction: Direction) ->
 }
 
 /// Follows links from a glyph until one leads nowhere, or to a glyph that the walk came through.
-fn go_along(positions: &mut [GlyphPosition], start: usize) -> Walk
+fn walk_links(positions: &mut [GlyphPosition], start: usize) -> Walk
     requires here { start < length positions.old }
     requires shut { are_shut positions.old }
     ensures { (d : Way) → IsComing d (with_link_followed (drawn_by_sums d) (length positions.old) start positions.old)
@@ -222,7 +222,7 @@ fn go_along(positions: &mut [GlyphPosition], start: usize) -> Walk
     let count = positions.len();
     let mut last = Step { by: 1, at: start };
     for depth in 0..count {
-        let Some(step) = go_on(positions, last) else {
+        let Some(step) = step_to_parent(positions, last) else {
             return Walk { last, depth };
         };
         last = step;
@@ -238,10 +238,10 @@ fn follow(positions: &mut [GlyphPosition], start: usize, direction: Direction)
     ensures drawn { positions.new ≡ with_link_followed (drawn_by_sums direction) (length positions.old) start positions.old }
     ensures shut { are_shut positions.new }
 {
-    let walk = go_along(positions, start);
+    let walk = walk_links(positions, start);
     let mut last = walk.last;
     for _step in 0..walk.depth {
-        last = go_back(positions, last, direction);
+        last = step_to_child(positions, last, direction);
     }
 }
 

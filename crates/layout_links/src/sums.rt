@@ -15,12 +15,12 @@ pub(crate) struct Pen {
 
 pub(crate) const PEN_DOWN: Pen = Pen { x: 0, y: 0 };
 
-pub(crate) fn pen_of(place: GlyphPosition) -> Pen
-    ensures { result ≡ pen_of place }
+pub(crate) fn pen_of(position: GlyphPosition) -> Pen
+    ensures { result ≡ pen_of position }
 {
     Pen {
-        x: place.x_advance,
-        y: place.y_advance,
+        x: position.x_advance,
+        y: position.y_advance,
     }
 }
 
@@ -33,42 +33,42 @@ pub(crate) fn pen_way(from: Pen, to: Pen) -> Pen
     }
 }
 
-fn pen_after(pen: Pen, place: GlyphPosition) -> Pen
-    ensures { result ≡ pen_after pen place }
+fn pen_after(pen: Pen, position: GlyphPosition) -> Pen
+    ensures { result ≡ pen_after pen position }
 {
     Pen {
-        x: plus(pen.x, place.x_advance),
-        y: plus(pen.y, place.y_advance),
+        x: plus(pen.x, position.x_advance),
+        y: plus(pen.y, position.y_advance),
     }
 }
 
-fn with_pen(pen: Pen, place: GlyphPosition) -> GlyphPosition
-    ensures { result ≡ with_pen pen place }
+fn with_pen(pen: Pen, position: GlyphPosition) -> GlyphPosition
+    ensures { result ≡ with_pen pen position }
 {
     GlyphPosition {
         x_advance: pen.x,
         y_advance: pen.y,
-        ..place
+        ..position
     }
 }
 
-fn has_kind(place: GlyphPosition) -> bool
-    ensures { result ≡ has_kind place }
+fn has_kind(position: GlyphPosition) -> bool
+    ensures { result ≡ has_kind position }
 {
-    place.attach_type == 1 || place.attach_type == 2
+    position.attach_type == 1 || position.attach_type == 2
 }
 
 /// A position, without a link that is neither a mark's nor a cursive child's.
-fn kind_tested(place: GlyphPosition) -> GlyphPosition
-    ensures value { result ≡ kind_tested place }
-    ensures fits { Fits place }
+fn kind_tested(position: GlyphPosition) -> GlyphPosition
+    ensures value { result ≡ kind_tested position }
+    ensures fits { Fits position }
 {
-    if has_kind(place) {
-        place
+    if has_kind(position) {
+        position
     } else {
         GlyphPosition {
             attach_chain: 0,
-            ..place
+            ..position
         }
     }
 }
@@ -81,9 +81,9 @@ pub(crate) fn sum_up(positions: &mut [GlyphPosition])
 {
     let mut pen = PEN_DOWN;
     for i in 0..positions.len() {
-        let place = kind_tested(positions[i]);
-        pen = pen_after(pen, place);
-        positions[i] = with_pen(pen, place);
+        let position = kind_tested(positions[i]);
+        pen = pen_after(pen, position);
+        positions[i] = with_pen(pen, position);
     }
 }
 
@@ -94,8 +94,8 @@ pub(crate) fn take_apart(positions: &mut [GlyphPosition])
 {
     let mut pen = PEN_DOWN;
     for i in 0..positions.len() {
-        let place = positions[i];
-        positions[i] = with_pen(pen_way(pen, pen_of(place)), place);
-        pen = pen_of(place);
+        let position = positions[i];
+        positions[i] = with_pen(pen_way(pen, pen_of(position)), position);
+        pen = pen_of(position);
     }
 }

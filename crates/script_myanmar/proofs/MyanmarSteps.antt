@@ -20,7 +20,7 @@ use Rattle.buffer_stages.specs.Lemmas.Rewritings.{counted, rewritten_count, rewr
 use Rattle.buffer_stages.specs.Lemmas.Parts.{part_clusters, part_written, range_size, rewritten_part, range_seen}
 use Rattle.script_myanmar.specs.Myanmar.{items_with_positions, has_two_matras, is_pre_base_vowel, matras_of, matras_reversed, myanmar_positions, myanmar_reordered, myanmar_syllable, with_position, with_positions}
 use Rattle.script_myanmar.specs.Turned.{glyphs_at}
-use Rattle.buffer_stages.specs.Ordering.{groups_reversed, sorted_by_place}
+use Rattle.buffer_stages.specs.Ordering.{groups_reversed, auxiliary_order}
 use Rattle.script_myanmar.specs.Lemmas.MyanmarSize.{all_placed_size}
 use Rattle.buffer_stages.specs.Lemmas.Sorted.{sorted_size}
 use Rattle.script_myanmar.specs.Lemmas.Sizes.{positions_size}
@@ -150,16 +150,16 @@ matras_turned start end m a b le fits inside e f g =
     subst (λ r. IsRewritten r start end a b) (sym (ap (turned_if xs) two)) (subst (λ k. IsRewritten (within 0 k (groups_reversed is_pre_base_vowel) xs) start end a b) e h)
 
 pub syllable_ordered : (start end : ℕ) (a b c d : Sides) → start ≤ end → end ≤ length (all_glyphs a) → IsRewritten (items_with_positions (slice_range (items_of a) start end)) start end a b
-    → IsRewritten (sorted_by_place (slice_range (items_of b) start end)) start end b c → IsRewritten (matras_reversed (slice_range (items_of c) start end)) start end c d
+    → IsRewritten (auxiliary_order (slice_range (items_of b) start end)) start end b c → IsRewritten (matras_reversed (slice_range (items_of c) start end)) start end c d
     → IsRewritten (myanmar_reordered (slice_range (items_of a) start end)) start end a d
 syllable_ordered start end a b c d le fits f g h =
     let xs = slice_range (items_of a) start end in
     let inside : end ≤ length (items_of a) = omega (arith, counted a, fits) in
     let size : length xs ≡ end - start = range_size start end (items_of a) le inside in
     let one : length (items_with_positions xs).items ≡ end - start = all_placed_size xs ∙ size in
-    let both : length (and_arranged (items_with_positions xs) sorted_by_place).items ≡ end - start = sorted_size (items_with_positions xs).items ∙ one in
-    rewritten_next (and_arranged (items_with_positions xs) sorted_by_place) matras_reversed start end a c d le inside both
-    (rewritten_next (items_with_positions xs) sorted_by_place start end a b c le inside one f g) h
+    let both : length (and_arranged (items_with_positions xs) auxiliary_order).items ≡ end - start = sorted_size (items_with_positions xs).items ∙ one in
+    rewritten_next (and_arranged (items_with_positions xs) auxiliary_order) matras_reversed start end a c d le inside both
+    (rewritten_next (items_with_positions xs) auxiliary_order start end a b c le inside one f g) h
 
 -- as many glyphs stay
 pub placed_count : (start end : ℕ) (a b : Sides) → start ≤ end → end ≤ length (all_glyphs a) → IsRewritten (items_with_positions (slice_range (items_of a) start end)) start end a b → length (all_glyphs b) ≡ length (all_glyphs a)
@@ -168,11 +168,11 @@ placed_count start end a b le fits f =
     let inside : end ≤ length (items_of a) = omega (arith, counted a, fits) in
     rewritten_count (items_with_positions xs) start end a b le inside (all_placed_size xs ∙ range_size start end (items_of a) le inside) f
 
-pub sorted_count : (start end : ℕ) (a b : Sides) → start ≤ end → end ≤ length (all_glyphs a) → IsRewritten (sorted_by_place (slice_range (items_of a) start end)) start end a b → length (all_glyphs b) ≡ length (all_glyphs a)
+pub sorted_count : (start end : ℕ) (a b : Sides) → start ≤ end → end ≤ length (all_glyphs a) → IsRewritten (auxiliary_order (slice_range (items_of a) start end)) start end a b → length (all_glyphs b) ≡ length (all_glyphs a)
 sorted_count start end a b le fits f =
     let xs = slice_range (items_of a) start end in
     let inside : end ≤ length (items_of a) = omega (arith, counted a, fits) in
-    rewritten_count (sorted_by_place xs) start end a b le inside (sorted_size xs ∙ range_size start end (items_of a) le inside) f
+    rewritten_count (auxiliary_order xs) start end a b le inside (sorted_size xs ∙ range_size start end (items_of a) le inside) f
 
 -- a syllable that is not reordered, and one that is
 syllable_none : (xs : List Item) → slice_get xs 0 ≡ None → myanmar_syllable xs ≡ eventless_arrangement xs

@@ -8,7 +8,7 @@ use Rattle.script_categories.specs.declared.shaper.hb_ot_script_shaper_t.TheVari
 use Rattle.script_categories.specs.Shapers.{is_reordered}
 use Rattle.buffer_glyphs.specs.Items.{Item}
 use Rattle.buffer_stages.specs.Pieces.{ArePermuted}
-use Rattle.buffer_stages.specs.Ordering.{groups_reversed, sorted_by_place}
+use Rattle.buffer_stages.specs.Ordering.{groups_reversed, auxiliary_order}
 use Rattle.buffer_glyphs.specs.Rewriting.{Arrangement, eventless_arrangement, and_arranged}
 use Rattle.buffer_stages.specs.Rewriting.{within, in_syllables, by_syllable}
 
@@ -109,7 +109,7 @@ matras_reversed xs = if has_two_matras (take (matras_of xs) xs) then within 0 (m
 
 -- a Myanmar syllable in its order (HarfBuzz: initial_reordering_consonant_syllable)
 abbrev pub myanmar_reordered : List Item → Arrangement
-myanmar_reordered xs = and_arranged (and_arranged (items_with_positions xs) sorted_by_place) matras_reversed
+myanmar_reordered xs = and_arranged (and_arranged (items_with_positions xs) auxiliary_order) matras_reversed
 
 -- a syllable, reordered if the kind in its first item's byte is reordered
 abbrev pub myanmar_first : List Item → Option Item → Arrangement

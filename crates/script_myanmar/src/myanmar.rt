@@ -15,7 +15,7 @@ use crate::myanmar_positions::set_positions;
 use buffer_core::buffer::hb_buffer_t;
 use buffer_glyphs::info::hb_glyph_info_t;
 use buffer_stages::groups::{GroupRule, reverse_groups};
-use buffer_stages::sorting::sort_by_place;
+use buffer_stages::sorting::sort_by_auxiliary;
 use buffer_stages::walk::{SyllableRule, each_syllable};
 use script_categories::hb_ot_script_shaper_t::MYANMAR_SHAPER;
 use script_categories::ot_category_t::OT_VPre;
@@ -81,7 +81,7 @@ fn reorder_syllable(
         buffer.old buffer.new) }
 {
     position_syllable(buffer, start, end);
-    sort_by_place(alloc, buffer, start, end)?;
+    sort_by_auxiliary(alloc, buffer, start, end)?;
     reverse_matras(buffer, start, end);
     Ok(())
 }

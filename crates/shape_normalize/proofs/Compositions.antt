@@ -13,7 +13,7 @@ use Rattle.buffer_core.specs.Sides.{Sides, all_glyphs, flag_requests_of, items_o
 use Rattle.buffer_core.specs.Merging.{with_output_merged, with_glyph_skipped}
 use Rattle.buffer_core.specs.Lending.{with_glyph_ahead}
 use Rattle.buffer_core.specs.Moving.{after_move_to}
-use Rattle.buffer_stages.specs.Brought.{frame_of}
+use Rattle.buffer_stages.specs.Appending.{frame_of}
 use Rattle.shape_normalize.specs.Composed.{composition_events, HasRoom, IsComposed, IsWritten}
 use Rattle.shape_normalize.proofs.Room.{room_kept}
 

@@ -11,7 +11,7 @@ use Rattle.buffer_glyphs.specs.declared.info.hb_glyph_info_t.{hb_glyph_info_t}
 use Rattle.buffer_glyphs.specs.Items.{Item, item_of, strip}
 use Rattle.buffer_glyphs.specs.Events.{Sort}
 use Rattle.buffer_groups.specs.Events.{order_of}
-use Rattle.buffer_groups.specs.Sorting.{Spanned}
+use Rattle.buffer_groups.specs.Sorting.{SpanMerge}
 use Rattle.buffer_core.specs.Sides.{Sides, all_glyphs, items_of, origins_of, origins_by}
 use Rattle.buffer_core.specs.Sorting.{with_spanned}
 use Rattle.buffer_core.proofs.Told.{stage_flags_ignore_glyph_flags}
@@ -21,7 +21,7 @@ use Rattle.buffer_unicode_tables.specs.ClassOrder.{run_order}
 use Rattle.buffer_glyphs.specs.Rewriting.{Arrangement, beside, in_turn, eventless_arrangement, shifted_event}
 use Rattle.buffer_properties.specs.Characters.{mark_class}
 use Rattle.buffer_properties.specs.Ordering.{arranged_run, arranged_runs, ordered_list, sorted_order}
-use Rattle.buffer_stages.specs.Brought.{frame_of}
+use Rattle.buffer_stages.specs.Appending.{frame_of}
 use Rattle.buffer_stages.specs.Rearranged.{IsRearranged, Rearranges}
 use Rattle.shape_rounds.proofs.Lemmas.Chain.{all_shifted_none, in_turn_both, items_both}
 use Rattle.shape_normalize.specs.Runs.{in_class_order, RunsOn, Meets}
@@ -30,10 +30,10 @@ use Rattle.shape_normalize.proofs.Walk.{by_frame, get_seam}
 
 -- ---- a sort
 
-sort_frame : (t : Spanned) (s new : Sides) → new ≡ with_spanned t s → frame_of new ≡ frame_of s
+sort_frame : (t : SpanMerge) (s new : Sides) → new ≡ with_spanned t s → frame_of new ≡ frame_of s
 sort_frame t s new e = ap frame_of e ∙ ap (λ n. record s { behind = []; ahead = []; read = 0; scratch_flags = n }) (stage_flags_ignore_glyph_flags t.is_marked s.scratch_flags)
 
-pub sort_ready : (t : Spanned) (s new : Sides) → IsReady s → new ≡ with_spanned t s → length (all_glyphs new) ≡ length (all_glyphs s) → IsReady new
+pub sort_ready : (t : SpanMerge) (s new : Sides) → IsReady s → new ≡ with_spanned t s → length (all_glyphs new) ≡ length (all_glyphs s) → IsReady new
 sort_ready t s new ready e count = record {
   closed = ap (λ (q : Sides). q.is_open) e ∙ ready.closed;
   front = ap (λ (q : Sides). q.behind) e ∙ ap (λ (ys : List hb_glyph_info_t). take (length ys) t.glyphs) ready.front;
@@ -60,7 +60,7 @@ sorted_items : (run : List Item) → key_order mark_class run ≡ (in_class_orde
 unfolding run_order
 sorted_items run = refl
 
-pub sort_rearranges : (t : Spanned) (start end : ℕ) (s new : Sides) → IsReady s → new ≡ with_spanned t s → length (all_glyphs new) ≡ length (all_glyphs s)
+pub sort_rearranges : (t : SpanMerge) (start end : ℕ) (s new : Sides) → IsReady s → new ≡ with_spanned t s → length (all_glyphs new) ≡ length (all_glyphs s)
     → items_of new ≡ take start (items_of s) ++ key_order mark_class (slice_range (items_of s) start end) ++ drop end (items_of s)
     → origins_of new ≡ origins_by (Sort start (order_of (map mark_class (slice_range (items_of s) start end))) ∷ []) s → Rearranges in_class_order start end s new
 sort_rearranges t start end s new ready e count items happened front run rest is len upto =

@@ -15,7 +15,7 @@ use Rattle.buffer_glyphs.specs.Rewriting.{Arrangement, eventless_arrangement, sh
 use Rattle.buffer_properties.specs.Characters.{is_mark, mark_class}
 use Rattle.buffer_properties.specs.Composing.{becoming, composite, composition_from, composed_list, with_composition, is_not_blocked, last_class}
 use Rattle.buffer_properties.specs.Normalizer.{Normalizer}
-use Rattle.buffer_stages.specs.Brought.{Brought, frame_of}
+use Rattle.buffer_stages.specs.Appending.{AppendsArrangement, frame_of}
 use Rattle.shape_rounds.proofs.Lemmas.Chain.{all_shifted_none}
 use Rattle.shape_normalize.specs.Composed.{composition_events, HasRoom}
 use Rattle.shape_normalize.specs.Starters.{IsAt, Joins, Composes}
@@ -229,10 +229,10 @@ composing_more c count at n m start now next lt w goes = by_case w.ys refl
             }
 
 pub composing_done : (c : Normalizer) (count at n : ℕ) (s p now : Sides) → count ≤ at → s.behind ≡ [] → count ≡ length s.ahead → 0 < count → p ≡ after_next_glyphs 1 s → all_glyphs p ≡ all_glyphs s → IsComposing c count at n p now
-    → Brought (composed_list c (strip s.ahead)) [] s now
+    → AppendsArrangement (composed_list c (strip s.ahead)) [] s now
 composing_done c count at n s p now le front len some next same w = by_case s.ahead refl w.ys refl
   where
-    by_case : (gs : List hb_glyph_info_t) → s.ahead ≡ gs → (zs : List Item) → w.ys ≡ zs → Brought (composed_list c (strip s.ahead)) [] s now
+    by_case : (gs : List hb_glyph_info_t) → s.ahead ≡ gs → (zs : List Item) → w.ys ≡ zs → AppendsArrangement (composed_list c (strip s.ahead)) [] s now
     by_case gs e (y ∷ ys) f = absurd (let more = ap length f in let left = w.left in omega (arith, more, left, le))
     by_case [] e [] f = absurd (let none = ap length e in omega (arith, none, len, some))
     by_case (g ∷ gs) e [] f =
@@ -252,10 +252,10 @@ composing_done c count at n s p now le front len some next same w = by_case s.ah
           frame = w.frame ∙ frame;
         }
 
-pub nothing_composed : (c : Normalizer) (s : Sides) → 0 ≡ length s.ahead → Brought (composed_list c (strip s.ahead)) [] s s
+pub nothing_composed : (c : Normalizer) (s : Sides) → 0 ≡ length s.ahead → AppendsArrangement (composed_list c (strip s.ahead)) [] s s
 nothing_composed c s none = by_case s.ahead refl
   where
-    by_case : (gs : List hb_glyph_info_t) → s.ahead ≡ gs → Brought (composed_list c (strip s.ahead)) [] s s
+    by_case : (gs : List hb_glyph_info_t) → s.ahead ≡ gs → AppendsArrangement (composed_list c (strip s.ahead)) [] s s
     by_case (g ∷ gs) e = absurd (let some = ap length e in omega (arith, none, some))
     by_case [] e = rw e (record { behind = sym (append-nil (strip s.behind)); ahead = refl; happened = refl; frame = refl })
 

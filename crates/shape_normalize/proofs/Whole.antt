@@ -20,7 +20,7 @@ use Rattle.buffer_properties.specs.Expanding.{expanded_list}
 use Rattle.buffer_properties.specs.Normalizer.{Normalizer, is_composing}
 use Rattle.buffer_properties.specs.NormalizedList.{arranged_marks, composition_if, has_later_mark, normalized_items}
 use Rattle.buffer_properties.specs.Ordering.{joiners_shown, ordered_list}
-use Rattle.buffer_stages.specs.Brought.{with_arranged, within_limit}
+use Rattle.buffer_stages.specs.Appending.{with_arranged, within_limit}
 use Rattle.buffer_stages.specs.Rearranged.{IsRearranged}
 use Rattle.shape_rounds.proofs.Lemmas.Chain.{all_shifted_none}
 use Rattle.shape_normalize.specs.Rounds.{IsArranged, normalization}

@@ -5,7 +5,7 @@ ghost use Rattle.buffer_core.specs.Sides.{all_glyphs, after_next_glyphs, origins
 ghost use Rattle.buffer_core.specs.Lending.{with_glyph_ahead};
 ghost use Rattle.buffer_core.specs.Moving.{after_move_to};
 ghost use Rattle.buffer_properties.specs.Characters.{standing_for, with_glyph};
-ghost use Rattle.buffer_stages.specs.Brought.{frame_of};
+ghost use Rattle.buffer_stages.specs.Appending.{frame_of};
 ghost use Rattle.shape_normalize.specs.Composed.{composition_events, HasRoom, IsComposed, IsWritten};
 
 use buffer_core::buffer::hb_buffer_t;

@@ -8,7 +8,7 @@ use Rattle.buffer_glyphs.specs.Events.{Reverse, origins_after}
 use Rattle.buffer_glyphs.specs.Order.{BringsNone}
 use Rattle.buffer_glyphs.specs.Origins.{Origin, numbers}
 use Rattle.buffer_glyphs.specs.Lemmas.EventParts.{origins_keep_numbers}
-use Rattle.buffer_parts.specs.CharacterParts.{UnitedIn}
+use Rattle.buffer_parts.specs.CharacterParts.{AreUnitedByEvents}
 use Rattle.buffer_parts.specs.Keeping.{AreKept, HaveParts}
 use Rattle.buffer_parts.specs.Lemmas.Counts.{counts_follow}
 use Rattle.buffer_parts.specs.Lemmas.CharacterParts.{parts_are_united}
@@ -147,7 +147,7 @@ slices_are_no_coarser_than_parts p text r falls end m n h o e some hm hn pm pn o
     let k = texts_have_parts p text r falls h o e in
     let sliced = k.0.sliced end (some_left text r k.1 some) in
     let same = (sliced.shared m n hm hn pm pn).0 share in
-    other_united m n (UnitedIn (parts_of text.level (r.events text.level)) (numbers text.origins) m n) other ((parts_are_united (parts_of text.level (r.events text.level)) (numbers text.origins) m n).0 same)
+    other_united m n (AreUnitedByEvents (parts_of text.level (r.events text.level)) (numbers text.origins) m n) other ((parts_are_united (parts_of text.level (r.events text.level)) (numbers text.origins) m n).0 same)
 
 -- ---- ranges
 

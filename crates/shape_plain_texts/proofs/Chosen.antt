@@ -32,7 +32,7 @@ use Rattle.buffer_properties.specs.NormalizedList.{arranged_marks, has_later_mar
 use Rattle.buffer_properties.specs.Ordering.{joiner_between, joiners_shown, separates_nothing, with_joiners_shown}
 use Rattle.buffer_properties.specs.declared.normal_mode.Reach.TheVariants.{Least}
 use Rattle.buffer_properties.specs.SupportedExpansion.{in_pieces}
-use Rattle.buffer_stages.specs.Brought.{within_limit, with_arranged}
+use Rattle.buffer_stages.specs.Appending.{within_limit, with_arranged}
 use Rattle.shape_text.specs.Rotation.{with_rotated_characters}
 use Rattle.shape_masks.specs.Ranges.{bits_of, shifted_value, with_all_ranges, with_range}
 use Rattle.shape_normalize.specs.Rounds.{normalization}

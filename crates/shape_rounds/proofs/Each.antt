@@ -7,25 +7,25 @@ use Rattle.buffer_glyphs.specs.Items.{Item, item_of, strip}
 use Rattle.buffer_glyphs.specs.Lists.{take_next, drop_next}
 use Rattle.buffer_core.specs.Sides.{Sides}
 use Rattle.buffer_glyphs.specs.Rewriting.{Arrangement, in_turn}
-use Rattle.buffer_stages.specs.Brought.{Brought, RefusesRoomFor}
+use Rattle.buffer_stages.specs.Appending.{AppendsArrangement, RefusesRoomFor}
 use Rattle.shape_rounds.proofs.Lemmas.Chain.{none_behind, brought_none, brought_more, overfills_after}
 
 -- that many of n input items are output, each as f maps it
 pub record IsUnderway (f : Item → Arrangement) (n at : ℕ) (start now : Sides) : Type 0 where
   pub is_open : now.is_open ≡ true
   pub left : length start.ahead ≡ length now.ahead + at
-  pub brought : (xs ys : List Item) → strip start.ahead ≡ xs ++ ys → length xs ≡ n → Brought (in_turn (map f (take at xs))) (drop at xs ++ ys) start now
+  pub brought : (xs ys : List Item) → strip start.ahead ≡ xs ++ ys → length xs ≡ n → AppendsArrangement (in_turn (map f (take at xs))) (drop at xs ++ ys) start now
 
 pub each_begun : (f : Item → Arrangement) (n : ℕ) (s : Sides) → s.is_open ≡ true → IsUnderway f n 0 s s
 each_begun f n s opened = record {
   is_open = opened;
   left = omega arith;
-  brought = λ xs ys e len. subst (λ zs. Brought (in_turn []) zs s s) e (brought_none s);
+  brought = λ xs ys e len. subst (λ zs. AppendsArrangement (in_turn []) zs s s) e (brought_none s);
 }
 
 -- what a call at the cursor leaves of the buffer
 abbrev Goes : (Item → Arrangement) → Sides → Sides → Type 0
-Goes f now next = (x : Item) (xs : List Item) → strip now.ahead ≡ x ∷ xs → Brought (f x) xs now next
+Goes f now next = (x : Item) (xs : List Item) → strip now.ahead ≡ x ∷ xs → AppendsArrangement (f x) xs now next
 
 pub goes_open : (f : Item → Arrangement) (now next : Sides) → 0 < length now.ahead → Goes f now next → next.is_open ≡ now.is_open
 goes_open f now next some goes = by_case now.ahead refl
@@ -51,8 +51,8 @@ each_more f n at start now next lt some u goes = record {
   brought = λ xs ys e len. one_more xs ys (u.brought xs ys e len) len (drop at xs) refl;
 }
   where
-    one_more : (xs ys : List Item) → Brought (in_turn (map f (take at xs))) (drop at xs ++ ys) start now → length xs ≡ n → (zs : List Item) → drop at xs ≡ zs
-        → Brought (in_turn (map f (take (at + 1) xs))) (drop (at + 1) xs ++ ys) start next
+    one_more : (xs ys : List Item) → AppendsArrangement (in_turn (map f (take at xs))) (drop at xs ++ ys) start now → length xs ≡ n → (zs : List Item) → drop at xs ≡ zs
+        → AppendsArrangement (in_turn (map f (take (at + 1) xs))) (drop (at + 1) xs ++ ys) start next
     one_more xs ys b len [] e = absurd (let none = ap length e in omega (arith, none, lt, len, length-drop at xs))
     one_more xs ys b len (z ∷ zs) e =
         let step = goes z (zs ++ ys) (b.ahead ∙ ap (λ q. q ++ ys) e) in
@@ -62,12 +62,12 @@ each_more f n at start now next lt some u goes = record {
         rw (taken, rest) more
 
 -- all of them
-pub each_done : (f : Item → Arrangement) (n at : ℕ) (start now : Sides) → n ≤ at → IsUnderway f n at start now → (xs ys : List Item) → strip start.ahead ≡ xs ++ ys → length xs ≡ n → Brought (in_turn (map f xs)) ys start now
+pub each_done : (f : Item → Arrangement) (n at : ℕ) (start now : Sides) → n ≤ at → IsUnderway f n at start now → (xs ys : List Item) → strip start.ahead ≡ xs ++ ys → length xs ≡ n → AppendsArrangement (in_turn (map f xs)) ys start now
 each_done f n at start now le u xs ys e len =
     let all : take at xs ≡ xs = take_all at xs (omega (arith, le, len)) in
     let none : drop at xs ≡ [] = drop_all at xs (omega (arith, le, len)) in
-    let P : List Item → Type 0 = λ zs. Brought (in_turn (map f (take at xs))) (zs ++ ys) start now in
-    let Q : List Item → Type 0 = λ zs. Brought (in_turn (map f zs)) ys start now in
+    let P : List Item → Type 0 = λ zs. AppendsArrangement (in_turn (map f (take at xs))) (zs ++ ys) start now in
+    let Q : List Item → Type 0 = λ zs. AppendsArrangement (in_turn (map f zs)) ys start now in
     subst Q all (subst P none (u.brought xs ys e len))
 
 pub each_too_many : (f : Item → Arrangement) (n at : ℕ) (e : ShapeCause) (start now : Sides) → at < n → IsUnderway f n at start now → ((x : Item) (xs : List Item) → strip now.ahead ≡ x ∷ xs → RefusesRoomFor (length (f x).items) e now)

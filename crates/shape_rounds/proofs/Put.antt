@@ -19,7 +19,7 @@ use Rattle.buffer_properties.specs.declared.normal_mode.Reach.{Reach}
 use Rattle.buffer_properties.specs.SupportedExpansion.{expansion}
 use Rattle.buffer_properties.specs.Expanding.{whole_item, piece_of, items_for, expanded_item, item_expansion}
 use Rattle.shape_rounds.specs.Glyphs.{part_glyph, part_glyphs, Puts, count_of}
-use Rattle.buffer_stages.specs.Brought.{Brought, RefusesRoomFor}
+use Rattle.buffer_stages.specs.Appending.{AppendsArrangement, RefusesRoomFor}
 use Rattle.shape_rounds.proofs.Lemmas.Chain.{overfills_more}
 
 origins_same : (o : Origin) (front back : List Origin) (n : ℕ) → elements_replaced (length front) 1 n (front ++ o ∷ back) ≡ front ++ replicate n o ++ back
@@ -43,8 +43,8 @@ one_replaced asks level xs front back o = by_test (length xs) (length xs == 1) r
 
 -- glyphs of one origin in place of the current one
 pub put_skipped : (gs : List hb_glyph_info_t) (g : hb_glyph_info_t) (rest : List hb_glyph_info_t) (s new : Sides) → s.ahead ≡ g ∷ rest → origins gs ≡ replicate (length gs) (origin_of g)
-    → new ≡ with_glyph_skipped (record s { behind = s.behind ++ gs }) → Brought (replacement 1 (strip gs)) (strip rest) s new
-put_skipped gs g rest s new at same is = subst (λ (t : Sides). Brought (replacement 1 (strip gs)) (strip rest) s t) (sym is) (record {
+    → new ≡ with_glyph_skipped (record s { behind = s.behind ++ gs }) → AppendsArrangement (replacement 1 (strip gs)) (strip rest) s new
+put_skipped gs g rest s new at same is = subst (λ (t : Sides). AppendsArrangement (replacement 1 (strip gs)) (strip rest) s t) (sym is) (record {
   behind = map-append item_of s.behind gs;
   ahead = rw at refl;
   happened =
@@ -82,42 +82,42 @@ rest_ahead g gs x xs is seen = let e : x ∷ xs ≡ item_of g ∷ strip (drop 1 
 
 -- an item that was decomposed into the characters that were appended to the output
 pub parts_brought : (c : Normalizer) (reach : Reach) (b : Bool) (g : hb_glyph_info_t) (old mid new : Sides) (x : Item) (xs : List Item) → slice_get old.ahead 0 ≡ Some g → strip old.ahead ≡ x ∷ xs
-    → Puts c (expansion reach (has_character c) c.splits g.glyph_id) b old mid → b ≡ true → new ≡ with_glyph_skipped mid → Brought (item_expansion c reach x) xs old new
+    → Puts c (expansion reach (has_character c) c.splits g.glyph_id) b old mid → b ≡ true → new ≡ with_glyph_skipped mid → AppendsArrangement (item_expansion c reach x) xs old new
 unfolding expanded_item
 parts_brought c reach b g old mid new x xs at seen put went is =
     let first = first_ahead g old.ahead x xs at seen in
     let item = item_ahead g old.ahead x xs first seen in
     rw (item) (by_case (expansion reach (has_character c) c.splits g.glyph_id) put first)
   where
-    by_case : (o : Option (List ℕ)) → Puts c o b old mid → old.ahead ≡ g ∷ drop 1 old.ahead → Brought (replacement 1 (items_for c (item_of g) o)) xs old new
+    by_case : (o : Option (List ℕ)) → Puts c o b old mid → old.ahead ≡ g ∷ drop 1 old.ahead → AppendsArrangement (replacement 1 (items_for c (item_of g) o)) xs old new
     by_case None p first = absurd (let bad = p.0 in cc)
     by_case (Some us) p first =
         let gs = map (part_glyph c g) us in
         let mid_is : mid ≡ record old { behind = old.behind ++ gs } = p.1 ∙ ap (λ o. record old { behind = old.behind ++ part_glyphs c us o }) at in
-        subst (λ ys. Brought (replacement 1 ys) xs old new) (parts_items c g us)
-        (subst (λ zs. Brought (replacement 1 (strip gs)) zs old new) (rest_ahead g old.ahead x xs first seen)
+        subst (λ ys. AppendsArrangement (replacement 1 ys) xs old new) (parts_items c g us)
+        (subst (λ zs. AppendsArrangement (replacement 1 (strip gs)) zs old new) (rest_ahead g old.ahead x xs first seen)
         (put_skipped gs g (drop 1 old.ahead) old new first (parts_origins c g us) (is ∙ ap with_glyph_skipped mid_is)))
 
 -- an item that was replaced by one glyph
 pub placed_brought : (g info : hb_glyph_info_t) (y : Item) (old mid new : Sides) (x : Item) (xs : List Item) → slice_get old.ahead 0 ≡ Some g → strip old.ahead ≡ x ∷ xs
-    → item_of info ≡ y → origin_of info ≡ origin_of g → mid ≡ old → new ≡ with_glyph_skipped (with_output_info info mid) → Brought (eventless_arrangement (y ∷ [])) xs old new
+    → item_of info ≡ y → origin_of info ≡ origin_of g → mid ≡ old → new ≡ with_glyph_skipped (with_output_info info mid) → AppendsArrangement (eventless_arrangement (y ∷ [])) xs old new
 placed_brought g info y old mid new x xs at seen whole same stays is =
     let first = first_ahead g old.ahead x xs at seen in
-    subst (λ z. Brought (eventless_arrangement (z ∷ [])) xs old new) whole
-    (subst (λ zs. Brought (eventless_arrangement (item_of info ∷ [])) zs old new) (rest_ahead g old.ahead x xs first seen)
+    subst (λ z. AppendsArrangement (eventless_arrangement (z ∷ [])) xs old new) whole
+    (subst (λ zs. AppendsArrangement (eventless_arrangement (item_of info ∷ [])) zs old new) (rest_ahead g old.ahead x xs first seen)
     (put_skipped (info ∷ []) g (drop 1 old.ahead) old new first (ap (λ o. o ∷ []) same) (is ∙ ap (λ s. with_glyph_skipped (with_output_info info s)) stays)))
 
 -- an item that stays whole
 pub whole_brought : (c : Normalizer) (reach : Reach) (b : Bool) (g info : hb_glyph_info_t) (old mid new : Sides) (x : Item) (xs : List Item) → slice_get old.ahead 0 ≡ Some g → strip old.ahead ≡ x ∷ xs
     → Puts c (expansion reach (has_character c) c.splits g.glyph_id) b old mid → b ≡ false → item_of info ≡ whole_item c (item_of g) → origin_of info ≡ origin_of g → new ≡ with_glyph_skipped (with_output_info info mid)
-    → Brought (item_expansion c reach x) xs old new
+    → AppendsArrangement (item_expansion c reach x) xs old new
 unfolding expanded_item
 whole_brought c reach b g info old mid new x xs at seen none stays whole same is =
     let first = first_ahead g old.ahead x xs at seen in
     let item = item_ahead g old.ahead x xs first seen in
     rw (item) (by_case (expansion reach (has_character c) c.splits g.glyph_id) none first)
   where
-    by_case : (o : Option (List ℕ)) → Puts c o b old mid → old.ahead ≡ g ∷ drop 1 old.ahead → Brought (replacement 1 (items_for c (item_of g) o)) xs old new
+    by_case : (o : Option (List ℕ)) → Puts c o b old mid → old.ahead ≡ g ∷ drop 1 old.ahead → AppendsArrangement (replacement 1 (items_for c (item_of g) o)) xs old new
     by_case (Some us) p first = absurd (let bad = p.0 in cc)
     by_case None p first = placed_brought g info (whole_item c (item_of g)) old mid new x xs at seen whole same p.1 is
 

@@ -23,7 +23,7 @@ use Rattle.buffer_glyphs.specs.Rewriting.{replacement, in_turn}
 use Rattle.buffer_properties.specs.Characters.{is_selector, with_glyph, unjoined_selector}
 use Rattle.buffer_properties.specs.Expanding.{unexpanded_item, selection, meets_selector, pending_item}
 use Rattle.buffer_properties.specs.Normalizer.{Normalizer}
-use Rattle.buffer_stages.specs.Brought.{Brought, RefusesRoomFor, frame_of}
+use Rattle.buffer_stages.specs.Appending.{AppendsArrangement, RefusesRoomFor, frame_of}
 use Rattle.shape_rounds.specs.Walking.{one_or_none, waits_after, arrangements_at, PutsWaiting, Selects, SelectsTooMany}
 use Rattle.shape_rounds.proofs.Lemmas.Chain.{none_behind, brought_none, brought_then, overfills_behind}
 
@@ -58,10 +58,10 @@ nothing_further n = omega arith
 
 pub joined_brought : (glyph : ℕ) (g : hb_glyph_info_t) (s mid new : Sides) (x sel : Item) (xs : List Item) → slice_get s.ahead 0 ≡ Some g → strip s.ahead ≡ x ∷ sel ∷ xs
     → mid ≡ with_glyph_ahead 0 (record g { glyph_index = glyph }) s → new ≡ with_replaced 2 (g.glyph_id ∷ []) mid → origins_of new ≡ origins_by (Replace (length mid.behind) 2 1 ∷ []) mid
-    → Brought (replacement 2 (with_glyph glyph x ∷ [])) xs s new
+    → AppendsArrangement (replacement 2 (with_glyph glyph x ∷ [])) xs s new
 joined_brought glyph g s mid new x sel xs at seen is replaced happened = by_case s.ahead refl
   where
-    by_case : (gs : List hb_glyph_info_t) → s.ahead ≡ gs → Brought (replacement 2 (with_glyph glyph x ∷ [])) xs s new
+    by_case : (gs : List hb_glyph_info_t) → s.ahead ≡ gs → AppendsArrangement (replacement 2 (with_glyph glyph x ∷ [])) xs s new
     by_case [] e = absurd (let bad = ap strip e in let all = seen in cc)
     by_case (h ∷ hs) e =
         let first : h ≡ g = let there = ap (λ zs. slice_get zs 0) (sym e) ∙ at in cc in
@@ -101,11 +101,11 @@ variant_there c g h s x sel xs v at0 at1 seen is =
     is ∙ ap₂ (λ a b. c.variant_of a b) one two
 
 pub pair_brought : (c : Normalizer) (g h : hb_glyph_info_t) (glyph : ℕ) (s new : Sides) → slice_get s.ahead 0 ≡ Some g → slice_get s.ahead 1 ≡ Some h → Some glyph ≡ c.variant_of g.glyph_id h.glyph_id
-    → ((x sel : Item) (xs : List Item) → strip s.ahead ≡ x ∷ sel ∷ xs → Brought (replacement 2 (with_glyph glyph x ∷ [])) xs s new)
-    → (x sel : Item) (xs : List Item) → strip s.ahead ≡ x ∷ sel ∷ xs → Brought (in_turn (selection c x sel (c.variant_of x.number sel.number))) xs s new
+    → ((x sel : Item) (xs : List Item) → strip s.ahead ≡ x ∷ sel ∷ xs → AppendsArrangement (replacement 2 (with_glyph glyph x ∷ [])) xs s new)
+    → (x sel : Item) (xs : List Item) → strip s.ahead ≡ x ∷ sel ∷ xs → AppendsArrangement (in_turn (selection c x sel (c.variant_of x.number sel.number))) xs s new
 pair_brought c g h glyph s new at0 at1 is goes x sel xs seen =
-    subst (λ (v : Option ℕ). Brought (in_turn (selection c x sel v)) xs s new) (variant_there c g h s x sel xs (Some glyph) at0 at1 seen is)
-    (subst (λ a. Brought a xs s new) (sym (none_behind (replacement 2 (with_glyph glyph x ∷ [])))) (goes x sel xs seen))
+    subst (λ (v : Option ℕ). AppendsArrangement (in_turn (selection c x sel v)) xs s new) (variant_there c g h s x sel xs (Some glyph) at0 at1 seen is)
+    (subst (λ a. AppendsArrangement a xs s new) (sym (none_behind (replacement 2 (with_glyph glyph x ∷ [])))) (goes x sel xs seen))
 
 pub pair_too_many : (c : Normalizer) (g h : hb_glyph_info_t) (glyph : ℕ) (e : ShapeCause) (s : Sides) → slice_get s.ahead 0 ≡ Some g → slice_get s.ahead 1 ≡ Some h → Some glyph ≡ c.variant_of g.glyph_id h.glyph_id → RefusesRoomFor 1 e s
     → (x sel : Item) (xs : List Item) → strip s.ahead ≡ x ∷ sel ∷ xs → RefusesRoomFor (length (in_turn (selection c x sel (c.variant_of x.number sel.number))).items) e s
@@ -113,10 +113,10 @@ pair_too_many c g h glyph e s at0 at1 is over x sel xs seen =
     subst (λ (v : Option ℕ). RefusesRoomFor (length (in_turn (selection c x sel v)).items) e s) (variant_there c g h s x sel xs (Some glyph) at0 at1 seen is) over
 
 pub none_brought : (c : Normalizer) (g h : hb_glyph_info_t) (s new : Sides) → slice_get s.ahead 0 ≡ Some g → slice_get s.ahead 1 ≡ Some h → None ≡ c.variant_of g.glyph_id h.glyph_id
-    → ((x sel : Item) (xs : List Item) → strip s.ahead ≡ x ∷ sel ∷ xs → Brought (in_turn (selection c x sel None)) xs s new)
-    → (x sel : Item) (xs : List Item) → strip s.ahead ≡ x ∷ sel ∷ xs → Brought (in_turn (selection c x sel (c.variant_of x.number sel.number))) xs s new
+    → ((x sel : Item) (xs : List Item) → strip s.ahead ≡ x ∷ sel ∷ xs → AppendsArrangement (in_turn (selection c x sel None)) xs s new)
+    → (x sel : Item) (xs : List Item) → strip s.ahead ≡ x ∷ sel ∷ xs → AppendsArrangement (in_turn (selection c x sel (c.variant_of x.number sel.number))) xs s new
 none_brought c g h s new at0 at1 is goes x sel xs seen =
-    subst (λ (v : Option ℕ). Brought (in_turn (selection c x sel v)) xs s new) (variant_there c g h s x sel xs None at0 at1 seen is) (goes x sel xs seen)
+    subst (λ (v : Option ℕ). AppendsArrangement (in_turn (selection c x sel v)) xs s new) (variant_there c g h s x sel xs None at0 at1 seen is) (goes x sel xs seen)
 
 pub none_too_many : (c : Normalizer) (g h : hb_glyph_info_t) (e : ShapeCause) (s : Sides) → slice_get s.ahead 0 ≡ Some g → slice_get s.ahead 1 ≡ Some h → None ≡ c.variant_of g.glyph_id h.glyph_id
     → ((x sel : Item) (xs : List Item) → strip s.ahead ≡ x ∷ sel ∷ xs → RefusesRoomFor (length (in_turn (selection c x sel None)).items) e s)
@@ -125,16 +125,16 @@ none_too_many c g h e s at0 at1 is goes x sel xs seen =
     subst (λ (v : Option ℕ). RefusesRoomFor (length (in_turn (selection c x sel v)).items) e s) (variant_there c g h s x sel xs None at0 at1 seen is) (goes x sel xs seen)
 
 -- both stay
-pub both_brought : (c : Normalizer) (b : Bool) (s mid new : Sides) → ((x : Item) (xs : List Item) → strip s.ahead ≡ x ∷ xs → Brought (unexpanded_item c x) xs s mid)
-    → ((x : Item) (xs : List Item) → strip mid.ahead ≡ x ∷ xs → Brought (unexpanded_item c (unjoined_selector b x)) xs mid new)
-    → (x sel : Item) (xs : List Item) → strip s.ahead ≡ x ∷ sel ∷ xs → Brought (in_turn (unexpanded_item c x ∷ unexpanded_item c (unjoined_selector b sel) ∷ [])) xs s new
+pub both_brought : (c : Normalizer) (b : Bool) (s mid new : Sides) → ((x : Item) (xs : List Item) → strip s.ahead ≡ x ∷ xs → AppendsArrangement (unexpanded_item c x) xs s mid)
+    → ((x : Item) (xs : List Item) → strip mid.ahead ≡ x ∷ xs → AppendsArrangement (unexpanded_item c (unjoined_selector b x)) xs mid new)
+    → (x sel : Item) (xs : List Item) → strip s.ahead ≡ x ∷ sel ∷ xs → AppendsArrangement (in_turn (unexpanded_item c x ∷ unexpanded_item c (unjoined_selector b sel) ∷ [])) xs s new
 both_brought c b s mid new one two x sel xs seen =
     let first = one x (sel ∷ xs) seen in
     brought_then (unexpanded_item c x) (in_turn (unexpanded_item c (unjoined_selector b sel) ∷ [])) (sel ∷ xs) xs s mid new first
-    (subst (λ a. Brought a xs mid new) (sym (none_behind (unexpanded_item c (unjoined_selector b sel)))) (two sel xs first.ahead))
+    (subst (λ a. AppendsArrangement a xs mid new) (sym (none_behind (unexpanded_item c (unjoined_selector b sel)))) (two sel xs first.ahead))
 
 -- as many as the input has
-pub one_left : (c : Normalizer) (s mid : Sides) → 1 < length s.ahead → ((x : Item) (xs : List Item) → strip s.ahead ≡ x ∷ xs → Brought (unexpanded_item c x) xs s mid) → (mid.is_open ≡ s.is_open) × (0 < length mid.ahead)
+pub one_left : (c : Normalizer) (s mid : Sides) → 1 < length s.ahead → ((x : Item) (xs : List Item) → strip s.ahead ≡ x ∷ xs → AppendsArrangement (unexpanded_item c x) xs s mid) → (mid.is_open ≡ s.is_open) × (0 < length mid.ahead)
 one_left c s mid lt one = by_case s.ahead refl
   where
     by_case : (gs : List hb_glyph_info_t) → s.ahead ≡ gs → (mid.is_open ≡ s.is_open) × (0 < length mid.ahead)
@@ -148,28 +148,28 @@ one_left c s mid lt one = by_case s.ahead refl
         some [] bad = absurd (let worse = bad in cc)
         some (m ∷ ms) fine = omega arith
 
-pub second_too_many : (c : Normalizer) (b : Bool) (e : ShapeCause) (s mid : Sides) → ((x : Item) (xs : List Item) → strip s.ahead ≡ x ∷ xs → Brought (unexpanded_item c x) xs s mid) → RefusesRoomFor 1 e mid
+pub second_too_many : (c : Normalizer) (b : Bool) (e : ShapeCause) (s mid : Sides) → ((x : Item) (xs : List Item) → strip s.ahead ≡ x ∷ xs → AppendsArrangement (unexpanded_item c x) xs s mid) → RefusesRoomFor 1 e mid
     → (x sel : Item) (xs : List Item) → strip s.ahead ≡ x ∷ sel ∷ xs → RefusesRoomFor (length (in_turn (unexpanded_item c x ∷ unexpanded_item c (unjoined_selector b sel) ∷ [])).items) e s
 second_too_many c b e s mid one over x sel xs seen = overfills_behind (unexpanded_item c x) (sel ∷ xs) 1 e s mid (one x (sel ∷ xs) seen) over
 
 -- ---- the next item
 
 selects_case : (c : Normalizer) (before : Option Item) (y : Item) (ys : List Item) (t : Bool) (old new : Sides) → is_selector y ≡ t
-    → (is_some (if t then None else Some y) ≡ (if t then false else true)) × Brought (in_turn (if t then meets_selector c before y else pending_item c before)) (one_or_none (if t then None else Some y) ++ ys) old new
-    → (is_some (waits_after y) ≡ (if t then false else true)) × Brought (in_turn (arrangements_at c before y)) (one_or_none (waits_after y) ++ ys) old new
+    → (is_some (if t then None else Some y) ≡ (if t then false else true)) × AppendsArrangement (in_turn (if t then meets_selector c before y else pending_item c before)) (one_or_none (if t then None else Some y) ++ ys) old new
+    → (is_some (waits_after y) ≡ (if t then false else true)) × AppendsArrangement (in_turn (arrangements_at c before y)) (one_or_none (waits_after y) ++ ys) old new
 selects_case c before y ys t old new e p = rw e p
 
 -- none waits, and no selector is met
 pub first_waits : (c : Normalizer) (g : hb_glyph_info_t) (s : Sides) → slice_get s.ahead 0 ≡ Some g → is_selector (item_of g) ≡ false → Selects c false true s s
 first_waits c g s at other None y ys w seen =
-    selects_case c None y ys false s s (ap is_selector (sym (first_number g s.ahead y ys at seen)) ∙ other) (refl, subst (λ zs. Brought (in_turn []) zs s s) seen (brought_none s))
+    selects_case c None y ys false s s (ap is_selector (sym (first_number g s.ahead y ys at seen)) ∙ other) (refl, subst (λ zs. AppendsArrangement (in_turn []) zs s s) seen (brought_none s))
 first_waits c g s at other (Some x) y ys w seen = absurd (let bad = w in cc)
 
 -- none waits, and a selector is met
 pub first_selector : (c : Normalizer) (g : hb_glyph_info_t) (s new : Sides) → slice_get s.ahead 0 ≡ Some g → is_selector (item_of g) ≡ true
-    → ((x : Item) (xs : List Item) → strip s.ahead ≡ x ∷ xs → Brought (unexpanded_item c x) xs s new) → Selects c false false s new
+    → ((x : Item) (xs : List Item) → strip s.ahead ≡ x ∷ xs → AppendsArrangement (unexpanded_item c x) xs s new) → Selects c false false s new
 first_selector c g s new at picks goes None y ys w seen =
-    selects_case c None y ys true s new (ap is_selector (sym (first_number g s.ahead y ys at seen)) ∙ picks) (refl, subst (λ a. Brought a ys s new) (sym (none_behind (unexpanded_item c y))) (goes y ys seen))
+    selects_case c None y ys true s new (ap is_selector (sym (first_number g s.ahead y ys at seen)) ∙ picks) (refl, subst (λ a. AppendsArrangement a ys s new) (sym (none_behind (unexpanded_item c y))) (goes y ys seen))
 first_selector c g s new at picks goes (Some x) y ys w seen = absurd (let bad = w in cc)
 
 pub first_too_many : (c : Normalizer) (g : hb_glyph_info_t) (e : ShapeCause) (s : Sides) → slice_get s.ahead 0 ≡ Some g → is_selector (item_of g) ≡ true → RefusesRoomFor 1 e s → SelectsTooMany c false e s
@@ -180,10 +180,10 @@ first_too_many c g e s at picks over (Some x) y ys w seen = absurd (let bad = w 
 
 -- one waits, and no selector is met
 pub behind_waits : (c : Normalizer) (g : hb_glyph_info_t) (s new : Sides) → slice_get s.ahead 1 ≡ Some g → is_selector (item_of g) ≡ false
-    → ((x : Item) (xs : List Item) → strip s.ahead ≡ x ∷ xs → Brought (unexpanded_item c x) xs s new) → Selects c true true s new
+    → ((x : Item) (xs : List Item) → strip s.ahead ≡ x ∷ xs → AppendsArrangement (unexpanded_item c x) xs s new) → Selects c true true s new
 behind_waits c g s new at other goes None y ys w seen = absurd (let bad = w in cc)
 behind_waits c g s new at other goes (Some x) y ys w seen =
-    selects_case c (Some x) y ys false s new (ap is_selector (sym (second_number g s.ahead x y ys at seen)) ∙ other) (refl, subst (λ a. Brought a (y ∷ ys) s new) (sym (none_behind (unexpanded_item c x))) (goes x (y ∷ ys) seen))
+    selects_case c (Some x) y ys false s new (ap is_selector (sym (second_number g s.ahead x y ys at seen)) ∙ other) (refl, subst (λ a. AppendsArrangement a (y ∷ ys) s new) (sym (none_behind (unexpanded_item c x))) (goes x (y ∷ ys) seen))
 
 pub behind_too_many : (c : Normalizer) (g : hb_glyph_info_t) (e : ShapeCause) (s : Sides) → slice_get s.ahead 1 ≡ Some g → is_selector (item_of g) ≡ false → RefusesRoomFor 1 e s → SelectsTooMany c true e s
 behind_too_many c g e s at other over None y ys w seen = absurd (let bad = w in cc)
@@ -193,7 +193,7 @@ behind_too_many c g e s at other over (Some x) y ys w seen =
 
 -- one waits, and a selector is met
 pub selector_met : (c : Normalizer) (g : hb_glyph_info_t) (s new : Sides) → slice_get s.ahead 1 ≡ Some g → is_selector (item_of g) ≡ true
-    → ((x sel : Item) (xs : List Item) → strip s.ahead ≡ x ∷ sel ∷ xs → Brought (in_turn (selection c x sel (c.variant_of x.number sel.number))) xs s new) → Selects c true false s new
+    → ((x sel : Item) (xs : List Item) → strip s.ahead ≡ x ∷ sel ∷ xs → AppendsArrangement (in_turn (selection c x sel (c.variant_of x.number sel.number))) xs s new) → Selects c true false s new
 selector_met c g s new at picks goes None y ys w seen = absurd (let bad = w in cc)
 selector_met c g s new at picks goes (Some x) y ys w seen = selects_case c (Some x) y ys true s new (ap is_selector (sym (second_number g s.ahead x y ys at seen)) ∙ picks) (refl, goes x y ys seen)
 
@@ -207,9 +207,9 @@ met_too_many c g e s at picks goes (Some x) y ys w seen =
 -- ---- the last item
 
 pub none_put : (c : Normalizer) (s : Sides) (waits : Bool) → waits ≡ false → PutsWaiting c waits s s
-none_put c s waits off None ys w seen = subst (λ zs. Brought (in_turn []) zs s s) seen (brought_none s)
+none_put c s waits off None ys w seen = subst (λ zs. AppendsArrangement (in_turn []) zs s s) seen (brought_none s)
 none_put c s waits off (Some x) ys w seen = absurd (let bad = w ∙ off in cc)
 
-pub one_put : (c : Normalizer) (s new : Sides) (waits : Bool) → waits ≡ true → ((x : Item) (xs : List Item) → strip s.ahead ≡ x ∷ xs → Brought (unexpanded_item c x) xs s new) → PutsWaiting c waits s new
+pub one_put : (c : Normalizer) (s new : Sides) (waits : Bool) → waits ≡ true → ((x : Item) (xs : List Item) → strip s.ahead ≡ x ∷ xs → AppendsArrangement (unexpanded_item c x) xs s new) → PutsWaiting c waits s new
 one_put c s new waits on goes None ys w seen = absurd (let bad = w ∙ on in cc)
-one_put c s new waits on goes (Some x) ys w seen = subst (λ a. Brought a ys s new) (sym (none_behind (unexpanded_item c x))) (goes x ys seen)
+one_put c s new waits on goes (Some x) ys w seen = subst (λ a. AppendsArrangement a ys s new) (sym (none_behind (unexpanded_item c x))) (goes x ys seen)

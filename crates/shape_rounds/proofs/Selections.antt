@@ -11,7 +11,7 @@ use Rattle.buffer_glyphs.specs.Rewriting.{Arrangement, in_turn}
 use Rattle.buffer_properties.specs.Characters.{is_selector}
 use Rattle.buffer_properties.specs.Expanding.{pending_item, meets_selector, selections_after}
 use Rattle.buffer_properties.specs.Normalizer.{Normalizer}
-use Rattle.buffer_stages.specs.Brought.{Brought, RefusesRoomFor}
+use Rattle.buffer_stages.specs.Appending.{AppendsArrangement, RefusesRoomFor}
 use Rattle.shape_rounds.specs.Walking.{one_or_none, waits_after, arrangements_at, PutsWaiting, Selects, SelectsTooMany, SelectsAll, SelectsAllTooMany}
 use Rattle.shape_rounds.proofs.Lemmas.Chain.{brought_none, brought_both, overfills_after}
 
@@ -26,7 +26,7 @@ pub record IsSelecting (c : Normalizer) (k at : ℕ) (waits : Bool) (start now :
   pub within : at ≤ k
   pub waiting : is_some before ≡ waits
   pub is_open : now.is_open ≡ true
-  pub brought : Brought (in_turn done) (one_or_none before ++ drop at xs) start now
+  pub brought : AppendsArrangement (in_turn done) (one_or_none before ++ drop at xs) start now
   pub whole : done ++ selections_after c before (take (k - at) (drop at xs)) ≡ selections_after c (Some x) (take k xs)
 
 pub selecting_begun : (c : Normalizer) (k : ℕ) (s : Sides) → s.is_open ≡ true → k < length s.ahead → IsSelecting c k 0 true s s
@@ -44,7 +44,7 @@ selecting_begun c k s opened lt = by_case s.ahead refl
       within = omega arith;
       waiting = refl;
       is_open = opened;
-      brought = subst (λ zs. Brought (in_turn []) zs s s) (ap strip e) (brought_none s);
+      brought = subst (λ zs. AppendsArrangement (in_turn []) zs s s) (ap strip e) (brought_none s);
       whole = let same : k - 0 ≡ k = omega arith in ap (λ n. selections_after c (Some (item_of g)) (take n (strip gs))) same;
     }
 
@@ -102,7 +102,7 @@ selecting_more c k at waits b start now next lt w selects = by_case (drop at w.x
           within = omega (arith, lt);
           waiting = met.0;
           is_open = ap (λ (s : Sides). s.is_open) met.1.frame ∙ w.is_open;
-          brought = subst (λ zs. Brought (in_turn (w.done ++ arrangements_at c w.before y)) (one_or_none (waits_after y) ++ zs) start next) (sym rest)
+          brought = subst (λ zs. AppendsArrangement (in_turn (w.done ++ arrangements_at c w.before y)) (one_or_none (waits_after y) ++ zs) start next) (sym rest)
               (brought_both w.done (arrangements_at c w.before y) (one_or_none w.before ++ drop at w.xs) (one_or_none (waits_after y) ++ ys) start now next w.brought met.1);
           whole =
               append_assoc w.done (arrangements_at c w.before y) (selections_after c (waits_after y) (take (k - (at + 1)) (drop (at + 1) w.xs)))
@@ -140,8 +140,8 @@ selecting_done c k at waits start now next le w puts x xs seen =
     let last = puts w.before (drop at w.xs) w.waiting w.brought.ahead in
     let both = brought_both w.done (pending_item c w.before) (one_or_none w.before ++ drop at w.xs) (drop at w.xs) start now next w.brought last in
     let same = sym w.seen ∙ seen in
-    subst (λ zs. Brought (in_turn (selections_after c (Some x) (take k xs))) zs start next) (ap (λ n. drop n w.xs) all ∙ same_rest k w.x x w.xs xs same)
-    (subst (λ ps. Brought (in_turn ps) (drop at w.xs) start next) (last_whole c k at waits start now le w ∙ same_first c k w.x x w.xs xs same) both)
+    subst (λ zs. AppendsArrangement (in_turn (selections_after c (Some x) (take k xs))) zs start next) (ap (λ n. drop n w.xs) all ∙ same_rest k w.x x w.xs xs same)
+    (subst (λ ps. AppendsArrangement (in_turn ps) (drop at w.xs) start next) (last_whole c k at waits start now le w ∙ same_first c k w.x x w.xs xs same) both)
 
 waiting_count : (c : Normalizer) (before : Option Item) (waits : Bool) → is_some before ≡ waits → (if waits then 1 else 0) ≡ length (in_turn (pending_item c before)).items
 waiting_count c None waits e = ap (λ t. if t then 1 else 0) (sym e)

@@ -12,12 +12,12 @@ use Rattle.buffer_glyphs.specs.Rewriting.{Arrangement, in_turn}
 use Rattle.buffer_properties.specs.Characters.{is_mark, is_selector}
 use Rattle.buffer_properties.specs.Expanding.{item_expansion, expanded_item, selections_after, expanded_group, expanded_groups, expanded_list}
 use Rattle.buffer_properties.specs.Normalizer.{Normalizer, reach_alone, reach_with_marks}
-use Rattle.buffer_stages.specs.Brought.{Brought, RefusesRoomFor}
+use Rattle.buffer_stages.specs.Appending.{AppendsArrangement, RefusesRoomFor}
 use Rattle.shape_rounds.specs.Walking.{SelectsAll, SelectsAllTooMany, Groups, GroupsTooMany, ContinuesGroup, Walks, WalksTooMany, IsExpanded, ExpandsTooMany}
 use Rattle.shape_rounds.proofs.Lemmas.Chain.{none_behind, brought_none, brought_both, overfills_after}
 
-pub one_group : (c : Normalizer) (k : ℕ) (old new : Sides) → k ≡ 0 → ((x : Item) (xs : List Item) → strip old.ahead ≡ x ∷ xs → Brought (item_expansion c (reach_alone c.mode) x) xs old new) → Groups c k old new
-one_group c k old new none goes x [] ys e len = subst (λ a. Brought a ys old new) (sym (none_behind (item_expansion c (reach_alone c.mode) x))) (goes x ys e)
+pub one_group : (c : Normalizer) (k : ℕ) (old new : Sides) → k ≡ 0 → ((x : Item) (xs : List Item) → strip old.ahead ≡ x ∷ xs → AppendsArrangement (item_expansion c (reach_alone c.mode) x) xs old new) → Groups c k old new
+one_group c k old new none goes x [] ys e len = subst (λ a. AppendsArrangement a ys old new) (sym (none_behind (item_expansion c (reach_alone c.mode) x))) (goes x ys e)
 one_group c k old new none goes x (m ∷ marks) ys e len = absurd (omega (arith, len, none))
 
 pub one_too_many : (c : Normalizer) (k : ℕ) (e : ShapeCause) (old : Sides) → k ≡ 0 → ((x : Item) (xs : List Item) → strip old.ahead ≡ x ∷ xs → RefusesRoomFor (length (expanded_item c (reach_alone c.mode) x)) e old) → GroupsTooMany c k e old
@@ -28,11 +28,11 @@ group_items : (k n : ℕ) (gs : List Item) (x : Item) (marks ys : List Item) →
 group_items k n gs x marks ys count e len = ap (take n) e ∙ take_at (x ∷ marks) ys n (omega (arith, len, count))
 
 pub marked_group : (c : Normalizer) (k n : ℕ) (old new : Sides) → k ≢ 0 → n ≡ k + 1 → list_any is_selector (take n (strip old.ahead)) ≡ false
-    → ((xs ys : List Item) → strip old.ahead ≡ xs ++ ys → length xs ≡ n → Brought (in_turn (map (item_expansion c (reach_with_marks c.mode)) xs)) ys old new) → Groups c k old new
+    → ((xs ys : List Item) → strip old.ahead ≡ xs ++ ys → length xs ≡ n → AppendsArrangement (in_turn (map (item_expansion c (reach_with_marks c.mode)) xs)) ys old new) → Groups c k old new
 marked_group c k n old new some count free goes x [] ys e len = absurd (some (sym len))
 marked_group c k n old new some count free goes x (m ∷ marks) ys e len =
     let none = ap (list_any is_selector) (sym (group_items k n (strip old.ahead) x (m ∷ marks) ys count e len)) ∙ free in
-    subst (λ ps. Brought (in_turn ps) ys old new) (sym (cond-false _ _ _ none)) (goes (x ∷ m ∷ marks) ys e (omega (arith, len, count)))
+    subst (λ ps. AppendsArrangement (in_turn ps) ys old new) (sym (cond-false _ _ _ none)) (goes (x ∷ m ∷ marks) ys e (omega (arith, len, count)))
 
 pub marked_too_many : (c : Normalizer) (k n : ℕ) (e : ShapeCause) (old : Sides) → k ≢ 0 → n ≡ k + 1 → list_any is_selector (take n (strip old.ahead)) ≡ false
     → ((xs ys : List Item) → strip old.ahead ≡ xs ++ ys → length xs ≡ n → RefusesRoomFor (length (in_turn (map (item_expansion c (reach_with_marks c.mode)) xs)).items) e old) → GroupsTooMany c k e old
@@ -47,8 +47,8 @@ selected_group c k n old new some count there goes x (m ∷ marks) ys e len =
     let one = ap (list_any is_selector) (sym (group_items k n (strip old.ahead) x (m ∷ marks) ys count e len)) ∙ there in
     let front : take k (m ∷ marks ++ ys) ≡ m ∷ marks = take_at (m ∷ marks) ys k len in
     let back : drop k (m ∷ marks ++ ys) ≡ ys = ap (λ j. drop j (m ∷ marks ++ ys)) (sym len) ∙ drop-append_seam (m ∷ marks) ys in
-    let brought = subst (λ (zs : List Item). Brought (in_turn (selections_after c (Some x) (take k (m ∷ marks ++ ys)))) zs old new) back (goes x (m ∷ marks ++ ys) e) in
-    subst (λ ps. Brought (in_turn ps) ys old new) (sym (cond-true _ _ _ one)) (subst (λ (zs : List Item). Brought (in_turn (selections_after c (Some x) zs)) ys old new) front brought)
+    let brought = subst (λ (zs : List Item). AppendsArrangement (in_turn (selections_after c (Some x) (take k (m ∷ marks ++ ys)))) zs old new) back (goes x (m ∷ marks ++ ys) e) in
+    subst (λ ps. AppendsArrangement (in_turn ps) ys old new) (sym (cond-true _ _ _ one)) (subst (λ (zs : List Item). AppendsArrangement (in_turn (selections_after c (Some x) zs)) ys old new) front brought)
 
 pub selected_too_many : (c : Normalizer) (k n : ℕ) (e : ShapeCause) (old : Sides) → k ≢ 0 → n ≡ k + 1 → list_any is_selector (take n (strip old.ahead)) ≡ true → SelectsAllTooMany c k e old → GroupsTooMany c k e old
 selected_too_many c k n e old some count there goes x [] ys seen len = absurd (some (sym len))
@@ -64,7 +64,7 @@ pub record IsWalking (c : Normalizer) (count at k : ℕ) (start now : Sides) : T
   pub marks : List Item
   pub ys : List Item
   pub is_open : now.is_open ≡ true
-  pub brought : Brought (in_turn done) (x ∷ (marks ++ ys)) start now
+  pub brought : AppendsArrangement (in_turn done) (x ∷ (marks ++ ys)) start now
   pub met : length marks ≡ k
   pub left : length ys + at ≡ count
   pub whole : (y : Item) (zs : List Item) → strip start.ahead ≡ y ∷ zs → done ++ expanded_groups c x marks ys ≡ expanded_groups c y [] zs
@@ -83,7 +83,7 @@ walk_begun c count s opened some len = by_case s.ahead refl
       marks = [];
       ys = strip gs;
       is_open = opened;
-      brought = subst (λ zs. Brought (in_turn []) zs s s) (ap strip e) (brought_none s);
+      brought = subst (λ zs. AppendsArrangement (in_turn []) zs s s) (ap strip e) (brought_none s);
       met = refl;
       left = let all = ap length e in omega (arith, all, len, length-map gs item_of);
       whole = λ y zs f. same_groups c (item_of g) y (strip gs) zs (sym (ap strip e) ∙ f);
@@ -103,10 +103,10 @@ walk_more c count at k n start now next lt w walks = by_case w.ys refl
     by_case [] e = absurd (let none = ap length e in let left = w.left in omega (arith, none, left, lt))
     by_case (y ∷ ys) e =
         let seen : strip now.ahead ≡ w.x ∷ (w.marks ++ y ∷ ys) = w.brought.ahead ∙ ap (λ zs. w.x ∷ (w.marks ++ zs)) e in
-        let there : Brought (in_turn w.done) (w.x ∷ (w.marks ++ y ∷ ys)) start now = subst (λ zs. Brought (in_turn w.done) (w.x ∷ (w.marks ++ zs)) start now) e w.brought in
+        let there : AppendsArrangement (in_turn w.done) (w.x ∷ (w.marks ++ y ∷ ys)) start now = subst (λ zs. AppendsArrangement (in_turn w.done) (w.x ∷ (w.marks ++ zs)) start now) e w.brought in
         by_mark y ys e there (is_mark y) refl (walks w.x w.marks y ys seen w.met)
       where
-        by_mark : (y : Item) (ys : List Item) → w.ys ≡ y ∷ ys → Brought (in_turn w.done) (w.x ∷ (w.marks ++ y ∷ ys)) start now
+        by_mark : (y : Item) (ys : List Item) → w.ys ≡ y ∷ ys → AppendsArrangement (in_turn w.done) (w.x ∷ (w.marks ++ y ∷ ys)) start now
             → (t : Bool) → is_mark y ≡ t → ContinuesGroup c t w.x w.marks (y ∷ ys) n now next → IsWalking c count (at + 1) n start next
         by_mark y ys e there true m goes =
             let joined : (w.marks ++ y ∷ []) ++ ys ≡ w.marks ++ y ∷ ys = append_assoc w.marks (y ∷ []) ys in
@@ -116,7 +116,7 @@ walk_more c count at k n start now next lt w walks = by_case w.ys refl
               marks = w.marks ++ y ∷ [];
               ys = ys;
               is_open = ap (λ (s : Sides). s.is_open) goes.1 ∙ w.is_open;
-              brought = subst (λ s. Brought (in_turn w.done) (w.x ∷ ((w.marks ++ y ∷ []) ++ ys)) start s) (sym goes.1) (subst (λ zs. Brought (in_turn w.done) (w.x ∷ zs) start now) (sym joined) there);
+              brought = subst (λ s. AppendsArrangement (in_turn w.done) (w.x ∷ ((w.marks ++ y ∷ []) ++ ys)) start s) (sym goes.1) (subst (λ zs. AppendsArrangement (in_turn w.done) (w.x ∷ zs) start now) (sym joined) there);
               met = length-append w.marks (y ∷ []) ∙ sym goes.0;
               left = let left = w.left in let some = ap length e in omega (arith, left, some);
               whole = λ z zs f. ap (λ ps. w.done ++ ps) (sym (ap (expanded_groups c w.x w.marks) e ∙ cond-true _ _ _ m)) ∙ w.whole z zs f;
@@ -134,15 +134,15 @@ walk_more c count at k n start now next lt w walks = by_case w.ys refl
         }
 
 pub walk_done : (c : Normalizer) (count at k : ℕ) (start now next : Sides) → count ≤ at → IsWalking c count at k start now → Groups c k now next
-    → (x : Item) (xs : List Item) → strip start.ahead ≡ x ∷ xs → Brought (in_turn (expanded_groups c x [] xs)) [] start next
+    → (x : Item) (xs : List Item) → strip start.ahead ≡ x ∷ xs → AppendsArrangement (in_turn (expanded_groups c x [] xs)) [] start next
 walk_done c count at k start now next le w goes x xs seen = by_case w.ys refl
   where
-    by_case : (zs : List Item) → w.ys ≡ zs → Brought (in_turn (expanded_groups c x [] xs)) [] start next
+    by_case : (zs : List Item) → w.ys ≡ zs → AppendsArrangement (in_turn (expanded_groups c x [] xs)) [] start next
     by_case (y ∷ ys) e = absurd (let some = ap length e in let left = w.left in omega (arith, some, left, le))
     by_case [] e =
         let whole : w.done ++ expanded_group c w.x w.marks ≡ expanded_groups c x [] xs = ap (λ ys. w.done ++ expanded_groups c w.x w.marks ys) (sym e) ∙ w.whole x xs seen in
         let last = goes w.x w.marks [] (w.brought.ahead ∙ ap (λ zs. w.x ∷ (w.marks ++ zs)) e) w.met in
-        subst (λ ps. Brought (in_turn ps) [] start next) whole (brought_both w.done (expanded_group c w.x w.marks) (w.x ∷ (w.marks ++ w.ys)) [] start now next w.brought last)
+        subst (λ ps. AppendsArrangement (in_turn ps) [] start next) whole (brought_both w.done (expanded_group c w.x w.marks) (w.x ∷ (w.marks ++ w.ys)) [] start now next w.brought last)
 
 -- the item at an index
 item_there : (gs : List hb_glyph_info_t) (front : List Item) (y : Item) (ys : List Item) (g : hb_glyph_info_t) → strip gs ≡ front ++ y ∷ ys → slice_get gs (length front) ≡ Some g → item_of g ≡ y
@@ -190,19 +190,19 @@ last_too_many c count at k e start now le w goes x xs seen = by_case w.ys refl
 
 -- ---- the whole list
 
-pub nothing_expanded : (c : Normalizer) (s : Sides) → 0 ≡ length s.ahead → Brought (expanded_list c (strip s.ahead)) [] s s
+pub nothing_expanded : (c : Normalizer) (s : Sides) → 0 ≡ length s.ahead → AppendsArrangement (expanded_list c (strip s.ahead)) [] s s
 nothing_expanded c s none = by_case s.ahead refl
   where
-    by_case : (gs : List hb_glyph_info_t) → s.ahead ≡ gs → Brought (expanded_list c (strip s.ahead)) [] s s
+    by_case : (gs : List hb_glyph_info_t) → s.ahead ≡ gs → AppendsArrangement (expanded_list c (strip s.ahead)) [] s s
     by_case (g ∷ gs) e = absurd (let some = ap length e in omega (arith, none, some))
     by_case [] e = rw e (record { behind = sym (append-nil (strip s.behind)); ahead = refl; happened = refl; frame = refl })
 
-pub all_expanded : (c : Normalizer) (s t : Sides) → length s.ahead ≢ 0 → IsExpanded c s t → Brought (expanded_list c (strip s.ahead)) [] s t
+pub all_expanded : (c : Normalizer) (s t : Sides) → length s.ahead ≢ 0 → IsExpanded c s t → AppendsArrangement (expanded_list c (strip s.ahead)) [] s t
 all_expanded c s t some goes = by_case s.ahead refl
   where
-    by_case : (gs : List hb_glyph_info_t) → s.ahead ≡ gs → Brought (expanded_list c (strip s.ahead)) [] s t
+    by_case : (gs : List hb_glyph_info_t) → s.ahead ≡ gs → AppendsArrangement (expanded_list c (strip s.ahead)) [] s t
     by_case [] e = absurd (some (ap length e))
-    by_case (g ∷ gs) e = subst (λ hs. Brought (expanded_list c (strip hs)) [] s t) (sym e) (goes (item_of g) (strip gs) (ap strip e))
+    by_case (g ∷ gs) e = subst (λ hs. AppendsArrangement (expanded_list c (strip hs)) [] s t) (sym e) (goes (item_of g) (strip gs) (ap strip e))
 
 pub all_too_many : (c : Normalizer) (e : ShapeCause) (s : Sides) → length s.ahead ≢ 0 → ExpandsTooMany c e s → RefusesRoomFor (length (expanded_list c (strip s.ahead)).items) e s
 all_too_many c e s some goes = by_case s.ahead refl

@@ -7,7 +7,7 @@ use Rattle.buffer_glyphs.specs.Rewriting.{Arrangement, in_turn}
 use Rattle.buffer_properties.specs.Characters.{is_mark, is_selector}
 use Rattle.buffer_properties.specs.Expanding.{expanded_group, expanded_groups, meets_selector, pending_item, selections_after}
 use Rattle.buffer_properties.specs.Normalizer.{Normalizer}
-use Rattle.buffer_stages.specs.Brought.{Brought, RefusesRoomFor}
+use Rattle.buffer_stages.specs.Appending.{AppendsArrangement, RefusesRoomFor}
 
 -- ---- items with selectors among them
 
@@ -27,7 +27,7 @@ arrangements_at c before y = if is_selector y then meets_selector c before y els
 -- the next item was handled, and the call returns whether it is pending
 abbrev pub Selects : Normalizer → Bool → Bool → Sides → Sides → Type 0
 Selects c waits b old new = (before : Option Item) (y : Item) (ys : List Item) → is_some before ≡ waits → strip old.ahead ≡ one_or_none before ++ y ∷ ys
-    → (is_some (waits_after y) ≡ b) × Brought (in_turn (arrangements_at c before y)) (one_or_none (waits_after y) ++ ys) old new
+    → (is_some (waits_after y) ≡ b) × AppendsArrangement (in_turn (arrangements_at c before y)) (one_or_none (waits_after y) ++ ys) old new
 
 -- the next item was not handled: its output would be too long
 abbrev pub SelectsTooMany : Normalizer → Bool → ShapeCause → Sides → Type 0
@@ -36,11 +36,11 @@ SelectsTooMany c waits e old = (before : Option Item) (y : Item) (ys : List Item
 
 -- the pending item was output
 abbrev pub PutsWaiting : Normalizer → Bool → Sides → Sides → Type 0
-PutsWaiting c waits old new = (before : Option Item) (ys : List Item) → is_some before ≡ waits → strip old.ahead ≡ one_or_none before ++ ys → Brought (in_turn (pending_item c before)) ys old new
+PutsWaiting c waits old new = (before : Option Item) (ys : List Item) → is_some before ≡ waits → strip old.ahead ≡ one_or_none before ++ ys → AppendsArrangement (in_turn (pending_item c before)) ys old new
 
 -- that many items after the first were handled
 abbrev pub SelectsAll : Normalizer → ℕ → Sides → Sides → Type 0
-SelectsAll c k old new = (x : Item) (xs : List Item) → strip old.ahead ≡ x ∷ xs → Brought (in_turn (selections_after c (Some x) (take k xs))) (drop k xs) old new
+SelectsAll c k old new = (x : Item) (xs : List Item) → strip old.ahead ≡ x ∷ xs → AppendsArrangement (in_turn (selections_after c (Some x) (take k xs))) (drop k xs) old new
 
 -- that many items were not handled: their output would be too long
 abbrev pub SelectsAllTooMany : Normalizer → ℕ → ShapeCause → Sides → Type 0
@@ -50,7 +50,7 @@ SelectsAllTooMany c k e old = (x : Item) (xs : List Item) → strip old.ahead �
 
 -- a character and that many marks were output
 abbrev pub Groups : Normalizer → ℕ → Sides → Sides → Type 0
-Groups c k old new = (x : Item) (marks ys : List Item) → strip old.ahead ≡ x ∷ (marks ++ ys) → length marks ≡ k → Brought (in_turn (expanded_group c x marks)) ys old new
+Groups c k old new = (x : Item) (marks ys : List Item) → strip old.ahead ≡ x ∷ (marks ++ ys) → length marks ≡ k → AppendsArrangement (in_turn (expanded_group c x marks)) ys old new
 
 -- a character and that many marks were not output: the output would be too long
 abbrev pub GroupsTooMany : Normalizer → ℕ → ShapeCause → Sides → Type 0
@@ -59,7 +59,7 @@ GroupsTooMany c k e old = (x : Item) (marks ys : List Item) → strip old.ahead 
 -- the group was extended by one item, or ended
 abbrev pub ContinuesGroup : Normalizer → Bool → Item → List Item → List Item → ℕ → Sides → Sides → Type 0
 ContinuesGroup c true x marks ys n old new = (n ≡ length marks + 1) × (new ≡ old)
-ContinuesGroup c false x marks ys n old new = (n ≡ 0) × Brought (in_turn (expanded_group c x marks)) ys old new
+ContinuesGroup c false x marks ys n old new = (n ≡ 0) × AppendsArrangement (in_turn (expanded_group c x marks)) ys old new
 
 -- the walk handled that many items
 abbrev pub Walks : Normalizer → ℕ → ℕ → Sides → Sides → Type 0
@@ -72,7 +72,7 @@ WalksTooMany c k e old = (x : Item) (marks : List Item) (y : Item) (ys : List It
 
 -- the whole input was output
 abbrev pub IsExpanded : Normalizer → Sides → Sides → Type 0
-IsExpanded c old new = (x : Item) (xs : List Item) → strip old.ahead ≡ x ∷ xs → Brought (in_turn (expanded_groups c x [] xs)) [] old new
+IsExpanded c old new = (x : Item) (xs : List Item) → strip old.ahead ≡ x ∷ xs → AppendsArrangement (in_turn (expanded_groups c x [] xs)) [] old new
 
 -- the round failed: its output would be too long
 abbrev pub ExpandsTooMany : Normalizer → ShapeCause → Sides → Type 0

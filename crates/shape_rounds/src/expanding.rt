@@ -8,7 +8,7 @@ ghost use Rattle.buffer_properties.specs.Characters.{is_selector};
 ghost use Rattle.buffer_properties.specs.Expanding.{item_expansion, expanded_item, expanded_list};
 ghost use Rattle.buffer_properties.specs.Normalizer.{has_character, reach_alone, reach_with_marks};
 ghost use Rattle.buffer_properties.specs.SupportedExpansion.{alone, by_supported, supported_expansion, expansion};
-ghost use Rattle.buffer_stages.specs.Brought.{Brought, RefusesRoomFor};
+ghost use Rattle.buffer_stages.specs.Appending.{AppendsArrangement, RefusesRoomFor};
 ghost use Rattle.shape_rounds.specs.Walking.{Groups, GroupsTooMany, Walks, WalksTooMany, IsExpanded, ExpandsTooMany};
 ghost use Rattle.shape_rounds.specs.Glyphs.{with_halves_output, Puts, count_of};
 
@@ -160,7 +160,7 @@ fn expand_current<N: Normalizing>(
     requires open { buffer.old.is_open ≡ true }
     requires there { 0 < length buffer.old.ahead }
     ensures ok { OnOk result ((x : Item) (xs : List Item) → strip buffer.old.ahead ≡ x ∷ xs
-        → Brought (item_expansion (N.normalizer by.now) reach x) xs buffer.old buffer.new) }
+        → AppendsArrangement (item_expansion (N.normalizer by.now) reach x) xs buffer.old buffer.new) }
     ensures err { IfErr result (λ e. (x : Item) (xs : List Item) → strip buffer.old.ahead ≡ x ∷ xs
         → RefusesRoomFor (length (expanded_item (N.normalizer by.now) reach x)) e buffer.old) }
 {
@@ -183,7 +183,7 @@ fn expand_each<N: Normalizing>(
     requires open { buffer.old.is_open ≡ true }
     requires there { count ≤ length buffer.old.ahead }
     ensures ok { OnOk result ((xs ys : List Item) → strip buffer.old.ahead ≡ xs ++ ys → length xs ≡ count
-        → Brought (in_turn (map (item_expansion (N.normalizer by.now) reach) xs)) ys buffer.old buffer.new) }
+        → AppendsArrangement (in_turn (map (item_expansion (N.normalizer by.now) reach) xs)) ys buffer.old buffer.new) }
     ensures err { IfErr result (λ e. (xs ys : List Item) → strip buffer.old.ahead ≡ xs ++ ys → length xs ≡ count
         → RefusesRoomFor (length (in_turn (map (item_expansion (N.normalizer by.now) reach) xs)).items) e buffer.old) }
 {
@@ -305,7 +305,7 @@ fn expand_all<N: Normalizing>(
 pub fn expand_list<N: Normalizing>(by: &N, buffer: &mut hb_buffer_t) -> Result<(), ShapeCause>
     requires open { buffer.old.is_open ≡ true }
     requires unread { buffer.old.read ≡ 0 }
-    ensures ok { OnOk result (Brought (expanded_list (N.normalizer by.now) (strip buffer.old.ahead)) []
+    ensures ok { OnOk result (AppendsArrangement (expanded_list (N.normalizer by.now) (strip buffer.old.ahead)) []
         buffer.old buffer.new) }
     ensures err { IfErr result (λ e. RefusesRoomFor (length (expanded_list (N.normalizer by.now)
         (strip buffer.old.ahead)).items) e buffer.old) }

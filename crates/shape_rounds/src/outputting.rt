@@ -1,7 +1,7 @@
 //! Replaces the character at the cursor by another one with its glyph (rustybuzz: hb/ot_shape_normalize.rs).
 ghost use Rattle.std.specs.Prelude.{◌≡◌, ◌<◌, true, length, IfErr, OnOk};
 ghost use Rattle.buffer_core.specs.Merging.{with_output_info, with_glyph_skipped};
-ghost use Rattle.buffer_stages.specs.Brought.{RefusesRoomFor};
+ghost use Rattle.buffer_stages.specs.Appending.{RefusesRoomFor};
 
 use buffer_core::buffer::hb_buffer_t;
 use buffer_glyphs::cause::ShapeCause;

@@ -5,7 +5,7 @@ ghost use Rattle.buffer_glyphs.specs.Items.{Item, strip};
 ghost use Rattle.buffer_glyphs.specs.Rewriting.{in_turn, replacement};
 ghost use Rattle.buffer_properties.specs.Characters.{unjoined_selector, with_glyph};
 ghost use Rattle.buffer_properties.specs.Expanding.{unexpanded_item, selection};
-ghost use Rattle.buffer_stages.specs.Brought.{Brought, RefusesRoomFor};
+ghost use Rattle.buffer_stages.specs.Appending.{AppendsArrangement, RefusesRoomFor};
 ghost use Rattle.shape_rounds.specs.Walking.{PutsWaiting, Selects, SelectsTooMany, SelectsAll, SelectsAllTooMany};
 
 use crate::characters::{is_selector, unjoined, with_own_glyph};
@@ -21,7 +21,7 @@ fn put_unexpanded<N: Normalizing>(by: &N, buffer: &mut hb_buffer_t) -> Result<()
     requires open { buffer.old.is_open ≡ true }
     requires there { 0 < length buffer.old.ahead }
     ensures ok { OnOk result ((x : Item) (xs : List Item) → strip buffer.old.ahead ≡ x ∷ xs
-        → Brought (unexpanded_item (N.normalizer by.now) x) xs buffer.old buffer.new) }
+        → AppendsArrangement (unexpanded_item (N.normalizer by.now) x) xs buffer.old buffer.new) }
     ensures err { IfErr result (λ e. RefusesRoomFor 1 e buffer.old) }
 {
     let info = with_own_glyph(by, buffer.cur(0));
@@ -34,7 +34,7 @@ fn put_unjoined<N: Normalizing>(by: &N, buffer: &mut hb_buffer_t) -> Result<(), 
     requires open { buffer.old.is_open ≡ true }
     requires there { 0 < length buffer.old.ahead }
     ensures ok { OnOk result ((x : Item) (xs : List Item) → strip buffer.old.ahead ≡ x ∷ xs
-        → Brought (unexpanded_item (N.normalizer by.now)
+        → AppendsArrangement (unexpanded_item (N.normalizer by.now)
         (unjoined_selector (is_some (N.normalizer by.now).unjoined_glyph) x)) xs buffer.old buffer.new) }
     ensures err { IfErr result (λ e. RefusesRoomFor 1 e buffer.old) }
 {
@@ -56,7 +56,7 @@ fn join_selector(glyph: u32, buffer: &mut hb_buffer_t) -> Result<(), ShapeCause>
     requires open { buffer.old.is_open ≡ true }
     requires there { 1 < length buffer.old.ahead }
     ensures ok { OnOk result ((x s : Item) (xs : List Item) → strip buffer.old.ahead ≡ x ∷ s ∷ xs
-        → Brought (replacement 2 (with_glyph glyph x ∷ [])) xs buffer.old buffer.new) }
+        → AppendsArrangement (replacement 2 (with_glyph glyph x ∷ [])) xs buffer.old buffer.new) }
     ensures err { IfErr result (λ e. RefusesRoomFor 1 e buffer.old) }
 {
     let info = hb_glyph_info_t {
@@ -75,7 +75,7 @@ fn put_both<N: Normalizing>(by: &N, buffer: &mut hb_buffer_t) -> Result<(), Shap
     requires open { buffer.old.is_open ≡ true }
     requires there { 1 < length buffer.old.ahead }
     ensures ok { OnOk result ((x s : Item) (xs : List Item) → strip buffer.old.ahead ≡ x ∷ s ∷ xs
-        → Brought (in_turn (selection (N.normalizer by.now) x s None)) xs buffer.old buffer.new) }
+        → AppendsArrangement (in_turn (selection (N.normalizer by.now) x s None)) xs buffer.old buffer.new) }
     ensures err { IfErr result (λ e. (x s : Item) (xs : List Item) → strip buffer.old.ahead ≡ x ∷ s ∷ xs
         → RefusesRoomFor (length (in_turn (selection (N.normalizer by.now) x s None)).items) e buffer.old) }
 {
@@ -89,7 +89,7 @@ fn put_selected<N: Normalizing>(by: &N, buffer: &mut hb_buffer_t) -> Result<(), 
     requires open { buffer.old.is_open ≡ true }
     requires there { 1 < length buffer.old.ahead }
     ensures ok { OnOk result ((x s : Item) (xs : List Item) → strip buffer.old.ahead ≡ x ∷ s ∷ xs
-        → Brought (in_turn (selection (N.normalizer by.now) x s ((N.normalizer by.now).variant_of x.number s.number)))
+        → AppendsArrangement (in_turn (selection (N.normalizer by.now) x s ((N.normalizer by.now).variant_of x.number s.number)))
         xs buffer.old buffer.new) }
     ensures err { IfErr result (λ e. (x s : Item) (xs : List Item) → strip buffer.old.ahead ≡ x ∷ s ∷ xs
         → RefusesRoomFor (length (in_turn (selection (N.normalizer by.now) x s

@@ -16,7 +16,7 @@ use Rattle.buffer_parts.specs.Turns.{IsUnturned}
 use Rattle.buffer_parts.specs.Lemmas.Keeping.{kept_in_turn, plain_is_kept}
 use Rattle.buffer_parts.specs.Lemmas.Turns.{unturned_in_turn}
 use Rattle.buffer_core.specs.Readings.{View, Read, Reading}
-use Rattle.buffer_stages.specs.Brought.{with_arranged}
+use Rattle.buffer_stages.specs.Appending.{with_arranged}
 use Rattle.buffer_stages.specs.Lemmas.Sorted.{key_order_size}
 use Rattle.buffer_stage_laws.specs.Lemmas.Stages.{at_read}
 use Rattle.buffer_properties.specs.Characters.{is_mark, is_selector, mark_class, unjoined_selector, with_glyph}

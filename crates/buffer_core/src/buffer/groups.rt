@@ -13,7 +13,7 @@ ghost use Rattle.buffer_groups.specs.DeletionWalk.{AnswersAs};
 ghost use Rattle.buffer_core.specs.Grouping.{with_groups_reversed, with_picked_deleted};
 
 use super::hb_buffer_t;
-use super::merges::telling_flags;
+use super::merges::add_has_glyph_flags;
 use buffer_glyphs::info::hb_glyph_info_t;
 use buffer_groups::deletion::delete_within;
 use buffer_groups::{groups, reversal};
@@ -93,7 +93,7 @@ impl hb_buffer_t {
             merge,
             group,
         );
-        self.scratch_flags = telling_flags(marked, self.scratch_flags);
+        self.scratch_flags = add_has_glyph_flags(marked, self.scratch_flags);
     }
 
     /// Deletes the glyphs where `filter` holds, and their positions, from the left, with the clusters that
@@ -126,6 +126,6 @@ impl hb_buffer_t {
         self.info.truncate(kept);
         self.pos.truncate(kept);
         self.idx = self.idx.min(self.info.len());
-        self.scratch_flags = telling_flags(marked, self.scratch_flags);
+        self.scratch_flags = add_has_glyph_flags(marked, self.scratch_flags);
     }
 }

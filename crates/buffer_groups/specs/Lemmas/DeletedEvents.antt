@@ -16,13 +16,13 @@ use Rattle.buffer_groups.specs.Lemmas.KeptItems.{back_length}
 front_length : (level : Level) (front : List Glyph) (g : Glyph) (back : List Glyph) → length (glyphs_deleted level front g back).front ≡ length front
 front_length level front g back = sym (length-map (glyphs_deleted level front g back).front item_of) ∙ ap length (items_deleted level front g back).0 ∙ length-map front item_of
 
-deletions_many : (n : ℕ) (asks : Asks) (level : Level) (q : Item → Bool) (ks : List Glyph) (kp : List Position) (ahead : List Glyph) (pa : List Position) (m : Bool) → length ahead ≤ n
-    → origins (many_steps level (λ g. q (item_of g)) n (record { kept = ks; kept_positions = kp; ahead = ahead; positions_ahead = pa; is_marked = m })).kept ≡ origins_after asks level (deletions_from q (length ks) (strip ahead)) (origins (ks ++ ahead))
+deletions_many : (n : ℕ) (asks : Asks) (level : Level) (q : Item → Bool) (ks : List Glyph) (kp : List Position) (rest_glyphs : List Glyph) (pa : List Position) (m : Bool) → length rest_glyphs ≤ n
+    → origins (many_steps level (λ g. q (item_of g)) n (record { kept = ks; kept_positions = kp; rest_glyphs = rest_glyphs; rest_positions = pa; is_marked = m })).kept ≡ origins_after asks level (deletions_from q (length ks) (strip rest_glyphs)) (origins (ks ++ rest_glyphs))
 deletions_many zero asks level q ks kp [] pa m le = ap origins (sym (append-nil ks))
 deletions_many zero asks level q ks kp (g ∷ back) pa m le = absurd (omega arith)
 deletions_many (suc n) asks level q ks kp [] pa m le = deletions_many n asks level q ks kp [] pa m (omega arith)
 deletions_many (suc n) asks level q ks kp (g ∷ back) pa m le =
-    let w : DeletionState = record { kept = ks; kept_positions = kp; ahead = g ∷ back; positions_ahead = pa; is_marked = m } in
+    let w : DeletionState = record { kept = ks; kept_positions = kp; rest_glyphs = g ∷ back; rest_positions = pa; is_marked = m } in
     let at = length ks in
     let left = glyphs_deleted level ks g back in
     elim (q (item_of g))

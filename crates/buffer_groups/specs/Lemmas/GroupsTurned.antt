@@ -29,8 +29,8 @@ turned_onto p x xs =
     let rest = groups p (drop n (x ∷ xs)) in
     ap (λ gss. flat_map (λ ys. ys) (reverse gss)) (groups_cut p x xs) ∙ ap (flat_map (λ ys. ys)) (reverse_onto rest first []) ∙ flat_map-append (λ ys. ys) (reverse rest) (first ∷ []) ∙ ap (λ zs. flat_map (λ ys. ys) (reverse rest) ++ zs) (append-nil first)
 
-all_plain : (n : ℕ) (level : BufferClusterLevel) (p : Glyph → Glyph → Bool) (gs : List Glyph) (ps pa : List Position) (m : Bool) (ahead : List Glyph) → length ahead ≤ n
-    → (all_turned false level p n (record { glyphs = gs; positions = ps; ahead = ahead; positions_ahead = pa; is_marked = m })).glyphs ≡ groups_reversed_list p ahead ++ gs
+all_plain : (n : ℕ) (level : BufferClusterLevel) (p : Glyph → Glyph → Bool) (gs : List Glyph) (ps pa : List Position) (m : Bool) (rest_glyphs : List Glyph) → length rest_glyphs ≤ n
+    → (all_turned false level p n (record { glyphs = gs; positions = ps; rest_glyphs = rest_glyphs; rest_positions = pa; is_marked = m })).glyphs ≡ groups_reversed_list p rest_glyphs ++ gs
 all_plain zero level p gs ps pa m [] le = refl
 all_plain zero level p gs ps pa m (x ∷ xs) le = absurd (omega arith)
 all_plain (suc n) level p gs ps pa m [] le = all_plain n level p gs ps pa _ [] (omega arith)

@@ -198,7 +198,7 @@ below_parts key n xs ys hx hy b =
     (λ x h. All-permutation (λ y. key x ≤ key y) (by_key key n ys) ys (IsPermutation-sym ys (by_key key n ys) (by_key_moves key n ys hy)) h) xs
     (All-permutation (λ x. All (λ y. key x ≤ key y) (by_key key n ys)) (by_key key n xs) xs (IsPermutation-sym xs (by_key key n xs) (by_key_moves key n xs hx)) b)
 
--- a place cuts the order just where it cuts the keys
+-- an index cuts the order just where it cuts the keys
 pub seam_by_key : {X : Type 0} (key : X → ℕ) (p : X → Bool) (xs ys : List X) → All (λ x. p x ≡ true) xs → All (λ y. p y ≡ false) ys → IsTrue (list_all p (take (length xs) (key_order key (xs ++ ys)))) ↔ Below key xs ys
 seam_by_key key p xs ys picked other = (cuts, apart)
   where

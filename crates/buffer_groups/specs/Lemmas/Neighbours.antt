@@ -17,10 +17,10 @@ group_begins p xs i d lt =
     let here : i + 1 - 1 ≡ i = omega arith in
     rw (here, drop_more xs i d lt) (omega arith)
 
--- and goes on with one more
-pub group_goes_on : {X : Type 0} (p : X → X → Bool) (xs : List X) (i n : ℕ) (d : X) → i < length xs → p (get_or xs (i - 1) d) (get_or xs i d) ≡ true
+-- a group continues with one more element
+pub group_continues : {X : Type 0} (p : X → X → Bool) (xs : List X) (i n : ℕ) (d : X) → i < length xs → p (get_or xs (i - 1) d) (get_or xs i d) ≡ true
     → n ≡ i + joined_count p (get_or xs (i - 1) d) (drop i xs) → n ≡ i + 1 + joined_count p (get_or xs (i + 1 - 1) d) (drop (i + 1) xs)
-group_goes_on p xs i n d lt so before =
+group_continues p xs i n d lt so before =
     let here : i + 1 - 1 ≡ i = omega arith in
     let cut : joined_count p (get_or xs (i - 1) d) (drop i xs) ≡ suc (joined_count p (get_or xs i d) (drop (i + 1) xs)) = rw (drop_more xs i d lt, so) refl in
     rw here (omega (arith, before, cut))

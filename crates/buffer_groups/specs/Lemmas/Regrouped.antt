@@ -35,23 +35,23 @@ beside_items true MonotoneGraphemes range gs = strip_merged range gs
 beside_items true MonotoneCharacters range gs = strip_merged range gs
 beside_items true Characters range gs = refl
 
--- the items ahead, with those of the first group merged
-ahead_items : (merge : Bool) (level : Level) (n : ℕ) (gs : List Glyph) → strip (drop n (glyphs_merged_if merge level 0 n gs)) ≡ drop n (strip gs)
-ahead_items merge level n gs = sym (drop-map item_of n (glyphs_merged_if merge level 0 n gs)) ∙ ap (drop n) (merged_items merge level n gs)
+-- the items after the first group, whose items merge
+rest_items : (merge : Bool) (level : Level) (n : ℕ) (gs : List Glyph) → strip (drop n (glyphs_merged_if merge level 0 n gs)) ≡ drop n (strip gs)
+rest_items merge level n gs = sym (drop-map item_of n (glyphs_merged_if merge level 0 n gs)) ∙ ap (drop n) (merged_items merge level n gs)
 
-pub few_ahead : (merge : Bool) (level : Level) (n m : ℕ) (g : Glyph) (gs : List Glyph) → length (g ∷ gs) ≤ suc m → length (drop (suc n) (glyphs_merged_if merge level 0 (suc n) (g ∷ gs))) ≤ m
-few_ahead merge level n m g gs le =
-    let seen = ap length (ahead_items merge level (suc n) (g ∷ gs)) in
+pub fewer_left : (merge : Bool) (level : Level) (n m : ℕ) (g : Glyph) (gs : List Glyph) → length (g ∷ gs) ≤ suc m → length (drop (suc n) (glyphs_merged_if merge level 0 (suc n) (g ∷ gs))) ≤ m
+fewer_left merge level n m g gs le =
+    let seen = ap length (rest_items merge level (suc n) (g ∷ gs)) in
     omega (arith, seen, le, length-map (drop (suc n) (glyphs_merged_if merge level 0 (suc n) (g ∷ gs))) item_of, length-drop (suc n) (strip (g ∷ gs)), length-map gs item_of)
 
--- the items that go before those that were turned
-first_items : (merge : Bool) (level : Level) (n : ℕ) (range : List ℕ) (ahead gs : List Glyph) → strip (take n (glyphs_merged_if merge level 0 n ahead) ++ beside_if merge level range gs) ≡ take n (strip ahead) ++ strip gs
-first_items merge level n range ahead gs =
-    map-append item_of (take n (glyphs_merged_if merge level 0 n ahead)) (beside_if merge level range gs) ∙ ap (λ xs. strip (take n (glyphs_merged_if merge level 0 n ahead)) ++ xs) (beside_items merge level range gs)
-    ∙ ap (λ xs. xs ++ strip gs) (sym (take-map item_of n (glyphs_merged_if merge level 0 n ahead)) ∙ ap (take n) (merged_items merge level n ahead))
+-- the items of the first group stand before those that were reversed
+first_items : (merge : Bool) (level : Level) (n : ℕ) (range : List ℕ) (rest_glyphs gs : List Glyph) → strip (take n (glyphs_merged_if merge level 0 n rest_glyphs) ++ beside_if merge level range gs) ≡ take n (strip rest_glyphs) ++ strip gs
+first_items merge level n range rest_glyphs gs =
+    map-append item_of (take n (glyphs_merged_if merge level 0 n rest_glyphs)) (beside_if merge level range gs) ∙ ap (λ xs. strip (take n (glyphs_merged_if merge level 0 n rest_glyphs)) ++ xs) (beside_items merge level range gs)
+    ∙ ap (λ xs. xs ++ strip gs) (sym (take-map item_of n (glyphs_merged_if merge level 0 n rest_glyphs)) ∙ ap (take n) (merged_items merge level n rest_glyphs))
 
-items_many : (n : ℕ) (merge : Bool) (level : Level) (q : Item → Item → Bool) (gs : List Glyph) (ps pa : List Position) (m : Bool) (ahead : List Glyph) → length ahead ≤ n
-    → strip (all_turned merge level (of_items q) n (record { glyphs = gs; positions = ps; ahead = ahead; positions_ahead = pa; is_marked = m })).glyphs ≡ groups_reversed_list q (strip ahead) ++ strip gs
+items_many : (n : ℕ) (merge : Bool) (level : Level) (q : Item → Item → Bool) (gs : List Glyph) (ps pa : List Position) (m : Bool) (rest_glyphs : List Glyph) → length rest_glyphs ≤ n
+    → strip (all_turned merge level (of_items q) n (record { glyphs = gs; positions = ps; rest_glyphs = rest_glyphs; rest_positions = pa; is_marked = m })).glyphs ≡ groups_reversed_list q (strip rest_glyphs) ++ strip gs
 items_many n merge level q gs ps pa m [] le = ap (λ t. strip t.glyphs) (all_idle n merge level (of_items q) gs ps pa m)
 items_many zero merge level q gs ps pa m (x ∷ xs) le = absurd (omega arith)
 items_many (suc n) merge level q gs ps pa m (x ∷ xs) le =
@@ -60,9 +60,9 @@ items_many (suc n) merge level q gs ps pa m (x ∷ xs) le =
     let range = range_of 0 k (clusters (x ∷ xs)) in
     let back = drop k (glyphs_merged_if merge level 0 k (x ∷ xs)) in
     let same : k ≡ i = length_items q x xs in
-    items_many n merge level q (take k (glyphs_merged_if merge level 0 k (x ∷ xs)) ++ beside_if merge level range gs) (take k pa ++ ps) (drop k pa) _ back (few_ahead merge level (joined_count (of_items q) x xs) n x xs le)
+    items_many n merge level q (take k (glyphs_merged_if merge level 0 k (x ∷ xs)) ++ beside_if merge level range gs) (take k pa ++ ps) (drop k pa) _ back (fewer_left merge level (joined_count (of_items q) x xs) n x xs le)
     ∙ ap (λ ys. groups_reversed_list q (strip back) ++ ys) (first_items merge level k range (x ∷ xs) gs)
-    ∙ ap (λ ys. groups_reversed_list q ys ++ (take k (strip (x ∷ xs)) ++ strip gs)) (ahead_items merge level k (x ∷ xs))
+    ∙ ap (λ ys. groups_reversed_list q ys ++ (take k (strip (x ∷ xs)) ++ strip gs)) (rest_items merge level k (x ∷ xs))
     ∙ sym (append_assoc (groups_reversed_list q (drop k (strip (x ∷ xs)))) (take k (strip (x ∷ xs))) (strip gs))
     ∙ ap (λ ys. ys ++ strip gs) (ap (λ j. groups_reversed_list q (drop j (strip (x ∷ xs))) ++ take j (strip (x ∷ xs))) same ∙ sym (turned_onto q (item_of x) (strip xs)))
 
@@ -71,24 +71,24 @@ pub items_turned : (merge : Bool) (level : Level) (q : Item → Item → Bool) (
 items_turned merge level q gs ps = items_many (length gs) merge level q [] [] ps false gs (omega arith) ∙ append-nil (groups_reversed_list q (strip gs))
 
 -- the lengths of the groups of items, by that of the first group of glyphs
-pub lengths_ahead : (merge : Bool) (level : Level) (q : Item → Item → Bool) (x : Glyph) (xs : List Glyph) → let k = group_length (of_items q) (x ∷ xs) in
+pub lengths_from : (merge : Bool) (level : Level) (q : Item → Item → Bool) (x : Glyph) (xs : List Glyph) → let k = group_length (of_items q) (x ∷ xs) in
     group_lengths q (strip (x ∷ xs)) ≡ k ∷ group_lengths q (strip (drop k (glyphs_merged_if merge level 0 k (x ∷ xs))))
-lengths_ahead merge level q x xs =
+lengths_from merge level q x xs =
     let k = group_length (of_items q) (x ∷ xs) in
-    lengths_cut q (item_of x) (strip xs) ∙ ap (λ j. j ∷ group_lengths q (drop j (strip (x ∷ xs)))) (sym (length_items q x xs)) ∙ ap (λ ys. k ∷ group_lengths q ys) (sym (ahead_items merge level k (x ∷ xs)))
+    lengths_cut q (item_of x) (strip xs) ∙ ap (λ j. j ∷ group_lengths q (drop j (strip (x ∷ xs)))) (sym (length_items q x xs)) ∙ ap (λ ys. k ∷ group_lengths q ys) (sym (rest_items merge level k (x ∷ xs)))
 
-places_many : (n : ℕ) (merge : Bool) (level : Level) (q : Item → Item → Bool) (gs : List Glyph) (ps pa : List Position) (m : Bool) (ahead : List Glyph) → length ahead ≤ n
-    → (all_turned merge level (of_items q) n (record { glyphs = gs; positions = ps; ahead = ahead; positions_ahead = pa; is_marked = m })).positions ≡ positions_turned q (strip ahead) pa ++ ps
-places_many n merge level q gs ps pa m [] le = ap (λ t. t.positions) (all_idle n merge level (of_items q) gs ps pa m)
-places_many zero merge level q gs ps pa m (x ∷ xs) le = absurd (omega arith)
-places_many (suc n) merge level q gs ps pa m (x ∷ xs) le =
+positions_many : (n : ℕ) (merge : Bool) (level : Level) (q : Item → Item → Bool) (gs : List Glyph) (ps pa : List Position) (m : Bool) (rest_glyphs : List Glyph) → length rest_glyphs ≤ n
+    → (all_turned merge level (of_items q) n (record { glyphs = gs; positions = ps; rest_glyphs = rest_glyphs; rest_positions = pa; is_marked = m })).positions ≡ positions_turned q (strip rest_glyphs) pa ++ ps
+positions_many n merge level q gs ps pa m [] le = ap (λ t. t.positions) (all_idle n merge level (of_items q) gs ps pa m)
+positions_many zero merge level q gs ps pa m (x ∷ xs) le = absurd (omega arith)
+positions_many (suc n) merge level q gs ps pa m (x ∷ xs) le =
     let k = group_length (of_items q) (x ∷ xs) in
     let range = range_of 0 k (clusters (x ∷ xs)) in
     let back = drop k (glyphs_merged_if merge level 0 k (x ∷ xs)) in
-    places_many n merge level q (take k (glyphs_merged_if merge level 0 k (x ∷ xs)) ++ beside_if merge level range gs) (take k pa ++ ps) (drop k pa) _ back (few_ahead merge level (joined_count (of_items q) x xs) n x xs le)
+    positions_many n merge level q (take k (glyphs_merged_if merge level 0 k (x ∷ xs)) ++ beside_if merge level range gs) (take k pa ++ ps) (drop k pa) _ back (fewer_left merge level (joined_count (of_items q) x xs) n x xs le)
     ∙ sym (append_assoc (positions_turned q (strip back) (drop k pa)) (take k pa) ps)
-    ∙ ap (λ lens. pieces_reversed lens pa ++ ps) (sym (lengths_ahead merge level q x xs))
+    ∙ ap (λ lens. pieces_reversed lens pa ++ ps) (sym (lengths_from merge level q x xs))
 
 -- and so are the positions beside them
-pub places_beside : (merge : Bool) (level : Level) (q : Item → Item → Bool) (gs : List Glyph) (ps : List Position) → (turning_of merge level (λ g h. q (item_of g) (item_of h)) gs ps).positions ≡ positions_turned q (strip gs) ps
-places_beside merge level q gs ps = places_many (length gs) merge level q [] [] ps false gs (omega arith) ∙ append-nil (positions_turned q (strip gs) ps)
+pub positions_beside : (merge : Bool) (level : Level) (q : Item → Item → Bool) (gs : List Glyph) (ps : List Position) → (turning_of merge level (λ g h. q (item_of g) (item_of h)) gs ps).positions ≡ positions_turned q (strip gs) ps
+positions_beside merge level q gs ps = positions_many (length gs) merge level q [] [] ps false gs (omega arith) ∙ append-nil (positions_turned q (strip gs) ps)

@@ -18,7 +18,7 @@ use Rattle.buffer_groups.specs.Facts.{group_lengths}
 use Rattle.buffer_groups.specs.Groups.{group_length}
 use Rattle.buffer_groups.specs.Turning.{range_reversed, glyphs_merged_if, beside_if, all_turned, turning_of}
 use Rattle.buffer_groups.specs.Lemmas.Picked.{AreAt, arranged_as, are_all, are_reversed}
-use Rattle.buffer_groups.specs.Lemmas.Regrouped.{of_items, few_ahead, lengths_ahead}
+use Rattle.buffer_groups.specs.Lemmas.Regrouped.{of_items, fewer_left, lengths_from}
 use Rattle.buffer_groups.specs.Lemmas.Ranges.{joined_within}
 use Rattle.buffer_groups.specs.Lemmas.Turned.{placed_glyphs, all_idle}
 use Rattle.buffer_glyphs.specs.Lemmas.EventParts.{map-reverse}
@@ -57,8 +57,8 @@ group_origins asks true level start n gs le =
     range_origins start n mid (omega (arith, le, length_merged_at level start (start + n) gs (omega arith)))
     ∙ ap (with_range_arranged start (indices_reversed n)) (origins_of_merged_at level start (start + n) gs (omega arith) ∙ ap (λ k. origins_merged_as (manner InList level) start (start + k) (origins gs)) (sym (length_reversed_indices n)))
 
-groups_many : (n : ℕ) (asks : Asks) (merge : Bool) (level : Level) (q : Item → Item → Bool) (start : ℕ) (gs found ahead : List Glyph) (ps pa : List Position) (m : Bool) → found ≡ reverse (take start gs) → ahead ≡ drop start gs → length ahead ≤ n
-    → origins (all_turned merge level (of_items q) n (record { glyphs = found; positions = ps; ahead = ahead; positions_ahead = pa; is_marked = m })).glyphs ≡ reverse (origins_after asks level (group_events merge start (group_lengths q (strip ahead))) (origins gs))
+groups_many : (n : ℕ) (asks : Asks) (merge : Bool) (level : Level) (q : Item → Item → Bool) (start : ℕ) (gs found rest_glyphs : List Glyph) (ps pa : List Position) (m : Bool) → found ≡ reverse (take start gs) → rest_glyphs ≡ drop start gs → length rest_glyphs ≤ n
+    → origins (all_turned merge level (of_items q) n (record { glyphs = found; positions = ps; rest_glyphs = rest_glyphs; rest_positions = pa; is_marked = m })).glyphs ≡ reverse (origins_after asks level (group_events merge start (group_lengths q (strip rest_glyphs))) (origins gs))
 groups_many n asks merge level q start gs found [] ps pa m f a le =
     let whole : take start gs ≡ gs = sym (append-nil (take start gs)) ∙ ap (λ hs. take start gs ++ hs) a ∙ take-append-drop start gs in
     ap (λ t. origins t.glyphs) (all_idle n merge level (of_items q) found ps pa m) ∙ ap origins f ∙ map-reverse origin_of (take start gs) ∙ ap (λ hs. reverse (origins hs)) whole
@@ -76,9 +76,9 @@ groups_many (suc n) asks merge level q start gs found (x ∷ xs) ps pa m f a le 
     ap (λ hs. take k (glyphs_merged_if merge level 0 k hs) ++ beside_if merge level (range_of 0 k (clusters hs)) found) a ∙ ap (λ hs. take k (glyphs_merged_if merge level 0 k (drop start gs)) ++ beside_if merge level (range_of 0 k (clusters (drop start gs))) hs) f
     ∙ ap (λ j. take j (glyphs_merged_if merge level 0 j (drop start gs)) ++ beside_if merge level (range_of 0 j (clusters (drop start gs))) (reverse (take start gs))) (sym less) ∙ sym moved.0 in
     let rest : back ≡ drop (start + k) new = ap (λ hs. drop k (glyphs_merged_if merge level 0 k hs)) a ∙ ap (λ j. drop j (glyphs_merged_if merge level 0 j (drop start gs))) (sym less) ∙ sym moved.1 in
-    groups_many n asks merge level q (start + k) new front back (take k pa ++ ps) (drop k pa) _ first rest (few_ahead merge level _ n x xs le)
+    groups_many n asks merge level q (start + k) new front back (take k pa ++ ps) (drop k pa) _ first rest (fewer_left merge level _ n x xs le)
     ∙ ap (λ os. reverse (origins_after asks level (group_events merge (start + k) (group_lengths q (strip back))) os)) (group_origins asks merge level start k gs within)
-    ∙ ap (λ lens. reverse (origins_after asks level (group_events merge start lens) (origins gs))) (sym (lengths_ahead merge level q x xs))
+    ∙ ap (λ lens. reverse (origins_after asks level (group_events merge start lens) (origins gs))) (sym (lengths_from merge level q x xs))
 
 -- the origins of the glyphs once their groups were reversed
 pub groups_are_events : (asks : Asks) (merge : Bool) (level : Level) (q : Item → Item → Bool) (gs : List Glyph) (ps : List Position) → origins (turning_of merge level (λ g h. q (item_of g) (item_of h)) gs ps).glyphs ≡ origins_after asks level (groups_reversed merge q (strip gs)) (origins gs)

@@ -12,12 +12,12 @@ use Rattle.buffer_glyphs.specs.Lemmas.Glyphs.{strip_merged_at}
 use Rattle.buffer_stable_order.specs.Keys.{key_order}
 use Rattle.buffer_stable_order.specs.Orders.{Agree, key_order_agree, key_order_map}
 use Rattle.buffer_groups.specs.declared.sorting.Keyed.{Keyed}
-use Rattle.buffer_groups.specs.Sorting.{keyed_indices_from, indices_by_key, is_seam, Spanned, span_merged, spans_merged, range_spanned, range_sorted, glyph_at, put_in_order}
+use Rattle.buffer_groups.specs.Sorting.{keyed_indices_from, indices_by_key, is_seam, SpanMerge, span_merged, spans_merged, range_spanned, range_sorted, glyph_at, put_in_order}
 use Rattle.buffer_groups.specs.Lemmas.Neighbours.{no_glyph}
 
 -- what stands at an index of items
 abbrev item_at : List Item → Keyed → Item
-item_at xs e = get_or xs e.place (item_of no_glyph)
+item_at xs e = get_or xs e.index (item_of no_glyph)
 
 here : (front : List Item) (x : Item) (xs : List Item) (i : ℕ) → length front ≡ i → get_or (front ++ x ∷ xs) i (item_of no_glyph) ≡ x
 here front x xs i e = ap (λ n. get_or (front ++ x ∷ xs) n (item_of no_glyph)) (sym e) ∙ get_or-append_seam front x xs (item_of no_glyph)
@@ -49,33 +49,33 @@ items_by_key key gs =
     ap (map (item_at (strip gs))) (key_order_agree (λ (e : Keyed). e.key) (λ (e : Keyed). key (item_at (strip gs) e)) keyed (agree_from key gs [] 0 refl))
     ∙ sym (key_order_map key (item_at (strip gs)) keyed) ∙ ap (key_order key) (placed_from (λ g. key (item_of g)) gs [] 0 refl)
 
-span_strip : (level : Level) (from to : ℕ) (s : Spanned) → from ≤ to → strip (span_merged level from to s).glyphs ≡ strip s.glyphs
+span_strip : (level : Level) (from to : ℕ) (s : SpanMerge) → from ≤ to → strip (span_merged level from to s).glyphs ≡ strip s.glyphs
 span_strip level from to s le = by_test (nat_lt (from + 1) to)
   where
     by_test : (t : Bool) → strip (if t then record { glyphs = glyphs_merged_at level from to s.glyphs; is_marked = s.is_marked || is_marked_at level from to (clusters s.glyphs) } else s).glyphs ≡ strip s.glyphs
     by_test true = strip_merged_at level from to s.glyphs le
     by_test false = refl
 
-pub spans_strip : (level : Level) (start : ℕ) (order : List Keyed) (left begin place : ℕ) (s : Spanned) → begin ≤ place → strip (spans_merged level start order begin place left s).glyphs ≡ strip s.glyphs
-spans_strip level start order zero begin place s le = refl
-spans_strip level start order (suc left) begin place s le = by_test (is_seam order (place + 1)) (spans_strip level start order left begin (place + 1) s (omega arith)) (spans_strip level start order left (place + 1) (place + 1) (span_merged level (start + begin) (start + (place + 1)) s) (omega arith))
+pub spans_strip : (level : Level) (start : ℕ) (order : List Keyed) (left begin index : ℕ) (s : SpanMerge) → begin ≤ index → strip (spans_merged level start order begin index left s).glyphs ≡ strip s.glyphs
+spans_strip level start order zero begin index s le = refl
+spans_strip level start order (suc left) begin index s le = by_test (is_seam order (index + 1)) (spans_strip level start order left begin (index + 1) s (omega arith)) (spans_strip level start order left (index + 1) (index + 1) (span_merged level (start + begin) (start + (index + 1)) s) (omega arith))
   where
-    by_test : (t : Bool) → strip (spans_merged level start order begin (place + 1) left s).glyphs ≡ strip s.glyphs
-        → strip (spans_merged level start order (place + 1) (place + 1) left (span_merged level (start + begin) (start + (place + 1)) s)).glyphs ≡ strip (span_merged level (start + begin) (start + (place + 1)) s).glyphs
-        → strip (if t then spans_merged level start order (place + 1) (place + 1) left (span_merged level (start + begin) (start + (place + 1)) s) else spans_merged level start order begin (place + 1) left s).glyphs ≡ strip s.glyphs
-    by_test true on off = off ∙ span_strip level (start + begin) (start + (place + 1)) s (omega arith)
+    by_test : (t : Bool) → strip (spans_merged level start order begin (index + 1) left s).glyphs ≡ strip s.glyphs
+        → strip (spans_merged level start order (index + 1) (index + 1) left (span_merged level (start + begin) (start + (index + 1)) s)).glyphs ≡ strip (span_merged level (start + begin) (start + (index + 1)) s).glyphs
+        → strip (if t then spans_merged level start order (index + 1) (index + 1) left (span_merged level (start + begin) (start + (index + 1)) s) else spans_merged level start order begin (index + 1) left s).glyphs ≡ strip s.glyphs
+    by_test true on off = off ∙ span_strip level (start + begin) (start + (index + 1)) s (omega arith)
     by_test false on off = on
 
 strip_range : (start end : ℕ) (gs : List Glyph) → strip (slice_range gs start end) ≡ slice_range (strip gs) start end
 strip_range start end gs = sym (ap (take (end - start)) (drop-map item_of start gs) ∙ take-map item_of (end - start) (drop start gs))
 
-taken : (zs : List Glyph) (order : List Keyed) → strip (map (λ (e : Keyed). glyph_at zs e.place) order) ≡ map (item_at (strip zs)) order
+taken : (zs : List Glyph) (order : List Keyed) → strip (map (λ (e : Keyed). glyph_at zs e.index) order) ≡ map (item_at (strip zs)) order
 taken zs [] = refl
-taken zs (e ∷ es) = ap (λ (x : Item). x ∷ strip (map (λ (f : Keyed). glyph_at zs f.place) es)) (sym (get_or_mapped item_of zs e.place no_glyph)) ∙ ap (λ xs. item_at (strip zs) e ∷ xs) (taken zs es)
+taken zs (e ∷ es) = ap (λ (x : Item). x ∷ strip (map (λ (f : Keyed). glyph_at zs f.index) es)) (sym (get_or_mapped item_of zs e.index no_glyph)) ∙ ap (λ xs. item_at (strip zs) e ∷ xs) (taken zs es)
 
 put_strip : (start end : ℕ) (order : List Keyed) (gs : List Glyph) → strip (put_in_order start end order gs) ≡ take start (strip gs) ++ map (item_at (slice_range (strip gs) start end)) order ++ drop end (strip gs)
 put_strip start end order gs =
-    let range = map (λ (e : Keyed). glyph_at (slice_range gs start end) e.place) order in
+    let range = map (λ (e : Keyed). glyph_at (slice_range gs start end) e.index) order in
     map-append item_of (take start gs ++ range) (drop end gs) ∙ ap (λ xs. xs ++ strip (drop end gs)) (map-append item_of (take start gs) range)
     ∙ ap (λ xs. strip (take start gs) ++ xs ++ strip (drop end gs)) (taken (slice_range gs start end) order ∙ ap (λ xs. map (item_at xs) order) (strip_range start end gs))
     ∙ ap (λ xs. xs ++ map (item_at (slice_range (strip gs) start end)) order ++ strip (drop end gs)) (sym (take-map item_of start gs))

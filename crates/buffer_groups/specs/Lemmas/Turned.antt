@@ -15,7 +15,7 @@ use Rattle.buffer_glyphs.specs.Levels.{IsMonotone}
 use Rattle.buffer_glyphs.specs.Lemmas.Merges.{map_alike}
 use Rattle.buffer_glyphs.specs.Merging.{order_merged}
 use Rattle.buffer_glyphs.specs.Glyphs.{glyphs_merged_at, beside_merged, glyphs_merged, has_several_numbers}
-use Rattle.buffer_glyphs.specs.Lemmas.Glyphs.{merged_at_beyond, stretch_is, length_beside, length_merged_at, clusters_merged, cut_out, nothing_merged}
+use Rattle.buffer_glyphs.specs.Lemmas.Glyphs.{merged_at_beyond, range_clusters, length_beside, length_merged_at, clusters_merged, cut_out, nothing_merged}
 use Rattle.buffer_groups.specs.Groups.{group_length}
 use Rattle.buffer_groups.specs.Turning.{Turning, range_reversed, glyphs_merged_if, is_marked_if, beside_if, first_turned, group_turned, turning_at, all_turned, turning_of}
 use Rattle.buffer_glyphs.specs.Lemmas.EventParts.{map-reverse}
@@ -89,15 +89,15 @@ pub placed_glyphs : (merge : Bool) (level : BufferClusterLevel) (start end : ℕ
 placed_glyphs merge level start end gs mid new le within m n =
     let range = range_of 0 (end - start) (clusters (drop start gs)) in
     let front = beside_if merge level range (take start gs) in
-    let ahead = glyphs_merged_if merge level 0 (end - start) (drop start gs) in
-    let cut : mid ≡ front ++ ahead = m ∙ merged_cut merge level start end gs le (omega arith) in
+    let rest_glyphs = glyphs_merged_if merge level 0 (end - start) (drop start gs) in
+    let cut : mid ≡ front ++ rest_glyphs = m ∙ merged_cut merge level start end gs le (omega arith) in
     let at : length front ≡ start = beside_length merge level range (take start gs) ∙ length-take-le start gs (omega arith) in
-    let first : take start mid ≡ front = ap (take start) cut ∙ ap (λ i. take i (front ++ ahead)) (sym at) ∙ take-append_seam front ahead in
-    let rest : drop start mid ≡ ahead = ap (drop start) cut ∙ ap (λ i. drop i (front ++ ahead)) (sym at) ∙ drop-append_seam front ahead in
+    let first : take start mid ≡ front = ap (take start) cut ∙ ap (λ i. take i (front ++ rest_glyphs)) (sym at) ∙ take-append_seam front rest_glyphs in
+    let rest : drop start mid ≡ rest_glyphs = ap (drop start) cut ∙ ap (λ i. drop i (front ++ rest_glyphs)) (sym at) ∙ drop-append_seam front rest_glyphs in
     let wide : end ≤ length mid = omega (arith, ap length m, merged_length merge level start end gs le) in
-    let one : reverse (take end new) ≡ take (end - start) ahead ++ beside_if merge level range (reverse (take start gs)) =
-    ap (λ ys. reverse (take end ys)) n ∙ part_before start end mid le wide ∙ ap (λ ys. take (end - start) ys ++ reverse (take start mid)) rest ∙ ap (λ ys. take (end - start) ahead ++ reverse ys) first ∙ ap (λ ys. take (end - start) ahead ++ ys) (beside_turned merge level range (take start gs)) in
-    let two : drop end new ≡ drop (end - start) ahead = ap (drop end) n ∙ part_after start end mid le wide ∙ ap (drop (end - start)) rest in
+    let one : reverse (take end new) ≡ take (end - start) rest_glyphs ++ beside_if merge level range (reverse (take start gs)) =
+    ap (λ ys. reverse (take end ys)) n ∙ part_before start end mid le wide ∙ ap (λ ys. take (end - start) ys ++ reverse (take start mid)) rest ∙ ap (λ ys. take (end - start) rest_glyphs ++ reverse ys) first ∙ ap (λ ys. take (end - start) rest_glyphs ++ ys) (beside_turned merge level range (take start gs)) in
+    let two : drop end new ≡ drop (end - start) rest_glyphs = ap (drop end) n ∙ part_after start end mid le wide ∙ ap (drop (end - start)) rest in
     (one, two)
 
 -- and its positions beside it
@@ -126,22 +126,22 @@ in_range : (start end : ℕ) (gs : List Glyph) → let range = range_of start en
 in_range start end gs =
     let range = range_of start end (clusters gs) in
     let seen : clusters (slice_range (glyphs_merged range gs) start end) ≡ map (merged_number range) range =
-    sym (stretch_is (glyphs_merged range gs) start end) ∙ ap (range_of start end) (clusters_merged range gs) ∙ ap (take (end - start)) (drop-map (merged_number range) start (clusters gs)) ∙ take-map (merged_number range) (end - start) (drop start (clusters gs)) in
+    sym (range_clusters (glyphs_merged range gs) start end) ∙ ap (range_of start end) (clusters_merged range gs) ∙ ap (take (end - start)) (drop-map (merged_number range) start (clusters gs)) ∙ take-map (merged_number range) (end - start) (drop start (clusters gs)) in
     let one : map (merged_number range) range ≡ map (λ (n : ℕ). least_number range) range = map_alike (merged_number range) (λ n. least_number range) range (λ n h. rw h refl) in
     rw (seen, one) (all_one (least_number range) range)
 
 -- positions that were merged have one cluster, at the levels that keep the order
-merged_stretch : (level : BufferClusterLevel) (start end : ℕ) (gs : List Glyph) → IsMonotone level → start ≤ end → reverse (clusters (slice_range (glyphs_merged_at level start end gs) start end)) ≡ clusters (slice_range (glyphs_merged_at level start end gs) start end)
-merged_stretch Characters start end gs mono le = absurd mono
-merged_stretch MonotoneGraphemes start end gs mono le = in_range start end gs
-merged_stretch MonotoneCharacters start end gs mono le = in_range start end gs
+merged_range : (level : BufferClusterLevel) (start end : ℕ) (gs : List Glyph) → IsMonotone level → start ≤ end → reverse (clusters (slice_range (glyphs_merged_at level start end gs) start end)) ≡ clusters (slice_range (glyphs_merged_at level start end gs) start end)
+merged_range Characters start end gs mono le = absurd mono
+merged_range MonotoneGraphemes start end gs mono le = in_range start end gs
+merged_range MonotoneCharacters start end gs mono le = in_range start end gs
 
 -- reversed, they leave the clusters as they are
 pub clusters_part : (level : BufferClusterLevel) (start end : ℕ) (gs mid : List Glyph) → IsMonotone level → start ≤ end → mid ≡ glyphs_merged_at level start end gs → clusters (range_reversed start end mid) ≡ clusters mid
 clusters_part level start end gs mid mono le m =
     let f : Glyph → ℕ = λ g. g.cluster in
     let range = slice_range mid start end in
-    let same : reverse (clusters range) ≡ clusters range = rw m (merged_stretch level start end gs mono le) in
+    let same : reverse (clusters range) ≡ clusters range = rw m (merged_range level start end gs mono le) in
     let turned : clusters (reverse range) ≡ clusters range = map-reverse f range ∙ same in
     map-append f (take start mid ++ reverse range) (drop end mid) ∙ ap (λ ns. ns ++ clusters (drop end mid)) (map-append f (take start mid) (reverse range) ∙ ap (λ ns. clusters (take start mid) ++ ns) turned ∙ sym (map-append f (take start mid) range)) ∙ sym (map-append f (take start mid ++ range) (drop end mid)) ∙ ap clusters (cut_out start end mid le)
 
@@ -157,16 +157,16 @@ pub or_false : (b : Bool) → (b || false) ≡ b
 or_false true = refl
 or_false false = refl
 
--- where nothing is ahead, all stays
+-- where no glyph is left to be walked, all stays
 idle : (merge : Bool) (level : BufferClusterLevel) (p : Glyph → Glyph → Bool) (gs : List Glyph) (ps pa : List Position) (m : Bool)
-    → group_turned merge level p (record { glyphs = gs; positions = ps; ahead = []; positions_ahead = pa; is_marked = m }) ≡ record { glyphs = gs; positions = ps; ahead = []; positions_ahead = pa; is_marked = m }
+    → group_turned merge level p (record { glyphs = gs; positions = ps; rest_glyphs = []; rest_positions = pa; is_marked = m }) ≡ record { glyphs = gs; positions = ps; rest_glyphs = []; rest_positions = pa; is_marked = m }
 idle false level p gs ps pa m = rw (or_false m) refl
 idle true MonotoneGraphemes p gs ps pa m = rw (nothing_merged gs, or_false m) refl
 idle true MonotoneCharacters p gs ps pa m = rw (nothing_merged gs, or_false m) refl
 idle true Characters p gs ps pa m = rw (or_false m) refl
 
 pub all_idle : (n : ℕ) (merge : Bool) (level : BufferClusterLevel) (p : Glyph → Glyph → Bool) (gs : List Glyph) (ps pa : List Position) (m : Bool)
-    → all_turned merge level p n (record { glyphs = gs; positions = ps; ahead = []; positions_ahead = pa; is_marked = m }) ≡ record { glyphs = gs; positions = ps; ahead = []; positions_ahead = pa; is_marked = m }
+    → all_turned merge level p n (record { glyphs = gs; positions = ps; rest_glyphs = []; rest_positions = pa; is_marked = m }) ≡ record { glyphs = gs; positions = ps; rest_glyphs = []; rest_positions = pa; is_marked = m }
 all_idle zero merge level p gs ps pa m = refl
 all_idle (suc n) merge level p gs ps pa m = ap (all_turned merge level p n) (idle merge level p gs ps pa m) ∙ all_idle n merge level p gs ps pa m
 
@@ -179,9 +179,9 @@ pub record Rest (merge : Bool) (level : BufferClusterLevel) (p : Glyph → Glyph
 pub rest_begins : (merge : Bool) (level : BufferClusterLevel) (p : Glyph → Glyph → Bool) (gs : List Glyph) (ps : List Position) → Rest merge level p 0 gs ps false (turning_of merge level p gs ps)
 rest_begins merge level p gs ps = record { most = length gs; enough = omega arith; leads = refl }
 
-pub rest_goes_on : (merge : Bool) (level : BufferClusterLevel) (p : Glyph → Glyph → Bool) (start end : ℕ) (gs new : List Glyph) (ps positions : List Position) (m m' : Bool) (whole : Turning) → start < length gs → start < end → length new ≡ length gs → end ≡ start + group_length p (drop start gs)
+pub rest_continues : (merge : Bool) (level : BufferClusterLevel) (p : Glyph → Glyph → Bool) (start end : ℕ) (gs new : List Glyph) (ps positions : List Position) (m m' : Bool) (whole : Turning) → start < length gs → start < end → length new ≡ length gs → end ≡ start + group_length p (drop start gs)
     → turning_at end new positions m' ≡ first_turned merge level (end - start) (turning_at start gs ps m) → Rest merge level p start gs ps m whole → Rest merge level p end new positions m' whole
-rest_goes_on merge level p start end gs new ps positions m m' whole lt some long at step rest = by_most rest.most rest.enough rest.leads
+rest_continues merge level p start end gs new ps positions m m' whole lt some long at step rest = by_most rest.most rest.enough rest.leads
   where
     by_most : (n : ℕ) → length gs - start ≤ n → all_turned merge level p n (turning_at start gs ps m) ≡ whole → Rest merge level p end new positions m' whole
     by_most zero enough leads = absurd (omega arith)
@@ -195,7 +195,7 @@ rest_goes_on merge level p start end gs new ps positions m m' whole lt some long
 
 -- it has done all at the end
 pub rest_ends : (merge : Bool) (level : BufferClusterLevel) (p : Glyph → Glyph → Bool) (start : ℕ) (gs : List Glyph) (ps : List Position) (m : Bool) (whole : Turning) → length gs ≤ start → length ps ≡ length gs → Rest merge level p start gs ps m whole
-    → record { glyphs = reverse gs; positions = reverse ps; ahead = []; positions_ahead = []; is_marked = m } ≡ whole
+    → record { glyphs = reverse gs; positions = reverse ps; rest_glyphs = []; rest_positions = []; is_marked = m } ≡ whole
 rest_ends merge level p start gs ps m whole ge long rest =
     let one : take start gs ≡ gs = take_all start gs ge in
     let two : drop start gs ≡ [] = drop_all start gs ge in

@@ -50,10 +50,10 @@ fn keep_glyph(
     requires few { walk.kept ≤ at }
     ensures glyphs { take (walk.kept + 1) glyphs.new
         ≡ settled_glyphs walk.due (take walk.kept glyphs.old) ++ take 1 (drop at glyphs.old) }
-    ensures ahead { drop (at + 1) glyphs.new ≡ drop (at + 1) glyphs.old }
+    ensures rest_glyphs { drop (at + 1) glyphs.new ≡ drop (at + 1) glyphs.old }
     ensures positions { take (walk.kept + 1) positions.new
         ≡ take walk.kept positions.old ++ take 1 (drop at positions.old) }
-    ensures positions_ahead { drop (at + 1) positions.new ≡ drop (at + 1) positions.old }
+    ensures rest_positions { drop (at + 1) positions.new ≡ drop (at + 1) positions.old }
     ensures walk { result ≡ record { kept = walk.kept + 1; due = None; marked = walk.marked } }
 {
     settle(glyphs, walk.kept, walk.due);
@@ -100,7 +100,7 @@ fn last_kept(glyphs: &[hb_glyph_info_t], kept: usize, due: Option<hb_glyph_info_
 }
 
 /// Deletes glyph `at`, where a glyph before it is left.
-fn delete_behind(glyphs: &mut [hb_glyph_info_t], at: usize, walk: Walk, in_order: bool) -> Walk
+fn delete_after_kept(glyphs: &mut [hb_glyph_info_t], at: usize, walk: Walk, in_order: bool) -> Walk
     requires some { 0 < walk.kept }
     requires within { at < length glyphs.old }
     requires sound { IsWalk in_order at walk glyphs.old }
@@ -151,7 +151,7 @@ pub(super) fn delete_glyph(
             marked: walk.marked | marked,
         };
     }
-    delete_behind(glyphs, at, walk, in_order)
+    delete_after_kept(glyphs, at, walk, in_order)
 }
 
 /// Deletes glyph `at` where `filter` holds.

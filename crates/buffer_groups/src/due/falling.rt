@@ -14,7 +14,7 @@ use buffer_glyphs::merges::{glyph_in_cluster, least_cluster};
 /// of ranges that share clusters renumber the same glyphs again and again; so they are written once the last cluster is
 /// known.
 #[derive(Clone, Copy)]
-pub(crate) struct Stretch {
+pub(crate) struct DueRange {
     pub(super) from: usize,
     pub(super) to: usize,
     pub(super) cluster: u32,
@@ -22,7 +22,7 @@ pub(crate) struct Stretch {
 
 /// Renumbers the glyphs to the cluster that is due.
 #[tactic(auto, using(crate::proofs::Carried::carried_put))]
-pub(super) fn carry_out(glyphs: &mut [hb_glyph_info_t], due: Stretch)
+pub(super) fn carry_out(glyphs: &mut [hb_glyph_info_t], due: DueRange)
     requires ordered { due.from ≤ due.to }
     requires within { due.to ≤ length glyphs.old }
     ensures { glyphs.new ≡ with_range_in_cluster due glyphs.old }
@@ -43,10 +43,10 @@ fn set_clusters(glyphs: &mut [hb_glyph_info_t], cluster: u32)
 /// cluster are renumbered to the least: these are before them, and may be just the postponed ones.
 pub(super) fn merge_falling(
     glyphs: &mut [hb_glyph_info_t],
-    due: Stretch,
+    due: DueRange,
     start: usize,
     end: usize,
-) -> Stretch
+) -> DueRange
     requires some { start < end }
     requires within { end ≤ length glyphs.old }
     requires due { IsDueBefore start due glyphs.old }
@@ -62,14 +62,14 @@ pub(super) fn merge_falling(
     }
     let ahead = end_run(&glyphs[due.to..start], cluster);
     if ahead == 0 && due.cluster == cluster {
-        return Stretch {
+        return DueRange {
             from: due.from,
             to: end,
             cluster: low,
         };
     }
     carry_out(glyphs, due);
-    Stretch {
+    DueRange {
         from: due.to + ahead,
         to: end,
         cluster: low,

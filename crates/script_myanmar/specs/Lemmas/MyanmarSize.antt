@@ -12,7 +12,7 @@ use Rattle.buffer_stages.specs.Rewriting.{within}
 use Rattle.buffer_stages.specs.Lemmas.Parts.{within_size}
 use Rattle.script_myanmar.specs.Myanmar.{items_with_positions, has_two_matras, is_pre_base_vowel, matras_of, matras_reversed, myanmar_first, myanmar_positions, myanmar_reordered, myanmar_syllable, with_positions}
 use Rattle.script_myanmar.specs.Lemmas.Sizes.{positions_size}
-use Rattle.buffer_stages.specs.Ordering.{groups_reversed, sorted_by_place}
+use Rattle.buffer_stages.specs.Ordering.{groups_reversed, auxiliary_order}
 use Rattle.buffer_stages.specs.Lemmas.Sorted.{reversed_size, sorted_size}
 
 placed_size : (ps : List ℕ) (xs : List Item) → length ps ≤ length xs → length (with_positions ps xs) ≡ length xs
@@ -36,7 +36,7 @@ matras_size xs = by_test (has_two_matras (take (matras_of xs) xs))
     by_test false = refl
 
 pub reordered_size : (xs : List Item) → length (myanmar_reordered xs).items ≡ length xs
-reordered_size xs = matras_size (sorted_by_place (items_with_positions xs).items).items ∙ sorted_size (items_with_positions xs).items ∙ all_placed_size xs
+reordered_size xs = matras_size (auxiliary_order (items_with_positions xs).items).items ∙ sorted_size (items_with_positions xs).items ∙ all_placed_size xs
 
 pub myanmar_keeps : (xs : List Item) → length (myanmar_syllable xs).items ≡ length xs
 myanmar_keeps xs = by_first (slice_get xs 0)

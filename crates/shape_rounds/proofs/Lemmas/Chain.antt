@@ -8,7 +8,7 @@ use Rattle.buffer_glyphs.specs.Events.{Event, Merge, Replace, Circle, Delete, Mo
 use Rattle.buffer_glyphs.specs.Lemmas.Origins.{origins_after_both}
 use Rattle.buffer_core.specs.Sides.{Sides, all_glyphs, flag_requests_of}
 use Rattle.buffer_glyphs.specs.Rewriting.{Arrangement, eventless_arrangement, shifted_event, beside, in_turn}
-use Rattle.buffer_stages.specs.Brought.{Brought, RefusesRoomFor}
+use Rattle.buffer_stages.specs.Appending.{AppendsArrangement, RefusesRoomFor}
 
 none_further : (n : ℕ) → 0 + n ≡ n
 none_further n = omega arith
@@ -79,11 +79,11 @@ in_turn_both (a ∷ ps) qs = beside_assoc a (in_turn ps) (in_turn qs) ∙ ap (be
 pub none_behind : (a : Arrangement) → beside a (eventless_arrangement []) ≡ a
 none_behind a = arranged_same (beside a (eventless_arrangement [])) a (append-nil a.items) (append-nil a.events)
 
-count_behind : (a : Arrangement) (rest : List Item) (s t : Sides) → Brought a rest s t → length t.behind ≡ length s.behind + length a.items
+count_behind : (a : Arrangement) (rest : List Item) (s t : Sides) → AppendsArrangement a rest s t → length t.behind ≡ length s.behind + length a.items
 count_behind a rest s t f = sym (length-map t.behind item_of) ∙ ap length f.behind ∙ length-append (strip s.behind) a.items ∙ ap (λ n. n + length a.items) (length-map s.behind item_of)
 
 -- one arrangement brought, and then another
-pub brought_then : (a b : Arrangement) (xs ys : List Item) (s t u : Sides) → Brought a xs s t → Brought b ys t u → Brought (beside a b) ys s u
+pub brought_then : (a b : Arrangement) (xs ys : List Item) (s t u : Sides) → AppendsArrangement a xs s t → AppendsArrangement b ys t u → AppendsArrangement (beside a b) ys s u
 brought_then a b xs ys s t u f g = record {
   behind = g.behind ∙ ap (λ zs. zs ++ b.items) f.behind ∙ append_assoc (strip s.behind) a.items b.items;
   ahead = g.ahead;
@@ -100,16 +100,16 @@ brought_then a b xs ys s t u f g = record {
   frame = g.frame ∙ f.frame;
 }
 
-pub brought_none : (s : Sides) → Brought (in_turn []) (strip s.ahead) s s
+pub brought_none : (s : Sides) → AppendsArrangement (in_turn []) (strip s.ahead) s s
 brought_none s = record { behind = sym (append-nil (strip s.behind)); ahead = refl; happened = refl; frame = refl }
 
 -- arrangements in turn, and one more
-pub brought_more : (ps : List Arrangement) (a : Arrangement) (xs ys : List Item) (s t u : Sides) → Brought (in_turn ps) xs s t → Brought a ys t u → Brought (in_turn (ps ++ a ∷ [])) ys s u
+pub brought_more : (ps : List Arrangement) (a : Arrangement) (xs ys : List Item) (s t u : Sides) → AppendsArrangement (in_turn ps) xs s t → AppendsArrangement a ys t u → AppendsArrangement (in_turn (ps ++ a ∷ [])) ys s u
 brought_more ps a xs ys s t u f g =
-    subst (λ b. Brought b ys s u) (ap (beside (in_turn ps)) (sym (none_behind a)) ∙ in_turn_both ps (a ∷ [])) (brought_then (in_turn ps) a xs ys s t u f g)
+    subst (λ b. AppendsArrangement b ys s u) (ap (beside (in_turn ps)) (sym (none_behind a)) ∙ in_turn_both ps (a ∷ [])) (brought_then (in_turn ps) a xs ys s t u f g)
 
-pub brought_both : (ps qs : List Arrangement) (xs ys : List Item) (s t u : Sides) → Brought (in_turn ps) xs s t → Brought (in_turn qs) ys t u → Brought (in_turn (ps ++ qs)) ys s u
-brought_both ps qs xs ys s t u f g = subst (λ b. Brought b ys s u) (in_turn_both ps qs) (brought_then (in_turn ps) (in_turn qs) xs ys s t u f g)
+pub brought_both : (ps qs : List Arrangement) (xs ys : List Item) (s t u : Sides) → AppendsArrangement (in_turn ps) xs s t → AppendsArrangement (in_turn qs) ys t u → AppendsArrangement (in_turn (ps ++ qs)) ys s u
+brought_both ps qs xs ys s t u f g = subst (λ b. AppendsArrangement b ys s u) (in_turn_both ps qs) (brought_then (in_turn ps) (in_turn qs) xs ys s t u f g)
 
 -- ---- too many
 
@@ -119,7 +119,7 @@ items_both ps qs = ap (λ (a : Arrangement). a.items) (sym (in_turn_both ps qs))
 pub overfills_more : (n m : ℕ) (e : ShapeCause) (s : Sides) → n ≤ m → RefusesRoomFor n e s → RefusesRoomFor m e s
 overfills_more n m e s le f some = let over = (f some).1 in ((f some).0, omega (arith, le, over))
 
-pub overfills_behind : (a : Arrangement) (rest : List Item) (n : ℕ) (e : ShapeCause) (s t : Sides) → Brought a rest s t → RefusesRoomFor n e t → RefusesRoomFor (length a.items + n) e s
+pub overfills_behind : (a : Arrangement) (rest : List Item) (n : ℕ) (e : ShapeCause) (s t : Sides) → AppendsArrangement a rest s t → RefusesRoomFor n e t → RefusesRoomFor (length a.items + n) e s
 overfills_behind a rest n e s t b f some =
     let over = (f some).1 in
     let limit = ap (λ (q : Sides). q.max_len) b.frame in
@@ -127,7 +127,7 @@ overfills_behind a rest n e s t b f some =
     ((f some).0, omega (arith, over, limit, count))
 
 -- arrangements that were output, others that are too many, and the rest
-pub overfills_after : (ps qs more : List Arrangement) (rest : List Item) (e : ShapeCause) (s t : Sides) → Brought (in_turn ps) rest s t → RefusesRoomFor (length (in_turn qs).items) e t → RefusesRoomFor (length (in_turn (ps ++ (qs ++ more))).items) e s
+pub overfills_after : (ps qs more : List Arrangement) (rest : List Item) (e : ShapeCause) (s t : Sides) → AppendsArrangement (in_turn ps) rest s t → RefusesRoomFor (length (in_turn qs).items) e t → RefusesRoomFor (length (in_turn (ps ++ (qs ++ more))).items) e s
 overfills_after ps qs more rest e s t b f =
     let one = ap length (items_both ps (qs ++ more)) in
     let two = ap length (items_both qs more) in

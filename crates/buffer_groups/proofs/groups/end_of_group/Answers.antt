@@ -1,6 +1,6 @@
 use Rattle.std.proofs.Common.{arith, sym, ◌∙◌, refl}
 use Rattle.std.proofs.lemmas.Fn.{says_at_two}
-use Rattle.buffer_groups.specs.Lemmas.Neighbours.{no_glyph, group_begins, group_goes_on, group_stops, group_ends}
+use Rattle.buffer_groups.specs.Lemmas.Neighbours.{no_glyph, group_begins, group_continues, group_stops, group_ends}
 use Rattle.buffer_groups.proofs.groups.end_of_group.Goals as goal
 
 pub loop-end-init : goal.loop-end-init
@@ -14,7 +14,7 @@ pub loop-end-preserved : goal.loop-end-preserved
 loop-end-preserved g c = record {
   passed = omega arith;
   within = omega arith;
-  rest = λ joins same. group_goes_on joins c.args.glyphs.now c.loop-end.end _ no_glyph c.loop-end-test.true (sym (same _ _ c.group.result (says_at_two g.F.Fn c.group.ensures refl)) ∙ c.if-group.true) (c.loop-end.invariant.rest joins same);
+  rest = λ joins same. group_continues joins c.args.glyphs.now c.loop-end.end _ no_glyph c.loop-end-test.true (sym (same _ _ c.group.result (says_at_two g.F.Fn c.group.ensures refl)) ∙ c.if-group.true) (c.loop-end.invariant.rest joins same);
 }
 
 pub returns-else-group-clause-end : goal.returns-else-group-clause-end

@@ -4,7 +4,7 @@ use Rattle.buffer_glyphs.specs.Items.{clusters}
 use Rattle.buffer_glyphs.specs.Order.{IsOrdered}
 use Rattle.buffer_groups.specs.Groups.{group_length}
 use Rattle.buffer_groups.specs.Turning.{Turning, turning_of}
-use Rattle.buffer_groups.specs.Lemmas.Turned.{Rest, rest_begins, rest_goes_on, rest_ends}
+use Rattle.buffer_groups.specs.Lemmas.Turned.{Rest, rest_begins, rest_continues, rest_ends}
 use Rattle.buffer_groups.specs.Due.{with_due}
 use Rattle.buffer_groups.proofs.Meant.{ahead_as_meant, due_within}
 use Rattle.buffer_groups.proofs.Meant.{meant_long}
@@ -41,7 +41,7 @@ loop-start-preserved g c =
       known = λ asked sure mono. turn.order asked mono (inv.known asked sure mono);
       due = turn.due;
       plain = turn.plain;
-      rest = λ joins same. rest_goes_on c.args.merge c.args.level joins start end (with_due c.loop-start.merges.due old) (with_due c.turn_group-merges.result.due new) c.loop-start.positions c.turn_group-merges.new.positions
+      rest = λ joins same. rest_continues c.args.merge c.args.level joins start end (with_due c.loop-start.merges.due old) (with_due c.turn_group-merges.result.due new) c.loop-start.positions c.turn_group-merges.new.positions
           c.loop-start.merges.marked c.turn_group-merges.result.marked (turning_of c.args.merge c.args.level joins c.args.glyphs.now c.args.positions.now) (omega (arith, before, c.loop-start-test.true)) found.ensures.some (omega (arith, before, after, c.turn_group-merges.auto.glyphs))
           (found.ensures.end joins same ∙ ap (λ hs. start + group_length joins hs) (sym (ahead_as_meant start c.loop-start.merges.due old (omega arith) inv.due.1)))
           turn.turned (inv.rest joins same);

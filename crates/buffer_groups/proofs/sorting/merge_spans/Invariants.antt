@@ -8,12 +8,12 @@ use Rattle.buffer_groups.specs.Sorting.{spans_merged, range_spanned}
 use Rattle.buffer_groups.proofs.sorting.merge_spans.Given as goal
 
 -- `reach` is the last of the indices that came so far
-abbrev pub invariant-loop-place : goal.invariant-loop-place
-invariant-loop-place l = record {
-  begun : l.begin ≤ l.place;
+abbrev pub invariant-loop-index : goal.invariant-loop-index
+invariant-loop-index l = record {
+  begun : l.begin ≤ l.index;
   known : l.in_order ≡ true → IsOrdered (clusters (with_due l.merges.due l.glyphs));
   direction : (falls : Bool) → IsInOrder falls (clusters l.fn.glyphs) → IsInOrder falls (clusters (with_due l.merges.due l.glyphs));
   due : MayBeDue l.level (l.start + l.begin) l.merges.due l.glyphs;
-  reach : (i : ℕ) → 0 < i → list_all (λ (e : Keyed). nat_lt e.place i) (take l.place l.order) ≡ nat_lt l.reach i;
-  rest : spans_merged l.level l.start l.order l.begin l.place (length l.order - l.place) (record { glyphs = with_due l.merges.due l.glyphs; is_marked = l.merges.marked }) ≡ range_spanned l.level l.start l.order l.fn.glyphs;
+  reach : (i : ℕ) → 0 < i → list_all (λ (e : Keyed). nat_lt e.index i) (take l.index l.order) ≡ nat_lt l.reach i;
+  rest : spans_merged l.level l.start l.order l.begin l.index (length l.order - l.index) (record { glyphs = with_due l.merges.due l.glyphs; is_marked = l.merges.marked }) ≡ range_spanned l.level l.start l.order l.fn.glyphs;
 }

@@ -5,4 +5,4 @@ use Rattle.layout_links.proofs.finish.clear_links.Goals as goal
 pub loop-i-preserved : goal.loop-i-preserved
 loop-i-preserved c =
     let s = c.loop-i in
-    cleared_next c.args.positions.now s.positions s.i c.unattached.result s.invariant (search rules) c.unattached.ensures
+    cleared_next c.args.positions.now s.positions s.i c.unattached_position.result s.invariant (search rules) c.unattached_position.ensures

@@ -7,29 +7,29 @@ use Rattle.layout_links.proofs.links.follow.Goals as goal
 pub loop-step-init : goal.loop-step-init
 loop-step-init c =
     let ps = c.args.positions.now in
-    coming_first c.args.direction (with_link_followed (drawn_by_sums c.args.direction) (length ps) c.args.start ps) (length ps) c.go_along-walk.result.last.at c.go_along-walk.result.last.by c.go_along-walk.result.depth c.go_along-walk.new.positions (c.go_along-walk.ensures c.args.direction)
+    coming_first c.args.direction (with_link_followed (drawn_by_sums c.args.direction) (length ps) c.args.start ps) (length ps) c.walk_links-walk.result.last.at c.walk_links-walk.result.last.by c.walk_links-walk.result.depth c.walk_links-walk.new.positions (c.walk_links-walk.ensures c.args.direction)
 
-pub go_back-last-requires-clause-here : goal.go_back-last-requires-clause-here
-go_back-last-requires-clause-here c =
+pub step_to_child-last-requires-clause-here : goal.step_to_child-last-requires-clause-here
+step_to_child-last-requires-clause-here c =
     let ps = c.args.positions.now in
-    coming_here c.args.direction (with_link_followed (drawn_by_sums c.args.direction) (length ps) c.args.start ps) (length ps) c.loop-step.last.at c.loop-step.last.by (c.go_along-walk.result.depth - c.loop-step._step) c.loop-step.positions c.loop-step.invariant
+    coming_here c.args.direction (with_link_followed (drawn_by_sums c.args.direction) (length ps) c.args.start ps) (length ps) c.loop-step.last.at c.loop-step.last.by (c.walk_links-walk.result.depth - c.loop-step._step) c.loop-step.positions c.loop-step.invariant
 
-pub go_back-last-requires-clause-came : goal.go_back-last-requires-clause-came
-go_back-last-requires-clause-came c =
+pub step_to_child-last-requires-clause-came : goal.step_to_child-last-requires-clause-came
+step_to_child-last-requires-clause-came c =
     let ps = c.args.positions.now in
-    coming_came c.args.direction (with_link_followed (drawn_by_sums c.args.direction) (length ps) c.args.start ps) (length ps) c.loop-step.last.at c.loop-step.last.by c.loop-step._step c.go_along-walk.result.depth c.loop-step.positions c.loop-step.invariant c.loop-step-test.true
+    coming_came c.args.direction (with_link_followed (drawn_by_sums c.args.direction) (length ps) c.args.start ps) (length ps) c.loop-step.last.at c.loop-step.last.by c.loop-step._step c.walk_links-walk.result.depth c.loop-step.positions c.loop-step.invariant c.loop-step-test.true
 
 pub loop-step-preserved : goal.loop-step-preserved
 loop-step-preserved c =
     let ps = c.args.positions.now in
-    coming_next c.args.direction (with_link_followed (drawn_by_sums c.args.direction) (length ps) c.args.start ps) (length ps) c.loop-step.last.at c.loop-step.last.by c.loop-step._step c.go_along-walk.result.depth c.loop-step.positions c.go_back-last.new.positions c.go_back-last.result.at c.go_back-last.result.by c.loop-step.invariant c.loop-step-test.true c.go_back-last.ensures
+    coming_next c.args.direction (with_link_followed (drawn_by_sums c.args.direction) (length ps) c.args.start ps) (length ps) c.loop-step.last.at c.loop-step.last.by c.loop-step._step c.walk_links-walk.result.depth c.loop-step.positions c.step_to_child-last.new.positions c.step_to_child-last.result.at c.step_to_child-last.result.by c.loop-step.invariant c.loop-step-test.true c.step_to_child-last.ensures
 
 pub returns-clause-drawn : goal.returns-clause-drawn
 returns-clause-drawn c =
     let ps = c.args.positions.now in
-    (coming_done c.args.direction (with_link_followed (drawn_by_sums c.args.direction) (length ps) c.args.start ps) (length ps) c.loop-step.last.at c.loop-step.last.by c.loop-step._step c.go_along-walk.result.depth c.loop-step.positions c.loop-step.invariant (search rules)).0
+    (coming_done c.args.direction (with_link_followed (drawn_by_sums c.args.direction) (length ps) c.args.start ps) (length ps) c.loop-step.last.at c.loop-step.last.by c.loop-step._step c.walk_links-walk.result.depth c.loop-step.positions c.loop-step.invariant (search rules)).0
 
 pub returns-clause-shut : goal.returns-clause-shut
 returns-clause-shut c =
     let ps = c.args.positions.now in
-    (coming_done c.args.direction (with_link_followed (drawn_by_sums c.args.direction) (length ps) c.args.start ps) (length ps) c.loop-step.last.at c.loop-step.last.by c.loop-step._step c.go_along-walk.result.depth c.loop-step.positions c.loop-step.invariant (search rules)).1
+    (coming_done c.args.direction (with_link_followed (drawn_by_sums c.args.direction) (length ps) c.args.start ps) (length ps) c.loop-step.last.at c.loop-step.last.by c.loop-step._step c.walk_links-walk.result.depth c.loop-step.positions c.loop-step.invariant (search rules)).1

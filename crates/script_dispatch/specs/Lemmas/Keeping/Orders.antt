@@ -12,7 +12,7 @@ use Rattle.buffer_parts.specs.Lemmas.Plainly.{circle_kept, plainly_in_turn, stea
 use Rattle.script_categories.specs.declared.ot_category_t.TheConstants as category
 use Rattle.script_categories.specs.declared.shaper.hb_ot_script_shaper_t.TheVariants.{KHMER_SHAPER, MYANMAR_SHAPER, UNIVERSAL_SHAPER}
 use Rattle.script_categories.specs.Shapers.{is_reordered}
-use Rattle.buffer_stages.specs.Ordering.{groups_reversed, sorted_by_place}
+use Rattle.buffer_stages.specs.Ordering.{groups_reversed, auxiliary_order}
 use Rattle.buffer_glyphs.specs.Rewriting.{Arrangement, eventless_arrangement, and_arranged}
 use Rattle.buffer_stages.specs.Rewriting.{within}
 use Rattle.buffer_stages.specs.SyllableLaws.{IsPermuted}
@@ -198,8 +198,8 @@ myanmar_steady xs = by_first (slice_get xs 0)
     by_kind : (t : Bool) → IsSteady (if t then myanmar.myanmar_reordered xs else eventless_arrangement xs)
     by_kind true =
         let placed = myanmar.items_with_positions xs in
-        let sorted = and_arranged placed sorted_by_place in
-        then_steady sorted myanmar.matras_reversed (then_steady placed sorted_by_place tt (sorted_steady placed.items)) (matras_steady sorted.items)
+        let sorted = and_arranged placed auxiliary_order in
+        then_steady sorted myanmar.matras_reversed (then_steady placed auxiliary_order tt (sorted_steady placed.items)) (matras_steady sorted.items)
     by_kind false = tt
 
     by_first : (a : Option Item) → IsSteady (myanmar.myanmar_first xs a)

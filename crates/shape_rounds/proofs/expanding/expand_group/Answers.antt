@@ -3,7 +3,7 @@ use Rattle.buffer_glyphs.specs.Rewriting.{in_turn}
 use Rattle.buffer_properties.specs.Expanding.{item_expansion, expanded_item}
 use Rattle.buffer_properties.specs.Normalizer.{reach_alone, reach_with_marks}
 use Rattle.buffer_properties.specs.declared.normal_mode.Reach.{Reach}
-use Rattle.buffer_stages.specs.Brought.{Brought, RefusesRoomFor}
+use Rattle.buffer_stages.specs.Appending.{AppendsArrangement, RefusesRoomFor}
 use Rattle.shape_rounds.proofs.Walk.{one_group, one_too_many, selected_group, selected_too_many, marked_group, marked_too_many}
 use Rattle.shape_rounds.proofs.Lemmas.Refusals.{passed_on}
 use Rattle.shape_rounds.proofs.expanding.expand_group.Goals as goal
@@ -20,7 +20,7 @@ pub returns-then-marks-eq0-clause-ok : goal.returns-then-marks-eq0-clause-ok
 returns-then-marks-eq0-clause-ok g c =
     let reach = c.reach_alone.ensures ∙ ap reach_alone c.mode.ensures in
     one_group (g.N.Normalizing.normalizer c.args.by.now) c.args.marks c.args.buffer.now c.expand_current.new.buffer c.if-marks-eq0.true
-    (λ x xs seen. subst (λ (r : Reach). Brought (item_expansion (g.N.Normalizing.normalizer c.args.by.now) r x) xs c.args.buffer.now c.expand_current.new.buffer) reach (c.in_ok-expand_current.ensures.ok x xs seen))
+    (λ x xs seen. subst (λ (r : Reach). AppendsArrangement (item_expansion (g.N.Normalizing.normalizer c.args.by.now) r x) xs c.args.buffer.now c.expand_current.new.buffer) reach (c.in_ok-expand_current.ensures.ok x xs seen))
 
 pub returns-in_err-expand_selected-clause-err : goal.returns-in_err-expand_selected-clause-err
 returns-in_err-expand_selected-clause-err g c =
@@ -44,4 +44,4 @@ pub returns-clause-ok : goal.returns-clause-ok
 returns-clause-ok g c =
     let reach = c.reach_with_marks.ensures ∙ ap reach_with_marks c.mode-2.ensures in
     marked_group (g.N.Normalizing.normalizer c.args.by.now) c.args.marks (c.args.marks + 1) c.args.buffer.now c.expand_each.new.buffer c.if-marks-eq0.false refl (sym c.has_selector.ensures ∙ c.if-has_selector.false)
-    (λ xs ys seen len. subst (λ (r : Reach). Brought (in_turn (map (item_expansion (g.N.Normalizing.normalizer c.args.by.now) r) xs)) ys c.args.buffer.now c.expand_each.new.buffer) reach (c.in_ok-expand_each.ensures.ok xs ys seen len))
+    (λ xs ys seen len. subst (λ (r : Reach). AppendsArrangement (in_turn (map (item_expansion (g.N.Normalizing.normalizer c.args.by.now) r) xs)) ys c.args.buffer.now c.expand_each.new.buffer) reach (c.in_ok-expand_each.ensures.ok xs ys seen len))

@@ -13,8 +13,8 @@ returns-then-walk-eq0 c =
 
 pub returns : goal.returns
 returns c =
-    let gone = c.delete_behind.ensures.deletes c.args.level in
+    let gone = c.delete_after_kept.ensures.deletes c.args.level in
     record {
-      passed = λ ps g back e. passed_without c.args.level c.args.at c.args.walk c.delete_behind.result c.args.glyphs.now c.delete_behind.new.glyphs ps g back _ gone c.delete_behind.ensures.kept (c.delete_behind.ensures.marked ∙ sym (or_false c.args.walk.marked)) e;
-      sound = walk_without c.args.level c.args.in_order c.args.at c.args.walk c.delete_behind.result c.args.glyphs.now c.delete_behind.new.glyphs _ c.requires.within gone c.delete_behind.ensures.kept c.delete_behind.ensures.due c.requires.sound;
+      passed = λ ps g back e. passed_without c.args.level c.args.at c.args.walk c.delete_after_kept.result c.args.glyphs.now c.delete_after_kept.new.glyphs ps g back _ gone c.delete_after_kept.ensures.kept (c.delete_after_kept.ensures.marked ∙ sym (or_false c.args.walk.marked)) e;
+      sound = walk_without c.args.level c.args.in_order c.args.at c.args.walk c.delete_after_kept.result c.args.glyphs.now c.delete_after_kept.new.glyphs _ c.requires.within gone c.delete_after_kept.ensures.kept c.delete_after_kept.ensures.due c.requires.sound;
     }

@@ -14,6 +14,6 @@ returns g c =
     let kept = c.keep_glyph.ensures in
     record {
       passed = λ goes same. passed_kept c.args.level goes c.args.at c.args.walk c.keep_glyph.result c.args.glyphs.now c.keep_glyph.new.glyphs c.args.positions.now c.keep_glyph.new.positions c.requires.within (sym (same _ c.filter.result (says_at g.F.Fn c.filter.ensures refl)) ∙ c.if-filter.false)
-          kept.walk kept.glyphs kept.ahead kept.positions kept.positions_ahead;
-      sound = walk_kept c.args.in_order c.args.at c.args.walk c.keep_glyph.result c.args.glyphs.now c.keep_glyph.new.glyphs c.requires.within kept.walk kept.glyphs kept.ahead c.requires.sound;
+          kept.walk kept.glyphs kept.rest_glyphs kept.positions kept.rest_positions;
+      sound = walk_kept c.args.in_order c.args.at c.args.walk c.keep_glyph.result c.args.glyphs.now c.keep_glyph.new.glyphs c.requires.within kept.walk kept.glyphs kept.rest_glyphs c.requires.sound;
     }

@@ -1,5 +1,5 @@
 use Rattle.buffer_stages.proofs.SortRewrites.{sort_rewrites}
-use Rattle.buffer_stages.proofs.sorting.sort_by_place.Goals as goal
+use Rattle.buffer_stages.proofs.sorting.sort_by_auxiliary.Goals as goal
 
 pub returns : goal.returns
 returns c =

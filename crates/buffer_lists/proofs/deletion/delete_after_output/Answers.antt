@@ -2,7 +2,7 @@ use Rattle.std.proofs.Common.{get_or, drop, sym, ◌∙◌}
 use Rattle.std.proofs.lemmas.List.{drop_more}
 use Rattle.buffer_lists.proofs.Known.{no_glyph}
 use Rattle.buffer_glyphs.proofs.OneDeleted.{kept_least, kept_next, taken_less}
-use Rattle.buffer_lists.proofs.deletion.delete_behind.Goals as goal
+use Rattle.buffer_lists.proofs.deletion.delete_after_output.Goals as goal
 
 pub returns-then-last-glyph : goal.returns-then-last-glyph
 returns-then-last-glyph c = λ level.

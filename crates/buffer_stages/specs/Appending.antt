@@ -13,8 +13,8 @@ use Rattle.buffer_glyphs.specs.Rewriting.{Arrangement, shifted_event}
 abbrev pub frame_of : Sides → Sides
 frame_of s = record s { behind = []; ahead = []; read = 0; scratch_flags = stage_flags s.scratch_flags }
 
--- an arrangement was appended behind the cursor, and the rest is ahead
-pub record Brought (a : Arrangement) (rest : List Item) (old new : Sides) : Type 0 where
+-- a call appended an arrangement behind the cursor, and the rest is ahead of it
+pub record AppendsArrangement (a : Arrangement) (rest : List Item) (old new : Sides) : Type 0 where
   pub behind : strip new.behind ≡ strip old.behind ++ a.items
   pub ahead : strip new.ahead ≡ rest
   pub happened : origins (all_glyphs new) ≡ origins_after (flag_requests_of old) old.level (map (shifted_event (length old.behind)) a.events) (origins (all_glyphs old))

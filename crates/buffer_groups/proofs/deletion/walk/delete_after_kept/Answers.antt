@@ -8,7 +8,7 @@ use Rattle.buffer_glyphs.proofs.OneDeleted.{taken_less}
 use Rattle.buffer_groups.specs.Lemmas.Neighbours.{no_glyph}
 use Rattle.buffer_groups.proofs.Walking.{settled_front, settled_back}
 use Rattle.buffer_groups.proofs.Dues.{recast_due, due_new}
-use Rattle.buffer_groups.proofs.deletion.walk.delete_behind.Goals as goal
+use Rattle.buffer_groups.proofs.deletion.walk.delete_after_kept.Goals as goal
 
 pub returns-then-in_order-clause-deletes : goal.returns-then-in_order-clause-deletes
 returns-then-in_order-clause-deletes c = λ level.

@@ -3,7 +3,7 @@ use Rattle.buffer_common.specs.declared.direction.Direction.{Direction}
 use Rattle.layout_links.specs.Links.{with_link_followed}
 use Rattle.layout_links.specs.Sums.{drawn_by_sums}
 use Rattle.layout_links.specs.Walks.{IsGoing}
-use Rattle.layout_links.proofs.links.go_along.Given as goal
+use Rattle.layout_links.proofs.links.walk_links.Given as goal
 
 -- what is left of the way leads to what it is to lead to
 abbrev pub invariant-loop-depth : goal.invariant-loop-depth
