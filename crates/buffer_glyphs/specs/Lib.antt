@@ -1,6 +1,7 @@
 pub mod Lemmas
 pub mod Items
 pub mod LigatureWords
+pub mod PropertyWords
 pub mod Levels
 pub mod Parts
 pub mod Order

@@ -14,6 +14,7 @@ pub mod marks;
 pub mod merges;
 pub mod names;
 pub mod position;
+pub mod property_words;
 pub mod ranges;
 pub mod run_flags;
 pub mod runs;

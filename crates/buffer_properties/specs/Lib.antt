@@ -3,6 +3,7 @@ pub mod Laws
 pub mod SupportedExpansion
 pub mod Characters
 pub mod Categories
+pub mod GlyphWords
 pub mod Normalizer
 pub mod Expanding
 pub mod Ordering

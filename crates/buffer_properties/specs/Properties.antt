@@ -31,6 +31,10 @@ CF_ZWJ = 0x100
 abbrev pub CF_ZWNJ : ℕ
 CF_ZWNJ = 0x200
 
+-- the bit of a variation selector that the font didn't join with the character before it
+abbrev pub CF_VS : ℕ
+CF_VS = 0x400
+
 -- a bit where the test holds, else 0
 abbrev pub bit_if : Bool → ℕ → ℕ
 bit_if b n = if b then n else 0

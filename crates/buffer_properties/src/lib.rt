@@ -4,6 +4,7 @@
 
 pub mod categories;
 pub mod character;
+pub mod glyph_words;
 pub mod info;
 pub mod laws;
 pub mod normal_laws;

@@ -31,6 +31,13 @@ impl Model for Face {
     ghost invariant = { λ f. indices_fit f.parts ≡ true };
 }
 
+/// Whether the font has glyph classes, even if they name no glyph.
+pub fn hb_ot_layout_has_glyph_classes(face: &Face) -> bool
+    ensures { result ≡ is_some face.now.gdef.classes }
+{
+    face.has_glyph_classes()
+}
+
 impl Face {
     /// A font whose indices and classes stay within their lists (`FaceParts::indices_fit`). The tables of rows
     /// themselves ensure that keys rise.

@@ -36,6 +36,25 @@ pub struct SubstLookup {
 }
 
 impl SubstLookup {
+    /// A lookup of its parsed fields: the lookup flag, the index of its mark glyph set and its subtables.
+    pub fn parse(
+        flags: u16,
+        mark_filtering_set: Option<u16>,
+        subtables: SubstitutionSubtables,
+    ) -> SubstLookup
+        ensures { result ≡ record {
+          flags = flags;
+          mark_filtering_set = mark_filtering_set;
+          subtables = subtables;
+        } }
+    {
+        SubstLookup {
+            flags,
+            mark_filtering_set,
+            subtables,
+        }
+    }
+
     /// The lookup flag in the low 16 bits and, with `USE_MARK_FILTERING_SET`, the set's index in the high 16 bits, 65535
     /// where the lookup names none.
     pub fn props(&self) -> u32
@@ -71,6 +90,13 @@ pub struct SubstitutionTable {
 }
 
 impl SubstitutionTable {
+    /// A table of its lists of scripts and features, and of its lookups in the order of their indices.
+    pub fn new(inner: LayoutTable, lookups: Array<SubstLookup>) -> SubstitutionTable
+        ensures { result ≡ record { inner = inner; lookups = lookups } }
+    {
+        SubstitutionTable { inner, lookups }
+    }
+
     /// The lookup at an index.
     pub fn get_lookup(&self, index: u16) -> Option<&SubstLookup>
         ensures { option_copied result ≡ slice_get self.now.lookups index }

@@ -4,4 +4,5 @@ pub mod Putting
 pub mod Multiples
 pub mod Reverses
 pub mod Ligating
+pub mod LigatureReplacement
 pub mod Uniting

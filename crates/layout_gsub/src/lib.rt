@@ -3,6 +3,7 @@
 
 pub mod alternate;
 pub mod apply;
+pub mod context;
 pub mod ligate;
 pub mod ligature;
 pub mod multiple;

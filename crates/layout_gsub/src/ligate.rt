@@ -303,8 +303,9 @@ fn merge_parts(parts: &LigatureParts, end: usize, buffer: &mut hb_buffer_t) -> u
     buffer.allocate_lig_id()
 }
 
-/// Makes a ligature of the glyph at the cursor and the other components at some indices ahead.
-pub(crate) fn ligate_input(
+/// Makes a ligature of the glyph at the cursor and the other components at some indices ahead, which rise, count from
+/// the cursor, and are fewer than 64; `end` is the index after the last of them, 1 where there is none.
+pub fn ligate_input(
     others: &[usize],
     end: usize,
     glyph: u16,

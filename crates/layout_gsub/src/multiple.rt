@@ -55,7 +55,7 @@ fn component_info(face: &Face, info: &hb_glyph_info_t, i: usize, glyph: u16) -> 
 }
 
 /// Outputs the i-th of several glyphs that replace a glyph.
-fn output_glyph_for_component(
+pub fn output_glyph_for_component(
     face: &Face,
     info: &hb_glyph_info_t,
     i: usize,

@@ -42,7 +42,7 @@ pub(crate) fn substituted_props(face: &Face, glyph: u16, old: GlyphPropsFlags) -
 }
 
 /// Gives the glyph at the cursor other properties.
-fn set_glyph_props(buffer: &mut hb_buffer_t, props: GlyphPropsFlags)
+pub(crate) fn set_glyph_props(buffer: &mut hb_buffer_t, props: GlyphPropsFlags)
     requires { 0 < length buffer.old.ahead }
     ensures set { (g : Glyph) → slice_get buffer.old.ahead 0 ≡ Some g →
         buffer.new ≡ with_glyph_ahead 0 (record g { glyph_props = props }) buffer.old }

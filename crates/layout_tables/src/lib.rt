@@ -2,6 +2,7 @@
 //! sets of ligatures.
 #![tactic(auto)]
 
+pub mod choice;
 mod indices;
 mod keyed;
 pub mod ligature;

@@ -161,3 +161,20 @@ pub fn would_apply(lookup: &SubstLookup, ctx: &WouldApplyContext) -> bool
         }
     }
 }
+
+/// What the rule's lookups would do doesn't count.
+impl WouldApply for ContextSubtable {
+    ghost would = { context_would };
+
+    fn would_apply(&self, ctx: &WouldApplyContext) -> bool {
+        context_would_apply(self, ctx)
+    }
+}
+
+impl WouldApply for SubstLookup {
+    ghost would = { λ l. lookup_would l.subtables };
+
+    fn would_apply(&self, ctx: &WouldApplyContext) -> bool {
+        would_apply(self, ctx)
+    }
+}

@@ -1,5 +1,6 @@
 //! The subtables of glyph positioning.
 use crate::rows::{first_wrong, prints};
+use crate::substitutions::properties;
 use layout_face::positioning::{PositioningSubtables, PositioningTable};
 use layout_subtables::cursive::EntryExit;
 use layout_subtables::mark::{MarkLigPos, MarkRecord};
@@ -129,12 +130,6 @@ fn component_anchor(table: &PositioningTable, component: usize, class: u16) -> O
 
 fn component_count(table: &PositioningTable, glyph: u16) -> Option<usize> {
     ligature_marks(table)?.component_count(glyph)
-}
-
-/// The properties of a lookup, and whether it is applied from the end of the text.
-fn properties(table: &PositioningTable, index: u16) -> Option<(u32, bool)> {
-    let lookup = table.get_lookup(index)?;
-    Some((lookup.props(), lookup.is_reverse()))
 }
 
 /// Whether a table's answer to a question is that of its row.

@@ -1,5 +1,6 @@
 //! The subtables of glyph substitution.
 use crate::rows::{first_wrong, prints};
+use layout_face::layout::{LayoutLookup, LayoutTable};
 use layout_face::substitution::{SubstitutionSubtables, SubstitutionTable};
 use layout_subtables::context::ContextSubtable;
 use std::alloc::Global;
@@ -115,8 +116,8 @@ fn classes_of(table: &SubstitutionTable, glyph: u16) -> Option<(bool, u16, u16)>
     ))
 }
 
-/// The properties of a lookup, and whether it is applied from the end of the text.
-fn properties(table: &SubstitutionTable, index: u16) -> Option<(u32, bool)> {
+/// The properties of a lookup of either table, and whether it is applied from the end of the text.
+pub(crate) fn properties<T: LayoutTable>(table: &T, index: u16) -> Option<(u32, bool)> {
     let lookup = table.get_lookup(index)?;
     Some((lookup.props(), lookup.is_reverse()))
 }

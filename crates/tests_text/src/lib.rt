@@ -8,6 +8,8 @@ mod faults;
 #[cfg(test)]
 mod features;
 #[cfg(test)]
+mod glyph_words;
+#[cfg(test)]
 mod machines;
 #[cfg(test)]
 mod names;
