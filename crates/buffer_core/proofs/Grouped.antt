@@ -9,22 +9,22 @@ use Rattle.buffer_lists.specs.declared.order.ClusterOrder.{ClusterOrder}
 use Rattle.buffer_core.specs.declared.buffer.hb_buffer_t.TheInside.{Inside}
 use Rattle.buffer_core.specs.Inside.{sides_of}
 use Rattle.buffer_core.specs.Merging.{with_has_glyph_flags}
-use Rattle.buffer_groups.specs.Lemmas.GroupsTurned.{turned_plain}
+use Rattle.buffer_lists.specs.Lemmas.GroupsTurned.{turned_plain}
 use Rattle.buffer_glyphs.specs.Items.{Item, item_of, strip}
 use Rattle.buffer_glyphs.specs.Origins.{origins}
 use Rattle.buffer_glyphs.specs.Events.{Sort}
-use Rattle.buffer_groups.specs.Events.{deletions, groups_reversed, order_of}
-use Rattle.buffer_groups.specs.Lemmas.DeletedEvents.{deletions_are_events}
-use Rattle.buffer_groups.specs.Lemmas.ReversedEvents.{groups_are_events}
-use Rattle.buffer_groups.specs.Lemmas.SortedEvents.{sort_is_event}
+use Rattle.buffer_lists.specs.Events.{deletions, groups_reversed, order_of}
+use Rattle.buffer_lists.specs.Lemmas.DeletedEvents.{deletions_are_events}
+use Rattle.buffer_lists.specs.Lemmas.ReversedEvents.{groups_are_events}
+use Rattle.buffer_lists.specs.Lemmas.SortedEvents.{sort_is_event}
 use Rattle.buffer_stable_order.specs.Keys.{key_order}
-use Rattle.buffer_groups.specs.DeletionWalk.{whole_walk}
-use Rattle.buffer_groups.specs.Facts.{items_kept, positions_kept, positions_turned}
-use Rattle.buffer_groups.specs.Sorting.{range_sorted}
-use Rattle.buffer_groups.specs.Turning.{groups_reversed_list, turning_of}
-use Rattle.buffer_groups.specs.Lemmas.KeptItems.{items_all, positions_all}
-use Rattle.buffer_groups.specs.Lemmas.Regrouped.{items_turned, positions_beside}
-use Rattle.buffer_groups.specs.Lemmas.SortedItems.{items_sorted}
+use Rattle.buffer_lists.specs.DeletionWalk.{whole_walk}
+use Rattle.buffer_lists.specs.Facts.{items_kept, positions_kept, positions_turned}
+use Rattle.buffer_lists.specs.Sorting.{range_sorted}
+use Rattle.buffer_lists.specs.Turning.{groups_reversed_list, turning_of}
+use Rattle.buffer_lists.specs.Lemmas.KeptItems.{items_all, positions_all}
+use Rattle.buffer_lists.specs.Lemmas.Regrouped.{items_turned, positions_beside}
+use Rattle.buffer_lists.specs.Lemmas.SortedItems.{items_sorted}
 use Rattle.buffer_core.specs.Grouping.{with_groups_reversed, with_picked_deleted}
 use Rattle.buffer_core.specs.Sides.{Sides, all_glyphs, flag_requests_of, items_of, origins_by, origins_of}
 use Rattle.buffer_core.specs.Sorting.{with_range_sorted}

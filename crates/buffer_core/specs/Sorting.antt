@@ -1,7 +1,7 @@
 -- A range of glyphs in the order of a key.
 use Rattle.std.specs.Prelude.{ℕ}
 use Rattle.buffer_glyphs.specs.declared.info.hb_glyph_info_t.{hb_glyph_info_t}
-use Rattle.buffer_groups.specs.Sorting.{SpanMerge, range_sorted}
+use Rattle.buffer_lists.specs.Sorting.{SpanMerge, range_sorted}
 use Rattle.buffer_core.specs.Merging.{with_has_glyph_flags, with_glyphs}
 use Rattle.buffer_core.specs.Sides.{Sides, all_glyphs}
 

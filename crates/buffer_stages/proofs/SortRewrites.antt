@@ -3,8 +3,8 @@ use Rattle.std.proofs.Common.{ℕ, ◌≡◌, ◌+◌, List, [], ◌∷◌, ◌+
 use Rattle.std.specs.Prelude.{slice_range}
 use Rattle.buffer_glyphs.specs.declared.info.hb_glyph_info_t.{hb_glyph_info_t}
 use Rattle.buffer_stable_order.specs.Keys.{key_order}
-use Rattle.buffer_groups.specs.Events.{order_of}
-use Rattle.buffer_groups.specs.Sorting.{range_sorted}
+use Rattle.buffer_lists.specs.Events.{order_of}
+use Rattle.buffer_lists.specs.Sorting.{range_sorted}
 use Rattle.buffer_glyphs.specs.Items.{Item}
 use Rattle.buffer_glyphs.specs.Events.{Sort}
 use Rattle.buffer_core.specs.Sides.{Sides, all_glyphs, items_of, origins_by, origins_of, settings_of, view_of}

@@ -2,7 +2,7 @@
 ghost use Rattle.std.specs.Prelude.{◌≡◌, ◌≤◌, ◌++◌, ◌∷◌, [], false, drop, length, map, slice_range, take, OnOk};
 ghost use Rattle.buffer_stable_order.specs.Keys.{key_order};
 ghost use Rattle.buffer_glyphs.specs.Events.{Sort};
-ghost use Rattle.buffer_groups.specs.Events.{order_of};
+ghost use Rattle.buffer_lists.specs.Events.{order_of};
 ghost use Rattle.buffer_core.specs.Sides.{all_glyphs, items_of, origins_by, origins_of};
 ghost use Rattle.buffer_core.specs.Sorting.{with_range_sorted};
 ghost use Rattle.buffer_stages.specs.Ready.{IsReady};

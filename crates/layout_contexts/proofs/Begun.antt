@@ -6,7 +6,7 @@ use Rattle.buffer_glyphs.specs.declared.cause.ShapeCause.{ShapeCause}
 use Rattle.buffer_glyphs.specs.declared.cause.ShapeCause.TheVariants.{TooLong}
 use Rattle.buffer_glyphs.specs.Items.{item_of}
 use Rattle.buffer_core.specs.Sides.{Sides}
-use Rattle.layout_subtables.specs.declared.context.SequenceLookupRecord.{SequenceLookupRecord}
+use Rattle.layout_tables.specs.declared.context.SequenceLookupRecord.{SequenceLookupRecord}
 use Rattle.buffer_stages.specs.Actions.{Cut, Action, Acts, Refuses, whole}
 use Rattle.buffer_stages.specs.Buffers.{cut_of}
 use Rattle.buffer_stages.specs.Performing.{cut_with}

@@ -14,7 +14,7 @@ use layout_match::{
     MAX_CONTEXT_LENGTH, MatchPositions, MatchSequence, hb_ot_apply_context_t, match_backtrack,
     match_input, match_lookahead,
 };
-use layout_subtables::context::SequenceLookupRecord;
+use layout_tables::context::SequenceLookupRecord;
 
 /// A rule of a context or a chained context, in any of the formats.
 #[derive(Clone, Copy)]

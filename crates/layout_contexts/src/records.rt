@@ -14,7 +14,7 @@ use crate::match_indices::settle_indices;
 use buffer_core::buffer::hb_buffer_t;
 use buffer_glyphs::cause::ShapeCause;
 use layout_match::MatchPositions;
-use layout_subtables::context::SequenceLookupRecord;
+use layout_tables::context::SequenceLookupRecord;
 
 /// How deep lookups may be nested in others (HarfBuzz: `HB_MAX_NESTING_LEVEL`).
 pub const MAX_NESTING_LEVEL: u32 = 64;

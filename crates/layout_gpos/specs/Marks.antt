@@ -4,13 +4,13 @@ use Rattle.buffer_glyphs.specs.Items.{Item}
 use Rattle.buffer_glyphs.specs.Parts.{first_of}
 use Rattle.layout_common.specs.Rows.{value_of}
 use Rattle.buffer_rows.specs.Keys.{row_of}
-use Rattle.layout_subtables.specs.Marks.{base_anchor, component_anchor, component_count}
-use Rattle.layout_subtables.specs.declared.value.Anchor.{Anchor}
-use Rattle.layout_subtables.specs.declared.mark.BaseRow.{BaseRow}
-use Rattle.layout_subtables.specs.declared.mark.LigatureRow.{LigatureRow}
-use Rattle.layout_subtables.specs.declared.mark.MarkBasePos.{MarkBasePos}
-use Rattle.layout_subtables.specs.declared.mark.MarkLigPos.{MarkLigPos}
-use Rattle.layout_subtables.specs.declared.mark.MarkRecord.{MarkRecord}
+use Rattle.layout_tables.specs.Marks.{base_anchor, component_anchor, component_count}
+use Rattle.layout_tables.specs.declared.value.Anchor.{Anchor}
+use Rattle.layout_tables.specs.declared.mark.BaseRow.{BaseRow}
+use Rattle.layout_tables.specs.declared.mark.LigatureRow.{LigatureRow}
+use Rattle.layout_tables.specs.declared.mark.MarkBasePos.{MarkBasePos}
+use Rattle.layout_tables.specs.declared.mark.MarkLigPos.{MarkLigPos}
+use Rattle.layout_tables.specs.declared.mark.MarkRecord.{MarkRecord}
 use Rattle.layout_match.specs.Applied.{ApplyContext, own_search}
 use Rattle.buffer_glyphs.specs.LigatureWords.{is_mark, is_multiplied, lig_comp, lig_id}
 use Rattle.layout_match.specs.Matches.{nearest_from}

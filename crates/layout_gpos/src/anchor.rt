@@ -5,7 +5,7 @@ ghost use Rattle.layout_offsets.specs.Links.{is_near, link_to};
 
 use buffer_glyphs::position::GlyphPosition;
 use layout_offsets::links::{is_near, link_to};
-use layout_subtables::value::Anchor;
+use layout_tables::value::Anchor;
 
 fn difference(a: i16, b: i16) -> i32
     ensures { result ≡ a -ℤ b }

@@ -21,8 +21,8 @@ use buffer_core::buffer::hb_buffer_t;
 use layout_match::hb_ot_apply_context_t;
 use layout_match::marking::{mark_attempt, mark_match};
 use layout_offsets::links::is_near;
-use layout_subtables::mark::{MarkBasePos, MarkRecord};
-use layout_subtables::value::Anchor;
+use layout_tables::mark::{MarkBasePos, MarkRecord};
+use layout_tables::value::Anchor;
 
 #[tactic(auto, using(crate::proofs::Lemmas::Placed::hung_back))]
 fn attach_at(

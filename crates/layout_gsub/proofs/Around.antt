@@ -11,7 +11,7 @@ use Rattle.buffer_core.specs.Sides.{Sides}
 use Rattle.buffer_core.specs.Lending.{with_glyph_ahead}
 use Rattle.layout_face.specs.declared.parts.GlyphDefinition.{GlyphDefinition}
 use Rattle.layout_common.specs.Rows.{value_of}
-use Rattle.layout_subtables.specs.declared.reverse.ReverseChainSubst.{ReverseChainSubst}
+use Rattle.layout_tables.specs.declared.reverse.ReverseChainSubst.{ReverseChainSubst}
 use Rattle.layout_match.specs.Applied.{ApplyContext}
 use Rattle.layout_match.specs.Sequences.{is_covered_by}
 use Rattle.buffer_stages.specs.Actions.{Cut, Outcome, Acts, Action, at_first, attempt_around}

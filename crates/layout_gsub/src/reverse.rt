@@ -18,7 +18,7 @@ use buffer_glyphs::flags::GlyphPropsFlags;
 use layout_common::coverage::Coverage;
 use layout_match::marking::{mark_attempt, mark_match};
 use layout_match::{MatchSequence, hb_ot_apply_context_t, match_backtrack, match_lookahead};
-use layout_subtables::reverse::ReverseChainSubst;
+use layout_tables::reverse::ReverseChainSubst;
 
 /// Gives the glyph at the cursor another number and other properties.
 fn put_glyph(glyph: u16, props: GlyphPropsFlags, buffer: &mut hb_buffer_t)

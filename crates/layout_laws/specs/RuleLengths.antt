@@ -1,6 +1,6 @@
 -- What holds of rules that depend on no limit of length.
 use Rattle.std.specs.Prelude.{ℕ, List, Option}
-use Rattle.layout_subtables.specs.declared.context.SequenceLookupRecord.{SequenceLookupRecord}
+use Rattle.layout_tables.specs.declared.context.SequenceLookupRecord.{SequenceLookupRecord}
 use Rattle.buffer_stages.specs.Actions.{Action, first_rule}
 use Rattle.layout_match.specs.Applied.{ApplyContext}
 use Rattle.layout_match.specs.Trying.{met_first, forward_pass}

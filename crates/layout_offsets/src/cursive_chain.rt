@@ -8,7 +8,7 @@ use crate::links::{is_near, link_to, linked};
 use crate::sums::{minus, plus};
 use buffer_common::direction::Direction;
 use buffer_glyphs::position::GlyphPosition;
-use layout_subtables::value::Anchor;
+use layout_tables::value::Anchor;
 
 /// The glyph that a glyph is attached to.
 fn parent(positions: &[GlyphPosition], at: usize) -> Option<usize>

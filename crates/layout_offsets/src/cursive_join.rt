@@ -6,7 +6,7 @@ use crate::cursive_chain::{attach_child, join_advances};
 use buffer_common::direction::Direction;
 use buffer_glyphs::position::GlyphPosition;
 use layout_common::flags::RIGHT_TO_LEFT;
-use layout_subtables::value::Anchor;
+use layout_tables::value::Anchor;
 
 /// Whether a lookup with this flag attaches the earlier of two glyphs to the later one.
 pub fn attaches_earlier_glyph(props: u32) -> bool

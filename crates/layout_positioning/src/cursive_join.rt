@@ -18,8 +18,8 @@ use layout_match::hb_ot_apply_context_t;
 use layout_match::marking::{mark_attempt, mark_match};
 use layout_offsets::cursive_join::{Joint, attaches_earlier_glyph, join_both};
 use layout_offsets::links::is_near;
-use layout_subtables::cursive::CursivePos;
-use layout_subtables::value::Anchor;
+use layout_tables::cursive::CursivePos;
+use layout_tables::value::Anchor;
 
 #[tactic(auto, using(crate::proofs::Joined::joined_back))]
 fn join_at(buffer: &mut hb_buffer_t, earlier: bool, join: Joint)

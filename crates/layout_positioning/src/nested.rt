@@ -37,7 +37,7 @@ use layout_gpos::mark_mark::MarkToMark;
 use layout_gpos::pair::PairAdjustment;
 use layout_gpos::single::SingleAdjustment;
 use layout_match::{MatchPositions, hb_ot_apply_context_t};
-use layout_subtables::context::{ContextSubtable, SequenceLookupRecord};
+use layout_tables::context::{ContextSubtable, SequenceLookupRecord};
 
 /// The parameters of a lookup nested in another: its own flag, and all else as the other's.
 fn under_flag<'a>(

@@ -14,7 +14,7 @@ use Rattle.layout_common.specs.Rows.{value_of}
 use Rattle.layout_face.specs.declared.substitution.SubstLookup.{SubstLookup}
 use Rattle.layout_face.specs.declared.substitution.SubstitutionSubtables.{SubstitutionSubtables}
 use Rattle.layout_face.specs.declared.substitution.SubstitutionSubtables.TheVariants.{Single, Multiple, Alternate, Ligature, Context, ChainContext, ReverseChainSingle}
-use Rattle.layout_subtables.specs.declared.reverse.ReverseChainSubst.{ReverseChainSubst}
+use Rattle.layout_tables.specs.declared.reverse.ReverseChainSubst.{ReverseChainSubst}
 use Rattle.layout_match.specs.Applied.{ApplyContext, context_search}
 use Rattle.layout_match.specs.Matches.{backtrack_end, lookahead_end}
 use Rattle.layout_match.specs.Sequences.{is_covered_by}

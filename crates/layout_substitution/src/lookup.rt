@@ -16,7 +16,7 @@ use layout_face::substitution::{SubstLookup, SubstitutionSubtables, Substitution
 use layout_gsub::reverse::apply_reverse_chain_single_subst;
 use layout_match::hb_ot_apply_context_t;
 use layout_match::lookup::meets;
-use layout_subtables::reverse::ReverseChainSubst;
+use layout_tables::reverse::ReverseChainSubst;
 
 /// Applies the first matching subtable of a lookup at the cursor, where the lookup applies to the glyph there. It
 /// answers whether one acted; where none did it changed glyph flags only. It refuses for want of memory, or where the

@@ -29,7 +29,7 @@ use layout_contexts::{
 use layout_face::substitution::{SubstitutionSubtables, SubstitutionTable};
 use layout_gsub::apply::apply_first;
 use layout_match::{MatchPositions, hb_ot_apply_context_t};
-use layout_subtables::context::{ContextSubtable, SequenceLookupRecord};
+use layout_tables::context::{ContextSubtable, SequenceLookupRecord};
 
 /// Applies the lookup at an index of the table at the cursor, nested in another: with its own flag, and without a test
 /// whether it applies to the glyph there. An index without one does nothing. Lookups may be nested in it so many levels

@@ -4,7 +4,7 @@ use Rattle.std.specs.Prelude.{◌+◌, ◌-◌, bit_and, slice_get}
 use Rattle.buffer_unicode_tables.specs.Tables.{Tables}
 use Rattle.buffer_glyphs.specs.Items.{Item}
 use Rattle.buffer_glyphs.specs.Rewriting.{Arrangement, and_arranged, eventless_arrangement, shifted_event}
-use Rattle.buffer_groups.specs.Lemmas.OrderSpans.{order_stays}
+use Rattle.buffer_lists.specs.Lemmas.OrderSpans.{order_stays}
 use Rattle.buffer_parts.specs.Lemmas.Plainly.{both_steady}
 use Rattle.buffer_stages.specs.Ordering.{groups_reversed, auxiliary_order}
 use Rattle.buffer_stages.specs.Parts.{first_to_back}

@@ -4,7 +4,7 @@ use Rattle.std.specs.Prelude.{Bool, Option}
 use Rattle.buffer_common.specs.declared.tag.Tag.{Tag}
 use Rattle.buffer_common.specs.declared.script.Script.{Script}
 use Rattle.buffer_common.specs.declared.direction.Direction.{Direction}
-use Rattle.buffer_features.specs.declared.feature.Feature.{Feature}
+use Rattle.buffer_tags.specs.declared.feature.Feature.{Feature}
 use Rattle.layout_face.specs.declared.parts.FaceParts.{FaceParts}
 use Rattle.layout_map.specs.Compiled.{MapRequests, OtMapValue, compiled_map}
 use Rattle.script_plan.specs.declared.plan.PlanChoices.{PlanChoices}

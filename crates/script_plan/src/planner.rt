@@ -18,7 +18,7 @@ use buffer_common::language_tags::LanguageTags;
 use buffer_common::script::Script;
 use buffer_common::script_tags::tags_from_script_and_language;
 use buffer_common::tag::Tag;
-use buffer_features::feature::Feature;
+use buffer_tags::feature::Feature;
 use layout_face::Face;
 use layout_map::builder::hb_ot_map_builder_t;
 use layout_map::map::hb_ot_map_t;

@@ -9,8 +9,8 @@ use Rattle.shape_glyphs.specs.Widths.{ignorable_position}
 use Rattle.buffer_stage_laws.specs.Alike.{ReadAlike, ReadingsAlike, attachment_bit, with_limit_and_flags}
 use Rattle.buffer_stage_laws.specs.Counting.{ReadingCounts, with_budget_changed}
 use Rattle.buffer_stage_laws.specs.Lemmas.Alike.{at_alike, views_alike}
-use Rattle.layout_links.specs.Finishing.{all_drawn_if, has_attachments, links_followed}
-use Rattle.layout_links.specs.Starting.{links_cleared}
+use Rattle.layout_offsets.specs.Finishing.{all_drawn_if, has_attachments, links_followed}
+use Rattle.layout_offsets.specs.Starting.{links_cleared}
 use Rattle.layout_laws.specs.Lemmas.Budgets.{positioning_counts_budget, substitution_counts_budget}
 use Rattle.layout_laws.specs.Lemmas.Lengths.{positioning_depends_on_no_length, substitution_depends_on_no_length}
 use Rattle.layout_positioning.specs.Positioning.{positioning_stages}
@@ -27,8 +27,8 @@ use Rattle.shape_glyphs.specs.Glyphs.{with_glyphs, with_synthesized_classes}
 use Rattle.shape_glyphs.specs.Ignorables.{ignorables_hidden, ignorables_hidden_by, invisible_glyph, preserves_ignorables}
 use Rattle.shape_glyphs.specs.Selectors.{with_selectors}
 use Rattle.shape_glyphs.specs.Widths.{keeps_widths, zero_widths}
-use Rattle.shape_masks.specs.Fractions.{around_slash, digits_after, digits_before, fraction_at, fraction_items, fractions_to, is_slash_at, with_fractions}
-use Rattle.shape_masks.specs.declared.fractions.FractionMasks.{FractionMasks}
+use Rattle.shape_text.specs.Fractions.{around_slash, digits_after, digits_before, fraction_at, fraction_items, fractions_to, is_slash_at, with_fractions}
+use Rattle.shape_text.specs.declared.fractions.FractionMasks.{FractionMasks}
 use Rattle.shape_pipeline.specs.Chains.{in_order, only_if}
 use Rattle.shape_pipeline.specs.Glyphs.{glyphs_substituted, glyphs_taken}
 use Rattle.shape_pipeline.specs.Masks.{fraction_masks, masks_set}

@@ -7,8 +7,8 @@ use Rattle.layout_face.specs.declared.parts.FaceParts.{FaceParts}
 use Rattle.layout_face.specs.Glyphs.{nominal_glyph}
 use Rattle.buffer_glyphs.specs.Items.{Item}
 use Rattle.buffer_core.specs.Readings.{View, Read, with_events}
-use Rattle.buffer_groups.specs.Events.{deletions}
-use Rattle.buffer_groups.specs.Facts.{items_kept, positions_kept}
+use Rattle.buffer_lists.specs.Events.{deletions}
+use Rattle.buffer_lists.specs.Facts.{items_kept, positions_kept}
 use Rattle.buffer_core.specs.Graphemes.{is_default_ignorable}
 use Rattle.buffer_stages.specs.Stages.{with_items_mapped}
 

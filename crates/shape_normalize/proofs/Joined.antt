@@ -11,7 +11,7 @@ use Rattle.buffer_core.specs.Readings.{Read, View}
 use Rattle.buffer_core.specs.Sides.{Sides, all_glyphs, stage_flags, items_of, view_of, origins_by, settings_of, with_output, after_sync, fits_joined, has_room, zero_positions}
 use Rattle.buffer_stages.specs.Ready.{IsReady}
 use Rattle.buffer_glyphs.specs.Rewriting.{Arrangement}
-use Rattle.shape_rounds.proofs.Lemmas.Chain.{all_shifted_none}
+use Rattle.shape_normalize.proofs.Lemmas.Chain.{all_shifted_none}
 use Rattle.buffer_stages.specs.Appending.{AppendsArrangement, RefusesRoomFor, with_arranged, within_limit}
 use Rattle.shape_normalize.specs.Rounds.{IsArranged}
 

@@ -10,8 +10,8 @@ use Rattle.std.proofs.Math.Seq.{take-append_seam, drop-append_seam}
 use Rattle.buffer_glyphs.specs.declared.info.hb_glyph_info_t.{hb_glyph_info_t}
 use Rattle.buffer_glyphs.specs.Items.{Item, item_of, strip}
 use Rattle.buffer_glyphs.specs.Events.{Sort}
-use Rattle.buffer_groups.specs.Events.{order_of}
-use Rattle.buffer_groups.specs.Sorting.{SpanMerge}
+use Rattle.buffer_lists.specs.Events.{order_of}
+use Rattle.buffer_lists.specs.Sorting.{SpanMerge}
 use Rattle.buffer_core.specs.Sides.{Sides, all_glyphs, items_of, origins_of, origins_by}
 use Rattle.buffer_core.specs.Sorting.{with_spanned}
 use Rattle.buffer_core.proofs.Told.{stage_flags_ignore_glyph_flags}
@@ -23,7 +23,7 @@ use Rattle.buffer_properties.specs.Characters.{mark_class}
 use Rattle.buffer_properties.specs.Ordering.{arranged_run, arranged_runs, ordered_list, sorted_order}
 use Rattle.buffer_stages.specs.Appending.{frame_of}
 use Rattle.buffer_stages.specs.Rearranged.{IsRearranged, Rearranges}
-use Rattle.shape_rounds.proofs.Lemmas.Chain.{all_shifted_none, in_turn_both, items_both}
+use Rattle.shape_normalize.proofs.Lemmas.Chain.{all_shifted_none, in_turn_both, items_both}
 use Rattle.shape_normalize.specs.Runs.{in_class_order, RunsOn, Meets}
 use Rattle.shape_normalize.proofs.Sorted.{sorted_order_is}
 use Rattle.shape_normalize.proofs.Walk.{by_frame, get_seam}

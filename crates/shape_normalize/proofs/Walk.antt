@@ -16,7 +16,7 @@ use Rattle.buffer_properties.specs.Characters.{is_mark, mark_class}
 use Rattle.buffer_properties.specs.Composing.{becoming, composite, composition_from, composed_list, with_composition, is_not_blocked, last_class}
 use Rattle.buffer_properties.specs.Normalizer.{Normalizer}
 use Rattle.buffer_stages.specs.Appending.{AppendsArrangement, frame_of}
-use Rattle.shape_rounds.proofs.Lemmas.Chain.{all_shifted_none}
+use Rattle.shape_normalize.proofs.Lemmas.Chain.{all_shifted_none}
 use Rattle.shape_normalize.specs.Composed.{composition_events, HasRoom}
 use Rattle.shape_normalize.specs.Starters.{IsAt, Joins, Composes}
 use Rattle.shape_normalize.proofs.Room.{room_kept}

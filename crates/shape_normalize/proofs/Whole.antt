@@ -22,7 +22,7 @@ use Rattle.buffer_properties.specs.NormalizedList.{arranged_marks, composition_i
 use Rattle.buffer_properties.specs.Ordering.{joiners_shown, ordered_list}
 use Rattle.buffer_stages.specs.Appending.{with_arranged, within_limit}
 use Rattle.buffer_stages.specs.Rearranged.{IsRearranged}
-use Rattle.shape_rounds.proofs.Lemmas.Chain.{all_shifted_none}
+use Rattle.shape_normalize.proofs.Lemmas.Chain.{all_shifted_none}
 use Rattle.shape_normalize.specs.Rounds.{IsArranged, normalization}
 use Rattle.shape_normalize.specs.Runs.{HasItems}
 use Rattle.shape_normalize.proofs.Joined.{has_limit, past_limit}

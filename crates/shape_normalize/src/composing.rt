@@ -11,8 +11,8 @@ ghost use Rattle.shape_normalize.specs.Composed.{composition_events, HasRoom, Is
 use buffer_core::buffer::hb_buffer_t;
 use buffer_glyphs::cause::ShapeCause;
 use buffer_glyphs::info::hb_glyph_info_t;
-use shape_rounds::characters::becoming;
-use shape_rounds::normalizing::Normalizing;
+use crate::characters::becoming;
+use crate::normalizing::Normalizing;
 
 /// Outputs the current glyph; the output has room for it.
 #[tactic(auto, using(crate::proofs::Room::fits_next_glyph))]

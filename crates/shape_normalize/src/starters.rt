@@ -14,8 +14,8 @@ use buffer_core::buffer::hb_buffer_t;
 use buffer_glyphs::cause::ShapeCause;
 use buffer_glyphs::info::hb_glyph_info_t;
 use buffer_properties::categories::is_mark;
-use shape_rounds::characters::mark_class;
-use shape_rounds::normalizing::Normalizing;
+use crate::characters::mark_class;
+use crate::normalizing::Normalizing;
 
 /// Whether nothing between the last starter and the current item blocks it: no item there has its combining class or a
 /// greater one (UAX 15 D115).

@@ -17,16 +17,16 @@ use Rattle.buffer_core.specs.Readings.{BufferState, Read, Reading, Stage, View, 
 use Rattle.buffer_stage_laws.specs.Stages.{StaysUnturned}
 use Rattle.buffer_stage_laws.specs.Lemmas.Stages.{at_read, both_read, same_unturned, stages_stay_unturned}
 use Rattle.layout_laws.specs.Lemmas.Unturned.{positioning_stays_unturned, substitution_stays_unturned}
-use Rattle.layout_links.specs.Finishing.{links_followed}
+use Rattle.layout_offsets.specs.Finishing.{links_followed}
 use Rattle.layout_substitution.specs.Substituting.{substitution_stages}
 use Rattle.layout_positioning.specs.Positioning.{positioning_stages}
 use Rattle.shape_glyphs.specs.Flags.{with_flags_spread}
 use Rattle.shape_glyphs.specs.Ignorables.{ignorables_hidden}
 use Rattle.shape_glyphs.specs.Selectors.{with_selectors}
 use Rattle.shape_glyphs.specs.Widths.{zero_widths}
-use Rattle.shape_stage_laws.specs.Lines.{KeepsDirection, KeepsFall, StaysInLine, falls_on_line}
-use Rattle.shape_stage_laws.proofs.Lines.{in_line_keeps_parts_on_line, same_on_line, then_keeps_fall}
-use Rattle.shape_stage_laws.proofs.Glyphs.{followed_links_stay, ignorables_stay, selectors_stay, spread_stays, zeroed_widths_stay}
+use Rattle.shape_parts.specs.Lines.{KeepsDirection, KeepsFall, StaysInLine, falls_on_line}
+use Rattle.shape_parts.proofs.StageLines.{in_line_keeps_parts_on_line, same_on_line, then_keeps_fall}
+use Rattle.shape_parts.proofs.Glyphs.{followed_links_stay, ignorables_stay, selectors_stay, spread_stays, zeroed_widths_stay}
 use Rattle.shape_pipeline.specs.Chains.{in_order, only_if}
 use Rattle.shape_pipeline.specs.Endings.{text_ended}
 use Rattle.shape_pipeline.specs.Glyphs.{glyphs_substituted, glyphs_taken}

@@ -17,13 +17,13 @@ use Rattle.buffer_core.specs.Readings.{BufferState, Read, Reading, Stage, View, 
 use Rattle.buffer_stage_laws.specs.Stages.{KeepsParts}
 use Rattle.buffer_stage_laws.specs.Lemmas.Stages.{at_read, nothing_keeps, runs_have_parts, same_keeps, stages_keep_parts}
 use Rattle.layout_laws.specs.Lemmas.Kept.{positioning_keeps_parts, substitution_keeps_parts}
-use Rattle.layout_links.specs.Finishing.{links_followed}
+use Rattle.layout_offsets.specs.Finishing.{links_followed}
 use Rattle.shape_glyphs.specs.Flags.{with_flags_spread}
 use Rattle.shape_glyphs.specs.Ignorables.{ignorables_hidden}
 use Rattle.shape_glyphs.specs.Selectors.{with_selectors}
 use Rattle.shape_glyphs.specs.Widths.{zero_widths}
-use Rattle.shape_stage_laws.specs.Lines.{StaysInLine}
-use Rattle.shape_stage_laws.proofs.Glyphs.{followed_links_stay, ignorables_stay, positioned_marks_stay, selectors_stay, spread_stays, zeroed_widths_stay}
+use Rattle.shape_parts.specs.Lines.{StaysInLine}
+use Rattle.shape_parts.proofs.Glyphs.{followed_links_stay, ignorables_stay, positioned_marks_stay, selectors_stay, spread_stays, zeroed_widths_stay}
 use Rattle.shape_pipeline.specs.Chains.{only_if}
 use Rattle.shape_pipeline.specs.Endings.{text_ended}
 use Rattle.shape_pipeline.specs.Glyphs.{glyphs_substituted, glyphs_taken}

@@ -6,7 +6,7 @@ use Rattle.buffer_common.specs.Direction.{is_backward}
 use Rattle.buffer_glyphs.specs.EventParts.{parts_of}
 use Rattle.buffer_glyphs.specs.Items.{clusters}
 use Rattle.buffer_common.specs.declared.tag.Tag.{Tag}
-use Rattle.buffer_features.specs.declared.feature.Feature.{Feature}
+use Rattle.buffer_tags.specs.declared.feature.Feature.{Feature}
 use Rattle.buffer_unicode_tables.specs.Lawful.{IsLawful}
 use Rattle.buffer_unicode_tables.specs.Tables.{Tables}
 use Rattle.layout_face.specs.declared.parts.FaceParts.{FaceParts}

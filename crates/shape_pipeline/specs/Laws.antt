@@ -1,7 +1,7 @@
 -- Laws of all shaped texts, with or without a plan.
 use Rattle.std.specs.Prelude.{ℕ, ⊤, ◌≡◌, true, false, List, []}
 use Rattle.buffer_common.specs.declared.tag.Tag.{Tag}
-use Rattle.buffer_features.specs.declared.feature.Feature.{Feature}
+use Rattle.buffer_tags.specs.declared.feature.Feature.{Feature}
 use Rattle.layout_face.specs.declared.parts.FaceParts.{FaceParts}
 use Rattle.buffer_unicode_tables.specs.Tables.{Tables}
 use Rattle.buffer_glyphs.specs.EventParts.{AreEvenRuns, HaveNoConcat}

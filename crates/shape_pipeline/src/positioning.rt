@@ -17,7 +17,7 @@ use crate::context::{Shaped, hb_ot_shape_context_t};
 use buffer_common::direction::Direction;
 use buffer_core::buffer::hb_buffer_t;
 use buffer_glyphs::cause::ShapeCause;
-use layout_links::finish::{position_finish_offsets, position_start};
+use layout_offsets::finish::{position_finish_offsets, position_start};
 use layout_positioning::position;
 use script_categories::SyllableSpans;
 use script_plan::hb_ot_shaper_t;

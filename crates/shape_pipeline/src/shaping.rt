@@ -12,7 +12,7 @@ ghost use Rattle.shape_pipeline.specs.Shaped.{by_plan, by_text, text_reading};
 use crate::context::{Shaped, hb_ot_shape_context_t};
 use buffer_common::language_tags::LanguageTags;
 use buffer_core::buffer::hb_buffer_t;
-use buffer_features::feature::Feature;
+use buffer_tags::feature::Feature;
 use buffer_glyphs::cause::ShapeCause;
 use buffer_wrappers::glyphs::GlyphBuffer;
 use buffer_wrappers::unicode_buffer::UnicodeBuffer;

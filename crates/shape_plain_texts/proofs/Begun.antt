@@ -15,7 +15,7 @@ use Rattle.buffer_properties.specs.Properties.{bit_if, properties_of, scratch_fl
 use Rattle.buffer_glyphs.specs.Items.{Item, item_masked}
 use Rattle.buffer_core.specs.Readings.{Read, Stage, View, always, as_it_is, with_events}
 use Rattle.buffer_core.specs.Settings.{length_limit}
-use Rattle.shape_masks.specs.Masks.{with_one_mask}
+use Rattle.shape_text.specs.Masks.{with_one_mask}
 use Rattle.shape_text.specs.declared.graphemes.Before.{Before}
 use Rattle.shape_text.specs.Graphemes.{continues}
 use Rattle.shape_text.specs.Properties.{next_before, items_prepared, prepared_item, scratch_flags_of_items, with_properties, property_word_of}

@@ -15,8 +15,8 @@ use Rattle.buffer_glyphs.specs.Events.{Reverse}
 use Rattle.buffer_core.specs.Readings.{View, always, with_events}
 use Rattle.buffer_core.specs.Graphemes.{is_default_ignorable}
 use Rattle.buffer_core.specs.Sides.{zero_positions}
-use Rattle.layout_links.specs.Finishing.{all_drawn_if, has_attachments, links_followed}
-use Rattle.layout_links.specs.Starting.{links_cleared, unattached_position}
+use Rattle.layout_offsets.specs.Finishing.{all_drawn_if, has_attachments, links_followed}
+use Rattle.layout_offsets.specs.Starting.{links_cleared, unattached_position}
 use Rattle.buffer_glyphs.specs.LigatureWords as ligatures
 use Rattle.layout_positioning.specs.Positioning.{positioning_stages}
 use Rattle.shape_glyphs.specs.Advances.{default_position, on_line, with_default_positions}

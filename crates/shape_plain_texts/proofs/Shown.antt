@@ -9,7 +9,7 @@ use Rattle.buffer_common.specs.declared.direction.Direction.TheVariants.{LeftToR
 use Rattle.buffer_common.specs.declared.script.Script.{Script}
 use Rattle.buffer_common.specs.declared.tag.Tag.{Tag}
 use Rattle.buffer_common.specs.ScriptTags.{wanted_tags}
-use Rattle.buffer_features.specs.declared.feature.Feature.{Feature}
+use Rattle.buffer_tags.specs.declared.feature.Feature.{Feature}
 use Rattle.layout_face.specs.declared.parts.FaceParts.{FaceParts}
 use Rattle.layout_face.specs.declared.positioning.PositioningTable.{PositioningTable}
 use Rattle.layout_face.specs.declared.substitution.SubstitutionTable.{SubstitutionTable}

@@ -8,7 +8,7 @@ use Rattle.buffer_glyphs.specs.Items.{Item, Position, item_masked}
 use Rattle.buffer_core.specs.Readings.{View, always, as_it_is, with_events}
 use Rattle.buffer_core.specs.Graphemes.{is_default_ignorable}
 use Rattle.buffer_core.specs.Sides.{zero_positions}
-use Rattle.buffer_groups.specs.Facts.{items_kept, positions_kept}
+use Rattle.buffer_lists.specs.Facts.{items_kept, positions_kept}
 use Rattle.buffer_stages.specs.PositionMaps.{positions_mapped}
 use Rattle.shape_glyphs.specs.Flags.{with_flags_spread}
 use Rattle.shape_glyphs.specs.Ignorables.{ignorables_hidden, ignorables_hidden_by, hidden_item, invisible_glyph, preserves_ignorables}

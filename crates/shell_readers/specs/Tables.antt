@@ -3,11 +3,11 @@ use Rattle.std.specs.Prelude.{ℕ, ◌≡◌, ◌⊎◌, List, [], Option, Resul
 use Rattle.std.specs.Option.{option_map_or}
 use Rattle.std.specs.Str.{bytes_eq}
 use Rattle.buffer_common.specs.declared.tag.Tag.{Tag}
-use Rattle.buffer_languages.specs.LanguageRows.{primary_part}
+use Rattle.buffer_tags.specs.LanguageRows.{primary_part}
 use Rattle.serde_json.specs.Data.{Data}
-use Rattle.shell_json_values.specs.declared.fault.JsonFault.{JsonFault}
-use Rattle.shell_json_values.specs.declared.fault.JsonFault.TheVariants.{SplitDepth}
-use Rattle.shell_json_values.specs.Cell.{and_then}
+use Rattle.shell_json.specs.declared.fault.JsonFault.{JsonFault}
+use Rattle.shell_json.specs.declared.fault.JsonFault.TheVariants.{SplitDepth}
+use Rattle.shell_json.specs.Cell.{and_then}
 use Rattle.shell_readers.specs.declared.fault.RunFault.{RunFault}
 use Rattle.shell_readers.specs.declared.fault.RunFault.TheVariants.{Unlawful}
 use Rattle.shell_tables_json.specs.Languages.{Language, languages_in, languages_of}

@@ -5,11 +5,11 @@ use Rattle.std.specs.Option.{ok_or}
 use Rattle.std.proofs.lemmas.Bool.{cond_both}
 use Rattle.serde_json.specs.Data.{Num, Data, Items, no_items, item}
 use Rattle.serde_json.specs.Find.{get, as_array, as_integer, as_number, as_str}
-use Rattle.shell_json_values.specs.declared.fault.JsonFault.{JsonFault}
-use Rattle.shell_json_values.specs.declared.fault.JsonFault.TheVariants.{WrongShape, FloatNumber, UnknownName, OutOfOrder, OutOfRange, SplitDepth}
-use Rattle.shell_json_values.specs.Cell.{and_then, both, character, first_fault, in_characters, integer, integer_of, is_scalar_value, rank_of}
-use Rattle.shell_json_values.specs.Parts.{four_in, in_natural_numbers_below, list_at, list_of, list_or_none, natural_number_below, row_of_four, row_of_three, row_of_two, text, three_in, two_in}
-use Rattle.shell_json_values.specs.Rows.{after, row_in_order, row_after, rows_after}
+use Rattle.shell_json.specs.declared.fault.JsonFault.{JsonFault}
+use Rattle.shell_json.specs.declared.fault.JsonFault.TheVariants.{WrongShape, FloatNumber, UnknownName, OutOfOrder, OutOfRange, SplitDepth}
+use Rattle.shell_json.specs.Cell.{and_then, both, character, first_fault, in_characters, integer, integer_of, is_scalar_value, rank_of}
+use Rattle.shell_json.specs.Parts.{four_in, in_natural_numbers_below, list_at, list_of, list_or_none, natural_number_below, row_of_four, row_of_three, row_of_two, text, three_in, two_in}
+use Rattle.shell_json.specs.Rows.{after, row_in_order, row_after, rows_after}
 use Rattle.script_categories.specs.Indic.{ot_categories, ot_positions}
 use Rattle.script_categories.specs.Joining.{joining_type_names}
 use Rattle.script_categories.specs.Names.{number_of}
@@ -18,7 +18,7 @@ use Rattle.script_categories.specs.Universal.{universal_categories}
 use Rattle.shell_tables_json.specs.Rows.{number_of_name, number_named, rows_at}
 use Rattle.shell_tables_json.specs.Characters.{character_class, character_range, counterpart, indic_row, joining_row, pair, split_row, thai_row, universal_row}
 use Rattle.shell_tables_json.specs.Unicode.{tables_keys}
-use Rattle.buffer_unicode_rows.specs.Keys.{follows}
+use Rattle.buffer_unicode.specs.Keys.{follows}
 
 -- no fault, or another
 abbrev Shallow : {A : Type 0} → Result A JsonFault → Type 0

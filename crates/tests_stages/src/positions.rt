@@ -2,7 +2,7 @@
 use crate::rows::{direction_of, distance, part};
 use buffer_common::direction::Direction;
 use buffer_glyphs::position::GlyphPosition;
-use layout_links::links::finish_offsets;
+use layout_offsets::followed_links::finish_offsets;
 use std::alloc::{AllocError, Global};
 use std::test::Fail;
 

@@ -4,15 +4,15 @@ ghost use Rattle.buffer_glyphs.specs.declared.info.hb_glyph_info_t.{hb_glyph_inf
 ghost use Rattle.buffer_glyphs.specs.Items.{Item, item_of};
 ghost use Rattle.buffer_glyphs.specs.Events.{Sort};
 ghost use Rattle.buffer_stable_order.specs.Keys.{key_order};
-ghost use Rattle.buffer_groups.specs.Events.{order_of};
-ghost use Rattle.buffer_groups.specs.Sorting.{Gives};
+ghost use Rattle.buffer_lists.specs.Events.{order_of};
+ghost use Rattle.buffer_lists.specs.Sorting.{Gives};
 ghost use Rattle.buffer_core.specs.Sides.{all_glyphs, items_of, origins_by, origins_of};
 ghost use Rattle.buffer_core.specs.Sorting.{with_range_sorted};
 
 use super::hb_buffer_t;
 use super::merges::add_has_glyph_flags;
 use buffer_glyphs::info::hb_glyph_info_t;
-use buffer_groups::sorting::sort;
+use buffer_lists::sorting::sort;
 use buffer_lists::order::ClusterOrder;
 use std::alloc::{AllocError, Global};
 

@@ -8,10 +8,10 @@ use Rattle.std.proofs.lemmas.List.Concat.{flat_map-append}
 use Rattle.std.proofs.lemmas.List.Elements.{All-cons, All-nil}
 use Rattle.std.proofs.lemmas.List.Sorted.{length_permutation, IsPermutation-refl, IsPermutation-trans, IsPermutation-map, IsPermutation-append_left, IsPermutation-append_comm}
 use Rattle.buffer_stable_order.specs.Keys.{key_bound, key_order}
-use Rattle.buffer_groups.specs.Groups.{group_length, joined_count}
-use Rattle.buffer_groups.specs.Turning.{in_front, groups, groups_reversed_list}
-use Rattle.buffer_groups.specs.Lemmas.GroupsTurned.{turned_onto}
-use Rattle.buffer_groups.specs.Lemmas.KeyOrder.{all_below, by_key_moves}
+use Rattle.buffer_lists.specs.Groups.{group_length, joined_count}
+use Rattle.buffer_lists.specs.Turning.{in_front, groups, groups_reversed_list}
+use Rattle.buffer_lists.specs.Lemmas.GroupsTurned.{turned_onto}
+use Rattle.buffer_lists.specs.Lemmas.KeyOrder.{all_below, by_key_moves}
 use Rattle.buffer_glyphs.specs.Items.{Item}
 use Rattle.buffer_stages.specs.Ordering.{groups_reversed, same_group, auxiliary_order}
 use Rattle.buffer_stages.specs.SyllableLaws.{IsPermuted}

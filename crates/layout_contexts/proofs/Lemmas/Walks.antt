@@ -6,7 +6,7 @@ use Rattle.buffer_glyphs.specs.declared.cause.ShapeCause.{ShapeCause}
 use Rattle.buffer_glyphs.specs.declared.cause.ShapeCause.TheVariants.{OutOfMemory, TooLong}
 use Rattle.buffer_glyphs.specs.Events.{Event}
 use Rattle.buffer_core.specs.Sides.{Sides, items_of}
-use Rattle.layout_subtables.specs.declared.context.SequenceLookupRecord.{SequenceLookupRecord}
+use Rattle.layout_tables.specs.declared.context.SequenceLookupRecord.{SequenceLookupRecord}
 use Rattle.buffer_stages.specs.Actions.{Cut, Action, Outcome, Passes, Acts, Refuses, whole}
 use Rattle.buffer_stages.specs.Buffers.{cut_of, are_glyphs, IsStill}
 use Rattle.buffer_stages.specs.Performing.{cut_with}

@@ -16,7 +16,7 @@ use Rattle.buffer_stages.specs.Actions.{Cut, whole, Passes, Acts, Action}
 use Rattle.layout_match.specs.Applied.{own_search, next_random}
 use Rattle.layout_match.specs.Matches.{answers_of, indices}
 use Rattle.layout_contexts.specs.Nested.{each_nested, cut_after_match}
-use Rattle.layout_subtables.specs.declared.context.SequenceLookupRecord.{SequenceLookupRecord}
+use Rattle.layout_tables.specs.declared.context.SequenceLookupRecord.{SequenceLookupRecord}
 use Rattle.layout_gsub.specs.Alternates.{drawn_alternate}
 use Rattle.layout_gsub.specs.Ligating.{ligature_substitution, component_deletions as gone}
 use Rattle.layout_gsub.specs.Multiples.{component_items, multiple_substitution, multiplied_item, cut_with_multiple, deletion}

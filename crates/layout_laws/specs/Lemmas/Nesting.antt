@@ -7,7 +7,7 @@ use Rattle.buffer_glyphs.specs.declared.cause.ShapeCause.TheVariants.{TooLong}
 use Rattle.buffer_glyphs.specs.Items.{Item}
 use Rattle.buffer_glyphs.specs.Events.{Event, Break, Replace}
 use Rattle.buffer_core.specs.Readings.{View, Read, Reading, Stage, then_reading, and_then, as_it_is, always, with_events}
-use Rattle.layout_subtables.specs.declared.context.SequenceLookupRecord.{SequenceLookupRecord}
+use Rattle.layout_tables.specs.declared.context.SequenceLookupRecord.{SequenceLookupRecord}
 use Rattle.buffer_stages.specs.Actions.{Cut, whole, view_at, uncut, uncut_with_positions, past_item, Outcome, Passes, Acts, Refuses, Action, within_limit, later, or_else}
 use Rattle.buffer_stages.specs.Pauses.{with_own_random}
 use Rattle.layout_match.specs.Applied.{own_search, next_random}

@@ -10,17 +10,17 @@ use Rattle.layout_face.specs.declared.positioning.PositioningSubtables.{Position
 use Rattle.layout_face.specs.declared.positioning.PositioningSubtables.TheVariants.{Single, Pair, Cursive, MarkToBase, MarkToLigature, MarkToMark, Context, ChainContext}
 use Rattle.layout_common.specs.Rows.{value_of}
 use Rattle.layout_common.specs.declared.glyph_row.GlyphRow.{GlyphRow}
-use Rattle.layout_subtables.specs.Marks.{base_anchor, component_anchor, component_count}
-use Rattle.layout_subtables.specs.declared.cursive.EntryExit.{EntryExit}
-use Rattle.layout_subtables.specs.declared.value.Anchor.{Anchor}
-use Rattle.layout_subtables.specs.declared.value.ValueRecord.{ValueRecord}
-use Rattle.layout_subtables.specs.declared.mark.BaseRow.{BaseRow}
-use Rattle.layout_subtables.specs.declared.mark.LigatureRow.{LigatureRow}
-use Rattle.layout_subtables.specs.declared.mark.MarkBasePos.{MarkBasePos}
-use Rattle.layout_subtables.specs.declared.mark.MarkLigPos.{MarkLigPos}
-use Rattle.layout_subtables.specs.declared.mark.MarkRecord.{MarkRecord}
-use Rattle.layout_subtables.specs.declared.pair.PairPos.{PairPos}
-use Rattle.layout_subtables.specs.declared.pair.PairValues.{PairValues}
+use Rattle.layout_tables.specs.Marks.{base_anchor, component_anchor, component_count}
+use Rattle.layout_tables.specs.declared.cursive.EntryExit.{EntryExit}
+use Rattle.layout_tables.specs.declared.value.Anchor.{Anchor}
+use Rattle.layout_tables.specs.declared.value.ValueRecord.{ValueRecord}
+use Rattle.layout_tables.specs.declared.mark.BaseRow.{BaseRow}
+use Rattle.layout_tables.specs.declared.mark.LigatureRow.{LigatureRow}
+use Rattle.layout_tables.specs.declared.mark.MarkBasePos.{MarkBasePos}
+use Rattle.layout_tables.specs.declared.mark.MarkLigPos.{MarkLigPos}
+use Rattle.layout_tables.specs.declared.mark.MarkRecord.{MarkRecord}
+use Rattle.layout_tables.specs.declared.pair.PairPos.{PairPos}
+use Rattle.layout_tables.specs.declared.pair.PairValues.{PairValues}
 use Rattle.layout_offsets.specs.Links.{is_near}
 use Rattle.layout_offsets.specs.Cursive.{attaches_earlier, cursive_attachment}
 use Rattle.buffer_stages.specs.Actions.{Cut, Passes, Acts, Action, attempt_around}

@@ -10,9 +10,9 @@ use Rattle.layout_face.specs.declared.substitution.SubstitutionSubtables.TheVari
 use Rattle.layout_common.specs.Rows.{value_of}
 use Rattle.layout_common.specs.declared.glyph_row.GlyphRow.{GlyphRow}
 use Rattle.layout_tables.specs.Layout.{LigatureTable, LigatureSetTable, ligature_set_of}
-use Rattle.layout_subtables.specs.declared.reverse.ReverseChainSubst.{ReverseChainSubst}
-use Rattle.layout_subtables.specs.declared.sequence.SequenceRow.{SequenceRow}
-use Rattle.layout_subtables.specs.Substitutions.{glyphs_of}
+use Rattle.layout_tables.specs.declared.reverse.ReverseChainSubst.{ReverseChainSubst}
+use Rattle.layout_tables.specs.declared.sequence.SequenceRow.{SequenceRow}
+use Rattle.layout_tables.specs.Substitutions.{glyphs_of}
 use Rattle.buffer_stages.specs.Actions.{Cut, Passes, Action, first_rule}
 use Rattle.layout_match.specs.Applied.{ApplyContext, own_search, context_search}
 use Rattle.layout_match.specs.Matches.{input_end, input_indices, lookahead_end, backtrack_end}

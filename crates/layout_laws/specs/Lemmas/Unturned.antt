@@ -11,7 +11,7 @@ use Rattle.buffer_parts.specs.Turns.{IsUnturned}
 use Rattle.buffer_parts.specs.Lemmas.Turns.{unturned_in_turn}
 use Rattle.buffer_core.specs.Readings.{View, Read, Reading, Stage, then_reading, and_then, always, with_events}
 use Rattle.layout_face.specs.declared.parts.GlyphDefinition.{GlyphDefinition}
-use Rattle.layout_subtables.specs.declared.context.SequenceLookupRecord.{SequenceLookupRecord}
+use Rattle.layout_tables.specs.declared.context.SequenceLookupRecord.{SequenceLookupRecord}
 use Rattle.buffer_stages.specs.Actions.{Cut, whole, view_at, uncut, uncut_with_positions, past_item, Outcome, Passes, Acts, Refuses, Action, within_limit, later, or_else}
 use Rattle.buffer_stages.specs.Pauses.{with_own_random}
 use Rattle.layout_match.specs.Applied.{own_search, next_random}

@@ -7,11 +7,11 @@ use crate::parts::part;
 use buffer_glyphs::flags::UnicodeProps;
 use buffer_glyphs::info::hb_glyph_info_t;
 use buffer_glyphs::level::BufferClusterLevel;
-use buffer_groups::deletion::delete_within;
-use buffer_groups::flags::{AskedFlags, propagate_flags};
-use buffer_groups::groups::{group_end, next_cluster, next_grapheme, next_syllable};
-use buffer_groups::reversal::reverse_groups;
-use buffer_groups::sorting::sort;
+use buffer_lists::deletion_within::delete_within;
+use buffer_lists::flags::{AskedFlags, propagate_flags};
+use buffer_lists::groups::{group_end, next_cluster, next_grapheme, next_syllable};
+use buffer_lists::reversal::reverse_groups;
+use buffer_lists::sorting::sort;
 use std::alloc::{AllocError, Global};
 
 /// The row has the level, the end of the range that is sorted, whether the clusters are in order, whether a glyph is

@@ -1,6 +1,6 @@
 use Rattle.std.proofs.Common.{◌≡◌, ◌-◌, ◌∙◌, false, get_or, sym, subst, arith, ℕ}
 use Rattle.std.proofs.lemmas.Option.{get_or_from_slice_get}
-use Rattle.layout_subtables.specs.declared.context.ContextSubtable.{ContextSubtable}
+use Rattle.layout_tables.specs.declared.context.ContextSubtable.{ContextSubtable}
 use Rattle.layout_match.specs.Applied.{ApplyContext, apply_context_of}
 use Rattle.buffer_stages.specs.Actions.{Action, first_rule}
 use Rattle.buffer_stages.specs.Performing.{IsPerformed, cut_with}
@@ -12,7 +12,7 @@ use Rattle.layout_contexts.specs.Rules.{chains_of}
 use Rattle.layout_contexts.proofs.Lemmas.Acting.{match_inside, rule_acted, rule_failed}
 use Rattle.layout_contexts.proofs.Lemmas.Inside.{then_stays}
 use Rattle.layout_substitution.specs.Lookups.{nested_actions, nested_act}
-use Rattle.layout_subtables.specs.declared.context.SequenceLookupRecord.{SequenceLookupRecord}
+use Rattle.layout_tables.specs.declared.context.SequenceLookupRecord.{SequenceLookupRecord}
 use Rattle.layout_contexts.proofs.Lemmas.Nested.{begun_some, get_or_any, last_walked, matched_numbers, matched_open, matched_unrefused, next_failed, next_walked, none_nested, not_tried, record_acted, record_inside, record_passed, tried_there}
 use Rattle.layout_substitution.proofs.Levels.{no_depth, some_depth}
 use Rattle.layout_substitution.proofs.nested.+nested.Goals as goal
