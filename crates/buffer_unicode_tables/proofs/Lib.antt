@@ -1,3 +1,4 @@
+pub mod Characters
 pub mod Orders
 pub mod Chains
 pub mod Decisions

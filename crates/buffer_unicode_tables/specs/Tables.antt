@@ -1,6 +1,8 @@
 -- The tables, as a caller gives their rows, and the properties of a character by them.
-use Rattle.std.specs.Prelude.{ℕ, Bool, ◌==◌, ◌&&◌, List, find, map, Option, None, option_map}
+use Rattle.std.specs.Prelude.{ℕ, ◌≡◌, Bool, false, ◌==◌, ◌&&◌, List, find, map, Option, None, option_map}
+use Rattle.std.specs.List.{list_all}
 use Rattle.std.specs.Option.{option_or, option_map_or}
+use lib.Utf8.{scalar}
 use Rattle.buffer_unicode.specs.Keys.{row_fault}
 use Rattle.buffer_unicode.specs.Ranges.{is_in_ranges}
 use Rattle.buffer_unicode.specs.Rows.{split_of_numbers, is_split_in_range, pair_of_numbers, is_pair_in_range, character_class_of_numbers, is_character_class_in_range, counterpart_of_numbers, is_counterpart_in_range, character_range_of_numbers, is_character_range_in_range, joining_row_of_numbers, is_joining_row_in_range, indic_row_of_numbers, is_indic_row_in_range, universal_row_of_numbers, is_universal_row_in_range, thai_row_of_numbers, is_thai_row_in_range}
@@ -74,6 +76,14 @@ splits_of splits u = option_or (hangul_split u) (split_in splits u)
 -- the canonical decomposition of a character by the tables
 abbrev pub split_of : Tables → ℕ → Option (ℕ × ℕ)
 split_of t = splits_of t.splits
+
+-- each row of a table of decompositions is of a character
+abbrev pub are_of_characters : List Split → Bool
+are_of_characters splits = list_all (λ (s : Split). scalar s.whole) splits
+
+-- a number that is no character has no decomposition
+abbrev pub SplitsCharacters : Tables → Type 0
+SplitsCharacters t = (u : ℕ) → scalar u ≡ false → split_of t u ≡ None
 
 -- the composite of two characters: by the rule for Hangul, else by the table
 abbrev pub pair_of : Tables → ℕ → ℕ → Option ℕ

@@ -4,7 +4,7 @@ ghost use Rattle.buffer_unicode.specs.Keys.{is_rising};
 ghost use Rattle.buffer_unicode.specs.Ranges.{is_in_ranges};
 ghost use Rattle.buffer_unicode_tables.specs.Expansion.{EndWithin, HasDeepChain, ends_within};
 ghost use Rattle.buffer_unicode_tables.specs.Records.{AreRising, tables_of_records};
-ghost use Rattle.buffer_unicode_tables.specs.Tables.{tables_of, first_row_fault, split_of, splits_of, pair_of, class_of, counterpart_in, joining_of, indic_of, universal_of, thai_of};
+ghost use Rattle.buffer_unicode_tables.specs.Tables.{SplitsCharacters, are_of_characters, tables_of, first_row_fault, split_of, splits_of, pair_of, class_of, counterpart_in, joining_of, indic_of, universal_of, thai_of};
 
 use crate::depth::{MAX_SPLITS, all_chains_end, split};
 use crate::hangul::compose_hangul;
@@ -78,15 +78,19 @@ impl UnicodeTables {
     }
 
     /// The tables of records whose keys rise, or `SplitDepth` where a chain of first halves, by the rule for Hangul and
-    /// the table of decompositions, has more than eight decompositions.
+    /// the table of decompositions, has more than eight decompositions. As each row is of a character by its type, a
+    /// number that is no character has no decomposition.
+    #[tactic(auto, using(crate::proofs::Characters::rows_split_characters))]
     pub fn of_records(alloc: Global, records: UnicodeRecords) -> Result<UnicodeTables, TablesFault>
         requires { AreRising records }
         ensures tables { IfOk result (λ t. t ≡ tables_of_records records) }
         ensures shallow { OnOk result (EndWithin (split_of (tables_of_records records)) MAX_SPLITS) }
+        ensures characters { SplitsCharacters (tables_of_records records) }
         ensures refused { IfErr result (λ e. e ≢ TablesFault.OutOfMemory → e ≡ TablesFault.SplitDepth) }
         ensures deep { result ≡ Err TablesFault.SplitDepth
             → HasDeepChain (split_of (tables_of_records records)) MAX_SPLITS }
     {
+        see_characters(&records.splits);
         Ok(UnicodeTables {
             splits: shallow_splits(alloc, records.splits)?,
             pairs: records.pairs,
@@ -176,6 +180,16 @@ impl UnicodeTables {
         ensures { result ≡ counterpart_in self.now.vertical c }
     {
         Some(self.vertical.get(c as u32)?.counterpart)
+    }
+}
+
+/// Reads the character of each row. The prover knows of a `char` that is read that it is a character, and so of all of
+/// them by a walk.
+fn see_characters(rows: &[Split])
+    ensures { are_of_characters rows.now ≡ true }
+{
+    for row in rows {
+        let _character = row.whole;
     }
 }
 
