@@ -104,6 +104,8 @@ def hits_in(said: Said, words: tuple[str, ...], passed: list[re.Pattern[str]]) -
     if not any(word in text.lower() for word in words):
         return
     if said.is_name:
+        if any(pattern.fullmatch(text) for pattern in passed):
+            return
         yield from (part for part in map(str.lower, PART_OF_NAME.findall(text)) if part in words)
         return
     for pattern in passed:

@@ -12,7 +12,7 @@ use Rattle.buffer_glyphs.specs.Parts.{range_of}
 use Rattle.buffer_glyphs.specs.Merges.{least_number, merged_number}
 use Rattle.buffer_glyphs.specs.Levels.{InOutput, manner}
 use Rattle.buffer_glyphs.specs.Glyphs.{beside_merged_as, glyph_flagged, glyphs_flagged, glyphs_marked, glyphs_merged, in_cluster, marked_outside, has_several_numbers}
-use Rattle.buffer_glyphs.specs.Lemmas.Glyphs.{stretch_is, strip_merged}
+use Rattle.buffer_glyphs.specs.Lemmas.Glyphs.{range_clusters, strip_merged}
 use Rattle.buffer_core.specs.declared.buffer.hb_buffer_t.TheInside.{Inside}
 use Rattle.buffer_lists.specs.declared.order.ClusterOrder.{ClusterOrder}
 use Rattle.buffer_core.specs.Inside.{sides_of}
@@ -30,7 +30,7 @@ slice_across xs ys start n le =
 stretch_across : (xs ys : List hb_glyph_info_t) (start n : ℕ) → start ≤ length xs → range_of start (length xs + n) (clusters (xs ++ ys)) ≡ clusters (drop start xs) ++ clusters (take n ys)
 stretch_across xs ys start n le =
     let cluster_of : hb_glyph_info_t → ℕ = λ g. g.cluster in
-    stretch_is (xs ++ ys) start (length xs + n) ∙ ap clusters (slice_across xs ys start n le) ∙ map-append cluster_of (drop start xs) (take n ys)
+    range_clusters (xs ++ ys) start (length xs + n) ∙ ap clusters (slice_across xs ys start n le) ∙ map-append cluster_of (drop start xs) (take n ys)
 
 -- each glyph of such a range is changed alike
 changed_across : (f : hb_glyph_info_t → hb_glyph_info_t) (xs ys : List hb_glyph_info_t) (start n : ℕ) → start ≤ length xs
@@ -102,7 +102,7 @@ stretch_first xs ys start end le within =
     let long = length-drop start xs in
     let few : end - start ≤ length (drop start xs) = omega (arith, long) in
     let inner : slice_range (xs ++ ys) start end ≡ slice_range xs start end = rw (drop-append-le start xs ys (omega (arith, le, within))) (take-append-le (end - start) (drop start xs) ys few) in
-    stretch_is (xs ++ ys) start end ∙ ap clusters inner ∙ sym (stretch_is xs start end)
+    range_clusters (xs ++ ys) start end ∙ ap clusters inner ∙ sym (range_clusters xs start end)
 
 united_both : (xs ys : List hb_glyph_info_t) (start end : ℕ) → start ≤ end → end ≤ length xs
     → glyphs_merged (range_of start end (clusters (xs ++ ys))) (xs ++ ys) ≡ glyphs_merged (range_of start end (clusters xs)) xs ++ glyphs_merged (range_of start end (clusters xs)) ys

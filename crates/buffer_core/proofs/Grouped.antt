@@ -9,22 +9,22 @@ use Rattle.buffer_lists.specs.declared.order.ClusterOrder.{ClusterOrder}
 use Rattle.buffer_core.specs.declared.buffer.hb_buffer_t.TheInside.{Inside}
 use Rattle.buffer_core.specs.Inside.{sides_of}
 use Rattle.buffer_core.specs.Merging.{with_has_glyph_flags}
-use Rattle.buffer_groups.specs.Lemmas.GroupsTurned.{turned_plain}
+use Rattle.buffer_lists.specs.Lemmas.GroupsTurned.{turned_plain}
 use Rattle.buffer_glyphs.specs.Items.{Item, item_of, strip}
 use Rattle.buffer_glyphs.specs.Origins.{origins}
 use Rattle.buffer_glyphs.specs.Events.{Sort}
-use Rattle.buffer_groups.specs.Events.{deletions, groups_reversed, order_of}
-use Rattle.buffer_groups.specs.Lemmas.DeletedEvents.{deletions_are_events}
-use Rattle.buffer_groups.specs.Lemmas.ReversedEvents.{groups_are_events}
-use Rattle.buffer_groups.specs.Lemmas.SortedEvents.{sort_is_event}
+use Rattle.buffer_lists.specs.Events.{deletions, groups_reversed, order_of}
+use Rattle.buffer_lists.specs.Lemmas.DeletedEvents.{deletions_are_events}
+use Rattle.buffer_lists.specs.Lemmas.ReversedEvents.{groups_are_events}
+use Rattle.buffer_lists.specs.Lemmas.SortedEvents.{sort_is_event}
 use Rattle.buffer_stable_order.specs.Keys.{key_order}
-use Rattle.buffer_groups.specs.DeletionWalk.{whole_walk}
-use Rattle.buffer_groups.specs.Facts.{items_kept, positions_kept, positions_turned}
-use Rattle.buffer_groups.specs.Sorting.{range_sorted}
-use Rattle.buffer_groups.specs.Turning.{groups_reversed_list, turning_of}
-use Rattle.buffer_groups.specs.Lemmas.KeptItems.{items_all, places_all}
-use Rattle.buffer_groups.specs.Lemmas.Regrouped.{items_turned, places_beside}
-use Rattle.buffer_groups.specs.Lemmas.SortedItems.{items_sorted}
+use Rattle.buffer_lists.specs.DeletionWalk.{whole_walk}
+use Rattle.buffer_lists.specs.Facts.{items_kept, positions_kept, positions_turned}
+use Rattle.buffer_lists.specs.Sorting.{range_sorted}
+use Rattle.buffer_lists.specs.Turning.{groups_reversed_list, turning_of}
+use Rattle.buffer_lists.specs.Lemmas.KeptItems.{items_all, positions_all}
+use Rattle.buffer_lists.specs.Lemmas.Regrouped.{items_turned, positions_beside}
+use Rattle.buffer_lists.specs.Lemmas.SortedItems.{items_sorted}
 use Rattle.buffer_core.specs.Grouping.{with_groups_reversed, with_picked_deleted}
 use Rattle.buffer_core.specs.Sides.{Sides, all_glyphs, flag_requests_of, items_of, origins_by, origins_of}
 use Rattle.buffer_core.specs.Sorting.{with_range_sorted}
@@ -36,7 +36,7 @@ pub groups_items : (merge : Bool) (q : Item → Item → Bool) (s : Sides) → i
 groups_items merge q s = ap strip (all_turned merge (λ g h. q (item_of g) (item_of h)) s) ∙ items_turned merge s.level q (all_glyphs s) s.positions
 
 pub groups_positions : (merge : Bool) (q : Item → Item → Bool) (s : Sides) → (with_groups_reversed merge (λ g h. q (item_of g) (item_of h)) s).positions ≡ positions_turned q (items_of s) s.positions
-groups_positions merge q s = places_beside merge s.level q (all_glyphs s) s.positions
+groups_positions merge q s = positions_beside merge s.level q (all_glyphs s) s.positions
 
 pub groups_origins : (merge : Bool) (q : Item → Item → Bool) (s : Sides) → origins_of (with_groups_reversed merge (λ g h. q (item_of g) (item_of h)) s) ≡ origins_by (groups_reversed merge q (items_of s)) s
 groups_origins merge q s = ap origins (all_turned merge (λ g h. q (item_of g) (item_of h)) s) ∙ groups_are_events (flag_requests_of s) merge s.level q (all_glyphs s) s.positions
@@ -48,7 +48,7 @@ pub picked_items : (q : Item → Bool) (s : Sides) → items_of (with_picked_del
 picked_items q s = ap strip (all_picked (λ g. q (item_of g)) s) ∙ items_all s.level q (all_glyphs s) s.positions
 
 pub picked_positions : (q : Item → Bool) (s : Sides) → (with_picked_deleted (λ g. q (item_of g)) s).positions ≡ positions_kept q (items_of s) s.positions
-picked_positions q s = places_all s.level q (all_glyphs s) s.positions
+picked_positions q s = positions_all s.level q (all_glyphs s) s.positions
 
 pub picked_origins : (q : Item → Bool) (s : Sides) → origins_of (with_picked_deleted (λ g. q (item_of g)) s) ≡ origins_by (deletions q (items_of s)) s
 picked_origins q s = ap origins (all_picked (λ g. q (item_of g)) s) ∙ deletions_are_events (flag_requests_of s) s.level q (all_glyphs s) s.positions

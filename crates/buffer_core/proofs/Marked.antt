@@ -9,7 +9,7 @@ use Rattle.buffer_glyphs.specs.declared.info.hb_glyph_info_t.{hb_glyph_info_t}
 use Rattle.buffer_glyphs.specs.Items.{strip, clusters}
 use Rattle.buffer_glyphs.specs.Parts.{range_of}
 use Rattle.buffer_glyphs.specs.Glyphs.{glyphs_marked, glyphs_flagged, has_several_numbers}
-use Rattle.buffer_glyphs.specs.Lemmas.Glyphs.{marked_beyond, flagged_beyond, stretch_beyond, strip_marked, strip_flagged, clusters_marked, clusters_flagged}
+use Rattle.buffer_glyphs.specs.Lemmas.Glyphs.{marked_beyond, flagged_beyond, range_beyond, strip_marked, strip_flagged, clusters_marked, clusters_flagged}
 use Rattle.buffer_core.specs.declared.buffer.hb_buffer_t.TheInside.{Inside}
 use Rattle.buffer_lists.specs.declared.order.ClusterOrder.{ClusterOrder}
 use Rattle.buffer_core.specs.Inside.{sides_of, start_of}
@@ -34,7 +34,7 @@ marked_view b info order bits from start end flags le before unread begins i f =
         let to : length out + end - b.idx ≡ length out + (end - b.idx) = omega arith in
         let input = rw here at i in
         let marks = rw here at f in
-        rw (e, input, marks, at, to, marked_beyond bits out ahead (start - b.idx) (end - b.idx), stretch_beyond out ahead (start - b.idx) (end - b.idx), take-append_seam out (glyphs_marked bits (start - b.idx) (end - b.idx) ahead), drop-append_seam out (glyphs_marked bits (start - b.idx) (end - b.idx) ahead)) refl
+        rw (e, input, marks, at, to, marked_beyond bits out ahead (start - b.idx) (end - b.idx), range_beyond out ahead (start - b.idx) (end - b.idx), take-append_seam out (glyphs_marked bits (start - b.idx) (end - b.idx) ahead), drop-append_seam out (glyphs_marked bits (start - b.idx) (end - b.idx) ahead)) refl
     by_test false e =
         let here : from ≡ 0 = rw e at begins in
         let long : length (take b.idx b.info.items) ≡ b.idx = length-take-le b.idx b.info.items le in
@@ -102,7 +102,7 @@ stretch_rest start end n gs le before ordered =
     let at : start ≡ length (take n gs) + (start - n) = omega (arith, long, before) in
     let to : end ≡ length (take n gs) + (end - n) = omega (arith, long, before, ordered) in
     ap (λ hs. range_of start end (clusters hs)) (sym (take-append-drop n gs)) ∙ ap (λ i. range_of i end (clusters (take n gs ++ drop n gs))) at ∙ ap (λ j. range_of (length (take n gs) + (start - n)) j (clusters (take n gs ++ drop n gs))) to
-    ∙ stretch_beyond (take n gs) (drop n gs) (start - n) (end - n)
+    ∙ range_beyond (take n gs) (drop n gs) (start - n) (end - n)
 
 pub marked_rest : (bits start end n : ℕ) (gs : List hb_glyph_info_t) → n ≤ length gs → n ≤ start → start ≤ end → drop n (glyphs_marked bits start end gs) ≡ glyphs_marked bits (start - n) (end - n) (drop n gs)
 marked_rest bits start end n gs le before ordered =

@@ -8,7 +8,7 @@ use Rattle.buffer_glyphs.specs.declared.level.BufferClusterLevel.TheVariants.{Mo
 use Rattle.buffer_glyphs.specs.Items.{strip, clusters}
 use Rattle.buffer_glyphs.specs.Parts.{range_of}
 use Rattle.buffer_glyphs.specs.Glyphs.{glyphs_merged_at, beside_merged, is_marked_at, has_several_numbers}
-use Rattle.buffer_glyphs.specs.Lemmas.Glyphs.{merged_at_beyond, length_beside, stretch_beyond, strip_merged_at}
+use Rattle.buffer_glyphs.specs.Lemmas.Glyphs.{merged_at_beyond, length_beside, range_beyond, strip_merged_at}
 use Rattle.buffer_core.specs.declared.buffer.hb_buffer_t.TheInside.{Inside}
 use Rattle.buffer_lists.specs.declared.order.ClusterOrder.{ClusterOrder}
 use Rattle.buffer_core.specs.Inside.{sides_of, start_of}
@@ -31,7 +31,7 @@ merged_sides level i j from to behind ahead f t =
     record {
       behind_is = rw (both, take_at (beside_merged level (range_of i j (clusters ahead)) behind) (glyphs_merged_at level i j ahead) (length behind) long) refl;
       ahead_is = rw (both, drop_at (beside_merged level (range_of i j (clusters ahead)) behind) (glyphs_merged_at level i j ahead) (length behind) long) refl;
-      range_is = rw (f, t) (sym (stretch_beyond behind ahead i j));
+      range_is = rw (f, t) (sym (range_beyond behind ahead i j));
     }
 
 pub same_marks : (level : BufferClusterLevel) (a b c d : ℕ) (ms ns : List ℕ) → range_of a b ms ≡ range_of c d ns → is_marked_at level a b ms ≡ is_marked_at level c d ns

@@ -16,7 +16,7 @@ use Rattle.buffer_core.specs.Sides.{Sides, all_glyphs, items_of, after_next_glyp
 use Rattle.buffer_core.proofs.Ordered.{known_ahead, known_back}
 use Rattle.buffer_glyphs.specs.Origins.{origins}
 use Rattle.buffer_glyphs.specs.Events.{Arrange}
-use Rattle.buffer_groups.specs.Lemmas.ReversedEvents.{range_origins as reversed_range, range_seen}
+use Rattle.buffer_lists.specs.Lemmas.ReversedEvents.{range_origins as reversed_range, range_seen}
 
 -- no glyph is deleted where the cursor moves
 pub moved_to_all : (i : ℕ) (s : Sides) → all_glyphs (after_move_to i s) ≡ all_glyphs s

@@ -14,7 +14,7 @@ use Rattle.buffer_core.specs.Sides.{all_glyphs}
 use Rattle.buffer_lists.specs.declared.order.KnownOrder.{KnownOrder}
 use Rattle.buffer_lists.specs.declared.order.KnownOrder.TheVariants.{Unknown, Rising, Falling}
 use Rattle.buffer_lists.specs.declared.order.Lent.{Lent}
-use Rattle.buffer_lists.specs.Known.{HasOrder, is_known, known_clusters_ahead, known_clusters_behind}
+use Rattle.buffer_lists.specs.Known.{HasOrder, is_known, known_input_clusters, known_output_clusters}
 use Rattle.buffer_lists.proofs.Ordered.{known_ordered}
 use Rattle.buffer_lists.specs.Masks.{glyph_masked}
 use Rattle.buffer_core.proofs.Kept.{map-reverse}
@@ -90,7 +90,7 @@ order_put o out info new n g e h =
     subst (HasOrder o) (ap (λ ns. clusters out ++ g.cluster ∷ ns) (sym (drop-map f n info)) ∙ sym (append_assoc (clusters out) (g.cluster ∷ []) (drop n (clusters info))) ∙ ap (λ ns. ns ++ drop n (clusters info)) (sym seen)) h
 
 -- where no glyph is lent
-pub none_lent : (o : KnownOrder) (l : Option Lent) (out info : List hb_glyph_info_t) (n : ℕ) → l ≡ None → HasOrder o (clusters out ++ drop n (clusters info)) → HasOrder o (known_clusters_behind l (clusters out) ++ drop n (known_clusters_ahead l (clusters info)))
+pub none_lent : (o : KnownOrder) (l : Option Lent) (out info : List hb_glyph_info_t) (n : ℕ) → l ≡ None → HasOrder o (clusters out ++ drop n (clusters info)) → HasOrder o (known_output_clusters l (clusters out) ++ drop n (known_input_clusters l (clusters info)))
 none_lent o l out info n e h = rw e h
 
 drawn_pass : (xs ys : List ℕ) → IsDrawn (xs ++ ys) ys

@@ -4,7 +4,7 @@ use Rattle.std.proofs.Common.{ℕ, ◌≡◌, Bool, false, min, length, refl}
 use Rattle.std.proofs.lemmas.List.{take-append-drop}
 use Rattle.buffer_glyphs.specs.declared.info.hb_glyph_info_t.{hb_glyph_info_t}
 use Rattle.buffer_glyphs.specs.declared.position.GlyphPosition.{GlyphPosition}
-use Rattle.buffer_groups.specs.DeletionWalk.{whole_walk}
+use Rattle.buffer_lists.specs.DeletionWalk.{whole_walk}
 use Rattle.buffer_core.specs.declared.buffer.hb_buffer_t.TheInside.{Inside}
 use Rattle.buffer_lists.specs.declared.order.ClusterOrder.{ClusterOrder}
 use Rattle.buffer_core.specs.Inside.{sides_of}

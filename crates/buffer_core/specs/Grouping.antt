@@ -3,8 +3,8 @@ use Rattle.std.specs.Prelude.{ℕ, zero, suc, ◌+◌, Bool, if◌then◌else◌
 use Rattle.buffer_glyphs.specs.declared.info.hb_glyph_info_t.{hb_glyph_info_t}
 use Rattle.buffer_glyphs.specs.Items.{clusters}
 use Rattle.buffer_glyphs.specs.Deleting.{DeletionSides, glyphs_deleted, deletion_marks}
-use Rattle.buffer_groups.specs.Turning.{Turning, turning_of}
-use Rattle.buffer_groups.specs.DeletionWalk.{DeletionState, whole_walk}
+use Rattle.buffer_lists.specs.Turning.{Turning, turning_of}
+use Rattle.buffer_lists.specs.DeletionWalk.{DeletionState, whole_walk}
 use Rattle.buffer_core.specs.Merging.{with_has_glyph_flags}
 use Rattle.buffer_core.specs.Sides.{Sides, all_glyphs, after_next_glyphs, with_list}
 

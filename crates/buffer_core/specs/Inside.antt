@@ -3,7 +3,7 @@ use Rattle.std.specs.Prelude.{ℕ, ◌≤◌, ◌≡◌, ◌++◌, if◌then◌e
 use Rattle.std.specs.Bool.{OnFalse}
 use Rattle.buffer_core.specs.declared.buffer.hb_buffer_t.TheInside.{Inside}
 use Rattle.buffer_glyphs.specs.Items.{clusters}
-use Rattle.buffer_lists.specs.Known.{HasOrder, known_clusters_ahead, known_clusters_behind}
+use Rattle.buffer_lists.specs.Known.{HasOrder, known_input_clusters, known_output_clusters}
 use Rattle.buffer_core.specs.Sides.{Sides}
 use Rattle.buffer_core.specs.Settings.{number_set}
 
@@ -37,7 +37,7 @@ start_of b = if b.have_output then b.idx else 0
 
 -- the clusters of all glyphs, with that of a lent glyph as it was
 abbrev pub known_clusters : Inside → List ℕ
-known_clusters b = known_clusters_behind b.order.lent (clusters b.out_info.items) ++ drop (start_of b) (known_clusters_ahead b.order.lent (clusters b.info.items))
+known_clusters b = known_output_clusters b.order.lent (clusters b.out_info.items) ++ drop (start_of b) (known_input_clusters b.order.lent (clusters b.info.items))
 
 -- the invariant of a buffer's fields
 pub record IsSound (b : Inside) : Type 0 where

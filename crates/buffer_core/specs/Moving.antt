@@ -1,8 +1,8 @@
 -- Moves of the cursor, and lists truncated, filled up or reversed in a range.
 use Rattle.std.specs.Prelude.{ℕ, ◌+◌, ◌-◌, ◌&&◌, Bool, true, not, nat_le, nat_lt, if◌then◌else◌, List, ◌++◌, length, take, drop, replicate, min}
 use Rattle.buffer_glyphs.specs.declared.info.hb_glyph_info_t.{hb_glyph_info_t}
-pub use Rattle.buffer_groups.specs.Events.{indices_reversed}
-pub use Rattle.buffer_groups.specs.Turning.{range_reversed}
+pub use Rattle.buffer_lists.specs.Events.{indices_reversed}
+pub use Rattle.buffer_lists.specs.Turning.{range_reversed}
 use Rattle.buffer_core.specs.Sides.{Sides, all_glyphs, with_list}
 use Rattle.buffer_glyphs.specs.Items.{zero_position}
 use Rattle.buffer_core.specs.Text.{added_glyph}

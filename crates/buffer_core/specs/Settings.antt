@@ -20,6 +20,7 @@ abbrev pub number_set : Option GlyphId → Option ℕ
 number_set None = None
 number_set (Some glyph) = Some glyph.0
 
+-- a buffer with another glyph for invisible characters, or with none
 abbrev pub with_invisible : Option ℕ → Sides → Sides
 with_invisible g s = record s { invisible = g }
 

@@ -11,7 +11,7 @@ use Rattle.buffer_glyphs.specs.Merges.{least_number}
 use Rattle.buffer_glyphs.specs.Glyphs.{marked_outside, glyphs_marked, has_several_numbers}
 use Rattle.buffer_glyphs.specs.Lemmas.Parts.{Stands, stands_self}
 use Rattle.buffer_glyphs.specs.Lemmas.Ends.{from_first, to_last}
-use Rattle.buffer_glyphs.specs.Lemmas.Glyphs.{cut_out, stretch_is}
+use Rattle.buffer_glyphs.specs.Lemmas.Glyphs.{cut_out, range_clusters}
 use Rattle.buffer_glyphs.specs.Lemmas.Merges.{least_number_is}
 use Rattle.buffer_glyphs.specs.Lemmas.Numbers.{Has, has_here, has_more}
 use Rattle.buffer_glyphs.proofs.Ends.{stands_anti, by_order}
@@ -67,7 +67,7 @@ pub even_marked : (bits i j : ℕ) (gs : List hb_glyph_info_t) → i ≤ j → h
 even_marked bits i j gs le e =
     let low = least_number (clusters (slice_range gs i j)) in
     let same = unmarked bits low (slice_range gs i j) e in
-    rw (stretch_is gs i j, same) (sym (cut_out i j gs le))
+    rw (range_clusters gs i j, same) (sym (cut_out i j gs le))
 
 pub even_range : (i j : ℕ) (gs : List hb_glyph_info_t) → has_several_numbers (clusters (slice_range gs i j)) ≡ false → false ≡ has_several_numbers (range_of i j (clusters gs))
-even_range i j gs e = rw (stretch_is gs i j) (sym e)
+even_range i j gs e = rw (range_clusters gs i j) (sym e)

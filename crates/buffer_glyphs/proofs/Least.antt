@@ -63,9 +63,9 @@ first_taken f zero x ds xs e = cc
 first_taken f (suc gone) x [] xs e = cc
 first_taken f (suc gone) x (d ∷ ds) xs e = ap (λ ys. first_of (map f ys)) e
 
-stretch_alike : (falls : Bool) (at gone n : ℕ) (ns s : List ℕ) → take gone (drop at ns) ≡ s → IsInOrder falls s → Has (take gone (drop at (joined_numbers s ns))) n → first_of (drop at (joined_numbers s ns)) ≡ Some n
-stretch_alike falls at gone n ns [] e o h = let none = rw e at h in cc
-stretch_alike falls at gone n ns (x ∷ xs) e o h =
+range_alike : (falls : Bool) (at gone n : ℕ) (ns s : List ℕ) → take gone (drop at ns) ≡ s → IsInOrder falls s → Has (take gone (drop at (joined_numbers s ns))) n → first_of (drop at (joined_numbers s ns)) ≡ Some n
+range_alike falls at gone n ns [] e o h = let none = rw e at h in cc
+range_alike falls at gone n ns (x ∷ xs) e o h =
     let f = united_number (min x (last_from x xs)) (max x (last_from x xs)) in
     let P : List ℕ → Type 0 = λ ys. Has ys n in
     let there : Has (map f (x ∷ xs)) n = subst P (ap (take gone) (drop-map f at ns) ∙ take-map f gone (drop at ns) ∙ ap (map f) e) h in
@@ -73,8 +73,8 @@ stretch_alike falls at gone n ns (x ∷ xs) e o h =
     let same : f x ≡ n = joined_alike falls x x xs o (has_here x xs) ∙ sym (joined_alike falls x from.0 xs o from.1) ∙ from.2 in
     ap first_of (drop-map f at ns) ∙ first_taken f gone x (drop at ns) xs e ∙ ap Some same
 
-stretch_order : (falls : Bool) (at gone : ℕ) (ns : List ℕ) → IsInOrder falls ns → IsInOrder falls (take gone (drop at ns))
-stretch_order falls at gone ns h = order_drawn falls (drawn_take gone (drop at ns)) (order_drawn falls (drawn_drop at ns) h)
+range_order : (falls : Bool) (at gone : ℕ) (ns : List ℕ) → IsInOrder falls ns → IsInOrder falls (take gone (drop at ns))
+range_order falls at gone ns h = order_drawn falls (drawn_take gone (drop at ns)) (order_drawn falls (drawn_drop at ns) h)
 
 replace_has : (falls : Bool) (at taken given k : ℕ) (ns : List ℕ) → 0 < given → IsInOrder falls ns → IsLeast k ns → Has (after_part_event ns (ReplaceParts at taken given)) k
 replace_has falls at taken given k ns lt o l =
@@ -83,7 +83,7 @@ replace_has falls at taken given k ns lt o l =
     let mid = joined_numbers s ns in
     let cut : take taken (drop at ns) ≡ s = ap (λ n. take n (drop at ns)) (sym wide) in
     replaced_has at taken given k mid lt
-    (stretch_alike falls at taken k ns s cut (subst (IsInOrder falls) cut (stretch_order falls at taken ns o)))
+    (range_alike falls at taken k ns s cut (subst (IsInOrder falls) cut (range_order falls at taken ns o)))
     (joined_unites (λ xs. Has xs k) at (at + taken) ns (least_unites k ns l))
 
 doubled_has : (at n : ℕ) (ns : List ℕ) → Has ns n → Has (take at ns ++ copies 2 (first_of (drop at ns)) ++ drop (at + 1) ns) n
@@ -204,8 +204,8 @@ no_copies None = refl
 no_copies (Some n) = refl
 
 -- a list whose range went
-gone_is : (at taken : ℕ) (ns : List ℕ) → numbers_replaced at taken 0 ns ≡ take at ns ++ drop (at + taken) ns
-gone_is at taken ns = ap (λ xs. take at ns ++ xs ++ drop (at + taken) ns) (no_copies (or (first_of (drop at ns)) (last_of (take at ns)))) ∙ ap (λ xs. xs ++ drop (at + taken) ns) (append-nil (take at ns))
+removal_is : (at taken : ℕ) (ns : List ℕ) → numbers_replaced at taken 0 ns ≡ take at ns ++ drop (at + taken) ns
+removal_is at taken ns = ap (λ xs. take at ns ++ xs ++ drop (at + taken) ns) (no_copies (or (first_of (drop at ns)) (last_of (take at ns)))) ∙ ap (λ xs. xs ++ drop (at + taken) ns) (append-nil (take at ns))
 
 -- what a joined range shares with a part that stays it shares after the join
 shared_has : (falls : Bool) (at taken k : ℕ) (ns s : List ℕ) → range_of at (at + taken) ns ≡ s → IsInOrder falls s → list_any (has_number (take at ns ++ drop (at + taken) ns)) s ≡ true → Has (joined_numbers s ns) k
@@ -229,15 +229,15 @@ shared_has falls at taken k ns (x ∷ xs) e o h there =
       ]
     ])
 
-gone_has : (falls : Bool) (at taken k : ℕ) (ns : List ℕ) → shares_part at taken ns ≡ true → IsInOrder falls ns → IsLeast k ns → Has (after_part_event ns (ReplaceParts at taken 0)) k
-gone_has falls at taken k ns h o l =
+removed_has : (falls : Bool) (at taken k : ℕ) (ns : List ℕ) → shares_part at taken ns ≡ true → IsInOrder falls ns → IsLeast k ns → Has (after_part_event ns (ReplaceParts at taken 0)) k
+removed_has falls at taken k ns h o l =
     let s = range_of at (at + taken) ns in
     let P : List ℕ → Type 0 = λ ys. Has ys k in
     let order : IsInOrder falls s = order_drawn falls (drawn_take (at + taken - at) (drop at ns)) (order_drawn falls (drawn_drop at ns) o) in
-    subst P (sym (gone_is at taken (joined_numbers s ns))) (shared_has falls at taken k ns s refl order h (joined_unites (λ xs. Has xs k) at (at + taken) ns (least_unites k ns l)))
+    subst P (sym (removal_is at taken (joined_numbers s ns))) (shared_has falls at taken k ns s refl order h (joined_unites (λ xs. Has xs k) at (at + taken) ns (least_unites k ns l)))
 
 kept_has : (falls : Bool) (at taken given k : ℕ) (ns : List ℕ) → (0 < given) ⊎ IsTrue (shares_part at taken ns) → IsInOrder falls ns → IsLeast k ns → Has (after_part_event ns (ReplaceParts at taken given)) k
-kept_has falls at taken zero k ns g o l = elim g [ inl some ↦ absurd (omega arith) | inr shares ↦ gone_has falls at taken k ns shares o l ]
+kept_has falls at taken zero k ns g o l = elim g [ inl some ↦ absurd (omega arith) | inr shares ↦ removed_has falls at taken k ns shares o l ]
 kept_has falls at taken (suc given) k ns g o l = replace_has falls at taken (suc given) k ns (omega arith) o l
 
 -- the least number is there after one event

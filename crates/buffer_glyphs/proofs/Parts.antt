@@ -10,7 +10,7 @@ use Rattle.buffer_glyphs.specs.Parts.{range_of}
 use Rattle.buffer_glyphs.specs.Order.{has_number}
 use Rattle.buffer_glyphs.specs.Merges.{least_number, merged_number}
 use Rattle.buffer_glyphs.specs.Glyphs.{in_cluster, glyphs_merged, marked_outside, glyphs_marked, has_several_numbers, glyph_flagged, glyphs_flagged}
-use Rattle.buffer_glyphs.specs.Lemmas.Glyphs.{stretch_is}
+use Rattle.buffer_glyphs.specs.Lemmas.Glyphs.{range_clusters}
 use Rattle.buffer_glyphs.specs.Lemmas.Numbers.{Has, has_right, has_here}
 
 -- glyphs whose clusters occur in a range become of its least
@@ -34,7 +34,7 @@ merged_parts xs i j front range back f r b =
     let outer = map-append F (take i xs) (slice_range xs i j ++ drop (j - i) (drop i xs)) in
     let inner = map-append F (slice_range xs i j) (drop (j - i) (drop i xs)) in
     let same = all_in ns (slice_range xs i j) (λ n h. h) in
-    let cut = stretch_is xs i j in
+    let cut = range_clusters xs i j in
     rw cut cc
 
 pub marked_parts : (bits low : ℕ) (xs range : List hb_glyph_info_t) (i j : ℕ) → i ≤ j → low ≡ least_number (clusters (slice_range xs i j))
@@ -43,10 +43,10 @@ pub marked_parts : (bits low : ℕ) (xs range : List hb_glyph_info_t) (i j : ℕ
 marked_parts bits low xs range i j le is e =
     let there : i + (j - i) ≡ j = omega arith in
     let beyond : drop (j - i) (drop i xs) ≡ drop j xs = drop-drop (j - i) i xs ∙ ap (λ n. drop n xs) there in
-    rw (e, is, stretch_is xs i j, beyond) (sym (append_assoc (take i xs) (map (marked_outside bits (least_number (clusters (slice_range xs i j)))) (slice_range xs i j)) (drop j xs)))
+    rw (e, is, range_clusters xs i j, beyond) (sym (append_assoc (take i xs) (map (marked_outside bits (least_number (clusters (slice_range xs i j)))) (slice_range xs i j)) (drop j xs)))
 
 pub told_apart : (xs : List hb_glyph_info_t) (i j : ℕ) → list_any (λ n. not (n == least_number (clusters (slice_range xs i j)))) (clusters (slice_range xs i j)) ≡ has_several_numbers (range_of i j (clusters xs))
-told_apart xs i j = rw (stretch_is xs i j) refl
+told_apart xs i j = rw (range_clusters xs i j) refl
 
 pub flagged_parts : (bits : ℕ) (xs range : List hb_glyph_info_t) (i j : ℕ) → i ≤ j → range ≡ map (glyph_flagged bits) (slice_range xs i j) → put_mid i (j - i) xs range ≡ glyphs_flagged bits i j xs
 flagged_parts bits xs range i j le e =

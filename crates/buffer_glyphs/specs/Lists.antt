@@ -1,4 +1,4 @@
--- Lemmas on lists, for loops that go over one or write to it.
+-- Lemmas on lists, for loops that walk one or write to it.
 use Rattle.std.proofs.Common.{ℕ, suc, zero, ◌≡◌, ◌<◌, ◌+◌, List, [], ◌∷◌, ◌++◌, length, map, take, drop, get_or, set, arith, refl, ap, add-one, Some, slice_get, ◌∙◌}
 use Rattle.std.proofs.lemmas.List.{get_or_default, drop_more, drop-drop, map-set, length-map, length-append, take-append-drop}
 use Rattle.std.proofs.lemmas.Option.{get_or_from_slice_get, slice_get_within}

@@ -47,7 +47,8 @@ fn are_ends_alike(glyphs: &[hb_glyph_info_t]) -> bool
     glyphs[0].cluster == glyphs[glyphs.len() - 1].cluster
 }
 
-/// Sets flags on the glyphs of two lists outside the least cluster of both; answers whether there are such.
+/// Sets flags on the glyphs behind the buffer's cursor and those ahead of it, outside the least cluster of both lists;
+/// answers whether there are such.
 #[tactic(auto, using(crate::proofs::Across::told_across))]
 pub fn mark_across(
     behind: &mut [hb_glyph_info_t],
@@ -67,7 +68,7 @@ pub fn mark_across(
     any
 }
 
-/// The least cluster of two lists, 0 where there is no glyph.
+/// The least cluster of both lists, 0 where there is no glyph.
 #[tactic(auto, using(crate::proofs::Across::least_second, crate::proofs::Across::least_first, crate::proofs::Across::least_both))]
 fn least_across(behind: &[hb_glyph_info_t], ahead: &[hb_glyph_info_t]) -> u32
     ensures { result ≡ least_number (clusters behind.now ++ clusters ahead.now) }

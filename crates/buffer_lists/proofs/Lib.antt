@@ -1,3 +1,14 @@
+pub mod Lemmas
+pub mod Carried
+pub mod CarriedTurned
+pub mod Meant
+pub mod Walking
+pub mod Dues
+pub mod Passing
+pub mod Spans
+pub mod Seams
+pub mod Examples
+pub mod OrderedKeys
 pub mod Ranges
 pub mod Known
 pub mod Falling

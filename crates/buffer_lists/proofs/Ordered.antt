@@ -17,7 +17,7 @@ use Rattle.buffer_glyphs.specs.Deleting.{Deletes}
 use Rattle.buffer_glyphs.proofs.OneDeleted.{left_clusters, order_deleted}
 use Rattle.buffer_glyphs.specs.Lemmas.Drawn.{IsDrawn, drawn_replaced}
 use Rattle.buffer_glyphs.specs.Lemmas.Parts.{event_keeps_order, order_drawn}
-use Rattle.buffer_glyphs.specs.Lemmas.Glyphs.{merged_at_beyond, clusters_merged, clusters_merged_at, stretch_is}
+use Rattle.buffer_glyphs.specs.Lemmas.Glyphs.{merged_at_beyond, clusters_merged, clusters_merged_at, range_clusters}
 use Rattle.buffer_glyphs.specs.Lemmas.Merges.{merge_joins}
 use Rattle.buffer_glyphs.specs.Lemmas.Replacements.{clusters_replaced}
 use Rattle.buffer_lists.specs.declared.order.KnownOrder.{KnownOrder}
@@ -61,7 +61,7 @@ stretch_first xs ys start end le within =
     let long = length-drop start xs in
     let few : end - start ≤ length (drop start xs) = omega (arith, long) in
     let inner : slice_range (xs ++ ys) start end ≡ slice_range xs start end = rw (drop-append-le start xs ys (omega (arith, le, within))) (take-append-le (end - start) (drop start xs) ys few) in
-    stretch_is (xs ++ ys) start end ∙ ap clusters inner ∙ sym (stretch_is xs start end)
+    range_clusters (xs ++ ys) start end ∙ ap clusters inner ∙ sym (range_clusters xs start end)
 
 -- the clusters of a range of the first of two lists became one on both
 pub order_united : (o : KnownOrder) (start end : ℕ) (behind ahead new_behind new_ahead : List hb_glyph_info_t) → start ≤ end → end ≤ length behind

@@ -7,7 +7,7 @@ use Rattle.buffer_glyphs.specs.Items.{clusters}
 use Rattle.buffer_glyphs.specs.Order.{IsOrdered}
 use Rattle.buffer_glyphs.specs.Lemmas.Drawn.{IsDrawn, drawn_second, drawn_drop, drawn_take}
 use Rattle.buffer_glyphs.specs.Lemmas.Parts.{order_drawn}
-use Rattle.buffer_glyphs.specs.Lemmas.Glyphs.{cut_out, stretch_is}
+use Rattle.buffer_glyphs.specs.Lemmas.Glyphs.{cut_out, range_clusters}
 use Rattle.buffer_glyphs.specs.Lemmas.Merges.{chain_left, chain_right}
 
 -- what is drawn from a list in order is in order
@@ -19,7 +19,7 @@ pub range_known : (output input : List hb_glyph_info_t) (start end : ℕ) → Is
 range_known output input start end o =
     let past = stays_so (drawn_second (clusters output) (drawn_drop start (clusters input))) o in
     let cut = stays_so (drawn_second (clusters output) (drawn_take (end - start) (drop start (clusters input)))) past in
-    subst (λ ns. IsOrdered (clusters output ++ ns)) (stretch_is input start end) cut
+    subst (λ ns. IsOrdered (clusters output ++ ns)) (range_clusters input start end) cut
 
 pub ahead_known : (xs ys : List ℕ) → IsOrdered (xs ++ ys) → IsOrdered ys
 ahead_known xs ys o = elim o [ inl rises ↦ inl (chain_right (λ m n. m ≤ n) xs ys rises) | inr falls ↦ inr (chain_right (λ m n. n ≤ m) xs ys falls) ]

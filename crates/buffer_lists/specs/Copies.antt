@@ -4,6 +4,6 @@ use Rattle.buffer_glyphs.specs.declared.info.hb_glyph_info_t.{hb_glyph_info_t}
 use Rattle.buffer_glyphs.specs.Parts.{first_of, last_of, or}
 use Rattle.buffer_glyphs.specs.Replacements.{numbered_copies, glyph_numbered}
 
--- glyphs with a copy of the first glyph ahead appended for each number, or of the last glyph where none is ahead
+-- glyphs with a copy of the first input glyph appended for each number, or of their last one where no input is left
 abbrev pub with_copies : List ℕ → List hb_glyph_info_t → List hb_glyph_info_t → List hb_glyph_info_t
 with_copies numbers ahead behind = behind ++ numbered_copies glyph_numbered (or (first_of ahead) (last_of behind)) numbers

@@ -19,14 +19,14 @@ is_known Rising = true
 is_known Falling = true
 
 -- the clusters of the output, with that of a lent glyph as it was
-abbrev pub known_clusters_behind : Option Lent → List ℕ → List ℕ
-known_clusters_behind None ns = ns
-known_clusters_behind (Some l) ns = if l.in_output then slice_set ns l.at l.cluster else ns
+abbrev pub known_output_clusters : Option Lent → List ℕ → List ℕ
+known_output_clusters None ns = ns
+known_output_clusters (Some l) ns = if l.in_output then slice_set ns l.at l.cluster else ns
 
 -- the clusters of the input, with that of a lent glyph as it was
-abbrev pub known_clusters_ahead : Option Lent → List ℕ → List ℕ
-known_clusters_ahead None ns = ns
-known_clusters_ahead (Some l) ns = if l.in_output then ns else slice_set ns l.at l.cluster
+abbrev pub known_input_clusters : Option Lent → List ℕ → List ℕ
+known_input_clusters None ns = ns
+known_input_clusters (Some l) ns = if l.in_output then ns else slice_set ns l.at l.cluster
 
 -- a number and those after it never decrease, and n is the last of them
 pub record IsRisingTo (start : ℕ) (ns : List ℕ) (n : ℕ) : Type 0 where

@@ -1,3 +1,16 @@
+pub mod Lemmas
+pub mod Groups
+pub mod Runs
+pub mod Falling
+pub mod Turning
+pub mod DeletionWalk
+pub mod Sorting
+pub mod Due
+pub mod Laws
+pub mod Facts
+pub mod Indices
+pub mod Events
+pub mod Flags
 pub mod Known
 pub mod Masks
 pub mod Copies

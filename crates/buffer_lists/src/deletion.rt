@@ -28,12 +28,12 @@ pub fn delete_first(
     if output.is_empty() {
         return delete_at_front(input, 0, level, known.is_known());
     }
-    delete_behind(output, input);
+    delete_after_output(output, input);
     false
 }
 
 /// Deletes the first input glyph, with others before it in the output.
-fn delete_behind(output: &mut [hb_glyph_info_t], input: &[hb_glyph_info_t])
+fn delete_after_output(output: &mut [hb_glyph_info_t], input: &[hb_glyph_info_t])
     requires some { 0 < length output.old }
     requires there { 0 < length input.now }
     ensures { (level : Level) → Deletes level output.old input.now output.new (drop 1 input.now) false }

@@ -15,7 +15,7 @@ use buffer_glyphs::runs::{merge_after, merge_beside, merge_within};
 
 /// Merges a range of the input on both lists; answers whether a glyph was flagged, and what is known of the order after
 /// it. Where clusters are in no order each glyph is compared with the range.
-#[tactic(auto, using(buffer_glyphs::specs::Lemmas::Glyphs::stretch_is, crate::proofs::Ranges::range_known, crate::proofs::Ranges::ahead_known, crate::proofs::Ordered::known_ordered, crate::proofs::Ordered::order_merged))]
+#[tactic(auto, using(buffer_glyphs::specs::Lemmas::Glyphs::range_clusters, crate::proofs::Ranges::range_known, crate::proofs::Ranges::ahead_known, crate::proofs::Ordered::known_ordered, crate::proofs::Ordered::order_merged))]
 pub fn merge_input(
     output: &mut [hb_glyph_info_t],
     input: &mut [hb_glyph_info_t],
@@ -85,7 +85,7 @@ pub fn merge_output(
 }
 
 /// Renumbers the clusters of a range of the output to the least of them on both lists.
-#[tactic(auto, using(buffer_glyphs::specs::Lemmas::Glyphs::stretch_is, crate::proofs::Ranges::range_ordered, crate::proofs::Ranges::front_ordered))]
+#[tactic(auto, using(buffer_glyphs::specs::Lemmas::Glyphs::range_clusters, crate::proofs::Ranges::range_ordered, crate::proofs::Ranges::front_ordered))]
 fn unite_output(
     output: &mut [hb_glyph_info_t],
     input: &mut [hb_glyph_info_t],

@@ -2,7 +2,7 @@
 ghost use Rattle.std.specs.Prelude.{◌≡◌, ◌++◌, ◌∷◌, [], ℕ, Bool, List, None, Some, true, slice_set, reverse, drop, IfSome};
 ghost use Rattle.buffer_glyphs.specs.Items.{clusters};
 ghost use Rattle.buffer_glyphs.specs.Order.{IsFalling, IsInOrder, IsRising};
-ghost use Rattle.buffer_lists.specs.Known.{HasOrder, IsFallingTo, IsRisingTo, is_known, known_clusters_ahead, known_clusters_behind};
+ghost use Rattle.buffer_lists.specs.Known.{HasOrder, IsFallingTo, IsRisingTo, is_known, known_input_clusters, known_output_clusters};
 
 use buffer_glyphs::info::hb_glyph_info_t;
 use buffer_glyphs::level::BufferClusterLevel;
@@ -48,8 +48,8 @@ impl ClusterOrder {
     pub fn settle(&mut self, output: &[hb_glyph_info_t], input: &[hb_glyph_info_t])
         ensures order { (n : ℕ) →
             HasOrder self.old.known
-            (known_clusters_behind self.old.lent (clusters output.now)
-            ++ drop n (known_clusters_ahead self.old.lent (clusters input.now))) →
+            (known_output_clusters self.old.lent (clusters output.now)
+            ++ drop n (known_input_clusters self.old.lent (clusters input.now))) →
             HasOrder self.new.known (clusters output.now ++ drop n (clusters input.now)) }
         ensures back { self.new.lent ≡ None }
     {
@@ -61,8 +61,8 @@ impl ClusterOrder {
 impl Lent {
     /// Whether the glyph is of the cluster that it had.
     fn is_as_it_was(self, output: &[hb_glyph_info_t], input: &[hb_glyph_info_t]) -> bool
-        ensures output { result ≡ true → known_clusters_behind (Some self) (clusters output.now) ≡ clusters output.now }
-        ensures input { result ≡ true → known_clusters_ahead (Some self) (clusters input.now) ≡ clusters input.now }
+        ensures output { result ≡ true → known_output_clusters (Some self) (clusters output.now) ≡ clusters output.now }
+        ensures input { result ≡ true → known_input_clusters (Some self) (clusters input.now) ≡ clusters input.now }
     {
         if self.in_output {
             has_cluster(output, self.at, self.cluster)
@@ -98,7 +98,7 @@ impl KnownOrder {
         input: &[hb_glyph_info_t],
     ) -> KnownOrder
         ensures { (n : ℕ) → HasOrder self
-            (known_clusters_behind lent (clusters output.now) ++ drop n (known_clusters_ahead lent (clusters input.now))) →
+            (known_output_clusters lent (clusters output.now) ++ drop n (known_input_clusters lent (clusters input.now))) →
             HasOrder result (clusters output.now ++ drop n (clusters input.now)) }
     {
         match lent {

@@ -8,7 +8,7 @@ pub record Union : Type 0 where
   pub one : ℕ
   pub other : ℕ
 
--- the first and the last number of a stretch, if it has one
+-- the first and the last number of a range, if it has one
 abbrev pub ends_of : List ℕ → Option Union
 ends_of [] = None
 ends_of (n ∷ ns) = Some (record { one = n; other = last_from n ns })
@@ -24,7 +24,7 @@ abbrev pub deletion_union : Option ℕ → Option ℕ → Option ℕ → Option 
 deletion_union before None after = None
 deletion_union before (Some n) after = if is_number before n || is_number after n then None else neighbour_union before after n
 
--- the parts that an event unites: those of a stretch that is joined or replaced, and the part that a deletion leaves without an item with a neighbour's
+-- the parts that an event unites: those of a range that is joined or replaced, and the part that a deletion leaves without an item with a neighbour's
 abbrev pub union_of : List ℕ → PartEvent → Option Union
 union_of ns (JoinParts from to) = ends_of (range_of from to ns)
 union_of ns (ReplaceParts at taken given) = ends_of (range_of at (at + taken) ns)
@@ -33,13 +33,13 @@ union_of ns (CirclePart at) = None
 union_of ns ReverseParts = None
 
 -- the part of a number after a union: the least number of the union for each number of it
-abbrev pub united_by : Option Union → ℕ → ℕ
-united_by None n = n
-united_by (Some u) n = united_number (min u.one u.other) (max u.one u.other) n
+abbrev pub part_after_union : Option Union → ℕ → ℕ
+part_after_union None n = n
+part_after_union (Some u) n = united_number (min u.one u.other) (max u.one u.other) n
 
 -- the part of a number after one event
 abbrev pub part_after_event : List ℕ → PartEvent → ℕ → ℕ
-part_after_event ns e n = united_by (union_of ns e) n
+part_after_event ns e n = part_after_union (union_of ns e) n
 
 -- the part of a number after a list of events
 abbrev pub part_after : List PartEvent → List ℕ → ℕ → ℕ
@@ -60,9 +60,9 @@ AreUnited None m n = ⊥
 AreUnited (Some u) m n = (min u.one u.other ≤ m) × (m ≤ max u.one u.other) × (min u.one u.other ≤ n) × (n ≤ max u.one u.other)
 
 -- some event unites the parts of two numbers
-abbrev pub UnitedIn : List PartEvent → List ℕ → ℕ → ℕ → Type 0
-UnitedIn [] ns m n = ⊥
-UnitedIn (e ∷ es) ns m n = AreUnited (union_of ns e) m n ⊎ UnitedIn es (after_part_event ns e) (part_after_event ns e m) (part_after_event ns e n)
+abbrev pub AreUnitedByEvents : List PartEvent → List ℕ → ℕ → ℕ → Type 0
+AreUnitedByEvents [] ns m n = ⊥
+AreUnitedByEvents (e ∷ es) ns m n = AreUnited (union_of ns e) m n ⊎ AreUnitedByEvents es (after_part_event ns e) (part_after_event ns e m) (part_after_event ns e n)
 
 -- k is the greatest of the numbers up to n
 pub record IsGreatestUpTo (k n : ℕ) (ns : List ℕ) : Type 0 where

@@ -39,10 +39,10 @@ AreGiving (Tatweel from to ∷ es) = AreGiving es
 AreGiving (Spread ∷ es) = AreGiving es
 AreGiving (Reset ∷ es) = AreGiving es
 
--- the components of a ligature, at indices from `at` on, are deleted one after another; `gone` of them were before
-abbrev pub parts_gone : ℕ → ℕ → List ℕ → List Event
-parts_gone at gone [] = []
-parts_gone at gone (i ∷ places) = Replace (at + i - gone) 1 0 ∷ parts_gone at (gone + 1) places
+-- the components of a ligature, at indices from `at` on, are deleted one after another; `before` of them were deleted already
+abbrev pub ligature_deletions : ℕ → ℕ → List ℕ → List Event
+ligature_deletions at before [] = []
+ligature_deletions at before (i ∷ places) = Replace (at + i - before) 1 0 ∷ ligature_deletions at (before + 1) places
 
 -- indices that rise strictly, all greater than `low` and less than `end`
 abbrev pub AreBetween : ℕ → ℕ → List ℕ → Type 0

@@ -5,7 +5,7 @@ use Rattle.buffer_glyphs.specs.Levels.{IsMonotone, Merging}
 use Rattle.buffer_glyphs.specs.Order.{IsInOrder}
 use Rattle.buffer_glyphs.specs.Origins.{Origin, Asks, numbers}
 use Rattle.buffer_glyphs.specs.Events.{Event, Merge, Replace, IsPlain}
-use Rattle.buffer_parts.specs.Counts.{count_after, AreGiving, parts_gone, AreBetween}
+use Rattle.buffer_parts.specs.Counts.{count_after, AreGiving, ligature_deletions, AreBetween}
 use Rattle.buffer_parts.specs.Keeping.{AreKept, HaveParts}
 
 -- two lists of events that keep the parts of a text keep them one after the other
@@ -23,7 +23,7 @@ ReplacementsKeepParts = (level : BufferClusterLevel) (at given n : ℕ) → at <
 -- a ligature keeps the parts of a text: its glyphs merge, and the other components are deleted
 abbrev pub LigaturesKeepParts : Type 0
 LigaturesKeepParts = (how : Merging) (level : BufferClusterLevel) (at end : ℕ) (places : List ℕ) (n : ℕ) → at + end ≤ n → AreBetween 0 end places
-    → AreKept level (Merge how at (at + end) ∷ parts_gone at 0 places) n (n - length places)
+    → AreKept level (Merge how at (at + end) ∷ ligature_deletions at 0 places) n (n - length places)
 
 -- at a monotone level, clusters in order become the parts of events that keep the parts of a text
 abbrev pub KeptEventsHaveParts : Type 0

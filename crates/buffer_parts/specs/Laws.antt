@@ -8,7 +8,7 @@ use Rattle.buffer_glyphs.specs.Events.{Event, IsPlain, origins_after}
 use Rattle.buffer_glyphs.specs.EventParts.{parts_of}
 use Rattle.buffer_glyphs.specs.Order.{IsInOrder, IsOrdered, IsLeast, BringsNone, IsGiving, falls_after, has_number}
 use Rattle.buffer_parts.specs.Orderly.{IsOrderly}
-use Rattle.buffer_parts.specs.CharacterParts.{part_after, part_after_event, items_left, UnitedIn, IsGreatestUpTo}
+use Rattle.buffer_parts.specs.CharacterParts.{part_after, part_after_event, items_left, AreUnitedByEvents, IsGreatestUpTo}
 use Rattle.buffer_parts.specs.Slices.{slices, AreJoined, text_of_slices, ShareSlice}
 
 -- ---- orderly events
@@ -53,8 +53,8 @@ abbrev pub PartsRise : Type 0
 PartsRise = (es : List PartEvent) (ns : List ℕ) (m n : ℕ) → m ≤ n → part_after es ns m ≤ part_after es ns n
 
 -- no number is in a part with a greater number
-abbrev pub PartsGoDown : Type 0
-PartsGoDown = (es : List PartEvent) (ns : List ℕ) (n : ℕ) → part_after es ns n ≤ n
+abbrev pub PartsAreNoGreater : Type 0
+PartsAreNoGreater = (es : List PartEvent) (ns : List ℕ) (n : ℕ) → part_after es ns n ≤ n
 
 -- a number that is among the items afterwards is its own part
 abbrev pub PartsStay : Type 0
@@ -73,8 +73,8 @@ SlicesAreParts = (es : List PartEvent) (falls : Bool) (ns : List ℕ) (n : ℕ) 
 -- two numbers are in one part exactly where they are equal or an event united their parts
 abbrev pub PartsAreUnited : Type 0
 PartsAreUnited = (es : List PartEvent) (ns : List ℕ) (m n : ℕ)
-    → (part_after es ns m ≡ part_after es ns n → (m ≡ n) ⊎ UnitedIn es ns m n)
-    × (UnitedIn es ns m n → part_after es ns m ≡ part_after es ns n)
+    → (part_after es ns m ≡ part_after es ns n → (m ≡ n) ⊎ AreUnitedByEvents es ns m n)
+    × (AreUnitedByEvents es ns m n → part_after es ns m ≡ part_after es ns n)
 
 -- ---- slices
 
@@ -96,4 +96,4 @@ SlicesShareParts = (es : List PartEvent) (falls : Bool) (ns : List ℕ) (end m n
 -- two characters share a slice only where an event united their parts
 abbrev pub SlicesAreNoCoarser : Type 0
 SlicesAreNoCoarser = (es : List PartEvent) (falls : Bool) (ns : List ℕ) (end m n : ℕ) → IsInOrder falls ns → IsGiving es ns → after_part_events es ns ≢ []
-    → IsTrue (has_number ns m) → IsTrue (has_number ns n) → m < end → n < end → m ≢ n → ShareSlice (slices (after_part_events es ns) end) m n → UnitedIn es ns m n
+    → IsTrue (has_number ns m) → IsTrue (has_number ns n) → m < end → n < end → m ≢ n → ShareSlice (slices (after_part_events es ns) end) m n → AreUnitedByEvents es ns m n

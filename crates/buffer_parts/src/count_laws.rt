@@ -1,3 +1,4 @@
+//! Laws of our own, which rustybuzz has not: how many glyphs events leave.
 ghost use Rattle.buffer_parts.specs.CountLaws.{CountsFollow, GivingIsGiving, LigaturesAreGiving};
 
 /// How many glyphs events leave depends on how many there were.

@@ -1,3 +1,4 @@
+//! Laws of our own, which rustybuzz has not: which events keep the parts of a text.
 ghost use Rattle.buffer_parts.specs.KeepingLaws.{KeptEventsHaveParts, KeptInTurn, LigaturesKeepParts, PlainIsKept, ReplacementsKeepParts};
 
 /// Events that keep the parts of a text keep them one after the other.

@@ -1,4 +1,5 @@
-ghost use Rattle.buffer_parts.specs.Laws.{EventsAreUnions, NumbersAreParts, OrderlyInTurn, OriginsAreParts, OriginsKeepLeast, OriginsKeepOrder, PartsAreUnited, PartsGoDown, PartsHaveGlyphs, PartsRise, PartsStay, PlainIsOrderly, SlicesAreNoCoarser, SlicesAreParts, SlicesAreText, SlicesJoin, SlicesShareParts};
+//! Laws of our own, which rustybuzz has not: clusters follow the events of a text as its parts do, and keep their order.
+ghost use Rattle.buffer_parts.specs.Laws.{EventsAreUnions, NumbersAreParts, OrderlyInTurn, OriginsAreParts, OriginsKeepLeast, OriginsKeepOrder, PartsAreUnited, PartsAreNoGreater, PartsHaveGlyphs, PartsRise, PartsStay, PlainIsOrderly, SlicesAreNoCoarser, SlicesAreParts, SlicesAreText, SlicesJoin, SlicesShareParts};
 
 /// Plain events are orderly, whatever they meet.
 #[tactic(auto, using(crate::specs::Lemmas::Orderly::plain_is_orderly))]
@@ -43,9 +44,9 @@ pub fn law_parts_rise()
 {}
 
 /// No number is in a part with a greater number.
-#[tactic(auto, using(crate::specs::Lemmas::CharacterParts::parts_go_down))]
-pub fn law_parts_go_down()
-    ensures { PartsGoDown }
+#[tactic(auto, using(crate::specs::Lemmas::CharacterParts::parts_are_no_greater))]
+pub fn law_parts_are_no_greater()
+    ensures { PartsAreNoGreater }
 {}
 
 /// A number that is among the items afterwards is its own part.

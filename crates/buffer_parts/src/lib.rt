@@ -1,4 +1,5 @@
-// The parts of a text: events that keep clusters in order, the part of each character, slices, and how many glyphs events leave.
+//! The parts of a text: events that keep clusters in order, the part of each character, slices, and how many glyphs events
+//! leave. All are laws of our own, which rustybuzz has not.
 #![tactic(auto)]
 
 pub mod count_laws;

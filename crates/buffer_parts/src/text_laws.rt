@@ -1,3 +1,4 @@
+//! Laws of our own, which rustybuzz has not: parts of reversed groups, of whole texts and of slices.
 ghost use Rattle.buffer_parts.specs.TextLaws.{DeletionsUniteTheLast, MergedGroupsAreOne, MergedGroupsMayTurn, OneGroupsMayTurn, PartsFitText, SingleGroupsAreOne, TurnsAddUp, UnturnedKeepsSide};
 
 /// Groups of one cluster each may be reversed, and then the list.

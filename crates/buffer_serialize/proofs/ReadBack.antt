@@ -208,26 +208,26 @@ flag_text_is mask rest = let small = below_eight mask in flags_is (bit_and mask 
 rests : (x : ℤ) → pos 0 +ℤ x ≡ x
 rests x = +ℤ_idl x
 
-advance_text_is : (place : GlyphPosition) (rest : List ℕ)
-    → advance_text numbers_and_flags place ++ rest ≡ 43 ∷ (signed_decimal place.x_advance ++ second_then place.y_advance rest)
+advance_text_is : (position : GlyphPosition) (rest : List ℕ)
+    → advance_text numbers_and_flags position ++ rest ≡ 43 ∷ (signed_decimal position.x_advance ++ second_then position.y_advance rest)
 unfolding advance_text
-advance_text_is place rest = simp append_assoc (rw (append_cases (int_eq place.y_advance (pos 0))))
+advance_text_is position rest = simp append_assoc (rw (append_cases (int_eq position.y_advance (pos 0))))
 
 offset_text_is : (x y : ℤ) (rest : List ℕ) → offset_text (record { x = x; y = y }) ++ rest ≡ offset_then x y rest
 unfolding offset_text
 offset_text_is x y rest = rw (append_cases (int_eq x (pos 0) && int_eq y (pos 0))) (simp append_assoc)
 
-position_text_is : (place : GlyphPosition) (rest : List ℕ)
-    → position_text numbers_and_flags (record { x = pos 0; y = pos 0 }) place ++ rest
-    ≡ offset_then place.x_offset place.y_offset (43 ∷ (signed_decimal place.x_advance ++ second_then place.y_advance rest))
+position_text_is : (position : GlyphPosition) (rest : List ℕ)
+    → position_text numbers_and_flags (record { x = pos 0; y = pos 0 }) position ++ rest
+    ≡ offset_then position.x_offset position.y_offset (43 ∷ (signed_decimal position.x_advance ++ second_then position.y_advance rest))
 unfolding position_text
-position_text_is place rest = simp rests (rw (append_assoc, advance_text_is, offset_text_is))
+position_text_is position rest = simp rests (rw (append_assoc, advance_text_is, offset_text_is))
 
 glyph_text_is : (name_of : ℕ → Option (List ℕ)) (extents_of : ℕ → Option hb_glyph_extents_t) (before : List GlyphPosition)
-    (glyph : hb_glyph_info_t) (place : GlyphPosition) (rest : List ℕ)
-    → glyph_text name_of extents_of numbers_and_flags (pen_after numbers_and_flags before) glyph place ++ rest ≡ plain_text (shown_glyph (glyph, place)) rest
+    (glyph : hb_glyph_info_t) (position : GlyphPosition) (rest : List ℕ)
+    → glyph_text name_of extents_of numbers_and_flags (pen_after numbers_and_flags before) glyph position ++ rest ≡ plain_text (shown_glyph (glyph, position)) rest
 unfolding glyph_text name_text cluster_text extents_text
-glyph_text_is name_of extents_of before glyph place rest =
+glyph_text_is name_of extents_of before glyph position rest =
     simp append_assoc (rw (flag_text_is, position_text_is))
 
 -- ---- a run's text

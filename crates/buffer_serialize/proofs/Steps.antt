@@ -82,11 +82,11 @@ drop_at xs i d lt = drop-cons xs i d lt ∙ ap (λ k. get_or xs i d ∷ drop k x
 
 -- the texts from a glyph on
 texts_cons : (name_of : ℕ → Option (List ℕ)) (extents_of : ℕ → Option hb_glyph_extents_t) (flags : SerializeFlags)
-    (before after : List GlyphPosition) (glyphs glyphs_after : List hb_glyph_info_t) (positions places_after : List GlyphPosition) (glyph : hb_glyph_info_t) (place : GlyphPosition)
-    → glyphs ≡ glyph ∷ glyphs_after → positions ≡ place ∷ places_after → after ≡ before ++ place ∷ []
+    (before after : List GlyphPosition) (glyphs glyphs_after : List hb_glyph_info_t) (positions places_after : List GlyphPosition) (glyph : hb_glyph_info_t) (position : GlyphPosition)
+    → glyphs ≡ glyph ∷ glyphs_after → positions ≡ position ∷ places_after → after ≡ before ++ position ∷ []
     → glyph_texts name_of extents_of flags before glyphs positions
-    ≡ glyph_text name_of extents_of flags (pen_after flags before) glyph place ∷ glyph_texts name_of extents_of flags after glyphs_after places_after
-texts_cons name_of extents_of flags before after glyphs glyphs_after positions places_after glyph place glyphs_is places_is after_is =
+    ≡ glyph_text name_of extents_of flags (pen_after flags before) glyph position ∷ glyph_texts name_of extents_of flags after glyphs_after places_after
+texts_cons name_of extents_of flags before after glyphs glyphs_after positions places_after glyph position glyphs_is places_is after_is =
     rw (glyphs_is, places_is, after_is)
 
 -- what is left to print of the run from this index on
@@ -96,15 +96,15 @@ left_at name_of extents_of flags glyphs positions i =
 
 -- the run after one glyph more
 pub printed_step : (name_of : ℕ → Option (List ℕ)) (extents_of : ℕ → Option hb_glyph_extents_t) (flags : SerializeFlags)
-    (glyphs : List hb_glyph_info_t) (positions : List GlyphPosition) (i : ℕ) (pen : Pen) (glyph : hb_glyph_info_t) (place : GlyphPosition)
+    (glyphs : List hb_glyph_info_t) (positions : List GlyphPosition) (i : ℕ) (pen : Pen) (glyph : hb_glyph_info_t) (position : GlyphPosition)
     (old mid new : List ℕ)
     → i < length glyphs → i < length positions → pen ≡ pen_after flags (take i positions)
-    → mid ≡ old ++ separator i → new ≡ mid ++ glyph_text name_of extents_of flags pen (get_or glyphs i glyph) (get_or positions i place)
+    → mid ≡ old ++ separator i → new ≡ mid ++ glyph_text name_of extents_of flags pen (get_or glyphs i glyph) (get_or positions i position)
     → new ++ left_at name_of extents_of flags glyphs positions (i + 1) ≡ old ++ left_at name_of extents_of flags glyphs positions i
-printed_step name_of extents_of flags glyphs positions i pen glyph place old mid new in_glyphs in_places pen_is mid_is new_is =
-    let text : Pen → List ℕ = λ p. glyph_text name_of extents_of flags p (get_or glyphs i glyph) (get_or positions i place) in
+printed_step name_of extents_of flags glyphs positions i pen glyph position old mid new in_glyphs in_places pen_is mid_is new_is =
+    let text : Pen → List ℕ = λ p. glyph_text name_of extents_of flags p (get_or glyphs i glyph) (get_or positions i position) in
     let rest : List (List ℕ) = glyph_texts name_of extents_of flags (take (i + 1) positions) (drop (i + 1) glyphs) (drop (i + 1) positions) in
     let split = texts_cons name_of extents_of flags (take i positions) (take (i + 1) positions) (drop i glyphs) (drop (i + 1) glyphs) (drop i positions) (drop (i + 1) positions) _ _
-    (drop_at glyphs i glyph in_glyphs) (drop_at positions i place in_places) (take_more positions i place in_places)
+    (drop_at glyphs i glyph in_glyphs) (drop_at positions i position in_places) (take_more positions i position in_places)
     ∙ ap (λ p. text p ∷ rest) (sym pen_is) in
     regrouped old mid new (separator i) (text pen) _ _ mid_is new_is (ap (left_from i) split ∙ left_step i _ _)

@@ -15,7 +15,7 @@ total numbers = fold ◌+ℤ◌ (pos 0) numbers
 -- the pen after glyphs at these positions: the sums of their advances, or at rest where the advances are printed
 abbrev pub pen_after : SerializeFlags → List GlyphPosition → Pen
 pen_after flags positions = if drops_advances flags
-    then record { x = total (map (λ place. place.x_advance) positions); y = total (map (λ place. place.y_advance) positions) }
+    then record { x = total (map (λ position. position.x_advance) positions); y = total (map (λ position. position.y_advance) positions) }
     else record { x = pos 0; y = pos 0 }
 
 -- the pen at a distance
@@ -24,7 +24,7 @@ shifted_pen pen x y = record { x = pen.x +ℤ x; y = pen.y +ℤ y }
 
 -- the pen moved on by one glyph
 abbrev pub moved_pen : SerializeFlags → Pen → GlyphPosition → Pen
-moved_pen flags pen place = if drops_advances flags then shifted_pen pen place.x_advance place.y_advance else pen
+moved_pen flags pen position = if drops_advances flags then shifted_pen pen position.x_advance position.y_advance else pen
 
 -- the coordinate is at most so far from 0
 pub record IsNear (bound : ℕ) (z : ℤ) : Type 0 where

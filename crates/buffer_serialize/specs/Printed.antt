@@ -62,14 +62,14 @@ offset_text at = if int_eq at.x (pos 0) && int_eq at.y (pos 0) then []
 
 -- `+x_advance`, and `,y_advance` if that is not 0
 unfoldable pub advance_text : SerializeFlags → GlyphPosition → List ℕ
-advance_text flags place = if drops_advances flags then []
-    else codes "+" ++ (signed_decimal place.x_advance
-    ++ (if int_eq place.y_advance (pos 0) then [] else codes "," ++ signed_decimal place.y_advance))
+advance_text flags position = if drops_advances flags then []
+    else codes "+" ++ (signed_decimal position.x_advance
+    ++ (if int_eq position.y_advance (pos 0) then [] else codes "," ++ signed_decimal position.y_advance))
 
 -- the text of a glyph's position: the pen moved by its offset, and its advances
 unfoldable pub position_text : SerializeFlags → Pen → GlyphPosition → List ℕ
-position_text flags pen place = if drops_positions flags then []
-    else offset_text (shifted_pen pen place.x_offset place.y_offset) ++ advance_text flags place
+position_text flags pen position = if drops_positions flags then []
+    else offset_text (shifted_pen pen position.x_offset position.y_offset) ++ advance_text flags position
 
 -- `#` and the three glyph flags in hexadecimal, if one is set
 unfoldable pub flag_text : SerializeFlags → ℕ → List ℕ
@@ -90,9 +90,9 @@ extents_text extents_of flags number = if shows_extents flags then box_text (unw
 
 -- a glyph: its name or number, cluster, position, flags and box
 unfoldable pub glyph_text : Names → Boxes → SerializeFlags → Pen → hb_glyph_info_t → GlyphPosition → List ℕ
-glyph_text name_of extents_of flags pen glyph place = name_text name_of flags glyph.glyph_id
+glyph_text name_of extents_of flags pen glyph position = name_text name_of flags glyph.glyph_id
     ++ (cluster_text flags glyph.cluster
-    ++ (position_text flags pen place
+    ++ (position_text flags pen position
     ++ (flag_text flags glyph.mask
     ++ extents_text extents_of flags glyph.glyph_id)))
 
@@ -100,9 +100,9 @@ glyph_text name_of extents_of flags pen glyph place = name_text name_of flags gl
 abbrev pub glyph_texts : Names → Boxes → SerializeFlags → List GlyphPosition → List hb_glyph_info_t → List GlyphPosition → List (List ℕ)
 glyph_texts name_of extents_of flags before [] positions = []
 glyph_texts name_of extents_of flags before (glyph ∷ glyphs) [] = []
-glyph_texts name_of extents_of flags before (glyph ∷ glyphs) (place ∷ positions) =
-    glyph_text name_of extents_of flags (pen_after flags before) glyph place
-    ∷ glyph_texts name_of extents_of flags (before ++ place ∷ []) glyphs positions
+glyph_texts name_of extents_of flags before (glyph ∷ glyphs) (position ∷ positions) =
+    glyph_text name_of extents_of flags (pen_after flags before) glyph position
+    ∷ glyph_texts name_of extents_of flags (before ++ position ∷ []) glyphs positions
 
 -- the separator before the glyph at an index
 abbrev pub separator : ℕ → List ℕ

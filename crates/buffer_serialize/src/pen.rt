@@ -26,15 +26,15 @@ impl Pen {
     }
 
     /// The pen after a glyph at this position. It doesn't move where the advances are printed.
-    pub fn moved(self, flags: SerializeFlags, place: &GlyphPosition) -> Pen
+    pub fn moved(self, flags: SerializeFlags, position: &GlyphPosition) -> Pen
         requires { IsWithin (2 ^ 96) self }
-        ensures value { result ≡ moved_pen flags self place.now }
+        ensures value { result ≡ moved_pen flags self position.now }
         ensures near { (bound : ℕ) → IsWithin bound self → IsWithin (bound + 2 ^ 31) result }
     {
         if !flags.contains(SerializeFlags::NO_ADVANCES) {
             return self;
         }
-        self.shifted(place.x_advance, place.y_advance)
+        self.shifted(position.x_advance, position.y_advance)
     }
 }
 

@@ -84,18 +84,18 @@ fn push_offset(text: &mut String, at: Pen) -> Result<(), AllocError>
 fn push_advance(
     text: &mut String,
     flags: SerializeFlags,
-    place: &GlyphPosition,
+    position: &GlyphPosition,
 ) -> Result<(), AllocError>
     ensures { OnOk result (string_bytes text.new ≡ string_bytes text.old
-        ++ advance_text flags place.now) }
+        ++ advance_text flags position.now) }
 {
     if flags.contains(SerializeFlags::NO_ADVANCES) {
         return Ok(());
     }
-    if place.y_advance == 0 {
-        return write!(text, "+{}", place.x_advance);
+    if position.y_advance == 0 {
+        return write!(text, "+{}", position.x_advance);
     }
-    write!(text, "+{},{}", place.x_advance, place.y_advance)
+    write!(text, "+{},{}", position.x_advance, position.y_advance)
 }
 
 /// Appends the glyph's offset and advances.
@@ -104,17 +104,17 @@ pub fn push_position(
     text: &mut String,
     flags: SerializeFlags,
     pen: Pen,
-    place: &GlyphPosition,
+    position: &GlyphPosition,
 ) -> Result<(), AllocError>
     requires { IsWithin (2 ^ 96) pen }
     ensures { OnOk result (string_bytes text.new ≡ string_bytes text.old
-        ++ position_text flags pen place.now) }
+        ++ position_text flags pen position.now) }
 {
     if flags.contains(SerializeFlags::NO_POSITIONS) {
         return Ok(());
     }
-    push_offset(text, pen.shifted(place.x_offset, place.y_offset))?;
-    push_advance(text, flags, place)
+    push_offset(text, pen.shifted(position.x_offset, position.y_offset))?;
+    push_advance(text, flags, position)
 }
 
 /// Appends the glyph flags of the mask.

@@ -29,15 +29,15 @@ fn push_glyph<N: GlyphNames>(
     flags: SerializeFlags,
     pen: Pen,
     glyph: &hb_glyph_info_t,
-    place: &GlyphPosition,
+    position: &GlyphPosition,
 ) -> Result<(), AllocError>
     requires near { IsWithin (2 ^ 96) pen }
     ensures { OnOk result (string_bytes text.new ≡ string_bytes text.old
-        ++ glyph_text (N.name_of names.now) (N.extents_of names.now) flags pen glyph.now place.now) }
+        ++ glyph_text (N.name_of names.now) (N.extents_of names.now) flags pen glyph.now position.now) }
 {
     push_name(text, names, flags, glyph)?;
     push_cluster(text, flags, glyph.cluster)?;
-    push_position(text, flags, pen, place)?;
+    push_position(text, flags, pen, position)?;
     push_glyph_flags(text, flags, glyph.mask)?;
     push_extents(text, names, flags, glyph)
 }
@@ -65,10 +65,10 @@ pub fn serialize<N: GlyphNames>(
     let mut text = String::new(alloc);
     let mut pen = Pen::default();
     for (index, glyph) in glyphs.iter().enumerate() {
-        let place = &positions[index];
+        let position = &positions[index];
         push_separator(&mut text, index)?;
-        push_glyph(&mut text, names, flags, pen, glyph, place)?;
-        pen = pen.moved(flags, place);
+        push_glyph(&mut text, names, flags, pen, glyph, position)?;
+        pen = pen.moved(flags, position);
     }
     Ok(text)
 }

@@ -8,13 +8,13 @@ abbrev pub attachment_bit : ℕ → ℕ
 attachment_bit scratch_flags = bit_and scratch_flags 8
 
 -- a view with another limit of length and other scratch flags
-abbrev pub seen_as : ℕ → ℕ → View → View
-seen_as limit scratch_flags v = record v { max_len = limit; scratch_flags = scratch_flags }
+abbrev pub with_limit_and_flags : ℕ → ℕ → View → View
+with_limit_and_flags limit scratch_flags v = record v { max_len = limit; scratch_flags = scratch_flags }
 
 -- two views are equal, but for how long a list may be and for the scratch flags that characters set
 pub record SeenAlike (a b : View) : Type 0 where
   pub scratch_flags : attachment_bit a.scratch_flags ≡ attachment_bit b.scratch_flags
-  pub same : b ≡ seen_as b.max_len b.scratch_flags a
+  pub same : b ≡ with_limit_and_flags b.max_len b.scratch_flags a
 
 -- two readings lead to views seen alike, by the same events at each level
 pub record ReadAlike (r s : Read) : Type 0 where

@@ -27,7 +27,7 @@ abbrev pub SparingReadsTheSame : Type 0
 SparingReadsTheSame = (stage : Stage) (v : View) (m k d : ℕ) (r : Read) → SparesBudget stage → stage (at_budget (pos m) v) ≡ Ok r → r.view.max_ops ≡ pos (suc k)
     → stage (at_budget (pos (m + d)) v) ≡ Ok (record r { view = at_budget (pos (suc k + d)) r.view })
 
--- one run that leaves some of its budget tells how many units the reading takes: with that many, and with each greater number, the same is read
+-- one run that leaves some of its budget shows how many units the reading takes: with that many, and with each greater number, the same is read
 abbrev pub CountingHasUses : Type 0
 CountingHasUses = (stage : Stage) (v : View) (n k : ℕ) (r : Read) → CountsBudget stage → stage (at_budget (pos (n + suc k)) v) ≡ Ok r → r.view.max_ops ≡ pos (suc k) → Uses stage v n 0
 

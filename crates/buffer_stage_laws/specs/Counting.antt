@@ -19,12 +19,12 @@ pub record IsFair (ample : ℤ → Bool) (change : ℤ → ℤ) : Type 0 where
   pub less : (k : ℤ) → change (k -ℤ pos 1) ≡ change k -ℤ pos 1
 
 -- a view with its budget changed
-abbrev pub rebudgeted : (ℤ → ℤ) → View → View
-rebudgeted change v = record v { max_ops = change v.max_ops }
+abbrev pub with_budget_changed : (ℤ → ℤ) → View → View
+with_budget_changed change v = record v { max_ops = change v.max_ops }
 
 -- what was read, with the budget that it left changed
 abbrev pub rebudgeted_read : (ℤ → ℤ) → Read → Read
-rebudgeted_read change r = record r { view = rebudgeted change r.view }
+rebudgeted_read change r = record r { view = with_budget_changed change r.view }
 
 -- of two readings, the first from a budget `k`, the second after a change: where the first left ample, ample was there before, and the second is the same with its budget changed
 abbrev pub ReadingCounts : (ℤ → Bool) → (ℤ → ℤ) → ℤ → Reading → Reading → Type 0
@@ -33,7 +33,7 @@ ReadingCounts ample change k (Err e) b = Unit {0}
 
 -- a stage reads at each view after the change what it reads before
 abbrev pub StageCounts : (ℤ → Bool) → (ℤ → ℤ) → Stage → Type 0
-StageCounts ample change stage = (v : View) → ReadingCounts ample change v.max_ops (stage v) (stage (rebudgeted change v))
+StageCounts ample change stage = (v : View) → ReadingCounts ample change v.max_ops (stage v) (stage (with_budget_changed change v))
 
 -- a stage only counts its budget down: after each change that is not felt it reads the same, and leaves what it left, changed
 abbrev pub CountsBudget : Stage → Type 0
@@ -47,8 +47,8 @@ AllCountBudget (stage ∷ stages) = CountsBudget stage × AllCountBudget stages
 -- ---- more budget
 
 -- a view with so much more budget
-abbrev pub eased : ℕ → View → View
-eased d v = rebudgeted (λ k. k +ℤ pos d) v
+abbrev pub with_more_budget : ℕ → View → View
+with_more_budget d v = with_budget_changed (λ k. k +ℤ pos d) v
 
 -- what was read, with so much more left
 abbrev pub eased_read : ℕ → Read → Read
@@ -61,7 +61,7 @@ ReadingSpares d k (Err e) b = Unit {0}
 
 -- a stage that leaves something of its budget reads the same at each greater one
 abbrev pub SparesBudget : Stage → Type 0
-SparesBudget stage = (v : View) (d : ℕ) → ReadingSpares d v.max_ops (stage v) (stage (eased d v))
+SparesBudget stage = (v : View) (d : ℕ) → ReadingSpares d v.max_ops (stage v) (stage (with_more_budget d v))
 
 -- ---- what a reading takes
 

@@ -1,3 +1,5 @@
+//! Laws of our own, which rustybuzz has not: what a pipeline stage reads depends on no length limit, and
+//! counts the budget of nested lookups.
 ghost use Rattle.buffer_stage_laws.specs.AlikeLaws.{AlikeAreRead, ChainsDependOnNoLength, TwoDependOnNoLength, WantedDependOnNoLength};
 ghost use Rattle.buffer_stage_laws.specs.CountLaws.{ChainsCountBudget, CountingHasUses, CountingSparesBudget, SparingAlikeAreRead, SparingReadsTheSame, TwoCountBudget, UsedAlikeAreRead, WantedCountBudget};
 
@@ -46,7 +48,7 @@ pub fn law_sparing_reads_the_same()
     ensures { SparingReadsTheSame }
 {}
 
-/// One run that leaves some of its budget tells how many units the reading takes.
+/// One run that leaves some of its budget shows how many units the reading takes.
 pub fn law_counting_has_uses()
     ensures { CountingHasUses }
 {}

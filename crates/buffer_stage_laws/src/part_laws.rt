@@ -1,3 +1,4 @@
+//! Laws of our own, which rustybuzz has not: which pipeline stages keep the parts of a text, and which reverse no list.
 ghost use Rattle.buffer_stage_laws.specs.Laws.{FirstRulesKeepParts, PlainStagesKeepParts, RunsHaveParts, StagesKeepParts, StagesStayUnturned};
 
 /// Two stages that keep the parts of a text keep them one after the other.

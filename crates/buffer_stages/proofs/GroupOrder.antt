@@ -4,11 +4,11 @@ use Rattle.std.specs.Prelude.{not}
 use Rattle.std.specs.List.{flat_map}
 use Rattle.std.proofs.lemmas.Grind.{reverse_onto}
 use Rattle.std.proofs.lemmas.List.{append-nil, map-append}
-use Rattle.buffer_groups.specs.Groups.{joined_count}
-use Rattle.buffer_groups.specs.Lemmas.GroupsTurned.{groups_cut}
+use Rattle.buffer_lists.specs.Groups.{joined_count}
+use Rattle.buffer_lists.specs.Lemmas.GroupsTurned.{groups_cut}
 use Rattle.std.proofs.lemmas.List.Concat.{flat_map-append}
-use Rattle.buffer_groups.specs.Turning.{groups, groups_reversed_list, in_front}
-use Rattle.buffer_groups.specs.Lemmas.Picked.{AreAt}
+use Rattle.buffer_lists.specs.Turning.{groups, groups_reversed_list, in_front}
+use Rattle.buffer_lists.specs.Lemmas.Picked.{AreAt}
 use Rattle.buffer_stages.specs.Turned.{leading_turned}
 
 -- what follows the first item of a group begins no group

@@ -6,8 +6,8 @@ use Rattle.std.specs.Option.{option_map_or}
 use Rattle.std.proofs.lemmas.List.FromFn.{length-range_with_len}
 use Rattle.buffer_glyphs.specs.declared.info.hb_glyph_info_t.{hb_glyph_info_t}
 use Rattle.buffer_glyphs.specs.Items.{Item, item_of, strip}
-use Rattle.buffer_groups.specs.Lemmas.Picked.{AreAt, are_all}
-use Rattle.buffer_groups.specs.Turning.{groups_reversed_list}
+use Rattle.buffer_lists.specs.Lemmas.Picked.{AreAt, are_all}
+use Rattle.buffer_lists.specs.Turning.{groups_reversed_list}
 use Rattle.buffer_core.specs.Sides.{Sides, all_glyphs, items_of}
 use Rattle.buffer_stages.specs.Fronts.{one_seen}
 use Rattle.buffer_stages.specs.Ordering.{begins_at, same_group}

@@ -3,21 +3,21 @@ use Rattle.std.proofs.Common.{ℕ, ◌≡◌, ◌+◌, List, [], ◌∷◌, ◌+
 use Rattle.std.specs.Prelude.{slice_range}
 use Rattle.buffer_glyphs.specs.declared.info.hb_glyph_info_t.{hb_glyph_info_t}
 use Rattle.buffer_stable_order.specs.Keys.{key_order}
-use Rattle.buffer_groups.specs.Events.{order_of}
-use Rattle.buffer_groups.specs.Sorting.{range_sorted}
+use Rattle.buffer_lists.specs.Events.{order_of}
+use Rattle.buffer_lists.specs.Sorting.{range_sorted}
 use Rattle.buffer_glyphs.specs.Items.{Item}
 use Rattle.buffer_glyphs.specs.Events.{Sort}
 use Rattle.buffer_core.specs.Sides.{Sides, all_glyphs, items_of, origins_by, origins_of, settings_of, view_of}
 use Rattle.buffer_core.specs.Sorting.{with_range_sorted}
 use Rattle.buffer_core.proofs.Told.{stage_flags_ignore_glyph_flags}
 use Rattle.buffer_stages.specs.Ready.{IsReady}
-use Rattle.buffer_stages.specs.Ordering.{sorted_by_place}
+use Rattle.buffer_stages.specs.Ordering.{auxiliary_order}
 use Rattle.buffer_stages.specs.SyllableBuffers.{IsRewritten}
 
 pub sort_rewrites : (from to : ℕ) (a b : Sides) → IsReady a → b ≡ with_range_sorted from to (λ (g : hb_glyph_info_t). g.auxiliary) a → length (all_glyphs b) ≡ length (all_glyphs a)
     → items_of b ≡ take from (items_of a) ++ key_order (λ (x : Item). x.auxiliary) (slice_range (items_of a) from to) ++ drop to (items_of a)
     → origins_of b ≡ origins_by (Sort from (order_of (map (λ (x : Item). x.auxiliary) (slice_range (items_of a) from to))) ∷ []) a
-    → IsRewritten (sorted_by_place (slice_range (items_of a) from to)) from to a b
+    → IsRewritten (auxiliary_order (slice_range (items_of a) from to)) from to a b
 sort_rewrites from to a b ready e count items from_where =
     let t = range_sorted a.level from to (λ (g : hb_glyph_info_t). g.auxiliary) (all_glyphs a) in
     let at : from + 0 ≡ from = omega arith in

@@ -5,7 +5,7 @@ use Rattle.std.proofs.lemmas.List.{length-take-le, length-drop, drop_all}
 use Rattle.buffer_glyphs.specs.declared.info.hb_glyph_info_t.{hb_glyph_info_t}
 use Rattle.buffer_glyphs.specs.Items.{Item}
 use Rattle.buffer_core.specs.Readings.{always}
-use Rattle.buffer_groups.specs.Runs.{run_length}
+use Rattle.buffer_lists.specs.Runs.{run_length}
 use Rattle.buffer_core.specs.Sides.{Sides, all_glyphs, items_of}
 use Rattle.buffer_stages.specs.Ready.{IsReady}
 use Rattle.buffer_stages.specs.Stages.{IsFollowed}

@@ -10,7 +10,7 @@ fronts pair one [] = []
 fronts pair one (x ∷ []) = if one x then x ∷ [] else []
 fronts pair one (x ∷ y ∷ zs) = if pair x y then fronts pair one zs ++ (x ∷ y ∷ []) else if one x then fronts pair one (y ∷ zs) ++ (x ∷ []) else fronts pair one (y ∷ zs)
 
--- the other elements, in their order
+-- the elements that are not moved to the front, in their order
 abbrev pub elements_after_fronts : {X : Type 0} → (X → X → Bool) → (X → Bool) → List X → List X
 elements_after_fronts pair one [] = []
 elements_after_fronts pair one (x ∷ []) = if one x then [] else x ∷ []

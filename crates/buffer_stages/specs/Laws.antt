@@ -7,5 +7,5 @@ abbrev pub first_of_rules : List Action → Action
 first_of_rules rules c = first_rule (λ act. act) rules c
 
 -- rules after others are tried where those pass, and the events of those that passed stay
-abbrev pub RulesGoInOrder : Type 0
-RulesGoInOrder = (rules more : List Action) (c : Cut) → first_of_rules (rules ++ more) c ≡ or_else (first_of_rules rules c) (first_of_rules more c)
+abbrev pub RulesAreTriedInOrder : Type 0
+RulesAreTriedInOrder = (rules more : List Action) (c : Cut) → first_of_rules (rules ++ more) c ≡ or_else (first_of_rules rules c) (first_of_rules more c)

@@ -22,5 +22,5 @@ pub mod Bytes
 pub mod Cuts
 pub mod Examples
 pub mod Pieces
-pub mod Brought
+pub mod Appending
 pub mod Rearranged

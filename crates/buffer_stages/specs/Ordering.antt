@@ -3,8 +3,8 @@ use Rattle.std.specs.Prelude.{ℕ, ◌≡◌, not, Bool, false, List, [], ◌∷
 use Rattle.std.specs.List.{range_with_len}
 use Rattle.std.specs.Option.{option_map_or}
 use Rattle.buffer_stable_order.specs.Keys.{key_order}
-use Rattle.buffer_groups.specs.Events.{order_of}
-use Rattle.buffer_groups.specs.Turning.{groups_reversed_list}
+use Rattle.buffer_lists.specs.Events.{order_of}
+use Rattle.buffer_lists.specs.Turning.{groups_reversed_list}
 use Rattle.buffer_glyphs.specs.declared.info.hb_glyph_info_t.{hb_glyph_info_t}
 use Rattle.buffer_glyphs.specs.Items.{Item, strip}
 use Rattle.buffer_glyphs.specs.Levels.{InList}
@@ -16,9 +16,9 @@ use Rattle.buffer_glyphs.specs.Rewriting.{Arrangement}
 abbrev pub merged_in_order : List ℕ → List Item → Arrangement
 merged_in_order order ys = record { items = ys; events = Move InList 0 order ∷ [] }
 
--- items in stable order by their places, which their `auxiliary` holds: each smallest span that the order permutes merges
-abbrev pub sorted_by_place : List Item → Arrangement
-sorted_by_place xs = record { items = key_order (λ (x : Item). x.auxiliary) xs; events = Sort 0 (order_of (map (λ (x : Item). x.auxiliary) xs)) ∷ [] }
+-- items in stable order by their `auxiliary` numbers: each smallest span that the order permutes merges
+abbrev pub auxiliary_order : List Item → Arrangement
+auxiliary_order xs = record { items = key_order (λ (x : Item). x.auxiliary) xs; events = Sort 0 (order_of (map (λ (x : Item). x.auxiliary) xs)) ∷ [] }
 
 -- an item that begins no group is of the group of the item before it
 abbrev pub same_group : (Item → Bool) → Item → Item → Bool

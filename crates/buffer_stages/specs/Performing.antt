@@ -33,7 +33,7 @@ Performs o (Ok acted) before after old new = IsPerformed o acted before after ol
 Performs o (Err cause) before after old new = cause ≢ OutOfMemory → o ≡ Refuses cause
 
 -- a rule made a cut of a list without an output, in place: the cursor stays, and so do the positions
-pub record IsPutInPlace (cut : Cut) (events : List Event) (old new : Sides) : Type 0 where
+pub record IsPutWithoutOutput (cut : Cut) (events : List Event) (old new : Sides) : Type 0 where
   pub cut_is : cut_of new ≡ cut
   pub happened : HasHappened events old new
   pub still : IsStill old new
@@ -42,7 +42,7 @@ pub record IsPutInPlace (cut : Cut) (events : List Event) (old new : Sides) : Ty
   pub numbers : are_glyphs (items_of old) ≡ true → are_glyphs (items_of new) ≡ true
 
 -- a call performs in place a rule that never refuses, and takes no memory
-abbrev pub PerformsInPlace : Outcome → Bool → Sides → Sides → Type 0
-PerformsInPlace (Passes events) acted old new = (acted ≡ false) × IsPassed events old new
-PerformsInPlace (Acts cut events) acted old new = (acted ≡ true) × IsPutInPlace cut events old new
-PerformsInPlace (Refuses cause) acted old new = ⊥
+abbrev pub PerformsWithoutOutput : Outcome → Bool → Sides → Sides → Type 0
+PerformsWithoutOutput (Passes events) acted old new = (acted ≡ false) × IsPassed events old new
+PerformsWithoutOutput (Acts cut events) acted old new = (acted ≡ true) × IsPutWithoutOutput cut events old new
+PerformsWithoutOutput (Refuses cause) acted old new = ⊥

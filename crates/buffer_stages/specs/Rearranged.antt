@@ -4,7 +4,7 @@ use Rattle.buffer_glyphs.specs.Items.{Item}
 use Rattle.buffer_core.specs.Sides.{Sides, items_of, origins_of, origins_by}
 use Rattle.buffer_stages.specs.Ready.{IsReady}
 use Rattle.buffer_glyphs.specs.Rewriting.{Arrangement, shifted_event}
-use Rattle.buffer_stages.specs.Brought.{frame_of}
+use Rattle.buffer_stages.specs.Appending.{frame_of}
 
 -- an arrangement between two ranges that stay, and all else as before
 pub record IsRearranged (front : List Item) (a : Arrangement) (rest : List Item) (old new : Sides) : Type 0 where

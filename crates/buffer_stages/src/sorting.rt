@@ -1,24 +1,24 @@
-//! The stable order of a part by the places of its glyphs.
+//! The stable order of a range by the `auxiliary` number of its glyphs.
 ghost use Rattle.std.specs.Prelude.{◌≡◌, ◌≤◌, ◌++◌, ◌∷◌, [], false, drop, length, map, slice_range, take, OnOk};
 ghost use Rattle.buffer_stable_order.specs.Keys.{key_order};
 ghost use Rattle.buffer_glyphs.specs.Events.{Sort};
-ghost use Rattle.buffer_groups.specs.Events.{order_of};
+ghost use Rattle.buffer_lists.specs.Events.{order_of};
 ghost use Rattle.buffer_core.specs.Sides.{all_glyphs, items_of, origins_by, origins_of};
 ghost use Rattle.buffer_core.specs.Sorting.{with_range_sorted};
 ghost use Rattle.buffer_stages.specs.Ready.{IsReady};
-ghost use Rattle.buffer_stages.specs.Ordering.{sorted_by_place};
+ghost use Rattle.buffer_stages.specs.Ordering.{auxiliary_order};
 ghost use Rattle.buffer_stages.specs.SyllableBuffers.{IsRewritten};
 
 use buffer_core::buffer::hb_buffer_t;
 use std::alloc::{AllocError, Global};
 
-/// Puts the glyphs from `start` up to before `end` in stable order by their places, and merges each smallest span that the
+/// Puts the glyphs from `start` up to before `end` in stable order by their `auxiliary` numbers, and merges each smallest span that the
 /// order permutes.
 ///
 /// # Errors
 ///
 /// Want of memory for the order.
-pub fn sort_by_place(
+pub fn sort_by_auxiliary(
     alloc: Global,
     buffer: &mut hb_buffer_t,
     start: usize,
@@ -27,7 +27,7 @@ pub fn sort_by_place(
     requires ready { IsReady buffer.old }
     requires ordered { start ≤ end }
     requires within { end ≤ length (all_glyphs buffer.old) }
-    ensures { OnOk result (IsRewritten (sorted_by_place (slice_range (items_of buffer.old) start end)) start end
+    ensures { OnOk result (IsRewritten (auxiliary_order (slice_range (items_of buffer.old) start end)) start end
         buffer.old buffer.new) }
 {
     sort_glyphs(alloc, buffer, start, end)?;

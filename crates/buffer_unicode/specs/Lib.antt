@@ -2,3 +2,8 @@ pub mod Category
 pub mod Character
 pub mod Scripts
 pub mod Spaces
+pub mod Inside
+pub mod Keys
+pub mod Numbers
+pub mod Ranges
+pub mod Rows

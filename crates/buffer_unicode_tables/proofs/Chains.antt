@@ -2,7 +2,7 @@
 use Rattle.std.proofs.Common.{ℕ, zero, suc, ◌≡◌, ◌≢◌, ◌+◌, ◌-◌, ◌*◌, ◌/◌, ◌%◌, ◌<◌, ◌≤◌, ◌==◌, Bool, true, false, MatchBool, List, [], ◌∷◌, ◌++◌, append_assoc, ne_eqb, eq-eqb, Option, Some, None, is_none, option_map, refl, sym, ◌∙◌, arith, inl, inr, eqb-true}
 use Rattle.std.proofs.lemmas.Bool.{and_parts, and_cases, cond_both, cases_eq, cases_Bool}
 use Rattle.std.specs.List.{list_all, find}
-use Rattle.buffer_unicode_rows.specs.declared.rows.Split.{Split}
+use Rattle.buffer_unicode.specs.declared.rows.Split.{Split}
 use Rattle.buffer_unicode_tables.specs.Expansion.{Splits, with_second_piece, expansion_by_splits, ends_within, ends_by, EndWithin, HasDeepChain}
 use Rattle.buffer_unicode_tables.specs.Hangul.{is_syllable, hangul_split}
 use Rattle.buffer_unicode_tables.specs.Ranges.{AllAmong, SomeAmong}

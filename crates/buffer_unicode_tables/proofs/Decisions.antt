@@ -5,11 +5,11 @@ use Rattle.std.specs.List.{list_all, find}
 use Rattle.std.specs.Option.{option_or, option_map_or}
 use Rattle.unicode.specs.GeneralCategory.{general_category}
 use Rattle.buffer_unicode.specs.Category.{is_mark_category}
-use Rattle.buffer_unicode_rows.specs.Keys.{is_rising}
-use Rattle.buffer_unicode_rows.proofs.Searches.{find_passes, all_pass, failing_row}
-use Rattle.buffer_unicode_rows.specs.declared.rows.CharacterClass.{CharacterClass}
-use Rattle.buffer_unicode_rows.specs.declared.rows.Pair.{Pair}
-use Rattle.buffer_unicode_rows.specs.declared.rows.Split.{Split}
+use Rattle.buffer_unicode.specs.Keys.{is_rising}
+use Rattle.buffer_unicode.proofs.Searches.{find_passes, all_pass, failing_row}
+use Rattle.buffer_unicode.specs.declared.rows.CharacterClass.{CharacterClass}
+use Rattle.buffer_unicode.specs.declared.rows.Pair.{Pair}
+use Rattle.buffer_unicode.specs.declared.rows.Split.{Split}
 use Rattle.buffer_unicode_tables.specs.ClassOrder.{beside_starters}
 use Rattle.buffer_unicode_tables.specs.Expansion.{Splits, EndWithin}
 use Rattle.buffer_unicode_tables.specs.Hangul.{hangul_split, hangul_pair}

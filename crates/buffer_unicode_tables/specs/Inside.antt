@@ -1,6 +1,6 @@
 -- The tables of a value's fields, and their invariant.
 use Rattle.std.specs.Prelude.{◌≡◌, true}
-use Rattle.buffer_unicode_rows.specs.Keys.{is_rising}
+use Rattle.buffer_unicode.specs.Keys.{is_rising}
 use Rattle.buffer_unicode_tables.specs.declared.tables.UnicodeTables.TheInside.{Inside}
 use Rattle.buffer_unicode_tables.specs.Tables.{Tables, splits_of}
 use Rattle.buffer_unicode_tables.specs.Expansion.{EndWithin}

@@ -1,6 +1,6 @@
 -- The records of all tables, as a caller gives them.
 use Rattle.std.specs.Prelude.{◌≡◌, true}
-use Rattle.buffer_unicode_rows.specs.Keys.{is_rising}
+use Rattle.buffer_unicode.specs.Keys.{is_rising}
 use Rattle.buffer_unicode_tables.specs.declared.records.UnicodeRecords.{UnicodeRecords}
 use Rattle.buffer_unicode_tables.specs.Tables.{Tables}
 

@@ -1,20 +1,20 @@
 -- The tables, as a caller gives their rows, and the properties of a character by them.
 use Rattle.std.specs.Prelude.{ℕ, Bool, ◌==◌, ◌&&◌, List, find, map, Option, None, option_map}
 use Rattle.std.specs.Option.{option_or, option_map_or}
-use Rattle.buffer_unicode_rows.specs.Keys.{row_fault}
-use Rattle.buffer_unicode_rows.specs.Ranges.{is_in_ranges}
-use Rattle.buffer_unicode_rows.specs.Rows.{split_of_numbers, is_split_in_range, pair_of_numbers, is_pair_in_range, character_class_of_numbers, is_character_class_in_range, counterpart_of_numbers, is_counterpart_in_range, character_range_of_numbers, is_character_range_in_range, joining_row_of_numbers, is_joining_row_in_range, indic_row_of_numbers, is_indic_row_in_range, universal_row_of_numbers, is_universal_row_in_range, thai_row_of_numbers, is_thai_row_in_range}
-use Rattle.buffer_unicode_rows.specs.declared.fault.TablesFault.{TablesFault}
-use Rattle.buffer_unicode_rows.specs.declared.rows.Split.{Split}
-use Rattle.buffer_unicode_rows.specs.declared.rows.Pair.{Pair}
-use Rattle.buffer_unicode_rows.specs.declared.rows.CharacterClass.{CharacterClass}
-use Rattle.buffer_unicode_rows.specs.declared.rows.Counterpart.{Counterpart}
-use Rattle.buffer_unicode_rows.specs.declared.rows.CharacterRange.{CharacterRange}
-use Rattle.buffer_unicode_rows.specs.declared.rows.JoiningRow.{JoiningRow}
-use Rattle.buffer_unicode_rows.specs.declared.rows.IndicRow.{IndicRow}
-use Rattle.buffer_unicode_rows.specs.declared.rows.UniversalRow.{UniversalRow}
-use Rattle.buffer_unicode_rows.specs.declared.rows.ThaiRow.{ThaiRow}
-use Rattle.buffer_unicode_rows.specs.declared.rows.UnicodeRows.{UnicodeRows}
+use Rattle.buffer_unicode.specs.Keys.{row_fault}
+use Rattle.buffer_unicode.specs.Ranges.{is_in_ranges}
+use Rattle.buffer_unicode.specs.Rows.{split_of_numbers, is_split_in_range, pair_of_numbers, is_pair_in_range, character_class_of_numbers, is_character_class_in_range, counterpart_of_numbers, is_counterpart_in_range, character_range_of_numbers, is_character_range_in_range, joining_row_of_numbers, is_joining_row_in_range, indic_row_of_numbers, is_indic_row_in_range, universal_row_of_numbers, is_universal_row_in_range, thai_row_of_numbers, is_thai_row_in_range}
+use Rattle.buffer_unicode.specs.declared.fault.TablesFault.{TablesFault}
+use Rattle.buffer_unicode.specs.declared.rows.Split.{Split}
+use Rattle.buffer_unicode.specs.declared.rows.Pair.{Pair}
+use Rattle.buffer_unicode.specs.declared.rows.CharacterClass.{CharacterClass}
+use Rattle.buffer_unicode.specs.declared.rows.Counterpart.{Counterpart}
+use Rattle.buffer_unicode.specs.declared.rows.CharacterRange.{CharacterRange}
+use Rattle.buffer_unicode.specs.declared.rows.JoiningRow.{JoiningRow}
+use Rattle.buffer_unicode.specs.declared.rows.IndicRow.{IndicRow}
+use Rattle.buffer_unicode.specs.declared.rows.UniversalRow.{UniversalRow}
+use Rattle.buffer_unicode.specs.declared.rows.ThaiRow.{ThaiRow}
+use Rattle.buffer_unicode.specs.declared.rows.UnicodeRows.{UnicodeRows}
 use Rattle.buffer_unicode_tables.specs.Hangul.{hangul_split, hangul_pair}
 
 -- all tables

@@ -3,7 +3,7 @@ use Rattle.std.specs.Prelude.{ℕ, ◌==◌, ◌&&◌, ◌||◌, Bool, true, fal
 use Rattle.std.specs.List.{list_all}
 use Rattle.unicode.specs.GeneralCategory.{general_category}
 use Rattle.buffer_unicode.specs.Category.{is_mark_category}
-use Rattle.buffer_unicode_rows.specs.declared.rows.CharacterClass.{CharacterClass}
+use Rattle.buffer_unicode.specs.declared.rows.CharacterClass.{CharacterClass}
 use Rattle.buffer_unicode_tables.specs.ClassOrder.{beside_starters}
 use Rattle.buffer_unicode_tables.specs.Expansion.{Splits}
 use Rattle.buffer_unicode_tables.specs.Tables.{Tables, split_of, class_of}

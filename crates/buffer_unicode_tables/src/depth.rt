@@ -7,7 +7,7 @@ ghost use Rattle.buffer_unicode_tables.specs.Tables.{splits_of};
 
 use crate::hangul::{L_BASE, L_COUNT, below_surrogates, decompose_hangul};
 use buffer_rows::PagedRows;
-use buffer_unicode_rows::Split;
+use buffer_unicode::Split;
 
 /// How many decompositions a chain of first halves may have.
 pub const MAX_SPLITS: u32 = 8;

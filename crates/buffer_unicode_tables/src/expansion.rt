@@ -7,7 +7,7 @@ ghost use Rattle.buffer_unicode_tables.specs.Tables.{splits_of};
 use crate::depth::{MAX_SPLITS, split};
 use arrayvec::ArrayVec;
 use buffer_rows::PagedRows;
-use buffer_unicode_rows::Split;
+use buffer_unicode::Split;
 
 /// How many characters two full expansions may have: each has one first half and as many second halves as a chain may
 /// have decompositions.

@@ -1,9 +1,9 @@
 //! The check that tables are lawful.
 ghost use Rattle.std.specs.Prelude.{ℕ, ◌≡◌, ◌+◌, ◌<◌, ◌≤◌, ◌↔◌, true, false, length, is_none, IsTrue, IsNone, IfSome, MatchBool};
 ghost use Rattle.std.specs.List.{list_all};
-ghost use Rattle.buffer_unicode_rows.specs.declared.rows.CharacterClass.{CharacterClass};
-ghost use Rattle.buffer_unicode_rows.specs.declared.rows.Pair.{Pair};
-ghost use Rattle.buffer_unicode_rows.specs.declared.rows.Split.{Split};
+ghost use Rattle.buffer_unicode.specs.declared.rows.CharacterClass.{CharacterClass};
+ghost use Rattle.buffer_unicode.specs.declared.rows.Pair.{Pair};
+ghost use Rattle.buffer_unicode.specs.declared.rows.Split.{Split};
 ghost use Rattle.buffer_unicode_tables.specs.ClassOrder.{beside_starters};
 ghost use Rattle.buffer_unicode_tables.specs.Lawful.{AsciiHasNoMarks};
 ghost use Rattle.buffer_unicode_tables.specs.Ranges.{AllAmong, SomeAmong};
@@ -16,8 +16,7 @@ use crate::hangul::{T_BASE, T_COUNT, V_BASE, V_COUNT, below_surrogates};
 use crate::tables::{UnicodeTables, compose, decompose};
 use arrayvec::ArrayVec;
 use buffer_rows::PagedRows;
-use buffer_unicode::{CharExt, GeneralCategoryExt};
-use buffer_unicode_rows::{CharacterClass, Split};
+use buffer_unicode::{CharExt, CharacterClass, GeneralCategoryExt, Split};
 use thiserror::Error;
 
 /// The faults of unlawful tables, in the order in which they are found.

@@ -10,7 +10,7 @@ pub mod laws;
 pub mod records;
 pub mod tables;
 
-pub use buffer_unicode_rows::{TablesFault, UnicodeRows};
+pub use buffer_unicode::{TablesFault, UnicodeRows};
 pub use character::CharTablesExt;
 pub use hangul::{compose_hangul, decompose_hangul, law_hangul_pairs_are_splits};
 pub use law_fault::LawFault;

@@ -1,5 +1,5 @@
 //! The records of all tables.
-use buffer_unicode_rows::{
+use buffer_unicode::{
     CharacterClass, CharacterRange, Counterpart, IndicRow, JoiningRow, Pair, Split, ThaiRow,
     UniversalRow,
 };

@@ -1,7 +1,7 @@
 //! The tables, checked when they are made.
 ghost use Rattle.std.specs.Prelude.{◌≡◌, ◌≢◌, ◌<◌, true, Bool, Some, None, IfOk, IfErr, OnOk};
-ghost use Rattle.buffer_unicode_rows.specs.Keys.{is_rising};
-ghost use Rattle.buffer_unicode_rows.specs.Ranges.{is_in_ranges};
+ghost use Rattle.buffer_unicode.specs.Keys.{is_rising};
+ghost use Rattle.buffer_unicode.specs.Ranges.{is_in_ranges};
 ghost use Rattle.buffer_unicode_tables.specs.Expansion.{EndWithin, HasDeepChain, ends_within};
 ghost use Rattle.buffer_unicode_tables.specs.Records.{AreRising, tables_of_records};
 ghost use Rattle.buffer_unicode_tables.specs.Tables.{tables_of, first_row_fault, split_of, splits_of, pair_of, class_of, counterpart_in, joining_of, indic_of, universal_of, thai_of};
@@ -10,7 +10,7 @@ use crate::depth::{MAX_SPLITS, all_chains_end, split};
 use crate::hangul::compose_hangul;
 use crate::records::UnicodeRecords;
 use buffer_rows::{Numbered, PagedRows};
-use buffer_unicode_rows::{
+use buffer_unicode::{
     CharacterClass, CharacterRanges, Counterpart, IndicRow, JoiningRow, Pair, Split, TablesFault,
     ThaiRow, UnicodeRows, UniversalRow, find_row, read_rows,
 };
@@ -197,7 +197,7 @@ fn shallow_splits(alloc: Global, rows: Vec<Split>) -> Result<PagedRows<Split>, T
 }
 
 /// Records of one number each, with an index of their numbers.
-#[tactic(auto, using(buffer_unicode_rows::proofs::Searches::numbers_from))]
+#[tactic(auto, using(buffer_unicode::proofs::Searches::numbers_from))]
 fn paged<R: Numbered>(alloc: Global, rows: Vec<R>) -> Result<PagedRows<R>, AllocError>
     requires { is_rising (λ _. 0) R.number_of rows.items ≡ true }
     ensures { IfOk result (λ p. p ≡ rows.items) }

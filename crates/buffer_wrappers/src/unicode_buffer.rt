@@ -1,3 +1,4 @@
+//! A text to shape, with its settings (rustybuzz: hb/buffer.rs, `UnicodeBuffer`).
 ghost use Rattle.std.specs.Prelude.{◌≡◌, ◌≤◌, ◌==◌, length, true, false, Ok, Some, OnErr, IfOk, ◌∷◌, [], unwrap_or, take, reverse};
 ghost use Rattle.std.specs.Option.{option_copied};
 ghost use Rattle.std.specs.Str.{chars};

@@ -1,5 +1,5 @@
-//! What a user of the library needs, and no more: a text and a parsed font become placed glyphs. The names are rustybuzz's
-//! where it has them; the doors of the layers name what stands behind.
+//! What a user of the library needs, and no more: a text and a parsed font become positioned glyphs. The names are
+//! rustybuzz's where it has them. What else the crates have is no part of the library's surface.
 #![tactic(auto)]
 
 pub use buffer_common::constants::BufferFlags;
@@ -8,15 +8,15 @@ pub use buffer_common::language::{Language, LanguageFault};
 pub use buffer_common::language_tags::LanguageTags;
 pub use buffer_common::script::{InvalidScript, Script};
 pub use buffer_common::tag::{Tag, TagExt};
-pub use buffer_features::feature::{Feature, InvalidFeature};
+pub use buffer_tags::feature::{Feature, InvalidFeature};
 pub use buffer_glyphs::cause::ShapeCause;
 pub use buffer_glyphs::flags::SerializeFlags;
 pub use buffer_glyphs::info::hb_glyph_info_t as GlyphInfo;
 pub use buffer_glyphs::level::BufferClusterLevel;
 pub use buffer_glyphs::names::{GlyphId, GlyphNames, hb_glyph_extents_t};
 pub use buffer_glyphs::position::GlyphPosition;
-pub use buffer_languages::language_table::{LanguageRow, LanguageTable};
-pub use buffer_unicode_rows::UnicodeRows;
+pub use buffer_tags::language_table::{LanguageRow, LanguageTable};
+pub use buffer_unicode::UnicodeRows;
 pub use buffer_unicode_tables::{LawFault, TablesFault, UnicodeTables};
 pub use buffer_wrappers::glyphs::GlyphBuffer;
 pub use buffer_wrappers::unicode_buffer::UnicodeBuffer;
@@ -26,7 +26,7 @@ pub use script_categories::{
 };
 pub use shape_pipeline::{ShapeFault, ShapePlan, hb_shape_data_t, shape, shape_with_plan};
 pub use shell_face_text::read_face_text;
-pub use shell_json_values::fault::JsonFault;
+pub use shell_json::fault::JsonFault;
 pub use shell_readers::fault::RunFault;
 pub use shell_readers::input::{RunInput, read_input};
 pub use shell_readers::tables::TextTables;

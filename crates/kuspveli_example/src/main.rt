@@ -3,17 +3,25 @@
 #![tactic(auto)]
 
 use kuspveli::{
-    Direction, Face, RunFault, RunInput, Script, SerializeFlags, ShapeCause, ShapePlan, Tag,
-    TagExt, TextTables, UnicodeBuffer, hb_shape_data_t, read_input, shape_with_plan,
+    Direction, Face, LanguageTable, RunFault, RunInput, Script, SerializeFlags, ShapeCause,
+    ShapePlan, SyllableTable, Tag, TagExt, UnicodeBuffer, hb_shape_data_t, read_input,
+    shape_with_plan,
 };
 use std::alloc::{AllocError, Global};
 use std::fs;
 
+type Data<'a> = hb_shape_data_t<'a, SyllableTable, LanguageTable>;
+
 fn main(rt: HostRuntime) -> Result<(), RunFault> {
     let RunInput { tables, face } = read(&rt)?;
-    let plan = latin_plan(rt.alloc(), &face, &tables)?;
+    let data = hb_shape_data_t {
+        tables: &tables.characters,
+        spans: &tables.syllables,
+        languages: &tables.languages,
+    };
+    let plan = latin_plan(rt.alloc(), &face, data)?;
     for text in ["afi", "fib", "baffi"] {
-        let line = shape_line(rt.alloc(), &face, &tables, &plan, text)?;
+        let line = shape_line(rt.alloc(), &face, data, &plan, text)?;
         println!(rt; "{line}").map_err(|_| RunFault::Write)?;
     }
     Ok(())
@@ -27,17 +35,17 @@ fn read(rt: &HostRuntime) -> Result<RunInput, RunFault> {
 }
 
 /// A plan for Latin texts of any language, with the features that are on by default.
-fn latin_plan(alloc: Global, face: &Face, tables: &TextTables) -> Result<ShapePlan, AllocError> {
+fn latin_plan(alloc: Global, face: &Face, data: Data<'_>) -> Result<ShapePlan, AllocError> {
     let latin = Script::from_iso15924_tag(Tag::from_bytes(b"Latn"));
     let direction = Direction::LeftToRight;
-    ShapePlan::new(alloc, face, &tables.languages, direction, latin, None, &[])
+    ShapePlan::new(alloc, face, data, direction, latin, None, &[])
 }
 
 /// Shapes a text, and prints its glyphs into a line.
 fn shape_line(
     alloc: Global,
     face: &Face,
-    tables: &TextTables,
+    data: Data<'_>,
     plan: &ShapePlan,
     text: &str,
 ) -> Result<String, RunFault> {
@@ -45,11 +53,6 @@ fn shape_line(
     if !buffer.push_str(text)? {
         return Err(RunFault::Shape(ShapeCause::TooLong));
     }
-    let data = hb_shape_data_t {
-        tables: &tables.characters,
-        spans: &tables.syllables,
-        languages: &tables.languages,
-    };
     let glyphs = shape_with_plan(alloc, face, data, plan, buffer).map_err(|fault| fault.cause)?;
     let line = glyphs.serialize(alloc, face, SerializeFlags::NO_GLYPH_NAMES)?;
     Ok(line)

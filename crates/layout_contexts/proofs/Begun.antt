@@ -6,7 +6,7 @@ use Rattle.buffer_glyphs.specs.declared.cause.ShapeCause.{ShapeCause}
 use Rattle.buffer_glyphs.specs.declared.cause.ShapeCause.TheVariants.{TooLong}
 use Rattle.buffer_glyphs.specs.Items.{item_of}
 use Rattle.buffer_core.specs.Sides.{Sides}
-use Rattle.layout_subtables.specs.declared.context.SequenceLookupRecord.{SequenceLookupRecord}
+use Rattle.layout_tables.specs.declared.context.SequenceLookupRecord.{SequenceLookupRecord}
 use Rattle.buffer_stages.specs.Actions.{Cut, Action, Acts, Refuses, whole}
 use Rattle.buffer_stages.specs.Buffers.{cut_of}
 use Rattle.buffer_stages.specs.Performing.{cut_with}
@@ -62,7 +62,7 @@ begun r ps p s t u e lt on spends room moves =
     let taken : length (take p whole_c) ≡ min p (length whole_c) = length-take p whole_c in
     let dropped : length (drop p whole_c) ≡ length whole_c - p = length-drop p whole_c in
     record {
-      place = sym e;
+      index = sym e;
       behind = omega (arith, front, taken, lt);
       count = ap (λ (c : Cut). length (whole c)) (left 1).cut_is ∙ ap length (take-append-drop p whole_c);
       ahead = omega (arith, ahead, dropped, lt);

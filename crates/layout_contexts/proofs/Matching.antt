@@ -55,12 +55,12 @@ matched a r random back end ahead front to ps qs s t e inside ef eq et passed =
       from = omega (arith, et, ef, least);
       within = omega (arith, et, ef, ends, low);
       nests = λ nest result after final h.
-          let places : qs ≡ map (λ k. k + length (cut_of s).front) ps = at ∙ ap (λ m. map (λ k. k + m) ps) (sym (front_length s)) in
+          let indices : qs ≡ map (λ k. k + length (cut_of s).front) ps = at ∙ ap (λ m. map (λ k. k + m) ps) (sym (front_length s)) in
           let stop : to ≡ length (cut_of s).front + end = et ∙ ap (λ m. m + end) (ef ∙ sym (front_length s)) in
           let P : Outcome → Type 0 = λ o. Nests o result random after s final in
           let C : Cut → Type 0 = λ c. Nests (cut_after_match (each_nested nest r.records c qs to)) result random after t final in
           let D : List ℕ → Type 0 = λ ks. Nests (cut_after_match (each_nested nest r.records (cut_with random s) ks to)) result random after t final in
           let F : ℕ → Type 0 = λ m. Nests (cut_after_match (each_nested nest r.records (cut_with random s) (map (λ k. k + length (cut_of s).front) ps) m)) result random after t final in
-          let there = subst F stop (subst D places (subst C (same_with random s t passed.cut_is) h)) in
+          let there = subst F stop (subst D indices (subst C (same_with random s t passed.cut_is) h)) in
           subst P (sym (e nest)) (nests_later es (cut_after_match (each_nested nest r.records (cut_with random s) (map (λ k. k + length (cut_of s).front) ps) (length (cut_of s).front + end))) result random after s t final marks there);
     }

@@ -18,22 +18,22 @@ one_added n p qs rs left more all first is add = ap (take n) (ap (λ ns. ns ++ m
 none_left : (n : ℕ) (qs left all : List ℕ) → left ≡ [] → length qs ≤ n → take n (qs ++ left) ≡ all → qs ≡ all
 none_left n qs left all none le is = sym (short n qs le) ∙ ap (take n) (sym (append-nil qs) ∙ ap (λ ns. qs ++ ns) (sym none)) ∙ is
 
-following_next : (place count k : ℕ) → k < count → following (place + k) (count - k) ≡ (place + k + 1) ∷ following (place + (k + 1)) (count - (k + 1))
-following_next place count k lt =
+following_next : (index count k : ℕ) → k < count → following (index + k) (count - k) ≡ (index + k + 1) ∷ following (index + (k + 1)) (count - (k + 1))
+following_next index count k lt =
     let more : count - k ≡ suc (count - (k + 1)) = omega (arith, lt) in
-    let on : place + k + 1 ≡ place + (k + 1) = omega arith in
-    ap (following (place + k)) more ∙ ap (λ q. (place + k + 1) ∷ following q (count - (k + 1))) on
+    let on : index + k + 1 ≡ index + (k + 1) = omega arith in
+    ap (following (index + k)) more ∙ ap (λ q. (index + k + 1) ∷ following q (count - (k + 1))) on
 
-pub following_on : (place count k : ℕ) (qs rs all : List ℕ) → k < count → take 64 (qs ++ following (place + k) (count - k)) ≡ all → rs ≡ qs ++ (place + k + 1) ∷ [] → take 64 (rs ++ following (place + (k + 1)) (count - (k + 1))) ≡ all
-following_on place count k qs rs all lt is add = one_added 64 (place + k + 1) qs rs (following (place + k) (count - k)) (following (place + (k + 1)) (count - (k + 1))) all (following_next place count k lt) is add
+pub following_on : (index count k : ℕ) (qs rs all : List ℕ) → k < count → take 64 (qs ++ following (index + k) (count - k)) ≡ all → rs ≡ qs ++ (index + k + 1) ∷ [] → take 64 (rs ++ following (index + (k + 1)) (count - (k + 1))) ≡ all
+following_on index count k qs rs all lt is add = one_added 64 (index + k + 1) qs rs (following (index + k) (count - k)) (following (index + (k + 1)) (count - (k + 1))) all (following_next index count k lt) is add
 
 pub following_full : (left qs all : List ℕ) → length qs ≡ 64 → take 64 (qs ++ left) ≡ all → qs ≡ all
 following_full left qs all e is = sym (full 64 qs left e) ∙ is
 
-pub following_all : (place count k : ℕ) (qs all : List ℕ) → count ≤ k → length qs ≤ 64 → take 64 (qs ++ following (place + k) (count - k)) ≡ all → qs ≡ all
-following_all place count k qs all done le is =
+pub following_all : (index count k : ℕ) (qs all : List ℕ) → count ≤ k → length qs ≤ 64 → take 64 (qs ++ following (index + k) (count - k)) ≡ all → qs ≡ all
+following_all index count k qs all done le is =
     let none : count - k ≡ 0 = omega (arith, done) in
-    none_left 64 qs (following (place + k) (count - k)) all (ap (following (place + k)) none) le is
+    none_left 64 qs (following (index + k) (count - k)) all (ap (following (index + k)) none) le is
 
 pub moved_on : (before after k p : ℕ) (later qs rs all : List ℕ) → k < length later → p ≡ get_or later k 0 → take 64 (qs ++ map (λ q. q + after - before) (drop k later)) ≡ all → rs ≡ qs ++ (p + after - before) ∷ []
     → take 64 (rs ++ map (λ q. q + after - before) (drop (k + 1) later)) ≡ all

@@ -3,11 +3,11 @@ use Rattle.std.specs.Prelude.{ℕ, ◌+◌, ◌-◌, nat_le, Bool, false, ◌&&�
 use Rattle.buffer_glyphs.specs.Items.{Item}
 use Rattle.buffer_glyphs.specs.Parts.{first_of}
 use Rattle.buffer_glyphs.specs.Events.{Break}
-use Rattle.layout_subtables.specs.declared.context.SequenceLookupRecord.{SequenceLookupRecord}
-use Rattle.layout_subtables.specs.declared.context.SequenceRule.{SequenceRule}
-use Rattle.layout_subtables.specs.declared.context.ClassRules.{ClassRules}
-use Rattle.layout_subtables.specs.declared.context.ContextSubtable.{ContextSubtable}
-use Rattle.layout_subtables.specs.declared.context.ContextSubtable.TheVariants.{Glyphs, Classes, Coverage}
+use Rattle.layout_tables.specs.declared.context.SequenceLookupRecord.{SequenceLookupRecord}
+use Rattle.layout_tables.specs.declared.context.SequenceRule.{SequenceRule}
+use Rattle.layout_tables.specs.declared.context.ClassRules.{ClassRules}
+use Rattle.layout_tables.specs.declared.context.ContextSubtable.{ContextSubtable}
+use Rattle.layout_tables.specs.declared.context.ContextSubtable.TheVariants.{Glyphs, Classes, Coverage}
 use Rattle.layout_match.specs.Applied.{ApplyContext, own_search, context_search}
 use Rattle.layout_match.specs.Matches.{input_end, input_indices, lookahead_end, backtrack_end}
 use Rattle.layout_match.specs.Sequences.{is_glyph, is_of_class, is_covered_by}

@@ -36,16 +36,16 @@ IsInside (Fits back end ahead) ps front rest = (back ≤ front) × (ahead ≤ re
 
 -- a rule matched, and the glyphs that it matched are flagged: what its records and the move to the end of its match do
 -- from here, the rule does
-pub record IsMatched (a : ApplyContext) (r : Chain) (random end : ℕ) (places : List ℕ) (old new : Sides) : Type 0 where
+pub record IsMatched (a : ApplyContext) (r : Chain) (random end : ℕ) (indices : List ℕ) (old new : Sides) : Type 0 where
   pub cut_is : cut_of new ≡ cut_of old
   pub still : IsStill old new
-  pub rising : AreRising (length old.behind) (length (whole (cut_of new))) places
+  pub rising : AreRising (length old.behind) (length (whole (cut_of new))) indices
   pub from : length old.behind < end
   pub within : end ≤ length (whole (cut_of new))
   pub nests : (nest : Option (ℕ → Action)) (result : Result Bool ShapeCause) (after : ℕ) (final : Sides)
-      → Nests (cut_after_match (each_nested nest r.records (cut_with random new) places end)) result random after new final → Nests (chain_rule nest a r (cut_with random old)) result random after old final
+      → Nests (cut_after_match (each_nested nest r.records (cut_with random new) indices end)) result random after new final → Nests (chain_rule nest a r (cut_with random old)) result random after old final
 
 -- a rule was tried: where it matched, the answer is the end of its match; else it passes
-abbrev pub Matched : Option ℕ → ApplyContext → Chain → ℕ → List ℕ → Sides → Sides → Type 0
-Matched None a r random places old new = (nest : Option (ℕ → Action)) → Nests (chain_rule nest a r (cut_with random old)) (Ok false) random random old new
-Matched (Some end) a r random places old new = IsMatched a r random end places old new
+abbrev pub MatchesOrPasses : Option ℕ → ApplyContext → Chain → ℕ → List ℕ → Sides → Sides → Type 0
+MatchesOrPasses None a r random indices old new = (nest : Option (ℕ → Action)) → Nests (chain_rule nest a r (cut_with random old)) (Ok false) random random old new
+MatchesOrPasses (Some end) a r random indices old new = IsMatched a r random end indices old new

@@ -4,13 +4,13 @@ use Rattle.std.specs.Prelude.{ℕ, ◌+◌, ◌-◌, ◌-ℤ◌, pos, int_lt, mi
 use Rattle.buffer_glyphs.specs.declared.cause.ShapeCause.{ShapeCause}
 use Rattle.buffer_glyphs.specs.declared.cause.ShapeCause.TheVariants.{TooLong}
 use Rattle.buffer_glyphs.specs.Events.{Event}
-use Rattle.layout_subtables.specs.declared.context.SequenceLookupRecord.{SequenceLookupRecord}
+use Rattle.layout_tables.specs.declared.context.SequenceLookupRecord.{SequenceLookupRecord}
 use Rattle.buffer_stages.specs.Actions.{Cut, whole, Outcome, Passes, Acts, Refuses, Action}
 use Rattle.layout_contexts.specs.Shifts.{indices_after_resize, moved_end}
 
 -- a list on the way over some records: how it is cut, the indices and the end of the match
 pub data RecordsOutcome : Type 0 where
-  Walks : (cut : Cut) → (places : List ℕ) → (end : ℕ) → (events : List Event) → RecordsOutcome
+  Walks : (cut : Cut) → (indices : List ℕ) → (end : ℕ) → (events : List Event) → RecordsOutcome
   Stops : (cause : ShapeCause) → RecordsOutcome
 
 -- the list cut at an index

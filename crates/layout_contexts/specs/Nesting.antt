@@ -26,6 +26,6 @@ Nests o (Err cause) before after old new = cause ≢ OutOfMemory → o ≡ Refus
 
 -- a call applied records, and answers where the match then ends
 abbrev pub Walking : RecordsOutcome → Result ℕ ShapeCause → List ℕ → ℕ → Sides → Sides → Type 0
-Walking (Walks cut places end events) (Ok at) now after old new = (at ≡ end) × (now ≡ places) × IsLeft cut events after old new
+Walking (Walks cut indices end events) (Ok at) now after old new = (at ≡ end) × (now ≡ indices) × IsLeft cut events after old new
 Walking (Stops cause) (Ok at) now after old new = ⊥
 Walking w (Err cause) now after old new = cause ≢ OutOfMemory → w ≡ Stops cause

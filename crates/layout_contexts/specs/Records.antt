@@ -3,7 +3,7 @@ use Rattle.std.specs.Prelude.{ℕ, ◌≡◌, ◌≢◌, ◌<◌, ◌⊎◌, fal
 use Rattle.buffer_glyphs.specs.declared.cause.ShapeCause.{ShapeCause}
 use Rattle.buffer_glyphs.specs.declared.cause.ShapeCause.TheVariants.{OutOfMemory, TooLong}
 use Rattle.buffer_core.specs.Sides.{Sides}
-use Rattle.layout_subtables.specs.declared.context.SequenceLookupRecord.{SequenceLookupRecord}
+use Rattle.layout_tables.specs.declared.context.SequenceLookupRecord.{SequenceLookupRecord}
 use Rattle.buffer_stages.specs.Actions.{Cut, Action, whole}
 use Rattle.buffer_stages.specs.Buffers.{cut_of}
 use Rattle.buffer_stages.specs.Performing.{cut_with}
@@ -23,16 +23,16 @@ abbrev pub IsSpent : Sides → Sides → Type 0
 IsSpent old new = (random : ℕ) → IsLeft (with_budget_spent (cut_with random old)) [] random old new
 
 -- a record's index exists, a step was taken, and the cursor is at the index: the record's lookup is then to be applied
-pub record IsRecordBegun (r : SequenceLookupRecord) (places : List ℕ) (p : ℕ) (old new : Sides) : Type 0 where
-  pub place : slice_get places r.sequence_index ≡ Some p
+pub record IsRecordBegun (r : SequenceLookupRecord) (indices : List ℕ) (p : ℕ) (old new : Sides) : Type 0 where
+  pub index : slice_get indices r.sequence_index ≡ Some p
   pub behind : length new.behind ≡ p
   pub count : length (whole (cut_of new)) ≡ length (whole (cut_of old))
   pub ahead : 0 < length new.ahead
   pub left : (random : ℕ) → IsLeft (cut_at p (with_budget_spent (cut_with random old))) [] random old new
-  pub does : (random : ℕ) (act : ℕ → Action) (end : ℕ) → one_record act r (cut_with random old) places end ≡ nested_outcome r.sequence_index p (cut_with random new) places end (act r.lookup_index (cut_with random new))
+  pub does : (random : ℕ) (act : ℕ → Action) (end : ℕ) → one_record act r (cut_with random old) indices end ≡ nested_outcome r.sequence_index p (cut_with random new) indices end (act r.lookup_index (cut_with random new))
 
 -- a record is begun; or it does nothing, whatever the lookups do; or the cursor cannot be moved to its index
 abbrev pub RecordBegins : SequenceLookupRecord → List ℕ → Result (Option ℕ) ShapeCause → Sides → Sides → Type 0
-RecordBegins r places (Ok None) old new = (new ≡ old) × ((random : ℕ) (act : ℕ → Action) (end : ℕ) → one_record act r (cut_with random old) places end ≡ Walks (cut_with random old) places end [])
-RecordBegins r places (Ok (Some p)) old new = IsRecordBegun r places p old new
-RecordBegins r places (Err cause) old new = cause ≢ OutOfMemory → (random : ℕ) (act : ℕ → Action) (end : ℕ) → one_record act r (cut_with random old) places end ≡ Stops cause
+RecordBegins r indices (Ok None) old new = (new ≡ old) × ((random : ℕ) (act : ℕ → Action) (end : ℕ) → one_record act r (cut_with random old) indices end ≡ Walks (cut_with random old) indices end [])
+RecordBegins r indices (Ok (Some p)) old new = IsRecordBegun r indices p old new
+RecordBegins r indices (Err cause) old new = cause ≢ OutOfMemory → (random : ℕ) (act : ℕ → Action) (end : ℕ) → one_record act r (cut_with random old) indices end ≡ Stops cause

@@ -1,8 +1,8 @@
 -- The rules of a subtable, in any of its formats.
 use Rattle.std.specs.Prelude.{Bool, true, List, map}
 use Rattle.buffer_glyphs.specs.Items.{Item}
-use Rattle.layout_subtables.specs.declared.context.ContextSubtable.{ContextSubtable}
-use Rattle.layout_subtables.specs.declared.context.ContextSubtable.TheVariants.{Glyphs, Classes, Coverage}
+use Rattle.layout_tables.specs.declared.context.ContextSubtable.{ContextSubtable}
+use Rattle.layout_tables.specs.declared.context.ContextSubtable.TheVariants.{Glyphs, Classes, Coverage}
 use Rattle.layout_match.specs.Sequences.{is_covered_by}
 use Rattle.layout_contexts.specs.Chains.{Chain, class_chain, coverage_chain, glyph_chain}
 

@@ -4,17 +4,17 @@ ghost use Rattle.std.specs.Prelude.{◌≡◌, ◌<◌, drop, length};
 ghost use Rattle.layout_match.specs.Applied.{apply_context_of};
 ghost use Rattle.layout_match.specs.Sequences.{tests_of};
 ghost use Rattle.buffer_stages.specs.Performing.{cut_with};
-ghost use Rattle.layout_contexts.specs.Fitting.{IsInside, Matched, Says, chain_of};
+ghost use Rattle.layout_contexts.specs.Fitting.{IsInside, MatchesOrPasses, Says, chain_of};
 
 use crate::counts::backtrack_len;
-use crate::match_indices::move_places;
+use crate::match_indices::move_indices;
 use buffer_core::buffer::hb_buffer_t;
 use layout_match::marking::{mark_attempt, mark_match};
 use layout_match::{
     MAX_CONTEXT_LENGTH, MatchPositions, MatchSequence, hb_ot_apply_context_t, match_backtrack,
     match_input, match_lookahead,
 };
-use layout_subtables::context::SequenceLookupRecord;
+use layout_tables::context::SequenceLookupRecord;
 
 /// A rule of a context or a chained context, in any of the formats.
 #[derive(Clone, Copy)]
@@ -74,12 +74,12 @@ fn find_chain(
     ctx: &hb_ot_apply_context_t,
     rule: &ChainRule,
     buffer: &hb_buffer_t,
-    places: &mut MatchPositions,
+    indices: &mut MatchPositions,
 ) -> ChainFit
     requires { 0 < length buffer.now.ahead }
-    ensures says { Says result (apply_context_of ctx.now) (chain_of rule.now) places.new.items
+    ensures says { Says result (apply_context_of ctx.now) (chain_of rule.now) indices.new.items
         (cut_with ctx.now.random_state buffer.now) }
-    ensures inside { IsInside result places.new.items (length buffer.now.behind) (length buffer.now.ahead) }
+    ensures inside { IsInside result indices.new.items (length buffer.now.behind) (length buffer.now.ahead) }
 {
     if !rule.input.fits(0, buffer.cur(0)) {
         return ChainFit::NoAttempt;
@@ -88,7 +88,7 @@ fn find_chain(
         return ChainFit::NoAttempt;
     }
     let input = behind_first(&rule.input);
-    let end = match match_input(ctx, &input, buffer, places) {
+    let end = match match_input(ctx, &input, buffer, indices) {
         Ok(end) => end,
         Err(ahead) => return ChainFit::Fails { back: 0, ahead },
     };
@@ -109,15 +109,15 @@ pub fn match_chain(
     ctx: &hb_ot_apply_context_t,
     rule: &ChainRule,
     buffer: &mut hb_buffer_t,
-    places: &mut MatchPositions,
+    indices: &mut MatchPositions,
 ) -> Option<usize>
     requires { 0 < length buffer.old.ahead }
-    ensures { Matched result (apply_context_of ctx.now) (chain_of rule.now) ctx.now.random_state places.new.items buffer.old
+    ensures { MatchesOrPasses result (apply_context_of ctx.now) (chain_of rule.now) ctx.now.random_state indices.new.items buffer.old
         buffer.new }
 {
     let front = backtrack_len(buffer);
     let _rest = buffer.lookahead_len();
-    match find_chain(ctx, rule, buffer, places) {
+    match find_chain(ctx, rule, buffer, indices) {
         ChainFit::NoAttempt => None,
         ChainFit::Fails { back, ahead } => {
             mark_attempt(back, ahead, buffer);
@@ -125,7 +125,7 @@ pub fn match_chain(
         }
         ChainFit::Fits { back, end, ahead } => {
             mark_match(back, ahead, buffer);
-            move_places(places, front);
+            move_indices(indices, front);
             Some(front + end)
         }
     }

@@ -10,6 +10,6 @@ pub mod rules;
 
 pub use chain::{ChainRule, match_chain};
 pub use counts::glyph_count;
-pub use match_indices::settle_places;
-pub use records::{MAX_NESTING_LEVEL, begin_record, go_behind, settle_match};
+pub use match_indices::settle_indices;
+pub use records::{MAX_NESTING_LEVEL, begin_record, move_to_match_end, settle_match};
 pub use rules::{class_rule, coverage_rule, glyph_rule, is_tried_at, rule_at, rule_count};

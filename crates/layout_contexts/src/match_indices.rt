@@ -8,66 +8,66 @@ use layout_match::MatchPositions;
 
 #[tactic(auto, using(crate::proofs::Shifted::following_on, crate::proofs::Shifted::following_full, crate::proofs::Shifted::following_all))]
 /// Appends so many indices that follow one, as far as there is room.
-fn push_following(places: &mut MatchPositions, place: usize, count: usize)
-    requires { place + count + 1 < 2 ^ 64 }
-    ensures { places.new.items ≡ take 64 (places.old.items ++ following place count) }
+fn push_following(indices: &mut MatchPositions, index: usize, count: usize)
+    requires { index + count + 1 < 2 ^ 64 }
+    ensures { indices.new.items ≡ take 64 (indices.old.items ++ following index count) }
 {
-    let _len = places.as_slice().len();
+    let _len = indices.as_slice().len();
     for k in 0..count {
-        if places.is_full() {
+        if indices.is_full() {
             return;
         }
-        places.push(place + k + 1);
+        indices.push(index + k + 1);
     }
 }
 
 #[tactic(auto, using(crate::proofs::Shifted::moved_on, crate::proofs::Shifted::following_full, crate::proofs::Shifted::moved_all))]
 /// Appends indices moved by a change of length, as far as there is room.
-fn push_moved(places: &mut MatchPositions, later: &[usize], before: usize, after: usize)
+fn push_moved(indices: &mut MatchPositions, later: &[usize], before: usize, after: usize)
     requires { All (λ q. q + after < 2 ^ 64) later.now }
-    ensures { places.new.items ≡ take 64 (places.old.items ++ map (λ q. q + after - before) later.now) }
+    ensures { indices.new.items ≡ take 64 (indices.old.items ++ map (λ q. q + after - before) later.now) }
 {
-    let _len = places.as_slice().len();
-    for place in later {
-        if places.is_full() {
+    let _len = indices.as_slice().len();
+    for index in later {
+        if indices.is_full() {
             return;
         }
-        places.push((*place + after).saturating_sub(before));
+        indices.push((*index + after).saturating_sub(before));
     }
 }
 
 /// The indices of the match from the one at `from` on.
-fn from_index(places: &[usize], from: usize) -> &[usize]
-    ensures { result.now ≡ drop from places.now }
+fn from_index(indices: &[usize], from: usize) -> &[usize]
+    ensures { result.now ≡ drop from indices.now }
 {
-    if from < places.len() {
-        return &places[from..];
+    if from < indices.len() {
+        return &indices[from..];
     }
     &[]
 }
 
 /// Moves all indices by so many.
 #[tactic(auto, using(crate::proofs::Shifted::all_moved))]
-pub(crate) fn move_places(places: &mut MatchPositions, by: usize)
-    requires { All (λ q. q + by < 2 ^ 64) places.old.items }
-    ensures { places.new.items ≡ map (λ q. q + by) places.old.items }
+pub(crate) fn move_indices(indices: &mut MatchPositions, by: usize)
+    requires { All (λ q. q + by < 2 ^ 64) indices.old.items }
+    ensures { indices.new.items ≡ map (λ q. q + by) indices.old.items }
 {
     let mut moved = MatchPositions::new();
-    push_moved(&mut moved, places.as_slice(), 0, by);
-    *places = moved;
+    push_moved(&mut moved, indices.as_slice(), 0, by);
+    *indices = moved;
 }
 
 /// Updates the indices of a match, once a lookup at the i-th of them changed the list's length from `before` to `after`
 /// glyphs: as many indices are inserted after that one as glyphs were, or as many deleted there as glyphs were, and
 /// later ones move. Those past `MAX_CONTEXT_LENGTH` are left out.
 #[tactic(auto, using(crate::proofs::Shifted::all_settled))]
-pub fn settle_places(places: &mut MatchPositions, i: usize, before: usize, after: usize)
-    requires there { i < length places.old.items }
-    requires fits { All (λ q. q + after + 1 < 2 ^ 64) places.old.items }
-    ensures { places.new.items ≡ indices_after_resize i before after places.old.items }
+pub fn settle_indices(indices: &mut MatchPositions, i: usize, before: usize, after: usize)
+    requires there { i < length indices.old.items }
+    requires fits { All (λ q. q + after + 1 < 2 ^ 64) indices.old.items }
+    ensures { indices.new.items ≡ indices_after_resize i before after indices.old.items }
 {
     let mut settled = MatchPositions::new();
-    let old = places.as_slice();
+    let old = indices.as_slice();
     push_moved(&mut settled, &old[..i + 1], 0, 0);
     push_following(&mut settled, old[i], after.saturating_sub(before));
     push_moved(
@@ -76,5 +76,5 @@ pub fn settle_places(places: &mut MatchPositions, i: usize, before: usize, after
         before,
         after,
     );
-    *places = settled;
+    *indices = settled;
 }

@@ -10,26 +10,26 @@ ghost use Rattle.layout_contexts.specs.Records.{RecordBegins, IsMoved, IsMoveRef
 ghost use Rattle.layout_contexts.specs.Shifts.{moved_end, indices_after_resize};
 
 use crate::counts::glyph_count;
-use crate::match_indices::settle_places;
+use crate::match_indices::settle_indices;
 use buffer_core::buffer::hb_buffer_t;
 use buffer_glyphs::cause::ShapeCause;
 use layout_match::MatchPositions;
-use layout_subtables::context::SequenceLookupRecord;
+use layout_tables::context::SequenceLookupRecord;
 
 /// How deep lookups may be nested in others (HarfBuzz: `HB_MAX_NESTING_LEVEL`).
 pub const MAX_NESTING_LEVEL: u32 = 64;
 
 /// Moves the cursor to an index.
 #[tactic(auto, using(crate::proofs::Cuts::went_there, crate::proofs::Cuts::held_is, crate::proofs::Cuts::not_held, crate::proofs::Cuts::short_memory))]
-fn go_to(place: usize, buffer: &mut hb_buffer_t) -> Result<(), ShapeCause>
+fn move_cursor_to(index: usize, buffer: &mut hb_buffer_t) -> Result<(), ShapeCause>
     requires kept { buffer.old.has_refused ≡ false }
-    requires there { place ≤ length (whole (cut_of buffer.old)) }
-    ensures held { OnOk result (holds place (cut_of buffer.old) ≡ true) }
-    ensures ok { OnOk result (IsMoved place buffer.old buffer.new) }
-    ensures err { IfErr result (λ e. IsMoveRefusal place (cut_of buffer.old) e) }
+    requires there { index ≤ length (whole (cut_of buffer.old)) }
+    ensures held { OnOk result (holds index (cut_of buffer.old) ≡ true) }
+    ensures ok { OnOk result (IsMoved index buffer.old buffer.new) }
+    ensures err { IfErr result (λ e. IsMoveRefusal index (cut_of buffer.old) e) }
 {
     let _count = buffer.len();
-    if !buffer.move_to(place)? {
+    if !buffer.move_to(index)? {
         return Err(ShapeCause::TooLong);
     }
     Ok(())
@@ -50,10 +50,10 @@ fn spend(buffer: &mut hb_buffer_t) -> bool
     true
 }
 
-fn place_at(places: &MatchPositions, i: usize) -> Option<usize>
-    ensures { result ≡ slice_get places.now.items i }
+fn index_at(indices: &MatchPositions, i: usize) -> Option<usize>
+    ensures { result ≡ slice_get indices.now.items i }
 {
-    places.as_slice().get(i).copied()
+    indices.as_slice().get(i).copied()
 }
 
 /// Begins a record of a rule that matched at these indices: where its index is among them and in the list, and a step
@@ -62,25 +62,25 @@ fn place_at(places: &MatchPositions, i: usize) -> Option<usize>
 /// than it may.
 pub fn begin_record(
     lookup_record: &SequenceLookupRecord,
-    places: &MatchPositions,
+    indices: &MatchPositions,
     buffer: &mut hb_buffer_t,
 ) -> Result<Option<usize>, ShapeCause>
     requires kept { buffer.old.has_refused ≡ false }
-    ensures { RecordBegins lookup_record.now places.now.items result buffer.old buffer.new }
+    ensures { RecordBegins lookup_record.now indices.now.items result buffer.old buffer.new }
 {
-    let Some(place) = place_at(places, usize::from(lookup_record.sequence_index)) else {
+    let Some(index) = index_at(indices, usize::from(lookup_record.sequence_index)) else {
         return Ok(None);
     };
-    if glyph_count(buffer) <= place {
+    if glyph_count(buffer) <= index {
         return Ok(None);
     }
     if !spend(buffer) {
         return Ok(None);
     }
-    if let Err(cause) = go_to(place, buffer) {
+    if let Err(cause) = move_cursor_to(index, buffer) {
         return Err(cause);
     }
-    Ok(Some(place))
+    Ok(Some(index))
 }
 
 /// Updates the indices of a match, and answers its end, once a record's lookup acted at its index on a list of `before`
@@ -88,38 +88,38 @@ pub fn begin_record(
 #[tactic(auto, using(crate::proofs::Settled::in_places, crate::proofs::Settled::room_to_settle))]
 pub fn settle_match(
     lookup_record: &SequenceLookupRecord,
-    place: usize,
+    index: usize,
     before: usize,
     end: usize,
-    places: &mut MatchPositions,
+    indices: &mut MatchPositions,
     buffer: &hb_buffer_t,
 ) -> usize
-    requires there { slice_get places.old.items lookup_record.now.sequence_index ≡ Some place }
-    requires rising { AreRising 0 (before + 1) places.old.items }
+    requires there { slice_get indices.old.items lookup_record.now.sequence_index ≡ Some index }
+    requires rising { AreRising 0 (before + 1) indices.old.items }
     requires ends { end ≤ before }
     requires small { before < 2 ^ 60 }
-    ensures places { places.new.items
-        ≡ indices_after_resize lookup_record.now.sequence_index before (length (whole (cut_of buffer.now))) places.old.items }
-    ensures end { result ≡ moved_end place before (length (whole (cut_of buffer.now))) end }
+    ensures indices { indices.new.items
+        ≡ indices_after_resize lookup_record.now.sequence_index before (length (whole (cut_of buffer.now))) indices.old.items }
+    ensures end { result ≡ moved_end index before (length (whole (cut_of buffer.now))) end }
 {
     let after = glyph_count(buffer);
-    settle_places(
-        places,
+    settle_indices(
+        indices,
         usize::from(lookup_record.sequence_index),
         before,
         after,
     );
-    place.max((end + after).saturating_sub(before))
+    index.max((end + after).saturating_sub(before))
 }
 
 /// Moves the cursor to the end of the match, or to the end of the list where that is before it.
-pub fn go_behind(end: usize, buffer: &mut hb_buffer_t) -> Result<bool, ShapeCause>
+pub fn move_to_match_end(end: usize, buffer: &mut hb_buffer_t) -> Result<bool, ShapeCause>
     requires kept { buffer.old.has_refused ≡ false }
     ensures { (random : ℕ) → Nests (cut_after_match (Walks (cut_with random buffer.old) [] end
         [])) result random random buffer.old buffer.new }
 {
-    let place = end.min(glyph_count(buffer));
-    if let Err(cause) = go_to(place, buffer) {
+    let index = end.min(glyph_count(buffer));
+    if let Err(cause) = move_cursor_to(index, buffer) {
         return Err(cause);
     }
     Ok(true)

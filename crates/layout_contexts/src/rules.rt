@@ -9,7 +9,7 @@ use crate::chain::ChainRule;
 use buffer_glyphs::info::hb_glyph_info_t;
 use layout_common::coverage::Coverage;
 use layout_match::{MatchSequence, match_coverage};
-use layout_subtables::context::{ClassRules, ContextSubtable, SequenceRule};
+use layout_tables::context::{ClassRules, ContextSubtable, SequenceRule};
 
 /// A rule by glyphs (format 1).
 pub fn glyph_rule(rule: &SequenceRule<u16>) -> ChainRule<'_>

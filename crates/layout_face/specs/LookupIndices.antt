@@ -3,9 +3,9 @@ use Rattle.std.specs.Prelude.{ℕ, ◌&&◌, Bool, true, nat_lt, Option, length}
 use Rattle.std.specs.List.{list_all}
 use Rattle.std.specs.Option.{option_map_or}
 use Rattle.layout_tables.specs.Indices.{indices_fit}
-use Rattle.layout_subtables.specs.declared.pair.PairPos.{PairPos}
-use Rattle.layout_subtables.specs.declared.pair.PairPos.TheVariants as Pairs
-use Rattle.layout_subtables.specs.Fits.{marks_fit_bases, marks_fit_ligatures, pairs_fit}
+use Rattle.layout_tables.specs.declared.pair.PairPos.{PairPos}
+use Rattle.layout_tables.specs.declared.pair.PairPos.TheVariants as Pairs
+use Rattle.layout_tables.specs.Fits.{marks_fit_bases, marks_fit_ligatures, pairs_fit}
 use Rattle.layout_face.specs.declared.substitution.SubstitutionTable.{SubstitutionTable}
 use Rattle.layout_face.specs.declared.positioning.PositioningLookup.{PositioningLookup}
 use Rattle.layout_face.specs.declared.positioning.PositioningTable.{PositioningTable}

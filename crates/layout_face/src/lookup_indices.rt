@@ -1,13 +1,13 @@
 //! Whether the indices and classes of a table stay within their lists.
 ghost use Rattle.std.specs.Prelude.{◌≡◌};
 ghost use Rattle.std.specs.List.{list_all};
-ghost use Rattle.layout_subtables.specs.Fits.{marks_fit_bases, marks_fit_ligatures};
+ghost use Rattle.layout_tables.specs.Fits.{marks_fit_bases, marks_fit_ligatures};
 ghost use Rattle.layout_face.specs.LookupIndices.{set_fits, substitution_fits, positioning_fits, positioning_classes_fit, positioning_lookup_fits, pair_classes_fit};
 
 use crate::positioning::{PositioningLookup, PositioningSubtables, PositioningTable};
 use crate::substitution::{SubstLookup, SubstitutionTable};
-use layout_subtables::mark::{MarkBasePos, MarkLigPos};
-use layout_subtables::pair::PairPos;
+use layout_tables::mark::{MarkBasePos, MarkLigPos};
+use layout_tables::pair::PairPos;
 
 impl SubstitutionTable {
     /// Whether each index of the table is below its list's length; the font has so many mark glyph sets.

@@ -5,11 +5,11 @@ ghost use Rattle.layout_face.specs.Lookups.{props_of};
 
 use crate::substitution::lookup_props;
 use layout_common::array::Array;
-use layout_subtables::context::ContextSubtable;
-use layout_subtables::cursive::CursivePos;
-use layout_subtables::mark::{MarkBasePos, MarkLigPos};
-use layout_subtables::pair::PairPos;
-use layout_subtables::single_pos::SinglePos;
+use layout_tables::context::ContextSubtable;
+use layout_tables::cursive::CursivePos;
+use layout_tables::mark::{MarkBasePos, MarkLigPos};
+use layout_tables::pair::PairPos;
+use layout_tables::single_pos::SinglePos;
 use layout_tables::table::LayoutTable;
 
 /// The subtables of a positioning lookup, which are of one type, in the order in which they are tried.

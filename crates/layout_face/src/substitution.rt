@@ -6,10 +6,10 @@ ghost use Rattle.layout_face.specs.Lookups.{props_of, is_reverse};
 
 use layout_common::array::Array;
 use layout_common::flags::USE_MARK_FILTERING_SET;
-use layout_subtables::context::ContextSubtable;
-use layout_subtables::reverse::ReverseChainSubst;
-use layout_subtables::sequence::{AlternateSubst, MultipleSubst};
-use layout_subtables::single_subst::SingleSubst;
+use layout_tables::context::ContextSubtable;
+use layout_tables::reverse::ReverseChainSubst;
+use layout_tables::sequence::{AlternateSubst, MultipleSubst};
+use layout_tables::single_subst::SingleSubst;
 use layout_tables::ligature::LigatureSubst;
 use layout_tables::table::LayoutTable;
 

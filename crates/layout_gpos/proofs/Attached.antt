@@ -5,13 +5,13 @@ use Rattle.buffer_glyphs.specs.Items.{Position, item_of}
 use Rattle.buffer_glyphs.specs.Events.{Break}
 use Rattle.buffer_core.specs.Sides.{Sides, after_next_glyphs, stage_flags}
 use Rattle.buffer_rows.specs.Keys.{row_of}
-use Rattle.layout_subtables.specs.Marks.{base_anchor}
-use Rattle.layout_subtables.specs.declared.value.Anchor.{Anchor}
-use Rattle.layout_subtables.specs.declared.mark.BaseRow.{BaseRow}
+use Rattle.layout_tables.specs.Marks.{base_anchor}
+use Rattle.layout_tables.specs.declared.value.Anchor.{Anchor}
+use Rattle.layout_tables.specs.declared.mark.BaseRow.{BaseRow}
 use Rattle.layout_common.specs.Rows.{value_of}
 use Rattle.layout_match.specs.Applied.{ApplyContext}
-use Rattle.layout_subtables.specs.declared.mark.MarkBasePos.{MarkBasePos}
-use Rattle.layout_subtables.specs.declared.mark.MarkRecord.{MarkRecord}
+use Rattle.layout_tables.specs.declared.mark.MarkBasePos.{MarkBasePos}
+use Rattle.layout_tables.specs.declared.mark.MarkRecord.{MarkRecord}
 use Rattle.buffer_stages.specs.Actions.{Cut, Outcome, Passes, at_first, attempt_around}
 use Rattle.buffer_stages.specs.Buffers.{IsPassed, cut_of}
 use Rattle.buffer_stages.specs.Performing.{IsPerformed, cut_with}

@@ -9,7 +9,7 @@ use Rattle.std.proofs.lemmas.Bool.Decides.{nat_tests}
 use Rattle.std.proofs.lemmas.List.Folds.{list_any_none}
 use Rattle.std.proofs.lemmas.List.Sorted.{IsPartitionedBy-ltb}
 use Rattle.buffer_rows.specs.Keys.{is_above, is_rising}
-use Rattle.layout_subtables.specs.declared.pair.PairRow.{PairRow}
+use Rattle.layout_tables.specs.declared.pair.PairRow.{PairRow}
 
 is_above_first : (a b c d : ℕ) → is_lt (ordering_then (nat_cmp a c) (nat_cmp b d)) ≡ true → a ≤ c
 is_above_first a b c d e = grind (arith, nat_tests, e)

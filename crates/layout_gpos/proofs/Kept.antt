@@ -12,7 +12,7 @@ use Rattle.buffer_stages.specs.Buffers.{cut_of}
 use Rattle.layout_gpos.specs.declared.bases.LastSearch.{LastSearch}
 use Rattle.layout_gpos.specs.declared.bases.Sought.{Sought}
 use Rattle.layout_gpos.specs.Bases.{IsKept, any_sought, search_result_from, takes}
-use Rattle.layout_gpos.specs.Marks.{nearest_taken, taken_before, without_marks}
+use Rattle.layout_gpos.specs.Marks.{nearest_taken, nearest_before, without_marks}
 
 pub kept_first : (test : Item → Option Item → Bool) (xs : List Item) → IsKept test xs (record { before = 0; found = Err 0 })
 kept_first test xs = record { within = omega arith; inside = tt; read = omega arith; is = refl }
@@ -49,7 +49,7 @@ before_is b s le =
 
 -- the glyphs behind the last search were passed over
 pub went_on : (k : Sought) (a : ApplyContext) (search : Search) (l : LastSearch) (more at : ℕ) (found : Result ℕ ℕ) (s : Sides) → l.before ≤ length s.behind → IsKept (takes k (own_search (without_marks a) (strip s.ahead))) (items_of s) l → more ≡ length s.behind - l.before → more ≤ at → at ≤ more
-    → search ≡ own_search (without_marks a) (strip s.ahead) → nearest_taken (takes k search) at (drop at (reverse (strip s.behind))) ≡ nearest_taken (takes k search) 0 (reverse (strip s.behind)) → found ≡ search_result_from more l.found → found ≡ taken_before (takes k) a (cut_of s)
+    → search ≡ own_search (without_marks a) (strip s.ahead) → nearest_taken (takes k search) at (drop at (reverse (strip s.behind))) ≡ nearest_taken (takes k search) 0 (reverse (strip s.behind)) → found ≡ search_result_from more l.found → found ≡ nearest_before (takes k) a (cut_of s)
 went_on k a search l more at found s since kept e from to is passed f =
     let test = takes k (own_search (without_marks a) (strip s.ahead)) in
     let xs = strip s.behind in
@@ -65,7 +65,7 @@ went_on k a search l more at found s since kept e from to is passed f =
     f ∙ ap (λ n. search_result_from n l.found) (sym same) ∙ ap (search_result_from at) kept_is ∙ sym behind ∙ all
 
 -- what was found is kept
-pub kept_now : (k : Sought) (a : ApplyContext) (n : ℕ) (found : Result ℕ ℕ) (s : Sides) → a.per_syllable ≡ false → n ≡ length s.behind → found ≡ taken_before (takes k) a (cut_of s) → IfOk found (λ at. at < length s.behind) → IfErr found (λ end. end ≤ length s.behind) → IsKept (any_sought k a) (items_of s) (record { before = n; found = found })
+pub kept_now : (k : Sought) (a : ApplyContext) (n : ℕ) (found : Result ℕ ℕ) (s : Sides) → a.per_syllable ≡ false → n ≡ length s.behind → found ≡ nearest_before (takes k) a (cut_of s) → IfOk found (λ at. at < length s.behind) → IfErr found (λ end. end ≤ length s.behind) → IsKept (any_sought k a) (items_of s) (record { before = n; found = found })
 kept_now k a n found s free count is inside read =
     let xs = strip s.behind in
     let long : length xs ≡ length s.behind = length-map s.behind item_of in

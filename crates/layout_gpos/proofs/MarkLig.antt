@@ -5,10 +5,10 @@ use Rattle.buffer_glyphs.specs.Items.{Item, item_of}
 use Rattle.buffer_core.specs.Sides.{Sides}
 use Rattle.layout_common.specs.Rows.{value_of}
 use Rattle.layout_match.specs.Applied.{ApplyContext}
-use Rattle.layout_subtables.specs.Marks.{component_anchor, component_count}
-use Rattle.layout_subtables.specs.declared.mark.LigatureRow.{LigatureRow}
-use Rattle.layout_subtables.specs.declared.mark.MarkLigPos.{MarkLigPos}
-use Rattle.layout_subtables.specs.declared.mark.MarkRecord.{MarkRecord}
+use Rattle.layout_tables.specs.Marks.{component_anchor, component_count}
+use Rattle.layout_tables.specs.declared.mark.LigatureRow.{LigatureRow}
+use Rattle.layout_tables.specs.declared.mark.MarkLigPos.{MarkLigPos}
+use Rattle.layout_tables.specs.declared.mark.MarkRecord.{MarkRecord}
 use Rattle.buffer_stages.specs.Actions.{Outcome, at_first, attempt_around}
 use Rattle.buffer_stages.specs.Buffers.{cut_of}
 use Rattle.buffer_stages.specs.Performing.{IsPerformed, cut_with}

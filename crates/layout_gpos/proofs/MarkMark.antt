@@ -6,9 +6,9 @@ use Rattle.buffer_core.specs.Sides.{Sides}
 use Rattle.layout_common.specs.Rows.{value_of}
 use Rattle.layout_match.specs.Applied.{ApplyContext}
 use Rattle.buffer_glyphs.specs.LigatureWords.{is_mark}
-use Rattle.layout_subtables.specs.declared.mark.BaseRow.{BaseRow}
-use Rattle.layout_subtables.specs.declared.mark.MarkBasePos.{MarkBasePos}
-use Rattle.layout_subtables.specs.declared.mark.MarkRecord.{MarkRecord}
+use Rattle.layout_tables.specs.declared.mark.BaseRow.{BaseRow}
+use Rattle.layout_tables.specs.declared.mark.MarkBasePos.{MarkBasePos}
+use Rattle.layout_tables.specs.declared.mark.MarkRecord.{MarkRecord}
 use Rattle.buffer_stages.specs.Actions.{Cut, Outcome, at_first, attempt_around}
 use Rattle.buffer_stages.specs.Buffers.{cut_of}
 use Rattle.buffer_stages.specs.Performing.{IsPerformed, cut_with}

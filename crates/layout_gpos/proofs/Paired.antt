@@ -7,9 +7,9 @@ use Rattle.buffer_glyphs.specs.Items.{Item, Position, item_of, strip}
 use Rattle.buffer_glyphs.specs.Events.{Break}
 use Rattle.buffer_core.specs.Sides.{Sides, after_next_glyphs}
 use Rattle.layout_match.specs.Applied.{ApplyContext}
-use Rattle.layout_subtables.specs.declared.value.ValueRecord.{ValueRecord}
-use Rattle.layout_subtables.specs.declared.pair.PairValues.{PairValues}
-use Rattle.layout_subtables.specs.declared.pair.PairPos.{PairPos}
+use Rattle.layout_tables.specs.declared.value.ValueRecord.{ValueRecord}
+use Rattle.layout_tables.specs.declared.pair.PairValues.{PairValues}
+use Rattle.layout_tables.specs.declared.pair.PairPos.{PairPos}
 use Rattle.buffer_stages.specs.Actions.{Cut, Outcome, Passes, at_first, attempt_around}
 use Rattle.buffer_stages.specs.Buffers.{IsPassed, cut_of, Frame}
 use Rattle.buffer_stages.specs.Performing.{IsPerformed, cut_with}

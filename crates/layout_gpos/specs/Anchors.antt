@@ -2,7 +2,7 @@
 use Rattle.std.specs.Prelude.{ℕ, ℤ, ◌-ℤ◌, if◌then◌else◌, List, Bool, set}
 use Rattle.std.specs.Int.RustNames.{bit_or}
 use Rattle.buffer_glyphs.specs.Items.{Position}
-use Rattle.layout_subtables.specs.declared.value.Anchor.{Anchor}
+use Rattle.layout_tables.specs.declared.value.Anchor.{Anchor}
 use Rattle.layout_offsets.specs.Links.{position_at, is_near, link_to}
 
 -- a mark whose anchor is on that of its base, both seen from where their glyphs are drawn

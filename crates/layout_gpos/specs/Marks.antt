@@ -4,13 +4,13 @@ use Rattle.buffer_glyphs.specs.Items.{Item}
 use Rattle.buffer_glyphs.specs.Parts.{first_of}
 use Rattle.layout_common.specs.Rows.{value_of}
 use Rattle.buffer_rows.specs.Keys.{row_of}
-use Rattle.layout_subtables.specs.Marks.{base_anchor, component_anchor, component_count}
-use Rattle.layout_subtables.specs.declared.value.Anchor.{Anchor}
-use Rattle.layout_subtables.specs.declared.mark.BaseRow.{BaseRow}
-use Rattle.layout_subtables.specs.declared.mark.LigatureRow.{LigatureRow}
-use Rattle.layout_subtables.specs.declared.mark.MarkBasePos.{MarkBasePos}
-use Rattle.layout_subtables.specs.declared.mark.MarkLigPos.{MarkLigPos}
-use Rattle.layout_subtables.specs.declared.mark.MarkRecord.{MarkRecord}
+use Rattle.layout_tables.specs.Marks.{base_anchor, component_anchor, component_count}
+use Rattle.layout_tables.specs.declared.value.Anchor.{Anchor}
+use Rattle.layout_tables.specs.declared.mark.BaseRow.{BaseRow}
+use Rattle.layout_tables.specs.declared.mark.LigatureRow.{LigatureRow}
+use Rattle.layout_tables.specs.declared.mark.MarkBasePos.{MarkBasePos}
+use Rattle.layout_tables.specs.declared.mark.MarkLigPos.{MarkLigPos}
+use Rattle.layout_tables.specs.declared.mark.MarkRecord.{MarkRecord}
 use Rattle.layout_match.specs.Applied.{ApplyContext, own_search}
 use Rattle.buffer_glyphs.specs.LigatureWords.{is_mark, is_multiplied, lig_comp, lig_id}
 use Rattle.layout_match.specs.Matches.{nearest_from}
@@ -45,16 +45,17 @@ abbrev pub is_later_component : Option Item → Item → Bool
 is_later_component None x = false
 is_later_component (Some y) x = is_multiplied x && is_multiplied y && not (is_mark y) && lig_id x == lig_id y && nat_lt 0 (lig_comp x) && lig_comp y == lig_comp x - 1
 
+-- a search takes a glyph: its answer is MATCH, and neither SKIP nor NOT_MATCH
 abbrev pub is_match : match_t → Bool
 is_match MATCH = true
 is_match SKIP = false
 is_match NOT_MATCH = false
 
--- an item, with the one directly before it, is one that a mark may hang on as on a ligature
+-- an item, with the one directly before it, is one that a mark may be attached to as to a ligature
 abbrev pub is_ligature_item : Search → Item → Option Item → Bool
 is_ligature_item s x before = is_match (any_item s x)
 
--- or as on a base
+-- an item, with the one directly before it, is one that a mark may be attached to as to a base
 abbrev pub is_base_item : Search → Item → Option Item → Bool
 is_base_item s x before = is_match (any_item s x) && not (is_later_component before x)
 
@@ -64,15 +65,16 @@ nearest_taken takes at [] = Err at
 nearest_taken takes at (x ∷ xs) = if takes x (first_of xs) then Ok at else nearest_taken takes (at + 1) xs
 
 -- the nearest item before the cut that a lookup takes with marks passed over, whatever stands between; else how many items there are
-abbrev pub taken_before : (Search → Item → Option Item → Bool) → ApplyContext → Cut → Result ℕ ℕ
-taken_before takes a c = nearest_taken (takes (own_search (without_marks a) c.rest)) 0 (reverse c.front)
+abbrev pub nearest_before : (Search → Item → Option Item → Bool) → ApplyContext → Cut → Result ℕ ℕ
+nearest_before takes a c = nearest_taken (takes (own_search (without_marks a) c.rest)) 0 (reverse c.front)
 
 -- the nearest base before the cut
 abbrev pub base_before : ApplyContext → Cut → Result ℕ ℕ
-base_before a c = taken_before is_base_item a c
+base_before a c = nearest_before is_base_item a c
 
+-- the nearest ligature before the cut; else how many items there are
 abbrev pub ligature_before : ApplyContext → Cut → Result ℕ ℕ
-ligature_before a c = taken_before is_ligature_item a c
+ligature_before a c = nearest_before is_ligature_item a c
 
 -- ---- attachment
 

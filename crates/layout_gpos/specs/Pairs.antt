@@ -6,11 +6,11 @@ use Rattle.buffer_glyphs.specs.Items.{Item, Position}
 use Rattle.buffer_glyphs.specs.Events.{Event}
 use Rattle.buffer_glyphs.specs.Parts.{first_of}
 use Rattle.layout_common.specs.Coverage.{is_covered}
-use Rattle.layout_subtables.specs.Pairs.{glyph_pair_values, class_pair_values}
-use Rattle.layout_subtables.specs.declared.value.ValueRecord.{ValueRecord}
-use Rattle.layout_subtables.specs.declared.pair.PairValues.{PairValues}
-use Rattle.layout_subtables.specs.declared.pair.PairPos.{PairPos}
-use Rattle.layout_subtables.specs.declared.pair.PairPos.TheVariants.{Glyphs, Classes}
+use Rattle.layout_tables.specs.Pairs.{glyph_pair_values, class_pair_values}
+use Rattle.layout_tables.specs.declared.value.ValueRecord.{ValueRecord}
+use Rattle.layout_tables.specs.declared.pair.PairValues.{PairValues}
+use Rattle.layout_tables.specs.declared.pair.PairPos.{PairPos}
+use Rattle.layout_tables.specs.declared.pair.PairPos.TheVariants.{Glyphs, Classes}
 use Rattle.layout_match.specs.Applied.{ApplyContext, own_search}
 use Rattle.layout_match.specs.Searches.{answer, is_skippable}
 use Rattle.layout_match.specs.Matches.{nearest_from}

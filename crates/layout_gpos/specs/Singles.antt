@@ -4,7 +4,7 @@ use Rattle.buffer_common.specs.declared.direction.Direction.{Direction}
 use Rattle.buffer_glyphs.specs.Parts.{first_of}
 use Rattle.layout_common.specs.Rows.{value_of}
 use Rattle.layout_common.specs.declared.glyph_row.GlyphRow.{GlyphRow}
-use Rattle.layout_subtables.specs.declared.value.ValueRecord.{ValueRecord}
+use Rattle.layout_tables.specs.declared.value.ValueRecord.{ValueRecord}
 use Rattle.buffer_stages.specs.Actions.{Action, Passes, Acts, at_first}
 use Rattle.layout_gpos.specs.Values.{with_adjusted_position}
 use Rattle.layout_gpos.specs.Moving.{cut_with_positions}

@@ -3,7 +3,7 @@ use Rattle.std.specs.Prelude.{ℕ, ℤ, ◌==◌, ◌&&◌, nat_abs, Bool, true,
 use Rattle.buffer_glyphs.specs.Items.{Position}
 use Rattle.buffer_common.specs.declared.direction.Direction.{Direction}
 use Rattle.buffer_common.specs.Direction.{is_horizontal}
-use Rattle.layout_subtables.specs.declared.value.ValueRecord.{ValueRecord}
+use Rattle.layout_tables.specs.declared.value.ValueRecord.{ValueRecord}
 use Rattle.layout_offsets.specs.Sums.{plus, minus}
 use Rattle.layout_offsets.specs.Links.{position_at}
 

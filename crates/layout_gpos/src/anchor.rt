@@ -5,7 +5,7 @@ ghost use Rattle.layout_offsets.specs.Links.{is_near, link_to};
 
 use buffer_glyphs::position::GlyphPosition;
 use layout_offsets::links::{is_near, link_to};
-use layout_subtables::value::Anchor;
+use layout_tables::value::Anchor;
 
 fn difference(a: i16, b: i16) -> i32
     ensures { result ≡ a -ℤ b }
@@ -26,7 +26,7 @@ fn anchor_mark(base: Anchor, mark: Anchor, link: i16, position: GlyphPosition) -
 }
 
 /// Attaches a mark to its base, anchor on anchor. Where the base is more than 32767 glyphs away, nothing changes.
-pub fn hang_mark(
+pub fn attach_mark(
     positions: &mut [GlyphPosition],
     at: usize,
     base: usize,

@@ -6,7 +6,7 @@ ghost use Rattle.layout_match.specs.Applied.{ApplyContext, apply_context_of, own
 ghost use Rattle.layout_match.specs.Searches.{search_of};
 ghost use Rattle.buffer_stages.specs.Buffers.{cut_of};
 ghost use Rattle.layout_gpos.specs.Bases.{AreKept, IsKept, any_sought, search_result_from, takes, takes_first};
-ghost use Rattle.layout_gpos.specs.Marks.{taken_before, without_marks};
+ghost use Rattle.layout_gpos.specs.Marks.{nearest_before, without_marks};
 
 use crate::search::{glyph_before, is_later_component, is_match, without_marks};
 use buffer_core::buffer::hb_buffer_t;
@@ -108,7 +108,7 @@ fn found_since(
     requires since { last.before ≤ length buffer.now.behind }
     requires kept { IsKept (takes sought (own_search (without_marks (apply_context_of ctx.now)) (strip buffer.now.ahead)))
         (items_of buffer.now) last }
-    ensures found { result ≡ taken_before (takes sought) (apply_context_of ctx.now) (cut_of buffer.now) }
+    ensures found { result ≡ nearest_before (takes sought) (apply_context_of ctx.now) (cut_of buffer.now) }
     ensures inside { IfOk result (λ at. at < length buffer.now.behind) }
     ensures read { IfErr result (λ end. end ≤ length buffer.now.behind) }
 {
@@ -122,8 +122,8 @@ fn found_since(
     farther(last.found, more)
 }
 
-/// The nearest glyph before the cursor that a mark may hang on; else how many glyphs there are. It goes on from the last
-/// search, but where the lookup is kept to syllables.
+/// The nearest glyph before the cursor that a mark may be attached to; else how many glyphs there are. It continues from the
+/// last search, but where the lookup is kept to syllables.
 #[tactic(auto, using(crate::proofs::Kept::kept_there, crate::proofs::Kept::kept_now))]
 pub fn found_before(
     sought: Sought,
@@ -133,7 +133,7 @@ pub fn found_before(
 ) -> Result<usize, usize>
     requires there { 0 < length buffer.now.ahead }
     requires kept { IsKept (any_sought sought (apply_context_of ctx.now)) (items_of buffer.now) last.old }
-    ensures found { result ≡ taken_before (takes sought) (apply_context_of ctx.now) (cut_of buffer.now) }
+    ensures found { result ≡ nearest_before (takes sought) (apply_context_of ctx.now) (cut_of buffer.now) }
     ensures inside { IfOk result (λ at. at < length buffer.now.behind) }
     ensures read { IfErr result (λ end. end ≤ length buffer.now.behind) }
     ensures kept { IsKept (any_sought sought (apply_context_of ctx.now)) (items_of buffer.now) last.new }

@@ -11,7 +11,7 @@ ghost use Rattle.layout_gpos.specs.Bases.{IsKept, any_sought};
 ghost use Rattle.layout_gpos.specs.declared.bases.Sought.TheVariants.{Base};
 ghost use Rattle.layout_gpos.specs.Marks.{attach, attach_if, is_there, mark_to_base, on_base, with_found};
 
-use crate::anchor::hang_mark;
+use crate::anchor::attach_mark;
 use crate::apply::Apply;
 use crate::bases::{LastSearches, Sought, found_before};
 use crate::placing::pass;
@@ -21,11 +21,11 @@ use buffer_core::buffer::hb_buffer_t;
 use layout_match::hb_ot_apply_context_t;
 use layout_match::marking::{mark_attempt, mark_match};
 use layout_offsets::links::is_near;
-use layout_subtables::mark::{MarkBasePos, MarkRecord};
-use layout_subtables::value::Anchor;
+use layout_tables::mark::{MarkBasePos, MarkRecord};
+use layout_tables::value::Anchor;
 
 #[tactic(auto, using(crate::proofs::Lemmas::Placed::hung_back))]
-fn hang_at(
+fn attach_at(
     buffer: &mut hb_buffer_t,
     at: usize,
     base: usize,
@@ -38,11 +38,11 @@ fn hang_at(
       positions = with_mark_attached at base base_anchor mark_anchor buffer.old.positions;
     } }
 {
-    hang_mark(buffer.pos_slice_mut(), at, base, base_anchor, mark_anchor);
+    attach_mark(buffer.pos_slice_mut(), at, base, base_anchor, mark_anchor);
 }
 
 /// Sets the scratch flag HAS_GPOS_ATTACHMENT, where a mark was attached.
-pub fn tell_attached(buffer: &mut hb_buffer_t, near: bool)
+pub fn set_attachment_flag(buffer: &mut hb_buffer_t, near: bool)
     ensures { buffer.new ≡ record buffer.old { scratch_flags = with_attachment_flag near buffer.old.scratch_flags } }
 {
     if near {
@@ -65,8 +65,8 @@ fn attach(base: Anchor, mark: Anchor, back: usize, buffer: &mut hb_buffer_t)
     let at = buffer.out_len();
     let parent = at - (back + 1);
     mark_match(back + 1, 1, buffer);
-    hang_at(buffer, at, parent, base, mark);
-    tell_attached(buffer, is_near(at, parent));
+    attach_at(buffer, at, parent, base, mark);
+    set_attachment_flag(buffer, is_near(at, parent));
     pass(buffer, 1);
 }
 

@@ -2,7 +2,7 @@
 ghost use Rattle.std.specs.Prelude.{ℕ, ◌≡◌, ◌<◌, ◌≤◌, IfErr, IfOk, Ok, false, true, length};
 ghost use Rattle.buffer_core.specs.Sides.{all_glyphs, items_of};
 ghost use Rattle.buffer_glyphs.specs.Items.{item_of};
-ghost use Rattle.layout_subtables.specs.Marks.{component_count};
+ghost use Rattle.layout_tables.specs.Marks.{component_count};
 ghost use Rattle.layout_match.specs.Applied.{apply_context_of};
 ghost use Rattle.buffer_stages.specs.Buffers.{are_glyphs};
 ghost use Rattle.buffer_stages.specs.Performing.{IsPerformed, cut_with};
@@ -19,7 +19,7 @@ use buffer_glyphs::info::hb_glyph_info_t;
 use buffer_glyphs::ligature_words::{_hb_glyph_info_get_lig_comp, _hb_glyph_info_get_lig_id};
 use layout_match::hb_ot_apply_context_t;
 use layout_match::marking::mark_attempt;
-use layout_subtables::mark::{MarkLigPos, MarkRecord};
+use layout_tables::mark::{MarkLigPos, MarkRecord};
 
 /// The index of the mark's component among so many of the ligature, where it belongs to that ligature; else of the last
 /// one.

@@ -19,7 +19,7 @@ use buffer_glyphs::ligature_words::{
 };
 use layout_match::hb_ot_apply_context_t;
 use layout_match::marking::mark_attempt;
-use layout_subtables::mark::MarkBasePos;
+use layout_tables::mark::MarkBasePos;
 
 /// Mark to mark attachment (OpenType, GPOS lookup type 6): where the subtable covers the mark at the cursor, it is
 /// attached to the mark before it, with no class skipped, where both belong to one base or to one component of a

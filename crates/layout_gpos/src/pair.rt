@@ -17,8 +17,8 @@ use buffer_core::buffer::hb_buffer_t;
 use buffer_rows::SortedRows;
 use layout_match::marking::{mark_attempt, mark_match};
 use layout_match::{hb_ot_apply_context_t, skipping_iterator_t};
-use layout_subtables::pair::{PairPos, PairRow, PairValues};
-use layout_subtables::value::ValueRecord;
+use layout_tables::pair::{PairPos, PairRow, PairValues};
+use layout_tables::value::ValueRecord;
 
 /// Whether there are pairs of a first glyph, in logarithmic time: the first row whose first glyph is not below it.
 fn has_first(pairs: &SortedRows<PairRow>, first: u16) -> bool

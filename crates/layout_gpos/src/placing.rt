@@ -5,7 +5,7 @@ ghost use Rattle.layout_gpos.specs.Values.{with_adjusted_position};
 
 use crate::value::adjust;
 use buffer_core::buffer::hb_buffer_t;
-use layout_subtables::value::ValueRecord;
+use layout_tables::value::ValueRecord;
 
 /// Adjusts the position of a glyph, by its index.
 #[tactic(auto, using(crate::proofs::Lemmas::Placed::adjusted_back))]

@@ -1,4 +1,4 @@
-//! The glyphs before the cursor that marks may hang on.
+//! The glyphs before the cursor that marks may be attached to.
 ghost use Rattle.std.specs.Prelude.{◌≡◌, ◌<◌, ◌≤◌, ◌+◌, IfErr, IfOk, Some, drop, length, reverse, slice_get};
 ghost use Rattle.buffer_glyphs.specs.Items.{item_of, strip};
 ghost use Rattle.buffer_glyphs.specs.Parts.{first_of};

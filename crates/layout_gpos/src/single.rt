@@ -8,7 +8,7 @@ use crate::bases::LastSearches;
 use crate::placing::{adjust_glyph, pass};
 use buffer_core::buffer::hb_buffer_t;
 use layout_match::hb_ot_apply_context_t;
-use layout_subtables::single_pos::SinglePos;
+use layout_tables::single_pos::SinglePos;
 
 /// Single adjustment (OpenType, GPOS lookup type 1): where the subtable covers the glyph at the cursor, its position is
 /// adjusted.

@@ -5,7 +5,7 @@ ghost use Rattle.layout_gpos.specs.Values.{adjusted_position, with_adjusted_posi
 use buffer_common::direction::Direction;
 use buffer_glyphs::position::GlyphPosition;
 use layout_offsets::sums::{minus, plus};
-use layout_subtables::value::ValueRecord;
+use layout_tables::value::ValueRecord;
 
 fn add_placement(value: ValueRecord, position: GlyphPosition) -> GlyphPosition
     ensures { result ≡ position_with_placement value position }

@@ -7,8 +7,8 @@ use Rattle.buffer_glyphs.specs.Parts.{first_of}
 use Rattle.buffer_core.specs.Sides.{Sides}
 use Rattle.layout_common.specs.Rows.{value_of}
 use Rattle.layout_common.specs.declared.glyph_row.GlyphRow.{GlyphRow}
-use Rattle.layout_subtables.specs.declared.sequence.SequenceRow.{SequenceRow}
-use Rattle.layout_subtables.specs.Substitutions.{glyphs_of}
+use Rattle.layout_tables.specs.declared.sequence.SequenceRow.{SequenceRow}
+use Rattle.layout_tables.specs.Substitutions.{glyphs_of}
 use Rattle.layout_face.specs.declared.parts.GlyphDefinition.{GlyphDefinition}
 use Rattle.buffer_stages.specs.Actions.{Outcome, Action, at_first}
 use Rattle.buffer_stages.specs.Performing.{cut_with, IsPerformed, Performs}

@@ -5,8 +5,8 @@ use Rattle.std.specs.Int.RustNames.{bit_and}
 use Rattle.buffer_glyphs.specs.Parts.{first_of}
 use Rattle.buffer_glyphs.specs.Events.{Break}
 use Rattle.layout_face.specs.declared.parts.GlyphDefinition.{GlyphDefinition}
-use Rattle.layout_subtables.specs.declared.sequence.SequenceRow.{SequenceRow}
-use Rattle.layout_subtables.specs.Substitutions.{glyphs_of}
+use Rattle.layout_tables.specs.declared.sequence.SequenceRow.{SequenceRow}
+use Rattle.layout_tables.specs.Substitutions.{glyphs_of}
 use Rattle.buffer_stages.specs.Actions.{Passes, Action, whole, later, at_first}
 use Rattle.layout_match.specs.Applied.{next_random}
 use Rattle.layout_gsub.specs.Replacements.{single_substitution}

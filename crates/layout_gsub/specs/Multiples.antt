@@ -5,8 +5,8 @@ use Rattle.buffer_glyphs.specs.Items.{Item}
 use Rattle.buffer_glyphs.specs.Parts.{first_of}
 use Rattle.buffer_glyphs.specs.Events.{Replace, Delete}
 use Rattle.layout_face.specs.declared.parts.GlyphDefinition.{GlyphDefinition}
-use Rattle.layout_subtables.specs.declared.sequence.SequenceRow.{SequenceRow}
-use Rattle.layout_subtables.specs.Substitutions.{glyphs_of}
+use Rattle.layout_tables.specs.declared.sequence.SequenceRow.{SequenceRow}
+use Rattle.layout_tables.specs.Substitutions.{glyphs_of}
 use Rattle.buffer_glyphs.specs.LigatureWords.{component_word, is_ligature, lig_id}
 use Rattle.buffer_stages.specs.Actions.{Cut, Passes, Acts, Action, at_first, within_limit}
 use Rattle.layout_gsub.specs.Replacements.{glyph_props_of, single_substitution}

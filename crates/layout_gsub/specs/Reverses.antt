@@ -5,7 +5,7 @@ use Rattle.buffer_glyphs.specs.Parts.{first_of}
 use Rattle.buffer_glyphs.specs.Events.{Break}
 use Rattle.layout_common.specs.Rows.{value_of}
 use Rattle.layout_face.specs.declared.parts.GlyphDefinition.{GlyphDefinition}
-use Rattle.layout_subtables.specs.declared.reverse.ReverseChainSubst.{ReverseChainSubst}
+use Rattle.layout_tables.specs.declared.reverse.ReverseChainSubst.{ReverseChainSubst}
 use Rattle.layout_match.specs.Applied.{ApplyContext, context_search}
 use Rattle.layout_match.specs.Matches.{backtrack_end, lookahead_end}
 use Rattle.layout_match.specs.Sequences.{is_covered_by}

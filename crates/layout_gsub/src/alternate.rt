@@ -14,7 +14,7 @@ use buffer_core::buffer::hb_buffer_t;
 use buffer_glyphs::cause::ShapeCause;
 use buffer_glyphs::info::{DEFINED, hb_glyph_info_t};
 use layout_match::hb_ot_apply_context_t;
-use layout_subtables::sequence::AlternateSubst;
+use layout_tables::sequence::AlternateSubst;
 
 /// The greatest value that a feature can have.
 const MAX_VALUE: u64 = 255;

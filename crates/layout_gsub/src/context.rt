@@ -6,7 +6,7 @@ ghost use Rattle.buffer_glyphs.specs.Origins.{origin_of};
 ghost use Rattle.buffer_core.specs.Sides.{has_output_room};
 ghost use Rattle.buffer_stages.specs.Actions.{Acts};
 ghost use Rattle.buffer_stages.specs.Buffers.{cut_of};
-ghost use Rattle.buffer_stages.specs.Performing.{Performs, PerformsInPlace, cut_with};
+ghost use Rattle.buffer_stages.specs.Performing.{Performs, PerformsWithoutOutput, cut_with};
 ghost use Rattle.layout_face.specs.declared.parts.GlyphDefinition.{GlyphDefinition};
 ghost use Rattle.layout_gsub.specs.LigatureReplacement.{guessed_ligature_props, ligature_replacement};
 ghost use Rattle.layout_gsub.specs.Multiples.{component_item};
@@ -39,7 +39,7 @@ pub trait GlyphReplacement {
     /// Replaces the glyph at the cursor by another, in place; its class is GDEF's, where GDEF has classes.
     fn replace_glyph_inplace(&self, glyph: u16, buffer: &mut hb_buffer_t)
         requires { 0 < length buffer.old.ahead }
-        ensures { PerformsInPlace (Acts (cut_with_substitute_kept (definition self.now) glyph
+        ensures { PerformsWithoutOutput (Acts (cut_with_substitute_kept (definition self.now) glyph
             (cut_of buffer.old)) []) true buffer.old buffer.new };
 
     /// Replaces the glyph at the cursor by a ligature, and outputs it; its class is GDEF's, where GDEF has classes, else

@@ -20,7 +20,7 @@ use buffer_glyphs::ligature_words::{
 };
 use layout_face::Face;
 use layout_match::hb_ot_apply_context_t;
-use layout_subtables::sequence::MultipleSubst;
+use layout_tables::sequence::MultipleSubst;
 
 /// The properties of one of several glyphs that replace a glyph.
 fn component_props(face: &Face, glyph: u16, info: &hb_glyph_info_t) -> GlyphPropsFlags

@@ -9,7 +9,7 @@ ghost use Rattle.layout_match.specs.Matches.{backtrack_end};
 ghost use Rattle.layout_match.specs.Sequences.{is_covered_by};
 ghost use Rattle.buffer_stages.specs.Actions.{Acts};
 ghost use Rattle.buffer_stages.specs.Buffers.{are_glyphs, cut_of};
-ghost use Rattle.buffer_stages.specs.Performing.{PerformsInPlace};
+ghost use Rattle.buffer_stages.specs.Performing.{PerformsWithoutOutput};
 ghost use Rattle.layout_gsub.specs.Reverses.{reverse_after_backtrack, cut_with_substitute_kept, reverse_subtable};
 
 use crate::replacement::substituted_props;
@@ -18,7 +18,7 @@ use buffer_glyphs::flags::GlyphPropsFlags;
 use layout_common::coverage::Coverage;
 use layout_match::marking::{mark_attempt, mark_match};
 use layout_match::{MatchSequence, hb_ot_apply_context_t, match_backtrack, match_lookahead};
-use layout_subtables::reverse::ReverseChainSubst;
+use layout_tables::reverse::ReverseChainSubst;
 
 /// Gives the glyph at the cursor another number and other properties.
 fn put_glyph(glyph: u16, props: GlyphPropsFlags, buffer: &mut hb_buffer_t)
@@ -34,7 +34,7 @@ fn put_glyph(glyph: u16, props: GlyphPropsFlags, buffer: &mut hb_buffer_t)
 /// Replaces the glyph at the cursor by another, in place; its class is GDEF's, where GDEF has classes.
 pub fn replace_glyph_inplace(ctx: &hb_ot_apply_context_t, glyph: u16, buffer: &mut hb_buffer_t)
     requires { 0 < length buffer.old.ahead }
-    ensures { PerformsInPlace (Acts (cut_with_substitute_kept ctx.now.face.now.gdef glyph
+    ensures { PerformsWithoutOutput (Acts (cut_with_substitute_kept ctx.now.face.now.gdef glyph
         (cut_of buffer.old)) []) true buffer.old buffer.new }
 {
     let props = substituted_props(ctx.face, glyph, buffer.cur(0).glyph_props);
@@ -51,7 +51,7 @@ fn apply_backtrack(
 ) -> bool
     requires there { 0 < length buffer.old.ahead }
     requires matched { ahead ≤ length buffer.old.ahead }
-    ensures { PerformsInPlace (reverse_after_backtrack ctx.now.face.now.gdef glyph ahead
+    ensures { PerformsWithoutOutput (reverse_after_backtrack ctx.now.face.now.gdef glyph ahead
         (backtrack_end (context_search (apply_context_of ctx.now) (strip buffer.old.ahead)) (map is_covered_by backtrack.now)
         (strip buffer.old.behind)) (cut_of buffer.old)) result buffer.old buffer.new }
 {
@@ -80,7 +80,7 @@ pub fn apply_reverse_chain_single_subst(
 ) -> bool
     requires there { 0 < length buffer.old.ahead }
     requires number { are_glyphs (items_of buffer.old) ≡ true }
-    ensures { PerformsInPlace (reverse_subtable (apply_context_of ctx.now) subtable.now
+    ensures { PerformsWithoutOutput (reverse_subtable (apply_context_of ctx.now) subtable.now
         (cut_of buffer.old)) result buffer.old buffer.new }
 {
     let Some(glyph) = subtable.substitute(buffer.cur(0).as_glyph().0) else {

@@ -6,7 +6,7 @@ use crate::replacement::replace_glyph;
 use buffer_core::buffer::hb_buffer_t;
 use buffer_glyphs::cause::ShapeCause;
 use layout_match::hb_ot_apply_context_t;
-use layout_subtables::single_subst::SingleSubst;
+use layout_tables::single_subst::SingleSubst;
 
 /// Single substitution (OpenType, GSUB lookup type 1): where the subtable covers the glyph at the cursor, its
 /// substitute replaces it.

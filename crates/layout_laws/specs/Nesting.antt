@@ -3,7 +3,7 @@ use Rattle.std.specs.Prelude.{ℕ, ℤ, ◌≡◌, ◌≤◌, ◌+ℤ◌, pos, f
 use Rattle.buffer_core.specs.Readings.{View, Read, Stage}
 use Rattle.layout_face.specs.declared.parts.FaceParts.{FaceParts}
 use Rattle.layout_map.specs.Compiled.{OtMapValue}
-use Rattle.layout_subtables.specs.declared.context.ContextSubtable.{ContextSubtable}
+use Rattle.layout_tables.specs.declared.context.ContextSubtable.{ContextSubtable}
 use Rattle.buffer_stages.specs.Actions.{Cut, Action}
 use Rattle.buffer_stages.specs.Pauses.{Pauses}
 use Rattle.layout_match.specs.Applied.{ApplyContext}

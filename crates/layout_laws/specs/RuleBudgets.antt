@@ -1,6 +1,6 @@
 -- What holds of rules that only count the budget down.
 use Rattle.std.specs.Prelude.{ℕ, List, Option}
-use Rattle.layout_subtables.specs.declared.context.SequenceLookupRecord.{SequenceLookupRecord}
+use Rattle.layout_tables.specs.declared.context.SequenceLookupRecord.{SequenceLookupRecord}
 use Rattle.buffer_stages.specs.Actions.{Action, first_rule}
 use Rattle.layout_match.specs.Applied.{ApplyContext}
 use Rattle.layout_match.specs.Trying.{met_first, forward_pass}
@@ -20,7 +20,7 @@ MetRulesCountBudget = (a : ApplyContext) (act : Action) → RuleCountsBudget act
 abbrev pub LookupsCountBudget : Type 0
 LookupsCountBudget = (act : Action) → RuleCountsBudget act → CountsBudget (forward_pass act)
 
--- the lookups of a rule's records, at whatever places, count the budget where the nested ones do
+-- the lookups of a rule's records, at whatever indices, count the budget where the nested ones do
 abbrev pub NestedCountBudget : Type 0
 NestedCountBudget = (nest : Option (ℕ → Action)) (records : List SequenceLookupRecord) (ps : List ℕ) (end : ℕ) → NestCountsBudget nest
     → RuleCountsBudget (λ c. cut_after_match (each_nested nest records c ps end))

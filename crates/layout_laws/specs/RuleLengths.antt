@@ -1,6 +1,6 @@
 -- What holds of rules that depend on no limit of length.
 use Rattle.std.specs.Prelude.{ℕ, List, Option}
-use Rattle.layout_subtables.specs.declared.context.SequenceLookupRecord.{SequenceLookupRecord}
+use Rattle.layout_tables.specs.declared.context.SequenceLookupRecord.{SequenceLookupRecord}
 use Rattle.buffer_stages.specs.Actions.{Action, first_rule}
 use Rattle.layout_match.specs.Applied.{ApplyContext}
 use Rattle.layout_match.specs.Trying.{met_first, forward_pass}
@@ -20,7 +20,7 @@ MetRulesDependOnNoLength = (a : ApplyContext) (act : Action) → RuleDependsOnNo
 abbrev pub LookupsDependOnNoLength : Type 0
 LookupsDependOnNoLength = (act : Action) → RuleDependsOnNoLength act → DependsOnNoLength (forward_pass act)
 
--- the lookups of a rule's records, at whatever places, depend on no length where the nested ones depend on none
+-- the lookups of a rule's records, at whatever indices, depend on no length where the nested ones depend on none
 abbrev pub NestedDependOnNoLength : Type 0
 NestedDependOnNoLength = (nest : Option (ℕ → Action)) (records : List SequenceLookupRecord) (ps : List ℕ) (end : ℕ) → NestDependsOnNoLength nest
     → RuleDependsOnNoLength (λ c. cut_after_match (each_nested nest records c ps end))

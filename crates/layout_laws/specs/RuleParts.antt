@@ -1,7 +1,7 @@
 -- What holds of lookups by rules that keep the parts of a text.
 use Rattle.std.specs.Prelude.{ℕ, List, Some, length}
 use Rattle.layout_match.specs.Applied.{ApplyContext}
-use Rattle.layout_subtables.specs.declared.context.SequenceLookupRecord.{SequenceLookupRecord}
+use Rattle.layout_tables.specs.declared.context.SequenceLookupRecord.{SequenceLookupRecord}
 use Rattle.buffer_stages.specs.Actions.{Cut, whole, Action}
 use Rattle.layout_match.specs.Trying.{met_first, forward_pass}
 use Rattle.layout_contexts.specs.Nested.{each_nested, cut_after_match}

@@ -2,3 +2,4 @@
 pub mod Linked
 pub mod Turned
 pub mod Joined
+pub mod Summing

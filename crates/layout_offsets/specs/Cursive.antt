@@ -4,7 +4,7 @@ use Rattle.std.specs.Int.{int_wrap, w16}
 use Rattle.buffer_glyphs.specs.Items.{Position}
 use Rattle.buffer_common.specs.declared.direction.Direction.{Direction}
 use Rattle.buffer_common.specs.Direction.{is_forward, is_horizontal}
-use Rattle.layout_subtables.specs.declared.value.Anchor.{Anchor}
+use Rattle.layout_tables.specs.declared.value.Anchor.{Anchor}
 use Rattle.layout_offsets.specs.Sums.{plus, minus}
 use Rattle.layout_offsets.specs.Links.{position_at, parent, without_link, is_near, link_to}
 

@@ -2,3 +2,11 @@ pub mod Sums
 pub mod Zeroing
 pub mod Links
 pub mod Cursive
+pub mod FollowedLinks
+pub mod Trees
+pub mod Marks
+pub mod Finished
+pub mod Finishing
+pub mod AdvanceSums
+pub mod Walks
+pub mod Starting

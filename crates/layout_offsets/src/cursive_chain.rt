@@ -8,7 +8,7 @@ use crate::links::{is_near, link_to, linked};
 use crate::sums::{minus, plus};
 use buffer_common::direction::Direction;
 use buffer_glyphs::position::GlyphPosition;
-use layout_subtables::value::Anchor;
+use layout_tables::value::Anchor;
 
 /// The glyph that a glyph is attached to.
 fn parent(positions: &[GlyphPosition], at: usize) -> Option<usize>
@@ -30,7 +30,7 @@ fn old_parent(positions: &[GlyphPosition], stop: usize, at: usize) -> Option<usi
     if there == stop { None } else { Some(there) }
 }
 
-fn negated(a: i32) -> i32
+fn negative(a: i32) -> i32
     ensures { result ≡ negative a }
 {
     minus(0, a)
@@ -42,14 +42,14 @@ fn turned_link(link: i16) -> i16
     link.wrapping_neg()
 }
 
-fn turned_across(across: bool, child: GlyphPosition, position: GlyphPosition) -> GlyphPosition
+fn with_link_reversed(across: bool, child: GlyphPosition, position: GlyphPosition) -> GlyphPosition
     ensures { result ≡ with_link_reversed across child position }
 {
     let mut there = position;
     if across {
-        there.y_offset = negated(child.y_offset);
+        there.y_offset = negative(child.y_offset);
     } else {
-        there.x_offset = negated(child.x_offset);
+        there.x_offset = negative(child.x_offset);
     }
     there.attach_chain = turned_link(child.attach_chain);
     there.attach_type = child.attach_type;
@@ -85,7 +85,7 @@ fn turn_from(
         let Some(there) = next else {
             return;
         };
-        new = turned_across(direction.is_horizontal(), old, positions[there]);
+        new = with_link_reversed(direction.is_horizontal(), old, positions[there]);
         at = there;
     }
 }
@@ -102,7 +102,7 @@ pub fn turn(positions: &mut [GlyphPosition], stop: usize, start: usize, directio
     }
 }
 
-fn joined_across(across: bool, x: i32, y: i32, link: i16, position: GlyphPosition) -> GlyphPosition
+fn child_position(across: bool, x: i32, y: i32, link: i16, position: GlyphPosition) -> GlyphPosition
     ensures { result ≡ child_position across x y link position }
 {
     let mut there = position;
@@ -116,7 +116,7 @@ fn joined_across(across: bool, x: i32, y: i32, link: i16, position: GlyphPositio
     there
 }
 
-fn freed_across(across: bool, position: GlyphPosition) -> GlyphPosition
+fn freed_position(across: bool, position: GlyphPosition) -> GlyphPosition
     ensures { result ≡ freed_position across position }
 {
     let mut there = position;
@@ -143,7 +143,7 @@ fn join_at(
 {
     let link = link_to(child, to);
     let position = positions[child];
-    positions[child] = joined_across(direction.is_horizontal(), x, y, link, position);
+    positions[child] = child_position(direction.is_horizontal(), x, y, link, position);
 }
 
 /// Unlinks a parent that was attached to its child.
@@ -156,13 +156,13 @@ fn free(positions: &mut [GlyphPosition], child: usize, to: usize, direction: Dir
     };
     if there == child {
         let position = positions[to];
-        positions[to] = freed_across(direction.is_horizontal(), position);
+        positions[to] = freed_position(direction.is_horizontal(), position);
     }
 }
 
 /// Attaches a cursive child to its parent at an offset across the line, once its old chain is reversed. A parent that
 /// was attached to the child is unlinked. Where the parent is more than 32,767 glyphs away nothing changes.
-pub fn hang_child(
+pub fn attach_child(
     positions: &mut [GlyphPosition],
     child: usize,
     to: usize,
@@ -194,7 +194,7 @@ fn first_ends(across: bool, exit: Anchor, position: GlyphPosition) -> GlyphPosit
     there
 }
 
-fn shifted(across: bool, anchor: Anchor, position: GlyphPosition) -> GlyphPosition
+fn position_from_anchor(across: bool, anchor: Anchor, position: GlyphPosition) -> GlyphPosition
     ensures { result ≡ position_from_anchor across anchor position }
 {
     let mut there = position;
@@ -227,9 +227,9 @@ pub fn join_advances(
     let across = direction.is_horizontal();
     if direction.is_forward() {
         positions[first] = first_ends(across, exit, positions[first]);
-        positions[second] = shifted(across, entry, positions[second]);
+        positions[second] = position_from_anchor(across, entry, positions[second]);
     } else {
-        positions[first] = shifted(across, exit, positions[first]);
+        positions[first] = position_from_anchor(across, exit, positions[first]);
         positions[second] = first_ends(across, entry, positions[second]);
     }
 }

@@ -2,14 +2,14 @@
 ghost use Rattle.std.specs.Prelude.{◌≡◌, ◌<◌, ◌-ℤ◌, length};
 ghost use Rattle.layout_offsets.specs.Cursive.{attaches_earlier, cursive_attachment, with_cursive_offset};
 
-use crate::cursive_chain::{hang_child, join_advances};
+use crate::cursive_chain::{attach_child, join_advances};
 use buffer_common::direction::Direction;
 use buffer_glyphs::position::GlyphPosition;
 use layout_common::flags::RIGHT_TO_LEFT;
-use layout_subtables::value::Anchor;
+use layout_tables::value::Anchor;
 
 /// Whether a lookup with this flag attaches the earlier of two glyphs to the later one.
-pub fn hangs_earlier(props: u32) -> bool
+pub fn attaches_earlier_glyph(props: u32) -> bool
     ensures { result ≡ attaches_earlier props }
 {
     props & u32::from(RIGHT_TO_LEFT) != 0
@@ -44,11 +44,11 @@ fn join_on(positions: &mut [GlyphPosition], earlier: bool, join: Joint, directio
     } = join;
     if earlier {
         let (x, y) = (difference(entry.x, exit.x), difference(entry.y, exit.y));
-        hang_child(positions, first, second, x, y, direction);
+        attach_child(positions, first, second, x, y, direction);
         return;
     }
     let (x, y) = (difference(exit.x, entry.x), difference(exit.y, entry.y));
-    hang_child(positions, second, first, x, y, direction);
+    attach_child(positions, second, first, x, y, direction);
 }
 
 /// Joins two glyphs along the line and across it.

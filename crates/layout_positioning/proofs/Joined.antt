@@ -9,8 +9,8 @@ use Rattle.buffer_core.specs.Lending.{with_positions_refilled}
 use Rattle.buffer_core.specs.Sides.{Sides, after_next_glyphs, stage_flags}
 use Rattle.layout_common.specs.declared.glyph_row.GlyphRow.{GlyphRow}
 use Rattle.layout_match.specs.Applied.{ApplyContext}
-use Rattle.layout_subtables.specs.declared.cursive.EntryExit.{EntryExit}
-use Rattle.layout_subtables.specs.declared.value.Anchor.{Anchor}
+use Rattle.layout_tables.specs.declared.cursive.EntryExit.{EntryExit}
+use Rattle.layout_tables.specs.declared.value.Anchor.{Anchor}
 use Rattle.buffer_stages.specs.Actions.{Cut, Outcome, at_first, attempt_around}
 use Rattle.buffer_stages.specs.Buffers.{IsPassed, Frame, cut_of}
 use Rattle.buffer_stages.specs.Performing.{IsPerformed, cut_with}

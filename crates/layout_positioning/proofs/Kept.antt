@@ -5,7 +5,7 @@ use Rattle.std.proofs.lemmas.List.{take-append-drop, map-append}
 use Rattle.buffer_glyphs.specs.declared.cause.ShapeCause.{ShapeCause}
 use Rattle.buffer_glyphs.specs.Items.{Item, item_of, strip}
 use Rattle.buffer_core.specs.Sides.{Sides, all_glyphs, items_of, after_next_glyphs}
-use Rattle.layout_subtables.specs.declared.context.SequenceLookupRecord.{SequenceLookupRecord}
+use Rattle.layout_tables.specs.declared.context.SequenceLookupRecord.{SequenceLookupRecord}
 use Rattle.layout_face.specs.declared.positioning.PositioningLookup.{PositioningLookup}
 use Rattle.layout_face.specs.declared.positioning.PositioningSubtables.{PositioningSubtables}
 use Rattle.layout_match.specs.Applied.{ApplyContext}
@@ -13,7 +13,7 @@ use Rattle.buffer_stages.specs.Actions.{Cut, whole, Action, Outcome, Passes, Act
 use Rattle.buffer_stages.specs.Performing.{Performs, cut_with}
 use Rattle.buffer_stages.proofs.Lemmas.Frames.{same_numbers}
 use Rattle.layout_contexts.specs.Chains.{Chain, chain_rule}
-use Rattle.layout_contexts.specs.Fitting.{IsMatched, Matched}
+use Rattle.layout_contexts.specs.Fitting.{IsMatched, MatchesOrPasses}
 use Rattle.layout_contexts.specs.Nested.{Walks, cut_at, cut_after_match, holds, with_budget_spent}
 use Rattle.layout_contexts.specs.Nesting.{Nests}
 use Rattle.layout_contexts.specs.Records.{IsRecordBegun}
@@ -59,9 +59,9 @@ nests_left (Passes es) acted r after s new k d = same_numbers s new d.2.cut_is
 nests_left (Acts cut es) acted r after s new k d = map-append item_of new.behind new.ahead ∙ ap (λ (c : Cut). whole c) d.1.cut_is ∙ k ∙ sym (map-append item_of s.behind s.ahead)
 nests_left (Refuses cause) acted r after s new k d = absurd d
 
-pub unmatched_kept : (a : ApplyContext) (r : Chain) (random : ℕ) (ps : List ℕ) (o : Option ℕ) (l : LastSearches) (s t : Sides) → o ≡ None → Matched o a r random ps s t → AreKept a (items_of s) l → AreKept a (items_of t) l
+pub unmatched_kept : (a : ApplyContext) (r : Chain) (random : ℕ) (ps : List ℕ) (o : Option ℕ) (l : LastSearches) (s t : Sides) → o ≡ None → MatchesOrPasses o a r random ps s t → AreKept a (items_of s) l → AreKept a (items_of t) l
 unmatched_kept a r random ps o l s t e m kept =
-    let none : Matched None a r random ps s t = subst (λ (q : Option ℕ). Matched q a r random ps s t) e m in
+    let none : MatchesOrPasses None a r random ps s t = subst (λ (q : Option ℕ). MatchesOrPasses q a r random ps s t) e m in
     kept_same a l s t (nests_left (chain_rule None a r (cut_with random s)) false random random s t (chain_keeps None tt a r (cut_with random s)) (none None)) kept
 
 -- a record was begun

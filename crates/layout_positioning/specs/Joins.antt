@@ -6,8 +6,8 @@ use Rattle.buffer_glyphs.specs.Items.{Item}
 use Rattle.buffer_glyphs.specs.Parts.{first_of}
 use Rattle.layout_common.specs.Rows.{value_of}
 use Rattle.layout_common.specs.declared.glyph_row.GlyphRow.{GlyphRow}
-use Rattle.layout_subtables.specs.declared.cursive.EntryExit.{EntryExit}
-use Rattle.layout_subtables.specs.declared.value.Anchor.{Anchor}
+use Rattle.layout_tables.specs.declared.cursive.EntryExit.{EntryExit}
+use Rattle.layout_tables.specs.declared.value.Anchor.{Anchor}
 use Rattle.layout_match.specs.Applied.{ApplyContext}
 use Rattle.buffer_stages.specs.Actions.{Action, Passes, Acts, at_first, attempt_around}
 use Rattle.layout_gpos.specs.Anchors.{with_attachment_flag}

@@ -11,15 +11,15 @@ ghost use Rattle.layout_gpos.specs.Marks.{with_found};
 use buffer_core::buffer::hb_buffer_t;
 use layout_gpos::apply::Apply;
 use layout_gpos::bases::LastSearches;
-use layout_gpos::mark::tell_attached;
+use layout_gpos::mark::set_attachment_flag;
 use layout_gpos::placing::pass;
 use layout_gpos::search::{glyph_before, item_before};
 use layout_match::hb_ot_apply_context_t;
 use layout_match::marking::{mark_attempt, mark_match};
-use layout_offsets::cursive_join::{Joint, hangs_earlier, join_both};
+use layout_offsets::cursive_join::{Joint, attaches_earlier_glyph, join_both};
 use layout_offsets::links::is_near;
-use layout_subtables::cursive::CursivePos;
-use layout_subtables::value::Anchor;
+use layout_tables::cursive::CursivePos;
+use layout_tables::value::Anchor;
 
 #[tactic(auto, using(crate::proofs::Joined::joined_back))]
 fn join_at(buffer: &mut hb_buffer_t, earlier: bool, join: Joint)
@@ -53,7 +53,7 @@ fn join(
     let second = buffer.out_len();
     let first = second - (back + 1);
     mark_match(back + 1, 1, buffer);
-    let earlier = hangs_earlier(ctx.lookup_props);
+    let earlier = attaches_earlier_glyph(ctx.lookup_props);
     join_at(
         buffer,
         earlier,
@@ -64,7 +64,7 @@ fn join(
             entry,
         },
     );
-    tell_attached(buffer, is_near(second, first));
+    set_attachment_flag(buffer, is_near(second, first));
     pass(buffer, 1);
 }
 

@@ -2,7 +2,9 @@
 //! hb/ot_layout_gsubgpos.rs, `apply_lookup`, `recurse`).
 //!
 //! Rattle takes no recursion through a trait's method, so the cycle by depth (a subtable, a context's records, the lookup of
-//! a record) is written for each of the two tables, and its functions repeat each other's clauses.
+//! a record) is written for each of the two tables, here and in `layout_substitution`, and the two repeat each other.
+//! Within this file too functions repeat clauses: each one of the cycle calls the next, so each requires what the next
+//! requires and refuses as the next refuses.
 ghost use Rattle.std.specs.Prelude.{◌≡◌, ◌≢◌, ◌≤◌, ◌<◌, ◌+◌, true, false, length, slice_get, IfOk, OnOk, Some, None};
 ghost use Rattle.buffer_core.specs.Sides.{items_of};
 ghost use Rattle.layout_contexts.specs.Chains.{chain_rule, context_subtable};
@@ -23,8 +25,8 @@ use crate::cursive_join::CursiveAttachment;
 use buffer_core::buffer::hb_buffer_t;
 use buffer_glyphs::cause::ShapeCause;
 use layout_contexts::{
-    ChainRule, begin_record, glyph_count, go_behind, is_tried_at, match_chain, rule_at, rule_count,
-    settle_match,
+    ChainRule, begin_record, glyph_count, is_tried_at, match_chain, move_to_match_end, rule_at,
+    rule_count, settle_match,
 };
 use layout_face::positioning::{PositioningLookup, PositioningSubtables, PositioningTable};
 use layout_gpos::apply::apply_first;
@@ -35,7 +37,7 @@ use layout_gpos::mark_mark::MarkToMark;
 use layout_gpos::pair::PairAdjustment;
 use layout_gpos::single::SingleAdjustment;
 use layout_match::{MatchPositions, hb_ot_apply_context_t};
-use layout_subtables::context::{ContextSubtable, SequenceLookupRecord};
+use layout_tables::context::{ContextSubtable, SequenceLookupRecord};
 
 /// The parameters of a lookup nested in another: its own flag, and all else as the other's.
 fn under_flag<'a>(
@@ -237,8 +239,8 @@ fn apply_rule(
         ctx.now.random_state ctx.now.random_state buffer.old buffer.new }
     ensures kept { OnOk result (AreKept (apply_context_of ctx.now) (items_of buffer.new) last.new) }
 {
-    let mut places = MatchPositions::new();
-    let Some(end) = match_chain(ctx, rule, buffer, &mut places) else {
+    let mut indices = MatchPositions::new();
+    let Some(end) = match_chain(ctx, rule, buffer, &mut indices) else {
         return Ok(false);
     };
     match apply_records(
@@ -246,12 +248,12 @@ fn apply_rule(
         depth,
         rule.records,
         end,
-        &mut places,
+        &mut indices,
         ctx,
         last,
         buffer,
     ) {
-        Ok(at) => go_behind(at, buffer),
+        Ok(at) => move_to_match_end(at, buffer),
         Err(cause) => Err(cause),
     }
 }
@@ -263,7 +265,7 @@ fn apply_records(
     depth: u32,
     records: &[SequenceLookupRecord],
     end: usize,
-    places: &mut MatchPositions,
+    indices: &mut MatchPositions,
     ctx: &hb_ot_apply_context_t,
     last: &mut LastSearches,
     buffer: &mut hb_buffer_t,
@@ -272,14 +274,14 @@ fn apply_records(
     requires unrefused { buffer.old.has_refused ≡ false }
     requires number { are_glyphs (items_of buffer.old) ≡ true }
     requires kept { AreKept (apply_context_of ctx.now) (items_of buffer.old) last.old }
-    requires rising { AreRising 0 (length (whole (cut_of buffer.old)) + 1) places.old.items }
+    requires rising { AreRising 0 (length (whole (cut_of buffer.old)) + 1) indices.old.items }
     requires within { end ≤ length (whole (cut_of buffer.old)) }
     ensures walks { Walking (each_nested (nested_actions table.now.lookups depth buffer.old.direction (apply_context_of ctx.now))
         records.now
-        (cut_with ctx.now.random_state buffer.old) places.old.items end) result places.new.items ctx.now.random_state
+        (cut_with ctx.now.random_state buffer.old) indices.old.items end) result indices.new.items ctx.now.random_state
         buffer.old buffer.new }
     ensures inside { IfOk result (λ at. StaysInside (length (whole (cut_of buffer.old)))
-        (length (whole (cut_of buffer.new))) places.old.items places.new.items end at) }
+        (length (whole (cut_of buffer.new))) indices.old.items indices.new.items end at) }
     ensures kept { OnOk result (AreKept (apply_context_of ctx.now) (items_of buffer.new) last.new) }
 {
     if depth == 0 {
@@ -292,7 +294,7 @@ fn apply_records(
             depth - 1,
             lookup_record,
             at,
-            places,
+            indices,
             ctx,
             last,
             buffer,
@@ -312,7 +314,7 @@ fn apply_record(
     depth: u32,
     lookup_record: &SequenceLookupRecord,
     end: usize,
-    places: &mut MatchPositions,
+    indices: &mut MatchPositions,
     ctx: &hb_ot_apply_context_t,
     last: &mut LastSearches,
     buffer: &mut hb_buffer_t,
@@ -321,24 +323,24 @@ fn apply_record(
     requires unrefused { buffer.old.has_refused ≡ false }
     requires number { are_glyphs (items_of buffer.old) ≡ true }
     requires kept { AreKept (apply_context_of ctx.now) (items_of buffer.old) last.old }
-    requires rising { AreRising 0 (length (whole (cut_of buffer.old)) + 1) places.old.items }
+    requires rising { AreRising 0 (length (whole (cut_of buffer.old)) + 1) indices.old.items }
     requires within { end ≤ length (whole (cut_of buffer.old)) }
     ensures walks { Walking (one_record (nested_act table.now.lookups depth buffer.old.direction (apply_context_of ctx.now))
         lookup_record.now
-        (cut_with ctx.now.random_state buffer.old) places.old.items end) result places.new.items ctx.now.random_state
+        (cut_with ctx.now.random_state buffer.old) indices.old.items end) result indices.new.items ctx.now.random_state
         buffer.old buffer.new }
     ensures inside { IfOk result (λ at. StaysInside (length (whole (cut_of buffer.old)))
-        (length (whole (cut_of buffer.new))) places.old.items places.new.items end at) }
+        (length (whole (cut_of buffer.new))) indices.old.items indices.new.items end at) }
     ensures kept { OnOk result (AreKept (apply_context_of ctx.now) (items_of buffer.new) last.new) }
 {
-    let place = match begin_record(lookup_record, places, buffer) {
-        Ok(Some(place)) => place,
+    let index_in_match = match begin_record(lookup_record, indices, buffer) {
+        Ok(Some(index_in_match)) => index_in_match,
         Ok(None) => return Ok(end),
         Err(cause) => return Err(cause),
     };
     let before = glyph_count(buffer);
     match recurse(table, depth, lookup_record.lookup_index, ctx, last, buffer) {
-        Ok(true) => Ok(settle_match(lookup_record, place, before, end, places, buffer)),
+        Ok(true) => Ok(settle_match(lookup_record, index_in_match, before, end, indices, buffer)),
         Ok(false) => Ok(end),
         Err(cause) => Err(cause),
     }

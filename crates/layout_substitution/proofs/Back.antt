@@ -14,13 +14,13 @@ use Rattle.layout_common.specs.Rows.{value_of}
 use Rattle.layout_face.specs.declared.substitution.SubstLookup.{SubstLookup}
 use Rattle.layout_face.specs.declared.substitution.SubstitutionSubtables.{SubstitutionSubtables}
 use Rattle.layout_face.specs.declared.substitution.SubstitutionSubtables.TheVariants.{Single, Multiple, Alternate, Ligature, Context, ChainContext, ReverseChainSingle}
-use Rattle.layout_subtables.specs.declared.reverse.ReverseChainSubst.{ReverseChainSubst}
+use Rattle.layout_tables.specs.declared.reverse.ReverseChainSubst.{ReverseChainSubst}
 use Rattle.layout_match.specs.Applied.{ApplyContext, context_search}
 use Rattle.layout_match.specs.Matches.{backtrack_end, lookahead_end}
 use Rattle.layout_match.specs.Sequences.{is_covered_by}
 use Rattle.buffer_stages.specs.Actions.{Cut, view_at, uncut_with_positions, Outcome, Passes, Acts, Refuses, Action}
 use Rattle.buffer_stages.specs.Buffers.{cut_of, are_glyphs, IsStill, HasHappened}
-use Rattle.buffer_stages.specs.Performing.{cut_with, PerformsInPlace}
+use Rattle.buffer_stages.specs.Performing.{cut_with, PerformsWithoutOutput}
 use Rattle.buffer_stages.specs.Ready.{IsReady, IsDoneFrom, state_with}
 use Rattle.buffer_stages.proofs.Lemmas.Frames.{still_settings, still_refused, still_direction, still_open, same_level, same_asks, same_numbers}
 use Rattle.buffer_stages.proofs.Lemmas.Performed.{same_with}
@@ -88,7 +88,7 @@ then_back act v at r es w c s new final is same still happened f =
     let settings = still_settings s new still in
     subst P (sym is) (follows_happened es w (backward_trials act v at c) (state_of s) (state_of new) final happened (same_level s new settings) (same_asks s new settings) (subst Q same f))
 
-back_by : (act : Action) (at : ℕ) (acted : Bool) (s new : Sides) (o : Outcome) → IsBlind act → act (cut_of (after_move_to at s)) ≡ o → length (all_glyphs new) ≡ length (all_glyphs s) → PerformsInPlace o acted (after_move_to at s) new → IsStepBack act at s new
+back_by : (act : Action) (at : ℕ) (acted : Bool) (s new : Sides) (o : Outcome) → IsBlind act → act (cut_of (after_move_to at s)) ≡ o → length (all_glyphs new) ≡ length (all_glyphs s) → PerformsWithoutOutput o acted (after_move_to at s) new → IsStepBack act at s new
 back_by act at acted s new (Passes es) blind e count d =
     let p = d.1 in
     let mid = after_move_to at s in
@@ -111,10 +111,10 @@ back_by act at acted s new (Acts cut es) blind e count d =
     }
 back_by act at acted s new (Refuses cause) blind e count d = absurd d
 
-pub step_back : (a : ApplyContext) (lookup : SubstLookup) (at : ℕ) (acted : Bool) (s mid new : Sides) → length (all_glyphs new) ≡ length (all_glyphs s) → mid ≡ after_move_to at s → PerformsInPlace (reverse_action a lookup (cut_of mid)) acted mid new
+pub step_back : (a : ApplyContext) (lookup : SubstLookup) (at : ℕ) (acted : Bool) (s mid new : Sides) → length (all_glyphs new) ≡ length (all_glyphs s) → mid ≡ after_move_to at s → PerformsWithoutOutput (reverse_action a lookup (cut_of mid)) acted mid new
     → IsStepBack (reverse_action a lookup) at s new
 step_back a lookup at acted s mid new count is d =
-    let P : Sides → Type 0 = λ t. PerformsInPlace (reverse_action a lookup (cut_of t)) acted t new in
+    let P : Sides → Type 0 = λ t. PerformsWithoutOutput (reverse_action a lookup (cut_of t)) acted t new in
     back_by (reverse_action a lookup) at acted s new (reverse_action a lookup (cut_of (after_move_to at s))) (reverse_blind a lookup) refl count (subst P is d)
 
 -- ---- all indices
@@ -179,7 +179,7 @@ looked_back_done act end k s now new ready counted v0 input count is placed r =
     }
 
 -- what is done in place leaves the positions
-pub acted_still : (o : Outcome) (acted : Bool) (s new : Sides) → PerformsInPlace o acted s new → new.positions ≡ s.positions
+pub acted_still : (o : Outcome) (acted : Bool) (s new : Sides) → PerformsWithoutOutput o acted s new → new.positions ≡ s.positions
 acted_still (Passes es) acted s new d = ap (λ (c : Cut). c.positions) d.1.cut_is
 acted_still (Acts cut es) acted s new d = d.1.positions
 acted_still (Refuses cause) acted s new d = absurd d

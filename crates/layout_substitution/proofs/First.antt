@@ -9,7 +9,7 @@ use Rattle.layout_face.specs.declared.substitution.SubstLookup.{SubstLookup}
 use Rattle.layout_match.specs.Applied.{ApplyContext}
 use Rattle.buffer_stages.specs.Actions.{Outcome}
 use Rattle.buffer_stages.specs.Buffers.{cut_of}
-use Rattle.buffer_stages.specs.Performing.{cut_with, IsPerformed, Performs, PerformsInPlace}
+use Rattle.buffer_stages.specs.Performing.{cut_with, IsPerformed, Performs, PerformsWithoutOutput}
 use Rattle.buffer_stages.proofs.Lemmas.Does.{passed_same}
 use Rattle.buffer_stages.proofs.Lemmas.Performed.{passes_nothing}
 use Rattle.layout_match.specs.Trying.{meets}
@@ -26,13 +26,13 @@ lookup_tries table a lookup r after result s new g at some d =
     let P : Outcome → Type 0 = λ o. Performs o result r after s new in
     subst P (sym (met a (first_subtable (nested_actions table 64 a) a lookup.subtables) r s g at some)) d
 
-pub reverse_passes : (a : ApplyContext) (lookup : SubstLookup) (s : Sides) (g : hb_glyph_info_t) → slice_get s.ahead 0 ≡ Some g → meets a (item_of g) ≡ false → PerformsInPlace (reverse_action a lookup (cut_of s)) false s s
+pub reverse_passes : (a : ApplyContext) (lookup : SubstLookup) (s : Sides) (g : hb_glyph_info_t) → slice_get s.ahead 0 ≡ Some g → meets a (item_of g) ≡ false → PerformsWithoutOutput (reverse_action a lookup (cut_of s)) false s s
 reverse_passes a lookup s g at none =
-    let P : Outcome → Type 0 = λ o. PerformsInPlace o false s s in
+    let P : Outcome → Type 0 = λ o. PerformsWithoutOutput o false s s in
     subst P (sym (unmet a (first_reverse a lookup.subtables) 1 s g at none)) (refl, passed_same s)
 
 pub reverse_tries : (a : ApplyContext) (lookup : SubstLookup) (acted : Bool) (s new : Sides) (g : hb_glyph_info_t) → slice_get s.ahead 0 ≡ Some g → meets a (item_of g) ≡ true
-    → PerformsInPlace (first_reverse a lookup.subtables (cut_of s)) acted s new → PerformsInPlace (reverse_action a lookup (cut_of s)) acted s new
+    → PerformsWithoutOutput (first_reverse a lookup.subtables (cut_of s)) acted s new → PerformsWithoutOutput (reverse_action a lookup (cut_of s)) acted s new
 reverse_tries a lookup acted s new g at some d =
-    let P : Outcome → Type 0 = λ o. PerformsInPlace o acted s new in
+    let P : Outcome → Type 0 = λ o. PerformsWithoutOutput o acted s new in
     subst P (sym (met a (first_reverse a lookup.subtables) 1 s g at some)) d

@@ -4,7 +4,7 @@ ghost use Rattle.buffer_core.specs.Sides.{items_of};
 ghost use Rattle.layout_match.specs.Applied.{apply_context_of};
 ghost use Rattle.buffer_stages.specs.Actions.{first_rule};
 ghost use Rattle.buffer_stages.specs.Buffers.{are_glyphs, cut_of};
-ghost use Rattle.buffer_stages.specs.Performing.{Performs, PerformsInPlace, cut_with};
+ghost use Rattle.buffer_stages.specs.Performing.{Performs, PerformsWithoutOutput, cut_with};
 ghost use Rattle.layout_gsub.specs.Reverses.{reverse_subtable};
 ghost use Rattle.layout_substitution.specs.Lookups.{first_reverse, lookup_action, reverse_action};
 
@@ -16,7 +16,7 @@ use layout_face::substitution::{SubstLookup, SubstitutionSubtables, Substitution
 use layout_gsub::reverse::apply_reverse_chain_single_subst;
 use layout_match::hb_ot_apply_context_t;
 use layout_match::lookup::meets;
-use layout_subtables::reverse::ReverseChainSubst;
+use layout_tables::reverse::ReverseChainSubst;
 
 /// Applies the first matching subtable of a lookup at the cursor, where the lookup applies to the glyph there. It
 /// answers whether one acted; where none did it changed glyph flags only. It refuses for want of memory, or where the
@@ -52,7 +52,7 @@ fn apply_reverse_subtables(
 ) -> bool
     requires there { 0 < length buffer.old.ahead }
     requires number { are_glyphs (items_of buffer.old) ≡ true }
-    ensures { PerformsInPlace (first_rule (reverse_subtable (apply_context_of ctx.now)) subtables.now
+    ensures { PerformsWithoutOutput (first_rule (reverse_subtable (apply_context_of ctx.now)) subtables.now
         (cut_of buffer.old)) result buffer.old buffer.new }
 {
     for subtable in subtables {
@@ -71,7 +71,7 @@ fn apply_reverse_substitution(
 ) -> bool
     requires there { 0 < length buffer.old.ahead }
     requires number { are_glyphs (items_of buffer.old) ≡ true }
-    ensures { PerformsInPlace (first_reverse (apply_context_of ctx.now) subtables.now
+    ensures { PerformsWithoutOutput (first_reverse (apply_context_of ctx.now) subtables.now
         (cut_of buffer.old)) result buffer.old buffer.new }
 {
     match subtables {
@@ -97,7 +97,7 @@ pub fn apply_reverse_lookup(
 ) -> bool
     requires there { 0 < length buffer.old.ahead }
     requires number { are_glyphs (items_of buffer.old) ≡ true }
-    ensures { PerformsInPlace (reverse_action (apply_context_of ctx.now) lookup.now
+    ensures { PerformsWithoutOutput (reverse_action (apply_context_of ctx.now) lookup.now
         (cut_of buffer.old)) result buffer.old buffer.new }
 {
     if !meets(ctx, buffer.cur(0)) {

@@ -2,7 +2,9 @@
 //! hb/ot_layout_gsubgpos.rs, `apply_lookup`, `recurse`).
 //!
 //! Rattle takes no recursion through a trait's method, so the cycle by depth (a subtable, a context's records, the lookup of
-//! a record) is written for each of the two tables, and its functions repeat each other's clauses.
+//! a record) is written for each of the two tables, here and in `layout_positioning`, and the two repeat each other.
+//! Within this file too functions repeat clauses: each one of the cycle calls the next, so each requires what the next
+//! requires and refuses as the next refuses.
 ghost use Rattle.std.specs.Prelude.{◌≡◌, ◌≢◌, ◌≤◌, ◌<◌, ◌+◌, true, false, length, slice_get, IfOk, Some, None};
 ghost use Rattle.buffer_core.specs.Sides.{items_of};
 ghost use Rattle.layout_contexts.specs.Chains.{chain_rule, context_subtable};
@@ -21,13 +23,13 @@ ghost use Rattle.layout_substitution.specs.Lookups.{first_subtable, nested_actio
 use buffer_core::buffer::hb_buffer_t;
 use buffer_glyphs::cause::ShapeCause;
 use layout_contexts::{
-    ChainRule, begin_record, glyph_count, go_behind, is_tried_at, match_chain, rule_at, rule_count,
-    settle_match,
+    ChainRule, begin_record, glyph_count, is_tried_at, match_chain, move_to_match_end, rule_at,
+    rule_count, settle_match,
 };
 use layout_face::substitution::{SubstitutionSubtables, SubstitutionTable};
 use layout_gsub::apply::apply_first;
 use layout_match::{MatchPositions, hb_ot_apply_context_t};
-use layout_subtables::context::{ContextSubtable, SequenceLookupRecord};
+use layout_tables::context::{ContextSubtable, SequenceLookupRecord};
 
 /// Applies the lookup at an index of the table at the cursor, nested in another: with its own flag, and without a test
 /// whether it applies to the glyph there. An index without one does nothing. Lookups may be nested in it so many levels
@@ -199,12 +201,12 @@ fn apply_rule(
         ctx.old.random_state ctx.new.random_state buffer.old buffer.new }
     ensures context { apply_context_of ctx.new ≡ apply_context_of ctx.old }
 {
-    let mut places = MatchPositions::new();
-    let Some(end) = match_chain(ctx, rule, buffer, &mut places) else {
+    let mut indices = MatchPositions::new();
+    let Some(end) = match_chain(ctx, rule, buffer, &mut indices) else {
         return Ok(false);
     };
-    match apply_records(table, depth, rule.records, end, &mut places, ctx, buffer) {
-        Ok(at) => go_behind(at, buffer),
+    match apply_records(table, depth, rule.records, end, &mut indices, ctx, buffer) {
+        Ok(at) => move_to_match_end(at, buffer),
         Err(cause) => Err(cause),
     }
 }
@@ -216,20 +218,20 @@ fn apply_records(
     depth: u32,
     records: &[SequenceLookupRecord],
     end: usize,
-    places: &mut MatchPositions,
+    indices: &mut MatchPositions,
     ctx: &mut hb_ot_apply_context_t,
     buffer: &mut hb_buffer_t,
 ) -> Result<usize, ShapeCause>
     requires open { buffer.old.is_open ≡ true }
     requires unrefused { buffer.old.has_refused ≡ false }
     requires number { are_glyphs (items_of buffer.old) ≡ true }
-    requires rising { AreRising 0 (length (whole (cut_of buffer.old)) + 1) places.old.items }
+    requires rising { AreRising 0 (length (whole (cut_of buffer.old)) + 1) indices.old.items }
     requires within { end ≤ length (whole (cut_of buffer.old)) }
     ensures walks { Walking (each_nested (nested_actions table.now.lookups depth (apply_context_of ctx.old)) records.now
-        (cut_with ctx.old.random_state buffer.old) places.old.items end) result places.new.items ctx.new.random_state
+        (cut_with ctx.old.random_state buffer.old) indices.old.items end) result indices.new.items ctx.new.random_state
         buffer.old buffer.new }
     ensures inside { IfOk result (λ at. StaysInside (length (whole (cut_of buffer.old)))
-        (length (whole (cut_of buffer.new))) places.old.items places.new.items end at) }
+        (length (whole (cut_of buffer.new))) indices.old.items indices.new.items end at) }
     ensures context { apply_context_of ctx.new ≡ apply_context_of ctx.old }
 {
     if depth == 0 {
@@ -237,7 +239,7 @@ fn apply_records(
     }
     let mut at = end;
     for lookup_record in records {
-        match apply_record(table, depth - 1, lookup_record, at, places, ctx, buffer) {
+        match apply_record(table, depth - 1, lookup_record, at, indices, ctx, buffer) {
             Ok(settled) => at = settled,
             Err(cause) => return Err(cause),
         }
@@ -253,30 +255,30 @@ fn apply_record(
     depth: u32,
     lookup_record: &SequenceLookupRecord,
     end: usize,
-    places: &mut MatchPositions,
+    indices: &mut MatchPositions,
     ctx: &mut hb_ot_apply_context_t,
     buffer: &mut hb_buffer_t,
 ) -> Result<usize, ShapeCause>
     requires open { buffer.old.is_open ≡ true }
     requires unrefused { buffer.old.has_refused ≡ false }
     requires number { are_glyphs (items_of buffer.old) ≡ true }
-    requires rising { AreRising 0 (length (whole (cut_of buffer.old)) + 1) places.old.items }
+    requires rising { AreRising 0 (length (whole (cut_of buffer.old)) + 1) indices.old.items }
     requires within { end ≤ length (whole (cut_of buffer.old)) }
     ensures walks { Walking (one_record (nested_act table.now.lookups depth (apply_context_of ctx.old)) lookup_record.now
-        (cut_with ctx.old.random_state buffer.old) places.old.items end) result places.new.items ctx.new.random_state
+        (cut_with ctx.old.random_state buffer.old) indices.old.items end) result indices.new.items ctx.new.random_state
         buffer.old buffer.new }
     ensures inside { IfOk result (λ at. StaysInside (length (whole (cut_of buffer.old)))
-        (length (whole (cut_of buffer.new))) places.old.items places.new.items end at) }
+        (length (whole (cut_of buffer.new))) indices.old.items indices.new.items end at) }
     ensures context { apply_context_of ctx.new ≡ apply_context_of ctx.old }
 {
-    let place = match begin_record(lookup_record, places, buffer) {
-        Ok(Some(place)) => place,
+    let index_in_match = match begin_record(lookup_record, indices, buffer) {
+        Ok(Some(index_in_match)) => index_in_match,
         Ok(None) => return Ok(end),
         Err(cause) => return Err(cause),
     };
     let before = glyph_count(buffer);
     match recurse(table, depth, lookup_record.lookup_index, ctx, buffer) {
-        Ok(true) => Ok(settle_match(lookup_record, place, before, end, places, buffer)),
+        Ok(true) => Ok(settle_match(lookup_record, index_in_match, before, end, indices, buffer)),
         Ok(false) => Ok(end),
         Err(cause) => Err(cause),
     }

@@ -1,12 +1,23 @@
-//! The common lists of the layout tables of a font: scripts, language systems and features (OpenType, chapter 2); and
-//! sets of ligatures.
+//! The layout tables of a font (OpenType, chapter 2): scripts, language systems and features, sets of ligatures, and
+//! the subtables of GSUB and GPOS: substitutions, positions, contexts (rustybuzz takes them from the crate
+//! ttf-parser).
 #![tactic(auto)]
 
 pub mod choice;
+pub mod context;
+pub mod cursive;
+mod fits;
 mod indices;
 mod keyed;
 pub mod ligature;
+pub mod mark;
+pub mod pair;
+pub mod reverse;
 pub mod script;
+pub mod sequence;
+pub mod single_pos;
+pub mod single_subst;
 pub mod table;
+pub mod value;
 
 pub use buffer_rows::{Keyed, is_above, is_rising};

@@ -5,8 +5,8 @@ use Rattle.std.specs.List.{list_any}
 use Rattle.layout_common.specs.Rows.{value_of}
 use Rattle.layout_common.specs.declared.glyph_row.GlyphRow.{GlyphRow}
 use Rattle.layout_tables.specs.Layout.{LigatureSetTable, ligature_set_of}
-use Rattle.layout_subtables.specs.declared.sequence.SequenceRow.{SequenceRow}
-use Rattle.layout_subtables.specs.Substitutions.{glyphs_of}
+use Rattle.layout_tables.specs.declared.sequence.SequenceRow.{SequenceRow}
+use Rattle.layout_tables.specs.Substitutions.{glyphs_of}
 
 -- single and reverse chaining substitution apply to one glyph that they cover
 abbrev pub single_would : List (GlyphRow ℕ) → List ℕ → Bool

@@ -4,10 +4,10 @@ use Rattle.std.specs.Cmp.Lexicographic.{pointwise}
 use Rattle.std.specs.List.{list_any}
 use Rattle.layout_common.specs.Classes.{class_of}
 use Rattle.layout_common.specs.Coverage.{is_covered}
-use Rattle.layout_subtables.specs.declared.context.SequenceRule.{SequenceRule}
-use Rattle.layout_subtables.specs.declared.context.ClassRules.{ClassRules}
-use Rattle.layout_subtables.specs.declared.context.ContextSubtable.{ContextSubtable}
-use Rattle.layout_subtables.specs.declared.context.ContextSubtable.TheVariants.{Glyphs, Classes, Coverage}
+use Rattle.layout_tables.specs.declared.context.SequenceRule.{SequenceRule}
+use Rattle.layout_tables.specs.declared.context.ClassRules.{ClassRules}
+use Rattle.layout_tables.specs.declared.context.ContextSubtable.{ContextSubtable}
+use Rattle.layout_tables.specs.declared.context.ContextSubtable.TheVariants.{Glyphs, Classes, Coverage}
 use Rattle.layout_would_apply.specs.Subtables.{ligature_would, sequence_would, single_would}
 use Rattle.layout_face.specs.declared.substitution.SubstitutionSubtables.{SubstitutionSubtables}
 use Rattle.layout_face.specs.declared.substitution.SubstitutionSubtables.TheVariants.{Single, Multiple, Alternate, Ligature, Context, ChainContext, ReverseChainSingle}

@@ -9,7 +9,7 @@ use crate::subtables::{WouldApply, WouldApplyContext};
 use layout_common::class_definition::ClassDefinition;
 use layout_common::coverage::Coverage;
 use layout_face::substitution::{SubstLookup, SubstitutionSubtables};
-use layout_subtables::context::{ClassRules, ContextSubtable, SequenceRule};
+use layout_tables::context::{ClassRules, ContextSubtable, SequenceRule};
 
 /// Whether a rule counts: without context around the glyphs, one that requires glyphs before or after its input
 /// doesn't.

@@ -88,8 +88,8 @@ laid_done ts ps s t new ready h e is =
     })
 
 -- there is an index for each position
-pub room_for_places : (ts : List (Option Tile)) (ps : List Position) (s t : Sides) → IsReady s → IsFollowed (tiles_copied ts) s t → ps ≡ all_positions s.positions ts → length ps ≡ length t.positions
-room_for_places ts ps s t ready h e =
+pub room_for_positions : (ts : List (Option Tile)) (ps : List Position) (s t : Sides) → IsReady s → IsFollowed (tiles_copied ts) s t → ps ≡ all_positions s.positions ts → length ps ≡ length t.positions
+room_for_positions ts ps s t ready h e =
     let xs = with_tile_copies (items_of s) ts in
     let both = replaced (nat_le (length xs) s.max_len) xs (zero_positions (length xs)) ps ts s t h.follows in
     ap (λ (qs : List Position). length qs) e ∙ laid_long (items_of s) s.positions ts (ready.placed ∙ sym (length-map (all_glyphs s) item_of)) ∙ ap (λ (ys : List Item). length ys) (sym both.0) ∙ length-map (all_glyphs t) item_of ∙ sym h.ready.placed
@@ -102,5 +102,5 @@ pub laid_refused : (ts : List (Option Tile)) (s : Sides) (e : ShapeCause) → re
 laid_refused ts s e h = let xs = with_tile_copies (items_of s) ts in same_refusal (nat_le (length xs) s.max_len) xs (zero_positions (length xs)) (all_positions s.positions ts) ts (view_of s) e h
 
 -- as many positions come back as were lent
-pub places_back : (ps : List Position) (s new : Sides) → new ≡ with_positions_refilled ps s → length ps ≡ length s.positions → new ≡ record s { positions = ps }
-places_back ps s new e long = e ∙ ap (λ qs. record s { positions = qs }) (refilled_whole ps s.positions long)
+pub positions_back : (ps : List Position) (s new : Sides) → new ≡ with_positions_refilled ps s → length ps ≡ length s.positions → new ≡ record s { positions = ps }
+positions_back ps s new e long = e ∙ ap (λ qs. record s { positions = qs }) (refilled_whole ps s.positions long)

@@ -7,7 +7,7 @@ pub mod Walked
 pub mod Shared
 pub mod Listed
 pub mod Wrapped
-pub mod Places
+pub mod LaidPositions
 pub mod Copied
 pub mod Underway
 pub mod Laid

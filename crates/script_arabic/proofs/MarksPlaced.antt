@@ -107,12 +107,12 @@ arabic_rearranges start end a b front run rest ready f e at last =
     let w = (arabic.with_leading 220 25 start end v).view in
     let there : w.items ≡ mid ++ (ys ++ rest) = ap (λ (u : View). u.items) one.0 ∙ cut front (take n first.items) ys rest first.items (sym (take-append-drop n first.items)) in
     let head : length (take n first.items) ≡ n = length-take-le n first.items (omega (arith, long, few)) in
-    let place : length mid ≡ start + n = length-append front (take n first.items) ∙ omega (arith, at, head) in
+    let index : length mid ≡ start + n = length-append front (take n first.items) ∙ omega (arith, at, head) in
     let end_is : start + n + length ys ≡ end = omega (arith, length-drop n first.items, long, few, last) in
-    let two = leading_between 230 26 (start + n) end mid ys rest w there place end_is in
+    let two = leading_between 230 26 (start + n) end mid ys rest w there index end_is in
     let second = leading_first 230 26 ys in
     let to_here : arabic.with_leading 230 26 (start + arabic.count_leading 220 (slice_range v.items start end)) end w ≡ arabic.with_leading 230 26 (start + n) end w = ap (λ m. arabic.with_leading 230 26 (start + m) end w) count in
-    let reached : length mid ≡ length front + n = omega (arith, place, at) in
+    let reached : length mid ≡ length front + n = omega (arith, index, at) in
     stage_rearranges (arabic.marks_reordered start end) (arabic_order run) front rest a b ready f
     (ap (λ (r : Read). r.view) to_here ∙ two.0 ∙ ap (λ (u : View). record u { items = mid ++ (second.items ++ rest) }) one.0
     ∙ ap (λ xs. record v { items = xs }) (joins front (take n first.items) second.items rest))

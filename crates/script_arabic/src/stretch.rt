@@ -11,7 +11,7 @@ use crate::copying::copy_tiles;
 use crate::laying::{are_in_range, tiles_of};
 use crate::runs::runs_of;
 use crate::tile::Tile;
-use crate::tile_positions::places_of;
+use crate::tile_positions::positions_of;
 use crate::words::is_tile;
 use buffer_core::buffer::hb_buffer_t;
 use buffer_glyphs::cause::ShapeCause;
@@ -60,7 +60,7 @@ fn any_tile(glyphs: &[hb_glyph_info_t]) -> bool
     glyphs.iter().any(|glyph| is_tile(glyph))
 }
 
-#[tactic(auto, using(crate::proofs::Laid::laid_done, crate::proofs::Laid::room_for_places, crate::proofs::Laid::laid_refused))]
+#[tactic(auto, using(crate::proofs::Laid::laid_done, crate::proofs::Laid::room_for_positions, crate::proofs::Laid::laid_refused))]
 fn lay_tiles(
     alloc: Global,
     tiles: &[Option<Tile>],
@@ -72,17 +72,17 @@ fn lay_tiles(
 {
     let positions = buffer.pos_slice().to_vec(alloc)?;
     copy_tiles(tiles, buffer)?;
-    let places = places_of(alloc, tiles, &positions)?;
-    put_places(&places, buffer);
+    let laid_positions = positions_of(alloc, tiles, &positions)?;
+    set_positions(&laid_positions, buffer);
     Ok(())
 }
 
 /// Replaces the buffer's positions by as many others.
-#[tactic(auto, using(crate::proofs::Laid::places_back))]
-fn put_places(places: &[GlyphPosition], buffer: &mut hb_buffer_t)
+#[tactic(auto, using(crate::proofs::Laid::positions_back))]
+fn set_positions(laid_positions: &[GlyphPosition], buffer: &mut hb_buffer_t)
     requires closed { buffer.old.is_open ≡ false }
-    requires same { length places.now ≡ length buffer.old.positions }
-    ensures { buffer.new ≡ record buffer.old { positions = places.now } }
+    requires same { length laid_positions.now ≡ length buffer.old.positions }
+    ensures { buffer.new ≡ record buffer.old { positions = laid_positions.now } }
 {
-    buffer.pos_slice_mut().copy_from_slice(places);
+    buffer.pos_slice_mut().copy_from_slice(laid_positions);
 }

@@ -12,7 +12,7 @@ use std::alloc::{AllocFailed, Global};
 /// # Errors
 ///
 /// Lack of memory.
-pub fn places_of(
+pub fn positions_of(
     alloc: Global,
     tiles: &[Option<Tile>],
     positions: &[GlyphPosition],
@@ -20,13 +20,13 @@ pub fn places_of(
     requires { length positions.now ≡ length tiles.now }
     ensures { IfOk result (λ ps. ps.items ≡ all_positions positions.now tiles.now) }
 {
-    let mut places = places_leftward(alloc, tiles, positions)?;
-    places.reverse();
-    Ok(places)
+    let mut laid_positions = positions_leftward(alloc, tiles, positions)?;
+    laid_positions.reverse();
+    Ok(laid_positions)
 }
 
 /// The positions from the last to the first.
-fn places_leftward(
+fn positions_leftward(
     alloc: Global,
     tiles: &[Option<Tile>],
     positions: &[GlyphPosition],
@@ -34,52 +34,52 @@ fn places_leftward(
     requires { length positions.now ≡ length tiles.now }
     ensures { IfOk result (λ ps. ps.items ≡ reverse (all_positions positions.now tiles.now)) }
 {
-    let mut places = Vec::new(alloc);
+    let mut laid_positions = Vec::new(alloc);
     let mut x = 0;
     let count = tiles.len();
     for i in 0..count {
         let at = count - (i + 1);
-        x = place(tiles[at], positions[at], x, &mut places)?;
+        x = add_positions(tiles[at], positions[at], x, &mut laid_positions)?;
     }
-    Ok(places)
+    Ok(laid_positions)
 }
 
 /// Adds the positions of a glyph and of its copies from right to left, where the glyph to their right begins at x
 /// modulo 2^32; returns where they begin.
-fn place(
+fn add_positions(
     tile: Option<Tile>,
     position: GlyphPosition,
     x: i32,
-    places: &mut Vec<GlyphPosition>,
+    laid_positions: &mut Vec<GlyphPosition>,
 ) -> Result<i32, AllocFailed<GlyphPosition>>
     ensures { IfOk result (λ y. (at : ℤ) → x ≡ int_wrap w32 at
-        → (y ≡ int_wrap w32 (begins_at tile at)) × (places.new.items ≡ places.old.items
+        → (y ≡ int_wrap w32 (begins_at tile at)) × (laid_positions.new.items ≡ laid_positions.old.items
         ++ reverse (tile_positions position tile at))) }
 {
     match tile {
         None => {
-            places.push(position)?;
+            laid_positions.push(position)?;
             Ok(0)
         }
-        Some(tile) => place_tile(tile, position, x, places),
+        Some(tile) => add_tile_positions(tile, position, x, laid_positions),
     }
 }
 
-fn place_tile(
+fn add_tile_positions(
     tile: Tile,
     position: GlyphPosition,
     x: i32,
-    places: &mut Vec<GlyphPosition>,
+    laid_positions: &mut Vec<GlyphPosition>,
 ) -> Result<i32, AllocFailed<GlyphPosition>>
     ensures { IfOk result (λ y. (at : ℤ) → x ≡ int_wrap w32 at
         → (y ≡ int_wrap w32 (copy_begin tile at tile.copies)) ×
-        (places.new.items ≡ places.old.items ++ reverse (copy_positions position tile at tile.copies))) }
+        (laid_positions.new.items ≡ laid_positions.old.items ++ reverse (copy_positions position tile at tile.copies))) }
 {
     let mut begin = first_begin(tile, x);
-    places.push(tile_at(position, begin))?;
+    laid_positions.push(tile_at(position, begin))?;
     for _ in 0..tile.copies {
         begin = next_begin(tile, begin);
-        places.push(tile_at(position, begin))?;
+        laid_positions.push(tile_at(position, begin))?;
     }
     Ok(begin)
 }

@@ -8,8 +8,8 @@ use Rattle.script_categories.specs.Machines.{Machine, Machines, accepts_fault, i
 use Rattle.script_categories.specs.Sound.{AreRising, IsRising}
 use Rattle.script_categories.specs.declared.machine.Accept.{Accept}
 use Rattle.script_categories.specs.declared.machine.Step.{Step}
-use Rattle.buffer_unicode_rows.specs.Keys.{follows, rises_after, row_fault}
-use Rattle.buffer_unicode_rows.specs.declared.fault.TablesFault.{TablesFault}
+use Rattle.buffer_unicode.specs.Keys.{follows, rises_after, row_fault}
+use Rattle.buffer_unicode.specs.declared.fault.TablesFault.{TablesFault}
 
 rises_from : {R : Type 0} (in_range : R → Bool) (high low : R → ℕ) (before : Option R) (rows : List R)
     → row_fault in_range high low before rows ≡ None → rises_after high low before rows ≡ true

@@ -8,8 +8,8 @@ use Rattle.script_categories.specs.declared.machine.Accept.{Accept}
 use Rattle.script_categories.specs.declared.machine.Step.{Step}
 use Rattle.script_categories.specs.declared.machine.SyllableMachine.{SyllableMachine}
 use Rattle.script_categories.specs.declared.machine.SyllableMachines.{SyllableMachines}
-use Rattle.buffer_unicode_rows.specs.Keys.{row_fault}
-use Rattle.buffer_unicode_rows.specs.declared.fault.TablesFault.{TablesFault}
+use Rattle.buffer_unicode.specs.Keys.{row_fault}
+use Rattle.buffer_unicode.specs.declared.fault.TablesFault.{TablesFault}
 
 -- ---- machines as their rows, without the memory that their lists occupy
 

@@ -2,7 +2,7 @@
 use Rattle.std.specs.Prelude.{◌≡◌, true}
 use Rattle.script_categories.specs.declared.machine.Accept.{Accept}
 use Rattle.script_categories.specs.declared.machine.Step.{Step}
-use Rattle.buffer_unicode_rows.specs.Keys.{is_rising}
+use Rattle.buffer_unicode.specs.Keys.{is_rising}
 use Rattle.script_categories.specs.Machines.{Machine, Machines}
 
 -- the rows of a machine rise by their keys

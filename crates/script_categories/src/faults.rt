@@ -6,7 +6,7 @@ use crate::hb_ot_script_shaper_t::{
     self, INDIC_SHAPER, KHMER_SHAPER, MYANMAR_SHAPER, UNIVERSAL_SHAPER,
 };
 use crate::machine::{Accept, Step, SyllableMachine, SyllableMachines};
-use buffer_unicode_rows::{TablesFault, follows};
+use buffer_unicode::{TablesFault, follows};
 
 /// The first fault of the machines' rows.
 pub(crate) fn machines_fault(machines: &SyllableMachines) -> Option<TablesFault>

@@ -1,5 +1,5 @@
 //! State machines that read the categories of characters.
-use buffer_unicode_rows::Keyed;
+use buffer_unicode::Keyed;
 use std::alloc::Global;
 
 /// A transition: in a state a category leads to another state.

@@ -5,7 +5,7 @@ ghost use Rattle.script_categories.specs.Machines.{accepted_kind, machine_in, ne
 ghost use Rattle.script_categories.specs.Sound.{IsRising};
 
 use crate::machine::SyllableMachine;
-use buffer_unicode_rows::find_row;
+use buffer_unicode::find_row;
 
 /// A prefix of a list that is a syllable.
 #[derive(Clone, Copy)]

@@ -12,7 +12,7 @@ use crate::hb_ot_script_shaper_t::{
 use crate::machine::SyllableMachines;
 use crate::scan::{Front, longest_front};
 use crate::spans::SyllableSpans;
-use buffer_unicode_rows::TablesFault;
+use buffer_unicode::TablesFault;
 use std::marker::Model;
 
 /// The machines of all shapers, with checked states and kinds.

@@ -56,7 +56,7 @@ pub record OrdersKeepPlainly : Type 0 where
 -- the forms of letters, their positions in syllables, the categories of characters, and which glyphs are tiles
 pub record MasksKeepPlainly : Type 0 where
   pub joined : (masks : List ℕ) (s : Option Script) (t : Tables) (pre post : List ℕ) → KeepsPlainly (letters_joined masks s t pre post)
-  pub places : (masks : JamoMasks) → KeepsPlainly (always (with_items_mapped (with_letter_mask masks)))
+  pub letters : (masks : JamoMasks) → KeepsPlainly (always (with_items_mapped (with_letter_mask masks)))
   pub categories : (category_of : ℕ → ℕ) → KeepsPlainly (categories_set category_of)
   pub indic : (t : Tables) → KeepsPlainly (properties_set t)
   pub universal : (m : OtMapValue) (s : Option Script) (t : Tables) (pre post : List ℕ) → KeepsPlainly (universal_masks_set m s t pre post)

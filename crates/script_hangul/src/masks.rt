@@ -27,12 +27,12 @@ pub fn setup_masks(masks: &JamoMasks, buffer: &mut hb_buffer_t)
     requires flagless { AreFlagless masks.now }
     ensures { IsFollowed (always (with_items_mapped (with_letter_mask masks.now))) buffer.old buffer.new }
 {
-    map_glyphs(buffer, |glyph| with_place_mask(masks, glyph));
+    map_glyphs(buffer, |glyph| with_letter_mask(masks, glyph));
 }
 
 /// A glyph with the mask of its jamo feature.
 #[tactic(auto, using(crate::proofs::Masked::masked_item, crate::proofs::Masked::masked_origin))]
-fn with_place_mask(masks: &JamoMasks, glyph: &hb_glyph_info_t) -> hb_glyph_info_t
+fn with_letter_mask(masks: &JamoMasks, glyph: &hb_glyph_info_t) -> hb_glyph_info_t
     requires flagless { AreFlagless masks.now }
     ensures item { item_of result ≡ with_letter_mask masks.now (item_of glyph.now) }
     ensures origin { origin_of result ≡ origin_of glyph.now }
@@ -44,10 +44,10 @@ fn with_place_mask(masks: &JamoMasks, glyph: &hb_glyph_info_t) -> hb_glyph_info_
 }
 
 /// The mask of a jamo feature.
-fn mask_of(masks: &JamoMasks, place: u8) -> hb_mask_t
-    ensures { result ≡ mask_of masks.now place }
+fn mask_of(masks: &JamoMasks, kind: u8) -> hb_mask_t
+    ensures { result ≡ mask_of masks.now kind }
 {
-    match place {
+    match kind {
         LJMO => masks.ljmo,
         VJMO => masks.vjmo,
         TJMO => masks.tjmo,

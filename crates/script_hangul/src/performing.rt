@@ -97,37 +97,37 @@ fn put_apart(count: usize, buffer: &mut hb_buffer_t) -> Result<usize, ShapeCause
 }
 
 /// Outputs the current jamo, with its feature.
-fn put_letter(place: u8, buffer: &mut hb_buffer_t) -> Result<(), ShapeCause>
+fn put_letter(kind: u8, buffer: &mut hb_buffer_t) -> Result<(), ShapeCause>
     requires open { buffer.old.is_open ≡ true }
     requires there { 0 < length buffer.old.ahead }
-    ensures ok { OnOk result (HasWalked (strip buffer.old.behind ++ letters_from place (take 1 (strip buffer.old.ahead)))
+    ensures ok { OnOk result (HasWalked (strip buffer.old.behind ++ letters_from kind (take 1 (strip buffer.old.ahead)))
         (drop 1 (strip buffer.old.ahead)) [] buffer.old buffer.new) }
     ensures err { IfErr result (λ e. RefusesLength (length buffer.old.behind + 1) e buffer.old) }
 {
-    let letter = placed(buffer.cur(0), place);
+    let letter = placed(buffer.cur(0), kind);
     advance_as(letter, buffer)?;
     Ok(())
 }
 
 /// A jamo with its feature.
-fn placed(glyph: &hb_glyph_info_t, place: u8) -> hb_glyph_info_t
-    ensures item { item_of result ≡ numbered_letter place (item_of glyph.now) }
+fn placed(glyph: &hb_glyph_info_t, kind: u8) -> hb_glyph_info_t
+    ensures item { item_of result ≡ numbered_letter kind (item_of glyph.now) }
     ensures origin { origin_of result ≡ origin_of glyph.now }
 {
     hb_glyph_info_t {
-        auxiliary: place,
+        auxiliary: kind,
         ..*glyph
     }
 }
 
 /// A jamo of the syllable that a glyph shows, with its feature.
-fn letter_of(glyph: &hb_glyph_info_t, u: char, place: u8) -> hb_glyph_info_t
-    ensures item { item_of result ≡ numbered_letter place (item_numbered (item_of glyph.now) u) }
+fn letter_of(glyph: &hb_glyph_info_t, u: char, kind: u8) -> hb_glyph_info_t
+    ensures item { item_of result ≡ numbered_letter kind (item_numbered (item_of glyph.now) u) }
     ensures origin { origin_of result ≡ origin_of glyph.now }
 {
     hb_glyph_info_t {
         glyph_id: u32::from(u),
-        auxiliary: place,
+        auxiliary: kind,
         ..*glyph
     }
 }

@@ -26,15 +26,15 @@ three_within (x ∷ xs) n e = by_test (begins_with_three (x ∷ xs)) refl (three
     by_test false f later g = by_rest (first_three xs) refl later g
 
 pub hebrew_length : HebrewOrderKeepsCount
-hebrew_length run = by_place (first_three run) refl
+hebrew_length run = by_index (first_three run) refl
   where
-    by_place : (a : Option ℕ) → first_three run ≡ a → length (with_marks_swapped a run).items ≡ length run
-    by_place None e = refl
-    by_place (Some n) e = (let le = three_within run n e in moved_length (n + 1) 1 1 run (omega (arith, le)))
+    by_index : (a : Option ℕ) → first_three run ≡ a → length (with_marks_swapped a run).items ≡ length run
+    by_index None e = refl
+    by_index (Some n) e = (let le = three_within run n e in moved_length (n + 1) 1 1 run (omega (arith, le)))
 
 pub hebrew_steady : HebrewOrderIsSteady
-hebrew_steady run = by_place (first_three run)
+hebrew_steady run = by_index (first_three run)
   where
-    by_place : (a : Option ℕ) → AreSteady (with_marks_swapped a run).events
-    by_place None = tt
-    by_place (Some n) = tt
+    by_index : (a : Option ℕ) → AreSteady (with_marks_swapped a run).events
+    by_index None = tt
+    by_index (Some n) = tt

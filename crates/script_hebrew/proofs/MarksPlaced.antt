@@ -20,14 +20,14 @@ pub hebrew_rearranges : (start end : ℕ) (a b : Sides) (front run rest : List I
     → IsRearranged front (hebrew_order run) rest a b
 hebrew_rearranges start end a b front run rest ready f e at last =
     let seen : slice_range (items_of a) start end ≡ run = ap (λ xs. slice_range xs start end) e ∙ run_seen front run rest start end at last in
-    by_place (hebrew.first_three run) refl (ap hebrew.first_three seen)
+    by_index (hebrew.first_three run) refl (ap hebrew.first_three seen)
   where
-    by_place : (n : Option ℕ) → hebrew.first_three run ≡ n → hebrew.first_three (slice_range (items_of a) start end) ≡ hebrew.first_three run → IsRearranged front (with_marks_swapped (hebrew.first_three run) run) rest a b
-    by_place None h same =
+    by_index : (n : Option ℕ) → hebrew.first_three run ≡ n → hebrew.first_three (slice_range (items_of a) start end) ≡ hebrew.first_three run → IsRearranged front (with_marks_swapped (hebrew.first_three run) run) rest a b
+    by_index None h same =
         stage_rearranges (hebrew.marks_reordered start end) (with_marks_swapped (hebrew.first_three run) run) front rest a b ready f
         (ap (λ p. (hebrew.with_swapped start p (view_of a)).view) (same ∙ h) ∙ ap (λ xs. record (view_of a) { items = xs }) (e ∙ ap (λ p. front ++ ((with_marks_swapped p run).items ++ rest)) (sym h)))
         (ap (λ p. (hebrew.with_swapped start p (view_of a)).events a.level) (same ∙ h) ∙ ap (λ p. map (shifted_event (length front)) (with_marks_swapped p run).events) (sym h))
-    by_place (Some n) h same =
+    by_index (Some n) h same =
         let le = three_within run n h in
         let there : start + (n + 1) ≡ length front + (n + 1) = omega (arith, at) in
         stage_rearranges (hebrew.marks_reordered start end) (with_marks_swapped (hebrew.first_three run) run) front rest a b ready f

@@ -113,7 +113,7 @@ fn swap(buffer: &mut hb_buffer_t, start: usize, three: Option<usize>, end: usize
 /// The index of the first three such neighbours.
 #[tactic(auto, using(crate::proofs::Swapped::none_met, crate::proofs::Swapped::next_met, crate::proofs::Swapped::met_three, crate::proofs::Swapped::met_none))]
 fn first_three(run: &[hb_glyph_info_t]) -> Option<usize>
-    ensures place { result ≡ first_three (strip run.now) }
+    ensures index { result ≡ first_three (strip run.now) }
     ensures inside { IsThreeWithin 0 result (length run.now) }
 {
     for at in 0..run.len() {

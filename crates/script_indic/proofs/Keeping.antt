@@ -4,9 +4,9 @@ use Rattle.std.specs.Prelude.{◌+◌, ◌-◌, bit_and, slice_get}
 use Rattle.buffer_unicode_tables.specs.Tables.{Tables}
 use Rattle.buffer_glyphs.specs.Items.{Item}
 use Rattle.buffer_glyphs.specs.Rewriting.{Arrangement, and_arranged, eventless_arrangement, shifted_event}
-use Rattle.buffer_groups.specs.Lemmas.OrderSpans.{order_stays}
+use Rattle.buffer_lists.specs.Lemmas.OrderSpans.{order_stays}
 use Rattle.buffer_parts.specs.Lemmas.Plainly.{both_steady}
-use Rattle.buffer_stages.specs.Ordering.{groups_reversed, sorted_by_place}
+use Rattle.buffer_stages.specs.Ordering.{groups_reversed, auxiliary_order}
 use Rattle.buffer_stages.specs.Parts.{first_to_back}
 use Rattle.buffer_stages.specs.Rewriting.{by_syllable, each_rewritten, in_syllables, within}
 use Rattle.buffer_stages.specs.SyllableLaws.{IsPermuted}
@@ -65,15 +65,16 @@ matras_steady xs = by_test (has_two_matras (take (left_count xs) (drop (first_le
     by_test true = within_steady (groups_reversed is_matra) (first_left xs) (first_left xs + left_count xs) xs (λ ys. tt)
     by_test false = tt
 
-sorted_steady : (xs : List Item) → IsSteady (sorted_by_place xs)
+-- a sort by positions permutes glyphs only where it merges them
+pub sorted_steady : (xs : List Item) → IsSteady (auxiliary_order xs)
 sorted_steady xs = (order_stays (map (λ (x : Item). x.auxiliary) xs), tt)
 
 initially_steady : (mode : RephMode) (m : IndicMasks) (forms : Forms) (xs : List Item) → IsSteady (initial_reordered mode m forms xs)
 initially_steady mode m forms xs =
     let placed = eventless_arrangement (all_placed (reph_and_base mode forms xs) xs) in
-    let sorted = and_arranged placed sorted_by_place in
+    let sorted = and_arranged placed auxiliary_order in
     let turned = and_arranged sorted matras_reversed in
-    then_steady turned (λ ys. eventless_arrangement (masks_set m (pref_pair forms ys) ys)) (then_steady sorted matras_reversed (then_steady placed sorted_by_place tt (sorted_steady placed.items)) (matras_steady sorted.items)) tt
+    then_steady turned (λ ys. eventless_arrangement (masks_set m (pref_pair forms ys) ys)) (then_steady sorted matras_reversed (then_steady placed auxiliary_order tt (sorted_steady placed.items)) (matras_steady sorted.items)) tt
 
 -- the initial reordering of a syllable permutes glyphs only where it merges them
 pub initial_steady : (mode : RephMode) (m : IndicMasks) (forms : Forms) (xs : List Item) → IsSteady (initial_syllable mode m forms xs)

@@ -7,7 +7,7 @@ use Rattle.script_categories.specs.declared.ot_position_t.TheConstants as positi
 use Rattle.buffer_glyphs.specs.Items.{Item}
 use Rattle.buffer_glyphs.specs.Rewriting.{Arrangement, eventless_arrangement, and_arranged}
 use Rattle.buffer_stages.specs.Rewriting.{within}
-use Rattle.buffer_stages.specs.Ordering.{groups_reversed, sorted_by_place}
+use Rattle.buffer_stages.specs.Ordering.{groups_reversed, auxiliary_order}
 use Rattle.script_indic_reordering.specs.declared.script.RephMode.{RephMode}
 use Rattle.script_indic_reordering.specs.declared.script.IndicMasks.{IndicMasks}
 use Rattle.script_indic_reordering.specs.Glyphs.{is_attached, is_consonant, is_halant, is_left, is_left_matra, is_matra, is_zwnj, stands_at, with_position}
@@ -163,4 +163,4 @@ masks_set m pair xs = cleared_before_zwnj (own_bits m.half) (pref_masked m.pref 
 -- have the features of their positions
 abbrev pub initial_reordered : RephMode → IndicMasks → Forms → List Item → Arrangement
 initial_reordered mode m forms xs =
-    and_arranged (and_arranged (and_arranged (eventless_arrangement (all_placed (reph_and_base mode forms xs) xs)) sorted_by_place) matras_reversed) (λ ys. eventless_arrangement (masks_set m (pref_pair forms ys) ys))
+    and_arranged (and_arranged (and_arranged (eventless_arrangement (all_placed (reph_and_base mode forms xs) xs)) auxiliary_order) matras_reversed) (λ ys. eventless_arrangement (masks_set m (pref_pair forms ys) ys))

@@ -21,7 +21,7 @@ use buffer_core::buffer::hb_buffer_t;
 use buffer_glyphs::info::hb_glyph_info_t;
 use buffer_stages::groups::{GroupRule, reverse_groups};
 use buffer_stages::rewriting::rewrite_part;
-use buffer_stages::sorting::sort_by_place;
+use buffer_stages::sorting::sort_by_auxiliary;
 use buffer_stages::walk::{SyllableRule, each_syllable};
 use script_categories::hb_ot_script_shaper_t::INDIC_SHAPER;
 use std::alloc::{AllocError, Global};
@@ -108,7 +108,7 @@ fn reorder_syllable<F: IndicForms>(
         (slice_range (items_of buffer.old) start end)) start end buffer.old buffer.new) }
 {
     set_positions(order.forms, order.mode, buffer, start, end);
-    sort_by_place(order.alloc, buffer, start, end)?;
+    sort_by_auxiliary(order.alloc, buffer, start, end)?;
     reverse_matras(buffer, start, end);
     set_features(order.forms, &order.masks, buffer, start, end);
     Ok(())

@@ -26,7 +26,7 @@ pub struct Letter {
 /// else as unsafe to concat. `start` is the type of the nearest letter before the text.
 #[tactic(auto, using(crate::proofs::Marked::none_flagged, crate::proofs::Marked::next_flagged, crate::proofs::Marked::all_flagged, crate::proofs::Marked::same_count))]
 pub(crate) fn flag_neighbours(start: hb_arabic_joining_type_t, buffer: &mut hb_buffer_t)
-    requires { IsReady buffer.old }
+    requires ready { IsReady buffer.old }
     ensures { Happens (neighbour_events start None 0 (map type_of_typed (items_of buffer.old))) buffer.old buffer.new }
 {
     let count = buffer.len();

@@ -24,72 +24,72 @@ masked_count bits from to a b le fits f = rewritten_even (items_with_features bi
 pub moved_count : (n from to : ℕ) (a b : Sides) → from ≤ to → to ≤ length (all_glyphs a) → IsRewritten (first_to_back n (slice_range (items_of a) from to)) from to a b → length (all_glyphs b) ≡ length (all_glyphs a)
 moved_count n from to a b le fits f = rewritten_even (first_to_back n (slice_range (items_of a) from to)) from to a b le fits (moved_size n (slice_range (items_of a) from to)) f
 
-pub coeng_does : (m : KhmerMasks) (start end place : ℕ) (a b c d : Sides) → start + (place + 2) ≤ end → end ≤ length (all_glyphs a)
-    → IsRewritten (items_with_features m.pref (slice_range (items_of a) (start + place) (start + (place + 2)))) (start + place) (start + (place + 2)) a b
-    → IsRewritten (first_to_back place (slice_range (items_of b) start (start + (place + 2)))) start (start + (place + 2)) b c
-    → IsRewritten (items_with_features m.cfar (slice_range (items_of c) (start + (place + 2)) end)) (start + (place + 2)) end c d
-    → IsRewritten (coeng_moved m place (slice_range (items_of a) start end)) start end a d
-coeng_does m start end place a b c d last fits f g h =
+pub coeng_does : (m : KhmerMasks) (start end index : ℕ) (a b c d : Sides) → start + (index + 2) ≤ end → end ≤ length (all_glyphs a)
+    → IsRewritten (items_with_features m.pref (slice_range (items_of a) (start + index) (start + (index + 2)))) (start + index) (start + (index + 2)) a b
+    → IsRewritten (first_to_back index (slice_range (items_of b) start (start + (index + 2)))) start (start + (index + 2)) b c
+    → IsRewritten (items_with_features m.cfar (slice_range (items_of c) (start + (index + 2)) end)) (start + (index + 2)) end c d
+    → IsRewritten (coeng_moved m index (slice_range (items_of a) start end)) start end a d
+coeng_does m start end index a b c d last fits f g h =
     let le : start ≤ end = omega (arith, last) in
     let xs = slice_range (items_of a) start end in
     let inside : end ≤ length (items_of a) = omega (arith, counted a, fits) in
     let size : length xs ≡ end - start = range_size start end (items_of a) le inside in
-    let few : place + 2 ≤ length xs = omega (arith, size, last) in
-    let sizes = coeng_moved_size m place xs few in
-    let count_b = masked_count m.pref (start + place) (start + (place + 2)) a b (omega arith) (omega (arith, last, fits)) f in
-    let count_c = moved_count place start (start + (place + 2)) b c (omega arith) (omega (arith, last, fits, count_b)) g in
-    let first = rewritten_part (items_with_features m.pref) start end place (place + 2) (start + place) (start + (place + 2)) a b refl refl (omega arith) last inside f in
-    let second = rewritten_part (first_to_back place) start end 0 (place + 2) start (start + (place + 2)) b c (omega arith) refl (omega arith) last (omega (arith, counted b, count_b, fits)) g in
-    let third = rewritten_part (items_with_features m.cfar) start end (place + 2) (length xs) (start + (place + 2)) end c d refl (omega (arith, size, le)) few (omega (arith, size, le)) (omega (arith, counted c, count_c, count_b, fits)) h in
-    rewritten_next (and_arranged (within place (place + 2) (items_with_features m.pref) xs) (within 0 (place + 2) (first_to_back place))) (within (place + 2) (length xs) (items_with_features m.cfar)) start end a c d le inside (sizes.0 ∙ size)
-    (rewritten_next (within place (place + 2) (items_with_features m.pref) xs) (within 0 (place + 2) (first_to_back place)) start end a b c le inside (coeng_pref_size m place xs few ∙ size) first second) third
+    let few : index + 2 ≤ length xs = omega (arith, size, last) in
+    let sizes = coeng_moved_size m index xs few in
+    let count_b = masked_count m.pref (start + index) (start + (index + 2)) a b (omega arith) (omega (arith, last, fits)) f in
+    let count_c = moved_count index start (start + (index + 2)) b c (omega arith) (omega (arith, last, fits, count_b)) g in
+    let first = rewritten_part (items_with_features m.pref) start end index (index + 2) (start + index) (start + (index + 2)) a b refl refl (omega arith) last inside f in
+    let second = rewritten_part (first_to_back index) start end 0 (index + 2) start (start + (index + 2)) b c (omega arith) refl (omega arith) last (omega (arith, counted b, count_b, fits)) g in
+    let third = rewritten_part (items_with_features m.cfar) start end (index + 2) (length xs) (start + (index + 2)) end c d refl (omega (arith, size, le)) few (omega (arith, size, le)) (omega (arith, counted c, count_c, count_b, fits)) h in
+    rewritten_next (and_arranged (within index (index + 2) (items_with_features m.pref) xs) (within 0 (index + 2) (first_to_back index))) (within (index + 2) (length xs) (items_with_features m.cfar)) start end a c d le inside (sizes.0 ∙ size)
+    (rewritten_next (within index (index + 2) (items_with_features m.pref) xs) (within 0 (index + 2) (first_to_back index)) start end a b c le inside (coeng_pref_size m index xs few ∙ size) first second) third
 
-pub vowel_does : (start end place : ℕ) (a b : Sides) → start + (place + 1) ≤ end → end ≤ length (all_glyphs a)
-    → IsRewritten (first_to_back place (slice_range (items_of a) start (start + (place + 1)))) start (start + (place + 1)) a b → IsRewritten (vowel_moved place (slice_range (items_of a) start end)) start end a b
-vowel_does start end place a b last fits f =
-    rewritten_part (first_to_back place) start end 0 (place + 1) start (start + (place + 1)) a b (omega arith) refl (omega arith) last (omega (arith, counted a, fits)) f
+pub vowel_does : (start end index : ℕ) (a b : Sides) → start + (index + 1) ≤ end → end ≤ length (all_glyphs a)
+    → IsRewritten (first_to_back index (slice_range (items_of a) start (start + (index + 1)))) start (start + (index + 1)) a b → IsRewritten (vowel_moved index (slice_range (items_of a) start end)) start end a b
+vowel_does start end index a b last fits f =
+    rewritten_part (first_to_back index) start end 0 (index + 1) start (start + (index + 1)) a b (omega arith) refl (omega arith) last (omega (arith, counted a, fits)) f
 
 pub passed_does : (start end : ℕ) (a : Sides) → start ≤ end → end ≤ length (all_glyphs a) → IsReady a → IsRewritten (eventless_arrangement (slice_range (items_of a) start end)) start end a a
 passed_does start end a le fits ready = rewritten_same start end a le ready
 
 -- the step at an index, by the item there
-pub at_none : (m : KhmerMasks) (place count : ℕ) (xs : List Item) → slice_get xs place ≡ None → khmer_at m place count xs ≡ unchanged_step count xs
-at_none m place count xs e = rw e refl
+pub at_none : (m : KhmerMasks) (index count : ℕ) (xs : List Item) → slice_get xs index ≡ None → khmer_at m index count xs ≡ unchanged_step count xs
+at_none m index count xs e = rw e refl
 
-pub at_last : (m : KhmerMasks) (place count : ℕ) (xs : List Item) (x : Item) → slice_get xs place ≡ Some x → slice_get xs (place + 1) ≡ None → khmer_at m place count xs ≡ vowel_step place count xs x
-at_last m place count xs x e f = rw (e, f) refl
+pub at_last : (m : KhmerMasks) (index count : ℕ) (xs : List Item) (x : Item) → slice_get xs index ≡ Some x → slice_get xs (index + 1) ≡ None → khmer_at m index count xs ≡ vowel_step index count xs x
+at_last m index count xs x e f = rw (e, f) refl
 
-pub at_coeng : (m : KhmerMasks) (place count : ℕ) (xs : List Item) (x y : Item) → slice_get xs place ≡ Some x → slice_get xs (place + 1) ≡ Some y → is_coeng count x ≡ true → khmer_at m place count xs ≡ coeng_step m place count xs y
-at_coeng m place count xs x y e f t = rw (e, f) (ap (λ b. if b then coeng_step m place count xs y else vowel_step place count xs x) t)
+pub at_coeng : (m : KhmerMasks) (index count : ℕ) (xs : List Item) (x y : Item) → slice_get xs index ≡ Some x → slice_get xs (index + 1) ≡ Some y → is_coeng count x ≡ true → khmer_at m index count xs ≡ coeng_step m index count xs y
+at_coeng m index count xs x y e f t = rw (e, f) (ap (λ b. if b then coeng_step m index count xs y else vowel_step index count xs x) t)
 
-pub at_other : (m : KhmerMasks) (place count : ℕ) (xs : List Item) (x y : Item) → slice_get xs place ≡ Some x → slice_get xs (place + 1) ≡ Some y → is_coeng count x ≡ false → khmer_at m place count xs ≡ vowel_step place count xs x
-at_other m place count xs x y e f t = rw (e, f) (ap (λ b. if b then coeng_step m place count xs y else vowel_step place count xs x) t)
+pub at_other : (m : KhmerMasks) (index count : ℕ) (xs : List Item) (x y : Item) → slice_get xs index ≡ Some x → slice_get xs (index + 1) ≡ Some y → is_coeng count x ≡ false → khmer_at m index count xs ≡ vowel_step index count xs x
+at_other m index count xs x y e f t = rw (e, f) (ap (λ b. if b then coeng_step m index count xs y else vowel_step index count xs x) t)
 
-pub vowel_met_does : (start end place count : ℕ) (x : Item) (a b : Sides) → (x.category == category.OT_VPre) ≡ true → start + (place + 1) ≤ end → end ≤ length (all_glyphs a)
-    → IsRewritten (first_to_back place (slice_range (items_of a) start (start + (place + 1)))) start (start + (place + 1)) a b → IsRewritten (vowel_step place count (slice_range (items_of a) start end) x).rewritten start end a b
-vowel_met_does start end place count x a b e last fits f =
+pub vowel_met_does : (start end index count : ℕ) (x : Item) (a b : Sides) → (x.category == category.OT_VPre) ≡ true → start + (index + 1) ≤ end → end ≤ length (all_glyphs a)
+    → IsRewritten (first_to_back index (slice_range (items_of a) start (start + (index + 1)))) start (start + (index + 1)) a b → IsRewritten (vowel_step index count (slice_range (items_of a) start end) x).rewritten start end a b
+vowel_met_does start end index count x a b e last fits f =
     let xs = slice_range (items_of a) start end in
-    let P : Bool → Type 0 = λ t. IsRewritten (if_step t (record { rewritten = vowel_moved place xs; count = count }) (unchanged_step count xs)).rewritten start end a b in
-    subst P (sym e) (vowel_does start end place a b last fits f)
+    let P : Bool → Type 0 = λ t. IsRewritten (if_step t (record { rewritten = vowel_moved index xs; count = count }) (unchanged_step count xs)).rewritten start end a b in
+    subst P (sym e) (vowel_does start end index a b last fits f)
   where
     if_step : Bool → Step → Step → Step
     if_step t r s = if t then r else s
 
-pub vowel_not_met_does : (start end place count : ℕ) (x : Item) (a : Sides) → (x.category == category.OT_VPre) ≡ false → start ≤ end → IsReady a
-    → IsRewritten (vowel_step place count (slice_range (items_of a) start end) x).rewritten start end a a
-vowel_not_met_does start end place count x a e le ready =
+pub vowel_not_met_does : (start end index count : ℕ) (x : Item) (a : Sides) → (x.category == category.OT_VPre) ≡ false → start ≤ end → IsReady a
+    → IsRewritten (vowel_step index count (slice_range (items_of a) start end) x).rewritten start end a a
+vowel_not_met_does start end index count x a e le ready =
     let xs = slice_range (items_of a) start end in
-    let P : Bool → Type 0 = λ t. IsRewritten (if_step t (record { rewritten = vowel_moved place xs; count = count }) (unchanged_step count xs)).rewritten start end a a in
+    let P : Bool → Type 0 = λ t. IsRewritten (if_step t (record { rewritten = vowel_moved index xs; count = count }) (unchanged_step count xs)).rewritten start end a a in
     subst P (sym e) (rewritten_same start end a le ready)
   where
     if_step : Bool → Step → Step → Step
     if_step t r s = if t then r else s
 
-pub at_none_does : (m : KhmerMasks) (start end place count : ℕ) (a : Sides) → start ≤ end → end ≤ length (all_glyphs a) → IsReady a → slice_get (slice_range (items_of a) start end) place ≡ None
-    → IsRewritten (khmer_at m place count (slice_range (items_of a) start end)).rewritten start end a a
-at_none_does m start end place count a le fits ready e =
+pub at_none_does : (m : KhmerMasks) (start end index count : ℕ) (a : Sides) → start ≤ end → end ≤ length (all_glyphs a) → IsReady a → slice_get (slice_range (items_of a) start end) index ≡ None
+    → IsRewritten (khmer_at m index count (slice_range (items_of a) start end)).rewritten start end a a
+at_none_does m start end index count a le fits ready e =
     let P : Step → Type 0 = λ s. IsRewritten s.rewritten start end a a in
-    subst P (sym (at_none m place count (slice_range (items_of a) start end) e)) (passed_does start end a le fits ready)
+    subst P (sym (at_none m index count (slice_range (items_of a) start end) e)) (passed_does start end a le fits ready)
 
 -- a syllable that is not reordered
 syllable_none : (m : KhmerMasks) (xs : List Item) → slice_get xs 0 ≡ None → khmer_syllable m xs ≡ eventless_arrangement xs

@@ -16,42 +16,42 @@ use Rattle.buffer_stages.specs.Lemmas.Permuted.{permutes_each_syllable}
 use Rattle.buffer_stages.specs.Parts.{items_with_features, first_to_back}
 use Rattle.script_khmer.specs.Khmer.{Step, coeng_moved, vowel_moved, coeng_step, vowel_step, is_coeng, step_at, khmer_at, khmer_walk, khmer_reordered, khmer_first, khmer_syllable, KhmerPermutes}
 
-coeng_permutes : (m : KhmerMasks) (place : ℕ) (xs : List Item) → place + 2 ≤ length xs → IsPermuted xs (coeng_moved m place xs)
-coeng_permutes m place xs le =
-    let first = within place (place + 2) (items_with_features m.pref) xs in
-    let both = and_arranged first (within 0 (place + 2) (first_to_back place)) in
-    then_permutes xs both (within (place + 2) (length xs) (items_with_features m.cfar))
-    (then_permutes xs first (within 0 (place + 2) (first_to_back place)) (within_permutes (items_with_features m.pref) place (place + 2) xs (masked_permutes m.pref) (omega arith)) (within_permutes (first_to_back place) 0 (place + 2) first.items (moved_permutes place) (omega arith)))
-    (within_permutes (items_with_features m.cfar) (place + 2) (length xs) both.items (masked_permutes m.cfar) le)
+coeng_permutes : (m : KhmerMasks) (index : ℕ) (xs : List Item) → index + 2 ≤ length xs → IsPermuted xs (coeng_moved m index xs)
+coeng_permutes m index xs le =
+    let first = within index (index + 2) (items_with_features m.pref) xs in
+    let both = and_arranged first (within 0 (index + 2) (first_to_back index)) in
+    then_permutes xs both (within (index + 2) (length xs) (items_with_features m.cfar))
+    (then_permutes xs first (within 0 (index + 2) (first_to_back index)) (within_permutes (items_with_features m.pref) index (index + 2) xs (masked_permutes m.pref) (omega arith)) (within_permutes (first_to_back index) 0 (index + 2) first.items (moved_permutes index) (omega arith)))
+    (within_permutes (items_with_features m.cfar) (index + 2) (length xs) both.items (masked_permutes m.cfar) le)
 
 abbrev StepPermutes : List Item → Step → Type 0
 StepPermutes xs s = IsPermuted xs s.rewritten
 
-at_permutes : (m : KhmerMasks) (place count : ℕ) (xs : List Item) → StepPermutes xs (khmer_at m place count xs)
-at_permutes m place count xs = by_items (slice_get xs place) (slice_get xs (place + 1)) refl
+at_permutes : (m : KhmerMasks) (index count : ℕ) (xs : List Item) → StepPermutes xs (khmer_at m index count xs)
+at_permutes m index count xs = by_items (slice_get xs index) (slice_get xs (index + 1)) refl
   where
-    vowel : (t : Bool) → StepPermutes xs (if t then record { rewritten = vowel_moved place xs; count = count } else record { rewritten = eventless_arrangement xs; count = count })
-    vowel true = within_permutes (first_to_back place) 0 (place + 1) xs (moved_permutes place) (omega arith)
+    vowel : (t : Bool) → StepPermutes xs (if t then record { rewritten = vowel_moved index xs; count = count } else record { rewritten = eventless_arrangement xs; count = count })
+    vowel true = within_permutes (first_to_back index) 0 (index + 1) xs (moved_permutes index) (omega arith)
     vowel false = IsPermutation-refl (numbers_of xs)
 
-    coeng : (y : Item) → slice_get xs (place + 1) ≡ Some y → (t : Bool) → StepPermutes xs (if t then record { rewritten = coeng_moved m place xs; count = 2 } else record { rewritten = eventless_arrangement xs; count = count + 1 })
-    coeng y e true = let lt : place + 1 < length xs = slice_get_within xs (place + 1) y e in coeng_permutes m place xs (omega (arith, lt))
+    coeng : (y : Item) → slice_get xs (index + 1) ≡ Some y → (t : Bool) → StepPermutes xs (if t then record { rewritten = coeng_moved m index xs; count = 2 } else record { rewritten = eventless_arrangement xs; count = count + 1 })
+    coeng y e true = let lt : index + 1 < length xs = slice_get_within xs (index + 1) y e in coeng_permutes m index xs (omega (arith, lt))
     coeng y e false = IsPermutation-refl (numbers_of xs)
 
-    either : (x y : Item) → slice_get xs (place + 1) ≡ Some y → (t : Bool) → StepPermutes xs (if t then coeng_step m place count xs y else vowel_step place count xs x)
+    either : (x y : Item) → slice_get xs (index + 1) ≡ Some y → (t : Bool) → StepPermutes xs (if t then coeng_step m index count xs y else vowel_step index count xs x)
     either x y f true = coeng y f (y.category == category.OT_Ra)
     either x y f false = vowel (x.category == category.OT_VPre)
 
-    by_items : (a b : Option Item) → slice_get xs (place + 1) ≡ b → StepPermutes xs (step_at m place count xs a b)
+    by_items : (a b : Option Item) → slice_get xs (index + 1) ≡ b → StepPermutes xs (step_at m index count xs a b)
     by_items None b f = IsPermutation-refl (numbers_of xs)
     by_items (Some x) None f = vowel (x.category == category.OT_VPre)
     by_items (Some x) (Some y) f = either x y f (is_coeng count x)
 
-walk_permutes : (m : KhmerMasks) (n place count : ℕ) (xs : List Item) → IsPermuted xs (khmer_walk m n place count xs)
-walk_permutes m zero place count xs = IsPermutation-refl (numbers_of xs)
-walk_permutes m (suc n) place count xs =
-    let s = khmer_at m place count xs in
-    then_permutes xs s.rewritten (khmer_walk m n (place + 1) s.count) (at_permutes m place count xs) (walk_permutes m n (place + 1) s.count s.rewritten.items)
+walk_permutes : (m : KhmerMasks) (n index count : ℕ) (xs : List Item) → IsPermuted xs (khmer_walk m n index count xs)
+walk_permutes m zero index count xs = IsPermutation-refl (numbers_of xs)
+walk_permutes m (suc n) index count xs =
+    let s = khmer_at m index count xs in
+    then_permutes xs s.rewritten (khmer_walk m n (index + 1) s.count) (at_permutes m index count xs) (walk_permutes m n (index + 1) s.count s.rewritten.items)
 
 pub syllable_permutes : (m : KhmerMasks) (xs : List Item) → IsPermuted xs (khmer_syllable m xs)
 syllable_permutes m xs = by_first (slice_get xs 0) refl

@@ -243,6 +243,6 @@ formed_rewrites from to bits gs a ready le fits e =
     part_written from to (forms_masked (together true) (item_with_features bits) (slice_range (items_of a) from to)) (glyphs_formed bits range) gs a ready le fits e
     (items_formed bits range ∙ ap (forms_masked (together true) (item_with_features bits)) (range_seen item_of from to (all_glyphs a))) (origins_formed bits range)
 
-pub merged_told : (forms : Bool) (start end place n : ℕ) (gs hs : List hb_glyph_info_t) → gs ≡ hs → n ≡ reach 1 (moves_from forms place (strip (slice_range gs start end))) → n ≡ reach 1 (moves_from forms place (slice_range (strip hs) start end))
-merged_told forms start end place n gs hs same e =
-    e ∙ ap (λ ks. reach 1 (moves_from forms place (strip (slice_range ks start end)))) same ∙ ap (λ xs. reach 1 (moves_from forms place xs)) (range_seen item_of start end hs)
+pub merged_told : (forms : Bool) (start end index n : ℕ) (gs hs : List hb_glyph_info_t) → gs ≡ hs → n ≡ reach 1 (moves_from forms index (strip (slice_range gs start end))) → n ≡ reach 1 (moves_from forms index (slice_range (strip hs) start end))
+merged_told forms start end index n gs hs same e =
+    e ∙ ap (λ ks. reach 1 (moves_from forms index (strip (slice_range ks start end)))) same ∙ ap (λ xs. reach 1 (moves_from forms index xs)) (range_seen item_of start end hs)

@@ -60,23 +60,23 @@ front_turned i n front ms rest a b =
 abbrev pub met_if : Bool → Step → Step → Step
 met_if t r s = if t then r else s
 
-pub at_other : (m : KhmerMasks) (place count : ℕ) (xs : List Item) (x : Item) (t : Bool) → slice_get xs place ≡ Some x → is_coeng count x ≡ false → (x.category == category.OT_VPre) ≡ t
-    → khmer_at m place count xs ≡ met_if t (record { rewritten = vowel_moved place xs; count = count }) (unchanged_step count xs)
-at_other m place count xs x t e f g = ap (λ a. step_at m place count xs a (slice_get xs (place + 1))) e ∙ by_next (slice_get xs (place + 1))
+pub at_other : (m : KhmerMasks) (index count : ℕ) (xs : List Item) (x : Item) (t : Bool) → slice_get xs index ≡ Some x → is_coeng count x ≡ false → (x.category == category.OT_VPre) ≡ t
+    → khmer_at m index count xs ≡ met_if t (record { rewritten = vowel_moved index xs; count = count }) (unchanged_step count xs)
+at_other m index count xs x t e f g = ap (λ a. step_at m index count xs a (slice_get xs (index + 1))) e ∙ by_next (slice_get xs (index + 1))
   where
-    tested : vowel_step place count xs x ≡ met_if t (record { rewritten = vowel_moved place xs; count = count }) (unchanged_step count xs)
-    tested = ap (λ b. met_if b (record { rewritten = vowel_moved place xs; count = count }) (unchanged_step count xs)) g
+    tested : vowel_step index count xs x ≡ met_if t (record { rewritten = vowel_moved index xs; count = count }) (unchanged_step count xs)
+    tested = ap (λ b. met_if b (record { rewritten = vowel_moved index xs; count = count }) (unchanged_step count xs)) g
 
-    by_next : (next : Option Item) → step_at m place count xs (Some x) next ≡ met_if t (record { rewritten = vowel_moved place xs; count = count }) (unchanged_step count xs)
+    by_next : (next : Option Item) → step_at m index count xs (Some x) next ≡ met_if t (record { rewritten = vowel_moved index xs; count = count }) (unchanged_step count xs)
     by_next None = tested
-    by_next (Some y) = ap (λ b. met_if b (coeng_step m place count xs y) (vowel_step place count xs x)) f ∙ tested
+    by_next (Some y) = ap (λ b. met_if b (coeng_step m index count xs y) (vowel_step index count xs x)) f ∙ tested
 
-pub at_form : (m : KhmerMasks) (place count : ℕ) (xs : List Item) (x y : Item) → slice_get xs place ≡ Some x → slice_get xs (place + 1) ≡ Some y → is_coeng count x ≡ true → (y.category == category.OT_Ra) ≡ true
-    → khmer_at m place count xs ≡ record { rewritten = coeng_moved m place xs; count = 2 }
-at_form m place count xs x y e f g h =
-    ap (λ a. step_at m place count xs a (slice_get xs (place + 1))) e ∙ ap (step_at m place count xs (Some x)) f
-    ∙ ap (λ b. met_if b (coeng_step m place count xs y) (vowel_step place count xs x)) g
-    ∙ ap (λ b. met_if b (record { rewritten = coeng_moved m place xs; count = 2 }) (unchanged_step (count + 1) xs)) h
+pub at_form : (m : KhmerMasks) (index count : ℕ) (xs : List Item) (x y : Item) → slice_get xs index ≡ Some x → slice_get xs (index + 1) ≡ Some y → is_coeng count x ≡ true → (y.category == category.OT_Ra) ≡ true
+    → khmer_at m index count xs ≡ record { rewritten = coeng_moved m index xs; count = 2 }
+at_form m index count xs x y e f g h =
+    ap (λ a. step_at m index count xs a (slice_get xs (index + 1))) e ∙ ap (step_at m index count xs (Some x)) f
+    ∙ ap (λ b. met_if b (coeng_step m index count xs y) (vowel_step index count xs x)) g
+    ∙ ap (λ b. met_if b (record { rewritten = coeng_moved m index xs; count = 2 }) (unchanged_step (count + 1) xs)) h
 
 pub coeng_turned : (m : KhmerMasks) (i : ℕ) (front : List Item) (x y : Item) (rest : List Item) → i ≡ length front
     → coeng_moved m i (front ++ (x ∷ y ∷ rest)) ≡ record { items = (item_with_features m.pref x ∷ item_with_features m.pref y ∷ front) ++ map (item_with_features m.cfar) rest; events = Move InList 0 (order_of_move i 2) ∷ [] }

@@ -1,4 +1,4 @@
--- Khmer: how vowels split, and which items of a syllable go to its start (Unicode core specification, Khmer; OpenType
+-- Khmer: how vowels split, and which items of a syllable move to its start (Unicode core specification, Khmer; OpenType
 -- specification, Creating fonts for Khmer).
 use Rattle.std.specs.Prelude.{ℕ, zero, suc, ◌+◌, ◌-◌, ◌==◌, ◌&&◌, Bool, nat_le, bit_and, if◌then◌else◌, List, [], ◌∷◌, length, map, slice_get, Option, None, Some}
 use Rattle.std.specs.List.{list_any}
@@ -41,19 +41,19 @@ unchanged_step count xs = record { rewritten = eventless_arrangement xs; count =
 
 -- a coeng and the Ro after it get a mask and move to the start, and the items after them get another mask
 abbrev pub coeng_moved : KhmerMasks → ℕ → List Item → Arrangement
-coeng_moved m place xs = and_arranged (and_arranged (within place (place + 2) (items_with_features m.pref) xs) (within 0 (place + 2) (first_to_back place))) (within (place + 2) (length xs) (items_with_features m.cfar))
+coeng_moved m index xs = and_arranged (and_arranged (within index (index + 2) (items_with_features m.pref) xs) (within 0 (index + 2) (first_to_back index))) (within (index + 2) (length xs) (items_with_features m.cfar))
 
 -- the left matra at an index moves to the start
 abbrev pub vowel_moved : ℕ → List Item → Arrangement
-vowel_moved place xs = within 0 (place + 1) (first_to_back place) xs
+vowel_moved index xs = within 0 (index + 1) (first_to_back index) xs
 
 -- the step at a coeng, by the item after it: with Ro it is a form
 abbrev pub coeng_step : KhmerMasks → ℕ → ℕ → List Item → Item → Step
-coeng_step m place count xs y = if y.category == category.OT_Ra then record { rewritten = coeng_moved m place xs; count = 2 } else unchanged_step (count + 1) xs
+coeng_step m index count xs y = if y.category == category.OT_Ra then record { rewritten = coeng_moved m index xs; count = 2 } else unchanged_step (count + 1) xs
 
 -- the step at a left matra, which moves to the start
 abbrev pub vowel_step : ℕ → ℕ → List Item → Item → Step
-vowel_step place count xs x = if x.category == category.OT_VPre then record { rewritten = vowel_moved place xs; count = count } else unchanged_step count xs
+vowel_step index count xs x = if x.category == category.OT_VPre then record { rewritten = vowel_moved index xs; count = count } else unchanged_step count xs
 
 -- an item is a coeng that still counts: at most two were counted
 abbrev pub is_coeng : ℕ → Item → Bool
@@ -61,18 +61,18 @@ is_coeng count x = x.category == category.OT_H && nat_le count 2
 
 -- the step at an item, by what is after it
 abbrev pub step_at : KhmerMasks → ℕ → ℕ → List Item → Option Item → Option Item → Step
-step_at m place count xs None next = unchanged_step count xs
-step_at m place count xs (Some x) None = vowel_step place count xs x
-step_at m place count xs (Some x) (Some y) = if is_coeng count x then coeng_step m place count xs y else vowel_step place count xs x
+step_at m index count xs None next = unchanged_step count xs
+step_at m index count xs (Some x) None = vowel_step index count xs x
+step_at m index count xs (Some x) (Some y) = if is_coeng count x then coeng_step m index count xs y else vowel_step index count xs x
 
 -- the step at an index of a syllable
 abbrev pub khmer_at : KhmerMasks → ℕ → ℕ → List Item → Step
-khmer_at m place count xs = step_at m place count xs (slice_get xs place) (slice_get xs (place + 1))
+khmer_at m index count xs = step_at m index count xs (slice_get xs index) (slice_get xs (index + 1))
 
 -- that many steps of the walk, while items move
 abbrev pub khmer_walk : KhmerMasks → ℕ → ℕ → ℕ → List Item → Arrangement
-khmer_walk m zero place count xs = eventless_arrangement xs
-khmer_walk m (suc n) place count xs = and_arranged (khmer_at m place count xs).rewritten (khmer_walk m n (place + 1) (khmer_at m place count xs).count)
+khmer_walk m zero index count xs = eventless_arrangement xs
+khmer_walk m (suc n) index count xs = and_arranged (khmer_at m index count xs).rewritten (khmer_walk m n (index + 1) (khmer_at m index count xs).count)
 
 -- a syllable whose items after the first have the post-base mask, walked from the second item on (HarfBuzz:
 -- reorder_consonant_syllable)

@@ -41,14 +41,14 @@ abbrev pub IsPlain : Item → Type 0
 IsPlain t = ((t.category == category.OT_H) ≡ false) × ((t.category == category.OT_VPre) ≡ false)
 
 -- a form is at the index, few coengs were counted, and the item before it is plain
-pub record OpensForms (count place : ℕ) (xs : List Item) : Type 0 where
+pub record OpensForms (count index : ℕ) (xs : List Item) : Type 0 where
   pub few : nat_le count 2 ≡ true
   pub before : Item
   pub coeng : Item
   pub ra : Item
-  pub before_there : slice_get xs (place - 1) ≡ Some before
-  pub coeng_there : slice_get xs place ≡ Some coeng
-  pub ra_there : slice_get xs (place + 1) ≡ Some ra
+  pub before_there : slice_get xs (index - 1) ≡ Some before
+  pub coeng_there : slice_get xs index ≡ Some coeng
+  pub ra_there : slice_get xs (index + 1) ≡ Some ra
   pub plain : IsPlain before
   pub form : together true coeng ra ≡ true
 
@@ -67,14 +67,14 @@ front_count forms (x ∷ y ∷ zs) = if together forms x y then 2 else if is_vow
 -- the syllable after a run between two indices that begins with a form: the items have their masks, and forms and left
 -- matras are at the start
 abbrev pub forms_moved : KhmerMasks → ℕ → ℕ → List Item → Arrangement
-forms_moved m place to xs =
-    and_arranged (and_arranged (within (place + 2) (length xs) (items_with_features m.cfar) xs) (within place to (λ ys. eventless_arrangement (forms_masked (together true) (item_with_features m.pref) ys))))
-    (within 0 to (fronts_moved (together true) is_vowel place))
+forms_moved m index to xs =
+    and_arranged (and_arranged (within (index + 2) (length xs) (items_with_features m.cfar) xs) (within index to (λ ys. eventless_arrangement (forms_masked (together true) (item_with_features m.pref) ys))))
+    (within 0 to (fronts_moved (together true) is_vowel index))
 
 -- the syllable was walked between two indices, and that many coengs were counted: whatever the rest of the walk yields
 -- then is what the walk from the first index yields
-pub record IsWalked (m : KhmerMasks) (start end place count to met : ℕ) (old now : Sides) : Type 0 where
+pub record IsWalked (m : KhmerMasks) (start end index count to met : ℕ) (old now : Sides) : Type 0 where
   pub ready : IsReady now
   pub size : length (all_glyphs now) ≡ length (all_glyphs old)
   pub does : (new : Sides) → IsRewritten (khmer_walk m (end - start - to) to met (slice_range (items_of now) start end)) start end now new
-      → IsRewritten (khmer_walk m (end - start - place) place count (slice_range (items_of old) start end)) start end old new
+      → IsRewritten (khmer_walk m (end - start - index) index count (slice_range (items_of old) start end)) start end old new

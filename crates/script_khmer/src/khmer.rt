@@ -96,7 +96,7 @@ fn reorder_syllable(masks: &KhmerMasks, buffer: &mut hb_buffer_t, start: usize, 
 #[derive(Clone, Copy)]
 struct Walk {
     /// The index of the next glyph.
-    place: usize,
+    index: usize,
     /// The number of coengs that were counted.
     count: u32,
 }
@@ -110,8 +110,8 @@ fn reorder_from_second(masks: &KhmerMasks, buffer: &mut hb_buffer_t, start: usiz
         start
         end buffer.old buffer.new }
 {
-    let mut walk = Walk { place: 1, count: 0 };
-    while walk.place < end - start {
+    let mut walk = Walk { index: 1, count: 0 };
+    while walk.index < end - start {
         walk = reorder_from(masks, buffer, start, end, walk);
     }
 }
@@ -127,15 +127,15 @@ fn reorder_from(
     walk: Walk,
 ) -> Walk
     requires ready { IsReady buffer.old }
-    requires some { 0 < walk.place }
-    requires there { start + walk.place < end }
+    requires some { 0 < walk.index }
+    requires there { start + walk.index < end }
     requires within { end ≤ length (all_glyphs buffer.old) }
-    ensures walked { IsWalked masks.now start end walk.place walk.count
-        result.place result.count buffer.old buffer.new }
-    ensures onward { walk.place < result.place }
+    ensures walked { IsWalked masks.now start end walk.index walk.count
+        result.index result.count buffer.old buffer.new }
+    ensures onward { walk.index < result.index }
 {
-    let from = start + walk.place;
-    let forms = opens_forms(buffer, start, end, walk.place, walk.count);
+    let from = start + walk.index;
+    let forms = opens_forms(buffer, start, end, walk.index, walk.count);
     let run = run_length(&buffer.info_slice()[from..end], forms, walk.count <= 2);
     if run == 0 {
         return reorder_one(masks, buffer, start, end, walk);
@@ -151,15 +151,15 @@ fn reorder_one(
     walk: Walk,
 ) -> Walk
     requires ready { IsReady buffer.old }
-    requires there { start + walk.place < end }
+    requires there { start + walk.index < end }
     requires within { end ≤ length (all_glyphs buffer.old) }
-    ensures walked { IsWalked masks.now start end walk.place walk.count
-        result.place result.count buffer.old buffer.new }
-    ensures onward { result.place ≡ walk.place + 1 }
+    ensures walked { IsWalked masks.now start end walk.index walk.count
+        result.index result.count buffer.old buffer.new }
+    ensures onward { result.index ≡ walk.index + 1 }
 {
-    let count = reorder_at(masks, buffer, start, end, walk.place, walk.count);
+    let count = reorder_at(masks, buffer, start, end, walk.index, walk.count);
     Walk {
-        place: walk.place + 1,
+        index: walk.index + 1,
         count,
     }
 }
@@ -175,28 +175,28 @@ fn reorder_run(
     forms: bool,
 ) -> Walk
     requires ready { IsReady buffer.old }
-    requires some { 0 < walk.place }
-    requires there { start + (walk.place + run) ≤ end }
+    requires some { 0 < walk.index }
+    requires there { start + (walk.index + run) ≤ end }
     requires within { end ≤ length (all_glyphs buffer.old) }
-    requires opens { forms ≡ true → OpensForms walk.count walk.place (slice_range (items_of buffer.old) start end) }
-    requires run { IsRun forms (nat_le walk.count 2) (slice_range (items_of buffer.old) (start + walk.place)
-        (start + (walk.place + run))) }
+    requires opens { forms ≡ true → OpensForms walk.count walk.index (slice_range (items_of buffer.old) start end) }
+    requires run { IsRun forms (nat_le walk.count 2) (slice_range (items_of buffer.old) (start + walk.index)
+        (start + (walk.index + run))) }
     requires long { 0 < run }
-    ensures walked { IsWalked masks.now start end walk.place walk.count
-        result.place result.count buffer.old buffer.new }
-    ensures onward { result.place ≡ walk.place + run }
+    ensures walked { IsWalked masks.now start end walk.index walk.count
+        result.index result.count buffer.old buffer.new }
+    ensures onward { result.index ≡ walk.index + run }
 {
-    let to = walk.place + run;
+    let to = walk.index + run;
     if forms {
-        move_forms(masks, buffer, start, end, walk.place, to);
+        move_forms(masks, buffer, start, end, walk.index, to);
         return Walk {
-            place: to,
+            index: to,
             count: 2,
         };
     }
-    move_run(buffer, start, start + to, walk.place, false);
+    move_run(buffer, start, start + to, walk.index, false);
     Walk {
-        place: to,
+        index: to,
         count: walk.count,
     }
 }
@@ -207,27 +207,27 @@ fn reorder_at(
     buffer: &mut hb_buffer_t,
     start: usize,
     end: usize,
-    place: usize,
+    index: usize,
     count: u32,
 ) -> u32
     requires ready { IsReady buffer.old }
     requires ordered { start ≤ end }
     requires within { end ≤ length (all_glyphs buffer.old) }
     ensures rewritten { IsRewritten
-        (khmer_at masks.now place count (slice_range (items_of buffer.old) start end)).rewritten start end
+        (khmer_at masks.now index count (slice_range (items_of buffer.old) start end)).rewritten start end
         buffer.old buffer.new }
-    ensures count { result ≡ (khmer_at masks.now place count (slice_range (items_of buffer.old) start end)).count }
+    ensures count { result ≡ (khmer_at masks.now index count (slice_range (items_of buffer.old) start end)).count }
 {
-    let Some(glyph) = glyph_in(buffer, start, end, place) else {
+    let Some(glyph) = glyph_in(buffer, start, end, index) else {
         return count;
     };
-    let Some(next) = glyph_in(buffer, start, end, place + 1) else {
-        return reorder_vowel(buffer, start, end, place, count, glyph);
+    let Some(next) = glyph_in(buffer, start, end, index + 1) else {
+        return reorder_vowel(buffer, start, end, index, count, glyph);
     };
     if glyph.category == OT_H && count <= 2 {
-        return reorder_coeng(masks, buffer, start, end, place, count, next);
+        return reorder_coeng(masks, buffer, start, end, index, count, next);
     }
-    reorder_vowel(buffer, start, end, place, count, glyph)
+    reorder_vowel(buffer, start, end, index, count, glyph)
 }
 
 #[tactic(auto, using(crate::proofs::KhmerMoves::passed_does))]
@@ -236,37 +236,37 @@ fn reorder_coeng(
     buffer: &mut hb_buffer_t,
     start: usize,
     end: usize,
-    place: usize,
+    index: usize,
     count: u32,
     next: hb_glyph_info_t,
 ) -> u32
     requires ready { IsReady buffer.old }
-    requires there { start + (place + 2) ≤ end }
+    requires there { start + (index + 2) ≤ end }
     requires within { end ≤ length (all_glyphs buffer.old) }
     requires few { count ≤ 2 }
     ensures rewritten { IsRewritten
-        (coeng_step masks.now place count (slice_range (items_of buffer.old) start end) (item_of next)).rewritten start
+        (coeng_step masks.now index count (slice_range (items_of buffer.old) start end) (item_of next)).rewritten start
         end buffer.old buffer.new }
     ensures count { result
-        ≡ (coeng_step masks.now place count (slice_range (items_of buffer.old) start end) (item_of next)).count }
+        ≡ (coeng_step masks.now index count (slice_range (items_of buffer.old) start end) (item_of next)).count }
 {
     if next.category != OT_Ra {
         return count + 1;
     }
-    move_coeng(masks, buffer, start, end, place);
+    move_coeng(masks, buffer, start, end, index);
     2
 }
 
-fn move_coeng(masks: &KhmerMasks, buffer: &mut hb_buffer_t, start: usize, end: usize, place: usize)
+fn move_coeng(masks: &KhmerMasks, buffer: &mut hb_buffer_t, start: usize, end: usize, index: usize)
     requires ready { IsReady buffer.old }
-    requires there { start + (place + 2) ≤ end }
+    requires there { start + (index + 2) ≤ end }
     requires within { end ≤ length (all_glyphs buffer.old) }
-    ensures { IsRewritten (coeng_moved masks.now place (slice_range (items_of buffer.old) start end)) start end
+    ensures { IsRewritten (coeng_moved masks.now index (slice_range (items_of buffer.old) start end)) start end
         buffer.old buffer.new }
 {
-    add_mask(buffer, start + place, start + (place + 2), masks.pref);
-    first_to_back(buffer, start, start + (place + 2), place);
-    add_mask(buffer, start + (place + 2), end, masks.cfar);
+    add_mask(buffer, start + index, start + (index + 2), masks.pref);
+    first_to_back(buffer, start, start + (index + 2), index);
+    add_mask(buffer, start + (index + 2), end, masks.cfar);
 }
 
 #[tactic(auto, using(crate::proofs::KhmerMoves::passed_does))]
@@ -274,22 +274,22 @@ fn reorder_vowel(
     buffer: &mut hb_buffer_t,
     start: usize,
     end: usize,
-    place: usize,
+    index: usize,
     count: u32,
     glyph: hb_glyph_info_t,
 ) -> u32
     requires ready { IsReady buffer.old }
-    requires there { start + (place + 1) ≤ end }
+    requires there { start + (index + 1) ≤ end }
     requires within { end ≤ length (all_glyphs buffer.old) }
     ensures rewritten { IsRewritten
-        (vowel_step place count (slice_range (items_of buffer.old) start end) (item_of glyph)).rewritten start end
+        (vowel_step index count (slice_range (items_of buffer.old) start end) (item_of glyph)).rewritten start end
         buffer.old buffer.new }
     ensures count { result
-        ≡ (vowel_step place count (slice_range (items_of buffer.old) start end) (item_of glyph)).count }
+        ≡ (vowel_step index count (slice_range (items_of buffer.old) start end) (item_of glyph)).count }
 {
     if glyph.category != OT_VPre {
         return count;
     }
-    first_to_back(buffer, start, start + (place + 1), place);
+    first_to_back(buffer, start, start + (index + 1), index);
     count
 }

@@ -24,21 +24,21 @@ pub(crate) fn opens_forms(
     buffer: &hb_buffer_t,
     start: usize,
     end: usize,
-    place: usize,
+    index: usize,
     count: u32,
 ) -> bool
     requires ready { IsReady buffer.now }
-    requires some { 0 < place }
-    requires there { start + place < end }
+    requires some { 0 < index }
+    requires there { start + index < end }
     requires within { end ≤ length (all_glyphs buffer.now) }
-    ensures { result ≡ true → OpensForms count place (slice_range (items_of buffer.now) start end) }
+    ensures { result ≡ true → OpensForms count index (slice_range (items_of buffer.now) start end) }
 {
-    if count > 2 || start + place + 1 == end {
+    if count > 2 || start + index + 1 == end {
         return false;
     }
-    let before = glyph_at(buffer, start, end, place - 1);
-    let glyph = glyph_at(buffer, start, end, place);
-    let next = glyph_at(buffer, start, end, place + 1);
+    let before = glyph_at(buffer, start, end, index - 1);
+    let glyph = glyph_at(buffer, start, end, index);
+    let next = glyph_at(buffer, start, end, index + 1);
     if before.category == OT_H || before.category == OT_VPre {
         return false;
     }
@@ -96,20 +96,20 @@ pub(crate) fn move_forms(
     buffer: &mut hb_buffer_t,
     start: usize,
     end: usize,
-    place: usize,
+    index: usize,
     to: usize,
 )
     requires ready { IsReady buffer.old }
-    requires some { 0 < place }
-    requires two { place + 2 ≤ to }
+    requires some { 0 < index }
+    requires two { index + 2 ≤ to }
     requires there { start + to ≤ end }
     requires within { end ≤ length (all_glyphs buffer.old) }
-    ensures { IsRewritten (forms_moved masks.now place to (slice_range (items_of buffer.old) start end)) start end
+    ensures { IsRewritten (forms_moved masks.now index to (slice_range (items_of buffer.old) start end)) start end
         buffer.old buffer.new }
 {
-    add_mask(buffer, start + (place + 2), end, masks.cfar);
-    mask_run(buffer, start + place, start + to, masks.pref);
-    move_run(buffer, start, start + to, place, true);
+    add_mask(buffer, start + (index + 2), end, masks.cfar);
+    mask_run(buffer, start + index, start + to, masks.pref);
+    move_run(buffer, start, start + to, index, true);
 }
 
 /// Adds a mask to the forms among the glyphs `start..end`.
@@ -169,31 +169,31 @@ pub(crate) fn move_run(
     buffer: &mut hb_buffer_t,
     start: usize,
     end: usize,
-    place: usize,
+    index: usize,
     forms: bool,
 )
     requires ready { IsReady buffer.old }
-    requires some { 0 < place }
-    requires there { start + place ≤ end }
+    requires some { 0 < index }
+    requires there { start + index ≤ end }
     requires within { end ≤ length (all_glyphs buffer.old) }
-    ensures { IsRewritten (fronts_moved (together forms) is_vowel place (slice_range (items_of buffer.old) start end))
+    ensures { IsRewritten (fronts_moved (together forms) is_vowel index (slice_range (items_of buffer.old) start end))
         start end
         buffer.old buffer.new }
 {
-    let merged = merged_length(&buffer.info_slice()[start..end], place, forms);
-    move_fronts(&Fronts { forms }, buffer, start, end, place, merged);
+    let merged = merged_length(&buffer.info_slice()[start..end], index, forms);
+    move_fronts(&Fronts { forms }, buffer, start, end, index, merged);
 }
 
 /// The number of glyphs up to the last one that moves to the front, or 1.
 #[tactic(auto, using(crate::proofs::KhmerScan::all_seen))]
-fn merged_length(glyphs: &[hb_glyph_info_t], place: usize, forms: bool) -> usize
-    requires some { 0 < place }
-    requires inside { place ≤ length glyphs.now }
-    ensures reach { result ≡ reach 1 (front_moves (together forms) is_vowel place (drop place (strip glyphs.now))) }
+fn merged_length(glyphs: &[hb_glyph_info_t], index: usize, forms: bool) -> usize
+    requires some { 0 < index }
+    requires inside { index ≤ length glyphs.now }
+    ensures reach { result ≡ reach 1 (front_moves (together forms) is_vowel index (drop index (strip glyphs.now))) }
     ensures within { result ≤ length glyphs.now }
 {
     let mut merged = 1;
-    for i in place..glyphs.len() {
+    for i in index..glyphs.len() {
         merged = merged_at(glyphs, i, forms, merged);
     }
     merged

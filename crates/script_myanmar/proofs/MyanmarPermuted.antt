@@ -11,10 +11,10 @@ use Rattle.buffer_stages.specs.SyllableLaws.{IsPermuted, numbers_of}
 use Rattle.buffer_stages.specs.Lemmas.Numbers.{same_numbers, then_permutes, within_permutes}
 use Rattle.buffer_stages.specs.Lemmas.Permuted.{permutes_each_syllable}
 use Rattle.buffer_stages.specs.Lemmas.Sorted.{sorted_permutes, turned_permutes}
-use Rattle.buffer_stages.specs.Ordering.{groups_reversed, sorted_by_place}
-use Rattle.script_myanmar.specs.Myanmar.{items_with_positions, has_two_matras, is_left_matra, matras_of, matras_reversed, myanmar_first, myanmar_positions, myanmar_reordered, myanmar_syllable, with_positions, MyanmarPermutes}
+use Rattle.buffer_stages.specs.Ordering.{groups_reversed, auxiliary_order}
+use Rattle.script_myanmar.specs.Myanmar.{items_with_positions, has_two_matras, is_pre_base_vowel, matras_of, matras_reversed, myanmar_first, myanmar_positions, myanmar_reordered, myanmar_syllable, with_positions, MyanmarPermutes}
 
--- ---- places
+-- ---- positions
 
 placed_numbers : (ps : List ℕ) (xs : List Item) → numbers_of (with_positions ps xs) ≡ numbers_of xs
 placed_numbers [] xs = refl
@@ -26,8 +26,8 @@ placed_numbers (p ∷ ps) (x ∷ xs) = ap (λ ns. x.number ∷ ns) (placed_numbe
 matras_permute : (xs : List Item) → IsPermuted xs (matras_reversed xs)
 matras_permute xs = by_test (has_two_matras (take (matras_of xs) xs))
   where
-    by_test : (t : Bool) → IsPermuted xs (if t then within 0 (matras_of xs) (groups_reversed is_left_matra) xs else eventless_arrangement xs)
-    by_test true = within_permutes (groups_reversed is_left_matra) 0 (matras_of xs) xs (turned_permutes is_left_matra) (omega arith)
+    by_test : (t : Bool) → IsPermuted xs (if t then within 0 (matras_of xs) (groups_reversed is_pre_base_vowel) xs else eventless_arrangement xs)
+    by_test true = within_permutes (groups_reversed is_pre_base_vowel) 0 (matras_of xs) xs (turned_permutes is_pre_base_vowel) (omega arith)
     by_test false = IsPermutation-refl (numbers_of xs)
 
 -- ---- a syllable
@@ -35,8 +35,8 @@ matras_permute xs = by_test (has_two_matras (take (matras_of xs) xs))
 reordered_permutes : (xs : List Item) → IsPermuted xs (myanmar_reordered xs)
 reordered_permutes xs =
     let placed = items_with_positions xs in
-    let sorted = and_arranged placed sorted_by_place in
-    then_permutes xs sorted matras_reversed (then_permutes xs placed sorted_by_place (same_numbers xs placed (placed_numbers (myanmar_positions (map (λ (x : Item). x.category) xs)) xs)) (sorted_permutes placed.items)) (matras_permute sorted.items)
+    let sorted = and_arranged placed auxiliary_order in
+    then_permutes xs sorted matras_reversed (then_permutes xs placed auxiliary_order (same_numbers xs placed (placed_numbers (myanmar_positions (map (λ (x : Item). x.category) xs)) xs)) (sorted_permutes placed.items)) (matras_permute sorted.items)
 
 pub syllable_permutes : (xs : List Item) → IsPermuted xs (myanmar_syllable xs)
 syllable_permutes xs = by_first (slice_get xs 0)

@@ -18,12 +18,12 @@ use Rattle.buffer_stages.specs.Rewriting.{within}
 use Rattle.buffer_stages.specs.SyllableBuffers.{IsRewritten}
 use Rattle.buffer_stages.specs.Lemmas.Rewritings.{counted, rewritten_count, rewritten_next, rewritten_same}
 use Rattle.buffer_stages.specs.Lemmas.Parts.{part_clusters, part_written, range_size, rewritten_part, range_seen}
-use Rattle.script_myanmar.specs.Myanmar.{items_with_positions, has_two_matras, is_left_matra, matras_of, matras_reversed, myanmar_positions, myanmar_reordered, myanmar_syllable, with_position, with_positions}
+use Rattle.script_myanmar.specs.Myanmar.{items_with_positions, has_two_matras, is_pre_base_vowel, matras_of, matras_reversed, myanmar_positions, myanmar_reordered, myanmar_syllable, with_position, with_positions}
 use Rattle.script_myanmar.specs.Turned.{glyphs_at}
-use Rattle.buffer_stages.specs.Ordering.{groups_reversed, sorted_by_place}
+use Rattle.buffer_stages.specs.Ordering.{groups_reversed, auxiliary_order}
 use Rattle.script_myanmar.specs.Lemmas.MyanmarSize.{all_placed_size}
 use Rattle.buffer_stages.specs.Lemmas.Sorted.{sorted_size}
-use Rattle.script_myanmar.specs.Lemmas.Sizes.{places_size}
+use Rattle.script_myanmar.specs.Lemmas.Sizes.{positions_size}
 use Rattle.buffer_stages.proofs.Lemmas.Elements.{split_at}
 
 -- ---- what is seen of glyphs
@@ -50,13 +50,13 @@ all_matras gs i n le ge f =
 
 -- whether so many left matras, with the one that was met, are two
 abbrev pub are_two : Bool → List hb_glyph_info_t → Bool
-are_two met gs = if met then nat_lt 0 (length (filter is_left_matra (strip gs))) else nat_lt 1 (length (filter is_left_matra (strip gs)))
+are_two met gs = if met then nat_lt 0 (length (filter is_pre_base_vowel (strip gs))) else nat_lt 1 (length (filter is_pre_base_vowel (strip gs)))
 
-left_here : (gs : List hb_glyph_info_t) (i : ℕ) (g : hb_glyph_info_t) (t : Bool) → slice_get gs i ≡ Some g → is_left_matra (item_of g) ≡ t
-    → filter is_left_matra (strip (drop i gs)) ≡ (if t then item_of g ∷ filter is_left_matra (strip (drop (i + 1) gs)) else filter is_left_matra (strip (drop (i + 1) gs)))
+left_here : (gs : List hb_glyph_info_t) (i : ℕ) (g : hb_glyph_info_t) (t : Bool) → slice_get gs i ≡ Some g → is_pre_base_vowel (item_of g) ≡ t
+    → filter is_pre_base_vowel (strip (drop i gs)) ≡ (if t then item_of g ∷ filter is_pre_base_vowel (strip (drop (i + 1) gs)) else filter is_pre_base_vowel (strip (drop (i + 1) gs)))
 left_here gs i g t at e =
-    let rest = filter is_left_matra (strip (drop (i + 1) gs)) in
-    ap (λ hs. filter is_left_matra (strip hs)) (split_at gs i g at) ∙ ap (λ (b : Bool). if b then item_of g ∷ rest else rest) e
+    let rest = filter is_pre_base_vowel (strip (drop (i + 1) gs)) in
+    ap (λ hs. filter is_pre_base_vowel (strip hs)) (split_at gs i g at) ∙ ap (λ (b : Bool). if b then item_of g ∷ rest else rest) e
 
 two_more : (n : ℕ) → nat_lt 1 (suc n) ≡ nat_lt 0 n
 two_more n = grind (arith, nat_tests, common_steps)
@@ -64,14 +64,14 @@ two_more n = grind (arith, nat_tests, common_steps)
 one_more : (n : ℕ) → nat_lt 0 (suc n) ≡ true
 one_more n = grind (arith, nat_tests, common_steps)
 
-pub first_left : (gs : List hb_glyph_info_t) (i : ℕ) (g : hb_glyph_info_t) (b met : Bool) → slice_get gs i ≡ Some g → is_left_matra (item_of g) ≡ true → met ≡ false → are_two met (drop i gs) ≡ b → are_two true (drop (i + 1) gs) ≡ b
+pub first_left : (gs : List hb_glyph_info_t) (i : ℕ) (g : hb_glyph_info_t) (b met : Bool) → slice_get gs i ≡ Some g → is_pre_base_vowel (item_of g) ≡ true → met ≡ false → are_two met (drop i gs) ≡ b → are_two true (drop (i + 1) gs) ≡ b
 first_left gs i g b met at e none f =
-    sym (ap (λ m. are_two m (drop i gs)) none ∙ ap (λ (xs : List Item). nat_lt 1 (length xs)) (left_here gs i g true at e) ∙ two_more (length (filter is_left_matra (strip (drop (i + 1) gs))))) ∙ f
+    sym (ap (λ m. are_two m (drop i gs)) none ∙ ap (λ (xs : List Item). nat_lt 1 (length xs)) (left_here gs i g true at e) ∙ two_more (length (filter is_pre_base_vowel (strip (drop (i + 1) gs))))) ∙ f
 
-pub second_left : (gs : List hb_glyph_info_t) (i : ℕ) (g : hb_glyph_info_t) (b met : Bool) → slice_get gs i ≡ Some g → is_left_matra (item_of g) ≡ true → met ≡ true → are_two met (drop i gs) ≡ b → true ≡ b
-second_left gs i g b met at e one f = sym (ap (λ m. are_two m (drop i gs)) one ∙ ap (λ (xs : List Item). nat_lt 0 (length xs)) (left_here gs i g true at e) ∙ one_more (length (filter is_left_matra (strip (drop (i + 1) gs))))) ∙ f
+pub second_left : (gs : List hb_glyph_info_t) (i : ℕ) (g : hb_glyph_info_t) (b met : Bool) → slice_get gs i ≡ Some g → is_pre_base_vowel (item_of g) ≡ true → met ≡ true → are_two met (drop i gs) ≡ b → true ≡ b
+second_left gs i g b met at e one f = sym (ap (λ m. are_two m (drop i gs)) one ∙ ap (λ (xs : List Item). nat_lt 0 (length xs)) (left_here gs i g true at e) ∙ one_more (length (filter is_pre_base_vowel (strip (drop (i + 1) gs))))) ∙ f
 
-pub none_left : (gs : List hb_glyph_info_t) (i : ℕ) (g : hb_glyph_info_t) (b met : Bool) → slice_get gs i ≡ Some g → is_left_matra (item_of g) ≡ false → are_two met (drop i gs) ≡ b → are_two met (drop (i + 1) gs) ≡ b
+pub none_left : (gs : List hb_glyph_info_t) (i : ℕ) (g : hb_glyph_info_t) (b met : Bool) → slice_get gs i ≡ Some g → is_pre_base_vowel (item_of g) ≡ false → are_two met (drop i gs) ≡ b → are_two met (drop (i + 1) gs) ≡ b
 none_left gs i g b met at e f = sym (ap (λ (xs : List Item). if met then nat_lt 0 (length xs) else nat_lt 1 (length xs)) (left_here gs i g false at e)) ∙ f
 
 pub no_second : (gs : List hb_glyph_info_t) (i : ℕ) (b met : Bool) → length gs ≤ i → are_two met (drop i gs) ≡ b → false ≡ b
@@ -100,14 +100,14 @@ clusters_at [] gs e = refl
 clusters_at (p ∷ ps) [] e = absurd (omega (arith, e))
 clusters_at (p ∷ ps) (g ∷ gs) e = ap (λ ns. g.cluster ∷ ns) (clusters_at ps gs (omega (arith, e)))
 
--- ---- places
+-- ---- positions
 
 pub placed_clusters : (from to : ℕ) (gs all : List hb_glyph_info_t) → from ≤ to
     → gs ≡ take from all ++ glyphs_at (myanmar_positions (map (λ (g : hb_glyph_info_t). g.category) (slice_range all from to))) (slice_range all from to) ++ drop to all → clusters gs ≡ clusters all
 placed_clusters from to gs all le e =
     let range = slice_range all from to in
     let cs = map (λ (g : hb_glyph_info_t). g.category) range in
-    part_clusters from to (glyphs_at (myanmar_positions cs) range) gs all le e (clusters_at (myanmar_positions cs) range (places_size cs ∙ length-map range (λ (g : hb_glyph_info_t). g.category)))
+    part_clusters from to (glyphs_at (myanmar_positions cs) range) gs all le e (clusters_at (myanmar_positions cs) range (positions_size cs ∙ length-map range (λ (g : hb_glyph_info_t). g.category)))
 
 pub syllable_placed : (from to : ℕ) (gs : List hb_glyph_info_t) (a : Sides) → IsReady a → from ≤ to → to ≤ length (all_glyphs a)
     → gs ≡ take from (all_glyphs a) ++ glyphs_at (myanmar_positions (map (λ (g : hb_glyph_info_t). g.category) (slice_range (all_glyphs a) from to))) (slice_range (all_glyphs a) from to) ++ drop to (all_glyphs a)
@@ -118,7 +118,7 @@ syllable_placed from to gs a ready le fits e =
     let seen : strip range ≡ xs = range_seen item_of from to (all_glyphs a) in
     let kinds : map (λ (g : hb_glyph_info_t). g.category) range ≡ map (λ (x : Item). x.category) xs = kinds_seen range ∙ ap (map (λ (x : Item). x.category)) seen in
     let ps = myanmar_positions (map (λ (g : hb_glyph_info_t). g.category) range) in
-    let many : length ps ≡ length range = places_size (map (λ (g : hb_glyph_info_t). g.category) range) ∙ length-map range (λ (g : hb_glyph_info_t). g.category) in
+    let many : length ps ≡ length range = positions_size (map (λ (g : hb_glyph_info_t). g.category) range) ∙ length-map range (λ (g : hb_glyph_info_t). g.category) in
     part_written from to (items_with_positions xs).items (glyphs_at ps range) gs a ready le fits e
     (items_at ps range ∙ ap (λ cs. with_positions (myanmar_positions cs) (strip range)) kinds ∙ ap (with_positions (myanmar_positions (map (λ (x : Item). x.category) xs))) seen)
     (origins_at ps range (omega (arith, many)))
@@ -131,7 +131,7 @@ front_strip start end m a le fits =
     range_seen item_of start (start + m) (all_glyphs a) ∙ ap (λ k. take k (drop start (items_of a))) n ∙ sym (take-take m (end - start) (drop start (items_of a)) (omega (arith, le)))
 
 abbrev turned_if : List Item → Bool → Arrangement
-turned_if xs t = if t then within 0 (matras_of xs) (groups_reversed is_left_matra) xs else eventless_arrangement xs
+turned_if xs t = if t then within 0 (matras_of xs) (groups_reversed is_pre_base_vowel) xs else eventless_arrangement xs
 
 pub matras_kept : (start end m : ℕ) (a : Sides) → start ≤ end → end ≤ length (all_glyphs a) → start + m ≤ end → IsReady a → m ≡ matras_of (slice_range (items_of a) start end)
     → has_two_matras (strip (slice_range (all_glyphs a) start (start + m))) ≡ false → IsRewritten (matras_reversed (slice_range (items_of a) start end)) start end a a
@@ -141,25 +141,25 @@ matras_kept start end m a le fits inside ready e f =
     subst (λ r. IsRewritten r start end a a) (sym (ap (turned_if xs) none)) (rewritten_same start end a le ready)
 
 pub matras_turned : (start end m : ℕ) (a b : Sides) → start ≤ end → end ≤ length (all_glyphs a) → start + m ≤ end → m ≡ matras_of (slice_range (items_of a) start end)
-    → has_two_matras (strip (slice_range (all_glyphs a) start (start + m))) ≡ true → IsRewritten (groups_reversed is_left_matra (slice_range (items_of a) start (start + m))) start (start + m) a b
+    → has_two_matras (strip (slice_range (all_glyphs a) start (start + m))) ≡ true → IsRewritten (groups_reversed is_pre_base_vowel (slice_range (items_of a) start (start + m))) start (start + m) a b
     → IsRewritten (matras_reversed (slice_range (items_of a) start end)) start end a b
 matras_turned start end m a b le fits inside e f g =
     let xs = slice_range (items_of a) start end in
     let two : has_two_matras (take (matras_of xs) xs) ≡ true = ap (λ k. has_two_matras (take k xs)) (sym e) ∙ ap has_two_matras (sym (front_strip start end m a inside fits)) ∙ f in
-    let h : IsRewritten (within 0 m (groups_reversed is_left_matra) xs) start end a b = rewritten_part (groups_reversed is_left_matra) start end 0 m start (start + m) a b (omega arith) refl (omega arith) inside (omega (arith, counted a, fits)) g in
-    subst (λ r. IsRewritten r start end a b) (sym (ap (turned_if xs) two)) (subst (λ k. IsRewritten (within 0 k (groups_reversed is_left_matra) xs) start end a b) e h)
+    let h : IsRewritten (within 0 m (groups_reversed is_pre_base_vowel) xs) start end a b = rewritten_part (groups_reversed is_pre_base_vowel) start end 0 m start (start + m) a b (omega arith) refl (omega arith) inside (omega (arith, counted a, fits)) g in
+    subst (λ r. IsRewritten r start end a b) (sym (ap (turned_if xs) two)) (subst (λ k. IsRewritten (within 0 k (groups_reversed is_pre_base_vowel) xs) start end a b) e h)
 
 pub syllable_ordered : (start end : ℕ) (a b c d : Sides) → start ≤ end → end ≤ length (all_glyphs a) → IsRewritten (items_with_positions (slice_range (items_of a) start end)) start end a b
-    → IsRewritten (sorted_by_place (slice_range (items_of b) start end)) start end b c → IsRewritten (matras_reversed (slice_range (items_of c) start end)) start end c d
+    → IsRewritten (auxiliary_order (slice_range (items_of b) start end)) start end b c → IsRewritten (matras_reversed (slice_range (items_of c) start end)) start end c d
     → IsRewritten (myanmar_reordered (slice_range (items_of a) start end)) start end a d
 syllable_ordered start end a b c d le fits f g h =
     let xs = slice_range (items_of a) start end in
     let inside : end ≤ length (items_of a) = omega (arith, counted a, fits) in
     let size : length xs ≡ end - start = range_size start end (items_of a) le inside in
     let one : length (items_with_positions xs).items ≡ end - start = all_placed_size xs ∙ size in
-    let both : length (and_arranged (items_with_positions xs) sorted_by_place).items ≡ end - start = sorted_size (items_with_positions xs).items ∙ one in
-    rewritten_next (and_arranged (items_with_positions xs) sorted_by_place) matras_reversed start end a c d le inside both
-    (rewritten_next (items_with_positions xs) sorted_by_place start end a b c le inside one f g) h
+    let both : length (and_arranged (items_with_positions xs) auxiliary_order).items ≡ end - start = sorted_size (items_with_positions xs).items ∙ one in
+    rewritten_next (and_arranged (items_with_positions xs) auxiliary_order) matras_reversed start end a c d le inside both
+    (rewritten_next (items_with_positions xs) auxiliary_order start end a b c le inside one f g) h
 
 -- as many glyphs stay
 pub placed_count : (start end : ℕ) (a b : Sides) → start ≤ end → end ≤ length (all_glyphs a) → IsRewritten (items_with_positions (slice_range (items_of a) start end)) start end a b → length (all_glyphs b) ≡ length (all_glyphs a)
@@ -168,11 +168,11 @@ placed_count start end a b le fits f =
     let inside : end ≤ length (items_of a) = omega (arith, counted a, fits) in
     rewritten_count (items_with_positions xs) start end a b le inside (all_placed_size xs ∙ range_size start end (items_of a) le inside) f
 
-pub sorted_count : (start end : ℕ) (a b : Sides) → start ≤ end → end ≤ length (all_glyphs a) → IsRewritten (sorted_by_place (slice_range (items_of a) start end)) start end a b → length (all_glyphs b) ≡ length (all_glyphs a)
+pub sorted_count : (start end : ℕ) (a b : Sides) → start ≤ end → end ≤ length (all_glyphs a) → IsRewritten (auxiliary_order (slice_range (items_of a) start end)) start end a b → length (all_glyphs b) ≡ length (all_glyphs a)
 sorted_count start end a b le fits f =
     let xs = slice_range (items_of a) start end in
     let inside : end ≤ length (items_of a) = omega (arith, counted a, fits) in
-    rewritten_count (sorted_by_place xs) start end a b le inside (sorted_size xs ∙ range_size start end (items_of a) le inside) f
+    rewritten_count (auxiliary_order xs) start end a b le inside (sorted_size xs ∙ range_size start end (items_of a) le inside) f
 
 -- a syllable that is not reordered, and one that is
 syllable_none : (xs : List Item) → slice_get xs 0 ≡ None → myanmar_syllable xs ≡ eventless_arrangement xs

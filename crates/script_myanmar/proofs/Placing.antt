@@ -25,18 +25,18 @@ placed_next (q ∷ ps) (g ∷ gs) zero p d lt e = let same : q ≡ p = cc in ap 
 placed_next (q ∷ ps) (g ∷ gs) (suc i) p d lt e = ap (λ hs. glyph_at q g ∷ hs) (placed_next ps gs i p d (omega (arith, lt)) e)
 
 -- the next glyph of a loop
-pub place_step : (ps : List ℕ) (gs hs : List hb_glyph_info_t) (i p : ℕ) (d h : hb_glyph_info_t) → i < length hs → length hs ≡ length gs → hs ≡ placed_to ps i gs → slice_get ps i ≡ Some p → h ≡ glyph_at p (get_or hs i d) → set hs i h ≡ placed_to ps (i + 1) gs
-place_step ps gs hs i p d h lt len e at is =
+pub position_step : (ps : List ℕ) (gs hs : List hb_glyph_info_t) (i p : ℕ) (d h : hb_glyph_info_t) → i < length hs → length hs ≡ length gs → hs ≡ placed_to ps i gs → slice_get ps i ≡ Some p → h ≡ glyph_at p (get_or hs i d) → set hs i h ≡ placed_to ps (i + 1) gs
+position_step ps gs hs i p d h lt len e at is =
     let next : suc i ≡ i + 1 = omega arith in
     ap (λ k. set hs i k) is ∙ ap (λ ks. set ks i (glyph_at p (get_or ks i d))) e ∙ placed_next ps gs i p d (omega (arith, lt, len)) at ∙ ap (λ n. placed_to ps n gs) next
 
 pub all_at : (ps : List ℕ) (gs : List hb_glyph_info_t) (i : ℕ) → length gs ≤ i → length ps ≡ length gs → placed_to ps i gs ≡ glyphs_at ps gs
 all_at ps gs i le len = ap (λ qs. glyphs_at qs (take i gs) ++ drop i gs) (take_all i ps (omega (arith, le, len))) ∙ ap (λ hs. glyphs_at ps hs ++ drop i gs) (take_all i gs le) ∙ ap (λ hs. glyphs_at ps gs ++ hs) (drop_all i gs le) ∙ append-nil (glyphs_at ps gs)
 
-pub same_place : (n p i : ℕ) → i < n → slice_get (replicate n p) i ≡ Some p
-same_place zero p i lt = absurd (omega (arith, lt))
-same_place (suc n) p zero lt = refl
-same_place (suc n) p (suc i) lt = same_place n p i (omega (arith, lt))
+pub same_position : (n p i : ℕ) → i < n → slice_get (replicate n p) i ≡ Some p
+same_position zero p i lt = absurd (omega (arith, lt))
+same_position (suc n) p zero lt = refl
+same_position (suc n) p (suc i) lt = same_position n p i (omega (arith, lt))
 
 glyphs_at_size : (ps : List ℕ) (gs : List hb_glyph_info_t) → length ps ≡ length gs → length (glyphs_at ps gs) ≡ length gs
 glyphs_at_size [] gs e = refl
@@ -91,7 +91,7 @@ placing_next i now before old done d h lt len u is =
     let cut = first_of ps (positions_after (position_after now g.category) p (kinds (drop (i + 1) old))) i p rest in
     let next : suc i ≡ i + 1 = omega arith in
     record {
-      glyphs = place_step ps old done i p d h lt len u.glyphs cut.0 is;
+      glyphs = position_step ps old done i p d h lt len u.glyphs cut.0 is;
       rest = cut.1 ∙ ap (λ n. drop n ps) next;
       ahead = ap (λ n. drop n (set done i h)) (sym next) ∙ past_set done i h ∙ ap (λ n. drop n done) next ∙ later;
     }
@@ -158,17 +158,17 @@ all_one p i old done le e = e ∙ all_at (replicate (length old) p) old i le (le
 
 pub placing_by : (i now before b n : ℕ) (old done : List hb_glyph_info_t) (d h : hb_glyph_info_t) → i < length done → length done ≡ length old → ArePlaced i now before old done
     → b ≡ position_of now before (get_or done i d).category → n ≡ position_after now (get_or done i d).category → h ≡ glyph_at b (get_or done i d) → ArePlaced (i + 1) n b old (set done i h)
-placing_by i now before b n old done d h lt len u place behind is =
+placing_by i now before b n old done d h lt len u position_is behind is =
     let g = get_or done i d in
     let P : ℕ → Type 0 = λ m. ArePlaced (i + 1) m b old (set done i h) in
     let Q : ℕ → Type 0 = λ m. ArePlaced (i + 1) (position_after now g.category) m old (set done i h) in
-    subst P (sym behind) (subst Q (sym place) (placing_next i now before old done d h lt len u (is ∙ ap (λ m. glyph_at m g) place)))
+    subst P (sym behind) (subst Q (sym position_is) (placing_next i now before old done d h lt len u (is ∙ ap (λ m. glyph_at m g) position_is)))
 
 -- a prefix got one position, and then the rest its positions
-pub two_stretches : (n p : ℕ) (rule : List ℕ → List ℕ) (gs front back : List hb_glyph_info_t) → n ≤ length gs → front ≡ glyphs_at (replicate (length (take n gs)) p) (take n gs)
+pub two_ranges : (n p : ℕ) (rule : List ℕ → List ℕ) (gs front back : List hb_glyph_info_t) → n ≤ length gs → front ≡ glyphs_at (replicate (length (take n gs)) p) (take n gs)
     → back ≡ glyphs_at (rule (kinds (mid_of n (length (front ++ drop n gs) - n) (front ++ drop n gs)))) (mid_of n (length (front ++ drop n gs) - n) (front ++ drop n gs))
     → put_mid n (length (front ++ drop n gs) - n) (front ++ drop n gs) back ≡ glyphs_at (replicate n p ++ rule (drop n (kinds gs))) gs
-two_stretches n p rule gs front back le e f =
+two_ranges n p rule gs front back le e f =
     let size : length (take n gs) ≡ n = length-take-le n gs le in
     let first : front ≡ glyphs_at (replicate n p) (take n gs) = e ∙ ap (λ m. glyphs_at (replicate m p) (take n gs)) size in
     let long : length front ≡ n = ap length first ∙ glyphs_at_size (replicate n p) (take n gs) (length-replicate n p ∙ sym size) ∙ size in

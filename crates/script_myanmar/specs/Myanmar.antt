@@ -8,7 +8,7 @@ use Rattle.script_categories.specs.declared.shaper.hb_ot_script_shaper_t.TheVari
 use Rattle.script_categories.specs.Shapers.{is_reordered}
 use Rattle.buffer_glyphs.specs.Items.{Item}
 use Rattle.buffer_stages.specs.Pieces.{ArePermuted}
-use Rattle.buffer_stages.specs.Ordering.{groups_reversed, sorted_by_place}
+use Rattle.buffer_stages.specs.Ordering.{groups_reversed, auxiliary_order}
 use Rattle.buffer_glyphs.specs.Rewriting.{Arrangement, eventless_arrangement, and_arranged}
 use Rattle.buffer_stages.specs.Rewriting.{within, in_syllables, by_syllable}
 
@@ -90,8 +90,10 @@ items_with_positions xs = eventless_arrangement (with_positions (myanmar_positio
 
 -- ---- order
 
-abbrev pub is_left_matra : Item → Bool
-is_left_matra x = x.category == category.OT_VPre
+-- an item is a left matra: a vowel sign that is shown before its base (OpenType specification, Creating fonts for
+-- Myanmar: VPre)
+abbrev pub is_pre_base_vowel : Item → Bool
+is_pre_base_vowel x = x.category == category.OT_VPre
 
 -- how many items in front are left matras with their selectors, once they are sorted
 abbrev pub matras_of : List Item → ℕ
@@ -99,15 +101,15 @@ matras_of xs = prefix_len (λ (x : Item). x.auxiliary == position.POS_PRE_M) xs
 
 -- a syllable has two left matras or more
 abbrev pub has_two_matras : List Item → Bool
-has_two_matras xs = nat_lt 1 (length (filter is_left_matra xs))
+has_two_matras xs = nat_lt 1 (length (filter is_pre_base_vowel xs))
 
 -- two or more left matras are reversed, each with what stands after it up to the next
 abbrev pub matras_reversed : List Item → Arrangement
-matras_reversed xs = if has_two_matras (take (matras_of xs) xs) then within 0 (matras_of xs) (groups_reversed is_left_matra) xs else eventless_arrangement xs
+matras_reversed xs = if has_two_matras (take (matras_of xs) xs) then within 0 (matras_of xs) (groups_reversed is_pre_base_vowel) xs else eventless_arrangement xs
 
 -- a Myanmar syllable in its order (HarfBuzz: initial_reordering_consonant_syllable)
 abbrev pub myanmar_reordered : List Item → Arrangement
-myanmar_reordered xs = and_arranged (and_arranged (items_with_positions xs) sorted_by_place) matras_reversed
+myanmar_reordered xs = and_arranged (and_arranged (items_with_positions xs) auxiliary_order) matras_reversed
 
 -- a syllable, reordered if the kind in its first item's byte is reordered
 abbrev pub myanmar_first : List Item → Option Item → Arrangement

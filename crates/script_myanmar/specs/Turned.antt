@@ -1,4 +1,4 @@
--- Glyphs at their places.
+-- Glyphs with their positions around the base.
 use Rattle.std.specs.Prelude.{ℕ, List, [], ◌∷◌}
 use Rattle.buffer_glyphs.specs.declared.info.hb_glyph_info_t.{hb_glyph_info_t}
 

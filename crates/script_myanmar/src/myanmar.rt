@@ -1,4 +1,5 @@
-//! Myanmar: the glyphs of a syllable go to their places around its base.
+//! Myanmar: the glyphs of a syllable get positions around its base and are sorted by them
+//! (rustybuzz: hb/ot_shaper_myanmar.rs).
 ghost use Rattle.std.specs.Prelude.{◌≡◌, ◌≤◌, ◌++◌, length, map, take, drop, slice_range, OnOk};
 ghost use Rattle.buffer_glyphs.specs.Items.{item_of, strip};
 ghost use Rattle.buffer_core.specs.Readings.{always};
@@ -7,14 +8,14 @@ ghost use Rattle.buffer_stages.specs.Ready.{IsReady};
 ghost use Rattle.buffer_stages.specs.Stages.{IsFollowed};
 ghost use Rattle.buffer_stages.specs.Rewriting.{by_syllable};
 ghost use Rattle.buffer_stages.specs.SyllableBuffers.{IsRewritten, with_rule};
-ghost use Rattle.script_myanmar.specs.Myanmar.{items_with_positions, has_two_matras, is_left_matra, matras_of, matras_reversed, myanmar_positions, myanmar_reordered, myanmar_syllable};
+ghost use Rattle.script_myanmar.specs.Myanmar.{items_with_positions, has_two_matras, is_pre_base_vowel, matras_of, matras_reversed, myanmar_positions, myanmar_reordered, myanmar_syllable};
 ghost use Rattle.script_myanmar.specs.Turned.{glyphs_at};
 
-use crate::myanmar_positions::set_places;
+use crate::myanmar_positions::set_positions;
 use buffer_core::buffer::hb_buffer_t;
 use buffer_glyphs::info::hb_glyph_info_t;
 use buffer_stages::groups::{GroupRule, reverse_groups};
-use buffer_stages::sorting::sort_by_place;
+use buffer_stages::sorting::sort_by_auxiliary;
 use buffer_stages::walk::{SyllableRule, each_syllable};
 use script_categories::hb_ot_script_shaper_t::MYANMAR_SHAPER;
 use script_categories::ot_category_t::OT_VPre;
@@ -79,30 +80,30 @@ fn reorder_syllable(
     ensures { OnOk result (IsRewritten (myanmar_reordered (slice_range (items_of buffer.old) start end)) start end
         buffer.old buffer.new) }
 {
-    place_syllable(buffer, start, end);
-    sort_by_place(alloc, buffer, start, end)?;
+    position_syllable(buffer, start, end);
+    sort_by_auxiliary(alloc, buffer, start, end)?;
     reverse_matras(buffer, start, end);
     Ok(())
 }
 
-fn place_syllable(buffer: &mut hb_buffer_t, start: usize, end: usize)
+fn position_syllable(buffer: &mut hb_buffer_t, start: usize, end: usize)
     requires ready { IsReady buffer.old }
     requires ordered { start ≤ end }
     requires within { end ≤ length (all_glyphs buffer.old) }
     ensures { IsRewritten (items_with_positions (slice_range (items_of buffer.old) start end)) start end buffer.old buffer.new }
 {
     let known = buffer.known_order();
-    place_within(buffer.info_slice_mut(), start, end);
+    set_positions_within(buffer.info_slice_mut(), start, end);
     buffer.keep_order(known);
 }
 
-fn place_within(glyphs: &mut [hb_glyph_info_t], start: usize, end: usize)
+fn set_positions_within(glyphs: &mut [hb_glyph_info_t], start: usize, end: usize)
     requires ordered { start ≤ end }
     requires within { end ≤ length glyphs.old }
     ensures { glyphs.new ≡ take start glyphs.old ++ glyphs_at (myanmar_positions (map (λ g. g.category)
         (slice_range glyphs.old start end))) (slice_range glyphs.old start end) ++ drop end glyphs.old }
 {
-    set_places(&mut glyphs[start..end]);
+    set_positions(&mut glyphs[start..end]);
 }
 
 fn reverse_matras(buffer: &mut hb_buffer_t, start: usize, end: usize)
@@ -139,7 +140,7 @@ fn has_two_matras(glyphs: &[hb_glyph_info_t]) -> bool
 {
     let mut is_second = false;
     for glyph in glyphs {
-        if is_left_matra(glyph) {
+        if is_pre_base_vowel(glyph) {
             if is_second {
                 return true;
             }
@@ -149,8 +150,8 @@ fn has_two_matras(glyphs: &[hb_glyph_info_t]) -> bool
     false
 }
 
-fn is_left_matra(glyph: &hb_glyph_info_t) -> bool
-    ensures { result ≡ is_left_matra (item_of glyph.now) }
+fn is_pre_base_vowel(glyph: &hb_glyph_info_t) -> bool
+    ensures { result ≡ is_pre_base_vowel (item_of glyph.now) }
 {
     glyph.category == OT_VPre
 }
@@ -159,11 +160,11 @@ fn is_left_matra(glyph: &hb_glyph_info_t) -> bool
 struct LeftMatras;
 
 impl GroupRule for LeftMatras {
-    ghost use Rattle.script_myanmar.specs.Myanmar.{is_left_matra};
+    ghost use Rattle.script_myanmar.specs.Myanmar.{is_pre_base_vowel};
 
-    ghost begins = { λ _. is_left_matra };
+    ghost begins = { λ _. is_pre_base_vowel };
 
     fn begins_group(&self, glyph: &hb_glyph_info_t) -> bool {
-        is_left_matra(glyph)
+        is_pre_base_vowel(glyph)
     }
 }

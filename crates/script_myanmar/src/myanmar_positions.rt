@@ -17,78 +17,78 @@ use script_categories::ot_position_t::{
 
 /// Sets the positions of a syllable's glyphs: a kinzi at the start is positioned after the base, which is the first
 /// consonant, else the first glyph after the kinzi.
-pub(crate) fn set_places(glyphs: &mut [hb_glyph_info_t])
+pub(crate) fn set_positions(glyphs: &mut [hb_glyph_info_t])
     ensures { glyphs.new ≡ glyphs_at (myanmar_positions (map (λ g. g.category) glyphs.old)) glyphs.old }
 {
     let kinzi = kinzi(glyphs);
-    place_all(&mut glyphs[..kinzi], POS_AFTER_MAIN);
-    place_based(&mut glyphs[kinzi..]);
+    position_all(&mut glyphs[..kinzi], POS_AFTER_MAIN);
+    position_by_base(&mut glyphs[kinzi..]);
 }
 
-fn place_based(glyphs: &mut [hb_glyph_info_t])
+fn position_by_base(glyphs: &mut [hb_glyph_info_t])
     ensures { glyphs.new ≡ glyphs_at (positions_by_base (map (λ g. g.category) glyphs.old)) glyphs.old }
 {
     let base = base_of(glyphs);
-    place_all(&mut glyphs[..base], POS_PRE_C);
-    place_from_base(&mut glyphs[base..]);
+    position_all(&mut glyphs[..base], POS_PRE_C);
+    position_from_base(&mut glyphs[base..]);
 }
 
-fn place_from_base(glyphs: &mut [hb_glyph_info_t])
+fn position_from_base(glyphs: &mut [hb_glyph_info_t])
     ensures { glyphs.new ≡ glyphs_at (from_base (map (λ g. g.category) glyphs.old)) glyphs.old }
 {
     if glyphs.is_empty() {
         return;
     }
-    place_all(&mut glyphs[..1], POS_BASE_C);
-    place_rest(&mut glyphs[1..]);
+    position_all(&mut glyphs[..1], POS_BASE_C);
+    position_rest(&mut glyphs[1..]);
 }
 
 #[tactic(auto, using(crate::proofs::Placing::all_one))]
-fn place_all(glyphs: &mut [hb_glyph_info_t], place: Position)
-    ensures { glyphs.new ≡ glyphs_at (replicate (length glyphs.old) place) glyphs.old }
+fn position_all(glyphs: &mut [hb_glyph_info_t], at: Position)
+    ensures { glyphs.new ≡ glyphs_at (replicate (length glyphs.old) at) glyphs.old }
 {
     for glyph in glyphs.iter_mut() {
-        *glyph = at_place(*glyph, place);
+        *glyph = glyph_at(*glyph, at);
     }
 }
 
 #[tactic(auto, using(crate::proofs::Placing::placing_begun, crate::proofs::Placing::placing_done))]
-fn place_rest(glyphs: &mut [hb_glyph_info_t])
+fn position_rest(glyphs: &mut [hb_glyph_info_t])
     ensures { glyphs.new ≡ glyphs_at (positions_after position.POS_AFTER_MAIN position.POS_BASE_C
         (map (λ g. g.category) glyphs.old)) glyphs.old }
 {
     let mut now = POS_AFTER_MAIN;
     let mut before = POS_BASE_C;
     for glyph in glyphs.iter_mut() {
-        before = place_of(now, before, glyph.category);
-        now = place_after(now, glyph.category);
-        *glyph = at_place(*glyph, before);
+        before = position_of(now, before, glyph.category);
+        now = position_after(now, glyph.category);
+        *glyph = glyph_at(*glyph, before);
     }
 }
 
-fn at_place(glyph: hb_glyph_info_t, place: Position) -> hb_glyph_info_t
-    ensures { result ≡ glyph_at place glyph }
+fn glyph_at(glyph: hb_glyph_info_t, at: Position) -> hb_glyph_info_t
+    ensures { result ≡ glyph_at at glyph }
 {
     hb_glyph_info_t {
-        auxiliary: place,
+        auxiliary: at,
         ..glyph
     }
 }
 
 /// The position of a glyph after the base, by the position that the walk is in and that of the glyph before it.
-fn place_of(now: Position, before: Position, category: Category) -> Position
+fn position_of(now: Position, before: Position, category: Category) -> Position
     ensures { result ≡ position_of now before category }
 {
     match category {
         OT_MR => POS_PRE_C,
         OT_VPre => POS_PRE_M,
         OT_VS => before,
-        _ => place_there(now, category),
+        _ => position_there(now, category),
     }
 }
 
 /// The position that the walk is in after a glyph.
-fn place_after(now: Position, category: Category) -> Position
+fn position_after(now: Position, category: Category) -> Position
     ensures { result ≡ position_after now category }
 {
     if matches!(category, OT_MR | OT_VPre | OT_VS) {
@@ -97,22 +97,22 @@ fn place_after(now: Position, category: Category) -> Position
     if now == POS_BELOW_C && category == OT_A {
         return now;
     }
-    place_there(now, category)
+    position_there(now, category)
 }
 
-fn place_there(now: Position, category: Category) -> Position
+fn position_there(now: Position, category: Category) -> Position
     ensures { result ≡ position_there now category }
 {
     if now == POS_AFTER_MAIN && category == OT_VBlw {
         return POS_BELOW_C;
     }
     if now == POS_BELOW_C {
-        return place_below(category);
+        return position_below(category);
     }
     now
 }
 
-fn place_below(category: Category) -> Position
+fn position_below(category: Category) -> Position
     ensures { result ≡ position_below category }
 {
     match category {

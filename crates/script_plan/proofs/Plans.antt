@@ -1,16 +1,16 @@
 -- A plan of shapers of a kind, made.
 use Rattle.std.proofs.Common.{◌≡◌, List, ap, subst, ◌∙◌}
-use Rattle.std.specs.Prelude.{Option}
+use Rattle.std.specs.Prelude.{Bool, Option}
 use Rattle.buffer_common.specs.declared.tag.Tag.{Tag}
 use Rattle.buffer_common.specs.declared.script.Script.{Script}
 use Rattle.buffer_common.specs.declared.direction.Direction.{Direction}
-use Rattle.buffer_features.specs.declared.feature.Feature.{Feature}
+use Rattle.buffer_tags.specs.declared.feature.Feature.{Feature}
 use Rattle.layout_face.specs.declared.parts.FaceParts.{FaceParts}
 use Rattle.layout_map.specs.Compiled.{MapRequests, OtMapValue, compiled_map}
 use Rattle.script_plan.specs.declared.plan.PlanChoices.{PlanChoices}
 use Rattle.script_plan.specs.declared.plan.hb_ot_shape_plan_t.{hb_ot_shape_plan_t}
 use Rattle.script_plan.specs.declared.plan.hb_script_plan_t.{hb_script_plan_t}
-use Rattle.script_plan.specs.Plans.{IsPlanned, choices, gsub_script, nothing_asked, planned_shaper, text_map, text_plan}
+use Rattle.script_plan.specs.Plans.{IsPlanned, choices, choices_of_planner, gsub_script, nothing_asked, planned_shaper, text_map, text_plan, zeroes_marks}
 use Rattle.script_plan.specs.Requests.{Asking, with_requests}
 use Rattle.script_plan.specs.Traits.{ShaperKind}
 
@@ -56,8 +56,12 @@ module _ {S D : Type 0} (kind : ShaperKind S D) (font : FaceParts) (languages : 
         features = features;
       }
 
-pub choices_by : {S D : Type 0} (kind : ShaperKind S D) (font face : FaceParts) (shaper by : S) (m : OtMapValue) (c : PlanChoices) → shaper ≡ by → face ≡ font → c ≡ choices (kind.traits shaper) face m → c ≡ choices (kind.traits by) font m
-choices_by kind font face shaper by m c same_shaper same_face is = is ∙ ap (λ sh. choices (kind.traits sh) face m) same_shaper ∙ ap (λ f. choices (kind.traits by) f m) same_face
+-- a planner that has the shaper's choices of marks, of one shaper and one font
+pub choices_by : {S D : Type 0} (kind : ShaperKind S D) (font face : FaceParts) (shaper by : S) (zero fallback : Bool) (m : OtMapValue) (c : PlanChoices) → shaper ≡ by → face ≡ font
+    → zero ≡ zeroes_marks (kind.traits by) → fallback ≡ (kind.traits by).fallback_position → c ≡ choices_of_planner zero fallback (kind.traits shaper) face m → c ≡ choices (kind.traits by) font m
+choices_by kind font face shaper by zero fallback m c same_shaper same_face zeroed positioned is =
+    is ∙ ap (λ sh. choices_of_planner zero fallback (kind.traits sh) face m) same_shaper ∙ ap (λ f. choices_of_planner zero fallback (kind.traits by) f m) same_face
+    ∙ ap (λ z. choices_of_planner z fallback (kind.traits by) font m) zeroed ∙ ap (λ b. choices_of_planner (zeroes_marks (kind.traits by)) b (kind.traits by) font m) positioned
 
 pub data_by : {S D : Type 0} (kind : ShaperKind S D) (shaper by : S) (m : OtMapValue) (s t : Option Script) (kept : D) → shaper ≡ by → s ≡ t → kept ≡ kind.data_of shaper m s → kept ≡ kind.data_of by m t
 data_by kind shaper by m s t kept same_shaper same_script is = is ∙ ap (λ sh. kind.data_of sh m s) same_shaper ∙ ap (λ x. kind.data_of by m x) same_script

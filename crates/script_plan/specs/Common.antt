@@ -5,8 +5,8 @@ use Rattle.buffer_common.specs.Tag.{tag_of}
 use Rattle.buffer_common.specs.declared.direction.Direction.{Direction}
 use Rattle.buffer_common.specs.declared.direction.Direction.TheVariants.{LeftToRight, RightToLeft}
 use Rattle.buffer_common.specs.Direction.{is_horizontal}
-use Rattle.buffer_features.specs.declared.feature.Feature as text
-use Rattle.buffer_features.specs.Feature.{is_global}
+use Rattle.buffer_tags.specs.declared.feature.Feature as text
+use Rattle.buffer_tags.specs.Feature.{is_global}
 use Rattle.layout_map_features.specs.declared.flags.TheConstants.{F_NONE, F_GLOBAL, F_HAS_FALLBACK, F_MANUAL_JOINERS, F_GLOBAL_SEARCH, F_RANDOM}
 use Rattle.layout_map.specs.declared.request.MapRequest.{MapRequest}
 use Rattle.layout_map.specs.declared.request.MapRequest.TheVariants.{Feature}

@@ -4,7 +4,7 @@ use Rattle.buffer_common.specs.declared.tag.Tag.{Tag}
 use Rattle.buffer_common.specs.declared.script.Script.{Script}
 use Rattle.buffer_common.specs.declared.direction.Direction.{Direction}
 use Rattle.buffer_common.specs.ScriptTags.{wanted_tags}
-use Rattle.buffer_features.specs.declared.feature.Feature.{Feature}
+use Rattle.buffer_tags.specs.declared.feature.Feature.{Feature}
 use Rattle.layout_face.specs.declared.parts.FaceParts.{FaceParts}
 use Rattle.layout_map.specs.Compiled.{MapRequests, OtMapValue, compiled_map, no_requests}
 use Rattle.layout_map.specs.Chosen.{script_tag}
@@ -42,18 +42,30 @@ disables_gpos (Some wanted) chosen = not (is_chosen wanted chosen)
 abbrev pub uses_gpos : ShaperTraits → FaceParts → OtMapValue → Bool
 uses_gpos traits font m = is_some font.gpos && not (disables_gpos traits.gpos_tag m.tables.gpos.chosen_script)
 
--- the choices of a plan, beside its map (HarfBuzz: hb_ot_shape_planner_t::compile)
+-- a shaper zeroes the advances of marks, before or after positioning
+abbrev pub zeroes_marks : ShaperTraits → Bool
+zeroes_marks traits = not (traits.zero_width_marks == HB_OT_SHAPE_ZERO_WIDTH_MARKS_NONE)
+
+-- the choices of a plan, beside its map, where its planner has the shaper's choices of marks
 abbrev pub choices : ShaperTraits → FaceParts → OtMapValue → PlanChoices
 choices traits font m = record {
   has_frac = has_fractions m;
   has_vert = has_mask (codes "vert") m;
   has_gpos_mark = has_mask (codes "mark") m;
-  zero_marks = not (traits.zero_width_marks == HB_OT_SHAPE_ZERO_WIDTH_MARKS_NONE);
+  zero_marks = zeroes_marks traits;
   fallback_glyph_classes = not (is_some font.gdef.classes);
   fallback_mark_positioning = not (uses_gpos traits font m) && traits.fallback_position;
   adjust_mark_positioning_when_zeroing = not (uses_gpos traits font m);
   apply_gpos = uses_gpos traits font m;
   apply_fallback_kern = not (uses_gpos traits font m);
+}
+
+-- the choices of a plan by its planner's two fields: whether marks' advances are zeroed, and whether marks are positioned
+-- by glyph extents where GPOS is not applied (HarfBuzz: hb_ot_shape_planner_t::compile)
+abbrev pub choices_of_planner : (zero_marks fallback_position : Bool) → ShaperTraits → FaceParts → OtMapValue → PlanChoices
+choices_of_planner zero_marks fallback_position traits font m = record (choices traits font m) {
+  zero_marks = zero_marks;
+  fallback_mark_positioning = not (uses_gpos traits font m) && fallback_position;
 }
 
 -- the compiled map of a text's requests

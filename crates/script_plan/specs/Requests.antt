@@ -2,7 +2,7 @@
 use Rattle.std.specs.Prelude.{List, map, fold, Option}
 use Rattle.buffer_common.specs.declared.script.Script.{Script}
 use Rattle.buffer_common.specs.declared.direction.Direction.{Direction}
-use Rattle.buffer_features.specs.declared.feature.Feature.{Feature}
+use Rattle.buffer_tags.specs.declared.feature.Feature.{Feature}
 use Rattle.layout_map.specs.Compiled.{MapRequests}
 use Rattle.layout_map.specs.Requests.{with_map_request}
 use Rattle.script_plan.specs.Common.{first_requests, common_features_after, request_of}

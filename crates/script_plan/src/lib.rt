@@ -3,7 +3,9 @@
 #![tactic(auto)]
 
 pub mod common;
+pub mod data;
 mod fits;
+pub mod normal_mode;
 pub mod plan;
 pub mod planned;
 pub mod planner;

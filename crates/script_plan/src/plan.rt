@@ -8,7 +8,7 @@ use crate::planned::PlannedShaper;
 use buffer_common::direction::Direction;
 use buffer_common::script::Script;
 use buffer_common::tag::Tag;
-use buffer_features::feature::Feature;
+use buffer_tags::feature::Feature;
 use layout_map::map::hb_ot_map_t;
 
 /// The choices of a plan, beside its map.

@@ -2,12 +2,13 @@
 ghost use Rattle.std.specs.Prelude.{◌≡◌, ◌&&◌, IfOk, is_some};
 ghost use Rattle.std.specs.Option.{option_copied};
 ghost use Rattle.buffer_common.specs.ScriptTags.{wanted_language_tags};
-ghost use Rattle.script_plan.specs.Plans.{IsPlanned, choices, disables_gpos, gsub_script, has_fractions, nothing_asked, uses_gpos};
+ghost use Rattle.script_plan.specs.Plans.{IsPlanned, choices_of_planner, disables_gpos, gsub_script, has_fractions, nothing_asked, uses_gpos, zeroes_marks};
 ghost use Rattle.script_plan.specs.Requests.{with_requests};
 ghost use Rattle.layout_map.specs.Compiled.{compiled_map};
 ghost use Rattle.layout_map.specs.Masks.{has_mask};
 ghost use Rattle.std.specs.Prelude.{OnOk};
 
+use crate::data::hb_shape_data_t;
 use crate::plan::{PlanChoices, hb_ot_shape_plan_t, hb_script_plan_t};
 use crate::planned::{CategorizedShaper, HB_OT_SHAPE_ZERO_WIDTH_MARKS_NONE, PlannedShaper};
 use crate::{common, user};
@@ -17,11 +18,12 @@ use buffer_common::language_tags::LanguageTags;
 use buffer_common::script::Script;
 use buffer_common::script_tags::tags_from_script_and_language;
 use buffer_common::tag::Tag;
-use buffer_features::feature::Feature;
+use buffer_tags::feature::Feature;
 use layout_face::Face;
 use layout_map::builder::hb_ot_map_builder_t;
 use layout_map::map::hb_ot_map_t;
 use layout_map_features::per_table::TableIndex;
+use script_categories::SyllableSpans;
 use std::alloc::{AllocError, Global};
 
 /// Collects feature requests for a font, and compiles them into a plan.
@@ -31,6 +33,11 @@ pub struct hb_ot_shape_planner_t<'a, S: PlannedShaper> {
     pub direction: Direction,
     pub script: Option<Script>,
     pub ot_map: hb_ot_map_builder_t<'a>,
+    /// Whether the plan zeroes the advances of marks; a new planner has the shaper's choice.
+    pub script_zero_marks: bool,
+    /// Whether the plan positions marks by glyph extents where GPOS is not applied; a new planner has the shaper's
+    /// choice.
+    pub script_fallback_mark_positioning: bool,
     pub shaper: S,
 }
 
@@ -58,10 +65,10 @@ fn new_builder<'a, L: LanguageTags>(
 
 impl<'a, S: CategorizedShaper> hb_ot_shape_planner_t<'a, S> {
     /// A planner with the shaper that is chosen for the script and the font.
-    pub fn new<L: LanguageTags>(
+    pub fn new<P: SyllableSpans, L: LanguageTags>(
         alloc: Global,
         face: &'a Face,
-        languages: &L,
+        shape_data: hb_shape_data_t<'_, P, L>,
         direction: Direction,
         script: Option<Script>,
         language: Option<&Language>,
@@ -70,12 +77,14 @@ impl<'a, S: CategorizedShaper> hb_ot_shape_planner_t<'a, S> {
         ensures direction { result.direction ≡ direction }
         ensures script { result.script ≡ script }
         ensures shaper { result.shaper ≡ S.shaper_of script direction (gsub_script face.now script
-            (wanted_language_tags (L.tags_of languages.now) (option_copied language.entry))) }
+            (wanted_language_tags (L.tags_of shape_data.entry.languages.now) (option_copied language.entry))) }
+        ensures zero_marks { result.script_zero_marks ≡ zeroes_marks (S.traits result.shaper) }
+        ensures fallback { result.script_fallback_mark_positioning ≡ (S.traits result.shaper).fallback_position }
         ensures requests { result.ot_map
-            ≡ nothing_asked face.now script (wanted_language_tags (L.tags_of languages.now)
+            ≡ nothing_asked face.now script (wanted_language_tags (L.tags_of shape_data.entry.languages.now)
             (option_copied language.entry)) }
     {
-        let ot_map = new_builder(alloc, face, languages, script, language);
+        let ot_map = new_builder(alloc, face, shape_data.languages, script, language);
         let gsub_script = ot_map.chosen_script(TableIndex::GSUB);
         let shaper = S::categorize(script, direction, gsub_script);
         hb_ot_shape_planner_t {
@@ -83,6 +92,8 @@ impl<'a, S: CategorizedShaper> hb_ot_shape_planner_t<'a, S> {
             direction,
             script,
             ot_map,
+            script_zero_marks: zeroes_marks(&shaper),
+            script_fallback_mark_positioning: shaper.fallback_position(),
             shaper,
         }
     }
@@ -90,10 +101,10 @@ impl<'a, S: CategorizedShaper> hb_ot_shape_planner_t<'a, S> {
 
 impl<'a, S: PlannedShaper> hb_ot_shape_planner_t<'a, S> {
     /// A planner with the given shaper.
-    pub fn with_shaper<L: LanguageTags>(
+    pub fn with_shaper<P: SyllableSpans, L: LanguageTags>(
         alloc: Global,
         face: &'a Face,
-        languages: &L,
+        shape_data: hb_shape_data_t<'_, P, L>,
         direction: Direction,
         script: Option<Script>,
         language: Option<&Language>,
@@ -103,16 +114,20 @@ impl<'a, S: PlannedShaper> hb_ot_shape_planner_t<'a, S> {
         ensures direction { result.direction ≡ direction }
         ensures script { result.script ≡ script }
         ensures shaper { result.shaper ≡ shaper }
+        ensures zero_marks { result.script_zero_marks ≡ zeroes_marks (S.traits shaper) }
+        ensures fallback { result.script_fallback_mark_positioning ≡ (S.traits shaper).fallback_position }
         ensures requests { result.ot_map
-            ≡ nothing_asked face.now script (wanted_language_tags (L.tags_of languages.now)
+            ≡ nothing_asked face.now script (wanted_language_tags (L.tags_of shape_data.entry.languages.now)
             (option_copied language.entry)) }
     {
-        let ot_map = new_builder(alloc, face, languages, script, language);
+        let ot_map = new_builder(alloc, face, shape_data.languages, script, language);
         hb_ot_shape_planner_t {
             face,
             direction,
             script,
             ot_map,
+            script_zero_marks: zeroes_marks(&shaper),
+            script_fallback_mark_positioning: shaper.fallback_position(),
             shaper,
         }
     }
@@ -136,7 +151,8 @@ impl<'a, S: PlannedShaper> hb_ot_shape_planner_t<'a, S> {
         self.shaper.override_features(&mut self.ot_map, self.script)
     }
 
-    /// Compiles the requests into a plan, with the shaper's own data; the plan keeps the user's features.
+    /// Compiles the requests into a plan, with the shaper's own data; the plan keeps the user's features. The planner's
+    /// two fields decide whether marks' advances are zeroed and whether marks are positioned by glyph extents.
     pub fn compile(
         self,
         alloc: Global,
@@ -147,13 +163,18 @@ impl<'a, S: PlannedShaper> hb_ot_shape_planner_t<'a, S> {
         ensures shaper { IfOk result (λ plan. plan.shaper ≡ self.entry.shaper) }
         ensures map { IfOk result (λ plan. plan.script_plan.map ≡ compiled_map self.entry.ot_map) }
         ensures choices { IfOk result (λ plan. plan.script_plan.choices
-            ≡ choices (S.traits self.entry.shaper) self.entry.face.now (compiled_map self.entry.ot_map)) }
+            ≡ choices_of_planner self.entry.script_zero_marks self.entry.script_fallback_mark_positioning
+            (S.traits self.entry.shaper) self.entry.face.now (compiled_map self.entry.ot_map)) }
         ensures data { IfOk result (λ plan. plan.script_plan.plan_data
             ≡ S.data_of self.entry.shaper (compiled_map self.entry.ot_map) self.entry.script) }
         ensures features { IfOk result (λ plan. plan.user_features.items ≡ features.now) }
     {
         let map = self.ot_map.compile(alloc)?;
-        let choices = plan_choices(&self.shaper, self.face, &map);
+        let marks = MarkChoices {
+            zero_marks: self.script_zero_marks,
+            fallback_position: self.script_fallback_mark_positioning,
+        };
+        let choices = plan_choices(marks, &self.shaper, self.face, &map);
         let plan_data = self.shaper.create_data(alloc, &map, self.script)?;
         let mut user_features = Vec::new(alloc);
         user_features.extend_from_slice(features)?;
@@ -175,10 +196,10 @@ impl<S: CategorizedShaper> hb_ot_shape_plan_t<S> {
     /// The plan for texts of a direction, a script and a language in a font, with the shaper chosen for the script and
     /// the font, and with the user's features. One plan serves all such texts. It takes memory for the map's features
     /// and the lookups of each stage.
-    pub fn new<L: LanguageTags>(
+    pub fn new<P: SyllableSpans, L: LanguageTags>(
         alloc: Global,
         face: &Face,
-        languages: &L,
+        shape_data: hb_shape_data_t<'_, P, L>,
         direction: Direction,
         script: Option<Script>,
         language: Option<&Language>,
@@ -189,11 +210,11 @@ impl<S: CategorizedShaper> hb_ot_shape_plan_t<S> {
           traits = S.traits;
           asking = λ shaper. record { collects = S.collects shaper; overrides = S.overrides shaper };
           data_of = S.data_of;
-        }) face.now (wanted_language_tags (L.tags_of languages.now) (option_copied language.entry))
+        }) face.now (wanted_language_tags (L.tags_of shape_data.entry.languages.now) (option_copied language.entry))
             direction script features.now) }
     {
         let mut planner = hb_ot_shape_planner_t::new(
-            alloc, face, languages, direction, script, language,
+            alloc, face, shape_data, direction, script, language,
         );
         planner.collect_features(features)?;
         let plan = planner.compile(alloc, features)?;
@@ -226,17 +247,37 @@ fn uses_gpos<S: PlannedShaper>(shaper: &S, face: &Face, map: &hb_ot_map_t) -> bo
     face.gpos().is_some() && !disables_gpos(shaper.gpos_tag(), map.chosen_script(TableIndex::GPOS))
 }
 
-fn plan_choices<S: PlannedShaper>(shaper: &S, face: &Face, map: &hb_ot_map_t) -> PlanChoices
-    ensures { result ≡ choices (S.traits shaper.now) face.now map.now }
+/// Whether a shaper zeroes the advances of marks, before or after positioning.
+fn zeroes_marks<S: PlannedShaper>(shaper: &S) -> bool
+    ensures { result ≡ zeroes_marks (S.traits shaper.now) }
+{
+    shaper.zero_width_marks() != HB_OT_SHAPE_ZERO_WIDTH_MARKS_NONE
+}
+
+/// What a planner has decided of marks.
+#[derive(Clone, Copy)]
+struct MarkChoices {
+    zero_marks: bool,
+    fallback_position: bool,
+}
+
+fn plan_choices<S: PlannedShaper>(
+    marks: MarkChoices,
+    shaper: &S,
+    face: &Face,
+    map: &hb_ot_map_t,
+) -> PlanChoices
+    ensures { result
+        ≡ choices_of_planner marks.zero_marks marks.fallback_position (S.traits shaper.now) face.now map.now }
 {
     let apply_gpos = uses_gpos(shaper, face, map);
     PlanChoices {
         has_frac: has_fractions(map),
         has_vert: has_mask(map, b"vert"),
         has_gpos_mark: has_mask(map, b"mark"),
-        zero_marks: shaper.zero_width_marks() != HB_OT_SHAPE_ZERO_WIDTH_MARKS_NONE,
+        zero_marks: marks.zero_marks,
         fallback_glyph_classes: !face.has_glyph_classes(),
-        fallback_mark_positioning: !apply_gpos && shaper.fallback_position(),
+        fallback_mark_positioning: !apply_gpos && marks.fallback_position,
         adjust_mark_positioning_when_zeroing: !apply_gpos,
         apply_gpos,
         apply_fallback_kern: !apply_gpos,

@@ -3,7 +3,7 @@ ghost use Rattle.std.specs.Prelude.{◌≡◌, fold, map, OnOk};
 ghost use Rattle.layout_map.specs.Requests.{with_map_request};
 ghost use Rattle.script_plan.specs.Common.{request_of};
 
-use buffer_features::feature::Feature;
+use buffer_tags::feature::Feature;
 use layout_map::builder::hb_ot_map_builder_t;
 use layout_map::request::{MapRequest, add_request};
 use layout_map_features::flags::{F_GLOBAL, F_NONE};

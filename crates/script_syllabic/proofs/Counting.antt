@@ -23,19 +23,19 @@ categories_next i [] d lt = absurd (omega arith)
 categories_next zero (g ∷ gs) d lt = refl
 categories_next (suc i) (g ∷ gs) d lt = categories_next i gs d (omega arith)
 
-places_next : (at i : ℕ) (gs : List hb_glyph_info_t) (d : hb_glyph_info_t) → i < length gs
+indices_next : (at i : ℕ) (gs : List hb_glyph_info_t) (d : hb_glyph_info_t) → i < length gs
     → counted_indices_from at (strip (drop i gs)) ≡ if_counted (item_of (get_or gs i d)) (strip (drop (suc i) gs)) at ++ counted_indices_from (at + 1) (strip (drop (suc i) gs))
-places_next at i [] d lt = absurd (omega arith)
-places_next at zero (g ∷ gs) d lt = refl
-places_next at (suc i) (g ∷ gs) d lt = places_next at i gs d (omega arith)
+indices_next at i [] d lt = absurd (omega arith)
+indices_next at zero (g ∷ gs) d lt = refl
+indices_next at (suc i) (g ∷ gs) d lt = indices_next at i gs d (omega arith)
 
 -- what was counted before an index, and what is left
 pub record AreCounted (i : ℕ) (gs : List hb_glyph_info_t) (cs ps : List ℕ) : Type 0 where
   pub categories : cs ++ categories_counted (strip (drop i gs)) ≡ categories_counted (strip gs)
-  pub places : ps ++ counted_indices_from i (strip (drop i gs)) ≡ counted_indices_from 0 (strip gs)
+  pub indices : ps ++ counted_indices_from i (strip (drop i gs)) ≡ counted_indices_from 0 (strip gs)
 
 pub none_counted : (gs : List hb_glyph_info_t) → AreCounted 0 gs [] []
-none_counted gs = record { categories = refl; places = refl }
+none_counted gs = record { categories = refl; indices = refl }
 
 pub one_counted : (i : ℕ) (gs : List hb_glyph_info_t) (cs ps : List ℕ) (d : hb_glyph_info_t) → i < length gs → AreCounted i gs cs ps
     → AreCounted (i + 1) gs (cs ++ if_counted (item_of (get_or gs i d)) (strip (drop (i + 1) gs)) (get_or gs i d).category) (ps ++ if_counted (item_of (get_or gs i d)) (strip (drop (i + 1) gs)) i)
@@ -45,23 +45,23 @@ one_counted i gs cs ps d lt c =
       categories = append_assoc cs (if_counted (item_of (get_or gs i d)) (strip (drop (i + 1) gs)) (get_or gs i d).category) (categories_counted (strip (drop (i + 1) gs)))
           ∙ ap (λ m. cs ++ (if_counted (item_of (get_or gs i d)) (strip (drop m gs)) (get_or gs i d).category ++ categories_counted (strip (drop m gs)))) n
           ∙ ap (λ ys. cs ++ ys) (sym (categories_next i gs d lt)) ∙ c.categories;
-      places = append_assoc ps (if_counted (item_of (get_or gs i d)) (strip (drop (i + 1) gs)) i) (counted_indices_from (i + 1) (strip (drop (i + 1) gs)))
+      indices = append_assoc ps (if_counted (item_of (get_or gs i d)) (strip (drop (i + 1) gs)) i) (counted_indices_from (i + 1) (strip (drop (i + 1) gs)))
           ∙ ap (λ m. ps ++ (if_counted (item_of (get_or gs i d)) (strip (drop m gs)) i ++ counted_indices_from (i + 1) (strip (drop m gs)))) n
-          ∙ ap (λ ys. ps ++ ys) (sym (places_next i i gs d lt)) ∙ c.places;
+          ∙ ap (λ ys. ps ++ ys) (sym (indices_next i i gs d lt)) ∙ c.indices;
     }
 
 pub all_counted : (i : ℕ) (gs : List hb_glyph_info_t) (cs ps : List ℕ) → length gs ≤ i → AreCounted i gs cs ps → (cs ≡ categories_counted (strip gs)) × (ps ≡ counted_indices_from 0 (strip gs))
 all_counted i gs cs ps le c =
     let none = drop_all i gs le in (
       sym (ap (λ ys. cs ++ categories_counted (strip ys)) none ∙ append-nil cs) ∙ c.categories,
-      sym (ap (λ ys. ps ++ counted_indices_from i (strip ys)) none ∙ append-nil ps) ∙ c.places,
+      sym (ap (λ ys. ps ++ counted_indices_from i (strip ys)) none ∙ append-nil ps) ∙ c.indices,
     )
 
--- ---- places
+-- ---- indices
 
 -- the index of an item, counted or not, or the list's end
-abbrev place_if : Bool → ℕ → List Item → ℕ → ℕ → ℕ
-place_if t at xs end i = index_or_end ((if t then at ∷ [] else []) ++ counted_indices_from (at + 1) xs) end i
+abbrev index_if : Bool → ℕ → List Item → ℕ → ℕ → ℕ
+index_if t at xs end i = index_or_end ((if t then at ∷ [] else []) ++ counted_indices_from (at + 1) xs) end i
 
 further : (at n : ℕ) → at + suc n ≡ at + 1 + n
 further at n = omega arith
@@ -70,7 +70,7 @@ pub place_most : (at : ℕ) (xs : List Item) (i : ℕ) → index_or_end (counted
 place_most at [] i = omega arith
 place_most at (x ∷ xs) i = subst (λ end. index_or_end (counted_indices_from at (x ∷ xs)) end i ≤ end) (sym (further at (length xs))) (by_test (place_most (at + 1) xs) (is_counted x xs) i)
   where
-    by_test : ((j : ℕ) → index_or_end (counted_indices_from (at + 1) xs) (at + 1 + length xs) j ≤ at + 1 + length xs) → (t : Bool) (i : ℕ) → place_if t at xs (at + 1 + length xs) i ≤ at + 1 + length xs
+    by_test : ((j : ℕ) → index_or_end (counted_indices_from (at + 1) xs) (at + 1 + length xs) j ≤ at + 1 + length xs) → (t : Bool) (i : ℕ) → index_if t at xs (at + 1 + length xs) i ≤ at + 1 + length xs
     by_test later true zero = omega arith
     by_test later true (suc i) = later i
     by_test later false i = later i
@@ -79,18 +79,18 @@ place_least : (at : ℕ) (xs : List Item) (i : ℕ) → at ≤ index_or_end (cou
 place_least at [] i = omega arith
 place_least at (x ∷ xs) i = subst (λ end. at ≤ index_or_end (counted_indices_from at (x ∷ xs)) end i) (sym (further at (length xs))) (by_test (place_least (at + 1) xs) (is_counted x xs) i)
   where
-    by_test : ((j : ℕ) → at + 1 ≤ index_or_end (counted_indices_from (at + 1) xs) (at + 1 + length xs) j) → (t : Bool) (i : ℕ) → at ≤ place_if t at xs (at + 1 + length xs) i
+    by_test : ((j : ℕ) → at + 1 ≤ index_or_end (counted_indices_from (at + 1) xs) (at + 1 + length xs) j) → (t : Bool) (i : ℕ) → at ≤ index_if t at xs (at + 1 + length xs) i
     by_test later true zero = omega arith
     by_test later true (suc i) = (let le = later i in omega (arith, le))
     by_test later false i = (let le = later i in omega (arith, le))
 
-pub places_rise : (at : ℕ) (xs : List Item) (i j : ℕ) → i ≤ j → index_or_end (counted_indices_from at xs) (at + length xs) i ≤ index_or_end (counted_indices_from at xs) (at + length xs) j
-places_rise at [] i j le = omega arith
-places_rise at (x ∷ xs) i j le =
-    subst (λ end. index_or_end (counted_indices_from at (x ∷ xs)) end i ≤ index_or_end (counted_indices_from at (x ∷ xs)) end j) (sym (further at (length xs))) (by_test (places_rise (at + 1) xs) (place_least (at + 1) xs) (is_counted x xs) i j le)
+pub indices_rise : (at : ℕ) (xs : List Item) (i j : ℕ) → i ≤ j → index_or_end (counted_indices_from at xs) (at + length xs) i ≤ index_or_end (counted_indices_from at xs) (at + length xs) j
+indices_rise at [] i j le = omega arith
+indices_rise at (x ∷ xs) i j le =
+    subst (λ end. index_or_end (counted_indices_from at (x ∷ xs)) end i ≤ index_or_end (counted_indices_from at (x ∷ xs)) end j) (sym (further at (length xs))) (by_test (indices_rise (at + 1) xs) (place_least (at + 1) xs) (is_counted x xs) i j le)
   where
     by_test : ((k l : ℕ) → k ≤ l → index_or_end (counted_indices_from (at + 1) xs) (at + 1 + length xs) k ≤ index_or_end (counted_indices_from (at + 1) xs) (at + 1 + length xs) l) → ((k : ℕ) → at + 1 ≤ index_or_end (counted_indices_from (at + 1) xs) (at + 1 + length xs) k)
-        → (t : Bool) (i j : ℕ) → i ≤ j → place_if t at xs (at + 1 + length xs) i ≤ place_if t at xs (at + 1 + length xs) j
+        → (t : Bool) (i j : ℕ) → i ≤ j → index_if t at xs (at + 1 + length xs) i ≤ index_if t at xs (at + 1 + length xs) j
     by_test later least true zero zero le = omega arith
     by_test later least true zero (suc j) le = (let low = least j in omega (arith, low))
     by_test later least true (suc i) zero le = absurd (omega (arith, le))
@@ -104,7 +104,7 @@ rises gs ps end e f i j le =
     let xs = strip gs in
     let P : List ℕ → ℕ → Type 0 = λ qs n. index_or_end qs n i ≤ index_or_end qs n j in
     let n : end ≡ 0 + length xs = omega (arith, f, length-map gs item_of) in
-    subst (λ qs. P qs end) (sym e) (subst (P (counted_indices_from 0 xs)) (sym n) (places_rise 0 xs i j le))
+    subst (λ qs. P qs end) (sym e) (subst (P (counted_indices_from 0 xs)) (sym n) (indices_rise 0 xs i j le))
 
 pub ends_within : (gs : List hb_glyph_info_t) (ps : List ℕ) (end i : ℕ) (s : Sides) → gs ≡ all_glyphs s → ps ≡ counted_indices_from 0 (strip gs) → end ≡ length gs → index_or_end ps end i ≤ length (all_glyphs s)
 ends_within gs ps end i s same e f =

@@ -9,7 +9,7 @@ use Rattle.buffer_glyphs.specs.declared.info.hb_glyph_info_t.{hb_glyph_info_t}
 use Rattle.buffer_glyphs.specs.Items.{Item, item_of, strip, without_flags}
 use Rattle.buffer_glyphs.specs.Origins.{origin_of, origins}
 use Rattle.buffer_core.specs.Readings.{always}
-use Rattle.buffer_groups.specs.Runs.{run_length}
+use Rattle.buffer_lists.specs.Runs.{run_length}
 use Rattle.buffer_core.specs.Sides.{Sides, all_glyphs, items_of}
 use Rattle.buffer_core.specs.Lending.{with_refilled}
 use Rattle.buffer_stages.specs.Ready.{IsReady}

@@ -21,12 +21,12 @@ use Rattle.buffer_stages.specs.Rewriting.{within, in_syllables}
 use Rattle.buffer_stages.specs.Parts.{items_with_features}
 use Rattle.buffer_stages.specs.SyllableBuffers.{with_rule}
 use Rattle.buffer_stages.specs.SyllableLaws.{IsPermuted, numbers_of}
-use Rattle.buffer_stages.specs.Lemmas.Numbers.{joined, mapped_permutes, masked_permutes, runs_join, same_numbers, then_permutes, within_permutes}
+use Rattle.buffer_stages.specs.Lemmas.Numbers.{concatenation, mapped_permutes, masked_permutes, runs_join, same_numbers, then_permutes, within_permutes}
 use Rattle.script_syllabic.specs.Bytes.{bytes_of, bytes_set, is_known, itself, one_syllable, syllables_set, with_byte}
 use Rattle.script_syllabic.specs.declared.forms.FormMasks.{FormMasks}
 use Rattle.script_syllabic.specs.Features.{each_formed, first_joins, form_of, syllable_with_form, has_feature, joins, pref_recorded, with_first_recorded, reph_size, rphf_masked, rphf_recorded, topography, with_category, with_form}
 use Rattle.script_syllabic.specs.Spans.{categories_counted, index_or_end, counted_index, counted_indices_from, universal_set}
-use Rattle.script_syllabic.proofs.Counting.{places_rise}
+use Rattle.script_syllabic.proofs.Counting.{indices_rise}
 use Rattle.script_syllabic.specs.Quiet.{IsQuiet}
 use Rattle.script_syllabic.proofs.Quiet.{rule_quiet}
 
@@ -63,12 +63,12 @@ formed_numbers masks before behind s = by_test (joins s)
     by_test true = same s
     by_test false = refl
 
-each_numbers : (masks : FormMasks) (before : Bool) (ss : List (List Item)) → numbers_of (each_formed masks before ss) ≡ numbers_of (joined ss)
+each_numbers : (masks : FormMasks) (before : Bool) (ss : List (List Item)) → numbers_of (each_formed masks before ss) ≡ numbers_of (concatenation ss)
 each_numbers masks before [] = refl
 each_numbers masks before (s ∷ ss) =
     map-append (λ (x : Item). x.number) (syllable_with_form masks before s (first_joins ss)) (each_formed masks (joins s) ss)
     ∙ ap (λ ns. ns ++ numbers_of (each_formed masks (joins s) ss)) (formed_numbers masks before (first_joins ss) s)
-    ∙ ap (λ ns. numbers_of s ++ ns) (each_numbers masks (joins s) ss) ∙ sym (map-append (λ (x : Item). x.number) s (joined ss))
+    ∙ ap (λ ns. numbers_of s ++ ns) (each_numbers masks (joins s) ss) ∙ sym (map-append (λ (x : Item). x.number) s (concatenation ss))
 
 pub topography_permutes : (masks : FormMasks) (xs : List Item) → IsPermuted xs (topography masks xs)
 topography_permutes masks xs = same_numbers xs (topography masks xs) (each_numbers masks false (in_syllables xs) ∙ ap numbers_of (runs_join (λ (x : Item). x.syllable) xs))
@@ -109,7 +109,7 @@ universal_set_quiet span_of a b after f =
     let xs = items_of a in
     let cs = categories_counted xs in
     let none : 0 + length xs ≡ length xs = omega arith in
-    let rises : (i j : ℕ) → i ≤ j → counted_index xs i ≤ counted_index xs j = λ i j le. subst (λ n. index_or_end (counted_indices_from 0 xs) n i ≤ index_or_end (counted_indices_from 0 xs) n j) none (places_rise 0 xs i j le) in
+    let rises : (i j : ℕ) → i ≤ j → counted_index xs i ≤ counted_index xs j = λ i j le. subst (λ n. index_or_end (counted_indices_from 0 xs) n i ≤ index_or_end (counted_indices_from 0 xs) n j) none (indices_rise 0 xs i j le) in
     record {
       followed = f;
       numbers = bytes_quiet UNIVERSAL_SHAPER (counted_index xs) (syllables (span_of UNIVERSAL_SHAPER cs) (length cs)) a b

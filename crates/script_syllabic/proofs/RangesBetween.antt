@@ -9,7 +9,7 @@ use Rattle.buffer_core.specs.Sides.{Settings, Sides, origins_by, settings_of, vi
 use Rattle.buffer_stages.specs.Ready.{IsReady}
 use Rattle.buffer_stages.specs.Stages.{IsFollowed}
 use Rattle.buffer_glyphs.specs.Rewriting.{Arrangement, shifted_event}
-use Rattle.buffer_stages.specs.Brought.{frame_of}
+use Rattle.buffer_stages.specs.Appending.{frame_of}
 use Rattle.buffer_stages.specs.Rearranged.{IsRearranged}
 use Rattle.buffer_stages.specs.Moves.{with_range_moved}
 use Rattle.buffer_stages.specs.Lemmas.Moves.{moved_front}

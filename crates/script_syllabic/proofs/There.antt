@@ -8,16 +8,16 @@ use Rattle.buffer_glyphs.specs.declared.info.hb_glyph_info_t.{hb_glyph_info_t}
 use Rattle.buffer_glyphs.specs.Items.{item_of, strip}
 use Rattle.buffer_stages.specs.Lemmas.Parts.{range_size}
 
-ranged : {X : Type 0} (start end place : ℕ) (d : X) (xs : List X) → place < end - start → get_or (slice_range xs start end) place d ≡ get_or xs (start + place) d
-ranged start end place d xs lt = get_or-take (end - start) (drop start xs) place d lt ∙ get_or-drop start xs place d
+ranged : {X : Type 0} (start end index : ℕ) (d : X) (xs : List X) → index < end - start → get_or (slice_range xs start end) index d ≡ get_or xs (start + index) d
+ranged start end index d xs lt = get_or-take (end - start) (drop start xs) index d lt ∙ get_or-drop start xs index d
 
-pub there : (gs : List hb_glyph_info_t) (start end place : ℕ) (d : hb_glyph_info_t) → start ≤ end → end ≤ length gs → place < end - start → slice_get (slice_range (strip gs) start end) place ≡ Some (item_of (get_or gs (start + place) d))
-there gs start end place d le fits lt =
+pub there : (gs : List hb_glyph_info_t) (start end index : ℕ) (d : hb_glyph_info_t) → start ≤ end → end ≤ length gs → index < end - start → slice_get (slice_range (strip gs) start end) index ≡ Some (item_of (get_or gs (start + index) d))
+there gs start end index d le fits lt =
     let len = length-map gs item_of in
-    let inside : place < length (slice_range (strip gs) start end) = omega (arith, range_size start end (strip gs) le (omega (arith, len, fits)), lt) in
-    slice_get-get_or (slice_range (strip gs) start end) place (item_of d) inside ∙ ap Some (ranged start end place (item_of d) (strip gs) lt ∙ get_or_mapped item_of gs (start + place) d)
+    let inside : index < length (slice_range (strip gs) start end) = omega (arith, range_size start end (strip gs) le (omega (arith, len, fits)), lt) in
+    slice_get-get_or (slice_range (strip gs) start end) index (item_of d) inside ∙ ap Some (ranged start end index (item_of d) (strip gs) lt ∙ get_or_mapped item_of gs (start + index) d)
 
-pub none_there : (gs : List hb_glyph_info_t) (start end place : ℕ) → start ≤ end → end ≤ length gs → end - start ≤ place → slice_get (slice_range (strip gs) start end) place ≡ None
-none_there gs start end place le fits past =
+pub none_there : (gs : List hb_glyph_info_t) (start end index : ℕ) → start ≤ end → end ≤ length gs → end - start ≤ index → slice_get (slice_range (strip gs) start end) index ≡ None
+none_there gs start end index le fits past =
     let len = length-map gs item_of in
-    slice_get_past (slice_range (strip gs) start end) place (omega (arith, range_size start end (strip gs) le (omega (arith, len, fits)), past))
+    slice_get_past (slice_range (strip gs) start end) index (omega (arith, range_size start end (strip gs) le (omega (arith, len, fits)), past))

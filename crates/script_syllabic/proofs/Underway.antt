@@ -18,7 +18,7 @@ use Rattle.buffer_stages.specs.Ready.{IsReady}
 use Rattle.buffer_stages.specs.Stages.{IsFollowed}
 use Rattle.buffer_stages.specs.Lemmas.Written.{happened_followed}
 use Rattle.script_syllabic.specs.declared.circles.CircleRule.{CircleRule}
-use Rattle.script_syllabic.specs.Circles.{CircledItem, There, Inserted, Due, begins, circled_at_start, circle_event, circle_events, circle_item, circled_from, circled_items, circles_put, is_repha, with_circles}
+use Rattle.script_syllabic.specs.Circles.{CircledItem, There, Inserted, Due, begins, circled_at_start, circle_event, circle_events, circle_item, circled_rest, circled_items, circles_put, is_repha, with_circles}
 use Rattle.script_syllabic.specs.Rules.{IsCircled, IsTooLong}
 
 -- ---- what the list becomes where a syllable begins
@@ -28,39 +28,39 @@ there xs = map There xs
 
 -- a circle that is due comes in once the rephas are over
 due_passed : (r : CircleRule) (byte : ℕ) (xs : List Item) (n : ℕ) (c : Item)
-    → circled_from r xs byte (Some (record { rephas = n; circle = c })) ≡ there (take (prefix_len (is_repha r byte) xs) xs) ++ (Inserted (n + prefix_len (is_repha r byte) xs) c ∷ circled_from r (drop (prefix_len (is_repha r byte) xs) xs) byte None)
+    → circled_rest r xs byte (Some (record { rephas = n; circle = c })) ≡ there (take (prefix_len (is_repha r byte) xs) xs) ++ (Inserted (n + prefix_len (is_repha r byte) xs) c ∷ circled_rest r (drop (prefix_len (is_repha r byte) xs) xs) byte None)
 due_passed r byte [] n c = let e : n + 0 ≡ n = omega arith in rw e refl
 due_passed r byte (x ∷ xs) n c = by_test (is_repha r byte x) (due_passed r byte xs (suc n) c)
   where
     by_test : (t : Bool)
-        → circled_from r xs byte (Some (record { rephas = suc n; circle = c })) ≡ there (take (prefix_len (is_repha r byte) xs) xs) ++ (Inserted (suc n + prefix_len (is_repha r byte) xs) c ∷ circled_from r (drop (prefix_len (is_repha r byte) xs) xs) byte None)
-        → (if t then There x ∷ circled_from r xs byte (Some (record { rephas = suc n; circle = c })) else Inserted n c ∷ circled_at_start r byte x (circled_from r xs))
-        ≡ there (take (if t then 1 + prefix_len (is_repha r byte) xs else 0) (x ∷ xs)) ++ (Inserted (n + (if t then 1 + prefix_len (is_repha r byte) xs else 0)) c ∷ circled_from r (drop (if t then 1 + prefix_len (is_repha r byte) xs else 0) (x ∷ xs)) byte None)
+        → circled_rest r xs byte (Some (record { rephas = suc n; circle = c })) ≡ there (take (prefix_len (is_repha r byte) xs) xs) ++ (Inserted (suc n + prefix_len (is_repha r byte) xs) c ∷ circled_rest r (drop (prefix_len (is_repha r byte) xs) xs) byte None)
+        → (if t then There x ∷ circled_rest r xs byte (Some (record { rephas = suc n; circle = c })) else Inserted n c ∷ circled_at_start r byte x (circled_rest r xs))
+        ≡ there (take (if t then 1 + prefix_len (is_repha r byte) xs else 0) (x ∷ xs)) ++ (Inserted (n + (if t then 1 + prefix_len (is_repha r byte) xs else 0)) c ∷ circled_rest r (drop (if t then 1 + prefix_len (is_repha r byte) xs else 0) (x ∷ xs)) byte None)
     by_test true later =
         let k = prefix_len (is_repha r byte) xs in
         let a : suc n + k ≡ n + (1 + k) = omega arith in
         let b : 1 + k ≡ suc k = omega arith in
-        ap (λ ys. There x ∷ ys) later ∙ ap (λ m. There x ∷ (there (take k xs) ++ (Inserted m c ∷ circled_from r (drop k xs) byte None))) a
-        ∙ ap (λ m. there (take m (x ∷ xs)) ++ (Inserted (n + (1 + k)) c ∷ circled_from r (drop m (x ∷ xs)) byte None)) (sym b)
-    by_test false later = let e : n + 0 ≡ n = omega arith in ap (λ m. Inserted m c ∷ circled_at_start r byte x (circled_from r xs)) (sym e)
+        ap (λ ys. There x ∷ ys) later ∙ ap (λ m. There x ∷ (there (take k xs) ++ (Inserted m c ∷ circled_rest r (drop k xs) byte None))) a
+        ∙ ap (λ m. there (take m (x ∷ xs)) ++ (Inserted (n + (1 + k)) c ∷ circled_rest r (drop m (x ∷ xs)) byte None)) (sym b)
+    by_test false later = let e : n + 0 ≡ n = omega arith in ap (λ m. Inserted m c ∷ circled_at_start r byte x (circled_rest r xs)) (sym e)
 
-no_second : (r : CircleRule) (x : Item) (xs : List Item) → circled_from r (x ∷ xs) x.syllable None ≡ There x ∷ circled_from r xs x.syllable None
+no_second : (r : CircleRule) (x : Item) (xs : List Item) → circled_rest r (x ∷ xs) x.syllable None ≡ There x ∷ circled_rest r xs x.syllable None
 no_second r x xs = let e : (x.syllable == x.syllable) ≡ true = grind (arith, nat_tests, common_steps) in rw e refl
 
 -- an item that begins a broken syllable: its rephas, the circle, and the rest
 pub begun_passed : (r : CircleRule) (last : ℕ) (x : Item) (xs : List Item) → begins r last x ≡ true
-    → circled_from r (x ∷ xs) last None ≡ there (take (prefix_len (is_repha r x.syllable) (x ∷ xs)) (x ∷ xs)) ++ (Inserted (prefix_len (is_repha r x.syllable) (x ∷ xs)) (circle_item r x) ∷ circled_from r (drop (prefix_len (is_repha r x.syllable) (x ∷ xs)) (x ∷ xs)) x.syllable None)
+    → circled_rest r (x ∷ xs) last None ≡ there (take (prefix_len (is_repha r x.syllable) (x ∷ xs)) (x ∷ xs)) ++ (Inserted (prefix_len (is_repha r x.syllable) (x ∷ xs)) (circle_item r x) ∷ circled_rest r (drop (prefix_len (is_repha r x.syllable) (x ∷ xs)) (x ∷ xs)) x.syllable None)
 begun_passed r last x xs e =
-    ap (λ b. if b then (if is_repha r x.syllable x then There x ∷ circled_from r xs x.syllable (Some (record { rephas = 1; circle = circle_item r x })) else Inserted 0 (circle_item r x) ∷ There x ∷ circled_from r xs x.syllable None) else There x ∷ circled_from r xs last None) e
+    ap (λ b. if b then (if is_repha r x.syllable x then There x ∷ circled_rest r xs x.syllable (Some (record { rephas = 1; circle = circle_item r x })) else Inserted 0 (circle_item r x) ∷ There x ∷ circled_rest r xs x.syllable None) else There x ∷ circled_rest r xs last None) e
     ∙ by_test (is_repha r x.syllable x)
   where
-    by_test : (t : Bool) → (if t then There x ∷ circled_from r xs x.syllable (Some (record { rephas = 1; circle = circle_item r x })) else Inserted 0 (circle_item r x) ∷ There x ∷ circled_from r xs x.syllable None)
-        ≡ there (take (if t then 1 + prefix_len (is_repha r x.syllable) xs else 0) (x ∷ xs)) ++ (Inserted (if t then 1 + prefix_len (is_repha r x.syllable) xs else 0) (circle_item r x) ∷ circled_from r (drop (if t then 1 + prefix_len (is_repha r x.syllable) xs else 0) (x ∷ xs)) x.syllable None)
+    by_test : (t : Bool) → (if t then There x ∷ circled_rest r xs x.syllable (Some (record { rephas = 1; circle = circle_item r x })) else Inserted 0 (circle_item r x) ∷ There x ∷ circled_rest r xs x.syllable None)
+        ≡ there (take (if t then 1 + prefix_len (is_repha r x.syllable) xs else 0) (x ∷ xs)) ++ (Inserted (if t then 1 + prefix_len (is_repha r x.syllable) xs else 0) (circle_item r x) ∷ circled_rest r (drop (if t then 1 + prefix_len (is_repha r x.syllable) xs else 0) (x ∷ xs)) x.syllable None)
     by_test true =
         let k = prefix_len (is_repha r x.syllable) xs in
         let b : 1 + k ≡ suc k = omega arith in
         ap (λ ys. There x ∷ ys) (due_passed r x.syllable xs 1 (circle_item r x))
-        ∙ ap (λ m. there (take m (x ∷ xs)) ++ (Inserted (1 + k) (circle_item r x) ∷ circled_from r (drop m (x ∷ xs)) x.syllable None)) (sym b)
+        ∙ ap (λ m. there (take m (x ∷ xs)) ++ (Inserted (1 + k) (circle_item r x) ∷ circled_rest r (drop m (x ∷ xs)) x.syllable None)) (sym b)
     by_test false = ap (λ ys. Inserted 0 (circle_item r x) ∷ ys) (sym (no_second r x xs))
 
 -- ---- items and events of such lists
@@ -74,9 +74,9 @@ events_there at [] ys = let e : at + 0 ≡ at = omega arith in rw e refl
 events_there at (x ∷ xs) ys = let e : at + 1 + length xs ≡ at + length (x ∷ xs) = omega arith in events_there (at + 1) xs ys ∙ ap (λ n. circle_events n ys) e
 
 -- no item is deleted
-pub at_least : (r : CircleRule) (xs : List Item) (last : ℕ) (d : Option Due) → length xs ≤ length (circled_items (circled_from r xs last d))
+pub at_least : (r : CircleRule) (xs : List Item) (last : ℕ) (d : Option Due) → length xs ≤ length (circled_items (circled_rest r xs last d))
 at_least r [] last d = omega arith
-at_least r (x ∷ xs) last None = at_least_begun r last x xs (circled_from r xs) (at_least r xs)
+at_least r (x ∷ xs) last None = at_least_begun r last x xs (circled_rest r xs) (at_least r xs)
   where
     at_least_begun : (q : CircleRule) (n : ℕ) (y : Item) (ys : List Item) (rest : ℕ → Option Due → List CircledItem) → ((m : ℕ) (e : Option Due) → length ys ≤ length (circled_items (rest m e))) → length (y ∷ ys) ≤ length (circled_items (circled_at_start q n y rest))
     at_least_begun q n y ys rest h = by_tests (begins q n y) (is_repha q y.syllable y)
@@ -87,14 +87,14 @@ at_least r (x ∷ xs) last None = at_least_begun r last x xs (circled_from r xs)
         by_tests false t = let le = h n None in omega (arith, le)
 at_least r (x ∷ xs) last (Some d) = by_test (is_repha r last x) (at_least r xs)
   where
-    begun_least : ((m : ℕ) (e : Option Due) → length xs ≤ length (circled_items (circled_from r xs m e))) → (s t : Bool)
-        → length (x ∷ xs) ≤ length (circled_items (if s then (if t then There x ∷ circled_from r xs x.syllable (Some (record { rephas = 1; circle = circle_item r x })) else Inserted 0 (circle_item r x) ∷ There x ∷ circled_from r xs x.syllable None) else There x ∷ circled_from r xs last None))
+    begun_least : ((m : ℕ) (e : Option Due) → length xs ≤ length (circled_items (circled_rest r xs m e))) → (s t : Bool)
+        → length (x ∷ xs) ≤ length (circled_items (if s then (if t then There x ∷ circled_rest r xs x.syllable (Some (record { rephas = 1; circle = circle_item r x })) else Inserted 0 (circle_item r x) ∷ There x ∷ circled_rest r xs x.syllable None) else There x ∷ circled_rest r xs last None))
     begun_least h true true = let le = h x.syllable (Some (record { rephas = 1; circle = circle_item r x })) in omega (arith, le)
     begun_least h true false = let le = h x.syllable None in omega (arith, le)
     begun_least h false t = let le = h last None in omega (arith, le)
 
-    by_test : (t : Bool) → ((m : ℕ) (e : Option Due) → length xs ≤ length (circled_items (circled_from r xs m e)))
-        → length (x ∷ xs) ≤ length (circled_items (if t then There x ∷ circled_from r xs last (Some (record { rephas = suc d.rephas; circle = d.circle })) else Inserted d.rephas d.circle ∷ circled_at_start r last x (circled_from r xs)))
+    by_test : (t : Bool) → ((m : ℕ) (e : Option Due) → length xs ≤ length (circled_items (circled_rest r xs m e)))
+        → length (x ∷ xs) ≤ length (circled_items (if t then There x ∷ circled_rest r xs last (Some (record { rephas = suc d.rephas; circle = d.circle })) else Inserted d.rephas d.circle ∷ circled_at_start r last x (circled_rest r xs)))
     by_test true h = let le = h last (Some (record { rephas = suc d.rephas; circle = d.circle })) in omega (arith, le)
     by_test false h = let le = begun_least h (begins r last x) (is_repha r x.syllable x) in omega (arith, le)
 
@@ -108,8 +108,8 @@ frame_of s = record s { behind = []; ahead = []; read = 0 }
 pub record IsUnderway (r : CircleRule) (last : ℕ) (old now : Sides) : Type 0 where
   pub opened : now.is_open ≡ true
   pub frame : frame_of now ≡ frame_of (with_output old)
-  pub items : strip now.behind ++ circled_items (circled_from r (strip now.ahead) last None) ≡ circled_items (with_circles r (items_of old))
-  pub origins : origins_by (circle_events (length now.behind) (circled_from r (strip now.ahead) last None)) now ≡ origins_by (circle_events 0 (with_circles r (items_of old))) old
+  pub items : strip now.behind ++ circled_items (circled_rest r (strip now.ahead) last None) ≡ circled_items (with_circles r (items_of old))
+  pub origins : origins_by (circle_events (length now.behind) (circled_rest r (strip now.ahead) last None)) now ≡ origins_by (circle_events 0 (with_circles r (items_of old))) old
 
 pub underway : (r : CircleRule) (old : Sides) → IsUnderway r 0 old (with_output old)
 underway r old = record { opened = refl; frame = refl; items = refl; origins = refl }
@@ -118,11 +118,11 @@ underway r old = record { opened = refl; frame = refl; items = refl; origins = r
 by_frame : (es : List Event) (a b : Sides) → frame_of b ≡ frame_of a → origins_by es b ≡ origins_after (flag_requests_of a) a.level es (origins_of b)
 by_frame es a b e = ap (λ (s : Sides). origins_after (flag_requests_of s) s.level es (origins_of b)) e
 
-whole_count : (r : CircleRule) (last : ℕ) (old now : Sides) → IsUnderway r last old now → length now.behind + length (circled_items (circled_from r (strip now.ahead) last None)) ≡ length (circled_items (with_circles r (items_of old)))
+whole_count : (r : CircleRule) (last : ℕ) (old now : Sides) → IsUnderway r last old now → length now.behind + length (circled_items (circled_rest r (strip now.ahead) last None)) ≡ length (circled_items (with_circles r (items_of old)))
 whole_count r last old now u =
     let n = length-map now.behind item_of in
     let e = ap (λ (xs : List Item). length xs) u.items in
-    omega (arith, n, e, length-append (strip now.behind) (circled_items (circled_from r (strip now.ahead) last None)))
+    omega (arith, n, e, length-append (strip now.behind) (circled_items (circled_rest r (strip now.ahead) last None)))
 
 -- a list of so many glyphs is too long, so the whole is
 pub refused_all : (r : CircleRule) (last n : ℕ) (old now : Sides) (e : ShapeCause) → IsUnderway r last old now → n ≤ length now.behind + length now.ahead → IsTooLong n now e
@@ -148,15 +148,15 @@ passed r last g old now next u at not_begun e = by_ahead now.ahead refl at
         let x = item_of h in
         let xs = strip hs in
         let begin : begins r last x ≡ false = ap (λ k. begins r last (item_of k)) same ∙ not_begun in
-        let ys = circled_from r xs last None in
-        let first : circled_from r (strip now.ahead) last None ≡ There x ∷ ys = ap (λ (ks : List hb_glyph_info_t). circled_from r (strip ks) last None) a
-        ∙ ap (λ b. if b then (if is_repha r x.syllable x then There x ∷ circled_from r xs x.syllable (Some (record { rephas = 1; circle = circle_item r x })) else Inserted 0 (circle_item r x) ∷ There x ∷ circled_from r xs x.syllable None) else There x ∷ circled_from r xs last None) begin in
+        let ys = circled_rest r xs last None in
+        let first : circled_rest r (strip now.ahead) last None ≡ There x ∷ ys = ap (λ (ks : List hb_glyph_info_t). circled_rest r (strip ks) last None) a
+        ∙ ap (λ b. if b then (if is_repha r x.syllable x then There x ∷ circled_rest r xs x.syllable (Some (record { rephas = 1; circle = circle_item r x })) else Inserted 0 (circle_item r x) ∷ There x ∷ circled_rest r xs x.syllable None) else There x ∷ circled_rest r xs last None) begin in
         let behind : next.behind ≡ now.behind ++ (h ∷ []) = ap (λ (s : Sides). s.behind) e ∙ ap (λ ks. now.behind ++ take 1 ks) a in
         let ahead : next.ahead ≡ hs = ap (λ (s : Sides). s.ahead) e ∙ ap (λ ks. drop 1 ks) a in
         let all : all_glyphs next ≡ all_glyphs now = ap all_glyphs e ∙ append_assoc now.behind (take 1 now.ahead) (drop 1 now.ahead) ∙ ap (λ ks. now.behind ++ ks) (take-append-drop 1 now.ahead) in
         let count : length next.behind ≡ length now.behind + 1 = ap (λ (ks : List hb_glyph_info_t). length ks) behind ∙ length-append now.behind (h ∷ []) in
         let frame : frame_of next ≡ frame_of now = ap frame_of e in
-        let rest : circled_from r (strip next.ahead) last None ≡ ys = ap (λ (ks : List hb_glyph_info_t). circled_from r (strip ks) last None) ahead in
+        let rest : circled_rest r (strip next.ahead) last None ≡ ys = ap (λ (ks : List hb_glyph_info_t). circled_rest r (strip ks) last None) ahead in
         record {
           opened = ap (λ (s : Sides). s.is_open) frame ∙ u.opened;
           frame = frame ∙ u.frame;
@@ -179,10 +179,10 @@ circle_put r last n g old now moved next u at begun_is count_is e le c = by_ahea
         let x = item_of g in
         let xs = strip now.ahead in
         let shape : xs ≡ x ∷ strip hs = ap strip a ∙ ap (λ k. item_of k ∷ strip hs) same in
-        let ys = circled_from r (drop n xs) x.syllable None in
-        let first : circled_from r xs last None ≡ there (take n xs) ++ (Inserted n (circle_item r x) ∷ ys) =
-        subst (λ zs. prefix_len (is_repha r x.syllable) xs ≡ n → circled_from r zs last None ≡ there (take (prefix_len (is_repha r x.syllable) zs) zs) ++ (Inserted (prefix_len (is_repha r x.syllable) zs) (circle_item r x) ∷ circled_from r (drop (prefix_len (is_repha r x.syllable) zs) zs) x.syllable None)) (sym shape) (λ m. begun_passed r last x (strip hs) begun_is) (sym count_is)
-        ∙ ap (λ m. there (take m xs) ++ (Inserted m (circle_item r x) ∷ circled_from r (drop m xs) x.syllable None)) (sym count_is) in
+        let ys = circled_rest r (drop n xs) x.syllable None in
+        let first : circled_rest r xs last None ≡ there (take n xs) ++ (Inserted n (circle_item r x) ∷ ys) =
+        subst (λ zs. prefix_len (is_repha r x.syllable) xs ≡ n → circled_rest r zs last None ≡ there (take (prefix_len (is_repha r x.syllable) zs) zs) ++ (Inserted (prefix_len (is_repha r x.syllable) zs) (circle_item r x) ∷ circled_rest r (drop (prefix_len (is_repha r x.syllable) zs) zs) x.syllable None)) (sym shape) (λ m. begun_passed r last x (strip hs) begun_is) (sym count_is)
+        ∙ ap (λ m. there (take m xs) ++ (Inserted m (circle_item r x) ∷ circled_rest r (drop m xs) x.syllable None)) (sym count_is) in
         let behind : moved.behind ≡ now.behind ++ take n now.ahead = ap (λ (s : Sides). s.behind) e in
         let ahead : next.ahead ≡ drop n now.ahead = c.ahead ∙ ap (λ (s : Sides). s.ahead) e in
         let all : all_glyphs moved ≡ all_glyphs now = ap all_glyphs e ∙ append_assoc now.behind (take n now.ahead) (drop n now.ahead) ∙ ap (λ ks. now.behind ++ ks) (take-append-drop n now.ahead) in
@@ -192,9 +192,9 @@ circle_put r last n g old now moved next u at begun_is count_is e le c = by_ahea
         let count : length next.behind ≡ length moved.behind + 1 = sym (length-map next.behind item_of) ∙ ap (λ (zs : List Item). length zs) c.behind ∙ length-append (strip moved.behind) (circle_item r x ∷ []) ∙ ap (λ m. m + 1) (length-map moved.behind item_of) in
         let frame_moved : frame_of moved ≡ frame_of now = ap frame_of e in
         let frame : frame_of next ≡ frame_of moved = ap (λ (s : Sides). frame_of s) c.rest in
-        let rest : circled_from r (strip next.ahead) x.syllable None ≡ ys = ap (λ (ks : List hb_glyph_info_t). circled_from r (strip ks) x.syllable None) ahead ∙ ap (λ zs. circled_from r zs x.syllable None) (sym (drop-map item_of n now.ahead)) in
+        let rest : circled_rest r (strip next.ahead) x.syllable None ≡ ys = ap (λ (ks : List hb_glyph_info_t). circled_rest r (strip ks) x.syllable None) ahead ∙ ap (λ zs. circled_rest r zs x.syllable None) (sym (drop-map item_of n now.ahead)) in
         let es = circle_events (length moved.behind + 1) ys in
-        let events : circle_events (length now.behind) (circled_from r xs last None) ≡ circle_event (length moved.behind) n ∷ es =
+        let events : circle_events (length now.behind) (circled_rest r xs last None) ≡ circle_event (length moved.behind) n ∷ es =
         ap (circle_events (length now.behind)) first ∙ events_there (length now.behind) (take n xs) (Inserted n (circle_item r x) ∷ ys)
         ∙ ap (λ m. circle_event m n ∷ circle_events (m + 1) ys) (ap (λ m. length now.behind + m) (ap (λ (zs : List Item). length zs) (take-map item_of n now.ahead) ∙ length-map (take n now.ahead) item_of ∙ size) ∙ sym at_circle) in
         record {
@@ -220,8 +220,8 @@ no_more r last old now u none = by_ahead now.ahead refl none
   where
     by_ahead : (gs : List hb_glyph_info_t) → now.ahead ≡ gs → length gs ≡ 0 → (items_of now ≡ circled_items (with_circles r (items_of old))) × (origins_of now ≡ origins_by (circle_events 0 (with_circles r (items_of old))) old)
     by_ahead [] a n = (
-      ap (λ ks. strip (now.behind ++ ks)) a ∙ map-append item_of now.behind [] ∙ ap (λ (ks : List hb_glyph_info_t). strip now.behind ++ circled_items (circled_from r (strip ks) last None)) (sym a) ∙ u.items,
-      ap (λ (ks : List hb_glyph_info_t). origins_by (circle_events (length now.behind) (circled_from r (strip ks) last None)) now) (sym a) ∙ u.origins,
+      ap (λ ks. strip (now.behind ++ ks)) a ∙ map-append item_of now.behind [] ∙ ap (λ (ks : List hb_glyph_info_t). strip now.behind ++ circled_items (circled_rest r (strip ks) last None)) (sym a) ∙ u.items,
+      ap (λ (ks : List hb_glyph_info_t). origins_by (circle_events (length now.behind) (circled_rest r (strip ks) last None)) now) (sym a) ∙ u.origins,
     )
     by_ahead (h ∷ hs) a n = absurd (omega (arith, n))
 
@@ -428,14 +428,14 @@ circle_refused r last n g old now moved e u at begun_is count_is m le h = too_lo
         let x = item_of g in
         let xs = strip now.ahead in
         let shape : xs ≡ x ∷ strip ks = ap strip a ∙ ap (λ j. item_of j ∷ strip ks) same in
-        let ys = circled_from r (drop n xs) x.syllable None in
-        let first : circled_from r xs last None ≡ there (take n xs) ++ (Inserted n (circle_item r x) ∷ ys) =
-        subst (λ zs. prefix_len (is_repha r x.syllable) xs ≡ n → circled_from r zs last None ≡ there (take (prefix_len (is_repha r x.syllable) zs) zs) ++ (Inserted (prefix_len (is_repha r x.syllable) zs) (circle_item r x) ∷ circled_from r (drop (prefix_len (is_repha r x.syllable) zs) zs) x.syllable None)) (sym shape) (λ q. begun_passed r last x (strip ks) begun_is) (sym count_is)
-        ∙ ap (λ q. there (take q xs) ++ (Inserted q (circle_item r x) ∷ circled_from r (drop q xs) x.syllable None)) (sym count_is) in
-        let items : circled_items (circled_from r xs last None) ≡ take n xs ++ (circle_item r x ∷ circled_items ys) = ap circled_items first ∙ items_there (take n xs) (Inserted n (circle_item r x) ∷ ys) in
+        let ys = circled_rest r (drop n xs) x.syllable None in
+        let first : circled_rest r xs last None ≡ there (take n xs) ++ (Inserted n (circle_item r x) ∷ ys) =
+        subst (λ zs. prefix_len (is_repha r x.syllable) xs ≡ n → circled_rest r zs last None ≡ there (take (prefix_len (is_repha r x.syllable) zs) zs) ++ (Inserted (prefix_len (is_repha r x.syllable) zs) (circle_item r x) ∷ circled_rest r (drop (prefix_len (is_repha r x.syllable) zs) zs) x.syllable None)) (sym shape) (λ q. begun_passed r last x (strip ks) begun_is) (sym count_is)
+        ∙ ap (λ q. there (take q xs) ++ (Inserted q (circle_item r x) ∷ circled_rest r (drop q xs) x.syllable None)) (sym count_is) in
+        let items : circled_items (circled_rest r xs last None) ≡ take n xs ++ (circle_item r x ∷ circled_items ys) = ap circled_items first ∙ items_there (take n xs) (Inserted n (circle_item r x) ∷ ys) in
         let size : length (take n xs) ≡ n = length-take-le n xs (omega (arith, length-map now.ahead item_of, le)) in
         let whole = whole_count r last old now u in
-        let many : length (circled_items (circled_from r xs last None)) ≡ n + suc (length (circled_items ys)) = ap (λ (zs : List Item). length zs) items ∙ length-append (take n xs) (circle_item r x ∷ circled_items ys) ∙ ap (λ q. q + length (circle_item r x ∷ circled_items ys)) size in
+        let many : length (circled_items (circled_rest r xs last None)) ≡ n + suc (length (circled_items ys)) = ap (λ (zs : List Item). length zs) items ∙ length-append (take n xs) (circle_item r x ∷ circled_items ys) ∙ ap (λ q. q + length (circle_item r x ∷ circled_items ys)) size in
         let at_circle : length moved.behind ≡ length now.behind + n = ap (λ (s : Sides). length s.behind) m ∙ length-append now.behind (take n now.ahead) ∙ ap (λ q. length now.behind + q) (length-take-le n now.ahead le) in
         let limit = ap (λ (s : Sides). s.max_len) u.frame in
         let limit_moved = ap (λ (s : Sides). s.max_len) m in

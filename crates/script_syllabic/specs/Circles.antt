@@ -70,19 +70,19 @@ circled_at_start r last x rest =
     else Inserted 0 (circle_item r x) ∷ There x ∷ rest x.syllable None)
     else There x ∷ rest last None
 
--- the list with its circles, by the byte of the last broken syllable and the circle that is due, which is inserted
+-- the rest of a list with its circles, by the byte of the last broken syllable and the circle that is due, which is inserted
 -- after the rephas
-abbrev pub circled_from : CircleRule → List Item → ℕ → Option Due → List CircledItem
-circled_from r [] last None = []
-circled_from r [] last (Some d) = Inserted d.rephas d.circle ∷ []
-circled_from r (x ∷ xs) last None = circled_at_start r last x (circled_from r xs)
-circled_from r (x ∷ xs) last (Some d) =
-    if is_repha r last x then There x ∷ circled_from r xs last (Some (record { rephas = suc d.rephas; circle = d.circle }))
-    else Inserted d.rephas d.circle ∷ circled_at_start r last x (circled_from r xs)
+abbrev pub circled_rest : CircleRule → List Item → ℕ → Option Due → List CircledItem
+circled_rest r [] last None = []
+circled_rest r [] last (Some d) = Inserted d.rephas d.circle ∷ []
+circled_rest r (x ∷ xs) last None = circled_at_start r last x (circled_rest r xs)
+circled_rest r (x ∷ xs) last (Some d) =
+    if is_repha r last x then There x ∷ circled_rest r xs last (Some (record { rephas = suc d.rephas; circle = d.circle }))
+    else Inserted d.rephas d.circle ∷ circled_at_start r last x (circled_rest r xs)
 
 -- a list with the circles of its broken syllables (HarfBuzz: hb_syllabic_insert_dotted_circles)
 abbrev pub with_circles : CircleRule → List Item → List CircledItem
-with_circles r xs = circled_from r xs 0 None
+with_circles r xs = circled_rest r xs 0 None
 
 -- the items of a list with circles
 abbrev pub circled_items : List CircledItem → List Item

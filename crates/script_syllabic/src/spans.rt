@@ -6,7 +6,7 @@ ghost use Rattle.buffer_stages.specs.Ready.{IsReady};
 ghost use Rattle.buffer_stages.specs.Stages.{DoesStage};
 ghost use Rattle.script_syllabic.specs.Spans.{categories_counted, if_counted, is_counted, is_grapheme_joiner, counted_indices_from, precedes_mark, universal_set};
 
-use crate::syllables::{SyllablePlaces, set_bytes};
+use crate::syllables::{SyllableIndices, set_bytes};
 use buffer_core::buffer::hb_buffer_t;
 use buffer_glyphs::cause::ShapeCause;
 use buffer_glyphs::info::hb_glyph_info_t;
@@ -20,22 +20,22 @@ use std::alloc::Global;
 #[derive(Drop)]
 pub(crate) struct Counted {
     categories: Vec<u8>,
-    places: Places,
+    buffer_indices: CountedIndices,
 }
 
 /// The indices of the counted glyphs.
 #[derive(Drop)]
-pub(crate) struct Places {
+pub(crate) struct CountedIndices {
     indices: Vec<usize>,
     end: usize,
 }
 
-impl SyllablePlaces for Places {
+impl SyllableIndices for CountedIndices {
     ghost use Rattle.script_syllabic.specs.Spans.{index_or_end};
 
-    ghost place_of = { λ p. index_or_end p.indices.items p.end };
+    ghost index_of = { λ p. index_or_end p.indices.items p.end };
 
-    fn place(&self, index: usize) -> usize {
+    fn buffer_index(&self, index: usize) -> usize {
         self.indices.get(index).copied().unwrap_or(self.end)
     }
 }
@@ -60,15 +60,15 @@ pub fn find_syllables<S: SyllableSpans>(
         spans,
         UNIVERSAL_SHAPER,
         &counted.categories,
-        &counted.places,
+        &counted.buffer_indices,
         buffer,
     )
 }
 
 fn count_glyphs(alloc: Global, glyphs: &[hb_glyph_info_t]) -> Result<Counted, ShapeCause>
     ensures categories { IfOk result (λ c. c.categories.items ≡ categories_counted (strip glyphs.now)) }
-    ensures indices { IfOk result (λ c. c.places.indices.items ≡ counted_indices_from 0 (strip glyphs.now)) }
-    ensures end { IfOk result (λ c. c.places.end ≡ length glyphs.now) }
+    ensures indices { IfOk result (λ c. c.buffer_indices.indices.items ≡ counted_indices_from 0 (strip glyphs.now)) }
+    ensures end { IfOk result (λ c. c.buffer_indices.end ≡ length glyphs.now) }
     ensures err { IfErr result (λ e. e ≡ ShapeCause.OutOfMemory) }
 {
     let mut categories = Vec::new(alloc);
@@ -82,11 +82,14 @@ fn count_glyphs(alloc: Global, glyphs: &[hb_glyph_info_t]) -> Result<Counted, Sh
             &mut indices,
         )?;
     }
-    let places = Places {
+    let buffer_indices = CountedIndices {
         indices,
         end: glyphs.len(),
     };
-    Ok(Counted { categories, places })
+    Ok(Counted {
+        categories,
+        buffer_indices,
+    })
 }
 
 /// Adds the glyph at an index to the counted ones, if it counts.

@@ -18,24 +18,24 @@ use script_categories::{SyllableSpans, hb_ot_script_shaper_t};
 use std::alloc::{AllocFailed, Global};
 
 /// The index in the buffer of the i-th glyph that counts for syllables.
-pub trait SyllablePlaces {
-    ghost place_of: { Self → ℕ → ℕ };
+pub trait SyllableIndices {
+    ghost index_of: { Self → ℕ → ℕ };
 
     /// The index in the buffer; after the last counted glyph, the buffer's length.
-    fn place(&self, index: usize) -> usize
-        ensures { result ≡ place_of self.now index };
+    fn buffer_index(&self, index: usize) -> usize
+        ensures { result ≡ index_of self.now index };
 }
 
 /// Every glyph counts.
 #[derive(Clone, Copy)]
 pub struct Each;
 
-impl SyllablePlaces for Each {
+impl SyllableIndices for Each {
     ghost use Rattle.script_syllabic.specs.Bytes.{itself};
 
-    ghost place_of = { λ _. itself };
+    ghost index_of = { λ _. itself };
 
-    fn place(&self, index: usize) -> usize {
+    fn buffer_index(&self, index: usize) -> usize {
         index
     }
 }
@@ -76,19 +76,19 @@ fn categories_of(alloc: Global, glyphs: &[hb_glyph_info_t]) -> Result<Vec<u8>, A
 ///
 /// `UnknownSyllableKind` alone, where the spans name a kind that the shaper does not have.
 #[tactic(auto, using(crate::proofs::Marking::marking_begun, crate::proofs::Marking::unknown_by))]
-pub fn set_bytes<S: SyllableSpans, P: SyllablePlaces>(
+pub fn set_bytes<S: SyllableSpans, P: SyllableIndices>(
     spans: &S,
     shaper: hb_ot_script_shaper_t,
     categories: &[u8],
-    places: &P,
+    buffer_indices: &P,
     buffer: &mut hb_buffer_t,
 ) -> Result<(), ShapeCause>
     requires ready { IsReady buffer.old }
-    requires rising { (i j : ℕ) → i ≤ j → P.place_of places.now i ≤ P.place_of places.now j }
-    requires within { P.place_of places.now (length categories.now) ≤ length (all_glyphs buffer.old) }
-    ensures ok { OnOk result (IsFollowed (bytes_of shaper (P.place_of places.now)
+    requires rising { (i j : ℕ) → i ≤ j → P.index_of buffer_indices.now i ≤ P.index_of buffer_indices.now j }
+    requires within { P.index_of buffer_indices.now (length categories.now) ≤ length (all_glyphs buffer.old) }
+    ensures ok { OnOk result (IsFollowed (bytes_of shaper (P.index_of buffer_indices.now)
         (syllables (S.span_of spans.now shaper categories.now) (length categories.now))) buffer.old buffer.new) }
-    ensures err { IfErr result (λ e. reading_of (bytes_of shaper (P.place_of places.now)
+    ensures err { IfErr result (λ e. reading_of (bytes_of shaper (P.index_of buffer_indices.now)
         (syllables (S.span_of spans.now shaper categories.now) (length categories.now))) (state_of buffer.old) ≡ Err e) }
 {
     let mut index = 0;
@@ -98,8 +98,8 @@ pub fn set_bytes<S: SyllableSpans, P: SyllablePlaces>(
         if !shaper.has_kind(kind) {
             return Err(ShapeCause::UnknownSyllableKind);
         }
-        let from = places.place(start);
-        let to = places.place(end);
+        let from = buffer_indices.buffer_index(start);
+        let to = buffer_indices.buffer_index(end);
         set_byte(buffer, from, to, byte_of(shaper, index, kind));
         index += 1;
         start = end;

@@ -21,6 +21,7 @@ use Rattle.script_thai.specs.declared.thai_private.Below.{Below}
 use Rattle.script_thai.specs.declared.thai_private.Below.TheVariants.{B0, B1, B2}
 use Rattle.script_thai.specs.declared.thai_private.State.{State}
 
+-- a character is one of a list
 abbrev is_among : List ℕ → ℕ → Bool
 is_among us u = list_any (λ v. u == v) us
 

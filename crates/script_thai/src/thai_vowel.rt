@@ -74,13 +74,13 @@ fn split(glyph: &hb_glyph_info_t, buffer: &mut hb_buffer_t) -> Result<(), ShapeC
     let at = buffer.out_len();
     let marks = count_above(buffer.out_info());
     replace_current(&[nikhahit(glyph), sara_aa(glyph)], buffer)?;
-    place(at, marks, buffer);
+    move_half(at, marks, buffer);
     Ok(())
 }
 
 /// Moves the first half of a vowel, whose halves begin at `at` of the output, before the marks above, and merges it
 /// with them; without marks both halves are merged with the character before them, at level MonotoneGraphemes.
-fn place(at: usize, marks: usize, buffer: &mut hb_buffer_t)
+fn move_half(at: usize, marks: usize, buffer: &mut hb_buffer_t)
     requires open { buffer.old.is_open ≡ true }
     requires parts { at + 2 ≡ length buffer.old.behind }
     requires before { marks ≤ at }

@@ -127,7 +127,7 @@ fn passed_by_reph(glyphs: &[hb_glyph_info_t]) -> usize
 }
 
 /// Moves each left vowel after the last halant before it, else to the start.
-#[tactic(auto, using(crate::proofs::Stretches::none_walked))]
+#[tactic(auto, using(crate::proofs::LeftRanges::none_walked))]
 fn move_left(buffer: &mut hb_buffer_t, start: usize, end: usize)
     requires ready { IsReady buffer.old }
     requires ordered { start ≤ end }
@@ -153,7 +153,7 @@ fn move_left_from(buffer: &mut hb_buffer_t, start: usize, end: usize, i: usize) 
 {
     let from = start + i;
     let count = before_halant(&buffer.info_slice()[from..end]);
-    move_stretch(buffer, from, from + count);
+    move_range(buffer, from, from + count);
     if from + count == end {
         return end - start;
     }
@@ -175,7 +175,7 @@ fn before_halant(glyphs: &[hb_glyph_info_t]) -> usize
 }
 
 /// Moves the left vowels of a range without halants to its start, and merges each with what it passes.
-fn move_stretch(buffer: &mut hb_buffer_t, start: usize, end: usize)
+fn move_range(buffer: &mut hb_buffer_t, start: usize, end: usize)
     requires ready { IsReady buffer.old }
     requires ordered { start ≤ end }
     requires within { end ≤ length (all_glyphs buffer.old) }
@@ -191,7 +191,7 @@ fn move_stretch(buffer: &mut hb_buffer_t, start: usize, end: usize)
 }
 
 /// The number of glyphs up to the last left vowel that moves, or 1.
-#[tactic(auto, using(crate::proofs::Stretches::left_next, crate::proofs::Stretches::other_next, crate::proofs::Stretches::left_all, crate::proofs::Stretches::left_fits))]
+#[tactic(auto, using(crate::proofs::LeftRanges::left_next, crate::proofs::LeftRanges::other_next, crate::proofs::LeftRanges::left_all, crate::proofs::LeftRanges::left_fits))]
 fn end_of_left(glyphs: &[hb_glyph_info_t]) -> usize
     ensures reach { result ≡ reach 1 (front_moves together is_left 0 (strip glyphs.now)) }
     ensures within { 1 < result → result ≤ length glyphs.now }

@@ -9,8 +9,8 @@ use Rattle.buffer_common.specs.declared.direction.Direction.TheVariants.{LeftToR
 use Rattle.buffer_common.specs.declared.language.Language.{Language}
 use Rattle.buffer_common.specs.declared.tag.Tag.{Tag}
 use Rattle.buffer_common.specs.ScriptTags.{wanted_language_tags}
-use Rattle.buffer_features.specs.declared.feature.Feature.{Feature}
-use Rattle.buffer_features.specs.Feature.{is_global}
+use Rattle.buffer_tags.specs.declared.feature.Feature.{Feature}
+use Rattle.buffer_tags.specs.Feature.{is_global}
 use Rattle.buffer_glyphs.specs.declared.info.hb_glyph_info_t.{hb_glyph_info_t}
 use Rattle.buffer_glyphs.specs.Items.{Item, Position, item_of}
 use Rattle.buffer_core.specs.Masks.{items_set}
@@ -33,12 +33,12 @@ use Rattle.script_plan.specs.Rules.{RulesDependOnNoLimit, Spans}
 use Rattle.shape_glyphs.specs.Flags.{with_flags_spread}
 use Rattle.shape_glyphs.specs.Ignorables.{ignorables_hidden}
 use Rattle.shape_glyphs.specs.Selectors.{with_selectors}
-use Rattle.shape_masks.specs.Ranges.{bits_of, shifted_value, with_all_ranges, with_range}
+use Rattle.shape_text.specs.Ranges.{bits_of, shifted_value, with_all_ranges, with_range}
 use Rattle.shape_premises.specs.Texts.{IsRegularText}
 use Rattle.shape_pipeline.specs.Characters.{characters_chosen, text_begun}
 use Rattle.shape_pipeline.specs.Endings.{text_ended}
 use Rattle.shape_pipeline.specs.Glyphs.{glyphs_substituted, glyphs_taken}
-use Rattle.shape_pipeline.specs.Limits.{final_view, unshaped}
+use Rattle.shape_pipeline.specs.Limits.{final_view, unshaped_text}
 use Rattle.shape_pipeline.specs.Masks.{masks_set, ranges_set}
 use Rattle.shape_pipeline.specs.Reading.{after_ranges, before_ranges, clusters_after, positioning_stage, reading, shaping_stage}
 use Rattle.shape_pipeline.specs.ReadingLaws.{have_no_ranges}
@@ -151,7 +151,7 @@ marked_length [] h = cc
 marked_length (u ∷ us) h = let some : length (u ∷ us) ≢ 0 = omega arith in ne_eqb (length (u ∷ us)) 0 some
 
 -- where a text has characters its reading is that of its run
-read_if : (b : Bool) (p : Shaping) (run : BufferState) (r : Read) → b ≡ false → (if b then Ok (unshaped run.view) else reading p run) ≡ Ok r → reading p run ≡ Ok r
+read_if : (b : Bool) (p : Shaping) (run : BufferState) (r : Read) → b ≡ false → (if b then Ok (unshaped_text run.view) else reading p run) ≡ Ok r → reading p run ≡ Ok r
 read_if true p run r h e = cc
 read_if false p run r h e = e
 

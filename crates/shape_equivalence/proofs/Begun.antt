@@ -20,7 +20,7 @@ use Rattle.buffer_properties.specs.Properties.{bit_if, character_class, scratch_
 use Rattle.buffer_wrappers.specs.Wrappers.{IsCharacter}
 use Rattle.layout_face.specs.declared.parts.FaceParts.{FaceParts}
 use Rattle.layout_face.specs.Glyphs.{nominal_glyph}
-use Rattle.shape_masks.specs.Masks.{with_one_mask}
+use Rattle.shape_text.specs.Masks.{with_one_mask}
 use Rattle.shape_premises.specs.Texts as premises
 use Rattle.shape_text.specs.declared.graphemes.Before.{Before}
 use Rattle.shape_text.specs.Graphemes.{continues}

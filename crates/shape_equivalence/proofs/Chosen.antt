@@ -7,7 +7,7 @@ use Rattle.buffer_glyphs.specs.declared.cause.ShapeCause.TheVariants.{TooLong}
 use Rattle.buffer_glyphs.specs.Items.{Item}
 use Rattle.buffer_core.specs.Readings.{Read, Reading, Stage, View, always, as_it_is, with_events}
 use Rattle.buffer_core.specs.Sides.{Sides, view_of, zero_positions}
-use Rattle.buffer_stages.specs.Brought.{with_arranged}
+use Rattle.buffer_stages.specs.Appending.{with_arranged}
 use Rattle.buffer_stages.specs.Settings.{TextSettings, text_settings}
 use Rattle.buffer_unicode_tables.specs.Tables.{Tables}
 use Rattle.buffer_properties.specs.Characters.{items_of_text}

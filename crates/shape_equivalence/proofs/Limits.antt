@@ -6,11 +6,11 @@ use Rattle.buffer_glyphs.specs.Events.{Break, Concat, Reverse}
 use Rattle.buffer_core.specs.Readings.{Read, Stage, View, always, then_read, with_events}
 use Rattle.buffer_stages.specs.PositionMaps.{with_positions_mapped}
 use Rattle.shape_glyphs.specs.Widths.{ignorable_position}
-use Rattle.buffer_stage_laws.specs.Alike.{ReadAlike, ReadingsAlike, attachment_bit, seen_as}
-use Rattle.buffer_stage_laws.specs.Counting.{ReadingCounts, rebudgeted}
+use Rattle.buffer_stage_laws.specs.Alike.{ReadAlike, ReadingsAlike, attachment_bit, with_limit_and_flags}
+use Rattle.buffer_stage_laws.specs.Counting.{ReadingCounts, with_budget_changed}
 use Rattle.buffer_stage_laws.specs.Lemmas.Alike.{at_alike, views_alike}
-use Rattle.layout_links.specs.Finishing.{all_drawn_if, has_attachments, links_followed}
-use Rattle.layout_links.specs.Starting.{links_cleared}
+use Rattle.layout_offsets.specs.Finishing.{all_drawn_if, has_attachments, links_followed}
+use Rattle.layout_offsets.specs.Starting.{links_cleared}
 use Rattle.layout_laws.specs.Lemmas.Budgets.{positioning_counts_budget, substitution_counts_budget}
 use Rattle.layout_laws.specs.Lemmas.Lengths.{positioning_depends_on_no_length, substitution_depends_on_no_length}
 use Rattle.layout_positioning.specs.Positioning.{positioning_stages}
@@ -27,8 +27,8 @@ use Rattle.shape_glyphs.specs.Glyphs.{with_glyphs, with_synthesized_classes}
 use Rattle.shape_glyphs.specs.Ignorables.{ignorables_hidden, ignorables_hidden_by, invisible_glyph, preserves_ignorables}
 use Rattle.shape_glyphs.specs.Selectors.{with_selectors}
 use Rattle.shape_glyphs.specs.Widths.{keeps_widths, zero_widths}
-use Rattle.shape_masks.specs.Fractions.{around_slash, digits_after, digits_before, fraction_at, fraction_items, fractions_to, is_slash_at, with_fractions}
-use Rattle.shape_masks.specs.declared.fractions.FractionMasks.{FractionMasks}
+use Rattle.shape_text.specs.Fractions.{around_slash, digits_after, digits_before, fraction_at, fraction_items, fractions_to, is_slash_at, with_fractions}
+use Rattle.shape_text.specs.declared.fractions.FractionMasks.{FractionMasks}
 use Rattle.shape_pipeline.specs.Chains.{in_order, only_if}
 use Rattle.shape_pipeline.specs.Glyphs.{glyphs_substituted, glyphs_taken}
 use Rattle.shape_pipeline.specs.Masks.{fraction_masks, masks_set}
@@ -97,18 +97,18 @@ fractions_read m (suc n) limit budget scratch_flags v =
 
 -- ---- links
 
-drawn_alike : (a : View) (limit scratch_flags : ℕ) (b : Bool) → attachment_bit a.scratch_flags ≡ attachment_bit scratch_flags → ReadAlike (all_drawn_if b a) (all_drawn_if b (seen_as limit scratch_flags a))
+drawn_alike : (a : View) (limit scratch_flags : ℕ) (b : Bool) → attachment_bit a.scratch_flags ≡ attachment_bit scratch_flags → ReadAlike (all_drawn_if b a) (all_drawn_if b (with_limit_and_flags limit scratch_flags a))
 drawn_alike a limit scratch_flags true e = record { view = views_alike (all_drawn_if true a).view limit scratch_flags e; events = λ level. refl }
 drawn_alike a limit scratch_flags false e = record { view = views_alike a limit scratch_flags e; events = λ level. refl }
 
-drawn_counts : (ample : ℤ → Bool) (change : ℤ → ℤ) (v : View) (b : Bool) → ReadingCounts ample change v.max_ops (Ok (all_drawn_if b v)) (Ok (all_drawn_if b (rebudgeted change v)))
+drawn_counts : (ample : ℤ → Bool) (change : ℤ → ℤ) (v : View) (b : Bool) → ReadingCounts ample change v.max_ops (Ok (all_drawn_if b v)) (Ok (all_drawn_if b (with_budget_changed change v)))
 drawn_counts ample change v true = λ l. (l, refl)
 drawn_counts ample change v false = λ l. (l, refl)
 
 links_limits : DependsOnNoLimit (always links_followed)
 links_limits = record {
   limit = λ a b k. at_alike a b (λ w. ReadingsAlike (always links_followed a) (always links_followed w)) k (λ limit scratch_flags e.
-      subst (λ (n : ℕ). ReadAlike (links_followed a) (all_drawn_if (not (n == 0)) (seen_as limit scratch_flags a))) e (drawn_alike a limit scratch_flags (has_attachments a.scratch_flags) e));
+      subst (λ (n : ℕ). ReadAlike (links_followed a) (all_drawn_if (not (n == 0)) (with_limit_and_flags limit scratch_flags a))) e (drawn_alike a limit scratch_flags (has_attachments a.scratch_flags) e));
   budget = λ ample change fair v. drawn_counts ample change v (has_attachments v.scratch_flags);
 }
 

@@ -2,7 +2,7 @@
 use Rattle.std.specs.Prelude.{ℕ, ◌≡◌, true, false, List, map}
 use Rattle.buffer_common.specs.declared.direction.Direction.TheVariants.{LeftToRight}
 use Rattle.buffer_common.specs.declared.tag.Tag.{Tag}
-use Rattle.buffer_features.specs.declared.feature.Feature.{Feature}
+use Rattle.buffer_tags.specs.declared.feature.Feature.{Feature}
 use Rattle.buffer_glyphs.specs.declared.info.hb_glyph_info_t.{hb_glyph_info_t}
 use Rattle.buffer_glyphs.specs.Items.{Item, without_flags}
 use Rattle.buffer_core.specs.Sides.{Sides, all_glyphs}

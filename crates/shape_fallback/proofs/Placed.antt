@@ -91,8 +91,8 @@ go_on font by i count before g p st start now lt is bound w =
     let cut : drop i whole ≡ there.position ∷ left = w.rest ∙ walk_there font by before xs ps i (item_of g) p many_xs many_ps in
     let item : item_of (get_or (all_glyphs now) i g) ≡ get_or xs i (item_of g) =
     ap (λ (t : Sides). item_of (get_or (all_glyphs t) i g)) w.same ∙ sym (get_or-map item_of (all_glyphs start) i g (item_of g) (let all = w.glyphs in omega (arith, lt, all))) in
-    let place : get_or now.positions i p ≡ get_or ps i p = ap (λ qs. get_or qs i p) w.so_far ∙ still_there whole ps i p there.position left many_ps cut in
-    let made : st ≡ there = is ∙ ap (λ x. step font by x (get_or now.positions i p) before) item ∙ ap (λ q. step font by (get_or xs i (item_of g)) q before) place in
+    let position_is : get_or now.positions i p ≡ get_or ps i p = ap (λ qs. get_or qs i p) w.so_far ∙ still_there whole ps i p there.position left many_ps cut in
+    let made : st ≡ there = is ∙ ap (λ x. step font by x (get_or now.positions i p) before) item ∙ ap (λ q. step font by (get_or xs i (item_of g)) q before) position_is in
     let filled = refilled_whole (set now.positions i st.position) now.positions (length-set now.positions i st.position) in
     record {
       same = ap (λ (t : Sides). record t { positions = refilled_list (set now.positions i st.position) now.positions }) w.same;
@@ -109,11 +109,11 @@ go_on font by i count before g p st start now lt is bound w =
 pub goes_on : (font : FaceParts) (by : Placing) (i count : ℕ) (before : Before) (g : hb_glyph_info_t) (p : Position) (st : Step) (gs : List hb_glyph_info_t) (ps lent : List Position) (start now : Sides)
     → gs ≡ all_glyphs now → ps ≡ now.positions → lent ≡ now.positions → i < count → st ≡ step font by (item_of (get_or gs i g)) (get_or ps i p) before → HasBound st.before
     → OnTheWay font by i count before start now → OnTheWay font by (i + 1) count st.before start (with_positions_refilled (set lent i st.position) now)
-goes_on font by i count before g p st gs ps lent start now glyphs places is lt made bound w =
+goes_on font by i count before g p st gs ps lent start now glyphs positions_are is lt made bound w =
     let P : List Position → Type 0 = λ qs. OnTheWay font by (i + 1) count st.before start (with_positions_refilled (set qs i st.position) now) in
     let Q : ℕ → Type 0 = λ n. OnTheWay font by n count st.before start (with_positions_refilled (set now.positions i st.position) now) in
     let made' : st ≡ step font by (item_of (get_or (all_glyphs now) i g)) (get_or now.positions i p) before =
-    made ∙ ap (λ hs. step font by (item_of (get_or hs i g)) (get_or ps i p) before) glyphs ∙ ap (λ qs. step font by (item_of (get_or (all_glyphs now) i g)) (get_or qs i p) before) places in
+    made ∙ ap (λ hs. step font by (item_of (get_or hs i g)) (get_or ps i p) before) glyphs ∙ ap (λ qs. step font by (item_of (get_or (all_glyphs now) i g)) (get_or qs i p) before) positions_are in
     subst P (sym is) (subst Q (sym (add-one i)) (go_on font by i count before g p st start now lt made' bound w))
 
 all_taken : (whole : List Position) (i : ℕ) → drop i whole ≡ [] → take i whole ++ [] ≡ whole

@@ -62,7 +62,7 @@ pub(crate) fn component_of(base: &Base, glyph: &hb_glyph_info_t) -> u32
     }
 }
 
-fn place_of_component(left_to_right: bool, base: &Base, component: u32) -> i32
+fn component_index(left_to_right: bool, base: &Base, component: u32) -> i32
     requires base { base.now.components ≤ component_bound }
     requires component { component ≤ component_bound }
     ensures { result ≡ component_index left_to_right base.now component }
@@ -97,11 +97,11 @@ pub(crate) fn component_box(left_to_right: bool, base: &Base, component: u32) ->
     requires component { component ≤ component_bound }
     ensures { result ≡ component_box left_to_right base.now component }
 {
-    let place = place_of_component(left_to_right, base, component);
+    let index = component_index(left_to_right, base, component);
     hb_glyph_extents_t {
         x_bearing: plus(
             base.extents.x_bearing,
-            part_of(times(place, base.extents.width), base.components),
+            part_of(times(index, base.extents.width), base.components),
         ),
         width: part_of(base.extents.width, base.components),
         ..base.extents

@@ -61,25 +61,25 @@ fn recategorize_combining_class(u: u32, class: u8) -> u8
     ensures { result ≡ fallback_class u class }
 {
     if class < 200 {
-        place_of_mark(u, class)
+        class_of_mark(u, class)
     } else {
         class
     }
 }
 
-fn place_of_mark(u: u32, class: u8) -> u8
+fn class_of_mark(u: u32, class: u8) -> u8
     ensures { result ≡ class_of_mark u class }
 {
     if class == 0 {
-        place_of_unclassed(u)
+        class_of_unclassed(u)
     } else if u == 0x0E3A {
         BELOW_RIGHT
     } else {
-        place_of_class(class)
+        class_of_class(class)
     }
 }
 
-fn place_of_unclassed(u: u32) -> u8
+fn class_of_unclassed(u: u32) -> u8
     ensures { result ≡ class_of_unclassed u }
 {
     if is_thai_above(u) {
@@ -105,7 +105,7 @@ fn is_lao_above(u: u32) -> bool
     u == 0x0EB1 || (0x0EB4 <= u && u <= 0x0EB7) || u == 0x0EBB || (0x0ECC <= u && u <= 0x0ECD)
 }
 
-fn place_of_class(class: u8) -> u8
+fn class_of_class(class: u8) -> u8
     ensures { result ≡ class_of_class class }
 {
     match class {

@@ -77,7 +77,7 @@ pub fn position_marks(
         left_to_right: is_left_to_right(components),
         adjust_offsets,
     };
-    place_marks(face, by, buffer);
+    position_each(face, by, buffer);
 }
 
 fn is_left_to_right(direction: Direction) -> bool
@@ -218,7 +218,7 @@ fn make_step(
 }
 
 #[tactic(auto, using(crate::proofs::Placed::begins, crate::proofs::Placed::goes_on, crate::proofs::Placed::ends, crate::proofs::Placed::numbers_within))]
-fn place_marks(face: &Face, by: Placing, buffer: &mut hb_buffer_t)
+fn position_each(face: &Face, by: Placing, buffer: &mut hb_buffer_t)
     requires ready { IsReady buffer.old }
     requires numbers { are_glyphs (items_of buffer.old) ≡ true }
     ensures { Becomes (items_of buffer.old) (positioned_marks face.now by Nothing (items_of buffer.old)

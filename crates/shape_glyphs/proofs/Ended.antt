@@ -8,9 +8,9 @@ use Rattle.buffer_glyphs.specs.declared.info.hb_glyph_info_t.{hb_glyph_info_t}
 use Rattle.buffer_glyphs.specs.Items.{Item, Position, item_of, item_masked}
 use Rattle.buffer_glyphs.specs.Events.{Spread}
 use Rattle.buffer_core.specs.Readings.{BufferState, View, always}
-use Rattle.buffer_groups.specs.DeletionWalk.{DeletionState, whole_walk}
-use Rattle.buffer_groups.specs.Events.{deletions}
-use Rattle.buffer_groups.specs.Facts.{items_kept, positions_kept}
+use Rattle.buffer_lists.specs.DeletionWalk.{DeletionState, whole_walk}
+use Rattle.buffer_lists.specs.Events.{deletions}
+use Rattle.buffer_lists.specs.Facts.{items_kept, positions_kept}
 use Rattle.buffer_core.specs.Grouping.{with_picked_deleted}
 use Rattle.buffer_core.specs.Merging.{with_has_glyph_flags, with_glyphs as with_all}
 use Rattle.buffer_core.proofs.Told.{stage_flags_ignore_glyph_flags}

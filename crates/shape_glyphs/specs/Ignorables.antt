@@ -7,8 +7,8 @@ use Rattle.layout_face.specs.declared.parts.FaceParts.{FaceParts}
 use Rattle.layout_face.specs.Glyphs.{nominal_glyph}
 use Rattle.buffer_glyphs.specs.Items.{Item}
 use Rattle.buffer_core.specs.Readings.{View, Read, with_events}
-use Rattle.buffer_groups.specs.Events.{deletions}
-use Rattle.buffer_groups.specs.Facts.{items_kept, positions_kept}
+use Rattle.buffer_lists.specs.Events.{deletions}
+use Rattle.buffer_lists.specs.Facts.{items_kept, positions_kept}
 use Rattle.buffer_core.specs.Graphemes.{is_default_ignorable}
 use Rattle.buffer_stages.specs.Stages.{with_items_mapped}
 
@@ -25,6 +25,7 @@ removes_ignorables flags = bit_and flags.0 8 == 8
 abbrev pub invisible_glyph : BufferFlags → Option ℕ → FaceParts → Option ℕ
 invisible_glyph flags set font = if removes_ignorables flags then None else option_or set (nominal_glyph 0x20 font)
 
+-- an item that has the given glyph if it is a default ignorable (HarfBuzz: hb_ot_hide_default_ignorables)
 abbrev pub hidden_item : ℕ → Item → Item
 hidden_item glyph x = if is_default_ignorable x then record x { number = glyph } else x
 

@@ -13,7 +13,7 @@ use Rattle.buffer_core.specs.Sides.{Sides, all_glyphs, flag_requests_of, items_o
 use Rattle.buffer_core.specs.Merging.{with_output_merged, with_glyph_skipped}
 use Rattle.buffer_core.specs.Lending.{with_glyph_ahead}
 use Rattle.buffer_core.specs.Moving.{after_move_to}
-use Rattle.buffer_stages.specs.Brought.{frame_of}
+use Rattle.buffer_stages.specs.Appending.{frame_of}
 use Rattle.shape_normalize.specs.Composed.{composition_events, HasRoom, IsComposed, IsWritten}
 use Rattle.shape_normalize.proofs.Room.{room_kept}
 
@@ -30,8 +30,8 @@ room_passed s a room next kept = let same = ap length kept in room_kept s a (ap 
 pub room_merged : (from to : ℕ) (s a b : Sides) → HasRoom s → a ≡ after_next_glyphs 1 s → all_glyphs a ≡ all_glyphs s → b ≡ with_output_merged from to a → items_of b ≡ items_of a → HasRoom b
 room_merged from to s a b room next kept merges items = let same = merged_count s a b kept items in room_kept s b (ap frame_of merges ∙ ap frame_of next) (omega (arith, same)) room
 
-pub place_within : (s a b : Sides) → all_glyphs a ≡ all_glyphs s → items_of b ≡ items_of a → length s.behind ≤ length (all_glyphs b)
-place_within s a b kept items = let same = merged_count s a b kept items in let sides = length-append s.behind s.ahead in omega (arith, same, sides)
+pub index_within : (s a b : Sides) → all_glyphs a ≡ all_glyphs s → items_of b ≡ items_of a → length s.behind ≤ length (all_glyphs b)
+index_within s a b kept items = let same = merged_count s a b kept items in let sides = length-append s.behind s.ahead in omega (arith, same, sides)
 
 pub mark_left : (s a b d : Sides) → 0 < length s.ahead → all_glyphs a ≡ all_glyphs s → items_of b ≡ items_of a → d ≡ after_move_to (length s.behind) b → 0 < length d.ahead
 mark_left s a b d some kept items back =

@@ -11,20 +11,20 @@ use Rattle.buffer_core.specs.Readings.{Read, View}
 use Rattle.buffer_core.specs.Sides.{Sides, all_glyphs, stage_flags, items_of, view_of, origins_by, settings_of, with_output, after_sync, fits_joined, has_room, zero_positions}
 use Rattle.buffer_stages.specs.Ready.{IsReady}
 use Rattle.buffer_glyphs.specs.Rewriting.{Arrangement}
-use Rattle.shape_rounds.proofs.Lemmas.Chain.{all_shifted_none}
-use Rattle.buffer_stages.specs.Brought.{Brought, RefusesRoomFor, with_arranged, within_limit}
+use Rattle.shape_normalize.proofs.Lemmas.Chain.{all_shifted_none}
+use Rattle.buffer_stages.specs.Appending.{AppendsArrangement, RefusesRoomFor, with_arranged, within_limit}
 use Rattle.shape_normalize.specs.Rounds.{IsArranged}
 
 further_none : (n : ℕ) → 0 + n ≡ n
 further_none n = omega arith
 
-walked_items : (a : Arrangement) (s mid : Sides) → Brought a [] (with_output s) mid → items_of mid ≡ a.items
+walked_items : (a : Arrangement) (s mid : Sides) → AppendsArrangement a [] (with_output s) mid → items_of mid ≡ a.items
 walked_items a s mid b = map-append item_of mid.behind mid.ahead ∙ ap (λ xs. xs ++ strip mid.ahead) b.behind ∙ ap (λ xs. a.items ++ xs) b.ahead ∙ append-nil a.items
 
-walked_count : (a : Arrangement) (s mid : Sides) → Brought a [] (with_output s) mid → length (all_glyphs mid) ≡ length a.items
+walked_count : (a : Arrangement) (s mid : Sides) → AppendsArrangement a [] (with_output s) mid → length (all_glyphs mid) ≡ length a.items
 walked_count a s mid b = sym (length-map (all_glyphs mid) item_of) ∙ ap length (walked_items a s mid b)
 
-walked_view : (a : Arrangement) (s mid : Sides) → Brought a [] (with_output s) mid → view_of (after_sync mid) ≡ (with_arranged a (view_of s)).view
+walked_view : (a : Arrangement) (s mid : Sides) → AppendsArrangement a [] (with_output s) mid → view_of (after_sync mid) ≡ (with_arranged a (view_of s)).view
 walked_view a s mid b =
     ap (λ xs. record { items = xs; positions = zero_positions (length (all_glyphs mid)); lig_id = mid.lig_id; max_ops = mid.max_ops; random = 1; max_len = mid.max_len; direction = mid.direction; scratch_flags = stage_flags mid.scratch_flags }) (walked_items a s mid b)
     ∙ ap (λ n. record { items = a.items; positions = zero_positions n; lig_id = mid.lig_id; max_ops = mid.max_ops; random = 1; max_len = mid.max_len; direction = mid.direction; scratch_flags = stage_flags mid.scratch_flags }) (walked_count a s mid b)
@@ -49,11 +49,11 @@ past_limit n r v e over =
     let t : nat_le n v.max_len ≡ false = grind (arith, nat_tests, lt) in
     cond-false _ _ _ t ∙ ap Err (sym over.0)
 
-same_limit : (a : Arrangement) (s mid : Sides) → Brought a [] (with_output s) mid → mid.max_len ≡ s.max_len
+same_limit : (a : Arrangement) (s mid : Sides) → AppendsArrangement a [] (with_output s) mid → mid.max_len ≡ s.max_len
 same_limit a s mid b = ap (λ (t : Sides). t.max_len) b.frame
 
 -- a list that was walked is all of the buffer
-pub list_arranged : (a : Arrangement) (s mid new : Sides) → IsReady s → Brought a [] (with_output s) mid → new ≡ after_sync mid → IsArranged a s new
+pub list_arranged : (a : Arrangement) (s mid new : Sides) → IsReady s → AppendsArrangement a [] (with_output s) mid → new ≡ after_sync mid → IsArranged a s new
 list_arranged a s mid new ready b after =
     subst (IsArranged a s) (sym after) (record {
       view = walked_view a s mid b;
@@ -68,13 +68,13 @@ list_arranged a s mid new ready b after =
       };
     })
 
-pub list_fits : (a : Arrangement) (s mid : Sides) → Brought a [] (with_output s) mid → fits_joined mid ≡ true → length a.items ≤ s.max_len
+pub list_fits : (a : Arrangement) (s mid : Sides) → AppendsArrangement a [] (with_output s) mid → fits_joined mid ≡ true → length a.items ≤ s.max_len
 list_fits a s mid b fits = let few = fits_parts mid fits in omega (arith, few, walked_count a s mid b, same_limit a s mid b)
 
 pub list_overfills : (a : Arrangement) (s : Sides) (e : ShapeCause) → RefusesRoomFor (length a.items) e (with_output s) → e ≢ OutOfMemory → (e ≡ TooLong) × (s.max_len < length a.items)
 list_overfills a s e over some = let past = over some in let lt = past.1 in (past.0, omega (arith, lt))
 
-pub list_too_long : (a : Arrangement) (s mid : Sides) → IsReady s → Brought a [] (with_output s) mid → fits_joined mid ≡ false → s.max_len < length a.items
+pub list_too_long : (a : Arrangement) (s mid : Sides) → IsReady s → AppendsArrangement a [] (with_output s) mid → fits_joined mid ≡ false → s.max_len < length a.items
 list_too_long a s mid ready b full =
     let lt = too_long mid (ap (λ (t : Sides). t.has_refused) b.frame ∙ ready.unrefused) full in
     omega (arith, lt, walked_count a s mid b, same_limit a s mid b)

@@ -1,3 +1,13 @@
+pub mod Lemmas
+pub mod Supported
+pub mod Parts
+pub mod Put
+pub mod Select
+pub mod Selections
+pub mod Each
+pub mod GroupWalk
+pub mod Spaces
+pub mod Found
 pub mod Joined
 pub mod Room
 pub mod Compositions

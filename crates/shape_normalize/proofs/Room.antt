@@ -7,7 +7,7 @@ use Rattle.std.proofs.lemmas.List.{length-append}
 use Rattle.buffer_core.specs.Sides.{Sides, all_glyphs, fits_joined, fits_next, has_output_room, has_room, with_output}
 use Rattle.buffer_core.specs.Moving.{fits_moved, side_holds, has_room_back}
 use Rattle.buffer_stages.specs.Ready.{IsReady}
-use Rattle.buffer_stages.specs.Brought.{frame_of}
+use Rattle.buffer_stages.specs.Appending.{frame_of}
 use Rattle.shape_normalize.specs.Composed.{HasRoom}
 
 pub fits_next_glyph : (s : Sides) → HasRoom s → 0 < length s.ahead → fits_next 1 s ≡ true

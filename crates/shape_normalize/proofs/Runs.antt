@@ -10,8 +10,8 @@ use Rattle.std.proofs.Math.Seq.{take-append_seam, drop-append_seam}
 use Rattle.buffer_glyphs.specs.declared.info.hb_glyph_info_t.{hb_glyph_info_t}
 use Rattle.buffer_glyphs.specs.Items.{Item, item_of, strip}
 use Rattle.buffer_glyphs.specs.Events.{Sort}
-use Rattle.buffer_groups.specs.Events.{order_of}
-use Rattle.buffer_groups.specs.Sorting.{Spanned}
+use Rattle.buffer_lists.specs.Events.{order_of}
+use Rattle.buffer_lists.specs.Sorting.{SpanMerge}
 use Rattle.buffer_core.specs.Sides.{Sides, all_glyphs, items_of, origins_of, origins_by}
 use Rattle.buffer_core.specs.Sorting.{with_spanned}
 use Rattle.buffer_core.proofs.Told.{stage_flags_ignore_glyph_flags}
@@ -21,19 +21,19 @@ use Rattle.buffer_unicode_tables.specs.ClassOrder.{run_order}
 use Rattle.buffer_glyphs.specs.Rewriting.{Arrangement, beside, in_turn, eventless_arrangement, shifted_event}
 use Rattle.buffer_properties.specs.Characters.{mark_class}
 use Rattle.buffer_properties.specs.Ordering.{arranged_run, arranged_runs, ordered_list, sorted_order}
-use Rattle.buffer_stages.specs.Brought.{frame_of}
+use Rattle.buffer_stages.specs.Appending.{frame_of}
 use Rattle.buffer_stages.specs.Rearranged.{IsRearranged, Rearranges}
-use Rattle.shape_rounds.proofs.Lemmas.Chain.{all_shifted_none, in_turn_both, items_both}
+use Rattle.shape_normalize.proofs.Lemmas.Chain.{all_shifted_none, in_turn_both, items_both}
 use Rattle.shape_normalize.specs.Runs.{in_class_order, RunsOn, Meets}
 use Rattle.shape_normalize.proofs.Sorted.{sorted_order_is}
 use Rattle.shape_normalize.proofs.Walk.{by_frame, get_seam}
 
 -- ---- a sort
 
-sort_frame : (t : Spanned) (s new : Sides) → new ≡ with_spanned t s → frame_of new ≡ frame_of s
+sort_frame : (t : SpanMerge) (s new : Sides) → new ≡ with_spanned t s → frame_of new ≡ frame_of s
 sort_frame t s new e = ap frame_of e ∙ ap (λ n. record s { behind = []; ahead = []; read = 0; scratch_flags = n }) (stage_flags_ignore_glyph_flags t.is_marked s.scratch_flags)
 
-pub sort_ready : (t : Spanned) (s new : Sides) → IsReady s → new ≡ with_spanned t s → length (all_glyphs new) ≡ length (all_glyphs s) → IsReady new
+pub sort_ready : (t : SpanMerge) (s new : Sides) → IsReady s → new ≡ with_spanned t s → length (all_glyphs new) ≡ length (all_glyphs s) → IsReady new
 sort_ready t s new ready e count = record {
   closed = ap (λ (q : Sides). q.is_open) e ∙ ready.closed;
   front = ap (λ (q : Sides). q.behind) e ∙ ap (λ (ys : List hb_glyph_info_t). take (length ys) t.glyphs) ready.front;
@@ -60,7 +60,7 @@ sorted_items : (run : List Item) → key_order mark_class run ≡ (in_class_orde
 unfolding run_order
 sorted_items run = refl
 
-pub sort_rearranges : (t : Spanned) (start end : ℕ) (s new : Sides) → IsReady s → new ≡ with_spanned t s → length (all_glyphs new) ≡ length (all_glyphs s)
+pub sort_rearranges : (t : SpanMerge) (start end : ℕ) (s new : Sides) → IsReady s → new ≡ with_spanned t s → length (all_glyphs new) ≡ length (all_glyphs s)
     → items_of new ≡ take start (items_of s) ++ key_order mark_class (slice_range (items_of s) start end) ++ drop end (items_of s)
     → origins_of new ≡ origins_by (Sort start (order_of (map mark_class (slice_range (items_of s) start end))) ∷ []) s → Rearranges in_class_order start end s new
 sort_rearranges t start end s new ready e count items happened front run rest is len upto =
@@ -68,14 +68,14 @@ sort_rearranges t start end s new ready e count items happened front run rest is
     let one : take start (items_of s) ≡ front = front_of front run rest (items_of s) start is len in
     let two : slice_range (items_of s) start end ≡ run = run_of front run rest (items_of s) start end is len upto in
     let three : drop end (items_of s) ≡ rest = rest_of front run rest (items_of s) start end is len upto in
-    let place : start ≡ length front + 0 = omega (arith, len) in
+    let index : start ≡ length front + 0 = omega (arith, len) in
     record {
       items =
           items ∙ ap₂ (λ ys zs. ys ++ zs) (ap₂ (λ ys zs. ys ++ key_order mark_class zs) one two) three ∙ append_assoc front (key_order mark_class run) rest
           ∙ ap (λ ys. front ++ (ys ++ rest)) (sorted_items run);
       happened =
           happened ∙ ap (λ ys. origins_by (Sort start (order_of (map mark_class ys)) ∷ []) s) two ∙ ap (λ os. origins_by (Sort start os ∷ []) s) (sym (sorted_order_is (map mark_class run)))
-          ∙ ap (λ n. origins_by (Sort n (sorted_order (map mark_class run)) ∷ []) s) place;
+          ∙ ap (λ n. origins_by (Sort n (sorted_order (map mark_class run)) ∷ []) s) index;
       frame = sort_frame t s new e;
       ready = sort_ready t s new ready e count;
     }
@@ -169,8 +169,8 @@ item_there gs front y ys g seen at =
 pub item_met : (i : ℕ) (front run : List Item) (y : Item) (ys : List Item) (start : ℕ) (g : hb_glyph_info_t) (s : Sides) → items_of s ≡ front ++ (run ++ y ∷ ys) → length front ≡ start → start + length run ≡ i → slice_get (all_glyphs s) i ≡ Some g
     → item_of g ≡ y
 item_met i front run y ys start g s e len upto at =
-    let place : i ≡ length (front ++ run) = let all = length-append front run in omega (arith, all, len, upto) in
-    item_there (all_glyphs s) (front ++ run) y ys g (e ∙ sym (append_assoc front run (y ∷ ys))) (ap (slice_get (all_glyphs s)) (sym place) ∙ at)
+    let index : i ≡ length (front ++ run) = let all = length-append front run in omega (arith, all, len, upto) in
+    item_there (all_glyphs s) (front ++ run) y ys g (e ∙ sym (append_assoc front run (y ∷ ys))) (ap (slice_get (all_glyphs s)) (sym index) ∙ at)
 
 pub run_goes_on : (r : List Item → Arrangement) (start i n : ℕ) (g : hb_glyph_info_t) (s : Sides) → slice_get (all_glyphs s) i ≡ Some g → n ≡ mark_class (item_of g) → n ≢ 0 → Meets r start i start s s
 run_goes_on r start i n g s at class some front run y ys e len upto =

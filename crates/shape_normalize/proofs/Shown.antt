@@ -13,7 +13,7 @@ use Rattle.buffer_core.specs.Lending.{with_glyph_ahead}
 use Rattle.buffer_stages.specs.Ready.{IsReady}
 use Rattle.buffer_properties.specs.Characters.{mark_class, visible_item}
 use Rattle.buffer_properties.specs.Ordering.{joiner_between, joiners_shown, separates_nothing, with_joiners_shown}
-use Rattle.buffer_stages.specs.Brought.{frame_of}
+use Rattle.buffer_stages.specs.Appending.{frame_of}
 use Rattle.shape_normalize.specs.Runs.{HasItems, ShowsAt}
 use Rattle.shape_normalize.proofs.Compositions.{length_set, set_seen, set_same}
 use Rattle.shape_normalize.proofs.Walk.{get_seam, set_seam}

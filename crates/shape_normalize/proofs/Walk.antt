@@ -15,8 +15,8 @@ use Rattle.buffer_glyphs.specs.Rewriting.{Arrangement, eventless_arrangement, sh
 use Rattle.buffer_properties.specs.Characters.{is_mark, mark_class}
 use Rattle.buffer_properties.specs.Composing.{becoming, composite, composition_from, composed_list, with_composition, is_not_blocked, last_class}
 use Rattle.buffer_properties.specs.Normalizer.{Normalizer}
-use Rattle.buffer_stages.specs.Brought.{Brought, frame_of}
-use Rattle.shape_rounds.proofs.Lemmas.Chain.{all_shifted_none}
+use Rattle.buffer_stages.specs.Appending.{AppendsArrangement, frame_of}
+use Rattle.shape_normalize.proofs.Lemmas.Chain.{all_shifted_none}
 use Rattle.shape_normalize.specs.Composed.{composition_events, HasRoom}
 use Rattle.shape_normalize.specs.Starters.{IsAt, Joins, Composes}
 use Rattle.shape_normalize.proofs.Room.{room_kept}
@@ -229,10 +229,10 @@ composing_more c count at n m start now next lt w goes = by_case w.ys refl
             }
 
 pub composing_done : (c : Normalizer) (count at n : ℕ) (s p now : Sides) → count ≤ at → s.behind ≡ [] → count ≡ length s.ahead → 0 < count → p ≡ after_next_glyphs 1 s → all_glyphs p ≡ all_glyphs s → IsComposing c count at n p now
-    → Brought (composed_list c (strip s.ahead)) [] s now
+    → AppendsArrangement (composed_list c (strip s.ahead)) [] s now
 composing_done c count at n s p now le front len some next same w = by_case s.ahead refl w.ys refl
   where
-    by_case : (gs : List hb_glyph_info_t) → s.ahead ≡ gs → (zs : List Item) → w.ys ≡ zs → Brought (composed_list c (strip s.ahead)) [] s now
+    by_case : (gs : List hb_glyph_info_t) → s.ahead ≡ gs → (zs : List Item) → w.ys ≡ zs → AppendsArrangement (composed_list c (strip s.ahead)) [] s now
     by_case gs e (y ∷ ys) f = absurd (let more = ap length f in let left = w.left in omega (arith, more, left, le))
     by_case [] e [] f = absurd (let none = ap length e in omega (arith, none, len, some))
     by_case (g ∷ gs) e [] f =
@@ -252,10 +252,10 @@ composing_done c count at n s p now le front len some next same w = by_case s.ah
           frame = w.frame ∙ frame;
         }
 
-pub nothing_composed : (c : Normalizer) (s : Sides) → 0 ≡ length s.ahead → Brought (composed_list c (strip s.ahead)) [] s s
+pub nothing_composed : (c : Normalizer) (s : Sides) → 0 ≡ length s.ahead → AppendsArrangement (composed_list c (strip s.ahead)) [] s s
 nothing_composed c s none = by_case s.ahead refl
   where
-    by_case : (gs : List hb_glyph_info_t) → s.ahead ≡ gs → Brought (composed_list c (strip s.ahead)) [] s s
+    by_case : (gs : List hb_glyph_info_t) → s.ahead ≡ gs → AppendsArrangement (composed_list c (strip s.ahead)) [] s s
     by_case (g ∷ gs) e = absurd (let some = ap length e in omega (arith, none, some))
     by_case [] e = rw e (record { behind = sym (append-nil (strip s.behind)); ahead = refl; happened = refl; frame = refl })
 
@@ -306,9 +306,9 @@ reaches_past n done x [] y ys g h s at some last next =
 reaches_past n done x (z ∷ zs) y ys g h s at some last next =
     let there = count_at done x (z ∷ zs) s at.behind in
     let sides = length-append done (x ∷ []) in
-    let place : length (done ++ x ∷ []) + length zs ≡ length s.behind - 1 = omega (arith, there, sides) in
+    let index : length (done ++ x ∷ []) + length zs ≡ length s.behind - 1 = omega (arith, there, sides) in
     let seen : slice_get ((done ++ x ∷ []) ++ z ∷ zs) (length (done ++ x ∷ []) + length zs) ≡ Some (item_of g) =
-    ap₂ slice_get (append_assoc done (x ∷ []) (z ∷ zs) ∙ sym at.behind) place ∙ (slice_get-map item_of s.behind (length s.behind - 1) ∙ ap (option_map item_of) last) in
+    ap₂ slice_get (append_assoc done (x ∷ []) (z ∷ zs) ∙ sym at.behind) index ∙ (slice_get-map item_of s.behind (length s.behind - 1) ∙ ap (option_map item_of) last) in
     ap₂ nat_lt (last_at (done ++ x ∷ []) z zs (item_of g) seen) (ap mark_class (sym (current_item n done x (z ∷ zs) y ys h s at next)))
 
 -- ---- what becomes of a mark and a starter

@@ -20,9 +20,9 @@ use Rattle.buffer_properties.specs.Expanding.{expanded_list}
 use Rattle.buffer_properties.specs.Normalizer.{Normalizer, is_composing}
 use Rattle.buffer_properties.specs.NormalizedList.{arranged_marks, composition_if, has_later_mark, normalized_items}
 use Rattle.buffer_properties.specs.Ordering.{joiners_shown, ordered_list}
-use Rattle.buffer_stages.specs.Brought.{with_arranged, within_limit}
+use Rattle.buffer_stages.specs.Appending.{with_arranged, within_limit}
 use Rattle.buffer_stages.specs.Rearranged.{IsRearranged}
-use Rattle.shape_rounds.proofs.Lemmas.Chain.{all_shifted_none}
+use Rattle.shape_normalize.proofs.Lemmas.Chain.{all_shifted_none}
 use Rattle.shape_normalize.specs.Rounds.{IsArranged, normalization}
 use Rattle.shape_normalize.specs.Runs.{HasItems}
 use Rattle.shape_normalize.proofs.Joined.{has_limit, past_limit}
@@ -67,10 +67,10 @@ placed_arranged a s t zero is =
     let count : length (all_glyphs s) ≡ length a.items =
     let one = ap (λ (ps : List Position). length ps) (stay ∙ zero) in
     omega (arith, many, one, is.ready.placed, length-replicate (length (all_glyphs s)) zero_position, length-map (all_glyphs t) item_of) in
-    let places : t.positions ≡ zero_positions (length a.items) = stay ∙ zero ∙ ap zero_positions count in
+    let positions_are : t.positions ≡ zero_positions (length a.items) = stay ∙ zero ∙ ap zero_positions count in
     record {
       view =
-          ap (λ xs. record (view_of t) { items = xs }) items ∙ ap (λ ps. record (view_of t) { items = a.items; positions = ps }) places
+          ap (λ xs. record (view_of t) { items = xs }) items ∙ ap (λ ps. record (view_of t) { items = a.items; positions = ps }) positions_are
           ∙ ap (λ (f : Sides). record { items = a.items; positions = zero_positions (length a.items); lig_id = f.lig_id; max_ops = f.max_ops; random = 1; max_len = f.max_len; direction = f.direction; scratch_flags = f.scratch_flags }) is.frame;
       origins = is.happened ∙ ap (λ es. origins_by es s) (all_shifted_none a.events);
       settings = ap settings_of is.frame;

@@ -5,7 +5,7 @@ use Rattle.buffer_glyphs.specs.Items.{Item, strip}
 use Rattle.buffer_glyphs.specs.Levels.{InOutput}
 use Rattle.buffer_glyphs.specs.Events.{Event, Merge, Replace}
 use Rattle.buffer_core.specs.Sides.{Sides, all_glyphs, origins_of, origins_by}
-use Rattle.buffer_stages.specs.Brought.{frame_of}
+use Rattle.buffer_stages.specs.Appending.{frame_of}
 
 -- an output is open, no call has failed, and each side has room for the whole list
 pub record HasRoom (s : Sides) : Type 0 where

@@ -1,3 +1,5 @@
+pub mod Glyphs
+pub mod Walking
 pub mod Rounds
 pub mod Composed
 pub mod Starters

@@ -7,7 +7,7 @@ use Rattle.buffer_glyphs.specs.Rewriting.{Arrangement}
 use Rattle.buffer_properties.specs.Expanding.{expanded_list}
 use Rattle.buffer_properties.specs.NormalizedList.{normalized_items}
 use Rattle.buffer_properties.specs.Normalizer.{Normalizer}
-use Rattle.buffer_stages.specs.Brought.{with_arranged, within_limit}
+use Rattle.buffer_stages.specs.Appending.{with_arranged, within_limit}
 
 -- the stage that normalizes the list and resets all positions to zero; it fails where the decomposed list would have
 -- more than `max_len` items (HarfBuzz: hb_ot_shape_normalize)

@@ -8,7 +8,7 @@ use Rattle.buffer_unicode_tables.specs.ClassOrder.{run_order}
 use Rattle.buffer_glyphs.specs.Rewriting.{Arrangement}
 use Rattle.buffer_properties.specs.Characters.{mark_class}
 use Rattle.buffer_properties.specs.Ordering.{arranged_run, joiner_between, sorted_order}
-use Rattle.buffer_stages.specs.Brought.{frame_of}
+use Rattle.buffer_stages.specs.Appending.{frame_of}
 use Rattle.buffer_stages.specs.Rearranged.{IsRearranged}
 
 -- the items sorted stably by combining class

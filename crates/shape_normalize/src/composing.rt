@@ -5,14 +5,14 @@ ghost use Rattle.buffer_core.specs.Sides.{all_glyphs, after_next_glyphs, origins
 ghost use Rattle.buffer_core.specs.Lending.{with_glyph_ahead};
 ghost use Rattle.buffer_core.specs.Moving.{after_move_to};
 ghost use Rattle.buffer_properties.specs.Characters.{standing_for, with_glyph};
-ghost use Rattle.buffer_stages.specs.Brought.{frame_of};
+ghost use Rattle.buffer_stages.specs.Appending.{frame_of};
 ghost use Rattle.shape_normalize.specs.Composed.{composition_events, HasRoom, IsComposed, IsWritten};
 
 use buffer_core::buffer::hb_buffer_t;
 use buffer_glyphs::cause::ShapeCause;
 use buffer_glyphs::info::hb_glyph_info_t;
-use shape_rounds::characters::becoming;
-use shape_rounds::normalizing::Normalizing;
+use crate::characters::becoming;
+use crate::normalizing::Normalizing;
 
 /// Outputs the current glyph; the output has room for it.
 #[tactic(auto, using(crate::proofs::Room::fits_next_glyph))]
@@ -31,7 +31,7 @@ pub(crate) fn pass_glyph(buffer: &mut hb_buffer_t) -> Result<(), ShapeCause>
 
 /// Moves the cursor to an index of the list; both sides have room for the whole list.
 #[tactic(auto, using(crate::proofs::Room::fits_going))]
-fn go_to(at: usize, buffer: &mut hb_buffer_t) -> Result<(), ShapeCause>
+fn move_cursor(at: usize, buffer: &mut hb_buffer_t) -> Result<(), ShapeCause>
     requires room { HasRoom buffer.old }
     requires within { at ≤ length (all_glyphs buffer.old) }
     ensures moved { OnOk result (buffer.new ≡ after_move_to at buffer.old) }
@@ -60,7 +60,7 @@ fn take_mark(starter: usize, buffer: &mut hb_buffer_t) -> Result<(), ShapeCause>
     pass_glyph(buffer)?;
     let end = buffer.out_len();
     buffer.merge_out_clusters(starter, end);
-    go_to(count, buffer)?;
+    move_cursor(count, buffer)?;
     buffer.skip_glyph();
     Ok(())
 }
@@ -82,9 +82,9 @@ fn write_out(at: usize, info: hb_glyph_info_t, buffer: &mut hb_buffer_t) -> Resu
     ensures err { IfErr result (λ e. e ≡ ShapeCause.OutOfMemory) }
 {
     let count = buffer.out_len();
-    go_to(at, buffer)?;
+    move_cursor(at, buffer)?;
     write_ahead(0, info, buffer);
-    go_to(count, buffer)?;
+    move_cursor(count, buffer)?;
     Ok(())
 }
 

@@ -12,7 +12,7 @@ use crate::composing::write_ahead;
 use buffer_core::buffer::hb_buffer_t;
 use buffer_glyphs::flags::UnicodeProps;
 use buffer_glyphs::info::hb_glyph_info_t;
-use shape_rounds::characters::mark_class;
+use crate::characters::mark_class;
 
 /// COMBINING GRAPHEME JOINER.
 const JOINER: u32 = 0x034F;

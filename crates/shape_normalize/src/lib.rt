@@ -1,9 +1,15 @@
-//! The normal form of a text for a font, round by round on the buffer.
+//! The normal form of a text for a font, round by round on the buffer, with the requests of the rounds to a shaper
+//! (rustybuzz: hb/ot_shape_normalize.rs).
 #![tactic(auto)]
 
+pub mod characters;
 pub mod composing;
+pub mod expanding;
 pub mod joiners;
 pub mod normalize;
+pub mod normalizing;
 pub mod ordering;
+mod outputting;
 pub mod rounds;
+mod selecting;
 pub mod starters;

@@ -18,7 +18,7 @@ use buffer_glyphs::cause::ShapeCause;
 use buffer_glyphs::info::hb_glyph_info_t;
 use buffer_properties::NormalizationMode;
 use buffer_properties::categories::is_mark;
-use shape_rounds::normalizing::Normalizing;
+use crate::normalizing::Normalizing;
 use std::alloc::Global;
 
 /// Whether the mode composes marks with their base.

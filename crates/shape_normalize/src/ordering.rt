@@ -3,7 +3,7 @@
 ghost use Rattle.std.specs.Prelude.{◌≡◌, ◌<◌, ◌≤◌, ◌++◌, ◌∷◌, [], false, length, map, take, drop, slice_get, slice_range, Some, IfErr, IfOk, OnOk};
 ghost use Rattle.buffer_glyphs.specs.Events.{Sort};
 ghost use Rattle.buffer_glyphs.specs.Items.{item_of};
-ghost use Rattle.buffer_groups.specs.Events.{order_of};
+ghost use Rattle.buffer_lists.specs.Events.{order_of};
 ghost use Rattle.buffer_core.specs.Sides.{all_glyphs, items_of, origins_by, origins_of};
 ghost use Rattle.buffer_core.specs.Sorting.{with_range_sorted};
 ghost use Rattle.buffer_stages.specs.Ready.{IsReady};
@@ -17,8 +17,8 @@ use buffer_core::buffer::hb_buffer_t;
 use buffer_glyphs::cause::ShapeCause;
 use buffer_glyphs::info::hb_glyph_info_t;
 use buffer_properties::MAX_COMBINING_MARKS;
-use shape_rounds::characters::mark_class;
-use shape_rounds::normalizing::Normalizing;
+use crate::characters::mark_class;
+use crate::normalizing::Normalizing;
 use std::alloc::{AllocError, Global};
 
 /// Sorts the items `start..end` by combining class, stably; each smallest range that this permutes is merged.

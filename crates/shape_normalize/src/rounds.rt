@@ -10,8 +10,8 @@ ghost use Rattle.shape_normalize.specs.Rounds.{IsArranged};
 use crate::starters::compose_list;
 use buffer_core::buffer::hb_buffer_t;
 use buffer_glyphs::cause::ShapeCause;
-use shape_rounds::expanding::expand_list;
-use shape_rounds::normalizing::Normalizing;
+use crate::expanding::expand_list;
+use crate::normalizing::Normalizing;
 
 /// The first round: each character is decomposed as far as the shaper and the font require, a variation selector is
 /// combined with the character before it where the font has the pair, and each character gets the font's glyph. It

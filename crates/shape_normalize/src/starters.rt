@@ -5,7 +5,7 @@ ghost use Rattle.std.specs.Option.{option_and_then};
 ghost use Rattle.buffer_glyphs.specs.Items.{Item, item_of, strip};
 ghost use Rattle.buffer_core.specs.Sides.{all_glyphs};
 ghost use Rattle.buffer_properties.specs.Composing.{becoming, composed_list, is_not_blocked};
-ghost use Rattle.buffer_stages.specs.Brought.{Brought};
+ghost use Rattle.buffer_stages.specs.Appending.{AppendsArrangement};
 ghost use Rattle.shape_normalize.specs.Composed.{HasRoom};
 ghost use Rattle.shape_normalize.specs.Starters.{become, Composes, Composites, IsAt, Passes};
 
@@ -14,8 +14,8 @@ use buffer_core::buffer::hb_buffer_t;
 use buffer_glyphs::cause::ShapeCause;
 use buffer_glyphs::info::hb_glyph_info_t;
 use buffer_properties::categories::is_mark;
-use shape_rounds::characters::mark_class;
-use shape_rounds::normalizing::Normalizing;
+use crate::characters::mark_class;
+use crate::normalizing::Normalizing;
 
 /// Whether nothing between the last starter and the current item blocks it: no item there has its combining class or a
 /// greater one (UAX 15 D115).
@@ -114,7 +114,7 @@ fn compose_all<N: Normalizing>(
     requires front { buffer.old.behind ≡ [] }
     requires counted { count ≡ length buffer.old.ahead }
     requires some { 0 < count }
-    ensures ok { OnOk result (Brought (composed_list (N.normalizer by.now) (strip buffer.old.ahead)) [] buffer.old
+    ensures ok { OnOk result (AppendsArrangement (composed_list (N.normalizer by.now) (strip buffer.old.ahead)) [] buffer.old
         buffer.new) }
     ensures room { OnOk result (HasRoom buffer.new) }
     ensures err { IfErr result (λ e. e ≡ ShapeCause.OutOfMemory) }
@@ -141,7 +141,7 @@ pub(crate) fn compose_list<N: Normalizing>(
     requires room { HasRoom buffer.old }
     requires front { buffer.old.behind ≡ [] }
     requires counted { count ≡ length buffer.old.ahead }
-    ensures ok { OnOk result (Brought (composed_list (N.normalizer by.now) (strip buffer.old.ahead)) [] buffer.old
+    ensures ok { OnOk result (AppendsArrangement (composed_list (N.normalizer by.now) (strip buffer.old.ahead)) [] buffer.old
         buffer.new) }
     ensures room { OnOk result (HasRoom buffer.new) }
     ensures err { IfErr result (λ e. e ≡ ShapeCause.OutOfMemory) }

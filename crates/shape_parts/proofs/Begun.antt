@@ -14,17 +14,17 @@ use Rattle.buffer_stage_laws.specs.Lemmas.Stages.{at_read, both_read, stages_kee
 use Rattle.buffer_stage_laws.specs.Lemmas.Plainly.{even_plainly}
 use Rattle.buffer_stage_laws.specs.Stages.{KeepsParts}
 use Rattle.layout_face.specs.declared.parts.FaceParts.{FaceParts}
-use Rattle.shape_masks.specs.Masks.{with_one_mask}
+use Rattle.shape_text.specs.Masks.{with_one_mask}
 use Rattle.shape_text.specs.Circle.{first_circle}
 use Rattle.shape_text.specs.Clusters.{with_clusters}
 use Rattle.shape_text.specs.NativeOrder.{native_order}
 use Rattle.shape_text.specs.Properties.{with_properties}
-use Rattle.shape_stage_laws.specs.Graphemes.{graphemes_ordered}
-use Rattle.shape_stage_laws.specs.Lines.{KeepsFall, KeepsPartsOnLine, StaysInLine}
-use Rattle.shape_stage_laws.proofs.Lines.{always_in_line, in_line_keeps_parts_on_line, then_keeps_fall}
-use Rattle.shape_stage_laws.proofs.Characters.{circle_stays, properties_stay}
-use Rattle.shape_stage_laws.proofs.Graphemes.{graphemes_are_known, graphemes_keep_fall, graphemes_keep_parts}
-use Rattle.shape_stage_laws.proofs.Masks.{first_mask_stays}
+use Rattle.shape_parts.specs.Graphemes.{graphemes_ordered}
+use Rattle.shape_parts.specs.Lines.{KeepsFall, KeepsPartsOnLine, StaysInLine}
+use Rattle.shape_parts.proofs.StageLines.{always_in_line, in_line_keeps_parts_on_line, then_keeps_fall}
+use Rattle.shape_parts.proofs.Characters.{circle_stays, properties_stay}
+use Rattle.shape_parts.proofs.Graphemes.{graphemes_are_known, graphemes_keep_fall, graphemes_keep_parts}
+use Rattle.shape_parts.proofs.Masks.{first_mask_stays}
 use Rattle.shape_pipeline.specs.Chains.{in_order}
 use Rattle.shape_pipeline.specs.Characters.{text_begun}
 use Rattle.shape_pipeline.specs.Limits.{initial_view}

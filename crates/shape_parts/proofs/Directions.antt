@@ -14,7 +14,7 @@ use Rattle.layout_substitution.specs.Lookups.{backward_trials, cut_at_index}
 use Rattle.layout_substitution.specs.Substituting.{substitution_stages}
 use Rattle.layout_positioning.specs.Positioning.{positioning_stages}
 use Rattle.layout_laws.specs.Lemmas.Stages.{IsOfStages, positioned_has, substituted_has}
-use Rattle.shape_stage_laws.specs.Lines.{KeepsDirection}
+use Rattle.shape_parts.specs.Lines.{KeepsDirection}
 
 -- a reading leaves a direction
 abbrev ReadsDirection : Direction → Reading → Type 0

@@ -17,20 +17,20 @@ use Rattle.buffer_core.specs.Readings.{BufferState, Read, Reading, Stage, View, 
 use Rattle.buffer_stage_laws.specs.Stages.{StaysUnturned}
 use Rattle.buffer_stage_laws.specs.Lemmas.Stages.{at_read, both_read, same_unturned, stages_stay_unturned}
 use Rattle.layout_laws.specs.Lemmas.Unturned.{positioning_stays_unturned, substitution_stays_unturned}
-use Rattle.layout_links.specs.Finishing.{links_followed}
+use Rattle.layout_offsets.specs.Finishing.{links_followed}
 use Rattle.layout_substitution.specs.Substituting.{substitution_stages}
 use Rattle.layout_positioning.specs.Positioning.{positioning_stages}
 use Rattle.shape_glyphs.specs.Flags.{with_flags_spread}
 use Rattle.shape_glyphs.specs.Ignorables.{ignorables_hidden}
 use Rattle.shape_glyphs.specs.Selectors.{with_selectors}
 use Rattle.shape_glyphs.specs.Widths.{zero_widths}
-use Rattle.shape_stage_laws.specs.Lines.{KeepsDirection, KeepsFall, StaysInLine, falls_on_line}
-use Rattle.shape_stage_laws.proofs.Lines.{in_line_keeps_parts_on_line, same_on_line, then_keeps_fall}
-use Rattle.shape_stage_laws.proofs.Glyphs.{followed_links_stay, ignorables_stay, selectors_stay, spread_stays, zeroed_widths_stay}
+use Rattle.shape_parts.specs.Lines.{KeepsDirection, KeepsFall, StaysInLine, falls_on_line}
+use Rattle.shape_parts.proofs.StageLines.{in_line_keeps_parts_on_line, same_on_line, then_keeps_fall}
+use Rattle.shape_parts.proofs.Glyphs.{followed_links_stay, ignorables_stay, selectors_stay, spread_stays, zeroed_widths_stay}
 use Rattle.shape_pipeline.specs.Chains.{in_order, only_if}
 use Rattle.shape_pipeline.specs.Endings.{text_ended}
 use Rattle.shape_pipeline.specs.Glyphs.{glyphs_substituted, glyphs_taken}
-use Rattle.shape_pipeline.specs.Limits.{final_view, unshaped}
+use Rattle.shape_pipeline.specs.Limits.{final_view, unshaped_text}
 use Rattle.shape_pipeline.specs.Masks.{ranges_set}
 use Rattle.shape_pipeline.specs.Positioning.{marks_positioned, positions_adjusted, positions_begun, positions_ended, visual_order}
 use Rattle.shape_pipeline.specs.Reading.{after_ranges, before_ranges, clusters_after, positioning_stage, reading, shaping_stage}
@@ -168,12 +168,12 @@ pub clusters_stand_in_line : ClustersStandInLine
 unfolding text_reading
 clusters_stand_in_line p text r h d o along e = by_test (length text.view.items == 0) refl e (texts_have_parts p text r false h o e)
   where
-    by_test : (b : Bool) → (length text.view.items == 0) ≡ b → ◌≡◌ {A = Reading} (if b then Ok (unshaped text.view) else reading p text) (Ok r)
+    by_test : (b : Bool) → (length text.view.items == 0) ≡ b → ◌≡◌ {A = Reading} (if b then Ok (unshaped_text text.view) else reading p text) (Ok r)
         → HaveParts false text.asks text.level (r.events text.level) text.origins × (length (state_after r text).origins ≡ length r.view.items)
         → IsInOrder (is_backward p.direction) (numbers (state_after r text).origins)
     by_test true none f k =
         let bare : text.origins ≡ [] = no_origins text.origins (o.counted ∙ eqb-true (length text.view.items) 0 none) in
-        at_read (λ q. IsInOrder (is_backward p.direction) (numbers (origins_after text.asks text.level (q.events text.level) text.origins))) (unshaped text.view) r f
+        at_read (λ q. IsInOrder (is_backward p.direction) (numbers (origins_after text.asks text.level (q.events text.level) text.origins))) (unshaped_text text.view) r f
         (subst (λ (os : List Origin). IsInOrder (is_backward p.direction) (numbers os)) (sym bare) (none_in_order (is_backward p.direction)))
     by_test false some f k =
         let clusters = clusters_after (before_ranges p text.view) text in

@@ -8,7 +8,7 @@ use Rattle.buffer_glyphs.specs.Events.{Reverse, origins_after}
 use Rattle.buffer_glyphs.specs.Order.{BringsNone}
 use Rattle.buffer_glyphs.specs.Origins.{Origin, numbers}
 use Rattle.buffer_glyphs.specs.Lemmas.EventParts.{origins_keep_numbers}
-use Rattle.buffer_parts.specs.CharacterParts.{UnitedIn}
+use Rattle.buffer_parts.specs.CharacterParts.{AreUnitedByEvents}
 use Rattle.buffer_parts.specs.Keeping.{AreKept, HaveParts}
 use Rattle.buffer_parts.specs.Lemmas.Counts.{counts_follow}
 use Rattle.buffer_parts.specs.Lemmas.CharacterParts.{parts_are_united}
@@ -17,17 +17,17 @@ use Rattle.buffer_core.specs.Readings.{BufferState, Read, Reading, Stage, View, 
 use Rattle.buffer_stage_laws.specs.Stages.{KeepsParts}
 use Rattle.buffer_stage_laws.specs.Lemmas.Stages.{at_read, nothing_keeps, runs_have_parts, same_keeps, stages_keep_parts}
 use Rattle.layout_laws.specs.Lemmas.Kept.{positioning_keeps_parts, substitution_keeps_parts}
-use Rattle.layout_links.specs.Finishing.{links_followed}
+use Rattle.layout_offsets.specs.Finishing.{links_followed}
 use Rattle.shape_glyphs.specs.Flags.{with_flags_spread}
 use Rattle.shape_glyphs.specs.Ignorables.{ignorables_hidden}
 use Rattle.shape_glyphs.specs.Selectors.{with_selectors}
 use Rattle.shape_glyphs.specs.Widths.{zero_widths}
-use Rattle.shape_stage_laws.specs.Lines.{StaysInLine}
-use Rattle.shape_stage_laws.proofs.Glyphs.{followed_links_stay, ignorables_stay, positioned_marks_stay, selectors_stay, spread_stays, zeroed_widths_stay}
+use Rattle.shape_parts.specs.Lines.{StaysInLine}
+use Rattle.shape_parts.proofs.Glyphs.{followed_links_stay, ignorables_stay, positioned_marks_stay, selectors_stay, spread_stays, zeroed_widths_stay}
 use Rattle.shape_pipeline.specs.Chains.{only_if}
 use Rattle.shape_pipeline.specs.Endings.{text_ended}
 use Rattle.shape_pipeline.specs.Glyphs.{glyphs_substituted, glyphs_taken}
-use Rattle.shape_pipeline.specs.Limits.{final_view, unshaped}
+use Rattle.shape_pipeline.specs.Limits.{final_view, unshaped_text}
 use Rattle.shape_pipeline.specs.Masks.{ranges_set}
 use Rattle.shape_pipeline.specs.Positioning.{adjusts_marks, marks_positioned, positions_adjusted, positions_begun, positions_ended, visual_order}
 use Rattle.shape_pipeline.specs.Reading.{after_ranges, before_ranges, clusters_after, positioning_stage, reading, shaping_stage}
@@ -103,8 +103,8 @@ shaping_keeps_text_parts p clusters h =
 
 -- ---- a text
 
-unshaped_keeps : KeepsParts (always unshaped)
-unshaped_keeps v r level e = at_read (λ q. AreKept level (q.events level) (length v.items) (length q.view.items)) (unshaped v) r e (nothing_keeps level (length v.items))
+unshaped_keeps : KeepsParts (always unshaped_text)
+unshaped_keeps v r level e = at_read (λ q. AreKept level (q.events level) (length v.items) (length q.view.items)) (unshaped_text v) r e (nothing_keeps level (length v.items))
 
 read_by : (stage : Stage) (p : Shaping) (text : BufferState) (r : Read) (falls : Bool) → KeepsParts stage → stage text.view ≡ Ok r → HasOrderedClusters falls text
     → HaveParts falls text.asks text.level (r.events text.level) text.origins × (length (state_after r text).origins ≡ length r.view.items)
@@ -119,9 +119,9 @@ pub texts_have_parts : (p : Shaping) (text : BufferState) (r : Read) (falls : Bo
 unfolding text_reading
 texts_have_parts p text r falls h o e = by_test (length text.view.items == 0) e
   where
-    by_test : (b : Bool) → ◌≡◌ {A = Reading} (if b then Ok (unshaped text.view) else reading p text) (Ok r)
+    by_test : (b : Bool) → ◌≡◌ {A = Reading} (if b then Ok (unshaped_text text.view) else reading p text) (Ok r)
         → HaveParts falls text.asks text.level (r.events text.level) text.origins × (length (state_after r text).origins ≡ length r.view.items)
-    by_test true f = read_by (always unshaped) p text r falls unshaped_keeps f o
+    by_test true f = read_by (always unshaped_text) p text r falls unshaped_keeps f o
     by_test false f =
         let clusters = clusters_after (before_ranges p text.view) text in
         read_by (shaping_stage p clusters) p text r falls (shaping_keeps_text_parts p clusters h) (sym (read_as p text) ∙ f) o
@@ -147,7 +147,7 @@ slices_are_no_coarser_than_parts p text r falls end m n h o e some hm hn pm pn o
     let k = texts_have_parts p text r falls h o e in
     let sliced = k.0.sliced end (some_left text r k.1 some) in
     let same = (sliced.shared m n hm hn pm pn).0 share in
-    other_united m n (UnitedIn (parts_of text.level (r.events text.level)) (numbers text.origins) m n) other ((parts_are_united (parts_of text.level (r.events text.level)) (numbers text.origins) m n).0 same)
+    other_united m n (AreUnitedByEvents (parts_of text.level (r.events text.level)) (numbers text.origins) m n) other ((parts_are_united (parts_of text.level (r.events text.level)) (numbers text.origins) m n).0 same)
 
 -- ---- ranges
 

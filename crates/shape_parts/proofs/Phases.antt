@@ -2,25 +2,25 @@
 use Rattle.std.proofs.Common.{ℕ, List, [], ◌∷◌, length, refl}
 use Rattle.buffer_core.specs.Readings.{Stage, always}
 use Rattle.buffer_parts.specs.Lemmas.Plainly.{steady_kept}
-use Rattle.layout_links.specs.Starting.{links_cleared}
+use Rattle.layout_offsets.specs.Starting.{links_cleared}
 use Rattle.layout_substitution.specs.Substituting.{substitution_stages}
 use Rattle.layout_positioning.specs.Positioning.{positioning_stages}
 use Rattle.layout_map.specs.Masks.{mask_at_one}
 use Rattle.script_plan.specs.declared.planned.TheConstants.{HB_OT_SHAPE_ZERO_WIDTH_MARKS_BY_GDEF_EARLY, HB_OT_SHAPE_ZERO_WIDTH_MARKS_BY_GDEF_LATE}
 use Rattle.std.specs.Prelude.{codes}
-use Rattle.shape_masks.specs.Fractions.{with_fractions}
+use Rattle.shape_text.specs.Fractions.{with_fractions}
 use Rattle.shape_normalize.specs.Rounds.{normalization}
 use Rattle.shape_glyphs.specs.Advances.{with_default_positions}
 use Rattle.shape_glyphs.specs.Classes.{with_font_classes}
 use Rattle.shape_glyphs.specs.Glyphs.{with_glyphs, with_synthesized_classes}
 use Rattle.shape_fallback.specs.Classes.{with_fallback_classes}
 use Rattle.shape_fallback.specs.Spaces.{with_spaces}
-use Rattle.shape_stage_laws.specs.Lines.{StaysInLine}
-use Rattle.shape_stage_laws.proofs.Lines.{always_in_line}
-use Rattle.shape_stage_laws.proofs.Characters.{rotation_stays}
-use Rattle.shape_stage_laws.proofs.Glyphs.{advances_stay, cleared_links_stay, fallback_classes_stay, font_classes_stay, glyphs_stay, spaces_stay, synthesized_classes_stay, zeroed_marks_stay}
-use Rattle.shape_stage_laws.proofs.Masks.{fractions_stay, ranges_stay}
-use Rattle.shape_stage_laws.proofs.Normalized.{normalizing_stays}
+use Rattle.shape_parts.specs.Lines.{StaysInLine}
+use Rattle.shape_parts.proofs.StageLines.{always_in_line}
+use Rattle.shape_parts.proofs.Characters.{rotation_stays}
+use Rattle.shape_parts.proofs.Glyphs.{advances_stay, cleared_links_stay, fallback_classes_stay, font_classes_stay, glyphs_stay, spaces_stay, synthesized_classes_stay, zeroed_marks_stay}
+use Rattle.shape_parts.proofs.Masks.{fractions_stay, ranges_stay}
+use Rattle.shape_parts.proofs.Normalized.{normalizing_stays}
 use Rattle.shape_pipeline.specs.Chains.{only_if}
 use Rattle.shape_pipeline.specs.Characters.{characters_chosen, normalizer, text_begun, turned_to_line}
 use Rattle.shape_pipeline.specs.Glyphs.{glyphs_substituted, glyphs_taken}

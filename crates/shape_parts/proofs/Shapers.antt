@@ -60,8 +60,8 @@ use Rattle.script_dispatch.specs.Rules.{rules_of}
 use Rattle.script_dispatch.specs.declared.any_shaper.hb_ot_any_shaper_t.{hb_ot_any_shaper_t}
 use Rattle.script_dispatch.specs.declared.any_shaper.hb_ot_any_shaper_t.TheVariants as any
 use Rattle.shape_pipeline.specs.Shaped.{language_tags}
-use Rattle.shape_stage_laws.specs.Lines.{KeepsDirection}
-use Rattle.shape_stage_laws.proofs.Lines.{always_direction, same_in_line}
+use Rattle.shape_parts.specs.Lines.{KeepsDirection}
+use Rattle.shape_parts.proofs.StageLines.{always_direction, same_in_line}
 use Rattle.shape_parts.specs.Premises.{RulesKeepDirection}
 use Rattle.shape_parts.specs.TextLaws.{ShapersKeepDirection}
 use Rattle.shape_parts.proofs.Directions.{stages_direction}

@@ -13,7 +13,7 @@ use Rattle.buffer_glyphs.specs.Parts.{after_part_events}
 use Rattle.buffer_glyphs.specs.Lemmas.EventParts.{origins_keep_numbers}
 use Rattle.buffer_glyphs.specs.Lemmas.Numbers.{Has, has_here}
 use Rattle.buffer_glyphs.specs.Lemmas.Origins.{numbers_origins}
-use Rattle.buffer_parts.specs.CharacterParts.{UnitedIn}
+use Rattle.buffer_parts.specs.CharacterParts.{AreUnitedByEvents}
 use Rattle.buffer_parts.specs.Fits.{FitsText}
 use Rattle.buffer_parts.specs.Slices.{ShareSlice, slices}
 use Rattle.buffer_core.specs.Readings.{BufferState, Follows, IsMonotone, Read, Reading, state_after}
@@ -153,7 +153,7 @@ shaped_slices_are_no_coarser p bytes text result r m n h mono once e f some hm h
     let left = left_by_this (text_reading p (state_of text)) (state_of text) (state_of result) r e f in
     let starts : numbers (origins_of text) ≡ character_starts bytes = numbers_origins (all_glyphs text) ∙ once in
     let there = subst (λ (ns : List ℕ). ShareSlice (slices ns (length bytes)) m n) (result_clusters result (state_after r (state_of text)) left) share in
-    subst (λ (ns : List ℕ). UnitedIn (parts_of text.level (r.events text.level)) ns m n) starts
+    subst (λ (ns : List ℕ). AreUnitedByEvents (parts_of text.level (r.events text.level)) ns m n) starts
     (slices_are_no_coarser_than_parts p (state_of text) r false (length bytes) m n h (ordered_state false text mono (pushed_rise bytes text once)) e (items_left result (state_of text) r left some)
     (subst (λ (ns : List ℕ). Has ns m) (sym starts) hm) (subst (λ (ns : List ℕ). Has ns n) (sym starts) hn) pm pn other there)
 

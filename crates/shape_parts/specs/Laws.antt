@@ -5,13 +5,13 @@ use Rattle.buffer_glyphs.specs.EventParts.{parts_of}
 use Rattle.buffer_glyphs.specs.Order.{BringsNone, IsInOrder, IsLeast, has_number}
 use Rattle.buffer_glyphs.specs.Origins.{numbers}
 use Rattle.buffer_glyphs.specs.Parts.{after_part_events}
-use Rattle.buffer_parts.specs.CharacterParts.{UnitedIn}
+use Rattle.buffer_parts.specs.CharacterParts.{AreUnitedByEvents}
 use Rattle.buffer_parts.specs.Counts.{count_after}
 use Rattle.buffer_parts.specs.Fits.{FitsText}
 use Rattle.buffer_parts.specs.Slices.{ShareSlice, slices}
 use Rattle.buffer_core.specs.Readings.{BufferState, Read, state_after}
 use Rattle.buffer_stage_laws.specs.Stages.{KeepsParts}
-use Rattle.shape_stage_laws.specs.Lines.{KeepsPartsOnLine}
+use Rattle.shape_parts.specs.Lines.{KeepsPartsOnLine}
 use Rattle.shape_pipeline.specs.Characters.{text_begun}
 use Rattle.shape_pipeline.specs.Reading.{before_ranges, clusters_after, shaping_stage}
 use Rattle.shape_pipeline.specs.Shaped.{text_reading}
@@ -54,7 +54,7 @@ ClustersFitText = (p : Shaping) (text : BufferState) (r : Read) (falls : Bool) �
 abbrev pub SlicesAreNoCoarserThanParts : Type 0
 SlicesAreNoCoarserThanParts = (p : Shaping) (text : BufferState) (r : Read) (falls : Bool) (end m n : ℕ) → ShapingKeepsParts p → HasOrderedClusters falls text → text_reading p text ≡ Ok r → r.view.items ≢ []
     → IsTrue (has_number (numbers text.origins) m) → IsTrue (has_number (numbers text.origins) n) → m < end → n < end → m ≢ n → ShareSlice (slices (numbers (state_after r text).origins) end) m n
-    → UnitedIn (parts_of text.level (r.events text.level)) (numbers text.origins) m n
+    → AreUnitedByEvents (parts_of text.level (r.events text.level)) (numbers text.origins) m n
 
 -- ---- the clusters that the masks of ranges read
 

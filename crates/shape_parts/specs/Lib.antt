@@ -1,3 +1,6 @@
+pub mod Lines
+pub mod Graphemes
+pub mod StageLaws
 pub mod Premises
 pub mod Laws
 pub mod TextLaws

@@ -10,7 +10,7 @@ use Rattle.buffer_core.specs.Sides.{Sides, all_glyphs}
 use Rattle.buffer_stages.specs.Settings.{TextSettings}
 use Rattle.layout_face.specs.declared.parts.FaceParts.{FaceParts}
 use Rattle.script_plan.specs.Rules.{EndAfterStart, RulesKeepParts, ShaperRules, Spans}
-use Rattle.shape_stage_laws.specs.Lines.{KeepsDirection}
+use Rattle.shape_parts.specs.Lines.{KeepsDirection}
 use Rattle.shape_pipeline.specs.Shaping.{Shaping}
 use Rattle.source_slices.specs.Fitting.{character_starts}
 

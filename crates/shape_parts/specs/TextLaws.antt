@@ -6,12 +6,12 @@ use Rattle.buffer_common.specs.Direction.{is_backward}
 use Rattle.buffer_glyphs.specs.EventParts.{parts_of}
 use Rattle.buffer_glyphs.specs.Items.{clusters}
 use Rattle.buffer_common.specs.declared.tag.Tag.{Tag}
-use Rattle.buffer_features.specs.declared.feature.Feature.{Feature}
+use Rattle.buffer_tags.specs.declared.feature.Feature.{Feature}
 use Rattle.buffer_unicode_tables.specs.Lawful.{IsLawful}
 use Rattle.buffer_unicode_tables.specs.Tables.{Tables}
 use Rattle.layout_face.specs.declared.parts.FaceParts.{FaceParts}
 use Rattle.buffer_glyphs.specs.Order.{IsInOrder, IsLeast, IsRising, has_number}
-use Rattle.buffer_parts.specs.CharacterParts.{UnitedIn}
+use Rattle.buffer_parts.specs.CharacterParts.{AreUnitedByEvents}
 use Rattle.buffer_parts.specs.Slices.{ShareSlice, slices}
 use Rattle.buffer_glyphs.specs.Parts.{after_part_events}
 use Rattle.buffer_core.specs.Readings.{IsMonotone, Read}
@@ -70,7 +70,7 @@ ShapedTextsFit = (p : Shaping) (bytes : List ℕ) (text result : Sides) → Shap
 abbrev pub ShapedSlicesAreNoCoarser : Type 0
 ShapedSlicesAreNoCoarser = (p : Shaping) (bytes : List ℕ) (text result : Sides) (r : Read) (m n : ℕ) → ShapingKeepsParts p → IsMonotone text.level → IsPushedOnce bytes text → text_reading p (state_of text) ≡ Ok r → IsShapedBy p text result → all_glyphs result ≢ []
     → IsTrue (has_number (character_starts bytes) m) → IsTrue (has_number (character_starts bytes) n) → m < length bytes → n < length bytes → m ≢ n → ShareSlice (slices (clusters (all_glyphs result)) (length bytes)) m n
-    → UnitedIn (parts_of text.level (r.events text.level)) (character_starts bytes) m n
+    → AreUnitedByEvents (parts_of text.level (r.events text.level)) (character_starts bytes) m n
 
 -- each run of glyphs of a shaped text has one set of glyph flags
 abbrev pub ShapedRunsHaveOneFlagSet : Type 0

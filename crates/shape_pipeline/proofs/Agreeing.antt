@@ -5,7 +5,7 @@ use Rattle.std.proofs.lemmas.Nat.{and_mask}
 use Rattle.buffer_common.specs.declared.direction.Direction.{Direction}
 use Rattle.buffer_common.specs.declared.script.Script.{Script}
 use Rattle.buffer_common.specs.declared.tag.Tag.{Tag}
-use Rattle.buffer_features.specs.declared.feature.Feature.{Feature}
+use Rattle.buffer_tags.specs.declared.feature.Feature.{Feature}
 use Rattle.layout_face.specs.declared.parts.FaceParts.{FaceParts}
 use Rattle.buffer_unicode_tables.specs.Tables.{Tables}
 use Rattle.buffer_glyphs.specs.declared.cause.ShapeCause.{ShapeCause}
@@ -96,7 +96,7 @@ plans_serve_texts font tables tags spans features text plan is =
 
 -- ---- texts that are alike are guessed alike
 
--- the script that the numbers of items tell
+-- the script that the numbers of items show
 abbrev script_told : List Item → Option Script
 script_told [] = None
 script_told (x ∷ xs) = if has_own_script x.number then Some (script_of x.number) else script_told xs

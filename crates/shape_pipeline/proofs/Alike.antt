@@ -1,14 +1,14 @@
 -- Readings of runs that are seen alike.
 use Rattle.std.proofs.Common.{ℕ, ◌≡◌, ◌&&◌, Bool, true, false, if◌then◌else◌, List, [], ◌∷◌, Ok, Err, refl, sym, ap, ◌∙◌}
-use Rattle.buffer_features.specs.declared.feature.Feature.{Feature}
-use Rattle.buffer_features.specs.Feature.{is_global}
+use Rattle.buffer_tags.specs.declared.feature.Feature.{Feature}
+use Rattle.buffer_tags.specs.Feature.{is_global}
 use Rattle.buffer_glyphs.specs.Items.{Item}
 use Rattle.buffer_core.specs.Readings.{Reading, BufferState, Stage, View, and_then, then_reading, with_events}
 use Rattle.buffer_core.specs.Masks.{items_set}
 use Rattle.buffer_core.specs.Sides.{Settings}
 use Rattle.buffer_stages.specs.Settings.{text_flags, text_settings_of}
 use Rattle.layout_map.specs.Compiled.{OtMapValue}
-use Rattle.shape_masks.specs.Ranges.{bits_of, shifted_value, with_all_ranges, with_range}
+use Rattle.shape_text.specs.Ranges.{bits_of, shifted_value, with_all_ranges, with_range}
 use Rattle.shape_pipeline.specs.Chains.{in_order}
 use Rattle.shape_pipeline.specs.ReadingLaws.{have_no_ranges}
 use Rattle.shape_pipeline.specs.Masks.{ranges_set}

@@ -10,7 +10,7 @@ use Rattle.buffer_core.specs.Settings.{after_enter, length_limit, steps_limit}
 use Rattle.buffer_stages.specs.Ready.{IsDone, IsReady}
 use Rattle.buffer_stages.specs.Settings.{text_settings}
 use Rattle.buffer_stages.specs.Stages.{IsFollowed}
-use Rattle.shape_masks.specs.Masks.{with_one_mask}
+use Rattle.shape_text.specs.Masks.{with_one_mask}
 use Rattle.shape_text.specs.Properties.{are_characters, with_properties}
 use Rattle.shape_text.specs.Circle.{first_circle}
 use Rattle.shape_text.specs.Clusters.{with_clusters}

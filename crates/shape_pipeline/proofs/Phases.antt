@@ -6,12 +6,12 @@ use Rattle.buffer_glyphs.specs.declared.cause.ShapeCause.{ShapeCause}
 use Rattle.buffer_core.specs.Readings.{Stage, always, reading_of}
 use Rattle.buffer_core.specs.Sides.{Sides, state_of, settings_of}
 use Rattle.buffer_stages.specs.Ready.{DoesGlyphStage, IsDone}
-use Rattle.layout_links.specs.Finishing.{links_followed}
+use Rattle.layout_offsets.specs.Finishing.{links_followed}
 use Rattle.buffer_stages.specs.Settings.{text_settings}
 use Rattle.layout_substitution.specs.Substituting.{substitution_stages}
 use Rattle.layout_positioning.specs.Positioning.{positioning_stages}
 use Rattle.buffer_stages.specs.Stages.{DoesStage, IsFollowed}
-use Rattle.shape_masks.specs.Fractions.{with_fractions}
+use Rattle.shape_text.specs.Fractions.{with_fractions}
 use Rattle.shape_glyphs.specs.Classes.{with_font_classes}
 use Rattle.shape_glyphs.specs.Flags.{with_flags_spread}
 use Rattle.shape_glyphs.specs.Glyphs.{with_synthesized_classes}

@@ -15,7 +15,7 @@ use Rattle.buffer_common.specs.declared.tag.Tag.{Tag}
 use Rattle.buffer_glyphs.specs.declared.cause.ShapeCause.{ShapeCause}
 use Rattle.buffer_glyphs.specs.declared.cause.ShapeCause.TheVariants.{OutOfMemory}
 use Rattle.buffer_glyphs.specs.declared.info.hb_glyph_info_t.{hb_glyph_info_t}
-use Rattle.buffer_features.specs.declared.feature.Feature.{Feature}
+use Rattle.buffer_tags.specs.declared.feature.Feature.{Feature}
 use Rattle.layout_face.specs.declared.parts.FaceParts.{FaceParts}
 use Rattle.buffer_unicode_tables.specs.Tables.{Tables}
 use Rattle.buffer_glyphs.specs.Items.{item_of, strip}
@@ -23,7 +23,7 @@ use Rattle.buffer_core.specs.Readings.{Follows, Reading}
 use Rattle.buffer_core.specs.Settings.{after_leave}
 use Rattle.buffer_core.specs.Steps.{follows_events}
 use Rattle.buffer_core.specs.Sides.{Sides, all_glyphs, items_of, state_of, view_of}
-use Rattle.shape_pipeline.specs.Limits.{unshaped}
+use Rattle.shape_pipeline.specs.Limits.{unshaped_text}
 use Rattle.shape_pipeline.specs.Results.{IsResultOf}
 use Rattle.script_plan.specs.declared.plan.hb_script_plan_t.{hb_script_plan_t}
 use Rattle.buffer_stages.specs.Settings.{TextSettings, text_settings}
@@ -41,16 +41,16 @@ use Rattle.shape_pipeline.specs.Shaped.{by_plan, by_shaper, by_text, language_ta
 
 -- ---- a text without characters, and another
 
-unshaped_follows : (s : Sides) → Follows (Ok (unshaped (view_of s))) (state_of s) (state_of (after_leave s))
+unshaped_follows : (s : Sides) → Follows (Ok (unshaped_text (view_of s))) (state_of s) (state_of (after_leave s))
 unshaped_follows s =
     let same = ap (λ n. record (view_of s) { max_len = max 0x3FFF_FFFF n; max_ops = pos 0x1FFF_FFFF; lig_id = 0 }) (sym (length-map (all_glyphs s) item_of)) in
-    follows_events [] (unshaped (view_of s)).view (state_of s) (state_of (after_leave s)) same refl refl refl
+    follows_events [] (unshaped_text (view_of s)).view (state_of s) (state_of (after_leave s)) same refl refl refl
 
 left_follows : (p : Shaping) (s : Sides) → (length (all_glyphs s) == 0) ≡ true → Follows (text_reading p (state_of s)) (state_of s) (state_of (after_leave s))
 unfolding text_reading
 left_follows p s empty =
     let count : (length (items_of s) == 0) ≡ true = ap (λ n. n == 0) (length-map (all_glyphs s) item_of) ∙ empty in
-    let P : Bool → Type 0 = λ b. Follows (if b then Ok (unshaped (state_of s).view) else reading p (state_of s)) (state_of s) (state_of (after_leave s)) in
+    let P : Bool → Type 0 = λ b. Follows (if b then Ok (unshaped_text (state_of s).view) else reading p (state_of s)) (state_of s) (state_of (after_leave s)) in
     subst P (sym count) (unshaped_follows s)
 
 pub empty_follows : (p : Shaping) (s new : Sides) → new ≡ after_leave s → (length (all_glyphs s) == 0) ≡ true → Follows (text_reading p (state_of s)) (state_of s) (state_of new)
@@ -60,7 +60,7 @@ text_is_read : (p : Shaping) (s : Sides) → (length (all_glyphs s) == 0) ≡ fa
 unfolding text_reading
 text_is_read p s some =
     let count : (length (items_of s) == 0) ≡ false = ap (λ n. n == 0) (length-map (all_glyphs s) item_of) ∙ some in
-    ap (λ b. if b then Ok (unshaped (state_of s).view) else reading p (state_of s)) count
+    ap (λ b. if b then Ok (unshaped_text (state_of s).view) else reading p (state_of s)) count
 
 pub text_follows : (p : Shaping) (s shaped new : Sides) → new ≡ shaped → (length (all_glyphs s) == 0) ≡ false → Follows (reading p (state_of s)) (state_of s) (state_of shaped) → Follows (text_reading p (state_of s)) (state_of s) (state_of new)
 text_follows p s shaped new same some f =
@@ -103,9 +103,9 @@ shaped_as_guessed q r s mid t same guess h = subst (IsShaped r q) (same ∙ gues
 pub refused_as_guessed : (q : TextSettings → Shaping) (r : Result Sides ShapeFault) (s mid t : Sides) → s ≡ mid → mid ≡ t → IsRefused r q s → IsRefused r q t
 refused_as_guessed q r s mid t same guess h = subst (IsRefused r q) (same ∙ guess) h
 
--- what is told of a text and its result holds of the text as it was guessed
-pub told_as_guessed : (P : Sides → Result Sides ShapeFault → Type 0) (r : Result Sides ShapeFault) (s mid t : Sides) → s ≡ mid → mid ≡ t → P s r → P t r
-told_as_guessed P r s mid t same guess h = subst (λ x. P x r) (same ∙ guess) h
+-- what holds of a text and its result holds of the text as it was guessed
+pub holds_as_guessed : (P : Sides → Result Sides ShapeFault → Type 0) (r : Result Sides ShapeFault) (s mid t : Sides) → s ≡ mid → mid ≡ t → P s r → P t r
+holds_as_guessed P r s mid t same guess h = subst (λ x. P x r) (same ∙ guess) h
 
 abbrev pub HandsOn : Sides → Result Sides ShapeFault → Type 0
 HandsOn s r = IfOk r (λ (glyphs : Sides). IsResultOf s glyphs)

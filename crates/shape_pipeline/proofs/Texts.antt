@@ -8,7 +8,7 @@ use Rattle.buffer_common.specs.declared.direction.Direction.{Direction}
 use Rattle.buffer_common.specs.declared.language.Language.{Language}
 use Rattle.buffer_common.specs.declared.script.Script.{Script}
 use Rattle.buffer_common.specs.declared.tag.Tag.{Tag}
-use Rattle.buffer_features.specs.declared.feature.Feature.{Feature}
+use Rattle.buffer_tags.specs.declared.feature.Feature.{Feature}
 use Rattle.layout_face.specs.declared.parts.FaceParts.{FaceParts}
 use Rattle.buffer_unicode_tables.specs.Tables.{Tables}
 use Rattle.buffer_glyphs.specs.declared.info.hb_glyph_info_t.{hb_glyph_info_t}
@@ -22,18 +22,18 @@ use Rattle.buffer_stages.specs.Settings.{TextSettings, text_settings}
 use Rattle.script_plan.specs.Plans.{planned_shaper, text_plan}
 use Rattle.script_dispatch.specs.Requests.{any_kind}
 use Rattle.shape_pipeline.specs.ReadingLaws.{ReadingKeepsNumbers, ResultsAreEven, ResultsHaveNoConcat, RunsReadAlike, have_no_ranges}
-use Rattle.shape_pipeline.specs.Limits.{unshaped}
+use Rattle.shape_pipeline.specs.Limits.{unshaped_text}
 use Rattle.shape_pipeline.specs.Reading.{reading}
 use Rattle.shape_pipeline.specs.Shaping.{Shaping}
 use Rattle.script_plan.specs.Rules.{Spans}
 use Rattle.shape_pipeline.specs.Laws.{AreAlike}
 use Rattle.shape_pipeline.specs.Shaped.{by_shaper, by_text, language_tags, text_reading}
 
-read_if : (p : Shaping) (text : BufferState) (empty : Bool) → (length text.view.items == 0) ≡ empty → text_reading p text ≡ (if empty then Ok (unshaped text.view) else reading p text)
+read_if : (p : Shaping) (text : BufferState) (empty : Bool) → (length text.view.items == 0) ≡ empty → text_reading p text ≡ (if empty then Ok (unshaped_text text.view) else reading p text)
 unfolding text_reading
-read_if p text empty e = ap (λ b. if b then Ok (unshaped text.view) else reading p text) e
+read_if p text empty e = ap (λ b. if b then Ok (unshaped_text text.view) else reading p text) e
 
-pub empty_texts_stay : (p : Shaping) (text : BufferState) → text.view.items ≡ [] → text_reading p text ≡ always unshaped text.view
+pub empty_texts_stay : (p : Shaping) (text : BufferState) → text.view.items ≡ [] → text_reading p text ≡ always unshaped_text text.view
 empty_texts_stay p text none = read_if p text true (ap (λ xs. length xs == 0) none)
 
 -- ---- a text without characters, and another
@@ -45,7 +45,7 @@ by_count : (P : List Origin → Type 0) (p : Shaping) (text : Sides) (result : B
     → Follows (text_reading p (state_of text)) (state_of text) result → (b : Bool) → (length (items_of text) == 0) ≡ b → P result.origins
 by_count P p text result empty read f true none =
     let R : Reading → Type 0 = λ r. Follows r (state_of text) result in
-    let same : Follows (always unshaped (view_of text)) (state_of text) result = subst R (read_if p (state_of text) true none) f in
+    let same : Follows (always unshaped_text (view_of text)) (state_of text) result = subst R (read_if p (state_of text) true none) f in
     let bare : all_glyphs text ≡ [] = no_glyphs (all_glyphs text) (ap (λ n. n == 0) (sym (length-map (all_glyphs text) item_of)) ∙ none) in
     let Q : BufferState → Type 0 = λ run. P run.origins in
     subst Q (sym same) (empty (all_glyphs text) bare)
@@ -90,7 +90,7 @@ texts_have_no_concat law p text result unasked f = of_texts HaveNoConcat p text 
 seen_alike : RunsReadAlike → (p : Shaping) (a b : BufferState) → have_no_ranges p.features ≡ true → a.view ≡ b.view → text_reading p a ≡ text_reading p b
 unfolding text_reading
 seen_alike law p a b unranged same =
-    let by : View → Reading → Reading = λ v r. if length v.items == 0 then Ok (unshaped v) else r in
+    let by : View → Reading → Reading = λ v r. if length v.items == 0 then Ok (unshaped_text v) else r in
     ap (λ v. by v (reading p a)) same ∙ ap (by b.view) (law p a b unranged same)
 
 -- what a text is shaped by is the same

@@ -5,7 +5,7 @@ use Rattle.layout_face.specs.Glyphs.{nominal_glyph, variation_glyph}
 use Rattle.buffer_core.specs.Readings.{View, Read, Stage, always}
 use Rattle.buffer_properties.specs.Normalizer.{Normalizer}
 use Rattle.layout_map.specs.Masks.{mask_at_one}
-use Rattle.shape_masks.specs.Masks.{with_one_mask}
+use Rattle.shape_text.specs.Masks.{with_one_mask}
 use Rattle.shape_text.specs.Properties.{with_properties}
 use Rattle.shape_text.specs.Circle.{first_circle}
 use Rattle.shape_text.specs.Clusters.{with_clusters}

@@ -1,7 +1,7 @@
 -- Laws of all shaped texts, with or without a plan.
 use Rattle.std.specs.Prelude.{ℕ, ⊤, ◌≡◌, true, false, List, []}
 use Rattle.buffer_common.specs.declared.tag.Tag.{Tag}
-use Rattle.buffer_features.specs.declared.feature.Feature.{Feature}
+use Rattle.buffer_tags.specs.declared.feature.Feature.{Feature}
 use Rattle.layout_face.specs.declared.parts.FaceParts.{FaceParts}
 use Rattle.buffer_unicode_tables.specs.Tables.{Tables}
 use Rattle.buffer_glyphs.specs.EventParts.{AreEvenRuns, HaveNoConcat}
@@ -18,7 +18,7 @@ use Rattle.script_dispatch.specs.declared.any_shaper.hb_ot_any_shaper_t.{hb_ot_a
 use Rattle.script_dispatch.specs.Requests.{any_kind}
 use Rattle.script_dispatch.specs.Rules.{rules_of}
 use Rattle.script_dispatch.specs.Shapers.{traits_of}
-use Rattle.shape_pipeline.specs.Limits.{unshaped}
+use Rattle.shape_pipeline.specs.Limits.{unshaped_text}
 use Rattle.shape_pipeline.specs.ReadingLaws.{have_no_ranges}
 use Rattle.shape_pipeline.specs.Results.{AgreeOn, AreSameItems, IsShapedBy}
 use Rattle.shape_pipeline.specs.Shaping.{Shaping}
@@ -36,7 +36,7 @@ ResultsAreOne = (p : Shaping) (text : Sides) → AgreeOn text p p
 
 -- a text without characters is not refused, and stays as it is, with the limits as at first
 abbrev pub EmptyTextsStay : Type 0
-EmptyTextsStay = (p : Shaping) (text : BufferState) → text.view.items ≡ [] → text_reading p text ≡ always unshaped text.view
+EmptyTextsStay = (p : Shaping) (text : BufferState) → text.view.items ≡ [] → text_reading p text ≡ always unshaped_text text.view
 
 -- ---- clusters, and requests for glyph flags
 

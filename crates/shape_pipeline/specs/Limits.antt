@@ -17,6 +17,6 @@ with_first_limits v = record v { max_len = max 0x3FFF_FFFF (length v.items); max
 abbrev pub final_view : Direction → View → Read
 final_view direction v = with_events [] (record (with_first_limits v) { direction = direction })
 
--- nothing is shaped: all stays as it is, and the limits are as at first
-abbrev pub unshaped : View → Read
-unshaped v = with_events [] (with_first_limits v)
+-- the reading of a text without characters: the view stays as it is, but for the limits, which are as at first
+abbrev pub unshaped_text : View → Read
+unshaped_text v = with_events [] (with_first_limits v)

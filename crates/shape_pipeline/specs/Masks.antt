@@ -3,9 +3,9 @@ use Rattle.std.specs.Prelude.{ℕ, List, [], ◌∷◌, codes}
 use Rattle.buffer_core.specs.Readings.{Stage, always}
 use Rattle.layout_map.specs.Compiled.{OtMapValue}
 use Rattle.layout_map.specs.Masks.{mask_at_one}
-use Rattle.shape_masks.specs.Fractions.{with_fractions}
-use Rattle.shape_masks.specs.declared.fractions.FractionMasks.{FractionMasks}
-use Rattle.shape_masks.specs.Ranges.{with_ranges}
+use Rattle.shape_text.specs.Fractions.{with_fractions}
+use Rattle.shape_text.specs.declared.fractions.FractionMasks.{FractionMasks}
+use Rattle.shape_text.specs.Ranges.{with_ranges}
 use Rattle.shape_pipeline.specs.Chains.{in_order, only_if}
 use Rattle.shape_pipeline.specs.Shaping.{Shaping, shaper_masks_set}
 

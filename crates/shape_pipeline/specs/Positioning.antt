@@ -5,8 +5,8 @@ use Rattle.buffer_common.specs.declared.direction.Direction.{Direction}
 use Rattle.buffer_glyphs.specs.Events.{Reverse}
 use Rattle.buffer_core.specs.Readings.{View, Read, Stage, always, with_events}
 use Rattle.buffer_core.specs.Sides.{zero_positions}
-use Rattle.layout_links.specs.Starting.{links_cleared}
-use Rattle.layout_links.specs.Finishing.{links_followed}
+use Rattle.layout_offsets.specs.Starting.{links_cleared}
+use Rattle.layout_offsets.specs.Finishing.{links_followed}
 use Rattle.layout_positioning.specs.Positioning.{positioning_stages}
 use Rattle.shape_glyphs.specs.Advances.{with_default_positions}
 use Rattle.shape_glyphs.specs.Widths.{zero_widths}

@@ -1,8 +1,8 @@
 -- Laws of all readings.
 use Rattle.std.specs.Prelude.{◌≡◌, true, false, List, Bool}
 use Rattle.std.specs.List.{list_all}
-use Rattle.buffer_features.specs.declared.feature.Feature.{Feature}
-use Rattle.buffer_features.specs.Feature.{is_global}
+use Rattle.buffer_tags.specs.declared.feature.Feature.{Feature}
+use Rattle.buffer_tags.specs.Feature.{is_global}
 use Rattle.buffer_glyphs.specs.Origins.{numbers}
 use Rattle.buffer_glyphs.specs.EventParts.{AreEvenRuns, HaveNoConcat}
 use Rattle.buffer_glyphs.specs.Order.{BringsNone}

@@ -2,7 +2,7 @@
 use Rattle.std.specs.Prelude.{ℕ, ⊤, ◌==◌, if◌then◌else◌, List, [], length, Ok}
 use Rattle.buffer_common.specs.declared.tag.Tag.{Tag}
 use Rattle.buffer_common.specs.ScriptTags.{wanted_language_tags}
-use Rattle.buffer_features.specs.declared.feature.Feature.{Feature}
+use Rattle.buffer_tags.specs.declared.feature.Feature.{Feature}
 use Rattle.layout_face.specs.declared.parts.FaceParts.{FaceParts}
 use Rattle.buffer_unicode_tables.specs.Tables.{Tables}
 use Rattle.buffer_core.specs.Readings.{Reading, BufferState}
@@ -17,7 +17,7 @@ use Rattle.script_dispatch.specs.declared.any_shaper.hb_ot_any_shaper_t.{hb_ot_a
 use Rattle.script_dispatch.specs.Requests.{any_kind}
 use Rattle.script_dispatch.specs.Rules.{rules_of}
 use Rattle.script_dispatch.specs.Shapers.{traits_of}
-use Rattle.shape_pipeline.specs.Limits.{unshaped}
+use Rattle.shape_pipeline.specs.Limits.{unshaped_text}
 use Rattle.shape_pipeline.specs.Reading.{reading}
 use Rattle.shape_pipeline.specs.Shaping.{Shaping}
 
@@ -61,4 +61,4 @@ by_text font tables tags spans features s = by_tags font tables (language_tags t
 
 -- a text without characters stays as it is, with the limits as at first; another is read as it is shaped
 unfoldable pub text_reading : Shaping → BufferState → Reading
-text_reading p run = if length run.view.items == 0 then Ok (unshaped run.view) else reading p run
+text_reading p run = if length run.view.items == 0 then Ok (unshaped_text run.view) else reading p run

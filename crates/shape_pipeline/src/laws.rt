@@ -43,7 +43,7 @@ pub fn law_guessed_texts_are_alike()
 
 /// Texts as they are given, their directions and scripts guessed where they are not set: where no feature is asked for on a
 /// part of the text, the results of two that differ in their clusters, their level and their requests for glyph flags alone
-/// have the same glyphs at the same places.
+/// have the same glyphs with the same positions.
 #[tactic(auto, using(crate::proofs::Agreeing::texts_look_alike))]
 pub fn law_texts_look_alike()
     ensures { TextsLookAlike }

@@ -4,7 +4,6 @@
 
 mod characters;
 pub mod context;
-pub mod data;
 mod endings;
 mod glyphs;
 pub mod laws;
@@ -16,8 +15,8 @@ pub mod reading_laws;
 pub mod shaping;
 mod stages;
 
-pub use data::hb_shape_data_t;
 pub use script_dispatch::hb_ot_any_shaper_t;
+pub use script_plan::data::hb_shape_data_t;
 use script_plan::plan::hb_ot_shape_plan_t;
 pub use shaping::{ShapeFault, shape, shape_with_plan};
 

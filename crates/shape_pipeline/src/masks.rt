@@ -5,7 +5,7 @@ ghost use Rattle.buffer_core.specs.Readings.{always};
 ghost use Rattle.buffer_core.specs.Sides.{all_glyphs};
 ghost use Rattle.buffer_stages.specs.Ready.{IsReady};
 ghost use Rattle.buffer_stages.specs.Stages.{DoesStage, IsFollowed};
-ghost use Rattle.shape_masks.specs.Fractions.{with_fractions};
+ghost use Rattle.shape_text.specs.Fractions.{with_fractions};
 ghost use Rattle.shape_pipeline.specs.Chains.{only_if};
 ghost use Rattle.shape_pipeline.specs.Masks.{fraction_masks, masks_set, ranges_set};
 ghost use Rattle.shape_pipeline.specs.Shaping.{shaper_masks_set};
@@ -16,8 +16,8 @@ use buffer_glyphs::cause::ShapeCause;
 use script_categories::SyllableSpans;
 use script_plan::hb_ot_shaper_t;
 use script_plan::plan::hb_script_plan_t;
-use shape_masks::fractions::{self, FractionMasks};
-use shape_masks::ranges::set_ranged_masks;
+use shape_text::fractions::{self, FractionMasks};
+use shape_text::ranges::set_ranged_masks;
 
 /// Sets the masks of numbers around a fraction slash, where the font has the features.
 #[tactic(auto, using(crate::proofs::Lemmas::Chains::acts_followed, crate::proofs::Lemmas::Chains::rests_followed))]

@@ -9,7 +9,7 @@ use buffer_unicode_tables::UnicodeTables;
 use layout_face::Face;
 use script_plan::hb_ot_shaper_t;
 use script_plan::plan::hb_script_plan_t;
-use shape_rounds::normalizing::Normalizing;
+use shape_normalize::normalizing::Normalizing;
 
 /// A shaper with its plan, a font, tables, and the glyphs of characters that the font lacks.
 #[derive(Drop)]

@@ -17,7 +17,7 @@ use crate::context::{Shaped, hb_ot_shape_context_t};
 use buffer_common::direction::Direction;
 use buffer_core::buffer::hb_buffer_t;
 use buffer_glyphs::cause::ShapeCause;
-use layout_links::finish::{position_finish_offsets, position_start};
+use layout_offsets::finish::{position_finish_offsets, position_start};
 use layout_positioning::position;
 use script_categories::SyllableSpans;
 use script_plan::hb_ot_shaper_t;
@@ -163,7 +163,7 @@ impl<S: hb_ot_shaper_t, P: SyllableSpans> hb_ot_shape_context_t<'_, S, P> {
     }
 
     #[tactic(auto, using(crate::proofs::Placed::marks_done))]
-    fn place_all_marks(&self, buffer: &mut hb_buffer_t)
+    fn position_all_marks(&self, buffer: &mut hb_buffer_t)
         requires ready { IsReady buffer.old }
         requires numbers { are_glyphs (items_of buffer.old) ≡ true }
         ensures { IsDone (always (marks_positioned (⟦<Self as Shaped>⟧.shaping self.now buffer.old))) buffer.old
@@ -177,14 +177,14 @@ impl<S: hb_ot_shaper_t, P: SyllableSpans> hb_ot_shape_context_t<'_, S, P> {
 
     /// Positions marks by the extents of their bases, if the plan says so.
     #[tactic(auto, using(crate::proofs::Lemmas::Chains::acts_done, crate::proofs::Lemmas::Chains::rests_done))]
-    fn place_marks(&self, buffer: &mut hb_buffer_t)
+    fn position_marks_by_plan(&self, buffer: &mut hb_buffer_t)
         requires ready { IsReady buffer.old }
         requires numbers { are_glyphs (items_of buffer.old) ≡ true }
         ensures { IsDone (only_if self.now.plan.now.script_plan.choices.fallback_mark_positioning (always
             (marks_positioned (⟦<Self as Shaped>⟧.shaping self.now buffer.old)))) buffer.old buffer.new }
     {
         if self.plan.script_plan.choices.fallback_mark_positioning {
-            self.place_all_marks(buffer);
+            self.position_all_marks(buffer);
         }
     }
 
@@ -196,7 +196,7 @@ impl<S: hb_ot_shaper_t, P: SyllableSpans> hb_ot_shape_context_t<'_, S, P> {
     {
         zero_ignorables(buffer);
         position_finish_offsets(buffer);
-        self.place_marks(buffer);
+        self.position_marks_by_plan(buffer);
         draw(buffer);
     }
 

@@ -10,16 +10,16 @@ ghost use Rattle.shape_pipeline.specs.Results.{IsResultOf};
 ghost use Rattle.shape_pipeline.specs.Shaped.{by_plan, by_text, text_reading};
 
 use crate::context::{Shaped, hb_ot_shape_context_t};
-use crate::data::hb_shape_data_t;
 use buffer_common::language_tags::LanguageTags;
 use buffer_core::buffer::hb_buffer_t;
-use buffer_features::feature::Feature;
+use buffer_tags::feature::Feature;
 use buffer_glyphs::cause::ShapeCause;
 use buffer_wrappers::glyphs::GlyphBuffer;
 use buffer_wrappers::unicode_buffer::UnicodeBuffer;
 use layout_face::Face;
 use script_categories::SyllableSpans;
 use script_dispatch::hb_ot_any_shaper_t;
+use script_plan::data::hb_shape_data_t;
 use script_plan::hb_ot_shaper_t;
 use script_plan::plan::hb_ot_shape_plan_t;
 use std::alloc::Global;
@@ -150,7 +150,7 @@ pub fn shape<P: SyllableSpans, L: LanguageTags>(
     let plan = match hb_ot_shape_plan_t::<hb_ot_any_shaper_t>::new(
         alloc,
         face,
-        shape_data.languages,
+        shape_data,
         buffer.direction(),
         buffer.script(),
         buffer.language(),

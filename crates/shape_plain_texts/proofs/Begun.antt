@@ -15,7 +15,7 @@ use Rattle.buffer_properties.specs.Properties.{bit_if, properties_of, scratch_fl
 use Rattle.buffer_glyphs.specs.Items.{Item, item_masked}
 use Rattle.buffer_core.specs.Readings.{Read, Stage, View, always, as_it_is, with_events}
 use Rattle.buffer_core.specs.Settings.{length_limit}
-use Rattle.shape_masks.specs.Masks.{with_one_mask}
+use Rattle.shape_text.specs.Masks.{with_one_mask}
 use Rattle.shape_text.specs.declared.graphemes.Before.{Before}
 use Rattle.shape_text.specs.Graphemes.{continues}
 use Rattle.shape_text.specs.Properties.{next_before, items_prepared, prepared_item, scratch_flags_of_items, with_properties, property_word_of}
@@ -39,8 +39,8 @@ pub record Given (font : FaceParts) (u : ℕ) (x : Item) : Type 0 where
 pub record Prepared (font : FaceParts) (u : ℕ) (x : Item) : Type 0 where
   pub number : x.number ≡ u
   pub plain : IsPlain font u
-  pub goes_on : Bool
-  pub word : x.unicode_props ≡ property_word_of goes_on u
+  pub is_continuation : Bool
+  pub word : x.unicode_props ≡ property_word_of is_continuation u
 
 -- in the order of the writing
 pub record Ordered (font : FaceParts) (u : ℕ) (x : Item) : Type 0 where
@@ -78,7 +78,7 @@ masked_stands font m us v s = record {
 }
 
 prepared_as : (font : FaceParts) (t : Tables) (b : Bool) (u : ℕ) (x : Item) → Given font u x → Prepared font u (prepared_item t b x)
-prepared_as font t b u x g = record { number = g.number; plain = g.plain; goes_on = b; word = ap (property_word_of b) g.number }
+prepared_as font t b u x g = record { number = g.number; plain = g.plain; is_continuation = b; word = ap (property_word_of b) g.number }
 
 are_prepared : (font : FaceParts) (t : Tables) (before : Option Before) (us : List ℕ) (xs : List Item) → Are (Given font) us xs → Are (Prepared font) us (items_prepared t before xs)
 are_prepared font t before [] [] a = tt
@@ -114,7 +114,7 @@ first_unmarked font [] (x ∷ xs) a = absurd a
 first_unmarked font (u ∷ us) [] a = absurd a
 first_unmarked font (u ∷ us) (x ∷ xs) a =
     let p = a.0 in
-    ap (λ w. is_mark_number (bit_and w 0x1F)) p.word ∙ word_mark p.goes_on u p.plain.shown ∙ p.plain.unmarked
+    ap (λ w. is_mark_number (bit_and w 0x1F)) p.word ∙ word_mark p.is_continuation u p.plain.shown ∙ p.plain.unmarked
 
 no_circle : (a c d : Bool) → c ≡ false → ((a && c) && d) ≡ false
 no_circle a true d e = cc
@@ -155,7 +155,7 @@ ordered_view : (script : Option Script) (v : View) → is_reversed script v.dire
 ordered_view script v e = ap (λ b. (ordered_if b v).view) e
 
 alone_item : (font : FaceParts) (u : ℕ) (x : Item) → Prepared font u x → Ordered font u (without_continuation x)
-alone_item font u x p = record { number = p.number; plain = p.plain; word = ap (λ w. without_bits 128 w) p.word ∙ word_alone p.goes_on u p.plain.shown }
+alone_item font u x p = record { number = p.number; plain = p.plain; word = ap (λ w. without_bits 128 w) p.word ∙ word_alone p.is_continuation u p.plain.shown }
 
 order_stands : (font : FaceParts) (script : Option Script) (us : List ℕ) (v : View) → RunsForth script → Stands (Prepared font) us v → Stands (Ordered font) us (native_order script v).view
 order_stands font script us v w s =

@@ -8,8 +8,8 @@ use Rattle.std.proofs.lemmas.Bool.Decides.{nat_tests}
 use lib.Utf8.{scalar}
 use Rattle.buffer_common.specs.declared.direction.Direction.{Direction}
 use Rattle.buffer_common.specs.declared.direction.Direction.TheVariants.{LeftToRight}
-use Rattle.buffer_features.specs.declared.feature.Feature.{Feature}
-use Rattle.buffer_features.specs.Feature.{is_global}
+use Rattle.buffer_tags.specs.declared.feature.Feature.{Feature}
+use Rattle.buffer_tags.specs.Feature.{is_global}
 use Rattle.buffer_unicode_tables.specs.Tables.{Tables}
 use Rattle.buffer_unicode.specs.Character.{is_default_ignorable_character}
 use Rattle.layout_face.specs.declared.parts.FaceParts.{FaceParts}
@@ -32,12 +32,12 @@ use Rattle.buffer_properties.specs.NormalizedList.{arranged_marks, has_later_mar
 use Rattle.buffer_properties.specs.Ordering.{joiner_between, joiners_shown, separates_nothing, with_joiners_shown}
 use Rattle.buffer_properties.specs.declared.normal_mode.Reach.TheVariants.{Least}
 use Rattle.buffer_properties.specs.SupportedExpansion.{in_pieces}
-use Rattle.buffer_stages.specs.Brought.{within_limit, with_arranged}
+use Rattle.buffer_stages.specs.Appending.{within_limit, with_arranged}
 use Rattle.shape_text.specs.Rotation.{with_rotated_characters}
-use Rattle.shape_masks.specs.Ranges.{bits_of, shifted_value, with_all_ranges, with_range}
+use Rattle.shape_text.specs.Ranges.{bits_of, shifted_value, with_all_ranges, with_range}
 use Rattle.shape_normalize.specs.Rounds.{normalization}
-use Rattle.shape_masks.specs.Fractions.{around_slash, digits_after, digits_before, first_mask, fraction_items, fractions_to, is_slash_at, last_mask, with_features, with_features_within, with_fractions}
-use Rattle.shape_masks.specs.declared.fractions.FractionMasks.{FractionMasks}
+use Rattle.shape_text.specs.Fractions.{around_slash, digits_after, digits_before, first_mask, fraction_items, fractions_to, is_slash_at, last_mask, with_features, with_features_within, with_fractions}
+use Rattle.shape_text.specs.declared.fractions.FractionMasks.{FractionMasks}
 use Rattle.script_plan.specs.Rules.{ShaperRules}
 use Rattle.shape_pipeline.specs.Chains.{only_if}
 use Rattle.shape_pipeline.specs.Characters.{characters_chosen, normalizer, turned_to_line}

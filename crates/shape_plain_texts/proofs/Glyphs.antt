@@ -58,11 +58,11 @@ unchanged_if : (b : Bool) (x y : Item) → b ≡ false → (if b then y else x) 
 unchanged_if true x y e = cc
 unchanged_if false x y e = refl
 
-place_kept : (font : FaceParts) (u : ℕ) (x : Item) → Chosen font u x → item_with_fallback_class x ≡ x
-place_kept font u x g = unchanged_if (is_nonspacing_mark x) x (record x { class = fallback_class x.number x.class }) (not_nonspacing font u x.unicode_props g.plain g.word)
+class_kept : (font : FaceParts) (u : ℕ) (x : Item) → Chosen font u x → item_with_fallback_class x ≡ x
+class_kept font u x g = unchanged_if (is_nonspacing_mark x) x (record x { class = fallback_class x.number x.class }) (not_nonspacing font u x.unicode_props g.plain g.word)
 
-place_chosen : (font : FaceParts) (u : ℕ) (x : Item) → Chosen font u x → Chosen font u (item_with_fallback_class x)
-place_chosen font u x g = subst (Chosen font u) (sym (place_kept font u x g)) g
+class_chosen : (font : FaceParts) (u : ℕ) (x : Item) → Chosen font u x → Chosen font u (item_with_fallback_class x)
+class_chosen font u x g = subst (Chosen font u) (sym (class_kept font u x g)) g
 
 -- ---- each character as its glyph
 
@@ -84,7 +84,7 @@ taken_leads p ps us =
     let C = Placed (Chosen p.font) ps us in
     let S = Placed (Shown p.font) ps us in
     both_lead C C S (only_if p.choices.fallback_mark_positioning (always with_fallback_classes)) (always with_glyphs ∷ [])
-    (either C p.choices.fallback_mark_positioning (always with_fallback_classes) (always_leads C C with_fallback_classes (λ v a. mapped_stand (Chosen p.font) (Chosen p.font) ps item_with_fallback_class (place_chosen p.font) us v a)))
+    (either C p.choices.fallback_mark_positioning (always with_fallback_classes) (always_leads C C with_fallback_classes (λ v a. mapped_stand (Chosen p.font) (Chosen p.font) ps item_with_fallback_class (class_chosen p.font) us v a)))
     (last_leads C S (always with_glyphs) (always_leads C S with_glyphs (λ v a. mapped_stand (Chosen p.font) (Shown p.font) ps as_glyph (as_shown p.font) us v a)))
 
 -- ---- classes

@@ -3,6 +3,6 @@ mod Texts
 mod Begun
 mod Chosen
 mod Glyphs
-mod Places
+mod CharacterPositions
 mod Whole
 mod Shown

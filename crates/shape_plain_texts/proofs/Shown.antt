@@ -9,7 +9,7 @@ use Rattle.buffer_common.specs.declared.direction.Direction.TheVariants.{LeftToR
 use Rattle.buffer_common.specs.declared.script.Script.{Script}
 use Rattle.buffer_common.specs.declared.tag.Tag.{Tag}
 use Rattle.buffer_common.specs.ScriptTags.{wanted_tags}
-use Rattle.buffer_features.specs.declared.feature.Feature.{Feature}
+use Rattle.buffer_tags.specs.declared.feature.Feature.{Feature}
 use Rattle.layout_face.specs.declared.parts.FaceParts.{FaceParts}
 use Rattle.layout_face.specs.declared.positioning.PositioningTable.{PositioningTable}
 use Rattle.layout_face.specs.declared.substitution.SubstitutionTable.{SubstitutionTable}
@@ -32,7 +32,7 @@ use Rattle.script_dispatch.specs.Rules.{rules_of}
 use Rattle.script_dispatch.specs.Shapers.{traits_of}
 use Rattle.script_dispatch.specs.declared.any_shaper.hb_ot_any_shaper_t.{hb_ot_any_shaper_t}
 use Rattle.script_dispatch.specs.declared.any_shaper.hb_ot_any_shaper_t.TheVariants as any
-use Rattle.shape_pipeline.specs.Limits.{unshaped}
+use Rattle.shape_pipeline.specs.Limits.{unshaped_text}
 use Rattle.shape_pipeline.specs.Reading.{reading}
 use Rattle.shape_pipeline.specs.Results.{IsResultOf, IsShapedBy}
 use Rattle.shape_pipeline.specs.Shaped.{by_text, language_tags, text_reading}
@@ -92,9 +92,9 @@ numbers_seen (g ∷ gs) = ap (λ ns. g.glyph_id ∷ ns) (numbers_seen gs)
 
 shown_by : (p : Shaping) (text result : Sides) (r : Read) → Follows (Ok r) (state_of text) (state_of result) → map (λ (x : Item). x.number) r.view.items ≡ map (glyph_of p.font) (characters (state_of text)) → r.view.positions ≡ map (position_of_character p.font) (characters (state_of text))
     → ShowsCharacters p.font text result
-shown_by p text result r f glyphs places = record {
+shown_by p text result r f glyphs positions = record {
   glyphs = sym (numbers_seen (all_glyphs result)) ∙ ap (λ (run : BufferState). map (λ (x : Item). x.number) run.view.items) f ∙ glyphs ∙ ap (map (glyph_of p.font)) (numbers_seen (all_glyphs text));
-  places = ap (λ (run : BufferState). run.view.positions) f ∙ places ∙ ap (map (position_of_character p.font)) (numbers_seen (all_glyphs text));
+  positions = ap (λ (run : BufferState). run.view.positions) f ∙ positions ∙ ap (map (position_of_character p.font)) (numbers_seen (all_glyphs text));
 }
 
 none_shown : (font : FaceParts) (text result : Sides) → all_glyphs text ≡ [] → items_of result ≡ items_of text → length result.positions ≡ length (all_glyphs result) → ShowsCharacters font text result
@@ -105,11 +105,11 @@ none_shown font text result none items placed =
     let numbers : glyph_numbers text ≡ [] = ap (map (λ (g : hb_glyph_info_t). g.glyph_id)) none in
     record {
       glyphs = ap (map (λ (g : hb_glyph_info_t). g.glyph_id)) bare ∙ sym (ap (map (glyph_of font)) numbers);
-      places = nil_from_length result.positions (placed ∙ count) ∙ sym (ap (map (position_of_character font)) numbers);
+      positions = nil_from_length result.positions (placed ∙ count) ∙ sym (ap (map (position_of_character font)) numbers);
     }
 
 by_count : PlainTextsShowGlyphs → (p : Shaping) (text result : Sides) → IsPlainShaping p → text.direction ≡ LeftToRight → length (all_glyphs text) ≤ text.max_len → list_all (is_plain p.font) (glyph_numbers text) ≡ true → length result.positions ≡ length (all_glyphs result)
-    → (b : Bool) → (length (items_of text) == 0) ≡ b → Follows (if b then Ok (unshaped (view_of text)) else reading p (state_of text)) (state_of text) (state_of result) → ShowsCharacters p.font text result
+    → (b : Bool) → (length (items_of text) == 0) ≡ b → Follows (if b then Ok (unshaped_text (view_of text)) else reading p (state_of text)) (state_of text) (state_of result) → ShowsCharacters p.font text result
 by_count law p text result plain line room all placed true empty f =
     let none : all_glyphs text ≡ [] = nil_from_length (all_glyphs text) (sym (length-map (all_glyphs text) item_of) ∙ eqb-true (length (items_of text)) 0 empty) in
     none_shown p.font text result none (ap (λ (run : BufferState). run.view.items) f) placed
@@ -117,7 +117,7 @@ by_count law p text result plain line room all placed false some f =
     let counted : length (items_of text) ≤ text.max_len = let e = length-map (all_glyphs text) item_of in omega (arith, e, room) in
     let are : list_all (is_plain p.font) (characters (state_of text)) ≡ true = ap (list_all (is_plain p.font)) (numbers_seen (all_glyphs text)) ∙ all in
     let (r, s) = law p (state_of text) plain line counted are in
-    shown_by p text result r (subst (λ q. Follows q (state_of text) (state_of result)) s.is f) s.glyphs s.places
+    shown_by p text result r (subst (λ q. Follows q (state_of text) (state_of result)) s.is f) s.glyphs s.positions
 
 pub plain_texts_are_shown : PlainTextsShowGlyphs → (font : FaceParts) (tables : Tables) (tags : List ℕ → List Tag) (spans : Spans) (features : List Feature) (text result : Sides) → IsPlainText font (after_guess_segment_properties text)
     → IsShapedBy (by_text font tables tags spans features (after_guess_segment_properties text)) (after_guess_segment_properties text) result → IsResultOf (after_guess_segment_properties text) result → ShowsCharacters font (after_guess_segment_properties text) result

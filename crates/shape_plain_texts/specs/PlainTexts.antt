@@ -10,7 +10,7 @@ use Rattle.buffer_unicode.specs.Character.{is_default_ignorable_character}
 use Rattle.buffer_common.specs.declared.direction.Direction.TheVariants.{LeftToRight}
 use Rattle.buffer_common.specs.declared.script.Script.{Script}
 use Rattle.buffer_common.specs.declared.tag.Tag.{Tag}
-use Rattle.buffer_features.specs.declared.feature.Feature.{Feature}
+use Rattle.buffer_tags.specs.declared.feature.Feature.{Feature}
 use Rattle.buffer_unicode_tables.specs.Tables.{Tables}
 use Rattle.layout_face.specs.declared.parts.FaceParts.{FaceParts}
 use Rattle.layout_face.specs.Glyphs.{nominal_glyph, width_of}
@@ -73,7 +73,7 @@ characters run = map (λ (x : Item). x.number) run.view.items
 pub record ShowsGlyphs (p : Shaping) (run : BufferState) (r : Read) : Type 0 where
   pub is : reading p run ≡ Ok r
   pub glyphs : map (λ (x : Item). x.number) r.view.items ≡ map (glyph_of p.font) (characters run)
-  pub places : r.view.positions ≡ map (position_of_character p.font) (characters run)
+  pub positions : r.view.positions ≡ map (position_of_character p.font) (characters run)
 
 -- law: every plain text that a buffer can hold shows its glyphs
 abbrev pub PlainTextsShowGlyphs : Type 0
@@ -101,7 +101,7 @@ pub record IsPlainText (font : FaceParts) (text : Sides) : Type 0 where
 -- each character is shown as its glyph, in order, with the glyph's width and no offset
 pub record ShowsCharacters (font : FaceParts) (text result : Sides) : Type 0 where
   pub glyphs : glyph_numbers result ≡ map (glyph_of font) (glyph_numbers text)
-  pub places : result.positions ≡ map (position_of_character font) (glyph_numbers text)
+  pub positions : result.positions ≡ map (position_of_character font) (glyph_numbers text)
 
 -- so a plain text is shaped, whatever features are asked for, also on parts of it
 abbrev pub PlainTextsAreShown : Type 0

@@ -3,11 +3,11 @@ use Rattle.std.proofs.Common.{ℕ, ◌≡◌, ◌==◌, ◌&&◌, ◌||◌, ◌+
 use Rattle.std.specs.Option.{option_or}
 use Rattle.std.proofs.lemmas.Bool.{and_parts}
 use lib.Utf8.{scalar, low_scalar}
-use Rattle.buffer_unicode_rows.specs.Numbers.{is_scalar}
-use Rattle.buffer_unicode_rows.specs.Keys.{follows, row_fault}
-use Rattle.buffer_unicode_rows.specs.Rows.{is_split_in_range}
-use Rattle.buffer_unicode_rows.specs.declared.fault.TablesFault.{TablesFault}
-use Rattle.buffer_unicode_rows.specs.declared.rows.Split.{Split}
+use Rattle.buffer_unicode.specs.Numbers.{is_scalar}
+use Rattle.buffer_unicode.specs.Keys.{follows, row_fault}
+use Rattle.buffer_unicode.specs.Rows.{is_split_in_range}
+use Rattle.buffer_unicode.specs.declared.fault.TablesFault.{TablesFault}
+use Rattle.buffer_unicode.specs.declared.rows.Split.{Split}
 use Rattle.buffer_unicode_tables.specs.Hangul.{hangul_split, is_syllable}
 use Rattle.buffer_unicode_tables.specs.Tables.{fault_in, split_in}
 use Rattle.buffer_unicode_tables.proofs.Syllables.{among_bounds, no_split_without_syllable}

@@ -2,7 +2,7 @@
 use Rattle.std.proofs.Common.{ℕ, ◌≡◌, ◌↔◌, ◌==◌, ◌&&◌, ◌⊎◌, Bool, true, false, IsTrue, List, [], ◌∷◌, refl, sym, ap₂, ◌∙◌, inl, inr, ne_eqb, eq-eqb, eqb-true}
 use Rattle.std.proofs.lemmas.Bool.{and_parts, and_from, cases_eq, cases_Bool}
 use Rattle.std.specs.List.{list_all}
-use Rattle.buffer_unicode_rows.proofs.Searches.{all_pass}
+use Rattle.buffer_unicode.proofs.Searches.{all_pass}
 use Rattle.buffer_unicode_tables.specs.ClassOrder.{beside_starters}
 use Rattle.buffer_unicode_tables.specs.Expansion.{EndWithin}
 use Rattle.buffer_unicode_tables.specs.Lawful.{IsLawful}

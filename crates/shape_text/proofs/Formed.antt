@@ -10,9 +10,9 @@ use Rattle.buffer_glyphs.specs.Items.{Item, item_of, strip}
 use Rattle.buffer_glyphs.specs.Events.{Event}
 use Rattle.buffer_core.specs.Readings.{View, always}
 use Rattle.buffer_core.specs.Graphemes.{continues}
-use Rattle.buffer_groups.specs.Groups.{group_length, joined_count}
-use Rattle.buffer_groups.specs.Lemmas.Ranges.{lengths_cut}
-use Rattle.buffer_groups.specs.Runs as Runs
+use Rattle.buffer_lists.specs.Groups.{group_length, joined_count}
+use Rattle.buffer_lists.specs.Lemmas.Ranges.{lengths_cut}
+use Rattle.buffer_lists.specs.Runs as Runs
 use Rattle.buffer_core.specs.Sides.{Settings, Sides, all_glyphs, items_of, stage_flags, view_of}
 use Rattle.buffer_stages.specs.Ready.{IsReady}
 use Rattle.buffer_stages.specs.Stages.{Happens, IsFollowed}

@@ -3,3 +3,8 @@ pub mod Formed
 pub mod Circled
 pub mod Turned
 pub mod Rotated
+pub mod Begun
+pub mod Ranged
+pub mod Digits
+pub mod RangeMasks
+pub mod Slashes

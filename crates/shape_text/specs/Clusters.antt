@@ -7,7 +7,7 @@ use Rattle.buffer_glyphs.specs.Items.{Item}
 use Rattle.buffer_glyphs.specs.Levels.{InList}
 use Rattle.buffer_glyphs.specs.Events.{Event, Merge, Break}
 use Rattle.buffer_core.specs.Readings.{View, Read}
-use Rattle.buffer_groups.specs.Facts.{group_lengths}
+use Rattle.buffer_lists.specs.Facts.{group_lengths}
 use Rattle.buffer_core.specs.Graphemes.{continues}
 
 -- the event of one grapheme: a merge at level MonotoneGraphemes, else an unsafe-to-break flag

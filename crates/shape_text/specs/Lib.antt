@@ -4,3 +4,6 @@ pub mod Circle
 pub mod Clusters
 pub mod NativeOrder
 pub mod Rotation
+pub mod Masks
+pub mod Ranges
+pub mod Fractions

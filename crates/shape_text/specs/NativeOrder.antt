@@ -10,9 +10,9 @@ use Rattle.buffer_common.specs.declared.script.Script.{Script}
 use Rattle.buffer_properties.specs.Properties.{CONTINUATION, without_bits}
 use Rattle.buffer_glyphs.specs.Items.{Item}
 use Rattle.buffer_core.specs.Readings.{View, Read, then_read, with_events}
-use Rattle.buffer_groups.specs.Turning.{groups_reversed_list}
-use Rattle.buffer_groups.specs.Facts.{positions_turned}
-use Rattle.buffer_groups.specs.Events.{groups_reversed}
+use Rattle.buffer_lists.specs.Turning.{groups_reversed_list}
+use Rattle.buffer_lists.specs.Facts.{positions_turned}
+use Rattle.buffer_lists.specs.Events.{groups_reversed}
 use Rattle.buffer_core.specs.Graphemes.{continues}
 use Rattle.buffer_properties.specs.Categories.{is_letter, is_decimal_number}
 use Rattle.buffer_stages.specs.Stages.{with_items_mapped}

@@ -13,11 +13,11 @@ use Rattle.shape_text.specs.Graphemes.{continues}
 
 -- the property word of a character, with the continuation bit
 abbrev pub property_word_of : Bool → ℕ → ℕ
-property_word_of goes_on u = if goes_on then bit_or (properties_of u) CONTINUATION else properties_of u
+property_word_of is_continuation u = if is_continuation then bit_or (properties_of u) CONTINUATION else properties_of u
 
 -- an item with its property word and combining class
 abbrev pub prepared_item : Tables → Bool → Item → Item
-prepared_item t goes_on x = record x { unicode_props = property_word_of goes_on x.number; class = character_class t x.number }
+prepared_item t is_continuation x = record x { unicode_props = property_word_of is_continuation x.number; class = character_class t x.number }
 
 -- an item's number is a Unicode scalar value
 abbrev pub is_character : Item → Bool
@@ -48,7 +48,7 @@ with_properties t v = with_events [] (record v { items = items_prepared t None v
 
 -- a glyph record with the properties of its character
 abbrev pub glyph_prepared : Tables → Bool → hb_glyph_info_t → hb_glyph_info_t
-glyph_prepared t goes_on g = record g { unicode_props = record { 0 = property_word_of goes_on g.glyph_id }; modified_combining_class = character_class t g.glyph_id }
+glyph_prepared t is_continuation g = record g { unicode_props = record { 0 = property_word_of is_continuation g.glyph_id }; modified_combining_class = character_class t g.glyph_id }
 
 -- glyph records with the properties of their characters
 abbrev pub glyphs_prepared : Tables → Option Before → List hb_glyph_info_t → List hb_glyph_info_t

@@ -45,11 +45,11 @@ fn prepare(
     let mut before = None;
     for glyph in glyphs.iter_mut() {
         let u = glyph.as_char();
-        let goes_on = continues(tables, before, u);
-        prepare_glyph(tables, goes_on, glyph, scratch_flags);
+        let is_continuation = continues(tables, before, u);
+        prepare_glyph(tables, is_continuation, glyph, scratch_flags);
         before = Some(Before {
             character: u,
-            continues: goes_on,
+            continues: is_continuation,
         });
     }
 }
@@ -57,23 +57,23 @@ fn prepare(
 /// Sets the property word and the combining class of one character.
 fn prepare_glyph(
     tables: &UnicodeTables,
-    goes_on: bool,
+    is_continuation: bool,
     glyph: &mut hb_glyph_info_t,
     scratch_flags: &mut hb_buffer_scratch_flags_t,
 )
     requires { IsScalar glyph.old.glyph_id }
-    ensures glyph { glyph.new ≡ glyph_prepared tables.now goes_on glyph.old }
+    ensures glyph { glyph.new ≡ glyph_prepared tables.now is_continuation glyph.old }
     ensures scratch_flags { scratch_flags.new ≡ bit_or scratch_flags.old (scratch_flags_of glyph.old.glyph_id) }
 {
     let u = glyph.as_char();
     init_unicode_props(glyph, tables, scratch_flags);
-    glyph.unicode_props = UnicodeProps(word_of(goes_on, u));
+    glyph.unicode_props = UnicodeProps(word_of(is_continuation, u));
 }
 
-fn word_of(goes_on: bool, u: char) -> u16
-    ensures { result ≡ property_word_of goes_on u }
+fn word_of(is_continuation: bool, u: char) -> u16
+    ensures { result ≡ property_word_of is_continuation u }
 {
-    if goes_on {
+    if is_continuation {
         properties_of(u) | UnicodeProps::CONTINUATION.0
     } else {
         properties_of(u)

@@ -6,10 +6,10 @@ use Rattle.std.specs.Ordering.{nat_cmp}
 use Rattle.std.proofs.lemmas.Bool.Decides.{nat_tests}
 use Rattle.serde_json.specs.Data.{Data, null, boolean, number, string, array, object, Items, no_items, item}
 use Rattle.serde_json.specs.Find.{as_array, as_object, at, get}
-use Rattle.shell_json_values.specs.declared.fault.JsonFault.{JsonFault}
-use Rattle.shell_json_values.specs.declared.fault.JsonFault.TheVariants.{WrongShape}
-use Rattle.shell_json_values.specs.Cell.{and_then}
-use Rattle.shell_json_values.specs.Parts.{list_of, list_at, list_or_none}
+use Rattle.shell_json.specs.declared.fault.JsonFault.{JsonFault}
+use Rattle.shell_json.specs.declared.fault.JsonFault.TheVariants.{WrongShape}
+use Rattle.shell_json.specs.Cell.{and_then}
+use Rattle.shell_json.specs.Parts.{list_of, list_at, list_or_none}
 use Rattle.shell_face_json.specs.Lists.{number_below, or_null, is_object, items_of, part_list, rows_at, rows_in_turn, count_at}
 use Rattle.shell_face_json.specs.Row.{first_and_rest, no_more, row_of_two}
 use Rattle.shell_face_json.specs.Sorted.{rows_by_key}
@@ -20,17 +20,17 @@ use Rattle.shell_face_json.specs.Marks.{mark_record, marks_of, base_row, compone
 use Rattle.shell_face_json.proofs.Inverted.{through, of_first, below_limit, list_length, turn_of_items, all_in_turn}
 use Rattle.shell_face_json.proofs.Limits.{turn_of_rising, of_glyph_row, class_count_within, marks_within, none_within, least_below, each_at_least, length_read}
 use Rattle.layout_common.specs.declared.glyph_row.GlyphRow.{GlyphRow}
-use Rattle.layout_subtables.specs.declared.pair.Class1Record.{Class1Record}
-use Rattle.layout_subtables.specs.declared.pair.ClassPairs.{ClassPairs}
-use Rattle.layout_subtables.specs.declared.pair.PairPos.{PairPos}
-use Rattle.layout_subtables.specs.declared.pair.PairPos.TheVariants as Pairs
-use Rattle.layout_subtables.specs.declared.mark.MarkRecord.{MarkRecord}
-use Rattle.layout_subtables.specs.declared.mark.BaseRow.{BaseRow}
-use Rattle.layout_subtables.specs.declared.mark.ComponentRecord.{ComponentRecord}
-use Rattle.layout_subtables.specs.declared.mark.LigatureRow.{LigatureRow}
-use Rattle.layout_subtables.specs.declared.mark.MarkBasePos.{MarkBasePos}
-use Rattle.layout_subtables.specs.declared.mark.MarkLigPos.{MarkLigPos}
-use Rattle.layout_subtables.specs.Fits.{class_count, mark_class_count, marks_fit_bases, components_fit, marks_fit_ligatures, records_fit, pairs_fit}
+use Rattle.layout_tables.specs.declared.pair.Class1Record.{Class1Record}
+use Rattle.layout_tables.specs.declared.pair.ClassPairs.{ClassPairs}
+use Rattle.layout_tables.specs.declared.pair.PairPos.{PairPos}
+use Rattle.layout_tables.specs.declared.pair.PairPos.TheVariants as Pairs
+use Rattle.layout_tables.specs.declared.mark.MarkRecord.{MarkRecord}
+use Rattle.layout_tables.specs.declared.mark.BaseRow.{BaseRow}
+use Rattle.layout_tables.specs.declared.mark.ComponentRecord.{ComponentRecord}
+use Rattle.layout_tables.specs.declared.mark.LigatureRow.{LigatureRow}
+use Rattle.layout_tables.specs.declared.mark.MarkBasePos.{MarkBasePos}
+use Rattle.layout_tables.specs.declared.mark.MarkLigPos.{MarkLigPos}
+use Rattle.layout_tables.specs.Fits.{class_count, mark_class_count, marks_fit_bases, components_fit, marks_fit_ligatures, records_fit, pairs_fit}
 use Rattle.layout_face.specs.LookupIndices.{pair_classes_fit}
 
 -- ---- the least of two lengths

@@ -5,11 +5,11 @@ use Rattle.std.specs.List.{list_all}
 use Rattle.std.specs.Option.{option_map_or}
 use Rattle.serde_json.specs.Data.{Data}
 use Rattle.serde_json.specs.Find.{get}
-use Rattle.shell_json_values.specs.declared.fault.JsonFault.{JsonFault}
-use Rattle.shell_json_values.specs.declared.fault.JsonFault.TheVariants.{OutOfRange}
-use Rattle.shell_json_values.specs.Cell.{and_then, u16_value, i16_value}
-use Rattle.shell_json_values.specs.Objects.{read_or, optional_value}
-use Rattle.shell_json_values.specs.Parts.{list_at}
+use Rattle.shell_json.specs.declared.fault.JsonFault.{JsonFault}
+use Rattle.shell_json.specs.declared.fault.JsonFault.TheVariants.{OutOfRange}
+use Rattle.shell_json.specs.Cell.{and_then, u16_value, i16_value}
+use Rattle.shell_json.specs.Objects.{read_or, optional_value}
+use Rattle.shell_json.specs.Parts.{list_at}
 use Rattle.shell_face_json.specs.Lists.{number_below, is_object, rows_at, rows_in_turn, count_at}
 use Rattle.shell_face_json.specs.Glyphs.{coverage, class_definition, classes_in, glyph_limit, subtables_of}
 use Rattle.shell_face_json.specs.Contexts.{context}
@@ -32,7 +32,7 @@ use Rattle.layout_face.specs.declared.positioning.PositioningLookup.{Positioning
 use Rattle.layout_face.specs.declared.positioning.PositioningTable.{PositioningTable}
 use Rattle.layout_face.specs.declared.parts.GlyphDefinition.{GlyphDefinition}
 use Rattle.layout_face.specs.declared.parts.FaceParts.{FaceParts}
-use Rattle.layout_subtables.specs.Fits.{marks_fit_bases, marks_fit_ligatures}
+use Rattle.layout_tables.specs.Fits.{marks_fit_bases, marks_fit_ligatures}
 use Rattle.layout_tables.specs.Indices as lists
 use Rattle.layout_face.specs.LookupIndices.{set_fits, pair_classes_fit, positioning_classes_fit, substitution_fits, positioning_lookup_fits, positioning_fits}
 use Rattle.layout_face.specs.Indices.{set_limit, indices_fit}

@@ -5,12 +5,12 @@ use Rattle.std.specs.List.{list_all}
 use Rattle.std.specs.Option.{ok_or, option_map_or}
 use Rattle.serde_json.specs.Data.{Data, null, boolean, number, string, array, object, Items, no_items, item}
 use Rattle.serde_json.specs.Find.{as_array}
-use Rattle.shell_json_values.specs.declared.fault.JsonFault.{JsonFault}
-use Rattle.shell_json_values.specs.declared.fault.JsonFault.TheVariants.{WrongShape, OutOfRange, OutOfOrder}
-use Rattle.shell_json_values.specs.Cell.{and_then, both, u16_value}
-use Rattle.shell_json_values.specs.Objects.{optional_value}
-use Rattle.shell_json_values.specs.Parts.{list_of, list_or_none}
-use Rattle.shell_json_values.specs.Rows.{after, ok_cons, row_in_order, rows_after}
+use Rattle.shell_json.specs.declared.fault.JsonFault.{JsonFault}
+use Rattle.shell_json.specs.declared.fault.JsonFault.TheVariants.{WrongShape, OutOfRange, OutOfOrder}
+use Rattle.shell_json.specs.Cell.{and_then, both, u16_value}
+use Rattle.shell_json.specs.Objects.{optional_value}
+use Rattle.shell_json.specs.Parts.{list_of, list_or_none}
+use Rattle.shell_json.specs.Rows.{after, ok_cons, row_in_order, rows_after}
 use Rattle.shell_face_json.specs.Lists.{below, count_of, in_front, item_count, items_of, number_below, or_null, part_list, rows_in_turn, some_of}
 use Rattle.shell_face_json.specs.Row.{first_and_rest}
 

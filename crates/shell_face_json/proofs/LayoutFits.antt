@@ -5,10 +5,10 @@ use Rattle.std.specs.List.{list_all}
 use Rattle.std.specs.Ordering.{nat_cmp}
 use Rattle.serde_json.specs.Data.{Data}
 use Rattle.serde_json.specs.Find.{get}
-use Rattle.shell_json_values.specs.declared.fault.JsonFault.{JsonFault}
-use Rattle.shell_json_values.specs.declared.fault.JsonFault.TheVariants.{OutOfOrder}
-use Rattle.shell_json_values.specs.Cell.{both}
-use Rattle.shell_json_values.specs.Parts.{list_of, list_at, tag}
+use Rattle.shell_json.specs.declared.fault.JsonFault.{JsonFault}
+use Rattle.shell_json.specs.declared.fault.JsonFault.TheVariants.{OutOfOrder}
+use Rattle.shell_json.specs.Cell.{both}
+use Rattle.shell_json.specs.Parts.{list_of, list_at, tag}
 use Rattle.shell_face_json.specs.Lists.{number_below, or_null, is_object, items_of, part_list, rows_at, rows_in_turn, count_at}
 use Rattle.shell_face_json.specs.Row.{first_and_rest, no_more, row_of_two, row_of_three}
 use Rattle.shell_face_json.specs.Sorted.{rows_by_key}

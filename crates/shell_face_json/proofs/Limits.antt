@@ -9,11 +9,11 @@ use Rattle.std.proofs.lemmas.Bool.{and_parts}
 use Rattle.std.proofs.lemmas.Bool.Decides.{nat_tests}
 use Rattle.serde_json.specs.Data.{Data, Items, no_items, item}
 use Rattle.serde_json.specs.Find.{as_array}
-use Rattle.shell_json_values.specs.declared.fault.JsonFault.{JsonFault}
-use Rattle.shell_json_values.specs.declared.fault.JsonFault.TheVariants.{WrongShape}
-use Rattle.shell_json_values.specs.Cell.{u16_value}
-use Rattle.shell_json_values.specs.Parts.{list_of}
-use Rattle.shell_json_values.specs.Rows.{ok_cons}
+use Rattle.shell_json.specs.declared.fault.JsonFault.{JsonFault}
+use Rattle.shell_json.specs.declared.fault.JsonFault.TheVariants.{WrongShape}
+use Rattle.shell_json.specs.Cell.{u16_value}
+use Rattle.shell_json.specs.Parts.{list_of}
+use Rattle.shell_json.specs.Rows.{ok_cons}
 use Rattle.buffer_rows.specs.Keys.{is_above}
 use Rattle.shell_face_json.specs.Lists.{item_count, items_of, number_below, part_list, rows_in_turn}
 use Rattle.shell_face_json.specs.Row.{first_and_rest, no_more, only, row_of}
@@ -23,8 +23,8 @@ use Rattle.shell_face_json.specs.Glyphs.{classes_in, glyph_row, glyph_rows}
 use Rattle.shell_face_json.proofs.Inverted.{through, of_first, below_limit, turn_of_items, turn_of_keys, same_length, all_in_turn}
 use Rattle.layout_common.specs.declared.glyph_row.GlyphRow.{GlyphRow}
 use Rattle.layout_common.specs.declared.class_definition.ClassDefinition.{ClassDefinition}
-use Rattle.layout_subtables.specs.declared.mark.MarkRecord.{MarkRecord}
-use Rattle.layout_subtables.specs.Fits.{class_count, mark_class_count}
+use Rattle.layout_tables.specs.declared.mark.MarkRecord.{MarkRecord}
+use Rattle.layout_tables.specs.Fits.{class_count, mark_class_count}
 
 -- rows that rise by their keys are the rows in turn
 pub turn_of_rising : {R K : Type 0} (order : K → K → Ordering) (key : R → K) (read : Data → Result R JsonFault) (ds : Items) (xs : List R) → rows_by_key order key read None ds ≡ Ok xs → rows_in_turn read ds ≡ Ok xs

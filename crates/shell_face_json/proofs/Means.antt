@@ -7,9 +7,9 @@ use Rattle.std.specs.Result.{result_map_both}
 use Rattle.serde_json.specs.Data.{Data}
 use Rattle.serde_json.specs.View.{view, items_view}
 use Rattle.serde_json.specs.declared.value.Value.{Value}
-use Rattle.shell_json_values.specs.declared.fault.JsonFault.{JsonFault}
-use Rattle.shell_json_values.specs.declared.fault.JsonFault.TheVariants.{NotJson, WrongShape, FloatNumber, UnknownName, OutOfOrder, OutOfRange, SplitDepth, OutOfMemory}
-use Rattle.shell_json_values.specs.Cell.{rank_of, first_fault, both}
+use Rattle.shell_json.specs.declared.fault.JsonFault.{JsonFault}
+use Rattle.shell_json.specs.declared.fault.JsonFault.TheVariants.{NotJson, WrongShape, FloatNumber, UnknownName, OutOfOrder, OutOfRange, SplitDepth, OutOfMemory}
+use Rattle.shell_json.specs.Cell.{rank_of, first_fault, both}
 use Rattle.shell_face_json.specs.Lists.{in_front, after_all, items_of}
 
 abbrev pub Means : {A : Type 0} → Result A JsonFault → Result A JsonFault → Type 0

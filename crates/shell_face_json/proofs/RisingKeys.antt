@@ -1,7 +1,7 @@
 -- Rows whose keys follow one another rise.
 use Rattle.std.proofs.Common.{◌≡◌, ◌&&◌, true, List, [], ◌∷◌, Option, Some, refl, ap}
 use Rattle.std.specs.declared.cmp.Ordering.{Ordering}
-use Rattle.shell_json_values.specs.Rows.{all_follow}
+use Rattle.shell_json.specs.Rows.{all_follow}
 use Rattle.buffer_rows.specs.Keys.{is_above, is_rising}
 
 same_order : {R K : Type 0} (order : K → K → Ordering) (key : R → K) (before : Option K) (rows : List R)

@@ -2,7 +2,7 @@
 use Rattle.std.proofs.Common.{◌≡◌, ◌≢◌, suc, List, [], ◌∷◌, length, drop, get_or, false, is_some, Ok, Err, ap, arith, refl}
 use Rattle.serde_json.specs.declared.value.Value.{Value}
 use Rattle.serde_json.specs.View.{view, items_view}
-use Rattle.shell_json_values.specs.declared.fault.JsonFault.TheVariants.{WrongShape}
+use Rattle.shell_json.specs.declared.fault.JsonFault.TheVariants.{WrongShape}
 use Rattle.shell_face_json.specs.Lists.{item_count}
 use Rattle.serde_json.specs.Find.{as_number}
 use Rattle.shell_face_json.specs.Row.{no_more, first_in}

@@ -4,17 +4,17 @@ use Rattle.std.specs.Str.{bytes_eq}
 use Rattle.std.specs.Option.{ok_or}
 use Rattle.serde_json.specs.Data.{Data}
 use Rattle.serde_json.specs.Find.{get, as_str}
-use Rattle.shell_json_values.specs.declared.fault.JsonFault.{JsonFault}
-use Rattle.shell_json_values.specs.declared.fault.JsonFault.TheVariants.{WrongShape, UnknownName}
-use Rattle.shell_json_values.specs.Cell.{and_then}
+use Rattle.shell_json.specs.declared.fault.JsonFault.{JsonFault}
+use Rattle.shell_json.specs.declared.fault.JsonFault.TheVariants.{WrongShape, UnknownName}
+use Rattle.shell_json.specs.Cell.{and_then}
 use Rattle.shell_face_json.specs.Lists.{number_below, is_object, part_list, rows_at, rows_in_turn}
 use Rattle.shell_face_json.specs.Row.{row_of_two, row_of_three, row_of_four}
 use Rattle.layout_common.specs.declared.class_definition.ClassDefinition.{ClassDefinition}
-use Rattle.layout_subtables.specs.declared.context.SequenceLookupRecord.{SequenceLookupRecord}
-use Rattle.layout_subtables.specs.declared.context.SequenceRule.{SequenceRule}
-use Rattle.layout_subtables.specs.declared.context.ClassRules.{ClassRules}
-use Rattle.layout_subtables.specs.declared.context.ContextSubtable.{ContextSubtable}
-use Rattle.layout_subtables.specs.declared.context.ContextSubtable.TheVariants as Rules
+use Rattle.layout_tables.specs.declared.context.SequenceLookupRecord.{SequenceLookupRecord}
+use Rattle.layout_tables.specs.declared.context.SequenceRule.{SequenceRule}
+use Rattle.layout_tables.specs.declared.context.ClassRules.{ClassRules}
+use Rattle.layout_tables.specs.declared.context.ContextSubtable.{ContextSubtable}
+use Rattle.layout_tables.specs.declared.context.ContextSubtable.TheVariants as Rules
 use Rattle.shell_face_json.specs.declared.contexts.ContextFormat.{ContextFormat}
 use Rattle.shell_face_json.specs.declared.contexts.ContextFormat.TheVariants.{Glyphs, Classes, Coverage}
 use Rattle.shell_face_json.specs.Glyphs.{coverage, coverage_at, class_definition}

@@ -3,10 +3,10 @@ use Rattle.std.specs.Prelude.{ℕ, ℤ, pos, nat_le, if◌then◌else◌, List, 
 use Rattle.std.specs.Ordering.{nat_cmp}
 use Rattle.serde_json.specs.Data.{Data}
 use Rattle.serde_json.specs.Find.{get}
-use Rattle.shell_json_values.specs.declared.fault.JsonFault.{JsonFault}
-use Rattle.shell_json_values.specs.declared.fault.JsonFault.TheVariants.{OutOfRange}
-use Rattle.shell_json_values.specs.Cell.{and_then, u16_value, i16_value}
-use Rattle.shell_json_values.specs.Objects.{read_or, optional_value}
+use Rattle.shell_json.specs.declared.fault.JsonFault.{JsonFault}
+use Rattle.shell_json.specs.declared.fault.JsonFault.TheVariants.{OutOfRange}
+use Rattle.shell_json.specs.Cell.{and_then, u16_value, i16_value}
+use Rattle.shell_json.specs.Objects.{read_or, optional_value}
 use Rattle.layout_common.specs.declared.glyph_row.GlyphRow.{GlyphRow}
 use Rattle.buffer_glyphs.specs.declared.names.hb_glyph_extents_t.{hb_glyph_extents_t}
 use Rattle.layout_face.specs.declared.positioning.PositioningTable.{PositioningTable}

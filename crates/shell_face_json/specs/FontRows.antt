@@ -3,9 +3,9 @@ use Rattle.std.specs.Prelude.{ℕ, List, Result, Ok}
 use Rattle.std.specs.Option.{ok_or}
 use Rattle.serde_json.specs.Data.{Data, Items}
 use Rattle.serde_json.specs.Find.{as_str}
-use Rattle.shell_json_values.specs.declared.fault.JsonFault.{JsonFault}
-use Rattle.shell_json_values.specs.declared.fault.JsonFault.TheVariants.{WrongShape}
-use Rattle.shell_json_values.specs.Cell.{and_then, character, i16_value}
+use Rattle.shell_json.specs.declared.fault.JsonFault.{JsonFault}
+use Rattle.shell_json.specs.declared.fault.JsonFault.TheVariants.{WrongShape}
+use Rattle.shell_json.specs.Cell.{and_then, character, i16_value}
 use Rattle.buffer_glyphs.specs.declared.names.hb_glyph_extents_t.{hb_glyph_extents_t}
 use Rattle.shell_face_json.specs.Lists.{number_below}
 use Rattle.shell_face_json.specs.Row.{first_and_rest, no_more, row_of_two, row_of_three}

@@ -2,9 +2,9 @@
 use Rattle.std.specs.Prelude.{ℕ, List, codes, None, Result, Ok}
 use Rattle.std.specs.Ordering.{nat_cmp}
 use Rattle.serde_json.specs.Data.{Data, Items}
-use Rattle.shell_json_values.specs.declared.fault.JsonFault.{JsonFault}
-use Rattle.shell_json_values.specs.Cell.{and_then, u16_value}
-use Rattle.shell_json_values.specs.Parts.{list_of}
+use Rattle.shell_json.specs.declared.fault.JsonFault.{JsonFault}
+use Rattle.shell_json.specs.Cell.{and_then, u16_value}
+use Rattle.shell_json.specs.Parts.{list_of}
 use Rattle.shell_face_json.specs.Lists.{number_below, part_list, rows_at, rows_in_turn}
 use Rattle.shell_face_json.specs.Row.{first_and_rest, only, row_of}
 use Rattle.shell_face_json.specs.Sorted.{rows_by_key, sorted_part}

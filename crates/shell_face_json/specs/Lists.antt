@@ -3,11 +3,11 @@ use Rattle.std.specs.Prelude.{ℕ, suc, nat_lt, if◌then◌else◌, is_some, Li
 use Rattle.std.specs.Option.{option_map_or}
 use Rattle.serde_json.specs.Data.{Data, null, boolean, number, string, array, object, Items, no_items, item}
 use Rattle.serde_json.specs.Find.{get, as_array, as_object}
-use Rattle.shell_json_values.specs.declared.fault.JsonFault.{JsonFault}
-use Rattle.shell_json_values.specs.declared.fault.JsonFault.TheVariants.{WrongShape, OutOfRange}
-use Rattle.shell_json_values.specs.Cell.{and_then, first_fault, u16_value}
-use Rattle.shell_json_values.specs.Parts.{list_of, list_at}
-use Rattle.shell_json_values.specs.Rows.{after}
+use Rattle.shell_json.specs.declared.fault.JsonFault.{JsonFault}
+use Rattle.shell_json.specs.declared.fault.JsonFault.TheVariants.{WrongShape, OutOfRange}
+use Rattle.shell_json.specs.Cell.{and_then, first_fault, u16_value}
+use Rattle.shell_json.specs.Parts.{list_of, list_at}
+use Rattle.shell_json.specs.Rows.{after}
 
 -- ---- numbers
 

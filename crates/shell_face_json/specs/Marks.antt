@@ -2,8 +2,8 @@
 use Rattle.std.specs.Prelude.{ℕ, List, codes, None, Result, Ok}
 use Rattle.std.specs.Ordering.{nat_cmp}
 use Rattle.serde_json.specs.Data.{Data, Items}
-use Rattle.shell_json_values.specs.declared.fault.JsonFault.{JsonFault}
-use Rattle.shell_json_values.specs.Cell.{and_then}
+use Rattle.shell_json.specs.declared.fault.JsonFault.{JsonFault}
+use Rattle.shell_json.specs.Cell.{and_then}
 use Rattle.shell_face_json.specs.Lists.{number_below, or_null, is_object, part_list, rows_at}
 use Rattle.shell_face_json.specs.Row.{first_and_rest, no_more, row_of_two}
 use Rattle.shell_face_json.specs.Sorted.{rows_by_key}
@@ -11,12 +11,12 @@ use Rattle.shell_face_json.specs.Lengths.{items_at, least_row_length, least_leng
 use Rattle.shell_face_json.specs.Glyphs.{glyph_rows}
 use Rattle.shell_face_json.specs.Positions.{anchor}
 use Rattle.layout_common.specs.declared.glyph_row.GlyphRow.{GlyphRow}
-use Rattle.layout_subtables.specs.declared.mark.MarkRecord.{MarkRecord}
-use Rattle.layout_subtables.specs.declared.mark.BaseRow.{BaseRow}
-use Rattle.layout_subtables.specs.declared.mark.ComponentRecord.{ComponentRecord}
-use Rattle.layout_subtables.specs.declared.mark.LigatureRow.{LigatureRow}
-use Rattle.layout_subtables.specs.declared.mark.MarkBasePos.{MarkBasePos}
-use Rattle.layout_subtables.specs.declared.mark.MarkLigPos.{MarkLigPos}
+use Rattle.layout_tables.specs.declared.mark.MarkRecord.{MarkRecord}
+use Rattle.layout_tables.specs.declared.mark.BaseRow.{BaseRow}
+use Rattle.layout_tables.specs.declared.mark.ComponentRecord.{ComponentRecord}
+use Rattle.layout_tables.specs.declared.mark.LigatureRow.{LigatureRow}
+use Rattle.layout_tables.specs.declared.mark.MarkBasePos.{MarkBasePos}
+use Rattle.layout_tables.specs.declared.mark.MarkLigPos.{MarkLigPos}
 
 -- a mark's class, which is below the number of classes, and its anchor or null
 abbrev pub mark_record : ℕ → Items → Result MarkRecord JsonFault

@@ -4,10 +4,10 @@ use Rattle.std.specs.Option.{ok_or}
 use Rattle.std.specs.Str.{bytes_eq}
 use Rattle.serde_json.specs.Data.{Data}
 use Rattle.serde_json.specs.Find.{get, as_str}
-use Rattle.shell_json_values.specs.declared.fault.JsonFault.{JsonFault}
-use Rattle.shell_json_values.specs.declared.fault.JsonFault.TheVariants.{WrongShape, UnknownName}
-use Rattle.shell_json_values.specs.Cell.{and_then, u16_value}
-use Rattle.shell_json_values.specs.Objects.{read_or, optional_value}
+use Rattle.shell_json.specs.declared.fault.JsonFault.{JsonFault}
+use Rattle.shell_json.specs.declared.fault.JsonFault.TheVariants.{WrongShape, UnknownName}
+use Rattle.shell_json.specs.Cell.{and_then, u16_value}
+use Rattle.shell_json.specs.Objects.{read_or, optional_value}
 use Rattle.layout_face.specs.declared.positioning.PositioningSubtables.{PositioningSubtables}
 use Rattle.layout_face.specs.declared.positioning.PositioningSubtables.TheVariants as Subtables
 use Rattle.layout_face.specs.declared.positioning.PositioningLookup.{PositioningLookup}

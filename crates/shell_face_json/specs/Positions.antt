@@ -4,25 +4,25 @@ use Rattle.std.specs.declared.cmp.Ordering.{Ordering}
 use Rattle.std.specs.Ordering.{nat_cmp, ordering_then}
 use Rattle.serde_json.specs.Data.{Data, Items}
 use Rattle.serde_json.specs.Find.{as_object}
-use Rattle.shell_json_values.specs.declared.fault.JsonFault.{JsonFault}
-use Rattle.shell_json_values.specs.Cell.{and_then, i16_value}
-use Rattle.shell_json_values.specs.Parts.{list_of}
+use Rattle.shell_json.specs.declared.fault.JsonFault.{JsonFault}
+use Rattle.shell_json.specs.Cell.{and_then, i16_value}
+use Rattle.shell_json.specs.Parts.{list_of}
 use Rattle.shell_face_json.specs.Lists.{number_below, or_null, part_list, rows_at, rows_in_turn, count_at}
 use Rattle.shell_face_json.specs.Row.{first_and_rest, no_more, only, row_of_two, row_of_four}
 use Rattle.shell_face_json.specs.Sorted.{rows_by_key}
 use Rattle.shell_face_json.specs.Lengths.{items_at, least_length}
 use Rattle.shell_face_json.specs.Glyphs.{glyph_rows, coverage_at, classes_in}
-use Rattle.layout_subtables.specs.declared.value.Anchor.{Anchor}
-use Rattle.layout_subtables.specs.declared.value.ValueRecord.{ValueRecord}
-use Rattle.layout_subtables.specs.declared.single_pos.SinglePos.{SinglePos}
-use Rattle.layout_subtables.specs.declared.pair.PairValues.{PairValues}
-use Rattle.layout_subtables.specs.declared.pair.PairRow.{PairRow}
-use Rattle.layout_subtables.specs.declared.pair.Class1Record.{Class1Record}
-use Rattle.layout_subtables.specs.declared.pair.ClassPairs.{ClassPairs}
-use Rattle.layout_subtables.specs.declared.pair.PairPos.{PairPos}
-use Rattle.layout_subtables.specs.declared.pair.PairPos.TheVariants.{Glyphs, Classes}
-use Rattle.layout_subtables.specs.declared.cursive.EntryExit.{EntryExit}
-use Rattle.layout_subtables.specs.declared.cursive.CursivePos.{CursivePos}
+use Rattle.layout_tables.specs.declared.value.Anchor.{Anchor}
+use Rattle.layout_tables.specs.declared.value.ValueRecord.{ValueRecord}
+use Rattle.layout_tables.specs.declared.single_pos.SinglePos.{SinglePos}
+use Rattle.layout_tables.specs.declared.pair.PairValues.{PairValues}
+use Rattle.layout_tables.specs.declared.pair.PairRow.{PairRow}
+use Rattle.layout_tables.specs.declared.pair.Class1Record.{Class1Record}
+use Rattle.layout_tables.specs.declared.pair.ClassPairs.{ClassPairs}
+use Rattle.layout_tables.specs.declared.pair.PairPos.{PairPos}
+use Rattle.layout_tables.specs.declared.pair.PairPos.TheVariants.{Glyphs, Classes}
+use Rattle.layout_tables.specs.declared.cursive.EntryExit.{EntryExit}
+use Rattle.layout_tables.specs.declared.cursive.CursivePos.{CursivePos}
 
 -- an anchor: x and y
 abbrev pub anchor : Data → Result Anchor JsonFault

@@ -1,10 +1,10 @@
 -- Rows: lists whose items differ in kind.
 use Rattle.std.specs.Prelude.{Result, Ok, Err, ⊤}
 use Rattle.serde_json.specs.Data.{Data, Items, no_items, item}
-use Rattle.shell_json_values.specs.declared.fault.JsonFault.{JsonFault}
-use Rattle.shell_json_values.specs.declared.fault.JsonFault.TheVariants.{WrongShape}
-use Rattle.shell_json_values.specs.Cell.{and_then, both}
-use Rattle.shell_json_values.specs.Parts.{list_of}
+use Rattle.shell_json.specs.declared.fault.JsonFault.{JsonFault}
+use Rattle.shell_json.specs.declared.fault.JsonFault.TheVariants.{WrongShape}
+use Rattle.shell_json.specs.Cell.{and_then, both}
+use Rattle.shell_json.specs.Parts.{list_of}
 
 -- the row has no more items
 abbrev pub no_more : Items → Result ⊤ JsonFault

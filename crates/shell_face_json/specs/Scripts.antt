@@ -3,17 +3,17 @@ use Rattle.std.specs.Prelude.{ℕ, if◌then◌else◌, List, codes, Option, Non
 use Rattle.std.specs.Ordering.{nat_cmp}
 use Rattle.serde_json.specs.Data.{Data}
 use Rattle.serde_json.specs.Find.{get}
-use Rattle.shell_json_values.specs.declared.fault.JsonFault.{JsonFault}
-use Rattle.shell_json_values.specs.declared.fault.JsonFault.TheVariants.{OutOfOrder}
-use Rattle.shell_json_values.specs.Cell.{and_then, both}
-use Rattle.shell_json_values.specs.Objects.{optional_value}
+use Rattle.shell_json.specs.declared.fault.JsonFault.{JsonFault}
+use Rattle.shell_json.specs.declared.fault.JsonFault.TheVariants.{OutOfOrder}
+use Rattle.shell_json.specs.Cell.{and_then, both}
+use Rattle.shell_json.specs.Objects.{optional_value}
 use Rattle.shell_face_json.specs.Lists.{number_below, or_null, is_object, items_of, part_list, rows_at, rows_in_turn, count_at}
 use Rattle.shell_face_json.specs.Row.{row_of_two, row_of_three}
 use Rattle.shell_face_json.specs.Sorted.{rows_by_key}
 use Rattle.layout_tables.specs.Keyed.{is_rising}
 use Rattle.layout_tables.specs.Layout.{LangSysTable, LangSysEntry, ScriptTable, FeatureTable, LayoutLists}
 use Rattle.buffer_common.specs.declared.tag.Tag.{Tag}
-use Rattle.shell_json_values.specs.Parts.{tag}
+use Rattle.shell_json.specs.Parts.{tag}
 
 -- ---- scripts, in a table whose number of features is the limit
 

@@ -2,10 +2,10 @@
 use Rattle.std.specs.Prelude.{if◌then◌else◌, List, Option, None, Result, Ok, Err}
 use Rattle.std.specs.declared.cmp.Ordering.{Ordering}
 use Rattle.serde_json.specs.Data.{Data, Items}
-use Rattle.shell_json_values.specs.declared.fault.JsonFault.{JsonFault}
-use Rattle.shell_json_values.specs.declared.fault.JsonFault.TheVariants.{OutOfOrder}
-use Rattle.shell_json_values.specs.Cell.{and_then}
-use Rattle.shell_json_values.specs.Rows.{rows_after}
+use Rattle.shell_json.specs.declared.fault.JsonFault.{JsonFault}
+use Rattle.shell_json.specs.declared.fault.JsonFault.TheVariants.{OutOfOrder}
+use Rattle.shell_json.specs.Cell.{and_then}
+use Rattle.shell_json.specs.Rows.{rows_after}
 use Rattle.buffer_rows.specs.Keys.{is_above, is_rising}
 use Rattle.shell_face_json.specs.Lists.{part_list}
 

@@ -3,19 +3,19 @@ use Rattle.std.specs.Prelude.{ℕ, Bool, false, if◌then◌else◌, is_some, Li
 use Rattle.std.specs.Ordering.{nat_cmp}
 use Rattle.serde_json.specs.Data.{Data, Items, no_items, item}
 use Rattle.serde_json.specs.Find.{as_number}
-use Rattle.shell_json_values.specs.declared.fault.JsonFault.{JsonFault}
-use Rattle.shell_json_values.specs.Cell.{and_then}
-use Rattle.shell_json_values.specs.Parts.{list_of}
+use Rattle.shell_json.specs.declared.fault.JsonFault.{JsonFault}
+use Rattle.shell_json.specs.Cell.{and_then}
+use Rattle.shell_json.specs.Parts.{list_of}
 use Rattle.shell_face_json.specs.Lists.{number_below, items_of, part_list}
 use Rattle.shell_face_json.specs.Row.{only, row_of_two, row_of_three}
 use Rattle.shell_face_json.specs.Sorted.{rows_by_key}
 use Rattle.shell_face_json.specs.Glyphs.{glyph_rows, glyph_row_list, coverage}
 use Rattle.layout_tables.specs.Layout.{LigatureTable, LigatureSetTable}
-use Rattle.layout_subtables.specs.declared.single_subst.SingleSubst.{SingleSubst}
-use Rattle.layout_subtables.specs.declared.sequence.SequenceRow.{SequenceRow}
-use Rattle.layout_subtables.specs.declared.sequence.MultipleSubst.{MultipleSubst}
-use Rattle.layout_subtables.specs.declared.sequence.AlternateSubst.{AlternateSubst}
-use Rattle.layout_subtables.specs.declared.reverse.ReverseChainSubst.{ReverseChainSubst}
+use Rattle.layout_tables.specs.declared.single_subst.SingleSubst.{SingleSubst}
+use Rattle.layout_tables.specs.declared.sequence.SequenceRow.{SequenceRow}
+use Rattle.layout_tables.specs.declared.sequence.MultipleSubst.{MultipleSubst}
+use Rattle.layout_tables.specs.declared.sequence.AlternateSubst.{AlternateSubst}
+use Rattle.layout_tables.specs.declared.reverse.ReverseChainSubst.{ReverseChainSubst}
 
 -- a single substitution subtable: rows of a glyph and its substitute (GSUB lookup type 1)
 abbrev pub single : ℕ → Data → Result SingleSubst JsonFault

@@ -10,9 +10,9 @@ use crate::rows::read_row;
 use crate::value::Part;
 use buffer_rows::SortedRows;
 use layout_common::class_definition::ClassDefinition;
-use layout_subtables::context::{ClassRules, ContextSubtable, SequenceLookupRecord, SequenceRule};
+use layout_tables::context::{ClassRules, ContextSubtable, SequenceLookupRecord, SequenceRule};
 use serde_json::Value;
-use shell_json_values::fault::JsonFault;
+use shell_json::fault::JsonFault;
 use std::alloc::Global;
 
 /// The formats of a context subtable, by the items of its rules: glyphs, classes or coverages (OpenType, formats 1 to

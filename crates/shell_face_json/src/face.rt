@@ -18,8 +18,8 @@ use layout_face::parts::{CharacterRow, FaceParts, GlyphDefinition, NameRow, Vari
 use layout_face::positioning::PositioningTable;
 use layout_face::substitution::SubstitutionTable;
 use serde_json::Value;
-use shell_json_values::fault::JsonFault;
-use shell_json_values::keys::read_key;
+use shell_json::fault::JsonFault;
+use shell_json::keys::read_key;
 use std::alloc::Global;
 
 /// Reads a font. Unknown keys are skipped. Of several faults it returns the first by the order of the format's keys,

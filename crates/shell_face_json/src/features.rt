@@ -11,8 +11,8 @@ use buffer_common::tag::Tag;
 use layout_common::array::Array;
 use layout_tables::table::{FeatureRecord, LayoutTable};
 use serde_json::Value;
-use shell_json_values::fault::JsonFault;
-use shell_json_values::parts::list_at;
+use shell_json::fault::JsonFault;
+use shell_json::parts::list_at;
 use std::alloc::Global;
 
 impl Part for FeatureRecord {

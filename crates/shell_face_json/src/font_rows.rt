@@ -7,7 +7,7 @@ use crate::value::Part;
 use buffer_glyphs::names::hb_glyph_extents_t;
 use layout_face::parts::{CharacterRow, NameRow, VariationRow};
 use serde_json::Value;
-use shell_json_values::fault::JsonFault;
+use shell_json::fault::JsonFault;
 use std::alloc::Global;
 use std::marker::Model;
 

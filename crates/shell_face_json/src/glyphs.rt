@@ -13,9 +13,9 @@ use layout_common::class_definition::ClassDefinition;
 use layout_common::coverage::Coverage;
 use layout_common::glyph_row::GlyphRow;
 use serde_json::Value;
-use shell_json_values::cell::{Cell, pair};
-use shell_json_values::fault::JsonFault;
-use shell_json_values::parts::{list, list_at};
+use shell_json::cell::{Cell, pair};
+use shell_json::fault::JsonFault;
+use shell_json::parts::{list, list_at};
 use std::alloc::Global;
 
 /// Glyph numbers are below this limit: they have 16 bits.

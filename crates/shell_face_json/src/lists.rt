@@ -7,9 +7,9 @@ ghost use Rattle.shell_face_json.specs.Lists.{after_all, items_of, part_list, ro
 use crate::value::Part;
 use layout_common::array::Array;
 use serde_json::Value;
-use shell_json_values::cell::first_fault;
-use shell_json_values::fault::JsonFault;
-use shell_json_values::parts::list;
+use shell_json::cell::first_fault;
+use shell_json::fault::JsonFault;
+use shell_json::parts::list;
 use std::alloc::Global;
 
 /// A list inside a row.

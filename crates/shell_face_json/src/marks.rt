@@ -5,12 +5,12 @@ use crate::lengths::{items_at, least_length_in_rows, least_row_length};
 use crate::objects::{object, read_by_key_at};
 use crate::rows::{Parts, read_row};
 use crate::value::Part;
-use layout_subtables::mark::{
+use layout_tables::mark::{
     BaseRow, ComponentRecord, LigatureRow, MarkBasePos, MarkLigPos, MarkRecord,
 };
-use layout_subtables::value::Anchor;
+use layout_tables::value::Anchor;
 use serde_json::Value;
-use shell_json_values::fault::JsonFault;
+use shell_json::fault::JsonFault;
 use std::alloc::Global;
 
 /// A mark's class and its anchor.

@@ -1,13 +1,13 @@
 //! Reads numbers and tags.
-ghost use Rattle.shell_json_values.specs.Cell.{i16_value, character};
-ghost use Rattle.shell_json_values.specs.Parts.{tag};
+ghost use Rattle.shell_json.specs.Cell.{i16_value, character};
+ghost use Rattle.shell_json.specs.Parts.{tag};
 ghost use Rattle.shell_face_json.specs.Lists.{number_below};
 
 use crate::value::Part;
 use buffer_common::tag::Tag;
 use serde_json::Value;
-use shell_json_values::cell::Cell;
-use shell_json_values::fault::JsonFault;
+use shell_json::cell::Cell;
+use shell_json::fault::JsonFault;
 use std::alloc::Global;
 
 impl Part for u16 {

@@ -2,7 +2,7 @@
 ghost use Rattle.std.specs.Prelude.{◌≡◌, ◌≢◌, IfOk, IfErr, Ok, Err, None};
 ghost use Rattle.serde_json.specs.Find.{get};
 ghost use Rattle.serde_json.specs.View.{view};
-ghost use Rattle.shell_json_values.specs.Objects.{optional_value};
+ghost use Rattle.shell_json.specs.Objects.{optional_value};
 ghost use Rattle.shell_face_json.specs.Lists.{rows_at, rows_in_turn, items_of, count_at, is_object};
 ghost use Rattle.shell_face_json.specs.Sorted.{rows_by_key};
 ghost use Rattle.shell_face_json.specs.Glyphs.{glyph_limit, subtables_of};
@@ -14,8 +14,8 @@ use crate::value::Part;
 use buffer_rows::{Keyed, SortedRows};
 use layout_common::array::Array;
 use serde_json::Value;
-use shell_json_values::fault::JsonFault;
-use shell_json_values::parts::list_at;
+use shell_json::fault::JsonFault;
+use shell_json::parts::list_at;
 use std::alloc::Global;
 
 /// Refuses a value that is no object.

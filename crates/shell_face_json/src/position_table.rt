@@ -9,8 +9,8 @@ use crate::objects::{object, read_in_turn_at, read_optional_at, subtables};
 use crate::value::Part;
 use layout_face::positioning::{PositioningLookup, PositioningSubtables, PositioningTable};
 use serde_json::Value;
-use shell_json_values::fault::JsonFault;
-use shell_json_values::keys::read_key;
+use shell_json::fault::JsonFault;
+use shell_json::keys::read_key;
 use std::alloc::Global;
 
 /// The GPOS lookup types.

@@ -11,13 +11,13 @@ use crate::objects::{count_at, read_in_turn_at};
 use crate::rising::read_by_key;
 use crate::rows::{Parts, read_only, read_row};
 use crate::value::Part;
-use layout_subtables::cursive::{CursivePos, EntryExit};
-use layout_subtables::pair::{Class1Record, ClassPairs, GlyphPairs, PairPos, PairRow, PairValues};
-use layout_subtables::single_pos::SinglePos;
-use layout_subtables::value::{Anchor, ValueRecord};
+use layout_tables::cursive::{CursivePos, EntryExit};
+use layout_tables::pair::{Class1Record, ClassPairs, GlyphPairs, PairPos, PairRow, PairValues};
+use layout_tables::single_pos::SinglePos;
+use layout_tables::value::{Anchor, ValueRecord};
 use serde_json::Value;
-use shell_json_values::fault::JsonFault;
-use shell_json_values::parts::list;
+use shell_json::fault::JsonFault;
+use shell_json::parts::list;
 use std::alloc::Global;
 
 impl Part for Anchor {

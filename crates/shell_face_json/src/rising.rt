@@ -8,9 +8,9 @@ use crate::lists::read_list;
 use crate::value::Part;
 use buffer_rows::{Keyed, SortedRows, is_above, is_rising};
 use serde_json::Value;
-use shell_json_values::fault::JsonFault;
-use shell_json_values::parts::list;
-use shell_json_values::rows::{RowReader, read_rows};
+use shell_json::fault::JsonFault;
+use shell_json::parts::list;
+use shell_json::rows::{RowReader, read_rows};
 use std::alloc::Global;
 use std::marker::PhantomData;
 

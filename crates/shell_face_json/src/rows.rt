@@ -2,17 +2,17 @@
 ghost use Rattle.std.specs.Prelude.{◌≡◌, ◌≢◌, ℕ, IfOk, IfErr, Ok, Err, Result};
 ghost use Rattle.serde_json.specs.Data.{Items};
 ghost use Rattle.serde_json.specs.View.{view, items_view};
-ghost use Rattle.shell_json_values.specs.declared.fault.JsonFault.{JsonFault};
-ghost use Rattle.shell_json_values.specs.Cell.{and_then, i16_value};
-ghost use Rattle.shell_json_values.specs.Parts.{list_of};
+ghost use Rattle.shell_json.specs.declared.fault.JsonFault.{JsonFault};
+ghost use Rattle.shell_json.specs.Cell.{and_then, i16_value};
+ghost use Rattle.shell_json.specs.Parts.{list_of};
 ghost use Rattle.shell_face_json.specs.Lists.{number_below};
 ghost use Rattle.shell_face_json.specs.Row.{no_more, only, first_and_rest, first_in, row_of};
 
 use crate::value::Part;
 use serde_json::Value;
-use shell_json_values::cell::pair;
-use shell_json_values::fault::JsonFault;
-use shell_json_values::parts::list;
+use shell_json::cell::pair;
+use shell_json::fault::JsonFault;
+use shell_json::parts::list;
 use std::alloc::Global;
 
 /// The items of a row from one of them on.

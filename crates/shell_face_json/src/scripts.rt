@@ -9,8 +9,8 @@ use layout_common::array::Array;
 use layout_tables::is_rising;
 use layout_tables::script::{LangSys, LangSysRecord, ScriptRecord};
 use serde_json::Value;
-use shell_json_values::cell::pair;
-use shell_json_values::fault::JsonFault;
+use shell_json::cell::pair;
+use shell_json::fault::JsonFault;
 use std::alloc::Global;
 
 impl Part for LangSys {

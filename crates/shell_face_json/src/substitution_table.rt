@@ -10,8 +10,8 @@ use crate::objects::{object, read_in_turn_at, read_optional_at, subtables};
 use crate::value::Part;
 use layout_face::substitution::{SubstLookup, SubstitutionSubtables, SubstitutionTable};
 use serde_json::Value;
-use shell_json_values::fault::JsonFault;
-use shell_json_values::keys::read_key;
+use shell_json::fault::JsonFault;
+use shell_json::keys::read_key;
 use std::alloc::Global;
 
 /// The GSUB lookup types.

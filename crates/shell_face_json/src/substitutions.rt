@@ -2,7 +2,7 @@
 ghost use Rattle.std.specs.Prelude.{◌≡◌, ◌≢◌, IfOk, IfErr, Ok, Err, [], ◌∷◌};
 ghost use Rattle.serde_json.specs.View.{view, items_view};
 ghost use Rattle.layout_tables.specs.Layout.{LigatureTable, LigatureSetTable};
-ghost use Rattle.shell_json_values.specs.Cell.{and_then};
+ghost use Rattle.shell_json.specs.Cell.{and_then};
 ghost use Rattle.shell_face_json.specs.Substitutions.{single, sequence_row, multiple, alternate, ligature, is_ligature, ligatures, ligature_set, ligature_subst, reverse};
 
 use crate::lists::read_list;
@@ -10,13 +10,13 @@ use crate::rising::{read_by_key, read_rising};
 use crate::rows::read_row;
 use crate::value::Part;
 use layout_common::array::Array;
-use layout_subtables::reverse::ReverseChainSubst;
-use layout_subtables::sequence::{AlternateSubst, MultipleSubst, SequenceRow};
-use layout_subtables::single_subst::SingleSubst;
+use layout_tables::reverse::ReverseChainSubst;
+use layout_tables::sequence::{AlternateSubst, MultipleSubst, SequenceRow};
+use layout_tables::single_subst::SingleSubst;
 use layout_tables::ligature::{Ligature, LigatureSet, LigatureSubst};
 use serde_json::Value;
-use shell_json_values::fault::JsonFault;
-use shell_json_values::parts::list;
+use shell_json::fault::JsonFault;
+use shell_json::parts::list;
 use std::alloc::Global;
 use std::marker::Model;
 

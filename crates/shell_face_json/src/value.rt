@@ -3,11 +3,11 @@
 ghost use Rattle.std.specs.Prelude.{◌≡◌, ◌≢◌, ℕ, IfOk, IfErr, Ok, Err, Result};
 ghost use Rattle.serde_json.specs.Data.{Data};
 ghost use Rattle.serde_json.specs.View.{view};
-ghost use Rattle.shell_json_values.specs.declared.fault.JsonFault.{JsonFault};
+ghost use Rattle.shell_json.specs.declared.fault.JsonFault.{JsonFault};
 ghost use Rattle.shell_face_json.specs.Lists.{or_null};
 
 use serde_json::Value;
-use shell_json_values::fault::JsonFault;
+use shell_json::fault::JsonFault;
 use std::alloc::Global;
 
 /// An item of a row, or a row: a number, a text, a list.

@@ -3,11 +3,11 @@ use Rattle.std.proofs.Common.{◌≡◌, ℕ, List, [], codes, Option, Some, Non
 use Rattle.std.specs.Prelude.{unwrap_or}
 use Rattle.serde_json.specs.Data.{Data, Items, no_items, Members, object}
 use Rattle.serde_json.specs.Find.{get, get_member}
-use Rattle.shell_json_text.specs.Part.{IsFound, HasMember}
-use Rattle.shell_json_values.specs.declared.fault.JsonFault.{JsonFault}
-use Rattle.shell_json_values.specs.Cell.{and_then}
-use Rattle.shell_json_values.specs.Objects.{optional_value}
-use Rattle.shell_json_values.specs.Parts.{list_of, list_or_none}
+use Rattle.shell_json.specs.TextValues.{IsFound, HasMember}
+use Rattle.shell_json.specs.declared.fault.JsonFault.{JsonFault}
+use Rattle.shell_json.specs.Cell.{and_then}
+use Rattle.shell_json.specs.Objects.{optional_value}
+use Rattle.shell_json.specs.Parts.{list_of, list_or_none}
 use Rattle.shell_face_json.specs.Lists.{number_below, rows_in_turn}
 use Rattle.shell_face_json.specs.Row.{only}
 use Rattle.shell_face_json.specs.Contexts.{no_classes}

@@ -3,10 +3,10 @@ use Rattle.std.proofs.Common.{◌≡◌, true, List, [], ◌∷◌, ◌++◌, Op
 use Rattle.std.proofs.lemmas.Bool.{and_parts}
 use Rattle.std.specs.declared.cmp.Ordering.{Ordering}
 use Rattle.serde_json.specs.Data.{Data, Items, no_items, item}
-use Rattle.shell_json_values.specs.declared.fault.JsonFault.{JsonFault}
-use Rattle.shell_json_values.specs.Cell.{and_then}
-use Rattle.shell_json_values.specs.Parts.{list_of}
-use Rattle.shell_json_values.specs.Rows.{after, row_in_order, rows_after, ok_cons}
+use Rattle.shell_json.specs.declared.fault.JsonFault.{JsonFault}
+use Rattle.shell_json.specs.Cell.{and_then}
+use Rattle.shell_json.specs.Parts.{list_of}
+use Rattle.shell_json.specs.Rows.{after, row_in_order, rows_after, ok_cons}
 use Rattle.buffer_rows.specs.Keys.{is_above, is_rising}
 use Rattle.shell_face_json.specs.Lists.{rows_in_turn}
 use Rattle.shell_face_json.specs.Sorted.{rows_by_key}

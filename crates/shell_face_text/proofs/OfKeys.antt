@@ -7,11 +7,11 @@ use Rattle.serde_json.specs.Find.{get, get_member}
 use Rattle.serde_json.specs.View.{view}
 use Rattle.serde_json.specs.declared.value.Value.{Value}
 use Rattle.serde_json.specs.Read.{read}
-use Rattle.shell_json_text.specs.Part.{IsFound, HasMember}
-use Rattle.shell_json_values.specs.declared.fault.JsonFault.{JsonFault}
-use Rattle.shell_json_values.specs.Cell.{and_then}
-use Rattle.shell_json_values.specs.Objects.{optional_value}
-use Rattle.shell_json_values.specs.Parts.{list_of}
+use Rattle.shell_json.specs.TextValues.{IsFound, HasMember}
+use Rattle.shell_json.specs.declared.fault.JsonFault.{JsonFault}
+use Rattle.shell_json.specs.Cell.{and_then}
+use Rattle.shell_json.specs.Objects.{optional_value}
+use Rattle.shell_json.specs.Parts.{list_of}
 use Rattle.shell_face_json.specs.Lists.{is_object, rows_at, rows_in_turn}
 use Rattle.shell_face_json.specs.Sorted.{rows_by_key}
 use Rattle.shell_face_json.specs.Scripts.{layout_of}

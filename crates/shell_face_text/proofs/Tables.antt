@@ -6,11 +6,11 @@ use Rattle.serde_json.specs.Data.{Data, Items, no_items, Members, object}
 use Rattle.serde_json.specs.Find.{get_member, as_array}
 use Rattle.serde_json.specs.View.{view, items_view}
 use Rattle.serde_json.specs.declared.value.Value.{Value}
-use Rattle.shell_json_text.specs.Part.{IsFound, HasMember}
-use Rattle.shell_json_values.specs.declared.fault.JsonFault.{JsonFault}
-use Rattle.shell_json_values.specs.declared.fault.JsonFault.TheVariants.{WrongShape}
-use Rattle.shell_json_values.specs.Cell.{and_then}
-use Rattle.shell_json_values.specs.Parts.{list_of, list_or_none}
+use Rattle.shell_json.specs.TextValues.{IsFound, HasMember}
+use Rattle.shell_json.specs.declared.fault.JsonFault.{JsonFault}
+use Rattle.shell_json.specs.declared.fault.JsonFault.TheVariants.{WrongShape}
+use Rattle.shell_json.specs.Cell.{and_then}
+use Rattle.shell_json.specs.Parts.{list_of, list_or_none}
 use Rattle.shell_face_json.specs.Lists.{item_count, count_of, is_object, rows_at, rows_in_turn}
 use Rattle.shell_face_json.specs.Sorted.{rows_by_key}
 use Rattle.shell_face_json.proofs.Split.{count_is_length}

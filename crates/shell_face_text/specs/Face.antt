@@ -2,9 +2,9 @@
 use Rattle.std.specs.Prelude.{ℕ, List, Result}
 use Rattle.std.specs.Option.{ok_or}
 use Rattle.serde_json.specs.Read.{read}
-use Rattle.shell_json_values.specs.declared.fault.JsonFault.{JsonFault}
-use Rattle.shell_json_values.specs.declared.fault.JsonFault.TheVariants.{NotJson}
-use Rattle.shell_json_values.specs.Cell.{and_then}
+use Rattle.shell_json.specs.declared.fault.JsonFault.{JsonFault}
+use Rattle.shell_json.specs.declared.fault.JsonFault.TheVariants.{NotJson}
+use Rattle.shell_json.specs.Cell.{and_then}
 use Rattle.shell_face_json.specs.Face.{face_of}
 use Rattle.layout_face.specs.declared.parts.FaceParts.{FaceParts}
 

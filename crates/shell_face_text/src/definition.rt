@@ -15,9 +15,9 @@ use layout_common::glyph_row::GlyphRow;
 use layout_face::parts::GlyphDefinition;
 use shell_face_json::face::no_definition;
 use shell_face_json::glyphs::GLYPH_LIMIT;
-use shell_json_text::keys::{Key, ValueTaker};
-use shell_json_text::members::take_object;
-use shell_json_text::unread::Unread;
+use shell_json::key_takers::{Key, ValueTaker};
+use shell_json::members::take_object;
+use shell_json::unread::Unread;
 use std::alloc::Global;
 
 /// Reads the classes of glyphs.

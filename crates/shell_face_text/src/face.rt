@@ -12,9 +12,9 @@ use layout_face::Face;
 use layout_face::parts::FaceParts;
 use serde_json::Value;
 use shell_face_json::read_face;
-use shell_json_text::check::is_json;
-use shell_json_text::unread::Unread;
-use shell_json_values::fault::JsonFault;
+use shell_json::check::is_json;
+use shell_json::unread::Unread;
+use shell_json::fault::JsonFault;
 use std::alloc::Global;
 
 /// Reads a font from a text. A text that is no JSON is the first fault; the others are ordered as in `read_face`. A

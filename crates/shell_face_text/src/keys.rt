@@ -5,8 +5,8 @@ ghost use Rattle.serde_json.specs.Data.{Data};
 ghost use Rattle.serde_json.specs.Find.{get};
 ghost use Rattle.serde_json.specs.Read.{read};
 ghost use Rattle.serde_json.specs.View.{view};
-ghost use Rattle.shell_json_values.specs.Cell.{u16_value, i16_value};
-ghost use Rattle.shell_json_values.specs.Objects.{read_or, optional_value};
+ghost use Rattle.shell_json.specs.Cell.{u16_value, i16_value};
+ghost use Rattle.shell_json.specs.Objects.{read_or, optional_value};
 ghost use Rattle.shell_face_json.specs.Lists.{is_object, rows_at};
 ghost use Rattle.shell_face_json.specs.Sorted.{rows_by_key};
 ghost use Rattle.shell_face_json.specs.Glyphs.{glyph_limit};
@@ -27,10 +27,10 @@ use layout_tables::table::LayoutTable;
 use serde_json::Value;
 use shell_face_json::glyphs::GLYPH_LIMIT;
 use shell_face_json::value::Part;
-use shell_json_text::keys::{Key, Whole};
-use shell_json_text::members::take_text;
-use shell_json_text::unread::Unread;
-use shell_json_values::cell::Cell;
+use shell_json::key_takers::{Key, Whole};
+use shell_json::members::take_text;
+use shell_json::unread::Unread;
+use shell_json::cell::Cell;
 use std::alloc::Global;
 
 /// Reads units per em, the ascender, and the glyph definitions.

@@ -4,9 +4,9 @@ ghost use Rattle.json.specs.Token.{Token as SpecToken};
 ghost use Rattle.json.specs.Json.{value, items};
 ghost use Rattle.serde_json.specs.Data.{Data, Items};
 ghost use Rattle.serde_json.specs.Read.{of_items, converted};
-ghost use Rattle.shell_json_text.specs.Part.{BeginsWith};
-ghost use Rattle.shell_json_values.specs.Cell.{and_then};
-ghost use Rattle.shell_json_values.specs.Parts.{list_of};
+ghost use Rattle.shell_json.specs.TextValues.{BeginsWith};
+ghost use Rattle.shell_json.specs.Cell.{and_then};
+ghost use Rattle.shell_json.specs.Parts.{list_of};
 ghost use Rattle.shell_face_json.specs.Lists.{rows_in_turn};
 ghost use Rattle.shell_face_json.specs.Sorted.{rows_by_key};
 
@@ -14,9 +14,9 @@ use buffer_rows::{Keyed, SortedRows, is_rising};
 use json::{Reader, Token};
 use layout_common::array::Array;
 use shell_face_json::value::Part;
-use shell_json_text::keys::ValueTaker;
-use shell_json_text::unread::Unread;
-use shell_json_text::value::read_value;
+use shell_json::key_takers::ValueTaker;
+use shell_json::unread::Unread;
+use shell_json::value::read_value;
 use std::alloc::Global;
 use std::marker::PhantomData;
 

@@ -2,7 +2,7 @@
 ghost use Rattle.std.specs.Prelude.{◌≡◌, [], length, codes, unwrap_or, IfOk, Ok};
 ghost use Rattle.std.specs.Option.{option_map};
 ghost use Rattle.serde_json.specs.View.{view, items_view};
-ghost use Rattle.shell_json_values.specs.Parts.{list_or_none};
+ghost use Rattle.shell_json.specs.Parts.{list_or_none};
 ghost use Rattle.shell_face_json.specs.Lists.{is_object, rows_at, rows_in_turn};
 ghost use Rattle.shell_face_json.specs.Scripts.{layout_of};
 ghost use Rattle.shell_face_text.specs.Table.{layout_in};
@@ -15,11 +15,11 @@ use serde_json::Value;
 use shell_face_json::lists::read_in_turn;
 use shell_face_json::rising::read_rising;
 use shell_face_json::value::Part;
-use shell_json_text::keys::{Key, ValueTaker, Whole};
-use shell_json_text::members::take_object;
-use shell_json_text::unread::Unread;
-use shell_json_values::fault::JsonFault;
-use shell_json_values::parts::list;
+use shell_json::key_takers::{Key, ValueTaker, Whole};
+use shell_json::members::take_object;
+use shell_json::unread::Unread;
+use shell_json::fault::JsonFault;
+use shell_json::parts::list;
 use std::alloc::Global;
 use std::marker::PhantomData;
 

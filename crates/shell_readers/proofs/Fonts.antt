@@ -4,8 +4,8 @@ use Rattle.std.specs.Option.{ok_or}
 use Rattle.std.specs.Str.{is_utf8}
 use Rattle.serde_json.specs.Data.{Data}
 use Rattle.serde_json.specs.Read.{read}
-use Rattle.shell_json_values.specs.declared.fault.JsonFault.TheVariants.{NotJson}
-use Rattle.shell_json_values.specs.Cell.{and_then}
+use Rattle.shell_json.specs.declared.fault.JsonFault.TheVariants.{NotJson}
+use Rattle.shell_json.specs.Cell.{and_then}
 use Rattle.shell_face_json.specs.Face.{face_of}
 use Rattle.shell_face_text.specs.Face.{face_in}
 use Rattle.shell_readers.specs.declared.fault.RunFault.TheVariants.{Json}

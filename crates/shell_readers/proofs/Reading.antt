@@ -1,8 +1,8 @@
 -- How tables are read, step by step, and then a font.
 use Rattle.std.proofs.Common.{ℕ, ◌≡◌, ◌≢◌, true, false, List, Result, Ok, Err, refl, sym, subst, ap, ◌∙◌, inl, inr}
 use Rattle.serde_json.specs.Data.{Data}
-use Rattle.shell_json_values.specs.declared.fault.JsonFault.{JsonFault}
-use Rattle.shell_json_values.specs.declared.fault.JsonFault.TheVariants.{NotJson, WrongShape, FloatNumber, UnknownName, OutOfOrder, OutOfRange, SplitDepth, OutOfMemory}
+use Rattle.shell_json.specs.declared.fault.JsonFault.{JsonFault}
+use Rattle.shell_json.specs.declared.fault.JsonFault.TheVariants.{NotJson, WrongShape, FloatNumber, UnknownName, OutOfOrder, OutOfRange, SplitDepth, OutOfMemory}
 use Rattle.shell_readers.specs.declared.fault.RunFault.{RunFault}
 use Rattle.shell_readers.specs.declared.fault.RunFault.TheVariants.{Unlawful}
 use Rattle.shell_readers.specs.Fault.{run_fault_of}

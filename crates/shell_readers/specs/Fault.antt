@@ -1,11 +1,11 @@
 -- Faults of a run, and the exit status of each.
 use Rattle.std.specs.Prelude.{ℕ, List, codes}
-use Rattle.shell_json_values.specs.declared.fault.JsonFault.{JsonFault}
-use Rattle.shell_json_values.specs.Fault as json_values
+use Rattle.shell_json.specs.declared.fault.JsonFault.{JsonFault}
+use Rattle.shell_json.specs.Fault as json_values
 use Rattle.shell_readers.specs.declared.fault.RunFault.{RunFault}
 use Rattle.buffer_glyphs.specs.declared.cause.ShapeCause.{ShapeCause}
 use Rattle.buffer_glyphs.specs.declared.cause.ShapeCause.TheVariants as cause
-use Rattle.shell_json_values.specs.declared.fault.JsonFault.TheVariants as json
+use Rattle.shell_json.specs.declared.fault.JsonFault.TheVariants as json
 use Rattle.shell_readers.specs.declared.fault.RunFault.TheVariants as run
 
 -- the run's fault for a fault of a table or a font; lack of memory is one fault, in whichever step

@@ -3,11 +3,11 @@ use Rattle.std.specs.Prelude.{ℕ, ◌≡◌, ◌⊎◌, List, [], Option, Resul
 use Rattle.std.specs.Option.{option_map_or}
 use Rattle.std.specs.Str.{bytes_eq}
 use Rattle.buffer_common.specs.declared.tag.Tag.{Tag}
-use Rattle.buffer_languages.specs.LanguageRows.{primary_part}
+use Rattle.buffer_tags.specs.LanguageRows.{primary_part}
 use Rattle.serde_json.specs.Data.{Data}
-use Rattle.shell_json_values.specs.declared.fault.JsonFault.{JsonFault}
-use Rattle.shell_json_values.specs.declared.fault.JsonFault.TheVariants.{SplitDepth}
-use Rattle.shell_json_values.specs.Cell.{and_then}
+use Rattle.shell_json.specs.declared.fault.JsonFault.{JsonFault}
+use Rattle.shell_json.specs.declared.fault.JsonFault.TheVariants.{SplitDepth}
+use Rattle.shell_json.specs.Cell.{and_then}
 use Rattle.shell_readers.specs.declared.fault.RunFault.{RunFault}
 use Rattle.shell_readers.specs.declared.fault.RunFault.TheVariants.{Unlawful}
 use Rattle.shell_tables_json.specs.Languages.{Language, languages_in, languages_of}
@@ -55,7 +55,7 @@ IsRunValueOf d r = (read : Result RunTables JsonFault) × IsValueOf d read × (r
 unfoldable pub AreTables : List ℕ → Result RunTables RunFault → Type 0
 AreTables bytes r = then_answers (json_of bytes) IsRunValueOf r
 
--- refuses unlawful tables, and goes on with lawful ones
+-- the answer by a file's tables: a refusal where they are unlawful, else what follows for them
 abbrev pub IfLawful : {B : Type 0} → (RunTables → Result B RunFault) → RunTables → Result B RunFault → Type 0
 IfLawful next t answer = (IsLawful t.characters × (answer ≡ next t)) ⊎ ((¬ IsLawful t.characters) × (answer ≡ Err Unlawful))
 

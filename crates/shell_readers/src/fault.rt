@@ -4,7 +4,7 @@ ghost use Rattle.std.specs.Prelude.{◌≡◌};
 ghost use Rattle.shell_readers.specs.Fault.{name_of, status_of};
 
 use buffer_glyphs::cause::ShapeCause;
-use shell_json_values::fault::JsonFault;
+use shell_json::fault::JsonFault;
 use std::alloc::{AllocError, AllocFailed};
 use std::error::Error;
 use std::fmt;

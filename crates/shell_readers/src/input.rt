@@ -9,7 +9,7 @@ use crate::tables::{TextTables, check_laws, tables_in};
 use crate::values::utf8;
 use layout_face::Face;
 use shell_face_text::read_face_text;
-use shell_json_values::fault::JsonFault;
+use shell_json::fault::JsonFault;
 use std::alloc::Global;
 
 /// The tables and the font of a run.

@@ -4,7 +4,7 @@ use buffer_common::constants::BufferFlags;
 use buffer_common::direction::Direction;
 use buffer_common::language::Language;
 use buffer_common::script::Script;
-use buffer_features::feature::Feature;
+use buffer_tags::feature::Feature;
 use buffer_glyphs::flags::SerializeFlags;
 use buffer_glyphs::level::BufferClusterLevel;
 

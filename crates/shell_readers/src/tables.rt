@@ -9,11 +9,11 @@ ghost use Rattle.shell_readers.specs.Tables.{AreTables, IsValueOf, tables_value,
 
 use crate::fault::RunFault;
 use crate::values::read_json;
-use buffer_languages::language_table::LanguageTable;
+use buffer_tags::language_table::LanguageTable;
 use buffer_unicode_tables::UnicodeTables;
 use script_categories::SyllableTable;
 use serde_json::Value;
-use shell_json_values::fault::JsonFault;
+use shell_json::fault::JsonFault;
 use shell_tables_json::{read_languages, read_syllables, read_tables};
 use std::alloc::Global;
 

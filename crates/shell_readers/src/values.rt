@@ -8,7 +8,7 @@ ghost use Rattle.shell_readers.specs.Values.{json_of};
 
 use crate::fault::RunFault;
 use serde_json::Value;
-use shell_json_values::fault::JsonFault;
+use shell_json::fault::JsonFault;
 use std::alloc::Global;
 
 /// The text of bytes, where they are UTF-8.

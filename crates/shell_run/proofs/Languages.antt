@@ -4,15 +4,15 @@ use Rattle.std.specs.Prelude.{Option, Some, None, find}
 use Rattle.std.specs.Option.{option_map, option_map_or}
 use Rattle.std.specs.Str.{bytes_eq}
 use Rattle.buffer_common.specs.declared.tag.Tag.{Tag}
-use Rattle.buffer_languages.specs.declared.language_table.LanguageRow.{LanguageRow}
-use Rattle.buffer_languages.specs.declared.language_table.LanguageTable.{LanguageTable}
-use Rattle.buffer_languages.specs.LanguageRows.{primary_part, row_of, row_text, tags_in}
-use Rattle.buffer_languages.specs.LanguageTable.{rows_of, tags_of_table}
+use Rattle.buffer_tags.specs.declared.language_table.LanguageRow.{LanguageRow}
+use Rattle.buffer_tags.specs.declared.language_table.LanguageTable.{LanguageTable}
+use Rattle.buffer_tags.specs.LanguageRows.{primary_part, row_of, row_text, tags_in}
+use Rattle.buffer_tags.specs.LanguageTable.{rows_of, tags_of_table}
 use Rattle.shell_tables_json.specs.Languages.{Language, language_in, languages_in}
 use Rattle.buffer_common.specs.declared.language.Language as Text
 use Rattle.buffer_common.specs.Language.{language_text}
 use Rattle.buffer_common.specs.ScriptTags.{wanted_language_tags}
-use Rattle.buffer_features.specs.declared.feature.Feature.{Feature}
+use Rattle.buffer_tags.specs.declared.feature.Feature.{Feature}
 use Rattle.layout_face.specs.declared.parts.FaceParts.{FaceParts}
 use Rattle.buffer_unicode_tables.specs.Tables.{Tables}
 use Rattle.buffer_core.specs.Sides.{Sides}

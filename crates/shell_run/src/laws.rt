@@ -3,7 +3,7 @@
 ghost use Rattle.std.specs.Prelude.{◌≡◌, ◌≢◌, MatchBool};
 ghost use Rattle.shell_run.specs.Laws.{AnswersAreOne, EmptyTextGivesEmptyLine};
 
-use shell_json_values::fault::JsonFault;
+use shell_json::fault::JsonFault;
 use shell_readers::fault::RunFault;
 
 /// The empty text gives the empty line, in every font, and where slices are requested the line `no slices` after it.

@@ -8,7 +8,7 @@ ghost use Rattle.shell_run.specs.Answer.{IsUnshaped, shaping};
 ghost use Rattle.shell_readers.specs.Faults.{IsOfRun};
 ghost use Rattle.shell_readers.specs.Tables.{tables_value};
 
-use buffer_features::feature::Feature;
+use buffer_tags::feature::Feature;
 use buffer_wrappers::glyphs::GlyphBuffer;
 use buffer_wrappers::unicode_buffer::UnicodeBuffer;
 use layout_face::Face;

@@ -1,7 +1,7 @@
 -- Rows that follow one another rise by their keys.
 use Rattle.std.proofs.Common.{◌≡◌, ℕ, ◌&&◌, true, List, [], ◌∷◌, Option, Some, refl, ap}
-use Rattle.shell_json_values.specs.Rows.{all_follow}
-use Rattle.buffer_unicode_rows.specs.Keys.{follows, rises_after}
+use Rattle.shell_json.specs.Rows.{all_follow}
+use Rattle.buffer_unicode.specs.Keys.{follows, rises_after}
 
 same_order : {R : Type 0} (high low : R → ℕ) (before : Option R) (rows : List R) → rises_after high low before rows ≡ all_follow (follows high low) (λ r. r) before rows
 same_order high low before [] = refl

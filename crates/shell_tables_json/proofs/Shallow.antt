@@ -5,11 +5,11 @@ use Rattle.std.specs.Option.{ok_or}
 use Rattle.std.proofs.lemmas.Bool.{cond_both}
 use Rattle.serde_json.specs.Data.{Num, Data, Items, no_items, item}
 use Rattle.serde_json.specs.Find.{get, as_array, as_integer, as_number, as_str}
-use Rattle.shell_json_values.specs.declared.fault.JsonFault.{JsonFault}
-use Rattle.shell_json_values.specs.declared.fault.JsonFault.TheVariants.{WrongShape, FloatNumber, UnknownName, OutOfOrder, OutOfRange, SplitDepth}
-use Rattle.shell_json_values.specs.Cell.{and_then, both, character, first_fault, in_characters, integer, integer_of, is_scalar_value, rank_of}
-use Rattle.shell_json_values.specs.Parts.{four_in, in_natural_numbers_below, list_at, list_of, list_or_none, natural_number_below, row_of_four, row_of_three, row_of_two, text, three_in, two_in}
-use Rattle.shell_json_values.specs.Rows.{after, row_in_order, row_after, rows_after}
+use Rattle.shell_json.specs.declared.fault.JsonFault.{JsonFault}
+use Rattle.shell_json.specs.declared.fault.JsonFault.TheVariants.{WrongShape, FloatNumber, UnknownName, OutOfOrder, OutOfRange, SplitDepth}
+use Rattle.shell_json.specs.Cell.{and_then, both, character, first_fault, in_characters, integer, integer_of, is_scalar_value, rank_of}
+use Rattle.shell_json.specs.Parts.{four_in, in_natural_numbers_below, list_at, list_of, list_or_none, natural_number_below, row_of_four, row_of_three, row_of_two, text, three_in, two_in}
+use Rattle.shell_json.specs.Rows.{after, row_in_order, row_after, rows_after}
 use Rattle.script_categories.specs.Indic.{ot_categories, ot_positions}
 use Rattle.script_categories.specs.Joining.{joining_type_names}
 use Rattle.script_categories.specs.Names.{number_of}
@@ -18,7 +18,7 @@ use Rattle.script_categories.specs.Universal.{universal_categories}
 use Rattle.shell_tables_json.specs.Rows.{number_of_name, number_named, rows_at}
 use Rattle.shell_tables_json.specs.Characters.{character_class, character_range, counterpart, indic_row, joining_row, pair, split_row, thai_row, universal_row}
 use Rattle.shell_tables_json.specs.Unicode.{tables_keys}
-use Rattle.buffer_unicode_rows.specs.Keys.{follows}
+use Rattle.buffer_unicode.specs.Keys.{follows}
 
 -- no fault, or another
 abbrev Shallow : {A : Type 0} → Result A JsonFault → Type 0
@@ -141,13 +141,13 @@ list_or_none_shallow None = tt
 list_or_none_shallow (Some d) = list_shallow d
 
 module _ {R : Type 0} (high low : R → ℕ) (row : Data → Result R JsonFault) (h : (d : Data) → Shallow (row d)) where
-  place_shallow : (before : Option R) (r : R) → Shallow (row_in_order (follows high low) (λ x. x) before r)
-  place_shallow before r = if_shallow (follows high low before r) (Ok r) (Err OutOfOrder) tt out_of_order
+  order_shallow : (before : Option R) (r : R) → Shallow (row_in_order (follows high low) (λ x. x) before r)
+  order_shallow before r = if_shallow (follows high low before r) (Ok r) (Err OutOfOrder) tt out_of_order
 
   rows_shallow : (before : Option R) (ds : Items) → Shallow (rows_after (follows high low) (λ x. x) row before ds)
   rows_shallow before no_items = tt
   rows_shallow before (item d ds) =
-      then_shallow (row_after (follows high low) (λ x. x) row before d) _ (then_shallow (row d) _ (h d) (place_shallow before))
+      then_shallow (row_after (follows high low) (λ x. x) row before d) _ (then_shallow (row d) _ (h d) (order_shallow before))
       (λ r. after_shallow (r ∷ []) (rows_after (follows high low) (λ x. x) row (Some r) ds) (rows_shallow (Some r) ds))
 
   at_shallow : (key : List ℕ) (d : Data) → Shallow (rows_at key high low row d)

@@ -8,13 +8,13 @@ use Rattle.std.proofs.lemmas.Bool.{and_parts, cond-true, cond-false}
 use Rattle.std.proofs.lemmas.Bool.Decides.{nat_tests}
 use Rattle.serde_json.specs.View.{view, items_view}
 use Rattle.serde_json.specs.declared.value.Value.{Value}
-use Rattle.shell_json_values.specs.declared.fault.JsonFault.{JsonFault}
-use Rattle.shell_json_values.specs.declared.fault.JsonFault.TheVariants.{WrongShape}
-use Rattle.shell_json_values.specs.Rows.{after, is_above, is_rising, rows_after}
-use Rattle.shell_json_values.proofs.Rising.{rows_follow}
+use Rattle.shell_json.specs.declared.fault.JsonFault.{JsonFault}
+use Rattle.shell_json.specs.declared.fault.JsonFault.TheVariants.{WrongShape}
+use Rattle.shell_json.specs.Rows.{after, is_above, is_rising, rows_after}
+use Rattle.shell_json.proofs.Rising.{rows_follow}
 use Rattle.serde_json.specs.Data.{Data, Items, item}
-use Rattle.buffer_languages.specs.declared.language_table.LanguageRow.{LanguageRow}
-use Rattle.buffer_languages.specs.LanguageRows.{row_text, is_before, TextsRise}
+use Rattle.buffer_tags.specs.declared.language_table.LanguageRow.{LanguageRow}
+use Rattle.buffer_tags.specs.LanguageRows.{row_text, is_before, TextsRise}
 use Rattle.shell_tables_json.specs.Languages.{Language, few_tags, item_count, language, language_in, languages_in_order, tags_in}
 
 -- ---- tags

@@ -1,23 +1,23 @@
 -- The rows of the character tables.
 use Rattle.std.specs.Prelude.{Result, Ok}
 use Rattle.serde_json.specs.Data.{Data}
-use Rattle.shell_json_values.specs.declared.fault.JsonFault.{JsonFault}
-use Rattle.shell_json_values.specs.Cell.{and_then, character}
-use Rattle.shell_json_values.specs.Parts.{row_of_two, row_of_three, row_of_four, natural_number_below}
+use Rattle.shell_json.specs.declared.fault.JsonFault.{JsonFault}
+use Rattle.shell_json.specs.Cell.{and_then, character}
+use Rattle.shell_json.specs.Parts.{row_of_two, row_of_three, row_of_four, natural_number_below}
 use Rattle.script_categories.specs.Indic.{ot_categories, ot_positions}
 use Rattle.script_categories.specs.Joining.{joining_type_names}
 use Rattle.script_categories.specs.Thai.{thai_actions}
 use Rattle.script_categories.specs.Universal.{universal_categories}
 use Rattle.shell_tables_json.specs.Rows.{number_of_name}
-use Rattle.buffer_unicode_rows.specs.declared.rows.Split.{Split}
-use Rattle.buffer_unicode_rows.specs.declared.rows.Pair.{Pair}
-use Rattle.buffer_unicode_rows.specs.declared.rows.CharacterClass.{CharacterClass}
-use Rattle.buffer_unicode_rows.specs.declared.rows.Counterpart.{Counterpart}
-use Rattle.buffer_unicode_rows.specs.declared.rows.CharacterRange.{CharacterRange}
-use Rattle.buffer_unicode_rows.specs.declared.rows.JoiningRow.{JoiningRow}
-use Rattle.buffer_unicode_rows.specs.declared.rows.IndicRow.{IndicRow}
-use Rattle.buffer_unicode_rows.specs.declared.rows.UniversalRow.{UniversalRow}
-use Rattle.buffer_unicode_rows.specs.declared.rows.ThaiRow.{ThaiRow}
+use Rattle.buffer_unicode.specs.declared.rows.Split.{Split}
+use Rattle.buffer_unicode.specs.declared.rows.Pair.{Pair}
+use Rattle.buffer_unicode.specs.declared.rows.CharacterClass.{CharacterClass}
+use Rattle.buffer_unicode.specs.declared.rows.Counterpart.{Counterpart}
+use Rattle.buffer_unicode.specs.declared.rows.CharacterRange.{CharacterRange}
+use Rattle.buffer_unicode.specs.declared.rows.JoiningRow.{JoiningRow}
+use Rattle.buffer_unicode.specs.declared.rows.IndicRow.{IndicRow}
+use Rattle.buffer_unicode.specs.declared.rows.UniversalRow.{UniversalRow}
+use Rattle.buffer_unicode.specs.declared.rows.ThaiRow.{ThaiRow}
 
 -- [u, a, b]: a character and the two halves of its decomposition, the second 0 where there is only one
 abbrev pub split_row : Data → Result Split JsonFault

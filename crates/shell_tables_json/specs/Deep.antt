@@ -1,6 +1,6 @@
 -- Tables without faulty rows that have too long a chain of decompositions.
 use Rattle.std.specs.Prelude.{Result, Ok, Err}
-use Rattle.shell_json_values.specs.declared.fault.JsonFault.{JsonFault}
+use Rattle.shell_json.specs.declared.fault.JsonFault.{JsonFault}
 use Rattle.buffer_unicode_tables.specs.Expansion.{HasDeepChain}
 use Rattle.buffer_unicode_tables.specs.Tables.{Tables, split_of}
 

@@ -4,17 +4,17 @@ use Rattle.std.specs.Option.{option_map}
 use Rattle.std.specs.Ordering.{nat_cmp}
 use Rattle.std.specs.Cmp.Lexicographic.{slice_cmp}
 use Rattle.serde_json.specs.Data.{Data, Items, no_items, item}
-use Rattle.shell_json_values.specs.declared.fault.JsonFault.{JsonFault}
-use Rattle.shell_json_values.specs.declared.fault.JsonFault.TheVariants.{WrongShape}
-use Rattle.shell_json_values.specs.Cell.{and_then}
-use Rattle.shell_json_values.specs.Objects.{of_object}
-use Rattle.shell_json_values.specs.Parts.{list_of, list_at, row_of_two, text, tag}
-use Rattle.shell_json_values.specs.Rows.{after, is_above, rows_after}
+use Rattle.shell_json.specs.declared.fault.JsonFault.{JsonFault}
+use Rattle.shell_json.specs.declared.fault.JsonFault.TheVariants.{WrongShape}
+use Rattle.shell_json.specs.Cell.{and_then}
+use Rattle.shell_json.specs.Objects.{of_object}
+use Rattle.shell_json.specs.Parts.{list_of, list_at, row_of_two, text, tag}
+use Rattle.shell_json.specs.Rows.{after, is_above, rows_after}
 use Rattle.buffer_common.specs.declared.tag.Tag.{Tag}
-use Rattle.buffer_languages.specs.declared.language_table.LanguageRow.{LanguageRow}
-use Rattle.buffer_languages.specs.declared.language_table.LanguageTable.{LanguageTable}
-use Rattle.buffer_languages.specs.LanguageRows.{row_text}
-use Rattle.buffer_languages.specs.LanguageTable.{rows_of}
+use Rattle.buffer_tags.specs.declared.language_table.LanguageRow.{LanguageRow}
+use Rattle.buffer_tags.specs.declared.language_table.LanguageTable.{LanguageTable}
+use Rattle.buffer_tags.specs.LanguageRows.{row_text}
+use Rattle.buffer_tags.specs.LanguageTable.{rows_of}
 
 -- ---- languages as texts and tags, without the memory that their strings occupy
 

@@ -4,3 +4,4 @@ pub mod Syllables
 pub mod Unicode
 pub mod Deep
 pub mod Languages
+pub mod Split

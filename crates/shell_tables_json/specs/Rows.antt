@@ -2,13 +2,13 @@
 use Rattle.std.specs.Prelude.{ℕ, List, None, Result}
 use Rattle.std.specs.Option.{ok_or}
 use Rattle.serde_json.specs.Data.{Data}
-use Rattle.shell_json_values.specs.declared.fault.JsonFault.{JsonFault}
-use Rattle.shell_json_values.specs.declared.fault.JsonFault.TheVariants.{UnknownName}
-use Rattle.shell_json_values.specs.Cell.{and_then}
-use Rattle.shell_json_values.specs.Parts.{list_at, text}
-use Rattle.shell_json_values.specs.Rows.{rows_after}
+use Rattle.shell_json.specs.declared.fault.JsonFault.{JsonFault}
+use Rattle.shell_json.specs.declared.fault.JsonFault.TheVariants.{UnknownName}
+use Rattle.shell_json.specs.Cell.{and_then}
+use Rattle.shell_json.specs.Parts.{list_at, text}
+use Rattle.shell_json.specs.Rows.{rows_after}
 use Rattle.script_categories.specs.Names.{number_of}
-use Rattle.buffer_unicode_rows.specs.Keys.{follows}
+use Rattle.buffer_unicode.specs.Keys.{follows}
 
 -- the rows under a key, ordered by pairs of numbers, the more significant first
 abbrev pub rows_at : {R : Type 0} → List ℕ → (R → ℕ) → (R → ℕ) → (Data → Result R JsonFault) → Data → Result (List R) JsonFault

@@ -1,9 +1,9 @@
 -- The values of the character tables' keys, from splits to Thai forms.
 use Rattle.std.specs.Prelude.{codes, Result, Ok}
 use Rattle.serde_json.specs.Data.{Data}
-use Rattle.shell_json_values.specs.declared.fault.JsonFault.{JsonFault}
-use Rattle.shell_json_values.specs.Cell.{and_then}
-use Rattle.shell_json_values.specs.Objects.{of_object}
+use Rattle.shell_json.specs.declared.fault.JsonFault.{JsonFault}
+use Rattle.shell_json.specs.Cell.{and_then}
+use Rattle.shell_json.specs.Objects.{of_object}
 use Rattle.shell_tables_json.specs.Rows.{rows_at}
 use Rattle.shell_tables_json.specs.Characters.{split_row, pair, character_class, counterpart, character_range, joining_row, indic_row, universal_row, thai_row}
 use Rattle.buffer_unicode_tables.specs.Tables.{Tables}

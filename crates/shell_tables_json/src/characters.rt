@@ -1,21 +1,21 @@
 //! Reads a row of each character table.
 ghost use Rattle.std.specs.Prelude.{◌≡◌};
 ghost use Rattle.serde_json.specs.View.{view};
-ghost use Rattle.shell_json_values.specs.Cell.{both, character};
+ghost use Rattle.shell_json.specs.Cell.{both, character};
 ghost use Rattle.script_categories.specs.Thai.{thai_actions};
 ghost use Rattle.shell_tables_json.specs.Rows.{number_of_name};
 ghost use Rattle.shell_tables_json.specs.Characters.{split_row, pair, character_class, counterpart, character_range, joining_row, indic_row, universal_row, thai_row};
 
 use crate::names::{indic_category, indic_position, joining_type, thai_action, universal_category};
 use crate::rows::RowReader;
-use buffer_unicode_rows::{
+use buffer_unicode::{
     CharacterClass, CharacterRange, Counterpart, IndicRow, JoiningRow, Pair, Split, ThaiRow,
     UniversalRow,
 };
 use serde_json::Value;
-use shell_json_values::cell::{Cell, pair};
-use shell_json_values::fault::JsonFault;
-use shell_json_values::parts::{four_parts, three_parts, two_parts};
+use shell_json::cell::{Cell, pair};
+use shell_json::fault::JsonFault;
+use shell_json::parts::{four_parts, three_parts, two_parts};
 
 /// Reads a character and the two halves of its decomposition.
 #[derive(Clone, Copy)]

@@ -2,16 +2,16 @@
 ghost use Rattle.std.specs.Prelude.{◌≡◌, ◌≢◌, ◌≤◌, IfOk, IfErr, Ok, Err, length, map};
 ghost use Rattle.std.specs.Option.{option_copied};
 ghost use Rattle.serde_json.specs.View.{view, items_view};
-ghost use Rattle.buffer_languages.specs.LanguageRows.{TextsRise};
+ghost use Rattle.buffer_tags.specs.LanguageRows.{TextsRise};
 ghost use Rattle.shell_tables_json.specs.Languages.{languages_in, language_in, tags, tags_in, language, follows, languages_in_order, languages_of};
 
 use arrayvec::ArrayVec;
 use buffer_common::tag::Tag;
-use buffer_languages::language_table::{LanguageRow, LanguageTable};
+use buffer_tags::language_table::{LanguageRow, LanguageTable};
 use serde_json::Value;
-use shell_json_values::cell::{Cell, pair};
-use shell_json_values::fault::JsonFault;
-use shell_json_values::parts::{list, list_at, text, two_parts};
+use shell_json::cell::{Cell, pair};
+use shell_json::fault::JsonFault;
+use shell_json::parts::{list, list_at, text, two_parts};
 use std::alloc::Global;
 
 /// The greatest number of OpenType tags of a language.

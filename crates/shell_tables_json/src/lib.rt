@@ -1,9 +1,10 @@
 //! Reads tables from JSON values: rows of characters, names of numbers, languages, and the machines that find
-//! syllables.
+//! syllables; and what the tables hold beside what their reader's clauses say.
 #![tactic(auto)]
 
 pub mod characters;
 mod languages;
+pub mod laws;
 pub mod names;
 pub mod rows;
 mod syllables;

@@ -13,8 +13,8 @@ use script_categories::{
     thai_action_number, universal_category_number,
 };
 use serde_json::Value;
-use shell_json_values::fault::JsonFault;
-use shell_json_values::parts::text;
+use shell_json::fault::JsonFault;
+use shell_json::parts::text;
 
 /// The number of a joining type, by its name.
 pub fn joining_type(value: &Value) -> Result<u8, JsonFault>

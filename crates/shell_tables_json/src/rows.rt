@@ -2,15 +2,15 @@
 ghost use Rattle.std.specs.Prelude.{◌≡◌, ◌≢◌, true, IfOk, IfErr, Ok, Err, Result};
 ghost use Rattle.serde_json.specs.Data.{Data};
 ghost use Rattle.serde_json.specs.View.{view};
-ghost use Rattle.shell_json_values.specs.declared.fault.JsonFault.{JsonFault};
+ghost use Rattle.shell_json.specs.declared.fault.JsonFault.{JsonFault};
 ghost use Rattle.shell_tables_json.specs.Rows.{rows_at};
-ghost use Rattle.buffer_unicode_rows.specs.Keys.{follows, is_rising};
+ghost use Rattle.buffer_unicode.specs.Keys.{follows, is_rising};
 
-use buffer_unicode_rows::{Keyed, follows};
+use buffer_unicode::{Keyed, follows};
 use serde_json::Value;
-use shell_json_values::fault::JsonFault;
-use shell_json_values::parts::list_at;
-use shell_json_values::rows::read_rows;
+use shell_json::fault::JsonFault;
+use shell_json::parts::list_at;
+use shell_json::rows::read_rows;
 use std::alloc::Global;
 
 /// The reader of a list's rows.
@@ -29,7 +29,7 @@ struct Rising<T> {
     reader: T,
 }
 
-impl<T: RowReader> shell_json_values::rows::RowReader for Rising<T> {
+impl<T: RowReader> shell_json::rows::RowReader for Rising<T> {
     type Row = T::Row;
 
     type Key = T::Row;

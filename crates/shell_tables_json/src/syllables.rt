@@ -2,7 +2,7 @@
 ghost use Rattle.std.specs.Prelude.{◌≡◌, ◌≢◌, IfOk, IfErr, Ok, Err};
 ghost use Rattle.serde_json.specs.Find.{get};
 ghost use Rattle.serde_json.specs.View.{view};
-ghost use Rattle.shell_json_values.specs.Objects.{of_object};
+ghost use Rattle.shell_json.specs.Objects.{of_object};
 ghost use Rattle.script_categories.specs.Machines.{machine_in, machines_in};
 ghost use Rattle.script_categories.specs.Sound.{AreRising, IsRising};
 ghost use Rattle.shell_tables_json.specs.Syllables.{step, accept, machine_keys, machine_at, machines_keys, syllables_key, syllables_of};
@@ -14,10 +14,10 @@ use script_categories::hb_ot_script_shaper_t::{
 };
 use script_categories::{Accept, Step, SyllableMachine, SyllableMachines, SyllableTable};
 use serde_json::Value;
-use shell_json_values::cell::pair;
-use shell_json_values::fault::JsonFault;
-use shell_json_values::keys::read_key;
-use shell_json_values::parts::{natural_number_below, three_parts, two_parts};
+use shell_json::cell::pair;
+use shell_json::fault::JsonFault;
+use shell_json::keys::read_key;
+use shell_json::parts::{natural_number_below, three_parts, two_parts};
 use std::alloc::Global;
 
 /// The steps of a machine with that many states.

@@ -11,10 +11,10 @@ use crate::characters::{
     Classes, Counterparts, IndicRows, JoiningRows, Pairs, Ranges, Splits, ThaiRows, UniversalRows,
 };
 use crate::rows::read_rows_at;
-use buffer_unicode_rows::TablesFault;
+use buffer_unicode::TablesFault;
 use buffer_unicode_tables::{UnicodeRecords, UnicodeTables};
 use serde_json::Value;
-use shell_json_values::fault::JsonFault;
+use shell_json::fault::JsonFault;
 use std::alloc::Global;
 
 /// Reads the tables: the keys from `splits` to `thai` in their order. The first fault of a row is returned; where no

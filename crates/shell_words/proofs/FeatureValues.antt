@@ -4,8 +4,8 @@ use Rattle.std.proofs.lemmas.List.{append-nil}
 use Rattle.std.specs.Borrow.{Bor}
 use Rattle.std.specs.List.{flat_map}
 use Rattle.shell_readers.specs.declared.fault.RunFault.{RunFault}
-use Rattle.buffer_features.specs.declared.feature.Feature.{Feature}
-use Rattle.buffer_features.specs.FeatureText.{feature_of_text}
+use Rattle.buffer_tags.specs.declared.feature.Feature.{Feature}
+use Rattle.buffer_tags.specs.FeatureText.{feature_of_text}
 use Rattle.shell_words.specs.Words.{and_then, or_words, after, features_of, features_in, pieces_of}
 
 after_both : (fs gs : List Feature) (r : Result (List Feature) RunFault) → after fs (after gs r) ≡ after (fs ++ gs) r

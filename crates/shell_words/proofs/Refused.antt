@@ -5,8 +5,8 @@ use Rattle.std.specs.Prelude.{if◌then◌else◌}
 use Rattle.std.specs.Str.{bytes_eq}
 use Rattle.buffer_glyphs.specs.declared.level.BufferClusterLevel.TheVariants.{MonotoneGraphemes, MonotoneCharacters, Characters}
 use Rattle.std.specs.List.{flat_map}
-use Rattle.buffer_features.specs.declared.feature.Feature.{Feature}
-use Rattle.buffer_features.specs.FeatureText.{feature_of_text}
+use Rattle.buffer_tags.specs.declared.feature.Feature.{Feature}
+use Rattle.buffer_tags.specs.FeatureText.{feature_of_text}
 use Rattle.clap.specs.Words.{Kinds, Row, Text, all_of, fault_of, first_of, matches_of}
 use Rattle.shell_readers.specs.declared.fault.RunFault.{RunFault}
 use Rattle.shell_readers.specs.declared.fault.RunFault.TheVariants.{Words}

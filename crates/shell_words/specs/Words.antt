@@ -1,8 +1,8 @@
 -- The command line of the program: hb_shape [options] TABLES FONT TEXT.
 use Rattle.std.specs.Prelude.{ℕ, Bool, true, false, List, [], ◌∷◌, codes, if◌then◌else◌, Option, Some, None, Result, Ok, Err, string_bytes, unwrap_or, ◌++◌, ◌==◌, ◌+◌}
 use Rattle.std.specs.List.{slice_split, flat_map}
-use Rattle.buffer_features.specs.declared.feature.Feature.{Feature}
-use Rattle.buffer_features.specs.FeatureText.{feature_of_text}
+use Rattle.buffer_tags.specs.declared.feature.Feature.{Feature}
+use Rattle.buffer_tags.specs.FeatureText.{feature_of_text}
 use Rattle.std.specs.Str.{bytes_eq, str_to_ascii_lowercase}
 use Rattle.std.specs.Option.{option_map, option_map_or, ok_or}
 use Rattle.std.specs.Result.{result_map_both}

@@ -1,7 +1,7 @@
 //! Parses the options among the command-line words.
 
 ghost use Rattle.std.specs.Prelude.{◌≡◌, ◌≢◌, ◌≤◌, IfOk, IfErr, OnOk, Ok, Err, map, string_bytes};
-ghost use Rattle.buffer_features.specs.FeatureText.{feature_of_text};
+ghost use Rattle.buffer_tags.specs.FeatureText.{feature_of_text};
 ghost use Rattle.clap.specs.Words.{found_of, first_value};
 ghost use Rattle.shell_words.specs.Words.{options_of, refusal_of, settings_of, settings_in, file_in, direction_in, script_in, flag_of, flags_in, feature_values, features_in, features_of, pieces_of, after, or_words, language_in, language_of_text, level_in, level_of_text, buffer_flags_in, slices_in};
 ghost use Rattle.std.specs.Option.{option_map};
@@ -12,7 +12,7 @@ use buffer_common::constants::BufferFlags;
 use buffer_common::direction::Direction;
 use buffer_common::language::{Language, LanguageFault};
 use buffer_common::script::Script;
-use buffer_features::feature::Feature;
+use buffer_tags::feature::Feature;
 use buffer_glyphs::flags::SerializeFlags;
 use buffer_glyphs::level::BufferClusterLevel;
 use clap::ArgMatches;

@@ -95,10 +95,10 @@ enum Going {
 }
 
 /// The cluster of a glyph. The second of each two glyphs shares its cluster with the next one.
-fn cluster_at(going: Going, place: u32) -> u32 {
+fn cluster_at(going: Going, index: u32) -> u32 {
     match going {
-        Going::Rising => place / 2 + place % 2,
-        Going::Falling => COUNT.saturating_sub(place) / 2,
+        Going::Rising => index / 2 + index % 2,
+        Going::Falling => COUNT.saturating_sub(index) / 2,
     }
 }
 
@@ -107,9 +107,9 @@ fn swapped(alloc: Global, going: Going) -> Result<hb_buffer_t, AllocError>
     ensures { IfOk result (λ b. b.is_open ≡ false) }
 {
     let mut buffer = hb_buffer_t::new(alloc);
-    for place in 0..COUNT {
-        let character = char::from_u32(0x1_0000 + (place ^ 1)).unwrap_or('a');
-        if !buffer.add(character, cluster_at(going, place))? {
+    for index in 0..COUNT {
+        let character = char::from_u32(0x1_0000 + (index ^ 1)).unwrap_or('a');
+        if !buffer.add(character, cluster_at(going, index))? {
             break;
         }
     }
@@ -123,7 +123,7 @@ fn sort(rt: &HostRuntime, name: &str, buffer: &mut hb_buffer_t) -> io::Result<()
     let start = Instant::now(rt)?;
     let count = buffer.len();
     buffer.sort(rt.alloc(), 0, count, |glyph| glyph.glyph_id)?;
-    tell_of(rt, "sort", name, start, buffer.len())
+    print_time_of(rt, "sort", name, start, buffer.len())
 }
 
 /// Reverses the order of pairs.
@@ -135,7 +135,7 @@ fn turn(rt: &HostRuntime, name: &str, buffer: &mut hb_buffer_t) -> io::Result<()
         |before, after| before.glyph_id / 2 == after.glyph_id / 2,
         true,
     );
-    tell_of(rt, "reverse_groups", name, start, buffer.len())
+    print_time_of(rt, "reverse_groups", name, start, buffer.len())
 }
 
 fn time_sort(rt: &HostRuntime, name: &str, going: Going) -> io::Result<()> {
@@ -148,13 +148,13 @@ fn time_turn(rt: &HostRuntime, name: &str, going: Going) -> io::Result<()> {
     turn(rt, name, &mut buffer)
 }
 
-fn tell(rt: &HostRuntime, name: &str, start: Instant, left: usize) -> io::Result<()> {
+fn print_time(rt: &HostRuntime, name: &str, start: Instant, left: usize) -> io::Result<()> {
     let nanoseconds = start.elapsed(rt)?.as_nanos() / COUNT as u128;
     println!(rt; "{name}: {left} glyphs")?;
     eprintln!(rt; "{name}: {nanoseconds} ns a glyph")
 }
 
-fn tell_of(
+fn print_time_of(
     rt: &HostRuntime,
     call: &str,
     name: &str,
@@ -171,7 +171,7 @@ fn time_walk(rt: &HostRuntime, buffer: &mut hb_buffer_t) -> io::Result<()>
 {
     let start = Instant::now(rt)?;
     walk(buffer)?;
-    tell(rt, "next_glyph", start, buffer.len())
+    print_time(rt, "next_glyph", start, buffer.len())
 }
 
 fn time_ligatures(rt: &HostRuntime, buffer: &mut hb_buffer_t) -> io::Result<()>
@@ -179,7 +179,7 @@ fn time_ligatures(rt: &HostRuntime, buffer: &mut hb_buffer_t) -> io::Result<()>
 {
     let start = Instant::now(rt)?;
     ligate(buffer)?;
-    tell(rt, "replace_glyphs", start, buffer.len())
+    print_time(rt, "replace_glyphs", start, buffer.len())
 }
 
 fn time_merges(rt: &HostRuntime, buffer: &mut hb_buffer_t) -> io::Result<()>
@@ -187,7 +187,7 @@ fn time_merges(rt: &HostRuntime, buffer: &mut hb_buffer_t) -> io::Result<()>
 {
     let start = Instant::now(rt)?;
     compose(buffer)?;
-    tell(rt, "prev_mut, merge_out_clusters", start, buffer.len())
+    print_time(rt, "prev_mut, merge_out_clusters", start, buffer.len())
 }
 
 /// What is measured on a newly filled buffer.

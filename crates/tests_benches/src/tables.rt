@@ -40,7 +40,7 @@ impl Numbered for Class {
 }
 
 /// The first character of a range, how many of its characters have a row, and how far apart they are.
-const STRETCHES: [(u32, u32, u32); 16] = [
+const RANGES: [(u32, u32, u32); 16] = [
     (0xC0, 180, 2),
     (0x300, 112, 1),
     (0x483, 20, 6),
@@ -61,7 +61,7 @@ const STRETCHES: [(u32, u32, u32); 16] = [
 
 fn rows(alloc: Global) -> Result<Vec<Class>, AllocError> {
     let mut rows = Vec::new(alloc);
-    for (first, count, apart) in STRETCHES {
+    for (first, count, apart) in RANGES {
         for index in 0..count {
             rows.push(Class {
                 character: first.wrapping_add(index.wrapping_mul(apart)),
@@ -112,7 +112,7 @@ fn found_by_pages(table: &PagedRows<Class>, text: &[u32]) -> usize {
         .count()
 }
 
-fn tell(rt: &HostRuntime, name: &str, start: Instant, found: usize) -> io::Result<()> {
+fn print_time(rt: &HostRuntime, name: &str, start: Instant, found: usize) -> io::Result<()> {
     let picoseconds = start.elapsed(rt)?.as_nanos() / (COUNT / 1000) as u128;
     println!(rt; "{name}: {found} found")?;
     eprintln!(rt; "{name}: {picoseconds} ps a look-up")
@@ -129,10 +129,10 @@ fn compare(
     let text = characters(rt.alloc(), text, halves.as_slice())?;
     let start = Instant::now(rt)?;
     let found = found_by_halves(halves, &text);
-    tell(rt, name, start, found)?;
+    print_time(rt, name, start, found)?;
     let start = Instant::now(rt)?;
     let found = found_by_pages(pages, &text);
-    tell(rt, name, start, found)
+    print_time(rt, name, start, found)
 }
 
 fn compare_texts(

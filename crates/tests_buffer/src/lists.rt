@@ -39,17 +39,17 @@ range;graphemes;1;3;false;1,0,1 2,1,1 3,2,9 4,2,2;1,0,1 2,1,1 3,1,8 4,1,0
 range;apart;0;2;true;1,0,1 2,1,1 3,1,8 4,1,0;1,0,1 2,1,3 3,1,8 4,1,0";
 
 /// Whether a call, given the order or not where it may be, leaves the expected result.
-fn holds(alloc: Global, row: &str, tell: bool) -> Result<bool, AllocError> {
+fn holds(alloc: Global, row: &str, has_known_order: bool) -> Result<bool, AllocError> {
     let (call, row) = row.split_once(';').unwrap_or(("", row));
     match call {
-        "sort" => slices::sorts(alloc, row, tell),
-        "turn" => slices::turns(alloc, row, tell),
-        "delete" => slices::deletes(alloc, row, tell),
+        "sort" => slices::sorts(alloc, row, has_known_order),
+        "turn" => slices::turns(alloc, row, has_known_order),
+        "delete" => slices::deletes(alloc, row, has_known_order),
         "spread" => slices::spreads(alloc, row),
         "put" => both_lists::puts(alloc, row),
         "input" => both_lists::merges(alloc, row),
         "output" => both_lists::merges_output(alloc, row),
-        "range" => clusters::merges(alloc, row, tell),
+        "range" => clusters::merges(alloc, row, has_known_order),
         _ => Ok(false),
     }
 }

@@ -1,5 +1,7 @@
 //! Sorts of a range where memory may be lacking: a range in order takes none, and a sort that was refused memory leaves
 //! the buffer as it was. `tools/short_memory tests_buffer memory` runs these rows with each allocation refused in turn.
+//! The rows of the two kinds of levels repeat their glyphs, so that each reads alone, and each has a test of its own, so
+//! that memory is refused in its sort alone.
 use crate::call::Call::*;
 use crate::call::{Call, make};
 use buffer_core::buffer::hb_buffer_t;

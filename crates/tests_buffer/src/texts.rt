@@ -91,7 +91,7 @@ fn guesses(alloc: Global, row: &str) -> Result<bool, AllocError> {
 }
 
 #[test]
-fn guesses_what_was_not_told(rt: HostRuntime) -> Result<(), Fail> {
+fn guesses_what_was_not_set(rt: HostRuntime) -> Result<(), Fail> {
     for row in GUESSES.lines() {
         let as_wanted = guesses(rt.alloc(), row)?;
         assert!(rt; as_wanted, "{row}");
@@ -99,7 +99,7 @@ fn guesses_what_was_not_told(rt: HostRuntime) -> Result<(), Fail> {
     Ok(())
 }
 
-fn place(positions: &mut [GlyphPosition], advances: &[i32]) {
+fn set_advances(positions: &mut [GlyphPosition], advances: &[i32]) {
     for (position, advance) in positions.iter_mut().zip(advances) {
         position.x_advance = *advance;
     }
@@ -110,7 +110,7 @@ fn two_glyphs(alloc: Global, advances: &[i32], turned: bool) -> Result<GlyphBuff
     let mut text = UnicodeBuffer::new(alloc);
     text.push_str("\u{1}\u{2}")?;
     let mut buffer = text.into_buffer();
-    place(buffer.pos_slice_mut(), advances);
+    set_advances(buffer.pos_slice_mut(), advances);
     if turned {
         buffer.reverse();
     }
@@ -128,7 +128,7 @@ fn prints_glyphs_as_they_stand(rt: HostRuntime) -> Result<(), Fail> {
     Ok(())
 }
 
-fn tell(text: &mut UnicodeBuffer) {
+fn set_fields(text: &mut UnicodeBuffer) {
     text.set_flags(BufferFlags::BEGINNING_OF_TEXT);
     text.set_cluster_level(BufferClusterLevel::Characters);
     text.set_invisible_glyph(GlyphId(3));
@@ -138,7 +138,7 @@ fn tell(text: &mut UnicodeBuffer) {
     text.reset_clusters();
 }
 
-fn was_told(text: &UnicodeBuffer) -> bool {
+fn shows_fields(text: &UnicodeBuffer) -> bool {
     text.flags() == BufferFlags::BEGINNING_OF_TEXT
         && text.cluster_level() == BufferClusterLevel::Characters
 }
@@ -150,15 +150,15 @@ fn has_kept(buffer: &hb_buffer_t) -> bool {
         && buffer.post_context() == ['c', 'd'].as_slice()
 }
 
-fn keeps_what_is_told(alloc: Global) -> bool {
+fn keeps_fields(alloc: Global) -> bool {
     let mut text = UnicodeBuffer::new(alloc);
-    tell(&mut text);
-    was_told(&text) && has_kept(&text.into_buffer())
+    set_fields(&mut text);
+    shows_fields(&text) && has_kept(&text.into_buffer())
 }
 
 #[test]
-fn keeps_what_it_was_told(rt: HostRuntime) {
-    assert!(rt; keeps_what_is_told(rt.alloc()));
+fn keeps_what_was_set(rt: HostRuntime) {
+    assert!(rt; keeps_fields(rt.alloc()));
 }
 
 fn is_turkish(language: Option<&Language>) -> bool {

@@ -84,7 +84,7 @@ fn have_their_numbers(rt: HostRuntime) {
 }
 
 #[test]
-fn tell_of_glyphs(rt: HostRuntime) {
+fn show_glyphs(rt: HostRuntime) {
     let glyph = hb_glyph_info_t {
         glyph_id: 97,
         mask: 5,
@@ -93,7 +93,7 @@ fn tell_of_glyphs(rt: HostRuntime) {
     assert!(rt; glyph.unsafe_to_break() && !hb_glyph_info_t::default().unsafe_to_break());
     assert_eq!(rt; glyph.as_char(), 'a');
     assert_eq!(rt; glyph.as_glyph(), GlyphId(97));
-    let place = GlyphPosition {
+    let zeros = GlyphPosition {
         x_advance: 0,
         y_advance: 0,
         x_offset: 0,
@@ -101,7 +101,7 @@ fn tell_of_glyphs(rt: HostRuntime) {
         attach_chain: 0,
         attach_type: 0,
     };
-    assert!(rt; GlyphPosition::default() == place);
+    assert!(rt; GlyphPosition::default() == zeros);
 }
 
 #[test]

@@ -2,10 +2,10 @@
 use crate::rows::{first_wrong, prints};
 use crate::substitutions::properties;
 use layout_face::positioning::{PositioningSubtables, PositioningTable};
-use layout_subtables::cursive::EntryExit;
-use layout_subtables::mark::{MarkLigPos, MarkRecord};
-use layout_subtables::pair::{PairPos, PairValues};
-use layout_subtables::value::{Anchor, ValueRecord};
+use layout_tables::cursive::EntryExit;
+use layout_tables::mark::{MarkLigPos, MarkRecord};
+use layout_tables::pair::{PairPos, PairValues};
+use layout_tables::value::{Anchor, ValueRecord};
 use std::alloc::Global;
 use std::test::Fail;
 

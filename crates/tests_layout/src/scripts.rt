@@ -290,25 +290,25 @@ fn languages_are_selected(rt: HostRuntime) -> Result<(), Fail> {
 }
 
 fn features_of_a_system(rt: &impl Abort, table: &LayoutTable, system: &LangSys) {
-    for (text, place) in [
+    for (text, index) in [
         ("liga", Some(2)),
         ("kern", Some(1)),
         ("ccmp", None),
         ("mark", None),
     ] {
-        assert_eq!(rt; table.find_language_feature(system, tag(text)), place);
+        assert_eq!(rt; table.find_language_feature(system, tag(text)), index);
     }
 }
 
-fn required_feature(alloc: Global, table: &LayoutTable, place: Option<u16>) -> Option<(u16, Tag)> {
-    let system = LangSys::new(place, Vec::new(alloc));
+fn required_feature(alloc: Global, table: &LayoutTable, index: Option<u16>) -> Option<(u16, Tag)> {
+    let system = LangSys::new(index, Vec::new(alloc));
     table.get_required_language_feature(&system)
 }
 
 fn required_features(rt: &impl Abort, alloc: Global, table: &LayoutTable) {
     let ccmp = Some((3, tag("ccmp")));
-    for (place, feature) in [(Some(3), ccmp), (Some(4), None), (None, None)] {
-        assert_eq!(rt; required_feature(alloc, table, place), feature);
+    for (index, feature) in [(Some(3), ccmp), (Some(4), None), (None, None)] {
+        assert_eq!(rt; required_feature(alloc, table, index), feature);
     }
 }
 

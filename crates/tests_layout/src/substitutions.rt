@@ -2,7 +2,7 @@
 use crate::rows::{first_wrong, prints};
 use layout_face::layout::{LayoutLookup, LayoutTable};
 use layout_face::substitution::{SubstitutionSubtables, SubstitutionTable};
-use layout_subtables::context::ContextSubtable;
+use layout_tables::context::ContextSubtable;
 use std::alloc::Global;
 use std::test::Fail;
 

@@ -5,7 +5,7 @@ use layout_common::class_definition::ClassDefinition;
 use layout_common::coverage::Coverage;
 use layout_common::glyph_row::GlyphRow;
 use layout_face::substitution::{SubstLookup, SubstitutionSubtables};
-use layout_subtables::context::{ClassRules, ContextSubtable, SequenceRule};
+use layout_tables::context::{ClassRules, ContextSubtable, SequenceRule};
 use layout_would_apply::lookup::{context_would_apply, would_apply};
 use layout_would_apply::subtables::WouldApplyContext;
 use std::alloc::Global;

@@ -1,5 +1,5 @@
 //! The tables that the tests' texts are shaped with.
-use buffer_languages::language_table::LanguageTable;
+use buffer_tags::language_table::LanguageTable;
 use buffer_unicode_tables::UnicodeTables;
 use layout_face::Face;
 use script_categories::SyllableTable;

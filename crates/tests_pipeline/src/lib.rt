@@ -1,4 +1,5 @@
-//! Tests of shaping with and without plans, and with a shaper of their own.
+//! Tests of shaping with and without plans, with a shaper of their own, and of the conditions under which canonically
+//! equivalent texts shape alike.
 #![tactic(auto)]
 
 #[cfg(test)]
@@ -9,6 +10,8 @@ mod decomposing;
 mod dispatch;
 #[cfg(test)]
 mod plans;
+#[cfg(test)]
+mod premises;
 #[cfg(test)]
 mod rows;
 #[cfg(test)]

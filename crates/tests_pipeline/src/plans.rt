@@ -1,7 +1,7 @@
 //! Plans for texts.
+use crate::data::Tables;
 use crate::decomposing::DecomposingShaper;
 use crate::rows::text_of;
-use buffer_languages::language_table::LanguageTable;
 use buffer_wrappers::unicode_buffer::UnicodeBuffer;
 use layout_face::Face;
 use script_plan::plan::hb_ot_shape_plan_t;
@@ -14,13 +14,13 @@ use std::test::Fail;
 fn plan_of(
     alloc: Global,
     face: &Face,
-    languages: &LanguageTable,
+    tables: Tables<'_>,
     text: &UnicodeBuffer,
 ) -> Result<hb_ot_shape_plan_t<hb_ot_any_shaper_t>, AllocError> {
     hb_ot_shape_plan_t::new(
         alloc,
         face,
-        languages,
+        tables.data(),
         text.guessed_direction(),
         text.guessed_script(),
         text.language(),
@@ -32,11 +32,11 @@ fn plan_of(
 pub(crate) fn plan_of_row(
     alloc: Global,
     face: &Face,
-    languages: &LanguageTable,
+    tables: Tables<'_>,
     row: &str,
 ) -> Result<hb_ot_shape_plan_t<hb_ot_any_shaper_t>, Fail> {
     let text = text_of(alloc, row)?;
-    let plan = plan_of(alloc, face, languages, &text)?;
+    let plan = plan_of(alloc, face, tables, &text)?;
     Ok(plan)
 }
 
@@ -44,13 +44,13 @@ pub(crate) fn plan_of_row(
 fn decomposing_plan_of(
     alloc: Global,
     face: &Face,
-    languages: &LanguageTable,
+    tables: Tables<'_>,
     text: &UnicodeBuffer,
 ) -> Result<hb_ot_shape_plan_t<DecomposingShaper>, AllocError> {
     let mut planner = hb_ot_shape_planner_t::with_shaper(
         alloc,
         face,
-        languages,
+        tables.data(),
         text.guessed_direction(),
         text.guessed_script(),
         text.language(),
@@ -64,10 +64,10 @@ fn decomposing_plan_of(
 pub(crate) fn decomposing_plan_of_row(
     alloc: Global,
     face: &Face,
-    languages: &LanguageTable,
+    tables: Tables<'_>,
     row: &str,
 ) -> Result<hb_ot_shape_plan_t<DecomposingShaper>, Fail> {
     let text = text_of(alloc, row)?;
-    let plan = decomposing_plan_of(alloc, face, languages, &text)?;
+    let plan = decomposing_plan_of(alloc, face, tables, &text)?;
     Ok(plan)
 }

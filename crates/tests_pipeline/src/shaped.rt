@@ -113,7 +113,7 @@ fn gives_as_often(
 
 /// Whether the stack's own shaper prints the line with a plan, each time it is used.
 fn gives_planned(alloc: Global, row: &str, face: &Face, tables: Tables<'_>) -> Result<bool, Fail> {
-    let plan = plan_of_row(alloc, face, tables.languages, row)?;
+    let plan = plan_of_row(alloc, face, tables, row)?;
     gives_as_often(alloc, row, face, tables, &plan)
 }
 
@@ -124,7 +124,7 @@ fn gives_decomposed(
     face: &Face,
     tables: Tables<'_>,
 ) -> Result<bool, Fail> {
-    let plan = decomposing_plan_of_row(alloc, face, tables.languages, row)?;
+    let plan = decomposing_plan_of_row(alloc, face, tables, row)?;
     gives_by_plan(alloc, row, face, tables, &plan)
 }
 

@@ -51,7 +51,7 @@ fn are_refused(rt: &impl Abort, alloc: Global, rows: &str, text: &[u8]) -> Resul
 }
 
 #[test]
-fn first_faults_are_told(rt: HostRuntime) -> Result<(), Fail> {
+fn first_faults_are_answered(rt: HostRuntime) -> Result<(), Fail> {
     are_refused(&rt, rt.alloc(), BEFORE_BROKEN, BROKEN)?;
     are_refused(&rt, rt.alloc(), BEFORE_NOTHING, b"")?;
     are_refused(&rt, rt.alloc(), BEFORE_LETTER, b"a")

@@ -10,7 +10,7 @@ const BEFORE: &str =
     \"gdef\":{\"classes\":[[5,2],[8,3],[9,3]]},\
     \"gpos\":{\"scripts\":[[\"DFLT\",{\"features\":[0]},[]]],\"features\":[[\"dist\",[0]]],\"lookups\":[";
 
-const BEHIND: &str = "]}}";
+const AFTER: &str = "]}}";
 
 // Lookups, and the row of a text in a font with them. A second glyph without a value record begins the next pair; one
 // with a record doesn't. With marks ignored a pair is found across one, and of two subtables the first that has the
@@ -32,7 +32,7 @@ static ROWS: &str =
 {"type":"context","subtables":[{"format":"glyphs","rules":[[[],[1],[],[[0,0]]]]}]};;a;1=0+500"#;
 
 fn font_of(alloc: Global, lookups: &str) -> Result<String, AllocError> {
-    format!(in alloc; "{BEFORE}{lookups}{BEHIND}")
+    format!(in alloc; "{BEFORE}{lookups}{AFTER}")
 }
 
 fn is_placed(alloc: Global, line: &str) -> Result<bool, Fail> {
@@ -73,7 +73,7 @@ fn is_stacked(alloc: Global, count: u32, last: &str) -> Result<bool, AllocError>
 
 // A link reaches at most 32,767 glyphs: a mark that is farther away is not attached.
 #[test]
-fn many_marks_hang_on_one_base(rt: HostRuntime) -> Result<(), Fail> {
+fn many_marks_are_attached_to_one_base(rt: HostRuntime) -> Result<(), Fail> {
     let last = "|9=32767@-350,480+0|9=32768+0\n";
     let is_stacked = is_stacked(rt.alloc(), 32_768, last)?;
     assert!(rt; is_stacked);

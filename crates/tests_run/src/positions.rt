@@ -2,9 +2,9 @@
 use crate::rows::follow;
 use std::test::Fail;
 
-// Offsets are told from where the pen stands, which each advance before has moved. A single value, a pair, a cursive pair.
-// Then glyph 4 is a mark: it hangs on the base before it, and on the mark before it; a pair moves the base before that. Then
-// marks on the second component of a ligature, and one that no component has an anchor for. Then the mark hangs on its base
+// Offsets count from the pen, which each advance before has moved. A single value, a pair, a cursive pair.
+// Then glyph 4 is a mark: it is attached to the base before it, and on the mark before it; a pair moves the base before that. Then
+// marks on the second component of a ligature, and one that no component has an anchor for. Then the mark is attached to its base
 // only between two others. In the next font a glyph without the feature is passed over in the search for a base. In the last
 // a substitution gives several glyphs: one of its later glyphs is no base, but after a mark it is one.
 static POSITIONS: &str =

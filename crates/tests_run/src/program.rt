@@ -73,12 +73,12 @@ fn is_followed(alloc: Global, row: &'static str) -> Result<bool, Fail> {
         missing: part(row, 1),
         asked: String::new(alloc),
     };
-    let (mut written, mut told) = (Vec::new(alloc), Vec::new(alloc));
-    let status = shape(alloc, &words, &mut files, &mut written, &mut told)?;
+    let (mut written, mut reported) = (Vec::new(alloc), Vec::new(alloc));
+    let status = shape(alloc, &words, &mut files, &mut written, &mut reported)?;
     Ok(
         part(row, 2).parse() == Ok(status)
             && is_line(&written, part(row, 3))
-            && is_line(&told, part(row, 4))
+            && is_line(&reported, part(row, 4))
             && files.asked.as_str() == part(row, 5),
     )
 }

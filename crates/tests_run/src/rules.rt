@@ -1,8 +1,8 @@
 //! The rules of scripts, each by a text of rows: what a run prints for an input text.
 mod circles;
 mod hangul;
-mod stretch;
 mod thai;
+mod tiles;
 
 use crate::memory::plain_options;
 use crate::rows::{characters, level_of, prints};
@@ -86,8 +86,8 @@ fn thai_rows_are_followed(rt: HostRuntime) -> Result<(), Fail> {
 }
 
 #[test]
-fn stretch_rows_are_followed(rt: HostRuntime) -> Result<(), Fail> {
-    follow_rows(&rt, rt.alloc(), ARABIC, stretch::font(), stretch::rows())
+fn tile_rows_are_followed(rt: HostRuntime) -> Result<(), Fail> {
+    follow_rows(&rt, rt.alloc(), ARABIC, tiles::font(), tiles::rows())
 }
 
 #[test]

@@ -1,3 +1,5 @@
 pub mod Ready
 pub mod Masks
 pub mod ScriptsReady
+mod IndicNumbers
+mod IndicReady

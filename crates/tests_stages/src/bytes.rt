@@ -89,7 +89,7 @@ fn are_wanted(glyphs: &[hb_glyph_info_t], numbers: &mut Numbers) -> bool {
 }
 
 #[test]
-fn tells_syllables_apart(rt: HostRuntime) -> Result<(), Fail> {
+fn numbers_syllables(rt: HostRuntime) -> Result<(), Fail> {
     for line in ROWS.lines() {
         assert!(rt; check(rt.alloc(), line)?, "{line}");
     }

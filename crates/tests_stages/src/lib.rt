@@ -1,10 +1,18 @@
-//! Tests of stages around the lookups, normalizing among them, and of what the shapers of scripts do to a text.
+//! Tests of stages around the lookups, normalizing among them, and of what the shapers of scripts do to a text; worked
+//! rows of the Indic shaper, and long syllables.
 #![tactic(auto)]
 
 #[cfg(test)]
 mod buffers;
 #[cfg(test)]
 mod bytes;
+#[cfg(test)]
+mod indic_costs;
+pub mod indic_forms;
+#[cfg(test)]
+mod indic_rows;
+#[cfg(test)]
+mod indic_text;
 #[cfg(test)]
 mod joining;
 #[cfg(test)]

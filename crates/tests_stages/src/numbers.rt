@@ -121,7 +121,7 @@ impl Numbers {
         }
         self.write_glyphs(buffer.info_slice_mut());
         settle(&mut buffer)?;
-        self.place(&mut buffer);
+        self.set_positions(&mut buffer);
         limit(max_len, &mut buffer);
         Ok(buffer)
     }
@@ -158,14 +158,14 @@ impl Numbers {
     }
 
     #[tactic(auto, using(crate::proofs::ScriptsReady::placed_ready))]
-    fn place(&mut self, buffer: &mut hb_buffer_t)
+    fn set_positions(&mut self, buffer: &mut hb_buffer_t)
         requires { IsReady buffer.old }
         ensures { IsReady buffer.new }
     {
-        self.write_places(buffer.pos_slice_mut());
+        self.write_positions(buffer.pos_slice_mut());
     }
 
-    fn write_places(&mut self, positions: &mut [GlyphPosition]) {
+    fn write_positions(&mut self, positions: &mut [GlyphPosition]) {
         for position in positions.iter_mut() {
             position.x_advance = self.signed();
             position.x_offset = self.signed();

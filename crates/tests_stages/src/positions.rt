@@ -2,7 +2,7 @@
 use crate::rows::{direction_of, distance, part};
 use buffer_common::direction::Direction;
 use buffer_glyphs::position::GlyphPosition;
-use layout_links::links::finish_offsets;
+use layout_offsets::followed_links::finish_offsets;
 use std::alloc::{AllocError, Global};
 use std::test::Fail;
 
@@ -131,7 +131,7 @@ fn many_marks(alloc: Global) -> Result<Vec<GlyphPosition>, AllocError> {
     Ok(positions)
 }
 
-fn hang(positions: &mut [GlyphPosition]) -> bool {
+fn are_attached(positions: &mut [GlyphPosition]) -> bool {
     finish_offsets(positions, Direction::LeftToRight);
     positions
         .iter()
@@ -140,9 +140,9 @@ fn hang(positions: &mut [GlyphPosition]) -> bool {
 }
 
 #[test]
-fn many_marks_hang_on_a_base(rt: HostRuntime) -> Result<(), Fail> {
+fn many_marks_are_attached_to_a_base(rt: HostRuntime) -> Result<(), Fail> {
     let mut positions = many_marks(rt.alloc())?;
-    let as_wanted = hang(&mut positions);
+    let as_wanted = are_attached(&mut positions);
     assert!(rt; as_wanted);
     Ok(())
 }

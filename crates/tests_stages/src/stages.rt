@@ -14,7 +14,7 @@ use serde_json::Value;
 use shape_fallback::classes::_hb_ot_shape_fallback_mark_position_recategorize_marks;
 use shape_fallback::marks::{components_direction, position_marks};
 use shape_fallback::spaces::_hb_ot_shape_fallback_spaces;
-use shape_masks::fractions::{FractionMasks, setup_masks_fraction};
+use shape_text::fractions::{FractionMasks, setup_masks_fraction};
 use shape_text::circle::insert_dotted_circle;
 use shape_text::clusters::form_clusters;
 use shape_text::direction::ensure_native_direction;

@@ -163,9 +163,9 @@ fn stands(glyph: &hb_glyph_info_t, position: GlyphPosition, numbers: &mut Number
     let properties = numbers.small();
     let seen = (glyph.syllable, glyph.category, glyph.auxiliary);
     let asked = (numbers.class(), numbers.class(), numbers.class());
-    let place = (position.x_advance, position.x_offset);
+    let placement = (position.x_advance, position.x_offset);
     let given = (numbers.signed(), numbers.signed());
-    found == wanted && glyph.glyph_props.0 == properties && seen == asked && place == given
+    found == wanted && glyph.glyph_props.0 == properties && seen == asked && placement == given
 }
 
 #[test]

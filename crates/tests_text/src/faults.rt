@@ -1,6 +1,6 @@
 //! The printed names of faults, and the statuses with which the program ends.
 use buffer_glyphs::cause::ShapeCause;
-use shell_json_values::fault::JsonFault;
+use shell_json::fault::JsonFault;
 use shell_readers::fault::RunFault;
 use std::alloc::{AllocError, AllocFailed, Global};
 use std::test::Fail;

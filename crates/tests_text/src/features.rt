@@ -1,7 +1,7 @@
 //! Feature requests as they are written.
 use buffer_common::tag::Tag;
-use buffer_features::feature::{Feature, InvalidFeature};
-use buffer_features::text_parser::TextParser;
+use buffer_tags::feature::{Feature, InvalidFeature};
+use buffer_tags::text_parser::TextParser;
 use std::ops::Bound;
 
 const NO_END: u32 = u32::MAX;

@@ -45,7 +45,7 @@ fn glyph(glyph_id: u32, cluster: u32, mask: u32) -> hb_glyph_info_t {
     }
 }
 
-fn place(x_advance: i32, y_advance: i32, x_offset: i32, y_offset: i32) -> GlyphPosition {
+fn glyph_position(x_advance: i32, y_advance: i32, x_offset: i32, y_offset: i32) -> GlyphPosition {
     GlyphPosition {
         x_advance,
         y_advance,
@@ -86,14 +86,14 @@ fn prints(
 #[test]
 fn prints_runs(rt: HostRuntime) -> Result<(), Fail> {
     let glyphs = [glyph(1, 0, 0), glyph(2, 1, 0)];
-    let positions = [place(500, 0, 0, 0), place(600, 0, 0, 0)];
+    let positions = [glyph_position(500, 0, 0, 0), glyph_position(600, 0, 0, 0)];
     prints(&rt, rt.alloc(), &glyphs, &positions, 4, "1=0+500|2=1+600")?;
     prints(&rt, rt.alloc(), &[], &[], 4, "")?;
     prints(
         &rt,
         rt.alloc(),
         &[glyph(1, 0, 0)],
-        &[place(0, -1000, -250, -800)],
+        &[glyph_position(0, -1000, -250, -800)],
         4,
         "1=0@-250,-800+0,-1000",
     )?;
@@ -103,7 +103,10 @@ fn prints_runs(rt: HostRuntime) -> Result<(), Fail> {
 #[test]
 fn prints_what_the_flags_ask(rt: HostRuntime) -> Result<(), Fail> {
     let glyphs = [glyph(7, 3, 0xFFFF_FFF8), glyph(2, 3, 13)];
-    let positions = [place(500, 0, 0, 20), place(-600, 1, -500, 0)];
+    let positions = [
+        glyph_position(500, 0, 0, 20),
+        glyph_position(-600, 1, -500, 0),
+    ];
     for (flags, want) in [
         (0, "gid7=3@0,20+500|two=3@-500,0+-600,1"),
         (1, "gid7@0,20+500|two@-500,0+-600,1"),
@@ -126,7 +129,7 @@ fn prints_what_the_flags_ask(rt: HostRuntime) -> Result<(), Fail> {
 #[test]
 fn sums_advances_beyond_their_type(rt: HostRuntime) -> Result<(), Fail> {
     let glyphs = [glyph(1, 0, 0); 3];
-    let positions = [place(2147483647, -2147483648, 0, 0); 3];
+    let positions = [glyph_position(2147483647, -2147483648, 0, 0); 3];
     prints(
         &rt,
         rt.alloc(),
@@ -144,8 +147,10 @@ fn long_run(alloc: Global) -> Result<Vec<hb_glyph_info_t>, AllocError> {
         .collect(alloc)
 }
 
-fn places(alloc: Global) -> Result<Vec<GlyphPosition>, AllocError> {
-    (0..70_000u32).map(|_| place(500, 0, 0, 0)).collect(alloc)
+fn many_positions(alloc: Global) -> Result<Vec<GlyphPosition>, AllocError> {
+    (0..70_000u32)
+        .map(|_| glyph_position(500, 0, 0, 0))
+        .collect(alloc)
 }
 
 fn text_of_long_run(alloc: Global) -> Result<String, Fail> {
@@ -159,7 +164,7 @@ fn text_of_long_run(alloc: Global) -> Result<String, Fail> {
 
 fn is_long_run_printed(alloc: Global, want: &str) -> Result<bool, AllocError> {
     let glyphs = long_run(alloc)?;
-    let positions = places(alloc)?;
+    let positions = many_positions(alloc)?;
     is_printed(alloc, &glyphs, &positions, 6, want)
 }
 

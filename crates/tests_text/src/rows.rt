@@ -1,5 +1,5 @@
 //! Rows of numbers that are read, found and refused.
-use buffer_unicode_rows::{CharacterRange, CharacterRanges, Pair, Split, find_row, read_rows};
+use buffer_unicode::{CharacterRange, CharacterRanges, Pair, Split, find_row, read_rows};
 use buffer_unicode_tables::{TablesFault, UnicodeRows, UnicodeTables};
 use std::alloc::{AllocError, Global};
 use std::test::Fail;

@@ -1,7 +1,7 @@
 //! Syllables and languages that are read in from JSON values.
 use buffer_common::language_tags::LanguageTags;
 use buffer_common::tag::Tag;
-use buffer_languages::language_table::LanguageTable;
+use buffer_tags::language_table::LanguageTable;
 use script_categories::hb_ot_script_shaper_t::{KHMER_SHAPER, MYANMAR_SHAPER};
 use script_categories::{SyllableSpans, SyllableTable};
 use serde_json::Value;

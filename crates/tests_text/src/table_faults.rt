@@ -2,7 +2,7 @@
 use crate::unicode_characters::tables_of;
 use buffer_unicode_tables::{LawFault, UnicodeTables};
 use serde_json::Value;
-use shell_json_values::fault::JsonFault;
+use shell_json::fault::JsonFault;
 use shell_tables_json::{read_languages, read_syllables, read_tables};
 use std::alloc::Global;
 use std::process::Abort;

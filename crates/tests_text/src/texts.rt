@@ -8,7 +8,7 @@ use buffer_common::language_tags::LanguageTags;
 use buffer_common::script::*;
 use buffer_common::script_tags::tags_from_script_and_language;
 use buffer_common::tag::{Tag, TagExt};
-use buffer_languages::language_table::{LanguageRow, LanguageTable};
+use buffer_tags::language_table::{LanguageRow, LanguageTable};
 use std::alloc::{AllocError, Global};
 use std::process::Abort;
 use std::test::Fail;

@@ -1,10 +1,10 @@
 //! JSON values, each with its fault.
 use buffer_common::tag::Tag;
 use serde_json::Value;
-use shell_json_values::cell::Cell;
-use shell_json_values::fault::JsonFault;
-use shell_json_values::keys::read_key;
-use shell_json_values::parts::{four_parts, list_at, natural_number_below, three_parts, two_parts};
+use shell_json::cell::Cell;
+use shell_json::fault::JsonFault;
+use shell_json::keys::read_key;
+use shell_json::parts::{four_parts, list_at, natural_number_below, three_parts, two_parts};
 use std::alloc::Global;
 use std::process::Abort;
 use std::test::Fail;

@@ -3,7 +3,7 @@ use buffer_common::direction::Direction;
 use buffer_common::direction::Direction::{Invalid, LeftToRight, RightToLeft};
 use buffer_common::script::{GREEK, INHERITED, LATIN, Script, UNKNOWN};
 use buffer_common::tag::Tag;
-use buffer_features::feature::Feature;
+use buffer_tags::feature::Feature;
 use shell_readers::fault::RunFault;
 use shell_readers::options::Options;
 use shell_words::{CommandLine, parse_options};

@@ -7,7 +7,7 @@ ghost use Rattle.buffer_glyphs.specs.Levels.{InOutput};
 ghost use Rattle.buffer_glyphs.specs.Events.{Merge, Break, Concat};
 
 use super::hb_buffer_t;
-use super::merges::telling_flags;
+use super::merges::add_has_glyph_flags;
 use buffer_glyphs::info::{UNSAFE_TO_BREAK, UNSAFE_TO_CONCAT, hb_mask_t};
 use buffer_glyphs::marks::{flag_all, mark_across};
 use buffer_lists::merges::merge_output;
@@ -88,7 +88,7 @@ impl hb_buffer_t {
     {
         let input = &mut self.info[self.idx..end];
         let any = mark_across(&mut self.out_info[start..], input, flags);
-        self.scratch_flags = telling_flags(any, self.scratch_flags);
+        self.scratch_flags = add_has_glyph_flags(any, self.scratch_flags);
     }
 
     fn flag_both(&mut self, start: usize, end: usize, flags: hb_mask_t)
@@ -102,7 +102,7 @@ impl hb_buffer_t {
         flag_all(&mut self.out_info[start..], flags);
         flag_all(&mut self.info[self.idx..end], flags);
         let any = any_within(start, self.out_info.len(), self.idx, end);
-        self.scratch_flags = telling_flags(any, self.scratch_flags);
+        self.scratch_flags = add_has_glyph_flags(any, self.scratch_flags);
     }
 }
 

@@ -8,7 +8,7 @@ ghost use Rattle.buffer_core.specs.Grouping.{with_deleted};
 ghost use Rattle.buffer_glyphs.specs.Events.{Delete};
 
 use super::hb_buffer_t;
-use super::merges::telling_flags;
+use super::merges::add_has_glyph_flags;
 use buffer_lists::deletion::delete_first;
 
 impl hb_buffer_t {
@@ -32,6 +32,6 @@ impl hb_buffer_t {
         let input = &mut self.info[self.idx..];
         let marked = delete_first(&mut self.out_info, input, self.cluster_level, known);
         self.idx += 1;
-        self.scratch_flags = telling_flags(marked, self.scratch_flags);
+        self.scratch_flags = add_has_glyph_flags(marked, self.scratch_flags);
     }
 }

@@ -8,7 +8,7 @@ ghost use Rattle.buffer_core.specs.Sides.{all_glyphs, items_of, origins_by, orig
 use super::hb_buffer_t;
 use bitflags::Flags;
 use buffer_common::constants::BufferFlags;
-use buffer_groups::flags::{AskedFlags, propagate_flags};
+use buffer_lists::flags::{AskedFlags, propagate_flags};
 
 impl hb_buffer_t {
     /// Gives all glyphs of a cluster the same glyph flags: those that one of them has. Where

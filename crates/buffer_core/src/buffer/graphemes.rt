@@ -3,9 +3,9 @@ ghost use Rattle.std.specs.Prelude.{◌≡◌, ◌≤◌, ◌==◌, ◌++◌, �
 ghost use Rattle.buffer_glyphs.specs.Items.{item_of};
 ghost use Rattle.buffer_glyphs.specs.Events.{Sort};
 ghost use Rattle.buffer_stable_order.specs.Keys.{key_order};
-ghost use Rattle.buffer_groups.specs.Events.{deletions, groups_reversed, order_of};
-ghost use Rattle.buffer_groups.specs.Facts.{items_kept, positions_kept, positions_turned};
-ghost use Rattle.buffer_groups.specs.Turning.{groups_reversed_list};
+ghost use Rattle.buffer_lists.specs.Events.{deletions, groups_reversed, order_of};
+ghost use Rattle.buffer_lists.specs.Facts.{items_kept, positions_kept, positions_turned};
+ghost use Rattle.buffer_lists.specs.Turning.{groups_reversed_list};
 ghost use Rattle.buffer_core.specs.Graphemes.{continues, is_default_ignorable};
 ghost use Rattle.buffer_core.specs.Grouping.{with_groups_reversed, with_picked_deleted};
 ghost use Rattle.buffer_core.specs.Sides.{all_glyphs, items_of, origins_by, origins_of};

@@ -2,21 +2,21 @@
 //! `delete_glyphs_inplace`).
 ghost use Rattle.std.specs.Prelude.{◌≡◌, ◌+◌, ◌<◌, ◌≤◌, false, Bool, drop, length, min};
 ghost use Rattle.buffer_glyphs.specs.declared.info.hb_glyph_info_t.{hb_glyph_info_t as Glyph};
-ghost use Rattle.buffer_groups.specs.Groups.{Decides, group_length};
-ghost use Rattle.buffer_groups.specs.Runs.{grapheme_length, run_length};
+ghost use Rattle.buffer_lists.specs.Groups.{Decides, group_length};
+ghost use Rattle.buffer_lists.specs.Runs.{grapheme_length, run_length};
 ghost use Rattle.buffer_core.specs.Sides.{all_glyphs, items_of, origins_by, origins_of};
 ghost use Rattle.buffer_glyphs.specs.Items.{Item, item_of};
-ghost use Rattle.buffer_groups.specs.Events.{deletions, groups_reversed};
-ghost use Rattle.buffer_groups.specs.Turning.{groups_reversed_list};
-ghost use Rattle.buffer_groups.specs.Facts.{items_kept, positions_kept, positions_turned};
-ghost use Rattle.buffer_groups.specs.DeletionWalk.{AnswersAs};
+ghost use Rattle.buffer_lists.specs.Events.{deletions, groups_reversed};
+ghost use Rattle.buffer_lists.specs.Turning.{groups_reversed_list};
+ghost use Rattle.buffer_lists.specs.Facts.{items_kept, positions_kept, positions_turned};
+ghost use Rattle.buffer_lists.specs.DeletionWalk.{AnswersAs};
 ghost use Rattle.buffer_core.specs.Grouping.{with_groups_reversed, with_picked_deleted};
 
 use super::hb_buffer_t;
-use super::merges::telling_flags;
+use super::merges::add_has_glyph_flags;
 use buffer_glyphs::info::hb_glyph_info_t;
-use buffer_groups::deletion::delete_within;
-use buffer_groups::{groups, reversal};
+use buffer_lists::deletion_within::delete_within;
+use buffer_lists::{groups, reversal};
 use buffer_lists::order::{ClusterOrder, KnownOrder};
 
 impl hb_buffer_t {
@@ -93,7 +93,7 @@ impl hb_buffer_t {
             merge,
             group,
         );
-        self.scratch_flags = telling_flags(marked, self.scratch_flags);
+        self.scratch_flags = add_has_glyph_flags(marked, self.scratch_flags);
     }
 
     /// Deletes the glyphs where `filter` holds, and their positions, from the left, with the clusters that
@@ -126,6 +126,6 @@ impl hb_buffer_t {
         self.info.truncate(kept);
         self.pos.truncate(kept);
         self.idx = self.idx.min(self.info.len());
-        self.scratch_flags = telling_flags(marked, self.scratch_flags);
+        self.scratch_flags = add_has_glyph_flags(marked, self.scratch_flags);
     }
 }

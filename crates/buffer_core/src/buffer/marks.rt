@@ -7,7 +7,7 @@ ghost use Rattle.buffer_core.specs.Marking.{requests_concat, concat_marked, end_
 ghost use Rattle.buffer_glyphs.specs.Events.{Break, Concat, Tatweel};
 
 use super::hb_buffer_t;
-use super::merges::telling_flags;
+use super::merges::add_has_glyph_flags;
 use bitflags::Flags;
 use buffer_common::constants::BufferFlags;
 use buffer_glyphs::info::{SAFE_TO_INSERT_TATWEEL, UNSAFE_TO_BREAK, UNSAFE_TO_CONCAT, hb_mask_t};
@@ -92,7 +92,7 @@ impl hb_buffer_t {
         self.order.settle(&self.out_info, &self.info);
         let in_order = self.order.known.is_known();
         let any = mark_within(&mut self.info, start, end, flags, in_order);
-        self.scratch_flags = telling_flags(any, self.scratch_flags);
+        self.scratch_flags = add_has_glyph_flags(any, self.scratch_flags);
     }
 
     fn flag_range(&mut self, start: usize, end: usize, flags: hb_mask_t)
@@ -104,6 +104,6 @@ impl hb_buffer_t {
             ≡ with_flagged flags (index_in_all start self.old) (index_in_all end self.old) self.old }
     {
         flag_within(&mut self.info, start, end, flags);
-        self.scratch_flags = telling_flags(start < end, self.scratch_flags);
+        self.scratch_flags = add_has_glyph_flags(start < end, self.scratch_flags);
     }
 }

@@ -38,7 +38,7 @@ impl hb_buffer_t {
             self.order.known,
         );
         self.order.known = known;
-        self.scratch_flags = telling_flags(marked, self.scratch_flags);
+        self.scratch_flags = add_has_glyph_flags(marked, self.scratch_flags);
     }
 
     /// Puts the glyph into the cluster; where it was in another, the three glyph flags of `mask` replace its own.
@@ -56,7 +56,7 @@ impl hb_buffer_t {
     }
 }
 
-pub(super) fn telling_flags(
+pub(super) fn add_has_glyph_flags(
     any: bool,
     flags: hb_buffer_scratch_flags_t,
 ) -> hb_buffer_scratch_flags_t

@@ -7,7 +7,7 @@ ghost use Rattle.buffer_core.specs.Merging.{fits_copies, with_replaced};
 ghost use Rattle.buffer_glyphs.specs.Events.{Replace};
 
 use super::hb_buffer_t;
-use super::merges::telling_flags;
+use super::merges::add_has_glyph_flags;
 use buffer_lists::replacement::replace_first;
 use std::alloc::AllocError;
 
@@ -59,7 +59,7 @@ impl hb_buffer_t {
         );
         self.idx += num_in;
         self.order.known = known;
-        self.scratch_flags = telling_flags(marked, self.scratch_flags);
+        self.scratch_flags = add_has_glyph_flags(marked, self.scratch_flags);
         Ok(())
     }
 

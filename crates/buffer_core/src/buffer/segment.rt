@@ -54,14 +54,14 @@ pub fn first_script(glyphs: &[hb_glyph_info_t]) -> Option<Script>
     ensures { result ≡ first_script glyphs.now }
 {
     for glyph in glyphs {
-        if let Some(script) = told_script(glyph.glyph_id) {
+        if let Some(script) = own_script(glyph.glyph_id) {
             return Some(script);
         }
     }
     None
 }
 
-fn told_script(number: u32) -> Option<Script>
+fn own_script(number: u32) -> Option<Script>
     ensures { result ≡ (if has_own_script number then Some (script_of number) else None) }
 {
     let script = char::from_u32(number)?.script();

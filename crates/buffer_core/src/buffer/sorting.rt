@@ -4,21 +4,21 @@ ghost use Rattle.buffer_glyphs.specs.declared.info.hb_glyph_info_t.{hb_glyph_inf
 ghost use Rattle.buffer_glyphs.specs.Items.{Item, item_of};
 ghost use Rattle.buffer_glyphs.specs.Events.{Sort};
 ghost use Rattle.buffer_stable_order.specs.Keys.{key_order};
-ghost use Rattle.buffer_groups.specs.Events.{order_of};
-ghost use Rattle.buffer_groups.specs.Sorting.{Gives};
+ghost use Rattle.buffer_lists.specs.Events.{order_of};
+ghost use Rattle.buffer_lists.specs.Sorting.{Gives};
 ghost use Rattle.buffer_core.specs.Sides.{all_glyphs, items_of, origins_by, origins_of};
 ghost use Rattle.buffer_core.specs.Sorting.{with_range_sorted};
 
 use super::hb_buffer_t;
-use super::merges::telling_flags;
+use super::merges::add_has_glyph_flags;
 use buffer_glyphs::info::hb_glyph_info_t;
-use buffer_groups::sorting::sort;
+use buffer_lists::sorting::sort;
 use buffer_lists::order::ClusterOrder;
 use std::alloc::{AllocError, Global};
 
 impl hb_buffer_t {
     /// Puts the glyphs from `start` up to before `end` in stable order by the keys that they have, and merges each smallest
-    /// span that the order permutes, as `merge_clusters` does. Places stay where they are. A range whose keys stand in order
+    /// span that the order permutes, as `merge_clusters` does. Positions stay where they are. A range whose keys stand in order
     /// takes no memory; where clusters are kept apart only the range is walked.
     pub fn sort<F: Fn(&hb_glyph_info_t) -> u32>(
         &mut self,
@@ -50,7 +50,7 @@ impl hb_buffer_t {
         let sorted = sort(alloc, &mut self.info, level, in_order, start, end, key)?;
         let order = known.if_kept(sorted.in_order);
         self.order = ClusterOrder::of(order);
-        self.scratch_flags = telling_flags(sorted.marked, self.scratch_flags);
+        self.scratch_flags = add_has_glyph_flags(sorted.marked, self.scratch_flags);
         Ok(())
     }
 }

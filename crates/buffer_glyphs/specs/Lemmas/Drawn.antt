@@ -75,7 +75,7 @@ replaced_at at given gone xs (x ∷ rest) e = rw append_assoc (drawn_after at xs
 pub drawn_replaced : (at gone given : ℕ) (xs : List ℕ) → IsDrawn xs (numbers_replaced at gone given xs)
 drawn_replaced at gone given xs = rw (← drop-drop gone at xs) (replaced_at at given gone xs (drop at xs) refl)
 
--- or one goes
+-- a list without the number at an index is drawn from the list
 pub drawn_without : (at : ℕ) (xs : List ℕ) → IsDrawn xs (numbers_without at xs)
 drawn_without at xs = drawn_after at xs (drop (at + 1) xs) (rw (← drop-drop 1 at xs) (drawn_drop 1 (drop at xs)))
 

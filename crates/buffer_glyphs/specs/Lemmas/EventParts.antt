@@ -96,14 +96,14 @@ picked_brings all (i ∷ order) (m ∷ ns) n h = elim (has_cases (unwrap_or (sli
   | inr later ↦ elim (picked_brings all order ns n later) [ inl there ↦ inl there | inr old ↦ inr (has_more m n ns old) ]
 ]
   where
-    at_place : (ks : List ℕ) (j k : ℕ) → slice_get ks j ≡ Some k → Has ks k
-    at_place [] j k e = cc
-    at_place (x ∷ xs) zero k e = let same : x ≡ k = cc in let P : ℕ → Type 0 = λ l. Has (x ∷ xs) l in subst P same (has_here x xs)
-    at_place (x ∷ xs) (suc j) k e = has_more x k xs (at_place xs j k e)
+    has_at_index : (ks : List ℕ) (j k : ℕ) → slice_get ks j ≡ Some k → Has ks k
+    has_at_index [] j k e = cc
+    has_at_index (x ∷ xs) zero k e = let same : x ≡ k = cc in let P : ℕ → Type 0 = λ l. Has (x ∷ xs) l in subst P same (has_here x xs)
+    has_at_index (x ∷ xs) (suc j) k e = has_more x k xs (has_at_index xs j k e)
 
     by_get : (o : Option ℕ) → slice_get all i ≡ o → unwrap_or o m ≡ n → Has all n ⊎ Has (m ∷ ns) n
     by_get None e is = let P : ℕ → Type 0 = λ l. Has (m ∷ ns) l in inr (subst P is (has_here m ns))
-    by_get (Some k) e is = inl (subst (Has all) is (at_place all i k e))
+    by_get (Some k) e is = inl (subst (Has all) is (has_at_index all i k e))
 
 arranged_brings : (from : ℕ) (order ns : List ℕ) → BringsNone ns (with_range_arranged from order ns)
 arranged_brings from order ns n h = elim (has_either n (take from ns) (picked_elements (take (length order) (drop from ns)) order (drop from ns)) h) [

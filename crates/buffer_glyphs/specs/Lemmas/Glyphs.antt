@@ -15,7 +15,7 @@ use Rattle.buffer_glyphs.specs.Parts.{range_of}
 use Rattle.buffer_glyphs.specs.Merges.{least_number, merged_number, merged_numbers, numbers_merged_at}
 use Rattle.buffer_glyphs.specs.Glyphs.{in_cluster, glyphs_merged, marked_outside, glyphs_marked, glyphs_merged_at, beside_merged, glyph_flagged, glyphs_flagged}
 
--- the three flags are gone once
+-- clearing the three flags again changes nothing
 pub without_flags_again : (m : ℕ) → without_flags (without_flags m) ≡ without_flags m
 without_flags_again m =
     let low = and_mask m 3 in
@@ -125,13 +125,13 @@ slice_beyond xs ys i j =
     rw (drop-append-add xs ys i, wide) refl
 
 -- the clusters of a range
-pub stretch_is : (xs : List hb_glyph_info_t) (i j : ℕ) → range_of i j (clusters xs) ≡ clusters (slice_range xs i j)
-stretch_is xs i j =
+pub range_clusters : (xs : List hb_glyph_info_t) (i j : ℕ) → range_of i j (clusters xs) ≡ clusters (slice_range xs i j)
+range_clusters xs i j =
     let cluster_of : hb_glyph_info_t → ℕ = λ g. g.cluster in
     ap (take (j - i)) (drop-map cluster_of i xs) ∙ take-map cluster_of (j - i) (drop i xs)
 
-pub stretch_beyond : (xs ys : List hb_glyph_info_t) (i j : ℕ) → range_of (length xs + i) (length xs + j) (clusters (xs ++ ys)) ≡ range_of i j (clusters ys)
-stretch_beyond xs ys i j =
+pub range_beyond : (xs ys : List hb_glyph_info_t) (i j : ℕ) → range_of (length xs + i) (length xs + j) (clusters (xs ++ ys)) ≡ range_of i j (clusters ys)
+range_beyond xs ys i j =
     let cluster_of : hb_glyph_info_t → ℕ = λ g. g.cluster in
     let cut = slice_beyond (clusters xs) (clusters ys) i j in
     let long : length (clusters xs) ≡ length xs = length-map xs cluster_of in
@@ -140,12 +140,12 @@ stretch_beyond xs ys i j =
 pub marked_beyond : (bits : ℕ) (xs ys : List hb_glyph_info_t) (i j : ℕ) → glyphs_marked bits (length xs + i) (length xs + j) (xs ++ ys) ≡ xs ++ glyphs_marked bits i j ys
 marked_beyond bits xs ys i j =
     let low = least_number (range_of i j (clusters ys)) in
-    rw (stretch_beyond xs ys i j, slice_beyond xs ys i j, take-append-add xs ys i, drop-append-add xs ys j)
+    rw (range_beyond xs ys i j, slice_beyond xs ys i j, take-append-add xs ys i, drop-append-add xs ys j)
     (append_assoc (xs ++ take i ys) (map (marked_outside bits low) (slice_range ys i j)) (drop j ys) ∙ append_assoc xs (take i ys) (map (marked_outside bits low) (slice_range ys i j) ++ drop j ys)
     ∙ ap (λ zs. xs ++ zs) (sym (append_assoc (take i ys) (map (marked_outside bits low) (slice_range ys i j)) (drop j ys))))
 
 merged_beyond : (xs ys : List hb_glyph_info_t) (i j : ℕ) → glyphs_merged (range_of (length xs + i) (length xs + j) (clusters (xs ++ ys))) (xs ++ ys) ≡ glyphs_merged (range_of i j (clusters ys)) xs ++ glyphs_merged (range_of i j (clusters ys)) ys
-merged_beyond xs ys i j = rw (stretch_beyond xs ys i j) (map-append (λ (g : hb_glyph_info_t). in_cluster (merged_number (range_of i j (clusters ys)) g.cluster) g) xs ys)
+merged_beyond xs ys i j = rw (range_beyond xs ys i j) (map-append (λ (g : hb_glyph_info_t). in_cluster (merged_number (range_of i j (clusters ys)) g.cluster) g) xs ys)
 
 -- a merge of a range of the second of two lists
 pub merged_at_beyond : (level : BufferClusterLevel) (xs ys : List hb_glyph_info_t) (i j : ℕ)

@@ -178,8 +178,8 @@ merge_joins MonotoneGraphemes from to ns le mono o = merge_joins_ordered from to
 merge_joins MonotoneCharacters from to ns le mono o = merge_joins_ordered from to ns le o
 merge_joins Characters from to ns le mono o = absurd mono
 
-in_stretch : (from to n : ℕ) (ns : List ℕ) → Has (range_of from to ns) n → Has ns n
-in_stretch from to n ns h = has_drop n from ns (has_take n (to - from) (drop from ns) h)
+has_in_range : (from to n : ℕ) (ns : List ℕ) → Has (range_of from to ns) n → Has ns n
+has_in_range from to n ns h = has_drop n from ns (has_take n (to - from) (drop from ns) h)
 
 merged_known : (range ns : List ℕ) → ((n : ℕ) → Has range n → Has ns n) → (n : ℕ) → Has ns n → (t : Bool) → has_number range n ≡ t → Has ns (if t then least_number range else n)
 merged_known range ns known n h true e = known (least_number range) (has_least n range e)
@@ -189,7 +189,7 @@ merge_brings_none : (from to : ℕ) (ns : List ℕ) → BringsNone ns (merged_nu
 merge_brings_none from to ns n h =
     let range = range_of from to ns in
     let source = has_map (merged_number range) n ns h in
-    subst (Has ns) source.2 (merged_known range ns (λ m k. in_stretch from to m ns k) source.0 source.1 (has_number range source.0) refl)
+    subst (Has ns) source.2 (merged_known range ns (λ m k. has_in_range from to m ns k) source.0 source.1 (has_number range source.0) refl)
 
 -- a merge brings no number
 pub merged_at_brings : (level : BufferClusterLevel) (from to : ℕ) (ns : List ℕ) → BringsNone ns (numbers_merged_at level from to ns)

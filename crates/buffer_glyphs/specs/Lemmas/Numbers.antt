@@ -9,6 +9,7 @@ use Rattle.buffer_glyphs.specs.Parts.{first_of, last_of, last_from}
 use Rattle.buffer_glyphs.specs.Order.{has_number, BringsNone}
 use Rattle.buffer_glyphs.specs.Lemmas.Drawn.{IsDrawn, nothing, past, kept}
 
+-- a number occurs in a list
 abbrev pub Has : List ℕ → ℕ → Type 0
 Has ns n = IsTrue (has_number ns n)
 

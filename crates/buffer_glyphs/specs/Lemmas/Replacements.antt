@@ -6,31 +6,31 @@ use Rattle.buffer_glyphs.specs.Items.{item_of, strip, clusters}
 use Rattle.buffer_glyphs.specs.Parts.{first_of, last_of, or, copies, numbers_replaced, elements_replaced}
 use Rattle.buffer_glyphs.specs.Replacements.{numbered_copies, elements_renumbered, glyph_numbered, item_numbered, glyphs_replaced, items_replaced}
 
-abbrev mapped : {X Y : Type 0} → (X → Y) → Option X → Option Y
-mapped v None = None
-mapped v (Some x) = Some (v x)
+abbrev optional_map : {X Y : Type 0} → (X → Y) → Option X → Option Y
+optional_map v None = None
+optional_map v (Some x) = Some (v x)
 
-mapped_or : {X Y : Type 0} (v : X → Y) (o p : Option X) → mapped v (or o p) ≡ or (mapped v o) (mapped v p)
+mapped_or : {X Y : Type 0} (v : X → Y) (o p : Option X) → optional_map v (or o p) ≡ or (optional_map v o) (optional_map v p)
 mapped_or v None p = refl
 mapped_or v (Some x) p = refl
 
-mapped_first : {X Y : Type 0} (v : X → Y) (xs : List X) → mapped v (first_of xs) ≡ first_of (map v xs)
+mapped_first : {X Y : Type 0} (v : X → Y) (xs : List X) → optional_map v (first_of xs) ≡ first_of (map v xs)
 mapped_first v [] = refl
 mapped_first v (x ∷ xs) = refl
 
-mapped_get : {X Y : Type 0} (v : X → Y) (xs : List X) (i : ℕ) → mapped v (slice_get xs i) ≡ slice_get (map v xs) i
+mapped_get : {X Y : Type 0} (v : X → Y) (xs : List X) (i : ℕ) → optional_map v (slice_get xs i) ≡ slice_get (map v xs) i
 mapped_get v [] i = refl
 mapped_get v (x ∷ xs) zero = refl
 mapped_get v (x ∷ xs) (suc i) = mapped_get v xs i
 
-mapped_last : {X Y : Type 0} (v : X → Y) (xs : List X) → mapped v (last_of xs) ≡ last_of (map v xs)
+mapped_last : {X Y : Type 0} (v : X → Y) (xs : List X) → optional_map v (last_of xs) ≡ last_of (map v xs)
 mapped_last v xs = mapped_get v xs (length xs - 1) ∙ ap (λ n. slice_get (map v xs) (n - 1)) (sym (length-map xs v))
 
 map_under : {X Y : Type 0} (v : X → Y) (f : X → ℕ → X) (g : Y → ℕ → Y) → ((x : X) (n : ℕ) → v (f x n) ≡ g (v x) n) → (x : X) (ns : List ℕ) → map v (map (f x) ns) ≡ map (g (v x)) ns
 map_under v f g same x [] = refl
 map_under v f g same x (n ∷ ns) = rw (same x n, map_under v f g same x ns) refl
 
-mapped_copied : {X Y : Type 0} (v : X → Y) (f : X → ℕ → X) (g : Y → ℕ → Y) → ((x : X) (n : ℕ) → v (f x n) ≡ g (v x) n) → (o : Option X) (ns : List ℕ) → map v (numbered_copies f o ns) ≡ numbered_copies g (mapped v o) ns
+mapped_copied : {X Y : Type 0} (v : X → Y) (f : X → ℕ → X) (g : Y → ℕ → Y) → ((x : X) (n : ℕ) → v (f x n) ≡ g (v x) n) → (o : Option X) (ns : List ℕ) → map v (numbered_copies f o ns) ≡ numbered_copies g (optional_map v o) ns
 mapped_copied v f g same None ns = refl
 mapped_copied v f g same (Some x) ns = map_under v f g same x ns
 
@@ -40,8 +40,8 @@ pub replaced_seen : {X Y : Type 0} (v : X → Y) (f : X → ℕ → X) (g : Y �
 replaced_seen v f g at taken ns xs same =
     let model = or (first_of (drop at xs)) (last_of (take at xs)) in
     let new = numbered_copies f model ns in
-    let seen : mapped v model ≡ or (first_of (drop at (map v xs))) (last_of (take at (map v xs))) =
-    mapped_or v (first_of (drop at xs)) (last_of (take at xs)) ∙ ap (λ o. or o (mapped v (last_of (take at xs)))) (mapped_first v (drop at xs) ∙ ap first_of (sym (drop-map v at xs)))
+    let seen : optional_map v model ≡ or (first_of (drop at (map v xs))) (last_of (take at (map v xs))) =
+    mapped_or v (first_of (drop at xs)) (last_of (take at xs)) ∙ ap (λ o. or o (optional_map v (last_of (take at xs)))) (mapped_first v (drop at xs) ∙ ap first_of (sym (drop-map v at xs)))
     ∙ ap (λ o. or (first_of (drop at (map v xs))) o) (mapped_last v (take at xs) ∙ ap last_of (sym (take-map v at xs))) in
     map-append v (take at xs ++ new) (drop (at + taken) xs) ∙ ap (λ ys. ys ++ map v (drop (at + taken) xs)) (map-append v (take at xs) new)
     ∙ ap (λ ys. map v (take at xs) ++ ys ++ map v (drop (at + taken) xs)) (mapped_copied v f g same model ns ∙ ap (λ o. numbered_copies g o ns) seen)

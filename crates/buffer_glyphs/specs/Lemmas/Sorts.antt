@@ -60,8 +60,8 @@ got_has [] i x e = cc
 got_has (n ∷ ns) zero x e = let same : n ≡ x = cc in subst (Has (n ∷ ns)) same (has_here n ns)
 got_has (n ∷ ns) (suc i) x e = has_more n x ns (got_has ns i x e)
 
-stretch_has : (from to a x : ℕ) (ns : List ℕ) → from ≤ a → a < to → slice_get ns a ≡ Some x → Has (range_of from to ns) x
-stretch_has from to a x ns le lt e =
+range_has : (from to a x : ℕ) (ns : List ℕ) → from ≤ a → a < to → slice_get ns a ≡ Some x → Has (range_of from to ns) x
+range_has from to a x ns le lt e =
     let there : from + (a - from) ≡ a = omega arith in
     let here : slice_get (drop from ns) (a - from) ≡ Some x = got_drop from ns (a - from) ∙ ap (slice_get ns) there ∙ e in
     got_has (range_of from to ns) (a - from) x (got_taken (to - from) (drop from ns) (a - from) x (omega arith) here)
@@ -72,7 +72,7 @@ range_same from to a b ns la ha lb hb x y at_a at_b =
     let range = range_of from to ns in
     let p = got_map (merged_number range) ns a x at_a in
     let q = got_map (merged_number range) ns b y at_b in
-    sym p.2 ∙ merged_in range p.0 (stretch_has from to a p.0 ns la ha p.1) ∙ sym (merged_in range q.0 (stretch_has from to b q.0 ns lb hb q.1)) ∙ q.2
+    sym p.2 ∙ merged_in range p.0 (range_has from to a p.0 ns la ha p.1) ∙ sym (merged_in range q.0 (range_has from to b q.0 ns lb hb q.1)) ∙ q.2
 
 -- neighbours between which no seam is get one number
 unseamed_same : (at : ℕ) (order : List ℕ) (left begin index t : ℕ) (ns : List ℕ) → begin ≤ index → index + left ≡ length order → is_seam order (length order) ≡ true → (begin ≡ index) ⊎ (is_seam order index ≡ false)

@@ -12,8 +12,8 @@ use Rattle.buffer_glyphs.specs.Lemmas.Drawn.{drawn_drop, drawn_take, drawn_repla
 use Rattle.buffer_glyphs.specs.Lemmas.Numbers.{Has, MayHave, has_here, has_more, has_cases, has_left, has_right, has_either, has_reverse, has_map, map_has, has_first, has_last, drawn_brings}
 use Rattle.buffer_glyphs.specs.Lemmas.Parts.{order_drawn, event_keeps_order, keeps_numbers}
 use Rattle.buffer_glyphs.specs.Lemmas.Ends.{joined_alike}
-use Rattle.buffer_parts.specs.CharacterParts.{Union, ends_of, neighbour_union, deletion_union, union_of, united_by, part_after_event, part_after, items_left, AreUnited, UnitedIn}
-use Rattle.buffer_parts.specs.Laws.{EventsAreUnions, NumbersAreParts, PartsRise, PartsGoDown, PartsStay, PartsHaveGlyphs, SlicesAreParts, PartsAreUnited}
+use Rattle.buffer_parts.specs.CharacterParts.{Union, ends_of, neighbour_union, deletion_union, union_of, part_after_union, part_after_event, part_after, items_left, AreUnited, AreUnitedByEvents}
+use Rattle.buffer_parts.specs.Laws.{EventsAreUnions, NumbersAreParts, PartsRise, PartsAreNoGreater, PartsStay, PartsHaveGlyphs, SlicesAreParts, PartsAreUnited}
 
 -- ---- what becomes one
 
@@ -29,33 +29,33 @@ united_twice a b x = grind (arith, nat_tests, common_steps)
 united_ends : (a b : ℕ) → united_number (min a b) (max a b) a ≡ united_number (min a b) (max a b) b
 united_ends a b = grind (arith, nat_tests, common_steps)
 
-by_rises : (u : Option Union) (m n : ℕ) → m ≤ n → united_by u m ≤ united_by u n
+by_rises : (u : Option Union) (m n : ℕ) → m ≤ n → part_after_union u m ≤ part_after_union u n
 by_rises None m n h = h
 by_rises (Some u) m n h = united_rises u.one u.other m n h
 
-by_down : (u : Option Union) (n : ℕ) → united_by u n ≤ n
+by_down : (u : Option Union) (n : ℕ) → part_after_union u n ≤ n
 by_down None n = omega arith
 by_down (Some u) n = united_down u.one u.other n
 
-by_twice : (u : Option Union) (n : ℕ) → united_by u (united_by u n) ≡ united_by u n
+by_twice : (u : Option Union) (n : ℕ) → part_after_union u (part_after_union u n) ≡ part_after_union u n
 by_twice None n = refl
 by_twice (Some u) n = united_twice u.one u.other n
 
 -- ---- an event changes the parts, and then which items there are
 
-joined_is : (s ns : List ℕ) → joined_numbers s ns ≡ map (united_by (ends_of s)) ns
+joined_is : (s ns : List ℕ) → joined_numbers s ns ≡ map (part_after_union (ends_of s)) ns
 joined_is [] ns = sym (map-id ns)
 joined_is (x ∷ xs) ns = refl
 
-with_is : (before after : Option ℕ) (n : ℕ) (ns : List ℕ) → with_neighbour before after n ns ≡ map (united_by (neighbour_union before after n)) ns
+with_is : (before after : Option ℕ) (n : ℕ) (ns : List ℕ) → with_neighbour before after n ns ≡ map (part_after_union (neighbour_union before after n)) ns
 with_is (Some p) after n ns = refl
 with_is None (Some q) n ns = refl
 with_is None None n ns = sym (map-id ns)
 
-left_is : (before at after : Option ℕ) (ns : List ℕ) → numbers_united_without before at after ns ≡ map (united_by (deletion_union before at after)) ns
+left_is : (before at after : Option ℕ) (ns : List ℕ) → numbers_united_without before at after ns ≡ map (part_after_union (deletion_union before at after)) ns
 left_is before None after ns = sym (map-id ns)
 left_is before (Some n) after ns =
-    elim (is_number before n || is_number after n) as (λ t. (if t then ns else with_neighbour before after n ns) ≡ map (united_by (if t then None else neighbour_union before after n)) ns)
+    elim (is_number before n || is_number after n) as (λ t. (if t then ns else with_neighbour before after n ns) ≡ map (part_after_union (if t then None else neighbour_union before after n)) ns)
     [ true ↦ sym (map-id ns) | false ↦ with_is before after n ns ]
 
 pub events_are_unions : EventsAreUnions
@@ -96,11 +96,11 @@ pub parts_rise : PartsRise
 parts_rise [] ns m n h = h
 parts_rise (e ∷ es) ns m n h = parts_rise es (after_part_event ns e) (part_after_event ns e m) (part_after_event ns e n) (by_rises (union_of ns e) m n h)
 
-pub parts_go_down : PartsGoDown
-parts_go_down [] ns n = omega arith
-parts_go_down (e ∷ es) ns n =
+pub parts_are_no_greater : PartsAreNoGreater
+parts_are_no_greater [] ns n = omega arith
+parts_are_no_greater (e ∷ es) ns n =
     let here = by_down (union_of ns e) n in
-    let later = parts_go_down es (after_part_event ns e) (part_after_event ns e n) in
+    let later = parts_are_no_greater es (after_part_event ns e) (part_after_event ns e n) in
     omega (arith, here, later)
 
 pub parts_stay : PartsStay
@@ -145,14 +145,14 @@ first_taken f zero x ds xs e = cc
 first_taken f (suc gone) x [] xs e = cc
 first_taken f (suc gone) x (d ∷ ds) xs e = ap (λ ys. first_of (map f ys)) e
 
--- of a joined stretch all items are of the part of the first
-stretch_alike : (falls : Bool) (at gone n : ℕ) (ns s : List ℕ) → take gone (drop at ns) ≡ s → IsInOrder falls s → Has (take gone (drop at (map (united_by (ends_of s)) ns))) n → first_of (drop at (map (united_by (ends_of s)) ns)) ≡ Some n
-stretch_alike falls at gone n ns [] e o h =
+-- of a joined range all items are of the part of the first
+range_alike : (falls : Bool) (at gone n : ℕ) (ns s : List ℕ) → take gone (drop at ns) ≡ s → IsInOrder falls s → Has (take gone (drop at (map (part_after_union (ends_of s)) ns))) n → first_of (drop at (map (part_after_union (ends_of s)) ns)) ≡ Some n
+range_alike falls at gone n ns [] e o h =
     let whole : map (λ (k : ℕ). k) ns ≡ ns = map-id ns in
     let none : Has (take gone (drop at ns)) n = subst (λ (ms : List ℕ). Has (take gone (drop at ms)) n) whole h in
     let gone = rw e at none in
     cc
-stretch_alike falls at gone n ns (x ∷ xs) e o h =
+range_alike falls at gone n ns (x ∷ xs) e o h =
     let f = united_number (min x (last_from x xs)) (max x (last_from x xs)) in
     let P : List ℕ → Type 0 = λ ys. Has ys n in
     let there : Has (map f (x ∷ xs)) n = subst P (ap (take gone) (drop-map f at ns) ∙ take-map f gone (drop at ns) ∙ ap (map f) e) h in
@@ -160,8 +160,8 @@ stretch_alike falls at gone n ns (x ∷ xs) e o h =
     let same : f x ≡ n = joined_alike falls x x xs o (has_here x xs) ∙ sym (joined_alike falls x from.0 xs o from.1) ∙ from.2 in
     ap first_of (drop-map f at ns) ∙ first_taken f gone x (drop at ns) xs e ∙ ap Some same
 
-stretch_order : (falls : Bool) (at gone : ℕ) (ns : List ℕ) → IsInOrder falls ns → IsInOrder falls (take gone (drop at ns))
-stretch_order falls at gone ns h = order_drawn falls (drawn_take gone (drop at ns)) (order_drawn falls (drawn_drop at ns) h)
+range_order : (falls : Bool) (at gone : ℕ) (ns : List ℕ) → IsInOrder falls ns → IsInOrder falls (take gone (drop at ns))
+range_order falls at gone ns h = order_drawn falls (drawn_take gone (drop at ns)) (order_drawn falls (drawn_drop at ns) h)
 
 given_has : (falls : Bool) (at taken given n : ℕ) (ns : List ℕ) → 0 < given → IsInOrder falls ns → Has ns n → Has (items_left (ReplaceParts at taken given) (map (part_after_event ns (ReplaceParts at taken given)) ns)) (part_after_event ns (ReplaceParts at taken given) n)
 given_has falls at taken given n ns lt o h =
@@ -170,7 +170,7 @@ given_has falls at taken given n ns lt o h =
     let f = part_after_event ns (ReplaceParts at taken given) in
     let cut : take taken (drop at ns) ≡ s = ap (λ k. take k (drop at ns)) (sym wide) in
     replaced_has at taken given (f n) (map f ns) lt
-    (stretch_alike falls at taken (f n) ns s cut (subst (IsInOrder falls) cut (stretch_order falls at taken ns o)))
+    (range_alike falls at taken (f n) ns s cut (subst (IsInOrder falls) cut (range_order falls at taken ns o)))
     (map_has f n ns h)
 
 any_of : (q : ℕ → Bool) (ns : List ℕ) → list_any q ns ≡ true → (n : ℕ) × Has ns n × (q n ≡ true)
@@ -181,7 +181,7 @@ any_of q (n ∷ ns) h = by_first (q n) refl h (any_of q ns)
     by_first true e k later = (n, has_here n ns, e)
     by_first false e k later = let found = later k in (found.0, has_more n found.0 ns found.1, found.2)
 
--- those before and after a stretch of a changed list
+-- those before and after a range of a changed list
 others_map : (f : ℕ → ℕ) (at taken : ℕ) (ns : List ℕ) → take at (map f ns) ++ drop (at + taken) (map f ns) ≡ map f (take at ns ++ drop (at + taken) ns)
 others_map f at taken ns = ap (λ xs. xs ++ drop (at + taken) (map f ns)) (take-map f at ns) ∙ ap (λ xs. map f (take at ns) ++ xs) (drop-map f (at + taken) ns) ∙ sym (map-append f (take at ns) (drop (at + taken) ns))
 
@@ -189,16 +189,16 @@ no_copies : (o : Option ℕ) → copies 0 o ≡ []
 no_copies None = refl
 no_copies (Some n) = refl
 
--- a list whose stretch went
-pub gone_is : (at taken : ℕ) (ns : List ℕ) → numbers_replaced at taken 0 ns ≡ take at ns ++ drop (at + taken) ns
-gone_is at taken ns = ap (λ xs. take at ns ++ xs ++ drop (at + taken) ns) (no_copies (or (first_of (drop at ns)) (last_of (take at ns)))) ∙ ap (λ xs. xs ++ drop (at + taken) ns) (append-nil (take at ns))
+-- a list of which a range was deleted
+pub removal_is : (at taken : ℕ) (ns : List ℕ) → numbers_replaced at taken 0 ns ≡ take at ns ++ drop (at + taken) ns
+removal_is at taken ns = ap (λ xs. take at ns ++ xs ++ drop (at + taken) ns) (no_copies (or (first_of (drop at ns)) (last_of (take at ns)))) ∙ ap (λ xs. xs ++ drop (at + taken) ns) (append-nil (take at ns))
 
--- a joined stretch that shares a part with what stays leaves it an item
+-- a joined range that shares a part with what stays leaves it an item
 shared_has : (falls : Bool) (at taken n : ℕ) (ns s : List ℕ) → take taken (drop at ns) ≡ s → IsInOrder falls s → list_any (has_number (take at ns ++ drop (at + taken) ns)) s ≡ true → Has ns n
-    → Has (map (united_by (ends_of s)) (take at ns ++ drop (at + taken) ns)) (united_by (ends_of s) n)
+    → Has (map (part_after_union (ends_of s)) (take at ns ++ drop (at + taken) ns)) (part_after_union (ends_of s) n)
 shared_has falls at taken n ns [] e o h there = cc
 shared_has falls at taken n ns (x ∷ xs) e o h there =
-    let f = united_by (ends_of (x ∷ xs)) in
+    let f = part_after_union (ends_of (x ∷ xs)) in
     let others = take at ns ++ drop (at + taken) ns in
     let p = any_of (has_number others) (x ∷ xs) h in
     elim (has_at n at ns there) [
@@ -211,18 +211,18 @@ shared_has falls at taken n ns (x ∷ xs) e o h there =
       ]
     ]
 
-gone_has : (falls : Bool) (at taken n : ℕ) (ns : List ℕ) → shares_part at taken ns ≡ true → IsInOrder falls ns → Has ns n → Has (items_left (ReplaceParts at taken 0) (map (part_after_event ns (ReplaceParts at taken 0)) ns)) (part_after_event ns (ReplaceParts at taken 0) n)
-gone_has falls at taken n ns h o there =
+removed_has : (falls : Bool) (at taken n : ℕ) (ns : List ℕ) → shares_part at taken ns ≡ true → IsInOrder falls ns → Has ns n → Has (items_left (ReplaceParts at taken 0) (map (part_after_event ns (ReplaceParts at taken 0)) ns)) (part_after_event ns (ReplaceParts at taken 0) n)
+removed_has falls at taken n ns h o there =
     let wide : at + taken - at ≡ taken = omega arith in
     let s = range_of at (at + taken) ns in
     let f = part_after_event ns (ReplaceParts at taken 0) in
     let cut : take taken (drop at ns) ≡ s = ap (λ k. take k (drop at ns)) (sym wide) in
-    let order : IsInOrder falls s = subst (IsInOrder falls) cut (stretch_order falls at taken ns o) in
-    subst (λ (ys : List ℕ). Has ys (f n)) (sym (gone_is at taken (map f ns) ∙ others_map f at taken ns)) (shared_has falls at taken n ns s cut order h there)
+    let order : IsInOrder falls s = subst (IsInOrder falls) cut (range_order falls at taken ns o) in
+    subst (λ (ys : List ℕ). Has ys (f n)) (sym (removal_is at taken (map f ns) ∙ others_map f at taken ns)) (shared_has falls at taken n ns s cut order h there)
 
 kept_has : (falls : Bool) (at taken given n : ℕ) (ns : List ℕ) → (0 < given) ⊎ IsTrue (shares_part at taken ns) → IsInOrder falls ns → Has ns n
     → Has (items_left (ReplaceParts at taken given) (map (part_after_event ns (ReplaceParts at taken given)) ns)) (part_after_event ns (ReplaceParts at taken given) n)
-kept_has falls at taken zero n ns g o h = elim g [ inl some ↦ absurd (omega arith) | inr shares ↦ gone_has falls at taken n ns shares o h ]
+kept_has falls at taken zero n ns g o h = elim g [ inl some ↦ absurd (omega arith) | inr shares ↦ removed_has falls at taken n ns shares o h ]
 kept_has falls at taken (suc given) n ns g o h = given_has falls at taken (suc given) n ns (omega arith) o h
 
 doubled_has : (at n : ℕ) (ns : List ℕ) → Has ns n → Has (take at ns ++ copies 2 (first_of (drop at ns)) ++ drop (at + 1) ns) n
@@ -235,9 +235,9 @@ doubled_has at n ns h = rw (append_assoc, ← drop-drop 1 at ns) (elim (has_at n
     one_alike m [] t = cc
     one_alike m (d ∷ ds) t = elim (has_cases d m [] t) [ inl e ↦ ap Some e | inr none ↦ cc ]
 
--- as an item of part n is about to go, no other is left, or some other is of the part that n becomes
+-- as an item of part n is about to be deleted, no other is left, or some other is of the part that n becomes
 abbrev HasPeer : Option Union → List ℕ → ℕ → Type 0
-HasPeer u others n = (others ≡ []) ⊎ ((p : ℕ) × Has others p × (united_by u p ≡ united_by u n))
+HasPeer u others n = (others ≡ []) ⊎ ((p : ℕ) × Has others p × (part_after_union u p ≡ part_after_union u n))
 
 pub is_number_has : (o : Option ℕ) (n : ℕ) (others : List ℕ) → is_number o n ≡ true → MayHave others o → Has others n
 is_number_has None n others e h = cc
@@ -249,12 +249,12 @@ peer_beside None (Some q) n others b a none = inr (q, a, sym (united_ends n q))
 peer_beside None None n others b a none = inl (none refl refl)
 
 peer_left : (before after : Option ℕ) (n : ℕ) (others : List ℕ) → MayHave others before → MayHave others after → (before ≡ None → after ≡ None → others ≡ []) → HasPeer (deletion_union before (Some n) after) others n
-peer_left before after n others b a none = go (is_number before n) (is_number after n) refl refl
+peer_left before after n others b a none = by_sides (is_number before n) (is_number after n) refl refl
   where
-    go : (s t : Bool) → is_number before n ≡ s → is_number after n ≡ t → HasPeer (if s || t then None else neighbour_union before after n) others n
-    go true t e d = inr (n, is_number_has before n others e b, refl)
-    go false true e d = inr (n, is_number_has after n others d a, refl)
-    go false false e d = peer_beside before after n others b a none
+    by_sides : (s t : Bool) → is_number before n ≡ s → is_number after n ≡ t → HasPeer (if s || t then None else neighbour_union before after n) others n
+    by_sides true t e d = inr (n, is_number_has before n others e b, refl)
+    by_sides false true e d = inr (n, is_number_has after n others d a, refl)
+    by_sides false false e d = peer_beside before after n others b a none
 
 pub may_left : (o : Option ℕ) (xs ys : List ℕ) → MayHave xs o → MayHave (xs ++ ys) o
 may_left None xs ys h = tt
@@ -331,7 +331,7 @@ parts_have_glyphs (e ∷ es) falls ns n o g some h =
 pub slices_are_parts : SlicesAreParts
 slices_are_parts es falls ns n o g some h = record {
   among = parts_have_glyphs es falls ns n o g some h;
-  low = parts_go_down es ns n;
+  low = parts_are_no_greater es ns n;
   high = λ j there le. let stays = parts_stay es ns j there in let rises = parts_rise es ns j n le in omega (arith, stays, rises);
 }
 
@@ -343,22 +343,22 @@ same_or_in a b m n e = grind (arith, nat_tests, common_steps, e)
 in_same : (a b m n : ℕ) → min a b ≤ m → m ≤ max a b → min a b ≤ n → n ≤ max a b → united_number (min a b) (max a b) m ≡ united_number (min a b) (max a b) n
 in_same a b m n p q r s = grind (arith, nat_tests, common_steps, p, q, r, s)
 
-alike_united : (u : Option Union) (m n : ℕ) → united_by u m ≡ united_by u n → (m ≡ n) ⊎ AreUnited u m n
+alike_united : (u : Option Union) (m n : ℕ) → part_after_union u m ≡ part_after_union u n → (m ≡ n) ⊎ AreUnited u m n
 alike_united None m n e = inl e
 alike_united (Some u) m n e = same_or_in u.one u.other m n e
 
-united_alike : (u : Option Union) (m n : ℕ) → AreUnited u m n → united_by u m ≡ united_by u n
+united_alike : (u : Option Union) (m n : ℕ) → AreUnited u m n → part_after_union u m ≡ part_after_union u n
 united_alike None m n h = absurd h
 united_alike (Some u) m n h = in_same u.one u.other m n h.0 h.1 h.2 h.3
 
-one_part : (es : List PartEvent) (ns : List ℕ) (m n : ℕ) → part_after es ns m ≡ part_after es ns n → (m ≡ n) ⊎ UnitedIn es ns m n
+one_part : (es : List PartEvent) (ns : List ℕ) (m n : ℕ) → part_after es ns m ≡ part_after es ns n → (m ≡ n) ⊎ AreUnitedByEvents es ns m n
 one_part [] ns m n e = inl e
 one_part (e ∷ es) ns m n same = elim (one_part es (after_part_event ns e) (part_after_event ns e m) (part_after_event ns e n) same) [
   | inl here ↦ elim (alike_united (union_of ns e) m n here) [ inl equal ↦ inl equal | inr united_number ↦ inr (inl united_number) ]
   | inr later ↦ inr (inr later)
 ]
 
-united_part : (es : List PartEvent) (ns : List ℕ) (m n : ℕ) → UnitedIn es ns m n → part_after es ns m ≡ part_after es ns n
+united_part : (es : List PartEvent) (ns : List ℕ) (m n : ℕ) → AreUnitedByEvents es ns m n → part_after es ns m ≡ part_after es ns n
 united_part [] ns m n h = absurd h
 united_part (e ∷ es) ns m n h = elim h [
   | inl here ↦ ap (part_after es (after_part_event ns e)) (united_alike (union_of ns e) m n here)

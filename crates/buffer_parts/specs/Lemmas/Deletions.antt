@@ -46,12 +46,12 @@ number_after R one n (y ∷ ys) c h = elim (has_cases y n ys h) [
 ]
 
 unites_none : (before after : Option ℕ) (n : ℕ) → (is_number before n ≡ true) ⊎ (is_number after n ≡ true) → deletion_union before (Some n) after ≡ None
-unites_none before after n h = go (is_number before n) (is_number after n) refl refl
+unites_none before after n h = by_sides (is_number before n) (is_number after n) refl refl
   where
-    go : (s t : Bool) → is_number before n ≡ s → is_number after n ≡ t → (if s || t then None else neighbour_union before after n) ≡ None
-    go true t e d = refl
-    go false true e d = refl
-    go false false e d = elim h [ inl one ↦ cc | inr one ↦ cc ]
+    by_sides : (s t : Bool) → is_number before n ≡ s → is_number after n ≡ t → (if s || t then None else neighbour_union before after n) ≡ None
+    by_sides true t e d = refl
+    by_sides false true e d = refl
+    by_sides false false e d = elim h [ inl one ↦ cc | inr one ↦ cc ]
 
 chain_unites_none : (R : ℕ → ℕ → Type 0) → IsOne R → (n : ℕ) (front back : List ℕ) → IsChain R (front ++ n ∷ back) → Has (front ++ back) n → deletion_union (last_of front) (Some n) (first_of back) ≡ None
 chain_unites_none R one n front back c h = unites_none (last_of front) (first_of back) n (elim (has_either n front back h) [
@@ -71,17 +71,17 @@ cut_at at n ns (m ∷ rest) e f =
     sym (take-append-drop at ns) ∙ ap (λ xs. take at ns ++ xs) (e ∙ ap (λ k. k ∷ rest) same ∙ ap (λ xs. n ∷ xs) (sym there))
 
 unites_the_last : (before after : Option ℕ) (n : ℕ) (others : List ℕ) → MayHave others before → MayHave others after → (before ≡ None → after ≡ None → others ≡ []) → deletion_union before (Some n) after ≡ None → Has others n ⊎ (others ≡ [])
-unites_the_last before after n others b a none e = go (is_number before n) (is_number after n) refl refl e
+unites_the_last before after n others b a none e = by_sides (is_number before n) (is_number after n) refl refl e
   where
     alone : (p q : Option ℕ) → (p ≡ None → q ≡ None → others ≡ []) → neighbour_union p q n ≡ None → Has others n ⊎ (others ≡ [])
     alone (Some p) q f d = cc
     alone None (Some q) f d = cc
     alone None None f d = inr (f refl refl)
 
-    go : (s t : Bool) → is_number before n ≡ s → is_number after n ≡ t → (if s || t then None else neighbour_union before after n) ≡ None → Has others n ⊎ (others ≡ [])
-    go true t p q d = inl (is_number_has before n others p b)
-    go false true p q d = inl (is_number_has after n others q a)
-    go false false p q d = alone before after none d
+    by_sides : (s t : Bool) → is_number before n ≡ s → is_number after n ≡ t → (if s || t then None else neighbour_union before after n) ≡ None → Has others n ⊎ (others ≡ [])
+    by_sides true t p q d = inl (is_number_has before n others p b)
+    by_sides false true p q d = inl (is_number_has after n others q a)
+    by_sides false false p q d = alone before after none d
 
 in_chain : (falls : Bool) (ns : List ℕ) → IsInOrder falls ns → IsChain (Stands falls) ns
 in_chain false ns h = h

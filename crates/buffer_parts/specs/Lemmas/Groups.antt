@@ -16,7 +16,7 @@ use Rattle.buffer_glyphs.specs.Lemmas.Parts.{stays_ordered, order_drawn}
 use Rattle.buffer_glyphs.specs.Lemmas.Drawn.{drawn_drop, drawn_take}
 use Rattle.buffer_glyphs.specs.Lemmas.Ends.{joined_alike}
 use Rattle.buffer_parts.specs.Orderly.{are_one}
-use Rattle.buffer_parts.specs.CharacterParts.{ends_of, united_by, part_after_event}
+use Rattle.buffer_parts.specs.CharacterParts.{ends_of, part_after_union, part_after_event}
 use Rattle.buffer_parts.specs.Groups.{merges_from, arranges_from, AreOneGroups}
 use Rattle.buffer_parts.specs.TextLaws.{OneGroupsMayTurn, MergedGroupsAreOne, MergedGroupsMayTurn, SingleGroupsAreOne}
 use Rattle.buffer_parts.specs.Lemmas.Orderly.{plain_is_orderly, both_orderly, one_number, orderly_event, numbers_arranged, arranged_one}
@@ -44,12 +44,12 @@ are_one_map f ns e =
     let one = one_number ns e in
     are_one_from (f one.0) (map f ns) (λ k h. let source = has_map f k ns h in sym source.2 ∙ ap f (one.1 source.0 source.1))
 
-stretch_map : (f : ℕ → ℕ) (from to : ℕ) (ns : List ℕ) → range_of from to (map f ns) ≡ map f (range_of from to ns)
-stretch_map f from to ns = ap (take (to - from)) (drop-map f from ns) ∙ take-map f (to - from) (drop from ns)
+range_map : (f : ℕ → ℕ) (from to : ℕ) (ns : List ℕ) → range_of from to (map f ns) ≡ map f (range_of from to ns)
+range_map f from to ns = ap (take (to - from)) (drop-map f from ns) ∙ take-map f (to - from) (drop from ns)
 
 groups_map : (f : ℕ → ℕ) (at : ℕ) (lens ns : List ℕ) → AreOneGroups at lens ns → AreOneGroups at lens (map f ns)
 groups_map f at [] ns h = tt
-groups_map f at (n ∷ lens) ns h = (ap are_one (stretch_map f at (at + n) ns) ∙ are_one_map f (range_of at (at + n) ns) h.0, groups_map f (at + n) lens ns h.1)
+groups_map f at (n ∷ lens) ns h = (ap are_one (range_map f at (at + n) ns) ∙ are_one_map f (range_of at (at + n) ns) h.0, groups_map f (at + n) lens ns h.1)
 
 -- ---- groups that are one may be turned round
 
@@ -84,10 +84,10 @@ merge_is asks level from to os mono o = orderly_event asks level os (Merge InLis
     by_level MonotoneCharacters m = refl
     by_level Characters m = absurd m
 
-stretch_in_order : (falls : Bool) (from to : ℕ) (ns : List ℕ) → IsInOrder falls ns → IsInOrder falls (range_of from to ns)
-stretch_in_order falls from to ns h = order_drawn falls (drawn_take (to - from) (drop from ns)) (order_drawn falls (drawn_drop from ns) h)
+range_in_order : (falls : Bool) (from to : ℕ) (ns : List ℕ) → IsInOrder falls ns → IsInOrder falls (range_of from to ns)
+range_in_order falls from to ns h = order_drawn falls (drawn_take (to - from) (drop from ns)) (order_drawn falls (drawn_drop from ns) h)
 
-joined_one : (falls : Bool) (s : List ℕ) → IsInOrder falls s → are_one (map (united_by (ends_of s)) s) ≡ true
+joined_one : (falls : Bool) (s : List ℕ) → IsInOrder falls s → are_one (map (part_after_union (ends_of s)) s) ≡ true
 joined_one falls [] o = refl
 joined_one falls (x ∷ xs) o =
     let f = united_number (min x (last_from x xs)) (max x (last_from x xs)) in
@@ -95,8 +95,8 @@ joined_one falls (x ∷ xs) o =
 
 pub merged_one : (from to : ℕ) (ns : List ℕ) → IsOrdered ns → are_one (range_of from to (map (part_after_event ns (JoinParts from to)) ns)) ≡ true
 merged_one from to ns o =
-    ap are_one (stretch_map (part_after_event ns (JoinParts from to)) from to ns)
-    ∙ elim o [ inl rises ↦ joined_one false (range_of from to ns) (stretch_in_order false from to ns rises) | inr falls ↦ joined_one true (range_of from to ns) (stretch_in_order true from to ns falls) ]
+    ap are_one (range_map (part_after_event ns (JoinParts from to)) from to ns)
+    ∙ elim o [ inl rises ↦ joined_one false (range_of from to ns) (range_in_order false from to ns rises) | inr falls ↦ joined_one true (range_of from to ns) (range_in_order true from to ns falls) ]
 
 merge_ordered : (asks : Asks) (level : BufferClusterLevel) (from to : ℕ) (os : List Origin) → IsMonotone level → IsOrdered (numbers os) → IsOrdered (numbers (origins_after_event asks level os (Merge InList from to)))
 merge_ordered asks level from to os mono o = subst IsOrdered (sym (orderly_event asks level os (Merge InList from to) mono tt o)) (stays_ordered (joins_of (manner InList level) from to) (numbers os) o)
@@ -120,7 +120,7 @@ merged_groups_are_one asks level at (n ∷ lens) os mono o =
     let ordered = merge_ordered asks level at (at + n) os mono o in
     let rest = merges_map asks level (at + n) lens mid mono ordered in
     let first : are_one (range_of at (at + n) (numbers mid)) ≡ true = ap (λ ms. are_one (range_of at (at + n) ms)) (merge_is asks level at (at + n) os mono o) ∙ merged_one at (at + n) (numbers os) o in
-    let last : are_one (range_of at (at + n) (map rest.0 (numbers mid))) ≡ true = ap are_one (stretch_map rest.0 at (at + n) (numbers mid)) ∙ are_one_map rest.0 (range_of at (at + n) (numbers mid)) first in
+    let last : are_one (range_of at (at + n) (map rest.0 (numbers mid))) ≡ true = ap are_one (range_map rest.0 at (at + n) (numbers mid)) ∙ are_one_map rest.0 (range_of at (at + n) (numbers mid)) first in
     (ap (λ ms. are_one (range_of at (at + n) ms)) rest.1 ∙ last, merged_groups_are_one asks level (at + n) lens mid mono ordered)
 
 merges_plain : (at : ℕ) (lens : List ℕ) → IsPlain (merges_from at lens)

@@ -13,7 +13,7 @@ use Rattle.buffer_glyphs.specs.EventParts.{parts_of}
 use Rattle.buffer_glyphs.specs.Lemmas.Parts.{stays_ordered, keeps_order, keeps_numbers}
 use Rattle.buffer_parts.specs.Orderly.{IsOrderly}
 use Rattle.buffer_parts.specs.Fits.{FitsText}
-use Rattle.buffer_parts.specs.Counts.{count_after, count_after_event, parts_gone, AreBetween}
+use Rattle.buffer_parts.specs.Counts.{count_after, count_after_event, ligature_deletions, AreBetween}
 use Rattle.buffer_parts.specs.Keeping.{AreKept, AreSliced}
 use Rattle.buffer_parts.specs.KeepingLaws.{KeptInTurn, PlainIsKept, ReplacementsKeepParts, LigaturesKeepParts, KeptEventsHaveParts}
 use Rattle.buffer_parts.specs.Lemmas.Orderly.{plain_is_orderly, both_orderly, orderly_are_parts, orderly_keep_order, in_order}
@@ -79,28 +79,28 @@ one_replaced at given n lt =
 pub replacements_keep_parts : ReplacementsKeepParts
 replacements_keep_parts level at given n lt some = plain_is_kept level (Replace at 1 given ∷ []) n (n - 1 + given) tt (some, tt) (one_replaced at given n lt)
 
-one_gone : (p n : ℕ) → p < n → count_after_event n (Replace p 1 0) ≡ n - 1
-one_gone p n lt = let e = one_replaced p 0 n lt in omega (arith, e)
+one_removed : (p n : ℕ) → p < n → count_after_event n (Replace p 1 0) ≡ n - 1
+one_removed p n lt = let e = one_replaced p 0 n lt in omega (arith, e)
 
-all_gone : (at gone low end : ℕ) (places : List ℕ) (n : ℕ) → gone ≤ low → AreBetween low end places → at + (end - gone) ≤ n → count_after (parts_gone at gone places) n ≡ n - length places
-all_gone at gone low end [] n le b total = omega arith
-all_gone at gone low end (i ∷ places) n le b total =
+all_removed : (at gone low end : ℕ) (places : List ℕ) (n : ℕ) → gone ≤ low → AreBetween low end places → at + (end - gone) ≤ n → count_after (ligature_deletions at gone places) n ≡ n - length places
+all_removed at gone low end [] n le b total = omega arith
+all_removed at gone low end (i ∷ places) n le b total =
     let past : low < i = b.0 in
     let inside : i < end = b.1 in
     let within : at + i - gone < n = omega (arith, past, inside, le, total) in
-    let rest = all_gone at (gone + 1) i end places (n - 1) (omega (arith, past, le)) b.2 (omega (arith, past, inside, le, total)) in
+    let rest = all_removed at (gone + 1) i end places (n - 1) (omega (arith, past, le)) b.2 (omega (arith, past, inside, le, total)) in
     let less : n - 1 - length places ≡ n - suc (length places) = omega arith in
-    ap (count_after (parts_gone at (gone + 1) places)) (one_gone (at + i - gone) n within) ∙ rest ∙ less
+    ap (count_after (ligature_deletions at (gone + 1) places)) (one_removed (at + i - gone) n within) ∙ rest ∙ less
 
-gone_plain : (at gone : ℕ) (places : List ℕ) → IsPlain (parts_gone at gone places)
-gone_plain at gone [] = tt
-gone_plain at gone (i ∷ places) = gone_plain at (gone + 1) places
+removals_plain : (at gone : ℕ) (places : List ℕ) → IsPlain (ligature_deletions at gone places)
+removals_plain at gone [] = tt
+removals_plain at gone (i ∷ places) = removals_plain at (gone + 1) places
 
 pub ligatures_keep_parts : LigaturesKeepParts
 ligatures_keep_parts how level at end places n total b = record {
-  orderly = λ asks os mono count o. plain_is_orderly asks level (Merge how at (at + end) ∷ parts_gone at 0 places) os (gone_plain at 0 places);
+  orderly = λ asks os mono count o. plain_is_orderly asks level (Merge how at (at + end) ∷ ligature_deletions at 0 places) os (removals_plain at 0 places);
   giving = λ falls ns mono count o. ligatures_are_giving how level falls at end places ns mono o (omega (arith, count, total)) b;
-  counted = all_gone at 0 0 end places n (omega arith) b (omega (arith, total));
+  counted = all_removed at 0 0 end places n (omega arith) b (omega (arith, total));
 }
 
 no_origins : (os : List Origin) → numbers os ≡ [] → os ≡ []

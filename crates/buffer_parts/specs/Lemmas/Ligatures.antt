@@ -1,4 +1,4 @@
--- Parts that go from a stretch that became one.
+-- Parts that are deleted from a range that became one.
 use Rattle.std.proofs.Common.{ℕ, zero, suc, ◌≡◌, ◌≤◌, ◌<◌, ◌+◌, ◌-◌, ◌||◌, inl, inr, Bool, true, false, min, max, List, [], ◌∷◌, ◌++◌, length, take, drop, arith, refl, ap, sym, subst, ◌∙◌, length-append, length-drop}
 use Rattle.std.specs.List.{list_any}
 use Rattle.std.proofs.lemmas.Bool.Decides.{nat_tests}
@@ -14,10 +14,10 @@ use Rattle.buffer_glyphs.specs.EventParts.{parts_of}
 use Rattle.buffer_glyphs.specs.Lemmas.Numbers.{Has, has_here, has_more, has_cases, has_left, has_right}
 use Rattle.buffer_parts.specs.Orderly.{are_one}
 use Rattle.buffer_parts.specs.CharacterParts.{part_after_event}
-use Rattle.buffer_parts.specs.Counts.{parts_gone, AreBetween}
+use Rattle.buffer_parts.specs.Counts.{ligature_deletions, AreBetween}
 use Rattle.buffer_parts.specs.CountLaws.{LigaturesAreGiving}
 use Rattle.buffer_parts.specs.Lemmas.Orderly.{one_number, in_order}
-use Rattle.buffer_parts.specs.Lemmas.CharacterParts.{events_are_unions, gone_is}
+use Rattle.buffer_parts.specs.Lemmas.CharacterParts.{events_are_unions, removal_is}
 use Rattle.buffer_parts.specs.Lemmas.Groups.{are_one_from, merged_one}
 
 -- ---- an element that is deleted
@@ -71,7 +71,7 @@ all_self : (x : ℕ) (ns : List ℕ) → joined_numbers (x ∷ []) ns ≡ ns
 all_self x [] = refl
 all_self x (n ∷ ns) = ap (λ m. m ∷ joined_numbers (x ∷ []) ns) (united_self x n) ∙ ap (λ ms. n ∷ ms) (all_self x ns)
 
--- what is known of a stretch of one number, at an element after its first
+-- what is known of a range of one number, at an element after its first
 record IsPart (at j n p : ℕ) (ns : List ℕ) : Type 0 where
   shares : shares_part p 1 ns ≡ true
   left : after_part_event ns (ReplaceParts p 1 0) ≡ numbers_without p ns
@@ -98,7 +98,7 @@ part_at at j n p ns e low high total one =
     let kept : Has others here.0 = subst (Has others) same (has_left first.0 (take p ns) (drop (p + 1) ns) front) in
     record {
       shares = ap (list_any (has_number others)) cut ∙ or_false (has_number others here.0) kept;
-      left = ap (λ s. numbers_replaced p 1 0 (joined_numbers s ns)) cut ∙ ap (numbers_replaced p 1 0) (all_self here.0 ns) ∙ gone_is p 1 ns;
+      left = ap (λ s. numbers_replaced p 1 0 (joined_numbers s ns)) cut ∙ ap (numbers_replaced p 1 0) (all_self here.0 ns) ∙ removal_is p 1 ns;
     }
 
 still_one : (at j n p : ℕ) (ns : List ℕ) → p ≡ at + j → are_one (range_of at (at + suc n) ns) ≡ true → are_one (range_of at (at + n) (numbers_without p ns)) ≡ true
@@ -120,10 +120,10 @@ without_count p ns lt =
 
 -- ---- one after another
 
-all_gone : (level : BufferClusterLevel) (at gone low end : ℕ) (places ns : List ℕ) → gone ≤ low → gone < end → AreBetween low end places → at + (end - gone) ≤ length ns → are_one (range_of at (at + (end - gone)) ns) ≡ true
-    → IsGiving (parts_of level (parts_gone at gone places)) ns
-all_gone level at gone low end [] ns le lt b total one = tt
-all_gone level at gone low end (i ∷ places) ns le lt b total one =
+all_removed : (level : BufferClusterLevel) (at gone low end : ℕ) (places ns : List ℕ) → gone ≤ low → gone < end → AreBetween low end places → at + (end - gone) ≤ length ns → are_one (range_of at (at + (end - gone)) ns) ≡ true
+    → IsGiving (parts_of level (ligature_deletions at gone places)) ns
+all_removed level at gone low end [] ns le lt b total one = tt
+all_removed level at gone low end (i ∷ places) ns le lt b total one =
     let past : low < i = b.0 in
     let inside : i < end = b.1 in
     let p = at + i - gone in
@@ -132,14 +132,14 @@ all_gone level at gone low end (i ∷ places) ns le lt b total one =
     let one_less : end - gone ≡ suc (end - (gone + 1)) = omega (arith, lt) in
     let still = still_one at (i - gone) (end - (gone + 1)) p ns place (ap (λ k. are_one (range_of at (at + k) ns)) (sym one_less) ∙ one) in
     let count = without_count p ns (omega (arith, place, inside, past, le, total)) in
-    let rest = all_gone level at (gone + 1) i end places (numbers_without p ns) (omega (arith, past, le)) (omega (arith, past, le, inside)) b.2 (omega (arith, count, total, one_less)) still in
-    (inr part.shares, subst (IsGiving (parts_of level (parts_gone at (gone + 1) places))) (sym part.left) rest)
+    let rest = all_removed level at (gone + 1) i end places (numbers_without p ns) (omega (arith, past, le)) (omega (arith, past, le, inside)) b.2 (omega (arith, count, total, one_less)) still in
+    (inr part.shares, subst (IsGiving (parts_of level (ligature_deletions at (gone + 1) places))) (sym part.left) rest)
 
 joined_count : (from to : ℕ) (ns : List ℕ) → length (after_part_event ns (JoinParts from to)) ≡ length ns
 joined_count from to ns = ap length (events_are_unions (JoinParts from to) ns) ∙ length-map ns (part_after_event ns (JoinParts from to))
 
 ligature_gives : (level : BufferClusterLevel) (falls : Bool) (at end : ℕ) (places ns : List ℕ) → IsInOrder falls ns → at + end ≤ length ns → AreBetween 0 end places
-    → IsGiving (parts_of level (parts_gone at 0 places)) (after_part_event ns (JoinParts at (at + end)))
+    → IsGiving (parts_of level (ligature_deletions at 0 places)) (after_part_event ns (JoinParts at (at + end)))
 ligature_gives level falls at end [] ns o total b = tt
 ligature_gives level falls at end (i ∷ places) ns o total b =
     let mid = after_part_event ns (JoinParts at (at + end)) in
@@ -148,7 +148,7 @@ ligature_gives level falls at end (i ∷ places) ns o total b =
     let count = joined_count at (at + end) ns in
     let past : 0 < i = b.0 in
     let inside : i < end = b.1 in
-    all_gone level at 0 0 end (i ∷ places) mid (omega arith) (omega (arith, past, inside)) b (omega (arith, count, total)) one
+    all_removed level at 0 0 end (i ∷ places) mid (omega arith) (omega (arith, past, inside)) b (omega (arith, count, total)) one
 
 pub ligatures_are_giving : LigaturesAreGiving
 ligatures_are_giving InList MonotoneGraphemes falls at end places ns mono o total b = (tt, ligature_gives MonotoneGraphemes falls at end places ns o total b)

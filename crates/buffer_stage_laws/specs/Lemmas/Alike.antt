@@ -5,15 +5,15 @@ use Rattle.buffer_glyphs.specs.declared.cause.ShapeCause.{ShapeCause}
 use Rattle.buffer_glyphs.specs.Events.{Event}
 use Rattle.buffer_core.specs.Readings.{View, Read, Reading, Stage, then_reading, and_then, as_it_is}
 use Rattle.buffer_stage_laws.specs.Chains.{in_order}
-use Rattle.buffer_stage_laws.specs.Alike.{attachment_bit, seen_as, SeenAlike, ReadAlike, ReadingsAlike, DependsOnNoLength}
+use Rattle.buffer_stage_laws.specs.Alike.{attachment_bit, with_limit_and_flags, SeenAlike, ReadAlike, ReadingsAlike, DependsOnNoLength}
 use Rattle.buffer_stage_laws.specs.AlikeLaws.{AlikeAreRead, TwoDependOnNoLength, ChainsDependOnNoLength, WantedDependOnNoLength}
 
 -- ---- what holds of each view with another limit and other flags holds of one seen alike
 
-pub at_alike : (a b : View) (P : View → Type 0) → SeenAlike a b → ((limit scratch_flags : ℕ) → attachment_bit a.scratch_flags ≡ attachment_bit scratch_flags → P (seen_as limit scratch_flags a)) → P b
+pub at_alike : (a b : View) (P : View → Type 0) → SeenAlike a b → ((limit scratch_flags : ℕ) → attachment_bit a.scratch_flags ≡ attachment_bit scratch_flags → P (with_limit_and_flags limit scratch_flags a)) → P b
 at_alike a b P s k = subst P (sym s.same) (k b.max_len b.scratch_flags s.scratch_flags)
 
-pub views_alike : (a : View) (limit scratch_flags : ℕ) → attachment_bit a.scratch_flags ≡ attachment_bit scratch_flags → SeenAlike a (seen_as limit scratch_flags a)
+pub views_alike : (a : View) (limit scratch_flags : ℕ) → attachment_bit a.scratch_flags ≡ attachment_bit scratch_flags → SeenAlike a (with_limit_and_flags limit scratch_flags a)
 views_alike a limit scratch_flags e = record { scratch_flags = e; same = refl }
 
 -- ---- readings

@@ -4,8 +4,8 @@ use Rattle.std.proofs.lemmas.Bool.Decides.{nat_tests}
 use Rattle.std.proofs.lemmas.Grind.{common_steps}
 use Rattle.buffer_glyphs.specs.declared.level.BufferClusterLevel.{BufferClusterLevel}
 use Rattle.buffer_core.specs.Readings.{View, Read, Reading, Stage}
-use Rattle.buffer_stage_laws.specs.Alike.{seen_as, SeenAlike, ReadAlike, ReadingsAlike, DependsOnNoLength}
-use Rattle.buffer_stage_laws.specs.Counting.{is_left, eased, eased_read, at_budget, ReadingSpares, SparesBudget, SeenAlikeInAll}
+use Rattle.buffer_stage_laws.specs.Alike.{with_limit_and_flags, SeenAlike, ReadAlike, ReadingsAlike, DependsOnNoLength}
+use Rattle.buffer_stage_laws.specs.Counting.{is_left, with_more_budget, eased_read, at_budget, ReadingSpares, SparesBudget, SeenAlikeInAll}
 use Rattle.buffer_stage_laws.specs.CountLaws.{SparingAlikeAreRead, UsedAlikeAreRead}
 use Rattle.buffer_stage_laws.specs.Lemmas.Counting.{spared}
 
@@ -26,7 +26,7 @@ either_more P (pos m) (pos n) l g up down = by_test (nat_le m n) refl
     by_test false e = down (m - n) (ap (λ (x : ℕ). pos x) (ge_part m n e))
 
 left_before : (stage : Stage) (v : View) (r : Read) → SparesBudget stage → stage v ≡ Ok r → is_left r.view.max_ops ≡ true → is_left v.max_ops ≡ true
-left_before stage v r p e l = (subst (λ (x : Reading). ReadingSpares 0 v.max_ops x (stage (eased 0 v))) e (p v 0) l).0
+left_before stage v r p e l = (subst (λ (x : Reading). ReadingSpares 0 v.max_ops x (stage (with_more_budget 0 v))) e (p v 0) l).0
 
 pub read_alike : (stage : Stage) (a b : View) (r s : Read) → DependsOnNoLength stage → SeenAlike a b → stage a ≡ Ok r → stage b ≡ Ok s → ReadAlike r s
 read_alike stage a b r s h k e f = subst (λ (q : Reading). ReadingsAlike (Ok r) q) f (subst (λ (q : Reading). ReadingsAlike q (stage b)) e (h a b k))
@@ -42,14 +42,14 @@ sparing_alike_are_read stage a b r s h p k e f lr ls = either_more (AllTheSame r
   where
     up : (d : ℕ) → b.max_ops ≡ a.max_ops +ℤ pos d → AllTheSame r s
     up d o =
-        let alike : SeenAlike (eased d a) b = record { scratch_flags = k.scratch_flags; same = ap (λ (w : View). at_budget b.max_ops w) k.same ∙ ap (λ (z : ℤ). at_budget z (seen_as b.max_len b.scratch_flags a)) o } in
-        let both = read_alike stage (eased d a) b (eased_read d r) s h alike (spared stage a d r p e lr) f in
+        let alike : SeenAlike (with_more_budget d a) b = record { scratch_flags = k.scratch_flags; same = ap (λ (w : View). at_budget b.max_ops w) k.same ∙ ap (λ (z : ℤ). at_budget z (with_limit_and_flags b.max_len b.scratch_flags a)) o } in
+        let both = read_alike stage (with_more_budget d a) b (eased_read d r) s h alike (spared stage a d r p e lr) f in
         all_the_same r s (record { scratch_flags = both.view.scratch_flags; same = ap (λ (w : View). at_budget r.view.max_ops w) both.view.same }) both.events
 
     down : (d : ℕ) → a.max_ops ≡ b.max_ops +ℤ pos d → AllTheSame r s
     down d o =
-        let alike : SeenAlike a (eased d b) = subst (λ (z : ℤ). SeenAlike a (at_budget z b)) o k in
-        let both = read_alike stage a (eased d b) r (eased_read d s) h alike e (spared stage b d s p f ls) in
+        let alike : SeenAlike a (with_more_budget d b) = subst (λ (z : ℤ). SeenAlike a (at_budget z b)) o k in
+        let both = read_alike stage a (with_more_budget d b) r (eased_read d s) h alike e (spared stage b d s p f ls) in
         all_the_same r s (record { scratch_flags = both.view.scratch_flags; same = ap (λ (w : View). at_budget r.view.max_ops w) both.view.same }) both.events
 
 -- ---- uses

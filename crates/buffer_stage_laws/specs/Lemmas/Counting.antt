@@ -5,7 +5,7 @@ use Rattle.std.proofs.lemmas.Bool.Decides.{nat_tests}
 use Rattle.std.proofs.lemmas.Grind.{common_steps}
 use Rattle.buffer_core.specs.Readings.{View, Read, Reading, Stage, then_reading, and_then, as_it_is}
 use Rattle.buffer_stage_laws.specs.Chains.{in_order}
-use Rattle.buffer_stage_laws.specs.Counting.{is_left, IsFair, rebudgeted, rebudgeted_read, ReadingCounts, StageCounts, CountsBudget, at_budget, eased, eased_read, ReadingSpares, SparesBudget}
+use Rattle.buffer_stage_laws.specs.Counting.{is_left, IsFair, with_budget_changed, rebudgeted_read, ReadingCounts, StageCounts, CountsBudget, at_budget, with_more_budget, eased_read, ReadingSpares, SparesBudget}
 use Rattle.buffer_stage_laws.specs.CountLaws.{TwoCountBudget, ChainsCountBudget, WantedCountBudget, CountingSparesBudget, SparingReadsTheSame, CountingHasUses}
 
 -- ---- numbers
@@ -41,12 +41,12 @@ pub and_then_counts : (ample : ℤ → Bool) (change : ℤ → ℤ) (k : ℤ) (a
 and_then_counts ample change k (Err x) b t p q = tt
 and_then_counts ample change k (Ok r) b t p q = by_second (t r.view) (q r.view)
   where
-    by_second : (x : Reading) → ReadingCounts ample change r.view.max_ops x (t (rebudgeted change r.view)) → ReadingCounts ample change k (then_reading r x) (and_then b t)
+    by_second : (x : Reading) → ReadingCounts ample change r.view.max_ops x (t (with_budget_changed change r.view)) → ReadingCounts ample change k (then_reading r x) (and_then b t)
     by_second (Err x) g = tt
     by_second (Ok s) g = λ l. ((p (g l).0).0, ap (λ (x : Reading). and_then x t) (p (g l).0).1 ∙ ap (λ (x : Reading). then_reading (rebudgeted_read change r) x) (g l).1)
 
 pub two_count_budget : TwoCountBudget
-two_count_budget s t p q ample change fair v = and_then_counts ample change v.max_ops (s v) (s (rebudgeted change v)) t (p ample change fair v) (q ample change fair)
+two_count_budget s t p q ample change fair v = and_then_counts ample change v.max_ops (s v) (s (with_budget_changed change v)) t (p ample change fair v) (q ample change fair)
 
 pub chains_count_budget : ChainsCountBudget
 chains_count_budget [] all = λ ample change fair. same_counts ample change
@@ -58,8 +58,8 @@ wanted_count_budget false stage k = λ ample change fair. same_counts ample chan
 
 -- ---- more budget
 
-pub spared : (stage : Stage) (v : View) (d : ℕ) (r : Read) → SparesBudget stage → stage v ≡ Ok r → is_left r.view.max_ops ≡ true → stage (eased d v) ≡ Ok (eased_read d r)
-spared stage v d r p e l = (subst (λ (x : Reading). ReadingSpares d v.max_ops x (stage (eased d v))) e (p v d) l).1
+pub spared : (stage : Stage) (v : View) (d : ℕ) (r : Read) → SparesBudget stage → stage v ≡ Ok r → is_left r.view.max_ops ≡ true → stage (with_more_budget d v) ≡ Ok (eased_read d r)
+spared stage v d r p e l = (subst (λ (x : Reading). ReadingSpares d v.max_ops x (stage (with_more_budget d v))) e (p v d) l).1
 
 pub sparing_reads_the_same : SparingReadsTheSame
 sparing_reads_the_same stage v m k d r p e left =
@@ -78,7 +78,7 @@ more_is_fair d = record {
 pub counting_spares_budget : CountingSparesBudget
 counting_spares_budget stage p v d = by_reading (stage v) (p is_left (λ k. k +ℤ pos d) (more_is_fair d) v)
   where
-    by_reading : (a : Reading) → ReadingCounts is_left (λ k. k +ℤ pos d) v.max_ops a (stage (eased d v)) → ReadingSpares d v.max_ops a (stage (eased d v))
+    by_reading : (a : Reading) → ReadingCounts is_left (λ k. k +ℤ pos d) v.max_ops a (stage (with_more_budget d v)) → ReadingSpares d v.max_ops a (stage (with_more_budget d v))
     by_reading (Ok r) k = k
     by_reading (Err e) k = tt
 

@@ -30,7 +30,7 @@ or_else_keeps n (Passes es) second p q = later_keeps n es second p q
 or_else_keeps n (Acts cut es) second p q = p
 or_else_keeps n (Refuses cause) second p q = tt
 
--- the first of some rules, whatever they are told by
+-- the first of some rules, whatever they are made of
 pub first_rule_keeps : {R : Type 0} (act : R → Action) (rules : List R) → ((r : R) → RuleKeepsParts (act r)) → RuleKeepsParts (first_rule act rules)
 first_rule_keeps act [] p c = pass_keeps (length (whole c))
 first_rule_keeps act (r ∷ rules) p c = or_else_keeps (length (whole c)) (act r c) (first_rule act rules c) (p r c) (first_rule_keeps act rules p c)

@@ -3,7 +3,7 @@ use Rattle.std.proofs.Common.{ℕ, suc, ◌≡◌, ◌<◌, ◌+◌, ◌==◌, B
 use Rattle.std.specs.List.{prefix_len}
 use Rattle.std.proofs.lemmas.List.Sums.{prefix_len-le-length}
 use Rattle.std.proofs.lemmas.Grind.{common_steps}
-use Rattle.buffer_groups.specs.Runs.{run_length}
+use Rattle.buffer_lists.specs.Runs.{run_length}
 use Rattle.buffer_stages.specs.Rewriting.{runs_of}
 
 abbrev front_of : {X : Type 0} → (X → ℕ) → X → List X → ℕ

@@ -2,7 +2,7 @@
 use Rattle.std.proofs.Common.{◌≡◌, List, [], ◌∷◌, ◌++◌, refl, sym, ap, ◌∙◌, append_assoc}
 use Rattle.buffer_glyphs.specs.Events.{Event}
 use Rattle.buffer_stages.specs.Actions.{Cut, Outcome, Passes, Acts, Refuses, Action, later, or_else, first_rule}
-use Rattle.buffer_stages.specs.Laws.{RulesGoInOrder}
+use Rattle.buffer_stages.specs.Laws.{RulesAreTriedInOrder}
 
 after_nothing : (o : Outcome) → later [] o ≡ o
 after_nothing (Passes es) = refl
@@ -28,5 +28,5 @@ rules_after : {R : Type 0} (act : R → Action) (rules more : List R) (c : Cut) 
 rules_after act [] more c = sym (after_nothing (first_rule act more c))
 rules_after act (r ∷ rules) more c = ap (or_else (act r c)) (rules_after act rules more c) ∙ or_assoc (act r c) (first_rule act rules c) (first_rule act more c)
 
-pub rules_in_order : RulesGoInOrder
+pub rules_in_order : RulesAreTriedInOrder
 rules_in_order rules more c = rules_after (λ act. act) rules more c

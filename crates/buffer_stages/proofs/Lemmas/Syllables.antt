@@ -4,7 +4,7 @@ use Rattle.std.specs.Prelude.{slice_range}
 use Rattle.std.proofs.lemmas.List.{length-drop, drop-drop, drop-map}
 use Rattle.buffer_glyphs.specs.declared.info.hb_glyph_info_t.{hb_glyph_info_t}
 use Rattle.buffer_glyphs.specs.Items.{Item, item_of, strip}
-use Rattle.buffer_groups.specs.Runs.{run_length}
+use Rattle.buffer_lists.specs.Runs.{run_length}
 use Rattle.buffer_core.specs.Sides.{Sides, all_glyphs, items_of}
 use Rattle.buffer_stages.specs.Rewriting.{in_syllables}
 use Rattle.buffer_stages.proofs.Lemmas.Cuts.{seen_length, first_cut, run_within}

@@ -9,7 +9,7 @@ use Rattle.buffer_glyphs.specs.Items.{Item, clusters, item_of, strip}
 use Rattle.buffer_glyphs.specs.Levels.{InList, manner}
 use Rattle.buffer_glyphs.specs.Origins.{with_range_arranged, origins_merged_as, origin_of, origins}
 use Rattle.buffer_glyphs.specs.Events.{Merge}
-use Rattle.buffer_groups.specs.Lemmas.Picked.{AreAt, arranged_as}
+use Rattle.buffer_lists.specs.Lemmas.Picked.{AreAt, arranged_as}
 use Rattle.buffer_core.specs.Readings.{View}
 use Rattle.buffer_lists.specs.declared.order.KnownOrder.{KnownOrder}
 use Rattle.buffer_lists.specs.Known.{HasOrder}

@@ -5,7 +5,7 @@ use borrow.Rule.Slice.PartMut.{put_mid}
 use Rattle.std.proofs.lemmas.List.{drop-drop, drop-append-le, take-append-le, length-append, length-drop, length-take-le, take-map, drop-map, map-append}
 use Rattle.std.proofs.lemmas.List.FromFn.{length-range_with_len}
 use Rattle.buffer_glyphs.specs.Origins.{with_range_arranged}
-use Rattle.buffer_groups.specs.Lemmas.Picked.{AreAt, are_all, arranged_as}
+use Rattle.buffer_lists.specs.Lemmas.Picked.{AreAt, are_all, arranged_as}
 use Rattle.buffer_stages.specs.Moves.{with_range_moved, order_of_move}
 
 are_both : {X : Type 0} (all : List X) (is : List ℕ) (zs : List X) (js : List ℕ) (ws : List X) → AreAt all is zs → AreAt all js ws → AreAt all (is ++ js) (zs ++ ws)

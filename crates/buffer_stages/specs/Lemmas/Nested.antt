@@ -158,8 +158,8 @@ slice_middle fs ms es =
     let count : length fs + length ms - length fs ≡ length ms = omega arith in
     ap (λ n. take n (drop (length fs) (fs ++ (ms ++ es)))) count ∙ ap (take (length ms)) (drop-append_seam fs (ms ++ es)) ∙ take-append_seam ms es
 
-stretch_middle : (fs ms es : List Origin) → range_of (length fs) (length fs + length ms) (numbers (fs ++ (ms ++ es))) ≡ numbers ms
-stretch_middle fs ms es =
+range_middle : (fs ms es : List Origin) → range_of (length fs) (length fs + length ms) (numbers (fs ++ (ms ++ es))) ≡ numbers ms
+range_middle fs ms es =
     let n : Origin → ℕ = λ o. o.cluster in
     let whole : numbers (fs ++ (ms ++ es)) ≡ numbers fs ++ (numbers ms ++ numbers es) = map-append n fs (ms ++ es) ∙ ap (λ ns. numbers fs ++ ns) (map-append n ms es) in
     ap (range_of (length fs) (length fs + length ms)) whole
@@ -175,13 +175,13 @@ after_middle fs ms es =
 middle_is : (m : Manner) (fs ms es : List Origin) → origins_merged_as m (length fs) (length fs + length ms) (fs ++ (ms ++ es)) ≡ merged_middle m fs ms es
 middle_is Unites fs ms es =
     let u : Origin → Origin = outer Unites ms in
-    ap (λ ns. map (λ (o : Origin). cast (merged_number ns o.cluster) 0 o) (fs ++ (ms ++ es))) (stretch_middle fs ms es) ∙ map-append u fs (ms ++ es) ∙ ap (λ os. map u fs ++ os) (map-append u ms es)
+    ap (λ ns. map (λ (o : Origin). cast (merged_number ns o.cluster) 0 o) (fs ++ (ms ++ es))) (range_middle fs ms es) ∙ map-append u fs (ms ++ es) ∙ ap (λ os. map u fs ++ os) (map-append u ms es)
 middle_is Marks fs ms es =
     let f : Origin → Origin = inner Marks ms in
     let i = length fs in
     let j = length fs + length ms in
     let os = fs ++ (ms ++ es) in
-    ap (λ ns. take i os ++ map (added_outside 3 (least_number ns)) (slice_range os i j) ++ drop (max i j) os) (stretch_middle fs ms es)
+    ap (λ ns. take i os ++ map (added_outside 3 (least_number ns)) (slice_range os i j) ++ drop (max i j) os) (range_middle fs ms es)
     ∙ ap (λ xs. xs ++ map f (slice_range os i j) ++ drop (max i j) os) (take-append_seam fs (ms ++ es))
     ∙ ap (λ xs. fs ++ map f xs ++ drop (max i j) os) (slice_middle fs ms es)
     ∙ ap (λ xs. fs ++ map f ms ++ xs) (after_middle fs ms es)

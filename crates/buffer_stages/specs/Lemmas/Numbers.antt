@@ -52,30 +52,30 @@ then_permutes xs r rule p q = IsPermutation-trans (numbers_of xs) (numbers_of r.
 
 -- ---- all syllables together
 
-abbrev pub joined : {X : Type 0} → List (List X) → List X
-joined [] = []
-joined (xs ∷ xss) = xs ++ joined xss
+abbrev pub concatenation : {X : Type 0} → List (List X) → List X
+concatenation [] = []
+concatenation (xs ∷ xss) = xs ++ concatenation xss
 
-pair_joins : {X : Type 0} (key : X → ℕ) (x : X) (runs : List (List X)) → joined (runs_with_first key x runs) ≡ x ∷ joined runs
+pair_joins : {X : Type 0} (key : X → ℕ) (x : X) (runs : List (List X)) → concatenation (runs_with_first key x runs) ≡ x ∷ concatenation runs
 pair_joins key x [] = refl
 pair_joins key x ([] ∷ runs) = refl
-pair_joins key x ((y ∷ ys) ∷ runs) = elim (key y == key x) as (λ t. joined (if t then (x ∷ y ∷ ys) ∷ runs else (x ∷ []) ∷ (y ∷ ys) ∷ runs) ≡ x ∷ (y ∷ ys) ++ joined runs) [ true ↦ refl | false ↦ refl ]
+pair_joins key x ((y ∷ ys) ∷ runs) = elim (key y == key x) as (λ t. concatenation (if t then (x ∷ y ∷ ys) ∷ runs else (x ∷ []) ∷ (y ∷ ys) ∷ runs) ≡ x ∷ (y ∷ ys) ++ concatenation runs) [ true ↦ refl | false ↦ refl ]
 
-pub runs_join : {X : Type 0} (key : X → ℕ) (xs : List X) → joined (runs_of key xs) ≡ xs
+pub runs_join : {X : Type 0} (key : X → ℕ) (xs : List X) → concatenation (runs_of key xs) ≡ xs
 runs_join key [] = refl
 runs_join key (x ∷ xs) = pair_joins key x (runs_of key xs) ∙ ap (λ ys. x ∷ ys) (runs_join key xs)
 
-each_permutes : (rule : List Item → Arrangement) → ((ys : List Item) → IsPermuted ys (rule ys)) → (xss : List (List Item)) → IsPermutation (numbers_of (joined xss)) (numbers_of (each_rewritten rule xss).items)
+each_permutes : (rule : List Item → Arrangement) → ((ys : List Item) → IsPermuted ys (rule ys)) → (xss : List (List Item)) → IsPermutation (numbers_of (concatenation xss)) (numbers_of (each_rewritten rule xss).items)
 each_permutes rule p [] = IsPermutation-refl []
 each_permutes rule p (xs ∷ xss) =
     let later = (each_rewritten rule xss).items in
-    let old : numbers_of (xs ++ joined xss) ≡ numbers_of xs ++ numbers_of (joined xss) = map-append (λ (x : Item). x.number) xs (joined xss) in
+    let old : numbers_of (xs ++ concatenation xss) ≡ numbers_of xs ++ numbers_of (concatenation xss) = map-append (λ (x : Item). x.number) xs (concatenation xss) in
     let new : numbers_of ((rule xs).items ++ later) ≡ numbers_of (rule xs).items ++ numbers_of later = map-append (λ (x : Item). x.number) (rule xs).items later in
-    let q = IsPermutation-append (numbers_of xs) (numbers_of (rule xs).items) (numbers_of (joined xss)) (numbers_of later) (p xs) (each_permutes rule p xss) in
-    subst (λ ns. IsPermutation ns (numbers_of ((rule xs).items ++ later))) (sym old) (subst (IsPermutation (numbers_of xs ++ numbers_of (joined xss))) (sym new) q)
+    let q = IsPermutation-append (numbers_of xs) (numbers_of (rule xs).items) (numbers_of (concatenation xss)) (numbers_of later) (p xs) (each_permutes rule p xss) in
+    subst (λ ns. IsPermutation ns (numbers_of ((rule xs).items ++ later))) (sym old) (subst (IsPermutation (numbers_of xs ++ numbers_of (concatenation xss))) (sym new) q)
 
 -- a rule that permutes each syllable permutes the text
 pub syllables_permute : (rule : List Item → Arrangement) → ((ys : List Item) → IsPermuted ys (rule ys)) → (xs : List Item) → IsPermuted xs (by_syllable rule xs)
 syllables_permute rule p xs =
-    let whole : joined (in_syllables xs) ≡ xs = runs_join (λ (x : Item). x.syllable) xs in
+    let whole : concatenation (in_syllables xs) ≡ xs = runs_join (λ (x : Item). x.syllable) xs in
     subst (λ ys. IsPermutation (numbers_of ys) (numbers_of (by_syllable rule xs).items)) whole (each_permutes rule p (in_syllables xs))

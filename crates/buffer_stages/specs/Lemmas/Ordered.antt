@@ -52,7 +52,7 @@ one_all (g ∷ gs) e k =
     let self : (g.cluster == g.cluster) ≡ true = grind (arith, common_steps) in
     k g.cluster (rw self (list_all-map (λ n. n == g.cluster) cluster_of gs ∙ e))
 
--- glyphs of one cluster that changed places
+-- glyphs of one cluster that were permuted
 pub clusters_moved : (start n k : ℕ) (gs : List hb_glyph_info_t) → are_one_cluster (take (n + k) (drop start gs)) ≡ true → clusters (with_range_moved start n k gs) ≡ clusters gs
 clusters_moved start n k gs e =
     let cluster_of : hb_glyph_info_t → ℕ = λ g. g.cluster in
@@ -101,7 +101,7 @@ clusters_among gs hs one many scratch_flags =
     let theirs : list_all is_c (clusters hs) ≡ true = list_all-map is_c cluster_of hs ∙ scratch_flags (λ g. is_c (cluster_of g)) ours in
     as_many c (clusters hs) (clusters gs) theirs all (length-map hs cluster_of ∙ many ∙ sym (length-map gs cluster_of)))
 
--- what is known of glyphs of which a range of the output changes places, if it is of one cluster
+-- what is known of glyphs of which a range of the output is permuted, if it is of one cluster
 pub order_moved_behind : (o p : KnownOrder) (is_one : Bool) (start end : ℕ) (gs hs : List hb_glyph_info_t) → ((old new : List ℕ) → ((falls : Bool) → is_one ≡ true → IsInOrder falls old → IsInOrder falls new) → HasOrder o old → HasOrder p new)
     → is_one ≡ are_one_cluster (slice_range gs start end) → HasOrder o (clusters (gs ++ hs)) → (n k : ℕ) → start + (n + k) ≡ end → HasOrder p (clusters (with_range_moved start n k gs ++ hs))
 order_moved_behind o p is_one start end gs hs kept one h n k at =

@@ -77,7 +77,7 @@ rewritten_within rule start end from to a b le last fits f =
       ready = f.ready;
     })
 
--- a part whose ends are told as indices of the list
+-- a range whose ends are given as indices of the list
 pub rewritten_part : (rule : List Item → Arrangement) (start end from to p q : ℕ) (a b : Sides) → p ≡ start + from → q ≡ start + to → from ≤ to → start + to ≤ end → end ≤ length (items_of a)
     → IsRewritten (rule (slice_range (items_of a) p q)) p q a b → IsRewritten (within from to rule (slice_range (items_of a) start end)) start end a b
 rewritten_part rule start end from to p q a b at last le inside fits f =

@@ -1,4 +1,4 @@
--- A stable order by places and groups in reversed order: as many items as there were, and a permutation of them.
+-- A stable order by `auxiliary` numbers and groups in reversed order: as many items as there were, and a permutation of them.
 use Rattle.std.proofs.Common.{ℕ, zero, suc, ◌≡◌, ◌≤◌, ◌<◌, Bool, true, false, if◌then◌else◌, List, [], ◌∷◌, ◌++◌, length, map, take, drop, reverse, refl, sym, ap, subst, ◌∙◌, arith}
 use Rattle.std.specs.List.{All, flat_map}
 use Rattle.std.specs.List.Sorted.{IsPermutation}
@@ -8,12 +8,12 @@ use Rattle.std.proofs.lemmas.List.Concat.{flat_map-append}
 use Rattle.std.proofs.lemmas.List.Elements.{All-cons, All-nil}
 use Rattle.std.proofs.lemmas.List.Sorted.{length_permutation, IsPermutation-refl, IsPermutation-trans, IsPermutation-map, IsPermutation-append_left, IsPermutation-append_comm}
 use Rattle.buffer_stable_order.specs.Keys.{key_bound, key_order}
-use Rattle.buffer_groups.specs.Groups.{group_length, joined_count}
-use Rattle.buffer_groups.specs.Turning.{in_front, groups, groups_reversed_list}
-use Rattle.buffer_groups.specs.Lemmas.GroupsTurned.{turned_onto}
-use Rattle.buffer_groups.specs.Lemmas.KeyOrder.{all_below, by_key_moves}
+use Rattle.buffer_lists.specs.Groups.{group_length, joined_count}
+use Rattle.buffer_lists.specs.Turning.{in_front, groups, groups_reversed_list}
+use Rattle.buffer_lists.specs.Lemmas.GroupsTurned.{turned_onto}
+use Rattle.buffer_lists.specs.Lemmas.KeyOrder.{all_below, by_key_moves}
 use Rattle.buffer_glyphs.specs.Items.{Item}
-use Rattle.buffer_stages.specs.Ordering.{groups_reversed, same_group, sorted_by_place}
+use Rattle.buffer_stages.specs.Ordering.{groups_reversed, same_group, auxiliary_order}
 use Rattle.buffer_stages.specs.SyllableLaws.{IsPermuted}
 
 -- ---- sizes
@@ -43,7 +43,7 @@ turned_within p (suc n) (x ∷ xs) le =
 pub groups_turned_size : {X : Type 0} (p : X → X → Bool) (xs : List X) → length (groups_reversed_list p xs) ≡ length xs
 groups_turned_size p xs = turned_within p (length xs) xs (omega arith)
 
-pub sorted_size : (xs : List Item) → length (sorted_by_place xs).items ≡ length xs
+pub sorted_size : (xs : List Item) → length (auxiliary_order xs).items ≡ length xs
 sorted_size xs = key_order_size (λ (x : Item). x.auxiliary) xs
 
 pub reversed_size : (begins : Item → Bool) (xs : List Item) → length (groups_reversed begins xs).items ≡ length xs
@@ -51,7 +51,7 @@ reversed_size begins xs = groups_turned_size (same_group begins) xs
 
 -- ---- permutations
 
-pub sorted_permutes : (xs : List Item) → IsPermuted xs (sorted_by_place xs)
+pub sorted_permutes : (xs : List Item) → IsPermuted xs (auxiliary_order xs)
 sorted_permutes xs =
     let key : Item → ℕ = λ (x : Item). x.auxiliary in
     IsPermutation-map (λ (x : Item). x.number) xs (key_order key xs) (by_key_moves key (key_bound key xs) xs (all_below key (key_bound key xs) xs (omega arith)))

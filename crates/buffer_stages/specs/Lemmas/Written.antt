@@ -13,7 +13,7 @@ use Rattle.buffer_core.specs.Lending.{refilled_list, with_refilled, with_positio
 use Rattle.buffer_stages.specs.Ready.{IsReady}
 use Rattle.buffer_stages.specs.Stages.{IsFollowed, Happens, Becomes, AreMapped, with_items_mapped}
 
--- a list of the same length takes the whole place
+-- a list of the same length replaces the whole list
 pub refilled_whole : {X : Type 0} (new old : List X) → length new ≡ length old → refilled_list new old ≡ new
 refilled_whole new old e = take_at new (drop (length new) old) (length old) e
 

@@ -2,7 +2,7 @@
 use Rattle.std.proofs.Common.{ℕ, ◌≡◌, ◌≤◌, ◌<◌, ◌+◌, List, length, get_or, sym, subst, arith}
 use Rattle.std.proofs.lemmas.Option.{slice_get_within, get_or_from_slice_get}
 use Rattle.buffer_core.specs.Sides.{Sides}
-use Rattle.layout_subtables.specs.declared.context.SequenceLookupRecord.{SequenceLookupRecord}
+use Rattle.layout_tables.specs.declared.context.SequenceLookupRecord.{SequenceLookupRecord}
 use Rattle.layout_contexts.specs.Inside.{StaysInside}
 use Rattle.layout_contexts.specs.Records.{IsRecordBegun}
 use Rattle.layout_contexts.specs.Shifts.{moved_end, indices_after_resize}
@@ -30,8 +30,8 @@ then_stays n m k ps qs rs end at to f g =
 -- a lookup that keeps what is before its index acted there
 pub acted_stays : (record_of : SequenceLookupRecord) (ps rs : List ℕ) (p n m end to : ℕ) (s t : Sides) → IsRecordBegun record_of ps p s t → p ≤ m → rs ≡ indices_after_resize record_of.sequence_index n m ps → to ≡ moved_end p n m end → StaysInside n m ps rs end to
 acted_stays r ps rs p n m end to s t b below er et =
-    let is : get_or ps r.sequence_index 0 ≡ p = get_or_from_slice_get ps r.sequence_index p 0 b.place in
-    let there : r.sequence_index < length ps = slice_get_within ps r.sequence_index p b.place in
+    let is : get_or ps r.sequence_index 0 ≡ p = get_or_from_slice_get ps r.sequence_index p 0 b.index in
+    let there : r.sequence_index < length ps = slice_get_within ps r.sequence_index p b.index in
     record {
       within = λ le. end_inside p n m end to le below et;
       fewer = omega (arith, et);

@@ -6,7 +6,7 @@ use Rattle.buffer_glyphs.specs.declared.cause.ShapeCause.{ShapeCause}
 use Rattle.buffer_glyphs.specs.declared.cause.ShapeCause.TheVariants.{OutOfMemory, TooLong}
 use Rattle.buffer_glyphs.specs.Events.{Event}
 use Rattle.buffer_core.specs.Sides.{Sides, items_of}
-use Rattle.layout_subtables.specs.declared.context.SequenceLookupRecord.{SequenceLookupRecord}
+use Rattle.layout_tables.specs.declared.context.SequenceLookupRecord.{SequenceLookupRecord}
 use Rattle.buffer_stages.specs.Actions.{Cut, Action, Outcome, Passes, Acts, Refuses, whole}
 use Rattle.buffer_stages.specs.Buffers.{cut_of, are_glyphs, IsStill}
 use Rattle.buffer_stages.specs.Performing.{cut_with}
@@ -153,9 +153,9 @@ lookup_acted act r ps rs p end to n m random after s t u b h en em er et =
 
 pub still_inside : (r : SequenceLookupRecord) (ps rs : List ℕ) (p low n m : ℕ) (s t : Sides) → IsRecordBegun r ps p s t → AreRising low (n + 1) ps → p ≤ m → rs ≡ indices_after_resize r.sequence_index n m ps → AreRising low (m + 1) rs
 still_inside r ps rs p low n m s t b rising le er =
-    let is : get_or ps r.sequence_index 0 ≡ p = get_or_from_slice_get ps r.sequence_index p 0 b.place in
+    let is : get_or ps r.sequence_index 0 ≡ p = get_or_from_slice_get ps r.sequence_index p 0 b.index in
     let P : List ℕ → Type 0 = λ qs. AreRising low (m + 1) qs in
-    subst P (sym er) (resized_rise r.sequence_index low n m ps (slice_get_within ps r.sequence_index p b.place) rising (omega (arith, is, le)))
+    subst P (sym er) (resized_rise r.sequence_index low n m ps (slice_get_within ps r.sequence_index p b.index) rising (omega (arith, is, le)))
 
 pub end_inside : (p n m end to : ℕ) → end ≤ n → p ≤ m → to ≡ moved_end p n m end → to ≤ m
 end_inside p n m end to le below e = omega (arith, le, below, e)

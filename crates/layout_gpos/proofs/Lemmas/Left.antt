@@ -10,16 +10,16 @@ use Rattle.buffer_core.specs.Sides.{Sides, items_of}
 use Rattle.buffer_rows.specs.Keys.{row_of}
 use Rattle.layout_common.specs.Rows.{value_of}
 use Rattle.layout_common.specs.declared.glyph_row.GlyphRow.{GlyphRow}
-use Rattle.layout_subtables.specs.Marks.{base_anchor, component_anchor, component_count}
-use Rattle.layout_subtables.specs.declared.value.Anchor.{Anchor}
-use Rattle.layout_subtables.specs.declared.value.ValueRecord.{ValueRecord}
-use Rattle.layout_subtables.specs.declared.mark.BaseRow.{BaseRow}
-use Rattle.layout_subtables.specs.declared.mark.LigatureRow.{LigatureRow}
-use Rattle.layout_subtables.specs.declared.mark.MarkBasePos.{MarkBasePos}
-use Rattle.layout_subtables.specs.declared.mark.MarkLigPos.{MarkLigPos}
-use Rattle.layout_subtables.specs.declared.mark.MarkRecord.{MarkRecord}
-use Rattle.layout_subtables.specs.declared.pair.PairPos.{PairPos}
-use Rattle.layout_subtables.specs.declared.pair.PairValues.{PairValues}
+use Rattle.layout_tables.specs.Marks.{base_anchor, component_anchor, component_count}
+use Rattle.layout_tables.specs.declared.value.Anchor.{Anchor}
+use Rattle.layout_tables.specs.declared.value.ValueRecord.{ValueRecord}
+use Rattle.layout_tables.specs.declared.mark.BaseRow.{BaseRow}
+use Rattle.layout_tables.specs.declared.mark.LigatureRow.{LigatureRow}
+use Rattle.layout_tables.specs.declared.mark.MarkBasePos.{MarkBasePos}
+use Rattle.layout_tables.specs.declared.mark.MarkLigPos.{MarkLigPos}
+use Rattle.layout_tables.specs.declared.mark.MarkRecord.{MarkRecord}
+use Rattle.layout_tables.specs.declared.pair.PairPos.{PairPos}
+use Rattle.layout_tables.specs.declared.pair.PairValues.{PairValues}
 use Rattle.layout_match.specs.Applied.{ApplyContext}
 use Rattle.buffer_glyphs.specs.LigatureWords.{is_mark}
 use Rattle.buffer_stages.specs.Actions.{Cut, whole, Outcome, Passes, Acts, Refuses, Action, later, or_else, first_rule, at_first, attempt_around}

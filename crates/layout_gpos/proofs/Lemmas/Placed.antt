@@ -10,14 +10,14 @@ use Rattle.buffer_core.specs.Lending.{with_positions_refilled}
 use Rattle.buffer_core.specs.Sides.{Sides, all_glyphs, after_next_glyphs, stage_flags}
 use Rattle.layout_common.specs.Rows.{value_of}
 use Rattle.layout_common.specs.declared.glyph_row.GlyphRow.{GlyphRow}
-use Rattle.layout_subtables.specs.declared.value.ValueRecord.{ValueRecord}
+use Rattle.layout_tables.specs.declared.value.ValueRecord.{ValueRecord}
 use Rattle.buffer_stages.specs.Actions.{Outcome, Acts, at_first}
 use Rattle.buffer_stages.specs.Buffers.{IsPassed, are_glyphs, cut_of}
 use Rattle.buffer_stages.specs.Performing.{IsMade, IsPerformed, cut_with}
 use Rattle.buffer_stages.proofs.Lemmas.Glyphs.{first_item}
 use Rattle.buffer_stages.proofs.Lemmas.Performed.{passes_nothing}
 use Rattle.layout_offsets.specs.Links.{position_at}
-use Rattle.layout_subtables.specs.declared.value.Anchor.{Anchor}
+use Rattle.layout_tables.specs.declared.value.Anchor.{Anchor}
 use Rattle.layout_gpos.specs.Anchors.{anchored_position, with_mark_attached}
 use Rattle.layout_offsets.specs.Links.{is_near, link_to}
 use Rattle.layout_gpos.specs.Values.{with_adjusted_position}

@@ -9,7 +9,7 @@ use Rattle.buffer_core.specs.Readings.{View, Reading, with_events}
 use Rattle.buffer_stages.specs.Actions.{Cut, view_at, uncut, past_item, Outcome, Passes, Acts, Refuses, Action, attempt_around, later, or_else, first_rule, at_first}
 use Rattle.layout_match.specs.Applied.{ApplyContext}
 use Rattle.layout_match.specs.Trying.{meets, at_met, after_outcome, outcome_past_item, trial_at, trials, with_zero_positions, whole_list, forward_pass}
-use Rattle.buffer_stage_laws.specs.Alike.{attachment_bit, seen_as, SeenAlike, ReadAlike, ReadingsAlike, DependsOnNoLength}
+use Rattle.buffer_stage_laws.specs.Alike.{attachment_bit, with_limit_and_flags, SeenAlike, ReadAlike, ReadingsAlike, DependsOnNoLength}
 use Rattle.buffer_stage_laws.specs.Lemmas.Alike.{at_alike, refused_readings, limited_readings, then_reading_alike, and_then_alike}
 use Rattle.layout_laws.specs.Alike.{cut_as, CutsAlike, OutcomesAlike, RuleDependsOnNoLength}
 use Rattle.layout_laws.specs.RuleLengths.{FirstRulesDependOnNoLength, MetRulesDependOnNoLength, LookupsDependOnNoLength}
@@ -52,7 +52,7 @@ or_else_alike (Acts c es) (Acts d fs) second third k l = k
 or_else_alike (Acts c es) (Refuses y) second third k l = tt
 or_else_alike (Refuses x) p second third k l = tt
 
--- the first of some rules, whatever they are told by
+-- the first of some rules, whatever they are made of
 pub first_rule_depends : {R : Type 0} (act : R → Action) (rules : List R) → ((r : R) → RuleDependsOnNoLength (act r)) → RuleDependsOnNoLength (first_rule act rules)
 first_rule_depends act [] k c d s = refl
 first_rule_depends act (r ∷ rules) k c d s = or_else_alike (act r c) (act r d) (first_rule act rules c) (first_rule act rules d) (k r c d s) (first_rule_depends act rules k c d s)
@@ -127,9 +127,9 @@ tried_alike act v w (suc n) way k c d s =
 
 joined_depends : DependsOnNoLength whole_list
 joined_depends a b s = at_alike a b (λ b. ReadingsAlike (whole_list a) (whole_list b)) s (λ limit scratch_flags e.
-    limited_readings (nat_le (length a.items) a.max_len) (nat_le (length a.items) limit) (Ok (with_zero_positions a)) (Ok (with_zero_positions (seen_as limit scratch_flags a))) TooLong TooLong (record { view = record { scratch_flags = e; same = refl }; events = λ level. refl }))
+    limited_readings (nat_le (length a.items) a.max_len) (nat_le (length a.items) limit) (Ok (with_zero_positions a)) (Ok (with_zero_positions (with_limit_and_flags limit scratch_flags a))) TooLong TooLong (record { view = record { scratch_flags = e; same = refl }; events = λ level. refl }))
 
 pub lookups_depend_on_no_length : LookupsDependOnNoLength
 lookups_depend_on_no_length act k a b s = at_alike a b (λ b. ReadingsAlike (forward_pass act a) (forward_pass act b)) s (λ limit scratch_flags e.
-    and_then_alike (trials act a (length a.items) (uncut a)) (trials act (seen_as limit scratch_flags a) (length a.items) (uncut (seen_as limit scratch_flags a))) whole_list
-    (tried_alike act a (seen_as limit scratch_flags a) (length a.items) refl k (uncut a) (uncut (seen_as limit scratch_flags a)) (record { scratch_flags = e; same = refl })) joined_depends)
+    and_then_alike (trials act a (length a.items) (uncut a)) (trials act (with_limit_and_flags limit scratch_flags a) (length a.items) (uncut (with_limit_and_flags limit scratch_flags a))) whole_list
+    (tried_alike act a (with_limit_and_flags limit scratch_flags a) (length a.items) refl k (uncut a) (uncut (with_limit_and_flags limit scratch_flags a)) (record { scratch_flags = e; same = refl })) joined_depends)

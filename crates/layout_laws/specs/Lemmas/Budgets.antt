@@ -16,16 +16,16 @@ use Rattle.layout_gsub.specs.Multiples.{multiple_substitution, cut_with_multiple
 use Rattle.layout_gsub.specs.Replacements.{single_substitution, cut_with_substitute}
 use Rattle.layout_substitution.specs.Lookups.{cut_at_index, backward_trials, backward_pass}
 use Rattle.layout_positioning.specs.Lookups.{positioning_pass}
-use Rattle.buffer_stage_laws.specs.Counting.{IsFair, rebudgeted, CountsBudget}
+use Rattle.buffer_stage_laws.specs.Counting.{IsFair, with_budget_changed, CountsBudget}
 use Rattle.buffer_stage_laws.specs.Lemmas.Counting.{and_then_counts, same_counts, two_count_budget}
 use Rattle.layout_laws.specs.Counting.{rebudgeted_cut, OutcomeCounts, RuleCounts, RuleCountsBudget, NestCountsBudget}
 use Rattle.layout_laws.specs.Lemmas.Counting.{limited_counts, later_counts, or_else_counts, after_counts, NextCounts, tried_counts, lookups_count_budget}
 use Rattle.layout_laws.specs.Lemmas.NestedCounting.{nested_count_budget}
 use Rattle.layout_laws.specs.Lengths.{SubstitutionCountsBudget, PositioningCountsBudget}
-use Rattle.layout_laws.specs.Lemmas.Rules.{Limits, Related, NestRelated, IsClosed}
+use Rattle.layout_laws.specs.Lemmas.Rules.{Limits, IsRelated, NestRelated, IsClosed}
 use Rattle.layout_laws.specs.Lemmas.Substitutions.{IsSubstituted, forward_related, backward_related}
 use Rattle.layout_laws.specs.Lemmas.Positionings.{IsPositioned, action_related}
-use Rattle.layout_laws.specs.Lemmas.Ligatures.{passed_between, ligated_cut, ligated_events}
+use Rattle.layout_laws.specs.Lemmas.Ligatures.{items_between_components, ligated_cut, ligated_events}
 use Rattle.layout_laws.specs.Lemmas.Stages.{IsOfStages, AreSubstituting, ArePositioning, substituted_has, positioned_has}
 
 -- ---- rules
@@ -46,7 +46,7 @@ by_budget = record {
   budget = λ i c. i.change c.max_ops;
 }
 
-rule_counts : (act : Action) → ((i : Change) → Related by_budget i act) → RuleCountsBudget act
+rule_counts : (act : Action) → ((i : Change) → IsRelated by_budget i act) → RuleCountsBudget act
 rule_counts act k ample change fair c = k (record { ample = ample; change = change; fair = fair }) c
 
 nest_counts : (nest : Option (ℕ → Action)) → NestRelated by_budget nest → NestCountsBudget nest
@@ -80,7 +80,7 @@ several_counts ample change gdef glyphs c =
 
 ligature_counts : (ample : ℤ → Bool) (change : ℤ → ℤ) (gdef : GlyphDefinition) (glyph end : ℕ) (places : List ℕ) → RuleCounts ample change (ligature_substitution gdef glyph places end)
 ligature_counts ample change gdef glyph end places c =
-    limited_counts ample change c.max_ops (nat_le (length c.front + (1 + length (passed_between places c))) c.max_len) (Acts (ligated_cut gdef glyph places end c) (ligated_events places end c)) (Acts (ligated_cut gdef glyph places end (rebudgeted_cut change c)) (ligated_events places end c)) TooLong TooLong (λ l. (l, refl))
+    limited_counts ample change c.max_ops (nat_le (length c.front + (1 + length (items_between_components places c))) c.max_len) (Acts (ligated_cut gdef glyph places end c) (ligated_events places end c)) (Acts (ligated_cut gdef glyph places end (rebudgeted_cut change c)) (ligated_events places end c)) TooLong TooLong (λ l. (l, refl))
 
 substituted_by_budget : IsSubstituted by_budget
 substituted_by_budget = record {
@@ -103,10 +103,10 @@ positioned_by_budget = record {
 
 -- ---- stages
 
-tried_back_counts : (ample : ℤ → Bool) (change : ℤ → ℤ) (act : Action) (v : View) (n : ℕ) → RuleCounts ample change act → NextCounts ample change (backward_trials act v n) (backward_trials act (rebudgeted change v) n)
+tried_back_counts : (ample : ℤ → Bool) (change : ℤ → ℤ) (act : Action) (v : View) (n : ℕ) → RuleCounts ample change act → NextCounts ample change (backward_trials act v n) (backward_trials act (with_budget_changed change v) n)
 tried_back_counts ample change act v zero k c = λ l. (l, refl)
 tried_back_counts ample change act v (suc n) k c =
-    after_counts ample change (act (cut_at_index n c)) (act (cut_at_index n (rebudgeted_cut change c))) (backward_trials act v n) (backward_trials act (rebudgeted change v) n) v (cut_at_index n c) (k (cut_at_index n c)) (tried_back_counts ample change act v n k)
+    after_counts ample change (act (cut_at_index n c)) (act (cut_at_index n (rebudgeted_cut change c))) (backward_trials act v n) (backward_trials act (with_budget_changed change v) n) v (cut_at_index n c) (k (cut_at_index n c)) (tried_back_counts ample change act v n k)
 
 back_counts : (act : Action) → RuleCountsBudget act → CountsBudget (backward_pass act)
 back_counts act k ample change fair v = tried_back_counts ample change act v (length v.items) (k ample change fair) (uncut_with_positions v)
@@ -116,7 +116,7 @@ over_counts act k ample change fair v = tried_counts ample change (act v.directi
 
 own_counts : (stage : Stage) → CountsBudget stage → CountsBudget (with_own_random stage)
 own_counts stage k ample change fair v =
-    and_then_counts ample change v.max_ops (stage (record v { random = 1 })) (stage (record (rebudgeted change v) { random = 1 })) (always (λ w. with_events [] (record w { random = v.random }))) (k ample change fair (record v { random = 1 })) (λ w l. (l, refl))
+    and_then_counts ample change v.max_ops (stage (record v { random = 1 })) (stage (record (with_budget_changed change v) { random = 1 })) (always (λ w. with_events [] (record w { random = v.random }))) (k ample change fair (record v { random = 1 })) (λ w l. (l, refl))
 
 stages_count : IsOfStages CountsBudget RuleCountsBudget
 stages_count = record { same = λ ample change fair. same_counts ample change; both = two_count_budget; up = lookups_count_budget; back = back_counts; over = over_counts; own = own_counts }

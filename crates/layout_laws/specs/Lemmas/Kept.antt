@@ -32,15 +32,15 @@ down_keeps act p v r level e = back_keeps act v (length v.items) (uncut_with_pos
 along_keeps : (act : Direction → Action) → ((d : Direction) → RuleKeepsParts (act d)) → KeepsParts (λ v. positioning_pass (act v.direction) v)
 along_keeps act p v r level e = tried_keeps (act v.direction) v (length v.items) (uncut_with_positions v) (p v.direction) r level e
 
--- the state of what is drawn is put back
-abbrev restored : ℕ → Stage
-restored n = always (λ w. with_events [] (record w { random = n }))
+-- the stage that puts the random state back
+abbrev restoration : ℕ → Stage
+restoration n = always (λ w. with_events [] (record w { random = n }))
 
-restored_keeps : (n : ℕ) → KeepsParts (restored n)
+restored_keeps : (n : ℕ) → KeepsParts (restoration n)
 restored_keeps n v = read_now (length v.items) [] (record v { random = n }) (λ level. nothing_keeps level (length v.items))
 
 own_keeps : (stage : Stage) → KeepsParts stage → KeepsParts (with_own_random stage)
-own_keeps stage p v r level e = then_reads (length v.items) (stage (record v { random = 1 })) (restored v.random) (p (record v { random = 1 })) (restored_keeps v.random) r level e
+own_keeps stage p v r level e = then_reads (length v.items) (stage (record v { random = 1 })) (restoration v.random) (p (record v { random = 1 })) (restored_keeps v.random) r level e
 
 -- ---- stages
 

@@ -8,7 +8,7 @@ use Rattle.buffer_glyphs.specs.Levels.{InList}
 use Rattle.buffer_glyphs.specs.Items.{Item, Position}
 use Rattle.buffer_glyphs.specs.Parts.{first_of}
 use Rattle.buffer_glyphs.specs.Events.{Event, Merge, Replace, Delete, Break}
-use Rattle.buffer_parts.specs.Counts.{parts_gone}
+use Rattle.buffer_parts.specs.Counts.{ligature_deletions}
 use Rattle.buffer_parts.specs.Keeping.{AreKept}
 use Rattle.buffer_parts.specs.Lemmas.Keeping.{plain_is_kept, replacements_keep_parts, ligatures_keep_parts}
 use Rattle.layout_face.specs.declared.parts.GlyphDefinition.{GlyphDefinition}
@@ -16,7 +16,7 @@ use Rattle.buffer_stages.specs.Actions.{Cut, whole, Passes, Acts, Action}
 use Rattle.layout_match.specs.Applied.{own_search, next_random}
 use Rattle.layout_match.specs.Matches.{answers_of, indices}
 use Rattle.layout_contexts.specs.Nested.{each_nested, cut_after_match}
-use Rattle.layout_subtables.specs.declared.context.SequenceLookupRecord.{SequenceLookupRecord}
+use Rattle.layout_tables.specs.declared.context.SequenceLookupRecord.{SequenceLookupRecord}
 use Rattle.layout_gsub.specs.Alternates.{drawn_alternate}
 use Rattle.layout_gsub.specs.Ligating.{ligature_substitution, component_deletions as gone}
 use Rattle.layout_gsub.specs.Multiples.{component_items, multiple_substitution, multiplied_item, cut_with_multiple, deletion}
@@ -32,7 +32,7 @@ use Rattle.layout_laws.specs.Lemmas.Rules.{Limits, NestRelated, IsClosed}
 use Rattle.layout_laws.specs.Lemmas.Substitutions.{IsSubstituted}
 use Rattle.layout_laws.specs.Lemmas.Positionings.{IsPositioned}
 use Rattle.layout_laws.specs.Lemmas.Nested.{nested_keep_parts}
-use Rattle.layout_laws.specs.Lemmas.Ligatures.{passed_between, ligated_cut, ligated_events}
+use Rattle.layout_laws.specs.Lemmas.Ligatures.{items_between_components, ligated_cut, ligated_events}
 use Rattle.layout_laws.specs.Lemmas.LigatureLengths.{AreFound, match_found, found_between, ligated_length}
 
 -- of a rule at a cut, with no other limits
@@ -127,17 +127,17 @@ none_keeps x c there level =
     let after : length (c.front ++ drop 1 c.rest) ≡ length (whole c) - 1 = omega (arith, before, at_some c x there, drop_long c.rest, length-append c.front (drop 1 c.rest)) in
     plain_is_kept level (Delete (length c.front) ∷ []) (length (whole c)) (length (c.front ++ drop 1 c.rest)) tt tt (one_less (length c.front) (length (whole c)) (omega (arith, before, at_some c x there)) ∙ sym after)
 
-gone_is : (at n : ℕ) (places : List ℕ) → gone at n places ≡ parts_gone at n places
-gone_is at n [] = refl
-gone_is at n (i ∷ places) = ap (λ (es : List Event). Replace (at + i - n) 1 0 ∷ es) (gone_is at (n + 1) places)
+deletions_are : (at n : ℕ) (places : List ℕ) → gone at n places ≡ ligature_deletions at n places
+deletions_are at n [] = refl
+deletions_are at n (i ∷ places) = ap (λ (es : List Event). Replace (at + i - n) 1 0 ∷ es) (deletions_are at (n + 1) places)
 
 ligature_keeps : (gdef : GlyphDefinition) (glyph end : ℕ) (others : List ℕ) (x : Item) (c : Cut) → first_of c.rest ≡ Some x → AreFound 1 end others (length c.rest) → OutcomeKeepsParts (ligature_substitution gdef glyph (0 ∷ others) end c) (length (whole c))
-ligature_keeps gdef glyph end others x c there found = limit_keeps (1 + length (passed_between (0 ∷ others) c)) (length (whole c)) c (Acts (ligated_cut gdef glyph (0 ∷ others) end c) (ligated_events (0 ∷ others) end c)) (λ level.
+ligature_keeps gdef glyph end others x c there found = limit_keeps (1 + length (items_between_components (0 ∷ others) c)) (length (whole c)) c (Acts (ligated_cut gdef glyph (0 ∷ others) end c) (ligated_events (0 ∷ others) end c)) (λ level.
     let at : ℕ = length c.front in
     let within : at + end ≤ length (whole c) = omega (arith, found.within (at_some c x there), length-append c.front c.rest) in
-    subst (λ (es : List Event). AreKept level (Merge InList at (at + end) ∷ es) (length (whole c)) (length (whole (ligated_cut gdef glyph (0 ∷ others) end c)))) (sym (gone_is at 0 others))
-    (subst (λ (n : ℕ). AreKept level (Merge InList at (at + end) ∷ parts_gone at 0 others) (length (whole c)) n) (sym (ligated_length gdef glyph end others x c there found))
-    (ligatures_keep_parts InList level at end others (length (whole c)) within (found_between 0 1 end others (omega arith) found.ahead))))
+    subst (λ (es : List Event). AreKept level (Merge InList at (at + end) ∷ es) (length (whole c)) (length (whole (ligated_cut gdef glyph (0 ∷ others) end c)))) (sym (deletions_are at 0 others))
+    (subst (λ (n : ℕ). AreKept level (Merge InList at (at + end) ∷ ligature_deletions at 0 others) (length (whole c)) n) (sym (ligated_length gdef glyph end others x c there found))
+    (ligatures_keep_parts InList level at end others (length (whole c)) within (found_between 0 1 end others (omega arith) found.indices_rise))))
 
 -- ---- all rules
 

@@ -20,16 +20,16 @@ use Rattle.layout_gpos.specs.Anchors.{with_attachment_flag}
 use Rattle.layout_gpos.specs.Moving.{cut_with_positions}
 use Rattle.layout_substitution.specs.Lookups.{cut_at_index, backward_trials, backward_pass}
 use Rattle.layout_positioning.specs.Lookups.{positioning_pass}
-use Rattle.buffer_stage_laws.specs.Alike.{attachment_bit, seen_as, ReadingsAlike, DependsOnNoLength}
+use Rattle.buffer_stage_laws.specs.Alike.{attachment_bit, with_limit_and_flags, ReadingsAlike, DependsOnNoLength}
 use Rattle.buffer_stage_laws.specs.Lemmas.Alike.{at_alike, and_then_alike, same_depends, two_depend_on_no_length}
 use Rattle.layout_laws.specs.Alike.{cut_as, CutsAlike, OutcomesAlike, RuleDependsOnNoLength, NestDependsOnNoLength}
 use Rattle.layout_laws.specs.Lemmas.Alike.{at_alike_cut, cuts_alike, limited_outcomes, later_alike, or_else_alike, here_alike, after_alike, NextAlike, tried_alike, lookups_depend_on_no_length}
 use Rattle.layout_laws.specs.Lemmas.NestedAlike.{nested_depend_on_no_length}
 use Rattle.layout_laws.specs.Lengths.{SubstitutionDependsOnNoLength, PositioningDependsOnNoLength}
-use Rattle.layout_laws.specs.Lemmas.Rules.{Limits, Related, NestRelated, IsClosed}
+use Rattle.layout_laws.specs.Lemmas.Rules.{Limits, IsRelated, NestRelated, IsClosed}
 use Rattle.layout_laws.specs.Lemmas.Substitutions.{IsSubstituted, forward_related, backward_related}
 use Rattle.layout_laws.specs.Lemmas.Positionings.{IsPositioned, action_related}
-use Rattle.layout_laws.specs.Lemmas.Ligatures.{passed_between, ligated_cut, ligated_events}
+use Rattle.layout_laws.specs.Lemmas.Ligatures.{items_between_components, ligated_cut, ligated_events}
 use Rattle.layout_laws.specs.Lemmas.Stages.{IsOfStages, AreSubstituting, ArePositioning, substituted_has, positioned_has}
 
 -- ---- rules
@@ -44,7 +44,7 @@ by_length = record {
   budget = λ i c. c.max_ops;
 }
 
-rule_depends : (act : Action) → ((i : ℕ × ℕ) → Related by_length i act) → RuleDependsOnNoLength act
+rule_depends : (act : Action) → ((i : ℕ × ℕ) → IsRelated by_length i act) → RuleDependsOnNoLength act
 rule_depends act k c d s = at_alike_cut c d (λ d. OutcomesAlike (act c) (act d)) s (λ limit scratch_flags e. k (limit, scratch_flags) c e)
 
 nest_depends : (nest : Option (ℕ → Action)) → NestRelated by_length nest → NestDependsOnNoLength nest
@@ -78,7 +78,7 @@ several_alike gdef glyphs c limit scratch_flags e =
 
 ligature_alike : (gdef : GlyphDefinition) (glyph end : ℕ) (places : List ℕ) (c : Cut) (limit scratch_flags : ℕ) → attachment_bit c.scratch_flags ≡ attachment_bit scratch_flags → OutcomesAlike (ligature_substitution gdef glyph places end c) (ligature_substitution gdef glyph places end (cut_as limit scratch_flags c))
 ligature_alike gdef glyph end places c limit scratch_flags e =
-    let n : ℕ = length c.front + (1 + length (passed_between places c)) in
+    let n : ℕ = length c.front + (1 + length (items_between_components places c)) in
     limited_outcomes (nat_le n c.max_len) (nat_le n limit) (Acts (ligated_cut gdef glyph places end c) (ligated_events places end c)) (Acts (ligated_cut gdef glyph places end (cut_as limit scratch_flags c)) (ligated_events places end c)) TooLong TooLong
     (cuts_alike (ligated_cut gdef glyph places end c) limit scratch_flags e, refl)
 
@@ -93,16 +93,16 @@ substituted_by_length = record {
   there = λ i gdef glyph ahead back c e. (cuts_alike (cut_with_substitute_kept gdef glyph c) i.0 i.1 e, refl);
 }
 
-told_alike : (near : Bool) (m n : ℕ) → attachment_bit m ≡ attachment_bit n → attachment_bit (with_attachment_flag near m) ≡ attachment_bit (with_attachment_flag near n)
-told_alike true m n e = and_or_self 8 m ∙ sym (and_or_self 8 n)
-told_alike false m n e = e
+attachment_alike : (near : Bool) (m n : ℕ) → attachment_bit m ≡ attachment_bit n → attachment_bit (with_attachment_flag near m) ≡ attachment_bit (with_attachment_flag near n)
+attachment_alike true m n e = and_or_self 8 m ∙ sym (and_or_self 8 n)
+attachment_alike false m n e = e
 
 positioned_by_length : IsPositioned by_length
 positioned_by_length = record {
   closed = closed_by_length;
   placed = λ i n ps c e. (cuts_alike (cut_with_positions n ps c) i.0 i.1 e, refl);
   broken = λ i n back ahead ps c e. (cuts_alike (cut_with_positions n ps c) i.0 i.1 e, refl);
-  attached = λ i near n back ahead ps c e. (record { scratch_flags = told_alike near c.scratch_flags i.1 e; same = refl }, refl);
+  attached = λ i near n back ahead ps c e. (record { scratch_flags = attachment_alike near c.scratch_flags i.1 e; same = refl }, refl);
 }
 
 -- ---- stages
@@ -117,22 +117,22 @@ tried_back_alike act v w (suc n) way k c d s =
 
 back_depends : (act : Action) → RuleDependsOnNoLength act → DependsOnNoLength (backward_pass act)
 back_depends act k a b s = at_alike a b (λ b. ReadingsAlike (backward_pass act a) (backward_pass act b)) s (λ limit scratch_flags e.
-    tried_back_alike act a (seen_as limit scratch_flags a) (length a.items) refl k (uncut_with_positions a) (uncut_with_positions (seen_as limit scratch_flags a)) (record { scratch_flags = e; same = refl }))
+    tried_back_alike act a (with_limit_and_flags limit scratch_flags a) (length a.items) refl k (uncut_with_positions a) (uncut_with_positions (with_limit_and_flags limit scratch_flags a)) (record { scratch_flags = e; same = refl }))
 
 over_depends : (act : Direction → Action) → ((d : Direction) → RuleDependsOnNoLength (act d)) → DependsOnNoLength (λ v. positioning_pass (act v.direction) v)
 over_depends act k a b s = at_alike a b (λ b. ReadingsAlike (positioning_pass (act a.direction) a) (positioning_pass (act b.direction) b)) s (λ limit scratch_flags e.
-    tried_alike (act a.direction) a (seen_as limit scratch_flags a) (length a.items) refl (k a.direction) (uncut_with_positions a) (uncut_with_positions (seen_as limit scratch_flags a)) (record { scratch_flags = e; same = refl }))
+    tried_alike (act a.direction) a (with_limit_and_flags limit scratch_flags a) (length a.items) refl (k a.direction) (uncut_with_positions a) (uncut_with_positions (with_limit_and_flags limit scratch_flags a)) (record { scratch_flags = e; same = refl }))
 
--- the state of what is drawn is put back
-abbrev restored : ℕ → Stage
-restored n = always (λ w. with_events [] (record w { random = n }))
+-- the stage that puts the random state back
+abbrev restoration : ℕ → Stage
+restoration n = always (λ w. with_events [] (record w { random = n }))
 
-restored_depends : (n : ℕ) → DependsOnNoLength (restored n)
-restored_depends n a b s = at_alike a b (λ b. ReadingsAlike (restored n a) (restored n b)) s (λ limit scratch_flags e. record { view = record { scratch_flags = e; same = refl }; events = λ level. refl })
+restored_depends : (n : ℕ) → DependsOnNoLength (restoration n)
+restored_depends n a b s = at_alike a b (λ b. ReadingsAlike (restoration n a) (restoration n b)) s (λ limit scratch_flags e. record { view = record { scratch_flags = e; same = refl }; events = λ level. refl })
 
 own_depends : (stage : Stage) → DependsOnNoLength stage → DependsOnNoLength (with_own_random stage)
 own_depends stage k a b s = at_alike a b (λ b. ReadingsAlike (with_own_random stage a) (with_own_random stage b)) s (λ limit scratch_flags e.
-    and_then_alike (stage (record a { random = 1 })) (stage (record (seen_as limit scratch_flags a) { random = 1 })) (restored a.random) (k (record a { random = 1 }) (record (seen_as limit scratch_flags a) { random = 1 }) (record { scratch_flags = e; same = refl })) (restored_depends a.random))
+    and_then_alike (stage (record a { random = 1 })) (stage (record (with_limit_and_flags limit scratch_flags a) { random = 1 })) (restoration a.random) (k (record a { random = 1 }) (record (with_limit_and_flags limit scratch_flags a) { random = 1 }) (record { scratch_flags = e; same = refl })) (restored_depends a.random))
 
 stages_depend : IsOfStages DependsOnNoLength RuleDependsOnNoLength
 stages_depend = record { same = same_depends; both = two_depend_on_no_length; up = lookups_depend_on_no_length; back = back_depends; over = over_depends; own = own_depends }

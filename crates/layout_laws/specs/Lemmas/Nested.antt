@@ -4,7 +4,7 @@ use Rattle.std.specs.Prelude.{slice_get}
 use Rattle.std.proofs.lemmas.List.{take-append-drop}
 use Rattle.buffer_glyphs.specs.declared.level.BufferClusterLevel.{BufferClusterLevel}
 use Rattle.buffer_glyphs.specs.declared.cause.ShapeCause.TheVariants.{TooLong}
-use Rattle.layout_subtables.specs.declared.context.SequenceLookupRecord.{SequenceLookupRecord}
+use Rattle.layout_tables.specs.declared.context.SequenceLookupRecord.{SequenceLookupRecord}
 use Rattle.buffer_stages.specs.Actions.{Cut, whole, Outcome, Passes, Acts, Refuses, Action}
 use Rattle.layout_contexts.specs.Nested.{RecordsOutcome, Walks, Stops, cut_at, holds, has_budget, with_budget_spent, nested_outcome, nested_outcome_at, outcome_at_index, one_record, walked_later, then_walk, each_record, cut_after_match}
 use Rattle.buffer_parts.specs.Keeping.{AreKept}
@@ -36,9 +36,9 @@ at_keeps act r p c ps end k = elim (holds p c) as (λ t. WalkKeeps (length (whol
   | false ↦ tt
 ]
 
-place_keeps : (act : ℕ → Action) (r : SequenceLookupRecord) (o : Option ℕ) (c : Cut) (ps : List ℕ) (end : ℕ) → ((i : ℕ) → RuleKeepsParts (act i)) → WalkKeeps (length (whole c)) (outcome_at_index act r o c ps end)
-place_keeps act r None c ps end k = still_keeps c ps end
-place_keeps act r (Some p) c ps end k = elim (nat_lt p (length (whole c)) && has_budget c) as (λ t. WalkKeeps (length (whole c)) (if t then nested_outcome_at act r p (with_budget_spent c) ps end else Walks c ps end []))
+at_index_keeps : (act : ℕ → Action) (r : SequenceLookupRecord) (o : Option ℕ) (c : Cut) (ps : List ℕ) (end : ℕ) → ((i : ℕ) → RuleKeepsParts (act i)) → WalkKeeps (length (whole c)) (outcome_at_index act r o c ps end)
+at_index_keeps act r None c ps end k = still_keeps c ps end
+at_index_keeps act r (Some p) c ps end k = elim (nat_lt p (length (whole c)) && has_budget c) as (λ t. WalkKeeps (length (whole c)) (if t then nested_outcome_at act r p (with_budget_spent c) ps end else Walks c ps end []))
     [ true ↦ at_keeps act r p (with_budget_spent c) ps end k | false ↦ still_keeps c ps end ]
 
 walk_in_turn : (n : ℕ) (w : RecordsOutcome) (next : Cut → List ℕ → ℕ → RecordsOutcome) → WalkKeeps n w → ((d : Cut) (ps : List ℕ) (end : ℕ) → WalkKeeps (length (whole d)) (next d ps end)) → WalkKeeps n (then_walk w next)
@@ -51,14 +51,14 @@ walk_in_turn n (Stops cause) next p q = tt
 
 each_keeps : (act : ℕ → Action) (records : List SequenceLookupRecord) (c : Cut) (ps : List ℕ) (end : ℕ) → ((i : ℕ) → RuleKeepsParts (act i)) → WalkKeeps (length (whole c)) (each_record act records c ps end)
 each_keeps act [] c ps end k = still_keeps c ps end
-each_keeps act (r ∷ records) c ps end k = walk_in_turn (length (whole c)) (one_record act r c ps end) (each_record act records) (place_keeps act r (slice_get ps r.sequence_index) c ps end k) (λ d qs to. each_keeps act records d qs to k)
+each_keeps act (r ∷ records) c ps end k = walk_in_turn (length (whole c)) (one_record act r c ps end) (each_record act records) (at_index_keeps act r (slice_get ps r.sequence_index) c ps end k) (λ d qs to. each_keeps act records d qs to k)
 
-behind_keeps : (n : ℕ) (w : RecordsOutcome) → WalkKeeps n w → OutcomeKeepsParts (cut_after_match w) n
-behind_keeps n (Walks cut ps end es) k = elim (holds (min end (length (whole cut))) cut) as (λ t. OutcomeKeepsParts (if t then Acts (cut_at (min end (length (whole cut))) cut) es else Refuses TooLong) n) [
+after_match_keeps : (n : ℕ) (w : RecordsOutcome) → WalkKeeps n w → OutcomeKeepsParts (cut_after_match w) n
+after_match_keeps n (Walks cut ps end es) k = elim (holds (min end (length (whole cut))) cut) as (λ t. OutcomeKeepsParts (if t then Acts (cut_at (min end (length (whole cut))) cut) es else Refuses TooLong) n) [
   | true ↦ λ level. subst (λ (m : ℕ). AreKept level es n m) (sym (ap (λ xs. length xs) (nested_whole (min end (length (whole cut))) cut))) (k level)
   | false ↦ tt
 ]
-behind_keeps n (Stops cause) k = tt
+after_match_keeps n (Stops cause) k = tt
 
 pub nested_keep_parts : NestedKeepParts
-nested_keep_parts act records c ps end k = behind_keeps (length (whole c)) (each_record act records c ps end) (each_keeps act records c ps end k)
+nested_keep_parts act records c ps end k = after_match_keeps (length (whole c)) (each_record act records c ps end) (each_keeps act records c ps end k)

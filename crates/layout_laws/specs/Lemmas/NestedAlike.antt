@@ -4,7 +4,7 @@ use Rattle.std.specs.Prelude.{slice_get}
 use Rattle.buffer_glyphs.specs.declared.cause.ShapeCause.{ShapeCause}
 use Rattle.buffer_glyphs.specs.declared.cause.ShapeCause.TheVariants.{TooLong}
 use Rattle.buffer_glyphs.specs.Events.{Event}
-use Rattle.layout_subtables.specs.declared.context.SequenceLookupRecord.{SequenceLookupRecord}
+use Rattle.layout_tables.specs.declared.context.SequenceLookupRecord.{SequenceLookupRecord}
 use Rattle.buffer_stages.specs.Actions.{Cut, whole, Outcome, Passes, Acts, Refuses, Action}
 use Rattle.layout_contexts.specs.Nested.{RecordsOutcome, Walks, Stops, cut_at, holds, has_budget, with_budget_spent, nested_outcome, nested_outcome_at, outcome_at_index, one_record, walked_later, then_walk, each_record, cut_after_match}
 use Rattle.layout_contexts.specs.Shifts.{indices_after_resize, moved_end}
@@ -43,17 +43,17 @@ there_alike i p c d ps end (Acts b es) (Acts e fs) s k =
 there_alike i p c d ps end (Acts b es) (Refuses y) s k = tt
 there_alike i p c d ps end (Refuses x) q s k = tt
 
-at_place_alike : (act : ℕ → Action) (r : SequenceLookupRecord) (p : ℕ) (c d : Cut) (ps : List ℕ) (end : ℕ) → ((i : ℕ) → RuleDependsOnNoLength (act i)) → CutsAlike c d → WalksAlike (nested_outcome_at act r p c ps end) (nested_outcome_at act r p d ps end)
-at_place_alike act r p c d ps end k s =
+nested_at_alike : (act : ℕ → Action) (r : SequenceLookupRecord) (p : ℕ) (c d : Cut) (ps : List ℕ) (end : ℕ) → ((i : ℕ) → RuleDependsOnNoLength (act i)) → CutsAlike c d → WalksAlike (nested_outcome_at act r p c ps end) (nested_outcome_at act r p d ps end)
+nested_at_alike act r p c d ps end k s =
     limited_walks (holds p c) (holds p d) (nested_outcome r.sequence_index p (cut_at p c) ps end (act r.lookup_index (cut_at p c))) (nested_outcome r.sequence_index p (cut_at p d) ps end (act r.lookup_index (cut_at p d))) TooLong TooLong
     (there_alike r.sequence_index p (cut_at p c) (cut_at p d) ps end (act r.lookup_index (cut_at p c)) (act r.lookup_index (cut_at p d)) (nested_cut_alike p c d s) (k r.lookup_index (cut_at p c) (cut_at p d) (nested_cut_alike p c d s)))
 
-place_alike : (act : ℕ → Action) (r : SequenceLookupRecord) (o : Option ℕ) (c d : Cut) (ps : List ℕ) (end : ℕ) → ((i : ℕ) → RuleDependsOnNoLength (act i)) → CutsAlike c d → WalksAlike (outcome_at_index act r o c ps end) (outcome_at_index act r o d ps end)
-place_alike act r None c d ps end k s = (s, refl, refl, refl)
-place_alike act r (Some p) c d ps end k s = at_alike_cut c d (λ d. WalksAlike (outcome_at_index act r (Some p) c ps end) (outcome_at_index act r (Some p) d ps end)) s (λ limit scratch_flags e. by_test limit scratch_flags e (nat_lt p (length (whole c)) && has_budget c))
+at_index_alike : (act : ℕ → Action) (r : SequenceLookupRecord) (o : Option ℕ) (c d : Cut) (ps : List ℕ) (end : ℕ) → ((i : ℕ) → RuleDependsOnNoLength (act i)) → CutsAlike c d → WalksAlike (outcome_at_index act r o c ps end) (outcome_at_index act r o d ps end)
+at_index_alike act r None c d ps end k s = (s, refl, refl, refl)
+at_index_alike act r (Some p) c d ps end k s = at_alike_cut c d (λ d. WalksAlike (outcome_at_index act r (Some p) c ps end) (outcome_at_index act r (Some p) d ps end)) s (λ limit scratch_flags e. by_test limit scratch_flags e (nat_lt p (length (whole c)) && has_budget c))
   where
     by_test : (limit scratch_flags : ℕ) → attachment_bit c.scratch_flags ≡ attachment_bit scratch_flags → (t : Bool) → WalksAlike (if t then nested_outcome_at act r p (with_budget_spent c) ps end else Walks c ps end []) (if t then nested_outcome_at act r p (with_budget_spent (cut_as limit scratch_flags c)) ps end else Walks (cut_as limit scratch_flags c) ps end [])
-    by_test limit scratch_flags e true = at_place_alike act r p (with_budget_spent c) (with_budget_spent (cut_as limit scratch_flags c)) ps end k (cuts_alike (with_budget_spent c) limit scratch_flags e)
+    by_test limit scratch_flags e true = nested_at_alike act r p (with_budget_spent c) (with_budget_spent (cut_as limit scratch_flags c)) ps end k (cuts_alike (with_budget_spent c) limit scratch_flags e)
     by_test limit scratch_flags e false = (cuts_alike c limit scratch_flags e, refl, refl, refl)
 
 walked_later_alike : (es fs : List Event) (w u : RecordsOutcome) → es ≡ fs → WalksAlike w u → WalksAlike (walked_later es w) (walked_later fs u)
@@ -72,19 +72,19 @@ then_walk_alike (Stops x) u next k n = tt
 
 each_alike : (act : ℕ → Action) (records : List SequenceLookupRecord) → ((i : ℕ) → RuleDependsOnNoLength (act i)) → WayAlike (each_record act records)
 each_alike act [] k c d ps end s = (s, refl, refl, refl)
-each_alike act (r ∷ records) k c d ps end s = then_walk_alike (one_record act r c ps end) (one_record act r d ps end) (each_record act records) (place_alike act r (slice_get ps r.sequence_index) c d ps end k s) (each_alike act records k)
+each_alike act (r ∷ records) k c d ps end s = then_walk_alike (one_record act r c ps end) (one_record act r d ps end) (each_record act records) (at_index_alike act r (slice_get ps r.sequence_index) c d ps end k s) (each_alike act records k)
 
-pub behind_alike : (w u : RecordsOutcome) → WalksAlike w u → OutcomesAlike (cut_after_match w) (cut_after_match u)
-behind_alike (Walks c ps end es) (Walks d qs to fs) k =
+pub after_match_alike : (w u : RecordsOutcome) → WalksAlike w u → OutcomesAlike (cut_after_match w) (cut_after_match u)
+after_match_alike (Walks c ps end es) (Walks d qs to fs) k =
     let place : min end (length (whole c)) ≡ min to (length (whole d)) = ap (λ (m : ℕ). min m (length (whole c))) k.2 ∙ ap (λ xs. min to (length xs)) (whole_alike c d k.0) in
     limited_outcomes (holds (min end (length (whole c))) c) (holds (min to (length (whole d))) d) (Acts (cut_at (min end (length (whole c))) c) es) (Acts (cut_at (min to (length (whole d))) d) fs) TooLong TooLong
     (subst (λ (m : ℕ). CutsAlike (cut_at (min end (length (whole c))) c) (cut_at m d)) place (nested_cut_alike (min end (length (whole c))) c d k.0), k.3)
-behind_alike (Walks c ps end es) (Stops y) k = refused_outcomes (cut_after_match (Walks c ps end es)) y
-behind_alike (Stops x) u k = tt
+after_match_alike (Walks c ps end es) (Stops y) k = refused_outcomes (cut_after_match (Walks c ps end es)) y
+after_match_alike (Stops x) u k = tt
 
 nested_alike : (act : ℕ → Action) (records : List SequenceLookupRecord) (ps : List ℕ) (end : ℕ) → ((i : ℕ) → RuleDependsOnNoLength (act i)) → RuleDependsOnNoLength (λ c. cut_after_match (each_record act records c ps end))
-nested_alike act records ps end k c d s = behind_alike (each_record act records c ps end) (each_record act records d ps end) (each_alike act records k c d ps end s)
+nested_alike act records ps end k c d s = after_match_alike (each_record act records c ps end) (each_record act records d ps end) (each_alike act records k c d ps end s)
 
 pub nested_depend_on_no_length : NestedDependOnNoLength
-nested_depend_on_no_length None records ps end k = λ c d s. behind_alike (Walks c ps end []) (Walks d ps end []) (s, refl, refl, refl)
+nested_depend_on_no_length None records ps end k = λ c d s. after_match_alike (Walks c ps end []) (Walks d ps end []) (s, refl, refl, refl)
 nested_depend_on_no_length (Some act) records ps end k = nested_alike act records ps end k

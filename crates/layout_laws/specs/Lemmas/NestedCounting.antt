@@ -2,7 +2,7 @@
 use Rattle.std.proofs.Common.{ℕ, ℤ, pos, ◌≡◌, ◌-ℤ◌, ◌&&◌, Bool, true, false, nat_lt, min, if◌then◌else◌, List, [], ◌∷◌, Option, Some, None, length, refl, ap, subst, ◌∙◌}
 use Rattle.std.specs.Prelude.{slice_get}
 use Rattle.buffer_glyphs.specs.declared.cause.ShapeCause.TheVariants.{TooLong}
-use Rattle.layout_subtables.specs.declared.context.SequenceLookupRecord.{SequenceLookupRecord}
+use Rattle.layout_tables.specs.declared.context.SequenceLookupRecord.{SequenceLookupRecord}
 use Rattle.buffer_stages.specs.Actions.{Cut, whole, Outcome, Passes, Acts, Refuses, Action}
 use Rattle.layout_contexts.specs.Nested.{RecordsOutcome, Walks, Stops, cut_at, holds, has_budget, with_budget_spent, nested_outcome, nested_outcome_at, outcome_at_index, one_record, walked_later, then_walk, each_record, cut_after_match}
 use Rattle.buffer_stage_laws.specs.Counting.{is_left, IsFair}
@@ -16,8 +16,8 @@ there_counts ample change i p c ps end (Passes es) q f = λ l. (l, ap (λ (x : O
 there_counts ample change i p c ps end (Acts b es) q f = λ l. ((f l).0, ap (λ (x : Outcome). nested_outcome i p (rebudgeted_cut change c) ps end x) (f l).1)
 there_counts ample change i p c ps end (Refuses x) q f = tt
 
-at_place_counts : (ample : ℤ → Bool) (change : ℤ → ℤ) (act : ℕ → Action) (r : SequenceLookupRecord) (p : ℕ) (c : Cut) (ps : List ℕ) (end : ℕ) → ((i : ℕ) → RuleCounts ample change (act i)) → WalkCounts ample change c.max_ops (nested_outcome_at act r p c ps end) (nested_outcome_at act r p (rebudgeted_cut change c) ps end)
-at_place_counts ample change act r p c ps end k = by_test (holds p c)
+nested_at_counts : (ample : ℤ → Bool) (change : ℤ → ℤ) (act : ℕ → Action) (r : SequenceLookupRecord) (p : ℕ) (c : Cut) (ps : List ℕ) (end : ℕ) → ((i : ℕ) → RuleCounts ample change (act i)) → WalkCounts ample change c.max_ops (nested_outcome_at act r p c ps end) (nested_outcome_at act r p (rebudgeted_cut change c) ps end)
+nested_at_counts ample change act r p c ps end k = by_test (holds p c)
   where
     by_test : (t : Bool) → WalkCounts ample change c.max_ops (if t then nested_outcome r.sequence_index p (cut_at p c) ps end (act r.lookup_index (cut_at p c)) else Stops TooLong) (if t then nested_outcome r.sequence_index p (cut_at p (rebudgeted_cut change c)) ps end (act r.lookup_index (cut_at p (rebudgeted_cut change c))) else Stops TooLong)
     by_test true = there_counts ample change r.sequence_index p (cut_at p c) ps end (act r.lookup_index (cut_at p c)) (act r.lookup_index (cut_at p (rebudgeted_cut change c))) (k r.lookup_index (cut_at p c))
@@ -32,12 +32,12 @@ walk_without : (ample : ℤ → Bool) (change : ℤ → ℤ) (j k : ℤ) (w u x 
 walk_without ample change j k (Walks c ps end es) u x g f = λ l. absurd (g (f l).0)
 walk_without ample change j k (Stops y) u x g f = tt
 
-place_counts : (ample : ℤ → Bool) (change : ℤ → ℤ) (act : ℕ → Action) (r : SequenceLookupRecord) (o : Option ℕ) (c : Cut) (ps : List ℕ) (end : ℕ) → IsFair ample change → ((i : ℕ) → RuleCounts ample change (act i)) → WalkCounts ample change c.max_ops (outcome_at_index act r o c ps end) (outcome_at_index act r o (rebudgeted_cut change c) ps end)
-place_counts ample change act r None c ps end fair k = λ l. (l, refl)
-place_counts ample change act r (Some p) c ps end fair k = by_tests (nat_lt p (length (whole c))) (has_budget c) (has_budget (rebudgeted_cut change c)) refl refl
+at_index_counts : (ample : ℤ → Bool) (change : ℤ → ℤ) (act : ℕ → Action) (r : SequenceLookupRecord) (o : Option ℕ) (c : Cut) (ps : List ℕ) (end : ℕ) → IsFair ample change → ((i : ℕ) → RuleCounts ample change (act i)) → WalkCounts ample change c.max_ops (outcome_at_index act r o c ps end) (outcome_at_index act r o (rebudgeted_cut change c) ps end)
+at_index_counts ample change act r None c ps end fair k = λ l. (l, refl)
+at_index_counts ample change act r (Some p) c ps end fair k = by_tests (nat_lt p (length (whole c))) (has_budget c) (has_budget (rebudgeted_cut change c)) refl refl
   where
     nested : WalkCounts ample change (c.max_ops -ℤ pos 1) (nested_outcome_at act r p (with_budget_spent c) ps end) (nested_outcome_at act r p (rebudgeted_cut change (with_budget_spent c)) ps end)
-    nested = at_place_counts ample change act r p (with_budget_spent c) ps end k
+    nested = nested_at_counts ample change act r p (with_budget_spent c) ps end k
 
     by_tests : (a b e : Bool) → is_left c.max_ops ≡ b → is_left (change c.max_ops) ≡ e → WalkCounts ample change c.max_ops (if a && b then nested_outcome_at act r p (with_budget_spent c) ps end else Walks c ps end []) (if a && e then nested_outcome_at act r p (with_budget_spent (rebudgeted_cut change c)) ps end else Walks (rebudgeted_cut change c) ps end [])
     by_tests false b e f g = λ l. (l, refl)
@@ -61,11 +61,11 @@ then_walk_counts ample change k (Walks c ps end es) u next f n = by_next (next c
 
 each_counts : (ample : ℤ → Bool) (change : ℤ → ℤ) (act : ℕ → Action) (records : List SequenceLookupRecord) → IsFair ample change → ((i : ℕ) → RuleCounts ample change (act i)) → WayCounts ample change (each_record act records)
 each_counts ample change act [] fair k c ps end = λ l. (l, refl)
-each_counts ample change act (r ∷ records) fair k c ps end = then_walk_counts ample change c.max_ops (one_record act r c ps end) (one_record act r (rebudgeted_cut change c) ps end) (each_record act records) (place_counts ample change act r (slice_get ps r.sequence_index) c ps end fair k) (each_counts ample change act records fair k)
+each_counts ample change act (r ∷ records) fair k c ps end = then_walk_counts ample change c.max_ops (one_record act r c ps end) (one_record act r (rebudgeted_cut change c) ps end) (each_record act records) (at_index_counts ample change act r (slice_get ps r.sequence_index) c ps end fair k) (each_counts ample change act records fair k)
 
-pub behind_counts : (ample : ℤ → Bool) (change : ℤ → ℤ) (k : ℤ) (w u : RecordsOutcome) → WalkCounts ample change k w u → OutcomeCounts ample change k (cut_after_match w) (cut_after_match u)
-behind_counts ample change k (Stops x) u f = tt
-behind_counts ample change k (Walks c ps end es) u f = by_test (holds (min end (length (whole c))) c) (λ l. ap (λ (x : RecordsOutcome). cut_after_match x) (f l).1)
+pub after_match_counts : (ample : ℤ → Bool) (change : ℤ → ℤ) (k : ℤ) (w u : RecordsOutcome) → WalkCounts ample change k w u → OutcomeCounts ample change k (cut_after_match w) (cut_after_match u)
+after_match_counts ample change k (Stops x) u f = tt
+after_match_counts ample change k (Walks c ps end es) u f = by_test (holds (min end (length (whole c))) c) (λ l. ap (λ (x : RecordsOutcome). cut_after_match x) (f l).1)
   where
     by_test : (t : Bool) → (ample c.max_ops ≡ true → cut_after_match u ≡ (if t then Acts (cut_at (min end (length (whole c))) (rebudgeted_cut change c)) es else Refuses TooLong)) → OutcomeCounts ample change k (if t then Acts (cut_at (min end (length (whole c))) c) es else Refuses TooLong) (cut_after_match u)
     by_test true g = λ l. ((f l).0, g l)
@@ -73,8 +73,8 @@ behind_counts ample change k (Walks c ps end es) u f = by_test (holds (min end (
 
 nested_counts : (act : ℕ → Action) (records : List SequenceLookupRecord) (ps : List ℕ) (end : ℕ) → ((i : ℕ) → RuleCountsBudget (act i)) → RuleCountsBudget (λ c. cut_after_match (each_record act records c ps end))
 nested_counts act records ps end k ample change fair c =
-    behind_counts ample change c.max_ops (each_record act records c ps end) (each_record act records (rebudgeted_cut change c) ps end) (each_counts ample change act records fair (λ i. k i ample change fair) c ps end)
+    after_match_counts ample change c.max_ops (each_record act records c ps end) (each_record act records (rebudgeted_cut change c) ps end) (each_counts ample change act records fair (λ i. k i ample change fair) c ps end)
 
 pub nested_count_budget : NestedCountBudget
-nested_count_budget None records ps end k = λ ample change fair c. behind_counts ample change c.max_ops (Walks c ps end []) (Walks (rebudgeted_cut change c) ps end []) (λ l. (l, refl))
+nested_count_budget None records ps end k = λ ample change fair c. after_match_counts ample change c.max_ops (Walks c ps end []) (Walks (rebudgeted_cut change c) ps end []) (λ l. (l, refl))
 nested_count_budget (Some act) records ps end k = nested_counts act records ps end k

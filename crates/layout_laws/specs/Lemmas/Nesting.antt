@@ -7,7 +7,7 @@ use Rattle.buffer_glyphs.specs.declared.cause.ShapeCause.TheVariants.{TooLong}
 use Rattle.buffer_glyphs.specs.Items.{Item}
 use Rattle.buffer_glyphs.specs.Events.{Event, Break, Replace}
 use Rattle.buffer_core.specs.Readings.{View, Read, Reading, Stage, then_reading, and_then, as_it_is, always, with_events}
-use Rattle.layout_subtables.specs.declared.context.SequenceLookupRecord.{SequenceLookupRecord}
+use Rattle.layout_tables.specs.declared.context.SequenceLookupRecord.{SequenceLookupRecord}
 use Rattle.buffer_stages.specs.Actions.{Cut, whole, view_at, uncut, uncut_with_positions, past_item, Outcome, Passes, Acts, Refuses, Action, within_limit, later, or_else}
 use Rattle.buffer_stages.specs.Pauses.{with_own_random}
 use Rattle.layout_match.specs.Applied.{own_search, next_random}
@@ -26,7 +26,7 @@ use Rattle.layout_laws.specs.Nesting.{IsTaken, TakesWithinBudget, NestsWithinBud
 use Rattle.layout_laws.specs.Lemmas.Rules.{Limits, NestRelated, IsClosed}
 use Rattle.layout_laws.specs.Lemmas.Substitutions.{IsSubstituted, forward_related, backward_related}
 use Rattle.layout_laws.specs.Lemmas.Positionings.{IsPositioned, action_related}
-use Rattle.layout_laws.specs.Lemmas.Ligatures.{passed_between, ligated_cut, ligated_events}
+use Rattle.layout_laws.specs.Lemmas.Ligatures.{items_between_components, ligated_cut, ligated_events}
 use Rattle.layout_laws.specs.Lemmas.Stages.{IsOfStages, AreSubstituting, ArePositioning, substituted_has, positioned_has}
 
 -- ---- numbers
@@ -108,9 +108,9 @@ walk_before : (j k : ℤ) (w : RecordsOutcome) → IsTaken j k → WalkTakes k w
 walk_before j k (Walks c ps end es) p q = taken_in_turn j k c.max_ops p q
 walk_before j k (Stops x) p q = tt
 
-place_takes : (act : ℕ → Action) (r : SequenceLookupRecord) (o : Option ℕ) (c : Cut) (ps : List ℕ) (end : ℕ) → ((i : ℕ) → RuleTakes (act i)) → WalkTakes c.max_ops (outcome_at_index act r o c ps end)
-place_takes act r None c ps end k = nothing_taken c.max_ops
-place_takes act r (Some p) c ps end k = by_tests (nat_lt p (length (whole c))) (has_budget c) refl
+at_index_takes : (act : ℕ → Action) (r : SequenceLookupRecord) (o : Option ℕ) (c : Cut) (ps : List ℕ) (end : ℕ) → ((i : ℕ) → RuleTakes (act i)) → WalkTakes c.max_ops (outcome_at_index act r o c ps end)
+at_index_takes act r None c ps end k = nothing_taken c.max_ops
+at_index_takes act r (Some p) c ps end k = by_tests (nat_lt p (length (whole c))) (has_budget c) refl
   where
     by_tests : (a b : Bool) → is_left c.max_ops ≡ b → WalkTakes c.max_ops (if a && b then nested_outcome_at act r p (with_budget_spent c) ps end else Walks c ps end [])
     by_tests false b e = nothing_taken c.max_ops
@@ -127,11 +127,11 @@ then_walk_takes k (Stops x) next p q = tt
 
 each_takes : (act : ℕ → Action) (records : List SequenceLookupRecord) (c : Cut) (ps : List ℕ) (end : ℕ) → ((i : ℕ) → RuleTakes (act i)) → WalkTakes c.max_ops (each_record act records c ps end)
 each_takes act [] c ps end k = nothing_taken c.max_ops
-each_takes act (r ∷ records) c ps end k = then_walk_takes c.max_ops (one_record act r c ps end) (each_record act records) (place_takes act r (slice_get ps r.sequence_index) c ps end k) (λ d qs to. each_takes act records d qs to k)
+each_takes act (r ∷ records) c ps end k = then_walk_takes c.max_ops (one_record act r c ps end) (each_record act records) (at_index_takes act r (slice_get ps r.sequence_index) c ps end k) (λ d qs to. each_takes act records d qs to k)
 
-behind_takes : (k : ℤ) (w : RecordsOutcome) → WalkTakes k w → OutcomeTakes k (cut_after_match w)
-behind_takes k (Walks c ps end es) p = elim (holds (min end (length (whole c))) c) as (λ t. OutcomeTakes k (if t then Acts (nested_cut (min end (length (whole c))) c) es else Refuses TooLong)) [ true ↦ p | false ↦ tt ]
-behind_takes k (Stops x) p = tt
+after_match_takes : (k : ℤ) (w : RecordsOutcome) → WalkTakes k w → OutcomeTakes k (cut_after_match w)
+after_match_takes k (Walks c ps end es) p = elim (holds (min end (length (whole c))) c) as (λ t. OutcomeTakes k (if t then Acts (nested_cut (min end (length (whole c))) c) es else Refuses TooLong)) [ true ↦ p | false ↦ tt ]
+after_match_takes k (Stops x) p = tt
 
 -- ---- all rules
 
@@ -145,8 +145,8 @@ by_taken = record {
 }
 
 nested_takes : (nest : Option (ℕ → Action)) (records : List SequenceLookupRecord) (ps : List ℕ) (end : ℕ) (c : Cut) → NestRelated by_taken nest → OutcomeTakes c.max_ops (cut_after_match (each_nested nest records c ps end))
-nested_takes None records ps end c k = behind_takes c.max_ops (Walks c ps end []) (nothing_taken c.max_ops)
-nested_takes (Some act) records ps end c k = behind_takes c.max_ops (each_record act records c ps end) (each_takes act records c ps end (λ n d. k n tt d))
+nested_takes None records ps end c k = after_match_takes c.max_ops (Walks c ps end []) (nothing_taken c.max_ops)
+nested_takes (Some act) records ps end c k = after_match_takes c.max_ops (each_record act records c ps end) (each_takes act records c ps end (λ n d. k n tt d))
 
 closed_by_taken : IsClosed by_taken
 closed_by_taken = record {
@@ -173,7 +173,7 @@ substituted_by_taken = record {
   drawn = λ i gdef glyphs c. drawn_takes gdef glyphs c;
   several = λ i gdef glyph next more x c there. limit_takes (length (glyph ∷ next ∷ more)) c.max_ops c (Acts (cut_with_multiple gdef (glyph ∷ next ∷ more) c) (Replace (length c.front) 1 (length (glyph ∷ next ∷ more)) ∷ [])) (nothing_taken c.max_ops);
   none = λ i x c there. nothing_taken c.max_ops;
-  ligature = λ i a glyph end tests x c there found. limit_takes (1 + length (passed_between (input_indices (own_search a c.rest) tests c.rest) c)) c.max_ops c (Acts (ligated_cut a.font.gdef glyph (input_indices (own_search a c.rest) tests c.rest) end c) (ligated_events (input_indices (own_search a c.rest) tests c.rest) end c)) (nothing_taken c.max_ops);
+  ligature = λ i a glyph end tests x c there found. limit_takes (1 + length (items_between_components (input_indices (own_search a c.rest) tests c.rest) c)) c.max_ops c (Acts (ligated_cut a.font.gdef glyph (input_indices (own_search a c.rest) tests c.rest) end c) (ligated_events (input_indices (own_search a c.rest) tests c.rest) end c)) (nothing_taken c.max_ops);
   there = λ i gdef glyph ahead back c. nothing_taken c.max_ops;
 }
 
@@ -247,12 +247,12 @@ same_takes v = read_takes v.max_ops (with_events [] v) (nothing_taken v.max_ops)
 both_take : (s t : Stage) → TakesWithinBudget s → TakesWithinBudget t → TakesWithinBudget (λ v. and_then (s v) t)
 both_take s t p q v = and_then_takes v.max_ops (s v) t (p v) q
 
--- the state of what is drawn is put back
-abbrev restored : ℕ → Stage
-restored n = always (λ w. with_events [] (record w { random = n }))
+-- the stage that puts the random state back
+abbrev restoration : ℕ → Stage
+restoration n = always (λ w. with_events [] (record w { random = n }))
 
 own_takes : (stage : Stage) → TakesWithinBudget stage → TakesWithinBudget (with_own_random stage)
-own_takes stage p v = and_then_takes v.max_ops (stage (record v { random = 1 })) (restored v.random) (p (record v { random = 1 })) (λ w. read_takes w.max_ops (with_events [] (record w { random = v.random })) (nothing_taken w.max_ops))
+own_takes stage p v = and_then_takes v.max_ops (stage (record v { random = 1 })) (restoration v.random) (p (record v { random = 1 })) (λ w. read_takes w.max_ops (with_events [] (record w { random = v.random })) (nothing_taken w.max_ops))
 
 stages_take : IsOfStages TakesWithinBudget RuleTakes
 stages_take = record { same = same_takes; both = both_take; up = up_takes; back = down_takes; over = along_takes; own = own_takes }

@@ -3,9 +3,9 @@ use Rattle.std.proofs.Common.{ℕ, ℤ, ◌≡◌, ◌+◌, ◌-◌, ◌&&◌, B
 use Rattle.buffer_glyphs.specs.Items.{Item}
 use Rattle.buffer_glyphs.specs.Parts.{first_of}
 use Rattle.buffer_glyphs.specs.Events.{Break}
-use Rattle.layout_subtables.specs.declared.context.SequenceLookupRecord.{SequenceLookupRecord}
-use Rattle.layout_subtables.specs.declared.context.ContextSubtable.{ContextSubtable}
-use Rattle.layout_subtables.specs.declared.context.ContextSubtable.TheVariants.{Glyphs, Classes, Coverage}
+use Rattle.layout_tables.specs.declared.context.SequenceLookupRecord.{SequenceLookupRecord}
+use Rattle.layout_tables.specs.declared.context.ContextSubtable.{ContextSubtable}
+use Rattle.layout_tables.specs.declared.context.ContextSubtable.TheVariants.{Glyphs, Classes, Coverage}
 use Rattle.buffer_stages.specs.Actions.{Cut, Outcome, Passes, Action, attempt_around, later, or_else, first_rule, at_first}
 use Rattle.layout_match.specs.Applied.{ApplyContext, own_search, context_search}
 use Rattle.layout_match.specs.Matches.{input_end, input_indices, lookahead_end, backtrack_end}
@@ -14,7 +14,7 @@ use Rattle.layout_match.specs.Trying.{meets, at_met, met_first}
 use Rattle.layout_contexts.specs.Nested.{each_nested, cut_after_match}
 use Rattle.layout_contexts.specs.Chains.{Chain, glyph_chain, class_chain, coverage_chain, begins, nested_lookups, by_backtrack, by_lookahead, by_input, chain_at, chain_rule, class_rules, context_subtable}
 
--- what a rule does at a cut is related to what it does at the same cut with other limits and other scratch flags, in ways told by an index
+-- what a rule does at a cut is related to what it does at the same cut with other limits and other scratch flags, in ways given by an index
 pub record Limits : Type 1 where
   pub Index : Type 0
   pub Holds : Index → Cut → Outcome → Outcome → Type 0
@@ -27,13 +27,13 @@ abbrev pub recut : (w : Limits) → w.Index → Cut → Cut
 recut w i c = record c { max_len = w.limit i c; scratch_flags = w.scratch_flags i c; max_ops = w.budget i c }
 
 -- a rule is related to itself at each cut
-abbrev pub Related : (w : Limits) → w.Index → Action → Type 0
-Related w i act = (c : Cut) → w.Holds i c (act c) (act (recut w i c))
+abbrev pub IsRelated : (w : Limits) → w.Index → Action → Type 0
+IsRelated w i act = (c : Cut) → w.Holds i c (act c) (act (recut w i c))
 
 -- so are the lookups that may be nested in a rule, where some may be, in each way
 abbrev pub NestRelated : Limits → Option (ℕ → Action) → Type 0
 NestRelated w None = Unit {0}
-NestRelated w (Some act) = (n : ℕ) (i : w.Index) → Related w i (act n)
+NestRelated w (Some act) = (n : ℕ) (i : w.Index) → IsRelated w i (act n)
 
 -- a relation is kept by all ways in which rules are put together
 pub record IsClosed (w : Limits) : Type 0 where
@@ -46,7 +46,7 @@ pub record IsClosed (w : Limits) : Type 0 where
 
 -- ---- one of some rules, and rules at an item
 
-pub first_related : (w : Limits) (i : w.Index) → IsClosed w → {R : Type 0} (act : R → Action) (rules : List R) → ((r : R) → Related w i (act r)) → Related w i (first_rule act rules)
+pub first_related : (w : Limits) (i : w.Index) → IsClosed w → {R : Type 0} (act : R → Action) (rules : List R) → ((r : R) → IsRelated w i (act r)) → IsRelated w i (first_rule act rules)
 first_related w i closed act [] k c = closed.passes i c
 first_related w i closed act (r ∷ rules) k c = closed.either i c (act r c) (act r (recut w i c)) (first_rule act rules c) (first_rule act rules (recut w i c)) (k r c) (first_related w i closed act rules k c)
 
@@ -63,31 +63,31 @@ pub test_related : (w : Limits) (i : w.Index) (c : Cut) (test : Bool) (o p q r :
 test_related w i c true o p q r f g = f
 test_related w i c false o p q r f g = g
 
-pub met_related : (w : Limits) (i : w.Index) → IsClosed w → (a : ApplyContext) (act : Action) → Related w i act → Related w i (met_first a act)
+pub met_related : (w : Limits) (i : w.Index) → IsClosed w → (a : ApplyContext) (act : Action) → IsRelated w i act → IsRelated w i (met_first a act)
 met_related w i closed a act k c = item_related w i closed (at_met a act) c (λ x e. test_related w i c (meets a x) (act c) (Passes []) (act (recut w i c)) (Passes []) (k c) (closed.passes i c))
 
 -- ---- contexts
 
-backtrack_related : (w : Limits) (i : w.Index) → IsClosed w → (nest : Option (ℕ → Action)) → NestRelated w nest → (a : ApplyContext) (r : Chain) (end ahead : ℕ) (back : Result ℕ ℕ) → Related w i (by_backtrack nest a r end ahead back)
+backtrack_related : (w : Limits) (i : w.Index) → IsClosed w → (nest : Option (ℕ → Action)) → NestRelated w nest → (a : ApplyContext) (r : Chain) (end ahead : ℕ) (back : Result ℕ ℕ) → IsRelated w i (by_backtrack nest a r end ahead back)
 backtrack_related w i closed nest k a r end ahead (Ok back) c =
     closed.breaks i (length c.front - back) (length c.front + ahead) c (nested_lookups nest a r end c) (nested_lookups nest a r end (recut w i c))
     (closed.nested i nest r.records (map (λ k. k + length c.front) (input_indices (own_search a c.rest) (drop 1 r.input) c.rest)) (length c.front + end) c k)
 backtrack_related w i closed nest k a r end ahead (Err back) c = closed.attempts i back 1 c
 
-lookahead_related : (w : Limits) (i : w.Index) → IsClosed w → (nest : Option (ℕ → Action)) → NestRelated w nest → (a : ApplyContext) (r : Chain) (end : ℕ) (ahead : Result ℕ ℕ) → Related w i (by_lookahead nest a r end ahead)
+lookahead_related : (w : Limits) (i : w.Index) → IsClosed w → (nest : Option (ℕ → Action)) → NestRelated w nest → (a : ApplyContext) (r : Chain) (end : ℕ) (ahead : Result ℕ ℕ) → IsRelated w i (by_lookahead nest a r end ahead)
 lookahead_related w i closed nest k a r end (Ok ahead) c = backtrack_related w i closed nest k a r end ahead (backtrack_end (context_search a c.rest) r.backtrack c.front) c
 lookahead_related w i closed nest k a r end (Err ahead) c = closed.attempts i 0 ahead c
 
-input_related : (w : Limits) (i : w.Index) → IsClosed w → (nest : Option (ℕ → Action)) → NestRelated w nest → (a : ApplyContext) (r : Chain) (end : Result ℕ ℕ) → Related w i (by_input nest a r end)
+input_related : (w : Limits) (i : w.Index) → IsClosed w → (nest : Option (ℕ → Action)) → NestRelated w nest → (a : ApplyContext) (r : Chain) (end : Result ℕ ℕ) → IsRelated w i (by_input nest a r end)
 input_related w i closed nest k a r (Ok end) c = lookahead_related w i closed nest k a r end (lookahead_end (context_search a c.rest) r.lookahead end c.rest) c
 input_related w i closed nest k a r (Err ahead) c = closed.attempts i 0 ahead c
 
-chain_related : (w : Limits) (i : w.Index) → IsClosed w → (nest : Option (ℕ → Action)) → NestRelated w nest → (a : ApplyContext) (r : Chain) → Related w i (chain_rule nest a r)
+chain_related : (w : Limits) (i : w.Index) → IsClosed w → (nest : Option (ℕ → Action)) → NestRelated w nest → (a : ApplyContext) (r : Chain) → IsRelated w i (chain_rule nest a r)
 chain_related w i closed nest k a r c = item_related w i closed (chain_at nest a r) c (λ x e.
     test_related w i c (begins r.input x && nat_le (length r.input) 64) (by_input nest a r (input_end (own_search a c.rest) (drop 1 r.input) c.rest) c) (Passes []) (by_input nest a r (input_end (own_search a c.rest) (drop 1 r.input) c.rest) (recut w i c)) (Passes [])
     (input_related w i closed nest k a r (input_end (own_search a c.rest) (drop 1 r.input) c.rest) c) (closed.passes i c))
 
-pub context_related : (w : Limits) (i : w.Index) → IsClosed w → (nest : Option (ℕ → Action)) → NestRelated w nest → (a : ApplyContext) (s : ContextSubtable) → Related w i (context_subtable nest a s)
+pub context_related : (w : Limits) (i : w.Index) → IsClosed w → (nest : Option (ℕ → Action)) → NestRelated w nest → (a : ApplyContext) (s : ContextSubtable) → IsRelated w i (context_subtable nest a s)
 context_related w i closed nest k a (Glyphs rules) c = first_related w i closed (λ r. chain_rule nest a (glyph_chain r)) rules (λ r. chain_related w i closed nest k a (glyph_chain r)) c
 context_related w i closed nest k a (Classes s) c = item_related w i closed (class_rules nest a s) c (λ x e.
     test_related w i c (is_covered_by s.first x) (first_rule (λ r. chain_rule nest a (class_chain s r)) s.rules c) (Passes []) (first_rule (λ r. chain_rule nest a (class_chain s r)) s.rules (recut w i c)) (Passes [])

@@ -4,8 +4,8 @@ use Rattle.std.specs.Prelude.{slice_get}
 use Rattle.buffer_glyphs.specs.Items.{Item}
 use Rattle.buffer_glyphs.specs.Parts.{first_of}
 use Rattle.buffer_glyphs.specs.Events.{Break}
-use Rattle.layout_subtables.specs.declared.context.SequenceLookupRecord.{SequenceLookupRecord}
-use Rattle.layout_subtables.specs.declared.context.ContextSubtable.TheVariants.{Glyphs, Classes, Coverage}
+use Rattle.layout_tables.specs.declared.context.SequenceLookupRecord.{SequenceLookupRecord}
+use Rattle.layout_tables.specs.declared.context.ContextSubtable.TheVariants.{Glyphs, Classes, Coverage}
 use Rattle.buffer_stages.specs.Actions.{Cut, Outcome, Passes, Action, whole, later, or_else, first_rule, at_first}
 use Rattle.layout_match.specs.Applied.{ApplyContext, own_search, context_search}
 use Rattle.layout_match.specs.Matches.{input_end, input_indices, lookahead_end, backtrack_end}
@@ -14,9 +14,9 @@ use Rattle.layout_contexts.specs.Nested.{RecordsOutcome, Walks, has_budget, with
 use Rattle.layout_contexts.specs.Chains.{Chain, glyph_chain, class_chain, coverage_chain, begins, by_backtrack, by_lookahead, by_input, chain_at, chain_rule, class_rules}
 use Rattle.layout_laws.specs.Nesting.{NothingNestsWithoutBudget}
 
-place_is : (act : ℕ → Action) (r : SequenceLookupRecord) (o : Option ℕ) (c : Cut) (ps : List ℕ) (end : ℕ) → has_budget c ≡ false → outcome_at_index act r o c ps end ≡ Walks c ps end []
-place_is act r None c ps end e = refl
-place_is act r (Some p) c ps end e = by_tests (nat_lt p (length (whole c))) (has_budget c) e
+at_index_is : (act : ℕ → Action) (r : SequenceLookupRecord) (o : Option ℕ) (c : Cut) (ps : List ℕ) (end : ℕ) → has_budget c ≡ false → outcome_at_index act r o c ps end ≡ Walks c ps end []
+at_index_is act r None c ps end e = refl
+at_index_is act r (Some p) c ps end e = by_tests (nat_lt p (length (whole c))) (has_budget c) e
   where
     by_tests : (a b : Bool) → b ≡ false → ◌≡◌ {A = RecordsOutcome} (if a && b then nested_outcome_at act r p (with_budget_spent c) ps end else Walks c ps end []) (Walks c ps end [])
     by_tests false b f = refl
@@ -26,7 +26,7 @@ place_is act r (Some p) c ps end e = by_tests (nat_lt p (length (whole c))) (has
 each_is : (act : ℕ → Action) (records : List SequenceLookupRecord) (c : Cut) (ps : List ℕ) (end : ℕ) → has_budget c ≡ false → each_record act records c ps end ≡ Walks c ps end []
 each_is act [] c ps end e = refl
 each_is act (r ∷ records) c ps end e =
-    ap (λ (w : RecordsOutcome). then_walk w (each_record act records)) (place_is act r (slice_get ps r.sequence_index) c ps end e)
+    ap (λ (w : RecordsOutcome). then_walk w (each_record act records)) (at_index_is act r (slice_get ps r.sequence_index) c ps end e)
     ∙ ap (λ (w : RecordsOutcome). then_walk (Walks c ps end []) (λ d qs to. w)) (each_is act records c ps end e)
 
 nested_is : (nest : Option (ℕ → Action)) (records : List SequenceLookupRecord) (c : Cut) (ps : List ℕ) (end : ℕ) → has_budget c ≡ false → each_nested nest records c ps end ≡ each_nested None records c ps end

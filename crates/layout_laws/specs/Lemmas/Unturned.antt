@@ -11,7 +11,7 @@ use Rattle.buffer_parts.specs.Turns.{IsUnturned}
 use Rattle.buffer_parts.specs.Lemmas.Turns.{unturned_in_turn}
 use Rattle.buffer_core.specs.Readings.{View, Read, Reading, Stage, then_reading, and_then, always, with_events}
 use Rattle.layout_face.specs.declared.parts.GlyphDefinition.{GlyphDefinition}
-use Rattle.layout_subtables.specs.declared.context.SequenceLookupRecord.{SequenceLookupRecord}
+use Rattle.layout_tables.specs.declared.context.SequenceLookupRecord.{SequenceLookupRecord}
 use Rattle.buffer_stages.specs.Actions.{Cut, whole, view_at, uncut, uncut_with_positions, past_item, Outcome, Passes, Acts, Refuses, Action, within_limit, later, or_else}
 use Rattle.buffer_stages.specs.Pauses.{with_own_random}
 use Rattle.layout_match.specs.Applied.{own_search, next_random}
@@ -29,7 +29,7 @@ use Rattle.buffer_stage_laws.specs.Lemmas.Stages.{at_read, both_read, same_untur
 use Rattle.layout_laws.specs.Lemmas.Rules.{Limits, NestRelated, IsClosed}
 use Rattle.layout_laws.specs.Lemmas.Substitutions.{IsSubstituted, forward_related, backward_related}
 use Rattle.layout_laws.specs.Lemmas.Positionings.{IsPositioned, action_related}
-use Rattle.layout_laws.specs.Lemmas.Ligatures.{passed_between, ligated_cut, ligated_events}
+use Rattle.layout_laws.specs.Lemmas.Ligatures.{items_between_components, ligated_cut, ligated_events}
 use Rattle.layout_laws.specs.Lemmas.Stages.{IsOfStages, AreSubstituting, ArePositioning, substituted_has, positioned_has}
 use Rattle.layout_laws.specs.Parts.{SubstitutionStaysUnturned, PositioningStaysUnturned}
 
@@ -74,9 +74,9 @@ at_unturned act r p c ps end k = elim (holds p c) as (λ t. WalkUnturned (if t t
   | false ↦ tt
 ]
 
-place_unturned : (act : ℕ → Action) (r : SequenceLookupRecord) (o : Option ℕ) (c : Cut) (ps : List ℕ) (end : ℕ) → ((i : ℕ) → RuleUnturned (act i)) → WalkUnturned (outcome_at_index act r o c ps end)
-place_unturned act r None c ps end k = tt
-place_unturned act r (Some p) c ps end k = elim (nat_lt p (length (whole c)) && has_budget c) as (λ t. WalkUnturned (if t then nested_outcome_at act r p (with_budget_spent c) ps end else Walks c ps end [])) [ true ↦ at_unturned act r p (with_budget_spent c) ps end k | false ↦ tt ]
+at_index_unturned : (act : ℕ → Action) (r : SequenceLookupRecord) (o : Option ℕ) (c : Cut) (ps : List ℕ) (end : ℕ) → ((i : ℕ) → RuleUnturned (act i)) → WalkUnturned (outcome_at_index act r o c ps end)
+at_index_unturned act r None c ps end k = tt
+at_index_unturned act r (Some p) c ps end k = elim (nat_lt p (length (whole c)) && has_budget c) as (λ t. WalkUnturned (if t then nested_outcome_at act r p (with_budget_spent c) ps end else Walks c ps end [])) [ true ↦ at_unturned act r p (with_budget_spent c) ps end k | false ↦ tt ]
 
 later_walk_unturned : (es : List Event) (w : RecordsOutcome) → IsUnturned es → WalkUnturned w → WalkUnturned (walked_later es w)
 later_walk_unturned es (Walks c ps end fs) p q = unturned_in_turn es fs p q
@@ -88,11 +88,11 @@ then_walk_unturned (Stops x) next p q = tt
 
 each_unturned : (act : ℕ → Action) (records : List SequenceLookupRecord) → ((i : ℕ) → RuleUnturned (act i)) → (c : Cut) (ps : List ℕ) (end : ℕ) → WalkUnturned (each_record act records c ps end)
 each_unturned act [] k c ps end = tt
-each_unturned act (r ∷ records) k c ps end = then_walk_unturned (one_record act r c ps end) (each_record act records) (place_unturned act r (slice_get ps r.sequence_index) c ps end k) (each_unturned act records k)
+each_unturned act (r ∷ records) k c ps end = then_walk_unturned (one_record act r c ps end) (each_record act records) (at_index_unturned act r (slice_get ps r.sequence_index) c ps end k) (each_unturned act records k)
 
-behind_unturned : (w : RecordsOutcome) → WalkUnturned w → OutcomeUnturned (cut_after_match w)
-behind_unturned (Walks c ps end es) p = elim (holds (min end (length (whole c))) c) as (λ t. OutcomeUnturned (if t then Acts (nested_cut (min end (length (whole c))) c) es else Refuses TooLong)) [ true ↦ p | false ↦ tt ]
-behind_unturned (Stops x) p = tt
+after_match_unturned : (w : RecordsOutcome) → WalkUnturned w → OutcomeUnturned (cut_after_match w)
+after_match_unturned (Walks c ps end es) p = elim (holds (min end (length (whole c))) c) as (λ t. OutcomeUnturned (if t then Acts (nested_cut (min end (length (whole c))) c) es else Refuses TooLong)) [ true ↦ p | false ↦ tt ]
+after_match_unturned (Stops x) p = tt
 
 -- ---- all rules
 
@@ -107,8 +107,8 @@ by_turns = record {
 }
 
 nested_unturned : (nest : Option (ℕ → Action)) (records : List SequenceLookupRecord) (ps : List ℕ) (end : ℕ) (c : Cut) → NestRelated by_turns nest → OutcomeUnturned (cut_after_match (each_nested nest records c ps end))
-nested_unturned None records ps end c k = behind_unturned (Walks c ps end []) tt
-nested_unturned (Some act) records ps end c k = behind_unturned (each_record act records c ps end) (each_unturned act records (λ n d. k n tt d) c ps end)
+nested_unturned None records ps end c k = after_match_unturned (Walks c ps end []) tt
+nested_unturned (Some act) records ps end c k = after_match_unturned (each_record act records c ps end) (each_unturned act records (λ n d. k n tt d) c ps end)
 
 closed_by_turns : IsClosed by_turns
 closed_by_turns = record {
@@ -128,9 +128,9 @@ drawn_unturned gdef glyphs c =
     let o : Option ℕ = slice_get glyphs (next_random c.random % length glyphs) in
     later_unturned (Break 0 (length (whole c)) ∷ []) (single_substitution gdef o (record c { random = next_random c.random })) tt (one_unturned gdef o (record c { random = next_random c.random }))
 
-gone_unturned : (at n : ℕ) (places : List ℕ) → IsUnturned (component_deletions at n places)
-gone_unturned at n [] = tt
-gone_unturned at n (i ∷ places) = gone_unturned at (n + 1) places
+component_deletions_unturned : (at n : ℕ) (places : List ℕ) → IsUnturned (component_deletions at n places)
+component_deletions_unturned at n [] = tt
+component_deletions_unturned at n (i ∷ places) = component_deletions_unturned at (n + 1) places
 
 substituted_by_turns : IsSubstituted by_turns
 substituted_by_turns = record {
@@ -139,7 +139,7 @@ substituted_by_turns = record {
   drawn = λ i gdef glyphs c. drawn_unturned gdef glyphs c;
   several = λ i gdef glyph next more x c there. limit_unturned (length (glyph ∷ next ∷ more)) c (Acts (cut_with_multiple gdef (glyph ∷ next ∷ more) c) (Replace (length c.front) 1 (length (glyph ∷ next ∷ more)) ∷ [])) tt;
   none = λ i x c there. tt;
-  ligature = λ i a glyph end tests x c there found. limit_unturned (1 + length (passed_between (input_indices (own_search a c.rest) tests c.rest) c)) c (Acts (ligated_cut a.font.gdef glyph (input_indices (own_search a c.rest) tests c.rest) end c) (ligated_events (input_indices (own_search a c.rest) tests c.rest) end c)) (gone_unturned (length c.front) 0 (drop 1 (input_indices (own_search a c.rest) tests c.rest)));
+  ligature = λ i a glyph end tests x c there found. limit_unturned (1 + length (items_between_components (input_indices (own_search a c.rest) tests c.rest) c)) c (Acts (ligated_cut a.font.gdef glyph (input_indices (own_search a c.rest) tests c.rest) end c) (ligated_events (input_indices (own_search a c.rest) tests c.rest) end c)) (component_deletions_unturned (length c.front) 0 (drop 1 (input_indices (own_search a c.rest) tests c.rest)));
   there = λ i gdef glyph ahead back c. tt;
 }
 
@@ -210,12 +210,12 @@ down_unturned act p v = back_unturned act v (length v.items) p (uncut_with_posit
 along_unturned : (act : Direction → Action) → ((d : Direction) → RuleUnturned (act d)) → StaysUnturned (λ v. positioning_pass (act v.direction) v)
 along_unturned act p v = tried_unturned (act v.direction) v (length v.items) (p v.direction) (uncut_with_positions v)
 
--- the state of what is drawn is put back
-abbrev restored : ℕ → Stage
-restored n = always (λ w. with_events [] (record w { random = n }))
+-- the stage that puts the random state back
+abbrev restoration : ℕ → Stage
+restoration n = always (λ w. with_events [] (record w { random = n }))
 
 own_unturned : (stage : Stage) → StaysUnturned stage → StaysUnturned (with_own_random stage)
-own_unturned stage p v = and_then_unturned (stage (record v { random = 1 })) (restored v.random) (p (record v { random = 1 })) (λ w. read_unturned [] (record w { random = v.random }) tt)
+own_unturned stage p v = and_then_unturned (stage (record v { random = 1 })) (restoration v.random) (p (record v { random = 1 })) (λ w. read_unturned [] (record w { random = v.random }) tt)
 
 stages_unturned : IsOfStages StaysUnturned RuleUnturned
 stages_unturned = record { same = same_unturned; both = stages_stay_unturned; up = up_unturned; back = down_unturned; over = along_unturned; own = own_unturned }

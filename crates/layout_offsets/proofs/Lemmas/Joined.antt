@@ -4,7 +4,7 @@ use Rattle.std.proofs.lemmas.List.{length-set}
 use Rattle.buffer_glyphs.specs.Items.{Position}
 use Rattle.buffer_common.specs.declared.direction.Direction.{Direction}
 use Rattle.buffer_common.specs.Direction.{is_forward, is_horizontal}
-use Rattle.layout_subtables.specs.declared.value.Anchor.{Anchor}
+use Rattle.layout_tables.specs.declared.value.Anchor.{Anchor}
 use Rattle.layout_offsets.specs.Links.{parent, position_at, is_near}
 use Rattle.layout_offsets.specs.Cursive.{with_cursive_attached, with_parent_freed, freed_position, is_child_of, cursive_attachment, joined_advances, with_child_attached, with_cursive_offset, chain_turned}
 use Rattle.layout_offsets.proofs.Lemmas.Turned.{turned_length}

@@ -88,7 +88,7 @@ marks_arranged UNIVERSAL_SHAPER run = steady_arranged run (eventless_arrangement
 
 masks_kept : (shaper : hb_ot_script_shaper_t) (m : OtMapValue) (s : Option Script) (t : Tables) (settings : TextSettings) → KeepsPlainly (masks_set_by shaper m s t settings)
 masks_kept ARABIC_SHAPER m s t settings = masks_keep_plainly.joined (joining_masks m) s t settings.pre_context settings.post_context
-masks_kept HANGUL_SHAPER m s t settings = masks_keep_plainly.places (jamo_masks m)
+masks_kept HANGUL_SHAPER m s t settings = masks_keep_plainly.letters (jamo_masks m)
 masks_kept KHMER_SHAPER m s t settings = masks_keep_plainly.categories (ot_category_of t)
 masks_kept MYANMAR_SHAPER m s t settings = masks_keep_plainly.categories (ot_category_of t)
 masks_kept UNIVERSAL_SHAPER m s t settings = masks_keep_plainly.universal m s t settings.pre_context settings.post_context

@@ -9,7 +9,7 @@ use Rattle.script_categories.specs.Shapers.{is_reordered}
 use Rattle.buffer_glyphs.specs.Items.{Item}
 use Rattle.buffer_glyphs.specs.Rewriting.{Arrangement, eventless_arrangement, and_arranged}
 use Rattle.buffer_stages.specs.Rewriting.{within}
-use Rattle.buffer_stages.specs.Ordering.{groups_reversed, sorted_by_place}
+use Rattle.buffer_stages.specs.Ordering.{groups_reversed, auxiliary_order}
 use Rattle.buffer_stages.specs.Parts.{item_with_features}
 use Rattle.buffer_stages.specs.SyllableLaws.{IsPermuted, numbers_of}
 use Rattle.buffer_stages.specs.Lemmas.Numbers.{same_numbers, then_permutes, within_permutes}
@@ -130,11 +130,11 @@ masks_numbers m pair xs =
 reordered_permutes : (mode : RephMode) (m : IndicMasks) (forms : Forms) (xs : List Item) → IsPermuted xs (initial_reordered mode m forms xs)
 reordered_permutes mode m forms xs =
     let placed = eventless_arrangement (all_placed (reph_and_base mode forms xs) xs) in
-    let sorted = and_arranged placed sorted_by_place in
+    let sorted = and_arranged placed auxiliary_order in
     let turned = and_arranged sorted matras_reversed in
     let marked : List Item → Arrangement = λ ys. eventless_arrangement (masks_set m (pref_pair forms ys) ys) in
     then_permutes xs turned marked
-    (then_permutes xs sorted matras_reversed (then_permutes xs placed sorted_by_place (same_numbers xs placed (placed_numbers (reph_and_base mode forms xs) xs)) (sorted_permutes placed.items)) (matras_permute sorted.items))
+    (then_permutes xs sorted matras_reversed (then_permutes xs placed auxiliary_order (same_numbers xs placed (placed_numbers (reph_and_base mode forms xs) xs)) (sorted_permutes placed.items)) (matras_permute sorted.items))
     (same_numbers turned.items (marked turned.items) (masks_numbers m (pref_pair forms turned.items) turned.items))
 
 -- a rule that permutes each list does so where only some kinds are reordered

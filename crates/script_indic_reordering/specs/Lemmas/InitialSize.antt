@@ -9,7 +9,7 @@ use Rattle.script_categories.specs.Shapers.{is_reordered}
 use Rattle.buffer_glyphs.specs.Items.{Item}
 use Rattle.buffer_glyphs.specs.Rewriting.{Arrangement, eventless_arrangement, and_arranged}
 use Rattle.buffer_stages.specs.Rewriting.{within}
-use Rattle.buffer_stages.specs.Ordering.{groups_reversed, sorted_by_place}
+use Rattle.buffer_stages.specs.Ordering.{groups_reversed, auxiliary_order}
 use Rattle.buffer_stages.specs.Parts.{item_with_features}
 use Rattle.buffer_stages.specs.Lemmas.Parts.{within_size}
 use Rattle.buffer_stages.specs.Lemmas.Rewritings.{whole_cut}
@@ -121,7 +121,7 @@ masks_set_size m pair xs =
 pub reordered_size : (mode : RephMode) (m : IndicMasks) (forms : Forms) (xs : List Item) → length (initial_reordered mode m forms xs).items ≡ length xs
 reordered_size mode m forms xs =
     let placed = all_placed (reph_and_base mode forms xs) xs in
-    let sorted = (sorted_by_place placed).items in
+    let sorted = (auxiliary_order placed).items in
     let turned = (matras_reversed sorted).items in
     masks_set_size m (pref_pair forms turned) turned ∙ matras_size sorted ∙ sorted_size placed ∙ all_placed_size (reph_and_base mode forms xs) xs
 

@@ -8,7 +8,7 @@ use Rattle.std.proofs.lemmas.List.{append-nil, drop_all, length-append, length-d
 use Rattle.std.proofs.lemmas.List.FromFn.{length-range_with_len}
 use Rattle.buffer_glyphs.specs.declared.info.hb_glyph_info_t.{hb_glyph_info_t}
 use Rattle.buffer_glyphs.specs.Items.{Item, item_of, strip}
-use Rattle.buffer_groups.specs.Lemmas.Picked.{AreAt, are_all}
+use Rattle.buffer_lists.specs.Lemmas.Picked.{AreAt, are_all}
 use Rattle.buffer_stages.specs.Fronts.{fronts, with_fronts_moved, one_seen, pair_seen, elements_after_fronts}
 use Rattle.buffer_stages.specs.Moves.{with_range_moved}
 use Rattle.script_indic_reordering.specs.Glyphs.{is_left}

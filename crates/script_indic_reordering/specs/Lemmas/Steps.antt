@@ -13,7 +13,7 @@ use Rattle.buffer_core.specs.Sides.{Sides, all_glyphs, items_of}
 use Rattle.buffer_stages.specs.Ready.{IsReady}
 use Rattle.buffer_glyphs.specs.Rewriting.{Arrangement, eventless_arrangement, and_arranged}
 use Rattle.buffer_stages.specs.Rewriting.{within}
-use Rattle.buffer_stages.specs.Ordering.{groups_reversed, sorted_by_place}
+use Rattle.buffer_stages.specs.Ordering.{groups_reversed, auxiliary_order}
 use Rattle.buffer_stages.specs.SyllableBuffers.{IsRewritten}
 use Rattle.buffer_stages.proofs.Lemmas.Counts.{rewritten_even}
 use Rattle.buffer_stages.specs.Lemmas.Rewritings.{counted, rewritten_next, rewritten_same}
@@ -121,7 +121,7 @@ two_known start end n k gs b t a e le at f g h =
 
 pub syllable_does : (mode : RephMode) (m : IndicMasks) (forms : Forms) (start end : ℕ) (a b c d e : Sides) → start ≤ end → end ≤ length (all_glyphs a)
     → IsRewritten (eventless_arrangement (all_placed (reph_and_base mode forms (slice_range (items_of a) start end)) (slice_range (items_of a) start end))) start end a b
-    → IsRewritten (sorted_by_place (slice_range (items_of b) start end)) start end b c → IsRewritten (matras_reversed (slice_range (items_of c) start end)) start end c d
+    → IsRewritten (auxiliary_order (slice_range (items_of b) start end)) start end b c → IsRewritten (matras_reversed (slice_range (items_of c) start end)) start end c d
     → IsRewritten (eventless_arrangement (masks_set m (pref_pair forms (slice_range (items_of d) start end)) (slice_range (items_of d) start end))) start end d e
     → IsRewritten (initial_reordered mode m forms (slice_range (items_of a) start end)) start end a e
 syllable_does mode m forms start end a b c d e le fits f g h k =
@@ -130,12 +130,12 @@ syllable_does mode m forms start end a b c d e le fits f g h k =
     let size : length xs ≡ end - start = range_size start end (items_of a) le inside in
     let placed = eventless_arrangement (all_placed (reph_and_base mode forms xs) xs) in
     let one : length placed.items ≡ end - start = all_placed_size (reph_and_base mode forms xs) xs ∙ size in
-    let sorted = and_arranged placed sorted_by_place in
+    let sorted = and_arranged placed auxiliary_order in
     let two : length sorted.items ≡ end - start = sorted_size placed.items ∙ one in
     let turned = and_arranged sorted matras_reversed in
     let three : length turned.items ≡ end - start = matras_size sorted.items ∙ two in
     rewritten_next turned (λ ys. eventless_arrangement (masks_set m (pref_pair forms ys) ys)) start end a d e le inside three
-    (rewritten_next sorted matras_reversed start end a c d le inside two (rewritten_next placed sorted_by_place start end a b c le inside one f g) h) k
+    (rewritten_next sorted matras_reversed start end a c d le inside two (rewritten_next placed auxiliary_order start end a b c le inside one f g) h) k
 
 -- as many glyphs stay
 pub placed_even : (f : List Item → RephAndBase) (start end : ℕ) (a b : Sides) → start ≤ end → end ≤ length (all_glyphs a) → IsRewritten (eventless_arrangement (all_placed (f (slice_range (items_of a) start end)) (slice_range (items_of a) start end))) start end a b → length (all_glyphs b) ≡ length (all_glyphs a)
@@ -143,8 +143,8 @@ placed_even f start end a b le fits h =
     let xs = slice_range (items_of a) start end in
     rewritten_even (eventless_arrangement (all_placed (f xs) xs)) start end a b le fits (all_placed_size (f xs) xs) h
 
-pub sorted_even : (start end : ℕ) (a b : Sides) → start ≤ end → end ≤ length (all_glyphs a) → IsRewritten (sorted_by_place (slice_range (items_of a) start end)) start end a b → length (all_glyphs b) ≡ length (all_glyphs a)
-sorted_even start end a b le fits h = rewritten_even (sorted_by_place (slice_range (items_of a) start end)) start end a b le fits (sorted_size (slice_range (items_of a) start end)) h
+pub sorted_even : (start end : ℕ) (a b : Sides) → start ≤ end → end ≤ length (all_glyphs a) → IsRewritten (auxiliary_order (slice_range (items_of a) start end)) start end a b → length (all_glyphs b) ≡ length (all_glyphs a)
+sorted_even start end a b le fits h = rewritten_even (auxiliary_order (slice_range (items_of a) start end)) start end a b le fits (sorted_size (slice_range (items_of a) start end)) h
 
 pub matras_even : (start end : ℕ) (a b : Sides) → start ≤ end → end ≤ length (all_glyphs a) → IsRewritten (matras_reversed (slice_range (items_of a) start end)) start end a b → length (all_glyphs b) ≡ length (all_glyphs a)
 matras_even start end a b le fits h = rewritten_even (matras_reversed (slice_range (items_of a) start end)) start end a b le fits (matras_size (slice_range (items_of a) start end)) h

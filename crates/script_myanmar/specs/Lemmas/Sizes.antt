@@ -1,4 +1,4 @@
--- How many places there are.
+-- A syllable has as many positions as categories.
 use Rattle.std.proofs.Common.{ℕ, suc, ◌≡◌, ◌≤◌, ◌==◌, ◌&&◌, Bool, true, false, if◌then◌else◌, List, [], ◌∷◌, length, drop, refl, ap, ◌∙◌, arith}
 use Rattle.std.specs.Prelude.{not, replicate}
 use Rattle.std.specs.List.{list_any, position_or_len}
@@ -37,6 +37,6 @@ pub based_size : (cs : List ℕ) → length (positions_by_base cs) ≡ length cs
 based_size cs = length-append (replicate (base_of cs) position.POS_PRE_C) (from_base (drop (base_of cs) cs))
     ∙ omega (arith, length-replicate (base_of cs) position.POS_PRE_C, from_base_size (drop (base_of cs) cs), length-drop (base_of cs) cs, base_within cs)
 
-pub places_size : (cs : List ℕ) → length (myanmar_positions cs) ≡ length cs
-places_size cs = length-append (replicate (kinzi cs) position.POS_AFTER_MAIN) (positions_by_base (drop (kinzi cs) cs))
+pub positions_size : (cs : List ℕ) → length (myanmar_positions cs) ≡ length cs
+positions_size cs = length-append (replicate (kinzi cs) position.POS_AFTER_MAIN) (positions_by_base (drop (kinzi cs) cs))
     ∙ omega (arith, length-replicate (kinzi cs) position.POS_AFTER_MAIN, based_size (drop (kinzi cs) cs), length-drop (kinzi cs) cs, kinzi_within cs)

@@ -1,27 +1,11 @@
 -- Arrangements of a run of marks that keep the parts of a text.
-use Rattle.std.proofs.Common.{ℕ, List, [], ◌∷◌, map}
+use Rattle.std.proofs.Common.{List, map}
 use Rattle.buffer_glyphs.specs.Items.{Item}
-use Rattle.buffer_glyphs.specs.Events.{Event, Merge, Replace, Circle, Delete, Move, Arrange, Sort, Reverse, Break, Concat, Tatweel, Spread, Reset}
 use Rattle.buffer_parts.specs.Plainly.{AreSteady}
 use Rattle.buffer_parts.specs.Lemmas.Plainly.{steady_count, steady_giving, steady_plain, steady_unturned}
 use Rattle.buffer_glyphs.specs.Rewriting.{Arrangement, shifted_event}
+use Rattle.buffer_stage_laws.specs.Lemmas.Steady.{shifted_steady}
 use Rattle.script_plan.specs.Rules.{IsArrangedInLine}
-
-shifted_steady : (n : ℕ) (es : List Event) → AreSteady es → AreSteady (map (shifted_event n) es)
-shifted_steady n [] p = tt
-shifted_steady n (Replace at taken given ∷ es) p = absurd p
-shifted_steady n (Circle after beside like ∷ es) p = absurd p
-shifted_steady n (Delete at ∷ es) p = absurd p
-shifted_steady n (Arrange from order ∷ es) p = absurd p
-shifted_steady n (Reverse ∷ es) p = absurd p
-shifted_steady n (Merge how from to ∷ es) p = shifted_steady n es p
-shifted_steady n (Move how from order ∷ es) p = shifted_steady n es p
-shifted_steady n (Sort from order ∷ es) p = (p.0, shifted_steady n es p.1)
-shifted_steady n (Break from to ∷ es) p = shifted_steady n es p
-shifted_steady n (Concat from to ∷ es) p = shifted_steady n es p
-shifted_steady n (Tatweel from to ∷ es) p = shifted_steady n es p
-shifted_steady n (Spread ∷ es) p = shifted_steady n es p
-shifted_steady n (Reset ∷ es) p = shifted_steady n es p
 
 -- events that leave as many glyphs as there were
 pub steady_arranged : (run : List Item) (a : Arrangement) → AreSteady a.events → IsArrangedInLine run a

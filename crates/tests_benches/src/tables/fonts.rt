@@ -1,5 +1,5 @@
 //! Look-ups in the tables of a large font: a glyph's record, its class, and whether it is in a set of glyphs.
-use super::{COUNT, tell};
+use super::{COUNT, print_time};
 use buffer_rows::{SortedRows, is_rising};
 use layout_common::class_definition::ClassDefinition;
 use layout_common::coverage::Coverage;
@@ -60,19 +60,19 @@ fn glyphs_covered(coverage: &Coverage, glyphs: &[u16]) -> usize {
         .count()
 }
 
-fn tell_coverage(rt: &HostRuntime, coverage: &Coverage, glyphs: &[u16]) -> io::Result<()> {
+fn time_coverage(rt: &HostRuntime, coverage: &Coverage, glyphs: &[u16]) -> io::Result<()> {
     let start = Instant::now(rt)?;
     let found = glyphs_covered(coverage, glyphs);
-    tell(rt, "coverage", start, found)
+    print_time(rt, "coverage", start, found)
 }
 
-fn tell_classes(rt: &HostRuntime, classes: &ClassDefinition, glyphs: &[u16]) -> io::Result<()> {
+fn time_classes(rt: &HostRuntime, classes: &ClassDefinition, glyphs: &[u16]) -> io::Result<()> {
     let start = Instant::now(rt)?;
     let found = rows_found(&classes.rows, glyphs);
-    tell(rt, "glyph row", start, found)?;
+    print_time(rt, "glyph row", start, found)?;
     let start = Instant::now(rt)?;
     let found = classes_found(classes, glyphs);
-    tell(rt, "class", start, found)
+    print_time(rt, "class", start, found)
 }
 
 /// Performs a million look-ups of each kind.
@@ -83,7 +83,7 @@ pub(crate) fn ask_font(rt: &HostRuntime) -> io::Result<()> {
         return Ok(());
     }
     let rows = SortedRows::new(rows);
-    tell_classes(rt, &ClassDefinition { rows }, &glyphs)?;
+    time_classes(rt, &ClassDefinition { rows }, &glyphs)?;
     let coverage = Coverage::new(covered_glyphs(rt.alloc())?);
-    tell_coverage(rt, &coverage, &glyphs)
+    time_coverage(rt, &coverage, &glyphs)
 }

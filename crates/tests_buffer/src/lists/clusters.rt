@@ -9,15 +9,15 @@ use std::test::Fail;
 
 /// The row has the level, the start and the end of the range, whether a glyph is flagged, and the glyphs before and
 /// after: whether a merge, given the order or not, leaves the expected glyphs.
-pub fn merges(alloc: Global, row: &str, tell: bool) -> Result<bool, AllocError> {
+pub fn merges(alloc: Global, row: &str, has_known_order: bool) -> Result<bool, AllocError> {
     let mut glyphs = glyphs_of(alloc, part(row, 4))?;
     let seen = stand_in_order(&glyphs);
     let (start, end) = (size(row, 1), size(row, 2));
     if end < start || glyphs.len() < end || !seen {
         return Ok(false);
     }
-    let told = tell && seen;
-    let marked = merge_range(&mut glyphs, level_of(row), start, end, told);
+    let known = has_known_order && seen;
+    let marked = merge_range(&mut glyphs, level_of(row), start, end, known);
     Ok(marked == is_so(row, 3) && are(&glyphs, part(row, 5)))
 }
 

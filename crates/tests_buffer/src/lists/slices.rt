@@ -7,17 +7,17 @@ use crate::parts::part;
 use buffer_glyphs::flags::UnicodeProps;
 use buffer_glyphs::info::hb_glyph_info_t;
 use buffer_glyphs::level::BufferClusterLevel;
-use buffer_groups::deletion::delete_within;
-use buffer_groups::flags::{AskedFlags, propagate_flags};
-use buffer_groups::groups::{group_end, next_cluster, next_grapheme, next_syllable};
-use buffer_groups::reversal::reverse_groups;
-use buffer_groups::sorting::sort;
+use buffer_lists::deletion_within::delete_within;
+use buffer_lists::flags::{AskedFlags, propagate_flags};
+use buffer_lists::groups::{group_end, next_cluster, next_grapheme, next_syllable};
+use buffer_lists::reversal::reverse_groups;
+use buffer_lists::sorting::sort;
 use std::alloc::{AllocError, Global};
 
 /// The row has the level, the end of the range that is sorted, whether the clusters are in order, whether a glyph is
 /// flagged and whether the clusters are in order afterwards, the glyphs, and the expected result: whether a sort by
 /// number, given the order or not, leaves it.
-pub fn sorts(alloc: Global, row: &str, tell: bool) -> Result<bool, AllocError> {
+pub fn sorts(alloc: Global, row: &str, has_known_order: bool) -> Result<bool, AllocError> {
     let mut glyphs = glyphs_of(alloc, part(row, 5))?;
     let seen = stand_in_order(&glyphs);
     let end = size(row, 1);
@@ -26,7 +26,15 @@ pub fn sorts(alloc: Global, row: &str, tell: bool) -> Result<bool, AllocError> {
     }
     let (marked, in_order) = (is_so(row, 3), is_so(row, 4));
     let key = |info: &hb_glyph_info_t| info.glyph_id;
-    let sorted = sort(alloc, &mut glyphs, level_of(row), tell && seen, 0, end, key)?;
+    let sorted = sort(
+        alloc,
+        &mut glyphs,
+        level_of(row),
+        has_known_order && seen,
+        0,
+        end,
+        key,
+    )?;
     Ok(are(&glyphs, part(row, 6)) && sorted.marked == marked && sorted.in_order == in_order)
 }
 
@@ -34,14 +42,14 @@ pub fn sorts(alloc: Global, row: &str, tell: bool) -> Result<bool, AllocError> {
 /// merged, whether the clusters are in order, the glyphs, the expected result, and the advances, after the call, of
 /// positions that had 10, 20, 30 and so on: whether a reversal of groups, given the order or not, leaves the result and
 /// flags no glyph.
-pub fn turns(alloc: Global, row: &str, tell: bool) -> Result<bool, AllocError> {
+pub fn turns(alloc: Global, row: &str, has_known_order: bool) -> Result<bool, AllocError> {
     let mut glyphs = glyphs_of(alloc, part(row, 5))?;
     let mut positions = positions_of(alloc, glyphs.len())?;
     let seen = stand_in_order(&glyphs);
     if positions.len() != glyphs.len() || seen != is_so(row, 4) {
         return Ok(false);
     }
-    let told = tell && seen;
+    let known = has_known_order && seen;
     let (by_number, by_cluster) = (is_so(row, 1), is_so(row, 2));
     let group = |before: &hb_glyph_info_t, after: &hb_glyph_info_t| {
         (by_number && before.glyph_id == after.glyph_id)
@@ -52,7 +60,7 @@ pub fn turns(alloc: Global, row: &str, tell: bool) -> Result<bool, AllocError> {
         &mut glyphs,
         &mut positions,
         level_of(row),
-        told,
+        known,
         merge,
         group,
     );
@@ -61,17 +69,17 @@ pub fn turns(alloc: Global, row: &str, tell: bool) -> Result<bool, AllocError> {
 
 /// The row has the glyphs before and after, and the advances after: whether a deletion of the glyphs with number 0,
 /// given the order or not, leaves the expected result.
-pub fn deletes(alloc: Global, row: &str, tell: bool) -> Result<bool, AllocError> {
+pub fn deletes(alloc: Global, row: &str, has_known_order: bool) -> Result<bool, AllocError> {
     let mut glyphs = glyphs_of(alloc, part(row, 0))?;
     let mut positions = positions_of(alloc, glyphs.len())?;
     let seen = stand_in_order(&glyphs);
     if positions.len() != glyphs.len() || !seen {
         return Ok(false);
     }
-    let told = tell && seen;
+    let known = has_known_order && seen;
     let level = BufferClusterLevel::MonotoneGraphemes;
     let goes = |info: &hb_glyph_info_t| info.glyph_id == 0;
-    let (kept, marked) = delete_within(&mut glyphs, &mut positions, level, told, goes);
+    let (kept, marked) = delete_within(&mut glyphs, &mut positions, level, known, goes);
     glyphs.truncate(kept);
     positions.truncate(kept);
     Ok(are(&glyphs, part(row, 1)) && have_advances(&positions, part(row, 2)) && !marked)

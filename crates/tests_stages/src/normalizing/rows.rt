@@ -6,7 +6,7 @@ ghost use Rattle.tests_stages.specs.Rows.{glyph_in, pair_in, parts_in};
 use buffer_core::buffer::hb_buffer_t;
 use buffer_properties::NormalizationMode;
 use buffer_unicode_tables::UnicodeTables;
-use shape_rounds::normalizing::Normalizing;
+use shape_normalize::normalizing::Normalizing;
 
 /// A font, tables and a shaper without `reorder_marks`.
 #[derive(Drop)]

@@ -11,7 +11,7 @@ use buffer_glyphs::level::BufferClusterLevel;
 use buffer_properties::character::{character_class, properties_of};
 use buffer_unicode_tables::UnicodeTables;
 use shape_normalize::normalize::_hb_ot_shape_normalize;
-use shape_rounds::normalizing::Normalizing;
+use shape_normalize::normalizing::Normalizing;
 use std::alloc::Global;
 
 /// Adds a character with its cluster, its properties and its class.

@@ -10,4 +10,4 @@ returns-then-is_empty-clause-order c =
     order_gone c.args.known c.args.level c.args.output.now c.args.input.now c.args.output.now (drop 1 c.delete_at_front.new.glyphs) c.delete_at_front.result c.requires.some gone c.requires.known
 
 pub returns-clause-order : goal.returns-clause-order
-returns-clause-order c = order_gone c.args.known c.args.level c.args.output.now c.args.input.now c.delete_behind.new.output (drop 1 c.args.input.now) false c.requires.some (c.delete_behind.ensures c.args.level) c.requires.known
+returns-clause-order c = order_gone c.args.known c.args.level c.args.output.now c.args.input.now c.delete_after_output.new.output (drop 1 c.args.input.now) false c.requires.some (c.delete_after_output.ensures c.args.level) c.requires.known

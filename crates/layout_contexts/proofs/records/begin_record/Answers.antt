@@ -6,45 +6,45 @@ use Rattle.layout_contexts.specs.Nested.{has_budget}
 use Rattle.layout_contexts.proofs.Begun.{begun, beyond, no_way, unpaid}
 use Rattle.layout_contexts.proofs.records.begin_record.Goals as goal
 
-pub returns-then-glyph_count-place : goal.returns-then-glyph_count-place
-returns-then-glyph_count-place c =
+pub returns-then-glyph_count-index : goal.returns-then-glyph_count-index
+returns-then-glyph_count-index c =
     let s = c.args.buffer.now in
-    let ps = c.args.places.now.items in
-    let at : Some c.in-Some.place ≡ slice_get ps c.args.lookup_record.now.sequence_index = sym c.in-Some.is ∙ c.place_at.ensures ∙ ap (slice_get ps) c.from.ensures in
-    let over : length (whole (cut_of s)) ≤ c.in-Some.place = omega (arith, c.if-glyph_count-place.true, c.glyph_count.ensures.count) in
-    beyond c.args.lookup_record.now ps c.in-Some.place s at over
+    let ps = c.args.indices.now.items in
+    let at : Some c.in-Some.index ≡ slice_get ps c.args.lookup_record.now.sequence_index = sym c.in-Some.is ∙ c.index_at.ensures ∙ ap (slice_get ps) c.from.ensures in
+    let over : length (whole (cut_of s)) ≤ c.in-Some.index = omega (arith, c.if-glyph_count-index.true, c.glyph_count.ensures.count) in
+    beyond c.args.lookup_record.now ps c.in-Some.index s at over
 
 pub returns-then-not-spend : goal.returns-then-not-spend
 returns-then-not-spend c =
     let s = c.args.buffer.now in
-    let ps = c.args.places.now.items in
-    let at : Some c.in-Some.place ≡ slice_get ps c.args.lookup_record.now.sequence_index = sym c.in-Some.is ∙ c.place_at.ensures ∙ ap (slice_get ps) c.from.ensures in
-    unpaid c.args.lookup_record.now ps c.in-Some.place s c.spend.new.buffer at (sym c.spend.ensures.left ∙ c.if-not-spend.true) (c.spend.ensures.none c.if-not-spend.true)
+    let ps = c.args.indices.now.items in
+    let at : Some c.in-Some.index ≡ slice_get ps c.args.lookup_record.now.sequence_index = sym c.in-Some.is ∙ c.index_at.ensures ∙ ap (slice_get ps) c.from.ensures in
+    unpaid c.args.lookup_record.now ps c.in-Some.index s c.spend.new.buffer at (sym c.spend.ensures.left ∙ c.if-not-spend.true) (c.spend.ensures.none c.if-not-spend.true)
 
-pub go_to-requires-clause-kept : goal.go_to-requires-clause-kept
-go_to-requires-clause-kept c = still_refused c.args.buffer.now c.spend.new.buffer (c.spend.ensures.taken c.if-not-spend.false 1).still ∙ c.requires.kept
+pub move_cursor_to-requires-clause-kept : goal.move_cursor_to-requires-clause-kept
+move_cursor_to-requires-clause-kept c = still_refused c.args.buffer.now c.spend.new.buffer (c.spend.ensures.taken c.if-not-spend.false 1).still ∙ c.requires.kept
 
-pub go_to-requires-clause-there : goal.go_to-requires-clause-there
-go_to-requires-clause-there c =
+pub move_cursor_to-requires-clause-there : goal.move_cursor_to-requires-clause-there
+move_cursor_to-requires-clause-there c =
     let s = c.args.buffer.now in
     let t = c.spend.new.buffer in
     let same : length (whole (cut_of t)) ≡ length (whole (cut_of s)) = ap (λ (d : Cut). length (whole d)) (c.spend.ensures.taken c.if-not-spend.false 1).cut_is in
-    omega (arith, c.if-glyph_count-place.false, c.glyph_count.ensures.count, same)
+    omega (arith, c.if-glyph_count-index.false, c.glyph_count.ensures.count, same)
 
 pub returns-in-Err : goal.returns-in-Err
 returns-in-Err c =
     let s = c.args.buffer.now in
-    let ps = c.args.places.now.items in
-    let at : Some c.in-Some.place ≡ slice_get ps c.args.lookup_record.now.sequence_index = sym c.in-Some.is ∙ c.place_at.ensures ∙ ap (slice_get ps) c.from.ensures in
-    let under : c.in-Some.place < length (whole (cut_of s)) = omega (arith, c.if-glyph_count-place.false, c.glyph_count.ensures.count) in
+    let ps = c.args.indices.now.items in
+    let at : Some c.in-Some.index ≡ slice_get ps c.args.lookup_record.now.sequence_index = sym c.in-Some.is ∙ c.index_at.ensures ∙ ap (slice_get ps) c.from.ensures in
+    let under : c.in-Some.index < length (whole (cut_of s)) = omega (arith, c.if-glyph_count-index.false, c.glyph_count.ensures.count) in
     let on : has_budget (cut_of s) ≡ true = sym c.spend.ensures.left ∙ c.if-not-spend.false in
-    no_way c.args.lookup_record.now ps c.in-Some.place s c.spend.new.buffer c.go_to.new.buffer c.in-Err.cause at under on (c.spend.ensures.taken c.if-not-spend.false) c.in-Err.ensures.err
+    no_way c.args.lookup_record.now ps c.in-Some.index s c.spend.new.buffer c.move_cursor_to.new.buffer c.in-Err.cause at under on (c.spend.ensures.taken c.if-not-spend.false) c.in-Err.ensures.err
 
 pub returns : goal.returns
 returns c =
     let s = c.args.buffer.now in
-    let ps = c.args.places.now.items in
-    let at : Some c.in-Some.place ≡ slice_get ps c.args.lookup_record.now.sequence_index = sym c.in-Some.is ∙ c.place_at.ensures ∙ ap (slice_get ps) c.from.ensures in
-    let under : c.in-Some.place < length (whole (cut_of s)) = omega (arith, c.if-glyph_count-place.false, c.glyph_count.ensures.count) in
+    let ps = c.args.indices.now.items in
+    let at : Some c.in-Some.index ≡ slice_get ps c.args.lookup_record.now.sequence_index = sym c.in-Some.is ∙ c.index_at.ensures ∙ ap (slice_get ps) c.from.ensures in
+    let under : c.in-Some.index < length (whole (cut_of s)) = omega (arith, c.if-glyph_count-index.false, c.glyph_count.ensures.count) in
     let on : has_budget (cut_of s) ≡ true = sym c.spend.ensures.left ∙ c.if-not-spend.false in
-    begun c.args.lookup_record.now ps c.in-Some.place s c.spend.new.buffer c.go_to.new.buffer at under on (c.spend.ensures.taken c.if-not-spend.false) (c.in_default-go_to.ensures {u = tt}).held (c.in_default-go_to.ensures {u = tt}).ok
+    begun c.args.lookup_record.now ps c.in-Some.index s c.spend.new.buffer c.move_cursor_to.new.buffer at under on (c.spend.ensures.taken c.if-not-spend.false) (c.in_default-move_cursor_to.ensures {u = tt}).held (c.in_default-move_cursor_to.ensures {u = tt}).ok

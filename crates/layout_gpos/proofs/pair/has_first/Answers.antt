@@ -2,7 +2,7 @@ use Rattle.std.proofs.Common.{rules, of_calls, ◌==◌, ap, sym, ◌∙◌, len
 use Rattle.std.specs.List.{list_any}
 use Rattle.std.proofs.lemmas.Bool.{le-ltb}
 use Rattle.std.proofs.lemmas.Fn.{always_returns_same}
-use Rattle.layout_subtables.specs.declared.pair.PairRow.{PairRow}
+use Rattle.layout_tables.specs.declared.pair.PairRow.{PairRow}
 use Rattle.layout_gpos.proofs.Begun.{found, missing, point_of}
 use Rattle.layout_gpos.proofs.pair.has_first.Goals as goal
 

@@ -6,7 +6,7 @@ use Rattle.layout_match.specs.Applied.{apply_context_of, context_search}
 use Rattle.layout_match.specs.Matches.{backtrack_end, lookahead_end}
 use Rattle.layout_match.specs.Sequences.{is_covered_by}
 use Rattle.buffer_stages.specs.Buffers.{cut_of}
-use Rattle.buffer_stages.specs.Performing.{PerformsInPlace}
+use Rattle.buffer_stages.specs.Performing.{PerformsWithoutOutput}
 use Rattle.buffer_stages.proofs.Lemmas.Does.{passed_same}
 use Rattle.layout_gsub.specs.Reverses.{reverse_after_backtrack}
 use Rattle.layout_gsub.proofs.Around.{reverse_performed, after_performed, attempt_performed}
@@ -30,7 +30,7 @@ returns-in-Ok c =
     let glyph = c.in-Some.glyph in
     let some : value_of c.as_glyph.result.0 t.rows ≡ Some glyph = sym (rw c.in-Some.is at c.substitute.ensures) in
     let found : Ok c.in-Ok.ahead ≡ lookahead_end (context_search a xs) (map is_covered_by t.lookahead) 1 xs = c.in-Ok.ensures.end ∙ ap (λ (sets : List Coverage). lookahead_end (context_search a xs) (map is_covered_by sets) 1 xs) c.as_slice.ensures in
-    let P : List Coverage → Type 0 = λ sets. PerformsInPlace (reverse_after_backtrack a.font.gdef glyph c.in-Ok.ahead (backtrack_end (context_search a xs) (map is_covered_by sets) (strip s.behind)) (cut_of s)) acted s new in
+    let P : List Coverage → Type 0 = λ sets. PerformsWithoutOutput (reverse_after_backtrack a.font.gdef glyph c.in-Ok.ahead (backtrack_end (context_search a xs) (map is_covered_by sets) (strip s.behind)) (cut_of s)) acted s new in
     let done = subst P c.as_slice-in-Ok.ensures c.apply_backtrack.ensures in
     reverse_performed a t c.as_glyph.result.0 (Some glyph) acted s new c.cur.result.now c.cur.ensures c.as_glyph.ensures some
     (after_performed a glyph (map is_covered_by t.backtrack) (lookahead_end (context_search a xs) (map is_covered_by t.lookahead) 1 xs) (Ok c.in-Ok.ahead) acted s new found done)

@@ -18,8 +18,8 @@ loop-done-preserved c =
     let new = c.loop-done.new in
     let to : old_parent stop i ps ≡ Some j = sym c.old_parent-next.ensures ∙ c.in-Some.is in
     let goes = turned_goes d stop count k i j new ps c.loop-done-test.true to in
-    let place : c.turned_across-new.result ≡ turned_position d (position_at i ps) (position_at j (set ps i new)) =
-    c.turned_across-new.ensures ∙ ap (λ (b : Bool). with_link_reversed b (position_at i ps) (position_at j (set ps i new))) c.is_horizontal.ensures in
+    let place : c.with_link_reversed-new.result ≡ turned_position d (position_at i ps) (position_at j (set ps i new)) =
+    c.with_link_reversed-new.ensures ∙ ap (λ (b : Bool). with_link_reversed b (position_at i ps) (position_at j (set ps i new))) c.is_horizontal.ensures in
     let len = length-set ps i new in
     let within = old_parent_within stop i j ps to in (
       ap (λ (p : Position). chain_reversed_from d stop (count - (k + 1)) j p (set ps i new)) place ∙ sym goes ∙ c.loop-done.invariant.0,

@@ -1,8 +1,8 @@
 use Rattle.std.proofs.Common.{◌≡◌, ◌-◌, Ok, Err, get_or, sym, subst, refl, arith, ℕ}
 use Rattle.std.proofs.lemmas.Option.{get_or_from_slice_get}
 use Rattle.buffer_common.specs.declared.direction.Direction.{Direction}
-use Rattle.layout_subtables.specs.declared.context.ContextSubtable.{ContextSubtable}
-use Rattle.layout_subtables.specs.declared.context.SequenceLookupRecord.{SequenceLookupRecord}
+use Rattle.layout_tables.specs.declared.context.ContextSubtable.{ContextSubtable}
+use Rattle.layout_tables.specs.declared.context.SequenceLookupRecord.{SequenceLookupRecord}
 use Rattle.layout_match.specs.Applied.{apply_context_of}
 use Rattle.buffer_stages.specs.Actions.{Action}
 use Rattle.buffer_stages.specs.Performing.{IsPerformed, cut_with}
@@ -89,42 +89,42 @@ apply_record-returns-in-Ok-true-clause-walks t c =
     let s = c.args.buffer.now in
     let mid = c.begin_record.new.buffer in
     let final = c.recurse.new.buffer in
-    let b : IsRecordBegun c.args.lookup_record.now c.args.places.now.items c.in-Ok-Some.place s mid = begun_some c.args.lookup_record.now c.args.places.now.items c.in-Ok-Some.place c.in-Ok-Some.field-0 s mid (let f = c.in-Ok-Some.field-0-is in let g = c.in-Ok-Some.place-is in cc) c.in-Ok-Some.ensures in
+    let b : IsRecordBegun c.args.lookup_record.now c.args.indices.now.items c.in-Ok-Some.index_in_match s mid = begun_some c.args.lookup_record.now c.args.indices.now.items c.in-Ok-Some.index_in_match c.in-Ok-Some.field-0 s mid (let f = c.in-Ok-Some.field-0-is in let g = c.in-Ok-Some.index_in_match-is in cc) c.in-Ok-Some.ensures in
     let P : Direction → Type 0 = λ d. IsPerformed (nested_act c.args.table.now.lookups c.args.depth d (apply_context_of c.args.ctx.now) c.args.lookup_record.now.lookup_index (cut_with c.args.ctx.now.random_state mid)) c.in-Ok-true.field-0 c.args.ctx.now.random_state c.args.ctx.now.random_state mid final in
     let there = subst P (still_direction s mid (b.left c.args.ctx.now.random_state).still) c.in-Ok-true.ensures.performs in
-    record_acted (nested_act c.args.table.now.lookups c.args.depth s.direction (apply_context_of c.args.ctx.now)) c.args.lookup_record.now c.args.places.now.items c.settle_match.new.places.items c.in-Ok-Some.place c.args.end c.settle_match.result c.glyph_count-before.result c.args.ctx.now.random_state c.args.ctx.now.random_state c.in-Ok-true.field-0
-    s mid final b c.in-Ok-true.field-0-test there c.glyph_count-before.ensures.count c.settle_match.ensures.places c.settle_match.ensures.end
+    record_acted (nested_act c.args.table.now.lookups c.args.depth s.direction (apply_context_of c.args.ctx.now)) c.args.lookup_record.now c.args.indices.now.items c.settle_match.new.indices.items c.in-Ok-Some.index_in_match c.args.end c.settle_match.result c.glyph_count-before.result c.args.ctx.now.random_state c.args.ctx.now.random_state c.in-Ok-true.field-0
+    s mid final b c.in-Ok-true.field-0-test there c.glyph_count-before.ensures.count c.settle_match.ensures.indices c.settle_match.ensures.end
 
 pub apply_record-returns-in-Ok-true-clause-inside : goal.apply_record-returns-in-Ok-true-clause-inside
 apply_record-returns-in-Ok-true-clause-inside t c =
     let s = c.args.buffer.now in
     let mid = c.begin_record.new.buffer in
     let final = c.recurse.new.buffer in
-    let b : IsRecordBegun c.args.lookup_record.now c.args.places.now.items c.in-Ok-Some.place s mid = begun_some c.args.lookup_record.now c.args.places.now.items c.in-Ok-Some.place c.in-Ok-Some.field-0 s mid (let f = c.in-Ok-Some.field-0-is in let g = c.in-Ok-Some.place-is in cc) c.in-Ok-Some.ensures in
-    record_inside _ c.args.lookup_record.now c.args.places.now.items c.settle_match.new.places.items c.in-Ok-Some.place c.args.end c.settle_match.result c.glyph_count-before.result c.args.ctx.now.random_state c.args.ctx.now.random_state c.in-Ok-true.field-0
-    s mid final b c.in-Ok-true.field-0-test c.in-Ok-true.ensures.performs c.glyph_count-before.ensures.count c.settle_match.ensures.places c.settle_match.ensures.end
+    let b : IsRecordBegun c.args.lookup_record.now c.args.indices.now.items c.in-Ok-Some.index_in_match s mid = begun_some c.args.lookup_record.now c.args.indices.now.items c.in-Ok-Some.index_in_match c.in-Ok-Some.field-0 s mid (let f = c.in-Ok-Some.field-0-is in let g = c.in-Ok-Some.index_in_match-is in cc) c.in-Ok-Some.ensures in
+    record_inside _ c.args.lookup_record.now c.args.indices.now.items c.settle_match.new.indices.items c.in-Ok-Some.index_in_match c.args.end c.settle_match.result c.glyph_count-before.result c.args.ctx.now.random_state c.args.ctx.now.random_state c.in-Ok-true.field-0
+    s mid final b c.in-Ok-true.field-0-test c.in-Ok-true.ensures.performs c.glyph_count-before.ensures.count c.settle_match.ensures.indices c.settle_match.ensures.end
 
 pub apply_record-returns-in-Ok-false-clause-walks : goal.apply_record-returns-in-Ok-false-clause-walks
 apply_record-returns-in-Ok-false-clause-walks t c =
     let s = c.args.buffer.now in
     let mid = c.begin_record.new.buffer in
     let final = c.recurse.new.buffer in
-    let b : IsRecordBegun c.args.lookup_record.now c.args.places.now.items c.in-Ok-Some.place s mid = begun_some c.args.lookup_record.now c.args.places.now.items c.in-Ok-Some.place c.in-Ok-Some.field-0 s mid (let f = c.in-Ok-Some.field-0-is in let g = c.in-Ok-Some.place-is in cc) c.in-Ok-Some.ensures in
+    let b : IsRecordBegun c.args.lookup_record.now c.args.indices.now.items c.in-Ok-Some.index_in_match s mid = begun_some c.args.lookup_record.now c.args.indices.now.items c.in-Ok-Some.index_in_match c.in-Ok-Some.field-0 s mid (let f = c.in-Ok-Some.field-0-is in let g = c.in-Ok-Some.index_in_match-is in cc) c.in-Ok-Some.ensures in
     let P : Direction → Type 0 = λ d. IsPerformed (nested_act c.args.table.now.lookups c.args.depth d (apply_context_of c.args.ctx.now) c.args.lookup_record.now.lookup_index (cut_with c.args.ctx.now.random_state mid)) c.in-Ok-false.field-0 c.args.ctx.now.random_state c.args.ctx.now.random_state mid final in
     let there = subst P (still_direction s mid (b.left c.args.ctx.now.random_state).still) c.in-Ok-false.ensures.performs in
-    record_passed (nested_act c.args.table.now.lookups c.args.depth s.direction (apply_context_of c.args.ctx.now)) c.args.lookup_record.now c.args.places.now.items c.in-Ok-Some.place c.args.end c.args.ctx.now.random_state c.args.ctx.now.random_state c.in-Ok-false.field-0
+    record_passed (nested_act c.args.table.now.lookups c.args.depth s.direction (apply_context_of c.args.ctx.now)) c.args.lookup_record.now c.args.indices.now.items c.in-Ok-Some.index_in_match c.args.end c.args.ctx.now.random_state c.args.ctx.now.random_state c.in-Ok-false.field-0
     s mid final b c.in-Ok-false.field-0-test there
 
 pub apply_record-returns-in-Err-recurse-clause-walks : goal.apply_record-returns-in-Err-recurse-clause-walks
 apply_record-returns-in-Err-recurse-clause-walks t c =
     let s = c.args.buffer.now in
     let mid = c.begin_record.new.buffer in
-    let b : IsRecordBegun c.args.lookup_record.now c.args.places.now.items c.in-Ok-Some.place s mid = begun_some c.args.lookup_record.now c.args.places.now.items c.in-Ok-Some.place c.in-Ok-Some.field-0 s mid (let f = c.in-Ok-Some.field-0-is in let g = c.in-Ok-Some.place-is in cc) c.in-Ok-Some.ensures in
-    record_lookup_refused c.args.table.now.lookups c.args.depth (apply_context_of c.args.ctx.now) c.args.lookup_record.now c.args.places.now.items c.args.places.now.items c.in-Ok-Some.place c.args.end c.args.ctx.now.random_state c.in-Err-recurse.cause s mid c.recurse.new.buffer b c.in-Err-recurse.ensures.performs
+    let b : IsRecordBegun c.args.lookup_record.now c.args.indices.now.items c.in-Ok-Some.index_in_match s mid = begun_some c.args.lookup_record.now c.args.indices.now.items c.in-Ok-Some.index_in_match c.in-Ok-Some.field-0 s mid (let f = c.in-Ok-Some.field-0-is in let g = c.in-Ok-Some.index_in_match-is in cc) c.in-Ok-Some.ensures in
+    record_lookup_refused c.args.table.now.lookups c.args.depth (apply_context_of c.args.ctx.now) c.args.lookup_record.now c.args.indices.now.items c.args.indices.now.items c.in-Ok-Some.index_in_match c.args.end c.args.ctx.now.random_state c.in-Err-recurse.cause s mid c.recurse.new.buffer b c.in-Err-recurse.ensures.performs
 
 pub apply_records-returns-then-depth-eq0-clause-walks : goal.apply_records-returns-then-depth-eq0-clause-walks
 apply_records-returns-then-depth-eq0-clause-walks t c =
-    none_nested (nested_actions c.args.table.now.lookups c.args.depth c.args.buffer.now.direction (apply_context_of c.args.ctx.now)) c.args.records.now c.args.ctx.now.random_state c.args.end c.args.places.now.items c.args.buffer.now (no_depth c.args.table.now.lookups c.args.depth c.args.buffer.now.direction (apply_context_of c.args.ctx.now) (omega (arith, c.if-depth-eq0.true)))
+    none_nested (nested_actions c.args.table.now.lookups c.args.depth c.args.buffer.now.direction (apply_context_of c.args.ctx.now)) c.args.records.now c.args.ctx.now.random_state c.args.end c.args.indices.now.items c.args.buffer.now (no_depth c.args.table.now.lookups c.args.depth c.args.buffer.now.direction (apply_context_of c.args.ctx.now) (omega (arith, c.if-depth-eq0.true)))
 
 pub apply_records-returns-in-Err-clause-walks : goal.apply_records-returns-in-Err-clause-walks
 apply_records-returns-in-Err-clause-walks t c =
@@ -135,7 +135,7 @@ apply_records-returns-in-Err-clause-walks t c =
     let act : Direction → ℕ → Action = λ d. nested_act c.args.table.now.lookups (c.args.depth - 1) d (apply_context_of c.args.ctx.now) in
     let same = still_direction c.args.buffer.now c.loop-lookup_record.buffer i.walked.still in
     next_failed act (nested_actions c.args.table.now.lookups c.args.depth c.args.buffer.now.direction (apply_context_of c.args.ctx.now)) c.loop-lookup_record.buffer.direction c.args.buffer.now.direction c.args.records.now c.loop-lookup_record.lookup_record-index r c.args.ctx.now.random_state c.args.ctx.now.random_state c.args.ctx.now.random_state c.args.buffer.now c.loop-lookup_record.buffer c.apply_record.new.buffer
-    c.args.places.now.items c.loop-lookup_record.places.items c.apply_record.new.places.items c.args.end c.loop-lookup_record.at c.in-Err.cause (some_depth c.args.table.now.lookups c.args.depth c.args.buffer.now.direction (apply_context_of c.args.ctx.now) (λ e. absurd (omega (arith, e, c.if-depth-eq0.false)))) same c.loop-lookup_record-test.true is i.walked c.in-Err.ensures.walks
+    c.args.indices.now.items c.loop-lookup_record.indices.items c.apply_record.new.indices.items c.args.end c.loop-lookup_record.at c.in-Err.cause (some_depth c.args.table.now.lookups c.args.depth c.args.buffer.now.direction (apply_context_of c.args.ctx.now) (λ e. absurd (omega (arith, e, c.if-depth-eq0.false)))) same c.loop-lookup_record-test.true is i.walked c.in-Err.ensures.walks
 
 pub apply_records-loop-lookup_record-preserved : goal.apply_records-loop-lookup_record-preserved
 apply_records-loop-lookup_record-preserved t c =
@@ -148,7 +148,7 @@ apply_records-loop-lookup_record-preserved t c =
     record {
       walked =
           next_walked act c.loop-lookup_record.buffer.direction c.args.buffer.now.direction c.args.records.now c.loop-lookup_record.lookup_record-index r c.args.ctx.now.random_state c.args.ctx.now.random_state c.args.ctx.now.random_state c.args.buffer.now c.loop-lookup_record.buffer c.apply_record.new.buffer
-          c.args.places.now.items c.loop-lookup_record.places.items c.apply_record.new.places.items c.args.end c.loop-lookup_record.at c.in-Ok.settled same c.loop-lookup_record-test.true is i.walked c.in-Ok.ensures.walks;
+          c.args.indices.now.items c.loop-lookup_record.indices.items c.apply_record.new.indices.items c.args.end c.loop-lookup_record.at c.in-Ok.settled same c.loop-lookup_record-test.true is i.walked c.in-Ok.ensures.walks;
       inside = then_stays _ _ _ _ _ _ _ _ _ i.inside c.in-Ok.ensures.inside;
       kept = c.in-Ok.ensures.kept;
     }
@@ -156,34 +156,34 @@ apply_records-loop-lookup_record-preserved t c =
 pub apply_records-returns-clause-walks : goal.apply_records-returns-clause-walks
 apply_records-returns-clause-walks t c =
     let i = c.loop-lookup_record.invariant in
-    last_walked (nested_act c.args.table.now.lookups (c.args.depth - 1) c.args.buffer.now.direction (apply_context_of c.args.ctx.now)) (nested_actions c.args.table.now.lookups c.args.depth c.args.buffer.now.direction (apply_context_of c.args.ctx.now)) c.args.records.now c.loop-lookup_record.lookup_record-index c.args.ctx.now.random_state c.args.ctx.now.random_state c.args.buffer.now c.loop-lookup_record.buffer c.args.places.now.items c.loop-lookup_record.places.items c.args.end c.loop-lookup_record.at
+    last_walked (nested_act c.args.table.now.lookups (c.args.depth - 1) c.args.buffer.now.direction (apply_context_of c.args.ctx.now)) (nested_actions c.args.table.now.lookups c.args.depth c.args.buffer.now.direction (apply_context_of c.args.ctx.now)) c.args.records.now c.loop-lookup_record.lookup_record-index c.args.ctx.now.random_state c.args.ctx.now.random_state c.args.buffer.now c.loop-lookup_record.buffer c.args.indices.now.items c.loop-lookup_record.indices.items c.args.end c.loop-lookup_record.at
     (some_depth c.args.table.now.lookups c.args.depth c.args.buffer.now.direction (apply_context_of c.args.ctx.now) (λ e. absurd (omega (arith, e, c.if-depth-eq0.false)))) c.loop-lookup_record-test.false i.walked
 
 pub apply_rule-returns-in-Ok-clause-performs : goal.apply_rule-returns-in-Ok-clause-performs
 apply_rule-returns-in-Ok-clause-performs t c =
     let s = c.args.buffer.now in
     let mid = c.match_chain.new.buffer in
-    let m : IsMatched (apply_context_of c.args.ctx.now) (chain_of c.args.rule.now) c.args.ctx.now.random_state c.in-Some.end c.match_chain.new.places.items s mid = c.in-Some.ensures in
-    let P : Direction → Type 0 = λ d. Walking (each_nested (nested_actions c.args.table.now.lookups c.args.depth d (apply_context_of c.args.ctx.now)) (chain_of c.args.rule.now).records (cut_with c.args.ctx.now.random_state mid) c.match_chain.new.places.items c.in-Some.end) (Ok c.in-Ok.at) c.apply_records.new.places.items c.args.ctx.now.random_state mid c.apply_records.new.buffer in
-    rule_acted (apply_context_of c.args.ctx.now) (nested_actions c.args.table.now.lookups c.args.depth c.args.buffer.now.direction (apply_context_of c.args.ctx.now)) (chain_of c.args.rule.now) c.args.ctx.now.random_state c.args.ctx.now.random_state c.in-Some.end c.in-Ok.at c.match_chain.new.places.items c.apply_records.new.places.items c.go_behind.result
-    s mid c.apply_records.new.buffer c.go_behind.new.buffer m (subst P (still_direction s mid m.still) c.in-Ok.ensures.walks) c.in-Ok.ensures.inside (c.go_behind.ensures c.args.ctx.now.random_state)
+    let m : IsMatched (apply_context_of c.args.ctx.now) (chain_of c.args.rule.now) c.args.ctx.now.random_state c.in-Some.end c.match_chain.new.indices.items s mid = c.in-Some.ensures in
+    let P : Direction → Type 0 = λ d. Walking (each_nested (nested_actions c.args.table.now.lookups c.args.depth d (apply_context_of c.args.ctx.now)) (chain_of c.args.rule.now).records (cut_with c.args.ctx.now.random_state mid) c.match_chain.new.indices.items c.in-Some.end) (Ok c.in-Ok.at) c.apply_records.new.indices.items c.args.ctx.now.random_state mid c.apply_records.new.buffer in
+    rule_acted (apply_context_of c.args.ctx.now) (nested_actions c.args.table.now.lookups c.args.depth c.args.buffer.now.direction (apply_context_of c.args.ctx.now)) (chain_of c.args.rule.now) c.args.ctx.now.random_state c.args.ctx.now.random_state c.in-Some.end c.in-Ok.at c.match_chain.new.indices.items c.apply_records.new.indices.items c.move_to_match_end.result
+    s mid c.apply_records.new.buffer c.move_to_match_end.new.buffer m (subst P (still_direction s mid m.still) c.in-Ok.ensures.walks) c.in-Ok.ensures.inside (c.move_to_match_end.ensures c.args.ctx.now.random_state)
 
 pub apply_rule-returns-in-Err-clause-performs : goal.apply_rule-returns-in-Err-clause-performs
 apply_rule-returns-in-Err-clause-performs t c =
     let s = c.args.buffer.now in
     let mid = c.match_chain.new.buffer in
-    let m : IsMatched (apply_context_of c.args.ctx.now) (chain_of c.args.rule.now) c.args.ctx.now.random_state c.in-Some.end c.match_chain.new.places.items s mid = c.in-Some.ensures in
-    let P : Direction → Type 0 = λ d. Walking (each_nested (nested_actions c.args.table.now.lookups c.args.depth d (apply_context_of c.args.ctx.now)) (chain_of c.args.rule.now).records (cut_with c.args.ctx.now.random_state mid) c.match_chain.new.places.items c.in-Some.end) (Err c.in-Err.cause) c.apply_records.new.places.items c.args.ctx.now.random_state mid c.apply_records.new.buffer in
-    rule_failed (apply_context_of c.args.ctx.now) (nested_actions c.args.table.now.lookups c.args.depth c.args.buffer.now.direction (apply_context_of c.args.ctx.now)) (chain_of c.args.rule.now) c.args.ctx.now.random_state c.args.ctx.now.random_state c.in-Some.end c.match_chain.new.places.items c.apply_records.new.places.items c.in-Err.cause s mid c.apply_records.new.buffer m (subst P (still_direction s mid m.still) c.in-Err.ensures.walks)
+    let m : IsMatched (apply_context_of c.args.ctx.now) (chain_of c.args.rule.now) c.args.ctx.now.random_state c.in-Some.end c.match_chain.new.indices.items s mid = c.in-Some.ensures in
+    let P : Direction → Type 0 = λ d. Walking (each_nested (nested_actions c.args.table.now.lookups c.args.depth d (apply_context_of c.args.ctx.now)) (chain_of c.args.rule.now).records (cut_with c.args.ctx.now.random_state mid) c.match_chain.new.indices.items c.in-Some.end) (Err c.in-Err.cause) c.apply_records.new.indices.items c.args.ctx.now.random_state mid c.apply_records.new.buffer in
+    rule_failed (apply_context_of c.args.ctx.now) (nested_actions c.args.table.now.lookups c.args.depth c.args.buffer.now.direction (apply_context_of c.args.ctx.now)) (chain_of c.args.rule.now) c.args.ctx.now.random_state c.args.ctx.now.random_state c.in-Some.end c.match_chain.new.indices.items c.apply_records.new.indices.items c.in-Err.cause s mid c.apply_records.new.buffer m (subst P (still_direction s mid m.still) c.in-Err.ensures.walks)
 
 pub apply_rule-apply_records-requires : goal.apply_rule-apply_records-requires
 apply_rule-apply_records-requires t c =
     let s = c.args.buffer.now in
     let mid = c.match_chain.new.buffer in
-    let m : IsMatched (apply_context_of c.args.ctx.now) (chain_of c.args.rule.now) c.args.ctx.now.random_state c.in-Some.end c.match_chain.new.places.items s mid = c.in-Some.ensures in
+    let m : IsMatched (apply_context_of c.args.ctx.now) (chain_of c.args.rule.now) c.args.ctx.now.random_state c.in-Some.end c.match_chain.new.indices.items s mid = c.in-Some.ensures in
     let a = (apply_context_of c.args.ctx.now) in
     let r = chain_of c.args.rule.now in
-    let ps = c.match_chain.new.places.items in
+    let ps = c.match_chain.new.indices.items in
     let end = c.in-Some.end in
     let closed_there = matched_closed a r c.args.ctx.now.random_state end ps s mid m c.requires.closed in
     let unrefused = matched_unrefused a r c.args.ctx.now.random_state end ps s mid m c.requires.unrefused in
@@ -196,14 +196,14 @@ apply_record-recurse-requires t c =
     let s = c.args.buffer.now in
     let mid = c.begin_record.new.buffer in
     let k = c.args.lookup_record.now in
-    let ps = c.args.places.now.items in
-    let p = c.in-Ok-Some.place in
-    let b : IsRecordBegun k ps p s mid = begun_some k ps p c.in-Ok-Some.field-0 s mid (let f = c.in-Ok-Some.field-0-is in let g = c.in-Ok-Some.place-is in cc) c.in-Ok-Some.ensures in
+    let ps = c.args.indices.now.items in
+    let p = c.in-Ok-Some.index_in_match in
+    let b : IsRecordBegun k ps p s mid = begun_some k ps p c.in-Ok-Some.field-0 s mid (let f = c.in-Ok-Some.field-0-is in let g = c.in-Ok-Some.index_in_match-is in cc) c.in-Ok-Some.ensures in
     (omega (arith, c.decreases), (begun_closed k ps p s mid b c.requires.closed, (begun_unrefused k ps p s mid b c.requires.unrefused, (b.ahead, (begun_numbers k ps p s mid b c.requires.number, begun_kept k ps p (apply_context_of c.args.ctx.now) c.args.last.now s mid b c.requires.kept)))))
 
 pub apply_rule-returns-in_default-clause-kept : goal.apply_rule-returns-in_default-clause-kept
 apply_rule-returns-in_default-clause-kept t c =
-    unmatched_kept (apply_context_of c.args.ctx.now) (chain_of c.args.rule.now) c.args.ctx.now.random_state c.match_chain.new.places.items c.match_chain.result c.args.last.now c.args.buffer.now c.match_chain.new.buffer c.in_default.is c.match_chain.ensures c.requires.kept
+    unmatched_kept (apply_context_of c.args.ctx.now) (chain_of c.args.rule.now) c.args.ctx.now.random_state c.match_chain.new.indices.items c.match_chain.result c.args.last.now c.args.buffer.now c.match_chain.new.buffer c.in_default.is c.match_chain.ensures c.requires.kept
 
 pub apply_rule-returns-in-Ok-clause-kept : goal.apply_rule-returns-in-Ok-clause-kept
-apply_rule-returns-in-Ok-clause-kept t c = behind_kept (apply_context_of c.args.ctx.now) c.in-Ok.at c.go_behind.result c.apply_records.new.last c.apply_records.new.buffer c.go_behind.new.buffer c.in-Ok.ensures.kept c.go_behind.ensures
+apply_rule-returns-in-Ok-clause-kept t c = behind_kept (apply_context_of c.args.ctx.now) c.in-Ok.at c.move_to_match_end.result c.apply_records.new.last c.apply_records.new.buffer c.move_to_match_end.new.buffer c.in-Ok.ensures.kept c.move_to_match_end.ensures

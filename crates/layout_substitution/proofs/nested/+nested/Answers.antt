@@ -1,6 +1,6 @@
 use Rattle.std.proofs.Common.{◌≡◌, ◌-◌, ◌∙◌, false, get_or, sym, subst, arith, ℕ}
 use Rattle.std.proofs.lemmas.Option.{get_or_from_slice_get}
-use Rattle.layout_subtables.specs.declared.context.ContextSubtable.{ContextSubtable}
+use Rattle.layout_tables.specs.declared.context.ContextSubtable.{ContextSubtable}
 use Rattle.layout_match.specs.Applied.{ApplyContext, apply_context_of}
 use Rattle.buffer_stages.specs.Actions.{Action, first_rule}
 use Rattle.buffer_stages.specs.Performing.{IsPerformed, cut_with}
@@ -12,7 +12,7 @@ use Rattle.layout_contexts.specs.Rules.{chains_of}
 use Rattle.layout_contexts.proofs.Lemmas.Acting.{match_inside, rule_acted, rule_failed}
 use Rattle.layout_contexts.proofs.Lemmas.Inside.{then_stays}
 use Rattle.layout_substitution.specs.Lookups.{nested_actions, nested_act}
-use Rattle.layout_subtables.specs.declared.context.SequenceLookupRecord.{SequenceLookupRecord}
+use Rattle.layout_tables.specs.declared.context.SequenceLookupRecord.{SequenceLookupRecord}
 use Rattle.layout_contexts.proofs.Lemmas.Nested.{begun_some, get_or_any, last_walked, matched_numbers, matched_open, matched_unrefused, next_failed, next_walked, none_nested, not_tried, record_acted, record_inside, record_passed, tried_there}
 use Rattle.layout_substitution.proofs.Levels.{no_depth, some_depth}
 use Rattle.layout_substitution.proofs.nested.+nested.Goals as goal
@@ -95,22 +95,22 @@ apply_rules-returns-clause-performs t c =
 
 pub apply_record-returns-in-Ok-true-clause-walks : goal.apply_record-returns-in-Ok-true-clause-walks
 apply_record-returns-in-Ok-true-clause-walks t c =
-    record_acted (nested_act c.args.table.now.lookups c.args.depth (apply_context_of c.args.ctx.now)) c.args.lookup_record.now c.args.places.now.items c.settle_match.new.places.items c.in-Ok-Some.place c.args.end c.settle_match.result c.glyph_count-before.result c.args.ctx.now.random_state c.recurse.new.ctx.random_state c.in-Ok-true.field-0
-    c.args.buffer.now c.begin_record.new.buffer c.recurse.new.buffer (begun_some c.args.lookup_record.now c.args.places.now.items c.in-Ok-Some.place c.in-Ok-Some.field-0 c.args.buffer.now c.begin_record.new.buffer (let f = c.in-Ok-Some.field-0-is in let g = c.in-Ok-Some.place-is in cc) c.in-Ok-Some.ensures) c.in-Ok-true.field-0-test c.in-Ok-true.ensures.performs c.glyph_count-before.ensures.count c.settle_match.ensures.places c.settle_match.ensures.end
+    record_acted (nested_act c.args.table.now.lookups c.args.depth (apply_context_of c.args.ctx.now)) c.args.lookup_record.now c.args.indices.now.items c.settle_match.new.indices.items c.in-Ok-Some.index_in_match c.args.end c.settle_match.result c.glyph_count-before.result c.args.ctx.now.random_state c.recurse.new.ctx.random_state c.in-Ok-true.field-0
+    c.args.buffer.now c.begin_record.new.buffer c.recurse.new.buffer (begun_some c.args.lookup_record.now c.args.indices.now.items c.in-Ok-Some.index_in_match c.in-Ok-Some.field-0 c.args.buffer.now c.begin_record.new.buffer (let f = c.in-Ok-Some.field-0-is in let g = c.in-Ok-Some.index_in_match-is in cc) c.in-Ok-Some.ensures) c.in-Ok-true.field-0-test c.in-Ok-true.ensures.performs c.glyph_count-before.ensures.count c.settle_match.ensures.indices c.settle_match.ensures.end
 
 pub apply_record-returns-in-Ok-true-clause-inside : goal.apply_record-returns-in-Ok-true-clause-inside
 apply_record-returns-in-Ok-true-clause-inside t c =
-    record_inside _ c.args.lookup_record.now c.args.places.now.items c.settle_match.new.places.items c.in-Ok-Some.place c.args.end c.settle_match.result c.glyph_count-before.result c.args.ctx.now.random_state c.recurse.new.ctx.random_state c.in-Ok-true.field-0
-    c.args.buffer.now c.begin_record.new.buffer c.recurse.new.buffer (begun_some c.args.lookup_record.now c.args.places.now.items c.in-Ok-Some.place c.in-Ok-Some.field-0 c.args.buffer.now c.begin_record.new.buffer (let f = c.in-Ok-Some.field-0-is in let g = c.in-Ok-Some.place-is in cc) c.in-Ok-Some.ensures) c.in-Ok-true.field-0-test c.in-Ok-true.ensures.performs c.glyph_count-before.ensures.count c.settle_match.ensures.places c.settle_match.ensures.end
+    record_inside _ c.args.lookup_record.now c.args.indices.now.items c.settle_match.new.indices.items c.in-Ok-Some.index_in_match c.args.end c.settle_match.result c.glyph_count-before.result c.args.ctx.now.random_state c.recurse.new.ctx.random_state c.in-Ok-true.field-0
+    c.args.buffer.now c.begin_record.new.buffer c.recurse.new.buffer (begun_some c.args.lookup_record.now c.args.indices.now.items c.in-Ok-Some.index_in_match c.in-Ok-Some.field-0 c.args.buffer.now c.begin_record.new.buffer (let f = c.in-Ok-Some.field-0-is in let g = c.in-Ok-Some.index_in_match-is in cc) c.in-Ok-Some.ensures) c.in-Ok-true.field-0-test c.in-Ok-true.ensures.performs c.glyph_count-before.ensures.count c.settle_match.ensures.indices c.settle_match.ensures.end
 
 pub apply_record-returns-in-Ok-false-clause-walks : goal.apply_record-returns-in-Ok-false-clause-walks
 apply_record-returns-in-Ok-false-clause-walks t c =
-    record_passed (nested_act c.args.table.now.lookups c.args.depth (apply_context_of c.args.ctx.now)) c.args.lookup_record.now c.args.places.now.items c.in-Ok-Some.place c.args.end c.args.ctx.now.random_state c.recurse.new.ctx.random_state c.in-Ok-false.field-0
-    c.args.buffer.now c.begin_record.new.buffer c.recurse.new.buffer (begun_some c.args.lookup_record.now c.args.places.now.items c.in-Ok-Some.place c.in-Ok-Some.field-0 c.args.buffer.now c.begin_record.new.buffer (let f = c.in-Ok-Some.field-0-is in let g = c.in-Ok-Some.place-is in cc) c.in-Ok-Some.ensures) c.in-Ok-false.field-0-test c.in-Ok-false.ensures.performs
+    record_passed (nested_act c.args.table.now.lookups c.args.depth (apply_context_of c.args.ctx.now)) c.args.lookup_record.now c.args.indices.now.items c.in-Ok-Some.index_in_match c.args.end c.args.ctx.now.random_state c.recurse.new.ctx.random_state c.in-Ok-false.field-0
+    c.args.buffer.now c.begin_record.new.buffer c.recurse.new.buffer (begun_some c.args.lookup_record.now c.args.indices.now.items c.in-Ok-Some.index_in_match c.in-Ok-Some.field-0 c.args.buffer.now c.begin_record.new.buffer (let f = c.in-Ok-Some.field-0-is in let g = c.in-Ok-Some.index_in_match-is in cc) c.in-Ok-Some.ensures) c.in-Ok-false.field-0-test c.in-Ok-false.ensures.performs
 
 pub apply_records-returns-then-depth-eq0-clause-walks : goal.apply_records-returns-then-depth-eq0-clause-walks
 apply_records-returns-then-depth-eq0-clause-walks t c =
-    none_nested (nested_actions c.args.table.now.lookups c.args.depth (apply_context_of c.args.ctx.now)) c.args.records.now c.args.ctx.now.random_state c.args.end c.args.places.now.items c.args.buffer.now (no_depth c.args.table.now.lookups c.args.depth (apply_context_of c.args.ctx.now) (omega (arith, c.if-depth-eq0.true)))
+    none_nested (nested_actions c.args.table.now.lookups c.args.depth (apply_context_of c.args.ctx.now)) c.args.records.now c.args.ctx.now.random_state c.args.end c.args.indices.now.items c.args.buffer.now (no_depth c.args.table.now.lookups c.args.depth (apply_context_of c.args.ctx.now) (omega (arith, c.if-depth-eq0.true)))
 
 pub apply_records-returns-in-Err-clause-walks : goal.apply_records-returns-in-Err-clause-walks
 apply_records-returns-in-Err-clause-walks t c =
@@ -119,7 +119,7 @@ apply_records-returns-in-Err-clause-walks t c =
     let r = get_or c.args.records.now c.loop-lookup_record.lookup_record-index none in
     let is : r ≡ get_or c.args.records.now c.loop-lookup_record.lookup_record-index r = get_or_any c.args.records.now c.loop-lookup_record.lookup_record-index none r c.loop-lookup_record-test.true in
     next_failed (nested_act c.args.table.now.lookups (c.args.depth - 1)) (nested_actions c.args.table.now.lookups c.args.depth (apply_context_of c.args.ctx.now)) (apply_context_of c.loop-lookup_record.ctx) (apply_context_of c.args.ctx.now) c.args.records.now c.loop-lookup_record.lookup_record-index r c.args.ctx.now.random_state c.loop-lookup_record.ctx.random_state c.apply_record.new.ctx.random_state c.args.buffer.now c.loop-lookup_record.buffer c.apply_record.new.buffer
-    c.args.places.now.items c.loop-lookup_record.places.items c.apply_record.new.places.items c.args.end c.loop-lookup_record.at c.in-Err.cause (some_depth c.args.table.now.lookups c.args.depth (apply_context_of c.args.ctx.now) (λ e. absurd (omega (arith, e, c.if-depth-eq0.false)))) i.context c.loop-lookup_record-test.true is i.walked c.in-Err.ensures.walks
+    c.args.indices.now.items c.loop-lookup_record.indices.items c.apply_record.new.indices.items c.args.end c.loop-lookup_record.at c.in-Err.cause (some_depth c.args.table.now.lookups c.args.depth (apply_context_of c.args.ctx.now) (λ e. absurd (omega (arith, e, c.if-depth-eq0.false)))) i.context c.loop-lookup_record-test.true is i.walked c.in-Err.ensures.walks
 
 pub apply_records-loop-lookup_record-preserved : goal.apply_records-loop-lookup_record-preserved
 apply_records-loop-lookup_record-preserved t c =
@@ -130,7 +130,7 @@ apply_records-loop-lookup_record-preserved t c =
     record {
       walked =
           next_walked (nested_act c.args.table.now.lookups (c.args.depth - 1)) (apply_context_of c.loop-lookup_record.ctx) (apply_context_of c.args.ctx.now) c.args.records.now c.loop-lookup_record.lookup_record-index r c.args.ctx.now.random_state c.loop-lookup_record.ctx.random_state c.apply_record.new.ctx.random_state c.args.buffer.now c.loop-lookup_record.buffer c.apply_record.new.buffer
-          c.args.places.now.items c.loop-lookup_record.places.items c.apply_record.new.places.items c.args.end c.loop-lookup_record.at c.in-Ok.settled i.context c.loop-lookup_record-test.true is i.walked c.in-Ok.ensures.walks;
+          c.args.indices.now.items c.loop-lookup_record.indices.items c.apply_record.new.indices.items c.args.end c.loop-lookup_record.at c.in-Ok.settled i.context c.loop-lookup_record-test.true is i.walked c.in-Ok.ensures.walks;
       inside = then_stays _ _ _ _ _ _ _ _ _ i.inside c.in-Ok.ensures.inside;
       context = c.apply_record.ensures.context ∙ i.context;
     }
@@ -138,19 +138,19 @@ apply_records-loop-lookup_record-preserved t c =
 pub apply_records-returns-clause-walks : goal.apply_records-returns-clause-walks
 apply_records-returns-clause-walks t c =
     let i = c.loop-lookup_record.invariant in
-    last_walked (nested_act c.args.table.now.lookups (c.args.depth - 1) (apply_context_of c.args.ctx.now)) (nested_actions c.args.table.now.lookups c.args.depth (apply_context_of c.args.ctx.now)) c.args.records.now c.loop-lookup_record.lookup_record-index c.args.ctx.now.random_state c.loop-lookup_record.ctx.random_state c.args.buffer.now c.loop-lookup_record.buffer c.args.places.now.items c.loop-lookup_record.places.items c.args.end c.loop-lookup_record.at
+    last_walked (nested_act c.args.table.now.lookups (c.args.depth - 1) (apply_context_of c.args.ctx.now)) (nested_actions c.args.table.now.lookups c.args.depth (apply_context_of c.args.ctx.now)) c.args.records.now c.loop-lookup_record.lookup_record-index c.args.ctx.now.random_state c.loop-lookup_record.ctx.random_state c.args.buffer.now c.loop-lookup_record.buffer c.args.indices.now.items c.loop-lookup_record.indices.items c.args.end c.loop-lookup_record.at
     (some_depth c.args.table.now.lookups c.args.depth (apply_context_of c.args.ctx.now) (λ e. absurd (omega (arith, e, c.if-depth-eq0.false)))) c.loop-lookup_record-test.false i.walked
 
 pub apply_rule-returns-in-Ok-clause-performs : goal.apply_rule-returns-in-Ok-clause-performs
 apply_rule-returns-in-Ok-clause-performs t c =
     let a = apply_context_of c.args.ctx.now in
-    rule_acted a (nested_actions c.args.table.now.lookups c.args.depth a) (chain_of c.args.rule.now) c.args.ctx.now.random_state c.apply_records.new.ctx.random_state c.in-Some.end c.in-Ok.at c.match_chain.new.places.items c.apply_records.new.places.items c.go_behind.result
-    c.args.buffer.now c.match_chain.new.buffer c.apply_records.new.buffer c.go_behind.new.buffer c.in-Some.ensures c.in-Ok.ensures.walks c.in-Ok.ensures.inside (c.go_behind.ensures c.apply_records.new.ctx.random_state)
+    rule_acted a (nested_actions c.args.table.now.lookups c.args.depth a) (chain_of c.args.rule.now) c.args.ctx.now.random_state c.apply_records.new.ctx.random_state c.in-Some.end c.in-Ok.at c.match_chain.new.indices.items c.apply_records.new.indices.items c.move_to_match_end.result
+    c.args.buffer.now c.match_chain.new.buffer c.apply_records.new.buffer c.move_to_match_end.new.buffer c.in-Some.ensures c.in-Ok.ensures.walks c.in-Ok.ensures.inside (c.move_to_match_end.ensures c.apply_records.new.ctx.random_state)
 
 pub apply_rule-returns-in-Err-clause-performs : goal.apply_rule-returns-in-Err-clause-performs
 apply_rule-returns-in-Err-clause-performs t c =
     let a = apply_context_of c.args.ctx.now in
-    rule_failed a (nested_actions c.args.table.now.lookups c.args.depth a) (chain_of c.args.rule.now) c.args.ctx.now.random_state c.apply_records.new.ctx.random_state c.in-Some.end c.match_chain.new.places.items c.apply_records.new.places.items c.in-Err.cause c.args.buffer.now c.match_chain.new.buffer c.apply_records.new.buffer c.in-Some.ensures c.in-Err.ensures.walks
+    rule_failed a (nested_actions c.args.table.now.lookups c.args.depth a) (chain_of c.args.rule.now) c.args.ctx.now.random_state c.apply_records.new.ctx.random_state c.in-Some.end c.match_chain.new.indices.items c.apply_records.new.indices.items c.in-Err.cause c.args.buffer.now c.match_chain.new.buffer c.apply_records.new.buffer c.in-Some.ensures c.in-Err.ensures.walks
 
 pub apply_rule-apply_records-requires : goal.apply_rule-apply_records-requires
 apply_rule-apply_records-requires t c =
@@ -158,7 +158,7 @@ apply_rule-apply_records-requires t c =
     let r = chain_of c.args.rule.now in
     let old = c.args.buffer.now in
     let new = c.match_chain.new.buffer in
-    let ps = c.match_chain.new.places.items in
+    let ps = c.match_chain.new.indices.items in
     let m : IsMatched a r c.args.ctx.now.random_state c.in-Some.end ps old new = c.in-Some.ensures in
     let open_there = matched_open a r c.args.ctx.now.random_state c.in-Some.end ps old new m c.requires.open in
     let unrefused = matched_unrefused a r c.args.ctx.now.random_state c.in-Some.end ps old new m c.requires.unrefused in

@@ -52,7 +52,7 @@ invariant-apply_rules-loop-i l = record {
 -- the records so far were done
 abbrev pub invariant-apply_records-loop-lookup_record : goal.invariant-apply_records-loop-lookup_record
 invariant-apply_records-loop-lookup_record l = record {
-  walked : AreWalked (nested_act l.table.lookups (l.depth - 1) (apply_context_of l.fn.ctx)) l.records (drop l.lookup_record-index l.records) l.fn.ctx.random_state l.ctx.random_state l.fn.buffer l.buffer l.fn.places.items l.end l.places.items l.at;
-  inside : StaysInside (length (whole (cut_of l.fn.buffer))) (length (whole (cut_of l.buffer))) l.fn.places.items l.places.items l.end l.at;
+  walked : AreWalked (nested_act l.table.lookups (l.depth - 1) (apply_context_of l.fn.ctx)) l.records (drop l.lookup_record-index l.records) l.fn.ctx.random_state l.ctx.random_state l.fn.buffer l.buffer l.fn.indices.items l.end l.indices.items l.at;
+  inside : StaysInside (length (whole (cut_of l.fn.buffer))) (length (whole (cut_of l.buffer))) l.fn.indices.items l.indices.items l.end l.at;
   context : apply_context_of l.ctx ≡ apply_context_of l.fn.ctx;
 }

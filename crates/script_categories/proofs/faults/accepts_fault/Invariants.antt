@@ -1,6 +1,6 @@
 use Rattle.std.proofs.Common.{◌≡◌, drop}
 use Rattle.script_categories.specs.Machines.{accepts_fault, is_accept_in_range, machine_in}
-use Rattle.buffer_unicode_rows.specs.Keys.{row_fault}
+use Rattle.buffer_unicode.specs.Keys.{row_fault}
 use Rattle.script_categories.specs.declared.machine.Accept.{Accept}
 use Rattle.script_categories.proofs.faults.accepts_fault.Given as goal
 

@@ -1,6 +1,6 @@
 use Rattle.std.proofs.Common.{◌≡◌, drop}
 use Rattle.script_categories.specs.Machines.{is_step_in_range, machine_in, steps_fault}
-use Rattle.buffer_unicode_rows.specs.Keys.{row_fault}
+use Rattle.buffer_unicode.specs.Keys.{row_fault}
 use Rattle.script_categories.specs.declared.machine.Step.{Step}
 use Rattle.script_categories.proofs.faults.steps_fault.Given as goal
 

@@ -39,7 +39,7 @@ universal_masks_kept m s t pre post =
 pub masks_keep_plainly : MasksKeepPlainly
 masks_keep_plainly = record {
   joined = joined_kept;
-  places = λ masks. mapped_plainly (with_letter_mask masks);
+  letters = λ masks. mapped_plainly (with_letter_mask masks);
   categories = λ category_of. mapped_plainly (with_category category_of);
   indic = properties_keep_plainly;
   universal = universal_masks_kept;

@@ -1,5 +1,5 @@
 -- The events of circles and of the order of syllables.
-use Rattle.std.proofs.Common.{ℕ, zero, suc, ◌≡◌, ◌<◌, ◌+◌, ◌-◌, ◌==◌, ◌&&◌, Bool, true, false, if◌then◌else◌, List, [], ◌∷◌, length, map, take, Option, None, Some, Ok, slice_get, arith, refl, ap, subst, ◌∙◌}
+use Rattle.std.proofs.Common.{ℕ, zero, suc, ◌≡◌, ◌<◌, ◌+◌, ◌-◌, ◌==◌, ◌&&◌, Bool, true, false, if◌then◌else◌, List, [], ◌∷◌, length, take, Option, None, Some, Ok, slice_get, arith, refl, ap, subst, ◌∙◌}
 use Rattle.std.specs.Prelude.{bit_and, nat_le, nat_lt}
 use Rattle.std.specs.List.{list_any}
 use Rattle.buffer_glyphs.specs.declared.level.BufferClusterLevel.{BufferClusterLevel}
@@ -9,17 +9,16 @@ use Rattle.buffer_glyphs.specs.declared.cause.ShapeCause.TheVariants.{TooLong}
 use Rattle.buffer_core.specs.Readings.{Read, Reading, View, as_it_is}
 use Rattle.buffer_parts.specs.Plainly.{ArePlainlyKept}
 use Rattle.buffer_parts.specs.Lemmas.Plainly.{circle_kept, plainly_in_turn, steady_kept}
-use Rattle.buffer_groups.specs.Lemmas.OrderSpans.{order_stays}
 use Rattle.script_categories.specs.declared.ot_category_t.TheConstants as category
 use Rattle.script_categories.specs.declared.shaper.hb_ot_script_shaper_t.TheVariants.{KHMER_SHAPER, MYANMAR_SHAPER, UNIVERSAL_SHAPER}
 use Rattle.script_categories.specs.Shapers.{is_reordered}
-use Rattle.buffer_stages.specs.Ordering.{groups_reversed, sorted_by_place}
+use Rattle.buffer_stages.specs.Ordering.{groups_reversed, auxiliary_order}
 use Rattle.buffer_glyphs.specs.Rewriting.{Arrangement, eventless_arrangement, and_arranged}
 use Rattle.buffer_stages.specs.Rewriting.{within}
 use Rattle.buffer_stages.specs.SyllableLaws.{IsPermuted}
 use Rattle.buffer_stages.specs.Parts.{first_to_back, items_with_features}
 use Rattle.script_syllabic.specs.declared.circles.CircleRule.{CircleRule}
-use Rattle.script_syllabic.specs.Circles.{CircledItem, Due, There, Inserted, begins, circled_at_start, circle_events, circle_item, circled_from, circled_items, circles_by, circles_put, items_without_circles, is_broken, is_repha, with_circles}
+use Rattle.script_syllabic.specs.Circles.{CircledItem, Due, There, Inserted, begins, circled_at_start, circle_events, circle_item, circled_rest, circled_items, circles_by, circles_put, items_without_circles, is_broken, is_repha, with_circles}
 use Rattle.script_syllabic.proofs.Erased.{erasing_circles}
 use Rattle.buffer_common.specs.declared.constants.BufferFlags.{BufferFlags}
 use Rattle.buffer_common.specs.declared.script.Script.{Script}
@@ -34,7 +33,7 @@ use Rattle.script_indic.specs.Config.{indic_config}
 use Rattle.script_indic.specs.FontForms.{font_forms}
 use Rattle.script_indic.specs.Masks.{indic_masks}
 use Rattle.script_indic.specs.Reordering.{circles_order, consonants_updated, indic_circles, indic_initial, initial_stage, virama_glyph}
-use Rattle.script_indic.proofs.Keeping.{consonants_keep_plainly, final_keeps_plainly, initial_steady}
+use Rattle.script_indic.proofs.Keeping.{consonants_keep_plainly, final_keeps_plainly, initial_steady, sorted_steady}
 use Rattle.script_khmer.specs.declared.khmer.KhmerMasks.{KhmerMasks}
 use Rattle.script_khmer.specs.Khmer as khmer
 use Rattle.script_myanmar.specs.Myanmar as myanmar
@@ -100,16 +99,16 @@ begun_seated r last x rest at h = by_tests (begins r last x) (is_repha r x.sylla
     by_tests true false = (omega arith, h x.syllable None (at + 1 + 1) tt)
     by_tests false t = h last None (at + 1) tt
 
-circled_seated : (r : CircleRule) (xs : List Item) (last : ℕ) (d : Option Due) (at : ℕ) → IsDueAt at d → AreSeated at (circled_from r xs last d)
+circled_seated : (r : CircleRule) (xs : List Item) (last : ℕ) (d : Option Due) (at : ℕ) → IsDueAt at d → AreSeated at (circled_rest r xs last d)
 circled_seated r [] last None at due = tt
 circled_seated r [] last (Some d) at due = inserted_seated at d.rephas d.circle [] due.0 due.1 tt
-circled_seated r (x ∷ xs) last None at due = begun_seated r last x (circled_from r xs) at (circled_seated r xs)
+circled_seated r (x ∷ xs) last None at due = begun_seated r last x (circled_rest r xs) at (circled_seated r xs)
 circled_seated r (x ∷ xs) last (Some d) at due = by_test (is_repha r last x) (circled_seated r xs)
   where
-    by_test : (t : Bool) → ((n : ℕ) (e : Option Due) (i : ℕ) → IsDueAt i e → AreSeated i (circled_from r xs n e))
-        → AreSeated at (if t then There x ∷ circled_from r xs last (Some (record { rephas = suc d.rephas; circle = d.circle })) else Inserted d.rephas d.circle ∷ circled_at_start r last x (circled_from r xs))
+    by_test : (t : Bool) → ((n : ℕ) (e : Option Due) (i : ℕ) → IsDueAt i e → AreSeated i (circled_rest r xs n e))
+        → AreSeated at (if t then There x ∷ circled_rest r xs last (Some (record { rephas = suc d.rephas; circle = d.circle })) else Inserted d.rephas d.circle ∷ circled_at_start r last x (circled_rest r xs))
     by_test true h = h last (Some (record { rephas = suc d.rephas; circle = d.circle })) (at + 1) (omega arith, omega arith)
-    by_test false h = inserted_seated at d.rephas d.circle (circled_at_start r last x (circled_from r xs)) due.0 due.1 (begun_seated r last x (circled_from r xs) (at + 1) h)
+    by_test false h = inserted_seated at d.rephas d.circle (circled_at_start r last x (circled_rest r xs)) due.0 due.1 (begun_seated r last x (circled_rest r xs) (at + 1) h)
 
 all_kept : (r : CircleRule) (xs : List Item) → ArePlainlyKept (circle_events 0 (with_circles r xs)) (length xs) (length (circled_items (with_circles r xs)))
 all_kept r xs =
@@ -139,37 +138,37 @@ mask_steady bits from to xs = within_steady (items_with_features bits) from to x
 abbrev KhmerStep : khmer.Step → Type 0
 KhmerStep s = IsSteady s.rewritten
 
-coeng_steady : (m : KhmerMasks) (place : ℕ) (xs : List Item) → IsSteady (khmer.coeng_moved m place xs)
-coeng_steady m place xs =
-    let first = within place (place + 2) (items_with_features m.pref) xs in
-    let both = and_arranged first (within 0 (place + 2) (first_to_back place)) in
-    then_steady both (within (place + 2) (length xs) (items_with_features m.cfar)) (then_steady first (within 0 (place + 2) (first_to_back place)) (mask_steady m.pref place (place + 2) xs) (front_steady place 0 (place + 2) first.items)) (mask_steady m.cfar (place + 2) (length xs) both.items)
+coeng_steady : (m : KhmerMasks) (index : ℕ) (xs : List Item) → IsSteady (khmer.coeng_moved m index xs)
+coeng_steady m index xs =
+    let first = within index (index + 2) (items_with_features m.pref) xs in
+    let both = and_arranged first (within 0 (index + 2) (first_to_back index)) in
+    then_steady both (within (index + 2) (length xs) (items_with_features m.cfar)) (then_steady first (within 0 (index + 2) (first_to_back index)) (mask_steady m.pref index (index + 2) xs) (front_steady index 0 (index + 2) first.items)) (mask_steady m.cfar (index + 2) (length xs) both.items)
 
-khmer_at_steady : (m : KhmerMasks) (place count : ℕ) (xs : List Item) → KhmerStep (khmer.khmer_at m place count xs)
-khmer_at_steady m place count xs = by_items (slice_get xs place) (slice_get xs (place + 1))
+khmer_at_steady : (m : KhmerMasks) (index count : ℕ) (xs : List Item) → KhmerStep (khmer.khmer_at m index count xs)
+khmer_at_steady m index count xs = by_items (slice_get xs index) (slice_get xs (index + 1))
   where
-    vowel : (t : Bool) → KhmerStep (if t then record { rewritten = khmer.vowel_moved place xs; count = count } else record { rewritten = eventless_arrangement xs; count = count })
-    vowel true = front_steady place 0 (place + 1) xs
+    vowel : (t : Bool) → KhmerStep (if t then record { rewritten = khmer.vowel_moved index xs; count = count } else record { rewritten = eventless_arrangement xs; count = count })
+    vowel true = front_steady index 0 (index + 1) xs
     vowel false = tt
 
-    coeng : (t : Bool) → KhmerStep (if t then record { rewritten = khmer.coeng_moved m place xs; count = 2 } else record { rewritten = eventless_arrangement xs; count = count + 1 })
-    coeng true = coeng_steady m place xs
+    coeng : (t : Bool) → KhmerStep (if t then record { rewritten = khmer.coeng_moved m index xs; count = 2 } else record { rewritten = eventless_arrangement xs; count = count + 1 })
+    coeng true = coeng_steady m index xs
     coeng false = tt
 
-    either : (x y : Item) (t : Bool) → KhmerStep (if t then khmer.coeng_step m place count xs y else khmer.vowel_step place count xs x)
+    either : (x y : Item) (t : Bool) → KhmerStep (if t then khmer.coeng_step m index count xs y else khmer.vowel_step index count xs x)
     either x y true = coeng (y.category == category.OT_Ra)
     either x y false = vowel (x.category == category.OT_VPre)
 
-    by_items : (a b : Option Item) → KhmerStep (khmer.step_at m place count xs a b)
+    by_items : (a b : Option Item) → KhmerStep (khmer.step_at m index count xs a b)
     by_items None b = tt
     by_items (Some x) None = vowel (x.category == category.OT_VPre)
     by_items (Some x) (Some y) = either x y (khmer.is_coeng count x)
 
-khmer_walk_steady : (m : KhmerMasks) (n place count : ℕ) (xs : List Item) → IsSteady (khmer.khmer_walk m n place count xs)
-khmer_walk_steady m zero place count xs = tt
-khmer_walk_steady m (suc n) place count xs =
-    let s = khmer.khmer_at m place count xs in
-    then_steady s.rewritten (khmer.khmer_walk m n (place + 1) s.count) (khmer_at_steady m place count xs) (khmer_walk_steady m n (place + 1) s.count s.rewritten.items)
+khmer_walk_steady : (m : KhmerMasks) (n index count : ℕ) (xs : List Item) → IsSteady (khmer.khmer_walk m n index count xs)
+khmer_walk_steady m zero index count xs = tt
+khmer_walk_steady m (suc n) index count xs =
+    let s = khmer.khmer_at m index count xs in
+    then_steady s.rewritten (khmer.khmer_walk m n (index + 1) s.count) (khmer_at_steady m index count xs) (khmer_walk_steady m n (index + 1) s.count s.rewritten.items)
 
 khmer_steady : (m : KhmerMasks) (xs : List Item) → IsSteady (khmer.khmer_syllable m xs)
 khmer_steady m xs = by_first (slice_get xs 0)
@@ -189,12 +188,9 @@ khmer_steady m xs = by_first (slice_get xs 0)
 matras_steady : (xs : List Item) → IsSteady (myanmar.matras_reversed xs)
 matras_steady xs = by_test (myanmar.has_two_matras (take (myanmar.matras_of xs) xs))
   where
-    by_test : (t : Bool) → IsSteady (if t then within 0 (myanmar.matras_of xs) (groups_reversed myanmar.is_left_matra) xs else eventless_arrangement xs)
-    by_test true = within_steady (groups_reversed myanmar.is_left_matra) 0 (myanmar.matras_of xs) xs (λ ys. tt)
+    by_test : (t : Bool) → IsSteady (if t then within 0 (myanmar.matras_of xs) (groups_reversed myanmar.is_pre_base_vowel) xs else eventless_arrangement xs)
+    by_test true = within_steady (groups_reversed myanmar.is_pre_base_vowel) 0 (myanmar.matras_of xs) xs (λ ys. tt)
     by_test false = tt
-
-sorted_steady : (xs : List Item) → IsSteady (sorted_by_place xs)
-sorted_steady xs = (order_stays (map (λ (x : Item). x.auxiliary) xs), tt)
 
 myanmar_steady : (xs : List Item) → IsSteady (myanmar.myanmar_syllable xs)
 myanmar_steady xs = by_first (slice_get xs 0)
@@ -202,8 +198,8 @@ myanmar_steady xs = by_first (slice_get xs 0)
     by_kind : (t : Bool) → IsSteady (if t then myanmar.myanmar_reordered xs else eventless_arrangement xs)
     by_kind true =
         let placed = myanmar.items_with_positions xs in
-        let sorted = and_arranged placed sorted_by_place in
-        then_steady sorted myanmar.matras_reversed (then_steady placed sorted_by_place tt (sorted_steady placed.items)) (matras_steady sorted.items)
+        let sorted = and_arranged placed auxiliary_order in
+        then_steady sorted myanmar.matras_reversed (then_steady placed auxiliary_order tt (sorted_steady placed.items)) (matras_steady sorted.items)
     by_kind false = tt
 
     by_first : (a : Option Item) → IsSteady (myanmar.myanmar_first xs a)

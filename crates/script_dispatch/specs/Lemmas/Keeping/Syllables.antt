@@ -18,7 +18,7 @@ use Rattle.script_syllabic.specs.Bytes.{bytes_of, bytes_set, is_known, itself, o
 use Rattle.script_syllabic.specs.declared.forms.FormMasks.{FormMasks}
 use Rattle.script_syllabic.specs.Features.{pref_recorded, reph_size, rphf_masked, rphf_recorded, topography}
 use Rattle.script_syllabic.specs.Spans.{categories_counted, index_or_end, counted_index, counted_indices_from, universal_set}
-use Rattle.script_syllabic.proofs.Counting.{places_rise}
+use Rattle.script_syllabic.proofs.Counting.{indices_rise}
 use Rattle.script_syllabic.proofs.QuietRules.{bytes_permute, pref_recorded_permutes, rphf_permutes, rphf_recorded_permutes, topography_permutes}
 use Rattle.script_universal.specs.Pauses.{forms_set, universal_syllables_set}
 use Rattle.script_syllabic.specs.Syllables.{syllables_by, then_syllables, item_not_substituted, without_syllable}
@@ -50,7 +50,7 @@ universal_set_kept span_of after v r level e =
     let xs = v.items in
     let cs = categories_counted xs in
     let none : 0 + length xs ≡ length xs = omega arith in
-    let rises : (i j : ℕ) → i ≤ j → counted_index xs i ≤ counted_index xs j = λ i j le. subst (λ n. index_or_end (counted_indices_from 0 xs) n i ≤ index_or_end (counted_indices_from 0 xs) n j) none (places_rise 0 xs i j le) in
+    let rises : (i j : ℕ) → i ≤ j → counted_index xs i ≤ counted_index xs j = λ i j le. subst (λ n. index_or_end (counted_indices_from 0 xs) n i ≤ index_or_end (counted_indices_from 0 xs) n j) none (indices_rise 0 xs i j le) in
     bytes_kept UNIVERSAL_SHAPER (counted_index xs) (syllables (span_of UNIVERSAL_SHAPER cs) (length cs)) v r level
     (bytes_permute (span_of UNIVERSAL_SHAPER cs) (counted_index xs) (length cs) (after UNIVERSAL_SHAPER cs) rises (length cs) 0 0 xs) e
 

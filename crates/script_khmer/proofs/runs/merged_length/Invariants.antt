@@ -6,4 +6,4 @@ use Rattle.script_khmer.proofs.runs.merged_length.Given as goal
 
 abbrev pub invariant-loop-i : goal.invariant-loop-i
 invariant-loop-i l =
-    (reach l.merged (moves_from l.forms l.i (strip l.glyphs)) ≡ reach 1 (moves_from l.forms l.place (strip l.glyphs))) × (l.merged ≤ length l.glyphs)
+    (reach l.merged (moves_from l.forms l.i (strip l.glyphs)) ≡ reach 1 (moves_from l.forms l.index (strip l.glyphs))) × (l.merged ≤ length l.glyphs)

@@ -3,4 +3,4 @@ use Rattle.script_myanmar.proofs.myanmar.reorder_syllable.Goals as goal
 
 pub returns : goal.returns
 returns c =
-    syllable_ordered c.args.start c.args.end c.args.buffer.now c.place_syllable.new.buffer c.sort_by_place.new.buffer c.reverse_matras.new.buffer c.requires.ordered c.requires.within c.place_syllable.ensures c.in_ok-sort_by_place.ensures c.reverse_matras.ensures
+    syllable_ordered c.args.start c.args.end c.args.buffer.now c.position_syllable.new.buffer c.sort_by_auxiliary.new.buffer c.reverse_matras.new.buffer c.requires.ordered c.requires.within c.position_syllable.ensures c.in_ok-sort_by_auxiliary.ensures c.reverse_matras.ensures

@@ -6,17 +6,17 @@ use Rattle.script_syllabic.proofs.spans.find_syllables.Goals as goal
 
 pub set_bytes-requires-clause-rising : goal.set_bytes-requires-clause-rising
 set_bytes-requires-clause-rising g c =
-    let n = c.in_ok-counted.counted.places in
+    let n = c.in_ok-counted.counted.buffer_indices in
     rises c.info_slice.result.now n.indices.items n.end c.in_ok-counted.ensures.indices c.in_ok-counted.ensures.end
 
 pub set_bytes-requires-clause-within : goal.set_bytes-requires-clause-within
 set_bytes-requires-clause-within g c =
-    let n = c.in_ok-counted.counted.places in
+    let n = c.in_ok-counted.counted.buffer_indices in
     ends_within c.info_slice.result.now n.indices.items n.end (length c.deref.result.now) c.args.buffer.now c.info_slice.ensures c.in_ok-counted.ensures.indices c.in_ok-counted.ensures.end
 
 pub returns : goal.returns
 returns g c =
-    let n = c.in_ok-counted.counted.places in
+    let n = c.in_ok-counted.counted.buffer_indices in
     let spans = g.S.SyllableSpans.span_of c.args.spans.now in
     let same = c.deref.ensures.value ∙ c.in_ok-counted.ensures.categories in
     does_stage (universal_set spans) c.set_bytes.result c.args.buffer.now c.set_bytes.new.buffer

@@ -1,4 +1,4 @@
-use Rattle.script_universal.proofs.Stretches.{left_kept, left_reach, other_kept}
+use Rattle.script_universal.proofs.LeftRanges.{left_kept, left_reach, other_kept}
 use Rattle.script_universal.proofs.reorder.end_of_left.Goals.{then-moves, else-moves}
 use Rattle.script_universal.proofs.reorder.end_of_left.Goals as goal
 

@@ -1,5 +1,5 @@
 use Rattle.std.proofs.Common.{◌≡◌}
-use Rattle.script_universal.proofs.Stretches.{left_reach}
+use Rattle.script_universal.proofs.LeftRanges.{left_reach}
 use Rattle.script_universal.proofs.reorder.end_of_left.Given as goal
 
 abbrev pub invariant-loop-i : goal.invariant-loop-i

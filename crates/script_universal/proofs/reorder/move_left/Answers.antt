@@ -1,5 +1,5 @@
 use Rattle.std.proofs.Common.{arith}
-use Rattle.script_universal.proofs.Stretches.{all_walked, both_walked}
+use Rattle.script_universal.proofs.LeftRanges.{all_walked, both_walked}
 use Rattle.script_universal.proofs.reorder.move_left.Goals as goal
 
 pub loop-i-preserved : goal.loop-i-preserved

@@ -1,6 +1,6 @@
 use Rattle.buffer_glyphs.specs.declared.info.hb_glyph_info_t.{hb_glyph_info_t}
 use Rattle.buffer_glyphs.specs.Items.{item_of}
-use Rattle.buffer_groups.specs.Sorting.{range_sorted}
+use Rattle.buffer_lists.specs.Sorting.{range_sorted}
 use Rattle.buffer_core.specs.Sides.{all_glyphs}
 use Rattle.buffer_properties.specs.Characters.{mark_class}
 use Rattle.shape_normalize.proofs.Runs.{sort_rearranges, sort_ready}

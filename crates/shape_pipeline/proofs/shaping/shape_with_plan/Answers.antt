@@ -1,4 +1,4 @@
-use Rattle.shape_pipeline.proofs.Shaped.{HandsOn, IsLeftEmpty, Keeps, refused_as_guessed, same_characters, shaped_as_guessed, told_as_guessed}
+use Rattle.shape_pipeline.proofs.Shaped.{HandsOn, IsLeftEmpty, Keeps, refused_as_guessed, same_characters, shaped_as_guessed, holds_as_guessed}
 use Rattle.shape_pipeline.specs.Shaped.{by_plan}
 use Rattle.shape_pipeline.proofs.shaping.shape_with_plan.Goals as goal
 
@@ -18,11 +18,11 @@ returns-clause-refused g c =
     c.shape_guessed.result c.into_buffer.result c.guess_segment_properties.new.self _ c.into_buffer.ensures.same c.guess_segment_properties.ensures c.shape_guessed.ensures.refused
 
 pub returns-clause-empty : goal.returns-clause-empty
-returns-clause-empty g c = told_as_guessed IsLeftEmpty c.shape_guessed.result c.into_buffer.result c.guess_segment_properties.new.self _ c.into_buffer.ensures.same c.guess_segment_properties.ensures c.shape_guessed.ensures.empty
+returns-clause-empty g c = holds_as_guessed IsLeftEmpty c.shape_guessed.result c.into_buffer.result c.guess_segment_properties.new.self _ c.into_buffer.ensures.same c.guess_segment_properties.ensures c.shape_guessed.ensures.empty
 
 pub returns-clause-handed_on : goal.returns-clause-handed_on
-returns-clause-handed_on g c = told_as_guessed HandsOn c.shape_guessed.result c.into_buffer.result c.guess_segment_properties.new.self _ c.into_buffer.ensures.same c.guess_segment_properties.ensures c.shape_guessed.ensures.handed_on
+returns-clause-handed_on g c = holds_as_guessed HandsOn c.shape_guessed.result c.into_buffer.result c.guess_segment_properties.new.self _ c.into_buffer.ensures.same c.guess_segment_properties.ensures c.shape_guessed.ensures.handed_on
 
 pub returns-clause-direction : goal.returns-clause-direction
 returns-clause-direction g c =
-    told_as_guessed (Keeps c.args.plan.now.script_plan.direction) c.shape_guessed.result c.into_buffer.result c.guess_segment_properties.new.self _ c.into_buffer.ensures.same c.guess_segment_properties.ensures c.shape_guessed.ensures.direction
+    holds_as_guessed (Keeps c.args.plan.now.script_plan.direction) c.shape_guessed.result c.into_buffer.result c.guess_segment_properties.new.self _ c.into_buffer.ensures.same c.guess_segment_properties.ensures c.shape_guessed.ensures.direction

@@ -1,7 +1,7 @@
 use Rattle.std.proofs.Common.{◌≡◌, drop}
 use Rattle.serde_json.specs.View.{items_view}
 use Rattle.shell_face_json.specs.Lists.{rows_in_turn}
-use Rattle.shell_json_values.specs.Rows.{after}
+use Rattle.shell_json.specs.Rows.{after}
 use Rattle.shell_face_json.proofs.lists.read_in_turn.Given as goal
 
 -- the rows so far, and those of what is left

@@ -1,7 +1,7 @@
 use Rattle.std.proofs.Common.{◌≡◌, codes, pos, Ok, refl, subst}
 use Rattle.std.proofs.lemmas.Result.{IfOk-weaker}
-use Rattle.shell_json_values.specs.Cell.{u16_value, i16_value}
-use Rattle.shell_json_values.specs.Objects.{read_or}
+use Rattle.shell_json.specs.Cell.{u16_value, i16_value}
+use Rattle.shell_json.specs.Objects.{read_or}
 use Rattle.shell_face_text.proofs.Definitions.{definition_found}
 use Rattle.shell_face_text.proofs.OfKeys.{is_an_object, value_found}
 use Rattle.shell_face_text.proofs.keys.take_metrics.Goals as goal

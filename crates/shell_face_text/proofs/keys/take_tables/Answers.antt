@@ -1,5 +1,5 @@
 use Rattle.std.proofs.Common.{codes, Ok, refl, sym, ap, ◌∙◌, subst}
-use Rattle.shell_json_text.specs.Part.{HasMember}
+use Rattle.shell_json.specs.TextValues.{HasMember}
 use Rattle.shell_face_json.specs.SubstitutionTable.{substitution_lookup}
 use Rattle.shell_face_json.specs.PositionTable.{positioning_lookup}
 use Rattle.shell_face_text.proofs.OfKeys.{IsTable, substitution_found, positioning_found}

@@ -1,8 +1,8 @@
 use Rattle.std.proofs.Common.{◌<◌, length, ◌≡◌, Some, None, sym, subst, ◌∙◌, arith}
 use Rattle.json.specs.Json.{after_end_array, items, value}
 use Rattle.serde_json.specs.Read.{of_items, converted}
-use Rattle.shell_json_text.specs.Part.{BeginsWith}
-use Rattle.shell_json_text.proofs.Steps.{item_step, item_end}
+use Rattle.shell_json.specs.TextValues.{BeginsWith}
+use Rattle.shell_json.proofs.TokenSteps.{item_step, item_end}
 use Rattle.shell_face_text.proofs.InTurn.{first_parts, one_more, last_parts}
 use Rattle.shell_face_text.proofs.rows.take_items.Goals as goal
 

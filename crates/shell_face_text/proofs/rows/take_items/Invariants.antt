@@ -3,7 +3,7 @@ use Rattle.json.specs.Token.{Token}
 use Rattle.json.specs.Json.{items, value}
 use Rattle.serde_json.specs.Data.{Items}
 use Rattle.serde_json.specs.Read.{of_items, converted}
-use Rattle.shell_json_values.specs.Rows.{after}
+use Rattle.shell_json.specs.Rows.{after}
 use Rattle.shell_face_json.specs.Lists.{rows_in_turn}
 use Rattle.shell_face_text.proofs.rows.take_items.Given as goal
 

@@ -2,10 +2,10 @@ use Rattle.std.proofs.Common.{◌≡◌, ◌∷◌, length, ap, ◌∙◌, subst
 use Rattle.std.proofs.lemmas.Result.{IfOk-weaker}
 use Rattle.json.specs.Token.{Token}
 use Rattle.json.specs.Reads.{token_of}
-use Rattle.shell_json_text.specs.Part.{BeginsWith}
-use Rattle.shell_json_text.proofs.Steps.{array_items}
-use Rattle.shell_json_values.specs.Cell.{and_then}
-use Rattle.shell_json_values.specs.Parts.{list_of}
+use Rattle.shell_json.specs.TextValues.{BeginsWith}
+use Rattle.shell_json.proofs.TokenSteps.{array_items}
+use Rattle.shell_json.specs.Cell.{and_then}
+use Rattle.shell_json.specs.Parts.{list_of}
 use Rattle.shell_face_json.specs.Lists.{rows_in_turn}
 use Rattle.shell_face_text.proofs.rows.take_list.Goals as goal
 

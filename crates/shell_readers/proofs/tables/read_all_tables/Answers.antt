@@ -1,5 +1,5 @@
 use Rattle.std.proofs.Common.{Err, ap}
-use Rattle.shell_json_values.specs.declared.fault.JsonFault.{JsonFault}
+use Rattle.shell_json.specs.declared.fault.JsonFault.{JsonFault}
 use Rattle.shell_readers.proofs.Faults.{passed_on}
 use Rattle.shell_readers.proofs.Reading.{rest_read, rows_refused}
 use Rattle.shell_readers.proofs.tables.read_all_tables.Goals as goal

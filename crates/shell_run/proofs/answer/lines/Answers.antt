@@ -1,7 +1,7 @@
 use Rattle.std.proofs.Common.{◌≡◌, ◌++◌, Bool, List, subst, sym, ◌∙◌, ap, string_bytes}
 use Rattle.buffer_glyphs.specs.declared.flags.SerializeFlags.{SerializeFlags}
 use Rattle.buffer_glyphs.specs.Items.{clusters}
-use Rattle.buffer_features.specs.declared.feature.Feature.{Feature}
+use Rattle.buffer_tags.specs.declared.feature.Feature.{Feature}
 use Rattle.buffer_core.specs.Readings.{Follows}
 use Rattle.buffer_core.specs.Segment.{after_guess_segment_properties}
 use Rattle.buffer_core.specs.Sides.{Sides, all_glyphs, state_of}

@@ -4,8 +4,8 @@ use Rattle.std.specs.Option.{option_copied, option_map}
 use Rattle.std.specs.Ordering.{nat_cmp}
 use Rattle.std.specs.Cmp.Lexicographic.{slice_cmp}
 use Rattle.serde_json.specs.View.{items_view}
-use Rattle.shell_json_values.specs.Rows.{is_above}
-use Rattle.buffer_languages.specs.LanguageRows.{row_text}
+use Rattle.shell_json.specs.Rows.{is_above}
+use Rattle.buffer_tags.specs.LanguageRows.{row_text}
 use Rattle.shell_tables_json.specs.Languages.{language_in, languages_in_order}
 use Rattle.shell_tables_json.proofs.Texts.{language_taken, last_text, texts_rise}
 use Rattle.shell_tables_json.proofs.languages.read_rows.Goals as goal

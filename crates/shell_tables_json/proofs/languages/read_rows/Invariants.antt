@@ -2,7 +2,7 @@ use Rattle.std.proofs.Common.{◌≡◌, drop, map}
 use Rattle.std.specs.Ordering.{nat_cmp}
 use Rattle.std.specs.Cmp.Lexicographic.{slice_cmp}
 use Rattle.serde_json.specs.View.{items_view}
-use Rattle.shell_json_values.specs.Rows.{after, is_above, rows_after}
+use Rattle.shell_json.specs.Rows.{after, is_above, rows_after}
 use Rattle.shell_tables_json.specs.Languages.{language, language_in, languages_in_order}
 use Rattle.shell_tables_json.proofs.Texts.{last_text}
 use Rattle.shell_tables_json.proofs.languages.read_rows.Given as goal

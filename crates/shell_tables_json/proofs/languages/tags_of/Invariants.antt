@@ -1,6 +1,6 @@
 use Rattle.std.proofs.Common.{◌≡◌, drop, length}
 use Rattle.serde_json.specs.View.{items_view}
-use Rattle.shell_json_values.specs.Rows.{after}
+use Rattle.shell_json.specs.Rows.{after}
 use Rattle.shell_tables_json.specs.Languages.{tags_in}
 use Rattle.shell_tables_json.proofs.languages.tags_of.Given as goal
 

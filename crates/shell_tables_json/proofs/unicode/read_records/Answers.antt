@@ -1,6 +1,6 @@
 use Rattle.std.proofs.Common.{rules, ◌≡◌, ◌≢◌, Err, refl}
 use Rattle.serde_json.specs.View.{view}
-use Rattle.shell_json_values.specs.declared.fault.JsonFault.TheVariants.{OutOfMemory}
+use Rattle.shell_json.specs.declared.fault.JsonFault.TheVariants.{OutOfMemory}
 use Rattle.shell_tables_json.specs.Unicode.{tables_keys}
 use Rattle.shell_tables_json.proofs.Keys.{then_read, not_read}
 use Rattle.shell_tables_json.proofs.unicode.read_records.Goals as goal

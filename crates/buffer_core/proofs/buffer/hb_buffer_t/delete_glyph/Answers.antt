@@ -35,7 +35,7 @@ returns-clause-deleted c g back e =
     let behind = sym (all_put b.out_info c.delete_first-marked.new.output c.delete_first-marked.new.output in_out refl wide) in
     let deletes = deletes_same b.cluster_level b.out_info.items (drop b.idx b.info.items) _ _ _ _ c.delete_first-marked.result behind ahead gone in
     let first : drop b.idx b.info.items ≡ g ∷ back = rw (← c.self.view_is) at e in
-    deleted_view b info out c.settle.new.self _ c.delete_first-marked.result g back open_now first deletes c.telling_flags-self-inside.ensures
+    deleted_view b info out c.settle.new.self _ c.delete_first-marked.result g back open_now first deletes c.add_has_glyph_flags-self-inside.ensures
     ∙ ap (with_deleted g back) c.self.view_is
 
 pub returns-clause-items : goal.returns-clause-items

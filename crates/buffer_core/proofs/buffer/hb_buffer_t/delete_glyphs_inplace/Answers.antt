@@ -27,7 +27,7 @@ returns-clause-deleted g c goes tells =
     picked_view b c.truncate.new.self c.truncate-2.new.self c.of-self-inside.result goes c.min-self-inside.result _ closed
     (c.truncate.ensures.items ∙ ap (take walk.result.0) (all_put b.info walk.new.glyphs walk.new.glyphs in_info refl wide) ∙ glyphs)
     (c.truncate-2.ensures.items ∙ ap (take walk.result.0) (all_put_positions b.pos walk.new.positions walk.new.positions in_pos refl long) ∙ positions)
-    (c.min-self-inside.ensures ∙ ap (min b.idx) count) (c.telling_flags-self-inside.ensures ∙ ap (λ m. with_has_glyph_flags m b.scratch_flags) marks)
+    (c.min-self-inside.ensures ∙ ap (min b.idx) count) (c.add_has_glyph_flags-self-inside.ensures ∙ ap (λ m. with_has_glyph_flags m b.scratch_flags) marks)
     ∙ ap (with_picked_deleted goes) same
 
 pub returns-clause-items : goal.returns-clause-items

@@ -64,8 +64,8 @@ out_is c =
     rest_put b.out_info c.deref_mut.result.now c.flag_all.new.glyphs c.args.start in_out c.deref_mut.ensures.value (there c) (omega (arith, ap length (output c), length-map rest (glyph_flagged c.args.flags), length-drop c.args.start b.out_info.items, count))
     ∙ ap (λ gs. take c.args.start b.out_info.items ++ gs) (output c)
 
-some : (c : After-self-3-1) → c.telling_flags-self-inside.result ≡ with_has_glyph_flags (nat_lt c.args.start (length (old_out c) + (c.args.end - c.self.inside.idx))) c.self.inside.scratch_flags
-some c = c.telling_flags-self-inside.ensures ∙ ap (λ any. with_has_glyph_flags any c.self.inside.scratch_flags) (c.any_within-any.ensures ∙ ap (λ n. nat_lt c.args.start (n + (c.args.end - c.self.inside.idx))) (first_of (search rules, grind (arith, common_steps))))
+some : (c : After-self-3-1) → c.add_has_glyph_flags-self-inside.result ≡ with_has_glyph_flags (nat_lt c.args.start (length (old_out c) + (c.args.end - c.self.inside.idx))) c.self.inside.scratch_flags
+some c = c.add_has_glyph_flags-self-inside.ensures ∙ ap (λ any. with_has_glyph_flags any c.self.inside.scratch_flags) (c.any_within-any.ensures ∙ ap (λ n. nat_lt c.args.start (n + (c.args.end - c.self.inside.idx))) (first_of (search rules, grind (arith, common_steps))))
 
 ahead_is : (c : After-self-3-1) → drop c.self.inside.idx (new_info c).items ≡ map (glyph_flagged c.args.flags) (slice_range (old_info c) c.self.inside.idx c.args.end) ++ drop c.args.end (old_info c)
 ahead_is c =
@@ -76,7 +76,7 @@ ahead_is c =
 
 pub returns : goal.returns
 returns c = record {
-  marked = flagged_across_view c.self.inside (new_info c) (new_out c) c.self.inside.order c.args.flags c.args.start c.args.end c.telling_flags-self-inside.result (open_now c) (there c) (begins c) (out_is c) (ahead_is c) (some c)
+  marked = flagged_across_view c.self.inside (new_info c) (new_out c) c.self.inside.order c.args.flags c.args.start c.args.end c.add_has_glyph_flags-self-inside.result (open_now c) (there c) (begins c) (out_is c) (ahead_is c) (some c)
       ∙ ap (λ (s : Sides). with_flagged c.args.flags c.args.start (index_in_all c.args.end s) s) c.self.view_is;
 }
 

@@ -21,7 +21,7 @@ returns c =
     let begins = start_before b c.args.start unread in
     record {
       marked = flagged_view b (with_items b.info c.flag_within.new.glyphs) b.order c.args.flags (start_of b) c.args.start c.args.end _ c.self.invariant.cursor c.requires.ordered unread refl
-          (ap (drop (start_of b)) info ∙ flagged_rest c.args.flags c.args.start c.args.end (start_of b) b.info.items before begins c.requires.ordered) c.telling_flags-self-inside.ensures
+          (ap (drop (start_of b)) info ∙ flagged_rest c.args.flags c.args.start c.args.end (start_of b) b.info.items before begins c.requires.ordered) c.add_has_glyph_flags-self-inside.ensures
           ∙ ap (λ (s : Sides). with_flagged c.args.flags (index_in_all c.args.start s) (index_in_all c.args.end s) s) c.self.view_is;
     }
 

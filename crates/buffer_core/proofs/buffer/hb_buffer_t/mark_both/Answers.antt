@@ -69,8 +69,8 @@ out_is c =
     rest_put b.out_info c.deref_mut-2.result.now c.mark_across-any.new.behind c.args.start in_out c.deref_mut-2.ensures.value (there c) (omega (arith, ap length (output c), length-map rest (mark c), length-drop c.args.start b.out_info.items, count))
     ∙ ap (λ gs. take c.args.start b.out_info.items ++ gs) (output c)
 
-marks : (c : After-self-3-1) → c.telling_flags-self-inside.result ≡ with_has_glyph_flags (has_several_numbers (clusters (drop c.args.start (old_out c)) ++ clusters (slice_range (old_info c) c.self.inside.idx c.args.end))) c.self.inside.scratch_flags
-marks c = c.telling_flags-self-inside.ensures ∙ ap (λ any. with_has_glyph_flags any c.self.inside.scratch_flags) (rw (c.deref_mut.ensures.value, c.deref_mut-2.ensures.value, take_rest (old_out c) c.args.start) at c.mark_across-any.ensures.any)
+marks : (c : After-self-3-1) → c.add_has_glyph_flags-self-inside.result ≡ with_has_glyph_flags (has_several_numbers (clusters (drop c.args.start (old_out c)) ++ clusters (slice_range (old_info c) c.self.inside.idx c.args.end))) c.self.inside.scratch_flags
+marks c = c.add_has_glyph_flags-self-inside.ensures ∙ ap (λ any. with_has_glyph_flags any c.self.inside.scratch_flags) (rw (c.deref_mut.ensures.value, c.deref_mut-2.ensures.value, take_rest (old_out c) c.args.start) at c.mark_across-any.ensures.any)
 
 ahead_is : (c : After-self-3-1) → drop c.self.inside.idx (new_info c).items ≡ map (mark c) (slice_range (old_info c) c.self.inside.idx c.args.end) ++ drop c.args.end (old_info c)
 ahead_is c =
@@ -81,7 +81,7 @@ ahead_is c =
 
 pub returns : goal.returns
 returns c = record {
-  marked = marked_across_view c.self.inside (new_info c) (new_out c) c.self.inside.order c.args.flags c.args.start c.args.end c.telling_flags-self-inside.result (open_now c) (there c) (begins c) (out_is c) (ahead_is c) (marks c)
+  marked = marked_across_view c.self.inside (new_info c) (new_out c) c.self.inside.order c.args.flags c.args.start c.args.end c.add_has_glyph_flags-self-inside.result (open_now c) (there c) (begins c) (out_is c) (ahead_is c) (marks c)
       ∙ ap (λ (s : Sides). with_flagged_apart c.args.flags c.args.start (index_in_all c.args.end s) s) c.self.view_is;
 }
 

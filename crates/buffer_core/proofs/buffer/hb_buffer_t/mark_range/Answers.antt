@@ -24,7 +24,7 @@ returns c =
     let begins = start_before b c.args.start unread in
     record {
       marked = marked_view b (with_items b.info c.mark_within-any.new.glyphs) c.settle.new.self c.args.flags (start_of b) c.args.start c.args.end _ c.self.invariant.cursor c.requires.ordered unread refl
-          (ap (drop (start_of b)) info ∙ marked_rest c.args.flags c.args.start c.args.end (start_of b) b.info.items before begins c.requires.ordered) (c.telling_flags-self-inside.ensures ∙ ap (λ any. with_has_glyph_flags any b.scratch_flags) (marks ∙ ap has_several_numbers (stretch_rest c.args.start c.args.end (start_of b) b.info.items before begins c.requires.ordered)))
+          (ap (drop (start_of b)) info ∙ marked_rest c.args.flags c.args.start c.args.end (start_of b) b.info.items before begins c.requires.ordered) (c.add_has_glyph_flags-self-inside.ensures ∙ ap (λ any. with_has_glyph_flags any b.scratch_flags) (marks ∙ ap has_several_numbers (stretch_rest c.args.start c.args.end (start_of b) b.info.items before begins c.requires.ordered)))
           ∙ ap (λ (s : Sides). with_flagged_apart c.args.flags (index_in_all c.args.start s) (index_in_all c.args.end s) s) c.self.view_is;
     }
 

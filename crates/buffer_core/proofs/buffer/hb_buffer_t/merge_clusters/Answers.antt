@@ -47,7 +47,7 @@ returns-clause-merged c =
     let behind = all_put b.out_info merged.new.output _ in_out output (length_beside b.cluster_level range b.out_info.items) in
     let info = with_items b.info (put_mid from (length c.deref_mut-2.result.now - from) c.deref_mut-2.result.now merged.new.input) in
     let out = with_items b.out_info merged.new.output in
-    merged_view b info out (record { known = merged.result.1; lent = c.settle.new.self.lent }) from c.args.start c.args.end _ c.self.invariant.cursor c.requires.ordered (rw (← c.self.view_is) at c.requires.unread) begins ahead behind (c.telling_flags-self-inside.ensures ∙ ap (λ m. with_has_glyph_flags m b.scratch_flags) any)
+    merged_view b info out (record { known = merged.result.1; lent = c.settle.new.self.lent }) from c.args.start c.args.end _ c.self.invariant.cursor c.requires.ordered (rw (← c.self.view_is) at c.requires.unread) begins ahead behind (c.add_has_glyph_flags-self-inside.ensures ∙ ap (λ m. with_has_glyph_flags m b.scratch_flags) any)
     ∙ ap (λ (s : Sides). with_merged (index_in_all c.args.start s) (index_in_all c.args.end s) s) c.self.view_is
 
 pub returns-clause-items : goal.returns-clause-items

@@ -24,7 +24,7 @@ returns-clause-turned g c joins decides =
     let wide : length groups.new.glyphs ≡ length b.info.items = first_of (search rules, grind (arith, common_steps)) in
     let long : length groups.new.positions ≡ length b.pos.items = first_of (search rules, grind (arith, common_steps)) in
     grouped_view c.args.merge joins b (with_items b.info groups.new.glyphs) (with_items b.pos groups.new.positions) c.of-self-inside.result _ closed
-    (all_put b.info groups.new.glyphs _ in_info glyphs (sym (ap length glyphs) ∙ wide)) (all_put_positions b.pos groups.new.positions _ in_pos positions (sym (ap length positions) ∙ long)) (c.telling_flags-self-inside.ensures ∙ ap (λ m. with_has_glyph_flags m b.scratch_flags) marks)
+    (all_put b.info groups.new.glyphs _ in_info glyphs (sym (ap length glyphs) ∙ wide)) (all_put_positions b.pos groups.new.positions _ in_pos positions (sym (ap length positions) ∙ long)) (c.add_has_glyph_flags-self-inside.ensures ∙ ap (λ m. with_has_glyph_flags m b.scratch_flags) marks)
     ∙ ap (with_groups_reversed c.args.merge joins) same
 
 pub returns-clause-plain : goal.returns-clause-plain

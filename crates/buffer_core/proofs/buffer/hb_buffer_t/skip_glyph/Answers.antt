@@ -5,7 +5,7 @@ use Rattle.buffer_core.specs.Merging.{with_glyph_skipped}
 use Rattle.buffer_core.specs.Sides.{items_of, origins_of}
 use Rattle.buffer_core.proofs.Apart.{skipped_view, skipped_items}
 use Rattle.buffer_core.proofs.Ordered.{order_skipped}
-use Rattle.buffer_lists.specs.Known.{known_clusters_ahead, known_clusters_behind}
+use Rattle.buffer_lists.specs.Known.{known_input_clusters, known_output_clusters}
 use Rattle.buffer_core.proofs.buffer.hb_buffer_t.skip_glyph.Goals as goal
 use Rattle.buffer_core.proofs.MergedOrigins.{skipped_origins}
 
@@ -27,5 +27,5 @@ invariant_of-self c =
       output_within = first_of (search rules, grind (arith, common_steps));
       closed = first_of (search rules, grind (arith, common_steps));
       placed = first_of (search rules, grind (arith, common_steps));
-      ordered = rw open_now (order_skipped c.self.inside.order.known (known_clusters_behind c.self.inside.order.lent (clusters c.self.inside.out_info.items)) (known_clusters_ahead c.self.inside.order.lent (clusters c.self.inside.info.items)) c.self.inside.idx (rw open_now at c.self.invariant.ordered));
+      ordered = rw open_now (order_skipped c.self.inside.order.known (known_output_clusters c.self.inside.order.lent (clusters c.self.inside.out_info.items)) (known_input_clusters c.self.inside.order.lent (clusters c.self.inside.info.items)) c.self.inside.idx (rw open_now at c.self.invariant.ordered));
     }

@@ -21,7 +21,7 @@ returns-clause-sorted g c k gives =
     let glyphs = rw c.deref_mut.ensures.value at (c.in_ok-sorted.ensures.sorted k gives) in
     let marks = rw c.deref_mut.ensures.value at (c.in_ok-sorted.ensures.marked k gives) in
     sorted_view b (with_items b.info c.sort.new.glyphs) c.of-self-inside.result c.args.start c.args.end k _ closed c.self.invariant.cursor
-    (all_put b.info c.sort.new.glyphs _ in_info glyphs (sym (ap length glyphs) ∙ wide)) (c.telling_flags-self-inside.ensures ∙ ap (λ m. with_has_glyph_flags m b.scratch_flags) marks)
+    (all_put b.info c.sort.new.glyphs _ in_info glyphs (sym (ap length glyphs) ∙ wide)) (c.add_has_glyph_flags-self-inside.ensures ∙ ap (λ m. with_has_glyph_flags m b.scratch_flags) marks)
     ∙ ap (with_range_sorted c.args.start c.args.end k) same
 
 pub returns-clause-items : goal.returns-clause-items

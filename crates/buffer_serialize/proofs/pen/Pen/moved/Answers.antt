@@ -3,4 +3,4 @@ use Rattle.buffer_serialize.proofs.Steps.{near_step}
 use Rattle.buffer_serialize.proofs.pen.Pen.moved.Goals as goal
 
 pub returns-clause-near : goal.returns-clause-near
-returns-clause-near c = λ bound h. near_step bound c.args.self _ c.args.place.now.x_advance c.args.place.now.y_advance (search rules) (search rules) (search rules) h
+returns-clause-near c = λ bound h. near_step bound c.args.self _ c.args.position.now.x_advance c.args.position.now.y_advance (search rules) (search rules) (search rules) h

@@ -1,6 +1,6 @@
 use Rattle.std.proofs.Common.{ℕ, ◌≡◌, Some, None, Ok, false, refl, sym, ap, ◌∙◌}
 use Rattle.buffer_glyphs.specs.Items.{item_of}
-use Rattle.layout_subtables.specs.Substitutions.{glyphs_of}
+use Rattle.layout_tables.specs.Substitutions.{glyphs_of}
 use Rattle.buffer_stages.proofs.Lemmas.Does.{passed_same}
 use Rattle.layout_gsub.specs.Alternates.{feature_value}
 use Rattle.layout_gsub.proofs.Tested.{alternate_performs}

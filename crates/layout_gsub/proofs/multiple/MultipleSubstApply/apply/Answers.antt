@@ -1,5 +1,5 @@
 use Rattle.std.proofs.Common.{◌≡◌, Some, None, Ok, false, refl, sym}
-use Rattle.layout_subtables.specs.Substitutions.{glyphs_of}
+use Rattle.layout_tables.specs.Substitutions.{glyphs_of}
 use Rattle.buffer_stages.proofs.Lemmas.Does.{passed_same}
 use Rattle.layout_gsub.proofs.Tested.{multiple_performs}
 use Rattle.layout_gsub.proofs.multiple.MultipleSubstApply.apply.Goals as goal

@@ -2,7 +2,7 @@ use Rattle.std.proofs.Common.{refl, subst}
 use Rattle.buffer_core.specs.Readings.{always}
 use Rattle.buffer_core.specs.Sides.{Sides}
 use Rattle.buffer_stages.specs.Ready.{IsDone}
-use Rattle.shape_masks.specs.Masks.{with_one_mask}
+use Rattle.shape_text.specs.Masks.{with_one_mask}
 use Rattle.shape_pipeline.proofs.Begun.{characters_masked, text_begun_followed, text_begun_refused}
 use Rattle.shape_pipeline.proofs.Phases.{stage_refused}
 use Rattle.shape_pipeline.proofs.context.hb_ot_shape_context_t.begin_text.Goals as goal

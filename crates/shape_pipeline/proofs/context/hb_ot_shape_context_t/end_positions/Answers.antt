@@ -3,4 +3,4 @@ use Rattle.shape_pipeline.proofs.context.hb_ot_shape_context_t.end_positions.Goa
 
 pub returns : goal.returns
 returns g c =
-    line_ended _ c.args.buffer.now c.zero_ignorables.new.buffer c.position_finish_offsets.new.buffer c.place_marks.new.buffer c.draw.new.buffer c.zero_ignorables.ensures c.position_finish_offsets.ensures c.place_marks.ensures c.draw.ensures
+    line_ended _ c.args.buffer.now c.zero_ignorables.new.buffer c.position_finish_offsets.new.buffer c.position_marks_by_plan.new.buffer c.draw.new.buffer c.zero_ignorables.ensures c.position_finish_offsets.ensures c.position_marks_by_plan.ensures c.draw.ensures

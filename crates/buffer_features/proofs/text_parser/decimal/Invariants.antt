@@ -1,7 +1,0 @@
-use Rattle.std.proofs.Common.{◌≡◌, ◌≤◌, fold, drop}
-use Rattle.buffer_features.specs.TextParser.{decimal_value}
-use Rattle.buffer_features.proofs.Decimals.{next_value}
-use Rattle.buffer_features.proofs.text_parser.decimal.Given as goal
-
-abbrev pub invariant-loop-digit : goal.invariant-loop-digit
-invariant-loop-digit l = (l.value ≤ l.most) × (fold next_value l.value (drop l.digit-index l.digits) ≡ decimal_value l.digits)

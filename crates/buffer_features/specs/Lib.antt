@@ -1,4 +1,0 @@
-pub mod TextParser
-pub mod Feature
-pub mod FeatureText
-pub mod FeatureGrammar

@@ -1,5 +1,0 @@
-use Rattle.buffer_glyphs.specs.Deleted.{items_deleted}
-use Rattle.buffer_groups.proofs.laws.law_deletes_one_item.Goals as goal
-
-pub returns : goal.returns
-returns c = items_deleted

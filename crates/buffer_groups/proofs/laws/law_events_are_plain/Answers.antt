@@ -1,5 +1,0 @@
-use Rattle.buffer_groups.specs.Lemmas.OrderSpans.{events_are_plain}
-use Rattle.buffer_groups.proofs.laws.law_events_are_plain.Goals as goal
-
-pub returns : goal.returns
-returns c = events_are_plain

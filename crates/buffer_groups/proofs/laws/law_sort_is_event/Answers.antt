@@ -1,5 +1,0 @@
-use Rattle.buffer_groups.specs.Lemmas.SortedEvents.{sort_is_event}
-use Rattle.buffer_groups.proofs.laws.law_sort_is_event.Goals as goal
-
-pub returns : goal.returns
-returns c = sort_is_event

@@ -1,2 +1,0 @@
-pub mod LanguageRows
-pub mod LanguageTable

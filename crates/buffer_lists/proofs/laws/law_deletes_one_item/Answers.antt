@@ -1,0 +1,5 @@
+use Rattle.buffer_glyphs.specs.Deleted.{items_deleted}
+use Rattle.buffer_lists.proofs.laws.law_deletes_one_item.Goals as goal
+
+pub returns : goal.returns
+returns c = items_deleted

@@ -1,0 +1,180 @@
+//! The state of a walk of deletions in place.
+ghost use Rattle.std.specs.Prelude.{◌≡◌, ◌+◌, ◌<◌, ◌≤◌, ◌++◌, ◌||◌, ◌∷◌, [], None, true, false, Bool, List, Some, length, take, drop};
+ghost use Rattle.buffer_glyphs.specs.declared.info.hb_glyph_info_t.{hb_glyph_info_t as Glyph};
+ghost use Rattle.buffer_glyphs.specs.declared.level.BufferClusterLevel.{BufferClusterLevel as Level};
+ghost use Rattle.buffer_glyphs.specs.Items.{Position, clusters};
+ghost use Rattle.buffer_glyphs.specs.Parts.{first_of, last_of, is_number};
+ghost use Rattle.buffer_glyphs.specs.Order.{IsOrdered};
+ghost use Rattle.buffer_glyphs.specs.Deleting.{Deletes, DeletionSides, deletion_marks, end_recast, glyphs_deleted};
+ghost use Rattle.buffer_lists.specs.DeletionWalk.{IsDue, IsWalk, AnswersAs, first_step, walk_at, settled_glyphs, without_glyph};
+
+use buffer_glyphs::deletion::{delete_at_front, next_has, recast_end};
+use buffer_glyphs::info::hb_glyph_info_t;
+use buffer_glyphs::level::BufferClusterLevel;
+use buffer_glyphs::position::GlyphPosition;
+use buffer_glyphs::runs::last_cluster;
+
+/// The state of a walk of deletions. Where clusters are in order, the last run of the glyphs that are left takes a new
+/// cluster only once another glyph is left after it, so that it is written once.
+#[derive(Clone, Copy)]
+pub(super) struct Walk {
+    /// How many glyphs are left so far.
+    pub(super) kept: usize,
+    /// The glyph whose cluster and flags the last run of these is still to take.
+    pub(super) due: Option<hb_glyph_info_t>,
+    /// Whether a merge flagged a glyph.
+    pub(super) marked: bool,
+}
+
+/// Gives the last run of the first `kept` glyphs the cluster and flags that it is still to take.
+#[tactic(auto, using(crate::proofs::Walking::settled_put))]
+pub(super) fn settle(glyphs: &mut [hb_glyph_info_t], kept: usize, due: Option<hb_glyph_info_t>)
+    requires { kept ≤ length glyphs.old }
+    ensures { glyphs.new ≡ settled_glyphs due (take kept glyphs.old) ++ drop kept glyphs.old }
+{
+    if let Some(glyph) = due {
+        recast_end(&mut glyphs[..kept], &glyph);
+    }
+}
+
+/// Leaves the glyph at `at`: it moves after the glyphs that are left.
+#[tactic(auto, using(crate::proofs::Walking::keep_front, crate::proofs::Walking::keep_ahead))]
+fn keep_glyph(
+    glyphs: &mut [hb_glyph_info_t],
+    positions: &mut [GlyphPosition],
+    at: usize,
+    walk: Walk,
+) -> Walk
+    requires within { at < length glyphs.old }
+    requires placed { length positions.old ≡ length glyphs.old }
+    requires few { walk.kept ≤ at }
+    ensures glyphs { take (walk.kept + 1) glyphs.new
+        ≡ settled_glyphs walk.due (take walk.kept glyphs.old) ++ take 1 (drop at glyphs.old) }
+    ensures rest_glyphs { drop (at + 1) glyphs.new ≡ drop (at + 1) glyphs.old }
+    ensures positions { take (walk.kept + 1) positions.new
+        ≡ take walk.kept positions.old ++ take 1 (drop at positions.old) }
+    ensures rest_positions { drop (at + 1) positions.new ≡ drop (at + 1) positions.old }
+    ensures walk { result ≡ record { kept = walk.kept + 1; due = None; marked = walk.marked } }
+{
+    settle(glyphs, walk.kept, walk.due);
+    move_glyph(glyphs, walk.kept, at);
+    move_position(positions, walk.kept, at);
+    Walk {
+        kept: walk.kept + 1,
+        due: None,
+        marked: walk.marked,
+    }
+}
+
+#[tactic(auto, using(crate::proofs::Walking::moved_front, crate::proofs::Walking::moved_back))]
+fn move_glyph(glyphs: &mut [hb_glyph_info_t], to: usize, from: usize)
+    requires ordered { to ≤ from }
+    requires within { from < length glyphs.old }
+    ensures front { take (to + 1) glyphs.new ≡ take to glyphs.old ++ take 1 (drop from glyphs.old) }
+    ensures back { drop (from + 1) glyphs.new ≡ drop (from + 1) glyphs.old }
+{
+    glyphs[to] = glyphs[from];
+}
+
+#[tactic(auto, using(crate::proofs::Walking::moved_front, crate::proofs::Walking::moved_back))]
+fn move_position(positions: &mut [GlyphPosition], to: usize, from: usize)
+    requires ordered { to ≤ from }
+    requires within { from < length positions.old }
+    ensures front { take (to + 1) positions.new ≡ take to positions.old ++ take 1 (drop from positions.old) }
+    ensures back { drop (from + 1) positions.new ≡ drop (from + 1) positions.old }
+{
+    positions[to] = positions[from];
+}
+
+/// The cluster of the last glyph that is left, once it took the one that it is still to take.
+#[tactic(auto, using(crate::proofs::Walking::last_settled))]
+fn last_kept(glyphs: &[hb_glyph_info_t], kept: usize, due: Option<hb_glyph_info_t>) -> u32
+    requires some { 0 < kept }
+    requires within { kept ≤ length glyphs.now }
+    ensures { last_of (clusters (settled_glyphs due (take kept glyphs.now))) ≡ Some result }
+{
+    match due {
+        Some(glyph) => glyph.cluster,
+        None => last_cluster(&glyphs[..kept]),
+    }
+}
+
+/// Deletes glyph `at`, where a glyph before it is left.
+fn delete_after_kept(glyphs: &mut [hb_glyph_info_t], at: usize, walk: Walk, in_order: bool) -> Walk
+    requires some { 0 < walk.kept }
+    requires within { at < length glyphs.old }
+    requires sound { IsWalk in_order at walk glyphs.old }
+    ensures deletes { (level : Level) →
+        Deletes level (settled_glyphs walk.due (take walk.kept glyphs.old)) (drop at glyphs.old)
+        (settled_glyphs result.due (take result.kept glyphs.new)) (drop (at + 1) glyphs.new) false }
+    ensures due { IsDue in_order result.due (take result.kept glyphs.new) }
+    ensures kept { result.kept ≡ walk.kept }
+    ensures marked { result.marked ≡ walk.marked }
+{
+    let glyph = glyphs[at];
+    let last = last_kept(glyphs, walk.kept, walk.due);
+    if last <= glyph.cluster {
+        return walk;
+    }
+    if next_has(glyphs, at + 1, glyph.cluster) {
+        return walk;
+    }
+    if in_order {
+        return Walk {
+            due: Some(glyph),
+            ..walk
+        };
+    }
+    settle(glyphs, walk.kept, Some(glyph));
+    Walk { due: None, ..walk }
+}
+
+/// Deletes glyph `at`.
+pub(super) fn delete_glyph(
+    glyphs: &mut [hb_glyph_info_t],
+    at: usize,
+    walk: Walk,
+    level: BufferClusterLevel,
+    in_order: bool,
+) -> Walk
+    requires within { at < length glyphs.old }
+    requires sound { IsWalk in_order at walk glyphs.old }
+    ensures passed { (ps : List Position) (g : Glyph) (back : List Glyph) → drop at glyphs.old ≡ g ∷ back →
+        walk_at (at + 1) result glyphs.new ps ≡ without_glyph level (walk_at at walk glyphs.old ps) g back }
+    ensures sound { IsWalk in_order (at + 1) result glyphs.new }
+{
+    if walk.kept == 0 {
+        let marked = delete_at_front(glyphs, at, level, in_order);
+        return Walk {
+            kept: 0,
+            due: None,
+            marked: walk.marked | marked,
+        };
+    }
+    delete_after_kept(glyphs, at, walk, in_order)
+}
+
+/// Deletes glyph `at` where `filter` holds.
+pub(super) fn pass_glyph<F: Fn(&hb_glyph_info_t) -> bool>(
+    glyphs: &mut [hb_glyph_info_t],
+    positions: &mut [GlyphPosition],
+    at: usize,
+    walk: Walk,
+    level: BufferClusterLevel,
+    in_order: bool,
+    filter: &F,
+) -> Walk
+    requires callable { F.IsAlwaysCallable filter.now }
+    requires within { at < length glyphs.old }
+    requires placed { length positions.old ≡ length glyphs.old }
+    requires sound { IsWalk in_order at walk glyphs.old }
+    ensures passed { (goes : Glyph → Bool) → AnswersAs F.Fn filter.now goes →
+        walk_at (at + 1) result glyphs.new positions.new
+        ≡ first_step level goes (walk_at at walk glyphs.old positions.old) }
+    ensures sound { IsWalk in_order (at + 1) result glyphs.new }
+{
+    if filter(&glyphs[at]) {
+        return delete_glyph(glyphs, at, walk, level, in_order);
+    }
+    keep_glyph(glyphs, positions, at, walk)
+}

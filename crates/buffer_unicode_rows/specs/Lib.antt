@@ -1,5 +1,0 @@
-pub mod Inside
-pub mod Keys
-pub mod Numbers
-pub mod Ranges
-pub mod Rows

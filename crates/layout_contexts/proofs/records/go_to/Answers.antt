@@ -1,6 +1,0 @@
-use Rattle.std.proofs.Common.{Ok, ap}
-use Rattle.layout_contexts.proofs.Cuts.{went_there}
-use Rattle.layout_contexts.proofs.records.go_to.Goals as goal
-
-pub returns-clause-ok : goal.returns-clause-ok
-returns-clause-ok c = went_there c.args.place c.args.buffer.now c.move_to.new.self (c.in_ok-move_to.ensures.moved (ap Ok c.if-not-branch.false))

@@ -1,8 +1,0 @@
-use Rattle.std.proofs.Common.{rules}
-use Rattle.layout_links.proofs.Ended.{cleared_next}
-use Rattle.layout_links.proofs.finish.clear_links.Goals as goal
-
-pub loop-i-preserved : goal.loop-i-preserved
-loop-i-preserved c =
-    let s = c.loop-i in
-    cleared_next c.args.positions.now s.positions s.i c.unattached.result s.invariant (search rules) c.unattached.ensures

@@ -1,5 +1,0 @@
-use Rattle.layout_links.proofs.Kept.{links_are_cleared}
-use Rattle.layout_links.proofs.laws.law_links_are_cleared.Goals as goal
-
-pub returns : goal.returns
-returns c = links_are_cleared

@@ -1,5 +1,0 @@
-use Rattle.layout_links.proofs.Drawn.{trees_are_drawn}
-use Rattle.layout_links.proofs.laws.law_trees_are_drawn.Goals as goal
-
-pub returns : goal.returns
-returns c = trees_are_drawn

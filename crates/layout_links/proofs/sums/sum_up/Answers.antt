@@ -1,8 +1,0 @@
-use Rattle.std.proofs.Common.{rules}
-use Rattle.layout_links.proofs.Summing.{summing_next}
-use Rattle.layout_links.proofs.sums.sum_up.Goals as goal
-
-pub loop-i-preserved : goal.loop-i-preserved
-loop-i-preserved c =
-    let s = c.loop-i in
-    summing_next c.args.positions.now s.i s.pen c.pen_after-pen.result s.positions c.kind_tested-place.result c.with_pen.result s.invariant (search rules) c.kind_tested-place.ensures.value c.kind_tested-place.ensures.fits c.pen_after-pen.ensures c.with_pen.ensures

@@ -1,5 +1,0 @@
-use Rattle.layout_links.proofs.Lemmas.Summing.{IsParting}
-use Rattle.layout_links.proofs.sums.take_apart.Given as goal
-
-abbrev pub invariant-loop-i : goal.invariant-loop-i
-invariant-loop-i l = IsParting l.fn.positions l.i l.pen l.positions

@@ -1,0 +1,8 @@
+use Rattle.std.proofs.Common.{rules}
+use Rattle.layout_offsets.proofs.Ended.{cleared_next}
+use Rattle.layout_offsets.proofs.finish.clear_links.Goals as goal
+
+pub loop-i-preserved : goal.loop-i-preserved
+loop-i-preserved c =
+    let s = c.loop-i in
+    cleared_next c.args.positions.now s.positions s.i c.unattached_position.result s.invariant (search rules) c.unattached_position.ensures

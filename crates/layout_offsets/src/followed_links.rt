@@ -1,0 +1,268 @@
+//! Glyphs drawn from where their links lead, on a list of positions (rustybuzz: hb/ot_layout_gpos_table.rs,
+//! `propagate_attachment_offsets`).
+ghost use Rattle.std.specs.Prelude.{◌≡◌, ◌<◌, length};
+ghost use Rattle.buffer_common.specs.declared.direction.Direction.{Direction as Way};
+ghost use Rattle.std.specs.Prelude.{MatchOption, true, false, pos, ◌+ℤ◌};
+ghost use Rattle.layout_offsets.specs.FollowedLinks.{with_child_drawn, with_link_cleared, finished_positions, with_link_followed, with_links_followed, offset_by, child_drawn};
+ghost use Rattle.layout_offsets.specs.Links.{link_target, position_at};
+ghost use Rattle.layout_offsets.specs.AdvanceSums.{drawn_by_sums, mark_by_sums, pen_before, back_by, on_by};
+ghost use Rattle.layout_offsets.specs.Walks.{IsComing, WalkStops, StepsToParent, HasReturn, StepsBack, are_shut, is_open, opened_link, closed_link};
+
+use crate::advance_sums::{PEN_DOWN, Pen, pen_of, pen_way, sum_up, take_apart};
+use buffer_common::direction::Direction;
+use buffer_glyphs::position::GlyphPosition;
+use crate::links::linked;
+use crate::sums::{minus, plus};
+
+fn offset_by(base: GlyphPosition, position: GlyphPosition) -> GlyphPosition
+    ensures { result ≡ offset_by base position }
+{
+    let mut based = position;
+    based.x_offset = plus(position.x_offset, base.x_offset);
+    based.y_offset = plus(position.y_offset, base.y_offset);
+    based
+}
+
+fn child_drawn(across: bool, base: GlyphPosition, position: GlyphPosition) -> GlyphPosition
+    ensures { result ≡ child_drawn across base position }
+{
+    let mut drawn = position;
+    if across {
+        drawn.y_offset = plus(position.y_offset, base.y_offset);
+    } else {
+        drawn.x_offset = plus(position.x_offset, base.x_offset);
+    }
+    drawn
+}
+
+/// A position with a distance subtracted from its offsets.
+fn back_by(way: Pen, position: GlyphPosition) -> GlyphPosition
+    ensures { result ≡ back_by way position }
+{
+    let mut moved = position;
+    moved.x_offset = minus(position.x_offset, way.x);
+    moved.y_offset = minus(position.y_offset, way.y);
+    moved
+}
+
+fn on_by(way: Pen, position: GlyphPosition) -> GlyphPosition
+    ensures { result ≡ on_by way position }
+{
+    let mut moved = position;
+    moved.x_offset = plus(position.x_offset, way.x);
+    moved.y_offset = plus(position.y_offset, way.y);
+    moved
+}
+
+/// The pen before a glyph.
+fn pen_before(positions: &[GlyphPosition], at: usize) -> Pen
+    requires { at < length positions.now }
+    ensures { result ≡ pen_before at positions.now }
+{
+    if at == 0 {
+        PEN_DOWN
+    } else {
+        pen_of(positions[at - 1])
+    }
+}
+
+/// The position of a mark, once its parent is drawn.
+fn mark_drawn(
+    positions: &[GlyphPosition],
+    child: usize,
+    parent: usize,
+    is_forward: bool,
+) -> GlyphPosition
+    requires child { child < length positions.now }
+    requires parent { parent < length positions.now }
+    ensures { result ≡ mark_by_sums is_forward child parent positions.now }
+{
+    let based = offset_by(positions[parent], positions[child]);
+    if parent >= child {
+        return based;
+    }
+    if is_forward {
+        return back_by(
+            pen_way(pen_before(positions, parent), pen_before(positions, child)),
+            based,
+        );
+    }
+    on_by(
+        pen_way(pen_of(positions[parent]), pen_of(positions[child])),
+        based,
+    )
+}
+
+/// Draws a glyph, once its parent is drawn.
+fn draw_child(positions: &mut [GlyphPosition], child: usize, parent: usize, direction: Direction)
+    requires child { child < length positions.old }
+    requires parent { parent < length positions.old }
+    ensures { positions.new ≡ with_child_drawn (drawn_by_sums direction) child parent positions.old }
+{
+    let position = positions[child];
+    positions[child] = if position.attach_type == 2 {
+        child_drawn(direction.is_horizontal(), positions[parent], position)
+    } else {
+        mark_drawn(positions, child, parent, direction.is_forward())
+    };
+}
+
+/// The bit added to the kind of a link while a walk is beyond it.
+const OPEN: u8 = 128;
+
+/// A glyph, and the link by which a walk reached it.
+#[derive(Clone, Copy)]
+struct Step {
+    by: i16,
+    at: usize,
+}
+
+/// The end of a walk, and how many glyphs it came through.
+#[derive(Clone, Copy)]
+struct Walk {
+    last: Step,
+    depth: usize,
+}
+
+fn is_open(position: &GlyphPosition) -> bool
+    ensures { result ≡ is_open position.now }
+{
+    position.attach_type >= OPEN && position.attach_chain != 0
+}
+
+fn opened_link(position: GlyphPosition, by: i16) -> GlyphPosition
+    requires { position.attach_type < 128 }
+    ensures { result ≡ opened_link by position }
+{
+    let mut open = position;
+    open.attach_chain = by;
+    open.attach_type += OPEN;
+    open
+}
+
+fn closed_link(position: GlyphPosition) -> GlyphPosition
+    requires { is_open position ≡ true }
+    ensures value { result ≡ closed_link position }
+    ensures closed { is_open result ≡ false }
+{
+    let mut closed = position;
+    closed.attach_chain = 0;
+    closed.attach_type -= OPEN;
+    closed
+}
+
+/// Clears a glyph's link.
+fn unlink(positions: &mut [GlyphPosition], at: usize)
+    requires here { at < length positions.old }
+    ensures { positions.new ≡ with_link_cleared at positions.old }
+{
+    positions[at].attach_chain = 0;
+}
+
+/// Follows a glyph's link, and stores there the link by which the walk reached the glyph.
+fn step_to_parent(positions: &mut [GlyphPosition], last: Step) -> Option<Step>
+    requires here { last.at < length positions.old }
+    ensures { MatchOption result (WalkStops last.at positions.old positions.new)
+        (λ s. StepsToParent s.at s.by last.at last.by positions.old positions.new) }
+{
+    let at = last.at;
+    let position = positions[at];
+    if is_open(&position) {
+        return None;
+    }
+    let link = position.attach_chain;
+    let Some(there) = linked(positions.len(), at, link) else {
+        unlink(positions, at);
+        return None;
+    };
+    positions[at] = opened_link(position, last.by);
+    Some(Step {
+        by: link,
+        at: there,
+    })
+}
+
+/// The glyph that a walk came from.
+#[tactic(auto, using(crate::proofs::Going::came_open))]
+fn step_origin(positions: &[GlyphPosition], last: Step) -> usize
+    requires here { last.at < length positions.now }
+    requires came { HasReturn last.at last.by positions.now }
+    ensures within { result < length positions.now }
+    ensures link { pos last.at ≡ pos result +ℤ last.by }
+    ensures open { is_open (position_at result positions.now) ≡ true }
+{
+    let _count = positions.len();
+    (last.at as isize - isize::from(last.by)) as usize
+}
+
+/// Returns to the glyph that a walk came from, and draws it.
+fn step_to_child(positions: &mut [GlyphPosition], last: Step, direction: Direction) -> Step
+    requires here { last.at < length positions.old }
+    requires came { HasReturn last.at last.by positions.old }
+    ensures { StepsBack direction result.at result.by last.at last.by positions.old positions.new }
+{
+    let child = step_origin(positions, last);
+    let position = positions[child];
+    let link = position.attach_chain;
+    positions[child] = closed_link(position);
+    draw_child(positions, child, last.at, direction);
+    Step {
+        by: link,
+        at: child,
+    }
+}
+
+/// Follows links from a glyph until one leads nowhere, or to a glyph that the walk came through.
+fn walk_links(positions: &mut [GlyphPosition], start: usize) -> Walk
+    requires here { start < length positions.old }
+    requires shut { are_shut positions.old }
+    ensures { (d : Way) → IsComing d (with_link_followed (drawn_by_sums d) (length positions.old) start positions.old)
+        (length positions.old) result.last.at result.last.by result.depth positions.new }
+{
+    let count = positions.len();
+    let mut last = Step { by: 1, at: start };
+    for depth in 0..count {
+        let Some(step) = step_to_parent(positions, last) else {
+            return Walk { last, depth };
+        };
+        last = step;
+    }
+    Walk { last, depth: count }
+}
+
+/// Draws a glyph with all glyphs that it is attached to. It follows the links and stores in each glyph the link by
+/// which it got there; then it returns by these, and draws. So it needs neither memory nor a stack.
+fn follow(positions: &mut [GlyphPosition], start: usize, direction: Direction)
+    requires here { start < length positions.old }
+    requires shut { are_shut positions.old }
+    ensures drawn { positions.new ≡ with_link_followed (drawn_by_sums direction) (length positions.old) start positions.old }
+    ensures shut { are_shut positions.new }
+{
+    let walk = walk_links(positions, start);
+    let mut last = walk.last;
+    for _step in 0..walk.depth {
+        last = step_to_child(positions, last, direction);
+    }
+}
+
+/// Draws all glyphs, where advances are sums.
+fn follow_all(positions: &mut [GlyphPosition], direction: Direction)
+    requires shut { are_shut positions.old }
+    ensures { positions.new ≡ with_links_followed (drawn_by_sums direction) positions.old }
+{
+    for i in 0..positions.len() {
+        follow(positions, i, direction);
+    }
+}
+
+/// Draws all glyphs from where their links lead: a mark's offset counts from where its parent is drawn, a cursive
+/// child's offset across the line too. Each link is cleared as it is followed, cycles included; a link of any other
+/// kind is only cleared. It takes linear time, and neither memory nor a stack.
+#[tactic(auto, using(crate::proofs::BySums::finished_by_sums, crate::proofs::BySums::summed_shut))]
+pub fn finish_offsets(positions: &mut [GlyphPosition], direction: Direction)
+    ensures { positions.new ≡ finished_positions direction positions.old }
+{
+    sum_up(positions);
+    follow_all(positions, direction);
+    take_apart(positions);
+}

@@ -1,4 +1,0 @@
-pub mod Substitutions
-pub mod Fits
-pub mod Marks
-pub mod Pairs

@@ -1,0 +1,13 @@
+-- The numbers of normalization modes (HarfBuzz: hb_ot_shape_normalization_mode_t).
+use Rattle.std.specs.Prelude.{ℤ}
+use Rattle.buffer_properties.specs.declared.normal_mode.NormalizationMode.{NormalizationMode}
+use Rattle.buffer_properties.specs.declared.normal_mode.NormalizationMode.TheVariants as mode
+use Rattle.script_plan.specs.declared.normal_mode.TheConstants.{HB_OT_SHAPE_NORMALIZATION_MODE_AUTO, HB_OT_SHAPE_NORMALIZATION_MODE_COMPOSED_DIACRITICS, HB_OT_SHAPE_NORMALIZATION_MODE_COMPOSED_DIACRITICS_NO_SHORT_CIRCUIT, HB_OT_SHAPE_NORMALIZATION_MODE_DECOMPOSED, HB_OT_SHAPE_NORMALIZATION_MODE_NONE}
+
+-- the number of a mode
+abbrev pub mode_number : NormalizationMode → ℤ
+mode_number mode.None = HB_OT_SHAPE_NORMALIZATION_MODE_NONE
+mode_number mode.Decomposed = HB_OT_SHAPE_NORMALIZATION_MODE_DECOMPOSED
+mode_number mode.ComposedDiacritics = HB_OT_SHAPE_NORMALIZATION_MODE_COMPOSED_DIACRITICS
+mode_number mode.ComposedDiacriticsNoShortCircuit = HB_OT_SHAPE_NORMALIZATION_MODE_COMPOSED_DIACRITICS_NO_SHORT_CIRCUIT
+mode_number mode.Auto = HB_OT_SHAPE_NORMALIZATION_MODE_AUTO

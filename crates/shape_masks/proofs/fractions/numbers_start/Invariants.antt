@@ -1,8 +1,0 @@
-use Rattle.shape_masks.proofs.Digits.{Back}
-use Rattle.shape_masks.proofs.fractions.numbers_start.Given as goal
-
-abbrev pub invariant-loop-start : goal.invariant-loop-start
-invariant-loop-start l = Back l.glyphs l.at l.start
-
-abbrev pub decreases-loop-start : goal.decreases-loop-start
-decreases-loop-start l = l.start

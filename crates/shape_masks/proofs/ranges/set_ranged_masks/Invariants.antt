@@ -1,6 +1,0 @@
-use Rattle.std.proofs.Common.{drop}
-use Rattle.shape_masks.proofs.Ranged.{OnTheWay}
-use Rattle.shape_masks.proofs.ranges.set_ranged_masks.Given as goal
-
-abbrev pub invariant-loop-feature : goal.invariant-loop-feature
-invariant-loop-feature l = OnTheWay l.map l.features (drop l.feature-index l.features) l.fn.buffer l.buffer

@@ -1,3 +1,0 @@
-pub mod Masks
-pub mod Ranges
-pub mod Fractions

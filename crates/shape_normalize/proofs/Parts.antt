@@ -1,0 +1,35 @@
+-- The characters of a decomposition, appended to the output.
+use Rattle.std.proofs.Common.{ℕ, ◌≡◌, ◌==◌, true, false, List, [], ◌∷◌, ◌++◌, Option, Some, None, refl, sym, ap, ◌∙◌, append_assoc}
+use Rattle.std.specs.Prelude.{slice_get, option_map}
+use Rattle.std.proofs.lemmas.List.{map-append}
+use Rattle.buffer_glyphs.specs.declared.info.hb_glyph_info_t.{hb_glyph_info_t}
+use Rattle.buffer_core.specs.Sides.{Sides}
+use Rattle.buffer_unicode_tables.specs.Expansion.{with_second_piece}
+use Rattle.buffer_properties.specs.Normalizer.{Normalizer, has_character}
+use Rattle.buffer_properties.specs.SupportedExpansion.{by_supported}
+use Rattle.shape_normalize.specs.Glyphs.{part_glyph, part_glyphs, with_halves_output, Puts}
+
+parts_both : (c : Normalizer) (us vs : List ℕ) (o : Option hb_glyph_info_t) → part_glyphs c us o ++ part_glyphs c vs o ≡ part_glyphs c (us ++ vs) o
+parts_both c us vs None = refl
+parts_both c us vs (Some g) = sym (map-append (part_glyph c g) us vs)
+
+put_both : (c : Normalizer) (us vs : List ℕ) (s : Sides) → with_halves_output c vs (with_halves_output c us s) ≡ with_halves_output c (us ++ vs) s
+put_both c us vs s =
+    let o = slice_get s.ahead 0 in
+    ap (λ gs. record s { behind = gs }) (append_assoc s.behind (part_glyphs c us o) (part_glyphs c vs o) ∙ ap (λ gs. s.behind ++ gs) (parts_both c us vs o))
+
+pub two_parts : (c : Normalizer) (expand : ℕ → Option (List ℕ)) (a b : ℕ) (old mid new : Sides) → (b == 0) ≡ false → has_character c b ≡ true → Puts c (expand a) true old mid → new ≡ with_halves_output c (b ∷ []) mid
+    → Puts c (by_supported (has_character c) expand (Some (a, b))) true old new
+two_parts c expand a b old mid new some has put next = rw (some, has) (by_case (expand a) put)
+  where
+    by_case : (o : Option (List ℕ)) → Puts c o true old mid → Puts c (option_map (with_second_piece b) o) true old new
+    by_case None p = absurd (let bad = p.0 in cc)
+    by_case (Some us) p = rw some (refl, next ∙ ap (with_halves_output c (b ∷ [])) p.1 ∙ put_both c us (b ∷ []) old)
+
+pub no_second : (c : Normalizer) (expand : ℕ → Option (List ℕ)) (a b : ℕ) (old new : Sides) → (b == 0) ≡ true → Puts c (expand a) true old new
+    → Puts c (by_supported (has_character c) expand (Some (a, b))) true old new
+no_second c expand a b old new none put = rw none (by_case (expand a) put)
+  where
+    by_case : (o : Option (List ℕ)) → Puts c o true old new → Puts c (option_map (with_second_piece b) o) true old new
+    by_case None p = absurd (let bad = p.0 in cc)
+    by_case (Some us) p = rw none p

@@ -1,0 +1,147 @@
+-- Glyphs appended to the output in place of the current one.
+use Rattle.std.proofs.Common.{ℕ, ◌≡◌, ◌≤◌, ◌+◌, ◌==◌, Bool, true, false, List, [], ◌∷◌, ◌++◌, Option, Some, None, length, map, drop, refl, sym, ap, subst, ◌∙◌, append_assoc, arith, if◌then◌else◌}
+use Rattle.std.specs.Prelude.{slice_get, replicate}
+use Rattle.std.proofs.lemmas.List.{map-append, length-map}
+use Rattle.std.proofs.Math.Seq.{take-append_seam, drop-append_seam, drop-append-add}
+use Rattle.buffer_glyphs.specs.declared.cause.ShapeCause.{ShapeCause}
+use Rattle.buffer_glyphs.specs.declared.info.hb_glyph_info_t.{hb_glyph_info_t}
+use Rattle.buffer_glyphs.specs.Items.{Item, item_of, strip}
+use Rattle.buffer_glyphs.specs.Parts.{elements_replaced}
+use Rattle.buffer_glyphs.specs.Origins.{Origin, origin_of, origins, InList, manner, Asks}
+use Rattle.buffer_glyphs.specs.Events.{Replace, origins_after}
+use Rattle.buffer_glyphs.specs.declared.level.BufferClusterLevel.{BufferClusterLevel}
+use Rattle.buffer_core.specs.Sides.{Sides, all_glyphs, flag_requests_of}
+use Rattle.buffer_core.specs.Merging.{with_output_info, with_glyph_skipped}
+use Rattle.buffer_stages.specs.Lemmas.Alone.{merged_alone}
+use Rattle.buffer_glyphs.specs.Rewriting.{eventless_arrangement, replacement, shifted_event}
+use Rattle.buffer_properties.specs.Normalizer.{Normalizer, has_character}
+use Rattle.buffer_properties.specs.declared.normal_mode.Reach.{Reach}
+use Rattle.buffer_properties.specs.SupportedExpansion.{expansion}
+use Rattle.buffer_properties.specs.Expanding.{whole_item, piece_of, items_for, expanded_item, item_expansion}
+use Rattle.shape_normalize.specs.Glyphs.{part_glyph, part_glyphs, Puts, count_of}
+use Rattle.buffer_stages.specs.Appending.{AppendsArrangement, RefusesRoomFor}
+use Rattle.shape_normalize.proofs.Lemmas.Chain.{overfills_more}
+
+origins_same : (o : Origin) (front back : List Origin) (n : ℕ) → elements_replaced (length front) 1 n (front ++ o ∷ back) ≡ front ++ replicate n o ++ back
+origins_same o front back n =
+    let there : drop (length front) (front ++ o ∷ back) ≡ o ∷ back = drop-append_seam front (o ∷ back) in
+    let past : drop (length front + 1) (front ++ o ∷ back) ≡ back = drop-append-add front (o ∷ back) 1 in
+    rw (take-append_seam front (o ∷ back), there, past) refl
+
+-- the event of a glyph that makes room for others
+one_replaced : (asks : Asks) (level : BufferClusterLevel) (xs : List Item) (front back : List Origin) (o : Origin)
+    → origins_after asks level (map (shifted_event (length front)) (replacement 1 xs).events) (front ++ o ∷ back) ≡ front ++ replicate (length xs) o ++ back
+one_replaced asks level xs front back o = by_test (length xs) (length xs == 1) refl
+  where
+    nothing : (b : ℕ) → b + 0 ≡ b
+    nothing b = omega arith
+
+    by_test : (n : ℕ) (t : Bool) → (n == 1) ≡ t
+        → origins_after asks level (map (shifted_event (length front)) (if t then [] else Replace 0 1 n ∷ [])) (front ++ o ∷ back) ≡ front ++ replicate n o ++ back
+    by_test n true e = let one : n ≡ 1 = grind (arith, e) in rw one (sym (append_assoc front (o ∷ []) back))
+    by_test n false e = rw (nothing (length front)) (ap (elements_replaced (length front) 1 n) (merged_alone (manner InList level) (length front) (front ++ o ∷ back)) ∙ origins_same o front back n)
+
+-- glyphs of one origin in place of the current one
+pub put_skipped : (gs : List hb_glyph_info_t) (g : hb_glyph_info_t) (rest : List hb_glyph_info_t) (s new : Sides) → s.ahead ≡ g ∷ rest → origins gs ≡ replicate (length gs) (origin_of g)
+    → new ≡ with_glyph_skipped (record s { behind = s.behind ++ gs }) → AppendsArrangement (replacement 1 (strip gs)) (strip rest) s new
+put_skipped gs g rest s new at same is = subst (λ (t : Sides). AppendsArrangement (replacement 1 (strip gs)) (strip rest) s t) (sym is) (record {
+  behind = map-append item_of s.behind gs;
+  ahead = rw at refl;
+  happened =
+      let after : List Origin → List Origin = origins_after (flag_requests_of s) s.level (map (shifted_event (length s.behind)) (replacement 1 (strip gs)).events) in
+      let whole : origins (all_glyphs s) ≡ origins s.behind ++ origin_of g ∷ origins rest = map-append origin_of s.behind s.ahead ∙ ap (λ hs. origins s.behind ++ origins hs) at in
+      let now : origins ((s.behind ++ gs) ++ drop 1 s.ahead) ≡ origins s.behind ++ replicate (length gs) (origin_of g) ++ origins rest =
+      ap (λ hs. origins ((s.behind ++ gs) ++ drop 1 hs)) at ∙ map-append origin_of (s.behind ++ gs) rest ∙ ap (λ os. os ++ origins rest) (map-append origin_of s.behind gs)
+      ∙ ap (λ os. origins s.behind ++ os ++ origins rest) same in
+      let n : length (strip gs) ≡ length gs = length-map gs item_of in
+      let b : length (origins s.behind) ≡ length s.behind = length-map s.behind origin_of in
+      now ∙ ap (λ k. origins s.behind ++ replicate k (origin_of g) ++ origins rest) (sym n)
+      ∙ sym (one_replaced (flag_requests_of s) s.level (strip gs) (origins s.behind) (origins rest) (origin_of g))
+      ∙ ap (λ k. origins_after (flag_requests_of s) s.level (map (shifted_event k) (replacement 1 (strip gs)).events) (origins s.behind ++ origin_of g ∷ origins rest)) b ∙ ap after (sym whole);
+  frame = refl;
+})
+
+parts_origins : (c : Normalizer) (g : hb_glyph_info_t) (us : List ℕ) → origins (map (part_glyph c g) us) ≡ replicate (length (map (part_glyph c g) us)) (origin_of g)
+parts_origins c g [] = refl
+parts_origins c g (u ∷ us) = ap (λ os. origin_of g ∷ os) (parts_origins c g us)
+
+parts_items : (c : Normalizer) (g : hb_glyph_info_t) (us : List ℕ) → strip (map (part_glyph c g) us) ≡ map (piece_of c (item_of g)) us
+unfolding piece_of
+parts_items c g [] = refl
+parts_items c g (u ∷ us) = ap (λ xs. piece_of c (item_of g) u ∷ xs) (parts_items c g us)
+
+first_ahead : (g : hb_glyph_info_t) (gs : List hb_glyph_info_t) (x : Item) (xs : List Item) → slice_get gs 0 ≡ Some g → strip gs ≡ x ∷ xs → gs ≡ g ∷ drop 1 gs
+first_ahead g [] x xs at seen = absurd (let bad = seen in cc)
+first_ahead g (h ∷ gs) x xs at seen = let e : h ≡ g = cc in rw e refl
+
+item_ahead : (g : hb_glyph_info_t) (gs : List hb_glyph_info_t) (x : Item) (xs : List Item) → gs ≡ g ∷ drop 1 gs → strip gs ≡ x ∷ xs → x ≡ item_of g
+item_ahead g gs x xs is seen = let e : x ∷ xs ≡ item_of g ∷ strip (drop 1 gs) = sym seen ∙ ap strip is in cc
+
+rest_ahead : (g : hb_glyph_info_t) (gs : List hb_glyph_info_t) (x : Item) (xs : List Item) → gs ≡ g ∷ drop 1 gs → strip gs ≡ x ∷ xs → strip (drop 1 gs) ≡ xs
+rest_ahead g gs x xs is seen = let e : x ∷ xs ≡ item_of g ∷ strip (drop 1 gs) = sym seen ∙ ap strip is in cc
+
+-- an item that was decomposed into the characters that were appended to the output
+pub parts_brought : (c : Normalizer) (reach : Reach) (b : Bool) (g : hb_glyph_info_t) (old mid new : Sides) (x : Item) (xs : List Item) → slice_get old.ahead 0 ≡ Some g → strip old.ahead ≡ x ∷ xs
+    → Puts c (expansion reach (has_character c) c.splits g.glyph_id) b old mid → b ≡ true → new ≡ with_glyph_skipped mid → AppendsArrangement (item_expansion c reach x) xs old new
+unfolding expanded_item
+parts_brought c reach b g old mid new x xs at seen put went is =
+    let first = first_ahead g old.ahead x xs at seen in
+    let item = item_ahead g old.ahead x xs first seen in
+    rw (item) (by_case (expansion reach (has_character c) c.splits g.glyph_id) put first)
+  where
+    by_case : (o : Option (List ℕ)) → Puts c o b old mid → old.ahead ≡ g ∷ drop 1 old.ahead → AppendsArrangement (replacement 1 (items_for c (item_of g) o)) xs old new
+    by_case None p first = absurd (let bad = p.0 in cc)
+    by_case (Some us) p first =
+        let gs = map (part_glyph c g) us in
+        let mid_is : mid ≡ record old { behind = old.behind ++ gs } = p.1 ∙ ap (λ o. record old { behind = old.behind ++ part_glyphs c us o }) at in
+        subst (λ ys. AppendsArrangement (replacement 1 ys) xs old new) (parts_items c g us)
+        (subst (λ zs. AppendsArrangement (replacement 1 (strip gs)) zs old new) (rest_ahead g old.ahead x xs first seen)
+        (put_skipped gs g (drop 1 old.ahead) old new first (parts_origins c g us) (is ∙ ap with_glyph_skipped mid_is)))
+
+-- an item that was replaced by one glyph
+pub placed_brought : (g info : hb_glyph_info_t) (y : Item) (old mid new : Sides) (x : Item) (xs : List Item) → slice_get old.ahead 0 ≡ Some g → strip old.ahead ≡ x ∷ xs
+    → item_of info ≡ y → origin_of info ≡ origin_of g → mid ≡ old → new ≡ with_glyph_skipped (with_output_info info mid) → AppendsArrangement (eventless_arrangement (y ∷ [])) xs old new
+placed_brought g info y old mid new x xs at seen whole same stays is =
+    let first = first_ahead g old.ahead x xs at seen in
+    subst (λ z. AppendsArrangement (eventless_arrangement (z ∷ [])) xs old new) whole
+    (subst (λ zs. AppendsArrangement (eventless_arrangement (item_of info ∷ [])) zs old new) (rest_ahead g old.ahead x xs first seen)
+    (put_skipped (info ∷ []) g (drop 1 old.ahead) old new first (ap (λ o. o ∷ []) same) (is ∙ ap (λ s. with_glyph_skipped (with_output_info info s)) stays)))
+
+-- an item that stays whole
+pub whole_brought : (c : Normalizer) (reach : Reach) (b : Bool) (g info : hb_glyph_info_t) (old mid new : Sides) (x : Item) (xs : List Item) → slice_get old.ahead 0 ≡ Some g → strip old.ahead ≡ x ∷ xs
+    → Puts c (expansion reach (has_character c) c.splits g.glyph_id) b old mid → b ≡ false → item_of info ≡ whole_item c (item_of g) → origin_of info ≡ origin_of g → new ≡ with_glyph_skipped (with_output_info info mid)
+    → AppendsArrangement (item_expansion c reach x) xs old new
+unfolding expanded_item
+whole_brought c reach b g info old mid new x xs at seen none stays whole same is =
+    let first = first_ahead g old.ahead x xs at seen in
+    let item = item_ahead g old.ahead x xs first seen in
+    rw (item) (by_case (expansion reach (has_character c) c.splits g.glyph_id) none first)
+  where
+    by_case : (o : Option (List ℕ)) → Puts c o b old mid → old.ahead ≡ g ∷ drop 1 old.ahead → AppendsArrangement (replacement 1 (items_for c (item_of g) o)) xs old new
+    by_case (Some us) p first = absurd (let bad = p.0 in cc)
+    by_case None p first = placed_brought g info (whole_item c (item_of g)) old mid new x xs at seen whole same p.1 is
+
+items_count : (c : Normalizer) (x : Item) (o : Option (List ℕ)) → count_of o ≤ length (items_for c x o)
+items_count c x None = omega arith
+items_count c x (Some us) = let n = length-map us (piece_of c x) in omega (arith, n)
+
+-- characters that were too many
+pub parts_too_many : (c : Normalizer) (reach : Reach) (g : hb_glyph_info_t) (e : ShapeCause) (old : Sides) → slice_get old.ahead 0 ≡ Some g → RefusesRoomFor (count_of (expansion reach (has_character c) c.splits g.glyph_id)) e old
+    → (x : Item) (xs : List Item) → strip old.ahead ≡ x ∷ xs → RefusesRoomFor (length (expanded_item c reach x)) e old
+unfolding expanded_item
+parts_too_many c reach g e old at over x xs seen =
+    let item = item_ahead g old.ahead x xs (first_ahead g old.ahead x xs at seen) seen in
+    rw item (overfills_more (count_of (expansion reach (has_character c) c.splits g.glyph_id)) (length (items_for c (item_of g) (expansion reach (has_character c) c.splits g.glyph_id))) e old
+    (items_count c (item_of g) (expansion reach (has_character c) c.splits g.glyph_id)) over)
+
+-- one that was too many
+pub whole_too_many : (c : Normalizer) (reach : Reach) (b : Bool) (g : hb_glyph_info_t) (e : ShapeCause) (old mid : Sides) → slice_get old.ahead 0 ≡ Some g → Puts c (expansion reach (has_character c) c.splits g.glyph_id) b old mid → b ≡ false
+    → RefusesRoomFor 1 e mid → (x : Item) (xs : List Item) → strip old.ahead ≡ x ∷ xs → RefusesRoomFor (length (expanded_item c reach x)) e old
+unfolding expanded_item
+whole_too_many c reach b g e old mid at none stays over x xs seen =
+    let item = item_ahead g old.ahead x xs (first_ahead g old.ahead x xs at seen) seen in
+    rw item (by_case (expansion reach (has_character c) c.splits g.glyph_id) none)
+  where
+    by_case : (o : Option (List ℕ)) → Puts c o b old mid → RefusesRoomFor (length (items_for c (item_of g) o)) e old
+    by_case (Some us) p = absurd (let bad = p.0 in cc)
+    by_case None p = subst (RefusesRoomFor 1 e) p.1 over

@@ -1,0 +1,21 @@
+use Rattle.std.proofs.Common.{◌∙◌}
+use Rattle.std.specs.Prelude.{is_some}
+use Rattle.shape_normalize.proofs.Select.{both_brought, one_left, second_too_many}
+use Rattle.shape_normalize.proofs.Lemmas.Refusals.{passed_on}
+use Rattle.shape_normalize.proofs.selecting.put_both.Goals as goal
+
+pub put_unjoined-requires-clause-open : goal.put_unjoined-requires-clause-open
+put_unjoined-requires-clause-open g c = (one_left (g.N.Normalizing.normalizer c.args.by.now) c.args.buffer.now c.put_unexpanded.new.buffer c.requires.there c.in_ok-put_unexpanded.ensures.ok).0 ∙ c.requires.open
+
+pub put_unjoined-requires-clause-there : goal.put_unjoined-requires-clause-there
+put_unjoined-requires-clause-there g c = (one_left (g.N.Normalizing.normalizer c.args.by.now) c.args.buffer.now c.put_unexpanded.new.buffer c.requires.there c.in_ok-put_unexpanded.ensures.ok).1
+
+pub returns-in_err-put_unjoined-clause-err : goal.returns-in_err-put_unjoined-clause-err
+returns-in_err-put_unjoined-clause-err g c =
+    let e = c.in_err-put_unjoined.field-0.0 in
+    passed_on c.from_residual-in_err-put_unjoined.result e _ c.from_residual-in_err-put_unjoined.ensures.1
+    (second_too_many (g.N.Normalizing.normalizer c.args.by.now) (is_some (g.N.Normalizing.normalizer c.args.by.now).unjoined_glyph) e c.args.buffer.now c.put_unexpanded.new.buffer c.in_ok-put_unexpanded.ensures.ok c.in_err-put_unjoined.ensures.err)
+
+pub returns-clause-ok : goal.returns-clause-ok
+returns-clause-ok g c =
+    both_brought (g.N.Normalizing.normalizer c.args.by.now) (is_some (g.N.Normalizing.normalizer c.args.by.now).unjoined_glyph) c.args.buffer.now c.put_unexpanded.new.buffer c.put_unjoined.new.buffer c.in_ok-put_unexpanded.ensures.ok c.in_ok-put_unjoined.ensures.ok

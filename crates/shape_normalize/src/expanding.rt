@@ -1,0 +1,319 @@
+//! The first round: decomposes characters, and combines variation selectors with the character before them
+//! (rustybuzz: hb/ot_shape_normalize.rs).
+ghost use Rattle.std.specs.Prelude.{◌≡◌, ◌<◌, ◌≤◌, ◌+◌, ◌++◌, ◌∷◌, [], List, false, length, map, take, true, IfOk, IfErr, OnOk};
+ghost use Rattle.std.specs.List.{list_any};
+ghost use Rattle.buffer_glyphs.specs.Items.{Item, strip};
+ghost use Rattle.buffer_glyphs.specs.Rewriting.{in_turn};
+ghost use Rattle.buffer_properties.specs.Characters.{is_selector};
+ghost use Rattle.buffer_properties.specs.Expanding.{item_expansion, expanded_item, expanded_list};
+ghost use Rattle.buffer_properties.specs.Normalizer.{has_character, reach_alone, reach_with_marks};
+ghost use Rattle.buffer_properties.specs.SupportedExpansion.{alone, by_supported, supported_expansion, expansion};
+ghost use Rattle.buffer_stages.specs.Appending.{AppendsArrangement, RefusesRoomFor};
+ghost use Rattle.shape_normalize.specs.Walking.{Groups, GroupsTooMany, Walks, WalksTooMany, IsExpanded, ExpandsTooMany};
+ghost use Rattle.shape_normalize.specs.Glyphs.{with_halves_output, Puts, count_of};
+
+use crate::characters::{has, is_selector, part_of, whole_of};
+use crate::normalizing::Normalizing;
+use crate::outputting::output_replacement;
+use crate::selecting::expand_selected;
+use buffer_core::buffer::hb_buffer_t;
+use buffer_glyphs::cause::ShapeCause;
+use buffer_properties::categories::is_mark;
+use buffer_properties::{NormalizationMode, Reach};
+
+/// Appends a character of the font to the output.
+fn put_part<N: Normalizing>(by: &N, u: char, buffer: &mut hb_buffer_t) -> Result<(), ShapeCause>
+    requires open { buffer.old.is_open ≡ true }
+    requires there { 0 < length buffer.old.ahead }
+    ensures ok { OnOk result (buffer.new ≡ with_halves_output (N.normalizer by.now) (u ∷ []) buffer.old) }
+    ensures err { IfErr result (λ e. RefusesRoomFor 1 e buffer.old) }
+{
+    let part = part_of(by, buffer.cur(0), u);
+    if !buffer.output_info(part)? {
+        return Err(ShapeCause::TooLong);
+    }
+    Ok(())
+}
+
+/// Appends a character to the output, if the font has it.
+fn put_alone<N: Normalizing>(by: &N, u: char, buffer: &mut hb_buffer_t) -> Result<bool, ShapeCause>
+    requires open { buffer.old.is_open ≡ true }
+    requires there { 0 < length buffer.old.ahead }
+    ensures ok { IfOk result (λ b. Puts (N.normalizer by.now) (alone (has_character (N.normalizer by.now)) u)
+        b buffer.old buffer.new) }
+    ensures err { IfErr result (λ e. RefusesRoomFor (count_of (alone (has_character (N.normalizer by.now)) u))
+        e buffer.old) }
+{
+    if !has(by, u as u32) {
+        return Ok(false);
+    }
+    put_part(by, u, buffer)?;
+    Ok(true)
+}
+
+/// Appends the characters of the font that a character decomposes to, with at most `depth` decompositions.
+#[cycle(expand)]
+#[tactic(auto, using(crate::proofs::Supported::supported_zero, crate::proofs::Supported::supported_step))]
+fn put_supported<N: Normalizing>(
+    by: &N,
+    reach: Reach,
+    depth: u32,
+    u: char,
+    buffer: &mut hb_buffer_t,
+) -> Result<bool, ShapeCause>
+    requires open { buffer.old.is_open ≡ true }
+    requires there { 0 < length buffer.old.ahead }
+    ensures ok { IfOk result (λ b. Puts (N.normalizer by.now)
+        (supported_expansion reach (has_character (N.normalizer by.now)) (N.normalizer by.now).splits depth u)
+        b buffer.old buffer.new) }
+    ensures err { IfErr result (λ e. RefusesRoomFor (count_of (supported_expansion reach (has_character (N.normalizer by.now))
+        (N.normalizer by.now).splits depth u)) e buffer.old) }
+{
+    if depth == 0 {
+        return put_alone(by, u, buffer);
+    }
+    match reach {
+        Reach::Least => {
+            if has(by, u as u32) {
+                return put_alone(by, u, buffer);
+            }
+            put_in_parts(by, reach, depth - 1, u as u32, buffer)
+        }
+        Reach::Greatest => {
+            if put_in_parts(by, reach, depth - 1, u as u32, buffer)? {
+                return Ok(true);
+            }
+            put_alone(by, u, buffer)
+        }
+    }
+}
+
+/// Appends the two halves of a decomposition, if the font has them; the first is decomposed at most `depth` times.
+#[cycle(expand)]
+#[tactic(auto, using(crate::proofs::Parts::two_parts, crate::proofs::Parts::no_second))]
+fn put_in_parts<N: Normalizing>(
+    by: &N,
+    reach: Reach,
+    depth: u32,
+    u: u32,
+    buffer: &mut hb_buffer_t,
+) -> Result<bool, ShapeCause>
+    requires open { buffer.old.is_open ≡ true }
+    requires there { 0 < length buffer.old.ahead }
+    ensures ok { IfOk result (λ b. Puts (N.normalizer by.now)
+        (by_supported (has_character (N.normalizer by.now))
+        (supported_expansion reach (has_character (N.normalizer by.now)) (N.normalizer by.now).splits depth)
+        ((N.normalizer by.now).splits u)) b buffer.old buffer.new) }
+    ensures err { IfErr result (λ e. RefusesRoomFor (count_of (by_supported (has_character (N.normalizer by.now))
+        (supported_expansion reach (has_character (N.normalizer by.now)) (N.normalizer by.now).splits depth)
+        ((N.normalizer by.now).splits u))) e buffer.old) }
+{
+    let Some((first, second)) = by.decompose(u) else {
+        return Ok(false);
+    };
+    if second != '\0' && !has(by, second as u32) {
+        return Ok(false);
+    }
+    if !put_supported(by, reach, depth, first, buffer)? {
+        return Ok(false);
+    }
+    if second == '\0' {
+        return Ok(true);
+    }
+    put_part(by, second, buffer)?;
+    Ok(true)
+}
+
+/// Appends the decomposition of a character, where it has one that the font supports.
+#[tactic(auto, unfolding(buffer_properties::specs::SupportedExpansion::in_pieces))]
+fn put_expansion<N: Normalizing>(
+    by: &N,
+    reach: Reach,
+    u: u32,
+    buffer: &mut hb_buffer_t,
+) -> Result<bool, ShapeCause>
+    requires open { buffer.old.is_open ≡ true }
+    requires there { 0 < length buffer.old.ahead }
+    ensures ok { IfOk result (λ b. Puts (N.normalizer by.now)
+        (expansion reach (has_character (N.normalizer by.now)) (N.normalizer by.now).splits u)
+        b buffer.old buffer.new) }
+    ensures err { IfErr result (λ e. RefusesRoomFor (count_of (expansion reach (has_character (N.normalizer by.now))
+        (N.normalizer by.now).splits u)) e buffer.old) }
+{
+    match reach {
+        Reach::Least => {
+            if has(by, u) {
+                return Ok(false);
+            }
+            put_in_parts(by, Reach::Least, 8, u, buffer)
+        }
+        Reach::Greatest => put_in_parts(by, Reach::Greatest, 8, u, buffer),
+    }
+}
+
+/// Replaces the current character in the output by its decomposition.
+fn expand_current<N: Normalizing>(
+    by: &N,
+    reach: Reach,
+    buffer: &mut hb_buffer_t,
+) -> Result<(), ShapeCause>
+    requires open { buffer.old.is_open ≡ true }
+    requires there { 0 < length buffer.old.ahead }
+    ensures ok { OnOk result ((x : Item) (xs : List Item) → strip buffer.old.ahead ≡ x ∷ xs
+        → AppendsArrangement (item_expansion (N.normalizer by.now) reach x) xs buffer.old buffer.new) }
+    ensures err { IfErr result (λ e. (x : Item) (xs : List Item) → strip buffer.old.ahead ≡ x ∷ xs
+        → RefusesRoomFor (length (expanded_item (N.normalizer by.now) reach x)) e buffer.old) }
+{
+    let info = *buffer.cur(0);
+    if put_expansion(by, reach, info.glyph_id, buffer)? {
+        buffer.skip_glyph();
+        return Ok(());
+    }
+    output_replacement(whole_of(by, &info), buffer)?;
+    Ok(())
+}
+
+/// Replaces that many characters by their decompositions.
+fn expand_each<N: Normalizing>(
+    by: &N,
+    reach: Reach,
+    count: usize,
+    buffer: &mut hb_buffer_t,
+) -> Result<(), ShapeCause>
+    requires open { buffer.old.is_open ≡ true }
+    requires there { count ≤ length buffer.old.ahead }
+    ensures ok { OnOk result ((xs ys : List Item) → strip buffer.old.ahead ≡ xs ++ ys → length xs ≡ count
+        → AppendsArrangement (in_turn (map (item_expansion (N.normalizer by.now) reach) xs)) ys buffer.old buffer.new) }
+    ensures err { IfErr result (λ e. (xs ys : List Item) → strip buffer.old.ahead ≡ xs ++ ys → length xs ≡ count
+        → RefusesRoomFor (length (in_turn (map (item_expansion (N.normalizer by.now) reach) xs)).items) e buffer.old) }
+{
+    for _ in 0..count {
+        expand_current(by, reach, buffer)?;
+    }
+    Ok(())
+}
+
+/// How far a character without marks is decomposed.
+fn reach_alone(mode: NormalizationMode) -> Reach
+    ensures { result ≡ reach_alone mode }
+{
+    match mode {
+        NormalizationMode::None | NormalizationMode::ComposedDiacritics | NormalizationMode::Auto =>
+            Reach::Least,
+        NormalizationMode::Decomposed | NormalizationMode::ComposedDiacriticsNoShortCircuit => {
+            Reach::Greatest
+        }
+    }
+}
+
+/// How far a character with marks, and each of its marks, is decomposed.
+fn reach_with_marks(mode: NormalizationMode) -> Reach
+    ensures { result ≡ reach_with_marks mode }
+{
+    match mode {
+        NormalizationMode::None => Reach::Least,
+        _ => Reach::Greatest,
+    }
+}
+
+/// Replaces a character and the marks after it by their decompositions.
+fn expand_group<N: Normalizing>(
+    by: &N,
+    marks: usize,
+    buffer: &mut hb_buffer_t,
+) -> Result<(), ShapeCause>
+    requires open { buffer.old.is_open ≡ true }
+    requires there { marks < length buffer.old.ahead }
+    ensures ok { OnOk result (Groups (N.normalizer by.now) marks buffer.old buffer.new) }
+    ensures err { IfErr result (λ e. GroupsTooMany (N.normalizer by.now) marks e buffer.old) }
+{
+    if marks == 0 {
+        expand_current(by, reach_alone(by.mode()), buffer)?;
+        return Ok(());
+    }
+    let _end = buffer.len();
+    let count = marks + 1;
+    if has_selector(count, buffer) {
+        expand_selected(by, marks, buffer)?;
+        return Ok(());
+    }
+    expand_each(by, reach_with_marks(by.mode()), count, buffer)?;
+    Ok(())
+}
+
+/// Whether a variation selector is among the next `count` characters.
+#[tactic(auto, using(crate::proofs::Found::found_here, crate::proofs::Found::found_later, crate::proofs::Found::found_none))]
+fn has_selector(count: usize, buffer: &hb_buffer_t) -> bool
+    requires { count ≤ length buffer.now.ahead }
+    ensures { result ≡ list_any is_selector (take count (strip buffer.now.ahead)) }
+{
+    for i in 0..count {
+        if is_selector(buffer.cur(i)) {
+            return true;
+        }
+    }
+    false
+}
+
+/// Handles the next character: a mark extends the group at the cursor, which has that many marks; any other character
+/// ends it.
+fn expand_next<N: Normalizing>(
+    by: &N,
+    marks: usize,
+    buffer: &mut hb_buffer_t,
+) -> Result<usize, ShapeCause>
+    requires open { buffer.old.is_open ≡ true }
+    requires there { marks + 1 < length buffer.old.ahead }
+    ensures ok { IfOk result (λ n. Walks (N.normalizer by.now) marks n buffer.old buffer.new) }
+    ensures err { IfErr result (λ e. WalksTooMany (N.normalizer by.now) marks e buffer.old) }
+{
+    let _end = buffer.len();
+    if is_mark(buffer.cur(marks + 1)) {
+        return Ok(marks + 1);
+    }
+    expand_group(by, marks, buffer)?;
+    Ok(0)
+}
+
+/// Replaces all input characters by their decompositions.
+fn expand_all<N: Normalizing>(
+    by: &N,
+    count: usize,
+    buffer: &mut hb_buffer_t,
+) -> Result<(), ShapeCause>
+    requires open { buffer.old.is_open ≡ true }
+    requires counted { count ≡ length buffer.old.ahead }
+    requires some { 0 < count }
+    ensures ok { OnOk result (IsExpanded (N.normalizer by.now) buffer.old buffer.new) }
+    ensures err { IfErr result (λ e. ExpandsTooMany (N.normalizer by.now) e buffer.old) }
+{
+    let mut marks = 0;
+    for _ in 1..count {
+        marks = expand_next(by, marks, buffer)?;
+    }
+    expand_group(by, marks, buffer)?;
+    Ok(())
+}
+
+/// The first round, from the start of an open output: each character is decomposed as far as the shaper and the font
+/// require, a variation selector is combined with the character before it where the font has the pair, and each gets
+/// the font's glyph. Afterwards the whole list is output. It takes linear time, and no memory but the output's.
+///
+/// # Errors
+///
+/// `TooLong` where the output would have more glyphs than the buffer may hold, or lack of memory.
+pub fn expand_list<N: Normalizing>(by: &N, buffer: &mut hb_buffer_t) -> Result<(), ShapeCause>
+    requires open { buffer.old.is_open ≡ true }
+    requires unread { buffer.old.read ≡ 0 }
+    ensures ok { OnOk result (AppendsArrangement (expanded_list (N.normalizer by.now) (strip buffer.old.ahead)) []
+        buffer.old buffer.new) }
+    ensures err { IfErr result (λ e. RefusesRoomFor (length (expanded_list (N.normalizer by.now)
+        (strip buffer.old.ahead)).items) e buffer.old) }
+{
+    let count = buffer.len();
+    if count == 0 {
+        return Ok(());
+    }
+    expand_all(by, count, buffer)?;
+    Ok(())
+}

@@ -1,0 +1,5 @@
+use Rattle.shape_parts.proofs.Glyphs.{zeroed_marks_stay}
+use Rattle.shape_parts.proofs.position_laws.law_zeroed_marks_stay_in_line.Goals as goal
+
+pub returns : goal.returns
+returns c = zeroed_marks_stay

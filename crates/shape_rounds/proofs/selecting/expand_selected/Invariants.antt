@@ -1,5 +1,0 @@
-use Rattle.shape_rounds.proofs.Selections.{IsSelecting}
-use Rattle.shape_rounds.proofs.selecting.expand_selected.Given as goal
-
-abbrev pub invariant-loop : goal.invariant-loop
-invariant-loop g l = IsSelecting (g.N.Normalizing.normalizer l.by) l.marks l.counter l.waits l.initial.buffer l.buffer

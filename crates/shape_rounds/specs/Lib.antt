@@ -1,2 +1,0 @@
-pub mod Glyphs
-pub mod Walking

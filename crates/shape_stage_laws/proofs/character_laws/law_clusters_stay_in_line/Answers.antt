@@ -1,5 +1,0 @@
-use Rattle.shape_stage_laws.proofs.Characters.{clusters_stay}
-use Rattle.shape_stage_laws.proofs.character_laws.law_clusters_stay_in_line.Goals as goal
-
-pub returns : goal.returns
-returns c = clusters_stay

@@ -1,5 +1,0 @@
-use Rattle.shape_stage_laws.proofs.Masks.{first_mask_stays}
-use Rattle.shape_stage_laws.proofs.character_laws.law_first_mask_stays_in_line.Goals as goal
-
-pub returns : goal.returns
-returns c = first_mask_stays

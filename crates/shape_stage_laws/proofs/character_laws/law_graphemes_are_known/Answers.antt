@@ -1,5 +1,0 @@
-use Rattle.shape_stage_laws.proofs.Graphemes.{graphemes_are_known}
-use Rattle.shape_stage_laws.proofs.character_laws.law_graphemes_are_known.Goals as goal
-
-pub returns : goal.returns
-returns c = graphemes_are_known

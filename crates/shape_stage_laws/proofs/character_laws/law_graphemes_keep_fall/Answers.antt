@@ -1,5 +1,0 @@
-use Rattle.shape_stage_laws.proofs.Graphemes.{graphemes_keep_fall}
-use Rattle.shape_stage_laws.proofs.character_laws.law_graphemes_keep_fall.Goals as goal
-
-pub returns : goal.returns
-returns c = graphemes_keep_fall

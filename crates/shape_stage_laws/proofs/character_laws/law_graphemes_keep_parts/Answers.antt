@@ -1,5 +1,0 @@
-use Rattle.shape_stage_laws.proofs.Graphemes.{graphemes_keep_parts}
-use Rattle.shape_stage_laws.proofs.character_laws.law_graphemes_keep_parts.Goals as goal
-
-pub returns : goal.returns
-returns c = graphemes_keep_parts

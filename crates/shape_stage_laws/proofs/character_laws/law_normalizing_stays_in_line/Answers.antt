@@ -1,5 +1,0 @@
-use Rattle.shape_stage_laws.proofs.Normalized.{normalizing_stays}
-use Rattle.shape_stage_laws.proofs.character_laws.law_normalizing_stays_in_line.Goals as goal
-
-pub returns : goal.returns
-returns c = normalizing_stays

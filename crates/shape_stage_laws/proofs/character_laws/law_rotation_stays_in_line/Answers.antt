@@ -1,5 +1,0 @@
-use Rattle.shape_stage_laws.proofs.Characters.{rotation_stays}
-use Rattle.shape_stage_laws.proofs.character_laws.law_rotation_stays_in_line.Goals as goal
-
-pub returns : goal.returns
-returns c = rotation_stays

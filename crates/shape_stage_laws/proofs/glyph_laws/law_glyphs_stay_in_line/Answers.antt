@@ -1,5 +1,0 @@
-use Rattle.shape_stage_laws.proofs.Glyphs.{glyphs_stay}
-use Rattle.shape_stage_laws.proofs.glyph_laws.law_glyphs_stay_in_line.Goals as goal
-
-pub returns : goal.returns
-returns c = glyphs_stay

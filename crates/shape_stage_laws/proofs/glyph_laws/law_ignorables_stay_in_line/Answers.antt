@@ -1,5 +1,0 @@
-use Rattle.shape_stage_laws.proofs.Glyphs.{ignorables_stay}
-use Rattle.shape_stage_laws.proofs.glyph_laws.law_ignorables_stay_in_line.Goals as goal
-
-pub returns : goal.returns
-returns c = ignorables_stay

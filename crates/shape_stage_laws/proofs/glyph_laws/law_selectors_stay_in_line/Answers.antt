@@ -1,5 +1,0 @@
-use Rattle.shape_stage_laws.proofs.Glyphs.{selectors_stay}
-use Rattle.shape_stage_laws.proofs.glyph_laws.law_selectors_stay_in_line.Goals as goal
-
-pub returns : goal.returns
-returns c = selectors_stay

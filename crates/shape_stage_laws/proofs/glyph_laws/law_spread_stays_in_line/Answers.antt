@@ -1,5 +1,0 @@
-use Rattle.shape_stage_laws.proofs.Glyphs.{spread_stays}
-use Rattle.shape_stage_laws.proofs.glyph_laws.law_spread_stays_in_line.Goals as goal
-
-pub returns : goal.returns
-returns c = spread_stays

@@ -1,5 +1,0 @@
-use Rattle.shape_stage_laws.proofs.Glyphs.{synthesized_classes_stay}
-use Rattle.shape_stage_laws.proofs.glyph_laws.law_synthesized_classes_stay_in_line.Goals as goal
-
-pub returns : goal.returns
-returns c = synthesized_classes_stay

@@ -1,5 +1,0 @@
-use Rattle.shape_stage_laws.proofs.Lines.{in_line_keeps_parts_on_line}
-use Rattle.shape_stage_laws.proofs.line_laws.law_in_line_keeps_parts_on_line.Goals as goal
-
-pub returns : goal.returns
-returns c = in_line_keeps_parts_on_line

@@ -1,5 +1,0 @@
-use Rattle.shape_stage_laws.proofs.Glyphs.{advances_stay}
-use Rattle.shape_stage_laws.proofs.position_laws.law_advances_stay_in_line.Goals as goal
-
-pub returns : goal.returns
-returns c = advances_stay

@@ -1,0 +1,6 @@
+pub mod Fault
+pub mod Cell
+pub mod Rows
+pub mod Objects
+pub mod Parts
+pub mod TextValues

@@ -1,4 +1,0 @@
-mod Reading
-pub mod Steps
-mod Numbers
-mod Found

@@ -1,4 +1,0 @@
-pub mod Items
-pub mod Pairs
-pub mod Rising
-pub mod Steps

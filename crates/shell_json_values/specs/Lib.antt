@@ -1,5 +1,0 @@
-pub mod Fault
-pub mod Cell
-pub mod Rows
-pub mod Objects
-pub mod Parts

@@ -1,6 +1,0 @@
-use Rattle.std.proofs.Common.{◌≡◌, false}
-use Rattle.tests_indic.proofs.text.add_characters.Given as goal
-
--- no output is open
-abbrev pub invariant-loop-i : goal.invariant-loop-i
-invariant-loop-i l = l.buffer.is_open ≡ false
