@@ -7,10 +7,10 @@ ghost use Rattle.layout_face.specs.Lookups.{props_of, is_reverse};
 use layout_common::array::Array;
 use layout_common::flags::USE_MARK_FILTERING_SET;
 use layout_tables::context::ContextSubtable;
+use layout_tables::ligature::LigatureSubst;
 use layout_tables::reverse::ReverseChainSubst;
 use layout_tables::sequence::{AlternateSubst, MultipleSubst};
 use layout_tables::single_subst::SingleSubst;
-use layout_tables::ligature::LigatureSubst;
 use layout_tables::table::LayoutTable;
 
 /// The subtables of a substitution lookup, which are of one type, in the order in which they are tried.

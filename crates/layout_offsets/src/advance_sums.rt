@@ -3,8 +3,8 @@ ghost use Rattle.std.specs.Prelude.{◌≡◌};
 ghost use Rattle.layout_offsets.specs.FollowedLinks.{kinds_tested, kind_tested, has_kind};
 ghost use Rattle.layout_offsets.specs.AdvanceSums.{AllFit, Fits, pen_down, pen_after, pen_of, pen_way, with_pen, advance_sums, advances_of_sums};
 
-use buffer_glyphs::position::GlyphPosition;
 pub use crate::sums::{minus, plus};
+use buffer_glyphs::position::GlyphPosition;
 
 /// The pen's distance from the beginning of the line, in font units modulo 2^32.
 #[derive(Clone, Copy)]

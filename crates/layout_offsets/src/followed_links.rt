@@ -9,10 +9,10 @@ ghost use Rattle.layout_offsets.specs.AdvanceSums.{drawn_by_sums, mark_by_sums, 
 ghost use Rattle.layout_offsets.specs.Walks.{IsComing, WalkStops, StepsToParent, HasReturn, StepsBack, are_shut, is_open, opened_link, closed_link};
 
 use crate::advance_sums::{PEN_DOWN, Pen, pen_of, pen_way, sum_up, take_apart};
-use buffer_common::direction::Direction;
-use buffer_glyphs::position::GlyphPosition;
 use crate::links::linked;
 use crate::sums::{minus, plus};
+use buffer_common::direction::Direction;
+use buffer_glyphs::position::GlyphPosition;
 
 fn offset_by(base: GlyphPosition, position: GlyphPosition) -> GlyphPosition
     ensures { result ≡ offset_by base position }

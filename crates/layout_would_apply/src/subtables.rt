@@ -4,10 +4,10 @@ ghost use Rattle.std.specs.List.{list_any};
 ghost use Rattle.std.specs.Cmp.Lexicographic.{pointwise};
 ghost use Rattle.layout_would_apply.specs.Subtables.{ligature_would, sequence_would, single_would};
 
+use layout_tables::ligature::{Ligature, LigatureSubst};
 use layout_tables::reverse::ReverseChainSubst;
 use layout_tables::sequence::{AlternateSubst, MultipleSubst};
 use layout_tables::single_subst::SingleSubst;
-use layout_tables::ligature::{Ligature, LigatureSubst};
 
 /// Glyphs with no context around them (HarfBuzz: `hb_would_apply_context_t`).
 #[derive(Clone, Copy)]

@@ -8,11 +8,11 @@ ghost use Rattle.buffer_properties.specs.Characters.{standing_for, with_glyph};
 ghost use Rattle.buffer_stages.specs.Appending.{frame_of};
 ghost use Rattle.shape_normalize.specs.Composed.{composition_events, HasRoom, IsComposed, IsWritten};
 
+use crate::characters::becoming;
+use crate::normalizing::Normalizing;
 use buffer_core::buffer::hb_buffer_t;
 use buffer_glyphs::cause::ShapeCause;
 use buffer_glyphs::info::hb_glyph_info_t;
-use crate::characters::becoming;
-use crate::normalizing::Normalizing;
 
 /// Outputs the current glyph; the output has room for it.
 #[tactic(auto, using(crate::proofs::Room::fits_next_glyph))]

@@ -8,11 +8,11 @@ ghost use Rattle.buffer_properties.specs.Characters.{visible_item};
 ghost use Rattle.buffer_properties.specs.Ordering.{joiners_shown};
 ghost use Rattle.shape_normalize.specs.Runs.{HasItems, ShowsAt};
 
+use crate::characters::mark_class;
 use crate::composing::write_ahead;
 use buffer_core::buffer::hb_buffer_t;
 use buffer_glyphs::flags::UnicodeProps;
 use buffer_glyphs::info::hb_glyph_info_t;
-use crate::characters::mark_class;
 
 /// COMBINING GRAPHEME JOINER.
 const JOINER: u32 = 0x034F;

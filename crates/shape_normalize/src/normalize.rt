@@ -11,6 +11,7 @@ ghost use Rattle.buffer_properties.specs.NormalizedList.{arranged_marks, has_lat
 ghost use Rattle.shape_normalize.specs.Rounds.{IsArranged, normalization};
 
 use crate::joiners::show_joiners;
+use crate::normalizing::Normalizing;
 use crate::ordering::arrange_runs;
 use crate::rounds::{compose_characters, expand_characters};
 use buffer_core::buffer::hb_buffer_t;
@@ -18,7 +19,6 @@ use buffer_glyphs::cause::ShapeCause;
 use buffer_glyphs::info::hb_glyph_info_t;
 use buffer_properties::NormalizationMode;
 use buffer_properties::categories::is_mark;
-use crate::normalizing::Normalizing;
 use std::alloc::Global;
 
 /// Whether the mode composes marks with their base.

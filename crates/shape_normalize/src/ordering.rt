@@ -13,12 +13,12 @@ ghost use Rattle.buffer_properties.specs.Ordering.{arranged_run, ordered_list};
 ghost use Rattle.buffer_stages.specs.Rearranged.{IsRearranged, Rearranges};
 ghost use Rattle.shape_normalize.specs.Runs.{in_class_order, Meets};
 
+use crate::characters::mark_class;
+use crate::normalizing::Normalizing;
 use buffer_core::buffer::hb_buffer_t;
 use buffer_glyphs::cause::ShapeCause;
 use buffer_glyphs::info::hb_glyph_info_t;
 use buffer_properties::MAX_COMBINING_MARKS;
-use crate::characters::mark_class;
-use crate::normalizing::Normalizing;
 use std::alloc::{AllocError, Global};
 
 /// Sorts the items `start..end` by combining class, stably; each smallest range that this permutes is merged.

@@ -7,11 +7,11 @@ ghost use Rattle.buffer_properties.specs.Expanding.{expanded_list};
 ghost use Rattle.shape_normalize.specs.Composed.{HasRoom};
 ghost use Rattle.shape_normalize.specs.Rounds.{IsArranged};
 
+use crate::expanding::expand_list;
+use crate::normalizing::Normalizing;
 use crate::starters::compose_list;
 use buffer_core::buffer::hb_buffer_t;
 use buffer_glyphs::cause::ShapeCause;
-use crate::expanding::expand_list;
-use crate::normalizing::Normalizing;
 
 /// The first round: each character is decomposed as far as the shaper and the font require, a variation selector is
 /// combined with the character before it where the font has the pair, and each character gets the font's glyph. It

@@ -9,13 +9,13 @@ ghost use Rattle.buffer_stages.specs.Appending.{AppendsArrangement};
 ghost use Rattle.shape_normalize.specs.Composed.{HasRoom};
 ghost use Rattle.shape_normalize.specs.Starters.{become, Composes, Composites, IsAt, Passes};
 
+use crate::characters::mark_class;
 use crate::composing::{compose_mark, out_at, pass_glyph};
+use crate::normalizing::Normalizing;
 use buffer_core::buffer::hb_buffer_t;
 use buffer_glyphs::cause::ShapeCause;
 use buffer_glyphs::info::hb_glyph_info_t;
 use buffer_properties::categories::is_mark;
-use crate::characters::mark_class;
-use crate::normalizing::Normalizing;
 
 /// Whether nothing between the last starter and the current item blocks it: no item there has its combining class or a
 /// greater one (UAX 15 D115).

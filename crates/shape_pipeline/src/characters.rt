@@ -15,11 +15,11 @@ use buffer_core::buffer::hb_buffer_t;
 use buffer_glyphs::cause::ShapeCause;
 use script_categories::SyllableSpans;
 use script_plan::hb_ot_shaper_t;
-use shape_text::masks::initialize_masks;
 use shape_normalize::normalize::_hb_ot_shape_normalize;
 use shape_text::circle::insert_dotted_circle;
 use shape_text::clusters::form_clusters;
 use shape_text::direction::ensure_native_direction;
+use shape_text::masks::initialize_masks;
 use shape_text::properties::set_unicode_props;
 use shape_text::rotation::{self, Rotation};
 

@@ -15,7 +15,6 @@ use buffer_common::direction::{Direction, InvalidDirection};
 use buffer_common::language::{Language, LanguageFault};
 use buffer_common::script::{InvalidScript, Script};
 use buffer_common::tag::Tag;
-use buffer_tags::feature::{Feature, InvalidFeature};
 use buffer_glyphs::cause::ShapeCause;
 use buffer_glyphs::flags::{GlyphPropsFlags, SerializeFlags, UnicodeProps};
 use buffer_glyphs::info::{
@@ -28,6 +27,7 @@ use buffer_glyphs::level::{
 };
 use buffer_glyphs::names::{GlyphId, hb_glyph_extents_t};
 use buffer_glyphs::position::GlyphPosition;
+use buffer_tags::feature::{Feature, InvalidFeature};
 use buffer_unicode::fault::TablesFault;
 use buffer_unicode_tables::hangul::{
     L_BASE, L_COUNT, N_COUNT, S_BASE, S_COUNT, T_BASE, T_COUNT, V_BASE, V_COUNT,

@@ -12,10 +12,6 @@ pub use buffer_common::script_tags::tags_from_script_and_language;
 pub use buffer_common::tag::{Tag, TagExt, hb_tag_t};
 pub use buffer_common::{constants, script};
 pub use buffer_core::buffer::hb_buffer_t;
-pub use buffer_tags::feature::{
-    Feature, HB_FEATURE_GLOBAL_END, HB_FEATURE_GLOBAL_START, InvalidFeature,
-};
-pub use buffer_tags::text_parser::TextParser;
 pub use buffer_glyphs::cause::ShapeCause;
 pub use buffer_glyphs::flags::{GlyphPropsFlags, SerializeFlags, UnicodeProps};
 pub use buffer_glyphs::info::{
@@ -29,9 +25,15 @@ pub use buffer_glyphs::level::{
 };
 pub use buffer_glyphs::names::{GlyphId, GlyphNames, hb_glyph_extents_t};
 pub use buffer_glyphs::position::GlyphPosition;
-pub use buffer_tags::language_table::{LanguageRow, LanguageTable};
 pub use buffer_serialize::serialize;
-pub use buffer_unicode::{category, hb_unicode_general_category_t, space, CharExt, GeneralCategoryExt, UnicodeRows};
+pub use buffer_tags::feature::{
+    Feature, HB_FEATURE_GLOBAL_END, HB_FEATURE_GLOBAL_START, InvalidFeature,
+};
+pub use buffer_tags::language_table::{LanguageRow, LanguageTable};
+pub use buffer_tags::text_parser::TextParser;
+pub use buffer_unicode::{
+    CharExt, GeneralCategoryExt, UnicodeRows, category, hb_unicode_general_category_t, space,
+};
 pub use buffer_unicode_tables::character::CharTablesExt;
 pub use buffer_unicode_tables::{
     LawFault, TablesFault, UnicodeTables, compose, compose_hangul, decompose, decompose_hangul,

@@ -13,8 +13,8 @@ use layout_face::parts::FaceParts;
 use serde_json::Value;
 use shell_face_json::read_face;
 use shell_json::check::is_json;
-use shell_json::unread::Unread;
 use shell_json::fault::JsonFault;
+use shell_json::unread::Unread;
 use std::alloc::Global;
 
 /// Reads a font from a text. A text that is no JSON is the first fault; the others are ordered as in `read_face`. A

@@ -27,10 +27,10 @@ use layout_tables::table::LayoutTable;
 use serde_json::Value;
 use shell_face_json::glyphs::GLYPH_LIMIT;
 use shell_face_json::value::Part;
+use shell_json::cell::Cell;
 use shell_json::key_takers::{Key, Whole};
 use shell_json::members::take_text;
 use shell_json::unread::Unread;
-use shell_json::cell::Cell;
 use std::alloc::Global;
 
 /// Reads units per em, the ascender, and the glyph definitions.

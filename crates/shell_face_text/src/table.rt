@@ -15,11 +15,11 @@ use serde_json::Value;
 use shell_face_json::lists::read_in_turn;
 use shell_face_json::rising::read_rising;
 use shell_face_json::value::Part;
+use shell_json::fault::JsonFault;
 use shell_json::key_takers::{Key, ValueTaker, Whole};
 use shell_json::members::take_object;
-use shell_json::unread::Unread;
-use shell_json::fault::JsonFault;
 use shell_json::parts::list;
+use shell_json::unread::Unread;
 use std::alloc::Global;
 use std::marker::PhantomData;
 

@@ -4,9 +4,9 @@ use buffer_common::constants::BufferFlags;
 use buffer_common::direction::Direction;
 use buffer_common::language::Language;
 use buffer_common::script::Script;
-use buffer_tags::feature::Feature;
 use buffer_glyphs::flags::SerializeFlags;
 use buffer_glyphs::level::BufferClusterLevel;
+use buffer_tags::feature::Feature;
 
 /// The options of a run of the program.
 #[derive(Debug, Drop)]

@@ -16,8 +16,8 @@ use super::hb_buffer_t;
 use super::merges::add_has_glyph_flags;
 use buffer_glyphs::info::hb_glyph_info_t;
 use buffer_lists::deletion_within::delete_within;
-use buffer_lists::{groups, reversal};
 use buffer_lists::order::{ClusterOrder, KnownOrder};
+use buffer_lists::{groups, reversal};
 
 impl hb_buffer_t {
     /// The end of the run of glyphs of one syllable that begins at `start`; past the end of the glyphs, `start`.

@@ -12,8 +12,8 @@ ghost use Rattle.buffer_core.specs.Sorting.{with_range_sorted};
 use super::hb_buffer_t;
 use super::merges::add_has_glyph_flags;
 use buffer_glyphs::info::hb_glyph_info_t;
-use buffer_lists::sorting::sort;
 use buffer_lists::order::ClusterOrder;
+use buffer_lists::sorting::sort;
 use std::alloc::{AllocError, Global};
 
 impl hb_buffer_t {
