@@ -1,7 +1,6 @@
 -- Guessing twice is guessing once.
 use Rattle.std.proofs.Common.{ℕ, List, sym, ◌≡◌, Bool, true, false, if◌then◌else◌, refl, ap, ◌∙◌}
 use Rattle.std.specs.Prelude.{Option, Some, None, unwrap_or}
-use Rattle.buffer_common.specs.Direction.{direction_of_script}
 use Rattle.buffer_common.specs.declared.direction.Direction.{Direction}
 use Rattle.buffer_common.specs.declared.direction.Direction.TheVariants.{Invalid, LeftToRight, RightToLeft, TopToBottom, BottomToTop}
 use Rattle.buffer_common.specs.declared.script.Script.{Script}

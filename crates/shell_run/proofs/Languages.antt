@@ -1,12 +1,12 @@
 -- The tags of languages, by their rows and by what a JSON value says of them.
-use Rattle.std.proofs.Common.{ℕ, ◌≡◌, Bool, true, false, if◌then◌else◌, List, [], ◌∷◌, map, refl, sym, ap, ◌∙◌}
-use Rattle.std.specs.Prelude.{Option, Some, None, find}
+use Rattle.std.proofs.Common.{ℕ, ◌≡◌, true, false, if◌then◌else◌, List, [], ◌∷◌, map, refl, sym, ap, ◌∙◌}
+use Rattle.std.specs.Prelude.{Option, Some, None}
 use Rattle.std.specs.Option.{option_map, option_map_or}
 use Rattle.std.specs.Str.{bytes_eq}
 use Rattle.buffer_common.specs.declared.tag.Tag.{Tag}
 use Rattle.buffer_tags.specs.declared.language_table.LanguageRow.{LanguageRow}
 use Rattle.buffer_tags.specs.declared.language_table.LanguageTable.{LanguageTable}
-use Rattle.buffer_tags.specs.LanguageRows.{primary_part, row_of, row_text, tags_in}
+use Rattle.buffer_tags.specs.LanguageRows.{primary_part, row_of, row_text}
 use Rattle.buffer_tags.specs.LanguageTable.{rows_of, tags_of_table}
 use Rattle.shell_tables_json.specs.Languages.{Language, language_in, languages_in}
 use Rattle.buffer_common.specs.declared.language.Language as Text

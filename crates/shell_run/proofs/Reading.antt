@@ -1,7 +1,5 @@
 -- There is one answer.
-use Rattle.std.proofs.Common.{ℕ, ◌≡◌, List, Result, sym, ap, ◌∙◌}
-use Rattle.shell_readers.specs.declared.fault.RunFault.{RunFault}
-use Rattle.shell_readers.specs.Input.{RunParts}
+use Rattle.std.proofs.Common.{sym, ap, ◌∙◌}
 use Rattle.shell_readers.proofs.Reading.{inputs_are_one}
 use Rattle.shell_run.specs.Answer.{IsAnswer, answer_by}
 use Rattle.shell_run.specs.Laws.{AnswersAreOne}

@@ -1,5 +1,5 @@
 -- The printed slices are those of the text.
-use Rattle.std.proofs.Common.{ℕ, ◌≡◌, ◌↔◌, ◌++◌, ◌∷◌, Bool, true, false, not, if◌then◌else◌, List, [], length, map, refl, sym, ap, ◌∙◌}
+use Rattle.std.proofs.Common.{ℕ, ◌≡◌, ◌↔◌, Bool, true, false, if◌then◌else◌, List, length, map, refl, sym, ap}
 use Rattle.std.specs.Prelude.{IsTrue}
 use Rattle.std.specs.List.{flat_map}
 use Rattle.buffer_parts.specs.Fits.{FitsText}

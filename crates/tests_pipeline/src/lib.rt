@@ -9,6 +9,8 @@ mod decomposing;
 #[cfg(test)]
 mod dispatch;
 #[cfg(test)]
+mod lines;
+#[cfg(test)]
 mod plans;
 #[cfg(test)]
 mod premises;

@@ -1,5 +1,3 @@
 pub mod Ready
 pub mod Masks
 pub mod ScriptsReady
-mod IndicNumbers
-mod IndicReady

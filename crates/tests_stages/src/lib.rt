@@ -1,5 +1,4 @@
-//! Tests of stages around the lookups, normalizing among them, and of what the shapers of scripts do to a text; worked
-//! rows of the Indic shaper, and long syllables.
+//! Tests of stages around the lookups, normalizing among them, and of what the shapers of scripts do to a text.
 #![tactic(auto)]
 
 #[cfg(test)]
@@ -7,12 +6,7 @@ mod buffers;
 #[cfg(test)]
 mod bytes;
 #[cfg(test)]
-mod indic_costs;
-pub mod indic_forms;
-#[cfg(test)]
-mod indic_rows;
-#[cfg(test)]
-mod indic_text;
+mod indic;
 #[cfg(test)]
 mod joining;
 #[cfg(test)]

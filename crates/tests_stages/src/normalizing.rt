@@ -1,4 +1,5 @@
 //! Normalizing on the buffer.
+mod indic;
 mod lists;
 mod rows;
 mod texts;

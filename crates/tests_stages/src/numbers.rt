@@ -202,7 +202,7 @@ impl Numbers {
 }
 
 /// Makes the buffer ready, with a position for each glyph.
-fn settle(buffer: &mut hb_buffer_t) -> Result<(), Fail>
+pub(crate) fn settle(buffer: &mut hb_buffer_t) -> Result<(), Fail>
     requires { buffer.old.is_open ≡ false }
     ensures { OnOk result (IsReady buffer.new) }
 {

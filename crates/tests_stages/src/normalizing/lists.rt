@@ -9,6 +9,7 @@ use buffer_glyphs::level::BufferClusterLevel;
 use buffer_properties::NormalizationMode;
 use buffer_unicode_tables::UnicodeTables;
 use serde_json::Value;
+use shape_normalize::normalizing::Normalizing;
 use shell_json::cell::Cell;
 use shell_json::fault::JsonFault;
 use shell_json::parts::{list_at, natural_number_below, text, three_parts};
@@ -96,7 +97,7 @@ fn numbers(alloc: Global, row: &Value, key: &str) -> Result<Vec<u32>, Fail> {
 }
 
 /// Characters with a number each.
-fn numbered(alloc: Global, row: &Value, key: &str) -> Result<Vec<(char, u32)>, Fail> {
+pub(super) fn numbered(alloc: Global, row: &Value, key: &str) -> Result<Vec<(char, u32)>, Fail> {
     let mut rows = Vec::new(alloc);
     for value in list_at(row, key)? {
         rows.push(<(char, u32)>::read(value)?)?;
@@ -190,7 +191,7 @@ fn normalizer<'a>(
 }
 
 /// The normalized text of a row.
-fn normalized_row(alloc: Global, by: &RowNormalizer<'_>, row: &Value) -> Result<hb_buffer_t, Fail>
+fn normalized_row<N: Normalizing>(alloc: Global, by: &N, row: &Value) -> Result<hb_buffer_t, Fail>
     ensures { IfOk result (λ b. b.is_open ≡ false) }
 {
     let text = numbered(alloc, row, "text")?;
@@ -236,7 +237,12 @@ fn columns_agree(alloc: Global, row: &Value, glyphs: &[hb_glyph_info_t]) -> Resu
     Ok(true)
 }
 
-fn list_agrees(alloc: Global, by: &RowNormalizer<'_>, row: &Value) -> Result<bool, Fail> {
+/// Whether the text of a row, normalized, has the row's columns.
+pub(super) fn list_agrees<N: Normalizing>(
+    alloc: Global,
+    by: &N,
+    row: &Value,
+) -> Result<bool, Fail> {
     let buffer = normalized_row(alloc, by, row)?;
     columns_agree(alloc, row, buffer.info_slice())
 }
@@ -247,7 +253,8 @@ fn font_agrees(alloc: Global, tables: &UnicodeTables, row: &Value) -> Result<boo
     list_agrees(alloc, &by, row)
 }
 
-fn tables_of(alloc: Global, row: &Value) -> Result<UnicodeTables, Fail> {
+/// The tables of a row.
+pub(super) fn tables_of(alloc: Global, row: &Value) -> Result<UnicodeTables, Fail> {
     let value = row.get("tables").ok_or("no tables")?;
     Ok(read_tables(alloc, value)?)
 }

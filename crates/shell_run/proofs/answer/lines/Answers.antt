@@ -1,4 +1,4 @@
-use Rattle.std.proofs.Common.{◌≡◌, ◌++◌, Bool, List, subst, sym, ◌∙◌, ap, string_bytes}
+use Rattle.std.proofs.Common.{◌≡◌, ◌++◌, Bool, List, subst, ◌∙◌, string_bytes}
 use Rattle.buffer_glyphs.specs.declared.flags.SerializeFlags.{SerializeFlags}
 use Rattle.buffer_glyphs.specs.Items.{clusters}
 use Rattle.buffer_tags.specs.declared.feature.Feature.{Feature}

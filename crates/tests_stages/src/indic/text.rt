@@ -2,12 +2,18 @@
 ghost use Rattle.std.specs.Prelude.{◌≡◌, false, IfOk, OnOk};
 ghost use Rattle.buffer_stages.specs.Ready.{IsReady};
 
+use crate::numbers::settle;
 use buffer_core::buffer::hb_buffer_t;
 use buffer_glyphs::flags::{GlyphPropsFlags, UnicodeProps};
 use buffer_glyphs::info::hb_glyph_info_t;
 use buffer_glyphs::level::BufferClusterLevel;
 use std::alloc::Global;
 use std::test::Fail;
+
+/// A field of a row, by its index.
+pub(crate) fn field(line: &str, index: usize) -> &str {
+    line.split('|').nth(index).unwrap_or("")
+}
 
 /// Numbers with a space between.
 pub(crate) fn numbers(alloc: Global, text: &str) -> Result<Vec<u32>, Fail> {
@@ -41,7 +47,7 @@ fn word(number: u32) -> u16 {
     u16::try_from(number).unwrap_or(0)
 }
 
-pub(crate) fn cluster_level(text: &str) -> BufferClusterLevel {
+fn cluster_level(text: &str) -> BufferClusterLevel {
     if text == "0" {
         return BufferClusterLevel::MonotoneGraphemes;
     }
@@ -119,18 +125,6 @@ pub(crate) fn add_characters(buffer: &mut hb_buffer_t, count: usize) -> Result<(
         if !buffer.add(c, number)? {
             return Err("too long".into());
         }
-    }
-    Ok(())
-}
-
-/// Gives a buffer a position for each glyph.
-pub(crate) fn settle(buffer: &mut hb_buffer_t) -> Result<(), Fail>
-    requires { buffer.old.is_open ≡ false }
-    ensures { OnOk result (IsReady buffer.new) }
-{
-    buffer.clear_output()?;
-    if !buffer.sync()? {
-        buffer.clear();
     }
     Ok(())
 }

@@ -2,8 +2,8 @@
 ghost use Rattle.std.specs.Prelude.{OnOk};
 ghost use Rattle.buffer_stages.specs.Ready.{IsReady};
 
-use crate::indic_forms::ListedForms;
-use crate::indic_text::{buffer, has, lists, numbers};
+use crate::indic::forms::ListedForms;
+use crate::indic::text::{buffer, field, has, lists, numbers};
 use buffer_core::buffer::hb_buffer_t;
 use buffer_glyphs::cause::ShapeCause;
 use script_categories::ot_position_t::Position;
@@ -27,11 +27,6 @@ fn masks(alloc: Global, text: &str) -> Result<IndicMasks, Fail> {
         }),
         _ => Err("no masks".into()),
     }
-}
-
-/// A field of a row, by its index.
-fn field(line: &str, index: usize) -> &str {
-    line.split('|').nth(index).unwrap_or("")
 }
 
 fn mode(text: &str) -> RephMode {

@@ -1,5 +1,5 @@
 use Rattle.std.proofs.Common.{◌≡◌, false}
-use Rattle.tests_stages.proofs.indic_text.buffer.Given as goal
+use Rattle.tests_stages.proofs.indic.text.buffer.Given as goal
 
 -- no output is open
 abbrev pub invariant-loop-glyph : goal.invariant-loop-glyph
