@@ -4,7 +4,7 @@
 
 use kuspveli::{
     Direction, Face, LanguageTable, RunFault, RunInput, Script, SerializeFlags, ShapeCause,
-    ShapePlan, SyllableTable, Tag, TagExt, UnicodeBuffer, hb_shape_data_t, read_input,
+    ShapePlan, SyllableTable, Tag, TagExt, TextTables, UnicodeBuffer, hb_shape_data_t, read_input,
     shape_with_plan,
 };
 use std::alloc::{AllocError, Global};
@@ -13,18 +13,8 @@ use std::fs;
 type Data<'a> = hb_shape_data_t<'a, SyllableTable, LanguageTable>;
 
 fn main(rt: HostRuntime) -> Result<(), RunFault> {
-    let RunInput { tables, face } = read(&rt)?;
-    let data = hb_shape_data_t {
-        tables: &tables.characters,
-        spans: &tables.syllables,
-        languages: &tables.languages,
-    };
-    let plan = latin_plan(rt.alloc(), &face, data)?;
-    for text in ["afi", "fib", "baffi"] {
-        let line = shape_line(rt.alloc(), &face, data, &plan, text)?;
-        println!(rt; "{line}").map_err(|_| RunFault::Write)?;
-    }
-    Ok(())
+    let input = read(&rt)?;
+    shape_texts(&rt, &input.face, &input.tables)
 }
 
 /// Reads tables and font from their files.
@@ -32,6 +22,31 @@ fn read(rt: &HostRuntime) -> Result<RunInput, RunFault> {
     let tables = fs::read(rt, "tables.json").map_err(|_| RunFault::Read)?;
     let font = fs::read(rt, "font.json").map_err(|_| RunFault::Read)?;
     read_input(rt.alloc(), &tables, &font)
+}
+
+/// Shapes the texts with one plan.
+fn shape_texts(rt: &HostRuntime, face: &Face, tables: &TextTables) -> Result<(), RunFault> {
+    let data = hb_shape_data_t {
+        tables: &tables.characters,
+        spans: &tables.syllables,
+        languages: &tables.languages,
+    };
+    let plan = latin_plan(rt.alloc(), face, data)?;
+    print_lines(rt, face, data, &plan)
+}
+
+/// Prints a line for each text.
+fn print_lines(
+    rt: &HostRuntime,
+    face: &Face,
+    data: Data<'_>,
+    plan: &ShapePlan,
+) -> Result<(), RunFault> {
+    for text in ["afi", "fib", "baffi"] {
+        let line = shape_line(rt.alloc(), face, data, plan, text)?;
+        println!(rt; "{line}").map_err(|_| RunFault::Write)?;
+    }
+    Ok(())
 }
 
 /// A plan for Latin texts of any language, with the features that are on by default.
