@@ -3,6 +3,7 @@ pub mod Shapers
 pub mod Dispatch
 pub mod Requests
 pub mod Hooks
+pub mod PlanData
 pub mod Present
 pub mod Keeping
 pub mod Rules

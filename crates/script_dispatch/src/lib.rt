@@ -6,6 +6,7 @@ pub mod any_shaper;
 mod dispatch;
 pub mod hooks;
 pub mod laws;
+pub mod plan_data;
 pub mod planned;
 mod scripts;
 pub mod shaper;
