@@ -3,7 +3,8 @@
 //!
 //! What a caller of `shape` can test of each premise of `law_equivalents_look_alike`:
 //! - The tables are lawful: `UnicodeTables::law_fault`. Their chains end: the clause `shallow` of `decompose`. They decompose
-//!   characters alone: the clause `sound` of `UnicodeTables::new`, by `law_checked_tables_split_characters`.
+//!   characters alone: the clause `characters` of `UnicodeTables::of_records`; the clause `sound` of `UnicodeTables::new`, by
+//!   `law_checked_tables_split_characters`; `law_read_tables_split_characters` of those that are read.
 //! - The texts are equivalent, and both are regular: `shape_premises::are_equivalent` and `is_regular`, on what was pushed
 //!   (`law_pushed_texts_have_characters`).
 //! - The line, after `guess_segment_properties`: `UnicodeBuffer::direction`, and `Direction::from_script` of its script.
