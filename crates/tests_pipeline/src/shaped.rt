@@ -13,7 +13,7 @@ use script_plan::hb_ot_shaper_t;
 use script_plan::plan::hb_ot_shape_plan_t;
 use serde_json::Value;
 use shape_pipeline::hb_ot_any_shaper_t;
-use shape_pipeline::shaping::{ShapeFault, shape, shape_with_plan};
+use shape_pipeline::shaping::{ShapeFault, nested_lookups_left, shape, shape_with_plan};
 use shell_tables_json::{read_languages, read_syllables, read_tables};
 use std::alloc::{AllocError, Global};
 use std::process::Abort;
@@ -153,6 +153,37 @@ fn rows_agree(rt: &impl Abort, alloc: Global, tables: Tables<'_>) -> Result<(), 
     Ok(())
 }
 
+// A context whose rule applies one lookup to the last of its two glyphs.
+const NESTING: &str =
+    r#"{"cmap":[[97,1],[98,2]],"gsub":{"scripts":[["DFLT",{"features":[0]},[]]],"features":[["calt",[0]]],"lookups":[{"type":"chain","subtables":[{"format":"glyphs","rules":[[[2],[1],[],[[0,1]]]]}]},{"type":"single","subtables":[[[1,3]]]}]}}"#;
+
+/// What is left of the budget of a text's nested lookups, where the text is shaped.
+fn left_of_text(
+    alloc: Global,
+    face: &Face,
+    tables: Tables<'_>,
+    text: UnicodeBuffer,
+) -> Option<i32> {
+    match nested_lookups_left(alloc, face, tables.data(), &[], text) {
+        Ok(left) => Some(left),
+        Err(_) => None,
+    }
+}
+
+fn left_of_row(alloc: Global, tables: Tables<'_>, row: &str) -> Result<Option<i32>, Fail> {
+    let face = face_of(alloc, NESTING)?;
+    Ok(left_of_text(alloc, &face, tables, text_of(alloc, row)?))
+}
+
+// The budget of a short text is 16,384.
+fn budgets_are_counted(rt: &impl Abort, alloc: Global, tables: Tables<'_>) -> Result<(), Fail> {
+    let none_nested = left_of_row(alloc, tables, "graphemes;;97,0 98,1")?;
+    assert_eq!(rt; none_nested, Some(16_384));
+    let one_nested = left_of_row(alloc, tables, "graphemes;;98,0 97,1")?;
+    assert_eq!(rt; one_nested, Some(16_383));
+    Ok(())
+}
+
 fn agree_by_languages(
     rt: &impl Abort,
     alloc: Global,
@@ -166,7 +197,8 @@ fn agree_by_languages(
         spans,
         languages: &languages,
     };
-    rows_agree(rt, alloc, tables)
+    rows_agree(rt, alloc, tables)?;
+    budgets_are_counted(rt, alloc, tables)
 }
 
 fn agree_by_spans(
