@@ -98,18 +98,18 @@ record IsRead (p : Shaping) (v : View) (r : Read) : Type 0 where
   pub shapes : Reaches (glyphs_stage p) chosen shaped
   pub ends : (final_view p.direction shaped).view ≡ r.view
 
-ranges_led : (p : Shaping) (ns : List ℕ) (v w : View) → have_no_ranges p.features ≡ true → Reaches (ranges_set p ns) v w → v ≡ w
+pub ranges_led : (p : Shaping) (ns : List ℕ) (v w : View) → have_no_ranges p.features ≡ true → Reaches (ranges_set p ns) v w → v ≡ w
 ranges_led p ns v w h k = always_led (with_events []) v w (reaches_as (ranges_set p ns) (always (with_events [])) v w (sym (ranges_same p ns v h)) k)
 
 -- the stages before the masks of ranges
-parted_before : (p : Shaping) (v w : View) → Reaches (before_ranges p) v w → (chosen : View) × Reaches (characters_stage p) v chosen × Reaches (masks_set p) chosen w
+pub parted_before : (p : Shaping) (v w : View) → Reaches (before_ranges p) v w → (chosen : View) × Reaches (characters_stage p) v chosen × Reaches (masks_set p) chosen w
 unfolding before_ranges characters_stage
 parted_before p v w k =
     let (begun, one, (chosen, two, (masked, three, same))) = in_order_passes (text_begun p ∷ characters_chosen p ∷ masks_set p ∷ []) v w k in
     (chosen, passes_in_order (text_begun p ∷ characters_chosen p ∷ []) v chosen (begun, one, (chosen, two, refl)), subst (Reaches (masks_set p) chosen) same three)
 
 -- the stages of the end, but for the last
-abbrev hiding_stages : Shaping → List Stage
+abbrev pub hiding_stages : Shaping → List Stage
 hiding_stages p =
     always (with_selectors p.settings.not_found_variation_selector) ∷
     always (ignorables_hidden p.settings.flags p.settings.invisible p.font) ∷
@@ -168,14 +168,14 @@ text_is_read p text r regular h e = shaping_passes p (clusters_after (before_ran
 -- ---- what is read within the budget
 
 -- a budget that allows a number is that number and more
-allowed_is : (k : ℤ) (n : ℕ) → allows k n ≡ true → (m : ℕ) × (k ≡ pos m) × (n ≤ m)
+pub allowed_is : (k : ℤ) (n : ℕ) → allows k n ≡ true → (m : ℕ) × (k ≡ pos m) × (n ≤ m)
 allowed_is (pos m) n h = (m, refl, within m n h)
   where
     within : (m n : ℕ) → nat_le n m ≡ true → n ≤ m
     within m n h = grind (arith, nat_tests, h)
 allowed_is (negsuc m) n h = cc
 
-own_budget : (v : View) (k : ℤ) → v.max_ops ≡ k → at_budget k v ≡ v
+pub own_budget : (v : View) (k : ℤ) → v.max_ops ≡ k → at_budget k v ≡ v
 own_budget v k e = ap (λ z. at_budget z v) (sym e)
 
 -- what a text shapes to, by what it takes of a budget
@@ -294,7 +294,7 @@ shapings_same font tables tags spans features a b d language settings =
     ∙ (ap (λ x. shaping_of font tables tags spans features b.direction x (text_settings a)) language
     ∙ ap (λ x. shaping_of font tables tags spans features b.direction b.language x) settings)
 
-planned_line : (font : FaceParts) (tables : Tables) (tags : List ℕ → List Tag) (spans : Spans) (features : List Feature) (a : Sides) → (by_text font tables tags spans features a).direction ≡ a.direction
+pub planned_line : (font : FaceParts) (tables : Tables) (tags : List ℕ → List Tag) (spans : Spans) (features : List Feature) (a : Sides) → (by_text font tables tags spans features a).direction ≡ a.direction
 unfolding text_plan
 planned_line font tables tags spans features a = refl
 

@@ -6,3 +6,4 @@ mod Begun
 mod Chosen
 mod Limits
 mod Alike
+mod Budget

@@ -1,5 +1,5 @@
 -- Laws of canonically equivalent texts.
-use Rattle.std.specs.Prelude.{ℕ, ◌≡◌, true, false, List, [], Ok, chars}
+use Rattle.std.specs.Prelude.{ℕ, suc, pos, ◌≡◌, true, false, List, [], Ok, chars}
 use Rattle.buffer_common.specs.declared.direction.Direction.TheVariants.{LeftToRight}
 use Rattle.buffer_common.specs.declared.tag.Tag.{Tag}
 use Rattle.buffer_tags.specs.declared.feature.Feature.{Feature}
@@ -13,14 +13,17 @@ use Rattle.buffer_stages.specs.Settings.{text_settings}
 use Rattle.buffer_unicode_tables.specs.Tables.{Tables, class_of}
 use Rattle.buffer_unicode_tables.specs.Texts.{AreEquivalent, full_text}
 use Rattle.layout_face.specs.declared.parts.FaceParts.{FaceParts}
+use Rattle.script_dispatch.specs.Requests.{any_kind}
+use Rattle.script_plan.specs.Plans.{planned_shaper}
 use Rattle.script_plan.specs.Rules.{RulesDependOnNoLimit, Spans}
 use Rattle.shape_premises.specs.Texts.{starts_with_mark}
+use Rattle.shape_pipeline.specs.Budget.{budget_left}
 use Rattle.shape_pipeline.specs.Characters.{text_begun}
 use Rattle.shape_pipeline.specs.ReadingLaws.{have_no_ranges}
 use Rattle.shape_pipeline.specs.Results.{AreSameItems, IsShapedBy}
-use Rattle.shape_pipeline.specs.Shaped.{by_text, text_reading}
+use Rattle.shape_pipeline.specs.Shaped.{by_text, language_tags, text_reading}
 use Rattle.shape_pipeline.specs.Shaping.{Shaping}
-use Rattle.shape_equivalence.specs.Shapers.{NormalizesAsUnicode}
+use Rattle.shape_equivalence.specs.Shapers.{NormalizesAsUnicode, keeps_equivalence}
 use Rattle.shape_equivalence.specs.Stages.{budget_of, characters_stage}
 use Rattle.shape_equivalence.specs.Texts.{AreEquivalentTexts, AreLawfulTables, AreOneShaping, ArePair, HasEnoughBudget, RunsFromLeft, begun_item, text_characters}
 
@@ -54,6 +57,19 @@ abbrev pub ChosenTextsAreEquivalent : Type 0
 ChosenTextsAreEquivalent = (p : Shaping) (text : Sides) (r : Read) → AreLawfulTables p.tables → NormalizesAsUnicode p.traits p.rules → p.direction ≡ LeftToRight → RunsFromLeft text → p.settings ≡ text_settings text
     → starts_with_mark (text_characters text) ≡ false → HasNoSelector (text_characters text) → HasShortRuns (class_of p.tables) 0 (full_text p.tables (text_characters text))
     → characters_stage p (view_of text) ≡ Ok r → AreEquivalent p.tables (text_characters text) (characters_of r.view.items)
+
+-- ---- the budget
+
+-- law: a text that is read within its budget, with some of it left, has enough of it, for each shaper that normalizes as
+-- Unicode does and of whose rules none depends on a limit
+abbrev pub ReadTextsHaveEnoughBudget : Type 0
+ReadTextsHaveEnoughBudget = (p : Shaping) (text : Sides) (k : ℕ) → p.direction ≡ LeftToRight → RunsFromLeft text → p.settings ≡ text_settings text → starts_with_mark (text_characters text) ≡ false → NormalizesAsUnicode p.traits p.rules
+    → RulesDependOnNoLimit p.rules → have_no_ranges p.features ≡ true → budget_left p (state_of text) ≡ Ok (pos (suc k)) → HasEnoughBudget p text
+
+-- law: so has a text under the universal and the Myanmar shaper
+abbrev pub TextsHaveEnoughBudget : Type 0
+TextsHaveEnoughBudget = (font : FaceParts) (tables : Tables) (tags : List ℕ → List Tag) (spans : Spans) (features : List Feature) (text : Sides) (k : ℕ) → RunsFromLeft text → starts_with_mark (text_characters text) ≡ false → have_no_ranges features ≡ true
+    → keeps_equivalence (planned_shaper any_kind font (language_tags tags text) text.direction text.script) ≡ true → budget_left (by_text font tables tags spans features text) (state_of text) ≡ Ok (pos (suc k)) → HasEnoughBudget (by_text font tables tags spans features text) text
 
 -- ---- the glyphs
 

@@ -1,7 +1,7 @@
 -- Shapers that decompose and compose characters as Unicode says.
 use Rattle.std.specs.Prelude.{ℕ, ⊤, ◌≡◌, Bool, true, false, List, Some}
 use Rattle.layout_face.specs.declared.parts.FaceParts.{FaceParts}
-use Rattle.buffer_unicode_tables.specs.Tables.{Tables, pair_of, split_of}
+use Rattle.buffer_unicode_tables.specs.Tables.{SplitsCharacters, Tables, pair_of, split_of}
 use Rattle.buffer_glyphs.specs.Items.{Item}
 use Rattle.buffer_glyphs.specs.Rewriting.{eventless_arrangement}
 use Rattle.buffer_core.specs.Readings.{View, as_it_is}
@@ -17,7 +17,6 @@ use Rattle.script_dispatch.specs.declared.any_shaper.hb_ot_any_shaper_t.{hb_ot_a
 use Rattle.script_dispatch.specs.declared.any_shaper.hb_ot_any_shaper_t.TheVariants as any
 use Rattle.script_dispatch.specs.Rules.{rules_of}
 use Rattle.script_dispatch.specs.Shapers.{traits_of}
-use Rattle.shape_premises.specs.Texts.{SplitsCharacters}
 use Rattle.shape_pipeline.specs.Characters.{normalizer}
 use Rattle.shape_pipeline.specs.Shaping.{Shaping}
 

@@ -9,14 +9,14 @@ use Rattle.buffer_core.specs.Sides.{Sides, all_glyphs}
 use Rattle.buffer_stages.specs.Settings.{text_settings}
 use Rattle.buffer_unicode_tables.specs.Expansion.{EndWithin}
 use Rattle.buffer_unicode_tables.specs.Lawful.{IsLawful}
-use Rattle.buffer_unicode_tables.specs.Tables.{Tables, split_of}
+use Rattle.buffer_unicode_tables.specs.Tables.{SplitsCharacters, Tables, split_of}
 use Rattle.buffer_unicode_tables.specs.Texts.{AreEquivalent}
 use Rattle.buffer_wrappers.specs.Wrappers.{IsText}
 use Rattle.layout_face.specs.declared.parts.FaceParts.{FaceParts}
 use Rattle.script_dispatch.specs.Requests.{any_kind}
 use Rattle.script_plan.specs.Plans.{planned_shaper}
 use Rattle.script_plan.specs.Rules.{Spans}
-use Rattle.shape_premises.specs.Texts.{IsRegularText, SplitsCharacters}
+use Rattle.shape_premises.specs.Texts.{IsRegularText}
 use Rattle.shape_text.specs.NativeOrder.{runs_against, script_direction}
 use Rattle.shape_pipeline.specs.ReadingLaws.{have_no_ranges}
 use Rattle.shape_pipeline.specs.Shaped.{by_text, language_tags}
@@ -51,7 +51,7 @@ pub record RunsFromLeft (text : Sides) : Type 0 where
   pub writing : runs_against LeftToRight (script_direction text.script) ≡ false
 
 -- tables are lawful, chains of their decompositions end within eight steps, and they decompose characters alone: so are
--- those that `UnicodeTables::new` makes and in which `law_fault` finds no fault
+-- those that `UnicodeTables::new` or `of_records` makes and in which `law_fault` finds no fault
 pub record AreLawfulTables (t : Tables) : Type 0 where
   pub lawful : IsLawful t
   pub shallow : EndWithin (split_of t) 8

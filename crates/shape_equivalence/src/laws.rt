@@ -1,5 +1,5 @@
 //! The laws of canonically equivalent texts.
-ghost use Rattle.shape_equivalence.specs.Laws.{ChosenTextsAreEquivalent, EquivalentResultsAgree, EquivalentsAreChosenAlike, EquivalentsLookAlike, EquivalentsReadAlike, EquivalentsShapeAlike, PushedTextsHaveCharacters, TextsBeginAsItems};
+ghost use Rattle.shape_equivalence.specs.Laws.{ChosenTextsAreEquivalent, EquivalentResultsAgree, EquivalentsAreChosenAlike, EquivalentsLookAlike, EquivalentsReadAlike, EquivalentsShapeAlike, PushedTextsHaveCharacters, ReadTextsHaveEnoughBudget, TextsBeginAsItems, TextsHaveEnoughBudget};
 ghost use Rattle.shape_equivalence.specs.Shapers.{NormalizersAreOfUnicode, ShapersNormalizeAsUnicode};
 ghost use Rattle.shape_equivalence.specs.Stages.{GlyphsDependOnNoLimit, GreaterBudgetsReadTheSame, RunsCountNested};
 
@@ -50,6 +50,19 @@ pub fn law_runs_count_nested()
 /// A run of the stages on glyphs that leaves some of its budget reads the same at each greater one.
 pub fn law_greater_budgets_read_the_same()
     ensures { GreaterBudgetsReadTheSame }
+{}
+
+/// A text has enough budget where `budget_left` gives more than 0, for each shaper that normalizes as Unicode does and of whose
+/// rules none depends on a limit.
+#[tactic(auto, using(crate::proofs::Budget::read_texts_have_enough_budget))]
+pub fn law_read_texts_have_enough_budget()
+    ensures { ReadTextsHaveEnoughBudget }
+{}
+
+/// A text has enough budget where `budget_left` gives more than 0, under the universal and the Myanmar shaper.
+#[tactic(auto, using(crate::proofs::Budget::texts_have_enough_budget))]
+pub fn law_texts_have_enough_budget()
+    ensures { TextsHaveEnoughBudget }
 {}
 
 /// Canonically equivalent texts have the same glyphs at the same positions, for each shaper that normalizes as Unicode does and

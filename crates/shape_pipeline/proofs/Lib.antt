@@ -7,6 +7,7 @@ mod Placed
 mod Ended
 mod Phases
 mod Whole
+mod Budget
 mod Numbers
 mod Shaped
 mod Texts

@@ -134,7 +134,7 @@ direction_kept font languages d script features plan r s mid t is direction same
     let P : Sides → Type 0 = λ x. IfOk r (λ (glyphs : Sides). glyphs.direction ≡ x.direction) in
     subst P (same ∙ guess) (keeps (planned_direction font languages d script features plan is ∙ direction))
 
-planned_here : (font : FaceParts) (tags : List ℕ → List Tag) (features : List Feature) (s : Sides) (d : Direction) (script : Option Script) (l : Option Language) (plan : hb_ot_shape_plan_t hb_ot_any_shaper_t ⊤)
+pub planned_here : (font : FaceParts) (tags : List ℕ → List Tag) (features : List Feature) (s : Sides) (d : Direction) (script : Option Script) (l : Option Language) (plan : hb_ot_shape_plan_t hb_ot_any_shaper_t ⊤)
     → d ≡ s.direction → script ≡ s.script → l ≡ s.language → IsPlanned any_kind font (wanted_language_tags tags l) d script features plan → IsPlanned any_kind font (language_tags tags s) s.direction s.script features plan
 planned_here font tags features s d script l plan direction of language is =
     let A : Direction → Type 0 = λ x. IsPlanned any_kind font (wanted_language_tags tags l) x script features plan in

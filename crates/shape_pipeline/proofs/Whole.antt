@@ -47,7 +47,7 @@ numbers_followed : (r : Reading) (old new : BufferState) → Follows r old new �
 numbers_followed (Ok r) old new f = ap (λ (run : BufferState). numbers run.origins) f
 numbers_followed (Err e) old new f = absurd f
 
-clusters_known : (p : Shaping) (s t : Sides) → IsFollowed (before_ranges p) s t → clusters (all_glyphs t) ≡ clusters_after (before_ranges p (view_of s)) (state_of s)
+pub clusters_known : (p : Shaping) (s t : Sides) → IsFollowed (before_ranges p) s t → clusters (all_glyphs t) ≡ clusters_after (before_ranges p (view_of s)) (state_of s)
 clusters_known p s t f = sym (numbers_seen (all_glyphs t)) ∙ numbers_followed (before_ranges p (view_of s)) (state_of s) (state_of t) f.follows
 
 pub reading_followed : (p : Shaping) (s t u new : Sides) → p.settings ≡ text_settings s → IsFollowed (before_ranges p) s t → IsFollowed (ranges_set p (clusters (all_glyphs t))) t u → IsFollowed (after_ranges (set_as u p)) u new → Follows (reading p (state_of s)) (state_of s) (state_of new)

@@ -1,3 +1,4 @@
+pub mod Budget
 pub mod Chains
 pub mod Shaping
 pub mod Limits

@@ -4,6 +4,7 @@ ghost use Rattle.buffer_core.specs.Readings.{always};
 ghost use Rattle.buffer_stages.specs.Ready.{DoesGlyphStage, IsDone, IsReady};
 ghost use Rattle.buffer_stages.specs.Settings.{text_settings};
 ghost use Rattle.shape_glyphs.specs.Ignorables.{ignorables_hidden};
+ghost use Rattle.shape_pipeline.specs.Budget.{glyphs_hidden};
 ghost use Rattle.shape_pipeline.specs.Endings.{text_ended};
 ghost use Rattle.shape_pipeline.specs.Limits.{final_view};
 ghost use Rattle.shape_pipeline.specs.Results.{IsLeft};
@@ -64,6 +65,19 @@ impl<S: hb_ot_shaper_t, P: SyllableSpans> hb_ot_shape_context_t<'_, S, P> {
         self.postprocess_glyphs(buffer)?;
         propagate_flags(buffer);
         leave(self.plan.script_plan.direction, buffer);
+        Ok(())
+    }
+
+    /// Ends shaping, but for the reset of the limits.
+    pub(crate) fn hide_glyphs(&self, buffer: &mut hb_buffer_t) -> Result<(), ShapeCause>
+        requires { IsReady buffer.old }
+        ensures { DoesGlyphStage (glyphs_hidden (⟦<Self as Shaped>⟧.shaping self.now buffer.old)) result buffer.old
+            buffer.new }
+    {
+        deal_with_variation_selectors(buffer);
+        hide_ignorables(self.face, buffer);
+        self.postprocess_glyphs(buffer)?;
+        propagate_flags(buffer);
         Ok(())
     }
 }

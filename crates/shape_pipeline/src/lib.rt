@@ -18,7 +18,7 @@ mod stages;
 pub use script_dispatch::hb_ot_any_shaper_t;
 pub use script_plan::data::hb_shape_data_t;
 use script_plan::plan::hb_ot_shape_plan_t;
-pub use shaping::{ShapeFault, shape, shape_with_plan};
+pub use shaping::{ShapeFault, nested_lookups_left, shape, shape_with_plan};
 
 /// A plan of the shapers of this stack.
 pub type ShapePlan = hb_ot_shape_plan_t<hb_ot_any_shaper_t>;

@@ -6,6 +6,7 @@ ghost use Rattle.buffer_core.specs.Settings.{after_leave};
 ghost use Rattle.buffer_core.specs.Sides.{all_glyphs, empty_buffer, items_of, state_of};
 ghost use Rattle.buffer_stages.specs.Settings.{text_settings};
 ghost use Rattle.shape_text.specs.Properties.{are_characters};
+ghost use Rattle.shape_pipeline.specs.Budget.{budget_left};
 ghost use Rattle.shape_pipeline.specs.Results.{IsResultOf};
 ghost use Rattle.shape_pipeline.specs.Shaped.{by_plan, by_text, text_reading};
 
@@ -167,4 +168,46 @@ pub fn shape<P: SyllableSpans, L: LanguageTags>(
         alloc,
     };
     shape_guessed(&context, buffer)
+}
+
+/// What `shape` leaves of a text's budget of nested lookups before it resets it: more than 0 where the reading had as many as
+/// it has with any greater budget. It refuses for the cause for which `shape` does, or for want of memory.
+pub fn nested_lookups_left<P: SyllableSpans, L: LanguageTags>(
+    alloc: Global,
+    face: &Face,
+    shape_data: hb_shape_data_t<'_, P, L>,
+    features: &[Feature],
+    mut buffer: UnicodeBuffer,
+) -> Result<i32, ShapeCause>
+    ensures ok { IfOk result (λ left. budget_left
+        (by_text face.now shape_data.entry.tables.now (L.tags_of shape_data.entry.languages.now)
+        (P.span_of shape_data.entry.spans.now) features.now
+        (after_guess_segment_properties buffer)) (state_of (after_guess_segment_properties buffer)) ≡ Ok left) }
+    ensures refused { IfErr result (λ e. e ≢ ShapeCause.OutOfMemory → budget_left
+        (by_text face.now shape_data.entry.tables.now (L.tags_of shape_data.entry.languages.now)
+        (P.span_of shape_data.entry.spans.now) features.now
+        (after_guess_segment_properties buffer)) (state_of (after_guess_segment_properties buffer)) ≡ Err e) }
+{
+    buffer.guess_segment_properties();
+    let mut buffer = buffer.into_buffer();
+    let plan = match hb_ot_shape_plan_t::<hb_ot_any_shaper_t>::new(
+        alloc,
+        face,
+        shape_data,
+        buffer.direction(),
+        buffer.script(),
+        buffer.language(),
+        features,
+    ) {
+        Ok(plan) => plan,
+        Err(_) => return Err(ShapeCause::OutOfMemory),
+    };
+    let context = hb_ot_shape_context_t {
+        plan: &plan,
+        face,
+        tables: shape_data.tables,
+        spans: shape_data.spans,
+        alloc,
+    };
+    context.budget_left(&mut buffer)
 }

@@ -1,11 +1,12 @@
 //! All pipeline stages in order, shape_internal (rustybuzz: hb/ot_shape.rs).
-ghost use Rattle.std.specs.Prelude.{◌≡◌, ◌≢◌, Err, IfErr, OnOk, true, false};
+ghost use Rattle.std.specs.Prelude.{◌≡◌, ◌≢◌, Err, IfErr, IfOk, Ok, OnOk, true, false};
 ghost use Rattle.buffer_core.specs.Readings.{Follows};
 ghost use Rattle.buffer_core.specs.Sides.{items_of, state_of, settings_of};
 ghost use Rattle.buffer_stages.specs.Buffers.{are_glyphs};
 ghost use Rattle.buffer_stages.specs.Ready.{IsReady};
 ghost use Rattle.buffer_stages.specs.Stages.{DoesStage};
 ghost use Rattle.shape_text.specs.Properties.{are_characters};
+ghost use Rattle.shape_pipeline.specs.Budget.{before_reset, budget_left};
 ghost use Rattle.shape_pipeline.specs.Reading.{after_ranges, before_ranges, reading};
 ghost use Rattle.shape_pipeline.specs.Results.{IsLeft, IsResultOf};
 
@@ -93,5 +94,47 @@ impl<S: hb_ot_shaper_t, P: SyllableSpans> hb_ot_shape_context_t<'_, S, P> {
     {
         rewind(buffer);
         self.shape_ready(buffer)
+    }
+
+    /// Performs the pipeline stages after the masks of ranges, but for the reset of the limits.
+    fn lay_out_within(&self, buffer: &mut hb_buffer_t) -> Result<(), ShapeCause>
+        requires { IsReady buffer.old }
+        ensures { DoesStage (before_reset (⟦<Self as Shaped>⟧.shaping self.now buffer.old)) result buffer.old
+            buffer.new }
+    {
+        self.take_glyphs(buffer);
+        self.substitute_glyphs(buffer)?;
+        self.position(buffer)?;
+        self.hide_glyphs(buffer)?;
+        Ok(())
+    }
+
+    fn budget_left_of(&self, buffer: &mut hb_buffer_t) -> Result<i32, ShapeCause>
+        requires ready { IsReady buffer.old }
+        requires characters { are_characters (items_of buffer.old) ≡ true }
+        ensures ok { IfOk result (λ left. budget_left (⟦<Self as Shaped>⟧.shaping self.now buffer.old) (state_of
+            buffer.old) ≡ Ok left) }
+        ensures err { IfErr result (λ e. e ≢ ShapeCause.OutOfMemory → budget_left
+            (⟦<Self as Shaped>⟧.shaping self.now buffer.old) (state_of buffer.old) ≡ Err e) }
+    {
+        self.prepare_text(buffer)?;
+        self.setup_ranges(buffer);
+        self.lay_out_within(buffer)?;
+        Ok(buffer.max_ops())
+    }
+
+    /// What shaping a text by the plan leaves of its budget of nested lookups, which `shape_internal` resets at its end. It
+    /// refuses by the reading's own cause, or for want of memory. What is then in the buffer is of no use.
+    pub fn budget_left(&self, buffer: &mut hb_buffer_t) -> Result<i32, ShapeCause>
+        requires closed { buffer.old.is_open ≡ false }
+        requires unrefused { buffer.old.has_refused ≡ false }
+        requires characters { are_characters (items_of buffer.old) ≡ true }
+        ensures ok { IfOk result (λ left. budget_left (⟦<Self as Shaped>⟧.shaping self.now buffer.old) (state_of
+            buffer.old) ≡ Ok left) }
+        ensures err { IfErr result (λ e. e ≢ ShapeCause.OutOfMemory → budget_left
+            (⟦<Self as Shaped>⟧.shaping self.now buffer.old) (state_of buffer.old) ≡ Err e) }
+    {
+        rewind(buffer);
+        self.budget_left_of(buffer)
     }
 }

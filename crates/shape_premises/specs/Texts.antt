@@ -2,7 +2,7 @@
 use Rattle.std.specs.Prelude.{ℕ, ◌≡◌, ◌==◌, ◌+◌, nat_lt, Bool, true, false, if◌then◌else◌, List, [], ◌∷◌, drop, Option, Some, None, is_some}
 use Rattle.std.specs.List.{list_all, list_any}
 use lib.Utf8.{scalar}
-use Rattle.buffer_unicode_tables.specs.Tables.{Tables, class_of, first_row_fault, split_of}
+use Rattle.buffer_unicode_tables.specs.Tables.{SplitsCharacters, Tables, class_of, first_row_fault}
 use Rattle.buffer_unicode_tables.specs.Texts.{full_expansion, full_text}
 use Rattle.layout_face.specs.declared.parts.FaceParts.{FaceParts}
 use Rattle.layout_face.specs.Glyphs.{nominal_glyph}
@@ -11,10 +11,6 @@ use Rattle.buffer_properties.specs.Premises.{HasNoSelector, HasShortRuns}
 use Rattle.buffer_properties.specs.Properties.{is_mark_character}
 
 -- ---- tables
-
--- a number that is no character has no decomposition
-abbrev pub SplitsCharacters : Tables → Type 0
-SplitsCharacters t = (u : ℕ) → scalar u ≡ false → split_of t u ≡ None
 
 -- law: tables whose rows have no fault decompose characters alone
 abbrev pub CheckedTablesSplitCharacters : Type 0

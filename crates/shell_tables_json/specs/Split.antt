@@ -1,8 +1,7 @@
 -- Decompositions in the tables that are read from JSON.
 use Rattle.std.specs.Prelude.{◌≡◌, Ok}
 use Rattle.serde_json.specs.Data.{Data}
-use Rattle.buffer_unicode_tables.specs.Tables.{Tables}
-use Rattle.shape_premises.specs.Texts.{SplitsCharacters}
+use Rattle.buffer_unicode_tables.specs.Tables.{SplitsCharacters, Tables}
 use Rattle.shell_tables_json.specs.Unicode.{tables_of}
 
 -- law: tables that are read from a JSON value decompose characters alone

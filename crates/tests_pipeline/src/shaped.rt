@@ -10,7 +10,7 @@ use layout_face::Face;
 use script_plan::hb_ot_shaper_t;
 use script_plan::plan::hb_ot_shape_plan_t;
 use shape_pipeline::hb_ot_any_shaper_t;
-use shape_pipeline::shaping::{ShapeFault, shape, shape_with_plan};
+use shape_pipeline::shaping::{ShapeFault, nested_lookups_left, shape, shape_with_plan};
 use std::alloc::{AllocError, Global};
 use std::process::Abort;
 use std::test::Fail;
@@ -152,8 +152,40 @@ fn rows_agree(rt: &impl Abort, alloc: Global, tables: Tables<'_>) -> Result<(), 
     Ok(())
 }
 
+// A context whose rule applies one lookup to the last of its two glyphs.
+const NESTING: &str =
+    r#"{"cmap":[[97,1],[98,2]],"gsub":{"scripts":[["DFLT",{"features":[0]},[]]],"features":[["calt",[0]]],"lookups":[{"type":"chain","subtables":[{"format":"glyphs","rules":[[[2],[1],[],[[0,1]]]]}]},{"type":"single","subtables":[[[1,3]]]}]}}"#;
+
+/// What is left of the budget of a text's nested lookups, where the text is shaped.
+fn left_of_text(
+    alloc: Global,
+    face: &Face,
+    tables: Tables<'_>,
+    text: UnicodeBuffer,
+) -> Option<i32> {
+    match nested_lookups_left(alloc, face, tables.data(), &[], text) {
+        Ok(left) => Some(left),
+        Err(_) => None,
+    }
+}
+
+fn left_of_row(alloc: Global, tables: Tables<'_>, row: &str) -> Result<Option<i32>, Fail> {
+    let face = face_of(alloc, NESTING)?;
+    Ok(left_of_text(alloc, &face, tables, text_of(alloc, row)?))
+}
+
+// The budget of a short text is 16,384.
+fn budgets_are_counted(rt: &impl Abort, alloc: Global, tables: Tables<'_>) -> Result<(), Fail> {
+    let none_nested = left_of_row(alloc, tables, "graphemes;;97,0 98,1")?;
+    assert_eq!(rt; none_nested, Some(16_384));
+    let one_nested = left_of_row(alloc, tables, "graphemes;;98,0 97,1")?;
+    assert_eq!(rt; one_nested, Some(16_383));
+    Ok(())
+}
+
 #[test]
 fn texts(rt: HostRuntime) -> Result<(), Fail> {
     let tables = OwnedTables::read(rt.alloc(), TABLES)?;
-    rows_agree(&rt, rt.alloc(), tables.tables())
+    rows_agree(&rt, rt.alloc(), tables.tables())?;
+    budgets_are_counted(&rt, rt.alloc(), tables.tables())
 }

@@ -4,6 +4,8 @@
 #[cfg(test)]
 mod asked;
 #[cfg(test)]
+mod equivalents;
+#[cfg(test)]
 mod faults;
 #[cfg(test)]
 mod indic;

@@ -6,19 +6,26 @@ use shell_readers::fault::RunFault;
 use std::alloc::{AllocError, Global};
 use std::test::Fail;
 
-/// A machine of the universal shaper: bases with vowels are a syllable; rephas alone are a broken one.
+/// A machine of the universal shaper: bases with vowels and other marks are a syllable; rephas alone are a broken one. One
+/// of the Myanmar shaper: so are independent vowels with marks.
 const TABLES: &str =
-    "{\"splits\":[[6918,6917,6965]],\"pairs\":[[6917,6965,6918]],\"mirrored\":[[40,41],[41,40]],\
+    "{\"splits\":[[4134,4133,4142],[6918,6917,6965]],\"pairs\":[[4133,4142,4134],[6917,6965,6918]],\
+    \"classes\":[[6964,7],[6980,9]],\"mirrored\":[[40,41],[41,40]],\
     \"joining\":[[1575,\"R\"],[1576,\"D\"]],\
-    \"universal\":[[6917,\"B\"],[6965,\"VPst\"],[6966,\"VAbv\"],[72001,\"R\"]],\
-    \"syllables\":{\"universal\":{\"states\":3,\
-    \"next\":[[0,\"B\",1],[0,\"R\",2],[1,\"VAbv\",1],[1,\"VPst\",1],[2,\"R\",2]],\
+    \"indic\":[[4133,\"V\",\"BASE_C\"],[4142,\"VAbv\",\"ABOVE_C\"],[4150,\"A\",\"SMVD\"]],\
+    \"universal\":[[6917,\"B\"],[6964,\"CMAbv\"],[6965,\"VPst\"],[6966,\"VAbv\"],[6980,\"H\"],[72001,\"R\"]],\
+    \"syllables\":{\"myanmar\":{\"states\":2,\
+    \"next\":[[0,\"V\",1],[1,\"A\",1],[1,\"VAbv\",1]],\
+    \"accept\":[[1,\"consonant\"]]},\
+    \"universal\":{\"states\":3,\
+    \"next\":[[0,\"B\",1],[0,\"R\",2],[1,\"H\",1],[1,\"CMAbv\",1],[1,\"VAbv\",1],[1,\"VPst\",1],[2,\"R\",2]],\
     \"accept\":[[1,\"standard\"],[2,\"broken\"]]}}}";
 
 // The letters beh and alef and a mark, with forms by their neighbours; a mark is transparent: the letters on both sides
 // of it join. A sign that becomes two tiles, the second of which repeats: a tile 300 wide is laid four times over a
 // word of 1100, beside one of 100, and each copy overlaps its neighbour by 66. A Balinese character, and its
-// decomposition. A syllable of Hangul, and a bracket before a Hebrew letter. The first half of a Thai vowel is moved
+// decomposition; Balinese marks of classes 7 and 9 in both orders; a Myanmar character, and its decomposition. A syllable
+// of Hangul, and a bracket before a Hebrew letter. The first half of a Thai vowel is moved
 // before the tone mark. Last a repha of Dives Akuru, and a dotted circle, which is inserted after two rephas with the
 // second one's cluster; then the first repha is moved after it.
 static ROWS: &str =
@@ -32,6 +39,14 @@ direction=r;U+628 628 628;23=4+400|22=2+400|21=0+400
 {"upem":1000,"cmap":[[6917,1],[6965,2],[6966,3]],"h":[[1,500],[2,200],[3,100]],"gsub":{"scripts":[["bali",{"features":[]},[]]]}}
 ;U+1B06 1B36;1=0+500|2=0+200|3=0@-100,0+0
 ;U+1B05 1B35 1B36;1=0+500|2=0+200|3=0@-100,0+0
+
+{"upem":1000,"cmap":[[6917,1],[6964,4],[6980,5]],"h":[[1,500],[4,50],[5,60]],"gsub":{"scripts":[["bali",{"features":[]},[]]]}}
+;U+1B05 1B34 1B44;1=0+500|4=0@-50,0+0|5=0+60
+;U+1B05 1B44 1B34;1=0+500|4=0@-50,0+0|5=0+60
+
+{"upem":1000,"cmap":[[4133,1],[4142,2],[4150,3]],"h":[[1,400],[2,100],[3,120]],"gsub":{"scripts":[["mym2",{"features":[]},[]]]}}
+;U+1026 1036;1=0+400|2=0@-100,0+0|3=0@-120,0+0
+;U+1025 102E 1036;1=0+400|2=0@-100,0+0|3=0@-120,0+0
 
 {"upem":1000,"cmap":[[44032,19]],"h":[[19,900]]}
 ;U+1100 1161;19=0+900
