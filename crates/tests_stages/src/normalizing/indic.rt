@@ -14,8 +14,9 @@ use std::test::Fail;
 /// Tables and the glyphs of characters, with the Indic shaper's preference and hooks.
 #[derive(Drop)]
 pub struct IndicNormalizer<'a> {
-    tables: &'a UnicodeTables,
-    glyphs: &'a [(char, u32)],
+    pub tables: &'a UnicodeTables,
+    /// Characters with their glyphs.
+    pub glyphs: &'a [(char, u32)],
 }
 
 impl Normalizing for IndicNormalizer<'_> {
