@@ -8,4 +8,5 @@ pub mod forward;
 pub mod kerning;
 pub mod lookup;
 pub mod nested;
+pub mod nesting;
 pub mod position;

@@ -57,7 +57,7 @@ fn under_flag<'a>(
 /// deep.
 #[cycle(nested)]
 #[tactic(auto, using(crate::proofs::Levels::no_lookup, crate::proofs::Levels::lookup_there))]
-fn recurse(
+pub(crate) fn recurse(
     table: &PositioningTable,
     depth: u32,
     index: u16,

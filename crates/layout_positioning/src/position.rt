@@ -33,9 +33,9 @@ fn apply_stage(
     }
 }
 
-/// Applies the lookups of a map's GPOS stages, each stage ended by its pause.
+/// Applies the lookups of a map's GPOS stages, each stage ended by its pause. It refuses as `position` does.
 #[tactic(auto, using(crate::proofs::Ways::stage_lookups_refused, crate::proofs::Ways::all_stages_done))]
-fn apply_layout_table<P: Pause>(
+pub fn apply_layout_table<P: Pause>(
     map: &hb_ot_map_t,
     face: &Face,
     buffer: &mut hb_buffer_t,

@@ -7,4 +7,5 @@ pub mod backward;
 pub mod forward;
 pub mod lookup;
 pub mod nested;
+pub mod nesting;
 pub mod substitute;

@@ -35,7 +35,7 @@ use layout_tables::context::{ContextSubtable, SequenceLookupRecord};
 /// whether it applies to the glyph there. An index without one does nothing. Lookups may be nested in it so many levels
 /// deep.
 #[cycle(nested)]
-fn recurse(
+pub(crate) fn recurse(
     table: &SubstitutionTable,
     depth: u32,
     index: u16,

@@ -40,9 +40,10 @@ fn apply_stage(
     }
 }
 
-/// Applies the lookups of a map's GSUB stages, each stage ended by its pause.
+/// Applies the lookups of a map's GSUB stages, each stage ended by its pause. The context is one of GSUB; each lookup
+/// sets its own mask and flag in it. It refuses as `substitute` does.
 #[tactic(auto, using(crate::proofs::Ways::stage_lookups_refused))]
-fn apply_layout_table<P: Pause>(
+pub fn apply_layout_table<P: Pause>(
     map: &hb_ot_map_t,
     ctx: &mut hb_ot_apply_context_t,
     buffer: &mut hb_buffer_t,

@@ -5,6 +5,7 @@ ghost use Rattle.buffer_glyphs.specs.Items.{item_of, strip};
 ghost use Rattle.buffer_glyphs.specs.Origins.{origin_of};
 ghost use Rattle.buffer_core.specs.Readings.{always};
 ghost use Rattle.buffer_core.specs.Graphemes.{continues};
+ghost use Rattle.buffer_core.specs.Grouping.{with_groups_reversed};
 ghost use Rattle.buffer_core.specs.Sides.{items_of};
 ghost use Rattle.buffer_stages.specs.Ready.{IsReady};
 ghost use Rattle.buffer_properties.specs.Categories.{is_letter};
@@ -84,6 +85,16 @@ fn continues_grapheme(glyph: &hb_glyph_info_t) -> bool
     ensures { result ≡ continues (item_of glyph.now) }
 {
     glyph.unicode_props.0 & UnicodeProps::CONTINUATION.0 != 0
+}
+
+/// Reverses the order of the graphemes, each in its own order; at level MonotoneCharacters each is merged before.
+/// Positions move with their glyphs. It takes linear time and no memory.
+pub fn _hb_ot_layout_reverse_graphemes(buffer: &mut hb_buffer_t)
+    requires { buffer.old.is_open ≡ false }
+    ensures { buffer.new
+        ≡ with_groups_reversed (merges_graphemes buffer.old.level) (λ g h. continues (item_of h)) buffer.old }
+{
+    buffer.reverse_graphemes(merges_graphemes(buffer.cluster_level()));
 }
 
 fn without_continuation(glyph: &hb_glyph_info_t) -> hb_glyph_info_t

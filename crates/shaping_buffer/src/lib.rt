@@ -1,6 +1,7 @@
 //! The buffer layer under one name: glyph records, texts, characters, the buffer and its two wrappers, printing.
 #![tactic(auto)]
 
+pub mod hb;
 pub mod laws;
 
 pub use buffer_common::constants::BufferFlags;
@@ -16,7 +17,7 @@ pub use buffer_glyphs::cause::ShapeCause;
 pub use buffer_glyphs::flags::{GlyphPropsFlags, SerializeFlags, UnicodeProps};
 pub use buffer_glyphs::info::{
     DEFINED, SAFE_TO_INSERT_TATWEEL, UNSAFE_TO_BREAK, UNSAFE_TO_CONCAT, hb_codepoint_t,
-    hb_glyph_info_t, hb_mask_t,
+    hb_glyph_info_t, hb_glyph_info_t as GlyphInfo, hb_mask_t,
 };
 pub use buffer_glyphs::level::{
     BufferClusterLevel, HB_BUFFER_CLUSTER_LEVEL_CHARACTERS, HB_BUFFER_CLUSTER_LEVEL_DEFAULT,

@@ -1,6 +1,7 @@
 //! Scripts, language systems, features and ligature sets of a layout table: present and missing keys, and lists out of
 //! order.
 use buffer_common::tag::Tag;
+use layout_tables::choice::LayoutTableExt;
 use layout_tables::is_rising;
 use layout_tables::ligature::{Ligature, LigatureSet, LigatureSubst};
 use layout_tables::script::{LangSys, LangSysRecord, ScriptRecord};
@@ -198,8 +199,7 @@ cyrl  none
  latn none";
 
 fn selected(table: &LayoutTable, wanted: &[Tag]) -> Option<(bool, Tag)> {
-    table
-        .select_script(wanted)
+    LayoutTableExt::select_script(table, wanted)
         .map(|selected| (selected.found, selected.script.tag()))
 }
 
@@ -260,16 +260,17 @@ fn script_of_systems(
     Ok(ScriptRecord::new(tag("latn"), default, records))
 }
 
-fn first_feature(script: &ScriptRecord, wanted: &[Tag]) -> Option<u16> {
-    let system = script.select_script_language(wanted)?;
+fn first_feature(table: &LayoutTable, script: &ScriptRecord, wanted: &[Tag]) -> Option<u16> {
+    let system = table.select_script_language(script, wanted)?;
     system.features().first().copied()
 }
 
 /// The first features of the systems that the script selects for each line of languages.
 fn selects(alloc: Global, script: &ScriptRecord, column: usize) -> Result<bool, AllocError> {
+    let table = LayoutTable::new(Vec::new(alloc), Vec::new(alloc));
     for (wanted, features) in &LANGUAGE_CHOICES {
         let wanted = tags_of(alloc, wanted)?;
-        if features.get(column).copied() != Some(first_feature(script, &wanted)) {
+        if features.get(column).copied() != Some(first_feature(&table, script, &wanted)) {
             return Ok(false);
         }
     }
@@ -296,13 +297,13 @@ fn features_of_a_system(rt: &impl Abort, table: &LayoutTable, system: &LangSys) 
         ("ccmp", None),
         ("mark", None),
     ] {
-        assert_eq!(rt; table.find_language_feature(system, tag(text)), index);
+        assert_eq!(rt; LayoutTableExt::find_language_feature(table, system, tag(text)), index);
     }
 }
 
 fn required_feature(alloc: Global, table: &LayoutTable, index: Option<u16>) -> Option<(u16, Tag)> {
     let system = LangSys::new(index, Vec::new(alloc));
-    table.get_required_language_feature(&system)
+    LayoutTableExt::get_required_language_feature(table, &system)
 }
 
 fn required_features(rt: &impl Abort, alloc: Global, table: &LayoutTable) {

@@ -6,8 +6,8 @@ use layout_common::coverage::Coverage;
 use layout_common::glyph_row::GlyphRow;
 use layout_face::substitution::{SubstLookup, SubstitutionSubtables};
 use layout_tables::context::{ClassRules, ContextSubtable, SequenceRule};
-use layout_would_apply::lookup::{context_would_apply, would_apply};
-use layout_would_apply::subtables::WouldApplyContext;
+use layout_would_apply::lookup::would_apply;
+use layout_would_apply::subtables::{WouldApply, WouldApplyContext};
 use std::alloc::Global;
 use std::process::Abort;
 use std::test::Fail;
@@ -87,7 +87,7 @@ fn holds(subtable: &ContextSubtable, row: &Row) -> bool {
         glyphs,
         zero_context,
     };
-    context_would_apply(subtable, &ctx) == expected
+    subtable.would_apply(&ctx) == expected
 }
 
 fn holds_by_glyphs(alloc: Global, row: &Row) -> Result<bool, Fail> {

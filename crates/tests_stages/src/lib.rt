@@ -12,11 +12,15 @@ mod joining;
 #[cfg(test)]
 mod marks;
 #[cfg(test)]
+mod nested_positions;
+#[cfg(test)]
 mod normalizing;
 #[cfg(test)]
 mod numbers;
 #[cfg(test)]
 mod positions;
+#[cfg(test)]
+mod replacements;
 #[cfg(test)]
 mod rows;
 pub mod spans;

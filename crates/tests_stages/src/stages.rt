@@ -16,7 +16,7 @@ use shape_fallback::marks::{components_direction, position_marks};
 use shape_fallback::spaces::_hb_ot_shape_fallback_spaces;
 use shape_text::circle::insert_dotted_circle;
 use shape_text::clusters::form_clusters;
-use shape_text::direction::ensure_native_direction;
+use shape_text::direction::{_hb_ot_layout_reverse_graphemes, ensure_native_direction};
 use shape_text::fractions::{FractionMasks, setup_masks_fraction};
 use shape_text::properties::set_unicode_props;
 use shell_face_json::read_face;
@@ -42,6 +42,8 @@ native-order;ttb;;Mong;1;ttb;688,0,,6 49,3,,13 2307,4,,138;688,0,,6 49,3,,13 230
 native-order;rtl;;Runr;1;rtl;2307,0,,138 49,1,,13 2307,2,,138;2307,0,,10 49,1,,13 2307,2,,10;{};{}
 native-order;ltr;;Hebr;1;rtl;46,0,,21 46,1,,21 46,3,,21 46,6,,21;46,6,,21 46,3,,21 46,1,,21 46,0,,21;{};{}
 native-order;rtl;;Arab;1;rtl;1614,0,,140 8205,3,,417 1614,6,,140 12354,7,,7;1614,0,,12 8205,3,,289 1614,6,,12 12354,7,,7;{};{}
+reversed-graphemes;ltr;;;0;;97,0,,5 769,1,,140 98,2,,5;98,2,,5 97,0,,5 769,1,,140;{};{}
+reversed-graphemes;ltr;;;1;;97,0,,5 769,1,,140 98,2,,5;98,2,,5 97,0,,5 769,0,,140;{};{}
 recategorised-classes;ltr;;;0;;769,,,7,9;769,,,,9;{};{}
 recategorised-classes;ltr;;;0;;3772,,,12,0;3772,,,,220;{};{}
 recategorised-classes;ltr;;;0;;3764,,,12,0;3764,,,,230;{};{}
@@ -142,6 +144,7 @@ fn do_stage(
     match part(row, 0) {
         "fraction-masks" => set_fractions(part(row, 5), buffer),
         "native-order" => ensure_native_direction(buffer),
+        "reversed-graphemes" => _hb_ot_layout_reverse_graphemes(buffer),
         "recategorised-classes" => {
             _hb_ot_shape_fallback_mark_position_recategorize_marks(buffer)
         }
@@ -199,7 +202,7 @@ fn tables_of(alloc: Global, text: &str) -> Result<UnicodeTables, Fail> {
     Ok(read_tables(alloc, &value)?)
 }
 
-fn face_of(alloc: Global, text: &str) -> Result<Face, Fail> {
+pub(crate) fn face_of(alloc: Global, text: &str) -> Result<Face, Fail> {
     let value = Value::from_str(alloc, text)?;
     Ok(read_face(alloc, &value)?)
 }

@@ -71,7 +71,7 @@ fn category_of(word: u16) -> Option<u32> {
 
 #[test]
 fn categories_are_read(rt: HostRuntime) {
-    let rows = [
+    let rows: [(u16, Option<u32>); 5] = [
         (0x05, Some(5)),
         (0x8C, Some(12)),
         (0x421, Some(1)),

@@ -1,0 +1,42 @@
+//! A nested positioning as a call of the apply context.
+ghost use Rattle.buffer_stages.specs.Ready.{IsReady};
+
+use crate::buffers::{are_glyphs, buffer_of};
+use crate::replacements::{FONT, TEXT};
+use crate::stages::face_of;
+use buffer_core::buffer::hb_buffer_t;
+use buffer_glyphs::cause::ShapeCause;
+use layout_face::Face;
+use layout_map_features::per_table::TableIndex;
+use layout_match::hb_ot_apply_context_t;
+use layout_positioning::nesting::Nesting;
+use std::alloc::Global;
+use std::test::Fail;
+
+fn nest(face: &Face, index: u16, buffer: &mut hb_buffer_t) -> Result<bool, ShapeCause>
+    requires { IsReady buffer.old }
+{
+    if !are_glyphs(buffer) {
+        return Ok(false);
+    }
+    let ctx = hb_ot_apply_context_t::new(TableIndex::GPOS, face);
+    if buffer.lookahead_len() == 0 {
+        return Ok(false);
+    }
+    ctx.recurse(index, buffer)
+}
+
+/// Whether the lookup at an index acts at the first glyph.
+fn acts(alloc: Global, index: u16) -> Result<bool, Fail> {
+    let face = face_of(alloc, FONT)?;
+    let mut buffer = buffer_of(alloc, TEXT)?;
+    Ok(nest(&face, index, &mut buffer)?)
+}
+
+#[test]
+fn positionings_nest(rt: HostRuntime) -> Result<(), Fail> {
+    let first = acts(rt.alloc(), 0)?;
+    let missing = acts(rt.alloc(), 1)?;
+    assert!(rt; first && !missing);
+    Ok(())
+}

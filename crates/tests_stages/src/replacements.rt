@@ -1,0 +1,85 @@
+//! What an apply context answers at the cursor: its replacements, and a nested substitution.
+ghost use Rattle.buffer_stages.specs.Ready.{IsReady};
+
+use crate::buffers::{are_glyphs, buffer_of};
+use crate::stages::face_of;
+use buffer_core::buffer::hb_buffer_t;
+use buffer_glyphs::cause::ShapeCause;
+use buffer_glyphs::flags::GlyphPropsFlags;
+use layout_face::Face;
+use layout_gsub::context::GlyphReplacement;
+use layout_map_features::per_table::TableIndex;
+use layout_match::hb_ot_apply_context_t;
+use layout_substitution::nesting::Nesting;
+use std::alloc::Global;
+use std::test::Fail;
+
+/// A font whose one lookup of substitution gives glyph 8 for glyph 7.
+pub(crate) const FONT: &str =
+    r#"{"gsub":{"lookups":[{"type":"single","subtables":[[[7,8]]]}]},"gpos":{"lookups":[
+{"type":"single","subtables":[[[7,[1,0,0,0]]]]}]}}"#;
+
+/// Two glyphs.
+pub(crate) const TEXT: &str = ";ltr;;;0;;7,0 9,1";
+
+fn replace(face: &Face, kind: &str, buffer: &mut hb_buffer_t) -> Result<bool, ShapeCause>
+    requires { IsReady buffer.old }
+{
+    let ctx = hb_ot_apply_context_t::new(TableIndex::GSUB, face);
+    buffer.clear_output()?;
+    if buffer.lookahead_len() == 0 {
+        return Ok(false);
+    }
+    match kind {
+        "ligature" => ctx.replace_glyph_with_ligature(8, GlyphPropsFlags::LIGATURE, buffer),
+        "component" => {
+            ctx.output_glyph_for_component(8, 1, buffer)?;
+            Ok(true)
+        }
+        _ => ctx.replace_glyph(8, buffer),
+    }
+}
+
+fn is_replaced(alloc: Global, kind: &str) -> Result<bool, Fail> {
+    let face = face_of(alloc, FONT)?;
+    let mut buffer = buffer_of(alloc, TEXT)?;
+    Ok(replace(&face, kind, &mut buffer)?)
+}
+
+#[test]
+fn glyphs_are_replaced(rt: HostRuntime) -> Result<(), Fail> {
+    for kind in ["ligature", "component", "glyph"] {
+        let replaced = is_replaced(rt.alloc(), kind)?;
+        assert!(rt; replaced, "{kind}");
+    }
+    Ok(())
+}
+
+fn nest(face: &Face, index: u16, buffer: &mut hb_buffer_t) -> Result<bool, ShapeCause>
+    requires { IsReady buffer.old }
+{
+    if !are_glyphs(buffer) {
+        return Ok(false);
+    }
+    let mut ctx = hb_ot_apply_context_t::new(TableIndex::GSUB, face);
+    buffer.clear_output()?;
+    if buffer.lookahead_len() == 0 {
+        return Ok(false);
+    }
+    ctx.recurse(index, buffer)
+}
+
+/// Whether the lookup at an index acts at the first glyph.
+fn acts(alloc: Global, index: u16) -> Result<bool, Fail> {
+    let face = face_of(alloc, FONT)?;
+    let mut buffer = buffer_of(alloc, TEXT)?;
+    Ok(nest(&face, index, &mut buffer)?)
+}
+
+#[test]
+fn substitutions_nest(rt: HostRuntime) -> Result<(), Fail> {
+    let first = acts(rt.alloc(), 0)?;
+    let missing = acts(rt.alloc(), 1)?;
+    assert!(rt; first && !missing);
+    Ok(())
+}
