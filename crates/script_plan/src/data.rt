@@ -3,11 +3,21 @@
 use buffer_common::language_tags::LanguageTags;
 use buffer_unicode_tables::UnicodeTables;
 use script_categories::SyllableSpans;
+use std::alloc::AllocError;
 
 /// The tables of characters, the machines that find syllables, and the tags of languages.
-#[derive(Clone, Copy, Drop)]
+#[derive(Drop)]
 pub struct hb_shape_data_t<'a, P: SyllableSpans, L: LanguageTags> {
     pub tables: &'a UnicodeTables,
     pub spans: &'a P,
     pub languages: &'a L,
 }
+
+// Not derived, since it is copied whatever the types behind its references are.
+impl<'a, P: SyllableSpans, L: LanguageTags> Clone for hb_shape_data_t<'a, P, L> {
+    fn clone(&self) -> Result<hb_shape_data_t<'a, P, L>, AllocError> {
+        Ok(*self)
+    }
+}
+
+impl<'a, P: SyllableSpans, L: LanguageTags> Copy for hb_shape_data_t<'a, P, L> {}
