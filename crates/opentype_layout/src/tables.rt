@@ -8,19 +8,17 @@ pub use layout_common::glyph_row::GlyphRow;
 pub use layout_face::parts::{CharacterRow, GlyphDefinition, NameRow, VariationRow};
 pub use layout_face::positioning::{PositioningLookup, PositioningSubtables, PositioningTable};
 pub use layout_face::substitution::{SubstLookup, SubstitutionSubtables, SubstitutionTable};
-pub use layout_tables::context::{
-    ClassRules, ContextSubtable, SequenceLookupRecord, SequenceRule,
-};
+pub use layout_tables::context::{ClassRules, ContextSubtable, SequenceLookupRecord, SequenceRule};
 pub use layout_tables::cursive::{CursivePos, EntryExit};
+pub use layout_tables::ligature::{Ligature, LigatureSet, LigatureSubst};
 pub use layout_tables::mark::{
     BaseRow, ComponentRecord, LigatureRow, MarkBasePos, MarkLigPos, MarkRecord,
 };
 pub use layout_tables::pair::{ClassPairs, GlyphPairs, PairPos, PairRow, PairValues};
 pub use layout_tables::reverse::ReverseChainSubst;
+pub use layout_tables::script::{LangSys, LangSysRecord, ScriptRecord};
 pub use layout_tables::sequence::{AlternateSubst, MultipleSubst, SequenceRow};
 pub use layout_tables::single_pos::SinglePos;
 pub use layout_tables::single_subst::SingleSubst;
-pub use layout_tables::value::{Anchor, ValueRecord};
-pub use layout_tables::ligature::{Ligature, LigatureSet, LigatureSubst};
-pub use layout_tables::script::{LangSys, LangSysRecord, ScriptRecord};
 pub use layout_tables::table::{FeatureRecord, LayoutTable, SelectedScript};
+pub use layout_tables::value::{Anchor, ValueRecord};

@@ -13,7 +13,7 @@ pub struct hb_shape_data_t<'a, P: SyllableSpans, L: LanguageTags> {
     pub languages: &'a L,
 }
 
-// Not derived, since it is copied whatever the types behind its references are.
+// Not derived, since it is copied whatever types its references are to.
 impl<'a, P: SyllableSpans, L: LanguageTags> Clone for hb_shape_data_t<'a, P, L> {
     fn clone(&self) -> Result<hb_shape_data_t<'a, P, L>, AllocError> {
         Ok(*self)

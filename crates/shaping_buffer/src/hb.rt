@@ -36,8 +36,8 @@ pub mod common {
     pub use buffer_common::language::Language;
     pub use buffer_common::script::Script;
     pub use buffer_common::tag::{Tag, TagExt, hb_tag_t};
-    pub use buffer_tags::feature::{Feature, HB_FEATURE_GLOBAL_END, HB_FEATURE_GLOBAL_START};
     pub use buffer_glyphs::info::{hb_codepoint_t, hb_mask_t};
+    pub use buffer_tags::feature::{Feature, HB_FEATURE_GLOBAL_END, HB_FEATURE_GLOBAL_START};
 }
 
 /// The tags that a text's script and language have in fonts.

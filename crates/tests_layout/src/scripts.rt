@@ -199,8 +199,10 @@ cyrl  none
  latn none";
 
 fn selected(table: &LayoutTable, wanted: &[Tag]) -> Option<(bool, Tag)> {
-    LayoutTableExt::select_script(table, wanted)
-        .map(|selected| (selected.found, selected.script.tag()))
+    LayoutTableExt::select_script(table, wanted).map(|selected| (
+        selected.found,
+        selected.script.tag(),
+    ))
 }
 
 fn choice_of(text: &str) -> Option<(bool, Tag)> {
@@ -297,7 +299,10 @@ fn features_of_a_system(rt: &impl Abort, table: &LayoutTable, system: &LangSys) 
         ("ccmp", None),
         ("mark", None),
     ] {
-        assert_eq!(rt; LayoutTableExt::find_language_feature(table, system, tag(text)), index);
+        assert_eq!(rt;
+            LayoutTableExt::find_language_feature(table, system, tag(text)),
+            index
+        );
     }
 }
 
