@@ -1,12 +1,16 @@
 //! Lines of mixed scripts: at both monotone levels their results have slices, which join to the lines.
-use crate::data::{OwnedTables, Tables, face_of};
+use crate::data::{Tables, face_of};
 use buffer_common::constants::BufferFlags;
 use buffer_common::direction::Direction;
 use buffer_glyphs::level::BufferClusterLevel;
+use buffer_unicode_tables::UnicodeTables;
 use buffer_wrappers::glyphs::GlyphBuffer;
 use buffer_wrappers::unicode_buffer::UnicodeBuffer;
 use layout_face::Face;
+use script_categories::SyllableTable;
+use serde_json::Value;
 use shape_pipeline::shaping::shape;
+use shell_tables_json::{read_languages, read_syllables, read_tables};
 use source_slices::fitting::slices_fit;
 use source_slices::slices::{SourceSlice, source_slices};
 use std::alloc::{AllocError, Global};
@@ -85,8 +89,8 @@ const SEPARATORS: [&str; 7] = [
 /// that is no multiple of their number, so that its words differ.
 fn line(alloc: Global, number: usize) -> Result<String, AllocError> {
     let mut line = String::new(alloc);
-    for place in 0..WORDS_IN_LINE {
-        let at = number.wrapping_add(place.wrapping_mul(number / 47 + 1));
+    for index in 0..WORDS_IN_LINE {
+        let at = number.wrapping_add(index.wrapping_mul(number / 47 + 1));
         line.push_str(SEPARATORS[at % 7])?;
         line.push_str(WORDS[at % 47])?;
     }
@@ -177,11 +181,46 @@ fn are_sliced(rt: &impl Abort, alloc: Global, face: &Face, tables: Tables<'_>) -
     Ok(())
 }
 
+fn are_sliced_in_font(rt: &impl Abort, alloc: Global, tables: Tables<'_>) -> Result<(), Fail> {
+    let face = face_of(alloc, FONT)?;
+    are_sliced(rt, alloc, &face, tables)
+}
+
+fn are_sliced_by_languages(
+    rt: &impl Abort,
+    alloc: Global,
+    value: &Value,
+    characters: &UnicodeTables,
+    spans: &SyllableTable,
+) -> Result<(), Fail> {
+    let languages = read_languages(alloc, value)?;
+    let tables = Tables {
+        characters,
+        spans,
+        languages: &languages,
+    };
+    are_sliced_in_font(rt, alloc, tables)
+}
+
+fn are_sliced_by_spans(
+    rt: &impl Abort,
+    alloc: Global,
+    value: &Value,
+    characters: &UnicodeTables,
+) -> Result<(), Fail> {
+    let spans = read_syllables(alloc, value)?;
+    are_sliced_by_languages(rt, alloc, value, characters, &spans)
+}
+
+fn are_sliced_by_tables(rt: &impl Abort, alloc: Global, value: &Value) -> Result<(), Fail> {
+    let characters = read_tables(alloc, value)?;
+    are_sliced_by_spans(rt, alloc, value, &characters)
+}
+
 #[test]
 fn lines_of_mixed_scripts_have_slices(rt: HostRuntime) -> Result<(), Fail> {
-    let tables = OwnedTables::read(rt.alloc(), TABLES)?;
-    let face = face_of(rt.alloc(), FONT)?;
-    are_sliced(&rt, rt.alloc(), &face, tables.tables())
+    let value = Value::from_str(rt.alloc(), TABLES)?;
+    are_sliced_by_tables(&rt, rt.alloc(), &value)
 }
 
 // Of the Unicode Character Database, what the words' characters have; machines of syllables for their categories alone.
