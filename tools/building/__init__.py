@@ -1,1 +1,1 @@
-"""Proving and building the program: its crates side by side, each once what it is built on is there."""
+"""Proving and building the program: one run of rt's gate over the crates that it is built on."""

@@ -1,35 +1,34 @@
 """The command line of build."""
 
 import argparse
+import contextlib
 import fcntl
+import hashlib
 import os
 import shutil
 import signal
 import subprocess
 import sys
+import time
 from pathlib import Path
-from typing import Any
+from typing import Any, Iterator
 
-from building.machine import free_memory, processors
-from building.plan import Crate, plan
-from building.trees import OUT, clear
-from building.work import LOG, Work, tail
+from building.gate import Failure, Gate
+from building.tree import clear, lay_tree, needed_lines, stamp_of, tree_of
 from common.faults import FILES, ToolFault
 from common.parsing import Words
-from sources.crates import ROOT, all_needs, read_crates
+from sources.crates import ROOT
 
 NAME = "build"
 PROGRAM = "hb_shape"
-ABOUT = f"""Proves and builds the program, crates/{PROGRAM}/out/{PROGRAM}, and all that it is built on: side by side
-what does not wait for each other, as far as processors and free memory allow. What is built of the same sources already
-is left as it is. A line is printed for each crate that is built. The program that is there stays until the new one is
-built."""
+ABOUT = f"""Proves and builds the program, crates/{PROGRAM}/out/{PROGRAM}, and all that it is built on, by rt ci over a
+copy of these crates alone. What passes is kept on the machine, so that neither a later build nor a later rt ci proves
+it again. A line is printed for each crate that passed. A program that is built of the same sources is left as it is,
+and one that is there stays until the new one is built."""
 EXAMPLES = """examples:
   tools/build                 all that is not built yet
-  tools/build --jobs 2        with two processors
-  tools/build --list          what would be built, lowest first, with lines, memory and what it waits for"""
-# Checks have been seen to take a fifth more than is planned.
-SHARE = 0.85
+  tools/build --jobs 2        with two checks at once
+  tools/build --list          the crates that the program is built on, as crates.txt has them"""
 
 
 class BuildWords(Words):
@@ -40,19 +39,18 @@ class BuildWords(Words):
 
 
 def main(words: list[str]) -> int:
-    """Builds; its status is 1 where a crate did not build."""
-    parser = BuildWords(prog=NAME, description=ABOUT, epilog=EXAMPLES, formatter_class=argparse.RawDescriptionHelpFormatter)
-    parser.add_argument("--jobs", type=positive, metavar="N", help="how many provers run at once (all processors)")
-    parser.add_argument("--memory", type=positive, metavar="GB", help="how much memory they may take (what is free)")
+    """Builds; its status is 1 where a crate did not pass."""
+    layout = argparse.RawDescriptionHelpFormatter
+    parser = BuildWords(prog=NAME, description=ABOUT, epilog=EXAMPLES, formatter_class=layout)
+    jobs = "how many checks run at once, whatever memory is free (as many as processors and memory allow)"
+    parser.add_argument("--jobs", type=positive, metavar="N", help=jobs)
     parser.add_argument("--list", action="store_true", help="build nothing, and list what would be built")
     options = parser.parse_args(words)
-    lanes = options.jobs or processors()
-    memory = 1_000_000_000 * options.memory if options.memory else int(SHARE * free_memory())
     if options.list:
-        return list_plan(plan(ROOT, PROGRAM, ""), memory)
+        return list_crates()
     if shutil.which("rt") is None:
         raise ToolFault(FILES, "the Rattle kit's command rt is not on the path, and nothing is built without it")
-    return build(lanes, memory)
+    return build(options.jobs)
 
 
 def positive(text: str) -> int:
@@ -61,49 +59,94 @@ def positive(text: str) -> int:
     return int(text)
 
 
-def list_plan(crates: dict[str, Crate], memory: int) -> int:
-    for name, crate in crates.items():
-        needs = ", ".join(crate.needs) or "nothing"
-        print(f"{name}: {crate.lines} lines, {crate.memory / 1e9:.1f} GB; waits for {needs}")
-    longest = max(crate.chain for crate in crates.values())
-    most = max(crate.memory for crate in crates.values())
-    lines = sum(crate.lines for crate in crates.values())
-    print(f"{len(crates)} crates, {lines} lines, {longest} in the longest chain")
-    print(f"memory: {most / 1e9:.1f} GB for the largest, {memory / 1e9:.1f} GB to plan with")
+def list_crates() -> int:
+    lines = needed_lines(ROOT, PROGRAM)
+    for line in lines.values():
+        print(line)
+    print(f"{len(lines)} crates")
     return 0
 
 
-def build(lanes: int, memory: int) -> int:
-    """Builds, while no other build of this tool does."""
-    own = ROOT / "crates" / PROGRAM / OUT
-    own.mkdir(exist_ok=True)
-    trees = own / "trees"
-    signal.signal(signal.SIGTERM, lambda *_: sys.exit(143))
-    with open(own / "build.lock", "w", encoding="utf-8") as lock:
-        wait_for(lock)
-        clear(ROOT, trees)
-        crates = plan(ROOT, PROGRAM, kit_version())
-        check_whole(crates)
-        work = Work(ROOT, trees, PROGRAM, crates, lanes, memory)
-        try:
-            failed = work.run()
-        finally:
-            clear(ROOT, trees)
-    if failed is not None:
-        log = ROOT / "crates" / failed / OUT / LOG
-        print(tail(log), file=sys.stderr)
-        print(f"{NAME}: {failed} did not build, by {log.relative_to(ROOT)}", file=sys.stderr)
-        return 1
-    print(f"built crates/{PROGRAM}/out/{PROGRAM}")
+def build(jobs: int | None) -> int:
+    """Builds, while no other build of this repository does."""
+    kit = kit_version()
+    if is_built(kit):
+        # A file that was written again with the same text is no newer source.
+        with contextlib.suppress(OSError):
+            os.utime(program())
+    else:
+        signal.signal(signal.SIGTERM, lambda *_: sys.exit(143))
+        with alone_in(program().parent.parent) as held:
+            # Another build may have ended meanwhile.
+            failure = None if is_built(kit) else build_alone(jobs, kit, held)
+        if failure is not None:
+            return tell_failure(failure)
+    print(f"built {program().relative_to(ROOT)}")
     return 0
 
 
-def wait_for(lock: Any) -> None:
+def build_alone(jobs: int | None, kit: str, held: int) -> Failure | None:
+    program().parent.mkdir(exist_ok=True)
+    tree, lines, begun = tree_of(ROOT), needed_lines(ROOT, PROGRAM), time.time()
     try:
-        fcntl.flock(lock, fcntl.LOCK_EX | fcntl.LOCK_NB)
-    except BlockingIOError:
-        print(f"{NAME}: another build is at work; waiting for it", file=sys.stderr, flush=True)
-        fcntl.flock(lock, fcntl.LOCK_EX)
+        lay_tree(ROOT, tree, lines)
+        gate = Gate(ROOT, tree, len(lines), log(), held)
+        gate.tell(f"{len(lines)} crates to prove and build")
+        failure = gate.run(jobs)
+        if failure is not None and failure.was_killed() and jobs != 1:
+            gate.tell(f"{failure.name} was killed, most likely for memory: once more, one check at a time")
+            failure = gate.run(1)
+        if failure is None:
+            take_program(tree, stamp_of(tree, lines, kit), begun)
+    finally:
+        clear(tree)
+    return failure
+
+
+def take_program(tree: Path, stamp: str, begun: float) -> None:
+    """Replaces the program by the one that the gate built; its time is that at which its sources were read."""
+    made = tree / program().relative_to(ROOT)
+    if not made.is_file():
+        raise ToolFault(FILES, f"rt ci passed and built no {PROGRAM}: see {log().relative_to(ROOT)}")
+    new = program().with_suffix(".new")
+    shutil.copy(made, new)
+    os.utime(new, (begun, begun))
+    os.replace(new, program())
+    stamp_file().write_text(f"{stamp} {sum_of(program())}\n", encoding="utf-8")
+
+
+def tell_failure(failure: Failure) -> int:
+    print(failure.tail(), file=sys.stderr)
+    what = f"{failure.name} did not pass" if failure.name else "rt ci did not pass"
+    print(f"{NAME}: {what}, so the program was not built: see {log().relative_to(ROOT)}", file=sys.stderr)
+    return 1
+
+
+# ---- what is there
+
+
+def program() -> Path:
+    return ROOT / "crates" / PROGRAM / "out" / PROGRAM
+
+
+def stamp_file() -> Path:
+    return program().with_name("built_by")
+
+
+def log() -> Path:
+    return program().with_name("build.log")
+
+
+def is_built(kit: str) -> bool:
+    """Whether the program that is there was built of what stands there now."""
+    if not (os.access(program(), os.X_OK) and stamp_file().is_file()):
+        return False
+    stamp = stamp_of(ROOT, needed_lines(ROOT, PROGRAM), kit)
+    return stamp_file().read_text(encoding="utf-8") == f"{stamp} {sum_of(program())}\n"
+
+
+def sum_of(path: Path) -> str:
+    return hashlib.sha256(path.read_bytes()).hexdigest()
 
 
 def kit_version() -> str:
@@ -111,9 +154,17 @@ def kit_version() -> str:
     return ran.stdout.strip()
 
 
-def check_whole(crates: dict[str, Crate]) -> None:
-    """Refuses before any proof what would fail after some: a folder that can't be written."""
-    for name in crates:
-        folder = Path(ROOT, "crates", name)
-        if not os.access(folder, os.W_OK):
-            raise ToolFault(FILES, f"{folder}: can't be written, and what is built stands in its folder out")
+@contextlib.contextmanager
+def alone_in(folder: Path) -> Iterator[int]:
+    """Keeps rt and other builds out of a crate's folder, by the lock that rt takes itself; waits where one is there."""
+    held = os.open(folder, os.O_RDONLY)
+    try:
+        try:
+            fcntl.flock(held, fcntl.LOCK_EX | fcntl.LOCK_NB)
+        except BlockingIOError:
+            waits = f"{NAME}: waiting for another build or for rt to finish in {folder}"
+            print(waits, file=sys.stderr, flush=True)
+            fcntl.flock(held, fcntl.LOCK_EX)
+        yield held
+    finally:
+        os.close(held)

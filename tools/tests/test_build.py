@@ -4,6 +4,7 @@ import contextlib
 import fcntl
 import io
 import os
+import re
 import shutil
 import subprocess
 import tempfile
@@ -13,34 +14,49 @@ import unittest
 from pathlib import Path
 from unittest import mock
 
-from support import TOOLS
+from support import TOOLS, write_files
 
-from building import cli, machine
-from building.plan import Crate, next_to_start, plan
-from building.trees import clear
-from building.work import Work
+from building import cli
+from building.tree import files_of, needed_lines, tree_of
 from common.faults import ToolFault
+from sources.crates import ROOT, read_crates
 
-CRATES = "low:\nleft: low\nright: low std_thing\nhb_shape: left right\nbeside: low\n"
-# Notes what it was called for; refuses what has the word wrong, and what is built on something that is not there.
+CRATES = """# Lowest first.
+low:
+left: low # beside right
+right: low std_thing
+
+hb_shape: left right
+beside: low
+"""
+# Notes the tree and the jobs that it was called with. Proves crates in the order of crates.txt, and the program last.
 STAND_IN = """#!/bin/bash
 [ "$1" = version ] && { echo kit 1; exit 0; }
-name=$(basename "$PWD")
-echo "$name $*" >> "$BUILD_TEST/called"
-for below in ../*/; do
-    below=$(basename "$below")
-    [ "$below" = "$name" ] || [ -f "../$below/out/rlib/stamp" ] || { echo "no $below"; exit 1; }
+echo "$* jobs=$RT_JOBS" >> "$BUILD_TEST/called"
+find . | sort > "$BUILD_TEST/tree"
+cat crates.txt > "$BUILD_TEST/list"
+for name in $(sed 's/:.*//' crates.txt); do
+    has() { grep -q "$1" crates/$name/src/*.rt; }
+    has kept && { echo "rt: $name is kept: an earlier run proved the same files"; continue; }
+    has slow && exec sleep 60
+    echo "== $name"
+    echo "fn $name::f: proved"
+    if has wrong || { has large && [ "$RT_JOBS" != 1 ]; }; then
+        has large && echo "rt: the check was killed, most likely for memory: once more"
+        echo "$PWD/crates/$name/src/lib.rt:1: error"
+        echo "rt: $name NOT PROVED"
+        exec sleep 60
+    fi
+    echo "rt: $name proved"
 done
-grep -q slow src/*.rt && sleep 60
-grep -q wrong src/*.rt && { echo "not proved"; exit 1; }
-if grep -q large src/*.rt && [ ! -f "$BUILD_TEST/large" ]; then
-    touch "$BUILD_TEST/large"
-    echo "rt: the check was killed, most likely for memory"
-    exit 1
-fi
-mkdir -p "out/rlib/$name.rlib" out/incremental
-if [ "$1" = run ]; then printf '#!/bin/sh\\n' > "out/$name"; chmod +x "out/$name"; exit 2; fi
-echo stamp > out/rlib/stamp
+has note && echo "rt: note: the disk has 7 MB left"
+has edited && echo edited >> "$BUILD_TEST/work/crates/low/src/lib.rt"
+has other && { echo "rt: hb_shape: the program ended with status 1, and not 0"; echo "4 passed, 1 failed"; exit 1; }
+mkdir crates/hb_shape/out
+printf '#!/bin/sh\\n' > crates/hb_shape/out/hb_shape
+chmod +x crates/hb_shape/out/hb_shape
+has lost && rm crates/hb_shape/out/hb_shape
+echo "4 passed, 0 failed"
 """
 
 
@@ -48,134 +64,168 @@ class Built(unittest.TestCase):
     def setUp(self) -> None:
         folder = tempfile.TemporaryDirectory()
         self.addCleanup(folder.cleanup)
-        self.root = Path(folder.name) / "work"
         self.notes = Path(folder.name)
+        self.root = self.notes / "work"
+        self.out = self.root / "crates" / "hb_shape" / "out"
         for crate in ("low", "left", "right", "hb_shape", "beside"):
-            (self.root / "crates" / crate / "src").mkdir(parents=True)
             self.write(crate, "fn f() {}\n")
-        (self.root / "crates.txt").write_text(CRATES)
-        stand_in = self.notes / "bin" / "rt"
-        stand_in.parent.mkdir()
-        stand_in.write_text(STAND_IN)
-        stand_in.chmod(0o755)
-        places = {"BUILD_TEST": folder.name, "PATH": f"{stand_in.parent}:{os.environ['PATH']}"}
-        for patch in (mock.patch.object(cli, "ROOT", self.root), mock.patch.dict(os.environ, places)):
+        write_files(self.root, {"crates.txt": CRATES, "HANDLES": "Handles allowed: none.\n"})
+        write_files(self.notes, {"bin/rt": STAND_IN})
+        (self.notes / "bin/rt").chmod(0o755)
+        path = f"{self.notes}/bin:{os.environ['PATH']}"
+        for patch in (
+            mock.patch.object(cli, "ROOT", self.root),
+            mock.patch.object(tempfile, "tempdir", folder.name),
+            mock.patch.dict(os.environ, {"BUILD_TEST": folder.name, "TMPDIR": folder.name, "PATH": path}),
+        ):
             patch.start()
             self.addCleanup(patch.stop)
 
     def write(self, crate: str, text: str) -> None:
-        path = self.root / "crates" / crate / "src" / "lib.rt"
-        path.unlink(missing_ok=True)
-        path.write_text(text)
+        write_files(self.root, {f"crates/{crate}/src/lib.rt": text})
 
     def build(self, *words: str) -> tuple[int, str]:
-        """The status, and what was told."""
+        """The status, and what was told, with 0:00 for each time. No tree is left."""
         with contextlib.redirect_stderr(io.StringIO()) as told, contextlib.redirect_stdout(io.StringIO()) as shown:
-            status = cli.main(["--jobs", "2", *words])
-        return status, told.getvalue() + shown.getvalue()
+            status = cli.main([*words])
+        self.assertFalse(tree_of(self.root).exists())
+        return status, re.sub(r"\d+:\d\d", "0:00", told.getvalue() + shown.getvalue())
 
     def called(self) -> list[str]:
-        """The crates for which rt was called since the last question, in order."""
+        """With what rt was called since the last question."""
         path = self.notes / "called"
-        names = [line.split()[0] for line in path.read_text().splitlines()] if path.exists() else []
+        calls = path.read_text().splitlines() if path.exists() else []
         path.unlink(missing_ok=True)
-        return names
+        return calls
 
-    def test_order(self) -> None:
-        """Lowest first, what the program is not built on not at all; nothing is left but what was made."""
+    def test_tree(self) -> None:
+        """The gate sees the program's crates alone, with their own lines, and no must-fail edits."""
+        write_files(self.root / "crates/low", {"specs/Lib.antt": "", "must-fail/a.edit": "", "out/rlib/stamp": ""})
+        write_files(self.root / "crates/hb_shape", {"args": "a", "stdout": "b", "data/font.json": "{}"})
         status, told = self.build()
         self.assertEqual(status, 0, told)
-        names = self.called()
-        self.assertEqual((names[0], sorted(names[1:3]), names[3:]), ("low", ["left", "right"], ["hb_shape"]))
-        self.assertIn("4 of 4 crates to prove and build", told)
-        self.assertIn("[4/4] 0:0", told)
-        self.assertTrue(os.access(self.root / "crates/hb_shape/out/hb_shape", os.X_OK))
-        self.assertEqual((self.root / "crates/low/out/rlib/stamp").read_text(), "stamp\n")
-        self.assertFalse((self.root / "crates/hb_shape/out/trees").exists())
+        self.assertEqual(self.called(), ["ci jobs="])
+        tree = set((self.notes / "tree").read_text().splitlines())
+        files = {"low/specs/Lib.antt", "hb_shape/args", "hb_shape/stdout", "hb_shape/data/font.json"}
+        self.assertLessEqual({"./HANDLES", "./.git", *(f"./crates/{file}" for file in files)}, tree)
+        self.assertFalse([path for path in tree if "must-fail" in path or "out" in path.split("/") or "beside" in path])
+        lines = ["low:", "left: low # beside right", "right: low std_thing", "hb_shape: left right"]
+        self.assertEqual((self.notes / "list").read_text().splitlines(), lines)
+
+    def test_told(self) -> None:
+        """A line for each crate, and the notes of rt; the program is there at the end."""
+        self.write("left", "kept\n")
+        self.write("hb_shape", "note\n")
+        status, told = self.build()
+        self.assertEqual(status, 0, told)
+        begin = "build: 4 crates to prove and build\nbuild: [1/4] 0:00 low proved\nbuild: [2/4] 0:00 left kept\n"
+        self.assertTrue(told.startswith(begin), told)
+        self.assertIn("build: [4/4] 0:00 hb_shape proved\nbuild: note: the disk has 7 MB left\n", told)
+        self.assertTrue(told.endswith("built crates/hb_shape/out/hb_shape\n"), told)
+        self.assertTrue(os.access(self.out / "hb_shape", os.X_OK))
+        self.assertIn("fn low::f: proved\n", (self.out / "build.log").read_text())
 
     def test_again(self) -> None:
-        """What is built stays; an edit builds the crate and those above it."""
+        """What is built of the same sources stays; an edit, another kit and another program build it anew."""
         self.build()
         self.called()
+        os.utime(self.out / "hb_shape", (1, 1))
         self.assertEqual(self.build()[0], 0)
         self.assertEqual(self.called(), [])
-        self.write("left", "fn g() {}\n")
-        self.assertEqual(self.build()[0], 0)
-        self.assertEqual(self.called(), ["left", "hb_shape"])
-        (self.root / "crates/hb_shape/out/hb_shape").unlink()
+        self.assertGreater((self.out / "hb_shape").stat().st_mtime, 1)
+        self.write("beside", "fn g() {}\n")
         self.build()
-        self.assertEqual(self.called(), ["hb_shape"])
+        self.assertEqual(self.called(), [])
+        changes = (
+            lambda: self.write("left", "fn g() {}\n"),
+            lambda: (self.notes / "bin/rt").write_text(STAND_IN.replace("kit 1", "kit 2")),
+            lambda: (self.out / "hb_shape").write_text("#!/bin/sh\necho another\n"),
+            lambda: (self.out / "hb_shape").unlink(),
+        )
+        for number, change in enumerate(changes):
+            change()
+            self.assertEqual(self.build()[0], 0)
+            self.assertEqual(len(self.called()), 1, number)
 
     def test_fault(self) -> None:
-        """A crate that is not proved is told with its log; the program that was there stays, and what was built."""
+        """A crate that is not proved is told with what rt said of it, and at once; the program that was there stays."""
         self.build()
         self.called()
-        self.write("right", "wrong\n")
+        self.write("left", "wrong\n")
         status, told = self.build()
         self.assertEqual(status, 1)
-        self.assertIn("not proved", told)
-        self.assertIn("right did not build, by crates/right/out/build.log", told)
-        self.assertTrue((self.root / "crates/hb_shape/out/hb_shape").exists())
-        self.write("right", "fn f() {}\n")
-        self.called()
+        where = f"{self.root}/crates/left/src/lib.rt:1: error"
+        said = f"low proved\n== left\nfn left::f: proved\n{where}\nrt: left NOT PROVED\nbuild: left did not pass"
+        self.assertIn(f"{said}, so the program was not built: see crates/hb_shape/out/build.log\n", told)
+        self.assertTrue((self.out / "hb_shape").exists())
+        self.assertEqual(self.called(), ["ci jobs="])
+        self.write("left", "fn f() {}\n")
         self.assertEqual(self.build()[0], 0)
-        self.assertEqual(self.called(), ["right"])
+        self.assertEqual(self.called(), [])
+
+    def test_other_fault(self) -> None:
+        """Another fault of rt is told by the last lines that it printed; so is a program that was not made."""
+        self.write("hb_shape", "other\n")
+        status, told = self.build()
+        self.assertEqual(status, 1)
+        said = "rt: hb_shape: the program ended with status 1, and not 0\n4 passed, 1 failed\nbuild: rt ci did not pass"
+        self.assertIn(said, told)
+        self.write("hb_shape", "lost\n")
+        self.assertRaisesRegex(ToolFault, "rt ci passed and built no hb_shape", self.build)
+        self.assertFalse((self.out / "hb_shape").exists())
 
     def test_memory(self) -> None:
-        """A build that was killed beside another is tried once more, alone."""
+        """Where a check was killed, the rest is tried once more with one check at a time."""
         self.write("left", "large\n")
-        self.assertEqual(self.build()[0], 0)
-        self.assertEqual(sorted(self.called()), ["hb_shape", "left", "left", "low", "right"])
+        status, told = self.build("--jobs", "2")
+        self.assertEqual(status, 0)
+        self.assertEqual(self.called(), ["ci jobs=2", "ci jobs=1"])
+        self.assertIn("build: left was killed, most likely for memory: once more, one check at a time\n", told)
+        self.assertIn("[4/4]", told)
+        self.write("right", "wrong large\n")
+        self.assertEqual(self.build("--jobs", "1")[0], 1)
+        self.assertEqual(self.called(), ["ci jobs=1"])
+
+    def test_edited(self) -> None:
+        """A file that is edited while it is built is newer than the program, and is built by the next build."""
+        self.write("hb_shape", "edited\n")
+        self.build()
+        self.called()
+        self.assertLess((self.out / "hb_shape").stat().st_mtime, (self.root / "crates/low/src/lib.rt").stat().st_mtime)
+        self.build()
+        self.assertEqual(len(self.called()), 1)
 
     def test_killed(self) -> None:
-        """What a build that was killed left in its trees is taken back."""
-        left = self.root / "crates/hb_shape/out/trees/low/crates/low/out/incremental"
-        left.mkdir(parents=True)
-        (left / "work").write_text("")
-        clear(self.root, self.root / "crates/hb_shape/out/trees")
-        self.assertTrue((self.root / "crates/low/out/incremental/work").exists())
-        self.assertFalse((self.root / "crates/hb_shape/out/trees").exists())
+        """The tree that a killed build left is replaced."""
+        write_files(tree_of(self.root), {"crates/left/src/old.rt": ""})
+        self.assertEqual(self.build()[0], 0)
+        self.assertNotIn("old.rt", (self.notes / "tree").read_text())
 
     def test_ended(self) -> None:
-        """A build that is ended ends what it started, gives back what it lent, and can be run again."""
+        """A build that is ended ends rt and removes its tree."""
         self.write("low", "slow\n")
         for part in ("build", "building", "common", "sources"):
             source = TOOLS / part
             copy = shutil.copytree if source.is_dir() else shutil.copy
             (self.root / "tools").mkdir(exist_ok=True)
             copy(source, self.root / "tools" / part)
-        kept = self.root / "crates/low/out/incremental/work"
-        kept.parent.mkdir(parents=True)
-        kept.write_text("")
         with subprocess.Popen([self.root / "tools" / "build"], stderr=subprocess.DEVNULL) as run:
-            while not (self.notes / "called").exists():
+            while not (self.notes / "list").exists():
                 self.assertIsNone(run.poll())
                 time.sleep(0.05)
-            self.assertFalse(kept.exists())
+            self.assertTrue(tree_of(self.root).exists())
             run.terminate()
             self.assertEqual(run.wait(20), 143)
-        self.assertTrue(kept.exists())
-        self.assertFalse((self.root / "crates/hb_shape/out/trees").exists())
+        self.assertFalse(tree_of(self.root).exists())
 
-    def test_two_builds(self) -> None:
-        """A second build waits for the first, and then has nothing to do."""
-        out = self.root / "crates/hb_shape/out"
-        out.mkdir()
-        with open(out / "build.lock", "w") as lock:
-            fcntl.flock(lock, fcntl.LOCK_EX)
-            threading.Timer(0.3, lambda: fcntl.flock(lock, fcntl.LOCK_UN)).start()
-            status, told = self.build()
-        self.assertEqual(status, 0)
-        self.assertIn("another build is at work; waiting for it", told)
-
-    def test_rt_beside(self) -> None:
-        """A crate in which rt works is built once rt has ended."""
-        held = os.open(self.root / "crates/low", os.O_RDONLY)
+    def test_beside(self) -> None:
+        """A build waits for rt and for other builds of the repository, by the lock on the program's crate."""
+        held = os.open(self.out.parent, os.O_RDONLY)
         fcntl.flock(held, fcntl.LOCK_EX)
         threading.Timer(0.3, os.close, [held]).start()
         status, told = self.build()
         self.assertEqual(status, 0)
-        self.assertIn(f"build: waiting for rt to finish in {self.root / 'crates/low'}\n", told)
+        self.assertIn(f"build: waiting for another build or for rt to finish in {self.out.parent}\n", told)
 
     def test_program(self) -> None:
         """hb_shape runs the program also where sources are newer, with a warning, and builds where there is none."""
@@ -187,7 +237,7 @@ class Built(unittest.TestCase):
         missing = subprocess.run(command, capture_output=True, text=True, check=False)
         self.assertEqual((missing.returncode, missing.stdout), (1, ""))
         self.assertTrue(missing.stderr.endswith("tools/build proves and builds it first\nbuilding\n"), missing.stderr)
-        program = self.root / "crates/hb_shape/out/hb_shape"
+        program = self.out / "hb_shape"
         program.parent.mkdir()
         program.write_text('#!/bin/sh\necho "shaped $1"\n')
         program.chmod(0o755)
@@ -198,57 +248,32 @@ class Built(unittest.TestCase):
         self.assertIn("sources are newer than the program", older.stderr)
 
     def test_refused(self) -> None:
-        """Before any proof: no rt, wrong words, a folder that can't be written."""
+        """Before any proof: no rt, wrong words, a folder that can't be made."""
         with mock.patch.dict(os.environ, {"PATH": "/nowhere"}):
             self.assertRaisesRegex(ToolFault, "rt is not on the path", self.build)
         self.assertRaisesRegex(ToolFault, "no number above 0: '0'", self.build, "--jobs", "0")
-        with mock.patch("os.access", side_effect=lambda path, mode: mode != os.W_OK):
-            self.assertRaisesRegex(ToolFault, "can't be written", self.build)
+        self.out.write_text("")
+        self.assertRaises(OSError, self.build)
         self.assertEqual(self.called(), [])
 
     def test_list(self) -> None:
         status, told = self.build("--list")
         self.assertEqual(status, 0)
-        self.assertIn("right: 1 lines, 1.5 GB; waits for low\n", told)
-        self.assertIn("4 crates, 4 lines, 3 in the longest chain", told)
+        self.assertTrue(told.endswith("right: low std_thing\nhb_shape: left right\n4 crates\n"), told)
         self.assertEqual(self.called(), [])
 
-    def test_links(self) -> None:
-        """Where a file system has no links, files are copied."""
-        with mock.patch("os.link", side_effect=OSError):
-            self.assertEqual(self.build()[0], 0)
 
-
-class Order(unittest.TestCase):
-    def test_next(self) -> None:
-        """The longest chain first; beside others as far as memory goes; more jobs where nothing else could use them."""
-        crates = {
-            "a": Crate("a", [], 10, 4, "", 20),
-            "b": Crate("b", [], 10, 4, "", 30),
-            "c": Crate("c", ["a"], 10, 4, "", 10),
-        }
-        waiting = ["a", "b", "c"]
-        self.assertEqual(next_to_start(waiting, set(), {}, crates, 2, 100), ("b", 1))
-        self.assertEqual(next_to_start(["a", "c"], set(), {"b": 1}, crates, 2, 100), ("a", 1))
-        self.assertIsNone(next_to_start(["a", "c"], set(), {"b": 1}, crates, 2, 7))
-        self.assertEqual(next_to_start(["a"], set(), {}, crates, 4, 1), ("a", 1))
-        self.assertEqual(next_to_start(["c"], {"a", "b"}, {}, crates, 4, 100), ("c", 4))
-        self.assertEqual(next_to_start(["c"], {"a", "b"}, {}, crates, 4, 7), ("c", 2))
-        self.assertIsNone(next_to_start(["c"], {"b"}, {"a": 1}, crates, 4, 100))
-
-    def test_whole(self) -> None:
-        """The plan of this repository has all that the program is built on, each after what it waits for."""
-        crates = plan(TOOLS.parent, "hb_shape", "")
-        self.assertEqual(list(crates)[-1], "hb_shape")
-        met: set[str] = set()
-        for name, crate in crates.items():
-            self.assertLessEqual(set(crate.needs), met, name)
-            self.assertTrue(all(crates[needed].chain >= crate.chain + crates[needed].lines for needed in crate.needs))
-            met.add(name)
-
-    def test_machine(self) -> None:
-        self.assertGreaterEqual(machine.processors(), 1)
-        self.assertGreater(machine.free_memory(), 0)
+class Whole(unittest.TestCase):
+    def test_crates(self) -> None:
+        """Of this repository: each crate's libraries are there, and the program with what it is run on."""
+        lines = needed_lines(ROOT, "hb_shape")
+        crates = read_crates(ROOT)
+        for name in lines:
+            self.assertLessEqual({needed for needed in crates[name] if needed in crates}, set(lines), name)
+        files = {str(path.relative_to(ROOT)) for path in files_of(ROOT, lines)}
+        program = {f"crates/hb_shape/{name}" for name in ("src/main.rt", "args", "stdout", "data/font.json")}
+        self.assertLessEqual({"HANDLES", *program}, files)
+        self.assertFalse([path for path in files if "/must-fail/" in path or "/out/" in path])
 
     def test_command(self) -> None:
         ran = subprocess.run([TOOLS / "build", "--help"], capture_output=True, text=True, check=False)

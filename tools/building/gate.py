@@ -1,0 +1,98 @@
+"""A run of rt's gate, rt ci, over the tree."""
+
+import os
+import re
+import subprocess
+import sys
+import time
+from dataclasses import dataclass, field
+from pathlib import Path
+from typing import TextIO
+
+# What the gate prints of a crate begins with its name, and ends with how it ended.
+SECTION = "== "
+PASSED = re.compile(r"rt: (\w+) (?:(proved)$|is (kept): )")
+FAILED = re.compile(r"rt: (\w+)(?:: its tests are)? NOT PROVED")
+# Of what else it prints a user is told: full disks, what is not kept, and waiting for another run.
+TOLD = re.compile(r"rt: (note: .*|.*; waiting for it)$")
+KILLED = "was killed"
+TAIL = 30
+
+
+@dataclass(frozen=True)
+class Failure:
+    """What the gate failed with: a crate, where it names one, and what it printed of it."""
+
+    name: str
+    lines: list[str]
+
+    def was_killed(self) -> bool:
+        return any(KILLED in line for line in self.lines)
+
+    def tail(self) -> str:
+        return "".join(self.lines[-TAIL:]).rstrip("\n")
+
+
+@dataclass
+class Gate:
+    """A run: where, with how many crates, and an open file whose lock is held until rt ends."""
+
+    root: Path
+    tree: Path
+    count: int
+    log: Path
+    held: int
+    out: TextIO = field(default_factory=lambda: sys.stderr)
+    started: float = field(default_factory=time.monotonic)
+    passed: set[str] = field(default_factory=set)
+
+    def run(self, jobs: int | None) -> Failure | None:
+        """Proves, builds and runs all that is not kept. With the first crate that fails rt is ended."""
+        self.passed.clear()
+        with open(self.log, "w", encoding="utf-8") as log, self.start(jobs) as ran:
+            try:
+                return self.read(ran, log)
+            finally:
+                # What rt started ends with it.
+                ran.terminate()
+
+    def start(self, jobs: int | None) -> subprocess.Popen[str]:
+        return subprocess.Popen(
+            ["rt", "ci"],
+            cwd=self.tree,
+            env={**os.environ, "RT_JOBS": str(jobs)} if jobs else None,
+            stdin=subprocess.DEVNULL,
+            stdout=subprocess.PIPE,
+            stderr=subprocess.STDOUT,
+            encoding="utf-8",
+            errors="replace",
+            start_new_session=True,
+            pass_fds=(self.held,),
+        )
+
+    def read(self, ran: subprocess.Popen[str], log: TextIO) -> Failure | None:
+        """Tells of each crate as it passes, until rt ends or one fails."""
+        section: list[str] = []
+        for printed in ran.stdout or ():
+            # The tree is gone when this is read.
+            line = printed.replace(str(self.tree), str(self.root))
+            log.write(line)
+            log.flush()
+            if line.startswith(SECTION):
+                section.clear()
+            section.append(line)
+            if failed := FAILED.match(line):
+                return Failure(failed[1], section)
+            if passed := PASSED.match(line):
+                self.passed.add(passed[1])
+                self.tell(f"[{len(self.passed)}/{self.count}] {self.clock()} {passed[1]} {passed[2] or passed[3]}")
+            elif told := TOLD.match(line):
+                self.tell(told[1])
+        return Failure("", section) if ran.wait() else None
+
+    def tell(self, what: str) -> None:
+        print(f"build: {what}", file=self.out, flush=True)
+
+    def clock(self) -> str:
+        seconds = int(time.monotonic() - self.started)
+        return f"{seconds // 60}:{seconds % 60:02}"

@@ -1,0 +1,71 @@
+"""The tree in which the gate works: copies of the program's crate and of those that it is built on.
+
+It is a repository of its own, without the other crates and without must-fail edits. Files are copied, since a link to
+a file changes its time, by which rt knows files that were changed while it worked. The gate refuses a crates.txt below
+the top of a repository, so the tree stands among the temporary files."""
+
+import hashlib
+import os
+import shutil
+import tempfile
+from pathlib import Path
+from typing import Iterable
+
+from sources.crates import all_needs, read_crates
+
+# What the gate reads of a crate: code and proofs, and what a program is run on.
+READ = ("src", "specs", "proofs", "stdin", "stdout", "args", "status", "data")
+LIST = "crates.txt"
+HANDLES = "HANDLES"
+
+
+def tree_of(root: Path) -> Path:
+    """The place of the tree, one for each copy of the repository."""
+    own = hashlib.sha256(os.fsencode(root)).hexdigest()[:16]
+    return Path(tempfile.gettempdir()).resolve() / f"hb_shape-build-{own}"
+
+
+def needed_lines(root: Path, program: str) -> dict[str, str]:
+    """The lines of crates.txt, as they stand, of the program's crate and those that it is built on, by their names."""
+    wanted = set(all_needs(program, read_crates(root)))
+    lines: dict[str, str] = {}
+    for line in (root / LIST).read_text(encoding="utf-8").splitlines():
+        for name in line.split("#")[0].partition(":")[0].split()[:1]:
+            if name in wanted:
+                lines[name] = line
+    return lines
+
+
+def files_of(root: Path, names: Iterable[str]) -> list[Path]:
+    """The files that the gate reads of these crates."""
+    found = [root / HANDLES]
+    for name in names:
+        for part in READ:
+            path = root / "crates" / name / part
+            found += [path, *sorted(path.rglob("*"))]
+    return [path for path in found if path.is_file()]
+
+
+def stamp_of(root: Path, lines: dict[str, str], kit: str) -> str:
+    """A sum of all that the program is built of."""
+    made = hashlib.sha256(repr((kit, lines)).encode())
+    for path in files_of(root, lines):
+        made.update(repr((str(path.relative_to(root)), path.read_bytes())).encode())
+    return made.hexdigest()
+
+
+def lay_tree(root: Path, tree: Path, lines: dict[str, str]) -> None:
+    """Makes the tree, in place of one that a killed build left."""
+    clear(tree)
+    tree.mkdir(mode=0o700)
+    # By this folder the gate knows the top of a repository.
+    (tree / ".git").mkdir()
+    (tree / LIST).write_text("".join(f"{line}\n" for line in lines.values()), encoding="utf-8")
+    for path in files_of(root, lines):
+        target = tree / path.relative_to(root)
+        target.parent.mkdir(parents=True, exist_ok=True)
+        shutil.copyfile(path, target, follow_symlinks=False)
+
+
+def clear(tree: Path) -> None:
+    shutil.rmtree(tree, ignore_errors=True)
