@@ -9,8 +9,8 @@ ghost use Rattle.shape_normalize.specs.Rounds.{normalization};
 ghost use Rattle.shape_pipeline.specs.Characters.{characters_chosen, normalizer, text_begun, turned_to_line};
 ghost use Rattle.shape_pipeline.specs.Shaping.{preprocessing_stage};
 
-use crate::context::{Shaped, hb_ot_shape_context_t};
-use crate::normalizing::hb_ot_shape_normalize_context_t;
+use crate::normalizing::PlanNormalizing;
+use crate::shape_stages::{ShapeStages, Shaped};
 use buffer_core::buffer::hb_buffer_t;
 use buffer_glyphs::cause::ShapeCause;
 use script_categories::SyllableSpans;
@@ -23,7 +23,7 @@ use shape_text::masks::initialize_masks;
 use shape_text::properties::set_unicode_props;
 use shape_text::rotation::{self, Rotation};
 
-impl<S: hb_ot_shaper_t, P: SyllableSpans> hb_ot_shape_context_t<'_, S, P> {
+impl<S: hb_ot_shaper_t, P: SyllableSpans> ShapeStages<'_, S, P> {
     /// Begins shaping: sets limits, masks and the characters' properties, inserts a dotted circle before a mark, forms
     /// clusters, and puts the text in its script's direction.
     pub(crate) fn begin_text(&self, buffer: &mut hb_buffer_t) -> Result<(), ShapeCause>
@@ -56,12 +56,12 @@ impl<S: hb_ot_shaper_t, P: SyllableSpans> hb_ot_shape_context_t<'_, S, P> {
     }
 
     /// Normalizes the text as the font and the shaper require.
-    fn normalize(&self, buffer: &mut hb_buffer_t) -> Result<(), ShapeCause>
+    pub(crate) fn normalize(&self, buffer: &mut hb_buffer_t) -> Result<(), ShapeCause>
         requires { IsReady buffer.old }
         ensures { DoesStage (normalization (normalizer (⟦<Self as Shaped>⟧.shaping self.now buffer.old))) result
             buffer.old buffer.new }
     {
-        let by = hb_ot_shape_normalize_context_t {
+        let by = PlanNormalizing {
             shaper: &self.plan.shaper,
             plan: &self.plan.script_plan,
             face: self.face,

@@ -1,44 +1,71 @@
-//! The parameters of shaping one text, hb_ot_shape_context_t (rustybuzz: hb/ot_shape.rs).
+//! Shaping with a context, hb_ot_shape_context_t and shape_internal (rustybuzz: hb/ot_shape.rs).
+ghost use Rattle.std.specs.Prelude.{◌≡◌, ◌≢◌, Err, IfErr, OnOk, true, false};
+ghost use Rattle.buffer_core.specs.Readings.{Follows};
+ghost use Rattle.buffer_core.specs.Sides.{items_of, state_of};
+ghost use Rattle.buffer_stages.specs.Settings.{text_settings};
+ghost use Rattle.shape_text.specs.Properties.{are_characters};
+ghost use Rattle.shape_pipeline.specs.Reading.{reading};
+ghost use Rattle.shape_pipeline.specs.Results.{IsResultOf};
+ghost use Rattle.shape_pipeline.specs.Shaped.{by_plan};
 
-use buffer_unicode_tables::UnicodeTables;
+use crate::shape_stages::ShapeStages;
+use buffer_common::direction::Direction;
+use buffer_common::language_tags::LanguageTags;
+use buffer_core::buffer::hb_buffer_t;
+use buffer_glyphs::cause::ShapeCause;
 use layout_face::Face;
 use script_categories::SyllableSpans;
+use script_plan::data::hb_shape_data_t;
 use script_plan::hb_ot_shaper_t;
 use script_plan::plan::hb_ot_shape_plan_t;
 use std::alloc::Global;
 
-/// A plan with its shaper, a font, tables of characters, and the machines that find syllables.
+/// The parameters of shaping one text, and the buffer that has it.
 #[derive(Drop)]
-pub struct hb_ot_shape_context_t<'a, S: hb_ot_shaper_t, P: SyllableSpans> {
+pub struct hb_ot_shape_context_t<'a, S: hb_ot_shaper_t, P: SyllableSpans, L: LanguageTags> {
     pub plan: &'a hb_ot_shape_plan_t<S>,
     pub face: &'a Face,
-    pub tables: &'a UnicodeTables,
-    pub spans: &'a P,
-    pub alloc: Global,
+    pub shape_data: hb_shape_data_t<'a, P, L>,
+    pub buffer: &'a mut hb_buffer_t,
+    /// The direction of the text's line: the plan's.
+    pub target_direction: Direction,
 }
 
-/// What the text of a buffer is shaped by, as its reading has it.
-pub trait Shaped {
-    ghost use Rattle.buffer_core.specs.Sides.{Sides};
-    ghost use Rattle.shape_pipeline.specs.Shaping.{Shaping};
-
-    ghost shaping: { Self → Sides → Shaping };
-}
-
-impl<S: hb_ot_shaper_t, P: SyllableSpans> Shaped for hb_ot_shape_context_t<'_, S, P> {
-    ghost use Rattle.buffer_stages.specs.Settings.{text_settings};
-
-    ghost shaping = { λ c text. record {
-      font = c.face.now;
-      tables = c.tables.now;
-      settings = text_settings text;
-      direction = c.plan.now.script_plan.direction;
-      script = c.plan.now.script_plan.script;
-      map = c.plan.now.script_plan.map;
-      choices = c.plan.now.script_plan.choices;
-      features = c.plan.now.user_features.items;
-      traits = S.traits c.plan.now.shaper;
-      rules = S.rules c.plan.now.shaper c.plan.now.script_plan;
-      spans = P.span_of c.spans.now;
-    } };
+/// Shapes the text of a context's buffer by the plan: all that the stages see of the buffer, and where its glyphs come
+/// from, follow the text's reading. Each glyph has a number that a glyph can have; what was set for the text stays, and
+/// the direction is the target's.
+///
+/// # Errors
+///
+/// The reading's own cause (`TooLong`, `StretchRange`, `UnknownSyllableKind`), or lack of memory. The buffer can then
+/// only be cleared.
+pub fn shape_internal<S: hb_ot_shaper_t, P: SyllableSpans, L: LanguageTags>(
+    alloc: Global,
+    ctx: &mut hb_ot_shape_context_t<'_, S, P, L>,
+) -> Result<(), ShapeCause>
+    requires closed { ctx.old.buffer.now.is_open ≡ false }
+    requires unrefused { ctx.old.buffer.now.has_refused ≡ false }
+    requires characters { are_characters (items_of ctx.old.buffer.now) ≡ true }
+    requires target { ctx.old.plan.now.script_plan.direction ≡ ctx.old.target_direction }
+    ensures same_reference { ctx.new.buffer.ghost_name ≡ ctx.old.buffer.ghost_name }
+    ensures ok { OnOk result (Follows (reading (by_plan (S.traits ctx.old.plan.now.shaper)
+        (S.rules ctx.old.plan.now.shaper ctx.old.plan.now.script_plan) ctx.old.plan.now ctx.old.face.now
+        ctx.old.shape_data.tables.now (P.span_of ctx.old.shape_data.spans.now) (text_settings ctx.old.buffer.now))
+        (state_of ctx.old.buffer.now)) (state_of ctx.old.buffer.now) (state_of ctx.new.buffer.now)) }
+    ensures handed_on { OnOk result (IsResultOf ctx.old.buffer.now ctx.new.buffer.now) }
+    ensures direction { OnOk result (ctx.new.buffer.now.direction ≡ ctx.old.target_direction) }
+    ensures still_closed { OnOk result (ctx.new.buffer.now.is_open ≡ false) }
+    ensures err { IfErr result (λ e. e ≢ ShapeCause.OutOfMemory → reading (by_plan (S.traits ctx.old.plan.now.shaper)
+        (S.rules ctx.old.plan.now.shaper ctx.old.plan.now.script_plan) ctx.old.plan.now ctx.old.face.now
+        ctx.old.shape_data.tables.now (P.span_of ctx.old.shape_data.spans.now) (text_settings ctx.old.buffer.now))
+        (state_of ctx.old.buffer.now) ≡ Err e) }
+{
+    let stages = ShapeStages {
+        plan: ctx.plan,
+        face: ctx.face,
+        tables: ctx.shape_data.tables,
+        spans: ctx.shape_data.spans,
+        alloc,
+    };
+    stages.shape_internal(&mut *ctx.buffer)
 }

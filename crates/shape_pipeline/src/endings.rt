@@ -10,7 +10,7 @@ ghost use Rattle.shape_pipeline.specs.Limits.{final_view};
 ghost use Rattle.shape_pipeline.specs.Results.{IsLeft};
 ghost use Rattle.shape_pipeline.specs.Shaping.{postprocessing_stage};
 
-use crate::context::{Shaped, hb_ot_shape_context_t};
+use crate::shape_stages::{ShapeStages, Shaped};
 use buffer_common::direction::Direction;
 use buffer_core::buffer::hb_buffer_t;
 use buffer_glyphs::cause::ShapeCause;
@@ -41,7 +41,7 @@ fn leave(direction: Direction, buffer: &mut hb_buffer_t)
     buffer.leave();
 }
 
-impl<S: hb_ot_shaper_t, P: SyllableSpans> hb_ot_shape_context_t<'_, S, P> {
+impl<S: hb_ot_shaper_t, P: SyllableSpans> ShapeStages<'_, S, P> {
     fn postprocess_glyphs(&self, buffer: &mut hb_buffer_t) -> Result<(), ShapeCause>
         requires ready { IsReady buffer.old }
         ensures { DoesGlyphStage (postprocessing_stage (⟦<Self as Shaped>⟧.shaping self.now buffer.old)) result

@@ -12,7 +12,7 @@ ghost use Rattle.shape_pipeline.specs.Chains.{only_if};
 ghost use Rattle.shape_pipeline.specs.Glyphs.{glyphs_substituted, glyphs_taken};
 ghost use Rattle.shape_pipeline.specs.Shaping.{pauses_of};
 
-use crate::context::{Shaped, hb_ot_shape_context_t};
+use crate::shape_stages::{ShapeStages, Shaped};
 use buffer_core::buffer::hb_buffer_t;
 use buffer_glyphs::cause::ShapeCause;
 use layout_substitution::substitute::substitute;
@@ -45,7 +45,7 @@ fn synthesize_classes(choices: PlanChoices, buffer: &mut hb_buffer_t)
     }
 }
 
-impl<S: hb_ot_shaper_t, P: SyllableSpans> hb_ot_shape_context_t<'_, S, P> {
+impl<S: hb_ot_shaper_t, P: SyllableSpans> ShapeStages<'_, S, P> {
     /// Replaces each character by the glyph chosen for it.
     #[tactic(auto, unfolding(crate::specs::Glyphs::glyphs_taken), using(crate::proofs::Lemmas::Chains::two_followed))]
     pub(crate) fn take_glyphs(&self, buffer: &mut hb_buffer_t)

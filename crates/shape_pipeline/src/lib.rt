@@ -5,19 +5,27 @@
 mod characters;
 pub mod context;
 mod endings;
+pub mod fallback;
 mod glyphs;
+pub mod hb;
 pub mod laws;
 mod masks;
+pub mod normalize_context;
 mod normalizing;
 mod pausing;
 mod positioning;
 pub mod reading_laws;
+mod shape_stages;
 pub mod shaping;
 mod stages;
 
-pub use script_dispatch::hb_ot_any_shaper_t;
+pub use buffer_glyphs::cause::ShapeCause;
+pub use script_dispatch::{
+    DEFAULT_SHAPER, DUMBER_SHAPER, hb_ot_any_shaper_t, hb_ot_shape_complex_categorize,
+};
 pub use script_plan::data::hb_shape_data_t;
-use script_plan::plan::hb_ot_shape_plan_t;
+pub use script_plan::hb_ot_shaper_t;
+pub use script_plan::plan::hb_ot_shape_plan_t;
 pub use shaping::{ShapeFault, nested_lookups_left, shape, shape_with_plan};
 
 /// A plan of the shapers of this stack.

@@ -10,7 +10,7 @@ ghost use Rattle.shape_pipeline.specs.Chains.{only_if};
 ghost use Rattle.shape_pipeline.specs.Masks.{fraction_masks, masks_set, ranges_set};
 ghost use Rattle.shape_pipeline.specs.Shaping.{shaper_masks_set};
 
-use crate::context::{Shaped, hb_ot_shape_context_t};
+use crate::shape_stages::{ShapeStages, Shaped};
 use buffer_core::buffer::hb_buffer_t;
 use buffer_glyphs::cause::ShapeCause;
 use script_categories::SyllableSpans;
@@ -37,7 +37,7 @@ fn setup_masks_fraction<D>(plan: &hb_script_plan_t<D>, buffer: &mut hb_buffer_t)
     fractions::setup_masks_fraction(masks, buffer);
 }
 
-impl<S: hb_ot_shaper_t, P: SyllableSpans> hb_ot_shape_context_t<'_, S, P> {
+impl<S: hb_ot_shaper_t, P: SyllableSpans> ShapeStages<'_, S, P> {
     fn setup_shaper_masks(&self, buffer: &mut hb_buffer_t) -> Result<(), ShapeCause>
         requires ready { IsReady buffer.old }
         ensures { DoesStage (shaper_masks_set (⟦<Self as Shaped>⟧.shaping self.now buffer.old)) result buffer.old

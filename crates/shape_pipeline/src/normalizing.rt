@@ -13,7 +13,7 @@ use shape_normalize::normalizing::Normalizing;
 
 /// A shaper with its plan, a font, tables, and the glyphs of characters that the font lacks.
 #[derive(Drop)]
-pub struct hb_ot_shape_normalize_context_t<'a, S: hb_ot_shaper_t> {
+pub struct PlanNormalizing<'a, S: hb_ot_shaper_t> {
     pub shaper: &'a S,
     pub plan: &'a hb_script_plan_t<S::PlanData>,
     pub face: &'a Face,
@@ -31,7 +31,7 @@ fn glyph_number(glyph: Option<GlyphId>) -> Option<u32>
     }
 }
 
-impl<S: hb_ot_shaper_t> Normalizing for hb_ot_shape_normalize_context_t<'_, S> {
+impl<S: hb_ot_shaper_t> Normalizing for PlanNormalizing<'_, S> {
     ghost use Rattle.std.specs.Prelude.{◌&&◌, None, if◌then◌else◌};
     ghost use lib.Utf8.{scalar};
     ghost use Rattle.layout_face.specs.Glyphs.{nominal_glyph, variation_glyph};

@@ -13,7 +13,7 @@ ghost use Rattle.shape_pipeline.specs.Positioning.{adjusts_marks, visual_order, 
 ghost use Rattle.shape_pipeline.specs.Reading.{positioning_stage};
 ghost use Rattle.shape_pipeline.specs.Shaping.{pauses_of};
 
-use crate::context::{Shaped, hb_ot_shape_context_t};
+use crate::shape_stages::{ShapeStages, Shaped};
 use buffer_common::direction::Direction;
 use buffer_core::buffer::hb_buffer_t;
 use buffer_glyphs::cause::ShapeCause;
@@ -59,7 +59,7 @@ fn draw(buffer: &mut hb_buffer_t)
     }
 }
 
-impl<S: hb_ot_shaper_t, P: SyllableSpans> hb_ot_shape_context_t<'_, S, P> {
+impl<S: hb_ot_shaper_t, P: SyllableSpans> ShapeStages<'_, S, P> {
     /// Sets the font's advances, and those of spaces that the font lacks.
     #[tactic(auto, unfolding(crate::specs::Positioning::positions_begun), using(crate::proofs::Lemmas::Chains::four_done))]
     fn begin_positions(&self, buffer: &mut hb_buffer_t)

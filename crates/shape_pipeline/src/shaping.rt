@@ -10,7 +10,7 @@ ghost use Rattle.shape_pipeline.specs.Budget.{budget_left};
 ghost use Rattle.shape_pipeline.specs.Results.{IsResultOf};
 ghost use Rattle.shape_pipeline.specs.Shaped.{by_plan, by_text, text_reading};
 
-use crate::context::{Shaped, hb_ot_shape_context_t};
+use crate::shape_stages::{ShapeStages, Shaped};
 use buffer_common::language_tags::LanguageTags;
 use buffer_core::buffer::hb_buffer_t;
 use buffer_glyphs::cause::ShapeCause;
@@ -57,27 +57,27 @@ fn leave_empty(mut buffer: hb_buffer_t) -> GlyphBuffer
 
 /// Shapes a text whose direction and script are known. A text without characters stays as it is.
 fn shape_guessed<'a, S: hb_ot_shaper_t, P: SyllableSpans>(
-    context: &hb_ot_shape_context_t<'a, S, P>,
+    stages: &ShapeStages<'a, S, P>,
     mut buffer: hb_buffer_t,
 ) -> Result<GlyphBuffer, ShapeFault>
     requires closed { buffer.is_open ≡ false }
     requires unrefused { buffer.has_refused ≡ false }
     requires characters { are_characters (items_of buffer) ≡ true }
     ensures ok { IfOk result (λ glyphs. Follows (text_reading
-        (⟦<hb_ot_shape_context_t<'a, S, P> as Shaped>⟧.shaping context.now buffer) (state_of buffer)) (state_of
+        (⟦<ShapeStages<'a, S, P> as Shaped>⟧.shaping stages.now buffer) (state_of buffer)) (state_of
         buffer) (state_of glyphs)) }
     ensures refused { IfErr result (λ e. e.cause ≢ ShapeCause.OutOfMemory → text_reading
-        (⟦<hb_ot_shape_context_t<'a, S, P> as Shaped>⟧.shaping context.now buffer) (state_of buffer) ≡ Err e.cause) }
+        (⟦<ShapeStages<'a, S, P> as Shaped>⟧.shaping stages.now buffer) (state_of buffer) ≡ Err e.cause) }
     ensures cleared { IfErr result (λ e. e.buffer ≡ empty_buffer) }
     ensures empty { all_glyphs buffer ≡ [] → result ≡ Ok (after_leave buffer) }
     ensures handed_on { IfOk result (λ glyphs. IsResultOf buffer glyphs) }
-    ensures direction { context.now.plan.now.script_plan.direction ≡ buffer.direction
+    ensures direction { stages.now.plan.now.script_plan.direction ≡ buffer.direction
         → IfOk result (λ glyphs. glyphs.direction ≡ buffer.direction) }
 {
     if buffer.is_empty() {
         return Ok(leave_empty(buffer));
     }
-    match context.shape_internal(&mut buffer) {
+    match stages.shape_internal(&mut buffer) {
         Ok(()) => Ok(GlyphBuffer::from_buffer(buffer)),
         Err(cause) => Err(fault(cause, buffer)),
     }
@@ -111,14 +111,14 @@ pub fn shape_with_plan<S: hb_ot_shaper_t, P: SyllableSpans, L: LanguageTags>(
         → IfOk result (λ glyphs. glyphs.direction ≡ (after_guess_segment_properties buffer).direction) }
 {
     buffer.guess_segment_properties();
-    let context = hb_ot_shape_context_t {
+    let stages = ShapeStages {
         plan,
         face,
         tables: shape_data.tables,
         spans: shape_data.spans,
         alloc,
     };
-    shape_guessed(&context, buffer.into_buffer())
+    shape_guessed(&stages, buffer.into_buffer())
 }
 
 /// Shapes a text in a font, with the features that are asked for: by a plan that serves this text alone. A text without
@@ -160,14 +160,14 @@ pub fn shape<P: SyllableSpans, L: LanguageTags>(
         Ok(plan) => plan,
         Err(_) => return Err(fault(ShapeCause::OutOfMemory, buffer)),
     };
-    let context = hb_ot_shape_context_t {
+    let stages = ShapeStages {
         plan: &plan,
         face,
         tables: shape_data.tables,
         spans: shape_data.spans,
         alloc,
     };
-    shape_guessed(&context, buffer)
+    shape_guessed(&stages, buffer)
 }
 
 /// What `shape` leaves of a text's budget of nested lookups before it resets it: more than 0 where the reading had as many as

@@ -10,7 +10,7 @@ ghost use Rattle.shape_pipeline.specs.Budget.{before_reset, budget_left};
 ghost use Rattle.shape_pipeline.specs.Reading.{after_ranges, before_ranges, reading};
 ghost use Rattle.shape_pipeline.specs.Results.{IsLeft, IsResultOf};
 
-use crate::context::{Shaped, hb_ot_shape_context_t};
+use crate::shape_stages::{ShapeStages, Shaped};
 use buffer_core::buffer::hb_buffer_t;
 use buffer_glyphs::cause::ShapeCause;
 use script_categories::SyllableSpans;
@@ -30,7 +30,7 @@ fn rewind(buffer: &mut hb_buffer_t)
     let _moved = buffer.move_to(0);
 }
 
-impl<S: hb_ot_shaper_t, P: SyllableSpans> hb_ot_shape_context_t<'_, S, P> {
+impl<S: hb_ot_shaper_t, P: SyllableSpans> ShapeStages<'_, S, P> {
     /// Performs the pipeline stages before the masks of ranges.
     fn prepare_text(&self, buffer: &mut hb_buffer_t) -> Result<(), ShapeCause>
         requires ready { IsReady buffer.old }
@@ -80,7 +80,7 @@ impl<S: hb_ot_shaper_t, P: SyllableSpans> hb_ot_shape_context_t<'_, S, P> {
     /// Shapes a text by the plan: all that the stages see of the buffer, and where its glyphs come from, follow the text's
     /// reading. Each glyph has a number that a glyph can have; what was set for the text stays, and the direction is the plan's.
     /// It refuses by the reading's own cause, or for want of memory.
-    pub fn shape_internal(&self, buffer: &mut hb_buffer_t) -> Result<(), ShapeCause>
+    pub(crate) fn shape_internal(&self, buffer: &mut hb_buffer_t) -> Result<(), ShapeCause>
         requires closed { buffer.old.is_open ≡ false }
         requires unrefused { buffer.old.has_refused ≡ false }
         requires characters { are_characters (items_of buffer.old) ≡ true }

@@ -11,6 +11,8 @@ mod dispatch;
 #[cfg(test)]
 mod lines;
 #[cfg(test)]
+mod planner;
+#[cfg(test)]
 mod plans;
 #[cfg(test)]
 mod premises;

@@ -2,6 +2,7 @@
 ghost use Rattle.buffer_wrappers.specs.Wrappers.{AreGlyphs};
 
 use crate::data::{Tables, face_of, value};
+use crate::planner;
 use crate::plans::{decomposing_plan_of_row, plan_of_row};
 use crate::rows::{flags_of, part, text_of};
 use buffer_unicode_tables::UnicodeTables;
@@ -146,6 +147,7 @@ fn row_agrees(alloc: Global, row: &str, tables: Tables<'_>) -> Result<bool, Fail
 }
 
 fn rows_agree(rt: &impl Abort, alloc: Global, tables: Tables<'_>) -> Result<(), Fail> {
+    assert!(rt; planner::agrees(alloc, tables)?);
     for row in ROWS.lines() {
         let agrees = row_agrees(alloc, row, tables)?;
         assert!(rt; agrees, "{row}");

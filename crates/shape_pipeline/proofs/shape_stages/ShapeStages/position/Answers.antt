@@ -1,6 +1,6 @@
 use Rattle.std.proofs.Common.{refl}
 use Rattle.shape_pipeline.proofs.Phases.{positioned_done, positioned_refused, glyph_stage_refused}
-use Rattle.shape_pipeline.proofs.context.hb_ot_shape_context_t.position.Goals as goal
+use Rattle.shape_pipeline.proofs.shape_stages.ShapeStages.position.Goals as goal
 
 pub returns : goal.returns
 returns g c =

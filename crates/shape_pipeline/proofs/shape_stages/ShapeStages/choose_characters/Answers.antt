@@ -1,6 +1,6 @@
 use Rattle.std.proofs.Common.{refl}
 use Rattle.shape_pipeline.proofs.Phases.{chosen_followed, chosen_refused, chosen_refused_last, stage_refused}
-use Rattle.shape_pipeline.proofs.context.hb_ot_shape_context_t.choose_characters.Goals as goal
+use Rattle.shape_pipeline.proofs.shape_stages.ShapeStages.choose_characters.Goals as goal
 
 pub returns : goal.returns
 returns g c =

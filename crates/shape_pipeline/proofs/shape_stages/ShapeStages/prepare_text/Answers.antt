@@ -1,6 +1,6 @@
 use Rattle.std.proofs.Common.{refl}
 use Rattle.shape_pipeline.proofs.Phases.{before_followed, before_refused, before_refused_then, before_refused_last, stage_refused}
-use Rattle.shape_pipeline.proofs.context.hb_ot_shape_context_t.prepare_text.Goals as goal
+use Rattle.shape_pipeline.proofs.shape_stages.ShapeStages.prepare_text.Goals as goal
 
 pub returns : goal.returns
 returns g c =

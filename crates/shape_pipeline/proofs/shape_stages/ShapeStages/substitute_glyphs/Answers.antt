@@ -1,6 +1,6 @@
 use Rattle.std.proofs.Common.{refl}
 use Rattle.shape_pipeline.proofs.Phases.{substituted_done, substituted_refused, glyph_stage_refused}
-use Rattle.shape_pipeline.proofs.context.hb_ot_shape_context_t.substitute_glyphs.Goals as goal
+use Rattle.shape_pipeline.proofs.shape_stages.ShapeStages.substitute_glyphs.Goals as goal
 
 pub returns : goal.returns
 returns g c =

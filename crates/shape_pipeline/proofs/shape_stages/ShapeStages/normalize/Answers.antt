@@ -2,7 +2,7 @@ use Rattle.buffer_stages.specs.Settings.{text_settings}
 use Rattle.buffer_core.specs.Settings.{number_set}
 use Rattle.shape_pipeline.specs.Shaping.{Shaping}
 use Rattle.shape_pipeline.proofs.Phases.{normal_as_set}
-use Rattle.shape_pipeline.proofs.context.hb_ot_shape_context_t.normalize.Goals as goal
+use Rattle.shape_pipeline.proofs.shape_stages.ShapeStages.normalize.Goals as goal
 
 pub returns : goal.returns
 returns g c =

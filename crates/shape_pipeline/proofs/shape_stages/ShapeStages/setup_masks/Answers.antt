@@ -1,6 +1,6 @@
 use Rattle.std.proofs.Common.{refl}
 use Rattle.shape_pipeline.proofs.Phases.{masks_followed, masks_refused, stage_refused}
-use Rattle.shape_pipeline.proofs.context.hb_ot_shape_context_t.setup_masks.Goals as goal
+use Rattle.shape_pipeline.proofs.shape_stages.ShapeStages.setup_masks.Goals as goal
 
 pub returns : goal.returns
 returns g c =

@@ -1,7 +1,7 @@
 use Rattle.std.proofs.Common.{refl}
 use Rattle.shape_pipeline.proofs.Lemmas.Chains.{done_followed}
 use Rattle.shape_pipeline.proofs.Phases.{after_followed, after_refused_last, after_refused_later, after_refused_then, stage_refused}
-use Rattle.shape_pipeline.proofs.context.hb_ot_shape_context_t.lay_out.Goals as goal
+use Rattle.shape_pipeline.proofs.shape_stages.ShapeStages.lay_out.Goals as goal
 
 pub returns-clause-stage : goal.returns-clause-stage
 returns-clause-stage g c =

@@ -1,6 +1,6 @@
 use Rattle.std.proofs.Common.{refl}
 use Rattle.shape_pipeline.proofs.Phases.{ended_done, ended_refused, glyph_stage_refused}
-use Rattle.shape_pipeline.proofs.context.hb_ot_shape_context_t.end_text.Goals as goal
+use Rattle.shape_pipeline.proofs.shape_stages.ShapeStages.end_text.Goals as goal
 
 pub returns-clause-stage : goal.returns-clause-stage
 returns-clause-stage g c =

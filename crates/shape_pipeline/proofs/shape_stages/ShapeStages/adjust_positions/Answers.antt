@@ -1,6 +1,6 @@
 use Rattle.std.proofs.Common.{refl}
 use Rattle.shape_pipeline.proofs.Phases.{adjusted_done, adjusted_refused, glyph_stage_refused}
-use Rattle.shape_pipeline.proofs.context.hb_ot_shape_context_t.adjust_positions.Goals as goal
+use Rattle.shape_pipeline.proofs.shape_stages.ShapeStages.adjust_positions.Goals as goal
 
 pub returns : goal.returns
 returns g c =

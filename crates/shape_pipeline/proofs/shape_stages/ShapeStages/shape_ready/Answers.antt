@@ -2,7 +2,7 @@ use Rattle.std.proofs.Common.{refl, ◌∙◌}
 use Rattle.shape_pipeline.proofs.Numbers.{result_of}
 use Rattle.shape_pipeline.proofs.Whole.{reading_followed, reading_refused, reading_refused_late}
 use Rattle.shape_pipeline.proofs.Phases.{passed_on}
-use Rattle.shape_pipeline.proofs.context.hb_ot_shape_context_t.shape_ready.Goals as goal
+use Rattle.shape_pipeline.proofs.shape_stages.ShapeStages.shape_ready.Goals as goal
 
 pub returns-clause-ok : goal.returns-clause-ok
 returns-clause-ok g c =

@@ -1,5 +1,5 @@
 use Rattle.shape_pipeline.proofs.Phases.{line_ended}
-use Rattle.shape_pipeline.proofs.context.hb_ot_shape_context_t.end_positions.Goals as goal
+use Rattle.shape_pipeline.proofs.shape_stages.ShapeStages.end_positions.Goals as goal
 
 pub returns : goal.returns
 returns g c =

@@ -5,7 +5,7 @@ use Rattle.buffer_stages.specs.Ready.{IsDone}
 use Rattle.shape_text.specs.Masks.{with_one_mask}
 use Rattle.shape_pipeline.proofs.Begun.{characters_masked, text_begun_followed, text_begun_refused}
 use Rattle.shape_pipeline.proofs.Phases.{stage_refused}
-use Rattle.shape_pipeline.proofs.context.hb_ot_shape_context_t.begin_text.Goals as goal
+use Rattle.shape_pipeline.proofs.shape_stages.ShapeStages.begin_text.Goals as goal
 
 pub set_unicode_props-requires-clause-characters : goal.set_unicode_props-requires-clause-characters
 set_unicode_props-requires-clause-characters g c =
