@@ -16,7 +16,3 @@ pub use Rattle.layout_positioning.specs as layout_positioning
 pub use Rattle.layout_substitution.specs as layout_substitution
 pub use Rattle.layout_tables.specs as layout_tables
 pub use Rattle.layout_would_apply.specs as layout_would_apply
-pub use Rattle.script_plan.specs as script_plan
-pub use Rattle.script_syllabic.specs as script_syllabic
-pub use Rattle.shape_glyphs.specs as shape_glyphs
-pub use Rattle.shape_text.specs as shape_text

@@ -30,9 +30,6 @@ pub mod ot_layout {
     pub use layout_positioning::kerning::{
         hb_ot_layout_has_cross_kerning, hb_ot_layout_has_kerning, hb_ot_layout_has_machine_kerning,
     };
-    pub use script_syllabic::clearing::_hb_clear_substitution_flags;
-    pub use shape_glyphs::classes::{_hb_ot_layout_set_glyph_props, hb_ot_layout_substitute_start};
-    pub use shape_text::direction::_hb_ot_layout_reverse_graphemes;
 }
 
 /// What both tables have in common.
@@ -103,5 +100,4 @@ pub mod ot_map {
         hb_ot_map_feature_flags_t,
     };
     pub use layout_map_features::lookup::lookup_map_t;
-    pub use script_plan::common::MAX_VALUE;
 }

@@ -202,12 +202,12 @@ pub fn nested_lookups_left<P: SyllableSpans, L: LanguageTags>(
         Ok(plan) => plan,
         Err(_) => return Err(ShapeCause::OutOfMemory),
     };
-    let context = hb_ot_shape_context_t {
+    let stages = ShapeStages {
         plan: &plan,
         face,
         tables: shape_data.tables,
         spans: shape_data.spans,
         alloc,
     };
-    context.budget_left(&mut buffer)
+    stages.budget_left(&mut buffer)
 }

@@ -125,7 +125,7 @@ impl<S: hb_ot_shaper_t, P: SyllableSpans> ShapeStages<'_, S, P> {
 
     /// What shaping a text by the plan leaves of its budget of nested lookups, which `shape_internal` resets at its end. It
     /// refuses by the reading's own cause, or for want of memory. What is then in the buffer is of no use.
-    pub fn budget_left(&self, buffer: &mut hb_buffer_t) -> Result<i32, ShapeCause>
+    pub(crate) fn budget_left(&self, buffer: &mut hb_buffer_t) -> Result<i32, ShapeCause>
         requires closed { buffer.old.is_open ≡ false }
         requires unrefused { buffer.old.has_refused ≡ false }
         requires characters { are_characters (items_of buffer.old) ≡ true }

@@ -1,7 +1,7 @@
 use Rattle.std.proofs.Common.{refl}
 use Rattle.shape_pipeline.proofs.Budget.{hidden_done, hidden_refused}
 use Rattle.shape_pipeline.proofs.Phases.{glyph_stage_refused}
-use Rattle.shape_pipeline.proofs.context.hb_ot_shape_context_t.hide_glyphs.Goals as goal
+use Rattle.shape_pipeline.proofs.shape_stages.ShapeStages.hide_glyphs.Goals as goal
 
 pub returns : goal.returns
 returns g c =

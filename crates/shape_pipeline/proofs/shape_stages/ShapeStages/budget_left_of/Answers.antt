@@ -1,7 +1,7 @@
 use Rattle.std.proofs.Common.{refl}
 use Rattle.shape_pipeline.proofs.Budget.{budget_followed, budget_refused, budget_refused_late}
 use Rattle.shape_pipeline.proofs.Phases.{passed_on}
-use Rattle.shape_pipeline.proofs.context.hb_ot_shape_context_t.budget_left_of.Goals as goal
+use Rattle.shape_pipeline.proofs.shape_stages.ShapeStages.budget_left_of.Goals as goal
 
 pub returns-clause-ok : goal.returns-clause-ok
 returns-clause-ok g c =

@@ -1,7 +1,7 @@
 use Rattle.std.proofs.Common.{refl}
 use Rattle.shape_pipeline.proofs.Budget.{within_followed, within_refused_last, within_refused_later, within_refused_then}
 use Rattle.shape_pipeline.proofs.Phases.{stage_refused}
-use Rattle.shape_pipeline.proofs.context.hb_ot_shape_context_t.lay_out_within.Goals as goal
+use Rattle.shape_pipeline.proofs.shape_stages.ShapeStages.lay_out_within.Goals as goal
 
 pub returns : goal.returns
 returns g c =
