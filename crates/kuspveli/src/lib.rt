@@ -1,6 +1,9 @@
-//! What a user of the library needs, and no more: a text and a parsed font become positioned glyphs. The names are
-//! rustybuzz's where it has them. What else the crates have is no part of the library's surface.
+//! What a user of the library needs: a text and a parsed font become positioned glyphs. The names are rustybuzz's where
+//! it has them, at the root and, by its files, in `hb`; `hb_shape` has the calls of the program.
 #![tactic(auto)]
+
+pub mod hb;
+pub mod hb_shape;
 
 pub use buffer_common::constants::BufferFlags;
 pub use buffer_common::direction::{Direction, InvalidDirection};

@@ -87,7 +87,7 @@ within_refused_last q s a b c cause set f g h e =
 
 -- ---- all stages
 
-abbrev some_left : ℤ → Result ℤ ShapeCause
+abbrev pub some_left : ℤ → Result ℤ ShapeCause
 some_left left = Ok left
 
 left_of : (q : Reading) (old new : BufferState) (left : ℤ) → Follows q old new → left ≡ new.view.max_ops → left_by q ≡ Ok left

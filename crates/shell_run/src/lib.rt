@@ -12,3 +12,14 @@ pub mod running;
 mod shape;
 mod slices;
 mod write;
+
+pub use running::run;
+pub use script_categories::SyllableTable;
+pub use shell_face_json::read_face;
+pub use shell_json::fault::JsonFault;
+pub use shell_readers::fault::RunFault;
+pub use shell_readers::options::Options;
+pub use shell_tables_json::{read_languages, read_syllables, read_tables};
+pub use shell_words::{CommandLine, parse_options};
+pub use source_slices::fitting::slices_fit;
+pub use source_slices::slices::source_slices;

@@ -1,0 +1,10 @@
+pub use Rattle.buffer_glyphs.specs as buffer_glyphs
+pub use Rattle.script_arabic.specs as script_arabic
+pub use Rattle.script_categories.specs as script_categories
+pub use Rattle.script_dispatch.specs as script_dispatch
+pub use Rattle.script_hangul.specs as script_hangul
+pub use Rattle.script_indic.specs as script_indic
+pub use Rattle.script_joining.specs as script_joining
+pub use Rattle.script_khmer.specs as script_khmer
+pub use Rattle.script_plan.specs as script_plan
+pub use Rattle.script_syllabic.specs as script_syllabic
