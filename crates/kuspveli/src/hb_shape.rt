@@ -1,5 +1,5 @@
-//! The calls of the program hb_shape but its run: readers of its files, the command line, the slices of a result, and
-//! faults. `shell_run` has the run too.
+//! The calls of the program hb_shape but its run, which is in `shell_run`: readers of its files, the command line, the
+//! slices of a result, and faults.
 
 pub use buffer_glyphs::cause::ShapeCause;
 pub use script_categories::SyllableTable;
@@ -9,5 +9,9 @@ pub use shell_readers::fault::RunFault;
 pub use shell_readers::options::Options;
 pub use shell_tables_json::{read_languages, read_syllables, read_tables};
 pub use shell_words::{CommandLine, parse_options};
-pub use source_slices::fitting::slices_fit;
 pub use source_slices::slices::source_slices;
+
+/// Whether a result has slices.
+pub mod fitting {
+    pub use source_slices::fitting::slices_fit;
+}

@@ -4,7 +4,6 @@ pub use Rattle.shell_json.specs as shell_json
 pub use Rattle.shell_readers.specs as shell_readers
 pub use Rattle.shell_tables_json.specs as shell_tables_json
 pub use Rattle.shell_words.specs as shell_words
-pub use Rattle.source_slices.specs as source_slices
 pub mod Asked
 pub mod Output
 pub mod Slices

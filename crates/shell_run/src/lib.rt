@@ -21,5 +21,3 @@ pub use shell_readers::fault::RunFault;
 pub use shell_readers::options::Options;
 pub use shell_tables_json::{read_languages, read_syllables, read_tables};
 pub use shell_words::{CommandLine, parse_options};
-pub use source_slices::fitting::slices_fit;
-pub use source_slices::slices::source_slices;
