@@ -9,7 +9,7 @@ use Rattle.buffer_glyphs.specs.declared.cause.ShapeCause.{ShapeCause}
 use Rattle.buffer_core.specs.Readings.{BufferState, Read, Reading, Stage, View, always}
 use Rattle.buffer_core.specs.Sides.{Sides, state_of, view_of}
 use Rattle.buffer_stages.specs.Settings.{text_settings}
-use Rattle.buffer_stage_laws.specs.Counting.{CountsBudget, IsFair, ReadingCounts, at_budget, is_left, rebudgeted}
+use Rattle.buffer_stage_laws.specs.Counting.{CountsBudget, IsFair, ReadingCounts, at_budget, is_left, with_budget_changed}
 use Rattle.script_dispatch.specs.Lemmas.Limits.{rules_depend_on_no_limit}
 use Rattle.script_dispatch.specs.Requests.{any_kind}
 use Rattle.script_plan.specs.Plans.{planned_shaper, text_plan}
@@ -99,7 +99,7 @@ unfelt d = record {
 
 never_raised : (stage : Stage) (v : View) (r : Read) (d : ℕ) → CountsBudget stage → stage v ≡ Ok r → allows r.view.max_ops d ≡ true → allows v.max_ops d ≡ true
 never_raised stage v r d counts e l =
-    (subst (λ (x : Reading). ReadingCounts (λ z. allows z d) (λ z. z) v.max_ops x (stage (rebudgeted (λ z. z) v))) e (counts (λ z. allows z d) (λ z. z) (unfelt d) v) l).0
+    (subst (λ (x : Reading). ReadingCounts (λ z. allows z d) (λ z. z) v.max_ops x (stage (with_budget_changed (λ z. z) v))) e (counts (λ z. allows z d) (λ z. z) (unfelt d) v) l).0
 
 own_count : (k : ℕ) → nat_le k k ≡ true
 own_count k = grind (arith, nat_tests, common_steps)
