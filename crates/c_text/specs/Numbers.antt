@@ -1,0 +1,47 @@
+-- C's numbers of settings and of faults.
+use Rattle.std.specs.Prelude.{ℕ, ◌==◌, if◌then◌else◌, Option, Some, None}
+use Rattle.buffer_common.specs.declared.direction.Direction.{Direction}
+use Rattle.buffer_common.specs.declared.direction.Direction.TheVariants.{Invalid, LeftToRight, RightToLeft, TopToBottom, BottomToTop}
+use Rattle.buffer_common.specs.declared.script.Script.{Script}
+use Rattle.buffer_glyphs.specs.declared.level.BufferClusterLevel.{BufferClusterLevel}
+use Rattle.buffer_glyphs.specs.declared.level.BufferClusterLevel.TheVariants.{MonotoneGraphemes, MonotoneCharacters, Characters}
+use Rattle.buffer_glyphs.specs.declared.cause.ShapeCause.TheVariants as cause
+use Rattle.shell_json.specs.declared.fault.JsonFault.TheVariants as json
+use Rattle.shell_readers.specs.declared.fault.RunFault.{RunFault}
+use Rattle.shell_readers.specs.declared.fault.RunFault.TheVariants as run
+
+-- the direction of a number (`hb_direction_t`): 4 to 7; another number sets none
+abbrev pub direction_numbered : ℕ → Direction
+direction_numbered n =
+    if n == 4 then LeftToRight else if n == 5 then RightToLeft else if n == 6 then TopToBottom else if n == 7 then BottomToTop else Invalid
+
+-- the script of a number (`hb_script_t`), which is its ISO 15924 tag; 0 sets none
+abbrev pub script_numbered : ℕ → Option Script
+script_numbered n = if n == 0 then None else Some (record { 0 = record { 0 = n } })
+
+-- the cluster level of a number (`hb_buffer_cluster_level_t`); a number above 2 is the default's
+abbrev pub level_numbered : ℕ → BufferClusterLevel
+level_numbered n = if n == 1 then MonotoneCharacters else if n == 2 then Characters else MonotoneGraphemes
+
+-- the number of a fault: 1 for lack of memory, in whichever step, and one for each other cause; 15 for those of the program's
+-- words and files, which no call has
+abbrev pub fault_number : RunFault → ℕ
+fault_number run.OutOfMemory = 1
+fault_number (run.Json json.OutOfMemory) = 1
+fault_number (run.Shape cause.OutOfMemory) = 1
+fault_number (run.Json json.NotJson) = 2
+fault_number (run.Json json.WrongShape) = 3
+fault_number (run.Json json.FloatNumber) = 4
+fault_number (run.Json json.UnknownName) = 5
+fault_number (run.Json json.OutOfOrder) = 6
+fault_number (run.Json json.OutOfRange) = 7
+fault_number (run.Json json.SplitDepth) = 8
+fault_number run.Unlawful = 9
+fault_number run.NotUtf8 = 10
+fault_number (run.Shape cause.TooLong) = 12
+fault_number (run.Shape cause.StretchRange) = 13
+fault_number (run.Shape cause.UnknownSyllableKind) = 14
+fault_number run.Words = 15
+fault_number run.Read = 15
+fault_number run.ReadLimit = 15
+fault_number run.Write = 15

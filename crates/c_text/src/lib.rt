@@ -1,0 +1,8 @@
+//! The texts that C passes, the glyphs that it reads, and its numbers of settings and faults. rustybuzz has no interface for
+//! C.
+#![tactic(auto)]
+
+pub mod numbers;
+pub mod texts;
+pub mod types;
+pub mod written;

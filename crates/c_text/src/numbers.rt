@@ -1,0 +1,69 @@
+//! C's numbers of settings and of faults.
+ghost use Rattle.std.specs.Prelude.{◌≡◌};
+ghost use Rattle.c_text.specs.Numbers.{direction_numbered, fault_number, level_numbered, script_numbered};
+
+use buffer_common::direction::Direction;
+use buffer_common::script::Script;
+use buffer_common::tag::Tag;
+use buffer_glyphs::cause::ShapeCause;
+use buffer_glyphs::level::BufferClusterLevel;
+use shell_json::fault::JsonFault;
+use shell_readers::fault::RunFault;
+
+/// The direction of a number, `Invalid` for one that no direction has.
+pub fn direction_numbered(number: u32) -> Direction
+    ensures { result ≡ direction_numbered number }
+{
+    match number {
+        4 => Direction::LeftToRight,
+        5 => Direction::RightToLeft,
+        6 => Direction::TopToBottom,
+        7 => Direction::BottomToTop,
+        _ => Direction::Invalid,
+    }
+}
+
+/// The script of a number, which is its ISO 15924 tag; none for 0.
+pub fn script_numbered(number: u32) -> Option<Script>
+    ensures { result ≡ script_numbered number }
+{
+    match number {
+        0 => None,
+        _ => Some(Script(Tag(number))),
+    }
+}
+
+/// The cluster level of a number, the default for one that no level has.
+pub fn level_numbered(number: u32) -> BufferClusterLevel
+    ensures { result ≡ level_numbered number }
+{
+    match number {
+        1 => BufferClusterLevel::MonotoneCharacters,
+        2 => BufferClusterLevel::Characters,
+        _ => BufferClusterLevel::MonotoneGraphemes,
+    }
+}
+
+/// The number of a fault.
+pub fn fault_number(fault: RunFault) -> u32
+    ensures { result ≡ fault_number fault }
+{
+    match fault {
+        RunFault::OutOfMemory
+        | RunFault::Json(JsonFault::OutOfMemory)
+        | RunFault::Shape(ShapeCause::OutOfMemory) => 1,
+        RunFault::Json(JsonFault::NotJson) => 2,
+        RunFault::Json(JsonFault::WrongShape) => 3,
+        RunFault::Json(JsonFault::FloatNumber) => 4,
+        RunFault::Json(JsonFault::UnknownName) => 5,
+        RunFault::Json(JsonFault::OutOfOrder) => 6,
+        RunFault::Json(JsonFault::OutOfRange) => 7,
+        RunFault::Json(JsonFault::SplitDepth) => 8,
+        RunFault::Unlawful => 9,
+        RunFault::NotUtf8 => 10,
+        RunFault::Shape(ShapeCause::TooLong) => 12,
+        RunFault::Shape(ShapeCause::StretchRange) => 13,
+        RunFault::Shape(ShapeCause::UnknownSyllableKind) => 14,
+        RunFault::Words | RunFault::Read | RunFault::ReadLimit | RunFault::Write => 15,
+    }
+}
