@@ -3,6 +3,8 @@
 #![tactic(auto)]
 
 pub mod numbers;
+#[cfg(test)]
+mod tests;
 pub mod texts;
 pub mod types;
 pub mod written;

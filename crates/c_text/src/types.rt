@@ -1,5 +1,5 @@
-//! The structs that C passes and reads, which `include/kuspveli.h` declares. They lie as HarfBuzz's `hb_feature_t`,
-//! `hb_glyph_info_t` and `hb_glyph_position_t` do.
+//! The structs that C passes and reads. They lie as HarfBuzz's `hb_feature_t`, `hb_glyph_info_t` and
+//! `hb_glyph_position_t` do.
 
 /// A request for a feature, for the glyphs whose cluster is at least `start` and below `end` (`hb_feature_t`).
 #[repr(C)]

@@ -1,0 +1,61 @@
+//! With ample memory a text of C becomes its buffer, and its features become requests.
+use crate::texts::{features_of, text_buffer};
+use crate::types::{kus_feature_t, kus_text_t};
+use buffer_common::direction::Direction;
+use buffer_common::tag::Tag;
+use buffer_wrappers::unicode_buffer::UnicodeBuffer;
+use shell_readers::fault::RunFault;
+use std::alloc::Global;
+use std::test::Fail;
+
+const KERN: kus_feature_t = kus_feature_t {
+    tag: 0x6B65726E,
+    value: 2,
+    start: 0,
+    end: 3,
+};
+
+fn text_of<'a>(text: &'a [u8], features: &'a [kus_feature_t]) -> kus_text_t<'a> {
+    kus_text_t {
+        text,
+        before: b"xyz",
+        after: b"",
+        language: b"de-CH",
+        features,
+        direction: 5,
+        script: 0x48656272,
+        flags: 0,
+        cluster_level: 1,
+    }
+}
+
+fn fault_of(alloc: Global, text: &[u8]) -> Option<RunFault> {
+    match text_buffer(alloc, &text_of(text, &[]), UnicodeBuffer::new(alloc)) {
+        Ok(_) => None,
+        Err(fault) => Some(fault),
+    }
+}
+
+#[test]
+fn texts_become_buffers(rt: HostRuntime) -> Result<(), Fail> {
+    let text = text_of(b"a\xC3\xA4b", &[]);
+    let buffer = text_buffer(rt.alloc(), &text, UnicodeBuffer::new(rt.alloc()))?;
+    assert_eq!(rt; buffer.len(), 3);
+    assert!(rt; buffer.direction() == Direction::RightToLeft);
+    assert!(rt; buffer.language().is_some());
+    Ok(())
+}
+
+#[test]
+fn bytes_that_are_no_text_are_refused(rt: HostRuntime) -> Result<(), Fail> {
+    assert!(rt; fault_of(rt.alloc(), b"a\xC3") == Some(RunFault::NotUtf8));
+    Ok(())
+}
+
+#[test]
+fn features_become_requests(rt: HostRuntime) -> Result<(), Fail> {
+    let features = features_of(rt.alloc(), &text_of(b"", &[KERN]))?;
+    assert_eq!(rt; features.len(), 1);
+    assert!(rt; features[0].tag == Tag::from_bytes(b"kern"));
+    Ok(())
+}
