@@ -20,6 +20,11 @@ is_less Less h = refl
 is_less Equal h = absurd (false≢true h)
 is_less Greater h = absurd (false≢true h)
 
+is_equal : (o : Ordering) → is_eq o ≡ true → o ≡ Equal
+is_equal Less h = absurd (false≢true h)
+is_equal Equal h = refl
+is_equal Greater h = absurd (false≢true h)
+
 not_equal : (o : Ordering) → o ≢ Equal → is_eq o ≡ false
 not_equal Less h = refl
 not_equal Equal h = absurd (h refl)
@@ -79,6 +84,10 @@ module _ {R K : Type 0} (order : K → K → Ordering) (total : IsTotalOrder ord
             | inl lt ↦ less_apart (parts.0 j d (omega arith) lt) e
             | inr ge ↦ greater_apart (parts.1 j d ge h) e
           ]
+
+  -- a record of a list whose key is alike is the record of the key
+  pub guessed : (rows : List R) (k : K) (i : ℕ) (d : R) → is_rising order key None rows ≡ true → i < length rows → is_eq (order (key (get_or rows i d)) k) ≡ true → Some (get_or rows i d) ≡ row_with order key k rows
+  guessed rows k i d rising h e = row_found None rows k i d rising h (is_equal _ e)
 
 equal_numbers : (a b : ℕ) → is_eq (nat_cmp a b) ≡ (a == b)
 equal_numbers a b = grind (arith, nat_tests)

@@ -49,3 +49,15 @@ pub fn find_row<R: Keyed>(rows: &[R], key: R::Key) -> Option<&R>
         Err(_) => None,
     }
 }
+
+/// The record of a key: at once where it stands at the guessed index, else in logarithmic time.
+#[tactic(auto, using(crate::proofs::Searched::guessed))]
+pub fn find_row_near<R: Keyed>(rows: &[R], key: R::Key, guess: usize) -> Option<&R>
+    requires { is_rising R.Key.cmp R.key_of None rows.now ≡ true }
+    ensures { option_copied result ≡ row_with R.Key.cmp R.key_of key rows.now }
+{
+    match rows.get(guess) {
+        Some(row) if row.key().cmp(&key).is_eq() => Some(row),
+        _ => find_row(rows, key),
+    }
+}

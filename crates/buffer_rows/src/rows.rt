@@ -3,7 +3,7 @@ ghost use Rattle.std.specs.Prelude.{◌≡◌, None, true};
 ghost use Rattle.std.specs.Option.{option_copied};
 ghost use Rattle.buffer_rows.specs.Keys.{is_rising, row_with};
 
-use crate::keyed::{Keyed, find_row};
+use crate::keyed::{Keyed, find_row, find_row_near};
 use std::marker::Model;
 
 /// Records whose keys rise strictly, each found by its key.
@@ -37,6 +37,13 @@ impl<R: Keyed> SortedRows<R> {
         ensures { option_copied result ≡ row_with R.Key.cmp R.key_of key self.now }
     {
         find_row(&self.rows, key)
+    }
+
+    /// The record of a key: at once where it stands at the guessed index, else in logarithmic time.
+    pub fn get_near(&self, key: R::Key, guess: usize) -> Option<&R>
+        ensures { option_copied result ≡ row_with R.Key.cmp R.key_of key self.now }
+    {
+        find_row_near(&self.rows, key, guess)
     }
 
     /// The records, in the order of their keys.

@@ -21,12 +21,17 @@ impl<V> Keyed for GlyphRow<V> {
     }
 }
 
-/// A table's value for a glyph, none where it has no row of the glyph, in logarithmic time.
+/// A table's value for a glyph, none where it has no row of the glyph: at once where no glyph between the first row's
+/// and this one lacks a row, as in tables of advances, else in logarithmic time.
 #[tactic(auto, using(buffer_rows::proofs::Searched::row_of_number))]
 pub fn find_value<V: Copy>(rows: &SortedRows<GlyphRow<V>>, glyph: u16) -> Option<V>
     ensures { result ≡ value_of glyph rows.now }
 {
-    match rows.get(glyph) {
+    let first = match rows.as_slice() {
+        [first, ..] => first.glyph,
+        [] => return None,
+    };
+    match rows.get_near(glyph, usize::from(glyph.saturating_sub(first))) {
         Some(row) => Some(row.value),
         None => None,
     }
