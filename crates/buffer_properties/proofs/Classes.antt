@@ -20,7 +20,7 @@ use Rattle.buffer_properties.specs.Expanding.{piece_of}
 use Rattle.buffer_properties.specs.Normalizer.{Normalizer}
 use Rattle.buffer_properties.specs.Premises.{HasShortRuns}
 
-mark_numbers : (g : GeneralCategory) → is_mark_number (category_number g) ≡ is_mark_category g
+pub mark_numbers : (g : GeneralCategory) → is_mark_number (category_number g) ≡ is_mark_category g
 mark_numbers Control = refl
 mark_numbers Format = refl
 mark_numbers Unassigned = refl

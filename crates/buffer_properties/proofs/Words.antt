@@ -10,15 +10,15 @@ use Rattle.buffer_properties.specs.Laws.{ContinuationLeaves, LowBitsAreTheCatego
 use Rattle.buffer_properties.proofs.PropertyWords.{category_fits}
 
 -- a bit that is there or not
-bit_times : (b : Bool) (m : ℕ) → bit_if b m ≡ m * bit_if b 1
+pub bit_times : (b : Bool) (m : ℕ) → bit_if b m ≡ m * bit_if b 1
 bit_times true m = omega arith
 bit_times false m = omega arith
 
-at_most_one : (b : Bool) → bit_if b 1 ≤ 1
+pub at_most_one : (b : Bool) → bit_if b 1 ≤ 1
 at_most_one true = omega arith
 at_most_one false = omega arith
 
-word_of : (u : ℕ) → properties_of u ≡ category_number (general_category u) + (32 * bit_if (is_default_ignorable_character u) 1 + (64 * bit_if (is_hidden_character u) 1 + (256 * bit_if (u == 0x200D) 1 + 512 * bit_if (u == 0x200C) 1)))
+pub word_of : (u : ℕ) → properties_of u ≡ category_number (general_category u) + (32 * bit_if (is_default_ignorable_character u) 1 + (64 * bit_if (is_hidden_character u) 1 + (256 * bit_if (u == 0x200D) 1 + 512 * bit_if (u == 0x200C) 1)))
 unfolding properties_of
 word_of u =
     ap (λ x. category_number (general_category u) + x) (ap₂ (λ x y. x + y) (bit_times (is_default_ignorable_character u) 0x20)
@@ -32,7 +32,7 @@ low_bits_are_the_category u =
     and_mask (properties_of u) 5 ∙ ap (λ w. w % 32) (word_of u) ∙ low_bits _ _ _ _ _ (category_fits (general_category u))
 
 -- the bit above the seven low ones
-middle_bit : (n a h c j k : ℕ) → n < 32 → a ≤ 1 → h ≤ 1 → c ≤ 1
+pub middle_bit : (n a h c j k : ℕ) → n < 32 → a ≤ 1 → h ≤ 1 → c ≤ 1
     → bit_and ((n + (32 * a + (64 * h + (256 * j + 512 * k)))) + 128 * c) 128 ≡ 128 * c
 middle_bit n a h c j k p q r s =
     let upper = c + (2 * j + 4 * k) in

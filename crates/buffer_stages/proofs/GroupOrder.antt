@@ -9,6 +9,7 @@ use Rattle.buffer_lists.specs.Lemmas.GroupsTurned.{groups_cut}
 use Rattle.std.proofs.lemmas.List.Concat.{flat_map-append}
 use Rattle.buffer_lists.specs.Turning.{groups, groups_reversed_list, in_front}
 use Rattle.buffer_lists.specs.Lemmas.Picked.{AreAt}
+use Rattle.buffer_stages.specs.Lemmas.Moves.{are_both}
 use Rattle.buffer_stages.specs.Turned.{leading_turned}
 
 -- what follows the first item of a group begins no group
@@ -76,12 +77,6 @@ turned_seen f begins (x ∷ xs) group done = by_test (begins (f x)) (turned_seen
         ≡ (if t then leading_turned begins (map f xs) (f x ∷ []) (map f group ++ map f done) else leading_turned begins (map f xs) (map f group ++ f x ∷ []) (map f done))
     by_test true e f = e
     by_test false e f = f
-
-pub are_both : {X : Type 0} (all : List X) (is : List ℕ) (zs : List X) (js : List ℕ) (ws : List X) → AreAt all is zs → AreAt all js ws → AreAt all (is ++ js) (zs ++ ws)
-are_both all [] [] js ws h k = k
-are_both all [] (z ∷ zs) js ws h k = absurd h
-are_both all (i ∷ is) [] js ws h k = absurd h
-are_both all (i ∷ is) (z ∷ zs) js ws h k = (h.0, are_both all is zs js ws h.1 k)
 
 pub turned_at : {X : Type 0} (all : List X) (begins : X → Bool) (begins_at : ℕ → Bool) → ((i : ℕ) (x : X) → slice_get all i ≡ Some x → begins_at i ≡ begins x)
     → (is gi di : List ℕ) (xs gx dx : List X) → AreAt all is xs → AreAt all gi gx → AreAt all di dx → AreAt all (leading_turned begins_at is gi di) (leading_turned begins xs gx dx)

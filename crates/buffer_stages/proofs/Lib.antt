@@ -1,4 +1,6 @@
 pub mod Lemmas
+pub mod Mapped
+pub mod GlyphNumbers
 pub mod Loops
 mod Placing
 pub mod Halves

@@ -8,6 +8,7 @@ pub mod Settings
 pub mod Pauses
 pub mod Laws
 pub mod Stages
+pub mod LayoutStages
 pub mod PositionMaps
 pub mod Moves
 pub mod Fronts

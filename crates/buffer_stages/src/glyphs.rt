@@ -1,6 +1,10 @@
-//! The loop over a buffer's glyphs.
+//! Loops over a buffer's glyphs.
+ghost use Rattle.std.specs.Prelude.{◌≡◌, nat_le};
+ghost use Rattle.std.specs.List.{list_all};
 ghost use Rattle.buffer_glyphs.specs.Items.{Item};
 ghost use Rattle.buffer_core.specs.Readings.{always};
+ghost use Rattle.buffer_core.specs.Sides.{items_of};
+ghost use Rattle.buffer_stages.specs.Buffers.{are_glyphs};
 ghost use Rattle.buffer_stages.specs.Ready.{IsReady};
 ghost use Rattle.buffer_stages.specs.Stages.{AreMapped, IsFollowed, Makes, with_items_mapped};
 
@@ -25,4 +29,19 @@ fn map_each<F: Fn(&hb_glyph_info_t) -> hb_glyph_info_t>(glyphs: &mut [hb_glyph_i
     for glyph in glyphs.iter_mut() {
         *glyph = make(glyph);
     }
+}
+
+/// Whether each number is one that a glyph can have: at most 65,535.
+#[tactic(auto, using(crate::proofs::GlyphNumbers::items_fit))]
+pub fn are_glyphs(buffer: &hb_buffer_t) -> bool
+    requires { IsReady buffer.now }
+    ensures { result ≡ are_glyphs (items_of buffer.now) }
+{
+    numbers_fit(buffer.info_slice())
+}
+
+fn numbers_fit(glyphs: &[hb_glyph_info_t]) -> bool
+    ensures { result ≡ list_all (λ g. nat_le g.glyph_id 65535) glyphs.now }
+{
+    glyphs.iter().all(|glyph| glyph.glyph_id <= 65535)
 }

@@ -9,6 +9,7 @@ pub mod fronts;
 pub mod glyphs;
 pub mod groups;
 pub mod laws;
+pub mod layout_stages;
 pub mod mask;
 pub mod moves;
 pub mod parts;

@@ -1,9 +1,9 @@
 //! The pauses between the GSUB stages of a map (rustybuzz: hb/ot_map.rs, `pause_func_t`).
-ghost use Rattle.std.specs.Prelude.{ℕ, ◌≡◌, ◌≢◌, true, false, Ok, Err, IfErr, OnOk};
-ghost use Rattle.buffer_core.specs.Readings.{Stage, reading_of};
-ghost use Rattle.buffer_core.specs.Sides.{items_of, state_of};
+ghost use Rattle.std.specs.Prelude.{ℕ, ◌≡◌, true, false, Ok};
+ghost use Rattle.buffer_core.specs.Readings.{Stage};
+ghost use Rattle.buffer_core.specs.Sides.{items_of};
 ghost use Rattle.buffer_stages.specs.Buffers.{are_glyphs};
-ghost use Rattle.buffer_stages.specs.Ready.{IsDone, IsDoneFrom, IsReady, state_with};
+ghost use Rattle.buffer_stages.specs.Ready.{DoesGlyphStage, DoesGlyphStageFrom, IsReady};
 ghost use Rattle.buffer_stages.specs.Pauses.{BringsNoGlyph, pause_stage};
 ghost use Rattle.buffer_stages.specs.Settings.{TextSettings, text_settings};
 
@@ -20,10 +20,8 @@ pub trait Pause {
     fn run(&self, pause: u8, buffer: &mut hb_buffer_t) -> Result<bool, ShapeCause>
         requires ready { IsReady buffer.old }
         requires numbers { are_glyphs (items_of buffer.old) ≡ true }
-        ensures ok { OnOk result (IsDone (stage self.now (text_settings buffer.old) pause) buffer.old buffer.new) }
-        ensures brings_none { result ≡ Ok false → BringsNoGlyph (items_of buffer.old) (items_of buffer.new) }
-        ensures err { IfErr result (λ e. e ≢ ShapeCause.OutOfMemory
-            → reading_of (stage self.now (text_settings buffer.old) pause) (state_of buffer.old) ≡ Err e) };
+        ensures stage { DoesGlyphStage (stage self.now (text_settings buffer.old) pause) result buffer.old buffer.new }
+        ensures brings_none { result ≡ Ok false → BringsNoGlyph (items_of buffer.old) (items_of buffer.new) };
 }
 
 /// Runs the pause of a GSUB stage, if it has one: a pipeline stage of its own, which leaves the random state as it was.
@@ -36,12 +34,8 @@ pub fn run_pause<P: Pause>(
 ) -> Result<(), ShapeCause>
     requires ready { IsReady buffer.old }
     requires numbers { are_glyphs (items_of buffer.old) ≡ true }
-    ensures ok { OnOk result
-        ((r : ℕ) → IsDoneFrom r r (pause_stage (P.stage pause.now (text_settings buffer.old)) number)
-        buffer.old buffer.new) }
-    ensures err { IfErr result (λ e. e ≢ ShapeCause.OutOfMemory
-        → (r : ℕ) → reading_of (pause_stage (P.stage pause.now (text_settings buffer.old)) number)
-        (state_with r buffer.old) ≡ Err e) }
+    ensures { (r : ℕ) → DoesGlyphStageFrom r r (pause_stage (P.stage pause.now (text_settings buffer.old)) number) result
+        buffer.old buffer.new }
 {
     match number {
         Some(number) => match pause.run(number, buffer) {

@@ -124,7 +124,7 @@ class_or_none class p c (z ∷ zs) h =
           ]
     ]
 
-classes_agree : (class : ℕ → ℕ) (xs ys : List ℕ) → has_same_classes class xs ys ≡ true → (c : ℕ) → beside_starters class c xs ≡ beside_starters class c ys
+pub classes_agree : (class : ℕ → ℕ) (xs ys : List ℕ) → has_same_classes class xs ys ≡ true → (c : ℕ) → beside_starters class c xs ≡ beside_starters class c ys
 classes_agree class xs ys h c =
     let parts = and_parts (same_beside_starters class xs ys 0) (list_all (λ x. same_beside_starters class xs ys (class x)) xs && list_all (λ y. same_beside_starters class xs ys (class y)) ys) h in
     let both = and_parts (list_all (λ x. same_beside_starters class xs ys (class x)) xs) (list_all (λ y. same_beside_starters class xs ys (class y)) ys) parts.1 in
@@ -141,7 +141,7 @@ classes_agree class xs ys h c =
 agree_test : (class : ℕ → ℕ) (xs ys : List ℕ) (c : ℕ) → beside_starters class c xs ≡ beside_starters class c ys → same_beside_starters class xs ys c ≡ true
 agree_test class xs ys c e = rw e (same_text-same (beside_starters class c ys))
 
-agree_tests : (class : ℕ → ℕ) (xs ys : List ℕ) → ((c : ℕ) → beside_starters class c xs ≡ beside_starters class c ys) → has_same_classes class xs ys ≡ true
+pub agree_tests : (class : ℕ → ℕ) (xs ys : List ℕ) → ((c : ℕ) → beside_starters class c xs ≡ beside_starters class c ys) → has_same_classes class xs ys ≡ true
 agree_tests class xs ys h =
     and_from _ _ (agree_test class xs ys 0 (h 0))
     (and_from _ _

@@ -4,6 +4,7 @@ ghost use Rattle.layout_gpos.specs.Anchors.{anchored_position, with_mark_attache
 ghost use Rattle.layout_offsets.specs.Links.{is_near, link_to};
 
 use buffer_glyphs::position::GlyphPosition;
+use buffer_glyphs::position::attach_type::MARK;
 use layout_offsets::links::{is_near, link_to};
 use layout_tables::value::Anchor;
 
@@ -20,7 +21,7 @@ fn anchor_mark(base: Anchor, mark: Anchor, link: i16, position: GlyphPosition) -
         x_offset: difference(base.x, mark.x),
         y_offset: difference(base.y, mark.y),
         attach_chain: link,
-        attach_type: 1,
+        attach_type: MARK,
         ..position
     }
 }

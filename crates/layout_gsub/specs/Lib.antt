@@ -1,4 +1,5 @@
 pub mod Replacements
+pub mod GlyphClasses
 pub mod Alternates
 pub mod Putting
 pub mod Multiples

@@ -4,6 +4,7 @@
 pub mod alternate;
 pub mod apply;
 pub mod context;
+pub mod glyph_classes;
 pub mod ligate;
 pub mod ligature;
 pub mod multiple;

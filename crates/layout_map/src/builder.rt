@@ -15,6 +15,7 @@ use crate::features::{
 use crate::map::{TableMap, hb_ot_map_t};
 use crate::stages::{TableFeatures, all_stages};
 use buffer_common::tag::Tag;
+use layout_face::Face;
 use layout_face::positioning::PositioningTable;
 use layout_face::substitution::SubstitutionTable;
 use layout_map_features::flags::{F_GLOBAL, hb_ot_map_feature_flags_t};
@@ -48,8 +49,20 @@ impl<'a> Model for hb_ot_map_builder_t<'a> {
 }
 
 impl<'a> hb_ot_map_builder_t<'a> {
-    /// A builder for the layout tables that a font has, and for the wanted scripts and languages, the best first.
+    /// A builder for a font's layout tables, and for the wanted scripts and languages, the best first.
     pub fn new(
+        alloc: Global,
+        face: &'a Face,
+        scripts: &[Tag],
+        languages: &[Tag],
+    ) -> hb_ot_map_builder_t<'a>
+        ensures { result ≡ no_requests scripts.now languages.now face.now.gsub face.now.gpos }
+    {
+        hb_ot_map_builder_t::of_tables(alloc, face.gsub(), face.gpos(), scripts, languages)
+    }
+
+    /// A builder for the layout tables that there are, and for the wanted scripts and languages, the best first.
+    pub fn of_tables(
         alloc: Global,
         gsub: Option<&'a SubstitutionTable>,
         gpos: Option<&'a PositioningTable>,

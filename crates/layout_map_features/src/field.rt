@@ -7,6 +7,9 @@ use crate::request::MergedRequest;
 /// The greatest number of bits that a feature gets (HarfBuzz: `MAX_BITS`).
 pub const MAX_BITS: u32 = 8;
 
+/// The greatest value of a feature, which requests a random alternate (HarfBuzz: `HB_OT_MAP_MAX_VALUE`).
+pub const MAX_VALUE: u32 = 255;
+
 /// The index of the bit that every glyph has, for features that are on for all glyphs.
 pub const GLOBAL_SHIFT: u32 = 31;
 

@@ -2,6 +2,7 @@
 use Rattle.std.specs.Prelude.{ℕ, ◌==◌, ◌/◌, ◌&&◌, ◌||◌, Bool, not, true, if◌then◌else◌, List, Option, Some, None, bit_and}
 use Rattle.buffer_glyphs.specs.Items.{Item}
 use Rattle.buffer_glyphs.specs.LigatureWords.{has_bits}
+use Rattle.buffer_glyphs.specs.PropertyWords.{is_default_ignorable}
 use Rattle.layout_face.specs.Glyphs.{mark_set_has}
 use Rattle.layout_match.specs.Sequences.{is_number, test_at, tests_of}
 use Rattle.layout_match.specs.declared.sequence.MatchSequence.{MatchSequence}
@@ -39,14 +40,10 @@ is_other_mark props sets x =
 abbrev pub is_left_out : ℕ → List (List ℕ) → Item → Bool
 is_left_out props sets x = has_bits (bit_and props 14) x.glyph_props || (has_bits 8 x.glyph_props && is_other_mark props sets x)
 
--- whether an item is a default ignorable that no substitution made
-abbrev pub is_ignorable : Item → Bool
-is_ignorable x = has_bits 0x20 x.unicode_props && not (has_bits 16 x.glyph_props)
-
 -- whether an item may be skipped where it doesn't match
 abbrev pub is_skippable : Search → Item → Bool
 is_skippable s x =
-    is_ignorable x && (s.hidden || not (has_bits 0x40 x.unicode_props)) && (s.zwnj || not (has_bits 0x200 x.unicode_props))
+    is_default_ignorable x && (s.hidden || not (has_bits 0x40 x.unicode_props)) && (s.zwnj || not (has_bits 0x200 x.unicode_props))
     && (s.zwj || not (has_bits 0x100 x.unicode_props))
 
 -- whether an item has one of the feature bits, where there is such a condition

@@ -1,11 +1,12 @@
 //! The search for the glyphs of a rule (rustybuzz: hb/ot_layout_gsubgpos.rs, `matcher_t`).
 ghost use Rattle.std.specs.Prelude.{◌≡◌};
 ghost use Rattle.buffer_glyphs.specs.Items.{item_of};
-ghost use Rattle.layout_match.specs.Searches.{answer, has_mask, is_ignorable, is_in_syllable, is_left_out, is_other_mark, is_skippable, search_of, test_of};
+ghost use Rattle.layout_match.specs.Searches.{answer, has_mask, is_in_syllable, is_left_out, is_other_mark, is_skippable, search_of, test_of};
 
 use crate::sequence::MatchSequence;
 use buffer_glyphs::flags::{GlyphPropsFlags, UnicodeProps};
 use buffer_glyphs::info::{DEFINED, hb_glyph_info_t};
+use buffer_glyphs::property_words::_hb_glyph_info_is_default_ignorable;
 use layout_common::flags::{IGNORE_FLAGS, MARK_ATTACHMENT_TYPE_MASK, USE_MARK_FILTERING_SET};
 use layout_face::Face;
 
@@ -57,19 +58,12 @@ pub fn is_left_out(face: &Face, lookup_props: u32, info: &hb_glyph_info_t) -> bo
             && is_other_mark(face, lookup_props, info))
 }
 
-fn is_ignorable(info: &hb_glyph_info_t) -> bool
-    ensures { result ≡ is_ignorable (item_of info.now) }
-{
-    info.unicode_props.0 & UnicodeProps::IGNORABLE.0 != 0
-        && info.glyph_props.0 & GlyphPropsFlags::SUBSTITUTED.0 == 0
-}
-
 impl<'a> GlyphSearch<'a> {
     fn is_skippable(&self, info: &hb_glyph_info_t) -> bool
         ensures { result ≡ is_skippable (search_of self.now) (item_of info.now) }
     {
         let props = info.unicode_props.0;
-        is_ignorable(info)
+        _hb_glyph_info_is_default_ignorable(info)
             && (self.ignore_hidden || props & UnicodeProps::HIDDEN.0 == 0)
             && (self.ignore_zwnj || props & UnicodeProps::CF_ZWNJ.0 == 0)
             && (self.ignore_zwj || props & UnicodeProps::CF_ZWJ.0 == 0)

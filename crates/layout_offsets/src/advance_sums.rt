@@ -5,6 +5,7 @@ ghost use Rattle.layout_offsets.specs.AdvanceSums.{AllFit, Fits, pen_down, pen_a
 
 pub use crate::sums::{minus, plus};
 use buffer_glyphs::position::GlyphPosition;
+use buffer_glyphs::position::attach_type::{CURSIVE, MARK};
 
 /// The pen's distance from the beginning of the line, in font units modulo 2^32.
 #[derive(Clone, Copy)]
@@ -55,7 +56,7 @@ fn with_pen(pen: Pen, position: GlyphPosition) -> GlyphPosition
 fn has_kind(position: GlyphPosition) -> bool
     ensures { result ≡ has_kind position }
 {
-    position.attach_type == 1 || position.attach_type == 2
+    position.attach_type == MARK || position.attach_type == CURSIVE
 }
 
 /// A position, without a link that is neither a mark's nor a cursive child's.

@@ -8,6 +8,7 @@ use crate::links::{is_near, link_to, linked};
 use crate::sums::{minus, plus};
 use buffer_common::direction::Direction;
 use buffer_glyphs::position::GlyphPosition;
+use buffer_glyphs::position::attach_type::CURSIVE;
 use layout_tables::value::Anchor;
 
 /// The glyph that a glyph is attached to.
@@ -23,7 +24,7 @@ fn old_parent(positions: &[GlyphPosition], stop: usize, at: usize) -> Option<usi
     requires here { at < length positions.now }
     ensures { result ≡ old_parent stop at positions.now }
 {
-    if positions[at].attach_type != 2 {
+    if positions[at].attach_type != CURSIVE {
         return None;
     }
     let there = parent(positions, at)?;
@@ -97,7 +98,7 @@ pub fn turn(positions: &mut [GlyphPosition], stop: usize, start: usize, directio
     ensures { positions.new ≡ chain_turned direction stop start positions.old }
 {
     let first = positions[start];
-    if first.attach_type == 2 {
+    if first.attach_type == CURSIVE {
         turn_from(positions, stop, start, without_link(first), direction);
     }
 }
@@ -112,7 +113,7 @@ fn child_position(across: bool, x: i32, y: i32, link: i16, position: GlyphPositi
         there.x_offset = x;
     }
     there.attach_chain = link;
-    there.attach_type = 2;
+    there.attach_type = CURSIVE;
     there
 }
 

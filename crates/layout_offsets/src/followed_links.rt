@@ -13,6 +13,7 @@ use crate::links::linked;
 use crate::sums::{minus, plus};
 use buffer_common::direction::Direction;
 use buffer_glyphs::position::GlyphPosition;
+use buffer_glyphs::position::attach_type::CURSIVE;
 
 fn offset_by(base: GlyphPosition, position: GlyphPosition) -> GlyphPosition
     ensures { result ≡ offset_by base position }
@@ -100,7 +101,7 @@ fn draw_child(positions: &mut [GlyphPosition], child: usize, parent: usize, dire
     ensures { positions.new ≡ with_child_drawn (drawn_by_sums direction) child parent positions.old }
 {
     let position = positions[child];
-    positions[child] = if position.attach_type == 2 {
+    positions[child] = if position.attach_type == CURSIVE {
         child_drawn(direction.is_horizontal(), positions[parent], position)
     } else {
         mark_drawn(positions, child, parent, direction.is_forward())

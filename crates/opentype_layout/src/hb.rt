@@ -22,9 +22,15 @@ pub mod ot_layout {
         _hb_glyph_info_set_general_category, _hb_glyph_info_set_modified_combining_class,
         _hb_glyph_info_set_unicode_space_fallback_type, _hb_glyph_info_set_variation_selector,
     };
+    pub use buffer_stages::layout_stages::{
+        _hb_clear_substitution_flags, _hb_ot_layout_reverse_graphemes,
+    };
     pub use layout_contexts::MAX_NESTING_LEVEL;
     pub use layout_face::face::hb_ot_layout_has_glyph_classes;
     pub use layout_face::layout::{LayoutLookup, LayoutTable};
+    pub use layout_gsub::glyph_classes::{
+        _hb_ot_layout_set_glyph_props, hb_ot_layout_substitute_start,
+    };
     pub use layout_map_features::per_table::TableIndex;
     pub use layout_match::MAX_CONTEXT_LENGTH;
     pub use layout_positioning::kerning::{
@@ -93,7 +99,7 @@ pub mod ot_map {
     pub use layout_map::chosen_feature::feature_map_t;
     pub use layout_map::map::hb_ot_map_t;
     pub use layout_map::stages::StageMap;
-    pub use layout_map_features::field::MAX_BITS;
+    pub use layout_map_features::field::{MAX_BITS, MAX_VALUE};
     pub use layout_map_features::flags::{
         F_GLOBAL, F_GLOBAL_HAS_FALLBACK, F_GLOBAL_MANUAL_JOINERS, F_GLOBAL_SEARCH, F_HAS_FALLBACK,
         F_MANUAL_JOINERS, F_MANUAL_ZWJ, F_MANUAL_ZWNJ, F_NONE, F_PER_SYLLABLE, F_RANDOM,

@@ -6,7 +6,7 @@ use Rattle.ucd_category.specs.declared.GeneralCategory.TheVariants.{Unassigned, 
 use Rattle.buffer_unicode.specs.Category.{category_number}
 use Rattle.buffer_properties.specs.Characters.{category_of}
 use Rattle.buffer_glyphs.specs.Items.{Item}
-use Rattle.buffer_core.specs.Graphemes.{is_default_ignorable}
+use Rattle.buffer_glyphs.specs.PropertyWords.{is_default_ignorable}
 
 -- the general categories of words: letters without case, marks, numbers, symbols, and unassigned and private-use
 -- characters

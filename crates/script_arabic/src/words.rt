@@ -1,12 +1,11 @@
 //! Tiles, and the Arabic words that they are laid over.
 ghost use Rattle.std.specs.Prelude.{◌≡◌};
 ghost use Rattle.buffer_glyphs.specs.Items.{item_of};
-ghost use Rattle.buffer_core.specs.Graphemes.{is_default_ignorable};
 ghost use Rattle.script_arabic.specs.Tiles.{is_fixed, is_repeating, is_tile};
 ghost use Rattle.script_arabic.specs.Words.{has_word_category, is_of_word, is_word_category};
 
-use buffer_glyphs::flags::{GlyphPropsFlags, UnicodeProps};
 use buffer_glyphs::info::hb_glyph_info_t;
+use buffer_glyphs::property_words::_hb_glyph_info_is_default_ignorable;
 use buffer_unicode::category::GeneralCategoryExt;
 use script_categories::arabic_action_t::{STRETCHING_FIXED, STRETCHING_REPEATING};
 use unicode::properties::GeneralCategory;
@@ -54,14 +53,7 @@ pub fn is_tile(glyph: &hb_glyph_info_t) -> bool
 pub fn is_of_word(glyph: &hb_glyph_info_t) -> bool
     ensures { result ≡ is_of_word (item_of glyph.now) }
 {
-    is_default_ignorable(glyph) || has_word_category(glyph)
-}
-
-fn is_default_ignorable(glyph: &hb_glyph_info_t) -> bool
-    ensures { result ≡ is_default_ignorable (item_of glyph.now) }
-{
-    glyph.unicode_props.0 & UnicodeProps::IGNORABLE.0 != 0
-        && glyph.glyph_props.0 & GlyphPropsFlags::SUBSTITUTED.0 == 0
+    _hb_glyph_info_is_default_ignorable(glyph) || has_word_category(glyph)
 }
 
 fn has_word_category(glyph: &hb_glyph_info_t) -> bool

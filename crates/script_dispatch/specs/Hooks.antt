@@ -40,7 +40,8 @@ use Rattle.script_syllabic.specs.Bytes.{syllables_set}
 use Rattle.script_syllabic.specs.Categories.{categories_set, ot_category_of}
 use Rattle.script_syllabic.specs.Characters.{unmarked_pair}
 use Rattle.script_syllabic.specs.Features.{pref_recorded, rphf_recorded}
-use Rattle.script_syllabic.specs.Syllables.{substitutions_cleared, syllables_by, syllables_cleared}
+use Rattle.buffer_stages.specs.LayoutStages.{substitutions_cleared}
+use Rattle.script_syllabic.specs.Syllables.{syllables_by, syllables_cleared}
 
 -- ---- the text
 

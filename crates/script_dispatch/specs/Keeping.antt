@@ -24,7 +24,8 @@ use Rattle.script_indic.specs.Categories.{properties_set}
 use Rattle.script_indic.specs.Reordering.{indic_final, indic_initial}
 use Rattle.script_khmer.specs.Pauses.{khmer_order}
 use Rattle.script_myanmar.specs.Pauses.{myanmar_order}
-use Rattle.script_syllabic.specs.Syllables.{substitutions_cleared, syllables_by, syllables_cleared}
+use Rattle.buffer_stages.specs.LayoutStages.{substitutions_cleared}
+use Rattle.script_syllabic.specs.Syllables.{syllables_by, syllables_cleared}
 use Rattle.script_universal.specs.Pauses.{universal_order, universal_syllables_set}
 use Rattle.script_joining.specs.Joining.{letters_joined}
 use Rattle.script_universal.specs.Masks.{universal_masks_set}

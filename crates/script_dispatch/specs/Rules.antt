@@ -12,7 +12,7 @@ abbrev pub script_rules : hb_ot_script_shaper_t → hb_script_plan_t ⊤ → Sha
 script_rules shaper plan = record {
   preprocesses = λ font t settings. preprocessing_by shaper plan.map plan.script font t settings;
   splits = λ t. splits_by shaper t;
-  composes = λ t. composes_by shaper plan.choices.has_gpos_mark t;
+  composes = λ t. composes_by shaper plan.has_gpos_mark t;
   reorders = reorders_by shaper;
   sets_masks = λ font t settings. masks_set_by shaper plan.map plan.script t settings;
   pauses = λ font t spans settings. pauses_by shaper plan.map plan.script font spans settings;

@@ -178,7 +178,7 @@ pub trait ScriptHooks: Sized {
         a: char,
         b: char,
     ) -> Option<char>
-        ensures { result ≡ composing self plan.now.choices.has_gpos_mark tables.now a b };
+        ensures { result ≡ composing self plan.now.has_gpos_mark tables.now a b };
 
     /// Reorders the run of marks `start..end`, which is sorted by combining class, in the shaper's own order.
     fn reorder_marks<D>(
@@ -424,7 +424,7 @@ impl ScriptHooks for hb_ot_script_shaper_t {
         a: char,
         b: char,
     ) -> Option<char> {
-        scripts::compose(self, plan.choices.has_gpos_mark, tables, a, b)
+        scripts::compose(self, plan.has_gpos_mark, tables, a, b)
     }
 
     fn reorder_marks<D>(

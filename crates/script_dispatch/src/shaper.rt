@@ -66,7 +66,7 @@ impl hb_ot_shaper_t for hb_ot_any_shaper_t {
     ) -> Option<char> {
         match *self {
             hb_ot_any_shaper_t::Script(shaper) => {
-                scripts::compose(shaper, plan.choices.has_gpos_mark, tables, a, b)
+                scripts::compose(shaper, plan.has_gpos_mark, tables, a, b)
             }
             _ => buffer_unicode_tables::compose(tables, a, b),
         }

@@ -1,12 +1,13 @@
 -- A plan of shapers of a kind, made.
 use Rattle.std.proofs.Common.{◌≡◌, List, ap, subst, ◌∙◌}
-use Rattle.std.specs.Prelude.{Bool, Option}
+use Rattle.std.specs.Prelude.{Bool, Option, codes}
 use Rattle.buffer_common.specs.declared.tag.Tag.{Tag}
 use Rattle.buffer_common.specs.declared.script.Script.{Script}
 use Rattle.buffer_common.specs.declared.direction.Direction.{Direction}
 use Rattle.buffer_tags.specs.declared.feature.Feature.{Feature}
 use Rattle.layout_face.specs.declared.parts.FaceParts.{FaceParts}
 use Rattle.layout_map.specs.Compiled.{MapRequests, OtMapValue, compiled_map}
+use Rattle.layout_map.specs.Masks.{has_mask}
 use Rattle.script_plan.specs.declared.plan.PlanChoices.{PlanChoices}
 use Rattle.script_plan.specs.declared.plan.hb_ot_shape_plan_t.{hb_ot_shape_plan_t}
 use Rattle.script_plan.specs.declared.plan.hb_script_plan_t.{hb_script_plan_t}
@@ -32,27 +33,28 @@ module _ {S D : Type 0} (kind : ShaperKind S D) (font : FaceParts) (languages : 
 
   -- what the shaper reads of it, part by part
   parts_are : (shaper : S) (m : OtMapValue) (plan : hb_script_plan_t D) → shaper ≡ planned_shaper kind font languages d s → m ≡ text_map kind font languages d s asked
-      → plan.direction ≡ d → plan.script ≡ s → plan.map ≡ m → plan.choices ≡ choices (kind.traits shaper) font m → plan.plan_data ≡ kind.data_of shaper m s
+      → plan.direction ≡ d → plan.script ≡ s → plan.map ≡ m → plan.has_gpos_mark ≡ has_mask (codes "mark") m → plan.choices ≡ choices (kind.traits shaper) font m → plan.plan_data ≡ kind.data_of shaper m s
       → plan ≡ text_plan kind font languages d s asked
   unfolding text_plan
-  parts_are shaper m plan by is direction script map chosen kept =
+  parts_are shaper m plan by is direction script map marked chosen kept =
       let shaper_text = planned_shaper kind font languages d s in
       let map_text = text_map kind font languages d s asked in
       ap (λ x. record plan { direction = x }) direction
       ∙ ap (λ x. record plan { direction = d; script = x }) script
       ∙ ap (λ x. record plan { direction = d; script = s; map = x }) (map ∙ is)
-      ∙ ap (λ x. record plan { direction = d; script = s; map = map_text; choices = x }) (chosen ∙ ap (λ sh. choices (kind.traits sh) font m) by ∙ ap (λ n. choices (kind.traits shaper_text) font n) is)
-      ∙ ap (λ x. record { direction = d; script = s; map = map_text; choices = choices (kind.traits shaper_text) font map_text; plan_data = x }) (kept ∙ ap (λ sh. kind.data_of sh m s) by ∙ ap (λ n. kind.data_of shaper_text n s) is)
+      ∙ ap (λ x. record plan { direction = d; script = s; map = map_text; has_gpos_mark = x }) (marked ∙ ap (has_mask (codes "mark")) is)
+      ∙ ap (λ x. record plan { direction = d; script = s; map = map_text; has_gpos_mark = has_mask (codes "mark") map_text; choices = x }) (chosen ∙ ap (λ sh. choices (kind.traits sh) font m) by ∙ ap (λ n. choices (kind.traits shaper_text) font n) is)
+      ∙ ap (λ x. record { direction = d; script = s; map = map_text; has_gpos_mark = has_mask (codes "mark") map_text; choices = choices (kind.traits shaper_text) font map_text; plan_data = x }) (kept ∙ ap (λ sh. kind.data_of sh m s) by ∙ ap (λ n. kind.data_of shaper_text n s) is)
 
   pub plan_made : (plan : hb_ot_shape_plan_t S D) (shaper : S) (m : MapRequests)
       → shaper ≡ kind.shaper_of s d (gsub_script font s languages) → m ≡ with_requests (kind.asking shaper) d s asked (nothing_asked font s languages)
-      → plan.shaper ≡ shaper → plan.script_plan.direction ≡ d → plan.script_plan.script ≡ s → plan.script_plan.map ≡ compiled_map m → plan.script_plan.choices ≡ choices (kind.traits shaper) font (compiled_map m)
+      → plan.shaper ≡ shaper → plan.script_plan.direction ≡ d → plan.script_plan.script ≡ s → plan.script_plan.map ≡ compiled_map m → plan.script_plan.has_gpos_mark ≡ has_mask (codes "mark") (compiled_map m) → plan.script_plan.choices ≡ choices (kind.traits shaper) font (compiled_map m)
       → plan.script_plan.plan_data ≡ kind.data_of shaper (compiled_map m) s → plan.user_features.items ≡ asked → IsPlanned kind font languages d s asked plan
-  plan_made plan shaper m by requests same direction script map chosen kept features =
+  plan_made plan shaper m by requests same direction script map marked chosen kept features =
       let of_script = shaper_is shaper by in
       record {
         shaper = same ∙ of_script;
-        script_plan = parts_are shaper (compiled_map m) plan.script_plan of_script (map_is shaper m of_script requests) direction script map chosen kept;
+        script_plan = parts_are shaper (compiled_map m) plan.script_plan of_script (map_is shaper m of_script requests) direction script map marked chosen kept;
         features = features;
       }
 

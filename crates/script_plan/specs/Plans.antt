@@ -51,7 +51,6 @@ abbrev pub choices : ShaperTraits → FaceParts → OtMapValue → PlanChoices
 choices traits font m = record {
   has_frac = has_fractions m;
   has_vert = has_mask (codes "vert") m;
-  has_gpos_mark = has_mask (codes "mark") m;
   zero_marks = zeroes_marks traits;
   fallback_glyph_classes = not (is_some font.gdef.classes);
   fallback_mark_positioning = not (uses_gpos traits font m) && traits.fallback_position;
@@ -90,6 +89,7 @@ text_plan kind font languages direction script features = record {
   direction = direction;
   script = script;
   map = text_map kind font languages direction script features;
+  has_gpos_mark = has_mask (codes "mark") (text_map kind font languages direction script features);
   choices = choices (kind.traits (planned_shaper kind font languages direction script)) font (text_map kind font languages direction script features);
   plan_data = kind.data_of (planned_shaper kind font languages direction script) (text_map kind font languages direction script features) script;
 }

@@ -7,13 +7,11 @@ use buffer_common::direction::Direction;
 use layout_map::builder::hb_ot_map_builder_t;
 use layout_map::request::{MapRequest, add_requests};
 use layout_map::{add_feature, enable_feature, feature_tag};
+use layout_map_features::field::MAX_VALUE;
 use layout_map_features::flags::{
     F_GLOBAL, F_GLOBAL_SEARCH, F_HAS_FALLBACK, F_MANUAL_JOINERS, F_NONE, F_RANDOM,
 };
 use std::alloc::AllocError;
-
-/// The greatest value of a feature, which requests a random alternate (`HB_OT_MAP_MAX_VALUE`).
-pub const MAX_VALUE: u32 = 255;
 
 const VARIATIONS: [MapRequest; 2] = [enable_feature!(b"rvrn", F_NONE), MapRequest::GsubPause(0)];
 

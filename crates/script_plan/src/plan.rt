@@ -18,8 +18,6 @@ pub struct PlanChoices {
     pub has_frac: bool,
     /// Whether the font has the feature vert.
     pub has_vert: bool,
-    /// Whether the font has the GPOS feature mark.
-    pub has_gpos_mark: bool,
     /// Whether the advances of marks are zeroed.
     pub zero_marks: bool,
     /// Whether glyph classes are synthesized from the characters.
@@ -41,6 +39,8 @@ pub struct hb_script_plan_t<D> {
     pub direction: Direction,
     pub script: Option<Script>,
     pub map: hb_ot_map_t,
+    /// Whether the font has the GPOS feature mark.
+    pub has_gpos_mark: bool,
     pub choices: PlanChoices,
     /// The shaper's own data of the plan (`data_create`).
     pub plan_data: D,

@@ -21,7 +21,7 @@ pub const HB_OT_SHAPE_ZERO_WIDTH_MARKS_BY_GDEF_EARLY: u32 = 1;
 pub const HB_OT_SHAPE_ZERO_WIDTH_MARKS_BY_GDEF_LATE: u32 = 2;
 
 /// What a shaper chooses once for all texts, and its feature requests.
-pub trait PlannedShaper: Drop {
+pub trait PlannedShaper: Copy {
     ghost use Rattle.std.specs.Prelude.{◌≡◌, IfOk, OnOk, Option};
     ghost use Rattle.layout_map.specs.Compiled.{MapRequests, OtMapValue};
     ghost use Rattle.buffer_common.specs.declared.script.Script.{Script};

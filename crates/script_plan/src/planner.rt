@@ -1,5 +1,5 @@
 //! The planner, hb_ot_shape_planner_t (rustybuzz: hb/ot_shape.rs).
-ghost use Rattle.std.specs.Prelude.{◌≡◌, ◌&&◌, IfOk, is_some};
+ghost use Rattle.std.specs.Prelude.{◌≡◌, ◌&&◌, IfOk, codes, is_some};
 ghost use Rattle.std.specs.Option.{option_copied};
 ghost use Rattle.buffer_common.specs.ScriptTags.{wanted_language_tags};
 ghost use Rattle.script_plan.specs.Plans.{IsPlanned, choices_of_planner, disables_gpos, gsub_script, has_fractions, nothing_asked, uses_gpos, zeroes_marks};
@@ -54,13 +54,7 @@ fn new_builder<'a, L: LanguageTags>(
         (wanted_language_tags (L.tags_of languages.now) (option_copied language.entry)) }
 {
     let (scripts, languages) = tags_from_script_and_language(script, language, languages);
-    hb_ot_map_builder_t::new(
-        alloc,
-        face.gsub(),
-        face.gpos(),
-        scripts.as_slice(),
-        languages.as_slice(),
-    )
+    hb_ot_map_builder_t::new(alloc, face, scripts.as_slice(), languages.as_slice())
 }
 
 impl<'a, S: CategorizedShaper> hb_ot_shape_planner_t<'a, S> {
@@ -162,6 +156,8 @@ impl<'a, S: PlannedShaper> hb_ot_shape_planner_t<'a, S> {
         ensures script { IfOk result (λ plan. plan.script_plan.script ≡ self.entry.script) }
         ensures shaper { IfOk result (λ plan. plan.shaper ≡ self.entry.shaper) }
         ensures map { IfOk result (λ plan. plan.script_plan.map ≡ compiled_map self.entry.ot_map) }
+        ensures mark { IfOk result (λ plan. plan.script_plan.has_gpos_mark
+            ≡ has_mask (codes "mark") (compiled_map self.entry.ot_map)) }
         ensures choices { IfOk result (λ plan. plan.script_plan.choices
             ≡ choices_of_planner self.entry.script_zero_marks self.entry.script_fallback_mark_positioning
             (S.traits self.entry.shaper) self.entry.face.now (compiled_map self.entry.ot_map)) }
@@ -174,6 +170,7 @@ impl<'a, S: PlannedShaper> hb_ot_shape_planner_t<'a, S> {
             zero_marks: self.script_zero_marks,
             fallback_position: self.script_fallback_mark_positioning,
         };
+        let has_gpos_mark = has_mask(&map, b"mark");
         let choices = plan_choices(marks, &self.shaper, self.face, &map);
         let plan_data = self.shaper.create_data(alloc, &map, self.script)?;
         let mut user_features = Vec::new(alloc);
@@ -184,6 +181,7 @@ impl<'a, S: PlannedShaper> hb_ot_shape_planner_t<'a, S> {
                 direction: self.direction,
                 script: self.script,
                 map,
+                has_gpos_mark,
                 choices,
                 plan_data,
             },
@@ -274,7 +272,6 @@ fn plan_choices<S: PlannedShaper>(
     PlanChoices {
         has_frac: has_fractions(map),
         has_vert: has_mask(map, b"vert"),
-        has_gpos_mark: has_mask(map, b"mark"),
         zero_marks: marks.zero_marks,
         fallback_glyph_classes: !face.has_glyph_classes(),
         fallback_mark_positioning: !apply_gpos && marks.fallback_position,

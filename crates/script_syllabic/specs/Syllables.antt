@@ -1,6 +1,6 @@
 -- The stages that rewrite each syllable by itself, and those that clear what syllables left (OpenType specification,
 -- script development for Khmer, Myanmar and the Universal Shaping Engine).
-use Rattle.std.specs.Prelude.{◌-◌, List, bit_and}
+use Rattle.std.specs.Prelude.{List}
 use Rattle.buffer_glyphs.specs.Items.{Item}
 use Rattle.buffer_glyphs.specs.Rewriting.{Arrangement}
 use Rattle.buffer_core.specs.Readings.{Stage, and_then, always}
@@ -25,11 +25,3 @@ without_syllable x = record x { syllable = 0 }
 -- the stage that clears all syllable bytes (HarfBuzz: hb_syllabic_clear_var)
 abbrev pub syllables_cleared : Stage
 syllables_cleared = always (with_items_mapped without_syllable)
-
--- an item without the substituted bit
-abbrev pub item_not_substituted : Item → Item
-item_not_substituted x = record x { glyph_props = x.glyph_props - bit_and x.glyph_props 16 }
-
--- the stage that clears all substituted bits (HarfBuzz: _hb_clear_substitution_flags)
-abbrev pub substitutions_cleared : Stage
-substitutions_cleared = always (with_items_mapped item_not_substituted)

@@ -1,4 +1,4 @@
-//! Clears syllable bytes and substitution flags once the syllables are in order (rustybuzz: hb/ot_layout.rs).
+//! Clears syllable bytes once the syllables are in order (rustybuzz: hb/ot_shaper_syllabic.rs).
 ghost use Rattle.std.specs.Prelude.{◌≡◌};
 ghost use Rattle.buffer_glyphs.specs.Items.{item_of};
 ghost use Rattle.buffer_glyphs.specs.Origins.{origin_of};
@@ -6,10 +6,9 @@ ghost use Rattle.buffer_core.specs.Sides.{items_of};
 ghost use Rattle.buffer_stages.specs.Ready.{IsDone, IsReady};
 ghost use Rattle.buffer_stages.specs.Pauses.{BringsNoGlyph};
 ghost use Rattle.buffer_stages.specs.Stages.{IsFollowed};
-ghost use Rattle.script_syllabic.specs.Syllables.{substitutions_cleared, syllables_cleared, item_not_substituted, without_syllable};
+ghost use Rattle.script_syllabic.specs.Syllables.{syllables_cleared, without_syllable};
 
 use buffer_core::buffer::hb_buffer_t;
-use buffer_glyphs::flags::GlyphPropsFlags;
 use buffer_glyphs::info::hb_glyph_info_t;
 use buffer_stages::glyphs::map_glyphs;
 
@@ -35,33 +34,6 @@ fn without_syllable(glyph: &hb_glyph_info_t) -> hb_glyph_info_t
 {
     hb_glyph_info_t {
         syllable: 0,
-        ..*glyph
-    }
-}
-
-/// Clears the substituted bit of each glyph. It takes linear time and no memory.
-pub fn _hb_clear_substitution_flags(buffer: &mut hb_buffer_t)
-    requires ready { IsReady buffer.old }
-    ensures ok { IsDone substitutions_cleared buffer.old buffer.new }
-    ensures brings_none { BringsNoGlyph (items_of buffer.old) (items_of buffer.new) }
-{
-    without_substitutions(buffer);
-}
-
-fn without_substitutions(buffer: &mut hb_buffer_t)
-    requires ready { IsReady buffer.old }
-    ensures { IsFollowed substitutions_cleared buffer.old buffer.new }
-{
-    map_glyphs(buffer, |glyph| without_substitution(glyph));
-}
-
-fn without_substitution(glyph: &hb_glyph_info_t) -> hb_glyph_info_t
-    ensures item { item_of result ≡ item_not_substituted (item_of glyph.now) }
-    ensures origin { origin_of result ≡ origin_of glyph.now }
-{
-    let props = glyph.glyph_props.0;
-    hb_glyph_info_t {
-        glyph_props: GlyphPropsFlags(props - (props & GlyphPropsFlags::SUBSTITUTED.0)),
         ..*glyph
     }
 }

@@ -5,11 +5,13 @@ ghost use Rattle.buffer_core.specs.Sides.{items_of};
 ghost use Rattle.buffer_stages.specs.Ready.{DoesGlyphStage, IsDone, IsReady};
 ghost use Rattle.buffer_stages.specs.Pauses.{BringsNoGlyph};
 ghost use Rattle.script_syllabic.specs.Bytes.{syllables_set};
-ghost use Rattle.script_syllabic.specs.Syllables.{substitutions_cleared, syllables_cleared};
+ghost use Rattle.buffer_stages.specs.LayoutStages.{substitutions_cleared};
+ghost use Rattle.script_syllabic.specs.Syllables.{syllables_cleared};
 
 use crate::{clearing, syllables};
 use buffer_core::buffer::hb_buffer_t;
 use buffer_glyphs::cause::ShapeCause;
+use buffer_stages::layout_stages::_hb_clear_substitution_flags;
 use script_categories::{SyllableSpans, hb_ot_script_shaper_t};
 use std::alloc::Global;
 
@@ -52,6 +54,6 @@ pub fn clear_substitution_flags(buffer: &mut hb_buffer_t) -> Result<bool, ShapeC
     ensures brings_none { result ≡ Ok false → BringsNoGlyph (items_of buffer.old) (items_of buffer.new) }
     ensures err { IfErr result (λ e. e ≡ ShapeCause.OutOfMemory) }
 {
-    clearing::_hb_clear_substitution_flags(buffer);
+    _hb_clear_substitution_flags(buffer);
     Ok(false)
 }

@@ -21,7 +21,7 @@ use Rattle.script_plan.specs.declared.planned.TheConstants.{HB_OT_SHAPE_ZERO_WID
 use Rattle.shape_fallback.specs.Classes.{with_fallback_classes}
 use Rattle.shape_fallback.specs.Spaces.{with_spaces}
 use Rattle.shape_glyphs.specs.Advances.{with_default_positions}
-use Rattle.shape_glyphs.specs.Classes.{with_font_classes}
+use Rattle.layout_gsub.specs.GlyphClasses.{with_font_classes}
 use Rattle.shape_glyphs.specs.Flags.{with_flags_spread}
 use Rattle.shape_glyphs.specs.Glyphs.{with_glyphs, with_synthesized_classes}
 use Rattle.shape_glyphs.specs.Ignorables.{ignorables_hidden, ignorables_hidden_by, invisible_glyph, preserves_ignorables}

@@ -7,19 +7,20 @@ use mir.Val.{Fits}
 use Rattle.buffer_glyphs.specs.declared.info.hb_glyph_info_t.{hb_glyph_info_t}
 use Rattle.buffer_glyphs.specs.Items.{Item, Position, item_of, item_masked}
 use Rattle.buffer_glyphs.specs.Events.{Spread}
-use Rattle.buffer_core.specs.Readings.{BufferState, View, always}
+use Rattle.buffer_core.specs.Readings.{View, always}
 use Rattle.buffer_lists.specs.DeletionWalk.{DeletionState, whole_walk}
 use Rattle.buffer_lists.specs.Events.{deletions}
 use Rattle.buffer_lists.specs.Facts.{items_kept, positions_kept}
 use Rattle.buffer_core.specs.Grouping.{with_picked_deleted}
 use Rattle.buffer_core.specs.Merging.{with_has_glyph_flags, with_glyphs as with_all}
 use Rattle.buffer_core.proofs.Told.{stage_flags_ignore_glyph_flags}
-use Rattle.buffer_core.specs.Graphemes.{is_default_ignorable}
+use Rattle.buffer_glyphs.specs.PropertyWords.{is_default_ignorable}
 use Rattle.buffer_core.specs.Sides.{Sides, all_glyphs, items_of, origins_by, origins_of, settings_of, stage_flags, view_of}
 use Rattle.buffer_stages.specs.Buffers.{are_glyphs}
 use Rattle.buffer_stages.specs.Ready.{IsDone, IsReady}
 use Rattle.buffer_stages.specs.Stages.{IsFollowed, with_items_mapped}
 use Rattle.buffer_stages.specs.Lemmas.Written.{happened_followed}
+use Rattle.buffer_stages.proofs.Mapped.{kept_numbers, mapped_items}
 use Rattle.shape_glyphs.specs.Glyphs.{as_glyph}
 use Rattle.shape_glyphs.specs.Flags.{with_flags_spread}
 use Rattle.shape_glyphs.specs.Ignorables.{hidden_item, without_ignorables}
@@ -30,22 +31,6 @@ use Rattle.buffer_properties.specs.Properties.{without_bits}
 use Rattle.buffer_properties.specs.Characters.{with_category}
 
 -- ---- numbers
-
-mapped_items : (k : Item → Item) (old new : Sides) → IsFollowed (always (with_items_mapped k)) old new → items_of new ≡ map k (items_of old)
-mapped_items k old new f = ap (λ (r : BufferState). r.view.items) f.follows
-
-kept_numbers : (k : Item → Item) → ((x : Item) → (k x).number ≡ x.number) → (xs : List Item) → are_glyphs (map k xs) ≡ are_glyphs xs
-kept_numbers k same [] = refl
-kept_numbers k same (x ∷ xs) = rw (same x, kept_numbers k same xs) refl
-
--- a map that keeps numbers
-pub mapped_done : (k : Item → Item) → ((x : Item) → (k x).number ≡ x.number) → (old new : Sides) → IsFollowed (always (with_items_mapped k)) old new → IsDone (always (with_items_mapped k)) old new
-mapped_done k same old new f = record {
-  follows = f.follows;
-  settings = f.settings;
-  ready = f.ready;
-  numbers = λ are. ap are_glyphs (mapped_items k old new f) ∙ kept_numbers k same (items_of old) ∙ are;
-}
 
 glyph_if : (n : ℕ) (b : Bool) → nat_le n 65535 ≡ b → nat_le (if b then n else 0) 65535 ≡ true
 glyph_if n true h = h

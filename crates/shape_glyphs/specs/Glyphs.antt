@@ -2,7 +2,7 @@
 use Rattle.std.specs.Prelude.{ℕ, ◌&&◌, not, Bool, nat_le, if◌then◌else◌}
 use Rattle.buffer_glyphs.specs.Items.{Item}
 use Rattle.buffer_core.specs.Readings.{View, Read}
-use Rattle.buffer_core.specs.Graphemes.{is_default_ignorable}
+use Rattle.buffer_glyphs.specs.PropertyWords.{is_default_ignorable}
 use Rattle.buffer_properties.specs.Categories.{is_nonspacing_mark}
 use Rattle.buffer_stages.specs.Stages.{with_items_mapped}
 

@@ -9,7 +9,7 @@ use Rattle.buffer_glyphs.specs.Items.{Item}
 use Rattle.buffer_core.specs.Readings.{View, Read, with_events}
 use Rattle.buffer_lists.specs.Events.{deletions}
 use Rattle.buffer_lists.specs.Facts.{items_kept, positions_kept}
-use Rattle.buffer_core.specs.Graphemes.{is_default_ignorable}
+use Rattle.buffer_glyphs.specs.PropertyWords.{is_default_ignorable}
 use Rattle.buffer_stages.specs.Stages.{with_items_mapped}
 
 -- PRESERVE_DEFAULT_IGNORABLES is set

@@ -3,7 +3,7 @@ use Rattle.std.specs.Prelude.{pos, ◌||◌, Bool, if◌then◌else◌, []}
 use Rattle.buffer_common.specs.declared.constants.BufferFlags.{BufferFlags}
 use Rattle.buffer_glyphs.specs.Items.{Item, Position}
 use Rattle.buffer_core.specs.Readings.{View, Read, with_events}
-use Rattle.buffer_core.specs.Graphemes.{is_default_ignorable}
+use Rattle.buffer_glyphs.specs.PropertyWords.{is_default_ignorable}
 use Rattle.buffer_stages.specs.PositionMaps.{with_positions_mapped}
 use Rattle.shape_glyphs.specs.Ignorables.{preserves_ignorables, removes_ignorables}
 

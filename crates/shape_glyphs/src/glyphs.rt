@@ -2,7 +2,6 @@
 ghost use Rattle.std.specs.Prelude.{◌≡◌, true};
 ghost use Rattle.buffer_glyphs.specs.Items.{item_of};
 ghost use Rattle.buffer_core.specs.Readings.{always};
-ghost use Rattle.buffer_core.specs.Graphemes.{is_default_ignorable};
 ghost use Rattle.buffer_core.specs.Sides.{items_of};
 ghost use Rattle.buffer_stages.specs.Buffers.{are_glyphs};
 ghost use Rattle.buffer_stages.specs.Ready.{IsDone, IsReady};
@@ -10,8 +9,9 @@ ghost use Rattle.buffer_stages.specs.Stages.{IsFollowed};
 ghost use Rattle.shape_glyphs.specs.Glyphs.{glyph_or_missing, synthesized_class, with_glyphs, with_synthesized_classes};
 
 use buffer_core::buffer::hb_buffer_t;
-use buffer_glyphs::flags::{GlyphPropsFlags, UnicodeProps};
+use buffer_glyphs::flags::GlyphPropsFlags;
 use buffer_glyphs::info::hb_glyph_info_t;
+use buffer_glyphs::property_words::_hb_glyph_info_is_default_ignorable;
 use buffer_properties::categories::is_nonspacing_mark;
 use buffer_stages::glyphs::map_glyphs;
 
@@ -55,17 +55,9 @@ pub fn hb_synthesize_glyph_classes(buffer: &mut hb_buffer_t)
 fn synthesized_class(glyph: &hb_glyph_info_t) -> GlyphPropsFlags
     ensures { result.0 ≡ synthesized_class (item_of glyph.now) }
 {
-    if is_nonspacing_mark(glyph) && !is_default_ignorable(glyph) {
+    if is_nonspacing_mark(glyph) && !_hb_glyph_info_is_default_ignorable(glyph) {
         GlyphPropsFlags::MARK
     } else {
         GlyphPropsFlags::BASE_GLYPH
     }
-}
-
-/// Whether a glyph is a default ignorable that no substitution made.
-pub(crate) fn is_default_ignorable(glyph: &hb_glyph_info_t) -> bool
-    ensures { result ≡ is_default_ignorable (item_of glyph.now) }
-{
-    glyph.unicode_props.0 & UnicodeProps::IGNORABLE.0 != 0
-        && glyph.glyph_props.0 & GlyphPropsFlags::SUBSTITUTED.0 == 0
 }

@@ -7,11 +7,11 @@ ghost use Rattle.buffer_stages.specs.Ready.{IsDone, IsReady};
 ghost use Rattle.buffer_stages.specs.Stages.{with_items_mapped};
 ghost use Rattle.shape_glyphs.specs.Ignorables.{ignorables_hidden, hidden_item, invisible_glyph, preserves_ignorables, without_ignorables};
 
-use crate::glyphs::is_default_ignorable;
 use bitflags::Flags;
 use buffer_common::constants::BufferFlags;
 use buffer_core::buffer::hb_buffer_t;
 use buffer_glyphs::info::hb_glyph_info_t;
+use buffer_glyphs::property_words::_hb_glyph_info_is_default_ignorable;
 use buffer_stages::glyphs::map_glyphs;
 use layout_face::Face;
 
@@ -63,7 +63,7 @@ fn hidden(invisible: u16, glyph: &hb_glyph_info_t) -> hb_glyph_info_t
     ensures item { item_of result ≡ hidden_item invisible (item_of glyph.now) }
     ensures origin { origin_of result ≡ origin_of glyph.now }
 {
-    if is_default_ignorable(glyph) {
+    if _hb_glyph_info_is_default_ignorable(glyph) {
         hb_glyph_info_t {
             glyph_id: u32::from(invisible),
             ..*glyph
@@ -77,5 +77,5 @@ fn delete_ignorables(buffer: &mut hb_buffer_t)
     requires { IsReady buffer.old }
     ensures { IsDone (always without_ignorables) buffer.old buffer.new }
 {
-    buffer.delete_glyphs_inplace(|glyph| is_default_ignorable(glyph));
+    buffer.delete_glyphs_inplace(|glyph| _hb_glyph_info_is_default_ignorable(glyph));
 }

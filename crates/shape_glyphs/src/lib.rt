@@ -3,7 +3,6 @@
 #![tactic(auto)]
 
 pub mod advances;
-pub mod classes;
 pub mod flags;
 pub mod glyphs;
 pub mod ignorables;

@@ -7,12 +7,12 @@ ghost use Rattle.buffer_stages.specs.PositionMaps.{with_positions_mapped};
 ghost use Rattle.buffer_stages.specs.Stages.{IsFollowed};
 ghost use Rattle.shape_glyphs.specs.Widths.{ignorable_position, keeps_widths, widthless, zero_widths};
 
-use crate::glyphs::is_default_ignorable;
 use bitflags::Flags;
 use buffer_common::constants::BufferFlags;
 use buffer_core::buffer::hb_buffer_t;
 use buffer_glyphs::info::hb_glyph_info_t;
 use buffer_glyphs::position::GlyphPosition;
+use buffer_glyphs::property_words::_hb_glyph_info_is_default_ignorable;
 use buffer_stages::positions::map_positions;
 
 /// Zeroes the positions of default ignorables, unless PRESERVE_DEFAULT_IGNORABLES or REMOVE_DEFAULT_IGNORABLES is set.
@@ -47,7 +47,7 @@ fn zero_widths(buffer: &mut hb_buffer_t)
 fn ignorable_position(glyph: &hb_glyph_info_t, position: GlyphPosition) -> GlyphPosition
     ensures { result ≡ ignorable_position (item_of glyph.now) position }
 {
-    if is_default_ignorable(glyph) {
+    if _hb_glyph_info_is_default_ignorable(glyph) {
         widthless(position)
     } else {
         position

@@ -13,7 +13,7 @@ use Rattle.buffer_parts.specs.Counts.{AreGiving, count_after, count_after_event}
 use Rattle.buffer_parts.specs.Plainly.{ArePlainlyKept, AreSteady}
 use Rattle.buffer_parts.specs.Turns.{IsUnturned}
 use Rattle.buffer_parts.specs.Lemmas.Plainly.{both_steady, steady_kept}
-use Rattle.buffer_core.specs.Graphemes.{is_default_ignorable}
+use Rattle.buffer_glyphs.specs.PropertyWords.{is_default_ignorable}
 use Rattle.buffer_core.specs.Readings.{View, Read, always, with_events}
 use Rattle.buffer_stage_laws.specs.Lemmas.Plainly.{ReadsPlainly, even_plainly}
 use Rattle.layout_offsets.specs.Finishing.{all_drawn_if, has_attachments, links_followed}
@@ -23,7 +23,7 @@ use Rattle.shape_fallback.specs.Marks.{base_events, first_event, marks, with_pos
 use Rattle.shape_fallback.specs.Spaces.{with_spaces}
 use Rattle.shape_fallback.specs.Zeroing.{with_marks_zeroed}
 use Rattle.shape_glyphs.specs.Advances.{with_default_positions}
-use Rattle.shape_glyphs.specs.Classes.{item_with_class}
+use Rattle.layout_gsub.specs.GlyphClasses.{item_with_font_class}
 use Rattle.shape_glyphs.specs.Flags.{with_flags_spread}
 use Rattle.shape_glyphs.specs.Glyphs.{as_glyph, item_with_synthesized_class}
 use Rattle.shape_glyphs.specs.Ignorables.{hidden_item, ignorables_hidden_by, invisible_glyph, preserves_ignorables}
@@ -44,7 +44,7 @@ pub glyphs_stay : GlyphsStayInLine
 glyphs_stay = mapped_in_line as_glyph
 
 pub font_classes_stay : FontClassesStayInLine
-font_classes_stay font = mapped_in_line (item_with_class font)
+font_classes_stay font = mapped_in_line (item_with_font_class font)
 
 pub synthesized_classes_stay : SynthesizedClassesStayInLine
 synthesized_classes_stay = mapped_in_line item_with_synthesized_class

@@ -1,5 +1,5 @@
 -- Graphemes that are merged, or are one character each, may be turned.
-use Rattle.std.proofs.Common.{ℕ, ◌≡◌, ◌≤◌, ◌<◌, ◌+◌, ◌*◌, ◌%◌, ◌==◌, ◌||◌, ◌&&◌, ◌++◌, not, Bool, true, false, if◌then◌else◌, nat_le, eqb-true, List, [], ◌∷◌, length, map, Option, None, Some, Ok, Err, arith, refl, sym, ap, ap₂, subst, ◌∙◌}
+use Rattle.std.proofs.Common.{ℕ, ◌≡◌, ◌≤◌, ◌<◌, ◌+◌, ◌*◌, ◌%◌, ◌==◌, ◌||◌, ◌&&◌, ◌++◌, not, Bool, true, false, if◌then◌else◌, nat_le, eqb-true, List, [], ◌∷◌, length, map, Option, None, Some, Ok, Err, arith, refl, sym, ap, subst, ◌∙◌}
 use Rattle.std.specs.Int.{bit_at}
 use Rattle.std.specs.Int.RustNames.{bit_and, bit_or}
 use Rattle.buffer_glyphs.specs.declared.cause.ShapeCause.TheVariants.{TooLong}
@@ -46,11 +46,13 @@ use Rattle.buffer_stages.specs.Lemmas.Sorted.{groups_turned_size}
 use Rattle.buffer_stage_laws.specs.Lemmas.Stages.{at_read}
 use Rattle.buffer_properties.specs.Properties.{bit_if, is_hidden_character, is_mark_character, properties_of, scratch_flags_of}
 use Rattle.buffer_properties.proofs.PropertyWords.{category_fits}
+use Rattle.buffer_properties.proofs.Words.{at_most_one, word_of}
 use Rattle.shape_text.specs.declared.graphemes.Before.{Before}
 use Rattle.shape_text.specs.Circle.{DOTTED_CIRCLE, needs_circle, with_circle}
 use Rattle.shape_text.specs.Clusters.{grapheme_events, grapheme_lengths, has_non_ascii, with_clusters}
 use Rattle.shape_text.specs.Graphemes.{continues, is_emoji_modifier, is_extender, is_joined, is_other_extender, is_regional_indicator}
-use Rattle.shape_text.specs.NativeOrder.{continues_grapheme, is_number_text, is_reversed, merges_graphemes, native_order, reversed_text, runs_against, script_direction, with_numbers, without_continuation}
+use Rattle.buffer_stages.specs.LayoutStages.{merges_graphemes}
+use Rattle.shape_text.specs.NativeOrder.{continues_grapheme, is_number_text, is_reversed, native_order, reversed_text, runs_against, script_direction, with_numbers, without_continuation}
 use Rattle.shape_text.specs.Properties.{items_prepared, next_before, prepared_item, property_word_of, scratch_flags_of_items, with_properties}
 use Rattle.shape_parts.specs.Lines.{falls_on_line}
 use Rattle.shape_parts.specs.Graphemes.{HasKnownGraphemes}
@@ -303,20 +305,6 @@ IsBeforeAscii (Some b) = nat_le 0x80 b.character ≡ false
 not_continued : (t : Tables) (before : Option Before) (u : ℕ) → AsciiHasNoMarks → IsBeforeAscii before → nat_le 0x80 u ≡ false → continues t before u ≡ false
 not_continued t None u law b e = no_extender u law e
 not_continued t (Some before) u law b e = two_false (is_extender u) (is_joined t before u) (no_extender u law e) (not_joined t before u b e)
-
-bit_times : (b : Bool) (m : ℕ) → bit_if b m ≡ m * bit_if b 1
-bit_times true m = omega arith
-bit_times false m = omega arith
-
-at_most_one : (b : Bool) → bit_if b 1 ≤ 1
-at_most_one true = omega arith
-at_most_one false = omega arith
-
-word_of : (u : ℕ) → properties_of u ≡ category_number (general_category u) + (32 * bit_if (is_default_ignorable_character u) 1 + (64 * bit_if (is_hidden_character u) 1 + (256 * bit_if (u == 0x200D) 1 + 512 * bit_if (u == 0x200C) 1)))
-unfolding properties_of
-word_of u =
-    ap (λ x. category_number (general_category u) + x) (ap₂ (λ x y. x + y) (bit_times (is_default_ignorable_character u) 0x20)
-    (ap₂ (λ x y. x + y) (bit_times (is_hidden_character u) 0x40) (ap₂ (λ x y. x + y) (bit_times (u == 0x200D) 0x100) (bit_times (u == 0x200C) 0x200))))
 
 no_middle_bit : (n a h j k : ℕ) → n < 32 → a ≤ 1 → h ≤ 1 → bit_and (n + (32 * a + (64 * h + (256 * j + 512 * k)))) 128 ≡ 0
 no_middle_bit n a h j k p q r =

@@ -11,7 +11,7 @@ use Rattle.std.specs.Prelude.{codes}
 use Rattle.shape_text.specs.Fractions.{with_fractions}
 use Rattle.shape_normalize.specs.Rounds.{normalization}
 use Rattle.shape_glyphs.specs.Advances.{with_default_positions}
-use Rattle.shape_glyphs.specs.Classes.{with_font_classes}
+use Rattle.layout_gsub.specs.GlyphClasses.{with_font_classes}
 use Rattle.shape_glyphs.specs.Glyphs.{with_glyphs, with_synthesized_classes}
 use Rattle.shape_fallback.specs.Classes.{with_fallback_classes}
 use Rattle.shape_fallback.specs.Spaces.{with_spaces}

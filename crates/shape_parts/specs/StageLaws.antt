@@ -27,7 +27,7 @@ use Rattle.shape_text.specs.declared.fractions.FractionMasks.{FractionMasks}
 use Rattle.shape_text.specs.Ranges.{with_ranges}
 use Rattle.shape_normalize.specs.Rounds.{normalization}
 use Rattle.shape_glyphs.specs.Advances.{with_default_positions}
-use Rattle.shape_glyphs.specs.Classes.{with_font_classes}
+use Rattle.layout_gsub.specs.GlyphClasses.{with_font_classes}
 use Rattle.shape_glyphs.specs.Flags.{with_flags_spread}
 use Rattle.shape_glyphs.specs.Glyphs.{with_glyphs, with_synthesized_classes}
 use Rattle.shape_glyphs.specs.Ignorables.{ignorables_hidden}

@@ -9,7 +9,6 @@ mod Phases
 mod Whole
 mod Budget
 mod Numbers
-mod Shaped
+pub mod Shaped
 mod Texts
 mod Agreeing
-mod Paused

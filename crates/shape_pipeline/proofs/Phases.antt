@@ -12,7 +12,7 @@ use Rattle.layout_substitution.specs.Substituting.{substitution_stages}
 use Rattle.layout_positioning.specs.Positioning.{positioning_stages}
 use Rattle.buffer_stages.specs.Stages.{DoesStage, IsFollowed}
 use Rattle.shape_text.specs.Fractions.{with_fractions}
-use Rattle.shape_glyphs.specs.Classes.{with_font_classes}
+use Rattle.layout_gsub.specs.GlyphClasses.{with_font_classes}
 use Rattle.shape_glyphs.specs.Flags.{with_flags_spread}
 use Rattle.shape_glyphs.specs.Glyphs.{with_synthesized_classes}
 use Rattle.shape_glyphs.specs.Ignorables.{ignorables_hidden}

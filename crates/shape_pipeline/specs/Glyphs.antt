@@ -3,7 +3,7 @@ use Rattle.std.specs.Prelude.{[], ◌∷◌}
 use Rattle.buffer_core.specs.Readings.{Stage, always}
 use Rattle.layout_substitution.specs.Substituting.{substitution_stages}
 use Rattle.shape_fallback.specs.Classes.{with_fallback_classes}
-use Rattle.shape_glyphs.specs.Classes.{with_font_classes}
+use Rattle.layout_gsub.specs.GlyphClasses.{with_font_classes}
 use Rattle.shape_glyphs.specs.Glyphs.{with_glyphs, with_synthesized_classes}
 use Rattle.shape_pipeline.specs.Chains.{in_order, only_if}
 use Rattle.shape_pipeline.specs.Shaping.{Shaping, pauses_of}

@@ -15,12 +15,12 @@ ghost use Rattle.shape_pipeline.specs.Shaping.{pauses_of};
 use crate::shape_stages::{ShapeStages, Shaped};
 use buffer_core::buffer::hb_buffer_t;
 use buffer_glyphs::cause::ShapeCause;
+use layout_gsub::glyph_classes::hb_ot_layout_substitute_start;
 use layout_substitution::substitute::substitute;
 use script_categories::SyllableSpans;
 use script_plan::hb_ot_shaper_t;
 use script_plan::plan::PlanChoices;
 use shape_fallback::classes::_hb_ot_shape_fallback_mark_position_recategorize_marks;
-use shape_glyphs::classes::hb_ot_layout_substitute_start;
 use shape_glyphs::glyphs::{hb_synthesize_glyph_classes, map_glyphs_fast};
 
 /// Sets the marks' classes by which they are positioned, if fallback will position them.

@@ -11,7 +11,6 @@ impl<S: hb_ot_shaper_t, P: SyllableSpans> Pause for ShapeStages<'_, S, P> {
     ghost stage = { λ c settings n. (S.rules c.plan.now.shaper c.plan.now.script_plan).pauses c.face.now c.tables.now
         (P.span_of c.spans.now) settings n };
 
-    #[tactic(auto, using(crate::proofs::Paused::stage_done, crate::proofs::Paused::stage_refused))]
     fn run(&self, pause: u8, buffer: &mut hb_buffer_t) -> Result<bool, ShapeCause> {
         self.plan.shaper.run_pause(
             self.alloc,

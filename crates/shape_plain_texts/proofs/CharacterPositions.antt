@@ -13,7 +13,7 @@ use Rattle.buffer_properties.specs.Properties.{properties_of}
 use Rattle.buffer_glyphs.specs.Items.{Item, Position, zero_position}
 use Rattle.buffer_glyphs.specs.Events.{Reverse}
 use Rattle.buffer_core.specs.Readings.{View, always, with_events}
-use Rattle.buffer_core.specs.Graphemes.{is_default_ignorable}
+use Rattle.buffer_glyphs.specs.PropertyWords.{is_default_ignorable}
 use Rattle.buffer_core.specs.Sides.{zero_positions}
 use Rattle.layout_offsets.specs.Finishing.{all_drawn_if, has_attachments, links_followed}
 use Rattle.layout_offsets.specs.Starting.{links_cleared, unattached_position}

@@ -18,7 +18,7 @@ use Rattle.buffer_stages.specs.Pauses.{Pauses, pause_stage, with_own_random}
 use Rattle.buffer_properties.specs.Characters.{is_mark_number}
 use Rattle.buffer_properties.specs.Categories.{is_nonspacing_mark}
 use Rattle.shape_fallback.specs.Classes.{fallback_class, item_with_fallback_class, with_fallback_classes}
-use Rattle.shape_glyphs.specs.Classes.{item_with_class, with_font_classes}
+use Rattle.layout_gsub.specs.GlyphClasses.{item_with_font_class, with_font_classes}
 use Rattle.shape_glyphs.specs.Glyphs.{as_glyph, item_with_synthesized_class, glyph_or_missing, with_glyphs, with_synthesized_classes}
 use Rattle.script_plan.specs.Rules.{ShaperRules}
 use Rattle.shape_pipeline.specs.Chains.{only_if}
@@ -89,7 +89,7 @@ taken_leads p ps us =
 
 -- ---- classes
 
-begun_shown : (font : FaceParts) (u : ℕ) (x : Item) → Shown font u x → Shown font u (item_with_class font x)
+begun_shown : (font : FaceParts) (u : ℕ) (x : Item) → Shown font u x → Shown font u (item_with_font_class font x)
 begun_shown font u x s = record { number = s.number; plain = s.plain; word = s.word }
 
 abbrev class_if : Bool → ℕ
@@ -158,7 +158,7 @@ substituted_leads p ps us plain =
     let B = Placed (Based p.font) ps us in
     let lookups = substitution_stages p.font p.map (pauses_of p) in
     both_lead S S B (always (with_font_classes p.font)) (only_if p.choices.fallback_glyph_classes (always with_synthesized_classes) ∷ lookups ∷ [])
-    (always_leads S S (with_font_classes p.font) (λ v a. mapped_stand (Shown p.font) (Shown p.font) ps (item_with_class p.font) (begun_shown p.font) us v a))
+    (always_leads S S (with_font_classes p.font) (λ v a. mapped_stand (Shown p.font) (Shown p.font) ps (item_with_font_class p.font) (begun_shown p.font) us v a))
     (both_lead S B B (only_if p.choices.fallback_glyph_classes (always with_synthesized_classes)) (lookups ∷ [])
     (acted S B p.choices.fallback_glyph_classes (always with_synthesized_classes) plain.synthesized (always_leads S B with_synthesized_classes (λ v a. mapped_stand (Shown p.font) (Based p.font) ps item_with_synthesized_class (as_based p.font) us v a)))
     (last_leads B B lookups (stays_leads B lookups (substituted_stays p plain))))

@@ -6,7 +6,7 @@ use Rattle.std.proofs.lemmas.Bool.{and_parts}
 use Rattle.layout_face.specs.declared.parts.FaceParts.{FaceParts}
 use Rattle.buffer_glyphs.specs.Items.{Item, Position, item_masked}
 use Rattle.buffer_core.specs.Readings.{View, always, as_it_is, with_events}
-use Rattle.buffer_core.specs.Graphemes.{is_default_ignorable}
+use Rattle.buffer_glyphs.specs.PropertyWords.{is_default_ignorable}
 use Rattle.buffer_core.specs.Sides.{zero_positions}
 use Rattle.buffer_lists.specs.Facts.{items_kept, positions_kept}
 use Rattle.buffer_stages.specs.PositionMaps.{positions_mapped}

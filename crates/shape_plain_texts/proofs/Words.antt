@@ -1,93 +1,17 @@
 -- The property words of characters that are no mark, no space and not ignorable.
-use Rattle.std.proofs.Common.{ℕ, ◌≡◌, ◌≤◌, ◌<◌, ◌+◌, ◌-◌, ◌*◌, ◌%◌, ◌==◌, Bool, true, false, nat_le, refl, ap, ap₂, ◌∙◌, arith}
+use Rattle.std.proofs.Common.{ℕ, ◌≡◌, ◌≤◌, ◌<◌, ◌+◌, ◌-◌, ◌*◌, ◌%◌, ◌==◌, Bool, true, false, refl, ap, ap₂, ◌∙◌, arith}
 use Rattle.std.proofs.lemmas.Nat.{and_mask, and_block}
-use Rattle.std.proofs.lemmas.Bool.Decides.{nat_tests}
 use Rattle.std.specs.Int.RustNames.{bit_and, bit_or}
 use Rattle.std.specs.Int.Bits.{or_add_and}
-use Rattle.ucd_category.specs.declared.GeneralCategory.{GeneralCategory}
-use Rattle.ucd_category.specs.declared.GeneralCategory.TheVariants.{Control, Format, Unassigned, PrivateUse, Surrogate, LowercaseLetter, ModifierLetter, OtherLetter, TitlecaseLetter, UppercaseLetter, SpacingMark, EnclosingMark, NonspacingMark, DecimalNumber, LetterNumber, OtherNumber, ConnectorPunctuation, DashPunctuation, ClosePunctuation, FinalPunctuation, InitialPunctuation, OtherPunctuation, OpenPunctuation, CurrencySymbol, ModifierSymbol, MathSymbol, OtherSymbol, LineSeparator, ParagraphSeparator, SpaceSeparator}
 use Rattle.unicode.specs.GeneralCategory.{general_category}
-use Rattle.buffer_unicode.specs.Category.{category_number, is_mark_category}
+use Rattle.buffer_unicode.specs.Category.{category_number}
 use Rattle.buffer_unicode.specs.Character.{is_default_ignorable_character}
 use Rattle.buffer_properties.specs.Properties.{bit_if, is_hidden_character, is_mark_character, properties_of, without_bits}
 use Rattle.buffer_properties.specs.Characters.{is_mark_number}
+use Rattle.buffer_properties.proofs.Classes.{mark_numbers}
+use Rattle.buffer_properties.proofs.PropertyWords.{category_fits}
+use Rattle.buffer_properties.proofs.Words.{at_most_one, bit_times}
 use Rattle.shape_text.specs.Properties.{property_word_of}
-
-mark_number : (g : GeneralCategory) → is_mark_number (category_number g) ≡ is_mark_category g
-mark_number Control = refl
-mark_number Format = refl
-mark_number Unassigned = refl
-mark_number PrivateUse = refl
-mark_number Surrogate = refl
-mark_number LowercaseLetter = refl
-mark_number ModifierLetter = refl
-mark_number OtherLetter = refl
-mark_number TitlecaseLetter = refl
-mark_number UppercaseLetter = refl
-mark_number SpacingMark = refl
-mark_number EnclosingMark = refl
-mark_number NonspacingMark = refl
-mark_number DecimalNumber = refl
-mark_number LetterNumber = refl
-mark_number OtherNumber = refl
-mark_number ConnectorPunctuation = refl
-mark_number DashPunctuation = refl
-mark_number ClosePunctuation = refl
-mark_number FinalPunctuation = refl
-mark_number InitialPunctuation = refl
-mark_number OtherPunctuation = refl
-mark_number OpenPunctuation = refl
-mark_number CurrencySymbol = refl
-mark_number ModifierSymbol = refl
-mark_number MathSymbol = refl
-mark_number OtherSymbol = refl
-mark_number LineSeparator = refl
-mark_number ParagraphSeparator = refl
-mark_number SpaceSeparator = refl
-
-number_fits : (g : GeneralCategory) → nat_le (category_number g) 31 ≡ true
-number_fits Control = refl
-number_fits Format = refl
-number_fits Unassigned = refl
-number_fits PrivateUse = refl
-number_fits Surrogate = refl
-number_fits LowercaseLetter = refl
-number_fits ModifierLetter = refl
-number_fits OtherLetter = refl
-number_fits TitlecaseLetter = refl
-number_fits UppercaseLetter = refl
-number_fits SpacingMark = refl
-number_fits EnclosingMark = refl
-number_fits NonspacingMark = refl
-number_fits DecimalNumber = refl
-number_fits LetterNumber = refl
-number_fits OtherNumber = refl
-number_fits ConnectorPunctuation = refl
-number_fits DashPunctuation = refl
-number_fits ClosePunctuation = refl
-number_fits FinalPunctuation = refl
-number_fits InitialPunctuation = refl
-number_fits OtherPunctuation = refl
-number_fits OpenPunctuation = refl
-number_fits CurrencySymbol = refl
-number_fits ModifierSymbol = refl
-number_fits MathSymbol = refl
-number_fits OtherSymbol = refl
-number_fits LineSeparator = refl
-number_fits ParagraphSeparator = refl
-number_fits SpaceSeparator = refl
-
-fits : (g : GeneralCategory) → category_number g < 32
-fits g = let e = number_fits g in grind (arith, nat_tests, e)
-
--- a bit that is there or not
-bit_times : (b : Bool) (m : ℕ) → bit_if b m ≡ m * bit_if b 1
-bit_times true m = omega arith
-bit_times false m = omega arith
-
-at_most_one : (b : Bool) → bit_if b 1 ≤ 1
-at_most_one true = omega arith
-at_most_one false = omega arith
 
 -- the word by its parts
 abbrev parts : ℕ → ℕ → ℕ → ℕ → ℕ
@@ -148,10 +72,10 @@ marked_of n h j k p q r s =
 -- ---- of a character that is not ignorable
 
 pub word_unmarked : (u : ℕ) → is_default_ignorable_character u ≡ false → bit_and (properties_of u) 0x400 ≡ 0
-word_unmarked u e = ap (λ w. bit_and w 0x400) (word_parts u e) ∙ marked_of _ _ _ _ (fits (general_category u)) (at_most_one (is_hidden_character u)) (at_most_one (u == 0x200D)) (at_most_one (u == 0x200C))
+word_unmarked u e = ap (λ w. bit_and w 0x400) (word_parts u e) ∙ marked_of _ _ _ _ (category_fits (general_category u)) (at_most_one (is_hidden_character u)) (at_most_one (u == 0x200D)) (at_most_one (u == 0x200C))
 
 pub word_shown : (u : ℕ) → is_default_ignorable_character u ≡ false → bit_and (properties_of u) 0x20 ≡ 0
-word_shown u e = ap (λ w. bit_and w 0x20) (word_parts u e) ∙ ignorable_of _ _ _ _ (fits (general_category u))
+word_shown u e = ap (λ w. bit_and w 0x20) (word_parts u e) ∙ ignorable_of _ _ _ _ (category_fits (general_category u))
 
 no_bit : (w : ℕ) → w ≡ w + 128 * 0
 no_bit w = omega arith
@@ -159,7 +83,7 @@ no_bit w = omega arith
 apart : (u : ℕ) → is_default_ignorable_character u ≡ false → bit_and (properties_of u) 128 ≡ 0
 apart u e =
     let zero_one : 0 ≤ 1 = omega arith in
-    ap (λ w. bit_and w 128) (word_parts u e ∙ no_bit _) ∙ middle_of _ _ _ _ 0 (fits (general_category u)) (at_most_one (is_hidden_character u)) zero_one
+    ap (λ w. bit_and w 128) (word_parts u e ∙ no_bit _) ∙ middle_of _ _ _ _ 0 (category_fits (general_category u)) (at_most_one (is_hidden_character u)) zero_one
 
 joined : (u : ℕ) → is_default_ignorable_character u ≡ false → bit_or (properties_of u) 128 ≡ properties_of u + 128
 joined u e =
@@ -170,7 +94,7 @@ joined u e =
 joined_bit : (u : ℕ) → is_default_ignorable_character u ≡ false → bit_and (properties_of u + 128) 128 ≡ 128
 joined_bit u e =
     let one : 1 ≤ 1 = omega arith in
-    ap (λ w. bit_and (w + 128) 128) (word_parts u e) ∙ middle_of _ _ _ _ 1 (fits (general_category u)) (at_most_one (is_hidden_character u)) one
+    ap (λ w. bit_and (w + 128) 128) (word_parts u e) ∙ middle_of _ _ _ _ 1 (category_fits (general_category u)) (at_most_one (is_hidden_character u)) one
 
 -- without the mark of a continuation there is the character's word
 pub word_alone : (b : Bool) (u : ℕ) → is_default_ignorable_character u ≡ false → without_bits 128 (property_word_of b u) ≡ properties_of u
@@ -181,11 +105,11 @@ word_alone true u e =
 word_alone false u e = let none = apart u e in omega (arith, none)
 
 category_low : (b : Bool) (u : ℕ) → is_default_ignorable_character u ≡ false → bit_and (property_word_of b u) 0x1F ≡ category_number (general_category u)
-category_low true u e = ap (λ w. bit_and w 0x1F) (joined u e) ∙ ap (λ w. bit_and (w + 128) 0x1F) (word_parts u e) ∙ low_of _ _ _ _ 1 (fits (general_category u))
-category_low false u e = ap (λ w. bit_and w 0x1F) (word_parts u e ∙ no_bit _) ∙ low_of _ _ _ _ 0 (fits (general_category u))
+category_low true u e = ap (λ w. bit_and w 0x1F) (joined u e) ∙ ap (λ w. bit_and (w + 128) 0x1F) (word_parts u e) ∙ low_of _ _ _ _ 1 (category_fits (general_category u))
+category_low false u e = ap (λ w. bit_and w 0x1F) (word_parts u e ∙ no_bit _) ∙ low_of _ _ _ _ 0 (category_fits (general_category u))
 
 pub word_mark : (b : Bool) (u : ℕ) → is_default_ignorable_character u ≡ false → is_mark_number (bit_and (property_word_of b u) 0x1F) ≡ is_mark_character u
-word_mark b u e = ap is_mark_number (category_low b u e) ∙ mark_number (general_category u)
+word_mark b u e = ap is_mark_number (category_low b u e) ∙ mark_numbers (general_category u)
 
 pub word_category : (u : ℕ) → is_default_ignorable_character u ≡ false → bit_and (properties_of u) 0x1F ≡ category_number (general_category u)
 word_category u e = category_low false u e

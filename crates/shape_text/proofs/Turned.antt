@@ -20,9 +20,10 @@ use Rattle.buffer_core.specs.Segment.{with_segment}
 use Rattle.buffer_core.specs.Sides.{Sides, all_glyphs, items_of, origins_by, origins_of, state_of, settings_of, stage_flags, view_of}
 use Rattle.buffer_stages.specs.Ready.{IsReady}
 use Rattle.buffer_properties.specs.Categories.{is_letter}
+use Rattle.buffer_stages.specs.LayoutStages.{merges_graphemes}
 use Rattle.buffer_stages.specs.Stages.{IsFollowed}
 use Rattle.buffer_stages.specs.Lemmas.Written.{read_followed}
-use Rattle.shape_text.specs.NativeOrder.{continues_grapheme, is_number_text, is_numeral, is_reversed, merges_graphemes, in_native_order, reversed_text}
+use Rattle.shape_text.specs.NativeOrder.{continues_grapheme, is_number_text, is_numeral, is_reversed, in_native_order, reversed_text}
 
 any_stripped : (p : Item → Bool) (gs : List hb_glyph_info_t) → list_any p (strip gs) ≡ list_any (λ (g : hb_glyph_info_t). p (item_of g)) gs
 any_stripped p [] = refl

@@ -1,8 +1,6 @@
 -- The direction of a text's script.
 use Rattle.std.specs.Prelude.{◌&&◌, ◌||◌, Bool, true, false, not, if◌then◌else◌, List, [], unwrap_or, Option, Some, None}
 use Rattle.std.specs.List.{list_any}
-use Rattle.buffer_glyphs.specs.declared.level.BufferClusterLevel.{BufferClusterLevel}
-use Rattle.buffer_glyphs.specs.declared.level.BufferClusterLevel.TheVariants.{MonotoneGraphemes, MonotoneCharacters, Characters}
 use Rattle.buffer_common.specs.Direction.{direction_of_script, opposite}
 use Rattle.buffer_common.specs.declared.direction.Direction.{Direction}
 use Rattle.buffer_common.specs.declared.direction.Direction.TheVariants.{Invalid, LeftToRight, RightToLeft, BottomToTop}
@@ -15,6 +13,7 @@ use Rattle.buffer_lists.specs.Facts.{positions_turned}
 use Rattle.buffer_lists.specs.Events.{groups_reversed}
 use Rattle.buffer_core.specs.Graphemes.{continues}
 use Rattle.buffer_properties.specs.Categories.{is_letter, is_decimal_number}
+use Rattle.buffer_stages.specs.LayoutStages.{merges_graphemes}
 use Rattle.buffer_stages.specs.Stages.{with_items_mapped}
 use Rattle.shape_text.specs.Graphemes.{is_regional_indicator}
 
@@ -46,12 +45,6 @@ runs_against _ _ = false
 -- a text is reversed: its direction is against its script's, or that of numbers alone
 abbrev pub is_reversed : Option Script → Direction → List Item → Bool
 is_reversed script text xs = runs_against text (with_numbers (is_number_text xs) text (script_direction script))
-
--- at level MonotoneCharacters graphemes are merged before the reversal, so that the order of clusters is kept
-abbrev pub merges_graphemes : BufferClusterLevel → Bool
-merges_graphemes MonotoneGraphemes = false
-merges_graphemes MonotoneCharacters = true
-merges_graphemes Characters = false
 
 -- two neighbours are in one grapheme: the second continues it
 abbrev pub continues_grapheme : Item → Item → Bool

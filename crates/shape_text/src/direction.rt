@@ -5,21 +5,20 @@ ghost use Rattle.buffer_glyphs.specs.Items.{item_of, strip};
 ghost use Rattle.buffer_glyphs.specs.Origins.{origin_of};
 ghost use Rattle.buffer_core.specs.Readings.{always};
 ghost use Rattle.buffer_core.specs.Graphemes.{continues};
-ghost use Rattle.buffer_core.specs.Grouping.{with_groups_reversed};
 ghost use Rattle.buffer_core.specs.Sides.{items_of};
 ghost use Rattle.buffer_stages.specs.Ready.{IsReady};
 ghost use Rattle.buffer_properties.specs.Categories.{is_letter};
 ghost use Rattle.buffer_stages.specs.Stages.{IsFollowed};
-ghost use Rattle.shape_text.specs.NativeOrder.{is_number_text, is_numeral, is_reversed, merges_graphemes, native_order, in_native_order, runs_against, script_direction, reversed_text, with_numbers, without_continuation};
+ghost use Rattle.shape_text.specs.NativeOrder.{is_number_text, is_numeral, is_reversed, native_order, in_native_order, runs_against, script_direction, reversed_text, with_numbers, without_continuation};
 
 use buffer_common::direction::Direction;
 use buffer_common::script::Script;
 use buffer_core::buffer::hb_buffer_t;
 use buffer_glyphs::flags::UnicodeProps;
 use buffer_glyphs::info::hb_glyph_info_t;
-use buffer_glyphs::level::BufferClusterLevel;
 use buffer_properties::categories::{is_decimal_number, is_letter};
 use buffer_stages::glyphs::map_glyphs;
+use buffer_stages::layout_stages::merges_graphemes;
 
 fn is_numeral(glyph: &hb_glyph_info_t) -> bool
     ensures { result ≡ is_numeral (item_of glyph.now) }
@@ -75,26 +74,10 @@ fn runs_against(text: Direction, written: Direction) -> bool
     )
 }
 
-fn merges_graphemes(level: BufferClusterLevel) -> bool
-    ensures { result ≡ merges_graphemes level }
-{
-    matches!(level, BufferClusterLevel::MonotoneCharacters)
-}
-
 fn continues_grapheme(glyph: &hb_glyph_info_t) -> bool
     ensures { result ≡ continues (item_of glyph.now) }
 {
     glyph.unicode_props.0 & UnicodeProps::CONTINUATION.0 != 0
-}
-
-/// Reverses the order of the graphemes, each in its own order; at level MonotoneCharacters each is merged before.
-/// Positions move with their glyphs. It takes linear time and no memory.
-pub fn _hb_ot_layout_reverse_graphemes(buffer: &mut hb_buffer_t)
-    requires { buffer.old.is_open ≡ false }
-    ensures { buffer.new
-        ≡ with_groups_reversed (merges_graphemes buffer.old.level) (λ g h. continues (item_of h)) buffer.old }
-{
-    buffer.reverse_graphemes(merges_graphemes(buffer.cluster_level()));
 }
 
 fn without_continuation(glyph: &hb_glyph_info_t) -> hb_glyph_info_t

@@ -498,7 +498,7 @@ fn asked_builder<'a>(
 ) -> Result<hb_ot_map_builder_t<'a>, AllocError> {
     let scripts = [Tag::from_bytes(b"grek")];
     let languages = tags(alloc, case.languages)?;
-    let mut builder = hb_ot_map_builder_t::new(alloc, gsub, gpos, &scripts, &languages);
+    let mut builder = hb_ot_map_builder_t::of_tables(alloc, gsub, gpos, &scripts, &languages);
     ask(&mut builder, case.asked)?;
     Ok(builder)
 }
@@ -657,7 +657,7 @@ fn requests_become_maps(rt: HostRuntime) -> Result<(), Fail> {
 
 /// A map without a font, in whose GPOS the pause 3 precedes the feature `kern`.
 fn paused_map(alloc: Global) -> Result<hb_ot_map_t, AllocError> {
-    let mut builder = hb_ot_map_builder_t::new(alloc, None, None, &[], &[]);
+    let mut builder = hb_ot_map_builder_t::of_tables(alloc, None, None, &[], &[]);
     builder.add_gpos_pause(3)?;
     builder.enable_feature(Tag::from_bytes(b"kern"), F_HAS_FALLBACK, 1)?;
     builder.disable_feature(Tag::from_bytes(b"liga"))?;

@@ -5,6 +5,7 @@ use crate::data::{Tables, face_of, value};
 use crate::planner;
 use crate::plans::{decomposing_plan_of_row, plan_of_row};
 use crate::rows::{flags_of, part, text_of};
+use buffer_glyphs::cause::ShapeCause;
 use buffer_unicode_tables::UnicodeTables;
 use buffer_wrappers::glyphs::GlyphBuffer;
 use buffer_wrappers::unicode_buffer::UnicodeBuffer;
@@ -13,6 +14,7 @@ use script_categories::SyllableTable;
 use script_plan::hb_ot_shaper_t;
 use script_plan::plan::hb_ot_shape_plan_t;
 use serde_json::Value;
+use shape_pipeline::context::{hb_ot_shape_context_t, shape_internal};
 use shape_pipeline::hb_ot_any_shaper_t;
 use shape_pipeline::shaping::{ShapeFault, nested_lookups_left, shape, shape_with_plan};
 use shell_tables_json::{read_languages, read_syllables, read_tables};
@@ -99,6 +101,46 @@ fn gives_by_plan<S: hb_ot_shaper_t>(
     Ok(fits && line.as_str() == part(row, 4))
 }
 
+/// The glyphs of a text that is in a context's buffer.
+#[tactic(auto, using(shape_pipeline::proofs::Shaped::same_characters))]
+fn shaped_in_context(
+    alloc: Global,
+    face: &Face,
+    tables: Tables<'_>,
+    plan: &hb_ot_shape_plan_t<hb_ot_any_shaper_t>,
+    text: UnicodeBuffer,
+) -> Result<GlyphBuffer, ShapeCause> {
+    let mut buffer = text.into_buffer();
+    shape_internal(
+        alloc,
+        &mut hb_ot_shape_context_t {
+            plan,
+            face,
+            shape_data: tables.data(),
+            buffer: &mut buffer,
+            target_direction: plan.script_plan.direction,
+        },
+    )?;
+    Ok(GlyphBuffer::from_buffer(buffer))
+}
+
+/// Whether a text in a context's buffer prints as the line; a cause is printed without what is left of the text.
+fn gives_in_context(
+    alloc: Global,
+    row: &str,
+    face: &Face,
+    tables: Tables<'_>,
+    plan: &hb_ot_shape_plan_t<hb_ot_any_shaper_t>,
+) -> Result<bool, Fail> {
+    let mut text = text_of(alloc, row)?;
+    text.guess_segment_properties();
+    let line = match shaped_in_context(alloc, face, tables, plan, text) {
+        Ok(glyphs) => glyphs.serialize(alloc, face, flags_of(row))?,
+        Err(cause) => format!(in alloc; "{cause} 0")?,
+    };
+    Ok(line.as_str() == part(row, 4))
+}
+
 /// Whether each use of a plan prints the line.
 fn gives_as_often(
     alloc: Global,
@@ -112,10 +154,12 @@ fn gives_as_often(
     Ok(first && second)
 }
 
-/// Whether the stack's own shaper prints the line with a plan, each time it is used.
+/// Whether the stack's own shaper prints the line with a plan, each time it is used, and in a context.
 fn gives_planned(alloc: Global, row: &str, face: &Face, tables: Tables<'_>) -> Result<bool, Fail> {
     let plan = plan_of_row(alloc, face, tables, row)?;
-    gives_as_often(alloc, row, face, tables, &plan)
+    let by_text = gives_as_often(alloc, row, face, tables, &plan)?;
+    let in_context = gives_in_context(alloc, row, face, tables, &plan)?;
+    Ok(by_text && in_context)
 }
 
 /// Whether the test's own shaper prints the line.

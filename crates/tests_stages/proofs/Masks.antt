@@ -1,25 +1,17 @@
 -- Masks without glyph flags, and what each glyph is.
-use Rattle.std.proofs.Common.{ℕ, ◌≡◌, ◌*◌, ◌∙◌, ◌&&◌, Bool, List, [], ◌∷◌, nat_le, arith, refl, sym, ap}
+use Rattle.std.proofs.Common.{ℕ, ◌≡◌, ◌*◌, ◌∙◌, Bool, List, arith, sym, ap}
 use Rattle.std.specs.Int.RustNames.{bit_and}
 use Rattle.std.specs.List.{list_all}
 use Rattle.std.proofs.lemmas.Nat.{and_mask}
 use Rattle.buffer_glyphs.specs.declared.info.hb_glyph_info_t.{hb_glyph_info_t}
-use Rattle.buffer_glyphs.specs.Items.{Item, item_of, strip}
+use Rattle.buffer_glyphs.specs.Items.{Item}
 use Rattle.buffer_core.specs.Sides.{Sides, all_glyphs, items_of}
-use Rattle.buffer_stages.specs.Buffers.{are_glyphs}
+use Rattle.buffer_stages.proofs.GlyphNumbers.{all_items}
 use Rattle.shape_text.specs.Properties.{are_characters}
 use lib.Utf8.{scalar}
 
 pub eightfold : (n : ℕ) → bit_and (n * 8) 7 ≡ 0
 eightfold n = and_mask (n * 8) 3 ∙ omega arith
-
-pub all_items : (p : Item → Bool) (gs : List hb_glyph_info_t) → list_all p (strip gs) ≡ list_all (λ g. p (item_of g)) gs
-all_items p [] = refl
-all_items p (g ∷ gs) = ap (λ b. p (item_of g) && b) (all_items p gs)
-
-pub items_fit : (b : Bool) (gs : List hb_glyph_info_t) (s : Sides) → b ≡ list_all (λ (g : hb_glyph_info_t). nat_le g.glyph_id 65535) gs → gs ≡ all_glyphs s → b ≡ are_glyphs (items_of s)
-items_fit b gs s e glyphs =
-    e ∙ ap (λ hs. list_all (λ (g : hb_glyph_info_t). nat_le g.glyph_id 65535) hs) glyphs ∙ sym (all_items (λ (x : Item). nat_le x.number 65535) (all_glyphs s))
 
 pub items_spell : (b : Bool) (gs : List hb_glyph_info_t) (s : Sides) → b ≡ list_all (λ (g : hb_glyph_info_t). scalar g.glyph_id) gs → gs ≡ all_glyphs s → b ≡ are_characters (items_of s)
 items_spell b gs s e glyphs =

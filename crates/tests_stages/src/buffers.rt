@@ -1,8 +1,7 @@
 //! Buffers of a row's glyphs and positions, ready for a stage.
-ghost use Rattle.std.specs.Prelude.{◌≡◌, ◌<◌, length, nat_le, IfOk, OnOk};
+ghost use Rattle.std.specs.Prelude.{◌≡◌, ◌<◌, length, IfOk, OnOk};
 ghost use Rattle.std.specs.List.{list_all};
 ghost use Rattle.buffer_core.specs.Sides.{items_of};
-ghost use Rattle.buffer_stages.specs.Buffers.{are_glyphs};
 ghost use Rattle.buffer_stages.specs.Ready.{IsReady};
 ghost use Rattle.shape_text.specs.Properties.{are_characters};
 ghost use lib.Utf8.{scalar};
@@ -69,21 +68,6 @@ pub fn buffer_of(alloc: Global, row: &str) -> Result<hb_buffer_t, ShapeCause>
         add_glyph(glyph, &mut buffer)?;
     }
     Ok(buffer)
-}
-
-/// Whether each number is at most 65,535.
-#[tactic(auto, using(crate::proofs::Masks::items_fit))]
-pub fn are_glyphs(buffer: &hb_buffer_t) -> bool
-    requires { IsReady buffer.now }
-    ensures { result ≡ are_glyphs (items_of buffer.now) }
-{
-    numbers_fit(buffer.info_slice())
-}
-
-fn numbers_fit(glyphs: &[hb_glyph_info_t]) -> bool
-    ensures { result ≡ list_all (λ g. nat_le g.glyph_id 65535) glyphs.now }
-{
-    glyphs.iter().all(|glyph| glyph.glyph_id <= 65535)
 }
 
 /// Whether each number is a character's.

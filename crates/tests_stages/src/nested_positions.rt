@@ -1,11 +1,12 @@
 //! A nested positioning as a call of the apply context.
 ghost use Rattle.buffer_stages.specs.Ready.{IsReady};
 
-use crate::buffers::{are_glyphs, buffer_of};
+use crate::buffers::buffer_of;
 use crate::replacements::{FONT, TEXT};
 use crate::stages::face_of;
 use buffer_core::buffer::hb_buffer_t;
 use buffer_glyphs::cause::ShapeCause;
+use buffer_stages::glyphs::are_glyphs;
 use layout_face::Face;
 use layout_map_features::per_table::TableIndex;
 use layout_match::hb_ot_apply_context_t;

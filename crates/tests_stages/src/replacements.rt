@@ -1,11 +1,12 @@
 //! What an apply context answers at the cursor: its replacements, and a nested substitution.
 ghost use Rattle.buffer_stages.specs.Ready.{IsReady};
 
-use crate::buffers::{are_glyphs, buffer_of};
+use crate::buffers::buffer_of;
 use crate::stages::face_of;
 use buffer_core::buffer::hb_buffer_t;
 use buffer_glyphs::cause::ShapeCause;
 use buffer_glyphs::flags::GlyphPropsFlags;
+use buffer_stages::glyphs::are_glyphs;
 use layout_face::Face;
 use layout_gsub::context::GlyphReplacement;
 use layout_map_features::per_table::TableIndex;

@@ -2,12 +2,14 @@
 ghost use Rattle.std.specs.Prelude.{◌≡◌, false};
 ghost use Rattle.buffer_stages.specs.Ready.{IsReady};
 
-use crate::buffers::{are_characters, are_glyphs, buffer_of};
+use crate::buffers::{are_characters, buffer_of};
 use crate::rows::{GLYPH_NUMBERS, direction_of, mask, number, part, script_of, seen};
 use buffer_common::constants::BufferFlags;
 use buffer_core::buffer::hb_buffer_t;
 use buffer_glyphs::info::hb_glyph_info_t;
 use buffer_glyphs::position::GlyphPosition;
+use buffer_stages::glyphs::are_glyphs;
+use buffer_stages::layout_stages::_hb_ot_layout_reverse_graphemes;
 use buffer_unicode_tables::UnicodeTables;
 use layout_face::Face;
 use serde_json::Value;
@@ -16,7 +18,7 @@ use shape_fallback::marks::{components_direction, position_marks};
 use shape_fallback::spaces::_hb_ot_shape_fallback_spaces;
 use shape_text::circle::insert_dotted_circle;
 use shape_text::clusters::form_clusters;
-use shape_text::direction::{_hb_ot_layout_reverse_graphemes, ensure_native_direction};
+use shape_text::direction::ensure_native_direction;
 use shape_text::fractions::{FractionMasks, setup_masks_fraction};
 use shape_text::properties::set_unicode_props;
 use shell_face_json::read_face;

@@ -1,19 +1,21 @@
 //! Graphemes, clusters and default ignorables of a buffer (rustybuzz: hb/ot_shape.rs, hb/ot_layout.rs).
 ghost use Rattle.std.specs.Prelude.{◌≡◌, ◌≤◌, ◌==◌, ◌++◌, ◌∷◌, [], false, map, take, drop, length, slice_range, OnOk, OnErr};
 ghost use Rattle.buffer_glyphs.specs.Items.{item_of};
+ghost use Rattle.buffer_glyphs.specs.PropertyWords.{is_default_ignorable};
 ghost use Rattle.buffer_glyphs.specs.Events.{Sort};
 ghost use Rattle.buffer_stable_order.specs.Keys.{key_order};
 ghost use Rattle.buffer_lists.specs.Events.{deletions, groups_reversed, order_of};
 ghost use Rattle.buffer_lists.specs.Facts.{items_kept, positions_kept, positions_turned};
 ghost use Rattle.buffer_lists.specs.Turning.{groups_reversed_list};
-ghost use Rattle.buffer_core.specs.Graphemes.{continues, is_default_ignorable};
+ghost use Rattle.buffer_core.specs.Graphemes.{continues};
 ghost use Rattle.buffer_core.specs.Grouping.{with_groups_reversed, with_picked_deleted};
 ghost use Rattle.buffer_core.specs.Sides.{all_glyphs, items_of, origins_by, origins_of};
 ghost use Rattle.buffer_core.specs.Sorting.{with_range_sorted};
 
 use super::hb_buffer_t;
-use buffer_glyphs::flags::{GlyphPropsFlags, UnicodeProps};
+use buffer_glyphs::flags::UnicodeProps;
 use buffer_glyphs::info::hb_glyph_info_t;
+use buffer_glyphs::property_words::_hb_glyph_info_is_default_ignorable;
 use std::alloc::{AllocError, Global};
 
 // Groups, deletion and sort with the tests of shaping.
@@ -51,7 +53,7 @@ impl hb_buffer_t {
         ensures origins { origins_of self.new
             ≡ origins_by (deletions is_default_ignorable (items_of self.old)) self.old }
     {
-        self.delete_glyphs_inplace(|glyph| is_ignorable_glyph(glyph));
+        self.delete_glyphs_inplace(|glyph| _hb_glyph_info_is_default_ignorable(glyph));
     }
 
     /// Sorts the marks from `start` up to before `end` stably by their modified combining classes, and merges each
@@ -88,11 +90,4 @@ fn continues_grapheme(glyph: &hb_glyph_info_t) -> bool
     ensures { result ≡ continues (item_of glyph.now) }
 {
     glyph.unicode_props.0 & UnicodeProps::CONTINUATION.0 != 0
-}
-
-fn is_ignorable_glyph(glyph: &hb_glyph_info_t) -> bool
-    ensures { result ≡ is_default_ignorable (item_of glyph.now) }
-{
-    glyph.unicode_props.0 & UnicodeProps::IGNORABLE.0 != 0
-        && glyph.glyph_props.0 & GlyphPropsFlags::SUBSTITUTED.0 == 0
 }

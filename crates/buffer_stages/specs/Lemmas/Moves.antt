@@ -8,7 +8,7 @@ use Rattle.buffer_glyphs.specs.Origins.{with_range_arranged}
 use Rattle.buffer_lists.specs.Lemmas.Picked.{AreAt, are_all, arranged_as}
 use Rattle.buffer_stages.specs.Moves.{with_range_moved, order_of_move}
 
-are_both : {X : Type 0} (all : List X) (is : List ℕ) (zs : List X) (js : List ℕ) (ws : List X) → AreAt all is zs → AreAt all js ws → AreAt all (is ++ js) (zs ++ ws)
+pub are_both : {X : Type 0} (all : List X) (is : List ℕ) (zs : List X) (js : List ℕ) (ws : List X) → AreAt all is zs → AreAt all js ws → AreAt all (is ++ js) (zs ++ ws)
 are_both all [] [] js ws h k = k
 are_both all [] (z ∷ zs) js ws h k = absurd h
 are_both all (i ∷ is) [] js ws h k = absurd h
@@ -19,7 +19,7 @@ got_among [] x xs = refl
 got_among (y ∷ ys) x xs = got_among ys x xs
 
 -- elements between others, at their indices
-are_among : {X : Type 0} (front xs back : List X) → AreAt (front ++ (xs ++ back)) (range_with_len (length front) (length xs)) xs
+pub are_among : {X : Type 0} (front xs back : List X) → AreAt (front ++ (xs ++ back)) (range_with_len (length front) (length xs)) xs
 are_among front [] back = tt
 are_among front (x ∷ xs) back =
     let rest = are_among (front ++ x ∷ []) xs back in

@@ -59,7 +59,8 @@ use Rattle.script_arabic.specs.Stretch.{with_tiles_laid, text_runs, tiles_laid}
 use Rattle.script_universal.specs.Pauses.{forms_set, universal_circles, universal_syllables_set}
 use Rattle.script_khmer.specs.Pauses.{khmer_circles}
 use Rattle.script_myanmar.specs.Pauses.{myanmar_circles}
-use Rattle.script_syllabic.specs.Syllables.{syllables_by, then_syllables, item_not_substituted, without_syllable}
+use Rattle.buffer_stages.specs.LayoutStages.{item_not_substituted}
+use Rattle.script_syllabic.specs.Syllables.{syllables_by, then_syllables, without_syllable}
 use Rattle.script_arabic.specs.Tiles.{tile_recorded}
 use Rattle.script_thai.specs.Texts.{has_private_forms, private_if}
 use Rattle.script_dispatch.specs.Hooks.{masks_set_by, pause_done, pause_if, postprocessing_by, preprocessing_by, syllables_found_by}

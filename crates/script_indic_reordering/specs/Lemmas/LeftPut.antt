@@ -1,15 +1,15 @@
 -- Left matras that move after all others: how the glyphs move, and the indices at which they stood.
-use Rattle.std.proofs.Common.{ℕ, zero, suc, ◌≡◌, ◌≤◌, ◌<◌, ◌+◌, ◌-◌, Bool, true, false, if◌then◌else◌, List, [], ◌∷◌, ◌++◌, length, map, take, drop, filter, reverse, Some, None, slice_get, refl, sym, ap, subst, ◌∙◌, arith, append_assoc}
+use Rattle.std.proofs.Common.{ℕ, zero, suc, ◌≡◌, ◌≤◌, ◌+◌, ◌-◌, Bool, true, false, if◌then◌else◌, List, [], ◌∷◌, ◌++◌, length, map, take, drop, filter, reverse, Some, slice_get, refl, sym, ap, subst, ◌∙◌, arith, append_assoc}
 use Rattle.std.specs.Prelude.{not, slice_range}
 use Rattle.std.specs.List.{range_with_len}
 use Rattle.std.specs.Option.{option_map_or}
 use Rattle.std.proofs.Math.Seq.{take-append_seam, drop-append_seam}
 use Rattle.std.proofs.lemmas.List.{append-nil, drop_all, length-append, length-drop, length-map, length-reverse, length-take-le, reverse-append, reverse-reverse, take-append-drop, take_all, map-append, take-map, drop-map}
-use Rattle.std.proofs.lemmas.List.FromFn.{length-range_with_len}
 use Rattle.buffer_glyphs.specs.declared.info.hb_glyph_info_t.{hb_glyph_info_t}
 use Rattle.buffer_glyphs.specs.Items.{Item, item_of, strip}
 use Rattle.buffer_lists.specs.Lemmas.Picked.{AreAt, are_all}
 use Rattle.buffer_stages.specs.Fronts.{fronts, with_fronts_moved, one_seen, pair_seen, elements_after_fronts}
+use Rattle.buffer_stages.specs.Lemmas.Moves.{are_among, are_both}
 use Rattle.buffer_stages.specs.Moves.{with_range_moved}
 use Rattle.script_indic_reordering.specs.Glyphs.{is_left}
 use Rattle.script_indic_reordering.specs.Final.{is_left_at, lefts_last}
@@ -103,24 +103,6 @@ put_is n k gs one two three fits e c f h =
     ∙ append-nil (others ++ (rest ++ lefts)) ∙ sym (append_assoc others rest lefts)
 
 -- ---- where they stood
-
-are_both : {X : Type 0} (all : List X) (is : List ℕ) (zs : List X) (js : List ℕ) (ws : List X) → AreAt all is zs → AreAt all js ws → AreAt all (is ++ js) (zs ++ ws)
-are_both all [] [] js ws h k = k
-are_both all [] (z ∷ zs) js ws h k = absurd h
-are_both all (i ∷ is) [] js ws h k = absurd h
-are_both all (i ∷ is) (z ∷ zs) js ws h k = (h.0, are_both all is zs js ws h.1 k)
-
-got_among : {X : Type 0} (front : List X) (x : X) (xs : List X) → slice_get (front ++ x ∷ xs) (length front) ≡ Some x
-got_among [] x xs = refl
-got_among (y ∷ ys) x xs = got_among ys x xs
-
-are_among : {X : Type 0} (front xs back : List X) → AreAt (front ++ (xs ++ back)) (range_with_len (length front) (length xs)) xs
-are_among front [] back = tt
-are_among front (x ∷ xs) back =
-    let rest = are_among (front ++ x ∷ []) xs back in
-    let long : length (front ++ x ∷ []) ≡ length front + 1 = length-append front (x ∷ []) in
-    let at : AreAt ((front ++ x ∷ []) ++ (xs ++ back)) (range_with_len (length front + 1) (length xs)) xs = subst (λ n. AreAt ((front ++ x ∷ []) ++ (xs ++ back)) (range_with_len n (length xs)) xs) long rest in
-    (got_among front x (xs ++ back), subst (λ ys. AreAt ys (range_with_len (length front + 1) (length xs)) xs) (append_assoc front (x ∷ []) (xs ++ back)) at)
 
 filter_at : {X : Type 0} (all : List X) (q : ℕ → Bool) (p : X → Bool) → ((i : ℕ) (z : X) → slice_get all i ≡ Some z → q i ≡ p z) → (is : List ℕ) (zs : List X) → AreAt all is zs → AreAt all (filter q is) (filter p zs)
 filter_at all q p agree [] [] h = tt

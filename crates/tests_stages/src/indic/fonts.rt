@@ -2,13 +2,13 @@
 ghost use Rattle.std.specs.Prelude.{OnOk};
 ghost use Rattle.buffer_stages.specs.Ready.{IsReady};
 
-use crate::buffers::are_glyphs;
 use crate::indic::font_rows::ROWS;
 use crate::indic::text::{buffer, field, has, lists, numbers};
 use buffer_common::script::{KANNADA, Script, TELUGU};
 use buffer_common::script_tags::script_tags;
 use buffer_core::buffer::hb_buffer_t;
 use buffer_glyphs::cause::ShapeCause;
+use buffer_stages::glyphs::are_glyphs;
 use layout_face::Face;
 use layout_map::builder::hb_ot_map_builder_t;
 use layout_map::map::hb_ot_map_t;
@@ -29,13 +29,7 @@ pub(crate) fn map_of(
     script: Script,
 ) -> Result<hb_ot_map_t, AllocError> {
     let scripts = script_tags(Some(script));
-    let mut builder = hb_ot_map_builder_t::new(
-        alloc,
-        face.gsub(),
-        face.gpos(),
-        scripts.as_slice(),
-        &[],
-    );
+    let mut builder = hb_ot_map_builder_t::new(alloc, face, scripts.as_slice(), &[]);
     collect_features(&mut builder)?;
     builder.compile(alloc)
 }

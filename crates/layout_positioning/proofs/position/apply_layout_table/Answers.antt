@@ -15,6 +15,6 @@ loop-i-preserved g c =
     record {
       done = stage_done c.args.face.now (positioning_lookups c.args.face.now) t (g.P.Pause.stage c.args.pause.now (text_settings c.args.buffer.now)) c.loop-i.i none c.stage_lookups.result.now _ c.args.buffer.now c.loop-i.buffer c.apply_stage.new.buffer c.run_pause.new.buffer (search rules) was.done c.stage_lookups.ensures (ap (λ (s : StageMap). s.pause) there)
           c.in_ok-apply_stage.ensures
-          (paused_as_set (g.P.Pause.stage c.args.pause.now) _ 1 c.args.buffer.now c.apply_stage.new.buffer c.run_pause.new.buffer (c.in_ok-apply_stage.ensures.settings ∙ was.done.settings) (c.in_ok-run_pause.ensures.ok 1));
+          (paused_as_set (g.P.Pause.stage c.args.pause.now) _ 1 c.args.buffer.now c.apply_stage.new.buffer c.run_pause.new.buffer (c.in_ok-apply_stage.ensures.settings ∙ was.done.settings) (c.in_ok-run_pause.ensures 1));
       stages = was.stages;
     }

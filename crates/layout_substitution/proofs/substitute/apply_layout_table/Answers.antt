@@ -16,7 +16,7 @@ loop-i-preserved g c =
           c.apply_stage.new.ctx.random_state c.args.buffer.now c.loop-i.buffer c.apply_stage.new.buffer c.run_pause.new.buffer (search rules) was.done was.face c.stage_lookups.ensures (ap (λ (s : StageMap). s.pause) there)
           c.in_ok-apply_stage.ensures.stage
           (paused_as_set (g.P.Pause.stage c.args.pause.now) _ c.apply_stage.new.ctx.random_state c.args.buffer.now c.apply_stage.new.buffer c.run_pause.new.buffer (c.in_ok-apply_stage.ensures.stage.settings ∙ was.done.settings)
-          (c.in_ok-run_pause.ensures.ok c.apply_stage.new.ctx.random_state));
+          (c.in_ok-run_pause.ensures c.apply_stage.new.ctx.random_state));
       substitution = c.apply_stage.ensures.table;
       face = c.apply_stage.ensures.face ∙ was.face;
       stages = was.stages;

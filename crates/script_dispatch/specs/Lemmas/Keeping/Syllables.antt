@@ -21,7 +21,8 @@ use Rattle.script_syllabic.specs.Spans.{categories_counted, index_or_end, counte
 use Rattle.script_syllabic.proofs.Counting.{indices_rise}
 use Rattle.script_syllabic.proofs.QuietRules.{bytes_permute, pref_recorded_permutes, rphf_permutes, rphf_recorded_permutes, topography_permutes}
 use Rattle.script_universal.specs.Pauses.{forms_set, universal_syllables_set}
-use Rattle.script_syllabic.specs.Syllables.{syllables_by, then_syllables, item_not_substituted, without_syllable}
+use Rattle.buffer_stages.specs.LayoutStages.{item_not_substituted}
+use Rattle.script_syllabic.specs.Syllables.{syllables_by, then_syllables, without_syllable}
 use Rattle.buffer_stage_laws.specs.Plainly.{KeepsPlainly}
 use Rattle.buffer_stage_laws.specs.Lemmas.Plainly.{IsSteady, ReadsPlainly, even_plainly, limited_plainly, mapped_plainly, permuted_even, rule_plainly, same_plainly, syllables_plainly, then_plainly, then_steady, within_steady}
 use Rattle.script_plan.specs.Rules.{EndAfterStart, Spans}

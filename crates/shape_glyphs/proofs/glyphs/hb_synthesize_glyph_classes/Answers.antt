@@ -1,6 +1,6 @@
 use Rattle.std.proofs.Common.{refl, rules}
 use Rattle.shape_glyphs.specs.Glyphs.{item_with_synthesized_class}
-use Rattle.shape_glyphs.proofs.Ended.{mapped_done}
+use Rattle.buffer_stages.proofs.Mapped.{mapped_done}
 use Rattle.shape_glyphs.proofs.glyphs.hb_synthesize_glyph_classes.Goals as goal
 
 pub returns : goal.returns

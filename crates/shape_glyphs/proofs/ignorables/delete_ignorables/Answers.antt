@@ -1,6 +1,6 @@
 use Rattle.std.proofs.Common.{rules}
 use Rattle.buffer_glyphs.specs.Items.{item_of}
-use Rattle.buffer_core.specs.Graphemes.{is_default_ignorable}
+use Rattle.buffer_glyphs.specs.PropertyWords.{is_default_ignorable}
 use Rattle.shape_glyphs.proofs.Ended.{deleted_done}
 use Rattle.shape_glyphs.proofs.ignorables.delete_ignorables.Goals as goal
 

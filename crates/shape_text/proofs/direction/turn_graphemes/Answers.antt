@@ -1,6 +1,7 @@
 use Rattle.std.proofs.Common.{rules, ap, ◌∙◌}
 use Rattle.buffer_glyphs.specs.Items.{item_of}
-use Rattle.shape_text.specs.NativeOrder.{continues_grapheme, merges_graphemes}
+use Rattle.buffer_stages.specs.LayoutStages.{merges_graphemes}
+use Rattle.shape_text.specs.NativeOrder.{continues_grapheme}
 use Rattle.shape_text.proofs.Turned.{turned_followed}
 use Rattle.shape_text.proofs.direction.turn_graphemes.Goals as goal
 

@@ -22,6 +22,7 @@ returns g c =
     (made.direction ∙ ap (λ p. p.direction) asked ∙ first.direction)
     (made.script ∙ ap (λ p. p.script) asked ∙ first.script)
     made.map
+    made.mark
     (choices_by kind c.args.face.now _ _ _ _ _ (compiled_map c.collect_features.new.self.ot_map) _ (ap (λ p. p.shaper) asked) (ap (λ p. p.face.now) asked ∙ first.face)
     (ap (λ p. p.script_zero_marks) asked ∙ first.zero_marks) (ap (λ p. p.script_fallback_mark_positioning) asked ∙ first.fallback) made.choices)
     (data_by kind _ _ (compiled_map c.collect_features.new.self.ot_map) _ _ _ (ap (λ p. p.shaper) asked) (ap (λ p. p.script) asked ∙ first.script) made.data)

@@ -2,14 +2,14 @@
 ghost use Rattle.std.specs.Prelude.{◌≡◌};
 ghost use Rattle.buffer_core.specs.Readings.{always};
 ghost use Rattle.buffer_stages.specs.Ready.{IsDone, IsReady};
-ghost use Rattle.shape_glyphs.specs.Classes.{item_with_class, first_props, with_font_classes};
+ghost use Rattle.layout_gsub.specs.GlyphClasses.{first_props, with_font_classes};
 
+use crate::replacement::glyph_props;
 use buffer_core::buffer::hb_buffer_t;
 use buffer_glyphs::flags::GlyphPropsFlags;
 use buffer_glyphs::info::hb_glyph_info_t;
 use buffer_stages::glyphs::map_glyphs;
 use layout_face::Face;
-use layout_gsub::replacement::glyph_props;
 
 /// Sets each glyph's properties to its GDEF class, and clears its ligature word (`hb_ot_layout_substitute_start`). It
 /// takes no memory; each glyph takes one search in the font's classes.
