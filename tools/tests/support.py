@@ -9,7 +9,8 @@ from pathlib import Path
 from typing import Any
 
 TOOLS = Path(__file__).parent.parent
-sys.path.insert(0, str(TOOLS))
+BENCH = TOOLS.parent / "bench"
+sys.path[:0] = [str(TOOLS), str(BENCH)]
 
 DEJAVU = "/usr/share/fonts/truetype/dejavu/DejaVuSans.ttf"
 NASKH = "/usr/share/fonts/truetype/noto/NotoNaskhArabic-Regular.ttf"

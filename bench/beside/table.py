@@ -1,0 +1,93 @@
+"""Slopes, ratios, and the table in Markdown."""
+
+from dataclasses import dataclass
+
+MIB = 1 << 20
+WHOLE_HEAD = ("hb-shape", "program", "ratio")
+KEPT_HEAD = ("libharfbuzz, plan kept", "program, plan cancelled", "ratio")
+HEAD = ("Set", "Font", *WHOLE_HEAD, *KEPT_HEAD, "glyphs")
+MEMORY_HEAD = ("hb-shape, MiB", "program, MiB", "ratio")
+# The ratio above which a row is named, of time and of memory.
+TIME_BOUND = 1.0
+MEMORY_BOUND = 1.2
+
+
+@dataclass(frozen=True)
+class Pair:
+    """What HarfBuzz takes, and what the program takes."""
+
+    theirs: float
+    own: float
+
+    @property
+    def ratio(self) -> float | None:
+        """How often what HarfBuzz takes is in what the program takes; None where nothing was measured above zero."""
+        return self.own / self.theirs if self.theirs > 0 and self.own > 0 else None
+
+
+@dataclass(frozen=True)
+class Row:
+    """A set: nanoseconds a character of whole programs and with the plan kept, where glyphs differ, peaks in bytes."""
+
+    name: str
+    font: str
+    whole: Pair
+    kept: Pair
+    difference: str
+    memory: Pair | None = None
+
+    @property
+    def title(self) -> str:
+        return f"{self.name}, {self.font}"
+
+
+def slope(lengths: tuple[int, int], seconds: tuple[float, float]) -> float:
+    """Nanoseconds for each character that the longer text has more: what both texts take alike cancels."""
+    return (seconds[1] - seconds[0]) * 1e9 / (lengths[1] - lengths[0])
+
+
+def head(with_memory: bool) -> str:
+    """The first two lines of the table."""
+    names = HEAD + MEMORY_HEAD if with_memory else HEAD
+    return f"{line(names)}\n{line('---' for _ in names)}"
+
+
+def row_line(row: Row) -> str:
+    """A row's line of the table."""
+    cells = [row.name, row.font, *of_time(row.whole), *of_time(row.kept), "differ" if row.difference else "same"]
+    if row.memory is not None:
+        cells += [f"{row.memory.theirs / MIB:.0f}", f"{row.memory.own / MIB:.0f}", shown(row.memory.ratio)]
+    return line(cells)
+
+
+def of_time(pair: Pair) -> tuple[str, str, str]:
+    return f"{pair.theirs:.0f}", f"{pair.own:.0f}", shown(pair.ratio)
+
+
+def shown(ratio: float | None) -> str:
+    return "?" if ratio is None else f"{ratio:.2f}"
+
+
+def line(cells: object) -> str:
+    return f"| {' | '.join(cells)} |"
+
+
+def summary(rows: list[Row]) -> list[str]:
+    """The rows above a bound, by what was measured, and the rows whose glyphs differ, which no ratio speaks of."""
+    lines = [
+        above("beside hb-shape", TIME_BOUND, [(row, row.whole) for row in rows]),
+        above("beside libharfbuzz, plan kept", TIME_BOUND, [(row, row.kept) for row in rows]),
+    ]
+    measured = [(row, row.memory) for row in rows if row.memory is not None]
+    if measured:
+        lines.append(above("in memory", MEMORY_BOUND, measured))
+    return lines + [f"{row.title}: {row.difference}" for row in rows if row.difference]
+
+
+def above(what: str, bound: float, pairs: list[tuple[Row, Pair]]) -> str:
+    """Names the rows whose ratio, as it is shown, is above a bound, and those without one."""
+    found = []
+    for row, pair in pairs:
+        if pair.ratio is None or float(shown(pair.ratio)) > bound:
+            found.append(f"{row.title} ({shown(pair.ratio)})")
+    return f"Above {bound} {what}: {', '.join(found) if found else 'none'} ({len(found)} of {len(pairs)})."
