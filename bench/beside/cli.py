@@ -130,7 +130,7 @@ def measure_all(sets: list[Set], options: argparse.Namespace, made: Path, kept: 
     driver, tables, progress = build_driver(made), tables_file(kept), Progress(NAME)
     rows: list[Row] = []
     if not options.glyphs:
-        print(head(options.memory), flush=True)
+        print(f"{what_is_measured(options)}\n\n{head(options.memory)}", flush=True)
     for at, chosen in enumerate(sets):
         progress.step(chosen.title, at + 1, len(sets))
         files = Files(chosen, options.program, tables, font_file(kept, chosen.font), driver)
@@ -141,6 +141,12 @@ def measure_all(sets: list[Set], options: argparse.Namespace, made: Path, kept: 
     if not options.glyphs:
         print("\n" + "\n".join(summary(rows)))
     return 1 if any(row.difference for row in rows) else 0
+
+
+def what_is_measured(options: argparse.Namespace) -> str:
+    lengths = f"{PAGE:,} to {PAGE * options.pages:,} characters"
+    version = printed_by([THEIRS, "--version"])[0]
+    return f"Nanoseconds a character, from {lengths}, the least of {options.runs} runs, beside {version}."
 
 
 def font_file(folder: Path, path: Path) -> Path:
