@@ -8,7 +8,7 @@ import tempfile
 from pathlib import Path
 from typing import Any
 
-from beside.differences import difference
+from beside.differences import Difference, difference
 from beside.pages import text_of
 from beside.programs import THEIRS, Files, build_driver, printed_by, used_by
 from beside.sets import PACKAGES, SETS, Set
@@ -42,7 +42,7 @@ Before a set is measured both texts are shaped once by all three, and their glyp
 are compared. Below the table stand the rows above 1.0, and where glyphs differ."""
 AFTER = f"""Needs {THEIRS} (libharfbuzz-bin), gcc and libharfbuzz-dev, python3-fonttools, unicode-data, and the fonts
 ({', '.join(PACKAGES)}).
-The status is 1 where glyphs differ.
+The status is 1 where glyphs differ otherwise than docs/DIFFERENCES.md says.
 
 examples:
   bench/real                            all sets
@@ -53,7 +53,7 @@ examples:
 
 
 def main(words: list[str]) -> int:
-    """Measures; its status is 1 where glyphs differ."""
+    """Measures; its status is 1 where glyphs differ otherwise than docs/DIFFERENCES.md says."""
     options = read_options(words)
     sets = chosen_sets(options.only)
     if options.texts is not None:
@@ -137,10 +137,17 @@ def measure_all(sets: list[Set], options: argparse.Namespace, made: Path, kept: 
         row = measure(files, options, made)
         rows.append(row)
         progress.end()
-        print(f"{row.title}: {row.difference or 'same'}" if options.glyphs else row_line(row), flush=True)
+        unlike = row.difference
+        print(f"{row.title}: {unlike.told if unlike else 'same'}" if options.glyphs else row_line(row), flush=True)
     if not options.glyphs:
         print("\n" + "\n".join(summary(rows)))
-    return 1 if any(row.difference for row in rows) else 0
+    pairs = zip(sets, rows, strict=True)
+    return 1 if any(is_fault(chosen, row.difference) for chosen, row in pairs) else 0
+
+
+def is_fault(chosen: Set, unlike: Difference | None) -> bool:
+    """Whether glyphs differ otherwise than the set's are known to."""
+    return unlike is not None and not (chosen.has_own_clusters and unlike.in_clusters_alone)
 
 
 def what_is_measured(options: argparse.Namespace) -> str:
@@ -179,15 +186,15 @@ def written_text(folder: Path, chosen: Set, characters: int) -> tuple[Path, int]
     return path, len(text)
 
 
-def differences(files: Files, texts: list[Path]) -> str:
-    """Where the program's glyphs of a text differ from those of hb-shape or of libharfbuzz; or nothing."""
+def differences(files: Files, texts: list[Path]) -> Difference | None:
+    """Where the program's glyphs of a text differ from those of hb-shape or of libharfbuzz; None where nowhere."""
     by_library = printed_by(files.kept(0, texts))
     for text, line in zip(texts, by_library, strict=True):
         own, theirs = ("".join(printed_by(words)) for words in (files.own(text), files.theirs(text)))
         found = difference(own, theirs.strip("[]")) or difference(own, line.strip("[]"))
-        if found:
+        if found is not None:
             return found
-    return ""
+    return None
 
 
 Times = tuple[float, float]

@@ -1,6 +1,6 @@
 """The sets: a font of Debian's packages, a list of words, and how words become a text."""
 
-from dataclasses import dataclass
+from dataclasses import dataclass, replace
 from pathlib import Path
 
 TRUETYPE = Path("/usr/share/fonts/truetype")
@@ -29,6 +29,8 @@ class Set:
     between: str = " "
     stop: str = ". "
     is_decomposed: bool = False
+    # Its clusters are not those of HarfBuzz, as docs/DIFFERENCES.md says.
+    has_own_clusters: bool = False
 
     @property
     def font(self) -> Path:
@@ -49,8 +51,10 @@ def noto(name: str, script: str, words: str, language: str, between: str = " ", 
     return Set(name, NOTO, f"Noto{script}-Regular.ttf", words, language, between, stop)
 
 
-def indic(script: str, words: str, language: str, stop: str = DANDA) -> Set:
-    return noto(script, f"Sans{script}", words, language, stop=stop)
+def indic(script: str, language: str, stop: str = DANDA, *, has_own_clusters: bool = False) -> Set:
+    """A set of one of the nine Indic scripts."""
+    made = noto(script, f"Sans{script}", script.lower(), language, stop=stop)
+    return replace(made, has_own_clusters=has_own_clusters)
 
 
 NANUM = ("fonts-nanum", "NanumGothic.ttf")
@@ -72,13 +76,13 @@ SETS = (
     Set("Hangul", *NANUM, "hangul", "ko"),
     Set("Jamo", *NANUM, "hangul", "ko", is_decomposed=True),
     Set("Chinese, Japanese, Korean", *NANUM, "cjk", "zh", "", "\u3002"),
-    indic("Devanagari", "devanagari", "hi"),
-    indic("Bengali", "bengali", "bn"),
-    indic("Gurmukhi", "gurmukhi", "pa"),
-    indic("Gujarati", "gujarati", "gu", ". "),
-    indic("Oriya", "oriya", "or"),
-    indic("Tamil", "tamil", "ta", ". "),
-    indic("Telugu", "telugu", "te", ". "),
-    indic("Kannada", "kannada", "kn", ". "),
-    indic("Malayalam", "malayalam", "ml", ". "),
+    indic("Devanagari", "hi"),
+    indic("Bengali", "bn"),
+    indic("Gurmukhi", "pa"),
+    indic("Gujarati", "gu", ". "),
+    indic("Oriya", "or"),
+    indic("Tamil", "ta", ". ", has_own_clusters=True),
+    indic("Telugu", "te", ". "),
+    indic("Kannada", "kn", ". "),
+    indic("Malayalam", "ml", ". ", has_own_clusters=True),
 )

@@ -2,6 +2,8 @@
 
 from dataclasses import dataclass
 
+from beside.differences import Difference
+
 MIB = 1 << 20
 WHOLE_HEAD = ("hb-shape", "program", "ratio")
 KEPT_HEAD = ("libharfbuzz, plan kept", "program, plan cancelled", "ratio")
@@ -33,7 +35,7 @@ class Row:
     font: str
     whole: Pair
     kept: Pair
-    difference: str
+    difference: Difference | None
     memory: Pair | None = None
 
     @property
@@ -54,10 +56,16 @@ def head(with_memory: bool) -> str:
 
 def row_line(row: Row) -> str:
     """A row's line of the table."""
-    cells = [row.name, row.font, *of_time(row.whole), *of_time(row.kept), "differ" if row.difference else "same"]
+    cells = [row.name, row.font, *of_time(row.whole), *of_time(row.kept), of_glyphs(row.difference)]
     if row.memory is not None:
         cells += [f"{row.memory.theirs / MIB:.0f}", f"{row.memory.own / MIB:.0f}", shown(row.memory.ratio)]
     return line(cells)
+
+
+def of_glyphs(unlike: Difference | None) -> str:
+    if unlike is None:
+        return "same"
+    return "clusters differ" if unlike.in_clusters_alone else "differ"
 
 
 def of_time(pair: Pair) -> tuple[str, str, str]:
@@ -73,7 +81,7 @@ def line(cells: object) -> str:
 
 
 def summary(rows: list[Row]) -> list[str]:
-    """The rows above a bound, by what was measured, and the rows whose glyphs differ, which no ratio speaks of."""
+    """The rows above a bound, by what was measured, and the rows whose glyphs differ."""
     lines = [
         above("beside hb-shape", TIME_BOUND, [(row, row.whole) for row in rows]),
         above("beside libharfbuzz, plan kept", TIME_BOUND, [(row, row.kept) for row in rows]),
@@ -81,7 +89,7 @@ def summary(rows: list[Row]) -> list[str]:
     measured = [(row, row.memory) for row in rows if row.memory is not None]
     if measured:
         lines.append(above("in memory", MEMORY_BOUND, measured))
-    return lines + [f"{row.title}: {row.difference}" for row in rows if row.difference]
+    return lines + [f"{row.title}: {row.difference.told}" for row in rows if row.difference is not None]
 
 
 def above(what: str, bound: float, pairs: list[tuple[Row, Pair]]) -> str:

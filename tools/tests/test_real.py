@@ -12,7 +12,7 @@ from pathlib import Path
 from support import DEJAVU, TOOLS  # noqa: F401  (it puts the tools and bench/ on the path)
 
 from beside import cli
-from beside.differences import difference
+from beside.differences import Difference, difference
 from beside.pages import WORDS, chances, read_words, text_from, text_of, words_of
 from beside.programs import build_driver, printed_by, used_by
 from beside.sets import PACKAGES, SETS
@@ -25,7 +25,11 @@ HEADER = Path("/usr/include/harfbuzz/hb.h")
 CAN_DRIVE = HEADER.exists() and Path(DEJAVU).exists() and shutil.which("gcc") and shutil.which("hb-shape")
 
 
-def row(theirs: float, own: float, unlike: str = "", memory: Pair | None = None) -> Row:
+UNLIKE = Difference("1 of 2 glyphs differ", in_clusters_alone=False)
+CLUSTERS = Difference("1 of 2 glyphs differ in clusters alone", in_clusters_alone=True)
+
+
+def row(theirs: float, own: float, unlike: Difference | None = None, memory: Pair | None = None) -> Row:
     """A row of Thai that takes twice as much with the plan kept as the whole programs take."""
     return Row("Thai", "Loma", Pair(theirs, own), Pair(2 * theirs, 2 * own), unlike, memory)
 
@@ -85,10 +89,11 @@ class Numbers(unittest.TestCase):
 
     def test_table(self) -> None:
         """Each line has as many cells as the head, with the peaks of memory and without them."""
-        plain, large = row(420, 315), row(420, 315, "1 of 2 glyphs differ", Pair(100 * MIB, 130 * MIB))
+        plain, large = row(420, 315), row(420, 315, UNLIKE, Pair(100 * MIB, 130 * MIB))
         self.assertEqual(row_line(plain), "| Thai | Loma | 420 | 315 | 0.75 | 840 | 630 | 0.75 | same |")
         want = "| Thai | Loma | 420 | 315 | 0.75 | 840 | 630 | 0.75 | differ | 100 | 130 | 1.30 |"
         self.assertEqual(row_line(large), want)
+        self.assertIn("| clusters differ |", row_line(row(420, 315, CLUSTERS)))
         for with_memory, measured in ((False, plain), (True, large)):
             first, second = head(with_memory).split("\n")
             self.assertEqual({first.count("|"), second.count("|")}, {row_line(measured).count("|")})
@@ -102,7 +107,7 @@ class Numbers(unittest.TestCase):
         )
         none = "none (0 of 1)."
         self.assertEqual(
-            summary([row(4, 3, "1 of 2 glyphs differ", Pair(100, 121))]),
+            summary([row(4, 3, UNLIKE, Pair(100, 121))]),
             [
                 f"Above 1.0 beside hb-shape: {none}",
                 f"Above 1.0 beside libharfbuzz, plan kept: {none}",
@@ -115,21 +120,37 @@ class Numbers(unittest.TestCase):
 class Differences(unittest.TestCase):
     def test_same(self) -> None:
         """Lines of one meaning are the same, also where one of them prints zeros."""
-        self.assertEqual(difference("5=0+600|6=1", "5=0+600|6=1"), "")
-        self.assertEqual(difference("5=0@0,0+600|6=1", "5=0+600|6=1+0"), "")
+        self.assertIsNone(difference("5=0+600|6=1", "5=0+600|6=1"))
+        self.assertIsNone(difference("5=0@0,0+600|6=1", "5=0+600|6=1+0"))
 
     def test_each_field(self) -> None:
         """Number, cluster, offset and advance are compared, and a glyph that one line lacks."""
         for unlike, found in (
             ("7=1@3,4+9", "7=1@3,4+9,0"),
-            ("6=2@3,4+9", "6=2@3,4+9,0"),
             ("6=1@3,5+9", "6=1@3,5+9,0"),
             ("6=1@3,4+8", "6=1@3,4+8,0"),
         ):
-            want = f"1 of 3 glyphs differ, first glyph 1: 6=1@3,4+9,0 where HarfBuzz has {found}"
-            self.assertEqual(difference("5=0+6|6=1@3,4+9|8=2", f"5=0+6|{unlike}|8=2"), want)
-        want = "1 of 2 glyphs differ, first glyph 1: none where HarfBuzz has 6=1@0,0+0,0"
-        self.assertEqual(difference("5=0+6", "5=0+6|6=1"), want)
+            told = f"1 of 3 glyphs differ, first glyph 1: 6=1@3,4+9,0 where HarfBuzz has {found}"
+            self.assertEqual(difference("5=0+6|6=1@3,4+9|8=2", f"5=0+6|{unlike}|8=2"), Difference(told, False))
+        told = "1 of 2 glyphs differ, first glyph 1: none where HarfBuzz has 6=1@0,0+0,0"
+        self.assertEqual(difference("5=0+6", "5=0+6|6=1"), Difference(told, False))
+
+    def test_clusters(self) -> None:
+        """Clusters alone are told apart, unless another glyph differs otherwise too."""
+        told = "1 of 2 glyphs differ in clusters alone, first glyph 1: 6=0@0,0+0,0 where HarfBuzz has 6=1@0,0+0,0"
+        self.assertEqual(difference("5=0+6|6=0", "5=0+6|6=1"), Difference(told, True))
+        found = difference("5=0+6|6=0|7=2", "5=0+6|6=1|8=2")
+        self.assertTrue(found is not None and not found.in_clusters_alone and found.told.startswith("2 of 3 "))
+
+    def test_fault(self) -> None:
+        """Other clusters are no fault of a set that has clusters of its own; anything else is."""
+        for name, unlike, is_fault in (
+            ("Tamil", None, False),
+            ("Tamil", CLUSTERS, False),
+            ("Tamil", UNLIKE, True),
+            ("Telugu", CLUSTERS, True),
+        ):
+            self.assertEqual(cli.is_fault(cli.chosen_sets([name])[0], unlike), is_fault, name)
 
 
 class Running(unittest.TestCase):
