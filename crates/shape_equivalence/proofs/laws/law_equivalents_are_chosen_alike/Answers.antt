@@ -1,5 +1,0 @@
-use Rattle.shape_equivalence.proofs.Chosen.{equivalents_are_chosen_alike}
-use Rattle.shape_equivalence.proofs.laws.law_equivalents_are_chosen_alike.Goals as goal
-
-pub returns : goal.returns
-returns c = equivalents_are_chosen_alike

@@ -1,5 +1,0 @@
-use Rattle.shape_equivalence.proofs.Alike.{greater_budgets_read_the_same}
-use Rattle.shape_equivalence.proofs.laws.law_greater_budgets_read_the_same.Goals as goal
-
-pub returns : goal.returns
-returns c = greater_budgets_read_the_same

@@ -1,5 +1,0 @@
-use Rattle.shape_equivalence.proofs.Shapers.{normalizers_are_of_unicode}
-use Rattle.shape_equivalence.proofs.laws.law_normalizers_are_of_unicode.Goals as goal
-
-pub returns : goal.returns
-returns c = normalizers_are_of_unicode

@@ -1,5 +1,0 @@
-use Rattle.shape_equivalence.proofs.Pushed.{pushed_texts_have_characters}
-use Rattle.shape_equivalence.proofs.laws.law_pushed_texts_have_characters.Goals as goal
-
-pub returns : goal.returns
-returns c = pushed_texts_have_characters

@@ -1,5 +1,0 @@
-use Rattle.shape_equivalence.proofs.Chosen.{texts_begin_as_items}
-use Rattle.shape_equivalence.proofs.laws.law_texts_begin_as_items.Goals as goal
-
-pub returns : goal.returns
-returns c = texts_begin_as_items

@@ -1,4 +1,0 @@
-pub mod Shapers
-pub mod Stages
-pub mod Texts
-pub mod Laws

@@ -1,0 +1,5 @@
+pub mod Shapers
+pub mod Stages
+pub mod Texts
+pub mod Laws
+pub mod PlainTexts

@@ -1,8 +1,0 @@
-mod Words
-mod Texts
-mod Begun
-mod Chosen
-mod Glyphs
-mod CharacterPositions
-mod Whole
-mod Shown
