@@ -1,2 +1,4 @@
 pub mod CoverageOrder
 pub mod CoverageSearch
+pub mod Covering
+pub mod Bits

@@ -1,3 +1,4 @@
 pub mod Classes
 pub mod Coverage
 pub mod Rows
+pub mod Buckets

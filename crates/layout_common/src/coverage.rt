@@ -1,7 +1,9 @@
 //! Sets of glyphs (OpenType, chapter 2, coverage table).
-ghost use Rattle.std.specs.Prelude.{◌≡◌, ℕ};
+ghost use Rattle.std.specs.Prelude.{◌≡◌, ℕ, List, true};
 ghost use Rattle.layout_common.specs.Coverage.{is_covered, in_order};
 
+use crate::digest::hb_set_digest_ext;
+use crate::digested::Covers;
 use std::marker::Model;
 
 /// A set of glyphs (OpenType, chapter 2, coverage table), in the order of their numbers.
@@ -38,5 +40,31 @@ impl Coverage {
         ensures { result ≡ is_covered glyph self.now }
     {
         self.glyphs.binary_search(&glyph).is_ok()
+    }
+}
+
+/// A coverage whose glyphs are collected.
+pub trait CoverageExt {
+    ghost glyphs: { Self → List ℕ };
+
+    /// Adds the glyphs of the coverage to a set. What was there stays.
+    fn collect<D: hb_set_digest_ext>(&self, set_digest: &mut D)
+        ensures added { (g : ℕ) → is_covered g (glyphs self.now) ≡ true → D.may_have set_digest.new g ≡ true }
+        ensures stays { (g : ℕ) → D.may_have set_digest.old g ≡ true → D.may_have set_digest.new g ≡ true };
+}
+
+impl CoverageExt for Coverage {
+    ghost glyphs = { λ c. c };
+
+    fn collect<D: hb_set_digest_ext>(&self, set_digest: &mut D) {
+        set_digest.add_array(&self.glyphs);
+    }
+}
+
+impl Covers for Coverage {
+    ghost covers = { λ c g. is_covered g c };
+
+    fn collect<D: hb_set_digest_ext>(&self, digest: &mut D) {
+        CoverageExt::collect(self, digest);
     }
 }

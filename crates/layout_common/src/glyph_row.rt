@@ -1,7 +1,9 @@
 //! Rows of a glyph with a table's value for it.
-ghost use Rattle.std.specs.Prelude.{◌≡◌};
+ghost use Rattle.std.specs.Prelude.{◌≡◌, ◌==◌};
 ghost use Rattle.layout_common.specs.Rows.{value_of};
 
+use crate::digest::hb_set_digest_ext;
+use crate::digested::Covers;
 use buffer_rows::{Keyed, SortedRows};
 
 /// A glyph, and a table's value for it.
@@ -34,5 +36,13 @@ pub fn find_value<V: Copy>(rows: &SortedRows<GlyphRow<V>>, glyph: u16) -> Option
     match rows.get_near(glyph, usize::from(glyph.saturating_sub(first))) {
         Some(row) => Some(row.value),
         None => None,
+    }
+}
+
+impl<V> Covers for GlyphRow<V> {
+    ghost covers = { λ r g. r.glyph == g };
+
+    fn collect<D: hb_set_digest_ext>(&self, digest: &mut D) {
+        digest.add(self.glyph);
     }
 }

@@ -4,5 +4,7 @@
 pub mod array;
 pub mod class_definition;
 pub mod coverage;
+pub mod digest;
+pub mod digested;
 pub mod flags;
 pub mod glyph_row;

@@ -1,11 +1,12 @@
 //! What the two layout tables have in common, and what their lookups have (rustybuzz: hb/ot_layout.rs, `LayoutTable`,
 //! `LayoutLookup`).
-ghost use Rattle.std.specs.Prelude.{ℕ, ◌≡◌, Bool, List, false, slice_get};
+ghost use Rattle.std.specs.Prelude.{ℕ, ◌≡◌, Bool, List, false, true, slice_get};
 ghost use Rattle.std.specs.Option.{option_copied};
-ghost use Rattle.layout_face.specs.Lookups.{props_of, is_reverse};
+ghost use Rattle.layout_face.specs.Lookups.{is_reverse, positioning_covers, props_of, substitution_covers};
 
 use crate::positioning::{PositioningLookup, PositioningTable};
 use crate::substitution::{SubstLookup, SubstitutionTable};
+use layout_common::digest::{hb_set_digest_ext, hb_set_digest_t};
 use layout_map_features::per_table::TableIndex;
 
 /// A lookup of a layout table.
@@ -13,6 +14,8 @@ pub trait LayoutLookup {
     ghost flag: { Self → ℕ };
 
     ghost reversed: { Self → Bool };
+
+    ghost covers: { Self → ℕ → Bool };
 
     /// The lookup flag in the low 16 bits and, with `USE_MARK_FILTERING_SET`, the set's index in the high 16 bits, 65535
     /// where the lookup names none.
@@ -22,6 +25,11 @@ pub trait LayoutLookup {
     /// Whether the lookup is applied from the end of the text.
     fn is_reverse(&self) -> bool
         ensures { result ≡ reversed self.now };
+
+    /// The set of the glyphs at which one of its subtables can act, and maybe of others.
+    fn digest(&self) -> hb_set_digest_t
+        ensures { (g : ℕ) → covers self.now g ≡ true
+            → ⟦<hb_set_digest_t as hb_set_digest_ext>⟧.may_have result g ≡ true };
 }
 
 /// A layout table, GSUB or GPOS.
@@ -46,12 +54,18 @@ impl LayoutLookup for SubstLookup {
 
     ghost reversed = { λ l. is_reverse l.subtables };
 
+    ghost covers = { λ l. substitution_covers l.subtables };
+
     fn props(&self) -> u32 {
         SubstLookup::props(self)
     }
 
     fn is_reverse(&self) -> bool {
         SubstLookup::is_reverse(self)
+    }
+
+    fn digest(&self) -> hb_set_digest_t {
+        SubstLookup::digest(self)
     }
 }
 
@@ -60,12 +74,18 @@ impl LayoutLookup for PositioningLookup {
 
     ghost reversed = { λ _. false };
 
+    ghost covers = { λ l. positioning_covers l.subtables };
+
     fn props(&self) -> u32 {
         PositioningLookup::props(self)
     }
 
     fn is_reverse(&self) -> bool {
         PositioningLookup::is_reverse(self)
+    }
+
+    fn digest(&self) -> hb_set_digest_t {
+        PositioningLookup::digest(self)
     }
 }
 

@@ -6,6 +6,7 @@ ghost use Rattle.layout_face.specs.LookupIndices.{set_fits, substitution_fits, p
 
 use crate::positioning::{PositioningLookup, PositioningSubtables, PositioningTable};
 use crate::substitution::{SubstLookup, SubstitutionTable};
+use layout_common::digested::Digested;
 use layout_tables::mark::{MarkBasePos, MarkLigPos};
 use layout_tables::pair::PairPos;
 
@@ -48,7 +49,7 @@ fn positioning_lookups_fit(set_count: usize, lookups: &[PositioningLookup]) -> b
 fn positioning_lookup_fits(set_count: usize, lookup: &PositioningLookup) -> bool
     ensures { result ≡ positioning_lookup_fits set_count lookup.now }
 {
-    set_fits(set_count, lookup.mark_filtering_set) && classes_fit(&lookup.subtables)
+    set_fits(set_count, lookup.mark_filtering_set) && classes_fit(lookup.subtables.inner())
 }
 
 fn set_fits(set_count: usize, set: Option<u16>) -> bool
@@ -75,22 +76,22 @@ fn classes_fit(subtables: &PositioningSubtables) -> bool
     }
 }
 
-fn pairs_fit(subtables: &[PairPos]) -> bool
+fn pairs_fit(subtables: &[Digested<PairPos>]) -> bool
     ensures { result ≡ list_all (λ s. pair_classes_fit s) subtables.now }
 {
-    subtables.iter().all(|subtable| pair_classes_fit(subtable))
+    subtables.iter().all(|subtable| pair_classes_fit(subtable.inner()))
 }
 
-fn bases_fit(subtables: &[MarkBasePos]) -> bool
+fn bases_fit(subtables: &[Digested<MarkBasePos>]) -> bool
     ensures { result ≡ list_all (λ s. marks_fit_bases s.marks s.bases) subtables.now }
 {
-    subtables.iter().all(|subtable| subtable.classes_fit())
+    subtables.iter().all(|subtable| subtable.inner().classes_fit())
 }
 
-fn ligatures_fit(subtables: &[MarkLigPos]) -> bool
+fn ligatures_fit(subtables: &[Digested<MarkLigPos>]) -> bool
     ensures { result ≡ list_all (λ s. marks_fit_ligatures s.marks s.ligatures) subtables.now }
 {
-    subtables.iter().all(|subtable| subtable.classes_fit())
+    subtables.iter().all(|subtable| subtable.inner().classes_fit())
 }
 
 fn pair_classes_fit(pair: &PairPos) -> bool

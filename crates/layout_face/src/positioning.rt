@@ -1,10 +1,12 @@
 //! The GPOS table.
-ghost use Rattle.std.specs.Prelude.{◌≡◌, false, slice_get};
+ghost use Rattle.std.specs.Prelude.{◌≡◌, ℕ, false, true, slice_get};
 ghost use Rattle.std.specs.Option.{option_copied};
-ghost use Rattle.layout_face.specs.Lookups.{props_of};
+ghost use Rattle.layout_face.specs.Lookups.{positioning_covers, props_of};
 
 use crate::substitution::lookup_props;
 use layout_common::array::Array;
+use layout_common::digest::{hb_set_digest_ext, hb_set_digest_t};
+use layout_common::digested::{Covers, Digested, collect_each};
 use layout_tables::context::ContextSubtable;
 use layout_tables::cursive::CursivePos;
 use layout_tables::mark::{MarkBasePos, MarkLigPos};
@@ -12,17 +14,41 @@ use layout_tables::pair::PairPos;
 use layout_tables::single_pos::SinglePos;
 use layout_tables::table::LayoutTable;
 
-/// The subtables of a positioning lookup, which are of one type, in the order in which they are tried.
+/// The subtables of a positioning lookup, which are of one type, in the order in which they are tried, each with the
+/// set of the glyphs at which it can act.
 #[derive(Debug, Drop)]
 pub enum PositioningSubtables {
-    Single(Array<SinglePos>),
-    Pair(Array<PairPos>),
-    Cursive(Array<CursivePos>),
-    MarkToBase(Array<MarkBasePos>),
-    MarkToLigature(Array<MarkLigPos>),
-    MarkToMark(Array<MarkBasePos>),
-    Context(Array<ContextSubtable>),
-    ChainContext(Array<ContextSubtable>),
+    Single(Array<Digested<SinglePos>>),
+    Pair(Array<Digested<PairPos>>),
+    Cursive(Array<Digested<CursivePos>>),
+    MarkToBase(Array<Digested<MarkBasePos>>),
+    MarkToLigature(Array<Digested<MarkLigPos>>),
+    MarkToMark(Array<Digested<MarkBasePos>>),
+    Context(Array<Digested<ContextSubtable>>),
+    ChainContext(Array<Digested<ContextSubtable>>),
+}
+
+impl Covers for PositioningSubtables {
+    ghost covers = { positioning_covers };
+
+    fn collect<D: hb_set_digest_ext>(&self, digest: &mut D) {
+        match self {
+            PositioningSubtables::Single(subtables) => collect_each(subtables.as_slice(), digest),
+            PositioningSubtables::Pair(subtables) => collect_each(subtables.as_slice(), digest),
+            PositioningSubtables::Cursive(subtables) => collect_each(subtables.as_slice(), digest),
+            PositioningSubtables::MarkToBase(subtables)
+            | PositioningSubtables::MarkToMark(subtables) => {
+                collect_each(subtables.as_slice(), digest)
+            }
+            PositioningSubtables::MarkToLigature(subtables) => {
+                collect_each(subtables.as_slice(), digest)
+            }
+            PositioningSubtables::Context(subtables)
+            | PositioningSubtables::ChainContext(subtables) => {
+                collect_each(subtables.as_slice(), digest)
+            }
+        }
+    }
 }
 
 /// A GPOS lookup: its first matching subtable is applied at a glyph.
@@ -32,7 +58,8 @@ pub struct PositioningLookup {
     pub flags: u16,
     /// The index of a mark glyph set, used only with `USE_MARK_FILTERING_SET`.
     pub mark_filtering_set: Option<u16>,
-    pub subtables: PositioningSubtables,
+    /// The subtables, with the set of the glyphs at which one of them can act.
+    pub subtables: Digested<PositioningSubtables>,
 }
 
 impl PositioningLookup {
@@ -51,8 +78,16 @@ impl PositioningLookup {
         PositioningLookup {
             flags,
             mark_filtering_set,
-            subtables,
+            subtables: Digested::new(subtables),
         }
+    }
+
+    /// The set of the glyphs at which one of its subtables can act, and maybe of others.
+    pub fn digest(&self) -> hb_set_digest_t
+        ensures { (g : ℕ) → positioning_covers self.now.subtables g ≡ true
+            → ⟦<hb_set_digest_t as hb_set_digest_ext>⟧.may_have result g ≡ true }
+    {
+        self.subtables.digest()
     }
 
     /// The lookup flag in the low 16 bits and, with `USE_MARK_FILTERING_SET`, the set's index in the high 16 bits, 65535

@@ -1,10 +1,12 @@
 //! The GSUB table.
-ghost use Rattle.std.specs.Prelude.{◌≡◌};
+ghost use Rattle.std.specs.Prelude.{◌≡◌, ℕ, true};
 ghost use Rattle.std.specs.Option.{option_copied};
 ghost use Rattle.std.specs.Prelude.{slice_get};
-ghost use Rattle.layout_face.specs.Lookups.{props_of, is_reverse};
+ghost use Rattle.layout_face.specs.Lookups.{props_of, is_reverse, substitution_covers};
 
 use layout_common::array::Array;
+use layout_common::digest::{hb_set_digest_ext, hb_set_digest_t};
+use layout_common::digested::{Covers, Digested, collect_each};
 use layout_common::flags::USE_MARK_FILTERING_SET;
 use layout_tables::context::ContextSubtable;
 use layout_tables::ligature::LigatureSubst;
@@ -13,16 +15,45 @@ use layout_tables::sequence::{AlternateSubst, MultipleSubst};
 use layout_tables::single_subst::SingleSubst;
 use layout_tables::table::LayoutTable;
 
-/// The subtables of a substitution lookup, which are of one type, in the order in which they are tried.
+/// The subtables of a substitution lookup, which are of one type, in the order in which they are tried, each with the
+/// set of the glyphs at which it can act.
 #[derive(Debug, Drop)]
 pub enum SubstitutionSubtables {
-    Single(Array<SingleSubst>),
-    Multiple(Array<MultipleSubst>),
-    Alternate(Array<AlternateSubst>),
-    Ligature(Array<LigatureSubst>),
-    Context(Array<ContextSubtable>),
-    ChainContext(Array<ContextSubtable>),
-    ReverseChainSingle(Array<ReverseChainSubst>),
+    Single(Array<Digested<SingleSubst>>),
+    Multiple(Array<Digested<MultipleSubst>>),
+    Alternate(Array<Digested<AlternateSubst>>),
+    Ligature(Array<Digested<LigatureSubst>>),
+    Context(Array<Digested<ContextSubtable>>),
+    ChainContext(Array<Digested<ContextSubtable>>),
+    ReverseChainSingle(Array<Digested<ReverseChainSubst>>),
+}
+
+impl Covers for SubstitutionSubtables {
+    ghost covers = { substitution_covers };
+
+    fn collect<D: hb_set_digest_ext>(&self, digest: &mut D) {
+        match self {
+            SubstitutionSubtables::Single(subtables) => {
+                collect_each(subtables.as_slice(), digest)
+            }
+            SubstitutionSubtables::Multiple(subtables) => {
+                collect_each(subtables.as_slice(), digest)
+            }
+            SubstitutionSubtables::Alternate(subtables) => {
+                collect_each(subtables.as_slice(), digest)
+            }
+            SubstitutionSubtables::Ligature(subtables) => {
+                collect_each(subtables.as_slice(), digest)
+            }
+            SubstitutionSubtables::Context(subtables)
+            | SubstitutionSubtables::ChainContext(subtables) => {
+                collect_each(subtables.as_slice(), digest)
+            }
+            SubstitutionSubtables::ReverseChainSingle(subtables) => {
+                collect_each(subtables.as_slice(), digest)
+            }
+        }
+    }
 }
 
 /// A GSUB lookup: its first matching subtable is applied at a glyph.
@@ -32,7 +63,8 @@ pub struct SubstLookup {
     pub flags: u16,
     /// The index of a mark glyph set, used only with `USE_MARK_FILTERING_SET`.
     pub mark_filtering_set: Option<u16>,
-    pub subtables: SubstitutionSubtables,
+    /// The subtables, with the set of the glyphs at which one of them can act.
+    pub subtables: Digested<SubstitutionSubtables>,
 }
 
 impl SubstLookup {
@@ -51,8 +83,16 @@ impl SubstLookup {
         SubstLookup {
             flags,
             mark_filtering_set,
-            subtables,
+            subtables: Digested::new(subtables),
         }
+    }
+
+    /// The set of the glyphs at which one of its subtables can act, and maybe of others.
+    pub fn digest(&self) -> hb_set_digest_t
+        ensures { (g : ℕ) → substitution_covers self.now.subtables g ≡ true
+            → ⟦<hb_set_digest_t as hb_set_digest_ext>⟧.may_have result g ≡ true }
+    {
+        self.subtables.digest()
     }
 
     /// The lookup flag in the low 16 bits and, with `USE_MARK_FILTERING_SET`, the set's index in the high 16 bits, 65535
@@ -67,7 +107,10 @@ impl SubstLookup {
     pub fn is_reverse(&self) -> bool
         ensures { result ≡ is_reverse self.now.subtables }
     {
-        matches!(self.subtables, SubstitutionSubtables::ReverseChainSingle(_))
+        matches!(
+            self.subtables.inner(),
+            SubstitutionSubtables::ReverseChainSingle(_)
+        )
     }
 }
 

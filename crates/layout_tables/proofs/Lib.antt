@@ -1,1 +1,3 @@
 pub mod PairSearch
+pub mod Covering
+mod CoveredRows

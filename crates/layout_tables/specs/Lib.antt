@@ -6,3 +6,4 @@ pub mod Keyed
 pub mod Layout
 pub mod Choice
 pub mod Indices
+pub mod Covers

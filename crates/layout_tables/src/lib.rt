@@ -5,6 +5,7 @@
 
 pub mod choice;
 pub mod context;
+mod covers;
 pub mod cursive;
 mod fits;
 mod indices;

@@ -1,11 +1,14 @@
 //! Ligatures and sets of them (OpenType, GSUB lookup type 4).
-ghost use Rattle.std.specs.Prelude.{◌≡◌, None, true};
+ghost use Rattle.std.specs.Prelude.{◌≡◌, ◌==◌, None, true};
 ghost use Rattle.std.specs.Option.{option_copied};
 ghost use Rattle.layout_tables.specs.Keyed.{is_rising};
+ghost use Rattle.layout_tables.specs.Covers.{covers_first_component};
 ghost use Rattle.layout_tables.specs.Layout.{LigatureTable, ligature_set_of};
 
 use crate::keyed::find_keyed;
 use buffer_rows::Keyed;
+use layout_common::digest::hb_set_digest_ext;
+use layout_common::digested::{Covers, collect_each};
 use std::marker::Model;
 
 /// A ligature: the components after the first, and the glyph that replaces all components.
@@ -126,5 +129,22 @@ impl LigatureSubst {
         ensures { option_copied result ≡ ligature_set_of glyph self.now }
     {
         find_keyed(&self.sets, glyph.into())
+    }
+}
+
+impl Covers for LigatureSet {
+    ghost covers = { λ s g. s.first == g };
+
+    fn collect<D: hb_set_digest_ext>(&self, digest: &mut D) {
+        digest.add(self.first);
+    }
+}
+
+impl Covers for LigatureSubst {
+    ghost covers = { covers_first_component };
+
+    #[tactic(auto, using(layout_common::proofs::Covering::found_any))]
+    fn collect<D: hb_set_digest_ext>(&self, digest: &mut D) {
+        collect_each(&self.sets, digest);
     }
 }

@@ -8,6 +8,7 @@ ghost use Rattle.layout_would_apply.specs.Woulds.{any_rule_would, class_rule_wou
 use crate::subtables::{WouldApply, WouldApplyContext};
 use layout_common::class_definition::ClassDefinition;
 use layout_common::coverage::Coverage;
+use layout_common::digested::{Covers, Digested};
 use layout_face::substitution::{SubstLookup, SubstitutionSubtables};
 use layout_tables::context::{ClassRules, ContextSubtable, SequenceRule};
 
@@ -129,25 +130,33 @@ pub fn context_would_apply(subtable: &ContextSubtable, ctx: &WouldApplyContext) 
     !ctx.glyphs.is_empty() && any_rule_would_apply(subtable, ctx)
 }
 
-fn any_would_apply<S: WouldApply>(subtables: &[S], ctx: &WouldApplyContext) -> bool
+fn any_would_apply<S: WouldApply + Covers>(
+    subtables: &[Digested<S>],
+    ctx: &WouldApplyContext,
+) -> bool
     ensures { result ≡ list_any (λ s. S.would s ctx.now.glyphs.now ctx.now.zero_context) subtables.now }
 {
-    subtables.iter().any(|subtable| subtable.would_apply(ctx))
+    subtables
+        .iter()
+        .any(|subtable| subtable.inner().would_apply(ctx))
 }
 
-fn any_context_would_apply(subtables: &[ContextSubtable], ctx: &WouldApplyContext) -> bool
+fn any_context_would_apply(
+    subtables: &[Digested<ContextSubtable>],
+    ctx: &WouldApplyContext,
+) -> bool
     ensures { result ≡ list_any (λ s. context_would s ctx.now.glyphs.now ctx.now.zero_context) subtables.now }
 {
     subtables
         .iter()
-        .any(|subtable| context_would_apply(subtable, ctx))
+        .any(|subtable| context_would_apply(subtable.inner(), ctx))
 }
 
 /// Whether a lookup would apply to the glyphs where they are all its input.
 pub fn would_apply(lookup: &SubstLookup, ctx: &WouldApplyContext) -> bool
     ensures { result ≡ lookup_would lookup.now.subtables ctx.now.glyphs.now ctx.now.zero_context }
 {
-    match &lookup.subtables {
+    match lookup.subtables.inner() {
         SubstitutionSubtables::Single(subtables) => any_would_apply(subtables.as_slice(), ctx),
         SubstitutionSubtables::Multiple(subtables) => any_would_apply(subtables.as_slice(), ctx),
         SubstitutionSubtables::Alternate(subtables) => any_would_apply(subtables.as_slice(), ctx),

@@ -40,6 +40,7 @@ pub mod ot_layout {
 
 /// What both tables have in common.
 pub mod ot_layout_common {
+    pub use layout_common::coverage::CoverageExt;
     pub use layout_face::positioning::{PositioningLookup, PositioningTable};
     pub use layout_face::substitution::{SubstLookup, SubstitutionTable};
     pub use layout_tables::choice::LayoutTableExt;
@@ -106,4 +107,11 @@ pub mod ot_map {
         hb_ot_map_feature_flags_t,
     };
     pub use layout_map_features::lookup::lookup_map_t;
+}
+
+/// Sets of glyphs by buckets.
+pub mod set_digest {
+    pub use layout_common::digest::{
+        hb_set_digest_bits_pattern_t, hb_set_digest_combiner_t, hb_set_digest_ext, hb_set_digest_t,
+    };
 }

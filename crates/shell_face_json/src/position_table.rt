@@ -96,11 +96,7 @@ impl Part for PositioningLookup {
         let mark_filtering_set = read_optional_at(alloc, value, "set", limit)?;
         let lookup_type = positioning_type(value)?;
         let subtables = read_subtables(alloc, value, lookup_type)?;
-        Ok(PositioningLookup {
-            flags,
-            mark_filtering_set,
-            subtables,
-        })
+        Ok(PositioningLookup::parse(flags, mark_filtering_set, subtables))
     }
 }
 

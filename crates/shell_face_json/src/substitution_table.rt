@@ -88,11 +88,7 @@ impl Part for SubstLookup {
         let mark_filtering_set = read_optional_at(alloc, value, "set", limit)?;
         let lookup_type = substitution_type(value)?;
         let subtables = read_subtables(alloc, value, lookup_type)?;
-        Ok(SubstLookup {
-            flags,
-            mark_filtering_set,
-            subtables,
-        })
+        Ok(SubstLookup::parse(flags, mark_filtering_set, subtables))
     }
 }
 

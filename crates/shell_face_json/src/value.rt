@@ -6,6 +6,7 @@ ghost use Rattle.serde_json.specs.View.{view};
 ghost use Rattle.shell_json.specs.declared.fault.JsonFault.{JsonFault};
 ghost use Rattle.shell_face_json.specs.Lists.{or_null};
 
+use layout_common::digested::{Covers, Digested};
 use serde_json::Value;
 use shell_json::fault::JsonFault;
 use std::alloc::Global;
@@ -29,5 +30,14 @@ impl<P: Part> Part for Option<P> {
             Value::Null => Ok(None),
             _ => Ok(Some(P::read_part(alloc, value, limit)?)),
         }
+    }
+}
+
+/// A subtable with the set of the glyphs at which it can act.
+impl<S: Part + Covers> Part for Digested<S> {
+    ghost part = { S.part };
+
+    fn read_part(alloc: Global, value: &Value, limit: usize) -> Result<Digested<S>, JsonFault> {
+        Ok(Digested::new(S::read_part(alloc, value, limit)?))
     }
 }

@@ -2,6 +2,8 @@
 #![tactic(auto)]
 
 #[cfg(test)]
+mod digests;
+#[cfg(test)]
 mod faults;
 #[cfg(test)]
 mod fonts;

@@ -419,11 +419,8 @@ fn layout_table(alloc: Global, table: &Table) -> Result<LayoutTable, AllocError>
 fn substitution_lookups(alloc: Global, count: usize) -> Result<Vec<SubstLookup>, AllocError> {
     let mut lookups = Vec::new(alloc);
     for _ in 0..count {
-        lookups.push(SubstLookup {
-            flags: 0,
-            mark_filtering_set: None,
-            subtables: SubstitutionSubtables::Single(Array::new(Vec::new(alloc))),
-        })?;
+        let subtables = SubstitutionSubtables::Single(Array::new(Vec::new(alloc)));
+        lookups.push(SubstLookup::parse(0, None, subtables))?;
     }
     Ok(lookups)
 }
@@ -446,11 +443,8 @@ fn substitution_table(
 fn positioning_lookups(alloc: Global, count: usize) -> Result<Vec<PositioningLookup>, AllocError> {
     let mut lookups = Vec::new(alloc);
     for _ in 0..count {
-        lookups.push(PositioningLookup {
-            flags: 0,
-            mark_filtering_set: None,
-            subtables: PositioningSubtables::Single(Array::new(Vec::new(alloc))),
-        })?;
+        let subtables = PositioningSubtables::Single(Array::new(Vec::new(alloc)));
+        lookups.push(PositioningLookup::parse(0, None, subtables))?;
     }
     Ok(lookups)
 }

@@ -58,19 +58,19 @@ gpos properties 7: Some((0, false))
 gpos properties 8: None";
 
 fn subtables(table: &PositioningTable, index: u16) -> Option<&PositioningSubtables> {
-    Some(&table.get_lookup(index)?.subtables)
+    Some(table.get_lookup(index)?.subtables.inner())
 }
 
 fn single_value(table: &PositioningTable, glyph: u16) -> Option<ValueRecord> {
     match subtables(table, 0)? {
-        PositioningSubtables::Single(subtables) => subtables.get(0)?.value(glyph),
+        PositioningSubtables::Single(subtables) => subtables.get(0)?.inner().value(glyph),
         _ => None,
     }
 }
 
 fn entry_exit(table: &PositioningTable, glyph: u16) -> Option<EntryExit> {
     match subtables(table, 2)? {
-        PositioningSubtables::Cursive(subtables) => subtables.get(0)?.entry_exit(glyph),
+        PositioningSubtables::Cursive(subtables) => subtables.get(0)?.inner().entry_exit(glyph),
         _ => None,
     }
 }
@@ -84,7 +84,7 @@ fn pair_values(
     let PositioningSubtables::Pair(subtables) = subtables(table, 1)? else {
         return None;
     };
-    match subtables.get(subtable)? {
+    match subtables.get(subtable)?.inner() {
         PairPos::Glyphs(pairs) => pairs.values(first, second),
         PairPos::Classes(pairs) => pairs.values(first, second),
     }
@@ -104,22 +104,22 @@ fn pair_advance(
 fn mark(table: &PositioningTable, index: u16) -> Option<MarkRecord> {
     match subtables(table, index)? {
         PositioningSubtables::MarkToBase(subtables) | PositioningSubtables::MarkToMark(subtables) =>
-            subtables.get(0)?.mark(9),
-        PositioningSubtables::MarkToLigature(subtables) => subtables.get(0)?.mark(9),
+            subtables.get(0)?.inner().mark(9),
+        PositioningSubtables::MarkToLigature(subtables) => subtables.get(0)?.inner().mark(9),
         _ => None,
     }
 }
 
 fn base_anchor(table: &PositioningTable, glyph: u16, class: u16) -> Option<Anchor> {
     match subtables(table, 3)? {
-        PositioningSubtables::MarkToBase(subtables) => subtables.get(0)?.base_anchor(glyph, class),
+        PositioningSubtables::MarkToBase(subtables) => subtables.get(0)?.inner().base_anchor(glyph, class),
         _ => None,
     }
 }
 
 fn ligature_marks(table: &PositioningTable) -> Option<&MarkLigPos> {
     match subtables(table, 4)? {
-        PositioningSubtables::MarkToLigature(subtables) => subtables.get(0),
+        PositioningSubtables::MarkToLigature(subtables) => Some(subtables.get(0)?.inner()),
         _ => None,
     }
 }

@@ -46,15 +46,15 @@ gsub properties 6: Some((0, true))
 gsub properties 7: None";
 
 fn subtables(table: &SubstitutionTable, index: u16) -> Option<&SubstitutionSubtables> {
-    Some(&table.get_lookup(index)?.subtables)
+    Some(table.get_lookup(index)?.subtables.inner())
 }
 
 /// The substitute of a glyph by a single or a reverse lookup.
 fn substitute(table: &SubstitutionTable, index: u16, glyph: u16) -> Option<u16> {
     match subtables(table, index)? {
-        SubstitutionSubtables::Single(subtables) => subtables.get(0)?.substitute(glyph),
+        SubstitutionSubtables::Single(subtables) => subtables.get(0)?.inner().substitute(glyph),
         SubstitutionSubtables::ReverseChainSingle(subtables) => {
-            subtables.get(0)?.substitute(glyph)
+            subtables.get(0)?.inner().substitute(glyph)
         }
         _ => None,
     }
@@ -63,8 +63,8 @@ fn substitute(table: &SubstitutionTable, index: u16, glyph: u16) -> Option<u16> 
 /// The sequence of a glyph, or its alternates.
 fn sequence(table: &SubstitutionTable, index: u16, glyph: u16) -> Option<&[u16]> {
     match subtables(table, index)? {
-        SubstitutionSubtables::Multiple(subtables) => subtables.get(0)?.sequence(glyph),
-        SubstitutionSubtables::Alternate(subtables) => subtables.get(0)?.alternates(glyph),
+        SubstitutionSubtables::Multiple(subtables) => subtables.get(0)?.inner().sequence(glyph),
+        SubstitutionSubtables::Alternate(subtables) => subtables.get(0)?.inner().alternates(glyph),
         _ => None,
     }
 }
@@ -74,7 +74,7 @@ fn ligatures(table: &SubstitutionTable, glyph: u16) -> Option<(usize, u16)> {
     let SubstitutionSubtables::Ligature(subtables) = subtables(table, 3)? else {
         return None;
     };
-    let ligatures = subtables.get(0)?.set_of(glyph)?.ligatures();
+    let ligatures = subtables.get(0)?.inner().set_of(glyph)?.ligatures();
     Some((ligatures.len(), ligatures.first()?.glyph()))
 }
 
@@ -83,14 +83,14 @@ fn components(table: &SubstitutionTable, glyph: u16) -> Option<&[u16]> {
     let SubstitutionSubtables::Ligature(subtables) = subtables(table, 3)? else {
         return None;
     };
-    let ligatures = subtables.get(0)?.set_of(glyph)?.ligatures();
+    let ligatures = subtables.get(0)?.inner().set_of(glyph)?.ligatures();
     Some(ligatures.first()?.components())
 }
 
 fn context(table: &SubstitutionTable, index: u16, subtable: usize) -> Option<&ContextSubtable> {
     match subtables(table, index)? {
         SubstitutionSubtables::Context(subtables)
-        | SubstitutionSubtables::ChainContext(subtables) => subtables.get(subtable),
+        | SubstitutionSubtables::ChainContext(subtables) => Some(subtables.get(subtable)?.inner()),
         _ => None,
     }
 }

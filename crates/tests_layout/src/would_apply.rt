@@ -3,6 +3,7 @@ use buffer_rows::SortedRows;
 use layout_common::array::Array;
 use layout_common::class_definition::ClassDefinition;
 use layout_common::coverage::Coverage;
+use layout_common::digested::Digested;
 use layout_common::glyph_row::GlyphRow;
 use layout_face::substitution::{SubstLookup, SubstitutionSubtables};
 use layout_tables::context::{ClassRules, ContextSubtable, SequenceRule};
@@ -134,12 +135,9 @@ fn set_rules(alloc: Global) -> Result<ContextSubtable, Fail> {
 
 fn lookup(alloc: Global) -> Result<SubstLookup, Fail> {
     let mut subtables = Vec::new(alloc);
-    subtables.push(set_rules(alloc)?)?;
-    Ok(SubstLookup {
-        flags: 0,
-        mark_filtering_set: None,
-        subtables: SubstitutionSubtables::Context(Array::new(subtables)),
-    })
+    subtables.push(Digested::new(set_rules(alloc)?))?;
+    let subtables = SubstitutionSubtables::Context(Array::new(subtables));
+    Ok(SubstLookup::parse(0, None, subtables))
 }
 
 fn applies(rt: &impl Abort, lookup: &SubstLookup) {

@@ -1,0 +1,237 @@
+-- Buckets as the bits of a mask.
+use mathlib.Core.Bool.{false≢true}
+use Rattle.std.specs.Int.{bit_at}
+use Rattle.std.specs.List.{list_any}
+use Rattle.std.proofs.Common.{ℕ, zero, suc, ◌≡◌, ◌≢◌, ◌==◌, ◌||◌, ◌<◌, ◌≤◌, ◌^◌, ◌%◌, ◌/◌, ◌*◌, ◌+◌, ◌-◌, not, Bool, true, false, List, [], ◌∷◌, length, take, get_or, inl, inr, bit_and, bit_or, max, min, refl, sym, ap, ◌∙◌, arith, add-one}
+use Rattle.std.proofs.lemmas.Bool.Decides.{nat_tests}
+use Rattle.std.proofs.lemmas.Nat.Bits.{bit_at_or, bit_at_and, bit_at-pow_same, bit_at-pow_other, bit_at-zero, bit_at-lt, bit_at_ones}
+use Rattle.std.proofs.lemmas.Bool.{cases_lt}
+use Rattle.std.proofs.lemmas.List.Folds.{list_any_more}
+use Rattle.std.proofs.lemmas.Nat.{and_mask, le-div, pow_below, pow_pos}
+use Rattle.std.proofs.Math.Nat.{div-eq_of_lt, div-mul-le_self, mod-eq_of_lt}
+use Rattle.std.proofs.Math.Pow.{pow_mono}
+use Rattle.layout_common.specs.Buckets.{bucket, has_bucket, is_bucket_from, is_bucket_of, may_have_glyph}
+use Rattle.layout_common.specs.Coverage.{is_covered}
+
+-- ---- tests
+
+equal : (a b : ℕ) → (a == b) ≡ true → a ≡ b
+equal a b e = grind (arith, nat_tests, e)
+
+other : (a b : ℕ) → (a == b) ≡ false → a ≢ b
+other a b e = grind (arith, nat_tests, e)
+
+same_number : (n : ℕ) → (n == n) ≡ true
+same_number n = grind (arith, nat_tests)
+
+same_as : (a b : ℕ) → a ≡ b → (a == b) ≡ true
+same_as a b e = grind (arith, nat_tests, e)
+
+two : (n : ℕ) → n < 2 → (max n 1 == 1) ≡ true
+two n lt = grind (arith, nat_tests, lt)
+
+pub or_true : (a : Bool) → (a || true) ≡ true
+or_true true = refl
+or_true false = refl
+
+or_false : (a : Bool) → (a || false) ≡ a
+or_false true = refl
+or_false false = refl
+
+pub or_first : (a b : Bool) → a ≡ true → (a || b) ≡ true
+or_first a b e = rw e refl
+
+pub or_second : (a b : Bool) → b ≡ true → (a || b) ≡ true
+or_second a b e = rw e (or_true a)
+
+or_assoc : (a b c : Bool) → ((a || b) || c) ≡ (a || (b || c))
+or_assoc true b c = refl
+or_assoc false b c = refl
+
+-- ---- a bucket is a bit
+
+pub bucket_added : (m k b : ℕ) → has_bucket (bit_or m (2 ^ k)) b ≡ (has_bucket m b || b == k)
+bucket_added m k b = by_case (b == k) refl
+  where
+    by_case : (t : Bool) → (b == k) ≡ t → has_bucket (bit_or m (2 ^ k)) b ≡ (has_bucket m b || b == k)
+    by_case true e =
+        let same = equal b k e in
+        let one : bit_at (2 ^ k) b ≡ 1 = ap (bit_at (2 ^ k)) same ∙ bit_at-pow_same k in
+        let both : bit_at (bit_or m (2 ^ k)) b ≡ max (bit_at m b) 1 = bit_at_or m (2 ^ k) b ∙ ap (max (bit_at m b)) one in
+        ap (λ n. n == 1) both ∙ two (bit_at m b) (bit_at-lt m b) ∙ sym (ap (λ t. has_bucket m b || t) e ∙ or_true (has_bucket m b))
+    by_case false e =
+        let none : bit_at (2 ^ k) b ≡ 0 = bit_at-pow_other k b (other b k e) in
+        let zero_more : max (bit_at m b) 0 ≡ bit_at m b = omega arith in
+        let both : bit_at (bit_or m (2 ^ k)) b ≡ bit_at m b = bit_at_or m (2 ^ k) b ∙ ap (max (bit_at m b)) none ∙ zero_more in
+        ap (λ n. n == 1) both ∙ sym (ap (λ t. has_bucket m b || t) e ∙ or_false (has_bucket m b))
+
+pub buckets_apart : (a c b : ℕ) → bit_and a c ≡ 0 → has_bucket a b ≡ true → has_bucket c b ≡ false
+buckets_apart a c b none there =
+    let one : bit_at a b ≡ 1 = equal (bit_at a b) 1 there in
+    let both : min (bit_at a b) (bit_at c b) ≡ 0 = sym (bit_at_and a c b) ∙ ap (λ n. bit_at n b) none ∙ bit_at-zero b in
+    let small = bit_at-lt c b in
+    let zero_there : bit_at c b ≡ 0 = omega (arith, one, both, small) in
+    ap (λ n. n == 1) zero_there
+
+pub is_zero : (n : ℕ) → not (n == 0) ≡ false → n ≡ 0
+is_zero n e = grind (arith, nat_tests, e)
+
+pub empty_mask : (b : ℕ) → has_bucket 0 b ≡ false
+empty_mask b = ap (λ n. n == 1) (bit_at-zero b)
+
+pub full_mask : (b : ℕ) → b < 64 → has_bucket (2 ^ 64 - 1) b ≡ true
+full_mask b lt = ap (λ n. n == 1) (bit_at_ones 64 b lt)
+
+no_bit : (b : ℕ) → 64 ≤ b → bit_at (2 ^ 64 - 1) b ≡ 0
+no_bit b le =
+    let less : 2 ^ 64 ≤ 2 ^ b = pow_mono le in
+    let none : (2 ^ 64 - 1) / 2 ^ b ≡ 0 = div-eq_of_lt (omega (arith, less)) in
+    ap (λ n. n % 2) none
+
+pub no_bucket : (b : ℕ) → 64 ≤ b → has_bucket (2 ^ 64 - 1) b ≡ false
+no_bucket b le = ap (λ n. n == 1) (no_bit b le)
+
+pub below_64 : (n : ℕ) → n % 64 < 64
+below_64 n = omega arith
+
+pub bucket_small : (s g : ℕ) → bucket s g < 64
+bucket_small s g = below_64 (g / 2 ^ s)
+
+-- a bit below the 64th
+pub shifted : (k : ℕ) → k < 64 → 1 * 2 ^ k % 2 ^ 64 ≡ 2 ^ k
+shifted k lt =
+    let one : 1 * 2 ^ k ≡ 2 ^ k = omega arith in
+    ap (λ n. n % 2 ^ 64) one ∙ mod-eq_of_lt (pow_below k 64 lt)
+
+pub in_bucket : (n : ℕ) → bit_and n 63 ≡ n % 64
+in_bucket n = and_mask n 6
+
+lt_of : (a b c : ℕ) → a < b → b ≤ c → a < c
+lt_of a b c lt le = omega (arith, lt, le)
+
+-- a glyph that is below so many bits
+pub no_bits : (g s : ℕ) → g < 2 ^ 16 → 16 ≤ s → g / 2 ^ s ≡ 0
+no_bits g s lt le =
+    let less : 2 ^ 16 ≤ 2 ^ s = pow_mono le in
+    div-eq_of_lt (lt_of g (2 ^ 16) (2 ^ s) lt less)
+
+-- ---- what was added is there, and what was there stays
+
+-- one mask became another by the addition of buckets
+abbrev pub Adds : (ℕ → Bool) → ℕ → ℕ → Type 0
+Adds is_new old new = (b : ℕ) → has_bucket new b ≡ (has_bucket old b || is_new b)
+
+pub added_there : (is_new : ℕ → Bool) (old new b : ℕ) → Adds is_new old new → is_new b ≡ true → has_bucket new b ≡ true
+added_there is_new old new b adds e = adds b ∙ or_second (has_bucket old b) (is_new b) e
+
+pub old_stays : (is_new : ℕ → Bool) (old new b : ℕ) → Adds is_new old new → has_bucket old b ≡ true → has_bucket new b ≡ true
+old_stays is_new old new b adds e = adds b ∙ or_first (has_bucket old b) (is_new b) e
+
+pub same_bucket : (b : ℕ) → (b == b) ≡ true
+same_bucket b = same_number b
+
+-- a glyph's bucket is that of one of some glyphs where it is one of them
+pub covered_bucket : (s g : ℕ) (glyphs : List ℕ) → is_covered g glyphs ≡ true → is_bucket_of s glyphs (bucket s g) ≡ true
+covered_bucket s g [] e = absurd (false≢true e)
+covered_bucket s g (h ∷ glyphs) e = by_test (h == g) refl e (covered_bucket s g glyphs)
+  where
+    by_test : (t : Bool) → (h == g) ≡ t → (t || is_covered g glyphs) ≡ true → (is_covered g glyphs ≡ true → is_bucket_of s glyphs (bucket s g) ≡ true)
+        → (bucket s g == bucket s h || is_bucket_of s glyphs (bucket s g)) ≡ true
+    by_test true is _ more = or_first (bucket s g == bucket s h) (is_bucket_of s glyphs (bucket s g)) (same_as (bucket s g) (bucket s h) (ap (bucket s) (sym (equal h g is))))
+    by_test false is left more = or_second (bucket s g == bucket s h) (is_bucket_of s glyphs (bucket s g)) (more left)
+
+-- ---- ranges
+
+-- the bucket of one of the groups from a group on
+pub group_there : (first n k b : ℕ) → k < n → b ≡ (first + k) % 64 → is_bucket_from first n b ≡ true
+group_there first zero k b lt e = elim lt [ ]
+group_there first (suc n) k b lt e = by_test (k == n) refl (λ less. group_there first n k b less e)
+  where
+    by_test : (t : Bool) → (k == n) ≡ t → (k < n → is_bucket_from first n b ≡ true) → (is_bucket_from first n b || b == (first + n) % 64) ≡ true
+    by_test true is more = or_second (is_bucket_from first n b) (b == (first + n) % 64) (same_as b ((first + n) % 64) (e ∙ ap (λ m. (first + m) % 64) (equal k n is)))
+    by_test false is more =
+        let apart = other k n is in
+        or_first (is_bucket_from first n b) (b == (first + n) % 64) (more (omega (arith, lt, apart)))
+
+-- from one number on, 64 numbers have each remainder
+steps_to : (first b : ℕ) → b < 64 → b ≡ (first + (b + 64 - first % 64) % 64) % 64
+steps_to first b lt = omega (arith, lt)
+
+pub all_groups : (first n b : ℕ) → 64 ≤ n → b < 64 → is_bucket_from first n b ≡ true
+all_groups first n b le lt = group_there first n ((b + 64 - first % 64) % 64) b (lt_of _ 64 n (below_64 (b + 64 - first % 64)) le) (steps_to first b lt)
+
+not_64 : (b n : ℕ) → 64 ≤ b → (b == n % 64) ≡ false
+not_64 b n le = let small = below_64 n in grind (arith, nat_tests, le, small)
+
+pub no_group : (first n b : ℕ) → 64 ≤ b → is_bucket_from first n b ≡ false
+no_group first zero b le = refl
+no_group first (suc n) b le = rw (no_group first n b le, not_64 b (first + n) le) refl
+
+le_of : (a b c : ℕ) → a ≤ b → b ≤ c → a ≤ c
+le_of a b c first second = omega (arith, first, second)
+
+pub div_rises : (a b d : ℕ) → 0 < d → a ≤ b → a / d ≤ b / d
+div_rises a b d pos le = le-div (a / d) b d pos (le_of _ a b (div-mul-le_self a d) le)
+
+step_within : (a c g : ℕ) → a ≤ g → g ≤ c → g - a < c + 1 - a
+step_within a c g low high = omega (arith, low, high)
+
+step_back : (a g : ℕ) → a ≤ g → g ≡ a + (g - a)
+step_back a g le = omega (arith, le)
+
+-- the bucket of each glyph of a range is that of one of the range's groups
+pub range_bucket : (s a c g : ℕ) → a ≤ g → g ≤ c → is_bucket_from (a / 2 ^ s) (c / 2 ^ s + 1 - a / 2 ^ s) (bucket s g) ≡ true
+range_bucket s a c g low high =
+    let d : ℕ = 2 ^ s in
+    let from : a / d ≤ g / d = div_rises a g d (pow_pos s) low in
+    let up : g / d ≤ c / d = div_rises g c d (pow_pos s) high in
+    group_there (a / d) (c / d + 1 - a / d) (g / d - a / d) (g / d % 64) (step_within (a / d) (c / d) (g / d) from up) (ap (λ n. n % 64) (step_back (a / d) (g / d) from))
+
+-- the mask of all buckets has those of each range that is as long
+pub full_adds : (first n old : ℕ) → 64 ≤ n → ((b : ℕ) → 64 ≤ b → has_bucket old b ≡ false) → Adds (is_bucket_from first n) old (2 ^ 64 - 1)
+full_adds first n old le none b = elim (cases_lt b 64) [
+    | inl lt ↦ full_mask b lt ∙ sym (or_second (has_bucket old b) (is_bucket_from first n b) (all_groups first n b le lt))
+    | inr ge ↦ no_bucket b ge ∙ sym (rw (none b ge, no_group first n b ge) refl)
+  ]
+
+-- a mask of 64 bits has no bucket past the last
+pub past_mask : (m b : ℕ) → m < 2 ^ 64 → 64 ≤ b → has_bucket m b ≡ false
+past_mask m b lt le =
+    let none : m / 2 ^ b ≡ 0 = div-eq_of_lt (lt_of m (2 ^ 64) (2 ^ b) lt (pow_mono le)) in
+    ap (λ n. n % 2 == 1) none
+
+-- ---- loops
+
+-- one more glyph
+pub glyph_step : (s i d old set new k : ℕ) (xs : List ℕ) → i < length xs → Adds (is_bucket_of s (take i xs)) old set → Adds (λ b. b == k) set new → k ≡ bucket s (get_or xs i d)
+    → Adds (is_bucket_of s (take (i + 1) xs)) old new
+glyph_step s i d old set new k xs lt before after is b =
+    let more : is_bucket_of s (take (i + 1) xs) b ≡ (is_bucket_of s (take i xs) b || b == bucket s (get_or xs i d)) = list_any_more (λ g. b == bucket s g) xs i d lt in
+    after b ∙ ap (λ t. t || b == k) (before b) ∙ or_assoc (has_bucket old b) (is_bucket_of s (take i xs) b) (b == k)
+    ∙ ap (λ n. has_bucket old b || (is_bucket_of s (take i xs) b || b == n)) is ∙ ap (λ t. has_bucket old b || t) (sym more)
+
+group_next : (first k b : ℕ) → is_bucket_from first (k + 1) b ≡ (is_bucket_from first k b || b == (first + k) % 64)
+group_next first k b = ap (λ n. is_bucket_from first n b) (add-one k)
+
+-- one more group
+pub group_step : (first k old set new g : ℕ) → Adds (is_bucket_from first k) old set → Adds (λ b. b == g) set new → g ≡ (first + k) % 64 → Adds (is_bucket_from first (k + 1)) old new
+group_step first k old set new g before after is b =
+    after b ∙ ap (λ t. t || b == g) (before b) ∙ or_assoc (has_bucket old b) (is_bucket_from first k b) (b == g)
+    ∙ ap (λ n. has_bucket old b || (is_bucket_from first k b || b == n)) is ∙ ap (λ t. has_bucket old b || t) (sym (group_next first k b))
+
+pub is_long : (f l a z : ℕ) → f ≡ a → l ≡ z → 63 ≤ l - f → 64 ≤ z + 1 - a
+is_long f l a z first last le = omega (arith, first, last, le)
+
+same_count : (f l a z : ℕ) → f ≡ a → l ≡ z → a ≤ z → l - f + 1 ≡ z + 1 - a
+same_count f l a z first last le = omega (arith, first, last, le)
+
+-- the groups of a range, counted in two ways
+pub same_range : (f l a z b : ℕ) → f ≡ a → l ≡ z → a ≤ z → is_bucket_from f (l - f + 1) b ≡ is_bucket_from a (z + 1 - a) b
+same_range f l a z b first last le = ap (λ m. is_bucket_from m (l - f + 1) b) first ∙ ap (λ n. is_bucket_from a n b) (same_count f l a z first last le)
+
+not_other : (m n : ℕ) → not (m == n) ≡ false → m ≡ n
+not_other m n e = grind (arith, nat_tests, e)
+
+-- the mask of all buckets may have each glyph
+pub full_has : (m s g : ℕ) → not (m == 2 ^ 64 - 1) ≡ false → may_have_glyph s m g ≡ true
+full_has m s g e = ap (λ k. has_bucket k (bucket s g)) (not_other m (2 ^ 64 - 1) e) ∙ full_mask (bucket s g) (bucket_small s g)

@@ -1,0 +1,218 @@
+//! Sets of glyphs that may have more than were added, and never fewer (rustybuzz: hb/set_digest.rs).
+ghost use Rattle.std.specs.Prelude.{ℕ, Bool, ◌&&◌, ◌≡◌, ◌==◌, ◌||◌, ◌+◌, ◌-◌, ◌/◌, ◌^◌, ◌≤◌, ◌<◌, false, true, nat_lt};
+ghost use Rattle.layout_common.specs.Buckets.{bucket, has_bucket, is_bucket_from, is_bucket_of, may_have_glyph};
+ghost use Rattle.layout_common.specs.Coverage.{is_covered};
+
+/// A set of glyphs that may have more than were added.
+pub trait hb_set_digest_ext: Copy {
+    ghost may_have: { Self → ℕ → Bool };
+
+    /// The empty set.
+    fn new() -> Self
+        ensures { (g : ℕ) → may_have result g ≡ false };
+
+    /// The set of all glyphs.
+    fn full() -> Self
+        ensures { (g : ℕ) → may_have result g ≡ true };
+
+    /// Adds a glyph. What was there stays.
+    fn add(&mut self, glyph: u16)
+        ensures added { may_have self.new glyph ≡ true }
+        ensures stays { (g : ℕ) → may_have self.old g ≡ true → may_have self.new g ≡ true };
+
+    /// Adds glyphs. What was there stays.
+    fn add_array(&mut self, glyphs: &[u16])
+        ensures added { (g : ℕ) → is_covered g glyphs.now ≡ true → may_have self.new g ≡ true }
+        ensures stays { (g : ℕ) → may_have self.old g ≡ true → may_have self.new g ≡ true };
+
+    /// Adds the glyphs from one to another. What was there stays. It answers whether the set may still lack a glyph.
+    fn add_range(&mut self, first: u16, last: u16) -> bool
+        requires { first ≤ last }
+        ensures added { (g : ℕ) → first ≤ g → g ≤ last → may_have self.new g ≡ true }
+        ensures stays { (g : ℕ) → may_have self.old g ≡ true → may_have self.new g ≡ true }
+        ensures all { result ≡ false → (g : ℕ) → may_have self.new g ≡ true };
+
+    /// Whether the set may have a glyph.
+    fn may_have_glyph(&self, glyph: u16) -> bool
+        ensures { result ≡ may_have self.now glyph };
+
+    /// Whether the sets may have a glyph in common. Where they may not, no glyph is in both.
+    fn may_have(&self, other: &Self) -> bool
+        ensures { result ≡ false → (g : ℕ) → may_have self.now g ≡ true → may_have other.now g ≡ false };
+}
+
+/// A set of glyphs by 64 buckets: glyph g is in the bucket `(g >> SHIFT) mod 64`.
+#[derive(Clone, Copy, Debug, Drop)]
+pub struct hb_set_digest_bits_pattern_t<const SHIFT: u8> {
+    mask: u64,
+}
+
+/// What two sets may both have.
+#[derive(Clone, Copy, Debug, Drop)]
+pub struct hb_set_digest_combiner_t<A, B> {
+    pub head: A,
+    pub tail: B,
+}
+
+/// A set of glyphs by three kinds of buckets.
+pub type hb_set_digest_t = hb_set_digest_combiner_t<
+    hb_set_digest_bits_pattern_t<4>,
+    hb_set_digest_combiner_t<hb_set_digest_bits_pattern_t<0>, hb_set_digest_bits_pattern_t<9>>,
+>;
+
+impl<A: hb_set_digest_ext, B: hb_set_digest_ext> hb_set_digest_ext
+    for hb_set_digest_combiner_t<A, B>
+{
+    ghost may_have = { λ s g. A.may_have s.head g && B.may_have s.tail g };
+
+    fn new() -> Self {
+        Self {
+            head: A::new(),
+            tail: B::new(),
+        }
+    }
+
+    fn full() -> Self {
+        Self {
+            head: A::full(),
+            tail: B::full(),
+        }
+    }
+
+    fn add(&mut self, glyph: u16) {
+        self.head.add(glyph);
+        self.tail.add(glyph);
+    }
+
+    fn add_array(&mut self, glyphs: &[u16]) {
+        self.head.add_array(glyphs);
+        self.tail.add_array(glyphs);
+    }
+
+    fn add_range(&mut self, first: u16, last: u16) -> bool {
+        let head = self.head.add_range(first, last);
+        let tail = self.tail.add_range(first, last);
+        head || tail
+    }
+
+    fn may_have_glyph(&self, glyph: u16) -> bool {
+        self.head.may_have_glyph(glyph) && self.tail.may_have_glyph(glyph)
+    }
+
+    fn may_have(&self, other: &Self) -> bool {
+        self.head.may_have(&other.head) && self.tail.may_have(&other.tail)
+    }
+}
+
+/// The group of a glyph with its neighbours.
+fn group<const SHIFT: u8>(glyph: u16) -> u32
+    ensures { result ≡ glyph / 2 ^ SHIFT }
+{
+    if SHIFT < 16 {
+        u32::from(glyph) >> SHIFT
+    } else {
+        0
+    }
+}
+
+/// The bucket of a glyph.
+fn bucket<const SHIFT: u8>(glyph: u16) -> u32
+    ensures is { result ≡ bucket SHIFT glyph }
+    ensures small { result < 64 }
+{
+    group::<SHIFT>(glyph) & 63
+}
+
+fn with_bucket(mask: u64, bucket: u32) -> u64
+    requires { bucket < 64 }
+    ensures { (b : ℕ) → has_bucket result b ≡ (has_bucket mask b || b == bucket) }
+{
+    mask | 1 << bucket
+}
+
+/// The mask with the buckets of glyphs.
+fn with_glyphs<const SHIFT: u8>(mask: u64, glyphs: &[u16]) -> u64
+    ensures { (b : ℕ) → has_bucket result b ≡ (has_bucket mask b || is_bucket_of SHIFT glyphs.now b) }
+{
+    let mut set = mask;
+    for glyph in glyphs {
+        set = with_bucket(set, bucket::<SHIFT>(*glyph));
+    }
+    set
+}
+
+/// The mask with the buckets of so many groups from a group on.
+fn with_groups(mask: u64, first: u32, count: u32) -> u64
+    requires { first + count < 2 ^ 32 }
+    ensures { (b : ℕ) → has_bucket result b ≡ (has_bucket mask b || is_bucket_from first count b) }
+{
+    let mut set = mask;
+    for k in 0..count {
+        set = with_bucket(set, first + k & 63);
+    }
+    set
+}
+
+/// The mask with the buckets of the glyphs from one to another.
+fn with_range<const SHIFT: u8>(mask: u64, first: u16, last: u16) -> u64
+    requires { first ≤ last }
+    ensures { (b : ℕ) → has_bucket result b
+        ≡ (has_bucket mask b || is_bucket_from (first / 2 ^ SHIFT) (last / 2 ^ SHIFT + 1 - first / 2 ^ SHIFT) b) }
+{
+    let from = group::<SHIFT>(first);
+    let past = group::<SHIFT>(last) - from;
+    if past >= 63 {
+        return u64::MAX;
+    }
+    with_groups(mask, from, past + 1)
+}
+
+impl<const SHIFT: u8> hb_set_digest_ext for hb_set_digest_bits_pattern_t<SHIFT> {
+    ghost may_have = { λ s g. may_have_glyph SHIFT s.mask g };
+
+    #[tactic(auto, using(crate::proofs::Bits::empty_mask))]
+    fn new() -> Self {
+        Self { mask: 0 }
+    }
+
+    #[tactic(auto, using(crate::proofs::Bits::full_mask, crate::proofs::Bits::bucket_small))]
+    fn full() -> Self {
+        Self { mask: u64::MAX }
+    }
+
+    fn add(&mut self, glyph: u16)
+        ensures added { may_have_glyph SHIFT self.new.mask glyph ≡ true }
+        ensures stays { (g : ℕ) → may_have_glyph SHIFT self.old.mask g ≡ true → may_have_glyph SHIFT self.new.mask g ≡ true }
+        ensures buckets { (b : ℕ) → has_bucket self.new.mask b ≡ (has_bucket self.old.mask b || b == bucket SHIFT glyph) }
+    {
+        self.mask = with_bucket(self.mask, bucket::<SHIFT>(glyph));
+    }
+
+    fn add_array(&mut self, glyphs: &[u16])
+        ensures added { (g : ℕ) → is_covered g glyphs.now ≡ true → may_have_glyph SHIFT self.new.mask g ≡ true }
+        ensures stays { (g : ℕ) → may_have_glyph SHIFT self.old.mask g ≡ true → may_have_glyph SHIFT self.new.mask g ≡ true }
+        ensures buckets { (b : ℕ) → has_bucket self.new.mask b ≡ (has_bucket self.old.mask b || is_bucket_of SHIFT glyphs.now b) }
+    {
+        self.mask = with_glyphs::<SHIFT>(self.mask, glyphs);
+    }
+
+    fn add_range(&mut self, first: u16, last: u16) -> bool
+        requires { first ≤ last }
+        ensures added { (g : ℕ) → first ≤ g → g ≤ last → may_have_glyph SHIFT self.new.mask g ≡ true }
+        ensures stays { (g : ℕ) → may_have_glyph SHIFT self.old.mask g ≡ true → may_have_glyph SHIFT self.new.mask g ≡ true }
+        ensures all { result ≡ false → (g : ℕ) → may_have_glyph SHIFT self.new.mask g ≡ true }
+        ensures buckets { (b : ℕ) → has_bucket self.new.mask b
+            ≡ (has_bucket self.old.mask b || is_bucket_from (first / 2 ^ SHIFT) (last / 2 ^ SHIFT + 1 - first / 2 ^ SHIFT) b) }
+    {
+        self.mask = with_range::<SHIFT>(self.mask, first, last);
+        self.mask != u64::MAX
+    }
+
+    fn may_have_glyph(&self, glyph: u16) -> bool {
+        self.mask >> bucket::<SHIFT>(glyph) & 1 != 0
+    }
+
+    fn may_have(&self, other: &Self) -> bool {
+        self.mask & other.mask != 0
+    }
+}

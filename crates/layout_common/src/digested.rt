@@ -1,0 +1,94 @@
+//! What can act at some glyphs alone, with a set of them, so that it need not be tried at others.
+ghost use Rattle.std.specs.Prelude.{ℕ, ◌≡◌, ◌==◌, Bool, true, false};
+ghost use Rattle.std.specs.List.{list_any};
+
+use crate::digest::{hb_set_digest_ext, hb_set_digest_t};
+use std::marker::Model;
+
+/// What can act at some glyphs alone: a row, a rule, a subtable, the subtables of a lookup.
+pub trait Covers {
+    ghost covers: { Self → ℕ → Bool };
+
+    /// Adds the glyphs at which it can act. What was there stays.
+    fn collect<D: hb_set_digest_ext>(&self, digest: &mut D)
+        ensures added { (g : ℕ) → covers self.now g ≡ true → D.may_have digest.new g ≡ true }
+        ensures stays { (g : ℕ) → D.may_have digest.old g ≡ true → D.may_have digest.new g ≡ true };
+}
+
+/// A glyph, as the first item of a rule's input.
+impl Covers for u16 {
+    ghost covers = { λ glyph g. g == glyph };
+
+    fn collect<D: hb_set_digest_ext>(&self, digest: &mut D) {
+        digest.add(*self);
+    }
+}
+
+/// Adds the glyphs at which one of several can act. What was there stays.
+pub fn collect_each<S: Covers, D: hb_set_digest_ext>(items: &[S], digest: &mut D)
+    ensures added { (g : ℕ) → list_any (λ s. S.covers s g) items.now ≡ true → D.may_have digest.new g ≡ true }
+    ensures stays { (g : ℕ) → D.may_have digest.old g ≡ true → D.may_have digest.new g ≡ true }
+{
+    for item in items {
+        item.collect(digest);
+    }
+}
+
+/// Such a thing, with a set that has each glyph at which it can act. It is seen as the thing itself.
+#[derive(Debug, Drop)]
+pub struct Digested<S: Covers> {
+    inner: S,
+    digest: hb_set_digest_t,
+}
+
+impl<S: Covers> Model for Digested<S> {
+    ghost use Rattle.std.specs.Prelude.{ℕ, ◌≡◌, true};
+
+    ghost Value = { S };
+
+    ghost view = { λ d. d.inner };
+
+    ghost invariant = { λ d. (g : ℕ) → S.covers d.inner g ≡ true
+        → ⟦<hb_set_digest_t as hb_set_digest_ext>⟧.may_have d.digest g ≡ true };
+}
+
+impl<S: Covers> Digested<S> {
+    /// With the set of its glyphs.
+    pub fn new(inner: S) -> Digested<S>
+        ensures { result ≡ inner }
+    {
+        let mut digest = hb_set_digest_t::new();
+        inner.collect(&mut digest);
+        Digested { inner, digest }
+    }
+
+    /// The thing itself.
+    pub fn inner(&self) -> &S
+        ensures { result.now ≡ self.now }
+    {
+        &self.inner
+    }
+
+    /// Whether it may act at a glyph. Where it may not, it can't.
+    pub fn may_have_glyph(&self, glyph: u16) -> bool
+        ensures { result ≡ false → S.covers self.now glyph ≡ false }
+    {
+        self.digest.may_have_glyph(glyph)
+    }
+
+    /// The set, which has each glyph at which it can act.
+    pub fn digest(&self) -> hb_set_digest_t
+        ensures { (g : ℕ) → S.covers self.now g ≡ true
+            → ⟦<hb_set_digest_t as hb_set_digest_ext>⟧.may_have result g ≡ true }
+    {
+        self.digest
+    }
+}
+
+impl<S: Covers> Covers for Digested<S> {
+    ghost covers = { S.covers };
+
+    fn collect<D: hb_set_digest_ext>(&self, digest: &mut D) {
+        self.inner.collect(digest);
+    }
+}
