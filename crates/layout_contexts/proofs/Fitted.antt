@@ -19,15 +19,18 @@ map_behind_first f xs ys e = ap (map f) e ∙ sym (drop-map f 1 xs)
 at_item : (nest : Option (ℕ → Action)) (a : ApplyContext) (r : Chain) (x : Item) (c : Cut) → first_of c.rest ≡ Some x → chain_rule nest a r c ≡ chain_at nest a r x c
 at_item nest a r x c e = ap (λ (o : Option Item). at_first (chain_at nest a r) o c) e
 
-begins_by : (tests : List (Item → Bool)) (x : Item) → test_at tests 0 x ≡ begins tests x
+pub begins_by : (tests : List (Item → Bool)) (x : Item) → test_at tests 0 x ≡ begins tests x
 begins_by [] x = refl
 begins_by (test ∷ tests) x = refl
 
 off : (nest : Option (ℕ → Action)) (a : ApplyContext) (r : Chain) (x : Item) (c : Cut) → first_of c.rest ≡ Some x → (begins r.input x && nat_le (length r.input) 64) ≡ false → chain_rule nest a r c ≡ Passes []
 off nest a r x c e f = at_item nest a r x c e ∙ ap (λ b. if b then by_input nest a r (input_end (own_search a c.rest) (drop 1 r.input) c.rest) c else Passes []) f
 
+pub unbegun : (nest : Option (ℕ → Action)) (a : ApplyContext) (r : Chain) (x : Item) (c : Cut) → first_of c.rest ≡ Some x → begins r.input x ≡ false → chain_rule nest a r c ≡ Passes []
+unbegun nest a r x c e f = off nest a r x c e (and_left (begins r.input x) (nat_le (length r.input) 64) f)
+
 pub other_first : (nest : Option (ℕ → Action)) (a : ApplyContext) (r : Chain) (x : Item) (c : Cut) → first_of c.rest ≡ Some x → test_at r.input 0 x ≡ false → chain_rule nest a r c ≡ Passes []
-other_first nest a r x c e f = off nest a r x c e (and_left (begins r.input x) (nat_le (length r.input) 64) (sym (begins_by r.input x) ∙ f))
+other_first nest a r x c e f = unbegun nest a r x c e (sym (begins_by r.input x) ∙ f)
 
 is_over : (n : ℕ) → 64 < n → nat_le n 64 ≡ false
 is_over n lt = grind (arith, lt)

@@ -1,14 +1,17 @@
 //! Tries a rule of a context or chained context (rustybuzz: hb/ot_layout_gsubgpos.rs, `apply_context`,
 //! `apply_chain_context`).
 ghost use Rattle.std.specs.Prelude.{◌≡◌, ◌<◌, drop, length};
+ghost use Rattle.buffer_glyphs.specs.Items.{item_of};
 ghost use Rattle.layout_match.specs.Applied.{apply_context_of};
 ghost use Rattle.layout_match.specs.Sequences.{tests_of};
 ghost use Rattle.buffer_stages.specs.Performing.{cut_with};
+ghost use Rattle.layout_contexts.specs.Chains.{begins};
 ghost use Rattle.layout_contexts.specs.Fitting.{IsInside, MatchesOrPasses, Says, chain_of};
 
 use crate::counts::backtrack_len;
 use crate::match_indices::move_indices;
 use buffer_core::buffer::hb_buffer_t;
+use buffer_glyphs::info::hb_glyph_info_t;
 use layout_match::marking::{mark_attempt, mark_match};
 use layout_match::{
     MAX_CONTEXT_LENGTH, MatchPositions, MatchSequence, hb_ot_apply_context_t, match_backtrack,
@@ -67,6 +70,14 @@ fn behind_first<'a>(sequence: &MatchSequence<'a>) -> MatchSequence<'a>
         }
         MatchSequence::Coverages(sets) => MatchSequence::Coverages(behind_first_of(sets)),
     }
+}
+
+/// Whether a rule begins with a glyph: where it doesn't, nothing has to be prepared for it.
+#[tactic(auto, using(crate::proofs::Fitted::begins_by))]
+pub fn begins_with(rule: &ChainRule, info: &hb_glyph_info_t) -> bool
+    ensures { result ≡ begins (chain_of rule.now).input (item_of info.now) }
+{
+    rule.input.fits(0, info)
 }
 
 /// Matches a rule at the cursor, and records the distance from it of each glyph of its input.

@@ -25,8 +25,8 @@ use crate::cursive_join::CursiveAttachment;
 use buffer_core::buffer::hb_buffer_t;
 use buffer_glyphs::cause::ShapeCause;
 use layout_contexts::{
-    ChainRule, begin_record, glyph_count, is_tried_at, match_chain, move_to_match_end, rule_at,
-    rule_count, settle_match,
+    ChainRule, begin_record, begins_with, glyph_count, is_tried_at, match_chain, move_to_match_end,
+    rule_at, rule_count, settle_match,
 };
 use layout_face::positioning::{PositioningLookup, PositioningSubtables, PositioningTable};
 use layout_gpos::apply::apply_first;
@@ -239,6 +239,9 @@ fn apply_rule(
         ctx.now.random_state ctx.now.random_state buffer.old buffer.new }
     ensures kept { OnOk result (AreKept (apply_context_of ctx.now) (items_of buffer.new) last.new) }
 {
+    if !begins_with(rule, buffer.cur(0)) {
+        return Ok(false);
+    }
     let mut indices = MatchPositions::new();
     let Some(end) = match_chain(ctx, rule, buffer, &mut indices) else {
         return Ok(false);

@@ -17,7 +17,7 @@ use Rattle.layout_contexts.specs.Records.{IsRecordBegun}
 use Rattle.layout_contexts.specs.Rules.{chains_of}
 use Rattle.layout_contexts.proofs.Lemmas.Acting.{match_inside, rule_acted, rule_failed}
 use Rattle.layout_contexts.proofs.Lemmas.Inside.{then_stays}
-use Rattle.layout_contexts.proofs.Lemmas.Nested.{begun_closed, begun_numbers, begun_some, begun_unrefused, get_or_any, last_walked, matched_closed, matched_numbers, matched_unrefused, next_failed, next_walked, none_nested, not_tried, record_acted, record_inside, record_passed, tried_there}
+use Rattle.layout_contexts.proofs.Lemmas.Nested.{begun_closed, begun_numbers, begun_some, begun_unrefused, get_or_any, last_walked, matched_closed, matched_numbers, matched_unrefused, next_failed, next_walked, none_nested, not_begun, not_tried, record_acted, record_inside, record_passed, tried_there}
 use Rattle.layout_positioning.specs.Lookups.{nested_actions, nested_act}
 use Rattle.layout_positioning.proofs.Kept.{begun_kept, behind_kept, matched_kept, unmatched_kept}
 use Rattle.layout_positioning.proofs.Levels.{no_depth, some_depth, record_lookup_refused}
@@ -158,6 +158,11 @@ apply_records-returns-clause-walks t c =
     let i = c.loop-lookup_record.invariant in
     last_walked (nested_act c.args.table.now.lookups (c.args.depth - 1) c.args.buffer.now.direction (apply_context_of c.args.ctx.now)) (nested_actions c.args.table.now.lookups c.args.depth c.args.buffer.now.direction (apply_context_of c.args.ctx.now)) c.args.records.now c.loop-lookup_record.lookup_record-index c.args.ctx.now.random_state c.args.ctx.now.random_state c.args.buffer.now c.loop-lookup_record.buffer c.args.indices.now.items c.loop-lookup_record.indices.items c.args.end c.loop-lookup_record.at
     (some_depth c.args.table.now.lookups c.args.depth c.args.buffer.now.direction (apply_context_of c.args.ctx.now) (λ e. absurd (omega (arith, e, c.if-depth-eq0.false)))) c.loop-lookup_record-test.false i.walked
+
+pub apply_rule-returns-then-not-begins_with-clause-performs : goal.apply_rule-returns-then-not-begins_with-clause-performs
+apply_rule-returns-then-not-begins_with-clause-performs t c =
+    let a = apply_context_of c.args.ctx.now in
+    not_begun (nested_actions c.args.table.now.lookups c.args.depth c.args.buffer.now.direction a) a (chain_of c.args.rule.now) c.begins_with.result c.args.ctx.now.random_state c.args.buffer.now c.cur.result.now c.cur.ensures c.begins_with.ensures c.if-not-begins_with.true
 
 pub apply_rule-returns-in-Ok-clause-performs : goal.apply_rule-returns-in-Ok-clause-performs
 apply_rule-returns-in-Ok-clause-performs t c =

@@ -13,7 +13,7 @@ use Rattle.layout_contexts.proofs.Lemmas.Acting.{match_inside, rule_acted, rule_
 use Rattle.layout_contexts.proofs.Lemmas.Inside.{then_stays}
 use Rattle.layout_substitution.specs.Lookups.{nested_actions, nested_act}
 use Rattle.layout_tables.specs.declared.context.SequenceLookupRecord.{SequenceLookupRecord}
-use Rattle.layout_contexts.proofs.Lemmas.Nested.{begun_some, get_or_any, last_walked, matched_numbers, matched_open, matched_unrefused, next_failed, next_walked, none_nested, not_tried, record_acted, record_inside, record_passed, tried_there}
+use Rattle.layout_contexts.proofs.Lemmas.Nested.{begun_some, get_or_any, last_walked, matched_numbers, matched_open, matched_unrefused, next_failed, next_walked, none_nested, not_begun, not_tried, record_acted, record_inside, record_passed, tried_there}
 use Rattle.layout_substitution.proofs.Levels.{no_depth, some_depth}
 use Rattle.layout_substitution.proofs.nested.+nested.Goals as goal
 
@@ -140,6 +140,11 @@ apply_records-returns-clause-walks t c =
     let i = c.loop-lookup_record.invariant in
     last_walked (nested_act c.args.table.now.lookups (c.args.depth - 1) (apply_context_of c.args.ctx.now)) (nested_actions c.args.table.now.lookups c.args.depth (apply_context_of c.args.ctx.now)) c.args.records.now c.loop-lookup_record.lookup_record-index c.args.ctx.now.random_state c.loop-lookup_record.ctx.random_state c.args.buffer.now c.loop-lookup_record.buffer c.args.indices.now.items c.loop-lookup_record.indices.items c.args.end c.loop-lookup_record.at
     (some_depth c.args.table.now.lookups c.args.depth (apply_context_of c.args.ctx.now) (λ e. absurd (omega (arith, e, c.if-depth-eq0.false)))) c.loop-lookup_record-test.false i.walked
+
+pub apply_rule-returns-then-not-begins_with-clause-performs : goal.apply_rule-returns-then-not-begins_with-clause-performs
+apply_rule-returns-then-not-begins_with-clause-performs t c =
+    let a = apply_context_of c.args.ctx.now in
+    not_begun (nested_actions c.args.table.now.lookups c.args.depth a) a (chain_of c.args.rule.now) c.begins_with.result c.args.ctx.now.random_state c.args.buffer.now c.cur.result.now c.cur.ensures c.begins_with.ensures c.if-not-begins_with.true
 
 pub apply_rule-returns-in-Ok-clause-performs : goal.apply_rule-returns-in-Ok-clause-performs
 apply_rule-returns-in-Ok-clause-performs t c =
