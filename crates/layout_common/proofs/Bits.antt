@@ -190,9 +190,9 @@ range_bucket s a c g low high =
 -- the mask of all buckets has those of each range that is as long
 pub full_adds : (first n old : ℕ) → 64 ≤ n → ((b : ℕ) → 64 ≤ b → has_bucket old b ≡ false) → Adds (is_bucket_from first n) old (2 ^ 64 - 1)
 full_adds first n old le none b = elim (cases_lt b 64) [
-    | inl lt ↦ full_mask b lt ∙ sym (or_second (has_bucket old b) (is_bucket_from first n b) (all_groups first n b le lt))
-    | inr ge ↦ no_bucket b ge ∙ sym (rw (none b ge, no_group first n b ge) refl)
-  ]
+  | inl lt ↦ full_mask b lt ∙ sym (or_second (has_bucket old b) (is_bucket_from first n b) (all_groups first n b le lt))
+  | inr ge ↦ no_bucket b ge ∙ sym (rw (none b ge, no_group first n b ge) refl)
+]
 
 -- a mask of 64 bits has no bucket past the last
 pub past_mask : (m b : ℕ) → m < 2 ^ 64 → 64 ≤ b → has_bucket m b ≡ false

@@ -61,8 +61,7 @@ pub type hb_set_digest_t = hb_set_digest_combiner_t<
 >;
 
 impl<A: hb_set_digest_ext, B: hb_set_digest_ext> hb_set_digest_ext
-    for hb_set_digest_combiner_t<A, B>
-{
+    for hb_set_digest_combiner_t<A, B> {
     ghost may_have = { λ s g. A.may_have s.head g && B.may_have s.tail g };
 
     fn new() -> Self {

@@ -79,19 +79,25 @@ fn classes_fit(subtables: &PositioningSubtables) -> bool
 fn pairs_fit(subtables: &[Digested<PairPos>]) -> bool
     ensures { result ≡ list_all (λ s. pair_classes_fit s) subtables.now }
 {
-    subtables.iter().all(|subtable| pair_classes_fit(subtable.inner()))
+    subtables
+        .iter()
+        .all(|subtable| pair_classes_fit(subtable.inner()))
 }
 
 fn bases_fit(subtables: &[Digested<MarkBasePos>]) -> bool
     ensures { result ≡ list_all (λ s. marks_fit_bases s.marks s.bases) subtables.now }
 {
-    subtables.iter().all(|subtable| subtable.inner().classes_fit())
+    subtables
+        .iter()
+        .all(|subtable| subtable.inner().classes_fit())
 }
 
 fn ligatures_fit(subtables: &[Digested<MarkLigPos>]) -> bool
     ensures { result ≡ list_all (λ s. marks_fit_ligatures s.marks s.ligatures) subtables.now }
 {
-    subtables.iter().all(|subtable| subtable.inner().classes_fit())
+    subtables
+        .iter()
+        .all(|subtable| subtable.inner().classes_fit())
 }
 
 fn pair_classes_fit(pair: &PairPos) -> bool

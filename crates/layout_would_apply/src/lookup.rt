@@ -141,10 +141,7 @@ fn any_would_apply<S: WouldApply + Covers>(
         .any(|subtable| subtable.inner().would_apply(ctx))
 }
 
-fn any_context_would_apply(
-    subtables: &[Digested<ContextSubtable>],
-    ctx: &WouldApplyContext,
-) -> bool
+fn any_context_would_apply(subtables: &[Digested<ContextSubtable>], ctx: &WouldApplyContext) -> bool
     ensures { result ≡ list_any (λ s. context_would s ctx.now.glyphs.now ctx.now.zero_context) subtables.now }
 {
     subtables

@@ -112,7 +112,10 @@ fn mark(table: &PositioningTable, index: u16) -> Option<MarkRecord> {
 
 fn base_anchor(table: &PositioningTable, glyph: u16, class: u16) -> Option<Anchor> {
     match subtables(table, 3)? {
-        PositioningSubtables::MarkToBase(subtables) => subtables.get(0)?.inner().base_anchor(glyph, class),
+        PositioningSubtables::MarkToBase(subtables) => subtables
+            .get(0)?
+            .inner()
+            .base_anchor(glyph, class),
         _ => None,
     }
 }
