@@ -11,7 +11,6 @@ pub use Rattle.script_shapers.specs as script_shapers
 pub use Rattle.shape_pipeline.specs as shape_pipeline
 pub use Rattle.shaping_buffer.specs as shaping_buffer
 pub use Rattle.shell_face_json.specs as shell_face_json
-pub use Rattle.shell_face_text.specs as shell_face_text
 pub use Rattle.shell_json.specs as shell_json
 pub use Rattle.shell_readers.specs as shell_readers
 pub use Rattle.shell_tables_json.specs as shell_tables_json

@@ -28,7 +28,7 @@ pub use script_categories::{
     Accept, Step, SyllableMachine, SyllableMachines, SyllableSpans, SyllableTable,
 };
 pub use shape_pipeline::{ShapeFault, ShapePlan, hb_shape_data_t, shape, shape_with_plan};
-pub use shell_face_text::read_face_text;
+pub use shell_face_json::read_face_text;
 pub use shell_json::fault::JsonFault;
 pub use shell_readers::fault::RunFault;
 pub use shell_readers::input::{RunInput, read_input};

@@ -12,3 +12,4 @@ pub mod Marks
 pub mod PositionTable
 pub mod FontRows
 pub mod Face
+pub mod Text

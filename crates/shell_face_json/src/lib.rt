@@ -1,4 +1,4 @@
-//! Reads a font from a JSON value, with the fault that comes first.
+//! Reads a font from a JSON value or a JSON text, with the fault that comes first.
 #![tactic(auto)]
 
 mod contexts;
@@ -18,6 +18,8 @@ mod rows;
 mod scripts;
 mod substitution_table;
 mod substitutions;
+mod text;
 pub mod value;
 
 pub use face::read_face;
+pub use text::{read_by_parts, read_face_text};

@@ -7,7 +7,7 @@ use Rattle.serde_json.specs.Read.{read}
 use Rattle.shell_json.specs.declared.fault.JsonFault.TheVariants.{NotJson}
 use Rattle.shell_json.specs.Cell.{and_then}
 use Rattle.shell_face_json.specs.Face.{face_of}
-use Rattle.shell_face_text.specs.Face.{face_in}
+use Rattle.shell_face_json.specs.Text.Face.{face_in}
 use Rattle.shell_readers.specs.declared.fault.RunFault.TheVariants.{Json}
 use Rattle.shell_readers.specs.Input.{font_in}
 use Rattle.shell_readers.specs.Values.{json_or_fault, of_json, then_run}

@@ -8,7 +8,7 @@ use crate::fault::RunFault;
 use crate::tables::{TextTables, check_laws, tables_in};
 use crate::values::utf8;
 use layout_face::Face;
-use shell_face_text::read_face_text;
+use shell_face_json::read_face_text;
 use shell_json::fault::JsonFault;
 use std::alloc::Global;
 

@@ -3,7 +3,7 @@ use crate::rows::{first_wrong, prints};
 use crate::{positions, substitutions};
 use buffer_glyphs::names::{GlyphId, GlyphNames};
 use layout_face::Face;
-use shell_face_text::read_by_parts;
+use shell_face_json::read_by_parts;
 use std::alloc::{AllocError, Global};
 use std::test::Fail;
 

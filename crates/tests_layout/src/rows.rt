@@ -2,7 +2,7 @@
 //! the fonts, since each function that does is dear to prove.
 use crate::{fonts, positions, substitutions};
 use layout_face::Face;
-use shell_face_text::read_face_text;
+use shell_face_json::read_face_text;
 use std::alloc::Global;
 use std::fmt::Debug;
 

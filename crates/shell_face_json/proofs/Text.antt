@@ -1,0 +1,4 @@
+pub mod InTurn
+pub mod Tables
+pub mod OfKeys
+pub mod Definitions

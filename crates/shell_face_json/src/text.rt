@@ -1,0 +1,10 @@
+//! Reads a font from a JSON text: key by key, so that a large font takes little more memory than its records, or else
+//! whole, with the fault that comes first.
+
+mod definition;
+mod face;
+mod keys;
+mod rows;
+mod table;
+
+pub use face::{read_by_parts, read_face_text};

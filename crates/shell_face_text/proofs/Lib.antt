@@ -1,4 +1,0 @@
-mod InTurn
-mod Tables
-mod OfKeys
-mod Definitions
