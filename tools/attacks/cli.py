@@ -1,0 +1,194 @@
+"""The command line of hostile."""
+
+import argparse
+import multiprocessing
+import os
+import tempfile
+from dataclasses import dataclass
+from pathlib import Path
+from typing import Any
+
+from attacks.attack import Attack, Files
+from attacks.fonts import FONTS
+from attacks.texts import TEXTS
+from attacks.values import VALUES
+from common.faults import FILES as FILES_STATUS
+from common.faults import WORDS, ToolFault
+from common.parsing import Words
+from fuzzing.cases import FILES
+from fuzzing.cli import MEMORY, PROGRAM
+from fuzzing.running import Answer, Limits, Runner, is_line, under
+
+NAME = "hostile"
+ABOUT = """Runs the program on fonts, texts, tables and JSON that are made to cost much, each at a size, at twice and at
+four times of it, with a small stack; tells the processor time, the memory and the answer, and names what grows like a
+square. The status is 1 where an answer is not right."""
+FACTORS = (1, 2, 4)
+# A straight line grows twice as much from twice to four times the size as from the size to twice; a square four times.
+SQUARE = 3.0
+# Times and memory below these tell nothing.
+LEAST_SECONDS = 0.15
+LEAST_MEMORY = 64 << 20
+ATTACKS = [*FONTS, *TEXTS, *VALUES]
+
+
+@dataclass(frozen=True)
+class Measured:
+    """The answers at the three sizes, what is wrong with one of them, and what grows like a square."""
+
+    answers: list[Answer]
+    wrong: str | None
+
+    def squares(self) -> list[str]:
+        seconds = [answer.seconds for answer in self.answers]
+        memory = [float(answer.memory) for answer in self.answers]
+        found = ["time"] if is_square(seconds, LEAST_SECONDS) else []
+        return found + (["memory"] if is_square(memory, LEAST_MEMORY) else [])
+
+
+def is_square(values: list[float], least: float) -> bool:
+    """Whether three values, at a size, at twice and at four times of it, grow like a square."""
+    first, second = values[1] - values[0], values[2] - values[1]
+    return second >= least and second >= SQUARE * max(first, least / 8)
+
+
+def parser() -> argparse.ArgumentParser:
+    words = Words(prog=NAME, description=ABOUT)
+    words.add_argument("names", nargs="*", metavar="NAME", help="a part of the names of those to run (all)")
+    words.add_argument("--list", action="store_true", help="print the names and the first sizes")
+    words.add_argument("--write", type=Path, metavar="FOLDER", help="write the files, and run nothing")
+    words.add_argument("--times", type=int, default=1, metavar="N", help="of N runs the fastest is told (1)")
+    words.add_argument("--program", type=Path, default=PROGRAM, metavar="FILE", help="another program")
+    words.add_argument("--limit", type=float, default=120, metavar="S", help="processor seconds for a run (120)")
+    words.add_argument("--memory", type=int, default=4096, metavar="MB", help="memory for a run (4096)")
+    words.add_argument("--stack", type=int, default=192, metavar="KB", help="stack for a run (192)")
+    return words
+
+
+def main(given: list[str]) -> int:
+    """Runs what is named; its status is 1 where an answer is not right."""
+    options = parser().parse_args(given)
+    attacks = [each for each in ATTACKS if not options.names or any(name in each.name for name in options.names)]
+    if not attacks:
+        raise ToolFault(WORDS, f"no name has one of these parts: {', '.join(options.names)}")
+    if options.list:
+        for attack in attacks:
+            print(f"{attack.size:10,}  {attack.name}")
+        return 0
+    if options.write is not None:
+        write_all(options.write, attacks)
+        return 0
+    if not os.access(options.program, os.X_OK):
+        raise ToolFault(FILES_STATUS, f"{options.program} is not there: tools/build builds it")
+    limits = Limits(options.limit, options.memory << 20, options.stack << 10)
+    with tempfile.TemporaryDirectory(prefix="hostile-", dir=MEMORY if MEMORY.is_dir() else None) as folder:
+        with Server(Runner(options.program, Path(folder), limits)) as server:
+            return run_all(server, attacks, options.times)
+
+
+def write_all(folder: Path, attacks: list[Attack]) -> None:
+    """Writes the files of each at its first size, with the options."""
+    for attack in attacks:
+        here = folder / attack.name.replace(" ", "-").replace(",", "")
+        here.mkdir(parents=True, exist_ok=True)
+        files = attack.files(attack.size)
+        write_files(here, files)
+        (here / "options").write_text("".join(f"{word}\n" for word in files.options), encoding="utf-8")
+
+
+def write_files(folder: Path, files: Files) -> list[str]:
+    """Writes the three files; the words of the command line for them."""
+    for name, content in zip(FILES, files.contents()):
+        (folder / name).write_bytes(content)
+    return ["--no-glyph-names", *files.options, *(str(folder / name) for name in FILES)]
+
+
+class Server:
+    """A process that runs the program. What a new process uses is counted with what its parent uses, so that one is small."""
+
+    def __init__(self, runner: Runner) -> None:
+        self.folder = runner.folder
+        self.end, other = multiprocessing.Pipe()
+        self.process = multiprocessing.Process(target=under, args=(runner.limits, lambda: serve(runner, other)))
+
+    def __enter__(self) -> "Server":
+        self.process.start()
+        return self
+
+    def __exit__(self, *_: object) -> None:
+        self.end.send(None)
+        self.process.join()
+
+    def run(self, words: list[str]) -> Answer:
+        self.end.send(words)
+        answer = self.end.recv()
+        if isinstance(answer, OSError):
+            raise answer
+        return answer
+
+
+def serve(runner: Runner, end: Any) -> None:
+    """Runs the program with each list of words that comes, until none comes."""
+    while True:
+        words = end.recv()
+        if words is None:
+            return
+        try:
+            end.send(runner.run(words))
+        except OSError as error:
+            end.send(error)
+
+
+def run_all(server: Server, attacks: list[Attack], times: int) -> int:
+    """Runs each, a line for each; the status is 1 where an answer is not right."""
+    wrong: list[str] = []
+    squares: list[str] = []
+    for attack in attacks:
+        measured = measure(server, attack, times)
+        tell(attack, measured)
+        wrong.extend([attack.name] if measured.wrong else [])
+        squares.extend([attack.name] if measured.squares() else [])
+    print(f"{len(attacks)} run, {len(wrong)} with an answer that is not right; like a square: {', '.join(squares) or 'none'}")
+    return 1 if wrong else 0
+
+
+def measure(server: Server, attack: Attack, times: int) -> Measured:
+    """The answers at the three sizes, each the fastest of some runs; a run without an end is the last one."""
+    answers: list[Answer] = []
+    wrong = None
+    for factor in FACTORS:
+        size = attack.size * factor
+        files = attack.files(size)
+        words = write_files(server.folder, files)
+        runs = [server.run(words) for _ in range(times)]
+        answers.append(min(runs, key=lambda answer: answer.seconds))
+        wrong = wrong or fault_of(attack, size, files, answers[-1])
+        if answers[-1].status is None:
+            break
+    answers += answers[-1:] * (len(FACTORS) - len(answers))
+    return Measured(answers, wrong)
+
+
+def fault_of(attack: Attack, size: int, files: Files, answer: Answer) -> str | None:
+    """What is wrong with an answer."""
+    name = answer.name()
+    if name not in attack.answers:
+        return f"{name} at {size}, not {' or '.join(sorted(attack.answers))}"
+    if name != "ok":
+        return None
+    if not is_line(("--no-glyph-names", *files.options), answer.out):
+        return f"a line of another form at {size}"
+    if attack.line is not None:
+        start, end = attack.line(size)
+        if not (answer.out.startswith(start.encode()) and answer.out.endswith(end.encode())):
+            return f"another line at {size}"
+    return None
+
+
+def tell(attack: Attack, measured: Measured) -> None:
+    """The answer, times and memory at the three sizes."""
+    seconds = " ".join(f"{answer.seconds:7.3f}" for answer in measured.answers)
+    memory = " ".join(f"{answer.memory >> 20:5}" for answer in measured.answers)
+    note = "".join(f"  [{part} like a square]" for part in measured.squares())
+    wrong = f"  WRONG: {measured.wrong}" if measured.wrong else ""
+    print(f"{attack.name:40} {attack.size:10,} {seconds} s {memory} MB  {measured.answers[0].name()}{note}{wrong}", flush=True)

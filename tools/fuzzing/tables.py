@@ -1,0 +1,155 @@
+"""Tables for a text: none, those of the Unicode Character Database for its characters, or random rows of the format."""
+
+import unicodedata
+from functools import cache
+from random import Random
+from typing import Any, Callable
+
+from common.notes import Progress
+from fuzzing.alphabets import Alphabet
+from unicodejson.cli import DEBIAN, MAKERS, make_tables
+from unicodejson.lists import (
+    CATEGORIES,
+    INDIC_CATEGORIES,
+    INDIC_POSITIONS,
+    JOINING_TYPES,
+    KINDS,
+    THAI_ACTIONS,
+    UNIVERSAL_CATEGORIES,
+    machine_value,
+)
+
+Row = list[Any]
+# Classes that some rule names, and others.
+CLASSES = [0, 1, 7, 9, 10, 14, 17, 18, 22, 26, 84, 91, 103, 122, 129, 130, 200, 202, 214, 216, 220, 222, 228, 230, 232, 233]
+CLASSES += [234, 240, 254, 255]
+LAWFUL_TOGETHER = ("splits", "pairs", "classes")
+
+
+@cache
+def whole_tables() -> dict[str, Any] | None:
+    """The tables of the Unicode Character Database; None where Debian's unicode-data is not there."""
+    return make_tables(DEBIAN, list(MAKERS), Progress("fuzz")) if DEBIAN.is_dir() else None
+
+
+@cache
+def machines() -> dict[str, Any]:
+    """The machines of the grammars of tools/machines."""
+    return {shaper: machine_value(shaper) for shaper in KINDS}
+
+
+@cache
+def rows_by_character() -> dict[str, dict[int, list[Row]]]:
+    """The rows of the whole tables by their first character, for each key."""
+    found: dict[str, dict[int, list[Row]]] = {}
+    for key, rows in (whole_tables() or {}).items():
+        if key not in ("unicode", "syllables", "languages", "pictographic"):
+            by_first = found.setdefault(key, {})
+            for row in rows:
+                by_first.setdefault(row[0], []).append(row)
+    return found
+
+
+def draw_tables(draw: Random, alphabet: Alphabet) -> tuple[dict[str, Any], bool]:
+    """Tables that follow the format, and whether they are lawful for sure."""
+    kind = draw.random()
+    if kind < 0.1:
+        return {}, True
+    if kind < 0.65 and whole_tables() is not None:
+        return {**cut_tables(alphabet), "syllables": machines_of(alphabet)}, False
+    value = random_tables(draw, alphabet)
+    value["syllables"] = machines_of(alphabet) if draw.random() < 0.5 else random_machines(draw, alphabet)
+    return value, False
+
+
+def machines_of(alphabet: Alphabet) -> dict[str, Any]:
+    return {shaper: machines()[shaper] for shaper in alphabet.shapers()}
+
+
+def cut_tables(alphabet: Alphabet) -> dict[str, Any]:
+    """The rows of the whole tables whose first character is of the alphabet, and pairs that give one of it."""
+    value = {
+        key: [row for character in alphabet.characters for row in by_first.get(character, [])]
+        for key, by_first in rows_by_character().items()
+    }
+    value["pairs"] = [row for row in value["pairs"] if row[2] in alphabet.characters]
+    whole = whole_tables() or {}
+    value["pictographic"] = whole["pictographic"]
+    value["languages"] = whole["languages"][::16]
+    return value
+
+
+def random_tables(draw: Random, alphabet: Alphabet) -> dict[str, Any]:
+    """Rows of every key over the alphabet; some keys are missing."""
+    characters = alphabet.characters
+
+    def rows(part: float, rest: Callable[[], Row]) -> list[Row]:
+        return [[u, *rest()] for u in characters if draw.random() < part]
+
+    def letter() -> int:
+        return draw.choice(characters)
+
+    value = {
+        **(lawful_rows(draw, alphabet) if draw.random() < 0.7 else any_rows(draw, alphabet)),
+        "mirrored": rows(0.2, lambda: [letter()]),
+        "vertical": rows(0.2, lambda: [letter()]),
+        "joining": rows(0.7, lambda: [draw.choice(JOINING_TYPES)]),
+        "indic": rows(0.8, lambda: [draw.choice(INDIC_CATEGORIES), draw.choice(INDIC_POSITIONS)]),
+        "universal": rows(0.8, lambda: [draw.choice(UNIVERSAL_CATEGORIES)]),
+        "thai": [[u, a, letter(), letter()] for u in characters for a in THAI_ACTIONS if draw.random() < 0.2],
+        "pictographic": [[u, u] for u in characters if draw.random() < 0.2],
+        "languages": [["de", ["DEU "]], ["ro", ["ROM ", "MOL "]], ["und", []]],
+    }
+    return {key: part for key, part in value.items() if key in LAWFUL_TOGETHER or draw.random() < 0.8}
+
+
+def is_mark(character: int) -> bool:
+    return unicodedata.category(chr(character)).startswith("M")
+
+
+def lawful_rows(draw: Random, alphabet: Alphabet) -> dict[str, list[Row]]:
+    """Splits of letters into a lower letter and a mark, their pairs, and classes of marks: these are lawful."""
+    marks = [u for u in alphabet.characters if is_mark(u)]
+    letters = [u for u in alphabet.characters if not is_mark(u) and not 0xAC00 <= u < 0xD7A4]
+    splits = [
+        [u, draw.choice(letters[:at]), draw.choice([0, *marks])]
+        for at, u in enumerate(letters)
+        if at and draw.random() < 0.3
+    ]
+    by_pair = {(a, b): u for u, a, b in splits if b and draw.random() < 0.8}
+    return {
+        "splits": splits,
+        "pairs": [[a, b, u] for (a, b), u in sorted(by_pair.items())],
+        "classes": [[u, draw.choice(CLASSES)] for u in marks if draw.random() < 0.8],
+    }
+
+
+def any_rows(draw: Random, alphabet: Alphabet) -> dict[str, list[Row]]:
+    """Splits, pairs and classes of any characters: mostly they break a law."""
+    characters = alphabet.characters
+    splits = [[u, draw.choice(characters), draw.choice([0, *characters])] for u in characters if draw.random() < 0.1]
+    by_pair = {(draw.choice(characters), draw.choice(characters)): draw.choice(characters) for _ in range(2)}
+    return {
+        "splits": splits,
+        "pairs": [[a, b, u] for (a, b), u in sorted(by_pair.items())],
+        "classes": [[u, draw.choice(CLASSES)] for u in characters if draw.random() < 0.1],
+    }
+
+
+def random_machines(draw: Random, alphabet: Alphabet) -> dict[str, Any]:
+    """Machines of a few states with random steps; some accept nothing, some shapers have none."""
+    shapers = [shaper for shaper in KINDS if draw.random() < (0.8 if shaper in alphabet.shapers() else 0.1)]
+    return {shaper: random_machine(draw, shaper) for shaper in shapers}
+
+
+def random_machine(draw: Random, shaper: str) -> dict[str, Any]:
+    states = draw.choice([1, 2, 3, 8])
+    part = draw.choice([0.1, 0.5, 1.0])
+    steps = [
+        [state, category, draw.randrange(states)]
+        for state in range(states)
+        for category in CATEGORIES[shaper]
+        if draw.random() < part
+    ]
+    ends = [[state, draw.choice(KINDS[shaper])] for state in range(states) if draw.random() < 0.6]
+    return {"states": states, "next": steps, "accept": ends}

@@ -1,0 +1,1 @@
+"""The calls that may ask for memory, and the tests that run them."""

@@ -1,0 +1,99 @@
+"""The calls that may ask for memory, in a small repository."""
+
+import contextlib
+import io
+import tempfile
+import unittest
+from pathlib import Path
+from unittest import mock
+
+from support import write_files
+
+from growing import cli
+from growing.code import all_functions, blanked, faults_of_memory, functions_in
+from sources import crates
+
+FILES = {
+    "crates.txt": "low:\nhigh: low\ntests_high: high low\n",
+    "crates/low/src/lib.rt": """//! fn no_code() {}
+pub enum TextFault { Wrong, OutOfMemory }
+pub struct Held { pub cause: TextFault }
+pub enum Other { Wrong }
+pub struct List { rows: Vec<u8> }
+impl List {
+    /// Grows { by one.
+    pub fn push<T: Into<u8>>(&mut self, row: T) -> Result<(), AllocError>
+        requires { length self.old < 3 }
+        ensures full { result ≡ Ok () → "fn {" ≡ "}" }
+    {
+        self.rows.push(row.into())
+    }
+    pub fn len(&self) -> usize { self.rows.len() }
+}
+pub fn made(alloc: Global) -> List { List { rows: Vec::new(alloc) } }
+pub fn forgotten(list: &mut List) -> Result<u8, Other> { list.push('}') }
+""",
+    "crates/high/src/lib.rt": """use low::{List, made};
+pub fn read(alloc: Global) -> Result<List, low::TextFault> { let mut list = made(alloc); list.push(1)?; Ok(list) }
+pub fn unread(list: &mut List)
+    -> Result<(), TextFault>
+    ensures { ⊤ }
+{
+    list.push(2)
+}
+fn own(alloc: Global) -> Result<u8, AllocError> { Ok(1) }
+trait Shaper { fn grow(&self) -> Result<(), AllocError>; }
+""",
+    "crates/tests_high/src/lib.rt": """use high::read;
+#[test]
+fn reads(rt: HostRuntime) -> Result<(), Fail> { read(rt.alloc())?; high::own; Ok(()) }
+""",
+}
+
+
+class GrowingCalls(unittest.TestCase):
+    def setUp(self) -> None:
+        self.root = Path(self.enterContext(tempfile.TemporaryDirectory()))
+        write_files(self.root, FILES)
+
+    def test_functions(self) -> None:
+        """Their names, owners, answers and what they call, past clauses, texts and comments."""
+        found = {each.name: each for each in functions_in("low", self.root / "crates/low/src/lib.rt", self.root)}
+        self.assertEqual(sorted(found), ["forgotten", "len", "made", "push"])
+        push = found["push"]
+        self.assertEqual((push.owner, push.answer, push.is_public), ("List", "Result<(), AllocError>", True))
+        self.assertIn((".", "into"), push.names)
+        self.assertNotIn(("", "requires"), push.names)
+        self.assertIn(("Vec", "new"), found["made"].names)
+        self.assertEqual(blanked('a("b{", \'}\') // c\n'), "a(    ,    )     \n")
+
+    def test_faults(self) -> None:
+        """Enums with want of memory; another fault is none."""
+        self.assertEqual(faults_of_memory(self.root), {"AllocError", "AllocFailed", "TextFault"})
+
+    def test_list(self) -> None:
+        """Public calls alone, each with the tests from which it is reached."""
+        functions = all_functions(self.root)
+        growing = [each.name for each in functions if cli.is_growing(each, faults_of_memory(self.root))]
+        self.assertEqual(growing, ["push", "made", "read", "unread"])
+        reach = cli.Reach(functions, self.root)
+        reached = [each.name for each in functions if reach.tests[each]]
+        self.assertEqual(reached, ["push", "made", "read", "own"])
+
+    def test_check(self) -> None:
+        """A call that no test reaches is told, and the status is 1."""
+        functions = all_functions(self.root)
+        out = io.StringIO()
+        with (
+            mock.patch.object(cli, "all_functions", lambda: functions),
+            mock.patch.object(cli, "faults_of_memory", lambda: faults_of_memory(self.root)),
+            mock.patch.object(cli, "read_crates", lambda root: crates.read_crates(self.root)),
+            contextlib.redirect_stdout(out),
+        ):
+            self.assertEqual(cli.main(["--check"]), 1)
+        want = "high: unread (crates/high/src/lib.rt): no test\n4 growing calls, 1 that no test reaches\n"
+        self.assertEqual(out.getvalue(), want)
+
+
+if __name__ == "__main__":
+    unittest.main()
