@@ -7,3 +7,4 @@ pub mod Inside
 pub mod Acting
 pub mod Subtables
 pub mod Nested
+pub mod Uncovered

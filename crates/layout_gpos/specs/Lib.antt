@@ -5,3 +5,4 @@ pub mod Pairs
 pub mod Anchors
 pub mod Marks
 pub mod Bases
+pub mod Lemmas

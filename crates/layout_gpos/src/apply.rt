@@ -13,11 +13,18 @@ ghost use Rattle.layout_gpos.specs.Bases.{AreKept};
 
 use crate::bases::LastSearches;
 use buffer_core::buffer::hb_buffer_t;
+use layout_common::digested::{Covers, Digested};
 use layout_match::hb_ot_apply_context_t;
 
 /// A type of GPOS lookup: the form of its subtables, and what one does at the cursor of a buffer without an output.
 pub trait Apply {
-    type Subtable;
+    ghost use Rattle.std.specs.Prelude.{◌≡◌, false};
+    ghost use Rattle.buffer_common.specs.declared.direction.Direction.{Direction};
+    ghost use Rattle.buffer_glyphs.specs.Items.{Item};
+    ghost use Rattle.layout_match.specs.Applied.{ApplyContext};
+    ghost use Rattle.layout_match.specs.Skipping.{PassesAt};
+
+    type Subtable: Covers;
 
     ghost action: { Self.Subtable → Direction → ApplyContext → Action };
 
@@ -38,12 +45,38 @@ pub trait Apply {
         ensures performed { (random : ℕ) → IsPerformed (action subtable.now buffer.old.direction (apply_context_of ctx.now)
             (cut_with random buffer.old)) result random random buffer.old buffer.new }
         ensures kept { AreKept (apply_context_of ctx.now) (items_of buffer.new) last.new };
+
+    ghost uncovered: { (s : Self.Subtable) (d : Direction) (a : ApplyContext) (x : Item)
+        → Self.Subtable.covers s x.number ≡ false → PassesAt (action s d a) x };
+}
+
+/// Applies a subtable at the cursor, unless the set of its glyphs misses the one there: then it passes.
+#[tactic(auto, using(buffer_stages::proofs::Lemmas::Glyphs::number_ahead))]
+fn apply_digested<T: Apply>(
+    subtable: &Digested<T::Subtable>,
+    ctx: &hb_ot_apply_context_t,
+    last: &mut LastSearches,
+    buffer: &mut hb_buffer_t,
+) -> bool
+    requires closed { buffer.old.is_open ≡ false }
+    requires there { 0 < length buffer.old.ahead }
+    requires placed { length buffer.old.positions ≡ length (all_glyphs buffer.old) }
+    requires number { are_glyphs (items_of buffer.old) ≡ true }
+    requires kept { AreKept (apply_context_of ctx.now) (items_of buffer.old) last.old }
+    ensures performed { (random : ℕ) → IsPerformed (T.action subtable.now buffer.old.direction (apply_context_of ctx.now)
+        (cut_with random buffer.old)) result random random buffer.old buffer.new }
+    ensures kept { AreKept (apply_context_of ctx.now) (items_of buffer.new) last.new }
+{
+    if !subtable.may_have_glyph(buffer.cur(0).as_glyph().0) {
+        return false;
+    }
+    T::apply(subtable.inner(), ctx, last, buffer)
 }
 
 /// Applies the first matching subtable at the cursor, and answers whether one acted.
 #[tactic(auto, using(buffer_stages::proofs::Lemmas::Performed::passed_first, crate::proofs::Lemmas::Passed::passed_closed, buffer_stages::proofs::Lemmas::Performed::passed_numbers, buffer_stages::proofs::Lemmas::Performed::passed_all))]
 pub fn apply_first<T: Apply>(
-    subtables: &[T::Subtable],
+    subtables: &[Digested<T::Subtable>],
     ctx: &hb_ot_apply_context_t,
     last: &mut LastSearches,
     buffer: &mut hb_buffer_t,
@@ -60,7 +93,7 @@ pub fn apply_first<T: Apply>(
     for subtable in subtables {
         // There are as many positions as glyphs while no output is open.
         let _positions = buffer.pos_slice();
-        if T::apply(subtable, ctx, last, buffer) {
+        if apply_digested::<T>(subtable, ctx, last, buffer) {
             return true;
         }
     }

@@ -141,6 +141,8 @@ pub fn attach_to_base(
 pub struct MarkToBase;
 
 impl Apply for MarkToBase {
+    ghost use Rattle.layout_gpos.specs.Lemmas.Uncovered.{base_uncovered};
+
     type Subtable = MarkBasePos;
 
     ghost action = { λ s d a. mark_to_base a s };
@@ -163,4 +165,6 @@ impl Apply for MarkToBase {
             }
         }
     }
+
+    ghost uncovered = { λ s d a. base_uncovered a s };
 }

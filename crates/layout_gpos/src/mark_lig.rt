@@ -86,6 +86,8 @@ fn attach_to_ligature(
 pub struct MarkToLigature;
 
 impl Apply for MarkToLigature {
+    ghost use Rattle.layout_gpos.specs.Lemmas.Uncovered.{ligature_uncovered};
+
     type Subtable = MarkLigPos;
 
     ghost action = { λ s d a. mark_to_ligature a s };
@@ -109,4 +111,6 @@ impl Apply for MarkToLigature {
             }
         }
     }
+
+    ghost uncovered = { λ s d a. ligature_uncovered a s };
 }

@@ -27,6 +27,8 @@ use layout_tables::mark::MarkBasePos;
 pub struct MarkToMark;
 
 impl Apply for MarkToMark {
+    ghost use Rattle.layout_gpos.specs.Lemmas.Uncovered.{mark_uncovered};
+
     type Subtable = MarkBasePos;
 
     ghost action = { λ s d a. mark_to_mark a s };
@@ -57,6 +59,8 @@ impl Apply for MarkToMark {
         }
         attach_to_base(subtable, mark, back, buffer)
     }
+
+    ghost uncovered = { λ s d a. mark_uncovered a s };
 }
 
 fn is_own_ligature(info: &hb_glyph_info_t) -> bool

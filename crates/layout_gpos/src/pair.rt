@@ -141,6 +141,8 @@ fn apply_values(values: Option<PairValues>, apart: usize, buffer: &mut hb_buffer
 pub struct PairAdjustment;
 
 impl Apply for PairAdjustment {
+    ghost use Rattle.layout_gpos.specs.Lemmas.Uncovered.{pair_uncovered};
+
     type Subtable = PairPos;
 
     ghost action = { λ s d a. pair_subtable d a s };
@@ -155,6 +157,8 @@ impl Apply for PairAdjustment {
         let first = buffer.cur(0).as_glyph().0;
         begins_pair(subtable, first) && apply_from(subtable, first, ctx, buffer)
     }
+
+    ghost uncovered = { λ s d a. pair_uncovered d a s };
 }
 
 /// Pair adjustment (OpenType, GPOS lookup type 2) of the glyph at the cursor, which begins pairs, and the nearest one

@@ -15,6 +15,8 @@ use layout_tables::single_pos::SinglePos;
 pub struct SingleAdjustment;
 
 impl Apply for SingleAdjustment {
+    ghost use Rattle.layout_gpos.specs.Lemmas.Uncovered.{single_uncovered};
+
     type Subtable = SinglePos;
 
     ghost action = { λ s d a. single_subtable d s.rows };
@@ -34,4 +36,6 @@ impl Apply for SingleAdjustment {
         pass(buffer, 1);
         true
     }
+
+    ghost uncovered = { λ s d a. single_uncovered d s.rows };
 }

@@ -7,3 +7,4 @@ pub mod Reverses
 pub mod Ligating
 pub mod LigatureReplacement
 pub mod Uniting
+pub mod Lemmas

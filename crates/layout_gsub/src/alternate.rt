@@ -8,7 +8,7 @@ ghost use Rattle.buffer_stages.specs.Buffers.{IsPassed, cut_of};
 ghost use Rattle.buffer_stages.specs.Performing.{Performs, cut_with};
 ghost use Rattle.layout_gsub.specs.Alternates.{alternate_of, alternate_of_value, alternate_subtable, drawn_alternate, feature_value, is_drawn};
 
-use crate::apply::Apply;
+use crate::apply::{Apply, Skippable};
 use crate::replacement::replace_glyph;
 use buffer_core::buffer::hb_buffer_t;
 use buffer_glyphs::cause::ShapeCause;
@@ -114,4 +114,10 @@ impl Apply for AlternateSubst {
             None => Ok(false),
         }
     }
+}
+
+impl Skippable for AlternateSubst {
+    ghost use Rattle.layout_gsub.specs.Lemmas.Uncovered.{alternate_uncovered};
+
+    ghost uncovered = { λ s a. alternate_uncovered a.font.gdef a.random a.mask s.rows };
 }

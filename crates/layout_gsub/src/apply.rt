@@ -8,6 +8,7 @@ ghost use Rattle.buffer_stages.specs.Performing.{Performs, cut_with};
 
 use buffer_core::buffer::hb_buffer_t;
 use buffer_glyphs::cause::ShapeCause;
+use layout_common::digested::{Covers, Digested};
 use layout_match::hb_ot_apply_context_t;
 
 /// A subtable of a substitution lookup, applied at the cursor of a buffer.
@@ -28,6 +29,33 @@ pub trait Apply {
             (cut_with ctx.old.random_state buffer.old)) result ctx.old.random_state ctx.new.random_state buffer.old
             buffer.new }
         ensures context { apply_context_of ctx.new ≡ apply_context_of ctx.old };
+}
+
+/// A subtable that can act at some glyphs alone: at another it passes, and flags nothing.
+pub trait Skippable: Apply + Covers {
+    ghost use Rattle.std.specs.Prelude.{◌≡◌, false};
+    ghost use Rattle.buffer_glyphs.specs.Items.{Item};
+    ghost use Rattle.layout_match.specs.Applied.{ApplyContext};
+    ghost use Rattle.layout_match.specs.Skipping.{PassesAt};
+
+    ghost uncovered: { (s : Self) (a : ApplyContext) (x : Item) → Self.covers s x.number ≡ false → PassesAt (Self.action s a) x };
+}
+
+/// A subtable that isn't tried at a glyph which the set of its glyphs misses.
+impl<S: Skippable> Apply for Digested<S> {
+    ghost action = { S.action };
+
+    #[tactic(auto, using(buffer_stages::proofs::Lemmas::Glyphs::number_ahead))]
+    fn apply(
+        &self,
+        ctx: &mut hb_ot_apply_context_t,
+        buffer: &mut hb_buffer_t,
+    ) -> Result<bool, ShapeCause> {
+        if !self.may_have_glyph(buffer.cur(0).as_glyph().0) {
+            return Ok(false);
+        }
+        self.inner().apply(ctx, buffer)
+    }
 }
 
 /// Applies the first matching subtable at the cursor.

@@ -7,14 +7,15 @@ ghost use Rattle.layout_match.specs.Sequences.{is_glyph};
 ghost use Rattle.buffer_stages.specs.Performing.{Performs, cut_with};
 ghost use Rattle.layout_gsub.specs.Ligating.{ligature_found, ligature_over, ligature_subst};
 
-use crate::apply::{Apply, apply_first};
+use crate::apply::{Apply, Skippable, apply_first};
 use crate::ligate::ligate_input;
 use crate::replacement::replace_glyph;
 use buffer_core::buffer::hb_buffer_t;
 use buffer_glyphs::cause::ShapeCause;
 use layout_match::marking::mark_attempt;
 use layout_match::{
-    MAX_CONTEXT_LENGTH, MatchPositions, MatchSequence, hb_ot_apply_context_t, match_input,
+    MAX_CONTEXT_LENGTH, MatchPositions, MatchSequence, hb_ot_apply_context_t, input_end,
+    match_input,
 };
 use layout_tables::ligature::{Ligature, LigatureSubst};
 
@@ -33,9 +34,10 @@ fn apply_ligature(
         buffer.new }
 {
     let components = MatchSequence::Glyphs(ligature.components());
-    let mut places = MatchPositions::new();
-    match match_input(ctx, &components, buffer, &mut places) {
+    match input_end(ctx, &components, buffer) {
         Ok(end) => {
+            let mut places = MatchPositions::new();
+            let _ = match_input(ctx, &components, buffer, &mut places);
             let others = &places.as_slice()[1..];
             ligate_input(others, end, ligature.glyph(), ctx.face, buffer)?;
             Ok(true)
@@ -84,4 +86,10 @@ impl Apply for LigatureSubst {
             None => Ok(false),
         }
     }
+}
+
+impl Skippable for LigatureSubst {
+    ghost use Rattle.layout_gsub.specs.Lemmas.Uncovered.{ligature_uncovered};
+
+    ghost uncovered = { λ s a. ligature_uncovered a s };
 }

@@ -8,7 +8,7 @@ ghost use Rattle.buffer_stages.specs.Actions.{Refuses};
 ghost use Rattle.buffer_stages.specs.Performing.{IsPerformed, Performs, cut_with};
 ghost use Rattle.layout_gsub.specs.Multiples.{component_item, component_props, deletion, multiple_subtable, multiple_substitution, sequence};
 
-use crate::apply::Apply;
+use crate::apply::{Apply, Skippable};
 use crate::replacement::{glyph_props, replace_glyph};
 use buffer_core::buffer::hb_buffer_t;
 use buffer_glyphs::cause::ShapeCause;
@@ -143,4 +143,10 @@ impl Apply for MultipleSubst {
             None => Ok(false),
         }
     }
+}
+
+impl Skippable for MultipleSubst {
+    ghost use Rattle.layout_gsub.specs.Lemmas.Uncovered.{multiple_uncovered};
+
+    ghost uncovered = { λ s a. multiple_uncovered a.font.gdef s.rows };
 }

@@ -1,7 +1,7 @@
 //! Single substitution (OpenType, GSUB lookup type 1).
 ghost use Rattle.layout_gsub.specs.Replacements.{single_subtable};
 
-use crate::apply::Apply;
+use crate::apply::{Apply, Skippable};
 use crate::replacement::replace_glyph;
 use buffer_core::buffer::hb_buffer_t;
 use buffer_glyphs::cause::ShapeCause;
@@ -24,4 +24,10 @@ impl Apply for SingleSubst {
             None => Ok(false),
         }
     }
+}
+
+impl Skippable for SingleSubst {
+    ghost use Rattle.layout_gsub.specs.Lemmas.Uncovered.{single_uncovered};
+
+    ghost uncovered = { λ s a. single_uncovered a.font.gdef s.rows };
 }

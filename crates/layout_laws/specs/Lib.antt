@@ -7,3 +7,4 @@ pub mod RuleParts
 pub mod Lengths
 pub mod Nesting
 pub mod Parts
+pub mod Skipping

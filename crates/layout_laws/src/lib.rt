@@ -6,3 +6,4 @@ pub mod length_laws;
 pub mod part_laws;
 pub mod rule_length_laws;
 pub mod rule_part_laws;
+pub mod skipping_laws;

@@ -4,3 +4,5 @@ pub mod Met
 pub mod Passage
 pub mod Steps
 pub mod Stages
+pub mod Untouched
+pub mod Held

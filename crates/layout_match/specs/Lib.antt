@@ -6,3 +6,5 @@ pub mod Walks
 pub mod Laws
 pub mod Trying
 pub mod Steps
+pub mod Skipping
+pub mod Lemmas

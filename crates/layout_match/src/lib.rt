@@ -13,7 +13,7 @@ pub mod skipping;
 
 pub use apply_context::hb_ot_apply_context_t;
 pub use matching::{
-    MAX_CONTEXT_LENGTH, MatchPositions, match_backtrack, match_input, match_lookahead,
+    MAX_CONTEXT_LENGTH, MatchPositions, input_end, match_backtrack, match_input, match_lookahead,
 };
 pub use search::{GlyphSearch, match_t};
 pub use sequence::{MatchSequence, match_class, match_coverage, match_glyph};

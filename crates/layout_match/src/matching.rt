@@ -189,6 +189,23 @@ fn match_behind<'a>(
     Ok(from)
 }
 
+/// Where a rule's input ends, or how far the failed search read, as `match_input` answers it; no index is recorded.
+pub fn input_end(
+    ctx: &hb_ot_apply_context_t,
+    sequence: &MatchSequence,
+    buffer: &hb_buffer_t,
+) -> Result<usize, usize>
+    requires { 0 < length buffer.now.ahead }
+    ensures end { result
+        ≡ input_end (own_search (apply_context_of ctx.now) (strip buffer.now.ahead)) (tests_of sequence.now)
+        (strip buffer.now.ahead) }
+    ensures inside { IfOk result (λ end. end ≤ length buffer.now.ahead) }
+    ensures read { IfErr result (λ end. end ≤ length buffer.now.ahead) }
+{
+    let search = ctx.own_search(buffer);
+    match_ahead(&search, sequence, 1, buffer)
+}
+
 /// Matches a rule's lookahead sequence after its input, which ends at the index `start`. It answers the index after the
 /// last glyph, or how far the failed search read.
 pub fn match_lookahead(

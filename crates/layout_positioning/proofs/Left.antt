@@ -26,7 +26,7 @@ use Rattle.layout_match.specs.Applied.{ApplyContext, context_search, own_search}
 use Rattle.layout_match.specs.Matches.{backtrack_end, input_end, lookahead_end}
 use Rattle.layout_match.specs.Sequences.{is_covered_by}
 use Rattle.buffer_stages.specs.Actions.{Cut, whole, view_at, past_item, uncut_with_positions, Outcome, Passes, Acts, Refuses, Action}
-use Rattle.buffer_stages.specs.Ready.{IsDone}
+use Rattle.buffer_stages.specs.Ready.{IsDone, IsDoneFrom, state_with}
 use Rattle.layout_contexts.specs.Chains.{Chain, begins, by_backtrack, by_input, by_lookahead, chain_at, chain_rule, class_chain, class_rules, context_subtable, coverage_chain, glyph_chain, nested_lookups}
 use Rattle.layout_contexts.specs.Nested.{RecordsOutcome, Walks, Stops, outcome_at_index, cut_at, cut_after_match, each_nested, each_record, has_budget, holds, nested_outcome_at, nested_outcome, one_record, with_budget_spent, then_walk, walked_later}
 use Rattle.layout_positioning.specs.Joins.{cursive_subtable, entry_of, exit_of, from_entry, join_if, on_exit}
@@ -226,3 +226,7 @@ followed_left (Err e) old new h f = absurd f
 pub positioned_left : (font : FaceParts) (m : OtMapValue) (pauses : Pauses) (s new : Sides) → IsDone (positioning_stages font m pauses) s new → ((i : ℕ) → LeavesItems (pauses i)) → items_of new ≡ items_of s
 positioned_left font m pauses s new done keeps =
     followed_left (reading_of (positioning_stages font m pauses) (state_of s)) (state_of s) (state_of new) (table_stages_left font (positioning_lookups font) m.tables.gpos pauses 0 m.tables.gpos.stages keeps (state_of s).view) done.follows
+
+-- a lookup leaves the items
+pub mapped_left : (font : FaceParts) (table : List PositioningLookup) (o : Option PositioningLookup) (m : lookup_map_t) (s new : Sides) → IsDoneFrom 1 1 (lookup_stage font table o m) s new → items_of new ≡ items_of s
+mapped_left font table o m s new done = followed_left (reading_of (lookup_stage font table o m) (state_with 1 s)) (state_with 1 s) (state_with 1 new) (stage_left font table o m (state_with 1 s).view) done.follows

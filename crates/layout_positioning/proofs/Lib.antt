@@ -4,3 +4,5 @@ pub mod Over
 pub mod Ways
 pub mod Left
 pub mod Kept
+pub mod Uncovered
+pub mod Skipped

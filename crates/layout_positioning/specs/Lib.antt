@@ -1,3 +1,4 @@
 pub mod Joins
 pub mod Lookups
 pub mod Positioning
+pub mod Lemmas

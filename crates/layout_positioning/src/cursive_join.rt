@@ -142,6 +142,8 @@ fn join_found(
 pub struct CursiveAttachment;
 
 impl Apply for CursiveAttachment {
+    ghost use Rattle.layout_positioning.specs.Lemmas.Uncovered.{cursive_uncovered};
+
     type Subtable = CursivePos;
 
     ghost action = { λ s d a. cursive_subtable d a s.rows };
@@ -159,4 +161,6 @@ impl Apply for CursiveAttachment {
         let found = item_before(ctx, buffer);
         join_found(subtable, ctx, entry, found, buffer)
     }
+
+    ghost uncovered = { λ s d a. cursive_uncovered d a s.rows };
 }

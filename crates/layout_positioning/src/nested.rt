@@ -24,6 +24,7 @@ ghost use Rattle.layout_positioning.specs.Lookups.{first_subtable, nested_action
 use crate::cursive_join::CursiveAttachment;
 use buffer_core::buffer::hb_buffer_t;
 use buffer_glyphs::cause::ShapeCause;
+use layout_common::digested::Digested;
 use layout_contexts::{
     ChainRule, begin_record, begins_with, glyph_count, is_tried_at, match_chain, move_to_match_end,
     rule_at, rule_count, settle_match,
@@ -80,7 +81,14 @@ pub(crate) fn recurse(
         return Ok(false);
     };
     let nested = under_flag(lookup, ctx);
-    apply_subtables(table, depth, &lookup.subtables, &nested, last, buffer)
+    apply_subtables(
+        table,
+        depth,
+        lookup.subtables.inner(),
+        &nested,
+        last,
+        buffer,
+    )
 }
 
 /// Applies the first matching subtable at the cursor.
@@ -134,7 +142,7 @@ pub(crate) fn apply_subtables(
 fn apply_contexts(
     table: &PositioningTable,
     depth: u32,
-    subtables: &[ContextSubtable],
+    subtables: &[Digested<ContextSubtable>],
     ctx: &hb_ot_apply_context_t,
     last: &mut LastSearches,
     buffer: &mut hb_buffer_t,
@@ -160,12 +168,14 @@ fn apply_contexts(
     Ok(false)
 }
 
-/// Applies a context at the cursor: its first rule that matches, where its rules are tried there.
+/// Applies a context at the cursor: its first rule that matches, where its rules are tried there. It passes
+/// where the set of its glyphs misses the one there.
 #[cycle(nested)]
+#[tactic(auto, using(buffer_stages::proofs::Lemmas::Glyphs::number_ahead))]
 fn apply_context(
     table: &PositioningTable,
     depth: u32,
-    subtable: &ContextSubtable,
+    subtable: &Digested<ContextSubtable>,
     ctx: &hb_ot_apply_context_t,
     last: &mut LastSearches,
     buffer: &mut hb_buffer_t,
@@ -180,10 +190,14 @@ fn apply_context(
         ctx.now.random_state ctx.now.random_state buffer.old buffer.new }
     ensures kept { OnOk result (AreKept (apply_context_of ctx.now) (items_of buffer.new) last.new) }
 {
-    if !is_tried_at(subtable, buffer.cur(0)) {
+    let info = buffer.cur(0);
+    if !subtable.may_have_glyph(info.as_glyph().0) {
         return Ok(false);
     }
-    apply_rules(table, depth, subtable, ctx, last, buffer)
+    if !is_tried_at(subtable.inner(), info) {
+        return Ok(false);
+    }
+    apply_rules(table, depth, subtable.inner(), ctx, last, buffer)
 }
 
 /// Applies the first matching rule of a context at the cursor.

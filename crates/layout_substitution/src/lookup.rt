@@ -11,6 +11,7 @@ ghost use Rattle.layout_substitution.specs.Lookups.{first_reverse, lookup_action
 use crate::nested::apply_subtables;
 use buffer_core::buffer::hb_buffer_t;
 use buffer_glyphs::cause::ShapeCause;
+use layout_common::digested::Digested;
 use layout_contexts::MAX_NESTING_LEVEL;
 use layout_face::substitution::{SubstLookup, SubstitutionSubtables, SubstitutionTable};
 use layout_gsub::reverse::apply_reverse_chain_single_subst;
@@ -21,7 +22,7 @@ use layout_tables::reverse::ReverseChainSubst;
 /// Applies the first matching subtable of a lookup at the cursor, where the lookup applies to the glyph there. It
 /// answers whether one acted; where none did it changed glyph flags only. It refuses for want of memory, or where the
 /// output would have more glyphs than it may.
-#[tactic(auto, using(crate::proofs::First::lookup_passes, crate::proofs::First::lookup_tries))]
+#[tactic(auto, using(buffer_stages::proofs::Lemmas::Glyphs::number_ahead, crate::proofs::First::lookup_passes, crate::proofs::First::lookup_tries))]
 pub fn apply_lookup(
     table: &SubstitutionTable,
     lookup: &SubstLookup,
@@ -37,16 +38,45 @@ pub fn apply_lookup(
         buffer.new }
     ensures context { apply_context_of ctx.new ≡ apply_context_of ctx.old }
 {
-    if !meets(ctx, buffer.cur(0)) {
+    let info = buffer.cur(0);
+    if !lookup.subtables.may_have_glyph(info.as_glyph().0) {
         return Ok(false);
     }
-    apply_subtables(table, MAX_NESTING_LEVEL, &lookup.subtables, ctx, buffer)
+    if !meets(ctx, info) {
+        return Ok(false);
+    }
+    apply_subtables(
+        table,
+        MAX_NESTING_LEVEL,
+        lookup.subtables.inner(),
+        ctx,
+        buffer,
+    )
+}
+
+/// Applies a subtable of reverse chaining, in place, unless the set of its glyphs misses the one at the cursor: then it
+/// passes.
+#[tactic(auto, using(buffer_stages::proofs::Lemmas::Glyphs::number_ahead))]
+fn apply_reverse_subtable(
+    subtable: &Digested<ReverseChainSubst>,
+    ctx: &hb_ot_apply_context_t,
+    buffer: &mut hb_buffer_t,
+) -> bool
+    requires there { 0 < length buffer.old.ahead }
+    requires number { are_glyphs (items_of buffer.old) ≡ true }
+    ensures { PerformsWithoutOutput (reverse_subtable (apply_context_of ctx.now) subtable.now
+        (cut_of buffer.old)) result buffer.old buffer.new }
+{
+    if !subtable.may_have_glyph(buffer.cur(0).as_glyph().0) {
+        return false;
+    }
+    apply_reverse_chain_single_subst(subtable.inner(), ctx, buffer)
 }
 
 /// Applies the first matching subtable of reverse chaining, in place.
 #[tactic(auto, using(crate::proofs::InPlace::put_first, crate::proofs::InPlace::put_numbers, crate::proofs::InPlace::put_there, crate::proofs::InPlace::put_acted, crate::proofs::InPlace::put_all))]
 fn apply_reverse_subtables(
-    subtables: &[ReverseChainSubst],
+    subtables: &[Digested<ReverseChainSubst>],
     ctx: &hb_ot_apply_context_t,
     buffer: &mut hb_buffer_t,
 ) -> bool
@@ -56,7 +86,7 @@ fn apply_reverse_subtables(
         (cut_of buffer.old)) result buffer.old buffer.new }
 {
     for subtable in subtables {
-        if apply_reverse_chain_single_subst(subtable, ctx, buffer) {
+        if apply_reverse_subtable(subtable, ctx, buffer) {
             return true;
         }
     }
@@ -89,7 +119,7 @@ fn apply_reverse_substitution(
 
 /// Applies a reverse chaining lookup at the cursor of a buffer without an output, where it applies to the glyph there.
 /// It answers whether it acted; where it didn't, it changed glyph flags only. It takes no memory.
-#[tactic(auto, using(crate::proofs::First::reverse_passes, crate::proofs::First::reverse_tries))]
+#[tactic(auto, using(buffer_stages::proofs::Lemmas::Glyphs::number_ahead, crate::proofs::First::reverse_passes, crate::proofs::First::reverse_tries))]
 pub fn apply_reverse_lookup(
     lookup: &SubstLookup,
     ctx: &hb_ot_apply_context_t,
@@ -100,8 +130,12 @@ pub fn apply_reverse_lookup(
     ensures { PerformsWithoutOutput (reverse_action (apply_context_of ctx.now) lookup.now
         (cut_of buffer.old)) result buffer.old buffer.new }
 {
-    if !meets(ctx, buffer.cur(0)) {
+    let info = buffer.cur(0);
+    if !lookup.subtables.may_have_glyph(info.as_glyph().0) {
         return false;
     }
-    apply_reverse_substitution(&lookup.subtables, ctx, buffer)
+    if !meets(ctx, info) {
+        return false;
+    }
+    apply_reverse_substitution(lookup.subtables.inner(), ctx, buffer)
 }

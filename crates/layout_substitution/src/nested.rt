@@ -22,6 +22,7 @@ ghost use Rattle.layout_substitution.specs.Lookups.{first_subtable, nested_actio
 
 use buffer_core::buffer::hb_buffer_t;
 use buffer_glyphs::cause::ShapeCause;
+use layout_common::digested::Digested;
 use layout_contexts::{
     ChainRule, begin_record, begins_with, glyph_count, is_tried_at, match_chain, move_to_match_end,
     rule_at, rule_count, settle_match,
@@ -56,7 +57,7 @@ pub(crate) fn recurse(
     };
     let lookup_props = ctx.lookup_props;
     ctx.lookup_props = lookup.props();
-    let applied = apply_subtables(table, depth, &lookup.subtables, ctx, buffer);
+    let applied = apply_subtables(table, depth, lookup.subtables.inner(), ctx, buffer);
     ctx.lookup_props = lookup_props;
     applied
 }
@@ -106,7 +107,7 @@ pub(crate) fn apply_subtables(
 fn apply_contexts(
     table: &SubstitutionTable,
     depth: u32,
-    subtables: &[ContextSubtable],
+    subtables: &[Digested<ContextSubtable>],
     ctx: &mut hb_ot_apply_context_t,
     buffer: &mut hb_buffer_t,
 ) -> Result<bool, ShapeCause>
@@ -129,12 +130,14 @@ fn apply_contexts(
     Ok(false)
 }
 
-/// Applies a context at the cursor: its first rule that matches, where its rules are tried there.
+/// Applies a context at the cursor: its first rule that matches, where its rules are tried there. It passes
+/// where the set of its glyphs misses the one there.
 #[cycle(nested)]
+#[tactic(auto, using(buffer_stages::proofs::Lemmas::Glyphs::number_ahead))]
 fn apply_context(
     table: &SubstitutionTable,
     depth: u32,
-    subtable: &ContextSubtable,
+    subtable: &Digested<ContextSubtable>,
     ctx: &mut hb_ot_apply_context_t,
     buffer: &mut hb_buffer_t,
 ) -> Result<bool, ShapeCause>
@@ -147,10 +150,14 @@ fn apply_context(
         ctx.old.random_state ctx.new.random_state buffer.old buffer.new }
     ensures context { apply_context_of ctx.new ≡ apply_context_of ctx.old }
 {
-    if !is_tried_at(subtable, buffer.cur(0)) {
+    let info = buffer.cur(0);
+    if !subtable.may_have_glyph(info.as_glyph().0) {
         return Ok(false);
     }
-    apply_rules(table, depth, subtable, ctx, buffer)
+    if !is_tried_at(subtable.inner(), info) {
+        return Ok(false);
+    }
+    apply_rules(table, depth, subtable.inner(), ctx, buffer)
 }
 
 /// Applies the first matching rule of a context at the cursor.

@@ -1,12 +1,16 @@
 -- A rule is tried at a glyph that its lookup meets.
-use Rattle.std.proofs.Common.{ℕ, ◌≡◌, true, false, [], refl, ap, ◌∙◌, slice_get, Some}
+use Rattle.std.proofs.Common.{ℕ, ◌≡◌, true, false, Bool, List, [], ◌∷◌, refl, sym, ap, subst, ◌∙◌, slice_get, Some}
 use Rattle.buffer_glyphs.specs.declared.info.hb_glyph_info_t.{hb_glyph_info_t}
-use Rattle.buffer_glyphs.specs.Items.{item_of}
+use Rattle.buffer_glyphs.specs.Items.{Item, item_of, strip}
 use Rattle.buffer_core.specs.Sides.{Sides}
 use Rattle.layout_match.specs.Applied.{ApplyContext}
-use Rattle.buffer_stages.specs.Actions.{Passes, Action, at_first}
-use Rattle.buffer_stages.specs.Performing.{cut_with}
+use Rattle.buffer_stages.specs.Actions.{Action, Outcome, Passes, at_first}
+use Rattle.buffer_stages.specs.Performing.{IsPerformed, PerformsWithoutOutput, cut_with}
+use Rattle.buffer_stages.specs.Buffers.{cut_of}
+use Rattle.buffer_stages.proofs.Lemmas.Does.{passed_same}
+use Rattle.buffer_stages.proofs.Lemmas.Performed.{passes_nothing}
 use Rattle.buffer_stages.proofs.Lemmas.Glyphs.{first_item}
+use Rattle.layout_match.specs.Skipping.{PassesAt}
 use Rattle.layout_match.specs.Trying.{meets, at_met, met_first}
 
 pub unmet : (a : ApplyContext) (act : Action) (r : ℕ) (s : Sides) (g : hb_glyph_info_t) → slice_get s.ahead 0 ≡ Some g → meets a (item_of g) ≡ false → met_first a act (cut_with r s) ≡ Passes []
@@ -14,3 +18,25 @@ unmet a act r s g at none = ap (λ o. at_first (at_met a act) o (cut_with r s)) 
 
 pub met : (a : ApplyContext) (act : Action) (r : ℕ) (s : Sides) (g : hb_glyph_info_t) → slice_get s.ahead 0 ≡ Some g → meets a (item_of g) ≡ true → met_first a act (cut_with r s) ≡ act (cut_with r s)
 met a act r s g at some = ap (λ o. at_first (at_met a act) o (cut_with r s)) (first_item s.ahead g at) ∙ rw some refl
+
+-- ---- a rule that passes at the glyph at the cursor need not be tried
+
+starts : (gs : List hb_glyph_info_t) (g : hb_glyph_info_t) → slice_get gs 0 ≡ Some g → (rest : List Item) × (strip gs ≡ item_of g ∷ rest)
+starts [] g at = cc
+starts (h ∷ gs) g at = let same : h ≡ g = cc in (strip gs, ap (λ k. item_of k ∷ strip gs) same)
+
+passes_there : (act : Action) (r : ℕ) (s : Sides) (g : hb_glyph_info_t) → slice_get s.ahead 0 ≡ Some g → PassesAt act (item_of g) → act (cut_with r s) ≡ Passes []
+passes_there act r s g at passes = let first = starts s.ahead g at in passes (cut_with r s) first.0 first.1
+
+pub not_tried : (act : Action) (r : ℕ) (s : Sides) (g : hb_glyph_info_t) → slice_get s.ahead 0 ≡ Some g → PassesAt act (item_of g) → IsPerformed (act (cut_with r s)) false r r s s
+not_tried act r s g at passes = passes_nothing r s (act (cut_with r s)) (passes_there act r s g at passes)
+
+pub not_tried_in_place : (act : Action) (s : Sides) (g : hb_glyph_info_t) → slice_get s.ahead 0 ≡ Some g → PassesAt act (item_of g) → PerformsWithoutOutput (act (cut_of s)) false s s
+not_tried_in_place act s g at passes =
+    let P : Outcome → Type 0 = λ o. PerformsWithoutOutput o false s s in
+    subst P (sym (passes_there act 1 s g at passes)) (refl, passed_same s)
+
+-- a glyph that a set misses is none of those that it has at least
+pub missed : (covered has : Bool) → (covered ≡ true → has ≡ true) → has ≡ false → covered ≡ false
+missed true has holds misses = sym (holds refl) ∙ misses
+missed false has holds misses = refl

@@ -8,9 +8,9 @@ use Rattle.layout_gsub.proofs.ligature.apply_ligature.Goals as goal
 pub ligate_input-requires-clause-rising : goal.ligate_input-requires-clause-rising
 ligate_input-requires-clause-rising c =
     let xs = strip c.args.buffer.now.ahead in
-    (input_found (own_search (apply_context_of c.args.ctx.now) xs) (map is_glyph c.components.result.now) xs c.in-Ok.end c.as_slice.result.now c.in-Ok.ensures.end (c.as_slice.ensures.value ∙ c.in-Ok.ensures.positions)).rising
+    (input_found (own_search (apply_context_of c.args.ctx.now) xs) (map is_glyph c.components.result.now) xs c.in-Ok.end c.as_slice.result.now c.in-Ok.ensures.end (c.as_slice.ensures.value ∙ c.match_input.ensures.positions)).rising
 
 pub ligate_input-requires-clause-end : goal.ligate_input-requires-clause-end
 ligate_input-requires-clause-end c =
     let xs = strip c.args.buffer.now.ahead in
-    (input_found (own_search (apply_context_of c.args.ctx.now) xs) (map is_glyph c.components.result.now) xs c.in-Ok.end c.as_slice.result.now c.in-Ok.ensures.end (c.as_slice.ensures.value ∙ c.in-Ok.ensures.positions)).end_is
+    (input_found (own_search (apply_context_of c.args.ctx.now) xs) (map is_glyph c.components.result.now) xs c.in-Ok.end c.as_slice.result.now c.in-Ok.ensures.end (c.as_slice.ensures.value ∙ c.match_input.ensures.positions)).end_is

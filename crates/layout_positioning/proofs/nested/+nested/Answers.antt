@@ -1,4 +1,4 @@
-use Rattle.std.proofs.Common.{◌≡◌, ◌-◌, Ok, Err, get_or, sym, subst, refl, arith, ℕ}
+use Rattle.std.proofs.Common.{◌≡◌, ◌-◌, Ok, Err, false, get_or, sym, subst, refl, arith, ℕ}
 use Rattle.std.proofs.lemmas.Option.{get_or_from_slice_get}
 use Rattle.buffer_common.specs.declared.direction.Direction.{Direction}
 use Rattle.layout_tables.specs.declared.context.ContextSubtable.{ContextSubtable}
@@ -17,6 +17,10 @@ use Rattle.layout_contexts.specs.Records.{IsRecordBegun}
 use Rattle.layout_contexts.specs.Rules.{chains_of}
 use Rattle.layout_contexts.proofs.Lemmas.Acting.{match_inside, rule_acted, rule_failed}
 use Rattle.layout_contexts.proofs.Lemmas.Inside.{then_stays}
+use Rattle.layout_contexts.proofs.Lemmas.Uncovered.{context_uncovered}
+use Rattle.layout_match.proofs.Lemmas.Met.{not_tried as glyph_not_tried}
+use Rattle.layout_tables.specs.Covers.{covers_context}
+use Rattle.buffer_glyphs.specs.Items.{item_of}
 use Rattle.layout_contexts.proofs.Lemmas.Nested.{begun_closed, begun_numbers, begun_some, begun_unrefused, get_or_any, last_walked, matched_closed, matched_numbers, matched_unrefused, next_failed, next_walked, none_nested, not_begun, not_tried, record_acted, record_inside, record_passed, tried_there}
 use Rattle.layout_positioning.specs.Lookups.{nested_actions, nested_act}
 use Rattle.layout_positioning.proofs.Kept.{begun_kept, behind_kept, matched_kept, unmatched_kept}
@@ -25,11 +29,20 @@ use Rattle.layout_positioning.proofs.nested.+nested.Goals as goal
 
 pub apply_context-returns-then-not-is_tried_at-clause-performs : goal.apply_context-returns-then-not-is_tried_at-clause-performs
 apply_context-returns-then-not-is_tried_at-clause-performs t c =
-    not_tried (nested_actions c.args.table.now.lookups c.args.depth c.args.buffer.now.direction (apply_context_of c.args.ctx.now)) (apply_context_of c.args.ctx.now) c.args.subtable.now c.is_tried_at.result c.args.ctx.now.random_state c.args.buffer.now c.cur.result.now c.cur.ensures c.is_tried_at.ensures c.if-not-is_tried_at.true
+    not_tried (nested_actions c.args.table.now.lookups c.args.depth c.args.buffer.now.direction (apply_context_of c.args.ctx.now)) (apply_context_of c.args.ctx.now) c.args.subtable.now c.is_tried_at.result c.args.ctx.now.random_state c.args.buffer.now c.cur-info.result.now c.cur-info.ensures c.is_tried_at.ensures c.if-not-is_tried_at.true
+
+pub apply_context-returns-then-not-may_have_glyph-clause-performs : goal.apply_context-returns-then-not-may_have_glyph-clause-performs
+apply_context-returns-then-not-may_have_glyph-clause-performs t c =
+    let a = apply_context_of c.args.ctx.now in
+    let nest = nested_actions c.args.table.now.lookups c.args.depth c.args.buffer.now.direction a in
+    let x = c.cur-info.result.now in
+    let P : ℕ → Type 0 = λ n. covers_context c.args.subtable.now n ≡ false in
+    let none = subst P c.as_glyph.ensures (c.may_have_glyph.ensures c.if-not-may_have_glyph.true) in
+    glyph_not_tried (context_subtable nest a c.args.subtable.now) c.args.ctx.now.random_state c.args.buffer.now x c.cur-info.ensures (context_uncovered nest a c.args.subtable.now (item_of x) none)
 
 pub apply_context-returns-clause-performs : goal.apply_context-returns-clause-performs
 apply_context-returns-clause-performs t c =
-    tried_there (nested_actions c.args.table.now.lookups c.args.depth c.args.buffer.now.direction (apply_context_of c.args.ctx.now)) (apply_context_of c.args.ctx.now) c.args.subtable.now c.is_tried_at.result c.args.ctx.now.random_state c.args.ctx.now.random_state c.apply_rules.result c.args.buffer.now c.apply_rules.new.buffer c.cur.result.now c.cur.ensures c.is_tried_at.ensures c.if-not-is_tried_at.false c.apply_rules.ensures.performs
+    tried_there (nested_actions c.args.table.now.lookups c.args.depth c.args.buffer.now.direction (apply_context_of c.args.ctx.now)) (apply_context_of c.args.ctx.now) c.args.subtable.now c.is_tried_at.result c.args.ctx.now.random_state c.args.ctx.now.random_state c.apply_rules.result c.args.buffer.now c.apply_rules.new.buffer c.cur-info.result.now c.cur-info.ensures c.is_tried_at.ensures c.if-not-is_tried_at.false c.apply_rules.ensures.performs
 
 pub apply_contexts-returns-in-Ok-true-clause-performs : goal.apply_contexts-returns-in-Ok-true-clause-performs
 apply_contexts-returns-in-Ok-true-clause-performs t c =

@@ -1,0 +1,2 @@
+-- Lemmas that other crates' laws rest on.
+pub mod Passing

@@ -1,0 +1,85 @@
+-- A GSUB lookup that can act at none of a buffer's glyphs is left out.
+use Rattle.std.proofs.Common.{ℕ, suc, zero, ◌≡◌, ◌≤◌, ◌<◌, Bool, true, false, nat_le, List, [], ◌∷◌, length, drop, Ok, Option, Some, refl, sym, ap, subst, ◌∙◌, if◌then◌else◌, arith}
+use Rattle.std.proofs.lemmas.Bool.Decides.{nat_tests}
+use Rattle.std.proofs.lemmas.List.{length-map, length-replicate, take-append-drop}
+use Rattle.buffer_glyphs.specs.Items.{Item, item_of, zero_position}
+use Rattle.buffer_core.specs.Readings.{View, Reading, Stage, Follows, then_reading, with_events}
+use Rattle.buffer_core.specs.Steps.{follows_same}
+use Rattle.buffer_core.specs.Sides.{Sides, all_glyphs, items_of, with_cleared_positions, zero_positions}
+use Rattle.buffer_stages.specs.Actions.{Action, Cut, Passes, uncut_with_positions, view_at, whole}
+use Rattle.buffer_stages.specs.Ready.{IsDoneFrom, IsReady, state_with}
+use Rattle.layout_face.specs.Lookups.{is_reverse, substitution_covers}
+use Rattle.layout_face.specs.declared.parts.FaceParts.{FaceParts}
+use Rattle.layout_face.specs.declared.substitution.SubstLookup.{SubstLookup}
+use Rattle.layout_map_features.specs.declared.lookup.lookup_map_t.{lookup_map_t}
+use Rattle.layout_match.specs.Skipping.{HoldsGlyphs, PassesAll, PassesAt}
+use Rattle.layout_match.specs.Trying.{after_outcome, forward_pass, with_zero_positions}
+use Rattle.layout_match.proofs.Lemmas.Held.{met_nowhere}
+use Rattle.layout_match.proofs.Lemmas.Untouched.{left_alone}
+use Rattle.layout_substitution.specs.Lookups.{backward_pass, backward_trials, cut_at_index, lookup_action, lookup_context, lookup_stage, reverse_action}
+use Rattle.layout_substitution.proofs.Uncovered.{lookup_uncovered, reverse_lookup_uncovered}
+
+-- ---- from the left
+
+pub skipped_forth : (act : Action) (r : ℕ) (s : Sides) → IsReady s → length (all_glyphs s) ≤ s.max_len → PassesAll act (items_of s) → IsDoneFrom r r (forward_pass act) s (with_cleared_positions s)
+skipped_forth act r s ready within passes =
+    let v = (state_with r s).view in
+    let long : length v.items ≡ length (all_glyphs s) = length-map (all_glyphs s) item_of in
+    let fits : nat_le (length v.items) v.max_len ≡ true = grind (arith, nat_tests, long, within) in
+    let is : forward_pass act v ≡ Ok (with_zero_positions v) = left_alone act v passes fits in
+    let P : Reading → Type 0 = λ q. Follows q (state_with r s) (state_with r (with_cleared_positions s)) in
+    record {
+      follows = subst P (sym is) (ap (λ n. record (state_with r s) { view = record v { positions = zero_positions n } }) (ready.placed ∙ sym long));
+      settings = refl;
+      ready = record { closed = ready.closed; front = ready.front; unread = ready.unread; placed = length-replicate (length s.positions) zero_position ∙ ready.placed; unrefused = ready.unrefused };
+      numbers = λ h. h;
+    }
+
+-- ---- from the right
+
+split_at : (act : Action) (xs : List Item) (n : ℕ) → n < length xs → PassesAll act xs → (x : Item) × (rest : List Item) × (drop n xs ≡ x ∷ rest) × PassesAt act x
+split_at act [] n lt passes = absurd (omega (arith, lt))
+split_at act (x ∷ xs) zero lt passes = (x, xs, refl, passes.0)
+split_at act (x ∷ xs) (suc n) lt passes = split_at act xs n (omega (arith, lt)) passes.1
+
+back_untouched : (act : Action) (v : View) (n : ℕ) (c : Cut) → n ≤ length (whole c) → PassesAll act (whole c) → backward_trials act v n c ≡ Ok (with_events [] (view_at v c))
+back_untouched act v zero c le passes = refl
+back_untouched act v (suc n) c le passes =
+    let k = cut_at_index n c in
+    let there = split_at act (whole c) n (omega (arith, le)) passes in
+    let here : act k ≡ Passes [] = there.3 k there.1 there.2 in
+    let same : whole k ≡ whole c = take-append-drop n (whole c) in
+    let long : length (whole k) ≡ length (whole c) = ap length same in
+    let P : List Item → Type 0 = λ xs. PassesAll act xs in
+    let more : backward_trials act v n k ≡ Ok (with_events [] (view_at v k)) = back_untouched act v n k (omega (arith, le, long)) (subst P (sym same) passes) in
+    let seen : view_at v k ≡ view_at v c = ap (λ xs. record (view_at v c) { items = xs }) same in
+    ap (λ o. after_outcome o (backward_trials act v n) v k) here ∙ ap (then_reading (with_events [] (view_at v k))) more ∙ ap (λ w. Ok (with_events [] w)) seen
+
+-- a pass from the right leaves the positions too
+pub left_back : (act : Action) (v : View) → PassesAll act v.items → backward_pass act v ≡ Ok (with_events [] v)
+left_back act v passes = back_untouched act v (length v.items) (uncut_with_positions v) (omega arith) passes
+
+pub skipped_back : (act : Action) (r : ℕ) (s : Sides) → IsReady s → PassesAll act (items_of s) → IsDoneFrom r r (backward_pass act) s s
+skipped_back act r s ready passes =
+    let P : Reading → Type 0 = λ q. Follows q (state_with r s) (state_with r s) in
+    record { follows = subst P (sym (left_back act (state_with r s).view passes)) (follows_same (state_with r s)); settings = refl; ready = ready; numbers = λ h. h }
+
+-- ---- either way
+
+by_way : (b : Bool) (back forth : Stage) (r : ℕ) (old new : Sides) → (b ≡ true → new ≡ old) → (b ≡ false → new ≡ with_cleared_positions old) → IsDoneFrom r r back old old → IsDoneFrom r r forth old (with_cleared_positions old) → IsDoneFrom r r (λ v. if b then back v else forth v) old new
+by_way true back forth r old new left cleared d e = let P : Sides → Type 0 = λ s. IsDoneFrom r r back old s in subst P (sym (left refl)) d
+by_way false back forth r old new left cleared d e = let P : Sides → Type 0 = λ s. IsDoneFrom r r forth old s in subst P (sym (cleared refl)) e
+
+pub skipped_done : (font : FaceParts) (table : List SubstLookup) (o : Option SubstLookup) (lookup : SubstLookup) (m : lookup_map_t) (has : ℕ → Bool) (r : ℕ) (old new : Sides) → Some lookup ≡ o → IsReady old → length (all_glyphs old) ≤ old.max_len → HoldsGlyphs has (items_of old)
+    → ((n : ℕ) → has n ≡ true → substitution_covers lookup.subtables n ≡ false) → (is_reverse lookup.subtables ≡ true → new ≡ old) → (is_reverse lookup.subtables ≡ false → new ≡ with_cleared_positions old) → IsDoneFrom r r (lookup_stage font table o m) old new
+skipped_done font table o lookup m has r old new there ready within held apart left cleared =
+    let a = lookup_context font lookup m in
+    let P : Option SubstLookup → Type 0 = λ q. IsDoneFrom r r (lookup_stage font table q m) old new in
+    let back = skipped_back (reverse_action a lookup) r old ready (met_nowhere has (substitution_covers lookup.subtables) (reverse_action a lookup) (items_of old) apart held (λ x none. reverse_lookup_uncovered a lookup x none)) in
+    let forth = skipped_forth (lookup_action table a lookup) r old ready within (met_nowhere has (substitution_covers lookup.subtables) (lookup_action table a lookup) (items_of old) apart held (λ x none. lookup_uncovered table a lookup x none)) in
+    subst P there (by_way (is_reverse lookup.subtables) (backward_pass (reverse_action a lookup)) (forward_pass (lookup_action table a lookup)) r old new left cleared back forth)
+
+-- the glyphs stay
+pub skipped_items : (b : Bool) (old new : Sides) → (b ≡ true → new ≡ old) → (b ≡ false → new ≡ with_cleared_positions old) → items_of new ≡ items_of old
+skipped_items true old new left cleared = ap items_of (left refl)
+skipped_items false old new left cleared = ap items_of (cleared refl)
