@@ -6,4 +6,4 @@ mod Limits
 mod LayoutFits
 mod ClassesFit
 pub mod FaceFits
-mod Text
+mod OfText

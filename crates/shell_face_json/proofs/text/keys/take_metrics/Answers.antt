@@ -2,8 +2,8 @@ use Rattle.std.proofs.Common.{◌≡◌, codes, pos, Ok, refl, subst}
 use Rattle.std.proofs.lemmas.Result.{IfOk-weaker}
 use Rattle.shell_json.specs.Cell.{u16_value, i16_value}
 use Rattle.shell_json.specs.Objects.{read_or}
-use Rattle.shell_face_json.proofs.Text.Definitions.{definition_found}
-use Rattle.shell_face_json.proofs.Text.OfKeys.{is_an_object, value_found}
+use Rattle.shell_face_json.proofs.OfText.Definitions.{definition_found}
+use Rattle.shell_face_json.proofs.OfText.OfKeys.{is_an_object, value_found}
 use Rattle.shell_face_json.proofs.text.keys.take_metrics.Goals as goal
 
 pub returns : goal.returns

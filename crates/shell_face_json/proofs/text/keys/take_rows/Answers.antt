@@ -1,6 +1,6 @@
 use Rattle.std.proofs.Common.{refl}
 use Rattle.shell_face_json.specs.Glyphs.{glyph_limit}
-use Rattle.shell_face_json.proofs.Text.OfKeys.{rows_found}
+use Rattle.shell_face_json.proofs.OfText.OfKeys.{rows_found}
 use Rattle.shell_face_json.proofs.text.keys.take_rows.Goals as goal
 
 pub returns : goal.returns

@@ -2,7 +2,7 @@ use Rattle.std.proofs.Common.{codes, Ok, refl, sym, ap, ◌∙◌, subst}
 use Rattle.shell_json.specs.TextValues.{HasMember}
 use Rattle.shell_face_json.specs.SubstitutionTable.{substitution_lookup}
 use Rattle.shell_face_json.specs.PositionTable.{positioning_lookup}
-use Rattle.shell_face_json.proofs.Text.OfKeys.{IsTable, substitution_found, positioning_found}
+use Rattle.shell_face_json.proofs.OfText.OfKeys.{IsTable, substitution_found, positioning_found}
 use Rattle.shell_face_json.proofs.text.keys.take_tables.Goals as goal
 
 pub returns : goal.returns

@@ -3,7 +3,7 @@ use Rattle.json.specs.Json.{after_end_array, items, value}
 use Rattle.serde_json.specs.Read.{of_items, converted}
 use Rattle.shell_json.specs.TextValues.{BeginsWith}
 use Rattle.shell_json.proofs.TokenSteps.{item_step, item_end}
-use Rattle.shell_face_json.proofs.Text.InTurn.{first_parts, one_more, last_parts}
+use Rattle.shell_face_json.proofs.OfText.InTurn.{first_parts, one_more, last_parts}
 use Rattle.shell_face_json.proofs.text.rows.take_items.Goals as goal
 
 pub items-init : goal.items-init

@@ -1,6 +1,6 @@
 use Rattle.std.proofs.Common.{option_map, ◌∙◌}
 use Rattle.serde_json.specs.View.{view}
-use Rattle.shell_face_json.proofs.Text.Tables.{layout_read, layout_of_parts}
+use Rattle.shell_face_json.proofs.OfText.Tables.{layout_read, layout_of_parts}
 use Rattle.shell_face_json.proofs.text.table.read_layout.Goals as goal
 
 pub returns : goal.returns

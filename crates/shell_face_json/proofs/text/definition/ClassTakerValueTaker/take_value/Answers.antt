@@ -1,4 +1,4 @@
-use Rattle.shell_face_json.proofs.Text.Definitions.{classes_taken}
+use Rattle.shell_face_json.proofs.OfText.Definitions.{classes_taken}
 use Rattle.shell_face_json.proofs.text.definition.ClassTakerValueTaker.take_value.Goals as goal
 
 pub returns-clause-ok : goal.returns-clause-ok

@@ -1,5 +1,5 @@
 use Rattle.std.proofs.Common.{refl}
-use Rattle.shell_face_json.proofs.Text.Definitions.{definition_taken}
+use Rattle.shell_face_json.proofs.OfText.Definitions.{definition_taken}
 use Rattle.shell_face_json.proofs.text.definition.DefinitionTakerValueTaker.take_value.Goals as goal
 
 pub returns-clause-ok : goal.returns-clause-ok

@@ -1,6 +1,6 @@
 use Rattle.std.proofs.Common.{◌≡◌, true, None, Ok, sym, ap, ◌∙◌, arith}
 use Rattle.buffer_rows.specs.Keys.{is_rising}
-use Rattle.shell_face_json.proofs.Text.InTurn.{rows_in_order}
+use Rattle.shell_face_json.proofs.OfText.InTurn.{rows_in_order}
 use Rattle.shell_face_json.proofs.text.rows.RowTakerValueTaker.take_value.Goals as goal
 
 pub returns-clause-ok : goal.returns-clause-ok

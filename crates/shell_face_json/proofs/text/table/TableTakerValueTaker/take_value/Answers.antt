@@ -1,7 +1,7 @@
 use Rattle.std.proofs.Common.{◌≡◌, Ok, option_map, refl, subst}
 use Rattle.serde_json.specs.View.{view}
 use Rattle.shell_face_json.specs.Text.Table.{layout_in}
-use Rattle.shell_face_json.proofs.Text.Tables.{table_taken}
+use Rattle.shell_face_json.proofs.OfText.Tables.{table_taken}
 use Rattle.shell_face_json.proofs.text.table.TableTakerValueTaker.take_value.Goals as goal
 
 pub returns-in-Ok-clause-ok : goal.returns-in-Ok-clause-ok

@@ -13,7 +13,7 @@ use Rattle.shell_face_json.specs.Row.{only}
 use Rattle.shell_face_json.specs.Contexts.{no_classes}
 use Rattle.shell_face_json.specs.Face.{few_sets, glyph_definition, glyph_definition_in, no_definition}
 use Rattle.shell_face_json.specs.Glyphs.{class_definition, classes_in, coverage, glyph_limit, glyph_rows}
-use Rattle.shell_face_json.proofs.Text.Tables.{list_found}
+use Rattle.shell_face_json.proofs.OfText.Tables.{list_found}
 use Rattle.layout_face.specs.declared.parts.GlyphDefinition.{GlyphDefinition}
 use Rattle.layout_common.specs.declared.class_definition.ClassDefinition.{ClassDefinition}
 use Rattle.layout_common.specs.declared.glyph_row.GlyphRow.{GlyphRow}

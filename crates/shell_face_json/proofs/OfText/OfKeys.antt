@@ -17,7 +17,7 @@ use Rattle.shell_face_json.specs.Sorted.{rows_by_key}
 use Rattle.shell_face_json.specs.Scripts.{layout_of}
 use Rattle.shell_face_json.specs.SubstitutionTable.{substitution_lookup, substitution_table}
 use Rattle.shell_face_json.specs.PositionTable.{positioning_lookup, positioning_table}
-use Rattle.shell_face_json.proofs.Text.Tables.{list_found, whole_found}
+use Rattle.shell_face_json.proofs.OfText.Tables.{list_found, whole_found}
 use Rattle.layout_tables.specs.Layout.{LayoutLists}
 use Rattle.layout_face.specs.declared.substitution.SubstLookup.{SubstLookup}
 use Rattle.layout_face.specs.declared.positioning.PositioningLookup.{PositioningLookup}
