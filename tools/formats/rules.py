@@ -162,12 +162,12 @@ def pairs(where: str, subtable: Any, count: int) -> Faults:
     if isinstance(subtable, list):
         yield from rows(where, subtable, row_of(word, word, value_record, or_null(value_record)), first_two)
         return
-    records = subtable["records"]
-    if not list_of(word)(subtable["first"]):
+    records = subtable.get("records", [])
+    if not list_of(word)(subtable.get("first", [])):
         yield f"{where}: first"
     shortest = min((len(row) for row in records), default=0)
-    yield from rows(f"{where} class1", subtable["class1"], row_of(word, below(len(records))), first)
-    yield from rows(f"{where} class2", subtable["class2"], row_of(word, below(shortest)), first)
+    yield from rows(f"{where} class1", subtable.get("class1", []), row_of(word, below(len(records))), first)
+    yield from rows(f"{where} class2", subtable.get("class2", []), row_of(word, below(shortest)), first)
     yield from rows(f"{where} records", records, list_of(row_of(value_record, or_null(value_record))), None)
 
 
@@ -175,11 +175,12 @@ def attachments(components: bool) -> Callable[[str, Any, int], Faults]:
     """Marks and bases: each mark's class has an anchor in every list."""
 
     def faults(where: str, subtable: Any, count: int) -> Faults:
-        lists = [each for _, given in subtable["bases"] for each in (given if components else [given])]
+        bases = subtable.get("bases", [])
+        lists = [each for _, given in bases for each in (given if components else [given])]
         limit = min(map(len, lists), default=0x10000)
-        yield from rows(f"{where} marks", subtable["marks"], row_of(word, below(limit), anchor), first)
+        yield from rows(f"{where} marks", subtable.get("marks", []), row_of(word, below(limit), anchor), first)
         anchors = list_of(list_of(anchor)) if components else list_of(anchor)
-        yield from rows(f"{where} bases", subtable["bases"], row_of(word, anchors), first)
+        yield from rows(f"{where} bases", bases, row_of(word, anchors), first)
 
     return faults
 
@@ -191,14 +192,17 @@ def contexts(where: str, subtable: Any, count: int) -> Faults:
         yield f"{where}: format"
         return
     if subtable["format"] == "classes":
-        if not list_of(word)(subtable["first"]) or len(subtable["classes"]) != 3:
+        classes = subtable.get("classes", [[], [], []])
+        if not list_of(word)(subtable.get("first", [])) or len(classes) != 3:
             yield f"{where}: first or classes"
-        for each in subtable["classes"]:
+        for each in classes:
             yield from rows(f"{where} classes", each, row_of(word, word), first)
-    records = list_of(row_of(word, below(count)))
+    # A lookup that is not there when its turn comes is passed over.
+    records = list_of(row_of(word, word))
     rule = row_of(list_of(items), list_of(items), list_of(items), records)
-    yield from rows(f"{where} rules", subtable["rules"], rule, None)
-    if any(not rule[1] for rule in subtable["rules"]):
+    given = subtable.get("rules", [])
+    yield from rows(f"{where} rules", given, rule, None)
+    if any(not each[1] for each in given):
         yield f"{where}: a rule without input"
 
 
@@ -272,10 +276,10 @@ def machine_faults(shaper: str, machine: dict[str, Any]) -> Faults:
     if shaper not in KINDS:
         yield f"syllables: no shaper {shaper!r}"
         return
-    state, category = below(machine["states"]), one_of(CATEGORIES[shaper])
+    state, category = below(machine.get("states", 0)), one_of(CATEGORIES[shaper])
 
     def step_key(row: Any) -> Any:
         return row[0], CATEGORIES[shaper].index(row[1])
 
-    yield from rows(f"{shaper} next", machine["next"], row_of(state, category, state), step_key)
-    yield from rows(f"{shaper} accept", machine["accept"], row_of(state, one_of(KINDS[shaper])), first)
+    yield from rows(f"{shaper} next", machine.get("next", []), row_of(state, category, state), step_key)
+    yield from rows(f"{shaper} accept", machine.get("accept", []), row_of(state, one_of(KINDS[shaper])), first)

@@ -22,8 +22,6 @@ FORMAT = {"J1 NotJson", "J2 WrongShape", "J3 FloatNumber", "J4 UnknownName", "U1
 DEPTH = {"U3 SplitDepth"}
 LAWS = {"Unlawful"}
 # A machine of TABLES has kinds of the format alone, so no text meets an unknown one.
-# The end of what fault_of tells where the rules could not read a value.
-UNREAD = "another shape than the format's"
 SHAPED = {"ok", "S2 TooLong", "S3 StretchRange"}
 
 
@@ -122,14 +120,8 @@ class Cases:
         damage_value(draw, changed)
         path = self.folder / "damaged.json"
         path.write_bytes(as_json(changed))
-        return File(path.read_bytes(), state_of(fault_of(path, rules)))
-
-
-def state_of(fault: str | None) -> State:
-    """What a fault that was found tells; where the rules could not read a value, a missing key may be one that may be."""
-    if fault is None:
-        return State.VALID
-    return State.UNKNOWN if fault.endswith(UNREAD) else State.FAULTY
+        found = fault_of(path, rules)
+        return File(path.read_bytes(), State.VALID if found is None else State.FAULTY)
 
 
 def right_answers(are_words: bool, is_missing: bool, tables: State, font: State, is_text: bool) -> frozenset[str]:

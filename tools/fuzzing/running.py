@@ -66,12 +66,12 @@ class Answer:
 
 
 def is_line(options: tuple[str, ...], out: bytes) -> bool:
-    """Whether the output has the documented form; lines with names of glyphs are not read."""
+    """Whether the output has the documented form; where names of glyphs are printed, only its end is looked at."""
+    if "--no-glyph-names" not in options:
+        return out.endswith(b"\n")
     line, feed, rest = out.partition(b"\n")
-    if not feed:
-        return False
-    is_read = "--no-glyph-names" not in options or line == b"" or all(map(GLYPH.fullmatch, line.split(b"|")))
-    return is_read and (SLICES.fullmatch(rest) is not None if "--slices" in options else rest == b"")
+    is_glyphs = line == b"" or all(map(GLYPH.fullmatch, line.split(b"|")))
+    return feed != b"" and is_glyphs and (SLICES.fullmatch(rest) is not None if "--slices" in options else rest == b"")
 
 
 @dataclass(frozen=True)
