@@ -17,6 +17,8 @@ mod plans;
 #[cfg(test)]
 mod premises;
 #[cfg(test)]
+mod refilled;
+#[cfg(test)]
 mod rows;
 #[cfg(test)]
 mod shaped;

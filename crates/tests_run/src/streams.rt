@@ -43,6 +43,22 @@ impl Read for FailingReader {
     }
 }
 
+// Gives one byte per call, and no end.
+#[derive(Drop)]
+struct EndlessReader;
+
+impl Read for EndlessReader {
+    fn read(&mut self, buf: &mut [u8]) -> io::Result<usize> {
+        match buf {
+            [space, ..] => {
+                *space = b' ';
+                Ok(1)
+            }
+            _ => Ok(0),
+        }
+    }
+}
+
 // Takes a number of bytes, one per call.
 #[derive(Drop)]
 struct ByteWriter {
@@ -117,5 +133,21 @@ fn failed_reads(alloc: Global) -> Result<[Result<(), RunFault>; 2], Fail> {
 #[test]
 fn failed_reads_come_first(rt: HostRuntime) -> Result<(), Fail> {
     assert_eq!(rt; failed_reads(rt.alloc())?, [Err(RunFault::Read); 2]);
+    Ok(())
+}
+
+// The result of tables without an end, and what is written.
+fn ran_endlessly(alloc: Global) -> (Result<(), RunFault>, Vec<u8>) {
+    let mut out = Vec::new(alloc);
+    let asked = plain_options(alloc);
+    let (mut tables, mut font, mut text) = (EndlessReader, FONT, b"ab".as_slice());
+    let answer = run(alloc, asked, &mut tables, &mut font, &mut text, &mut out);
+    (answer, out)
+}
+
+#[test]
+fn reads_without_an_end_are_limited(rt: HostRuntime) -> Result<(), Fail> {
+    let (answer, out) = ran_endlessly(rt.alloc());
+    assert!(rt; answer == Err(RunFault::ReadLimit) && out.is_empty());
     Ok(())
 }
