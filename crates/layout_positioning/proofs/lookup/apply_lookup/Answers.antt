@@ -3,9 +3,11 @@ use Rattle.layout_match.specs.Applied.{apply_context_of}
 use Rattle.buffer_glyphs.specs.Items.{item_of}
 use Rattle.layout_face.specs.Lookups.{positioning_covers}
 use Rattle.layout_match.proofs.Lemmas.Met.{not_tried}
-use Rattle.layout_positioning.specs.Lookups.{lookup_action}
+use Rattle.layout_positioning.specs.Lookups.{first_subtable, lookup_action, nested_actions}
 use Rattle.layout_positioning.proofs.Uncovered.{lookup_uncovered}
 use Rattle.layout_positioning.proofs.Levels.{lookup_passes, lookup_tries}
+use Rattle.buffer_stages.specs.Performing.{Performs, cut_with}
+use Rattle.layout_face.specs.declared.positioning.PositioningSubtables.{PositioningSubtables}
 use Rattle.layout_positioning.proofs.lookup.apply_lookup.Goals as goal
 
 pub returns-then-not-may_have_glyph-clause-performs : goal.returns-then-not-may_have_glyph-clause-performs
@@ -22,5 +24,8 @@ returns-then-not-meets-clause-performs c = lookup_passes c.args.table.now.lookup
 
 pub returns-clause-performs : goal.returns-clause-performs
 returns-clause-performs c =
-    lookup_tries c.args.table.now.lookups c.args.buffer.now.direction (apply_context_of c.args.ctx.now) c.args.lookup.now c.args.ctx.now.random_state c.args.ctx.now.random_state c.apply_subtables.result c.args.buffer.now c.apply_subtables.new.buffer c.cur-info.result.now c.cur-info.ensures (sym c.meets.ensures ∙ c.if-not-meets.false)
-    c.apply_subtables.ensures.performs
+    let a = apply_context_of c.args.ctx.now in
+    let d = c.args.buffer.now.direction in
+    let r = c.args.ctx.now.random_state in
+    let P : PositioningSubtables → Type 0 = λ s. Performs (first_subtable (nested_actions c.args.table.now.lookups 64 d a) d a s (cut_with r c.args.buffer.now)) c.apply_subtables.result r r c.args.buffer.now c.apply_subtables.new.buffer in
+    lookup_tries c.args.table.now.lookups d a c.args.lookup.now r r c.apply_subtables.result c.args.buffer.now c.apply_subtables.new.buffer c.cur-info.result.now c.cur-info.ensures (sym c.meets.ensures ∙ c.if-not-meets.false) (subst P c.inner.ensures c.apply_subtables.ensures.performs)

@@ -4,8 +4,8 @@ use Rattle.buffer_common.specs.declared.direction.Direction.{Direction}
 use Rattle.layout_tables.specs.declared.context.ContextSubtable.{ContextSubtable}
 use Rattle.layout_tables.specs.declared.context.SequenceLookupRecord.{SequenceLookupRecord}
 use Rattle.layout_match.specs.Applied.{apply_context_of}
-use Rattle.buffer_stages.specs.Actions.{Action}
-use Rattle.buffer_stages.specs.Performing.{IsPerformed, cut_with}
+use Rattle.buffer_stages.specs.Actions.{Action, first_rule}
+use Rattle.buffer_stages.specs.Performing.{IsPerformed, Performs, cut_with}
 use Rattle.buffer_stages.proofs.Lemmas.Frames.{still_direction}
 use Rattle.buffer_stages.proofs.Lemmas.Performed.{passed_all}
 use Rattle.buffer_stages.proofs.Lemmas.Firsts.{first_acts, first_refuses, first_passes}
@@ -14,7 +14,7 @@ use Rattle.layout_contexts.specs.Fitting.{IsMatched, chain_of}
 use Rattle.layout_contexts.specs.Nested.{each_nested}
 use Rattle.layout_contexts.specs.Nesting.{Walking}
 use Rattle.layout_contexts.specs.Records.{IsRecordBegun}
-use Rattle.layout_contexts.specs.Rules.{chains_of}
+use Rattle.layout_contexts.specs.Rules.{chains_of, is_tried_at}
 use Rattle.layout_contexts.proofs.Lemmas.Acting.{match_inside, rule_acted, rule_failed}
 use Rattle.layout_contexts.proofs.Lemmas.Inside.{then_stays}
 use Rattle.layout_contexts.proofs.Lemmas.Uncovered.{context_uncovered}
@@ -29,7 +29,8 @@ use Rattle.layout_positioning.proofs.nested.+nested.Goals as goal
 
 pub apply_context-returns-then-not-is_tried_at-clause-performs : goal.apply_context-returns-then-not-is_tried_at-clause-performs
 apply_context-returns-then-not-is_tried_at-clause-performs t c =
-    not_tried (nested_actions c.args.table.now.lookups c.args.depth c.args.buffer.now.direction (apply_context_of c.args.ctx.now)) (apply_context_of c.args.ctx.now) c.args.subtable.now c.is_tried_at.result c.args.ctx.now.random_state c.args.buffer.now c.cur-info.result.now c.cur-info.ensures c.is_tried_at.ensures c.if-not-is_tried_at.true
+    let T : ContextSubtable → Type 0 = λ s. c.is_tried_at.result ≡ is_tried_at s (item_of c.cur-info.result.now) in
+    not_tried (nested_actions c.args.table.now.lookups c.args.depth c.args.buffer.now.direction (apply_context_of c.args.ctx.now)) (apply_context_of c.args.ctx.now) c.args.subtable.now c.is_tried_at.result c.args.ctx.now.random_state c.args.buffer.now c.cur-info.result.now c.cur-info.ensures (subst T c.inner.ensures c.is_tried_at.ensures) c.if-not-is_tried_at.true
 
 pub apply_context-returns-then-not-may_have_glyph-clause-performs : goal.apply_context-returns-then-not-may_have_glyph-clause-performs
 apply_context-returns-then-not-may_have_glyph-clause-performs t c =
@@ -42,7 +43,12 @@ apply_context-returns-then-not-may_have_glyph-clause-performs t c =
 
 pub apply_context-returns-clause-performs : goal.apply_context-returns-clause-performs
 apply_context-returns-clause-performs t c =
-    tried_there (nested_actions c.args.table.now.lookups c.args.depth c.args.buffer.now.direction (apply_context_of c.args.ctx.now)) (apply_context_of c.args.ctx.now) c.args.subtable.now c.is_tried_at.result c.args.ctx.now.random_state c.args.ctx.now.random_state c.apply_rules.result c.args.buffer.now c.apply_rules.new.buffer c.cur-info.result.now c.cur-info.ensures c.is_tried_at.ensures c.if-not-is_tried_at.false c.apply_rules.ensures.performs
+    let a = apply_context_of c.args.ctx.now in
+    let nest = nested_actions c.args.table.now.lookups c.args.depth c.args.buffer.now.direction a in
+    let T : ContextSubtable → Type 0 = λ s. c.is_tried_at.result ≡ is_tried_at s (item_of c.cur-info.result.now) in
+    let tried = subst T c.inner.ensures c.is_tried_at.ensures in
+    let P : ContextSubtable → Type 0 = λ s. Performs (first_rule (chain_rule nest a) (chains_of s) (cut_with c.args.ctx.now.random_state c.args.buffer.now)) c.apply_rules.result c.args.ctx.now.random_state c.args.ctx.now.random_state c.args.buffer.now c.apply_rules.new.buffer in
+    tried_there nest a c.args.subtable.now c.is_tried_at.result c.args.ctx.now.random_state c.args.ctx.now.random_state c.apply_rules.result c.args.buffer.now c.apply_rules.new.buffer c.cur-info.result.now c.cur-info.ensures tried c.if-not-is_tried_at.false (subst P c.inner-2.ensures c.apply_rules.ensures.performs)
 
 pub apply_contexts-returns-in-Ok-true-clause-performs : goal.apply_contexts-returns-in-Ok-true-clause-performs
 apply_contexts-returns-in-Ok-true-clause-performs t c =
