@@ -101,3 +101,14 @@ stage_lookups_refused font own t pauses i ls before r old now cause lt a same th
     let P : FaceParts → Type 0 = λ o. reading_of (lookups_stage o (substitution_lookups o) ls) (state_with r now) ≡ Err cause in
     let Q : List lookup_map_t → Type 0 = λ ms. reading_of (lookups_stage font (substitution_lookups font) ms) (state_with r now) ≡ Err cause in
     lookups_refused font (substitution_lookups font) t pauses i (record { last_lookup = 0; pause = None }) before r old now cause lt a (subst Q those (subst P same is))
+
+-- its pause is
+pub stage_pause_refused : (font own : FaceParts) (t : TableStages) (pauses : Pauses) (i : ℕ) (e : StageMap) (ls : List lookup_map_t) (p : Option ℕ) (before r mid : ℕ) (old now paused_at : Sides) (cause : ShapeCause) → i < length t.stages
+    → AreTableStagesDone font (substitution_lookups font) t pauses i before r old now → own ≡ font → ls ≡ lookups_of_stage t i → p ≡ (get_or t.stages i e).pause
+    → IsDoneFrom r mid (lookups_stage own (substitution_lookups own) ls) now paused_at → reading_of (pause_stage pauses p) (state_with mid paused_at) ≡ Err cause
+    → reading_of (table_stages font (substitution_lookups font) t pauses 0 t.stages) (state_with before old) ≡ Err cause
+stage_pause_refused font own t pauses i e ls p before r mid old now paused_at cause lt a same those that d is =
+    let P : FaceParts → Type 0 = λ o. IsDoneFrom r mid (lookups_stage o (substitution_lookups o) ls) now paused_at in
+    let Q : List lookup_map_t → Type 0 = λ ms. IsDoneFrom r mid (lookups_stage font (substitution_lookups font) ms) now paused_at in
+    let R : Option ℕ → Type 0 = λ n. reading_of (pause_stage pauses n) (state_with mid paused_at) ≡ Err cause in
+    then_refused font (substitution_lookups font) t pauses i e before r mid old now paused_at cause lt a (subst Q those (subst P same d)) (subst R that is)

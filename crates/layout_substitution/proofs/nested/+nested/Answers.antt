@@ -3,12 +3,12 @@ use Rattle.std.proofs.lemmas.Option.{get_or_from_slice_get}
 use Rattle.layout_tables.specs.declared.context.ContextSubtable.{ContextSubtable}
 use Rattle.layout_match.specs.Applied.{ApplyContext, apply_context_of}
 use Rattle.buffer_stages.specs.Actions.{Action, first_rule}
-use Rattle.buffer_stages.specs.Performing.{IsPerformed, cut_with}
+use Rattle.buffer_stages.specs.Performing.{IsPerformed, Performs, cut_with}
 use Rattle.buffer_stages.proofs.Lemmas.Performed.{passed_all}
 use Rattle.buffer_stages.proofs.Lemmas.Firsts.{first_acts, first_refuses, first_passes}
 use Rattle.layout_contexts.specs.Chains.{Chain, chain_rule, context_subtable}
 use Rattle.layout_contexts.specs.Fitting.{IsMatched, chain_of}
-use Rattle.layout_contexts.specs.Rules.{chains_of}
+use Rattle.layout_contexts.specs.Rules.{chains_of, is_tried_at}
 use Rattle.layout_contexts.proofs.Lemmas.Acting.{match_inside, rule_acted, rule_failed}
 use Rattle.layout_contexts.proofs.Lemmas.Inside.{then_stays}
 use Rattle.layout_contexts.proofs.Lemmas.Uncovered.{context_uncovered}
@@ -24,7 +24,8 @@ use Rattle.layout_substitution.proofs.nested.+nested.Goals as goal
 pub apply_context-returns-then-not-is_tried_at-clause-performs : goal.apply_context-returns-then-not-is_tried_at-clause-performs
 apply_context-returns-then-not-is_tried_at-clause-performs t c =
     let a = apply_context_of c.args.ctx.now in
-    not_tried (nested_actions c.args.table.now.lookups c.args.depth a) a c.args.subtable.now c.is_tried_at.result c.args.ctx.now.random_state c.args.buffer.now c.cur-info.result.now c.cur-info.ensures c.is_tried_at.ensures c.if-not-is_tried_at.true
+    let T : ContextSubtable → Type 0 = λ s. c.is_tried_at.result ≡ is_tried_at s (item_of c.cur-info.result.now) in
+    not_tried (nested_actions c.args.table.now.lookups c.args.depth a) a c.args.subtable.now c.is_tried_at.result c.args.ctx.now.random_state c.args.buffer.now c.cur-info.result.now c.cur-info.ensures (subst T c.inner.ensures c.is_tried_at.ensures) c.if-not-is_tried_at.true
 
 pub apply_context-returns-then-not-may_have_glyph-clause-performs : goal.apply_context-returns-then-not-may_have_glyph-clause-performs
 apply_context-returns-then-not-may_have_glyph-clause-performs t c =
@@ -38,7 +39,13 @@ apply_context-returns-then-not-may_have_glyph-clause-performs t c =
 pub apply_context-returns-clause-performs : goal.apply_context-returns-clause-performs
 apply_context-returns-clause-performs t c =
     let a = apply_context_of c.args.ctx.now in
-    tried_there (nested_actions c.args.table.now.lookups c.args.depth a) a c.args.subtable.now c.is_tried_at.result c.args.ctx.now.random_state c.apply_rules.new.ctx.random_state c.apply_rules.result c.args.buffer.now c.apply_rules.new.buffer c.cur-info.result.now c.cur-info.ensures c.is_tried_at.ensures c.if-not-is_tried_at.false c.apply_rules.ensures.performs
+    let nest = nested_actions c.args.table.now.lookups c.args.depth a in
+    let r = c.args.ctx.now.random_state in
+    let after = c.apply_rules.new.ctx.random_state in
+    let T : ContextSubtable → Type 0 = λ s. c.is_tried_at.result ≡ is_tried_at s (item_of c.cur-info.result.now) in
+    let tried = subst T c.inner.ensures c.is_tried_at.ensures in
+    let P : ContextSubtable → Type 0 = λ s. Performs (first_rule (chain_rule nest a) (chains_of s) (cut_with r c.args.buffer.now)) c.apply_rules.result r after c.args.buffer.now c.apply_rules.new.buffer in
+    tried_there nest a c.args.subtable.now c.is_tried_at.result r after c.apply_rules.result c.args.buffer.now c.apply_rules.new.buffer c.cur-info.result.now c.cur-info.ensures tried c.if-not-is_tried_at.false (subst P c.inner-2.ensures c.apply_rules.ensures.performs)
 
 pub apply_contexts-returns-in-Ok-true-clause-performs : goal.apply_contexts-returns-in-Ok-true-clause-performs
 apply_contexts-returns-in-Ok-true-clause-performs t c =
