@@ -45,6 +45,7 @@ class Gate:
     out: TextIO = field(default_factory=lambda: sys.stderr)
     started: float = field(default_factory=time.monotonic)
     passed: set[str] = field(default_factory=set)
+    tool: str = "build"
 
     def run(self, jobs: int | None) -> Failure | None:
         """Proves, builds and runs all that is not kept. With the first crate that fails rt is ended."""
@@ -91,7 +92,7 @@ class Gate:
         return Failure("", section) if ran.wait() else None
 
     def tell(self, what: str) -> None:
-        print(f"build: {what}", file=self.out, flush=True)
+        print(f"{self.tool}: {what}", file=self.out, flush=True)
 
     def clock(self) -> str:
         seconds = int(time.monotonic() - self.started)

@@ -1,4 +1,4 @@
-"""The tree in which the gate works: copies of the program's crate and of those that it is built on.
+"""The tree in which the gate works: copies of a crate and of those that it is built on.
 
 It is a repository of its own, without the other crates and without must-fail edits. Files are copied, since a link to
 a file changes its time, by which rt knows files that were changed while it worked. The gate refuses a crates.txt below
@@ -19,15 +19,15 @@ LIST = "crates.txt"
 HANDLES = "HANDLES"
 
 
-def tree_of(root: Path) -> Path:
-    """The place of the tree, one for each copy of the repository."""
+def tree_of(root: Path, crate: str = "hb_shape") -> Path:
+    """The place of the tree, one for each copy of the repository and each crate that is built."""
     own = hashlib.sha256(os.fsencode(root)).hexdigest()[:16]
-    return Path(tempfile.gettempdir()).resolve() / f"hb_shape-build-{own}"
+    return Path(tempfile.gettempdir()).resolve() / f"{crate}-build-{own}"
 
 
-def needed_lines(root: Path, program: str) -> dict[str, str]:
-    """The lines of crates.txt, as they stand, of the program's crate and those that it is built on, by their names."""
-    wanted = set(all_needs(program, read_crates(root)))
+def needed_lines(root: Path, crate: str) -> dict[str, str]:
+    """The lines of crates.txt, as they stand, of a crate and those that it is built on, by their names."""
+    wanted = set(all_needs(crate, read_crates(root)))
     lines: dict[str, str] = {}
     for line in (root / LIST).read_text(encoding="utf-8").splitlines():
         for name in line.split("#")[0].partition(":")[0].split()[:1]:

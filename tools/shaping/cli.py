@@ -105,7 +105,11 @@ def font_file(folder: Path, given: Given) -> Path:
     if is_json(given.font):
         given.font.stat()
         return given.font
-    path, index = given.font, font_index(given)
+    return font_value(folder, given.font, font_index(given))
+
+
+def font_value(folder: Path, path: Path, index: int) -> Path:
+    """A font file's value as a file."""
     status = path.stat()
     stamp = fingerprint(str(path.resolve()), status.st_size, status.st_mtime_ns, index, FONT_READ)
     return cached(folder / font_name(path, index), stamp, lambda: convert(path, index))

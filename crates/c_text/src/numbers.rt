@@ -1,5 +1,5 @@
 //! C's numbers of settings and of faults.
-ghost use Rattle.std.specs.Prelude.{◌≡◌};
+ghost use Rattle.std.specs.Prelude.{◌≡◌, ◌<◌};
 ghost use Rattle.c_text.specs.Numbers.{direction_numbered, fault_number, level_numbered, script_numbered};
 
 use buffer_common::direction::Direction;
@@ -46,7 +46,8 @@ pub fn level_numbered(number: u32) -> BufferClusterLevel
 
 /// The number of a fault.
 pub fn fault_number(fault: RunFault) -> u32
-    ensures { result ≡ fault_number fault }
+    ensures number { result ≡ fault_number fault }
+    ensures of_fault { 0 < result }
 {
     match fault {
         RunFault::OutOfMemory

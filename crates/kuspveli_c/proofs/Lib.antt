@@ -1,0 +1,4 @@
+pub mod Pointers
+pub mod Handles
+mod Plans
+mod Texts

@@ -1,0 +1,3 @@
+pub mod Ownership
+pub mod Plans
+pub mod Fonts

@@ -1,0 +1,133 @@
+//! The calls of the library, as `include/kuspveli.h` declares them.
+ghost use Rattle.std.specs.Prelude.{◌≡◌, ◌≢◌, Err, IfNone, IfSome, None, Some, length, map};
+ghost use Rattle.buffer_core.specs.Sides.{all_glyphs, empty_buffer};
+ghost use Rattle.c_text.specs.Written.{info_of, position_of, with_front};
+ghost use Rattle.shell_readers.specs.Input.{IsInput};
+ghost use Rattle.kuspveli_c.specs.Fonts.{AreGlyphsOf, HasRead, IsFaultOf, IsNumberOf, glyphs_of, input_of, new_font};
+
+use crate::font::Font;
+use crate::handle::Handle;
+use c_text::numbers::fault_number;
+use c_text::types::{kus_glyph_info_t, kus_glyph_position_t, kus_text_t};
+use std::alloc::Global;
+
+const OK: u32 = 0;
+
+const OUT_OF_MEMORY: u32 = 1;
+
+const NO_FONT: u32 = 16;
+
+/// Reads tables and a font, and keeps them; a font that was there is dropped. On a fault the handle stays as it was.
+#[tactic(auto, using(crate::proofs::Texts::number_of_fault))]
+#[unsafe(no_mangle)]
+pub extern "C" fn kus_font_create(
+    alloc: Global,
+    font: &mut Handle,
+    tables: &[u8],
+    json: &[u8],
+) -> u32
+    ensures read { result ≡ 0 → HasRead tables.now json.now font.new.value }
+    ensures refused { result ≢ 0 → result ≢ 1 → IsNumberOf (λ e. IsInput tables.now json.now (Err e)) result }
+    ensures kept { result ≢ 0 → font.new.value ≡ font.old.value }
+{
+    let read = match Font::read(alloc, tables, json) {
+        Ok(read) => read,
+        Err(fault) => return fault_number(fault),
+    };
+    let Ok(read) = Box::new(alloc, read) else {
+        return OUT_OF_MEMORY;
+    };
+    font.put(alloc, read);
+    OK
+}
+
+/// Another handle of a font, which shares what was read; a font that the other handle had is dropped. On a fault both
+/// handles stay as they were.
+#[unsafe(no_mangle)]
+pub extern "C" fn kus_font_reference(alloc: Global, font: &mut Handle, other: &mut Handle) -> u32
+    ensures no_font { IfNone font.old.value (result ≡ 16) }
+    ensures shared { result ≡ 0 → IfSome font.old.value (λ f. other.new.value ≡ Some (new_font f.input)) }
+    ensures refused { result ≢ 0 → IfSome font.old.value (λ _. result ≡ 1) }
+    ensures same { font.new.value ≡ font.old.value }
+    ensures kept { result ≢ 0 → other.new.value ≡ other.old.value }
+{
+    let Some(first) = font.take(alloc) else {
+        return NO_FONT;
+    };
+    let another = first.another(alloc);
+    font.put(alloc, first);
+    let Ok(another) = another else {
+        return OUT_OF_MEMORY;
+    };
+    let Ok(another) = Box::new(alloc, another) else {
+        return OUT_OF_MEMORY;
+    };
+    other.put(alloc, another);
+    OK
+}
+
+/// Drops the font, if there is one.
+#[unsafe(no_mangle)]
+pub extern "C" fn kus_font_destroy(alloc: Global, font: &mut Handle)
+    ensures { font.new.value ≡ None }
+{
+    let last = font.take(alloc);
+    drop(last);
+}
+
+/// Shapes a text, and writes its glyphs and their positions, as many as there is room for, and how many there are; on a
+/// fault there are none.
+#[tactic(auto, using(crate::proofs::Texts::number_of_fault, crate::proofs::Texts::no_infos, crate::proofs::Texts::no_positions))]
+#[unsafe(no_mangle)]
+pub extern "C" fn kus_shape(
+    alloc: Global,
+    font: &mut Handle,
+    text: &kus_text_t<'_>,
+    infos: &mut [kus_glyph_info_t],
+    positions: &mut [kus_glyph_position_t],
+    count: &mut usize,
+) -> u32
+    ensures no_font { IfNone font.old.value (result ≡ 16) }
+    ensures shaped { result ≡ 0 → IfSome font.new.value (λ f. AreGlyphsOf f.input text.now f.glyphs) }
+    ensures refused { result ≢ 0 → result ≢ 1
+        → IfSome font.old.value (λ f. IsNumberOf (IsFaultOf f.input text.now) result) }
+    ensures none { result ≢ 0 → glyphs_of font.new.value ≡ empty_buffer }
+    ensures input { input_of font.new.value ≡ input_of font.old.value }
+    ensures count { count.new ≡ length (all_glyphs (glyphs_of font.new.value)) }
+    ensures infos { infos.new ≡ with_front (map info_of (all_glyphs (glyphs_of font.new.value))) infos.old }
+    ensures positions { positions.new ≡ with_front (map position_of (glyphs_of font.new.value).positions) positions.old }
+{
+    *count = 0;
+    let Some(mut kept) = font.take(alloc) else {
+        return NO_FONT;
+    };
+    let shaped = kept.shape(alloc, text);
+    *count = kept.write_glyphs(infos, positions);
+    font.put(alloc, kept);
+    match shaped {
+        Ok(()) => OK,
+        Err(fault) => fault_number(fault),
+    }
+}
+
+/// Writes the glyphs of the last text and their positions, as many as there is room for; answers how many there are.
+#[tactic(auto, using(crate::proofs::Texts::no_infos, crate::proofs::Texts::no_positions))]
+#[unsafe(no_mangle)]
+pub extern "C" fn kus_get_glyphs(
+    alloc: Global,
+    font: &mut Handle,
+    infos: &mut [kus_glyph_info_t],
+    positions: &mut [kus_glyph_position_t],
+) -> usize
+    ensures same { font.new.value ≡ font.old.value }
+    ensures count { result ≡ length (all_glyphs (glyphs_of font.old.value)) }
+    ensures infos { infos.new ≡ with_front (map info_of (all_glyphs (glyphs_of font.old.value))) infos.old }
+    ensures positions { positions.new ≡ with_front (map position_of (glyphs_of font.old.value).positions) positions.old }
+{
+    let Some(shown) = font.take(alloc) else {
+        return 0;
+    };
+    let count = shown.write_glyphs(infos, positions);
+    font.put(alloc, shown);
+    count
+}

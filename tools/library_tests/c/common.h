@@ -1,0 +1,71 @@
+/* What the drivers share: files, cases and their lines. */
+#ifndef COMMON_H
+#define COMMON_H
+#include <stdio.h>
+#include <stdlib.h>
+#include <string.h>
+#include "kuspveli.h"
+
+typedef struct {
+  uint8_t *bytes;
+  size_t length;
+} bytes_t;
+
+static inline void
+fail (const char *what, const char *of)
+{
+  fprintf (stderr, "%s: %s\n", what, of);
+  exit (1);
+}
+
+static inline bytes_t
+read_file (const char *name)
+{
+  FILE *file = fopen (name, "rb");
+  if (!file || fseek (file, 0, SEEK_END)) fail ("cannot read", name);
+  bytes_t read = { NULL, (size_t) ftell (file) };
+  rewind (file);
+  read.bytes = malloc (read.length + 1);
+  if (fread (read.bytes, 1, read.length, file) != read.length) fail ("cannot read", name);
+  read.bytes[read.length] = 0;
+  fclose (file);
+  return read;
+}
+
+static inline kus_font_t
+open_font (const char *tables, const char *json)
+{
+  kus_font_t font = KUS_FONT_INIT;
+  bytes_t t = read_file (tables), j = read_file (json);
+  kus_status_t status = kus_font_create (&font, t.bytes, t.length, j.bytes, j.length);
+  if (status != KUS_OK) fail (json, kus_status_name (status));
+  free (t.bytes);
+  free (j.bytes);
+  return font;
+}
+
+/* The line that hb_shape prints with --no-glyph-names --show-flags. */
+static inline void
+print_line (const kus_glyph_info_t *infos, const kus_glyph_position_t *positions, size_t count)
+{
+  for (size_t k = 0; k < count; k++) {
+    printf ("%s%u=%u", k ? "|" : "", infos[k].codepoint, infos[k].cluster);
+    if (positions[k].x_offset || positions[k].y_offset) printf ("@%d,%d", positions[k].x_offset, positions[k].y_offset);
+    printf ("+%d", positions[k].x_advance);
+    if (positions[k].y_advance) printf (",%d", positions[k].y_advance);
+    if (infos[k].mask) printf ("#%x", infos[k].mask);
+  }
+  putchar ('\n');
+}
+
+/* A text in hexadecimal digits, as bytes. */
+static inline size_t
+unhex (const char *digits, uint8_t *into, size_t room)
+{
+  size_t n = 0;
+  unsigned byte;
+  for (; n < room && sscanf (digits + 2 * n, "%2x", &byte) == 1; n++) into[n] = (uint8_t) byte;
+  return n;
+}
+
+#endif

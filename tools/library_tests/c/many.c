@@ -1,0 +1,144 @@
+/* many TABLES FONT CALLS WORD..: calls on four threads, each with a handle of its own over one font, give the glyphs
+ * that the first call gave; memory is counted, and none is left. The linker passes the library's calls of malloc and
+ * its kin through the counters here (--wrap). */
+#include <pthread.h>
+#include <stdatomic.h>
+#include "common.h"
+
+#define MOST 512
+#define THREADS 4
+#define WORDS 16
+
+void *__real_malloc (size_t);
+void *__real_realloc (void *, size_t);
+void *__real_aligned_alloc (size_t, size_t);
+void __real_free (void *);
+
+static atomic_long live;
+/* The allocation of this number is refused; 0 for none. */
+static _Thread_local long refused;
+
+static int
+refuses (void)
+{
+  return refused && !--refused;
+}
+
+void *
+__wrap_malloc (size_t size)
+{
+  if (refuses ()) return NULL;
+  void *at = __real_malloc (size);
+  live += at != NULL;
+  return at;
+}
+
+void *
+__wrap_realloc (void *from, size_t size)
+{
+  if (refuses ()) return NULL;
+  void *at = __real_realloc (from, size);
+  live += !from && at;
+  return at;
+}
+
+void *
+__wrap_aligned_alloc (size_t alignment, size_t size)
+{
+  if (refuses ()) return NULL;
+  void *at = __real_aligned_alloc (alignment, size);
+  live += at != NULL;
+  return at;
+}
+
+void
+__wrap_free (void *at)
+{
+  live -= at != NULL;
+  __real_free (at);
+}
+
+typedef struct {
+  kus_glyph_info_t infos[MOST];
+  kus_glyph_position_t positions[MOST];
+  size_t count;
+} result_t;
+
+static const char *words[WORDS];
+static int num_words;
+static result_t first[WORDS];
+static long calls;
+
+static kus_status_t
+shape (kus_font_t *font, const char *word, result_t *into)
+{
+  kus_text_t text = kus_text (word, strlen (word));
+  return kus_shape (font, &text, into->infos, MOST, into->positions, MOST, &into->count);
+}
+
+static int
+same (const result_t *a, const result_t *b)
+{
+  return a->count == b->count && !memcmp (a->infos, b->infos, a->count * sizeof *a->infos)
+         && !memcmp (a->positions, b->positions, a->count * sizeof *a->positions);
+}
+
+static void *
+run (void *of)
+{
+  kus_font_t *font = of;
+  result_t *made = __real_malloc (sizeof *made);
+  for (long k = 0; k < calls / THREADS; k++) {
+    int word = (int) (k % 64 / 4) % num_words;
+    if (shape (font, words[word], made) != KUS_OK || !same (made, &first[word])) fail ("another result", words[word]);
+  }
+  kus_font_destroy (font);
+  __real_free (made);
+  return NULL;
+}
+
+/* Each allocation of a call is refused in turn: the call says so, leaves nothing, and shapes again. */
+static int
+refuse_each (kus_font_t *font)
+{
+  static result_t made;
+  for (int at = 1;; at++) {
+    kus_font_t other = KUS_FONT_INIT;
+    if (kus_font_reference (font, &other) != KUS_OK) fail ("no reference", "");
+    refused = at;
+    kus_status_t status = shape (&other, words[0], &made);
+    int reached = !refused;
+    refused = 0;
+    if (reached ? status != KUS_OUT_OF_MEMORY || made.count : status != KUS_OK) fail ("refused memory", kus_status_name (status));
+    if (shape (&other, words[0], &made) != KUS_OK || !same (&made, &first[0])) fail ("refused memory", "and then another result");
+    kus_font_destroy (&other);
+    if (!reached) return at - 1;
+  }
+}
+
+int
+main (int count, char **arguments)
+{
+  if (count < 5) fail ("many", "TABLES FONT CALLS WORD..");
+  calls = strtol (arguments[3], NULL, 10);
+  for (; num_words < WORDS && 4 + num_words < count; num_words++) words[num_words] = arguments[4 + num_words];
+  long before = live;
+  kus_font_t font = open_font (arguments[1], arguments[2]), handles[THREADS];
+  for (int k = 0; k < num_words; k++)
+    if (shape (&font, words[k], &first[k]) != KUS_OK) fail ("not shaped", words[k]);
+  long steady = live;
+  pthread_t threads[THREADS];
+  for (int k = 0; k < THREADS; k++) {
+    handles[k] = (kus_font_t) KUS_FONT_INIT;
+    if (kus_font_reference (&font, &handles[k]) != KUS_OK) fail ("no reference", "");
+    if (pthread_create (&threads[k], NULL, run, &handles[k])) fail ("no thread", "");
+  }
+  for (int k = 0; k < THREADS; k++) pthread_join (threads[k], NULL);
+  if (live != steady) fail ("calls leave memory", "");
+  int refusals = refuse_each (&font);
+  if (live != steady) fail ("refused calls leave memory", "");
+  kus_font_destroy (&font);
+  if (live != before) fail ("fonts leave memory", "");
+  printf ("%ld calls on %d threads, %d allocations refused\n", calls / THREADS * THREADS, THREADS, refusals);
+  return 0;
+}

@@ -1,0 +1,109 @@
+"""The command line of test_library."""
+
+import shutil
+import subprocess
+import sys
+import tempfile
+import time
+from concurrent.futures import ThreadPoolExecutor
+from pathlib import Path
+
+from common.faults import FILES, ToolFault
+from common.parsing import Words
+from library_tests import drivers
+from library_tests.cases import SETTINGS, Case, Script, scripts
+from shaping.cache import cache_folder
+from shaping.cli import font_value, tables_file
+from shaping.program import PROGRAM, run_one
+from shaping.texts import Text
+from sources.crates import ROOT
+
+NAME = "test_library"
+ABOUT = """Tests the library for C: its header as C99, C11 and C++ beside HarfBuzz's numbers and structs; the same texts from
+C, Rust (where cargo is there) and Python as from the program; each allocation freed, by valgrind and by counts over
+many calls on four threads; each allocation of a call refused in turn; and the time of a word by the kept plan beside
+HarfBuzz's. The program and the library are built first, where they are not."""
+BUILDS = ("build", "build_library")
+# The room for the first call of each text: small, so that some texts are read again.
+ROOM = 8
+SHOWN = ("--no-glyph-names", "--show-flags")
+CALLS = 1_000_000
+# A word by the kept plan is to cost less than so many of HarfBuzz's.
+TIMES = 2.0
+
+
+def main(words: list[str]) -> int:
+    """Tests; its status is 1 where something is not as it is to be."""
+    parser = Words(prog=NAME, description=ABOUT)
+    parser.add_argument("--calls", type=int, default=CALLS, metavar="N", help=f"calls of one run ({CALLS:,})")
+    parser.add_argument("--no-times", action="store_true", help="don't compare times, as on a busy machine")
+    options = parser.parse_args(words)
+    for command in ("gcc", "g++", "pkg-config", "valgrind"):
+        if shutil.which(command) is None:
+            raise ToolFault(FILES, f"the command {command} is not on the path (docs/TOOLS.md names the packages)")
+    for tool in BUILDS:
+        if subprocess.run([ROOT / "tools" / tool], stdout=subprocess.DEVNULL, check=False).returncode:
+            raise ToolFault(FILES, f"tools/{tool} failed")
+    with cache_folder() as values, tempfile.TemporaryDirectory() as work:
+        return run(Path(values), Path(work), options.calls, not options.no_times)
+
+
+def run(values: Path, work: Path, calls: int, timed: bool) -> int:
+    """Runs each test; tells which passed."""
+    drivers.check_header(work)
+    tell("header", "C99, C11 and C++, HarfBuzz's numbers and layouts")
+    tables, all_scripts = tables_file(values), scripts()
+    fonts = {script.font: font_value(values, script.font, 0) for script in all_scripts}
+    expected = {script.name: lines_of_program(tables, fonts[script.font], script.cases) for script in all_scripts}
+    wrong = 0
+    for driver in drivers.build(work):
+        found = 0
+        for script in all_scripts:
+            lines = driver.lines(tables, fonts[script.font], ROOM, script.cases)
+            found += len(script.cases)
+            wrong += tell_differences(driver.name, script, expected[script.name], lines)
+        tell(driver.name, f"{found} texts in {len(all_scripts)} scripts")
+    latin, *_ = all_scripts
+    some = [case.text for case in latin.cases if case.settings == SETTINGS[0] and case.text][:4]
+    tell("memory", drivers.count_calls(work, tables, fonts[latin.font], calls, some))
+    if timed:
+        wrong += tell_times(work, tables, fonts, all_scripts)
+    print(f"{NAME}: {f'{wrong} wrong' if wrong else 'passed'}")
+    return 1 if wrong else 0
+
+
+def lines_of_program(tables: Path, font: Path, cases: list[Case]) -> list[str]:
+    """The program's line for each case."""
+
+    def line(case: Case) -> str:
+        made = run_one(PROGRAM, tables, font, Text(case.text.encode(), case.text), [*SHOWN, *case.settings.words])
+        return made.fault if made.status else made.glyphs.rstrip("\n")
+
+    with ThreadPoolExecutor() as pool:
+        return list(pool.map(line, cases))
+
+
+def tell_differences(driver: str, script: Script, expected: list[str], found: list[str]) -> int:
+    """Tells the cases whose line differs; how many there are."""
+    if len(found) != len(expected):
+        raise ToolFault(FILES, f"{driver}: {len(found)} lines for the {len(expected)} texts of {script.name}")
+    differ = [row for row in zip(script.cases, expected, found, strict=True) if row[1] != row[2]]
+    for case, wanted, line in differ:
+        print(f"{driver}: {script.name}: {case.text!r} {case.settings.words}: {line} where the program has {wanted}")
+    return len(differ)
+
+
+def tell_times(work: Path, tables: Path, fonts: dict[Path, Path], all_scripts: list[Script]) -> int:
+    """Tells the times of a word of each script beside HarfBuzz's; how many cost too much."""
+    slow = 0
+    for script in all_scripts:
+        for word, own, other, same in drivers.times(work, tables, fonts[script.font], script.font, script.cases[0].text):
+            slow += own >= TIMES * other
+            what = "" if same else ", other glyphs"
+            tell("time", f"{script.name} {word}: {own:.2f} µs, HarfBuzz {other:.2f} µs ({own / other:.2f}){what}")
+    return slow
+
+
+def tell(what: str, how: str) -> None:
+    print(f"{NAME}: {time.strftime('%H:%M:%S')} {what}: {how}", flush=True)
+    sys.stdout.flush()

@@ -1,0 +1,103 @@
+"""The programs over the library, in C, Rust and Python."""
+
+import os
+import shutil
+import subprocess
+import sys
+from dataclasses import dataclass, field
+from pathlib import Path
+
+from building.library import archive, out_folder, shared
+from common.faults import DATA, ToolFault
+from library_tests.cases import Case
+from sources.crates import ROOT
+
+SOURCES = Path(__file__).parent / "c"
+INCLUDE = ROOT / "include"
+BINDINGS = ROOT / "bindings"
+WARNINGS = ("-Wall", "-Wextra", "-Werror")
+VALGRIND = ("valgrind", "-q", "--leak-check=full", "--show-leak-kinds=all", "--errors-for-leak-kinds=all", "--error-exitcode=9")
+WRAPPED = ("malloc", "realloc", "aligned_alloc", "free")
+
+
+@dataclass(frozen=True)
+class Driver:
+    """A program that prints the line of each case that it reads."""
+
+    name: str
+    command: list[str | Path]
+    environment: dict[str, str] = field(default_factory=dict)
+
+    def lines(self, tables: Path, font: Path, room: int, cases: list[Case]) -> list[str]:
+        words = [*self.command, tables, font, str(room)]
+        return call(words, "".join(case.line() for case in cases), self.environment).splitlines()
+
+
+def call(words: list[str | Path], given: str = "", environment: dict[str, str] | None = None) -> str:
+    """What a command prints; it has to succeed, and to print no error."""
+    ran = subprocess.run(
+        words,
+        input=given,
+        capture_output=True,
+        encoding="utf-8",
+        errors="replace",
+        check=False,
+        env={**os.environ, **(environment or {})},
+    )
+    if ran.returncode:
+        raise ToolFault(DATA, f"{Path(words[0]).name} {words[-1]}: status {ran.returncode}: {ran.stderr[-2000:]}")
+    return ran.stdout
+
+
+def check_header(work: Path) -> None:
+    """The header by itself in each language, and beside HarfBuzz's."""
+    alone = work / "alone.c"
+    alone.write_text('#include "kuspveli.h"\n', encoding="utf-8")
+    for words in (["gcc", "-std=c99"], ["gcc", "-std=c11"], ["g++", "-std=c++11", "-x", "c++"]):
+        call([*words, "-pedantic-errors", *WARNINGS, f"-I{INCLUDE}", "-fsyntax-only", alone])
+    call(["gcc", "-std=c11", *WARNINGS, f"-I{INCLUDE}", *harfbuzz("--cflags"), "-fsyntax-only", SOURCES / "layouts.c"])
+
+
+def harfbuzz(what: str) -> list[str]:
+    return call(["pkg-config", what, "harfbuzz"]).split()
+
+
+def build(work: Path) -> list[Driver]:
+    """The drivers of each language: C by the archive, under valgrind, and by the shared library."""
+    made = [
+        Driver("C, under valgrind", [*VALGRIND, compiled(work, "lines", [archive()])]),
+        Driver("C, shared", [compiled(work, "lines", [shared()])], {"LD_LIBRARY_PATH": str(out_folder())}),
+        Driver("Python", [sys.executable, SOURCES.parent / "lines.py"]),
+    ]
+    return made if shutil.which("cargo") is None else [*made, rust_driver(work)]
+
+
+def compiled(work: Path, name: str, given: list[str | Path]) -> Path:
+    """A driver in C."""
+    program = work / f"{name}{len(list(work.iterdir()))}"
+    call(["gcc", "-std=gnu11", "-O2", *WARNINGS, f"-I{INCLUDE}", "-o", program, SOURCES / f"{name}.c", *given])
+    return program
+
+
+def rust_driver(work: Path) -> Driver:
+    """The driver over the wrapper, which is built without any registry."""
+    words = ["cargo", "build", "--quiet", "--offline", "--release", "--examples", "--target-dir", work / "rust"]
+    call([*words, "--manifest-path", BINDINGS / "rust" / "Cargo.toml"])
+    return Driver("Rust", [work / "rust" / "release" / "examples" / "lines"])
+
+
+def count_calls(work: Path, tables: Path, font: Path, calls: int, words: list[str]) -> str:
+    """Calls on four threads, with the allocations counted."""
+    wraps = [f"-Wl,--wrap={name}" for name in WRAPPED]
+    program = compiled(work, "many", [archive(), "-pthread", *wraps])
+    return call([program, tables, font, str(calls), *words]).strip()
+
+
+def times(work: Path, tables: Path, font: Path, file: Path, word: str) -> list[tuple[str, float, float, bool]]:
+    """A word with the microseconds of a call and of HarfBuzz's, and whether the glyphs are the same."""
+    program = work / "beside"
+    if not program.exists():
+        flags = [*harfbuzz("--cflags"), SOURCES / "beside.c", archive(), *harfbuzz("--libs")]
+        call(["gcc", "-std=gnu11", "-O2", *WARNINGS, f"-I{INCLUDE}", "-o", program, *flags])
+    rows = [line.split(" ") for line in call([program, tables, font, file, word]).splitlines()]
+    return [(row[0], float(row[1]), float(row[2]), row[3] == "same") for row in rows]

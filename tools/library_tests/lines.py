@@ -1,0 +1,59 @@
+"""lines.py TABLES FONT ROOM < cases: the line of each case, from Python. The room is the wrapper's own."""
+
+import sys
+from pathlib import Path
+
+sys.path.insert(0, str(Path(__file__).parent.parent.parent / "bindings" / "python"))
+
+import kuspveli  # noqa: E402
+
+DIRECTIONS = {number: name for name, number in kuspveli.DIRECTIONS.items()}
+NO = "-"
+
+
+def main() -> None:
+    tables, json = (Path(name).read_bytes() for name in sys.argv[1:3])
+    font = kuspveli.Font(tables, json)
+    for line in sys.stdin:
+        try:
+            print(line_of(shaped(font, line.split())))
+        except kuspveli.Fault as fault:
+            print(fault)
+    font.close()
+
+
+def shaped(font: kuspveli.Font, words: list[str]) -> list[kuspveli.Glyph]:
+    direction, script, flags, level, language, features, text = words
+    return font.shape(
+        b"" if text == NO else bytes.fromhex(text),
+        features=[feature_of(part) for part in features.split(",") if part != NO],
+        direction=DIRECTIONS[int(direction)],
+        script=tag_text(int(script)),
+        language="" if language == NO else language,
+        flags=int(flags),
+        cluster_level=int(level),
+    )
+
+
+def feature_of(part: str) -> kuspveli.Feature:
+    tag, *numbers = (int(number) for number in part.split(":"))
+    return kuspveli.Feature(tag_text(tag), *numbers)
+
+
+def tag_text(number: int) -> str:
+    return number.to_bytes(4, "big").decode("ascii") if number else ""
+
+
+def line_of(glyphs: list[kuspveli.Glyph]) -> str:
+    return "|".join(map(glyph_text, glyphs))
+
+
+def glyph_text(glyph: kuspveli.Glyph) -> str:
+    offsets = f"@{glyph.x_offset},{glyph.y_offset}" if glyph.x_offset or glyph.y_offset else ""
+    downwards = f",{glyph.y_advance}" if glyph.y_advance else ""
+    flags = f"#{glyph.flags:x}" if glyph.flags else ""
+    return f"{glyph.number}={glyph.cluster}{offsets}+{glyph.x_advance}{downwards}{flags}"
+
+
+if __name__ == "__main__":
+    main()
