@@ -1,5 +1,5 @@
-//! The buffer that a refused text hands back, filled again. `tools/short_memory tests_pipeline refilled` refuses memory in
-//! each place of the first text; the second text is then shaped as if it were the first.
+//! The buffer that a refused text hands back, filled again. `tools/short_memory tests_pipeline refilled` refuses each
+//! allocation of the first text in turn; the second text is then shaped as if it were the first.
 use crate::data::{Tables, face_of, value};
 use buffer_common::constants::BufferFlags;
 use buffer_common::direction::Direction;
