@@ -97,11 +97,13 @@ run (void *of)
   return NULL;
 }
 
-/* Each allocation of a call is refused in turn: the call says so, leaves nothing, and shapes again. */
+/* Each allocation of a call is refused in turn: the call says so and gives no glyphs, or does without; then it shapes
+ * again. */
 static int
 refuse_each (kus_font_t *font)
 {
   static result_t made;
+  int told = 0;
   for (int at = 1;; at++) {
     kus_font_t other = KUS_FONT_INIT;
     if (kus_font_reference (font, &other) != KUS_OK) fail ("no reference", "");
@@ -109,9 +111,12 @@ refuse_each (kus_font_t *font)
     kus_status_t status = shape (&other, words[0], &made);
     int reached = !refused;
     refused = 0;
-    if (reached ? status != KUS_OUT_OF_MEMORY || made.count : status != KUS_OK) fail ("refused memory", kus_status_name (status));
+    if (status == KUS_OUT_OF_MEMORY ? !reached || made.count : status != KUS_OK || !same (&made, &first[0]))
+      fail ("refused memory", kus_status_name (status));
+    told += status == KUS_OUT_OF_MEMORY;
     if (shape (&other, words[0], &made) != KUS_OK || !same (&made, &first[0])) fail ("refused memory", "and then another result");
     kus_font_destroy (&other);
+    if (!reached && !told) fail ("refused memory", "and no call said so");
     if (!reached) return at - 1;
   }
 }
