@@ -43,7 +43,8 @@ class Measured:
         seconds = [answer.seconds for answer in self.answers]
         memory = [float(answer.memory) for answer in self.answers]
         found = ["time"] if is_square(seconds, LEAST_SECONDS) else []
-        return found + (["memory"] if is_square(memory, LEAST_MEMORY) else [])
+        # Less than that may be the tool's own memory.
+        return found + (["memory"] if memory[0] >= LEAST_MEMORY and is_square(memory, LEAST_MEMORY) else [])
 
 
 def is_square(values: list[float], least: float) -> bool:
