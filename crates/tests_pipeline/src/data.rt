@@ -9,11 +9,8 @@ use shell_face_json::read_face;
 use std::alloc::Global;
 use std::test::Fail;
 
-/// A machine of the universal shaper, to which rephas alone are a broken syllable.
 const TABLES: &str =
-    "{\"splits\":[[225,97,769]],\"pairs\":[[97,769,225]],\"classes\":[[769,230],[803,220]],\
-    \"universal\":[[72001,\"R\"]],\"syllables\":{\"universal\":{\"states\":2,\
-    \"next\":[[0,\"R\",1],[1,\"R\",1]],\"accept\":[[1,\"broken\"]]}}}";
+    "{\"splits\":[[225,97,769]],\"pairs\":[[97,769,225]],\"classes\":[[769,230],[803,220]]}";
 
 /// The tables that shaping depends on, beside a font.
 #[derive(Clone, Copy)]

@@ -25,9 +25,8 @@ use std::test::Fail;
 // Each row has the level, what is printed, the characters with their clusters, the font, and the line; and the shaper,
 // where it is not the stack's own. A ligature has the cluster of its first component, also where the numbers have gaps
 // and at level Characters. A mark composes with its letter, also across a mark of a lesser class; with a shaper
-// that prefers decomposed characters marks are only sorted by class. The circle that a pause inserts is substituted by
-// a later lookup, which can act on no glyph before. One character may become at most 16,384 glyphs, and the text's
-// buffer is returned empty.
+// that prefers decomposed characters marks are only sorted by class. One character may become at most 16,384 glyphs,
+// and the text's buffer is returned empty.
 const ROWS: &str =
     r#"graphemes;;97,0 102,1 105,2;{"upem":1000,"cmap":[[97,1],[102,3],[105,4]],"h":[[1,500],[3,300],[4,250],[7,520]],"gsub":{"scripts":[["DFLT",{"features":[0]},[]]],"features":[["liga",[0]]],"lookups":[{"type":"ligature","subtables":[[[3,[[[4],7]]]]]}]}};1=0+500|7=1+520
 characters;;102,10 105,40;{"upem":1000,"cmap":[[97,1],[102,3],[105,4]],"h":[[1,500],[3,300],[4,250],[7,520]],"gsub":{"scripts":[["DFLT",{"features":[0]},[]]],"features":[["liga",[0]]],"lookups":[{"type":"ligature","subtables":[[[3,[[[4],7]]]]]}]}};7=10+520
@@ -35,7 +34,6 @@ monotone;;;{};
 graphemes;;97,0 769,1;{"upem":1000,"cmap":[[97,1],[225,8],[769,9],[803,10]],"h":[[1,500],[8,510]]};8=0+510
 graphemes;glyphs;97,0 769,1 803,2;{"upem":1000,"cmap":[[97,1],[225,8],[769,9],[803,10]],"h":[[1,500],[8,510]]};8|10
 graphemes;glyphs;97,0 769,1 803,2;{"upem":1000,"cmap":[[97,1],[225,8],[769,9],[803,10]],"h":[[1,500],[8,510]]};1|10|9;decomposing
-characters;glyphs;72001,0 72001,1;{"cmap":[[9676,10],[72001,5]],"gsub":{"scripts":[["DFLT",{"features":[0]},[]]],"features":[["psts",[0]]],"lookups":[{"type":"single","subtables":[[[10,11]]]}]}};5|11|5
 graphemes;;97,0;{"cmap":[[97,1]],"gsub":{"scripts":[["DFLT",{"features":[0]},[]]],"features":[["ccmp",[0,1,2,3]]],"lookups":[{"type":"multiple","subtables":[[[1,[1,1,1,1,1,1,1,1,1,1,1,1]]]]},{"type":"multiple","subtables":[[[1,[1,1,1,1,1,1,1,1,1,1,1,1]]]]},{"type":"multiple","subtables":[[[1,[1,1,1,1,1,1,1,1,1,1,1,1]]]]},{"type":"multiple","subtables":[[[1,[1,1,1,1,1,1,1,1,1,1,1,1]]]]}]}};S2 TooLong 0"#;
 
 /// The printed glyphs, or why there are none, with the number of characters that are left.
