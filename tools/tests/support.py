@@ -1,12 +1,14 @@
 """Where the tools and the fonts are, and running a tool."""
 
+import contextlib
+import io
 import json
 import os
 import subprocess
 import sys
 import tempfile
 from pathlib import Path
-from typing import Any
+from typing import Any, Callable
 
 TOOLS = Path(__file__).parent.parent
 BENCH = TOOLS.parent / "bench"
@@ -39,3 +41,18 @@ def write_files(root: Path, files: dict[str, str]) -> None:
         path = root / name
         path.parent.mkdir(parents=True, exist_ok=True)
         path.write_text(text, encoding="utf-8")
+
+
+def write_stand_in(path: Path, body: str) -> str:
+    """Writes a shell script that stands in for the program; its path."""
+    path.write_text(f"#!/bin/sh\n{body}\n", encoding="utf-8")
+    path.chmod(0o755)
+    return str(path)
+
+
+def told_by(main: Callable[[list[str]], int], *words: str) -> tuple[int, str]:
+    """A tool's status and what it prints."""
+    out = io.StringIO()
+    with contextlib.redirect_stdout(out):
+        status = main(list(words))
+    return status, out.getvalue()

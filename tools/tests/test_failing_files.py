@@ -1,14 +1,12 @@
 """Failing files, over stand-ins for the program: one that answers as the program has to, and some that don't."""
 
-import contextlib
-import io
 import subprocess
 import tempfile
 import unittest
 from pathlib import Path
 from unittest import mock
 
-from support import TOOLS  # noqa: F401  (it puts the tools on the path)
+from support import told_by
 
 from common.faults import ToolFault
 from streams import cli
@@ -91,10 +89,7 @@ class FailingFiles(unittest.TestCase):
 
     def said(self, *words: str) -> tuple[int, str]:
         """The tool's status and what it prints of the stand-in that is there."""
-        out = io.StringIO()
-        with contextlib.redirect_stdout(out):
-            status = cli.main([f"--program={self.folder / 'program'}", *words])
-        return status, out.getvalue()
+        return told_by(cli.main, f"--program={self.folder / 'program'}", *words)
 
     def compile(self, memory: str) -> None:
         """Makes the stand-in in C, which does so where it is refused memory."""

@@ -1,14 +1,12 @@
 """The fuzzer's cases, and what it says of stand-ins for the program."""
 
-import contextlib
-import io
 import json
 import tempfile
 import unittest
 from pathlib import Path
 from random import Random
 
-from support import TOOLS  # noqa: F401  (it puts the tools on the path)
+from support import told_by, write_stand_in
 
 from common.faults import ToolFault
 from formats.rules import font_faults, tables_faults
@@ -132,17 +130,11 @@ class Run(unittest.TestCase):
         self.folder = Path(self.enterContext(tempfile.TemporaryDirectory()))
 
     def stand_in(self, name: str, body: str) -> str:
-        path = self.folder / name
-        path.write_text(f"#!/bin/sh\n{body}\n", encoding="utf-8")
-        path.chmod(0o755)
-        return str(path)
+        return write_stand_in(self.folder / name, body)
 
     def told(self, *words: str) -> tuple[int, str]:
         """The tool's status and what it prints."""
-        out = io.StringIO()
-        with contextlib.redirect_stdout(out):
-            status = cli.main([*words, f"--keep={self.folder / 'kept'}"])
-        return status, out.getvalue()
+        return told_by(cli.main, *words, f"--keep={self.folder / 'kept'}")
 
     def test_finds_what_is_not_right(self) -> None:
         """Each stand-in is found, and its smallest case is kept and gives the finding again."""

@@ -1,13 +1,11 @@
 """The hostile files, what grows like a square, and what is said of stand-ins for the program."""
 
-import contextlib
-import io
 import json
 import tempfile
 import unittest
 from pathlib import Path
 
-from support import TOOLS  # noqa: F401  (it puts the tools on the path)
+from support import told_by, write_stand_in
 
 from attacks import cli
 from attacks.attack import Attack, Files, font, lookup, table
@@ -22,17 +20,11 @@ class Hostile(unittest.TestCase):
         self.folder = Path(self.enterContext(tempfile.TemporaryDirectory()))
 
     def stand_in(self, body: str) -> str:
-        path = self.folder / "program"
-        path.write_text(f"#!/bin/sh\n{body}\n", encoding="utf-8")
-        path.chmod(0o755)
-        return str(path)
+        return write_stand_in(self.folder / "program", body)
 
     def told(self, *words: str) -> tuple[int, str]:
         """The tool's status and what it prints."""
-        out = io.StringIO()
-        with contextlib.redirect_stdout(out):
-            status = cli.main(list(words))
-        return status, out.getvalue()
+        return told_by(cli.main, *words)
 
     def test_files_follow_the_format(self) -> None:
         """Where a shape is the right answer, tables and font have no fault by the rules of the formats."""
