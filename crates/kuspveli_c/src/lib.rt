@@ -7,3 +7,5 @@ pub mod font;
 pub mod handle;
 pub mod plan;
 pub mod pointer;
+#[cfg(test)]
+mod tests;
