@@ -27,6 +27,7 @@ runs is refused, alone and with all that follow: the answer has to be want of me
 an answer is another one. Reads, writes and allocations fail by functions in C that stand before those of the C library;
 where no C compiler is there, these are left out."""
 READ, WRITE = b"hb_shape: Read\n", b"hb_shape: Write\n"
+NO_TEXT = b"\xff"
 MEMORY = [Ended(5, b"", f"hb_shape: {fault}\n".encode()) for fault in ("OutOfMemory", "S1 OutOfMemory")]
 ERRORS = (errno.EIO, errno.EINTR, errno.EAGAIN, errno.EBADF)
 
@@ -86,7 +87,16 @@ def main(given: list[str]) -> int:
     return 1 if trial.wrong else 0
 
 
-# ---- files that are not there, no files, cut, or in pieces
+# ---- words, files that are not there, no files, cut, or in pieces
+
+
+def no_text(trial: Trial) -> None:
+    """Each word in turn has a byte that is no UTF-8."""
+    trial.write(row())
+    right = trial.words()
+    for at in range(1, len(right)):
+        given = [*right[:at], f"{right[at]}{os.fsdecode(NO_TEXT)}", *right[at + 1 :]]
+        trial.expect_fault("a word that is no UTF-8", f"word {at}", system.run(given), 2, b"hb_shape: words\n")
 
 
 def unopened(trial: Trial) -> None:
@@ -216,6 +226,7 @@ def with_shim(group: Callable[[Trial], None]) -> Callable[[Trial], None]:
 
 
 GROUPS: dict[str, Callable[[Trial], None]] = {
+    "words": no_text,
     "unopened": unopened,
     "cut": cut,
     "pieces": pieces,

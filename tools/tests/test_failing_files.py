@@ -20,6 +20,10 @@ def end(status, word):
     os.write(2, b"hb_shape: " + word + b"\\n")
     os._exit(status)
 try:
+    "".join(sys.argv).encode()
+except UnicodeError:
+    end(2, b"words")
+try:
     parts = [open(name, "rb").read() for name in sys.argv[-3:]]
 except OSError:
     end(6, b"Read")
@@ -109,14 +113,17 @@ class FailingFiles(unittest.TestCase):
         self.assertEqual(self.said("--only=allocations")[0], 1)
 
     def test_a_right_program(self) -> None:
-        """Files that are missing, cut or in pieces, and outputs that are full or closed."""
-        for group in ("unopened", "cut", "pieces", "outputs"):
+        """Words that are no text, files that are missing, cut or in pieces, and outputs that are full or closed."""
+        for group in ("words", "unopened", "cut", "pieces", "outputs"):
             status, told = self.told(RIGHT, f"--only={group}")
             self.assertEqual(status, 0, told)
             self.assertIn(" 0 with an answer that is not right", told)
 
     def test_wrong_programs(self) -> None:
-        """One that writes before it refuses, one that takes a part for the whole, one that stops at a short write."""
+        """One that takes each word, one that writes before it refuses, one that takes a part for the whole, one that
+        stops at a short write."""
+        each = RIGHT.replace("    end(2,", "    end(6,")
+        self.assertEqual(self.told(each, "--only=words")[0], 1)
         early = RIGHT.replace("    end(3,", "    os.write(1, b'1')\n    end(3,")
         self.assertEqual(self.told(early, "--only=cut")[0], 1)
         parts = RIGHT.replace('open(name, "rb").read()', "os.read(os.open(name, os.O_RDONLY), 4096)")
