@@ -119,6 +119,9 @@ def font_faults(font: dict[str, Any]) -> Faults:
 
 def table_faults(where: str, table: dict[str, Any], set_count: int) -> Faults:
     features, lookups = table.get("features", []), table.get("lookups", [])
+    if not isinstance(lookups, list):
+        yield f"{where} lookups: no list"
+        return
     yield from rows(f"{where} features", features, row_of(tag, list_of(below(len(lookups)))), None)
     yield from rows(f"{where} scripts", table.get("scripts", []), row_of(tag, always, always), first)
     for script, default, systems in table.get("scripts", []):
@@ -136,7 +139,11 @@ def always(cell: Any) -> bool:
 
 
 def system_faults(where: str, system: dict[str, Any], count: int) -> Faults:
-    indices = [*system.get("features", []), *([system["required"]] if "required" in system else [])]
+    features = system.get("features", [])
+    if not isinstance(features, list):
+        yield f"{where} features: no list"
+        return
+    indices = [*features, *([system["required"]] if "required" in system else [])]
     if not list_of(below(count))(indices):
         yield f"{where}: index of a feature that is not there"
 
@@ -150,7 +157,11 @@ def lookup_faults(where: str, table: str, lookup: dict[str, Any], set_count: int
     if lookup.get("type") not in checks:
         yield f"{where}: type {lookup.get('type')!r}"
         return
-    for place, subtable in enumerate(lookup.get("subtables", [])):
+    subtables = lookup.get("subtables", [])
+    if not isinstance(subtables, list):
+        yield f"{where} subtables: no list"
+        return
+    for place, subtable in enumerate(subtables):
         yield from checks[lookup["type"]](f"{where} subtable {place}", subtable, count)
 
 

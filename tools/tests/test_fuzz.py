@@ -45,6 +45,13 @@ class Drawn(unittest.TestCase):
             self.assertEqual(list(tables_faults(tables)), [])
             self.assertEqual(list(font_faults(json.loads(as_json(font)))), [])
 
+    def test_lists_are_lists(self) -> None:
+        """An empty text or object where a list is wanted is a fault."""
+        for wrong in ("", {}):
+            system = {"scripts": [["DFLT", {"features": wrong}, []]]}
+            for table in (system, {"lookups": wrong}, {"lookups": [{"type": "single", "subtables": wrong}]}):
+                self.assertEqual(len(list(font_faults({"gsub": table}))), 1, table)
+
     def test_every_kind_of_lookup_is_drawn(self) -> None:
         """Among a few fonts there is each type of each table."""
         kinds = set()
