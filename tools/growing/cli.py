@@ -1,17 +1,24 @@
 """The command line of growing_calls."""
 
 import re
+import tempfile
 from collections import defaultdict
 from pathlib import Path
 
+from common.faults import FILES, ToolFault
 from common.parsing import Words
 from growing.code import Function, all_functions, faults_of_memory
+from growing.refused import Trials, shown
+from refusing.programs import Refusing
 from sources.crates import ROOT, all_needs, read_crates
 
 NAME = "growing_calls"
 ABOUT = """Lists the public calls that may ask for memory: those that take an allocator, and those whose error may be
 want of memory. Beside each stand the tests from which it is reached, by the names that functions call: how many, and one
-of them. tools/short_memory runs the tests of a crate with each allocation refused in turn."""
+of them. With --refuse it runs these tests, as the gate built them, with each of their allocations refused in turn."""
+
+# So many allocations of one test are refused, each in two runs.
+MOST = 10_000
 
 
 def is_growing(function: Function, faults: set[str]) -> bool:
@@ -76,17 +83,42 @@ def main(words: list[str]) -> int:
     parser = Words(prog=NAME, description=ABOUT)
     parser.add_argument("--check", action="store_true", help="print the calls that no test reaches; the status is 1 for one")
     parser.add_argument("--crate", metavar="NAME", help="the calls of one crate")
+    parser.add_argument("--refuse", action="store_true", help="run the tests; the status is 1 for a wrong answer")
+    built = "the crates in whose out/ the tests' programs stand (those of this repository)"
+    parser.add_argument("--built", type=Path, default=ROOT / "crates", metavar="FOLDER", help=built)
+    most = f"leave out tests that ask for memory more often ({MOST:,})"
+    parser.add_argument("--most", type=int, default=MOST, metavar="N", help=most)
     options = parser.parse_args(words)
     functions = all_functions()
     faults = faults_of_memory()
     reach = Reach(functions)
     growing = [each for each in functions if is_growing(each, faults) and not each.crate.startswith("tests_")]
     unreached = [each for each in growing if not reach.tests[each]]
+    if options.refuse:
+        chosen = [each for each in growing if options.crate in (None, each.crate)]
+        with tempfile.TemporaryDirectory() as folder:
+            return refuse(chosen, reach, Trials(options.built, Refusing(Path(folder)), options.most))
     for function in unreached if options.check else growing:
         if options.crate in (None, function.crate):
             print(line(function, reach.tests[function]))
     print(f"{len(growing)} growing calls, {len(unreached)} that no test reaches")
     return 1 if options.check and unreached else 0
+
+
+def refuse(growing: list[Function], reach: Reach, trials: Trials) -> int:
+    """Runs the tests of each call with their allocations refused; the status is 1 where an answer is wrong."""
+    if not trials.programs:
+        raise ToolFault(FILES, "no tests are built there: rt ci and rt test build them")
+    unasked = 0
+    for function in growing:
+        ends = trials.of_tests(reach.tests[function])
+        unasked += not ends
+        print(f"{function.shown()}: {shown(ends) if ends else 'no test that asks for memory'}", flush=True)
+    wrong = list(trials.wrong())
+    for told in [*wrong, *(f"left out: {test}" for test in trials.left_out())]:
+        print(told)
+    print(f"{shown(trials.all_ends())}; {len(growing)} growing calls, {unasked} of them in no test")
+    return 1 if wrong or unasked else 0
 
 
 def line(function: Function, tests: list[Function]) -> str:

@@ -2,6 +2,7 @@
 
 import contextlib
 import io
+import subprocess
 import tempfile
 import unittest
 from pathlib import Path
@@ -9,9 +10,11 @@ from unittest import mock
 
 from support import write_files
 
+from common.faults import ToolFault
 from growing import cli
 from growing.code import all_functions, blanked, faults_of_memory, functions_in
 from sources import crates
+from streams.shim import compiler
 
 FILES = {
     "crates.txt": "low:\nhigh: low\ntests_high: high low\n",
@@ -50,6 +53,25 @@ fn reads(rt: HostRuntime) -> Result<(), Fail> { read(rt.alloc())?; high::own; Ok
 """,
 }
 
+# The tests of tests_high as a program: one asks for memory twice, and does without the first.
+BUILT = r"""
+#include <stdio.h>
+#include <stdlib.h>
+#include <string.h>
+int main(int count, char **words) {
+    if (count > 1 && strcmp(words[1], "--list") == 0) {
+        puts("reads: test\ntests: 1");
+        return 0;
+    }
+    void *volatile first = malloc(10), *volatile second = realloc(0, 20);
+    free(first);
+    if (second)
+        return 0;
+    fputs("ERROR\n", stderr);
+    return 101;
+}
+"""
+
 
 class GrowingCalls(unittest.TestCase):
     def setUp(self) -> None:
@@ -80,8 +102,8 @@ class GrowingCalls(unittest.TestCase):
         reached = [each.name for each in functions if reach.tests[each]]
         self.assertEqual(reached, ["push", "made", "read", "own"])
 
-    def test_check(self) -> None:
-        """A call that no test reaches is told, and the status is 1."""
+    def told(self, *words: str) -> tuple[int, str]:
+        """The tool's status and what it prints of the repository."""
         functions = all_functions(self.root)
         out = io.StringIO()
         with (
@@ -90,9 +112,42 @@ class GrowingCalls(unittest.TestCase):
             mock.patch.object(cli, "read_crates", lambda root: crates.read_crates(self.root)),
             contextlib.redirect_stdout(out),
         ):
-            self.assertEqual(cli.main(["--check"]), 1)
+            return cli.main(list(words)), out.getvalue()
+
+    def test_check(self) -> None:
+        """A call that no test reaches is told, and the status is 1."""
         want = "high: unread (crates/high/src/lib.rt): no test\n4 growing calls, 1 that no test reaches\n"
-        self.assertEqual(out.getvalue(), want)
+        self.assertEqual(self.told("--check"), (1, want))
+
+    def build(self, error: str) -> None:
+        """Makes the tests' program, whose test ends so where it is refused memory."""
+        folder = self.root / "crates" / "tests_high" / "out"
+        folder.mkdir(exist_ok=True)
+        (folder / "tests.c").write_text(BUILT.replace("ERROR", error), encoding="utf-8")
+        words = [compiler() or "cc", "-w", "-o", folder / "tests_high_tests", folder / "tests.c"]
+        subprocess.run(words, check=True)
+
+    @unittest.skipIf(compiler() is None, "no C compiler is there")
+    def test_refuse(self) -> None:
+        """Each allocation is refused, alone and with what follows; other ends than want of memory are told."""
+        built = f"--built={self.root / 'crates'}"
+        self.build("error: AllocError")
+        status, told = self.told("--refuse", "--crate=low", built)
+        ends = "1 tests, 2 allocations: 3 want of memory, 1 as with all memory"
+        want = f"low: List::push: {ends}\nlow: made: {ends}\n{ends}; 2 growing calls, 0 of them in no test\n"
+        self.assertEqual((status, told), (0, want))
+        self.build("assertion failed")
+        status, told = self.told("--refuse", "--crate=low", built)
+        self.assertEqual(status, 1)
+        self.assertIn("tests_high reads: 3 of 4 otherwise, as status 101: assertion failed\n", told)
+        status, told = self.told("--refuse", built, "--most=1")
+        self.assertEqual(status, 1)
+        self.assertIn("high: unread: no test that asks for memory\nleft out: tests_high reads\n", told)
+
+    def test_nothing_built(self) -> None:
+        """Without the tests' programs nothing is run."""
+        with self.assertRaises(ToolFault):
+            self.told("--refuse", f"--built={self.root / 'crates'}")
 
 
 if __name__ == "__main__":
