@@ -22,7 +22,7 @@ from streams.system import Ended
 NAME = "failing_files"
 ABOUT = """Runs the program on a text whose line is known, with each file cut at each byte, given in two pieces at each
 byte, missing, a folder, or failing at each read; and with its output closed, full or short at each byte. The answer has
-to be the line or the documented fault, and a refusal writes nothing but a front of the line. Each allocation of twelve
+to be the line or the documented fault, and a refusal writes nothing but a front of the line. Each allocation of sixteen
 runs is refused, alone and with all that follow: the answer has to be want of memory, or the line. The status is 1 where
 an answer is another one. Reads, writes and allocations fail by functions in C that stand before those of the C library;
 where no C compiler is there, these are left out."""

@@ -94,9 +94,19 @@ def made(name: str, tables: Value, font: Value, text: str, line: str, *options: 
     return Row(name, as_json(tables), as_json(font), text.encode(), f"{line}\n".encode(), (NUMBERS, *options))
 
 
+def letter(number: int) -> Value:
+    """A font with one letter."""
+    return {"upem": 1000, "cmap": [[number, 1]], "h": [[1, 500]]}
+
+
 def many(count: int) -> str:
     """The line of a text of letters a."""
     return "|".join(f"1={at}+500" for at in range(count))
+
+
+def features(count: int) -> str:
+    """An option that requests so many features that no font here has."""
+    return "--features=" + ",".join(f"ss{number:02}" for number in range(1, count + 1))
 
 
 def rows() -> list[Row]:
@@ -115,6 +125,11 @@ def rows() -> list[Row]:
         made("a syllable", BALINESE, bali, "\u1b06\u1b36", "1=0+500|2=0+200|3=0@-100,0+0"),
         made("a split", TABLES, ACUTE, "\u00e1", "1=0+500|9=0@-200,0+0"),
         made("a Hangul syllable", {}, hangul, "\u1100\u1161", "19=0+900"),
+        # With so many features the list of requests grows where the shaper adds its own, or in those of the user.
+        made("a Hangul syllable, three features", {}, hangul, "\u1100\u1161", "19=0+900", features(3)),
+        made("a Hangul syllable, four features", {}, hangul, "\u1100\u1161", "19=0+900", features(4)),
+        made("a Khmer letter, 26 features", {}, letter(0x1780), "\u1780", "1=0+500", features(26)),
+        made("a Devanagari letter, 19 features", {}, letter(0x915), "\u0915", "1=0+500", features(19)),
         too_long,
         made("a context that calls itself", {}, {**A, "gsub": table("calt", lookup("context", SELF))}, "a", "1=0+500"),
         made("a mark", TABLES, {**ACUTE, "gpos": table("mark", lookup("markbase", MARKS))}, "a\u0301", MARK_LINE),
