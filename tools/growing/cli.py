@@ -61,21 +61,27 @@ class Reach:
             called
             for before, name in function.names
             for called in self.by_name.get(name, ())
-            if called.crate in self.seen[crate] and not called.is_test and is_meant(function, before, called)
+            if called.crate in self.seen[crate] and not called.is_test and self.is_meant(function, before, called)
         ]
 
+    def is_meant(self, function: Function, before: str, called: Function) -> bool:
+        """Whether a name in a body, with what stands before it, may be a function.
 
-def is_meant(function: Function, before: str, called: Function) -> bool:
-    """Whether a name in a body, with what stands before it, may be a function.
+        A method is called by a point, by its type or by a type parameter, also where its crate is above, by a trait;
+        another function by its name alone where it is of the same file or imported, or by its module.
+        """
+        if called.owner:
+            own = before == "Self" and function.owner == called.owner
+            return before in (".", called.owner) or own or len(before) == 1
+        if before == "":
+            return function.path == called.path or self.is_imported(function, called)
+        return before in (called.path.split("/")[-1].removesuffix(".rt"), called.crate)
 
-    A method is called by a point, by its type or by a type parameter, also where its crate is above, by a trait; another
-    function by its name alone where it is of the same file or imported, or by its module.
-    """
-    if called.owner:
-        return before in (".", called.owner) or (before == "Self" and function.owner == called.owner) or len(before) == 1
-    if before == "":
-        return function.path == called.path or called.name in function.used
-    return before in (called.path.split("/")[-1].removesuffix(".rt"), called.crate)
+    def is_imported(self, function: Function, called: Function) -> bool:
+        """Whether a file imports a function: from its crate, or from one that has none of this name and passes it on."""
+        sources = [source for source, name in function.used if name == called.name]
+        own = {each.crate for each in self.by_name[called.name] if not each.owner}
+        return any(source == called.crate or source not in own for source in sources)
 
 
 def main(words: list[str]) -> int:

@@ -22,7 +22,8 @@ OPENING, CLOSING = "([{", ")]}"
 
 @dataclass(frozen=True)
 class Function:
-    """A function with the crate and the file that it stands in, and the names in its body with what stands before them."""
+    """A function with the crate and the file that it stands in, the names in its body with what stands before them, and
+    the names that its file imports, each with the crate that it is imported from."""
 
     crate: str
     path: str
@@ -33,7 +34,7 @@ class Function:
     parameters: str
     answer: str
     names: frozenset[tuple[str, str]] = field(repr=False)
-    used: frozenset[str] = field(repr=False)
+    used: frozenset[tuple[str, str]] = field(repr=False)
 
     def shown(self) -> str:
         return f"{self.crate}: {self.owner}::{self.name}" if self.owner else f"{self.crate}: {self.name}"
@@ -76,7 +77,7 @@ def functions_in(crate: str, path: Path, root: Path = ROOT) -> Iterator[Function
     """The functions of a file."""
     text = blanked(path.read_text(encoding="utf-8"))
     owners = list(owners_of(text))
-    used = frozenset(name for line in USED.findall(text) for name in NAME.findall(line))
+    used = frozenset(pair for line in USED.findall(text) for pair in imported(crate, NAME.findall(line)))
     for found in FUNCTION.finditer(text):
         start = after_generics(text, found.end())
         if text[start : start + 1] != "(":
@@ -97,6 +98,12 @@ def functions_in(crate: str, path: Path, root: Path = ROOT) -> Iterator[Function
             frozenset(names_in(body)),
             used,
         )
+
+
+def imported(crate: str, names: list[str]) -> Iterator[tuple[str, str]]:
+    """The names of an import, each with the crate that the import begins with."""
+    source = crate if names and names[0] in ("crate", "self", "super") else "".join(names[:1])
+    return ((source, name) for name in names[1:])
 
 
 def names_in(body: str) -> Iterator[tuple[str, str]]:
