@@ -69,7 +69,10 @@ class Refusing:
     def refused(self, program: Path, test: str, number: int, on: int) -> str:
         """How a test ends with one of its allocations refused, or with this and all that follow."""
         with self.shim() as shim:
-            answer = answer_of(program, test, shim.environment(malloc=number, on=on))
+            try:
+                answer = answer_of(program, test, shim.environment(malloc=number, on=on))
+            except subprocess.TimeoutExpired:
+                return "no end"
             if not shim.was_met():
                 raise ToolFault(DATA, f"{program.name} {test} did not ask for memory {number} times as before")
             return answer
