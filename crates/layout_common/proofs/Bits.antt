@@ -2,15 +2,15 @@
 use mathlib.Core.Bool.{false≢true}
 use Rattle.std.specs.Int.{bit_at}
 use Rattle.std.specs.List.{list_any}
-use Rattle.std.proofs.Common.{ℕ, zero, suc, ◌≡◌, ◌≢◌, ◌==◌, ◌||◌, ◌<◌, ◌≤◌, ◌^◌, ◌%◌, ◌/◌, ◌*◌, ◌+◌, ◌-◌, not, Bool, true, false, List, [], ◌∷◌, length, take, get_or, inl, inr, bit_and, bit_or, max, min, refl, sym, ap, ◌∙◌, arith, add-one}
+use Rattle.std.proofs.Common.{ℕ, zero, suc, ◌≡◌, ◌≢◌, ◌==◌, ◌||◌, ◌<◌, ◌≤◌, ◌^◌, ◌%◌, ◌/◌, ◌*◌, ◌+◌, ◌-◌, not, Bool, true, false, List, [], ◌∷◌, ◌++◌, length, take, get_or, inl, inr, bit_and, bit_or, max, min, refl, sym, ap, subst, ◌∙◌, arith, add-one}
 use Rattle.std.proofs.lemmas.Bool.Decides.{nat_tests}
 use Rattle.std.proofs.lemmas.Nat.Bits.{bit_at_or, bit_at_and, bit_at-pow_same, bit_at-pow_other, bit_at-zero, bit_at-lt, bit_at_ones}
 use Rattle.std.proofs.lemmas.Bool.{cases_lt}
-use Rattle.std.proofs.lemmas.List.Folds.{list_any_more}
+use Rattle.std.proofs.lemmas.List.Folds.{list_any_more, list_any-append}
 use Rattle.std.proofs.lemmas.Nat.{and_mask, le-div, pow_below, pow_pos}
-use Rattle.std.proofs.Math.Nat.{div-eq_of_lt, div-mul-le_self, mod-eq_of_lt}
+use Rattle.std.proofs.Math.Nat.{div-eq_of_eq-mul_left, div-eq_of_lt, div-mul-le_self, lt-div-mul-add, mod-eq_of_lt, mul-le-mul_right}
 use Rattle.std.proofs.Math.Pow.{pow_mono}
-use Rattle.layout_common.specs.Buckets.{bucket, has_bucket, is_bucket_from, is_bucket_of, may_have_glyph}
+use Rattle.layout_common.specs.Buckets.{IsMaskOf, bucket, has_bucket, is_bucket_from, is_bucket_of, may_have_glyph, numbers_from}
 use Rattle.layout_common.specs.Coverage.{is_covered}
 
 -- ---- tests
@@ -235,3 +235,79 @@ not_other m n e = grind (arith, nat_tests, e)
 -- the mask of all buckets may have each glyph
 pub full_has : (m s g : ℕ) → not (m == 2 ^ 64 - 1) ≡ false → may_have_glyph s m g ≡ true
 full_has m s g e = ap (λ k. has_bucket k (bucket s g)) (not_other m (2 ^ 64 - 1) e) ∙ full_mask (bucket s g) (bucket_small s g)
+
+-- ---- the glyphs that were added
+
+-- more glyphs were added
+pub more_added : (s old new : ℕ) (others glyphs : List ℕ) → Adds (is_bucket_of s glyphs) old new → IsMaskOf s old others → IsMaskOf s new (others ++ glyphs)
+more_added s old new others glyphs adds is b =
+    adds b ∙ ap (λ t. t || is_bucket_of s glyphs b) (is b) ∙ sym (list_any-append (λ g. b == bucket s g) others glyphs)
+
+pub one_added : (s old new glyph : ℕ) (glyphs : List ℕ) → Adds (λ b. b == bucket s glyph) old new → IsMaskOf s old glyphs → IsMaskOf s new (glyphs ++ glyph ∷ [])
+one_added s old new glyph glyphs adds is =
+    more_added s old new glyphs (glyph ∷ []) (λ b. adds b ∙ ap (λ t. has_bucket old b || t) (sym (or_false (b == bucket s glyph)))) is
+
+-- ---- a range has the buckets of its glyphs
+
+-- two tests of which each passes where the other does
+pub same_truth : (a b : Bool) → (a ≡ true → b ≡ true) → (b ≡ true → a ≡ true) → a ≡ b
+same_truth true b forth back = sym (forth refl)
+same_truth false true forth back = back refl
+same_truth false false forth back = refl
+
+either_true : (a b : Bool) {P : Type 0} → (a || b) ≡ true → (a ≡ true → P) → (b ≡ true → P) → P
+either_true true b e first second = first refl
+either_true false b e first second = second e
+
+-- one of the numbers from one on passes a test
+pub number_there : (p : ℕ → Bool) (first n k : ℕ) → first ≤ k → k < first + n → p k ≡ true → list_any p (numbers_from first n) ≡ true
+number_there p first zero k low high e = absurd (omega (arith, low, high))
+number_there p first (suc n) k low high e = list_any-append p (numbers_from first n) ((first + n) ∷ []) ∙ elim (cases_lt k (first + n)) [
+  | inl lt ↦ or_first (list_any p (numbers_from first n)) (p (first + n) || false) (number_there p first n k low lt e)
+  | inr ge ↦ let last : first + n ≡ k = omega (arith, ge, high) in
+      or_second (list_any p (numbers_from first n)) (p (first + n) || false) (or_first (p (first + n)) false (ap p last ∙ e))
+]
+
+number_found : (p : ℕ → Bool) (first n : ℕ) → list_any p (numbers_from first n) ≡ true → (k : ℕ) × (first ≤ k) × (k < first + n) × (p k ≡ true)
+number_found p first zero e = absurd (false≢true e)
+number_found p first (suc n) e = either_true (list_any p (numbers_from first n)) (p (first + n) || false) (sym (list_any-append p (numbers_from first n) ((first + n) ∷ [])) ∙ e)
+    (λ before. let k = number_found p first n before in let less = k.2 in (k.0, k.1, omega (arith, less), k.3))
+    (λ last. (first + n, omega arith, omega arith, sym (or_false (p (first + n))) ∙ last))
+
+group_found : (first n b : ℕ) → is_bucket_from first n b ≡ true → (k : ℕ) × (k < n) × (b ≡ (first + k) % 64)
+group_found first zero b e = absurd (false≢true e)
+group_found first (suc n) b e = either_true (is_bucket_from first n b) (b == (first + n) % 64) e
+    (λ before. let k = group_found first n b before in let less = k.1 in (k.0, omega (arith, less), k.2))
+    (λ last. (n, omega arith, equal b ((first + n) % 64) last))
+
+-- a group between those of two numbers is that of a number between them
+in_group : (a c d m : ℕ) → 0 < d → a ≤ c → a / d ≤ m → m ≤ c / d → (g : ℕ) × (a ≤ g) × (g ≤ c) × (g / d ≡ m)
+in_group a c d m pos le low high = elim (cases_lt (a / d) m) [
+  | inl lt ↦ let up : (a / d + 1) * d ≤ m * d = mul-le-mul_right d (omega (arith, lt)) in
+      let past : a < a / d * d + d = lt-div-mul-add pos in
+      let one : (a / d + 1) * d ≡ a / d * d + d = omega arith in
+      let below : m * d ≤ c / d * d = mul-le-mul_right d high in
+      let self : c / d * d ≤ c = div-mul-le_self c d in
+      (m * d, le_of a (a / d * d + d) (m * d) (omega (arith, past)) (subst (λ n. n ≤ m * d) one up), le_of (m * d) (c / d * d) c below self, div-eq_of_eq-mul_left pos refl)
+  | inr ge ↦ (a, omega arith, le, omega (arith, low, ge))
+]
+
+pub range_buckets : (s a c b : ℕ) → a ≤ c → is_bucket_from (a / 2 ^ s) (c / 2 ^ s + 1 - a / 2 ^ s) b ≡ is_bucket_of s (numbers_from a (c + 1 - a)) b
+range_buckets s a c b le =
+    let d : ℕ = 2 ^ s in
+    let n : ℕ = c / d + 1 - a / d in
+    let rises : a / d ≤ c / d = div_rises a c d (pow_pos s) le in
+    same_truth (is_bucket_from (a / d) n b) (is_bucket_of s (numbers_from a (c + 1 - a)) b)
+    (λ there.
+    let k = group_found (a / d) n b there in
+    let less = k.1 in
+    let g = in_group a c d (a / d + k.0) (pow_pos s) le (omega arith) (omega (arith, less, rises)) in
+    number_there (λ h. b == bucket s h) a (c + 1 - a) g.0 g.1 (let high = g.2 in omega (arith, high, le)) (same_as b (bucket s g.0) (k.2 ∙ ap (λ m. m % 64) (sym g.3))))
+    (λ there.
+    let g = number_found (λ h. b == bucket s h) a (c + 1 - a) there in
+    let high = g.2 in
+    ap (is_bucket_from (a / d) n) (equal b (bucket s g.0) g.3) ∙ range_bucket s a c g.0 g.1 (omega (arith, high, le)))
+
+pub range_added : (s old new a c : ℕ) (others : List ℕ) → a ≤ c → Adds (is_bucket_from (a / 2 ^ s) (c / 2 ^ s + 1 - a / 2 ^ s)) old new → IsMaskOf s old others → IsMaskOf s new (others ++ numbers_from a (c + 1 - a))
+range_added s old new a c others le adds is =
+    more_added s old new others (numbers_from a (c + 1 - a)) (λ b. adds b ∙ ap (λ t. has_bucket old b || t) (range_buckets s a c b le)) is

@@ -1,5 +1,5 @@
 -- Buckets of glyphs, by which a set digest knows them (HarfBuzz: `hb_set_digest_bits_pattern_t`).
-use Rattle.std.specs.Prelude.{ℕ, suc, zero, ◌+◌, ◌/◌, ◌%◌, ◌^◌, ◌==◌, ◌||◌, Bool, false, List}
+use Rattle.std.specs.Prelude.{ℕ, suc, zero, ◌≡◌, ◌+◌, ◌/◌, ◌%◌, ◌^◌, ◌==◌, ◌||◌, Bool, false, List, [], ◌∷◌, ◌++◌}
 use Rattle.std.specs.Int.{bit_at}
 use Rattle.std.specs.List.{list_any}
 
@@ -23,3 +23,16 @@ is_bucket_of shift glyphs b = list_any (λ g. b == bucket shift g) glyphs
 abbrev pub is_bucket_from : ℕ → ℕ → ℕ → Bool
 is_bucket_from first zero b = false
 is_bucket_from first (suc n) b = is_bucket_from first n b || b == (first + n) % 64
+
+-- so many numbers from one on
+abbrev pub numbers_from : ℕ → ℕ → List ℕ
+numbers_from first zero = []
+numbers_from first (suc n) = numbers_from first n ++ (first + n) ∷ []
+
+-- whether a glyph is in the bucket of one of some glyphs
+abbrev pub shares_bucket : ℕ → List ℕ → ℕ → Bool
+shares_bucket shift glyphs g = is_bucket_of shift glyphs (bucket shift g)
+
+-- a mask has the buckets of some glyphs, and no others
+abbrev pub IsMaskOf : ℕ → ℕ → List ℕ → Type 0
+IsMaskOf shift mask glyphs = (b : ℕ) → has_bucket mask b ≡ is_bucket_of shift glyphs b

@@ -2,3 +2,4 @@ pub mod Classes
 pub mod Coverage
 pub mod Rows
 pub mod Buckets
+pub mod Lemmas

@@ -1,15 +1,23 @@
 //! Sets of glyphs that may have more than were added, and never fewer (rustybuzz: hb/set_digest.rs).
-ghost use Rattle.std.specs.Prelude.{ℕ, Bool, ◌&&◌, ◌≡◌, ◌==◌, ◌||◌, ◌+◌, ◌-◌, ◌/◌, ◌^◌, ◌≤◌, ◌<◌, false, true, nat_lt};
-ghost use Rattle.layout_common.specs.Buckets.{bucket, has_bucket, is_bucket_from, is_bucket_of, may_have_glyph};
+ghost use Rattle.std.specs.Prelude.{ℕ, Bool, List, [], ◌∷◌, ◌++◌, ◌&&◌, ◌≡◌, ◌==◌, ◌||◌, ◌+◌, ◌-◌, ◌/◌, ◌^◌, ◌≤◌, ◌<◌, false, true, nat_lt};
+ghost use Rattle.layout_common.specs.Buckets.{IsMaskOf, bucket, has_bucket, is_bucket_from, is_bucket_of, may_have_glyph, numbers_from, shares_bucket};
 ghost use Rattle.layout_common.specs.Coverage.{is_covered};
 
-/// A set of glyphs that may have more than were added.
+/// A set of glyphs that may have more than were added: those that are in one bucket with an added glyph, for each kind
+/// of buckets that the set has.
 pub trait hb_set_digest_ext: Copy {
     ghost may_have: { Self → ℕ → Bool };
 
+    // these glyphs were added, and no others
+    ghost IsDigestOf: { Self → List ℕ → Type 0 };
+
+    // for each kind of buckets, a glyph is in the bucket of one of some glyphs
+    ghost shares_buckets: { List ℕ → ℕ → Bool };
+
     /// The empty set.
     fn new() -> Self
-        ensures { (g : ℕ) → may_have result g ≡ false };
+        ensures none { (g : ℕ) → may_have result g ≡ false }
+        ensures exact { IsDigestOf result [] };
 
     /// The set of all glyphs.
     fn full() -> Self
@@ -18,19 +26,23 @@ pub trait hb_set_digest_ext: Copy {
     /// Adds a glyph. What was there stays.
     fn add(&mut self, glyph: u16)
         ensures added { may_have self.new glyph ≡ true }
-        ensures stays { (g : ℕ) → may_have self.old g ≡ true → may_have self.new g ≡ true };
+        ensures stays { (g : ℕ) → may_have self.old g ≡ true → may_have self.new g ≡ true }
+        ensures exact { (glyphs : List ℕ) → IsDigestOf self.old glyphs → IsDigestOf self.new (glyphs ++ glyph ∷ []) };
 
     /// Adds glyphs. What was there stays.
     fn add_array(&mut self, glyphs: &[u16])
         ensures added { (g : ℕ) → is_covered g glyphs.now ≡ true → may_have self.new g ≡ true }
-        ensures stays { (g : ℕ) → may_have self.old g ≡ true → may_have self.new g ≡ true };
+        ensures stays { (g : ℕ) → may_have self.old g ≡ true → may_have self.new g ≡ true }
+        ensures exact { (others : List ℕ) → IsDigestOf self.old others → IsDigestOf self.new (others ++ glyphs.now) };
 
     /// Adds the glyphs from one to another. What was there stays. It answers whether the set may still lack a glyph.
     fn add_range(&mut self, first: u16, last: u16) -> bool
         requires { first ≤ last }
         ensures added { (g : ℕ) → first ≤ g → g ≤ last → may_have self.new g ≡ true }
         ensures stays { (g : ℕ) → may_have self.old g ≡ true → may_have self.new g ≡ true }
-        ensures all { result ≡ false → (g : ℕ) → may_have self.new g ≡ true };
+        ensures all { result ≡ false → (g : ℕ) → may_have self.new g ≡ true }
+        ensures exact { (others : List ℕ) → IsDigestOf self.old others
+            → IsDigestOf self.new (others ++ numbers_from first (last + 1 - first)) };
 
     /// Whether the set may have a glyph.
     fn may_have_glyph(&self, glyph: u16) -> bool
@@ -39,6 +51,10 @@ pub trait hb_set_digest_ext: Copy {
     /// Whether the sets may have a glyph in common. Where they may not, no glyph is in both.
     fn may_have(&self, other: &Self) -> bool
         ensures { result ≡ false → (g : ℕ) → may_have self.now g ≡ true → may_have other.now g ≡ false };
+
+    // a set may have exactly the glyphs that share buckets with those that were added
+    ghost exact: { (s : Self) (glyphs : List ℕ) (g : ℕ) → IsDigestOf s glyphs
+        → may_have s g ≡ shares_buckets glyphs g };
 }
 
 /// A set of glyphs by 64 buckets: glyph g is in the bucket `(g >> SHIFT) mod 64`.
@@ -62,7 +78,15 @@ pub type hb_set_digest_t = hb_set_digest_combiner_t<
 
 impl<A: hb_set_digest_ext, B: hb_set_digest_ext> hb_set_digest_ext
     for hb_set_digest_combiner_t<A, B> {
+    ghost use Rattle.layout_common.specs.Lemmas.Digests.{both_alike};
+
     ghost may_have = { λ s g. A.may_have s.head g && B.may_have s.tail g };
+
+    ghost IsDigestOf = { λ s glyphs. A.IsDigestOf s.head glyphs × B.IsDigestOf s.tail glyphs };
+
+    ghost shares_buckets = { λ glyphs g. A.shares_buckets glyphs g && B.shares_buckets glyphs g };
+
+    ghost exact = { λ s glyphs g is. both_alike (A.exact s.head glyphs g is.0) (B.exact s.tail glyphs g is.1) };
 
     fn new() -> Self {
         Self {
@@ -169,6 +193,12 @@ fn with_range<const SHIFT: u8>(mask: u64, first: u16, last: u16) -> u64
 impl<const SHIFT: u8> hb_set_digest_ext for hb_set_digest_bits_pattern_t<SHIFT> {
     ghost may_have = { λ s g. may_have_glyph SHIFT s.mask g };
 
+    ghost IsDigestOf = { λ s glyphs. IsMaskOf SHIFT s.mask glyphs };
+
+    ghost shares_buckets = { shares_bucket SHIFT };
+
+    ghost exact = { λ s glyphs g is. is (bucket SHIFT g) };
+
     #[tactic(auto, using(crate::proofs::Bits::empty_mask))]
     fn new() -> Self {
         Self { mask: 0 }
@@ -182,6 +212,8 @@ impl<const SHIFT: u8> hb_set_digest_ext for hb_set_digest_bits_pattern_t<SHIFT> 
     fn add(&mut self, glyph: u16)
         ensures added { may_have_glyph SHIFT self.new.mask glyph ≡ true }
         ensures stays { (g : ℕ) → may_have_glyph SHIFT self.old.mask g ≡ true → may_have_glyph SHIFT self.new.mask g ≡ true }
+        ensures exact { (glyphs : List ℕ) → IsMaskOf SHIFT self.old.mask glyphs
+            → IsMaskOf SHIFT self.new.mask (glyphs ++ glyph ∷ []) }
         ensures buckets { (b : ℕ) → has_bucket self.new.mask b ≡ (has_bucket self.old.mask b || b == bucket SHIFT glyph) }
     {
         self.mask = with_bucket(self.mask, bucket::<SHIFT>(glyph));
@@ -190,6 +222,8 @@ impl<const SHIFT: u8> hb_set_digest_ext for hb_set_digest_bits_pattern_t<SHIFT> 
     fn add_array(&mut self, glyphs: &[u16])
         ensures added { (g : ℕ) → is_covered g glyphs.now ≡ true → may_have_glyph SHIFT self.new.mask g ≡ true }
         ensures stays { (g : ℕ) → may_have_glyph SHIFT self.old.mask g ≡ true → may_have_glyph SHIFT self.new.mask g ≡ true }
+        ensures exact { (others : List ℕ) → IsMaskOf SHIFT self.old.mask others
+            → IsMaskOf SHIFT self.new.mask (others ++ glyphs.now) }
         ensures buckets { (b : ℕ) → has_bucket self.new.mask b ≡ (has_bucket self.old.mask b || is_bucket_of SHIFT glyphs.now b) }
     {
         self.mask = with_glyphs::<SHIFT>(self.mask, glyphs);
@@ -200,6 +234,8 @@ impl<const SHIFT: u8> hb_set_digest_ext for hb_set_digest_bits_pattern_t<SHIFT> 
         ensures added { (g : ℕ) → first ≤ g → g ≤ last → may_have_glyph SHIFT self.new.mask g ≡ true }
         ensures stays { (g : ℕ) → may_have_glyph SHIFT self.old.mask g ≡ true → may_have_glyph SHIFT self.new.mask g ≡ true }
         ensures all { result ≡ false → (g : ℕ) → may_have_glyph SHIFT self.new.mask g ≡ true }
+        ensures exact { (others : List ℕ) → IsMaskOf SHIFT self.old.mask others
+            → IsMaskOf SHIFT self.new.mask (others ++ numbers_from first (last + 1 - first)) }
         ensures buckets { (b : ℕ) → has_bucket self.new.mask b
             ≡ (has_bucket self.old.mask b || is_bucket_from (first / 2 ^ SHIFT) (last / 2 ^ SHIFT + 1 - first / 2 ^ SHIFT) b) }
     {

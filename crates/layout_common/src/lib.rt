@@ -8,3 +8,4 @@ pub mod digest;
 pub mod digested;
 pub mod flags;
 pub mod glyph_row;
+pub mod laws;

@@ -1,6 +1,6 @@
 use Rattle.std.proofs.Common.{◌==◌, ◌||◌, ap, ◌∙◌}
 use Rattle.layout_common.specs.Buckets.{bucket, has_bucket}
-use Rattle.layout_common.proofs.Bits.{added_there, old_stays, same_bucket}
+use Rattle.layout_common.proofs.Bits.{one_added, added_there, old_stays, same_bucket}
 use Rattle.layout_common.proofs.digest.Hb_set_digest_bits_pattern_thb_set_digest_ext.add.Goals as goal
 
 pub returns-clause-buckets : goal.returns-clause-buckets
@@ -11,3 +11,6 @@ returns-clause-added g c = added_there (λ b. b == bucket g.row.SHIFT c.args.gly
 
 pub returns-clause-stays : goal.returns-clause-stays
 returns-clause-stays g c h e = old_stays (λ b. b == bucket g.row.SHIFT c.args.glyph) c.args.self.now.mask _ (bucket g.row.SHIFT h) (returns-clause-buckets g c) e
+
+pub returns-clause-exact : goal.returns-clause-exact
+returns-clause-exact g c glyphs is = one_added g.row.SHIFT c.args.self.now.mask _ c.args.glyph glyphs (returns-clause-buckets g c) is

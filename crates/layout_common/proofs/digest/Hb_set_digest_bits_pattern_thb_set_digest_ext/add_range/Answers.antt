@@ -1,6 +1,6 @@
 use Rattle.std.proofs.Common.{◌/◌, ◌^◌, ◌+◌, ◌-◌}
 use Rattle.layout_common.specs.Buckets.{bucket, is_bucket_from}
-use Rattle.layout_common.proofs.Bits.{added_there, full_has, old_stays, range_bucket}
+use Rattle.layout_common.proofs.Bits.{range_added, added_there, full_has, old_stays, range_bucket}
 use Rattle.layout_common.proofs.digest.Hb_set_digest_bits_pattern_thb_set_digest_ext.add_range.Goals as goal
 
 pub returns-clause-added : goal.returns-clause-added
@@ -15,3 +15,6 @@ returns-clause-stays g c h e =
 
 pub returns-clause-all : goal.returns-clause-all
 returns-clause-all g c e h = full_has c.with_range-self.result g.row.SHIFT h e
+
+pub returns-clause-exact : goal.returns-clause-exact
+returns-clause-exact g c others is = range_added g.row.SHIFT c.args.self.now.mask _ c.args.first c.args.last others c.requires c.with_range-self.ensures is
