@@ -24,24 +24,23 @@ pub trait Pause {
         ensures brings_none { result ≡ Ok false → BringsNoGlyph (items_of buffer.old) (items_of buffer.new) };
 }
 
-/// Runs the pause of a GSUB stage, if it has one: a pipeline stage of its own, which leaves the random state as it was.
-/// It refuses with the pause's cause, or for want of memory.
-#[tactic(auto, using(crate::proofs::Lemmas::Ways::paused, crate::proofs::Lemmas::Ways::pause_refused, crate::proofs::Lemmas::Ways::nothing_done))]
+/// Runs the pause of a stage of lookups, if it has one: a pipeline stage of its own, which leaves the random state as it
+/// was. It answers true whenever the pause introduced a new glyph number, and refuses with the pause's cause, or for want
+/// of memory.
+#[tactic(auto, using(crate::proofs::Lemmas::Ways::does_pause, crate::proofs::Lemmas::Ways::nothing_done))]
 pub fn run_pause<P: Pause>(
     pause: &P,
     number: Option<u8>,
     buffer: &mut hb_buffer_t,
-) -> Result<(), ShapeCause>
+) -> Result<bool, ShapeCause>
     requires ready { IsReady buffer.old }
     requires numbers { are_glyphs (items_of buffer.old) ≡ true }
-    ensures { (r : ℕ) → DoesGlyphStageFrom r r (pause_stage (P.stage pause.now (text_settings buffer.old)) number) result
-        buffer.old buffer.new }
+    ensures stage { (r : ℕ) → DoesGlyphStageFrom r r (pause_stage (P.stage pause.now (text_settings buffer.old)) number)
+        result buffer.old buffer.new }
+    ensures brings_none { result ≡ Ok false → BringsNoGlyph (items_of buffer.old) (items_of buffer.new) }
 {
     match number {
-        Some(number) => match pause.run(number, buffer) {
-            Ok(_) => Ok(()),
-            Err(cause) => Err(cause),
-        },
-        None => Ok(()),
+        Some(number) => pause.run(number, buffer),
+        None => Ok(false),
     }
 }
