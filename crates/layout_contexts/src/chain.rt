@@ -72,9 +72,9 @@ fn behind_first<'a>(sequence: &MatchSequence<'a>) -> MatchSequence<'a>
     }
 }
 
-/// Whether a rule begins with a glyph: where it doesn't, nothing has to be prepared for it.
+/// Whether the first item of a rule's input matches a glyph: where it doesn't, nothing has to be prepared for the rule.
 #[tactic(auto, using(crate::proofs::Fitted::begins_by))]
-pub fn begins_with(rule: &ChainRule, info: &hb_glyph_info_t) -> bool
+pub fn first_matches(rule: &ChainRule, info: &hb_glyph_info_t) -> bool
     ensures { result ≡ begins (chain_of rule.now).input (item_of info.now) }
 {
     rule.input.fits(0, info)

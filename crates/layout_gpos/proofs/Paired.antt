@@ -18,7 +18,8 @@ use Rattle.buffer_stages.proofs.Lemmas.Performed.{passes_nothing}
 use Rattle.buffer_stages.proofs.Lemmas.Does.{passed_same}
 use Rattle.layout_gpos.specs.Moving.{break_around}
 use Rattle.layout_gpos.specs.Values.{is_zero}
-use Rattle.layout_gpos.specs.Pairs.{begins_pair, has_no_effect, next_item, pair_adjusted, pair_events, pair_from, pair_length, pair_of, pair_second, pair_subtable, pair_values}
+use Rattle.layout_tables.specs.Covers.{covers_first_of_pair}
+use Rattle.layout_gpos.specs.Pairs.{has_no_effect, next_item, pair_adjusted, pair_events, pair_from, pair_length, pair_of, pair_second, pair_subtable, pair_values}
 use Rattle.layout_gpos.proofs.Lemmas.Placed.{break_passed, front_count}
 use Rattle.layout_gpos.proofs.Lemmas.Read.{item_at}
 use Rattle.layout_gpos.proofs.Lemmas.Performed.{marked_made}
@@ -63,17 +64,17 @@ second_failed r end d values found s new e done = subst (λ (f : Result ℕ ℕ)
 -- ---- the subtable
 
 subtable_is : (r n : ℕ) (d : Direction) (a : ApplyContext) (t : PairPos) (s : Sides) (g : hb_glyph_info_t) → slice_get s.ahead 0 ≡ Some g → n ≡ g.glyph_id
-    → pair_subtable d a t (cut_with r s) ≡ (if begins_pair t n then pair_second d (λ y. pair_values t n y.number) (next_item a (strip s.ahead)) (cut_with r s) else Passes [])
+    → pair_subtable d a t (cut_with r s) ≡ (if covers_first_of_pair t n then pair_second d (λ y. pair_values t n y.number) (next_item a (strip s.ahead)) (cut_with r s) else Passes [])
 subtable_is r n d a t s g at is = ap (λ q. at_first (pair_from d a t) q (cut_with r s)) (first_item s.ahead g at)
-    ∙ ap (λ (m : ℕ). if begins_pair t m then pair_second d (λ y. pair_values t m y.number) (next_item a (strip s.ahead)) (cut_with r s) else Passes []) (sym is)
+    ∙ ap (λ (m : ℕ). if covers_first_of_pair t m then pair_second d (λ y. pair_values t m y.number) (next_item a (strip s.ahead)) (cut_with r s) else Passes []) (sym is)
 
-pub pair_begun : (r n : ℕ) (d : Direction) (a : ApplyContext) (t : PairPos) (acted : Bool) (s new : Sides) (g : hb_glyph_info_t) → slice_get s.ahead 0 ≡ Some g → n ≡ g.glyph_id → begins_pair t n ≡ true
+pub pair_begun : (r n : ℕ) (d : Direction) (a : ApplyContext) (t : PairPos) (acted : Bool) (s new : Sides) (g : hb_glyph_info_t) → slice_get s.ahead 0 ≡ Some g → n ≡ g.glyph_id → covers_first_of_pair t n ≡ true
     → IsPerformed (pair_second d (λ y. pair_values t n y.number) (next_item a (strip s.ahead)) (cut_with r s)) acted r r s new → IsPerformed (pair_subtable d a t (cut_with r s)) acted r r s new
 pair_begun r n d a t acted s new g at is e done =
     let same = subtable_is r n d a t s g at is ∙ ap (λ (b : Bool). if b then pair_second d (λ y. pair_values t n y.number) (next_item a (strip s.ahead)) (cut_with r s) else Passes []) e in
     subst (λ (o : Outcome). IsPerformed o acted r r s new) (sym same) done
 
-pub pair_not_begun : (r n : ℕ) (d : Direction) (a : ApplyContext) (t : PairPos) (s : Sides) (g : hb_glyph_info_t) → slice_get s.ahead 0 ≡ Some g → n ≡ g.glyph_id → begins_pair t n ≡ false
+pub pair_not_begun : (r n : ℕ) (d : Direction) (a : ApplyContext) (t : PairPos) (s : Sides) (g : hb_glyph_info_t) → slice_get s.ahead 0 ≡ Some g → n ≡ g.glyph_id → covers_first_of_pair t n ≡ false
     → IsPerformed (pair_subtable d a t (cut_with r s)) false r r s s
 pair_not_begun r n d a t s g at is e =
     passes_nothing r s (pair_subtable d a t (cut_with r s)) (subtable_is r n d a t s g at is ∙ ap (λ (b : Bool). if b then pair_second d (λ y. pair_values t n y.number) (next_item a (strip s.ahead)) (cut_with r s) else Passes []) e)

@@ -1,11 +1,10 @@
 -- Pair adjustment (OpenType, GPOS lookup type 2).
 use Rattle.std.specs.Prelude.{ℕ, ◌+◌, ◌==◌, ◌&&◌, Bool, true, not, if◌then◌else◌, List, [], length, Option, Some, None, Result, Ok, Err, slice_get, option_and_then}
-use Rattle.std.specs.List.{list_any}
 use Rattle.buffer_common.specs.declared.direction.Direction.{Direction}
 use Rattle.buffer_glyphs.specs.Items.{Item, Position}
 use Rattle.buffer_glyphs.specs.Events.{Event}
 use Rattle.buffer_glyphs.specs.Parts.{first_of}
-use Rattle.layout_common.specs.Coverage.{is_covered}
+use Rattle.layout_tables.specs.Covers.{covers_first_of_pair}
 use Rattle.layout_tables.specs.Pairs.{glyph_pair_values, class_pair_values}
 use Rattle.layout_tables.specs.declared.value.ValueRecord.{ValueRecord}
 use Rattle.layout_tables.specs.declared.pair.PairValues.{PairValues}
@@ -62,14 +61,9 @@ abbrev pub pair_values : PairPos → ℕ → ℕ → Option PairValues
 pair_values (Glyphs p) first second = glyph_pair_values first second p.rows
 pair_values (Classes p) first second = class_pair_values first second p
 
--- whether a glyph begins pairs
-abbrev pub begins_pair : PairPos → ℕ → Bool
-begins_pair (Glyphs p) first = list_any (λ r. r.first == first) p.rows
-begins_pair (Classes p) first = is_covered first p.coverage
-
--- pair adjustment of an item that begins pairs
+-- pair adjustment of an item that is the first glyph of pairs
 abbrev pub pair_from : Direction → ApplyContext → PairPos → Item → Action
-pair_from d a s x c = if begins_pair s x.number then pair_second d (λ y. pair_values s x.number y.number) (next_item a c.rest) c else Passes []
+pair_from d a s x c = if covers_first_of_pair s x.number then pair_second d (λ y. pair_values s x.number y.number) (next_item a c.rest) c else Passes []
 
 -- pair adjustment (OpenType, GPOS lookup type 2)
 abbrev pub pair_subtable : Direction → ApplyContext → PairPos → Action

@@ -7,7 +7,8 @@ ghost use Rattle.layout_match.specs.Applied.{apply_context_of};
 ghost use Rattle.buffer_stages.specs.Buffers.{IsPassed, are_glyphs, cut_of};
 ghost use Rattle.buffer_stages.specs.Performing.{IsPerformed, cut_with};
 ghost use Rattle.layout_gpos.specs.Values.{is_zero};
-ghost use Rattle.layout_gpos.specs.Pairs.{begins_pair, has_no_effect, next_item, pair_adjusted, pair_events, pair_length, pair_of, pair_second, pair_subtable, pair_values};
+ghost use Rattle.layout_tables.specs.Covers.{covers_first_of_pair};
+ghost use Rattle.layout_gpos.specs.Pairs.{has_no_effect, next_item, pair_adjusted, pair_events, pair_length, pair_of, pair_second, pair_subtable, pair_values};
 
 use crate::apply::Apply;
 use crate::bases::LastSearches;
@@ -29,8 +30,9 @@ fn has_first(pairs: &SortedRows<PairRow>, first: u16) -> bool
     index < rows.len() && rows[index].first == first
 }
 
-fn begins_pair(subtable: &PairPos, first: u16) -> bool
-    ensures { result ≡ begins_pair subtable.now first }
+/// Whether a glyph is the first one of pairs.
+fn covers_first_of_pair(subtable: &PairPos, first: u16) -> bool
+    ensures { result ≡ covers_first_of_pair subtable.now first }
 {
     match subtable {
         PairPos::Glyphs(pairs) => has_first(&pairs.rows, first),
@@ -155,7 +157,7 @@ impl Apply for PairAdjustment {
         buffer: &mut hb_buffer_t,
     ) -> bool {
         let first = buffer.cur(0).as_glyph().0;
-        begins_pair(subtable, first) && apply_from(subtable, first, ctx, buffer)
+        covers_first_of_pair(subtable, first) && apply_from(subtable, first, ctx, buffer)
     }
 
     ghost uncovered = { λ s d a. pair_uncovered d a s };

@@ -10,6 +10,7 @@ pub mod matching;
 pub mod search;
 pub mod sequence;
 pub mod skipping;
+pub mod text_digest;
 
 pub use apply_context::hb_ot_apply_context_t;
 pub use matching::{
@@ -18,3 +19,4 @@ pub use matching::{
 pub use search::{GlyphSearch, match_t};
 pub use sequence::{MatchSequence, match_class, match_coverage, match_glyph};
 pub use skipping::skipping_iterator_t;
+pub use text_digest::{TextDigest, TextGlyphs};

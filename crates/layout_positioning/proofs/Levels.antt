@@ -1,11 +1,9 @@
 -- Lookups nested in others, level by level.
-use Rattle.std.proofs.Common.{ℕ, zero, suc, ◌≡◌, ◌≢◌, ◌-◌, Ok, Err, true, false, Bool, List, Option, Some, None, slice_get, refl, sym, ap, subst, arith}
+use Rattle.std.proofs.Common.{ℕ, zero, suc, ◌≡◌, ◌≢◌, ◌-◌, Ok, Err, false, Bool, List, Option, Some, None, slice_get, refl, sym, ap, subst, arith}
 use Rattle.std.specs.Prelude.{Result}
 use Rattle.buffer_common.specs.declared.direction.Direction.{Direction}
 use Rattle.buffer_glyphs.specs.declared.cause.ShapeCause.{ShapeCause}
 use Rattle.buffer_glyphs.specs.declared.cause.ShapeCause.TheVariants.{OutOfMemory}
-use Rattle.buffer_glyphs.specs.declared.info.hb_glyph_info_t.{hb_glyph_info_t}
-use Rattle.buffer_glyphs.specs.Items.{item_of}
 use Rattle.buffer_core.specs.Sides.{Sides}
 use Rattle.layout_face.specs.declared.positioning.PositioningLookup.{PositioningLookup}
 use Rattle.layout_match.specs.Applied.{ApplyContext}
@@ -16,12 +14,10 @@ use Rattle.layout_contexts.specs.Records.{IsRecordBegun}
 use Rattle.layout_contexts.proofs.Lemmas.Steps.{performs_nests}
 use Rattle.layout_contexts.proofs.Lemmas.Walks.{lookup_refused}
 use Rattle.buffer_stages.proofs.Lemmas.Frames.{still_direction}
-use Rattle.buffer_stages.specs.Actions.{Action, Outcome, Refuses}
-use Rattle.buffer_stages.specs.Performing.{cut_with, IsPerformed, Performs}
+use Rattle.buffer_stages.specs.Actions.{Action, Refuses}
+use Rattle.buffer_stages.specs.Performing.{cut_with, Performs}
 use Rattle.buffer_stages.proofs.Lemmas.Performed.{passes_nothing}
-use Rattle.layout_match.specs.Trying.{meets}
-use Rattle.layout_match.proofs.Lemmas.Met.{met, unmet}
-use Rattle.layout_positioning.specs.Lookups.{first_subtable, lookup_action, nested_actions, nested_act, nested_lookup, under_flag}
+use Rattle.layout_positioning.specs.Lookups.{first_subtable, nested_actions, nested_act, nested_lookup, under_flag}
 
 pub no_depth : (table : List PositioningLookup) (depth : ℕ) (d : Direction) (a : ApplyContext) → depth ≡ 0 → nested_actions table depth d a ≡ None
 unfolding nested_actions
@@ -52,13 +48,3 @@ record_lookup_refused table depth a k ps rs p end r x s t u b h =
     let P : Direction → Type 0 = λ d. Performs (nested_act table depth d a k.lookup_index (cut_with r t)) (Err x) r r t u in
     let there = subst P (still_direction s t (b.left r).still) h in
     lookup_refused (nested_act table depth s.direction a) k ps rs p end r r x s t u b (performs_nests (nested_act table depth s.direction a k.lookup_index (cut_with r t)) (Err x) r r t u there)
-
--- a lookup skips a glyph that it doesn't meet
-pub lookup_passes : (table : List PositioningLookup) (d : Direction) (a : ApplyContext) (lookup : PositioningLookup) (r : ℕ) (s : Sides) (g : hb_glyph_info_t) → slice_get s.ahead 0 ≡ Some g → meets a (item_of g) ≡ false → IsPerformed (lookup_action table d a lookup (cut_with r s)) false r r s s
-lookup_passes table d a lookup r s g at none = passes_nothing r s (lookup_action table d a lookup (cut_with r s)) (unmet a (first_subtable (nested_actions table 64 d a) d a lookup.subtables) r s g at none)
-
-pub lookup_tries : (table : List PositioningLookup) (d : Direction) (a : ApplyContext) (lookup : PositioningLookup) (r after : ℕ) (result : Result Bool ShapeCause) (s new : Sides) (g : hb_glyph_info_t) → slice_get s.ahead 0 ≡ Some g → meets a (item_of g) ≡ true
-    → Performs (first_subtable (nested_actions table 64 d a) d a lookup.subtables (cut_with r s)) result r after s new → Performs (lookup_action table d a lookup (cut_with r s)) result r after s new
-lookup_tries table d a lookup r after result s new g at some w =
-    let P : Outcome → Type 0 = λ o. Performs o result r after s new in
-    subst P (sym (met a (first_subtable (nested_actions table 64 d a) d a lookup.subtables) r s g at some)) w

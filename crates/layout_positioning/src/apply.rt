@@ -1,7 +1,8 @@
 //! Applies positioning lookups to a whole buffer (rustybuzz: hb/ot_layout.rs, `apply_string`, `apply_layout_table`).
-ghost use Rattle.std.specs.Prelude.{◌≡◌, true, slice_get};
+ghost use Rattle.std.specs.Prelude.{◌≡◌, OnOk, true, slice_get};
 ghost use Rattle.buffer_core.specs.Sides.{items_of};
 ghost use Rattle.layout_match.specs.Applied.{apply_context_of};
+ghost use Rattle.layout_match.specs.Skipping.{HoldsText};
 ghost use Rattle.buffer_stages.specs.Buffers.{are_glyphs};
 ghost use Rattle.buffer_stages.specs.Ready.{DoesGlyphStageFrom, IsReady};
 ghost use Rattle.layout_positioning.specs.Lookups.{lookup_context, lookup_stage};
@@ -14,7 +15,7 @@ use layout_face::Face;
 use layout_face::positioning::{PositioningLookup, PositioningTable};
 use layout_map_features::lookup::lookup_map_t;
 use layout_map_features::per_table::TableIndex;
-use layout_match::hb_ot_apply_context_t;
+use layout_match::{TextDigest, hb_ot_apply_context_t};
 
 /// The parameters of applying one lookup: its own flag, and those that the map gives it.
 fn context_of<'a>(
@@ -35,42 +36,54 @@ fn context_of<'a>(
     ctx
 }
 
-/// Applies the lookup at an index of the table; an index without one does nothing.
+/// Applies the lookup at an index of the table, unless it can act at no glyph of the text; an index without one does
+/// nothing.
 #[tactic(auto, using(crate::proofs::Ways::no_lookup_done))]
-fn apply_mapped(
+fn apply_mapped<T: TextDigest>(
     face: &Face,
     table: &PositioningTable,
     lookup_map: &lookup_map_t,
+    text: &mut T,
     buffer: &mut hb_buffer_t,
 ) -> Result<(), ShapeCause>
     requires ready { IsReady buffer.old }
     requires numbers { are_glyphs (items_of buffer.old) ≡ true }
-    ensures { DoesGlyphStageFrom 1 1 (lookup_stage face.now table.now.lookups (slice_get table.now.lookups
+    requires held { HoldsText (T.sets text.old) (items_of buffer.old) }
+    ensures stage { DoesGlyphStageFrom 1 1 (lookup_stage face.now table.now.lookups (slice_get table.now.lookups
         lookup_map.now.index) lookup_map.now) result buffer.old buffer.new }
+    ensures held { OnOk result (HoldsText (T.sets text.new) (items_of buffer.new)) }
 {
     let Some(lookup) = table.get_lookup(lookup_map.index) else {
         return Ok(());
     };
+    let _count = buffer.len();
+    if text.misses(lookup_map.mask, &lookup.subtables, buffer) {
+        return Ok(());
+    }
     let ctx = context_of(face, lookup, lookup_map);
     apply_forward(table, lookup, &ctx, buffer)
 }
 
 /// Applies GPOS lookups of the font one after another, each at all glyphs from the left. It takes no memory, and
-/// refuses only where a list has more glyphs than it may.
+/// refuses only where a list has more glyphs than it may. What is known of the text serves all of them, since they leave
+/// its glyphs.
 #[tactic(auto, using(crate::proofs::Ways::none_done, crate::proofs::Ways::one_refused, crate::proofs::Ways::all_done))]
-pub fn apply_lookups(
+pub fn apply_lookups<T: TextDigest>(
     face: &Face,
     table: &PositioningTable,
     lookups: &[lookup_map_t],
+    text: &mut T,
     buffer: &mut hb_buffer_t,
 ) -> Result<(), ShapeCause>
     requires ready { IsReady buffer.old }
     requires numbers { are_glyphs (items_of buffer.old) ≡ true }
-    ensures { DoesGlyphStageFrom 1 1 (lookups_stage face.now table.now.lookups lookups.now) result buffer.old
+    requires held { HoldsText (T.sets text.old) (items_of buffer.old) }
+    ensures stage { DoesGlyphStageFrom 1 1 (lookups_stage face.now table.now.lookups lookups.now) result buffer.old
         buffer.new }
+    ensures held { OnOk result (HoldsText (T.sets text.new) (items_of buffer.new)) }
 {
     for lookup_map in lookups {
-        apply_mapped(face, table, lookup_map, buffer)?;
+        apply_mapped(face, table, lookup_map, text, buffer)?;
     }
     Ok(())
 }

@@ -14,12 +14,11 @@ use layout_contexts::MAX_NESTING_LEVEL;
 use layout_face::positioning::{PositioningLookup, PositioningTable};
 use layout_gpos::bases::LastSearches;
 use layout_match::hb_ot_apply_context_t;
-use layout_match::lookup::meets;
+use layout_match::lookup::is_tried;
 
 /// Applies the first matching subtable of a lookup at the cursor of a buffer without an output, where the lookup
 /// applies to the glyph there. It answers whether one acted; where none did it changed glyph flags only. Searches for
 /// bases and ligatures continue the last ones of this lookup on these glyphs, those of nested lookups included.
-#[tactic(auto, using(buffer_stages::proofs::Lemmas::Glyphs::number_ahead, crate::proofs::Levels::lookup_passes, crate::proofs::Levels::lookup_tries))]
 pub fn apply_lookup(
     table: &PositioningTable,
     lookup: &PositioningLookup,
@@ -37,11 +36,7 @@ pub fn apply_lookup(
         buffer.new }
     ensures kept { OnOk result (AreKept (apply_context_of ctx.now) (items_of buffer.new) last.new) }
 {
-    let info = buffer.cur(0);
-    if !lookup.subtables.may_have_glyph(info.as_glyph().0) {
-        return Ok(false);
-    }
-    if !meets(ctx, info) {
+    if !is_tried(ctx, &lookup.subtables, buffer) {
         return Ok(false);
     }
     apply_subtables(

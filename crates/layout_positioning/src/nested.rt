@@ -26,8 +26,8 @@ use buffer_core::buffer::hb_buffer_t;
 use buffer_glyphs::cause::ShapeCause;
 use layout_common::digested::Digested;
 use layout_contexts::{
-    ChainRule, begin_record, begins_with, glyph_count, is_tried_at, match_chain, move_to_match_end,
-    rule_at, rule_count, settle_match,
+    ChainRule, begin_record, first_matches, glyph_count, is_tried_at, match_chain,
+    move_to_match_end, rule_at, rule_count, settle_match,
 };
 use layout_face::positioning::{PositioningLookup, PositioningSubtables, PositioningTable};
 use layout_gpos::apply::apply_first;
@@ -253,7 +253,7 @@ fn apply_rule(
         ctx.now.random_state ctx.now.random_state buffer.old buffer.new }
     ensures kept { OnOk result (AreKept (apply_context_of ctx.now) (items_of buffer.new) last.new) }
 {
-    if !begins_with(rule, buffer.cur(0)) {
+    if !first_matches(rule, buffer.cur(0)) {
         return Ok(false);
     }
     let mut indices = MatchPositions::new();

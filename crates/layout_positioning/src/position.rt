@@ -5,6 +5,7 @@ ghost use Rattle.buffer_core.specs.Sides.{items_of};
 ghost use Rattle.buffer_stages.specs.Buffers.{are_glyphs};
 ghost use Rattle.buffer_stages.specs.Ready.{DoesGlyphStage, DoesGlyphStageFrom, IsReady};
 ghost use Rattle.buffer_stages.specs.Settings.{text_settings};
+ghost use Rattle.layout_match.specs.Skipping.{HoldsText};
 ghost use Rattle.layout_positioning.specs.Positioning.{LeavesItems, lookups_stage, positioning_stages, positioning_lookups, table_stages};
 
 use crate::apply::apply_lookups;
@@ -15,26 +16,55 @@ use layout_face::Face;
 use layout_map::map::hb_ot_map_t;
 use layout_map_features::lookup::lookup_map_t;
 use layout_map_features::per_table::TableIndex;
+use layout_match::{TextDigest, TextGlyphs};
 
 /// Applies the lookups of a GPOS stage one after another; a font without a GPOS table has none.
-fn apply_stage(
+fn apply_stage<T: TextDigest>(
     face: &Face,
     lookups: &[lookup_map_t],
+    text: &mut T,
     buffer: &mut hb_buffer_t,
 ) -> Result<(), ShapeCause>
     requires ready { IsReady buffer.old }
     requires numbers { are_glyphs (items_of buffer.old) ≡ true }
-    ensures { DoesGlyphStageFrom 1 1 (lookups_stage face.now (positioning_lookups face.now) lookups.now) result
+    requires held { HoldsText (T.sets text.old) (items_of buffer.old) }
+    ensures stage { DoesGlyphStageFrom 1 1 (lookups_stage face.now (positioning_lookups face.now) lookups.now) result
         buffer.old buffer.new }
+    ensures held { OnOk result (HoldsText (T.sets text.new) (items_of buffer.new)) }
 {
     match face.gpos() {
-        Some(table) => apply_lookups(face, table, lookups, buffer),
+        Some(table) => apply_lookups(face, table, lookups, text, buffer),
         None => Ok(()),
     }
 }
 
-/// Applies the lookups of a map's GPOS stages, each stage ended by its pause. It refuses as `position` does.
+/// Applies the lookups of a map's GPOS stages, each stage ended by its pause. What is known of the text serves all of
+/// them.
 #[tactic(auto, using(crate::proofs::Ways::stage_lookups_refused, crate::proofs::Ways::all_stages_done))]
+fn apply_stages<P: Pause, T: TextDigest>(
+    map: &hb_ot_map_t,
+    face: &Face,
+    text: &mut T,
+    buffer: &mut hb_buffer_t,
+    pause: &P,
+) -> Result<(), ShapeCause>
+    requires ready { IsReady buffer.old }
+    requires numbers { are_glyphs (items_of buffer.old) ≡ true }
+    requires held { HoldsText (T.sets text.old) (items_of buffer.old) }
+    ensures { DoesGlyphStageFrom 1 1 (table_stages face.now (positioning_lookups face.now) map.now.tables.gpos
+        (P.stage pause.now (text_settings buffer.old)) 0 map.now.tables.gpos.stages) result buffer.old buffer.new }
+{
+    let stages = map.stages(TableIndex::GPOS);
+    for i in 0..stages.len() {
+        let lookups = map.stage_lookups(TableIndex::GPOS, i);
+        apply_stage(face, lookups, text, buffer)?;
+        let introduced = run_pause(pause, stages[i].pause, buffer)?;
+        text.after_pause(introduced);
+    }
+    Ok(())
+}
+
+/// Applies the lookups of a map's GPOS stages, each stage ended by its pause. It refuses as `position` does.
 pub fn apply_layout_table<P: Pause>(
     map: &hb_ot_map_t,
     face: &Face,
@@ -46,12 +76,8 @@ pub fn apply_layout_table<P: Pause>(
     ensures { DoesGlyphStageFrom 1 1 (table_stages face.now (positioning_lookups face.now) map.now.tables.gpos
         (P.stage pause.now (text_settings buffer.old)) 0 map.now.tables.gpos.stages) result buffer.old buffer.new }
 {
-    let stages = map.stages(TableIndex::GPOS);
-    for i in 0..stages.len() {
-        apply_stage(face, map.stage_lookups(TableIndex::GPOS, i), buffer)?;
-        run_pause(pause, stages[i].pause, buffer)?;
-    }
-    Ok(())
+    let mut text = TextGlyphs::new();
+    apply_stages(map, face, &mut text, buffer, pause)
 }
 
 /// Positions glyphs by the font's rules for the features of a map: stage after stage the stage's lookups by their

@@ -1,4 +1,5 @@
 -- A lookup of reverse chaining on its way back over a buffer.
+use mathlib.Core.Bool.{false≢true}
 use Rattle.std.proofs.Common.{ℕ, suc, ◌≡◌, ◌+◌, Bool, true, false, if◌then◌else◌, map, List, [], length, Ok, Err, refl, sym, ap, subst, ◌∙◌, arith}
 use Rattle.std.specs.Prelude.{Option, Some, None, Result}
 use Rattle.std.proofs.lemmas.List.{map-append, take-map, drop-map, take-append-drop, length-map, length-append}
@@ -183,3 +184,9 @@ pub acted_still : (o : Outcome) (acted : Bool) (s new : Sides) → PerformsWitho
 acted_still (Passes es) acted s new d = ap (λ (c : Cut). c.positions) d.1.cut_is
 acted_still (Acts cut es) acted s new d = d.1.positions
 acted_still (Refuses cause) acted s new d = absurd d
+
+-- where it didn't act, the items are as before
+pub idle_items : (o : Outcome) (acted : Bool) (at : ℕ) (s mid new : Sides) → mid ≡ after_move_to at s → PerformsWithoutOutput o acted mid new → acted ≡ false → items_of new ≡ items_of s
+idle_items (Passes es) acted at s mid new there d e = same_numbers mid new d.1.cut_is ∙ ap items_of there ∙ ap strip (moved_all at s)
+idle_items (Acts cut es) acted at s mid new there d e = absurd (false≢true (sym e ∙ d.0))
+idle_items (Refuses cause) acted at s mid new there d e = absurd d

@@ -1,7 +1,8 @@
 -- A GSUB lookup that can act at none of a buffer's glyphs is left out.
-use Rattle.std.proofs.Common.{ℕ, suc, zero, ◌≡◌, ◌≤◌, ◌<◌, Bool, true, false, nat_le, List, [], ◌∷◌, length, drop, Ok, Option, Some, refl, sym, ap, subst, ◌∙◌, if◌then◌else◌, arith}
+use Rattle.std.proofs.Common.{ℕ, suc, zero, ◌≡◌, ◌≤◌, ◌<◌, Bool, true, false, nat_le, ◌&&◌, List, [], ◌∷◌, length, drop, Ok, Option, Some, refl, sym, ap, subst, ◌∙◌, if◌then◌else◌, arith}
 use Rattle.std.proofs.lemmas.Bool.Decides.{nat_tests}
 use Rattle.std.proofs.lemmas.List.{length-map, length-replicate, take-append-drop}
+use Rattle.std.specs.List.{list_any}
 use Rattle.buffer_glyphs.specs.Items.{Item, item_of, zero_position}
 use Rattle.buffer_core.specs.Readings.{View, Reading, Stage, Follows, then_reading, with_events}
 use Rattle.buffer_core.specs.Steps.{follows_same}
@@ -12,12 +13,13 @@ use Rattle.layout_face.specs.Lookups.{is_reverse, substitution_covers}
 use Rattle.layout_face.specs.declared.parts.FaceParts.{FaceParts}
 use Rattle.layout_face.specs.declared.substitution.SubstLookup.{SubstLookup}
 use Rattle.layout_map_features.specs.declared.lookup.lookup_map_t.{lookup_map_t}
-use Rattle.layout_match.specs.Skipping.{HoldsGlyphs, PassesAll, PassesAt}
+use Rattle.buffer_stages.specs.Masks.{shares_mask}
+use Rattle.layout_match.specs.Skipping.{HoldsText, PassesAll, PassesAt, TextSets}
 use Rattle.layout_match.specs.Trying.{after_outcome, forward_pass, with_zero_positions}
-use Rattle.layout_match.proofs.Lemmas.Held.{met_nowhere}
-use Rattle.layout_match.proofs.Lemmas.Untouched.{left_alone}
-use Rattle.layout_substitution.specs.Lookups.{backward_pass, backward_trials, cut_at_index, lookup_action, lookup_context, lookup_stage, reverse_action}
-use Rattle.layout_substitution.proofs.Uncovered.{lookup_uncovered, reverse_lookup_uncovered}
+use Rattle.layout_match.proofs.Lemmas.Held.{passes_uncovered}
+use Rattle.layout_match.proofs.Lemmas.Untouched.{idle_passes, left_alone}
+use Rattle.layout_substitution.specs.Lookups.{backward_pass, backward_trials, cut_at_index, first_reverse, first_subtable, lookup_action, lookup_context, lookup_stage, nested_actions, reverse_action}
+use Rattle.layout_substitution.proofs.Uncovered.{first_reverse_uncovered, first_uncovered}
 
 -- ---- from the left
 
@@ -70,16 +72,24 @@ by_way : (b : Bool) (back forth : Stage) (r : ℕ) (old new : Sides) → (b ≡ 
 by_way true back forth r old new left cleared d e = let P : Sides → Type 0 = λ s. IsDoneFrom r r back old s in subst P (sym (left refl)) d
 by_way false back forth r old new left cleared d e = let P : Sides → Type 0 = λ s. IsDoneFrom r r forth old s in subst P (sym (cleared refl)) e
 
-pub skipped_done : (font : FaceParts) (table : List SubstLookup) (o : Option SubstLookup) (lookup : SubstLookup) (m : lookup_map_t) (has : ℕ → Bool) (r : ℕ) (old new : Sides) → Some lookup ≡ o → IsReady old → length (all_glyphs old) ≤ old.max_len → HoldsGlyphs has (items_of old)
-    → ((n : ℕ) → has n ≡ true → substitution_covers lookup.subtables n ≡ false) → (is_reverse lookup.subtables ≡ true → new ≡ old) → (is_reverse lookup.subtables ≡ false → new ≡ with_cleared_positions old) → IsDoneFrom r r (lookup_stage font table o m) old new
-skipped_done font table o lookup m has r old new there ready within held apart left cleared =
+pub skipped_done : (font : FaceParts) (table : List SubstLookup) (o : Option SubstLookup) (lookup : SubstLookup) (m : lookup_map_t) (r : ℕ) (old new : Sides) → Some lookup ≡ o → IsReady old → length (all_glyphs old) ≤ old.max_len
+    → list_any (λ (x : Item). shares_mask m.mask x.mask && substitution_covers lookup.subtables x.number) (items_of old) ≡ false → (is_reverse lookup.subtables ≡ true → new ≡ old) → (is_reverse lookup.subtables ≡ false → new ≡ with_cleared_positions old)
+    → IsDoneFrom r r (lookup_stage font table o m) old new
+skipped_done font table o lookup m r old new there ready within none left cleared =
     let a = lookup_context font lookup m in
     let P : Option SubstLookup → Type 0 = λ q. IsDoneFrom r r (lookup_stage font table q m) old new in
-    let back = skipped_back (reverse_action a lookup) r old ready (met_nowhere has (substitution_covers lookup.subtables) (reverse_action a lookup) (items_of old) apart held (λ x none. reverse_lookup_uncovered a lookup x none)) in
-    let forth = skipped_forth (lookup_action table a lookup) r old ready within (met_nowhere has (substitution_covers lookup.subtables) (lookup_action table a lookup) (items_of old) apart held (λ x none. lookup_uncovered table a lookup x none)) in
+    let meant : Item → Bool = λ x. shares_mask m.mask x.mask && substitution_covers lookup.subtables x.number in
+    let back = skipped_back (reverse_action a lookup) r old ready (passes_uncovered (reverse_action a lookup) meant (items_of old) none
+    (λ x off. idle_passes a (first_reverse a lookup.subtables) (substitution_covers lookup.subtables x.number) x (first_reverse_uncovered a lookup.subtables x) off)) in
+    let nest = nested_actions table 64 a in
+    let forth = skipped_forth (lookup_action table a lookup) r old ready within (passes_uncovered (lookup_action table a lookup) meant (items_of old) none
+    (λ x off. idle_passes a (first_subtable nest a lookup.subtables) (substitution_covers lookup.subtables x.number) x (first_uncovered nest a lookup.subtables x) off)) in
     subst P there (by_way (is_reverse lookup.subtables) (backward_pass (reverse_action a lookup)) (forward_pass (lookup_action table a lookup)) r old new left cleared back forth)
 
 -- the glyphs stay
-pub skipped_items : (b : Bool) (old new : Sides) → (b ≡ true → new ≡ old) → (b ≡ false → new ≡ with_cleared_positions old) → items_of new ≡ items_of old
+skipped_items : (b : Bool) (old new : Sides) → (b ≡ true → new ≡ old) → (b ≡ false → new ≡ with_cleared_positions old) → items_of new ≡ items_of old
 skipped_items true old new left cleared = ap items_of (left refl)
 skipped_items false old new left cleared = ap items_of (cleared refl)
+
+pub skipped_held : (t : TextSets) (b : Bool) (old new : Sides) → (b ≡ true → new ≡ old) → (b ≡ false → new ≡ with_cleared_positions old) → HoldsText t (items_of old) → HoldsText t (items_of new)
+skipped_held t b old new left cleared held = subst (HoldsText t) (sym (skipped_items b old new left cleared)) held

@@ -1,16 +1,14 @@
 -- A GSUB lookup passes at a glyph that none of its subtables covers.
-use Rattle.std.proofs.Common.{ℕ, ◌≡◌, false, List, Option, refl}
+use Rattle.std.proofs.Common.{ℕ, ◌≡◌, false, Option, refl}
 use Rattle.buffer_glyphs.specs.Items.{Item}
 use Rattle.layout_tables.specs.Covers.{covers_context, covers_first_component, covers_sequence, covers_value}
 use Rattle.layout_face.specs.Lookups.{substitution_covers}
-use Rattle.layout_face.specs.declared.substitution.SubstLookup.{SubstLookup}
 use Rattle.layout_face.specs.declared.substitution.SubstitutionSubtables.{SubstitutionSubtables}
 use Rattle.layout_face.specs.declared.substitution.SubstitutionSubtables.TheVariants.{Single, Multiple, Alternate, Ligature, Context, ChainContext, ReverseChainSingle}
 use Rattle.buffer_stages.specs.Actions.{Action}
 use Rattle.layout_match.specs.Applied.{ApplyContext}
 use Rattle.layout_match.specs.Skipping.{PassesAt}
 use Rattle.layout_match.specs.Lemmas.Passing.{first_passes}
-use Rattle.layout_match.proofs.Lemmas.Untouched.{rule_passes}
 use Rattle.layout_contexts.specs.Chains.{context_subtable}
 use Rattle.layout_contexts.proofs.Lemmas.Uncovered.{context_uncovered}
 use Rattle.layout_gsub.specs.Alternates.{alternate_subtable}
@@ -19,7 +17,7 @@ use Rattle.layout_gsub.specs.Multiples.{multiple_subtable}
 use Rattle.layout_gsub.specs.Replacements.{single_subtable}
 use Rattle.layout_gsub.specs.Reverses.{reverse_subtable}
 use Rattle.layout_gsub.specs.Lemmas.Uncovered.{alternate_uncovered, ligature_uncovered, multiple_uncovered, reverse_uncovered, single_uncovered}
-use Rattle.layout_substitution.specs.Lookups.{first_reverse, first_subtable, lookup_action, nested_actions, reverse_action}
+use Rattle.layout_substitution.specs.Lookups.{first_reverse, first_subtable}
 
 -- from the left
 pub first_uncovered : (nest : Option (ℕ → Action)) (a : ApplyContext) (subtables : SubstitutionSubtables) (x : Item) → substitution_covers subtables x.number ≡ false → PassesAt (first_subtable nest a subtables) x
@@ -40,9 +38,3 @@ first_reverse_uncovered a (Alternate subtables) x none = λ c rest e. refl
 first_reverse_uncovered a (Ligature subtables) x none = λ c rest e. refl
 first_reverse_uncovered a (Context subtables) x none = λ c rest e. refl
 first_reverse_uncovered a (ChainContext subtables) x none = λ c rest e. refl
-
-pub lookup_uncovered : (table : List SubstLookup) (a : ApplyContext) (lookup : SubstLookup) (x : Item) → substitution_covers lookup.subtables x.number ≡ false → PassesAt (lookup_action table a lookup) x
-lookup_uncovered table a lookup x none = rule_passes a (first_subtable (nested_actions table 64 a) a lookup.subtables) x (first_uncovered (nested_actions table 64 a) a lookup.subtables x none)
-
-pub reverse_lookup_uncovered : (a : ApplyContext) (lookup : SubstLookup) (x : Item) → substitution_covers lookup.subtables x.number ≡ false → PassesAt (reverse_action a lookup) x
-reverse_lookup_uncovered a lookup x none = rule_passes a (first_reverse a lookup.subtables) x (first_reverse_uncovered a lookup.subtables x none)

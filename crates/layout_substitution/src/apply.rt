@@ -1,8 +1,10 @@
 //! Applies lookups to a whole buffer (rustybuzz: hb/ot_layout.rs, `apply_string`, `apply_layout_table`).
-ghost use Rattle.std.specs.Prelude.{◌≡◌, true, slice_get};
-ghost use Rattle.buffer_core.specs.Sides.{items_of};
+ghost use Rattle.std.specs.Prelude.{◌≡◌, Ok, OnOk, true, false, slice_get};
+ghost use Rattle.buffer_core.specs.Sides.{items_of, with_cleared_positions};
+ghost use Rattle.layout_face.specs.Lookups.{is_reverse};
 ghost use Rattle.layout_map_features.specs.declared.per_table.TableIndex.TheVariants.{GSUB};
 ghost use Rattle.layout_match.specs.Applied.{apply_context_of};
+ghost use Rattle.layout_match.specs.Skipping.{HoldsText};
 ghost use Rattle.buffer_stages.specs.Buffers.{are_glyphs};
 ghost use Rattle.buffer_stages.specs.Ready.{DoesGlyphStage, DoesGlyphStageFrom, IsReady};
 ghost use Rattle.buffer_stages.specs.Pauses.{with_own_random};
@@ -16,24 +18,25 @@ use layout_face::Face;
 use layout_face::substitution::{SubstLookup, SubstitutionTable};
 use layout_map_features::lookup::lookup_map_t;
 use layout_map_features::per_table::TableIndex;
-use layout_match::hb_ot_apply_context_t;
+use layout_match::{TextDigest, TextGlyphs, hb_ot_apply_context_t};
 
-/// Tries a lookup at each glyph: one of reverse chaining from the right, in place, any other from the left.
+/// Tries a lookup at each glyph: one of reverse chaining from the right, in place, any other from the left. It answers
+/// whether it acted anywhere.
 fn apply_everywhere(
     table: &SubstitutionTable,
     lookup: &SubstLookup,
     ctx: &mut hb_ot_apply_context_t,
     buffer: &mut hb_buffer_t,
-) -> Result<(), ShapeCause>
+) -> Result<bool, ShapeCause>
     requires ready { IsReady buffer.old }
     requires numbers { are_glyphs (items_of buffer.old) ≡ true }
     ensures stage { DoesGlyphStageFrom ctx.old.random_state ctx.new.random_state (lookup_applied table.now.lookups
         (apply_context_of ctx.old) lookup.now) result buffer.old buffer.new }
     ensures context { apply_context_of ctx.new ≡ apply_context_of ctx.old }
+    ensures unchanged { result ≡ Ok false → items_of buffer.new ≡ items_of buffer.old }
 {
     if lookup.is_reverse() {
-        apply_backward(lookup, ctx, buffer);
-        return Ok(());
+        return Ok(apply_backward(lookup, ctx, buffer));
     }
     apply_forward(table, lookup, ctx, buffer)
 }
@@ -52,45 +55,71 @@ fn set_lookup(ctx: &mut hb_ot_apply_context_t, lookup: &SubstLookup, lookup_map:
     ctx.lookup_props = lookup.props();
 }
 
-/// Applies the lookup at an index of the table; an index without one does nothing.
-fn apply_mapped(
+/// Leaves out a lookup that can act nowhere: from the left it clears all positions, as wherever it is applied.
+fn skip_lookup(lookup: &SubstLookup, buffer: &mut hb_buffer_t)
+    ensures backward { is_reverse lookup.now.subtables ≡ true → buffer.new ≡ buffer.old }
+    ensures forward { is_reverse lookup.now.subtables ≡ false → buffer.new ≡ with_cleared_positions buffer.old }
+{
+    if !lookup.is_reverse() {
+        buffer.clear_positions();
+    }
+}
+
+/// Applies the lookup at an index of the table, unless it can act at no glyph of the text; an index without one does
+/// nothing.
+#[tactic(auto, using(crate::proofs::Skipped::skipped_held))]
+fn apply_mapped<T: TextDigest>(
     table: &SubstitutionTable,
     lookup_map: &lookup_map_t,
+    text: &mut T,
     ctx: &mut hb_ot_apply_context_t,
     buffer: &mut hb_buffer_t,
 ) -> Result<(), ShapeCause>
     requires substitution { ctx.old.table_index ≡ GSUB }
     requires ready { IsReady buffer.old }
     requires numbers { are_glyphs (items_of buffer.old) ≡ true }
+    requires held { HoldsText (T.sets text.old) (items_of buffer.old) }
     ensures stage { DoesGlyphStageFrom ctx.old.random_state ctx.new.random_state (lookup_stage ctx.old.face.now
         table.now.lookups (slice_get table.now.lookups lookup_map.now.index) lookup_map.now) result buffer.old
         buffer.new }
     ensures table { ctx.new.table_index ≡ GSUB }
     ensures face { ctx.new.face.now ≡ ctx.old.face.now }
+    ensures held { OnOk result (HoldsText (T.sets text.new) (items_of buffer.new)) }
 {
     let Some(lookup) = table.get_lookup(lookup_map.index) else {
         return Ok(());
     };
+    let _count = buffer.len();
+    if text.misses(lookup_map.mask, &lookup.subtables, buffer) {
+        skip_lookup(lookup, buffer);
+        return Ok(());
+    }
     set_lookup(ctx, lookup, lookup_map);
-    apply_everywhere(table, lookup, ctx, buffer)
+    let acted = apply_everywhere(table, lookup, ctx, buffer)?;
+    text.after_lookup(acted);
+    Ok(())
 }
 
-pub(crate) fn apply_all(
+/// Applies lookups one after another. What is known of the text serves all of them, and holds its glyphs afterwards.
+pub(crate) fn apply_all<T: TextDigest>(
     table: &SubstitutionTable,
     lookups: &[lookup_map_t],
+    text: &mut T,
     ctx: &mut hb_ot_apply_context_t,
     buffer: &mut hb_buffer_t,
 ) -> Result<(), ShapeCause>
     requires substitution { ctx.old.table_index ≡ GSUB }
     requires ready { IsReady buffer.old }
     requires numbers { are_glyphs (items_of buffer.old) ≡ true }
+    requires held { HoldsText (T.sets text.old) (items_of buffer.old) }
     ensures stage { DoesGlyphStageFrom ctx.old.random_state ctx.new.random_state (lookups_stage ctx.old.face.now
         table.now.lookups lookups.now) result buffer.old buffer.new }
     ensures table { ctx.new.table_index ≡ GSUB }
     ensures face { ctx.new.face.now ≡ ctx.old.face.now }
+    ensures held { OnOk result (HoldsText (T.sets text.new) (items_of buffer.new)) }
 {
     for lookup_map in lookups {
-        apply_mapped(table, lookup_map, ctx, buffer)?;
+        apply_mapped(table, lookup_map, text, ctx, buffer)?;
     }
     Ok(())
 }
@@ -110,5 +139,6 @@ pub fn apply_lookups(
         buffer.old buffer.new }
 {
     let mut ctx = hb_ot_apply_context_t::new(TableIndex::GSUB, face);
-    apply_all(table, lookups, &mut ctx, buffer)
+    let mut text = TextGlyphs::new();
+    apply_all(table, lookups, &mut text, &mut ctx, buffer)
 }

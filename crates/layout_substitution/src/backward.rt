@@ -12,32 +12,49 @@ use buffer_core::buffer::hb_buffer_t;
 use layout_face::substitution::SubstLookup;
 use layout_match::hb_ot_apply_context_t;
 
-/// Tries a reverse chaining lookup in place at an index.
+/// Tries a reverse chaining lookup in place at an index. It answers whether it acted, here or before.
 #[tactic(auto, using(crate::proofs::Back::step_back))]
-fn apply_at(lookup: &SubstLookup, at: usize, ctx: &hb_ot_apply_context_t, buffer: &mut hb_buffer_t)
+fn apply_at(
+    lookup: &SubstLookup,
+    at: usize,
+    ctx: &hb_ot_apply_context_t,
+    acted: bool,
+    buffer: &mut hb_buffer_t,
+) -> bool
     requires closed { buffer.old.is_open ≡ false }
     requires there { at < length (all_glyphs buffer.old) }
     requires numbers { are_glyphs (items_of buffer.old) ≡ true }
-    ensures { IsStepBack (reverse_action (apply_context_of ctx.now) lookup.now) at buffer.old buffer.new }
+    ensures step { IsStepBack (reverse_action (apply_context_of ctx.now) lookup.now) at buffer.old buffer.new }
+    ensures before { result ≡ false → acted ≡ false }
+    ensures unchanged { result ≡ false → items_of buffer.new ≡ items_of buffer.old }
 {
     let _before = buffer.pos_slice();
     let _ = buffer.move_to(at);
-    let _acted = apply_reverse_lookup(lookup, ctx, buffer);
+    let acts = apply_reverse_lookup(lookup, ctx, buffer);
     let _after = buffer.pos_slice();
+    acts || acted
 }
 
-/// Tries a reverse chaining lookup at each glyph once, from the right, in place. It takes no memory.
+/// Tries a reverse chaining lookup at each glyph once, from the right, in place. It answers whether it acted anywhere,
+/// and takes no memory.
 #[tactic(auto, using(crate::proofs::Back::back_begun))]
-pub fn apply_backward(lookup: &SubstLookup, ctx: &hb_ot_apply_context_t, buffer: &mut hb_buffer_t)
+pub fn apply_backward(
+    lookup: &SubstLookup,
+    ctx: &hb_ot_apply_context_t,
+    buffer: &mut hb_buffer_t,
+) -> bool
     requires ready { IsReady buffer.old }
     requires numbers { are_glyphs (items_of buffer.old) ≡ true }
-    ensures { (r : ℕ) → IsDoneFrom r r (backward_pass
+    ensures stage { (r : ℕ) → IsDoneFrom r r (backward_pass
         (reverse_action (apply_context_of ctx.now) lookup.now)) buffer.old buffer.new }
+    ensures unchanged { result ≡ false → items_of buffer.new ≡ items_of buffer.old }
 {
+    let mut acted = false;
     for at in (0..buffer.len()).rev() {
-        apply_at(lookup, at, ctx, buffer);
+        acted = apply_at(lookup, at, ctx, acted, buffer);
     }
     let _end = buffer.len();
     let _ = buffer.move_to(0);
     let _after = buffer.pos_slice();
+    acted
 }

@@ -16,13 +16,12 @@ use layout_contexts::MAX_NESTING_LEVEL;
 use layout_face::substitution::{SubstLookup, SubstitutionSubtables, SubstitutionTable};
 use layout_gsub::reverse::apply_reverse_chain_single_subst;
 use layout_match::hb_ot_apply_context_t;
-use layout_match::lookup::meets;
+use layout_match::lookup::is_tried;
 use layout_tables::reverse::ReverseChainSubst;
 
 /// Applies the first matching subtable of a lookup at the cursor, where the lookup applies to the glyph there. It
 /// answers whether one acted; where none did it changed glyph flags only. It refuses for want of memory, or where the
 /// output would have more glyphs than it may.
-#[tactic(auto, using(buffer_stages::proofs::Lemmas::Glyphs::number_ahead, crate::proofs::First::lookup_passes, crate::proofs::First::lookup_tries))]
 pub fn apply_lookup(
     table: &SubstitutionTable,
     lookup: &SubstLookup,
@@ -38,11 +37,7 @@ pub fn apply_lookup(
         buffer.new }
     ensures context { apply_context_of ctx.new ≡ apply_context_of ctx.old }
 {
-    let info = buffer.cur(0);
-    if !lookup.subtables.may_have_glyph(info.as_glyph().0) {
-        return Ok(false);
-    }
-    if !meets(ctx, info) {
+    if !is_tried(ctx, &lookup.subtables, buffer) {
         return Ok(false);
     }
     apply_subtables(
@@ -119,7 +114,6 @@ fn apply_reverse_substitution(
 
 /// Applies a reverse chaining lookup at the cursor of a buffer without an output, where it applies to the glyph there.
 /// It answers whether it acted; where it didn't, it changed glyph flags only. It takes no memory.
-#[tactic(auto, using(buffer_stages::proofs::Lemmas::Glyphs::number_ahead, crate::proofs::First::reverse_passes, crate::proofs::First::reverse_tries))]
 pub fn apply_reverse_lookup(
     lookup: &SubstLookup,
     ctx: &hb_ot_apply_context_t,
@@ -130,11 +124,7 @@ pub fn apply_reverse_lookup(
     ensures { PerformsWithoutOutput (reverse_action (apply_context_of ctx.now) lookup.now
         (cut_of buffer.old)) result buffer.old buffer.new }
 {
-    let info = buffer.cur(0);
-    if !lookup.subtables.may_have_glyph(info.as_glyph().0) {
-        return false;
-    }
-    if !meets(ctx, info) {
+    if !is_tried(ctx, &lookup.subtables, buffer) {
         return false;
     }
     apply_reverse_substitution(lookup.subtables.inner(), ctx, buffer)

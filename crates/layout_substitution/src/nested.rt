@@ -24,8 +24,8 @@ use buffer_core::buffer::hb_buffer_t;
 use buffer_glyphs::cause::ShapeCause;
 use layout_common::digested::Digested;
 use layout_contexts::{
-    ChainRule, begin_record, begins_with, glyph_count, is_tried_at, match_chain, move_to_match_end,
-    rule_at, rule_count, settle_match,
+    ChainRule, begin_record, first_matches, glyph_count, is_tried_at, match_chain,
+    move_to_match_end, rule_at, rule_count, settle_match,
 };
 use layout_face::substitution::{SubstitutionSubtables, SubstitutionTable};
 use layout_gsub::apply::apply_first;
@@ -208,7 +208,7 @@ fn apply_rule(
         ctx.old.random_state ctx.new.random_state buffer.old buffer.new }
     ensures context { apply_context_of ctx.new ≡ apply_context_of ctx.old }
 {
-    if !begins_with(rule, buffer.cur(0)) {
+    if !first_matches(rule, buffer.cur(0)) {
         return Ok(false);
     }
     let mut indices = MatchPositions::new();

@@ -1,11 +1,12 @@
 //! Substitution, GSUB stage after GSUB stage (rustybuzz: hb/ot_layout_gsub_table.rs, `substitute`; hb/ot_layout.rs,
 //! `apply_layout_table`).
-ghost use Rattle.std.specs.Prelude.{ℕ, ◌≡◌, true};
+ghost use Rattle.std.specs.Prelude.{ℕ, ◌≡◌, OnOk, true};
 ghost use Rattle.std.specs.Option.{option_map_or, option_map};
 ghost use Rattle.buffer_core.specs.Sides.{items_of};
 ghost use Rattle.layout_map_features.specs.declared.per_table.TableIndex.TheVariants.{GSUB};
 ghost use Rattle.buffer_stages.specs.Buffers.{are_glyphs};
 ghost use Rattle.buffer_stages.specs.Ready.{DoesGlyphStage, DoesGlyphStageFrom, IsReady};
+ghost use Rattle.layout_match.specs.Skipping.{HoldsText};
 ghost use Rattle.layout_substitution.specs.Lookups.{lookups_stage};
 ghost use Rattle.buffer_stages.specs.Settings.{text_settings};
 ghost use Rattle.layout_substitution.specs.Substituting.{substitution_stages, substitution_lookups, table_stage, table_stages};
@@ -18,31 +19,61 @@ use layout_face::Face;
 use layout_map::map::hb_ot_map_t;
 use layout_map_features::lookup::lookup_map_t;
 use layout_map_features::per_table::TableIndex;
-use layout_match::hb_ot_apply_context_t;
+use layout_match::{TextDigest, TextGlyphs, hb_ot_apply_context_t};
 
 /// Applies the lookups of a GSUB stage one after another; a font without a GSUB table has none.
-fn apply_stage(
+fn apply_stage<T: TextDigest>(
     lookups: &[lookup_map_t],
+    text: &mut T,
     ctx: &mut hb_ot_apply_context_t,
     buffer: &mut hb_buffer_t,
 ) -> Result<(), ShapeCause>
     requires substitution { ctx.old.table_index ≡ GSUB }
     requires ready { IsReady buffer.old }
     requires numbers { are_glyphs (items_of buffer.old) ≡ true }
+    requires held { HoldsText (T.sets text.old) (items_of buffer.old) }
     ensures stage { DoesGlyphStageFrom ctx.old.random_state ctx.new.random_state (lookups_stage ctx.old.face.now
         (substitution_lookups ctx.old.face.now) lookups.now) result buffer.old buffer.new }
     ensures table { ctx.new.table_index ≡ GSUB }
     ensures face { ctx.new.face.now ≡ ctx.old.face.now }
+    ensures held { OnOk result (HoldsText (T.sets text.new) (items_of buffer.new)) }
 {
     match ctx.face.gsub() {
-        Some(table) => apply_all(table, lookups, ctx, buffer),
+        Some(table) => apply_all(table, lookups, text, ctx, buffer),
         None => Ok(()),
     }
 }
 
+/// Applies the lookups of a map's GSUB stages, each stage ended by its pause. What is known of the text serves all of
+/// them.
+#[tactic(auto, using(crate::proofs::Ways::stage_lookups_refused))]
+fn apply_stages<P: Pause, T: TextDigest>(
+    map: &hb_ot_map_t,
+    text: &mut T,
+    ctx: &mut hb_ot_apply_context_t,
+    buffer: &mut hb_buffer_t,
+    pause: &P,
+) -> Result<(), ShapeCause>
+    requires substitution { ctx.old.table_index ≡ GSUB }
+    requires ready { IsReady buffer.old }
+    requires numbers { are_glyphs (items_of buffer.old) ≡ true }
+    requires held { HoldsText (T.sets text.old) (items_of buffer.old) }
+    ensures { DoesGlyphStageFrom ctx.old.random_state ctx.new.random_state (table_stages ctx.old.face.now
+        (substitution_lookups ctx.old.face.now) map.now.tables.gsub (P.stage pause.now (text_settings buffer.old)) 0
+        map.now.tables.gsub.stages) result buffer.old buffer.new }
+{
+    let stages = map.stages(TableIndex::GSUB);
+    for i in 0..stages.len() {
+        let lookups = map.stage_lookups(TableIndex::GSUB, i);
+        apply_stage(lookups, text, ctx, buffer)?;
+        let introduced = run_pause(pause, stages[i].pause, buffer)?;
+        text.after_pause(introduced);
+    }
+    Ok(())
+}
+
 /// Applies the lookups of a map's GSUB stages, each stage ended by its pause. The context is one of GSUB; each lookup
 /// sets its own mask and flag in it. It refuses as `substitute` does.
-#[tactic(auto, using(crate::proofs::Ways::stage_lookups_refused))]
 pub fn apply_layout_table<P: Pause>(
     map: &hb_ot_map_t,
     ctx: &mut hb_ot_apply_context_t,
@@ -56,12 +87,8 @@ pub fn apply_layout_table<P: Pause>(
         (substitution_lookups ctx.old.face.now) map.now.tables.gsub (P.stage pause.now (text_settings buffer.old)) 0
         map.now.tables.gsub.stages) result buffer.old buffer.new }
 {
-    let stages = map.stages(TableIndex::GSUB);
-    for i in 0..stages.len() {
-        apply_stage(map.stage_lookups(TableIndex::GSUB, i), ctx, buffer)?;
-        run_pause(pause, stages[i].pause, buffer)?;
-    }
-    Ok(())
+    let mut text = TextGlyphs::new();
+    apply_stages(map, &mut text, ctx, buffer, pause)
 }
 
 /// Substitutes glyphs by the font's rules for the features of a map: stage after stage the stage's lookups by their

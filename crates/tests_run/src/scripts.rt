@@ -27,7 +27,8 @@ const TABLES: &str =
 // decomposition; Balinese marks of classes 7 and 9 in both orders; a Myanmar character, and its decomposition. A syllable
 // of Hangul, and a bracket before a Hebrew letter. The first half of a Thai vowel is moved
 // before the tone mark. Last a repha of Dives Akuru, and a dotted circle, which is inserted after two rephas with the
-// second one's cluster; then the first repha is moved after it.
+// second one's cluster; then the first repha is moved after it. In the last font a lookup acts on the circle, which was
+// not there when an earlier lookup was tried.
 static ROWS: &str =
     r#"{"upem":1000,"cmap":[[1575,10],[1576,20],[1611,30]],"h":[[10,200],[13,250],[20,400],[21,400],[22,400],[23,400],[30,100]],"gsub":{"scripts":[["arab",{"features":[0,1,2]},[]]],"features":[["fina",[2]],["init",[0]],["medi",[1]]],"lookups":[{"type":"single","subtables":[[[20,21]]]},{"type":"single","subtables":[[[20,22]]]},{"type":"single","subtables":[[[10,13],[20,23]]]}]}}
 direction=r;U+628 628 628;23=4+400|22=2+400|21=0+400
@@ -58,7 +59,10 @@ direction=r;U+28 5D0;0=1+0|13=0+300
 ;U+E14 E4B E33;30=0+500|31=0+0|32=0+0|33=0+400
 
 {"upem":1000,"cmap":[[9676,10],[72001,5]],"h":[[5,200],[10,600]]}
-level=2;U+11941 11941;5=4+200|10=4+600|5=0+200"#;
+level=2;U+11941 11941;5=4+200|10=4+600|5=0+200
+
+{"upem":1000,"cmap":[[9676,10],[72001,5]],"h":[[5,200],[10,600],[11,700]],"gsub":{"scripts":[["diak",{"features":[0,1]},[]]],"features":[["calt",[0]],["ccmp",[1]]],"lookups":[{"type":"single","subtables":[[[10,11]]]},{"type":"single","subtables":[[[98,99]]]}]}}
+level=2;U+11941 11941;5=4+200|11=4+700|5=0+200"#;
 
 #[test]
 fn scripts_are_shaped(rt: HostRuntime) -> Result<(), Fail> {

@@ -27,7 +27,8 @@ use Rattle.buffer_stages.specs.Performing.{IsPerformed, cut_with}
 use Rattle.buffer_stages.proofs.Lemmas.Frames.{same_numbers}
 use Rattle.layout_gpos.specs.Moving.{KeepsItems, ItemsStay}
 use Rattle.layout_gpos.specs.Singles.{single_adjusted, single_subtable}
-use Rattle.layout_gpos.specs.Pairs.{begins_pair, next_item, pair_from, pair_length, pair_of, pair_second, pair_subtable, pair_values}
+use Rattle.layout_tables.specs.Covers.{covers_first_of_pair}
+use Rattle.layout_gpos.specs.Pairs.{next_item, pair_from, pair_length, pair_of, pair_second, pair_subtable, pair_values}
 use Rattle.layout_gpos.specs.Marks.{attach_if, base_before, among_marks, belong_together, component_in, is_there, item_before, ligature_before, mark_on_base, mark_on_ligature, mark_on_mark, mark_to_base, mark_to_ligature, mark_to_mark, on_base, on_component, on_ligature, on_mark, with_found}
 
 -- ---- rules of any kind
@@ -86,7 +87,7 @@ second_left d values (Err end) c = tt
 second_left d values (Ok apart) c = of_left d apart (option_and_then values (slice_get c.rest apart)) c
 
 from_left : (d : Direction) (a : ApplyContext) (s : PairPos) (x : Item) → KeepsItems (pair_from d a s x)
-from_left d a s x c = either_way (begins_pair s x.number) _ (Passes []) c (second_left d (λ y. pair_values s x.number y.number) (next_item a c.rest) c) tt
+from_left d a s x c = either_way (covers_first_of_pair s x.number) _ (Passes []) c (second_left d (λ y. pair_values s x.number y.number) (next_item a c.rest) c) tt
 
 pub pair_keeps : (d : Direction) (a : ApplyContext) (s : PairPos) → KeepsItems (pair_subtable d a s)
 pair_keeps d a s c = at_first_left (pair_from d a s) (first_of c.rest) (from_left d a s) c

@@ -10,14 +10,13 @@ use Rattle.layout_tables.specs.declared.mark.MarkBasePos.{MarkBasePos}
 use Rattle.layout_tables.specs.declared.mark.MarkRecord.{MarkRecord}
 use Rattle.layout_tables.specs.declared.mark.MarkLigPos.{MarkLigPos}
 use Rattle.layout_tables.specs.declared.pair.PairPos.{PairPos}
-use Rattle.layout_tables.specs.declared.pair.PairPos.TheVariants.{Glyphs, Classes}
 use Rattle.layout_tables.specs.declared.value.ValueRecord.{ValueRecord}
 use Rattle.layout_match.specs.Applied.{ApplyContext}
 use Rattle.layout_match.specs.Skipping.{PassesAt}
 use Rattle.layout_match.specs.Lemmas.Passing.{passes_at_item}
 use Rattle.buffer_stages.specs.Actions.{Cut, Passes}
 use Rattle.layout_gpos.specs.Marks.{mark_on_base, mark_on_ligature, mark_on_mark, mark_to_base, mark_to_ligature, mark_to_mark}
-use Rattle.layout_gpos.specs.Pairs.{begins_pair, pair_from, pair_subtable}
+use Rattle.layout_gpos.specs.Pairs.{pair_from, pair_subtable}
 use Rattle.layout_gpos.specs.Singles.{single_adjusted, single_subtable}
 
 single_at : (d : Direction) (o : Option ValueRecord) (c : Cut) → is_some o ≡ false → single_adjusted d o c ≡ Passes []
@@ -27,12 +26,8 @@ single_at d (Some v) c none = cc
 pub single_uncovered : (d : Direction) (rows : List (GlyphRow ValueRecord)) (x : Item) → covers_value rows x.number ≡ false → PassesAt (single_subtable d rows) x
 single_uncovered d rows x none = passes_at_item (λ y. single_adjusted d (value_of y.number rows)) x (λ c. single_at d (value_of x.number rows) c none)
 
-begun : (s : PairPos) (g : ℕ) → covers_first_of_pair s g ≡ false → begins_pair s g ≡ false
-begun (Glyphs p) g none = none
-begun (Classes p) g none = none
-
 pub pair_uncovered : (d : Direction) (a : ApplyContext) (s : PairPos) (x : Item) → covers_first_of_pair s x.number ≡ false → PassesAt (pair_subtable d a s) x
-pair_uncovered d a s x none = passes_at_item (pair_from d a s) x (λ c. let off = begun s x.number none in rw off refl)
+pair_uncovered d a s x none = passes_at_item (pair_from d a s) x (λ c. rw none refl)
 
 base_at : (a : ApplyContext) (s : MarkBasePos) (o : Option MarkRecord) (c : Cut) → is_some o ≡ false → mark_on_base a s.bases o c ≡ Passes []
 base_at a s None c none = refl

@@ -30,7 +30,8 @@ use Rattle.layout_gpos.specs.Anchors.{with_mark_attached, with_attachment_flag}
 use Rattle.layout_gpos.specs.Moving.{break_around, cut_with_positions}
 use Rattle.layout_gpos.specs.Values.{with_adjusted_position, is_zero}
 use Rattle.layout_gpos.specs.Singles.{single_adjusted, single_subtable}
-use Rattle.layout_gpos.specs.Pairs.{pair_adjusted, pair_length, has_no_effect, pair_of, pair_second, next_item, pair_values, begins_pair, pair_from, pair_subtable}
+use Rattle.layout_tables.specs.Covers.{covers_first_of_pair}
+use Rattle.layout_gpos.specs.Pairs.{pair_adjusted, pair_length, has_no_effect, pair_of, pair_second, next_item, pair_values, pair_from, pair_subtable}
 use Rattle.layout_gpos.specs.Marks.{attach_if, is_there, with_found, on_base, mark_on_base, mark_to_base, on_component, component_in, on_ligature, item_before, among_marks, mark_on_ligature, mark_to_ligature, belong_together, on_mark, mark_on_mark, mark_to_mark}
 use Rattle.layout_positioning.specs.Joins.{join_if, exit_of, on_exit, entry_of, from_entry, cursive_subtable}
 use Rattle.layout_positioning.specs.Lookups.{first_subtable, under_flag, nested_lookup, nested_actions, lookup_action}
@@ -68,7 +69,7 @@ second_related w i ways d values (Ok apart) c = values_related w i ways d apart 
 
 pair_related : (w : Limits) (i : w.Index) → IsPositioned w → (d : Direction) (a : ApplyContext) (s : PairPos) → IsRelated w i (pair_subtable d a s)
 pair_related w i ways d a s c = item_related w i ways.closed (pair_from d a s) c (λ x e.
-    test_related w i c (begins_pair s x.number) (pair_second d (λ y. pair_values s x.number y.number) (next_item a c.rest) c) (Passes []) (pair_second d (λ y. pair_values s x.number y.number) (next_item a c.rest) (recut w i c)) (Passes [])
+    test_related w i c (covers_first_of_pair s x.number) (pair_second d (λ y. pair_values s x.number y.number) (next_item a c.rest) c) (Passes []) (pair_second d (λ y. pair_values s x.number y.number) (next_item a c.rest) (recut w i c)) (Passes [])
     (second_related w i ways d (λ y. pair_values s x.number y.number) (next_item a c.rest) c) (ways.closed.passes i c))
 
 -- ---- attachments

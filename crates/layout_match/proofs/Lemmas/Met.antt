@@ -1,11 +1,13 @@
 -- A rule is tried at a glyph that its lookup meets.
 use Rattle.std.proofs.Common.{ℕ, ◌≡◌, true, false, Bool, List, [], ◌∷◌, refl, sym, ap, subst, ◌∙◌, slice_get, Some}
+use Rattle.std.specs.Prelude.{Result}
+use Rattle.buffer_glyphs.specs.declared.cause.ShapeCause.{ShapeCause}
 use Rattle.buffer_glyphs.specs.declared.info.hb_glyph_info_t.{hb_glyph_info_t}
 use Rattle.buffer_glyphs.specs.Items.{Item, item_of, strip}
 use Rattle.buffer_core.specs.Sides.{Sides}
 use Rattle.layout_match.specs.Applied.{ApplyContext}
 use Rattle.buffer_stages.specs.Actions.{Action, Outcome, Passes, at_first}
-use Rattle.buffer_stages.specs.Performing.{IsPerformed, PerformsWithoutOutput, cut_with}
+use Rattle.buffer_stages.specs.Performing.{IsPerformed, Performs, PerformsWithoutOutput, cut_with}
 use Rattle.buffer_stages.specs.Buffers.{cut_of}
 use Rattle.buffer_stages.proofs.Lemmas.Does.{passed_same}
 use Rattle.buffer_stages.proofs.Lemmas.Performed.{passes_nothing}
@@ -27,6 +29,31 @@ starts (h ∷ gs) g at = let same : h ≡ g = cc in (strip gs, ap (λ k. item_of
 
 passes_there : (act : Action) (r : ℕ) (s : Sides) (g : hb_glyph_info_t) → slice_get s.ahead 0 ≡ Some g → PassesAt act (item_of g) → act (cut_with r s) ≡ Passes []
 passes_there act r s g at passes = let first = starts s.ahead g at in passes (cut_with r s) first.0 first.1
+
+-- a lookup whose rule passes at a glyph that isn't covered
+pub uncovered_there : (a : ApplyContext) (act : Action) (covers : ℕ → Bool) (r n : ℕ) (s : Sides) (g : hb_glyph_info_t) → slice_get s.ahead 0 ≡ Some g → n ≡ g.glyph_id → covers n ≡ false → ((x : Item) → covers x.number ≡ false → PassesAt act x) → met_first a act (cut_with r s) ≡ Passes []
+uncovered_there a act covers r n s g at is none passes = by_meeting (meets a (item_of g)) refl
+  where
+    by_meeting : (b : Bool) → meets a (item_of g) ≡ b → met_first a act (cut_with r s) ≡ Passes []
+    by_meeting true e = met a act r s g at e ∙ passes_there act r s g at (passes (item_of g) (ap covers (sym is) ∙ none))
+    by_meeting false e = unmet a act r s g at e
+
+-- what is done by a rule is done by its lookup, where that is tried
+pub performs_met : (a : ApplyContext) (act : Action) (r after : ℕ) (result : Result Bool ShapeCause) (s new : Sides) → met_first a act (cut_with r s) ≡ act (cut_with r s) → Performs (act (cut_with r s)) result r after s new → Performs (met_first a act (cut_with r s)) result r after s new
+performs_met a act r after result s new is d =
+    let P : Outcome → Type 0 = λ o. Performs o result r after s new in
+    subst P (sym is) d
+
+pub performs_met_in_place : (a : ApplyContext) (act : Action) (acted : Bool) (s new : Sides) → met_first a act (cut_of s) ≡ act (cut_of s) → PerformsWithoutOutput (act (cut_of s)) acted s new → PerformsWithoutOutput (met_first a act (cut_of s)) acted s new
+performs_met_in_place a act acted s new is d =
+    let P : Outcome → Type 0 = λ o. PerformsWithoutOutput o acted s new in
+    subst P (sym is) d
+
+-- a rule that passes in place
+pub passes_in_place : (o : Outcome) (s : Sides) → o ≡ Passes [] → PerformsWithoutOutput o false s s
+passes_in_place o s e =
+    let P : Outcome → Type 0 = λ q. PerformsWithoutOutput q false s s in
+    subst P (sym e) (refl, passed_same s)
 
 pub not_tried : (act : Action) (r : ℕ) (s : Sides) (g : hb_glyph_info_t) → slice_get s.ahead 0 ≡ Some g → PassesAt act (item_of g) → IsPerformed (act (cut_with r s)) false r r s s
 not_tried act r s g at passes = passes_nothing r s (act (cut_with r s)) (passes_there act r s g at passes)

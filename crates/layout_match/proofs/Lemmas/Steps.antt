@@ -8,7 +8,7 @@ use Rattle.buffer_glyphs.specs.Origins.{origins}
 use Rattle.buffer_glyphs.specs.Events.{Event}
 use Rattle.buffer_core.specs.Readings.{View, Reading, BufferState, Follows, then_reading, with_events}
 use Rattle.buffer_core.specs.Steps.{follows_happened}
-use Rattle.buffer_core.specs.Sides.{Sides, all_glyphs, state_of, after_next_glyphs, fits_next}
+use Rattle.buffer_core.specs.Sides.{Sides, all_glyphs, items_of, state_of, after_next_glyphs, fits_next}
 use Rattle.buffer_stages.specs.Actions.{Cut, view_at, past_item, Outcome, Passes, Acts, Refuses, Action}
 use Rattle.buffer_stages.specs.Buffers.{are_glyphs, IsStill, HasHappened, IsPassed}
 use Rattle.buffer_stages.specs.Performing.{cut_with, IsPerformed}
@@ -139,6 +139,13 @@ step_over act before after acted s mid new fails lt room d is =
     let P : Sides → Type 0 = λ t. IsStep act before after s t in
     let Q : ℕ → Type 0 = λ k. IsStep act before k s (after_next_glyphs 1 mid) in
     subst P (sym is) (subst Q (sym p.2) (over_step act before s mid p.0 lt room p.1 p.3))
+
+-- where the rule didn't act, the items are as before
+pub passed_items : (act : Action) (before after : ℕ) (acted : Bool) (s mid new : Sides) → acted ≡ false → IsPerformed (act (cut_with before s)) acted before after s mid → new ≡ after_next_glyphs 1 mid → items_of new ≡ items_of s
+passed_items act before after acted s mid new fails d is =
+    let D : Bool → Type 0 = λ b. IsPerformed (act (cut_with before s)) b before after s mid in
+    let p = passes_of act before after s mid (act (cut_with before s)) refl (subst D fails d) in
+    ap items_of is ∙ ap strip (moved_all mid) ∙ same_numbers s mid p.3.cut_is
 
 -- the same with an output open
 pub step_passed : (act : Action) (before after : ℕ) (acted : Bool) (s mid new : Sides) → acted ≡ false → 0 < length s.ahead → s.is_open ≡ true → IsPerformed (act (cut_with before s)) acted before after s mid → fits_next 1 mid ≡ true → new ≡ after_next_glyphs 1 mid

@@ -1,12 +1,14 @@
 -- A rule that passes at each item of a list leaves the list as it is.
-use Rattle.std.proofs.Common.{ℕ, suc, zero, ◌≡◌, ◌+◌, true, false, nat_le, Bool, List, [], ◌∷◌, ◌++◌, length, Ok, refl, ap, ◌∙◌, arith, append_assoc}
+use Rattle.std.proofs.Common.{ℕ, suc, zero, ◌≡◌, ◌+◌, true, false, nat_le, Bool, ◌&&◌, not, List, [], ◌∷◌, ◌++◌, length, Ok, refl, ap, ◌∙◌, arith, append_assoc}
 use Rattle.std.proofs.lemmas.Bool.Decides.{nat_tests}
 use Rattle.std.proofs.lemmas.List.{length-append}
 use Rattle.buffer_glyphs.specs.Items.{Item}
 use Rattle.buffer_glyphs.specs.Parts.{first_of}
 use Rattle.buffer_core.specs.Readings.{View, and_then, then_reading, with_events}
 use Rattle.buffer_stages.specs.Actions.{Action, Acts, Cut, Passes, at_first, past_item, uncut, uncut_with_positions, view_at}
+use Rattle.buffer_stages.specs.Masks.{shares_mask}
 use Rattle.layout_match.specs.Applied.{ApplyContext}
+use Rattle.layout_match.specs.Searches.{is_left_out}
 use Rattle.layout_match.specs.Lemmas.Passing.{passes_at_item}
 use Rattle.layout_match.specs.Skipping.{PassesAll, PassesAt}
 use Rattle.layout_match.specs.Trying.{after_outcome, at_met, forward_pass, meets, met_first, outcome_past_item, trials, whole_list, with_zero_positions}
@@ -51,3 +53,11 @@ rule_passes a act x passes c rest e = ap (λ xs. at_first (at_met a act) (first_
     by_meeting : (b : Bool) → meets a x ≡ b → at_met a act x c ≡ Passes []
     by_meeting true is = rw is (passes c rest e)
     by_meeting false is = rw is refl
+
+-- a lookup passes where its rule does, or the item has no bit of its mask
+pub idle_passes : (a : ApplyContext) (act : Action) (covers : Bool) (x : Item) → (covers ≡ false → PassesAt act x) → (shares_mask a.mask x.mask && covers) ≡ false → PassesAt (met_first a act) x
+idle_passes a act covers x passes none = by_sharing (shares_mask a.mask x.mask) refl none
+  where
+    by_sharing : (b : Bool) → shares_mask a.mask x.mask ≡ b → (b && covers) ≡ false → PassesAt (met_first a act) x
+    by_sharing true is uncovered = rule_passes a act x (passes uncovered)
+    by_sharing false is uncovered = unmet_passes a act x (ap (λ b. b && not (is_left_out a.props a.font.gdef.sets x)) is)

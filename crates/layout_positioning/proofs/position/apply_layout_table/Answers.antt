@@ -1,35 +1,5 @@
-use Rattle.std.proofs.Common.{rules, get_or, None, ap, ◌∙◌}
-use Rattle.layout_map.specs.declared.stages.StageMap.{StageMap}
-use Rattle.buffer_stages.specs.Settings.{text_settings}
-use Rattle.buffer_stages.proofs.Lemmas.Ways.{paused_as_set, refused_as_set}
-use Rattle.layout_match.proofs.Lemmas.Stages.{stage_refused}
-use Rattle.layout_positioning.specs.Positioning.{positioning_lookups}
-use Rattle.layout_positioning.proofs.Ways.{stage_done, stage_pause_refused}
+use Rattle.buffer_core.specs.Sides.{items_of}
 use Rattle.layout_positioning.proofs.position.apply_layout_table.Goals as goal
 
-pub returns-in_err-run_pause : goal.returns-in_err-run_pause
-returns-in_err-run_pause g c =
-    let was = c.loop-i.invariant in
-    let none : StageMap = record { last_lookup = 0; pause = None } in
-    let t = c.args.map.now.tables.gpos in
-    let there = ap (λ ss. get_or ss c.loop-i.i none) was.stages in
-    let cause = c.in_err-run_pause.field-0.0 in
-    let given = g.P.Pause.stage c.args.pause.now in
-    stage_refused c.from_residual-in_err-run_pause.result cause _ _ _ _ _ c.from_residual-in_err-run_pause.ensures.1
-    (λ not_memory.
-    stage_pause_refused c.args.face.now (positioning_lookups c.args.face.now) t (given (text_settings c.args.buffer.now)) c.loop-i.i none c.stage_lookups.result.now _ c.args.buffer.now c.loop-i.buffer c.apply_stage.new.buffer cause (search rules) was.done c.stage_lookups.ensures (ap (λ (s : StageMap). s.pause) there)
-    c.in_ok-apply_stage.ensures
-    (refused_as_set given _ 1 c.args.buffer.now c.apply_stage.new.buffer cause (c.in_ok-apply_stage.ensures.settings ∙ was.done.settings) (c.in_err-run_pause.ensures 1 not_memory)))
-
-pub loop-i-preserved : goal.loop-i-preserved
-loop-i-preserved g c =
-    let was = c.loop-i.invariant in
-    let none : StageMap = record { last_lookup = 0; pause = None } in
-    let t = c.args.map.now.tables.gpos in
-    let there = ap (λ ss. get_or ss c.loop-i.i none) was.stages in
-    record {
-      done = stage_done c.args.face.now (positioning_lookups c.args.face.now) t (g.P.Pause.stage c.args.pause.now (text_settings c.args.buffer.now)) c.loop-i.i none c.stage_lookups.result.now _ c.args.buffer.now c.loop-i.buffer c.apply_stage.new.buffer c.run_pause.new.buffer (search rules) was.done c.stage_lookups.ensures (ap (λ (s : StageMap). s.pause) there)
-          c.in_ok-apply_stage.ensures
-          (paused_as_set (g.P.Pause.stage c.args.pause.now) _ 1 c.args.buffer.now c.apply_stage.new.buffer c.run_pause.new.buffer (c.in_ok-apply_stage.ensures.settings ∙ was.done.settings) (c.in_ok-run_pause.ensures 1));
-      stages = was.stages;
-    }
+pub apply_stages-requires-clause-held : goal.apply_stages-requires-clause-held
+apply_stages-requires-clause-held g c = c.new-text.ensures (items_of c.args.buffer.now)

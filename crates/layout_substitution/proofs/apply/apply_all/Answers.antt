@@ -7,7 +7,7 @@ use Rattle.layout_substitution.proofs.Stages.{one_done}
 use Rattle.layout_substitution.proofs.apply.apply_all.Goals as goal
 
 pub loop-lookup_map-preserved : goal.loop-lookup_map-preserved
-loop-lookup_map-preserved c =
+loop-lookup_map-preserved g c =
     let none : lookup_map_t = record { index = 0; mask = 0; auto_zwnj = false; auto_zwj = false; random = false; per_syllable = false } in
     let i = c.loop-lookup_map.invariant in
     let r = c.loop-lookup_map.ctx.random_state in
@@ -19,5 +19,6 @@ loop-lookup_map-preserved c =
           one_done c.args.ctx.now.face.now c.args.table.now.lookups c.args.lookups.now c.loop-lookup_map.lookup_map-index none c.args.ctx.now.random_state r after c.args.buffer.now c.loop-lookup_map.buffer c.apply_mapped.new.buffer c.loop-lookup_map-test.true i.done
           (subst P i.face c.in_ok-apply_mapped.ensures.stage);
       substitution = c.apply_mapped.ensures.table;
+      held = c.in_ok-apply_mapped.ensures.held;
       face = c.apply_mapped.ensures.face ∙ i.face;
     }

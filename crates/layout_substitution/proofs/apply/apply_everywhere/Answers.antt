@@ -11,4 +11,4 @@ returns-then-is_reverse-clause-stage c =
     let a = apply_context_of c.args.ctx.now in
     let lookup = c.args.lookup.now in
     let r = c.args.ctx.now.random_state in
-    either_done (is_reverse lookup.subtables) (backward_pass (reverse_action a lookup)) (forward_pass (lookup_action c.args.table.now.lookups a lookup)) r r c.args.buffer.now c.apply_backward.new.buffer (sym c.is_reverse.ensures ∙ c.if-is_reverse.true) (c.apply_backward.ensures r)
+    either_done (is_reverse lookup.subtables) (backward_pass (reverse_action a lookup)) (forward_pass (lookup_action c.args.table.now.lookups a lookup)) r r c.args.buffer.now c.apply_backward.new.buffer (sym c.is_reverse.ensures ∙ c.if-is_reverse.true) (c.apply_backward.ensures.stage r)

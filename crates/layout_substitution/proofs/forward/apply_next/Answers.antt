@@ -1,7 +1,7 @@
 use Rattle.std.proofs.Common.{◌≡◌, ◌<◌, ◌∙◌, true, Ok, ap, sym, length, arith}
 use Rattle.layout_match.specs.Applied.{apply_context_of}
 use Rattle.layout_substitution.specs.Lookups.{lookup_action}
-use Rattle.layout_match.proofs.Lemmas.Steps.{step_acted, step_passed}
+use Rattle.layout_match.proofs.Lemmas.Steps.{passed_items, step_acted, step_passed}
 use Rattle.layout_substitution.proofs.forward.apply_next.Goals as goal
 
 pub returns-then-branch-clause-ok : goal.returns-then-branch-clause-ok
@@ -17,3 +17,10 @@ returns-clause-ok c =
     let answer : c.next_glyph.result ≡ Ok true = c.in_ok-next_glyph.was ∙ ap Ok c.if-not-branch.false in
     step_passed (lookup_action c.args.table.now.lookups (apply_context_of ctx) c.args.lookup.now) ctx.random_state c.apply_lookup.new.ctx.random_state c.in_ok-apply_lookup.field-0 c.args.buffer.now c.apply_lookup.new.buffer c.next_glyph.new.self c.if-branch.false there c.requires.open c.in_ok-apply_lookup.ensures.performs
     (sym c.in_ok-next_glyph.ensures.held ∙ c.if-not-branch.false) (c.next_glyph.ensures.moved answer)
+
+pub returns-clause-unchanged : goal.returns-clause-unchanged
+returns-clause-unchanged c e =
+    let ctx = c.args.ctx.now in
+    let answer : c.next_glyph.result ≡ Ok true = c.in_ok-next_glyph.was ∙ ap Ok c.if-not-branch.false in
+    passed_items (lookup_action c.args.table.now.lookups (apply_context_of ctx) c.args.lookup.now) ctx.random_state c.apply_lookup.new.ctx.random_state c.in_ok-apply_lookup.field-0 c.args.buffer.now c.apply_lookup.new.buffer c.next_glyph.new.self c.if-branch.false c.in_ok-apply_lookup.ensures.performs
+    (c.next_glyph.ensures.moved answer)

@@ -1,29 +1,26 @@
-use Rattle.std.proofs.Common.{ℕ, ◌≡◌, false, sym, subst, ◌∙◌}
+use Rattle.std.proofs.Common.{subst}
 use Rattle.layout_match.specs.Applied.{apply_context_of}
-use Rattle.buffer_glyphs.specs.Items.{item_of}
-use Rattle.layout_face.specs.Lookups.{substitution_covers}
-use Rattle.layout_match.proofs.Lemmas.Met.{not_tried_in_place}
-use Rattle.layout_substitution.specs.Lookups.{first_reverse, reverse_action}
-use Rattle.layout_substitution.proofs.Uncovered.{reverse_lookup_uncovered}
-use Rattle.layout_substitution.proofs.First.{reverse_passes, reverse_tries}
+use Rattle.layout_match.proofs.Lemmas.Met.{passes_in_place, performs_met_in_place}
 use Rattle.buffer_stages.specs.Buffers.{cut_of}
 use Rattle.buffer_stages.specs.Performing.{PerformsWithoutOutput}
 use Rattle.layout_face.specs.declared.substitution.SubstitutionSubtables.{SubstitutionSubtables}
+use Rattle.layout_substitution.specs.Lookups.{first_reverse, reverse_action}
+use Rattle.layout_substitution.proofs.Uncovered.{first_reverse_uncovered}
 use Rattle.layout_substitution.proofs.lookup.apply_reverse_lookup.Goals as goal
 
-pub returns-then-not-may_have_glyph : goal.returns-then-not-may_have_glyph
-returns-then-not-may_have_glyph c =
+pub returns-then-not-is_tried : goal.returns-then-not-is_tried
+returns-then-not-is_tried c =
     let a = apply_context_of c.args.ctx.now in
-    let x = c.cur-info.result.now in
-    let P : ℕ → Type 0 = λ n. substitution_covers c.args.lookup.now.subtables n ≡ false in
-    let none = subst P c.as_glyph.ensures (c.may_have_glyph.ensures c.if-not-may_have_glyph.true) in
-    not_tried_in_place (reverse_action a c.args.lookup.now) c.args.buffer.now x c.cur-info.ensures (reverse_lookup_uncovered a c.args.lookup.now (item_of x) none)
-
-pub returns-then-not-meets : goal.returns-then-not-meets
-returns-then-not-meets c = reverse_passes (apply_context_of c.args.ctx.now) c.args.lookup.now c.args.buffer.now c.cur-info.result.now c.cur-info.ensures (sym c.meets.ensures ∙ c.if-not-meets.true)
+    let lookup = c.args.lookup.now in
+    let s = c.args.buffer.now in
+    passes_in_place (reverse_action a lookup (cut_of s)) s (c.is_tried.ensures.passes c.if-not-is_tried.true (first_reverse a lookup.subtables) (λ x none. first_reverse_uncovered a lookup.subtables x none) 1)
 
 pub returns : goal.returns
 returns c =
     let a = apply_context_of c.args.ctx.now in
-    let P : SubstitutionSubtables → Type 0 = λ s. PerformsWithoutOutput (first_reverse a s (cut_of c.args.buffer.now)) c.apply_reverse_substitution.result c.args.buffer.now c.apply_reverse_substitution.new.buffer in
-    reverse_tries a c.args.lookup.now c.apply_reverse_substitution.result c.args.buffer.now c.apply_reverse_substitution.new.buffer c.cur-info.result.now c.cur-info.ensures (sym c.meets.ensures ∙ c.if-not-meets.false) (subst P c.inner.ensures c.apply_reverse_substitution.ensures)
+    let act = first_reverse a c.args.lookup.now.subtables in
+    let s = c.args.buffer.now in
+    let new = c.apply_reverse_substitution.new.buffer in
+    let acted = c.apply_reverse_substitution.result in
+    let P : SubstitutionSubtables → Type 0 = λ t. PerformsWithoutOutput (first_reverse a t (cut_of s)) acted s new in
+    performs_met_in_place a act acted s new (c.is_tried.ensures.meets c.if-not-is_tried.false act 1) (subst P c.inner.ensures c.apply_reverse_substitution.ensures)

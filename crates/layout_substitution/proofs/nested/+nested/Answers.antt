@@ -161,10 +161,10 @@ apply_records-returns-clause-walks t c =
     last_walked (nested_act c.args.table.now.lookups (c.args.depth - 1) (apply_context_of c.args.ctx.now)) (nested_actions c.args.table.now.lookups c.args.depth (apply_context_of c.args.ctx.now)) c.args.records.now c.loop-lookup_record.lookup_record-index c.args.ctx.now.random_state c.loop-lookup_record.ctx.random_state c.args.buffer.now c.loop-lookup_record.buffer c.args.indices.now.items c.loop-lookup_record.indices.items c.args.end c.loop-lookup_record.at
     (some_depth c.args.table.now.lookups c.args.depth (apply_context_of c.args.ctx.now) (λ e. absurd (omega (arith, e, c.if-depth-eq0.false)))) c.loop-lookup_record-test.false i.walked
 
-pub apply_rule-returns-then-not-begins_with-clause-performs : goal.apply_rule-returns-then-not-begins_with-clause-performs
-apply_rule-returns-then-not-begins_with-clause-performs t c =
+pub apply_rule-returns-then-not-first_matches-clause-performs : goal.apply_rule-returns-then-not-first_matches-clause-performs
+apply_rule-returns-then-not-first_matches-clause-performs t c =
     let a = apply_context_of c.args.ctx.now in
-    not_begun (nested_actions c.args.table.now.lookups c.args.depth a) a (chain_of c.args.rule.now) c.begins_with.result c.args.ctx.now.random_state c.args.buffer.now c.cur.result.now c.cur.ensures c.begins_with.ensures c.if-not-begins_with.true
+    not_begun (nested_actions c.args.table.now.lookups c.args.depth a) a (chain_of c.args.rule.now) c.first_matches.result c.args.ctx.now.random_state c.args.buffer.now c.cur.result.now c.cur.ensures c.first_matches.ensures c.if-not-first_matches.true
 
 pub apply_rule-returns-in-Ok-clause-performs : goal.apply_rule-returns-in-Ok-clause-performs
 apply_rule-returns-in-Ok-clause-performs t c =

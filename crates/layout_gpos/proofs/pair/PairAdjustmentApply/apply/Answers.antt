@@ -6,13 +6,13 @@ use Rattle.layout_gpos.proofs.Lemmas.Left.{pair_keeps}
 use Rattle.layout_gpos.proofs.Paired.{pair_begun}
 use Rattle.layout_gpos.proofs.pair.PairAdjustmentApply.apply.Goals as goal
 
-pub returns-then-begins_pair-clause-performed : goal.returns-then-begins_pair-clause-performed
-returns-then-begins_pair-clause-performed c = λ r.
+pub returns-then-covers_first_of_pair-clause-performed : goal.returns-then-covers_first_of_pair-clause-performed
+returns-then-covers_first_of_pair-clause-performed c = λ r.
     let s = c.args.buffer.now in
     pair_begun r c.as_glyph-first.result.0 s.direction (apply_context_of c.args.ctx.now) c.args.subtable.now c.apply_from.result s c.apply_from.new.buffer c.cur.result.now c.cur.ensures c.as_glyph-first.ensures (search rules) (c.apply_from.ensures r)
 
-pub returns-then-begins_pair-clause-kept : goal.returns-then-begins_pair-clause-kept
-returns-then-begins_pair-clause-kept c =
+pub returns-then-covers_first_of_pair-clause-kept : goal.returns-then-covers_first_of_pair-clause-kept
+returns-then-covers_first_of_pair-clause-kept c =
     let s = c.args.buffer.now in
     let a = apply_context_of c.args.ctx.now in
     performed_kept (pair_subtable s.direction a c.args.subtable.now) a c.apply_from.result 1 c.args._last.now s c.apply_from.new.buffer (pair_keeps s.direction a c.args.subtable.now) c.requires.kept
