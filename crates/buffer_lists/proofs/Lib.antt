@@ -14,3 +14,4 @@ pub mod Known
 pub mod Falling
 pub mod Between
 pub mod Ordered
+pub mod Fronts

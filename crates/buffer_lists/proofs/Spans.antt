@@ -76,7 +76,7 @@ spans_end level start order begin index reach s new whole lt near seen n before 
     ap (spans_merged level start order (index + 1) (index + 1) (length order - (index + 1))) n
     ∙ sym (ap (λ t. if t then spans_merged level start order (index + 1) (index + 1) (length order - (index + 1)) (span_merged level (start + begin) (start + (index + 1)) s) else spans_merged level start order begin (index + 1) (length order - (index + 1)) s) seam) ∙ opened
 
-pub put_step : (f : Keyed → Glyph) (order : List Keyed) (old range : List Glyph) (i : ℕ) (d : Keyed) (z g : Glyph) → i < length order → length order ≡ length old → range ≡ map f (take i order) ++ drop i old → z ≡ f (get_or order i d)
+pub put_step : {X : Type 0} (f : X → Glyph) (order : List X) (old range : List Glyph) (i : ℕ) (d : X) (z g : Glyph) → i < length order → length order ≡ length old → range ≡ map f (take i order) ++ drop i old → z ≡ f (get_or order i d)
     → set range i z ≡ map f (take (i + 1) order) ++ drop (i + 1) old
 put_step f order old range i d z g lt long before e =
     let within : i < length old = omega arith in

@@ -12,6 +12,7 @@ pub mod masks;
 pub mod merges;
 pub mod moves;
 pub mod order;
+pub mod over;
 pub mod replacement;
 pub mod reversal;
 pub mod sorting;

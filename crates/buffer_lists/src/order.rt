@@ -1,5 +1,5 @@
 //! What is known of the order of clusters, so that merges need not walk the lists (of this project).
-ghost use Rattle.std.specs.Prelude.{◌≡◌, ◌++◌, ◌∷◌, [], ℕ, Bool, List, None, Some, true, slice_set, reverse, drop, IfSome};
+ghost use Rattle.std.specs.Prelude.{◌≡◌, ◌++◌, ◌∷◌, [], ℕ, Bool, List, None, Some, true, slice_set, reverse, take, drop, IfSome};
 ghost use Rattle.buffer_glyphs.specs.Items.{clusters};
 ghost use Rattle.buffer_glyphs.specs.Order.{IsFalling, IsInOrder, IsRising};
 ghost use Rattle.buffer_lists.specs.Known.{HasOrder, IsFallingTo, IsRisingTo, is_known, known_input_clusters, known_output_clusters};
@@ -51,6 +51,11 @@ impl ClusterOrder {
             (known_output_clusters self.old.lent (clusters output.now)
             ++ drop n (known_input_clusters self.old.lent (clusters input.now))) →
             HasOrder self.new.known (clusters output.now ++ drop n (clusters input.now)) }
+        ensures in_place { (m n : ℕ) →
+            HasOrder self.old.known
+            (take m (known_input_clusters self.old.lent (clusters input.now))
+            ++ drop n (known_input_clusters self.old.lent (clusters input.now))) →
+            HasOrder self.new.known (take m (clusters input.now) ++ drop n (clusters input.now)) }
         ensures back { self.new.lent ≡ None }
     {
         let known = self.known.after_loan(self.lent, output, input);
@@ -97,9 +102,12 @@ impl KnownOrder {
         output: &[hb_glyph_info_t],
         input: &[hb_glyph_info_t],
     ) -> KnownOrder
-        ensures { (n : ℕ) → HasOrder self
+        ensures order { (n : ℕ) → HasOrder self
             (known_output_clusters lent (clusters output.now) ++ drop n (known_input_clusters lent (clusters input.now))) →
             HasOrder result (clusters output.now ++ drop n (clusters input.now)) }
+        ensures in_place { (m n : ℕ) → HasOrder self
+            (take m (known_input_clusters lent (clusters input.now)) ++ drop n (known_input_clusters lent (clusters input.now))) →
+            HasOrder result (take m (clusters input.now) ++ drop n (clusters input.now)) }
     {
         match lent {
             Some(lent) if !lent.is_as_it_was(output, input) => KnownOrder::Unknown,

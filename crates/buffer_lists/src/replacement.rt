@@ -52,7 +52,10 @@ pub fn push_copies(output: &mut Vec<hb_glyph_info_t>, input: &[hb_glyph_info_t],
     }
 }
 
-fn model_of(input: &[hb_glyph_info_t], output: &[hb_glyph_info_t]) -> Option<hb_glyph_info_t>
+pub(crate) fn model_of(
+    input: &[hb_glyph_info_t],
+    output: &[hb_glyph_info_t],
+) -> Option<hb_glyph_info_t>
     ensures { result ≡ or (first_of input.now) (last_of output.now) }
 {
     match input {
