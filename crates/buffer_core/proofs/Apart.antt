@@ -1,5 +1,5 @@
 -- What calls on one glyph, and those that add some, do to items, clusters and flags.
-use Rattle.std.proofs.Common.{ℕ, ◌≡◌, ◌<◌, ◌+◌, ◌++◌, true, List, [], ◌∷◌, length, get_or, map, take, drop, refl, ap, sym, arith, ◌∙◌, append_assoc}
+use Rattle.std.proofs.Common.{ℕ, ◌≡◌, ◌<◌, ◌+◌, ◌++◌, ◌||◌, Bool, true, nat_lt, List, [], ◌∷◌, length, get_or, map, take, drop, refl, ap, sym, arith, ◌∙◌, append_assoc}
 use Rattle.std.proofs.lemmas.List.{map-append, drop-drop, drop-map}
 use Rattle.std.proofs.Math.Seq.{take-append_seam, drop-append_seam, drop-append-add}
 use Rattle.std.specs.Global.{Vec}
@@ -21,9 +21,9 @@ use Rattle.buffer_core.proofs.Replaced.{all_copied}
 use Rattle.buffer_glyphs.specs.Origins.{origin_of, origins}
 
 -- a copy behind the cursor
-pub copied_view : (b : Inside) (out : Vec hb_glyph_info_t) (order : ClusterOrder) (n : ℕ) → b.have_output ≡ true → out.items ≡ b.out_info.items ++ numbered_copies glyph_numbered (or (first_of (drop b.idx b.info.items)) (last_of b.out_info.items)) (n ∷ [])
-    → sides_of (record b { out_info = out; order = order }) ≡ with_output_glyph n (sides_of b)
-copied_view b out order n h e = rw (h, e) refl
+pub copied_view : (b : Inside) (out : Vec hb_glyph_info_t) (order : ClusterOrder) (left : Bool) (n : ℕ) → b.have_output ≡ true → out.items ≡ b.out_info.items ++ numbered_copies glyph_numbered (or (first_of (drop b.idx b.info.items)) (last_of b.out_info.items)) (n ∷ [])
+    → left ≡ (b.is_apart || nat_lt b.idx (length out.items)) → sides_of (record b { out_info = out; order = order; is_apart = left }) ≡ with_output_glyph n (sides_of b)
+copied_view b out order left n h e l = rw (h, l, e) refl
 
 pub copy_items : (n : ℕ) (s : Sides) → items_of (with_output_glyph n s) ≡ items_replaced (length s.behind) 0 (n ∷ []) (items_of s)
 copy_items n s = ap strip (all_copied 0 (n ∷ []) s) ∙ strip_replaced (length s.behind) 0 (n ∷ []) (all_glyphs s)

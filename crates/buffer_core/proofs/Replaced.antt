@@ -1,6 +1,6 @@
 -- What a replacement does to the sides.
 use Rattle.std.specs.Global.{Vec}
-use Rattle.std.proofs.Common.{ℕ, ◌≡◌, ◌≤◌, ◌+◌, ◌==◌, ◌||◌, ◌⊎◌, inl, inr, nat_le, Bool, true, false, Option, Some, None, List, [], ◌∷◌, ◌++◌, length, drop, refl, arith, ap, ◌∙◌}
+use Rattle.std.proofs.Common.{ℕ, ◌≡◌, ◌≤◌, ◌+◌, ◌==◌, ◌||◌, ◌⊎◌, inl, inr, nat_le, nat_lt, Bool, true, false, Option, Some, None, List, [], ◌∷◌, ◌++◌, length, drop, refl, arith, ap, ◌∙◌}
 use Rattle.std.proofs.lemmas.Grind.{common_steps}
 use Rattle.std.proofs.lemmas.Bool.Decides.{nat_tests}
 use Rattle.std.proofs.lemmas.List.{append-nil, length-map, drop-drop, length-take-le, length-append}
@@ -19,15 +19,16 @@ use Rattle.buffer_core.specs.Sides.{Sides, all_glyphs, items_of}
 use Rattle.buffer_core.specs.Merging.{with_has_glyph_flags, with_merged, with_copied, with_replaced}
 use Rattle.buffer_core.proofs.Merged.{merged_sides, same_marks, all_merged}
 
-pub replaced_view : (b : Inside) (info out : Vec hb_glyph_info_t) (order : ClusterOrder) (taken flags : ℕ) (numbers : List ℕ) → b.have_output ≡ true
+pub replaced_view : (b : Inside) (info out : Vec hb_glyph_info_t) (order : ClusterOrder) (left : Bool) (taken flags : ℕ) (numbers : List ℕ) → b.have_output ≡ true
     → drop b.idx info.items ≡ glyphs_merged_at b.cluster_level 0 taken (drop b.idx b.info.items)
     → out.items ≡ beside_merged b.cluster_level (range_of 0 taken (clusters (drop b.idx b.info.items))) b.out_info.items ++ numbered_copies glyph_numbered (or (first_of (drop b.idx info.items)) (last_of (beside_merged b.cluster_level (range_of 0 taken (clusters (drop b.idx b.info.items))) b.out_info.items))) numbers
     → flags ≡ with_has_glyph_flags (is_marked_at b.cluster_level 0 taken (clusters (drop b.idx b.info.items))) b.scratch_flags
-    → sides_of (record b { info = info; out_info = out; idx = b.idx + taken; scratch_flags = flags; order = order }) ≡ with_replaced taken numbers (sides_of b)
-replaced_view b info out order taken flags numbers h i o f =
+    → left ≡ (b.is_apart || nat_lt (b.idx + taken) (length out.items))
+    → sides_of (record b { info = info; out_info = out; idx = b.idx + taken; scratch_flags = flags; order = order; is_apart = left }) ≡ with_replaced taken numbers (sides_of b)
+replaced_view b info out order left taken flags numbers h i o f l =
     let m = merged_sides b.cluster_level 0 taken (length b.out_info.items) (length b.out_info.items + taken) b.out_info.items (drop b.idx b.info.items) (omega arith) refl in
     let marks = f ∙ ap (λ any. with_has_glyph_flags any b.scratch_flags) (same_marks b.cluster_level 0 taken (length b.out_info.items) (length b.out_info.items + taken) (clusters (drop b.idx b.info.items)) (clusters (b.out_info.items ++ drop b.idx b.info.items)) m.range_is) in
-    rw (h, o, ← drop-drop taken b.idx info.items, i, m.ahead_is, m.behind_is, marks) refl
+    rw (h, l, o, ← drop-drop taken b.idx info.items, i, m.ahead_is, m.behind_is, marks) refl
 
 pub all_copied : (taken : ℕ) (numbers : List ℕ) (s : Sides) → all_glyphs (with_copied taken numbers s) ≡ glyphs_replaced (length s.behind) taken numbers (all_glyphs s)
 all_copied taken numbers s = rw (take-append_seam s.behind s.ahead, drop-append_seam s.behind s.ahead, drop-append-add s.behind s.ahead taken) refl

@@ -47,7 +47,7 @@ joined_places out info new n positions e p = rw (p, e, length-replicate) (sym (j
 
 pub joined_view : (b : Inside) (info out : Vec hb_glyph_info_t) (positions : Vec GlyphPosition) (order : ClusterOrder) → b.have_output ≡ true → info.items ≡ b.out_info.items ++ drop b.idx b.info.items
     → positions.items ≡ zero_positions (length b.out_info.items + (length b.info.items - b.idx))
-    → sides_of (record b { info = info; pos = positions; out_info = out; idx = 0; have_output = false; order = order }) ≡ after_sync (sides_of b)
+    → sides_of (record b { info = info; pos = positions; out_info = out; idx = 0; have_output = false; is_apart = false; order = order }) ≡ after_sync (sides_of b)
 joined_view b info out positions order h i p =
     let long = joined_length b.out_info.items b.info.items b.idx in
     rw (h, i, p, ← long) refl

@@ -14,6 +14,7 @@ sides_of b = record {
   ahead = drop b.idx b.info.items;
   positions = if b.have_output then [] else b.pos.items;
   is_open = b.have_output;
+  is_apart = b.is_apart;
   read = b.idx;
   has_refused = not b.successful;
   max_len = b.max_len;

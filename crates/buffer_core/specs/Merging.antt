@@ -8,7 +8,7 @@ use Rattle.buffer_glyphs.specs.Parts.{first_of, last_of, or}
 use Rattle.buffer_glyphs.specs.Levels.{InOutput, manner}
 use Rattle.buffer_glyphs.specs.Glyphs.{glyphs_merged_as, glyphs_merged_at, is_marked_at}
 use Rattle.buffer_glyphs.specs.Replacements.{numbered_copies, glyph_numbered}
-use Rattle.buffer_core.specs.Sides.{Sides, all_glyphs, has_output_room}
+use Rattle.buffer_core.specs.Sides.{Sides, all_glyphs, has_output_room, with_behind}
 
 -- the index among all glyphs of an index of the input; with no output open the input is all glyphs
 abbrev pub index_in_all : ℕ → Sides → ℕ
@@ -40,7 +40,7 @@ model s = or (first_of s.ahead) (last_of s.behind)
 
 -- so many glyphs ahead replaced by a copy of the model for each number, with no merge
 abbrev pub with_copied : ℕ → List ℕ → Sides → Sides
-with_copied taken numbers s = record s { behind = s.behind ++ numbered_copies glyph_numbered (model s) numbers; ahead = drop taken s.ahead; read = s.read + taken }
+with_copied taken numbers s = with_behind (s.behind ++ numbered_copies glyph_numbered (model s) numbers) (record s { ahead = drop taken s.ahead; read = s.read + taken })
 
 -- so many glyphs ahead merged, and then replaced by a copy of the model for each number (`replace_glyphs`)
 abbrev pub with_replaced : ℕ → List ℕ → Sides → Sides
@@ -52,11 +52,11 @@ fits_copies n s = (length (all_glyphs s) == 0) || has_output_room n s
 
 -- a glyph appended behind the cursor (`output_info`)
 abbrev pub with_output_info : hb_glyph_info_t → Sides → Sides
-with_output_info g s = record s { behind = s.behind ++ g ∷ [] }
+with_output_info g s = with_behind (s.behind ++ g ∷ []) s
 
 -- a copy of the model under a number appended behind the cursor (`output_glyph`)
 abbrev pub with_output_glyph : ℕ → Sides → Sides
-with_output_glyph n s = record s { behind = s.behind ++ numbered_copies glyph_numbered (model s) (n ∷ []) }
+with_output_glyph n s = with_behind (s.behind ++ numbered_copies glyph_numbered (model s) (n ∷ [])) s
 
 -- the glyph at the cursor moved behind it under another number (`replace_glyph`)
 abbrev pub with_replaced_glyph : ℕ → Sides → Sides

@@ -1,5 +1,5 @@
 -- A buffer as its clients see it: the glyphs behind the cursor and the glyphs ahead of it.
-use Rattle.std.specs.Prelude.{ℕ, ℤ, pos, ◌+◌, ◌==◌, bit_and, Bool, true, false, nat_le, not, ◌&&◌, if◌then◌else◌, List, [], ◌++◌, length, take, drop, reverse, replicate, Option, None}
+use Rattle.std.specs.Prelude.{ℕ, ℤ, pos, ◌+◌, ◌==◌, bit_and, Bool, true, false, nat_le, nat_lt, not, ◌&&◌, ◌||◌, if◌then◌else◌, List, [], ◌++◌, length, take, drop, reverse, replicate, Option, None}
 use Rattle.buffer_glyphs.specs.declared.info.hb_glyph_info_t.{hb_glyph_info_t}
 use Rattle.buffer_glyphs.specs.declared.level.BufferClusterLevel.{BufferClusterLevel}
 use Rattle.buffer_glyphs.specs.declared.level.BufferClusterLevel.TheVariants.{MonotoneGraphemes}
@@ -22,6 +22,8 @@ pub record Sides : Type 0 where
   -- a position for each glyph; none while an output is open
   pub positions : List Position
   pub is_open : Bool
+  -- whether the output is no longer in the place of what was read since it was opened
+  pub is_apart : Bool
   -- how many glyphs were read since the output was opened; with none open, how many are behind the cursor
   pub read : ℕ
   pub has_refused : Bool
@@ -111,6 +113,7 @@ empty_buffer = record {
   ahead = [];
   positions = [];
   is_open = false;
+  is_apart = false;
   read = 0;
   has_refused = false;
   max_len = 0x3FFF_FFFF;
@@ -138,7 +141,11 @@ has_room n s = nat_le (length (all_glyphs s) + n) s.max_len
 
 -- the cursor before all glyphs, and an empty output open (`clear_output`)
 abbrev pub with_output : Sides → Sides
-with_output s = record s { behind = []; ahead = all_glyphs s; positions = []; is_open = true; read = 0 }
+with_output s = record s { behind = []; ahead = all_glyphs s; positions = []; is_open = true; is_apart = false; read = 0 }
+
+-- other glyphs in the output, which is no longer in the place of what was read once it has more glyphs than were read
+abbrev pub with_behind : List hb_glyph_info_t → Sides → Sides
+with_behind gs s = record s { behind = gs; is_apart = s.is_apart || nat_lt s.read (length gs) }
 
 -- the first n glyphs ahead moved behind the cursor
 abbrev pub after_next_glyphs : ℕ → Sides → Sides
@@ -162,7 +169,7 @@ fits_joined s = not s.has_refused && has_room 0 s
 
 -- both sides joined to one list with zero positions, and the cursor at its front (`sync`)
 abbrev pub after_sync : Sides → Sides
-after_sync s = record s { behind = []; ahead = all_glyphs s; positions = zero_positions (length (all_glyphs s)); is_open = false; read = 0 }
+after_sync s = record s { behind = []; ahead = all_glyphs s; positions = zero_positions (length (all_glyphs s)); is_open = false; is_apart = false; read = 0 }
 
 -- other glyphs and positions, as many as before; the cursor stays
 abbrev pub with_list : List hb_glyph_info_t → List Position → Sides → Sides

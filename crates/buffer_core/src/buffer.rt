@@ -50,6 +50,8 @@ pub struct hb_buffer_t {
     out_info: Vec<hb_glyph_info_t>,
     idx: usize,
     have_output: bool,
+    // Whether the output is no longer in the place of what was read since it was opened.
+    is_apart: bool,
     successful: bool,
     max_len: usize,
     max_ops: i32,
@@ -110,6 +112,7 @@ impl hb_buffer_t {
             out_info: Vec::new(alloc),
             idx: 0,
             have_output: false,
+            is_apart: false,
             successful: true,
             max_len: Self::MAX_LEN_DEFAULT,
             max_ops: Self::MAX_OPS_DEFAULT,
@@ -137,6 +140,7 @@ impl hb_buffer_t {
         self.out_info.clear();
         self.idx = 0;
         self.have_output = false;
+        self.is_apart = false;
         self.successful = true;
         self.max_len = Self::MAX_LEN_DEFAULT;
         self.max_ops = Self::MAX_OPS_DEFAULT;

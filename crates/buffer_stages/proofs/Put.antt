@@ -1,7 +1,7 @@
 -- Glyphs output instead of the one at the cursor.
-use Rattle.std.proofs.Common.{ℕ, zero, suc, ◌≡◌, ◌<◌, ◌≤◌, ◌+◌, true, List, [], ◌∷◌, ◌++◌, Some, length, take, drop, refl, sym, ap, subst, ◌∙◌, append_assoc, arith}
+use Rattle.std.proofs.Common.{ℕ, zero, suc, ◌≡◌, ◌<◌, ◌≤◌, ◌+◌, Bool, true, List, [], ◌∷◌, ◌++◌, Some, get_or, length, take, drop, refl, sym, ap, subst, ◌∙◌, append_assoc, arith}
 use Rattle.std.specs.Prelude.{slice_get, replicate}
-use Rattle.std.proofs.lemmas.List.{map-append, length-map, drop-map}
+use Rattle.std.proofs.lemmas.List.{map-append, length-map, drop-map, take_more}
 use Rattle.std.proofs.Math.Seq.{take-append_seam, drop-append_seam, drop-append-add}
 use Rattle.buffer_glyphs.specs.declared.info.hb_glyph_info_t.{hb_glyph_info_t}
 use Rattle.buffer_glyphs.specs.Items.{item_of, strip}
@@ -24,9 +24,9 @@ first_ahead g [] at = cc
 first_ahead g (h ∷ gs) at = let e : h ≡ g = cc in rw e refl
 
 -- glyphs of one origin output instead of the one at the cursor
-pub put_walked : (gs : List hb_glyph_info_t) (g : hb_glyph_info_t) (s new : Sides) → s.is_open ≡ true → slice_get s.ahead 0 ≡ Some g → origins gs ≡ replicate (length gs) (origin_of g)
-    → new ≡ with_glyph_skipped (record s { behind = s.behind ++ gs }) → HasWalked (strip s.behind ++ strip gs) (drop 1 (strip s.ahead)) (Replace (length s.behind) 1 (length gs) ∷ []) s new
-put_walked gs g s new opened there same is = subst (λ (t : Sides). HasWalked (strip s.behind ++ strip gs) (drop 1 (strip s.ahead)) (Replace (length s.behind) 1 (length gs) ∷ []) s t) (sym is) (record {
+pub put_walked : (gs : List hb_glyph_info_t) (g : hb_glyph_info_t) (left : Bool) (s new : Sides) → s.is_open ≡ true → slice_get s.ahead 0 ≡ Some g → origins gs ≡ replicate (length gs) (origin_of g)
+    → new ≡ with_glyph_skipped (record s { behind = s.behind ++ gs; is_apart = left }) → HasWalked (strip s.behind ++ strip gs) (drop 1 (strip s.ahead)) (Replace (length s.behind) 1 (length gs) ∷ []) s new
+put_walked gs g left s new opened there same is = subst (λ (t : Sides). HasWalked (strip s.behind ++ strip gs) (drop 1 (strip s.ahead)) (Replace (length s.behind) 1 (length gs) ∷ []) s t) (sym is) (record {
   behind = map-append item_of s.behind gs;
   ahead = sym (drop-map item_of 1 s.ahead);
   happened =
@@ -71,13 +71,25 @@ all_taken (suc i) [] le = refl
 all_taken zero (x ∷ xs) le = absurd (omega (arith, le))
 all_taken (suc i) (x ∷ xs) le = ap (λ ys. x ∷ ys) (all_taken i xs (omega (arith, le)))
 
+-- one glyph more
+pub put_more : (gs : List hb_glyph_info_t) (i : ℕ) (d : hb_glyph_info_t) (s mid next : Sides) → i < length gs → mid ≡ record s { behind = s.behind ++ take i gs; is_apart = mid.is_apart } → next ≡ with_output_info (get_or gs i d) mid
+    → next ≡ record s { behind = s.behind ++ take (i + 1) gs; is_apart = next.is_apart }
+put_more gs i d s mid next lt is put =
+    let P : Sides → Type 0 = λ t. t ≡ record s { behind = s.behind ++ take (i + 1) gs; is_apart = t.is_apart } in
+    let g = get_or gs i d in
+    let glyphs : (s.behind ++ take i gs) ++ g ∷ [] ≡ s.behind ++ take (i + 1) gs = append_assoc s.behind (take i gs) (g ∷ []) ∙ ap (λ hs. s.behind ++ hs) (sym (take_more gs i d lt)) in
+    let left = (with_output_info g mid).is_apart in
+    let seen : with_output_info g mid ≡ record s { behind = s.behind ++ take (i + 1) gs; is_apart = left } =
+    ap (λ (m : Sides). record m { behind = m.behind ++ g ∷ []; is_apart = left }) is ∙ ap (λ hs. record s { behind = hs; is_apart = left }) glyphs in
+    subst P (sym put) seen
+
 -- glyphs output one by one instead of the one at the cursor
 pub all_put : (gs : List hb_glyph_info_t) (i : ℕ) (s mid new : Sides) → s.is_open ≡ true → 0 < length s.ahead → ((g : hb_glyph_info_t) → slice_get s.ahead 0 ≡ Some g → origins gs ≡ replicate (length gs) (origin_of g))
-    → mid ≡ record s { behind = s.behind ++ take i gs } → length gs ≤ i → new ≡ with_glyph_skipped mid → HasWalked (strip s.behind ++ strip gs) (drop 1 (strip s.ahead)) (Replace (length s.behind) 1 (length gs) ∷ []) s new
+    → mid ≡ record s { behind = s.behind ++ take i gs; is_apart = mid.is_apart } → length gs ≤ i → new ≡ with_glyph_skipped mid → HasWalked (strip s.behind ++ strip gs) (drop 1 (strip s.ahead)) (Replace (length s.behind) 1 (length gs) ∷ []) s new
 all_put gs i s mid new opened there same is le went = by_ahead s.ahead refl
   where
     by_ahead : (hs : List hb_glyph_info_t) → s.ahead ≡ hs → HasWalked (strip s.behind ++ strip gs) (drop 1 (strip s.ahead)) (Replace (length s.behind) 1 (length gs) ∷ []) s new
     by_ahead [] e = absurd (let none = ap (λ (ys : List hb_glyph_info_t). length ys) e in omega (arith, none, there))
     by_ahead (g ∷ hs) e =
         let at : slice_get s.ahead 0 ≡ Some g = ap (λ (ys : List hb_glyph_info_t). slice_get ys 0) e in
-        put_walked gs g s new opened at (same g at) (went ∙ ap with_glyph_skipped is ∙ ap (λ hs. with_glyph_skipped (record s { behind = s.behind ++ hs })) (all_taken i gs le))
+        put_walked gs g mid.is_apart s new opened at (same g at) (went ∙ ap with_glyph_skipped is ∙ ap (λ hs. with_glyph_skipped (record s { behind = s.behind ++ hs; is_apart = mid.is_apart })) (all_taken i gs le))

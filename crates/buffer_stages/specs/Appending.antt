@@ -1,5 +1,5 @@
 -- What a call that walks an open buffer outputs.
-use Rattle.std.specs.Prelude.{ℕ, ◌≡◌, ◌≢◌, ◌<◌, ◌+◌, ◌++◌, List, [], length, map, nat_le, if◌then◌else◌, Ok, Err}
+use Rattle.std.specs.Prelude.{ℕ, ◌≡◌, ◌≢◌, ◌<◌, ◌+◌, ◌++◌, false, List, [], length, map, nat_le, if◌then◌else◌, Ok, Err}
 use Rattle.buffer_glyphs.specs.declared.cause.ShapeCause.{ShapeCause}
 use Rattle.buffer_glyphs.specs.declared.cause.ShapeCause.TheVariants.{OutOfMemory, TooLong}
 use Rattle.buffer_core.specs.Readings.{View, Read, Reading, with_events}
@@ -9,9 +9,9 @@ use Rattle.buffer_glyphs.specs.Events.{origins_after}
 use Rattle.buffer_core.specs.Sides.{Sides, all_glyphs, flag_requests_of, stage_flags, zero_positions}
 use Rattle.buffer_glyphs.specs.Rewriting.{Arrangement, shifted_event}
 
--- a buffer without its glyphs and the number of those read
+-- a buffer without its glyphs, the number of those read, and whether the output is apart
 abbrev pub frame_of : Sides → Sides
-frame_of s = record s { behind = []; ahead = []; read = 0; scratch_flags = stage_flags s.scratch_flags }
+frame_of s = record s { behind = []; ahead = []; is_apart = false; read = 0; scratch_flags = stage_flags s.scratch_flags }
 
 -- a call appended an arrangement behind the cursor, and the rest is ahead of it
 pub record AppendsArrangement (a : Arrangement) (rest : List Item) (old new : Sides) : Type 0 where

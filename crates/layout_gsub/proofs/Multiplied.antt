@@ -64,7 +64,7 @@ pub record AreOutput (gdef : GlyphDefinition) (glyphs : List ℕ) (i : ℕ) (g :
   pub items : strip now.behind ≡ strip s.behind ++ component_items gdef (item_of g) 0 (take i glyphs)
   pub origin : origins now.behind ≡ origins s.behind ++ replicate i (origin_of g)
   pub count : length now.behind ≡ length s.behind + i
-  pub others : now ≡ record s { behind = now.behind }
+  pub others : now ≡ record s { behind = now.behind; is_apart = now.is_apart }
   pub room : 0 < i → length s.behind + i ≤ s.max_len
 
 pub none_output : (gdef : GlyphDefinition) (glyphs : List ℕ) (g : hb_glyph_info_t) (s : Sides) → AreOutput gdef glyphs 0 g s s
@@ -100,7 +100,7 @@ one_output gdef glyphs i g s now next lt a room p =
       items = rw (add-one) items;
       origin = p.origin ∙ ap (λ os. os ++ o ∷ []) a.origin ∙ append_assoc (origins s.behind) (replicate i o) (o ∷ []) ∙ ap (λ os. origins s.behind ++ os) (replicate-append-replicate i 1 o);
       count = omega (arith, count, long);
-      others = p.others ∙ ap (λ (t : Sides). record t { behind = next.behind }) a.others;
+      others = p.others ∙ ap (λ (t : Sides). record t { behind = next.behind; is_apart = next.is_apart }) a.others;
       room = λ lt. grind (arith, nat_tests, fits, limit, count);
     }
 
@@ -137,7 +137,7 @@ output_made gdef glyphs i r g s now new there at some small all within a is =
     let o = origin_of g in
     let last : i ≡ n = omega (arith, all, within) in
     let taken : take i glyphs ≡ glyphs = take_all i glyphs all in
-    let after : new ≡ with_glyph_skipped (record s { behind = now.behind }) = is ∙ ap with_glyph_skipped a.others in
+    let after : new ≡ with_glyph_skipped (record s { behind = now.behind; is_apart = now.is_apart }) = is ∙ ap with_glyph_skipped a.others in
     let ahead : new.ahead ≡ drop 1 s.ahead = ap (λ (t : Sides). t.ahead) after in
     let behind : new.behind ≡ now.behind = ap (λ (t : Sides). t.behind) after in
     let items : strip new.behind ≡ strip s.behind ++ component_items gdef x 0 glyphs = ap strip behind ∙ a.items ∙ ap (λ gs. strip s.behind ++ component_items gdef x 0 gs) taken in

@@ -9,7 +9,7 @@ use Rattle.buffer_glyphs.specs.Parts.{first_of, last_of, or}
 use Rattle.buffer_glyphs.specs.Replacements.{numbered_copies, glyph_numbered}
 use Rattle.buffer_glyphs.specs.Events.{Replace}
 use Rattle.buffer_core.specs.Readings.{View}
-use Rattle.buffer_core.specs.Sides.{Sides, origins_of, origins_by}
+use Rattle.buffer_core.specs.Sides.{Sides, origins_of, origins_by, with_behind}
 use Rattle.buffer_core.specs.Merging.{with_output_glyph}
 use Rattle.buffer_stages.specs.Walks.{RefusesLength, HasWalked}
 use Rattle.buffer_stages.proofs.Lemmas.Walked.{both_walked, nothing_walked}
@@ -26,8 +26,8 @@ copy_walked n g x xs s new opened at same is from seen = by_ahead s.ahead refl
         let k : h ≡ g = (let got : slice_get (h ∷ hs) 0 ≡ Some g = ap (λ (ys : List hb_glyph_info_t). slice_get ys 0) (sym e) ∙ at in cc) in
         let first : item_of h ≡ x = (let both : item_of h ∷ strip hs ≡ x ∷ xs = ap strip (sym e) ∙ seen in cc) in
         let number : n ≡ h.glyph_id = same ∙ ap (λ (q : hb_glyph_info_t). q.glyph_id) (sym k) in
-        let now : new ≡ record s { behind = s.behind ++ h ∷ [] } =
-        is ∙ ap (λ m. with_output_glyph m s) number ∙ ap (λ (ys : List hb_glyph_info_t). record s { behind = s.behind ++ numbered_copies glyph_numbered (or (first_of ys) (last_of s.behind)) (h.glyph_id ∷ []) }) e in
+        let now : new ≡ with_behind (s.behind ++ h ∷ []) s =
+        is ∙ ap (λ m. with_output_glyph m s) number ∙ ap (λ (ys : List hb_glyph_info_t). with_behind (s.behind ++ numbered_copies glyph_numbered (or (first_of ys) (last_of s.behind)) (h.glyph_id ∷ [])) s) e in
         subst (λ (t : Sides). origins_of t ≡ origins_by (Replace (length s.behind) 0 1 ∷ []) s → HasWalked (strip s.behind ++ x ∷ []) (x ∷ xs) (Replace (length s.behind) 0 1 ∷ []) s t) (sym now)
         (λ o. record {
           behind = map-append item_of s.behind (h ∷ []) ∙ ap (λ y. strip s.behind ++ y ∷ []) first;

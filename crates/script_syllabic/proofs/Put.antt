@@ -42,7 +42,7 @@ put_before circle s new first e =
       origins = ap origins_of e ∙ put_all circle s ∙ ap (λ ys. origins s.behind ++ (origin_of circle ∷ ys)) (sym back ∙ there)
           ∙ sym (ap (λ ys. ys ++ first_circled false (flags_at n os) (drop n os)) front ∙ ap (λ ys. origins s.behind ++ first_circled false (flags_at n os) ys) there
           ∙ ap (λ k. origins s.behind ++ (record { cluster = circle.cluster; flags = k } ∷ origin_of circle ∷ drop (suc n) os)) flags);
-      rest = ap (λ (t : Sides). record t { behind = [] }) e;
+      rest = ap (λ (t : Sides). record t { behind = []; is_apart = false }) e;
     }
 
 -- the last of a list
@@ -75,7 +75,7 @@ put_behind (suc k) circle h s new some le at first e =
           ∙ append_assoc (take m bs) (origin_of h ∷ []) (origin_of g ∷ origins s.ahead)
           ∙ sym (ap (λ ys. ys ++ first_circled true (flags_at (n - suc k) os) (drop m os)) front ∙ ap (λ ys. take m bs ++ first_circled true (flags_at (n - suc k) os) ys) back
           ∙ ap (λ j. take m bs ++ (origin_of h ∷ record { cluster = h.cluster; flags = j } ∷ origins s.ahead)) flags);
-      rest = ap (λ (t : Sides). record t { behind = [] }) e;
+      rest = ap (λ (t : Sides). record t { behind = []; is_apart = false }) e;
     }
 
 -- where the first of a syllable comes from

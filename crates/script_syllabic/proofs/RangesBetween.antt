@@ -69,6 +69,7 @@ framed v st opened refused = record {
   ahead = [];
   positions = v.positions;
   is_open = opened;
+  is_apart = false;
   read = 0;
   has_refused = refused;
   max_len = v.max_len;

@@ -100,9 +100,9 @@ at_least r (x ∷ xs) last (Some d) = by_test (is_repha r last x) (at_least r xs
 
 -- ---- the walk
 
--- a buffer but for its glyphs and how many were read
+-- a buffer but for its glyphs, how many were read, and whether the output is apart
 abbrev pub frame_of : Sides → Sides
-frame_of s = record s { behind = []; ahead = []; read = 0 }
+frame_of s = record s { behind = []; ahead = []; is_apart = false; read = 0 }
 
 -- circles were inserted before the input: the result for the rest is the result for the whole list
 pub record IsUnderway (r : CircleRule) (last : ℕ) (old now : Sides) : Type 0 where

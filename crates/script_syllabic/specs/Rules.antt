@@ -20,7 +20,7 @@ pub record IsCircled (circle : Item) (rephas : ℕ) (old new : Sides) : Type 0 w
   pub behind : strip new.behind ≡ strip old.behind ++ circle ∷ []
   pub ahead : new.ahead ≡ old.ahead
   pub origins : origins_of new ≡ origins_by (circle_event (length old.behind) rephas ∷ []) old
-  pub rest : record new { behind = [] } ≡ record old { behind = [] }
+  pub rest : record new { behind = []; is_apart = false } ≡ record old { behind = []; is_apart = false }
 
 -- a refusal for another reason than memory: a list of that many glyphs is too long
 abbrev pub IsTooLong : ℕ → Sides → ShapeCause → Type 0

@@ -7,24 +7,25 @@ use Rattle.buffer_core.specs.Sides.{Sides}
 use Rattle.buffer_unicode_tables.specs.Expansion.{with_second_piece}
 use Rattle.buffer_properties.specs.Normalizer.{Normalizer, has_character}
 use Rattle.buffer_properties.specs.SupportedExpansion.{by_supported}
-use Rattle.shape_normalize.specs.Glyphs.{part_glyph, part_glyphs, with_halves_output, Puts}
+use Rattle.shape_normalize.specs.Glyphs.{part_glyph, part_glyphs, HasHalvesOutput, Puts}
 
 parts_both : (c : Normalizer) (us vs : List ℕ) (o : Option hb_glyph_info_t) → part_glyphs c us o ++ part_glyphs c vs o ≡ part_glyphs c (us ++ vs) o
 parts_both c us vs None = refl
 parts_both c us vs (Some g) = sym (map-append (part_glyph c g) us vs)
 
-put_both : (c : Normalizer) (us vs : List ℕ) (s : Sides) → with_halves_output c vs (with_halves_output c us s) ≡ with_halves_output c (us ++ vs) s
-put_both c us vs s =
+put_both : (c : Normalizer) (us vs : List ℕ) (s mid new : Sides) → HasHalvesOutput c us s mid → HasHalvesOutput c vs mid new → HasHalvesOutput c (us ++ vs) s new
+put_both c us vs s mid new first next =
     let o = slice_get s.ahead 0 in
-    ap (λ gs. record s { behind = gs }) (append_assoc s.behind (part_glyphs c us o) (part_glyphs c vs o) ∙ ap (λ gs. s.behind ++ gs) (parts_both c us vs o))
+    next ∙ ap (λ (m : Sides). record m { behind = m.behind ++ part_glyphs c vs (slice_get m.ahead 0); is_apart = new.is_apart }) first
+    ∙ ap (λ gs. record s { behind = gs; is_apart = new.is_apart }) (append_assoc s.behind (part_glyphs c us o) (part_glyphs c vs o) ∙ ap (λ gs. s.behind ++ gs) (parts_both c us vs o))
 
-pub two_parts : (c : Normalizer) (expand : ℕ → Option (List ℕ)) (a b : ℕ) (old mid new : Sides) → (b == 0) ≡ false → has_character c b ≡ true → Puts c (expand a) true old mid → new ≡ with_halves_output c (b ∷ []) mid
+pub two_parts : (c : Normalizer) (expand : ℕ → Option (List ℕ)) (a b : ℕ) (old mid new : Sides) → (b == 0) ≡ false → has_character c b ≡ true → Puts c (expand a) true old mid → HasHalvesOutput c (b ∷ []) mid new
     → Puts c (by_supported (has_character c) expand (Some (a, b))) true old new
 two_parts c expand a b old mid new some has put next = rw (some, has) (by_case (expand a) put)
   where
     by_case : (o : Option (List ℕ)) → Puts c o true old mid → Puts c (option_map (with_second_piece b) o) true old new
     by_case None p = absurd (let bad = p.0 in cc)
-    by_case (Some us) p = rw some (refl, next ∙ ap (with_halves_output c (b ∷ [])) p.1 ∙ put_both c us (b ∷ []) old)
+    by_case (Some us) p = rw some (refl, put_both c us (b ∷ []) old mid new p.1 next)
 
 pub no_second : (c : Normalizer) (expand : ℕ → Option (List ℕ)) (a b : ℕ) (old new : Sides) → (b == 0) ≡ true → Puts c (expand a) true old new
     → Puts c (by_supported (has_character c) expand (Some (a, b))) true old new

@@ -42,9 +42,9 @@ one_replaced asks level xs front back o = by_test (length xs) (length xs == 1) r
     by_test n false e = rw (nothing (length front)) (ap (elements_replaced (length front) 1 n) (merged_alone (manner InList level) (length front) (front ++ o ∷ back)) ∙ origins_same o front back n)
 
 -- glyphs of one origin in place of the current one
-pub put_skipped : (gs : List hb_glyph_info_t) (g : hb_glyph_info_t) (rest : List hb_glyph_info_t) (s new : Sides) → s.ahead ≡ g ∷ rest → origins gs ≡ replicate (length gs) (origin_of g)
-    → new ≡ with_glyph_skipped (record s { behind = s.behind ++ gs }) → AppendsArrangement (replacement 1 (strip gs)) (strip rest) s new
-put_skipped gs g rest s new at same is = subst (λ (t : Sides). AppendsArrangement (replacement 1 (strip gs)) (strip rest) s t) (sym is) (record {
+pub put_skipped : (gs : List hb_glyph_info_t) (g : hb_glyph_info_t) (rest : List hb_glyph_info_t) (left : Bool) (s new : Sides) → s.ahead ≡ g ∷ rest → origins gs ≡ replicate (length gs) (origin_of g)
+    → new ≡ with_glyph_skipped (record s { behind = s.behind ++ gs; is_apart = left }) → AppendsArrangement (replacement 1 (strip gs)) (strip rest) s new
+put_skipped gs g rest left s new at same is = subst (λ (t : Sides). AppendsArrangement (replacement 1 (strip gs)) (strip rest) s t) (sym is) (record {
   behind = map-append item_of s.behind gs;
   ahead = rw at refl;
   happened =
@@ -93,10 +93,10 @@ parts_brought c reach b g old mid new x xs at seen put went is =
     by_case None p first = absurd (let bad = p.0 in cc)
     by_case (Some us) p first =
         let gs = map (part_glyph c g) us in
-        let mid_is : mid ≡ record old { behind = old.behind ++ gs } = p.1 ∙ ap (λ o. record old { behind = old.behind ++ part_glyphs c us o }) at in
+        let mid_is : mid ≡ record old { behind = old.behind ++ gs; is_apart = mid.is_apart } = p.1 ∙ ap (λ o. record old { behind = old.behind ++ part_glyphs c us o; is_apart = mid.is_apart }) at in
         subst (λ ys. AppendsArrangement (replacement 1 ys) xs old new) (parts_items c g us)
         (subst (λ zs. AppendsArrangement (replacement 1 (strip gs)) zs old new) (rest_ahead g old.ahead x xs first seen)
-        (put_skipped gs g (drop 1 old.ahead) old new first (parts_origins c g us) (is ∙ ap with_glyph_skipped mid_is)))
+        (put_skipped gs g (drop 1 old.ahead) mid.is_apart old new first (parts_origins c g us) (is ∙ ap with_glyph_skipped mid_is)))
 
 -- an item that was replaced by one glyph
 pub placed_brought : (g info : hb_glyph_info_t) (y : Item) (old mid new : Sides) (x : Item) (xs : List Item) → slice_get old.ahead 0 ≡ Some g → strip old.ahead ≡ x ∷ xs
@@ -105,7 +105,7 @@ placed_brought g info y old mid new x xs at seen whole same stays is =
     let first = first_ahead g old.ahead x xs at seen in
     subst (λ z. AppendsArrangement (eventless_arrangement (z ∷ [])) xs old new) whole
     (subst (λ zs. AppendsArrangement (eventless_arrangement (item_of info ∷ [])) zs old new) (rest_ahead g old.ahead x xs first seen)
-    (put_skipped (info ∷ []) g (drop 1 old.ahead) old new first (ap (λ o. o ∷ []) same) (is ∙ ap (λ s. with_glyph_skipped (with_output_info info s)) stays)))
+    (put_skipped (info ∷ []) g (drop 1 old.ahead) (with_output_info info old).is_apart old new first (ap (λ o. o ∷ []) same) (is ∙ ap (λ s. with_glyph_skipped (with_output_info info s)) stays)))
 
 -- an item that stays whole
 pub whole_brought : (c : Normalizer) (reach : Reach) (b : Bool) (g info : hb_glyph_info_t) (old mid new : Sides) (x : Item) (xs : List Item) → slice_get old.ahead 0 ≡ Some g → strip old.ahead ≡ x ∷ xs

@@ -31,7 +31,7 @@ use Rattle.shape_normalize.proofs.Walk.{by_frame, get_seam}
 -- ---- a sort
 
 sort_frame : (t : SpanMerge) (s new : Sides) → new ≡ with_spanned t s → frame_of new ≡ frame_of s
-sort_frame t s new e = ap frame_of e ∙ ap (λ n. record s { behind = []; ahead = []; read = 0; scratch_flags = n }) (stage_flags_ignore_glyph_flags t.is_marked s.scratch_flags)
+sort_frame t s new e = ap frame_of e ∙ ap (λ n. record s { behind = []; ahead = []; is_apart = false; read = 0; scratch_flags = n }) (stage_flags_ignore_glyph_flags t.is_marked s.scratch_flags)
 
 pub sort_ready : (t : SpanMerge) (s new : Sides) → IsReady s → new ≡ with_spanned t s → length (all_glyphs new) ≡ length (all_glyphs s) → IsReady new
 sort_ready t s new ready e count = record {

@@ -14,14 +14,14 @@ abbrev pub part_glyphs : Normalizer → List ℕ → Option hb_glyph_info_t → 
 part_glyphs c us None = []
 part_glyphs c us (Some g) = map (part_glyph c g) us
 
--- the sides with the characters of the current glyph appended to the output
-abbrev pub with_halves_output : Normalizer → List ℕ → Sides → Sides
-with_halves_output c us s = record s { behind = s.behind ++ part_glyphs c us (slice_get s.ahead 0) }
+-- the characters of the current glyph were appended to the output, and nothing else changes but whether it is apart
+abbrev pub HasHalvesOutput : Normalizer → List ℕ → Sides → Sides → Type 0
+HasHalvesOutput c us old new = new ≡ record old { behind = old.behind ++ part_glyphs c us (slice_get old.ahead 0); is_apart = new.is_apart }
 
 -- characters were appended to the output, if there are any, and the call returns whether there were
 abbrev pub Puts : Normalizer → Option (List ℕ) → Bool → Sides → Sides → Type 0
 Puts c None b old new = (b ≡ false) × (new ≡ old)
-Puts c (Some us) b old new = (b ≡ true) × (new ≡ with_halves_output c us old)
+Puts c (Some us) b old new = (b ≡ true) × HasHalvesOutput c us old new
 
 -- the number of characters, 0 for none
 abbrev pub count_of : Option (List ℕ) → ℕ

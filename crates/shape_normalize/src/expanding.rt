@@ -10,7 +10,7 @@ ghost use Rattle.buffer_properties.specs.Normalizer.{has_character, reach_alone,
 ghost use Rattle.buffer_properties.specs.SupportedExpansion.{alone, by_supported, supported_expansion, expansion};
 ghost use Rattle.buffer_stages.specs.Appending.{AppendsArrangement, RefusesRoomFor};
 ghost use Rattle.shape_normalize.specs.Walking.{Groups, GroupsTooMany, Walks, WalksTooMany, IsExpanded, ExpandsTooMany};
-ghost use Rattle.shape_normalize.specs.Glyphs.{with_halves_output, Puts, count_of};
+ghost use Rattle.shape_normalize.specs.Glyphs.{HasHalvesOutput, Puts, count_of};
 
 use crate::characters::{has, is_selector, part_of, whole_of};
 use crate::normalizing::Normalizing;
@@ -25,7 +25,7 @@ use buffer_properties::{NormalizationMode, Reach};
 fn put_part<N: Normalizing>(by: &N, u: char, buffer: &mut hb_buffer_t) -> Result<(), ShapeCause>
     requires open { buffer.old.is_open ≡ true }
     requires there { 0 < length buffer.old.ahead }
-    ensures ok { OnOk result (buffer.new ≡ with_halves_output (N.normalizer by.now) (u ∷ []) buffer.old) }
+    ensures ok { OnOk result (HasHalvesOutput (N.normalizer by.now) (u ∷ []) buffer.old buffer.new) }
     ensures err { IfErr result (λ e. RefusesRoomFor 1 e buffer.old) }
 {
     let part = part_of(by, buffer.cur(0), u);

@@ -1,5 +1,5 @@
 //! The buffer's cursor calls (rustybuzz: hb/buffer.rs).
-ghost use Rattle.std.specs.Prelude.{◌≡◌, ◌<◌, ◌≤◌, ◌+◌, ◌-◌, ◌^◌, ◌++◌, [], drop, length, vec_len, true, false, Some, OnOk, OnErr, IfOk, slice_get};
+ghost use Rattle.std.specs.Prelude.{◌≡◌, ◌<◌, ◌≤◌, ◌+◌, ◌-◌, ◌^◌, ◌++◌, [], drop, length, vec_len, not, true, false, Some, OnOk, OnErr, IfOk, slice_get};
 ghost use Rattle.std.specs.Borrow.{sem};
 ghost use Rattle.buffer_core.specs.Sides.{all_glyphs, has_output_room, with_output, after_next_glyphs, fits_next, fits_joined, after_sync, after_refusal, zero_positions};
 ghost use Rattle.buffer_core.specs.Lending.{LendsGlyph, LendsLast, LendsPosition};
@@ -20,8 +20,19 @@ impl hb_buffer_t {
         ensures kept { all_glyphs self.new ≡ all_glyphs self.old }
     {
         self.have_output = true;
+        self.is_apart = false;
         self.idx = 0;
         Ok(true)
+    }
+
+    /// Whether the output is still in the place of glyphs that were read: from `clear_output` until a call leaves more
+    /// glyphs behind the cursor than were read, less those that `move_to` put back; once it has left, it stays apart until
+    /// `sync`.
+    pub fn output_in_place(&self) -> bool
+        requires { self.now.is_open ≡ true }
+        ensures { result ≡ not self.now.is_apart }
+    {
+        !self.is_apart
     }
 
     /// How many glyphs are behind the cursor: those of the output while one is open.
@@ -192,6 +203,7 @@ impl hb_buffer_t {
         self.order.settle(&self.out_info, &self.info);
         join_lists(&mut self.info, self.idx, &mut self.out_info, &mut self.pos)?;
         self.have_output = false;
+        self.is_apart = false;
         self.idx = 0;
         Ok(())
     }

@@ -9,6 +9,7 @@ ghost use Rattle.buffer_glyphs.specs.Origins.{origin_of, origins};
 ghost use Rattle.buffer_glyphs.specs.Events.{Replace};
 
 use super::hb_buffer_t;
+use super::room::has_left;
 use buffer_glyphs::info::hb_glyph_info_t;
 use buffer_lists::replacement::push_copies;
 use std::alloc::AllocError;
@@ -44,6 +45,7 @@ impl hb_buffer_t {
         self.out_info.reserve(1)?;
         self.order.settle(&self.out_info, &self.info);
         push_copies(&mut self.out_info, &self.info[self.idx..], &[glyph_index]);
+        self.is_apart = has_left(self.is_apart, self.idx, self.out_info.len());
         Ok(())
     }
 
@@ -78,6 +80,7 @@ impl hb_buffer_t {
         let rest = &self.info[self.idx..];
         self.order.known = known.with_between(&self.out_info, glyph_info.cluster, rest);
         self.out_info.push(glyph_info).unwrap();
+        self.is_apart = has_left(self.is_apart, self.idx, self.out_info.len());
         Ok(())
     }
 

@@ -8,6 +8,7 @@ ghost use Rattle.buffer_glyphs.specs.Events.{Replace};
 
 use super::hb_buffer_t;
 use super::merges::add_has_glyph_flags;
+use super::room::has_left;
 use buffer_lists::replacement::replace_first;
 use std::alloc::AllocError;
 
@@ -59,6 +60,7 @@ impl hb_buffer_t {
         );
         self.idx += num_in;
         self.order.known = known;
+        self.is_apart = has_left(self.is_apart, self.idx, self.out_info.len());
         self.scratch_flags = add_has_glyph_flags(marked, self.scratch_flags);
         Ok(())
     }

@@ -1,5 +1,5 @@
 //! Whether a list may grow, and refusals for length (rustybuzz: hb/buffer.rs, `ensure`, `successful`).
-ghost use Rattle.std.specs.Prelude.{◌≡◌, false, true};
+ghost use Rattle.std.specs.Prelude.{◌≡◌, ◌||◌, nat_lt, false, true};
 ghost use Rattle.buffer_core.specs.Sides.{has_output_room, after_refusal};
 
 use super::hb_buffer_t;
@@ -21,4 +21,11 @@ impl hb_buffer_t {
         self.successful = false;
         false
     }
+}
+
+/// Whether an output of `count` glyphs is apart from what was read: it was so before, or has more than were read.
+pub(super) fn has_left(is_apart: bool, read: usize, count: usize) -> bool
+    ensures { result ≡ (is_apart || nat_lt read count) }
+{
+    is_apart || read < count
 }

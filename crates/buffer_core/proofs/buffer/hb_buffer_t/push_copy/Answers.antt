@@ -1,4 +1,5 @@
-use Rattle.std.proofs.Common.{◌≡◌, ◌∷◌, [], true, drop, refl, ap, ◌∙◌}
+use Rattle.std.proofs.Common.{◌≡◌, ◌∷◌, ◌||◌, [], true, nat_lt, length, drop, refl, rules, arith, ap, ◌∙◌}
+use Rattle.std.proofs.lemmas.Grind.{common_steps}
 use Rattle.std.proofs.lemmas.List.{take_rest}
 use Rattle.buffer_core.specs.Merging.{with_output_glyph}
 use Rattle.buffer_core.proofs.Apart.{copied_view}
@@ -11,7 +12,8 @@ returns-clause-put c =
     let b = c.self.inside in
     let open_now : b.have_output ≡ true = rw (← c.self.view_is) at c.requires.open in
     let items = rw (c.in_ok-reserve.ensures.items, c.deref-3.ensures.value, take_rest b.info.items b.idx) at c.push_copies.ensures.copied in
-    copied_view b c.push_copies.new.output c.settle.new.self c.args.glyph_index open_now items ∙ ap (with_output_glyph c.args.glyph_index) c.self.view_is
+    let left : c.has_left-self-inside.result ≡ (b.is_apart || nat_lt b.idx (length c.push_copies.new.output.items)) = first_of (search rules, grind (arith, common_steps)) in
+    copied_view b c.push_copies.new.output c.settle.new.self c.has_left-self-inside.result c.args.glyph_index open_now items left ∙ ap (with_output_glyph c.args.glyph_index) c.self.view_is
 
 pub invariant_of-self : goal.invariant_of-self
 invariant_of-self c =

@@ -1,6 +1,6 @@
 use Rattle.std.specs.Vec.{with_items}
 use borrow.Rule.Slice.PartMut.{put_mid}
-use Rattle.std.proofs.Common.{true, ◌≡◌, ◌≤◌, ◌+◌, ◌-◌, rules, arith, refl, drop, length, ap, ◌∙◌}
+use Rattle.std.proofs.Common.{true, nat_lt, ◌||◌, ◌≡◌, ◌≤◌, ◌+◌, ◌-◌, rules, arith, refl, drop, length, ap, ◌∙◌}
 use Rattle.std.proofs.lemmas.Grind.{common_steps}
 use Rattle.std.proofs.lemmas.List.{drop-drop, length-drop, take_rest}
 use Rattle.buffer_glyphs.specs.Items.{clusters}
@@ -36,7 +36,8 @@ returns-clause-replaced c =
     let seen = rest_is b.info c.deref_mut.result.now done.new.input b.idx in_info c.deref_mut.ensures.value c.self.invariant.cursor long in
     let output = rw (c.deref_mut.ensures.value, take_rest b.info.items b.idx, c.in_ok-reserve.ensures.items, ← seen) at done.ensures.output in
     let info = with_items b.info (put_mid b.idx (length c.deref_mut.result.now - b.idx) c.deref_mut.result.now done.new.input) in
-    replaced_view b info done.new.output (record { known = done.result.1; lent = c.settle.new.self.lent }) c.args.num_in _ c.args.glyph_data.now open_now (seen ∙ input) output (c.add_has_glyph_flags-self-inside.ensures ∙ ap (λ m. with_has_glyph_flags m b.scratch_flags) any)
+    let left : c.has_left-self-inside.result ≡ (b.is_apart || nat_lt (b.idx + c.args.num_in) (length done.new.output.items)) = first_of (search rules, grind (arith, common_steps)) in
+    replaced_view b info done.new.output (record { known = done.result.1; lent = c.settle.new.self.lent }) c.has_left-self-inside.result c.args.num_in _ c.args.glyph_data.now open_now (seen ∙ input) output (c.add_has_glyph_flags-self-inside.ensures ∙ ap (λ m. with_has_glyph_flags m b.scratch_flags) any) left
     ∙ ap (with_replaced c.args.num_in c.args.glyph_data.now) c.self.view_is
 
 pub invariant_of-self : goal.invariant_of-self
