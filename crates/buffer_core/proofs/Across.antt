@@ -1,7 +1,7 @@
 -- What happens to a range that begins in the output, over both sides.
 use Rattle.std.specs.Global.{Vec}
 use Rattle.std.specs.Prelude.{slice_range}
-use Rattle.std.proofs.Common.{ℕ, ◌≡◌, ◌≤◌, ◌+◌, ◌-◌, true, nat_lt, List, ◌++◌, length, map, take, drop, refl, arith, ap, sym, append_assoc, ◌∙◌}
+use Rattle.std.proofs.Common.{ℕ, ◌≡◌, ◌≤◌, ◌+◌, ◌-◌, true, nat_lt, List, ◌++◌, length, map, take, drop, refl, arith, ap, sym, append_assoc, ◌∙◌, [], false}
 use Rattle.std.proofs.lemmas.List.{map-append, take-append-drop, take-append-le, drop-append-le, take_at, drop_at, drop-drop, length-map, length-append, length-drop}
 use Rattle.std.proofs.Math.Seq.{take-append-add, drop-append-add}
 use Rattle.buffer_glyphs.specs.declared.info.hb_glyph_info_t.{hb_glyph_info_t}
@@ -39,12 +39,10 @@ changed_across f xs ys start n le =
     rw (slice_across xs ys start n le, take-append-le start xs ys le, drop-append-add xs ys n, map-append f (drop start xs) (take n ys))
     (ap (λ zs. zs ++ drop n ys) (sym (append_assoc (take start xs) (map f (drop start xs)) (map f (take n ys)))) ∙ append_assoc (take start xs ++ map f (drop start xs)) (map f (take n ys)) (drop n ys))
 
--- other glyphs on both sides of an open buffer
-both_view : (b : Inside) (info out : Vec hb_glyph_info_t) (order : ClusterOrder) (flags : ℕ) (gs : List hb_glyph_info_t) → b.have_output ≡ true → length out.items ≡ length b.out_info.items
-    → gs ≡ out.items ++ drop b.idx info.items
-    → sides_of (record b { info = info; out_info = out; scratch_flags = flags; order = order }) ≡ record (with_glyphs gs (sides_of b)) { scratch_flags = flags }
-both_view b info out order flags gs h long e =
-    rw (h, e, take_at out.items (drop b.idx info.items) (length b.out_info.items) long, drop_at out.items (drop b.idx info.items) (length b.out_info.items) long) refl
+-- other glyphs on both sides
+both_sides : (s : Sides) (behind ahead : List hb_glyph_info_t) (flags : ℕ) (gs : List hb_glyph_info_t) → length behind ≡ length s.behind → gs ≡ behind ++ ahead
+    → record s { behind = behind; ahead = ahead; scratch_flags = flags } ≡ record (with_glyphs gs s) { scratch_flags = flags }
+both_sides s behind ahead flags gs long e = rw (e, take_at behind ahead (length s.behind) long, drop_at behind ahead (length s.behind) long) refl
 
 changed_length : (f : hb_glyph_info_t → hb_glyph_info_t) (xs : List hb_glyph_info_t) (start : ℕ) → length (take start xs ++ map f (drop start xs)) ≡ length xs
 changed_length f xs start =
@@ -57,41 +55,67 @@ drop_on gs from end le = let there : from + (end - from) ≡ end = omega arith i
 ahead_is : (gs : List hb_glyph_info_t) (from end : ℕ) → from ≤ end → drop end gs ≡ drop (end - from) (drop from gs)
 ahead_is gs from end le = let there : from + (end - from) ≡ end = omega arith in sym (drop-drop (end - from) from gs ∙ ap (λ n. drop n gs) there)
 
-pub marked_across_view : (b : Inside) (info out : Vec hb_glyph_info_t) (order : ClusterOrder) (bits start end flags : ℕ) → b.have_output ≡ true → start ≤ length b.out_info.items → b.idx ≤ end
+-- flags on a range that goes over the end of the output
+pub marked_across_sides : (s : Sides) (behind ahead : List hb_glyph_info_t) (bits start end flags : ℕ) → start ≤ length s.behind → s.read ≤ end
+    → behind ≡ take start s.behind ++ map (marked_outside bits (least_number (clusters (drop start s.behind) ++ clusters (take (end - s.read) s.ahead)))) (drop start s.behind)
+    → ahead ≡ map (marked_outside bits (least_number (clusters (drop start s.behind) ++ clusters (take (end - s.read) s.ahead)))) (take (end - s.read) s.ahead) ++ drop (end - s.read) s.ahead
+    → flags ≡ with_has_glyph_flags (has_several_numbers (clusters (drop start s.behind) ++ clusters (take (end - s.read) s.ahead))) s.scratch_flags
+    → record s { behind = behind; ahead = ahead; scratch_flags = flags } ≡ with_flagged_apart bits start (index_in_all end s) s
+marked_across_sides s behind ahead bits start end flags le begins o i f =
+    let n = end - s.read in
+    let range = stretch_across s.behind s.ahead start n le in
+    let mark = marked_outside bits (least_number (clusters (drop start s.behind) ++ clusters (take n s.ahead))) in
+    let place : index_in_all end s ≡ length s.behind + n = omega (arith, begins) in
+    let long = ap length o ∙ changed_length mark s.behind start in
+    let glyphs : glyphs_marked bits start (length s.behind + n) (s.behind ++ s.ahead) ≡ behind ++ ahead = rw (range, o, i) (changed_across mark s.behind s.ahead start n le) in
+    both_sides s behind ahead flags (glyphs_marked bits start (length s.behind + n) (s.behind ++ s.ahead)) long glyphs ∙ rw (place, range, f) refl
+
+pub flagged_across_sides : (s : Sides) (behind ahead : List hb_glyph_info_t) (bits start end flags : ℕ) → start ≤ length s.behind → s.read ≤ end
+    → behind ≡ take start s.behind ++ map (glyph_flagged bits) (drop start s.behind)
+    → ahead ≡ map (glyph_flagged bits) (take (end - s.read) s.ahead) ++ drop (end - s.read) s.ahead
+    → flags ≡ with_has_glyph_flags (nat_lt start (length s.behind + (end - s.read))) s.scratch_flags
+    → record s { behind = behind; ahead = ahead; scratch_flags = flags } ≡ with_flagged bits start (index_in_all end s) s
+flagged_across_sides s behind ahead bits start end flags le begins o i f =
+    let n = end - s.read in
+    let place : index_in_all end s ≡ length s.behind + n = omega (arith, begins) in
+    let long = ap length o ∙ changed_length (glyph_flagged bits) s.behind start in
+    let glyphs : glyphs_flagged bits start (length s.behind + n) (s.behind ++ s.ahead) ≡ behind ++ ahead = rw (o, i) (changed_across (glyph_flagged bits) s.behind s.ahead start n le) in
+    both_sides s behind ahead flags (glyphs_flagged bits start (length s.behind + n) (s.behind ++ s.ahead)) long glyphs ∙ rw (place, f) refl
+
+pub marked_across_view : (b : Inside) (info out : Vec hb_glyph_info_t) (order : ClusterOrder) (bits start end flags : ℕ) → b.have_output ≡ true → b.is_apart ≡ true → start ≤ length b.out_info.items → b.idx ≤ end
     → out.items ≡ take start b.out_info.items ++ map (marked_outside bits (least_number (clusters (drop start b.out_info.items) ++ clusters (slice_range b.info.items b.idx end)))) (drop start b.out_info.items)
     → drop b.idx info.items ≡ map (marked_outside bits (least_number (clusters (drop start b.out_info.items) ++ clusters (slice_range b.info.items b.idx end)))) (slice_range b.info.items b.idx end) ++ drop end b.info.items
     → flags ≡ with_has_glyph_flags (has_several_numbers (clusters (drop start b.out_info.items) ++ clusters (slice_range b.info.items b.idx end))) b.scratch_flags
     → sides_of (record b { info = info; out_info = out; scratch_flags = flags; order = order }) ≡ with_flagged_apart bits start (index_in_all end (sides_of b)) (sides_of b)
-marked_across_view b info out order bits start end flags h le begins o i f =
-    let behind = b.out_info.items in
-    let ahead = drop b.idx b.info.items in
-    let n = end - b.idx in
-    let range = stretch_across behind ahead start n le in
-    let mark = marked_outside bits (least_number (clusters (drop start behind) ++ clusters (take n ahead))) in
-    let place : index_in_all end (sides_of b) ≡ length behind + n = rw h (omega (arith, begins)) in
-    let all : all_glyphs (sides_of b) ≡ behind ++ ahead = rw h refl in
-    let long = ap length o ∙ changed_length mark behind start in
-    let glyphs : glyphs_marked bits start (length behind + n) (behind ++ ahead) ≡ out.items ++ drop b.idx info.items =
-    rw (range, o, i, ahead_is b.info.items b.idx end begins) (changed_across mark behind ahead start n le) in
-    both_view b info out order flags (glyphs_marked bits start (length behind + n) (behind ++ ahead)) h long glyphs
-    ∙ rw (place, all, range, f) refl
+marked_across_view b info out order bits start end flags h a le begins o i f =
+    let rest = ahead_is b.info.items b.idx end begins in
+    rw (h, a) (marked_across_sides (record (sides_of b) { behind = b.out_info.items; positions = []; is_open = true; is_apart = true }) out.items (drop b.idx info.items) bits start end flags le begins o (rw rest at i) f)
 
-pub flagged_across_view : (b : Inside) (info out : Vec hb_glyph_info_t) (order : ClusterOrder) (bits start end flags : ℕ) → b.have_output ≡ true → start ≤ length b.out_info.items → b.idx ≤ end
+pub flagged_across_view : (b : Inside) (info out : Vec hb_glyph_info_t) (order : ClusterOrder) (bits start end flags : ℕ) → b.have_output ≡ true → b.is_apart ≡ true → start ≤ length b.out_info.items → b.idx ≤ end
     → out.items ≡ take start b.out_info.items ++ map (glyph_flagged bits) (drop start b.out_info.items)
     → drop b.idx info.items ≡ map (glyph_flagged bits) (slice_range b.info.items b.idx end) ++ drop end b.info.items
     → flags ≡ with_has_glyph_flags (nat_lt start (length b.out_info.items + (end - b.idx))) b.scratch_flags
     → sides_of (record b { info = info; out_info = out; scratch_flags = flags; order = order }) ≡ with_flagged bits start (index_in_all end (sides_of b)) (sides_of b)
-flagged_across_view b info out order bits start end flags h le begins o i f =
-    let behind = b.out_info.items in
-    let ahead = drop b.idx b.info.items in
-    let n = end - b.idx in
-    let place : index_in_all end (sides_of b) ≡ length behind + n = rw h (omega (arith, begins)) in
-    let all : all_glyphs (sides_of b) ≡ behind ++ ahead = rw h refl in
-    let long = ap length o ∙ changed_length (glyph_flagged bits) behind start in
-    let glyphs : glyphs_flagged bits start (length behind + n) (behind ++ ahead) ≡ out.items ++ drop b.idx info.items =
-    rw (o, i, ahead_is b.info.items b.idx end begins) (changed_across (glyph_flagged bits) behind ahead start n le) in
-    both_view b info out order flags (glyphs_flagged bits start (length behind + n) (behind ++ ahead)) h long glyphs
-    ∙ rw (place, all, f) refl
+flagged_across_view b info out order bits start end flags h a le begins o i f =
+    let rest = ahead_is b.info.items b.idx end begins in
+    rw (h, a) (flagged_across_sides (record (sides_of b) { behind = b.out_info.items; positions = []; is_open = true; is_apart = true }) out.items (drop b.idx info.items) bits start end flags le begins o (rw rest at i) f)
+
+-- the same with the output in place
+pub marked_over_view : (b : Inside) (info : Vec hb_glyph_info_t) (order : ClusterOrder) (bits start end flags : ℕ) → b.have_output ≡ true → b.is_apart ≡ false → start ≤ length (take b.front b.info.items) → b.idx ≤ end
+    → take b.front info.items ≡ take start (take b.front b.info.items) ++ map (marked_outside bits (least_number (clusters (drop start (take b.front b.info.items)) ++ clusters (take (end - b.idx) (drop b.idx b.info.items))))) (drop start (take b.front b.info.items))
+    → drop b.idx info.items ≡ map (marked_outside bits (least_number (clusters (drop start (take b.front b.info.items)) ++ clusters (take (end - b.idx) (drop b.idx b.info.items))))) (take (end - b.idx) (drop b.idx b.info.items)) ++ drop (end - b.idx) (drop b.idx b.info.items)
+    → flags ≡ with_has_glyph_flags (has_several_numbers (clusters (drop start (take b.front b.info.items)) ++ clusters (take (end - b.idx) (drop b.idx b.info.items)))) b.scratch_flags
+    → sides_of (record b { info = info; scratch_flags = flags; order = order }) ≡ with_flagged_apart bits start (index_in_all end (sides_of b)) (sides_of b)
+marked_over_view b info order bits start end flags h a le begins o i f =
+    rw (h, a) (marked_across_sides (record (sides_of b) { behind = take b.front b.info.items; positions = []; is_open = true; is_apart = false }) (take b.front info.items) (drop b.idx info.items) bits start end flags le begins o i f)
+
+pub flagged_over_view : (b : Inside) (info : Vec hb_glyph_info_t) (order : ClusterOrder) (bits start end flags : ℕ) → b.have_output ≡ true → b.is_apart ≡ false → start ≤ length (take b.front b.info.items) → b.idx ≤ end
+    → take b.front info.items ≡ take start (take b.front b.info.items) ++ map (glyph_flagged bits) (drop start (take b.front b.info.items))
+    → drop b.idx info.items ≡ map (glyph_flagged bits) (take (end - b.idx) (drop b.idx b.info.items)) ++ drop (end - b.idx) (drop b.idx b.info.items)
+    → flags ≡ with_has_glyph_flags (nat_lt start (length (take b.front b.info.items) + (end - b.idx))) b.scratch_flags
+    → sides_of (record b { info = info; scratch_flags = flags; order = order }) ≡ with_flagged bits start (index_in_all end (sides_of b)) (sides_of b)
+flagged_over_view b info order bits start end flags h a le begins o i f =
+    rw (h, a) (flagged_across_sides (record (sides_of b) { behind = take b.front b.info.items; positions = []; is_open = true; is_apart = false }) (take b.front info.items) (drop b.idx info.items) bits start end flags le begins o i f)
 
 pub place_within : (start end : ℕ) (s : Sides) → start ≤ length s.behind → s.read ≤ end → start ≤ index_in_all end s
 place_within start end s le begins = omega arith
@@ -127,17 +151,28 @@ length_beside_output MonotoneGraphemes range gs = length-map gs _
 length_beside_output MonotoneCharacters range gs = length-map gs _
 length_beside_output Characters range gs = refl
 
-pub output_merged_view : (b : Inside) (info out : Vec hb_glyph_info_t) (order : ClusterOrder) (start end : ℕ) → b.have_output ≡ true → start ≤ end → end ≤ length b.out_info.items
+-- a merge of a range of the output
+output_merged_sides : (s : Sides) (behind ahead : List hb_glyph_info_t) (start end : ℕ) → start ≤ end → end ≤ length s.behind
+    → behind ≡ output_merged_at s.level start end s.behind → ahead ≡ beside_merged_as (manner InOutput s.level) (range_of start end (clusters s.behind)) s.ahead
+    → record s { behind = behind; ahead = ahead } ≡ with_output_merged start end s
+output_merged_sides s behind ahead start end le within o i =
+    let long = ap length o ∙ length_output_merged s.level start end s.behind in
+    let gs = output_merged_at s.level start end (s.behind ++ s.ahead) in
+    let glyphs : gs ≡ behind ++ ahead = rw (o, i) (both_merged s.level s.behind s.ahead start end le within) in
+    both_sides s behind ahead s.scratch_flags gs long glyphs
+
+pub output_merged_view : (b : Inside) (info out : Vec hb_glyph_info_t) (order : ClusterOrder) (start end : ℕ) → b.have_output ≡ true → b.is_apart ≡ true → start ≤ end → end ≤ length b.out_info.items
     → out.items ≡ output_merged_at b.cluster_level start end b.out_info.items → drop b.idx info.items ≡ beside_merged_as (manner InOutput b.cluster_level) (range_of start end (clusters b.out_info.items)) (drop b.idx b.info.items)
     → sides_of (record b { info = info; out_info = out; order = order }) ≡ with_output_merged start end (sides_of b)
-output_merged_view b info out order start end h le within o i =
-    let behind = b.out_info.items in
-    let ahead = drop b.idx b.info.items in
-    let all : all_glyphs (sides_of b) ≡ behind ++ ahead = rw h refl in
-    let long = ap length o ∙ length_output_merged b.cluster_level start end behind in
-    let gs = output_merged_at b.cluster_level start end (behind ++ ahead) in
-    let glyphs : gs ≡ out.items ++ drop b.idx info.items = rw (o, i) (both_merged b.cluster_level behind ahead start end le within) in
-    both_view b info out order b.scratch_flags gs h long glyphs ∙ rw all refl
+output_merged_view b info out order start end h a le within o i =
+    rw (h, a) (output_merged_sides (record (sides_of b) { behind = b.out_info.items; positions = []; is_open = true; is_apart = true }) out.items (drop b.idx info.items) start end le within o i)
+
+-- the same with the output in place
+pub output_merged_over_view : (b : Inside) (info : Vec hb_glyph_info_t) (order : ClusterOrder) (start end : ℕ) → b.have_output ≡ true → b.is_apart ≡ false → start ≤ end → end ≤ length (take b.front b.info.items)
+    → take b.front info.items ≡ output_merged_at b.cluster_level start end (take b.front b.info.items) → drop b.idx info.items ≡ beside_merged_as (manner InOutput b.cluster_level) (range_of start end (clusters (take b.front b.info.items))) (drop b.idx b.info.items)
+    → sides_of (record b { info = info; order = order }) ≡ with_output_merged start end (sides_of b)
+output_merged_over_view b info order start end h a le within o i =
+    rw (h, a) (output_merged_sides (record (sides_of b) { behind = take b.front b.info.items; positions = []; is_open = true; is_apart = false }) (take b.front info.items) (drop b.idx info.items) start end le within o i)
 
 pub all_output_merged : (start end : ℕ) (s : Sides) → all_glyphs (with_output_merged start end s) ≡ output_merged_at s.level start end (all_glyphs s)
 all_output_merged start end s = take-append-drop (length s.behind) (output_merged_at s.level start end (all_glyphs s))

@@ -1,5 +1,5 @@
 -- What calls on one glyph, and those that add some, do to items, clusters and flags.
-use Rattle.std.proofs.Common.{ℕ, ◌≡◌, ◌<◌, ◌+◌, ◌++◌, ◌||◌, Bool, true, nat_lt, List, [], ◌∷◌, length, get_or, map, take, drop, refl, ap, sym, arith, ◌∙◌, append_assoc}
+use Rattle.std.proofs.Common.{ℕ, ◌≡◌, ◌<◌, ◌+◌, ◌++◌, true, List, [], ◌∷◌, length, get_or, map, take, drop, refl, ap, sym, arith, ◌∙◌, append_assoc}
 use Rattle.std.proofs.lemmas.List.{map-append, drop-drop, drop-map}
 use Rattle.std.proofs.Math.Seq.{take-append_seam, drop-append_seam, drop-append-add}
 use Rattle.std.specs.Global.{Vec}
@@ -7,9 +7,8 @@ use Rattle.std.specs.Char.{len_utf8}
 use Rattle.std.specs.Str.{chars}
 use Rattle.buffer_glyphs.specs.declared.info.hb_glyph_info_t.{hb_glyph_info_t}
 use Rattle.buffer_glyphs.specs.Items.{item_of, strip}
-use Rattle.buffer_glyphs.specs.Parts.{first_of, last_of, or}
 use Rattle.buffer_glyphs.specs.Lists.{take_one}
-use Rattle.buffer_glyphs.specs.Replacements.{numbered_copies, glyph_numbered, glyphs_replaced, items_replaced}
+use Rattle.buffer_glyphs.specs.Replacements.{glyph_numbered, glyphs_replaced, items_replaced}
 use Rattle.buffer_glyphs.specs.Lemmas.Replacements.{strip_replaced}
 use Rattle.buffer_core.specs.declared.buffer.hb_buffer_t.TheInside.{Inside}
 use Rattle.buffer_lists.specs.declared.order.ClusterOrder.{ClusterOrder}
@@ -21,10 +20,6 @@ use Rattle.buffer_core.proofs.Replaced.{all_copied}
 use Rattle.buffer_glyphs.specs.Origins.{origin_of, origins}
 
 -- a copy behind the cursor
-pub copied_view : (b : Inside) (out : Vec hb_glyph_info_t) (order : ClusterOrder) (left : Bool) (n : ℕ) → b.have_output ≡ true → out.items ≡ b.out_info.items ++ numbered_copies glyph_numbered (or (first_of (drop b.idx b.info.items)) (last_of b.out_info.items)) (n ∷ [])
-    → left ≡ (b.is_apart || nat_lt b.idx (length out.items)) → sides_of (record b { out_info = out; order = order; is_apart = left }) ≡ with_output_glyph n (sides_of b)
-copied_view b out order left n h e l = rw (h, l, e) refl
-
 pub copy_items : (n : ℕ) (s : Sides) → items_of (with_output_glyph n s) ≡ items_replaced (length s.behind) 0 (n ∷ []) (items_of s)
 copy_items n s = ap strip (all_copied 0 (n ∷ []) s) ∙ strip_replaced (length s.behind) 0 (n ∷ []) (all_glyphs s)
 
@@ -33,9 +28,9 @@ renumbered_all : (n : ℕ) (behind ahead : List hb_glyph_info_t) → 0 < length 
 renumbered_all n behind [] lt = absurd (omega (arith, lt))
 renumbered_all n behind (g ∷ gs) lt = rw (take-append_seam behind (g ∷ gs), drop-append_seam behind (g ∷ gs), drop-append-add behind (g ∷ gs) 1) refl
 
-pub renumbered_view : (b : Inside) (out : Vec hb_glyph_info_t) (order : ClusterOrder) (n : ℕ) (g d : hb_glyph_info_t) → b.have_output ≡ true → b.idx < length b.info.items → g ≡ get_or b.info.items b.idx d → out.items ≡ b.out_info.items ++ glyph_numbered g n ∷ []
+pub renumbered_view : (b : Inside) (out : Vec hb_glyph_info_t) (order : ClusterOrder) (n : ℕ) (g d : hb_glyph_info_t) → b.have_output ≡ true → b.is_apart ≡ true → b.idx < length b.info.items → g ≡ get_or b.info.items b.idx d → out.items ≡ b.out_info.items ++ glyph_numbered g n ∷ []
     → sides_of (record b { out_info = out; idx = b.idx + 1; order = order }) ≡ with_replaced_glyph n (sides_of b)
-renumbered_view b out order n g d h lt is e = rw (h, e, ← drop-drop 1 b.idx b.info.items, take_one b.info.items b.idx d lt, is) refl
+renumbered_view b out order n g d h a lt is e = rw (h, a, e, ← drop-drop 1 b.idx b.info.items, take_one b.info.items b.idx d lt, is) refl
 
 pub renumbered_items : (n : ℕ) (s : Sides) → 0 < length s.ahead → items_of (with_replaced_glyph n s) ≡ items_replaced (length s.behind) 1 (n ∷ []) (items_of s)
 renumbered_items n s lt = ap strip (renumbered_all n s.behind s.ahead lt) ∙ strip_replaced (length s.behind) 1 (n ∷ []) (all_glyphs s)

@@ -36,5 +36,9 @@ appended_sound b info positions order gs h s back o le a =
       output_within = s.output_within;
       closed = s.closed;
       placed = rw h (omega (arith, even, grown, placed));
+      together = s.together;
+      front = rw h tt;
+      emptied = rw h tt;
+      counted = rw h tt;
       ordered = rw (h, none, a.glyphs, back, map-append cluster_of b.info.items gs) o;
     }

@@ -19,14 +19,14 @@ use Rattle.buffer_core.specs.Moving.{zero_glyph}
 pub deletes_same : (level : Level) (front ahead out new_out back new_back : List Glyph) (m : Bool) → out ≡ new_out → back ≡ new_back → Deletes level front ahead out back m → Deletes level front ahead new_out new_back m
 deletes_same level front ahead out new_out back new_back m e f gone = subst (λ (hs : List Glyph). Deletes level front ahead new_out hs m) f (subst (λ (hs : List Glyph). Deletes level front ahead hs back m) e gone)
 
-pub deleted_view : (b : Inside) (info out : Vec Glyph) (order : ClusterOrder) (flags : ℕ) (m : Bool) (g : Glyph) (back : List Glyph) → b.have_output ≡ true → drop b.idx b.info.items ≡ g ∷ back
+pub deleted_view : (b : Inside) (info out : Vec Glyph) (order : ClusterOrder) (flags : ℕ) (m : Bool) (g : Glyph) (back : List Glyph) → b.have_output ≡ true → b.is_apart ≡ true → drop b.idx b.info.items ≡ g ∷ back
     → Deletes b.cluster_level b.out_info.items (drop b.idx b.info.items) out.items (drop (b.idx + 1) info.items) m → flags ≡ with_has_glyph_flags m b.scratch_flags
     → sides_of (record b { info = info; out_info = out; idx = b.idx + 1; scratch_flags = flags; order = order }) ≡ with_deleted g back (sides_of b)
-deleted_view b info out order flags m g back h e gone f =
+deleted_view b info out order flags m g back h a e gone f =
     let one = gone.front_is g back e in
     let two = gone.back_is g back e in
     let three = gone.marked_is g back e in
-    rw (h, one, two, f, three) refl
+    rw (h, a, one, two, f, three) refl
 
 pub left_items : (g : Glyph) (back : List Glyph) (s : Sides) → s.ahead ≡ g ∷ back → items_of (with_deleted g back s) ≡ strip s.behind ++ drop 1 (strip s.ahead)
 left_items g back s e =

@@ -60,6 +60,6 @@ take_on (x ∷ xs) (suc n) k = let more : suc n + k ≡ suc (n + k) = omega arit
 pub moved_closed : (b : Inside) (k : ℕ) → b.have_output ≡ false → sides_of (record b { idx = b.idx + k }) ≡ after_next_glyphs k (sides_of b)
 moved_closed b k h = rw (h, take_on b.info.items b.idx k, ← drop-drop k b.idx b.info.items) refl
 
-pub moved_open : (b : Inside) (out : Vec hb_glyph_info_t) (order : ClusterOrder) (k : ℕ) → b.have_output ≡ true → out.items ≡ b.out_info.items ++ take k (drop b.idx b.info.items)
+pub moved_open : (b : Inside) (out : Vec hb_glyph_info_t) (order : ClusterOrder) (k : ℕ) → b.have_output ≡ true → b.is_apart ≡ true → out.items ≡ b.out_info.items ++ take k (drop b.idx b.info.items)
     → sides_of (record b { out_info = out; idx = b.idx + k; order = order }) ≡ after_next_glyphs k (sides_of b)
-moved_open b out order k h e = rw (h, e, ← drop-drop k b.idx b.info.items) refl
+moved_open b out order k h a e = rw (h, a, e, ← drop-drop k b.idx b.info.items) refl

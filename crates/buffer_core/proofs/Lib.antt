@@ -28,3 +28,5 @@ pub mod DeletedOrigins
 pub mod Spread
 pub mod Room
 pub mod Lent
+pub mod InPlace
+pub mod Leaving

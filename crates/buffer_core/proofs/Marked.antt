@@ -1,9 +1,9 @@
 -- What flags set on a range of the input do to the sides.
 use Rattle.std.specs.Global.{Vec}
-use Rattle.std.proofs.Common.{ℕ, ◌≡◌, ◌≤◌, ◌<◌, ◌+◌, ◌-◌, Bool, true, false, nat_lt, List, ◌++◌, length, take, drop, if◌then◌else◌, refl, arith, ap, sym, ◌∙◌}
+use Rattle.std.proofs.Common.{ℕ, ◌≡◌, ◌≤◌, ◌<◌, ◌+◌, ◌-◌, Bool, true, false, nat_lt, List, ◌++◌, length, take, drop, if◌then◌else◌, refl, arith, ap, sym, ◌∙◌, append_assoc}
 use Rattle.std.proofs.lemmas.Bool.Decides.{nat_tests}
 use Rattle.std.proofs.lemmas.Grind.{common_steps}
-use Rattle.std.proofs.lemmas.List.{take-append-drop, length-take-le, length-map, drop_at}
+use Rattle.std.proofs.lemmas.List.{take-append-drop, take-append-le, take-take, length-take-le, length-map, drop_at}
 use Rattle.std.proofs.Math.Seq.{take-append_seam, drop-append_seam}
 use Rattle.buffer_glyphs.specs.declared.info.hb_glyph_info_t.{hb_glyph_info_t}
 use Rattle.buffer_glyphs.specs.Items.{strip, clusters}
@@ -17,24 +17,29 @@ use Rattle.buffer_core.specs.Sides.{Sides, all_glyphs, items_of}
 use Rattle.buffer_core.specs.Merging.{index_in_all, with_has_glyph_flags}
 use Rattle.buffer_core.specs.Marking.{with_flagged_apart, with_flagged}
 
+same_side : (t : Bool) (out xs ys : List hb_glyph_info_t) → (t ≡ false → xs ≡ ys) → (if t then out else xs) ≡ (if t then out else ys)
+same_side true out xs ys e = refl
+same_side false out xs ys e = e refl
+
 pub marked_view : (b : Inside) (info : Vec hb_glyph_info_t) (order : ClusterOrder) (bits from start end flags : ℕ) → b.idx ≤ length b.info.items → start ≤ end → (b.have_output ≡ true → b.idx ≤ start)
-    → from ≡ start_of b
+    → (b.have_output ≡ true → b.is_apart ≡ false → take b.front info.items ≡ take b.front b.info.items) → from ≡ start_of b
     → drop from info.items ≡ glyphs_marked bits (start - from) (end - from) (drop from b.info.items)
     → flags ≡ with_has_glyph_flags (has_several_numbers (range_of (start - from) (end - from) (clusters (drop from b.info.items)))) b.scratch_flags
     → sides_of (record b { info = info; scratch_flags = flags; order = order }) ≡ with_flagged_apart bits (index_in_all start (sides_of b)) (index_in_all end (sides_of b)) (sides_of b)
-marked_view b info order bits from start end flags le before unread begins i f = by_test b.have_output refl
+marked_view b info order bits from start end flags le before unread stays begins i f = by_test b.have_output refl
   where
     by_test : (t : Bool) → b.have_output ≡ t → sides_of (record b { info = info; scratch_flags = flags; order = order }) ≡ with_flagged_apart bits (index_in_all start (sides_of b)) (index_in_all end (sides_of b)) (sides_of b)
     by_test true e =
         let here : from ≡ b.idx = rw e at begins in
         let first = unread e in
-        let out = b.out_info.items in
+        let out = if b.is_apart then b.out_info.items else take b.front b.info.items in
+        let kept = same_side b.is_apart b.out_info.items (take b.front info.items) (take b.front b.info.items) (stays e) in
         let ahead = drop b.idx b.info.items in
         let at : length out + start - b.idx ≡ length out + (start - b.idx) = omega arith in
         let to : length out + end - b.idx ≡ length out + (end - b.idx) = omega arith in
         let input = rw here at i in
         let marks = rw here at f in
-        rw (e, input, marks, at, to, marked_beyond bits out ahead (start - b.idx) (end - b.idx), range_beyond out ahead (start - b.idx) (end - b.idx), take-append_seam out (glyphs_marked bits (start - b.idx) (end - b.idx) ahead), drop-append_seam out (glyphs_marked bits (start - b.idx) (end - b.idx) ahead)) refl
+        rw (e, kept, input, marks, at, to, marked_beyond bits out ahead (start - b.idx) (end - b.idx), range_beyond out ahead (start - b.idx) (end - b.idx), take-append_seam out (glyphs_marked bits (start - b.idx) (end - b.idx) ahead), drop-append_seam out (glyphs_marked bits (start - b.idx) (end - b.idx) ahead)) refl
     by_test false e =
         let here : from ≡ 0 = rw e at begins in
         let long : length (take b.idx b.info.items) ≡ b.idx = length-take-le b.idx b.info.items le in
@@ -50,23 +55,24 @@ same_lengths : (p q i j : ℕ) → p ≤ q → i ≤ j → q - p ≡ j - i → n
 same_lengths p q i j le lt e = grind (arith, nat_tests, common_steps, e)
 
 pub flagged_view : (b : Inside) (info : Vec hb_glyph_info_t) (order : ClusterOrder) (bits from start end flags : ℕ) → b.idx ≤ length b.info.items → start ≤ end → (b.have_output ≡ true → b.idx ≤ start)
-    → from ≡ start_of b
+    → (b.have_output ≡ true → b.is_apart ≡ false → take b.front info.items ≡ take b.front b.info.items) → from ≡ start_of b
     → drop from info.items ≡ glyphs_flagged bits (start - from) (end - from) (drop from b.info.items)
     → flags ≡ with_has_glyph_flags (nat_lt start end) b.scratch_flags
     → sides_of (record b { info = info; scratch_flags = flags; order = order }) ≡ with_flagged bits (index_in_all start (sides_of b)) (index_in_all end (sides_of b)) (sides_of b)
-flagged_view b info order bits from start end flags le before unread begins i f = by_test b.have_output refl
+flagged_view b info order bits from start end flags le before unread stays begins i f = by_test b.have_output refl
   where
     by_test : (t : Bool) → b.have_output ≡ t → sides_of (record b { info = info; scratch_flags = flags; order = order }) ≡ with_flagged bits (index_in_all start (sides_of b)) (index_in_all end (sides_of b)) (sides_of b)
     by_test true e =
         let here : from ≡ b.idx = rw e at begins in
         let first = unread e in
-        let out = b.out_info.items in
+        let out = if b.is_apart then b.out_info.items else take b.front b.info.items in
+        let kept = same_side b.is_apart b.out_info.items (take b.front info.items) (take b.front b.info.items) (stays e) in
         let ahead = drop b.idx b.info.items in
         let at : length out + start - b.idx ≡ length out + (start - b.idx) = omega arith in
         let to : length out + end - b.idx ≡ length out + (end - b.idx) = omega arith in
         let input = rw here at i in
         let less : nat_lt start end ≡ nat_lt (length out + (start - b.idx)) (length out + (end - b.idx)) = same_lengths (length out + (start - b.idx)) (length out + (end - b.idx)) start end (omega arith) before (omega arith) in
-        rw (e, input, f, at, to, flagged_beyond bits out ahead (start - b.idx) (end - b.idx), less, take-append_seam out (glyphs_flagged bits (start - b.idx) (end - b.idx) ahead), drop-append_seam out (glyphs_flagged bits (start - b.idx) (end - b.idx) ahead)) refl
+        rw (e, kept, input, f, at, to, flagged_beyond bits out ahead (start - b.idx) (end - b.idx), less, take-append_seam out (glyphs_flagged bits (start - b.idx) (end - b.idx) ahead), drop-append_seam out (glyphs_flagged bits (start - b.idx) (end - b.idx) ahead)) refl
     by_test false e =
         let here : from ≡ 0 = rw e at begins in
         let long : length (take b.idx b.info.items) ≡ b.idx = length-take-le b.idx b.info.items le in
@@ -144,3 +150,13 @@ marked_items bits from to s lt le = ap strip (all_marked bits from to s) ∙ str
 
 pub flagged_items : (bits from to : ℕ) (s : Sides) → bits < 8 → from ≤ to → items_of (with_flagged bits from to s) ≡ items_of s
 flagged_items bits from to s lt le = ap strip (all_flagged bits from to s) ∙ strip_flagged bits from to (all_glyphs s) lt le
+
+-- glyphs before the range stay
+front_of : (xs ys zs : List hb_glyph_info_t) (m : ℕ) → m ≤ length xs → take m (xs ++ ys ++ zs) ≡ take m xs
+front_of xs ys zs m le = ap (take m) (append_assoc xs ys zs) ∙ take-append-le m xs (ys ++ zs) le
+
+pub marked_front : (bits start end m : ℕ) (gs : List hb_glyph_info_t) → m ≤ start → start ≤ length gs → take m (glyphs_marked bits start end gs) ≡ take m gs
+marked_front bits start end m gs le within = let long = length-take-le start gs within in front_of (take start gs) _ _ m (omega (arith, long, le)) ∙ take-take m start gs le
+
+pub flagged_front : (bits start end m : ℕ) (gs : List hb_glyph_info_t) → m ≤ start → start ≤ length gs → take m (glyphs_flagged bits start end gs) ≡ take m gs
+flagged_front bits start end m gs le within = let long = length-take-le start gs within in front_of (take start gs) _ _ m (omega (arith, long, le)) ∙ take-take m start gs le

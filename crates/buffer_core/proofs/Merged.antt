@@ -40,12 +40,12 @@ same_marks MonotoneCharacters a b c d ms ns e = refl
 same_marks Characters a b c d ms ns e = ap has_several_numbers e
 
 pub merged_view : (b : Inside) (info out : Vec hb_glyph_info_t) (order : ClusterOrder) (from start end flags : ℕ) → b.idx ≤ length b.info.items → start ≤ end → (b.have_output ≡ true → b.idx ≤ start)
-    → from ≡ start_of b
+    → (b.have_output ≡ true → b.is_apart ≡ true) → from ≡ start_of b
     → drop from info.items ≡ glyphs_merged_at b.cluster_level (start - from) (end - from) (drop from b.info.items)
     → out.items ≡ beside_merged b.cluster_level (range_of (start - from) (end - from) (clusters (drop from b.info.items))) b.out_info.items
     → flags ≡ with_has_glyph_flags (is_marked_at b.cluster_level (start - from) (end - from) (clusters (drop from b.info.items))) b.scratch_flags
     → sides_of (record b { info = info; out_info = out; scratch_flags = flags; order = order }) ≡ with_merged (index_in_all start (sides_of b)) (index_in_all end (sides_of b)) (sides_of b)
-merged_view b info out order from start end flags le before unread begins i o f = by_test b.have_output refl
+merged_view b info out order from start end flags le before unread left begins i o f = by_test b.have_output refl
   where
     by_test : (t : Bool) → b.have_output ≡ t → sides_of (record b { info = info; out_info = out; scratch_flags = flags; order = order }) ≡ with_merged (index_in_all start (sides_of b)) (index_in_all end (sides_of b)) (sides_of b)
     by_test true e =
@@ -55,7 +55,8 @@ merged_view b info out order from start end flags le before unread begins i o f 
         let input = rw here at i in
         let output = rw here at o in
         let marks = rw here at f ∙ ap (λ any. with_has_glyph_flags any b.scratch_flags) (same_marks b.cluster_level (start - b.idx) (end - b.idx) (length b.out_info.items + start - b.idx) (length b.out_info.items + end - b.idx) (clusters (drop b.idx b.info.items)) (clusters (b.out_info.items ++ drop b.idx b.info.items)) m.range_is) in
-        rw (e, output, input, m.behind_is, m.ahead_is, marks) refl
+        let a = left e in
+        rw (e, a, output, input, m.behind_is, m.ahead_is, marks) refl
     by_test false e =
         let here : from ≡ 0 = rw e at begins in
         let long : length (take b.idx b.info.items) ≡ b.idx = length-take-le b.idx b.info.items le in

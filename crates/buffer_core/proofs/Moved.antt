@@ -29,12 +29,12 @@ moved_forth i n s e =
     rw (read, e, take-append-add s.behind s.ahead n, drop-append-add s.behind s.ahead n) refl
 
 -- a move back puts the end of the output before the input
-pub moved_back : (b : Inside) (info out : Vec hb_glyph_info_t) (order : ClusterOrder) (i first : ℕ) → b.have_output ≡ true → i ≤ length b.out_info.items → first ≡ b.idx - (length b.out_info.items - i)
+pub moved_back : (b : Inside) (info out : Vec hb_glyph_info_t) (order : ClusterOrder) (i first : ℕ) → b.have_output ≡ true → b.is_apart ≡ true → i ≤ length b.out_info.items → first ≡ b.idx - (length b.out_info.items - i)
     → drop first info.items ≡ drop i b.out_info.items ++ drop b.idx b.info.items → out.items ≡ take i b.out_info.items
     → sides_of (record b { info = info; out_info = out; idx = first; order = order }) ≡ after_move_to i (sides_of b)
-moved_back b info out order i first h le f input output =
+moved_back b info out order i first h a le f input output =
     let read : first ≡ b.idx + i - length b.out_info.items = omega (arith, f, le) in
-    rw (h, input, output, take-append-le i b.out_info.items (drop b.idx b.info.items) le, drop-append-le i b.out_info.items (drop b.idx b.info.items) le, ← read) refl
+    rw (h, a, input, output, take-append-le i b.out_info.items (drop b.idx b.info.items) le, drop-append-le i b.out_info.items (drop b.idx b.info.items) le, ← read) refl
 
 pub order_back : (o : KnownOrder) (out info new_out new_info : List hb_glyph_info_t) (n first i : ℕ) → new_out ≡ take i out → drop first new_info ≡ drop i out ++ drop n info
     → HasOrder o (clusters out ++ drop n (clusters info)) → HasOrder o (clusters new_out ++ drop first (clusters new_info))

@@ -1,15 +1,16 @@
 -- What is known of the order of clusters, after each call.
-use Rattle.std.proofs.Common.{take, Option, None, ℕ, ◌≡◌, ◌≤◌, ◌<◌, ◌+◌, ◌-◌, arith, Bool, true, false, if◌then◌else◌, List, [], ◌∷◌, ◌++◌, length, map, drop, reverse, get_or, set, refl, ap, sym, subst, ◌∙◌}
-use Rattle.std.proofs.lemmas.List.{map-append, drop-map, drop-drop, take-append-drop, drop_more, append_assoc, map-set, set-set, set-get_or, get_or-map}
+use Rattle.std.specs.Prelude.{slice_set}
+use Rattle.std.proofs.Common.{take, Option, None, Some, ℕ, zero, suc, ◌≡◌, ◌≤◌, ◌<◌, ◌+◌, ◌-◌, arith, Bool, true, false, if◌then◌else◌, List, [], ◌∷◌, ◌++◌, length, map, drop, reverse, get_or, set, refl, ap, sym, subst, ◌∙◌}
+use Rattle.std.proofs.lemmas.List.{map-append, take-map, drop-map, drop-drop, take-append-drop, drop_more, append_assoc, map-set, set-set, set-get_or, get_or-map}
 use Rattle.buffer_glyphs.specs.declared.info.hb_glyph_info_t.{hb_glyph_info_t}
 use Rattle.buffer_glyphs.specs.Items.{clusters}
 use Rattle.buffer_glyphs.specs.Parts.{range_of}
 use Rattle.buffer_glyphs.specs.Order.{IsOrdered}
 use Rattle.buffer_glyphs.specs.Lemmas.Drawn.{IsDrawn, past, drawn_second, drawn_drop, drawn_take}
 use Rattle.buffer_glyphs.specs.Lemmas.Parts.{order_drawn}
-use Rattle.std.specs.Bool.{OnFalse}
+use Rattle.std.specs.Bool.{OnTrue}
 use Rattle.buffer_core.specs.declared.buffer.hb_buffer_t.TheInside.{Inside}
-use Rattle.buffer_core.specs.Inside.{sides_of, start_of}
+use Rattle.buffer_core.specs.Inside.{in_place, known_clusters, sides_of, start_of, IsSound}
 use Rattle.buffer_core.specs.Sides.{all_glyphs}
 use Rattle.buffer_lists.specs.declared.order.KnownOrder.{KnownOrder}
 use Rattle.buffer_lists.specs.declared.order.KnownOrder.TheVariants.{Unknown, Rising, Falling}
@@ -98,18 +99,120 @@ drawn_pass [] ys = drawn_drop 0 ys
 drawn_pass (x ∷ xs) ys = past x (xs ++ ys) ys (drawn_pass xs ys)
 
 -- a range of what is left of the input is in order
-pub range_ordered : (o : KnownOrder) (start end n : ℕ) (out info : List hb_glyph_info_t) → n ≤ start → is_known o ≡ true → HasOrder o (clusters out ++ drop n (clusters info)) → IsOrdered (range_of start end (clusters info))
-range_ordered o start end n out info le is h =
+pub range_ordered : (o : KnownOrder) (start end n : ℕ) (front : List ℕ) (info : List hb_glyph_info_t) → n ≤ start → is_known o ≡ true → HasOrder o (front ++ drop n (clusters info)) → IsOrdered (range_of start end (clusters info))
+range_ordered o start end n front info le is h =
     let ns = clusters info in
-    let left : HasOrder o (drop n ns) = order_drawn_known o (clusters out ++ drop n ns) (drop n ns) (drawn_pass (clusters out) (drop n ns)) h in
+    let left : HasOrder o (drop n ns) = order_drawn_known o (front ++ drop n ns) (drop n ns) (drawn_pass front (drop n ns)) h in
     let there : n + (start - n) ≡ start = omega (arith, le) in
     let from : HasOrder o (drop start ns) = subst (HasOrder o) (drop-drop (start - n) n ns ∙ ap (λ (k : ℕ). drop k ns) there) (order_drawn_known o (drop n ns) (drop (start - n) (drop n ns)) (drawn_drop (start - n) (drop n ns)) left) in
     known_ordered o (range_of start end ns) is (order_drawn_known o (drop start ns) (take (end - start) (drop start ns)) (drawn_take (end - start) (drop start ns)) from)
 
--- the clusters of all glyphs, where both lists have them
-all_clusters_of : (is_open : Bool) (out info : List hb_glyph_info_t) (n : ℕ) → OnFalse is_open (out ≡ []) → clusters ((if is_open then out else take n info) ++ drop n info) ≡ clusters out ++ drop (if is_open then n else 0) (clusters info)
-all_clusters_of true out info n h = map-append (λ (g : hb_glyph_info_t). g.cluster) out (drop n info) ∙ ap (λ ns. clusters out ++ ns) (sym (drop-map (λ (g : hb_glyph_info_t). g.cluster) n info))
-all_clusters_of false out info n h = rw h (ap clusters (take-append-drop n info))
+-- the clusters of all glyphs, as the vectors have them
+abbrev pub own_clusters : Inside → List ℕ
+own_clusters b = if in_place b then take b.front (clusters b.info.items) ++ drop b.idx (clusters b.info.items) else clusters b.out_info.items ++ drop (start_of b) (clusters b.info.items)
 
-pub all_clusters : (b : Inside) → OnFalse b.have_output (b.out_info.items ≡ []) → clusters (all_glyphs (sides_of b)) ≡ clusters b.out_info.items ++ drop (start_of b) (clusters b.info.items)
-all_clusters b h = all_clusters_of b.have_output b.out_info.items b.info.items b.idx h
+pub all_clusters : (b : Inside) → IsSound b → clusters (all_glyphs (sides_of b)) ≡ own_clusters b
+all_clusters b s = by_open b.have_output refl
+  where
+    f : hb_glyph_info_t → ℕ
+    f g = g.cluster
+
+    by_apart : (t : Bool) → b.is_apart ≡ t → b.have_output ≡ true → clusters (all_glyphs (sides_of b)) ≡ own_clusters b
+    by_apart true a h = rw (h, a) (map-append f b.out_info.items (drop b.idx b.info.items) ∙ ap (λ ns. clusters b.out_info.items ++ ns) (sym (drop-map f b.idx b.info.items)))
+    by_apart false a h = rw (h, a) (map-append f (take b.front b.info.items) (drop b.idx b.info.items) ∙ ap (λ ns. ns ++ clusters (drop b.idx b.info.items)) (sym (take-map f b.front b.info.items)) ∙ ap (λ ns. take b.front (clusters b.info.items) ++ ns) (sym (drop-map f b.idx b.info.items)))
+
+    by_open : (t : Bool) → b.have_output ≡ t → clusters (all_glyphs (sides_of b)) ≡ own_clusters b
+    by_open true h = by_apart b.is_apart refl h
+    by_open false h = let none : b.out_info.items ≡ [] = rw h at s.closed in rw (h, none) (ap clusters (take-append-drop b.idx b.info.items))
+
+-- what is known once a lent glyph is back
+pub settled_any : (b : Inside) (o : KnownOrder) → IsSound b
+    → ((n : ℕ) → HasOrder b.order.known (known_output_clusters b.order.lent (clusters b.out_info.items) ++ drop n (known_input_clusters b.order.lent (clusters b.info.items))) → HasOrder o (clusters b.out_info.items ++ drop n (clusters b.info.items)))
+    → ((m n : ℕ) → HasOrder b.order.known (take m (known_input_clusters b.order.lent (clusters b.info.items)) ++ drop n (known_input_clusters b.order.lent (clusters b.info.items))) → HasOrder o (take m (clusters b.info.items) ++ drop n (clusters b.info.items)))
+    → HasOrder o (own_clusters b)
+settled_any b o s apart over = by_test (in_place b) s.ordered
+  where
+    by_test : (t : Bool)
+        → HasOrder b.order.known (if t then take b.front (known_input_clusters b.order.lent (clusters b.info.items)) ++ drop b.idx (known_input_clusters b.order.lent (clusters b.info.items))
+        else known_output_clusters b.order.lent (clusters b.out_info.items) ++ drop (start_of b) (known_input_clusters b.order.lent (clusters b.info.items)))
+        → HasOrder o (if t then take b.front (clusters b.info.items) ++ drop b.idx (clusters b.info.items) else clusters b.out_info.items ++ drop (start_of b) (clusters b.info.items))
+    by_test true h = over b.front b.idx h
+    by_test false h = apart (start_of b) h
+
+-- where no glyph is lent, with other vectors
+pub none_lent_any : (b : Inside) (o : KnownOrder) (l : Option Lent) (out info : List hb_glyph_info_t) → l ≡ None → clusters out ≡ clusters b.out_info.items → clusters info ≡ clusters b.info.items → HasOrder o (own_clusters b)
+    → HasOrder o (if in_place b then take b.front (known_input_clusters l (clusters info)) ++ drop b.idx (known_input_clusters l (clusters info)) else known_output_clusters l (clusters out) ++ drop (start_of b) (known_input_clusters l (clusters info)))
+none_lent_any b o l out info e outs infos h = rw (e, outs, infos) h
+
+-- a range of the glyphs ahead is in order
+pub range_known : (b : Inside) (o : KnownOrder) (start end : ℕ) → start_of b ≤ start → is_known o ≡ true → HasOrder o (own_clusters b) → IsOrdered (range_of start end (clusters b.info.items))
+range_known b o start end le is h = by_open b.have_output refl
+  where
+    by_apart : (t : Bool) → b.is_apart ≡ t → b.have_output ≡ true → IsOrdered (range_of start end (clusters b.info.items))
+    by_apart true a e = range_ordered o start end b.idx (clusters b.out_info.items) b.info.items (rw e at le) is (rw (e, a) at h)
+    by_apart false a e = range_ordered o start end b.idx (take b.front (clusters b.info.items)) b.info.items (rw e at le) is (rw (e, a) at h)
+
+    by_open : (t : Bool) → b.have_output ≡ t → IsOrdered (range_of start end (clusters b.info.items))
+    by_open true e = by_apart b.is_apart refl e
+    by_open false e = range_ordered o start end 0 (clusters b.out_info.items) b.info.items (omega arith) is (rw e at h)
+
+-- where no output is in place
+pub not_over : (b : Inside) → (b.have_output ≡ true → b.is_apart ≡ true) → in_place b ≡ false
+not_over b f = by_open b.have_output refl
+  where
+    by_open : (t : Bool) → b.have_output ≡ t → in_place b ≡ false
+    by_open true e = let a = f e in rw (e, a) refl
+    by_open false e = rw e refl
+
+pub outside : (b : Inside) (P : Type 0) → (b.have_output ≡ true → b.is_apart ≡ true) → OnTrue (in_place b) P
+outside b P f = subst (λ (t : Bool). OnTrue t P) (sym (not_over b f)) tt
+
+pub known_outside : (b : Inside) (o : KnownOrder) (xs ys : List ℕ) → (b.have_output ≡ true → b.is_apart ≡ true) → HasOrder o (if in_place b then xs else ys) → HasOrder o ys
+known_outside b o xs ys f h = subst (λ (t : Bool). HasOrder o (if t then xs else ys)) (not_over b f) h
+
+pub known_inside : (b : Inside) (o : KnownOrder) (xs ys : List ℕ) → (b.have_output ≡ true → b.is_apart ≡ true) → HasOrder o ys → HasOrder o (if in_place b then xs else ys)
+known_inside b o xs ys f h = subst (λ (t : Bool). HasOrder o (if t then xs else ys)) (sym (not_over b f)) h
+
+-- as many glyphs in other vectors
+pub none_kept : (b : Inside) (xs : List hb_glyph_info_t) → length xs ≡ length b.out_info.items → OnTrue (in_place b) (b.out_info.items ≡ []) → OnTrue (in_place b) (xs ≡ [])
+none_kept b xs e h = by_test (in_place b) h
+  where
+    nil : (ys : List hb_glyph_info_t) → length ys ≡ 0 → ys ≡ []
+    nil [] e = refl
+    nil (y ∷ ys) e = cc
+
+    by_test : (t : Bool) → OnTrue t (b.out_info.items ≡ []) → OnTrue t (xs ≡ [])
+    by_test true none = nil xs (e ∙ ap length none)
+    by_test false none = tt
+
+pub long_kept : (b : Inside) (xs : List hb_glyph_info_t) → length xs ≡ length b.info.items → OnTrue (in_place b) (length b.pos.items ≡ length b.info.items) → OnTrue (in_place b) (length b.pos.items ≡ length xs)
+long_kept b xs e h = subst (λ n. OnTrue (in_place b) (length b.pos.items ≡ n)) (sym e) h
+
+-- a glyph of the input went
+pub front_skipped : (b : Inside) → OnTrue (in_place b) (b.front ≤ b.idx) → OnTrue (in_place b) (b.front ≤ b.idx + 1)
+front_skipped b h = by_test (in_place b) h
+  where
+    by_test : (t : Bool) → OnTrue t (b.front ≤ b.idx) → OnTrue t (b.front ≤ b.idx + 1)
+    by_test true le = omega (arith, le)
+    by_test false le = tt
+
+pub known_skipped : (b : Inside) → b.have_output ≡ true → HasOrder b.order.known (known_clusters b) → HasOrder b.order.known (known_clusters (record b { idx = b.idx + 1 }))
+known_skipped b h o = by_apart b.is_apart refl
+  where
+    by_apart : (t : Bool) → b.is_apart ≡ t → HasOrder b.order.known (known_clusters (record b { idx = b.idx + 1 }))
+    by_apart true a = rw (h, a) (order_skipped b.order.known (known_output_clusters b.order.lent (clusters b.out_info.items)) (known_input_clusters b.order.lent (clusters b.info.items)) b.idx (rw (h, a) at o))
+    by_apart false a = rw (h, a) (order_skipped b.order.known (take b.front (known_input_clusters b.order.lent (clusters b.info.items))) (known_input_clusters b.order.lent (clusters b.info.items)) b.idx (rw (h, a) at o))
+
+-- an output was opened
+none_set : (n c : ℕ) → slice_set [] n c ≡ []
+none_set zero c = refl
+none_set (suc n) c = refl
+
+none_known : (l : Option Lent) → known_output_clusters l [] ≡ []
+none_known None = refl
+none_known (Some l) = elim l.in_output as (λ t. (if t then slice_set [] l.at l.cluster else []) ≡ []) [ true ↦ none_set l.at l.cluster | false ↦ refl ]
+
+pub known_opened : (b : Inside) → b.have_output ≡ false → b.out_info.items ≡ [] → HasOrder b.order.known (known_clusters b) → HasOrder b.order.known (known_input_clusters b.order.lent (clusters b.info.items))
+known_opened b h none o =
+    let before : HasOrder b.order.known (known_output_clusters b.order.lent [] ++ drop 0 (known_input_clusters b.order.lent (clusters b.info.items))) = rw (h, none) at o in
+    rw (none_known b.order.lent) at before

@@ -1,39 +1,24 @@
 -- What a replacement does to the sides.
-use Rattle.std.specs.Global.{Vec}
-use Rattle.std.proofs.Common.{ℕ, ◌≡◌, ◌≤◌, ◌+◌, ◌==◌, ◌||◌, ◌⊎◌, inl, inr, nat_le, nat_lt, Bool, true, false, Option, Some, None, List, [], ◌∷◌, ◌++◌, length, drop, refl, arith, ap, ◌∙◌}
+use Rattle.std.proofs.Common.{ℕ, ◌≡◌, ◌≤◌, ◌+◌, ◌==◌, ◌||◌, ◌⊎◌, inl, inr, nat_le, Bool, true, false, Option, Some, None, List, [], ◌∷◌, ◌++◌, length, refl, arith, ap, ◌∙◌}
 use Rattle.std.proofs.lemmas.Grind.{common_steps}
 use Rattle.std.proofs.lemmas.Bool.Decides.{nat_tests}
-use Rattle.std.proofs.lemmas.List.{append-nil, length-map, drop-drop, length-take-le, length-append}
+use Rattle.std.proofs.lemmas.List.{append-nil, length-map, length-take-le, length-append}
 use Rattle.std.proofs.Math.Seq.{take-append_seam, drop-append_seam, drop-append-add}
 use Rattle.buffer_glyphs.specs.declared.info.hb_glyph_info_t.{hb_glyph_info_t}
-use Rattle.buffer_glyphs.specs.Items.{strip, clusters}
-use Rattle.buffer_glyphs.specs.Parts.{first_of, last_of, or, range_of}
-use Rattle.buffer_glyphs.specs.Glyphs.{glyphs_merged_at, beside_merged, is_marked_at}
+use Rattle.buffer_glyphs.specs.Items.{strip}
+use Rattle.buffer_glyphs.specs.Parts.{first_of, last_of, or}
+use Rattle.buffer_glyphs.specs.Glyphs.{glyphs_merged_at}
 use Rattle.buffer_glyphs.specs.Replacements.{numbered_copies, glyph_numbered, glyphs_replaced, items_replaced}
 use Rattle.buffer_glyphs.specs.Lemmas.Glyphs.{strip_merged_at, length_merged_at}
 use Rattle.buffer_glyphs.specs.Lemmas.Replacements.{strip_replaced}
-use Rattle.buffer_core.specs.declared.buffer.hb_buffer_t.TheInside.{Inside}
-use Rattle.buffer_lists.specs.declared.order.ClusterOrder.{ClusterOrder}
-use Rattle.buffer_core.specs.Inside.{sides_of}
 use Rattle.buffer_core.specs.Sides.{Sides, all_glyphs, items_of}
-use Rattle.buffer_core.specs.Merging.{with_has_glyph_flags, with_merged, with_copied, with_replaced}
-use Rattle.buffer_core.proofs.Merged.{merged_sides, same_marks, all_merged}
-
-pub replaced_view : (b : Inside) (info out : Vec hb_glyph_info_t) (order : ClusterOrder) (left : Bool) (taken flags : ℕ) (numbers : List ℕ) → b.have_output ≡ true
-    → drop b.idx info.items ≡ glyphs_merged_at b.cluster_level 0 taken (drop b.idx b.info.items)
-    → out.items ≡ beside_merged b.cluster_level (range_of 0 taken (clusters (drop b.idx b.info.items))) b.out_info.items ++ numbered_copies glyph_numbered (or (first_of (drop b.idx info.items)) (last_of (beside_merged b.cluster_level (range_of 0 taken (clusters (drop b.idx b.info.items))) b.out_info.items))) numbers
-    → flags ≡ with_has_glyph_flags (is_marked_at b.cluster_level 0 taken (clusters (drop b.idx b.info.items))) b.scratch_flags
-    → left ≡ (b.is_apart || nat_lt (b.idx + taken) (length out.items))
-    → sides_of (record b { info = info; out_info = out; idx = b.idx + taken; scratch_flags = flags; order = order; is_apart = left }) ≡ with_replaced taken numbers (sides_of b)
-replaced_view b info out order left taken flags numbers h i o f l =
-    let m = merged_sides b.cluster_level 0 taken (length b.out_info.items) (length b.out_info.items + taken) b.out_info.items (drop b.idx b.info.items) (omega arith) refl in
-    let marks = f ∙ ap (λ any. with_has_glyph_flags any b.scratch_flags) (same_marks b.cluster_level 0 taken (length b.out_info.items) (length b.out_info.items + taken) (clusters (drop b.idx b.info.items)) (clusters (b.out_info.items ++ drop b.idx b.info.items)) m.range_is) in
-    rw (h, l, o, ← drop-drop taken b.idx info.items, i, m.ahead_is, m.behind_is, marks) refl
+use Rattle.buffer_core.specs.Merging.{with_merged, with_copied, with_replaced}
+use Rattle.buffer_core.proofs.Merged.{all_merged}
 
 pub all_copied : (taken : ℕ) (numbers : List ℕ) (s : Sides) → all_glyphs (with_copied taken numbers s) ≡ glyphs_replaced (length s.behind) taken numbers (all_glyphs s)
 all_copied taken numbers s = rw (take-append_seam s.behind s.ahead, drop-append_seam s.behind s.ahead, drop-append-add s.behind s.ahead taken) refl
 
-length_behind : (taken : ℕ) (s : Sides) → length (with_merged (length s.behind) (length s.behind + taken) s).behind ≡ length s.behind
+pub length_behind : (taken : ℕ) (s : Sides) → length (with_merged (length s.behind) (length s.behind + taken) s).behind ≡ length s.behind
 length_behind taken s =
     let gs = glyphs_merged_at s.level (length s.behind) (length s.behind + taken) (all_glyphs s) in
     let long = length_merged_at s.level (length s.behind) (length s.behind + taken) (all_glyphs s) (omega arith) in

@@ -45,12 +45,12 @@ joined_length out info n = length-append out (drop n info) ∙ ap (λ k. length 
 pub joined_places : (out info new : List hb_glyph_info_t) (n : ℕ) (positions : List GlyphPosition) → new ≡ out ++ drop n info → positions ≡ zero_positions (length out + (length info - n)) → length positions ≡ length new
 joined_places out info new n positions e p = rw (p, e, length-replicate) (sym (joined_length out info n))
 
-pub joined_view : (b : Inside) (info out : Vec hb_glyph_info_t) (positions : Vec GlyphPosition) (order : ClusterOrder) → b.have_output ≡ true → info.items ≡ b.out_info.items ++ drop b.idx b.info.items
+pub joined_view : (b : Inside) (info out : Vec hb_glyph_info_t) (positions : Vec GlyphPosition) (order : ClusterOrder) → b.have_output ≡ true → b.is_apart ≡ true → info.items ≡ b.out_info.items ++ drop b.idx b.info.items
     → positions.items ≡ zero_positions (length b.out_info.items + (length b.info.items - b.idx))
     → sides_of (record b { info = info; pos = positions; out_info = out; idx = 0; have_output = false; is_apart = false; order = order }) ≡ after_sync (sides_of b)
-joined_view b info out positions order h i p =
+joined_view b info out positions order h a i p =
     let long = joined_length b.out_info.items b.info.items b.idx in
-    rw (h, i, p, ← long) refl
+    rw (h, a, i, p, ← long) refl
 
 -- a list that stays empty while no output is open
 pub empty_kept : (t : Bool) (xs ys : List hb_glyph_info_t) → length ys ≡ length xs → OnFalse t (xs ≡ []) → OnFalse t (ys ≡ [])

@@ -1,6 +1,6 @@
 -- How the vectors of a buffer give its sides.
-use Rattle.std.specs.Prelude.{ℕ, ◌≤◌, ◌≡◌, ◌++◌, if◌then◌else◌, List, [], length, take, drop, not}
-use Rattle.std.specs.Bool.{OnFalse}
+use Rattle.std.specs.Prelude.{ℕ, ◌≤◌, ◌≡◌, ◌++◌, ◌&&◌, Bool, false, if◌then◌else◌, List, [], length, take, drop, not}
+use Rattle.std.specs.Bool.{OnFalse, OnTrue}
 use Rattle.buffer_core.specs.declared.buffer.hb_buffer_t.TheInside.{Inside}
 use Rattle.buffer_glyphs.specs.Items.{clusters}
 use Rattle.buffer_lists.specs.Known.{HasOrder, known_input_clusters, known_output_clusters}
@@ -10,7 +10,7 @@ use Rattle.buffer_core.specs.Settings.{number_set}
 -- the sides that clients see, of a buffer's fields
 abbrev pub sides_of : Inside → Sides
 sides_of b = record {
-  behind = if b.have_output then b.out_info.items else take b.idx b.info.items;
+  behind = if b.have_output then (if b.is_apart then b.out_info.items else take b.front b.info.items) else take b.idx b.info.items;
   ahead = drop b.idx b.info.items;
   positions = if b.have_output then [] else b.pos.items;
   is_open = b.have_output;
@@ -36,9 +36,13 @@ sides_of b = record {
 abbrev pub start_of : Inside → ℕ
 start_of b = if b.have_output then b.idx else 0
 
+-- whether an output is open, over glyphs of the input that were read
+abbrev pub in_place : Inside → Bool
+in_place b = b.have_output && not b.is_apart
+
 -- the clusters of all glyphs, with that of a lent glyph as it was
 abbrev pub known_clusters : Inside → List ℕ
-known_clusters b = known_output_clusters b.order.lent (clusters b.out_info.items) ++ drop (start_of b) (known_input_clusters b.order.lent (clusters b.info.items))
+known_clusters b = if in_place b then take b.front (known_input_clusters b.order.lent (clusters b.info.items)) ++ drop b.idx (known_input_clusters b.order.lent (clusters b.info.items)) else known_output_clusters b.order.lent (clusters b.out_info.items) ++ drop (start_of b) (known_input_clusters b.order.lent (clusters b.info.items))
 
 -- the invariant of a buffer's fields
 pub record IsSound (b : Inside) : Type 0 where
@@ -47,4 +51,9 @@ pub record IsSound (b : Inside) : Type 0 where
   pub output_within : length b.out_info.items ≤ b.max_len
   pub closed : OnFalse b.have_output (b.out_info.items ≡ [])
   pub placed : OnFalse b.have_output (length b.pos.items ≡ length b.info.items)
+  pub together : OnFalse b.have_output (b.is_apart ≡ false)
+  -- an output in place takes no room that was not read, and the second list is as it was before
+  pub front : OnTrue (in_place b) (b.front ≤ b.idx)
+  pub emptied : OnTrue (in_place b) (b.out_info.items ≡ [])
+  pub counted : OnTrue (in_place b) (length b.pos.items ≡ length b.info.items)
   pub ordered : HasOrder b.order.known (known_clusters b)

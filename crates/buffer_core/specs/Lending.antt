@@ -1,5 +1,5 @@
 -- A buffer once a glyph or a position that it lent comes back.
-use Rattle.std.specs.Prelude.{ℕ, ◌-◌, ◌++◌, if◌then◌else◌, List, length, take, drop, slice_set}
+use Rattle.std.specs.Prelude.{ℕ, ◌-◌, ◌++◌, if◌then◌else◌, List, length, take, drop, max, slice_set}
 use Rattle.std.specs.Borrow.{Lends, MutBor, Fml, Array}
 use Rattle.buffer_glyphs.specs.declared.info.hb_glyph_info_t.{hb_glyph_info_t}
 use Rattle.buffer_glyphs.specs.declared.position.GlyphPosition.{GlyphPosition}
@@ -30,9 +30,14 @@ refilled_list new old = take (length old) (new ++ drop (length new) old)
 abbrev pub with_refilled : List hb_glyph_info_t → Sides → Sides
 with_refilled gs s = with_glyphs (refilled_list gs (all_glyphs s)) s
 
+-- the output replaced by the glyphs that come back; where it is in the place of what was read, those that are more than
+-- were read replace glyphs ahead
+abbrev pub with_open_output_refilled : List hb_glyph_info_t → Sides → Sides
+with_open_output_refilled gs s = record s { behind = refilled_list gs s.behind; ahead = if s.is_apart then s.ahead else refilled_list (drop (max s.read (length s.behind)) gs) s.ahead }
+
 -- the glyphs behind the cursor replaced by those that come back; with no output open, they are the first of all glyphs
 abbrev pub with_output_refilled : List hb_glyph_info_t → Sides → Sides
-with_output_refilled gs s = if s.is_open then record s { behind = refilled_list gs s.behind } else with_refilled gs s
+with_output_refilled gs s = if s.is_open then with_open_output_refilled gs s else with_refilled gs s
 
 -- all positions replaced by those that come back
 abbrev pub with_positions_refilled : List Position → Sides → Sides

@@ -45,12 +45,15 @@ use std::marker::Model;
 /// glyphs from the input and append others to the output.
 #[derive(Drop)]
 pub struct hb_buffer_t {
+    // The list, or the input. While the output is in place it is the first `front` glyphs here, and those between it and
+    // the cursor have no meaning.
     info: Vec<hb_glyph_info_t>,
     pos: Vec<GlyphPosition>,
     out_info: Vec<hb_glyph_info_t>,
     idx: usize,
     have_output: bool,
-    // Whether the output is no longer in the place of what was read since it was opened.
+    front: usize,
+    // Whether the output has a list of its own, `out_info`.
     is_apart: bool,
     successful: bool,
     max_len: usize,
@@ -112,6 +115,7 @@ impl hb_buffer_t {
             out_info: Vec::new(alloc),
             idx: 0,
             have_output: false,
+            front: 0,
             is_apart: false,
             successful: true,
             max_len: Self::MAX_LEN_DEFAULT,
@@ -140,6 +144,7 @@ impl hb_buffer_t {
         self.out_info.clear();
         self.idx = 0;
         self.have_output = false;
+        self.front = 0;
         self.is_apart = false;
         self.successful = true;
         self.max_len = Self::MAX_LEN_DEFAULT;

@@ -1,5 +1,8 @@
 //! Laws of all buffers.
+ghost use Rattle.std.specs.Prelude.{◌≡◌, ◌≤◌, length, true, false};
 ghost use Rattle.buffer_core.specs.Laws.{DeletesAsWalk, OutputComesBack, ReverseTwice};
+
+use crate::buffer::hb_buffer_t;
 
 /// A buffer that is reversed twice is as it was.
 #[tactic(auto, using(crate::proofs::Twice::reverse_twice))]
@@ -17,3 +20,21 @@ pub fn law_deletes_as_walk()
 pub fn law_output_comes_back()
     ensures { OutputComesBack }
 {}
+
+/// While the output is in the place of what was read, `next_glyph` succeeds whatever memory is there; answers true.
+pub fn law_walks_in_place(count: usize, buffer: &mut hb_buffer_t) -> bool
+    requires open { buffer.old.is_open ≡ true }
+    requires in_place { buffer.old.is_apart ≡ false }
+    requires there { count ≤ length buffer.old.ahead }
+    ensures walked { result ≡ true }
+    ensures open { buffer.new.is_open ≡ true }
+    ensures in_place { buffer.new.is_apart ≡ false }
+{
+    for _ in 0..count {
+        match buffer.next_glyph() {
+            Ok(true) => {}
+            Ok(false) | Err(_) => return false,
+        }
+    }
+    true
+}

@@ -1,5 +1,5 @@
 -- A run between two ranges that are unchanged is reordered.
-use Rattle.std.proofs.Common.{ℕ, suc, ◌≡◌, ◌≤◌, ◌+◌, ◌-◌, Bool, List, [], ◌∷◌, ◌++◌, length, map, take, drop, sym, ap, ◌∙◌, arith, append_assoc}
+use Rattle.std.proofs.Common.{ℕ, suc, ◌≡◌, ◌≤◌, ◌+◌, ◌-◌, Bool, List, [], ◌∷◌, ◌++◌, length, map, take, drop, sym, ap, ◌∙◌, arith, append_assoc, false}
 use Rattle.std.specs.Prelude.{max, slice_range}
 use Rattle.std.proofs.lemmas.List.{take-append-le, drop-append-le, take_all, append-nil}
 use Rattle.buffer_glyphs.specs.Items.{Item}

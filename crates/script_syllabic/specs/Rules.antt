@@ -1,5 +1,5 @@
 -- What one step of putting circles does to a buffer.
-use Rattle.std.specs.Prelude.{ℕ, ◌≡◌, ◌≢◌, ◌<◌, [], ◌∷◌, ◌++◌, length, Option, option_map, unwrap_or}
+use Rattle.std.specs.Prelude.{ℕ, ◌≡◌, ◌≢◌, ◌<◌, [], ◌∷◌, ◌++◌, length, Option, option_map, unwrap_or, false}
 use Rattle.buffer_common.specs.declared.constants.BufferFlags.{BufferFlags}
 use Rattle.layout_face.specs.declared.parts.FaceParts.{FaceParts}
 use Rattle.buffer_glyphs.specs.declared.cause.ShapeCause.{ShapeCause}

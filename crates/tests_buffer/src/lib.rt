@@ -7,6 +7,8 @@ mod call;
 #[cfg(test)]
 mod growth;
 #[cfg(test)]
+mod in_place;
+#[cfg(test)]
 mod lists;
 #[cfg(test)]
 mod memory;

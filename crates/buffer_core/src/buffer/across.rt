@@ -1,5 +1,5 @@
 //! Merges and glyph flags of ranges that begin in the output (rustybuzz: hb/buffer.rs).
-ghost use Rattle.std.specs.Prelude.{◌≡◌, ◌+◌, ◌-◌, ◌≤◌, ◌<◌, if◌then◌else◌, nat_lt, true, length, ◌∷◌, []};
+ghost use Rattle.std.specs.Prelude.{◌≡◌, ◌+◌, ◌-◌, ◌≤◌, ◌<◌, if◌then◌else◌, nat_lt, true, false, length, ◌∷◌, []};
 ghost use Rattle.buffer_core.specs.Sides.{items_of, origins_of, origins_by};
 ghost use Rattle.buffer_core.specs.Merging.{index_in_all, with_output_merged};
 ghost use Rattle.buffer_core.specs.Marking.{requests_concat, concat_marked_across, end_or, after_mark_across, start_or, with_flagged, with_flagged_apart, end_in_all};
@@ -11,6 +11,7 @@ use super::merges::add_has_glyph_flags;
 use buffer_glyphs::info::{UNSAFE_TO_BREAK, UNSAFE_TO_CONCAT, hb_mask_t};
 use buffer_glyphs::marks::{flag_all, mark_across};
 use buffer_lists::merges::merge_output;
+use buffer_lists::over;
 
 // Ranges that begin in the output.
 impl hb_buffer_t {
@@ -23,6 +24,39 @@ impl hb_buffer_t {
         ensures merged { self.new ≡ with_output_merged start end self.old }
         ensures items { items_of self.new ≡ items_of self.old }
         ensures origins { origins_of self.new ≡ origins_by (Merge InOutput start end ∷ []) self.old }
+    {
+        if self.is_apart {
+            self.merge_out_apart(start, end);
+        } else {
+            self.merge_out_over(start, end);
+        }
+    }
+
+    fn merge_out_over(&mut self, start: usize, end: usize)
+        requires open { self.old.is_open ≡ true }
+        requires in_place { self.old.is_apart ≡ false }
+        requires ordered { start ≤ end }
+        requires within { end ≤ length self.old.behind }
+        ensures merged { self.new ≡ with_output_merged start end self.old }
+    {
+        self.order.settle(&self.out_info, &self.info);
+        self.order.known = over::merge_output(
+            &mut self.info,
+            self.front,
+            self.idx,
+            start,
+            end,
+            self.cluster_level,
+            self.order.known,
+        );
+    }
+
+    fn merge_out_apart(&mut self, start: usize, end: usize)
+        requires open { self.old.is_open ≡ true }
+        requires apart { self.old.is_apart ≡ true }
+        requires ordered { start ≤ end }
+        requires within { end ≤ length self.old.behind }
+        ensures merged { self.new ≡ with_output_merged start end self.old }
     {
         self.order.settle(&self.out_info, &self.info);
         self.order.known = merge_output(
@@ -51,7 +85,7 @@ impl hb_buffer_t {
             return self.unsafe_to_break(start, end);
         }
         let count = self.info.len();
-        self.mark_both(
+        self.mark_output(
             start.unwrap_or(0),
             end.unwrap_or(count),
             UNSAFE_TO_BREAK | UNSAFE_TO_CONCAT,
@@ -74,12 +108,43 @@ impl hb_buffer_t {
         }
         if self.asks_concat() {
             let count = self.info.len();
-            self.flag_both(start.unwrap_or(0), end.unwrap_or(count), UNSAFE_TO_CONCAT);
+            self.flag_output(start.unwrap_or(0), end.unwrap_or(count), UNSAFE_TO_CONCAT);
         }
+    }
+
+    fn mark_output(&mut self, start: usize, end: usize, flags: hb_mask_t)
+        requires open { self.old.is_open ≡ true }
+        requires glyph_flags { flags < 8 }
+        requires begins { start ≤ length self.old.behind }
+        requires unread { self.old.read ≤ end }
+        requires within { end ≤ self.old.read + length self.old.ahead }
+        ensures marked { self.new ≡ with_flagged_apart flags start (index_in_all end self.old) self.old }
+    {
+        if self.is_apart {
+            self.mark_both(start, end, flags);
+        } else {
+            self.mark_over(start, end, flags);
+        }
+    }
+
+    fn mark_over(&mut self, start: usize, end: usize, flags: hb_mask_t)
+        requires open { self.old.is_open ≡ true }
+        requires in_place { self.old.is_apart ≡ false }
+        requires glyph_flags { flags < 8 }
+        requires begins { start ≤ length self.old.behind }
+        requires unread { self.old.read ≤ end }
+        requires within { end ≤ self.old.read + length self.old.ahead }
+        ensures marked { self.new ≡ with_flagged_apart flags start (index_in_all end self.old) self.old }
+    {
+        self.order.settle(&self.out_info, &self.info);
+        let (front, from) = (self.front, self.idx);
+        let any = over::mark_across(&mut self.info, front, from, start, end - from, flags);
+        self.scratch_flags = add_has_glyph_flags(any, self.scratch_flags);
     }
 
     fn mark_both(&mut self, start: usize, end: usize, flags: hb_mask_t)
         requires open { self.old.is_open ≡ true }
+        requires apart { self.old.is_apart ≡ true }
         requires glyph_flags { flags < 8 }
         requires begins { start ≤ length self.old.behind }
         requires unread { self.old.read ≤ end }
@@ -91,8 +156,40 @@ impl hb_buffer_t {
         self.scratch_flags = add_has_glyph_flags(any, self.scratch_flags);
     }
 
+    fn flag_output(&mut self, start: usize, end: usize, flags: hb_mask_t)
+        requires open { self.old.is_open ≡ true }
+        requires glyph_flags { flags < 8 }
+        requires begins { start ≤ length self.old.behind }
+        requires unread { self.old.read ≤ end }
+        requires within { end ≤ self.old.read + length self.old.ahead }
+        ensures marked { self.new ≡ with_flagged flags start (index_in_all end self.old) self.old }
+    {
+        if self.is_apart {
+            self.flag_both(start, end, flags);
+        } else {
+            self.flag_over(start, end, flags);
+        }
+    }
+
+    fn flag_over(&mut self, start: usize, end: usize, flags: hb_mask_t)
+        requires open { self.old.is_open ≡ true }
+        requires in_place { self.old.is_apart ≡ false }
+        requires glyph_flags { flags < 8 }
+        requires begins { start ≤ length self.old.behind }
+        requires unread { self.old.read ≤ end }
+        requires within { end ≤ self.old.read + length self.old.ahead }
+        ensures marked { self.new ≡ with_flagged flags start (index_in_all end self.old) self.old }
+    {
+        self.order.settle(&self.out_info, &self.info);
+        let (front, from) = (self.front, self.idx);
+        over::flag_both(&mut self.info, front, from, start, end - from, flags);
+        let any = any_within(start, front, from, end);
+        self.scratch_flags = add_has_glyph_flags(any, self.scratch_flags);
+    }
+
     fn flag_both(&mut self, start: usize, end: usize, flags: hb_mask_t)
         requires open { self.old.is_open ≡ true }
+        requires apart { self.old.is_apart ≡ true }
         requires glyph_flags { flags < 8 }
         requires begins { start ≤ length self.old.behind }
         requires unread { self.old.read ≤ end }

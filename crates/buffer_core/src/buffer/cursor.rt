@@ -8,6 +8,7 @@ use super::hb_buffer_t;
 use buffer_glyphs::info::hb_glyph_info_t;
 use buffer_glyphs::position::GlyphPosition;
 use buffer_lists::order::Lent;
+use buffer_lists::over;
 use std::alloc::AllocError;
 use std::mem;
 
@@ -21,6 +22,7 @@ impl hb_buffer_t {
     {
         self.have_output = true;
         self.is_apart = false;
+        self.front = 0;
         self.idx = 0;
         Ok(true)
     }
@@ -39,10 +41,12 @@ impl hb_buffer_t {
     pub fn out_len(&self) -> usize
         ensures { result ≡ length self.now.behind }
     {
-        if self.have_output {
+        if !self.have_output {
+            self.idx
+        } else if self.is_apart {
             self.out_info.len()
         } else {
-            self.idx
+            self.front
         }
     }
 
@@ -79,6 +83,15 @@ impl hb_buffer_t {
             });
             return &mut self.info[last];
         }
+        if !self.is_apart {
+            let last = self.front - 1;
+            self.order.lent = Some(Lent {
+                in_output: false,
+                at: last,
+                cluster: self.info[last].cluster,
+            });
+            return &mut self.info[last];
+        }
         let last = self.out_info.len() - 1;
         self.order.lent = Some(Lent {
             in_output: true,
@@ -92,10 +105,13 @@ impl hb_buffer_t {
     pub fn out_info(&self) -> &[hb_glyph_info_t]
         ensures { result.now ≡ self.now.behind }
     {
-        if self.have_output {
-            return &self.out_info;
+        if !self.have_output {
+            return &self.info[..self.idx];
         }
-        &self.info[..self.idx]
+        if !self.is_apart {
+            return &self.info[..self.front];
+        }
+        &self.out_info
     }
 
     /// The i-th glyph from the cursor on; `cur(0)` is the current one.
@@ -134,7 +150,7 @@ impl hb_buffer_t {
     }
 
     /// Moves the cursor over a glyph, which is appended to the output where one is open; answers false, and moves
-    /// nothing, where the output has as many as it may.
+    /// nothing, where the output has as many as it may. With the output in place it takes no memory.
     #[tactic(auto, using(crate::proofs::Kept::moved_all))]
     pub fn next_glyph(&mut self) -> Result<bool, AllocError>
         requires { 0 < length self.old.ahead }
@@ -144,9 +160,14 @@ impl hb_buffer_t {
         ensures full { result ≡ Ok false → self.new ≡ after_refusal self.old }
         ensures err { OnErr result (self.new ≡ self.old) }
         ensures in_place { self.old.is_open ≡ false → result ≡ Ok true }
+        ensures stays { self.old.is_open ≡ true → self.old.is_apart ≡ false → result ≡ Ok true }
     {
         if !self.have_output {
             self.idx += 1;
+            return Ok(true);
+        }
+        if !self.is_apart {
+            self.pass(1);
             return Ok(true);
         }
         if !self.has_output_room(1) {
@@ -156,8 +177,23 @@ impl hb_buffer_t {
         Ok(true)
     }
 
+    /// Moves the cursor over glyphs while the output is in place.
+    pub(super) fn pass(&mut self, count: usize)
+        requires open { self.old.is_open ≡ true }
+        requires in_place { self.old.is_apart ≡ false }
+        requires there { count ≤ length self.old.ahead }
+        ensures moved { self.new ≡ after_next_glyphs count self.old }
+        ensures room { has_output_room count self.old ≡ true }
+    {
+        self.order.settle(&self.out_info, &self.info);
+        over::pass(&mut self.info, self.front, self.idx, count);
+        self.front += count;
+        self.idx += count;
+    }
+
     fn push_current(&mut self) -> Result<(), AllocError>
         requires open { self.old.is_open ≡ true }
+        requires apart { self.old.is_apart ≡ true }
         requires there { 0 < length self.old.ahead }
         requires room { has_output_room 1 self.old ≡ true }
         ensures moved { OnOk result (self.new ≡ after_next_glyphs 1 self.old) }
@@ -171,7 +207,7 @@ impl hb_buffer_t {
 
     /// Appends the rest of the input to the output, which becomes the list, with zero positions and the cursor at its
     /// front; answers false, and joins nothing, where the list would have more than it may or a call before was refused
-    /// for length.
+    /// for length. With the output in place it takes no memory.
     pub fn sync(&mut self) -> Result<bool, AllocError>
         requires { self.old.is_open ≡ true }
         ensures held { IfOk result (λ b. b ≡ fits_joined self.old) }
@@ -179,9 +215,14 @@ impl hb_buffer_t {
         ensures kept { all_glyphs self.new ≡ all_glyphs self.old }
         ensures full { result ≡ Ok false → self.new ≡ after_refusal self.old }
         ensures err { OnErr result (self.new ≡ self.old) }
+        ensures stays { self.old.is_apart ≡ false → result ≡ Ok (fits_joined self.old) }
     {
         if !self.fits_joined() {
             return Ok(self.refuse());
+        }
+        if !self.is_apart {
+            self.close_up();
+            return Ok(true);
         }
         self.join()?;
         Ok(true)
@@ -191,11 +232,26 @@ impl hb_buffer_t {
         requires { self.now.is_open ≡ true }
         ensures { result ≡ fits_joined self.now }
     {
-        self.successful && self.info.len() - self.idx <= self.max_len - self.out_info.len()
+        self.successful && self.info.len() - self.idx <= self.max_len - self.out_len()
+    }
+
+    /// Makes one list of an output in place and the rest of the input.
+    fn close_up(&mut self)
+        requires open { self.old.is_open ≡ true }
+        requires in_place { self.old.is_apart ≡ false }
+        requires fits { fits_joined self.old ≡ true }
+        ensures { self.new ≡ after_sync self.old }
+    {
+        self.order.settle(&self.out_info, &self.info);
+        over::join(&mut self.info, self.front, self.idx);
+        reset_positions(&mut self.pos, self.info.len());
+        self.have_output = false;
+        self.idx = 0;
     }
 
     fn join(&mut self) -> Result<(), AllocError>
         requires open { self.old.is_open ≡ true }
+        requires apart { self.old.is_apart ≡ true }
         requires fits { fits_joined self.old ≡ true }
         ensures joined { OnOk result (self.new ≡ after_sync self.old) }
         ensures err { OnErr result (self.new ≡ self.old) }
@@ -207,6 +263,15 @@ impl hb_buffer_t {
         self.idx = 0;
         Ok(())
     }
+}
+
+/// As many zero positions as there are glyphs.
+fn reset_positions(positions: &mut Vec<GlyphPosition>, count: usize)
+    requires { count ≤ vec_len positions.old }
+    ensures { positions.new.items ≡ zero_positions count }
+{
+    positions.truncate(count);
+    positions.fill(GlyphPosition::default());
 }
 
 /// Appends the rest of the input, from an index on, to the output, which becomes the list, with zero positions.

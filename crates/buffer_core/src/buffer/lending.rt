@@ -27,14 +27,14 @@ impl hb_buffer_t {
         ensures value { result.now ≡ self.old.behind }
         ensures* writes_back { sem 𝓛 (LendsOutput self.entry result) }
     {
-        if self.have_output {
+        if self.is_apart {
             return self.output_mut();
         }
         self.passed_mut()
     }
 
     fn output_mut(&mut self) -> &mut [hb_glyph_info_t]
-        requires { self.old.is_open ≡ true }
+        requires { self.old.is_apart ≡ true }
         ensures value { result.now ≡ self.old.behind }
         ensures* writes_back { sem 𝓛 (LendsOutput self.entry result) }
     {
@@ -42,13 +42,13 @@ impl hb_buffer_t {
         &mut self.out_info
     }
 
-    /// The glyphs that the cursor has passed.
+    /// The glyphs that the cursor has passed, or the output in the place of these.
     fn passed_mut(&mut self) -> &mut [hb_glyph_info_t]
-        requires { self.old.is_open ≡ false }
+        requires { self.old.is_apart ≡ false }
         ensures value { result.now ≡ self.old.behind }
         ensures* writes_back { sem 𝓛 (LendsOutput self.entry result) }
     {
-        let end = self.idx;
+        let end = self.out_len();
         self.order = ClusterOrder::of(KnownOrder::Unknown);
         self.info.slice_mut(..end)
     }

@@ -1,5 +1,5 @@
 //! Merges of clusters in the input (rustybuzz: hb/buffer.rs, `merge_clusters`, `set_cluster`).
-ghost use Rattle.std.specs.Prelude.{◌≡◌, ◌+◌, ◌-◌, ◌≤◌, if◌then◌else◌, true, length, ◌∷◌, []};
+ghost use Rattle.std.specs.Prelude.{◌≡◌, ◌+◌, ◌-◌, ◌≤◌, if◌then◌else◌, true, false, length, ◌∷◌, []};
 ghost use Rattle.buffer_glyphs.specs.Deleting.{recast};
 ghost use Rattle.buffer_core.specs.Sides.{items_of, origins_of, origins_by};
 ghost use Rattle.buffer_core.specs.Merging.{index_in_all, with_has_glyph_flags, with_merged};
@@ -11,6 +11,7 @@ use buffer_common::constants::{HB_BUFFER_SCRATCH_FLAG_HAS_GLYPH_FLAGS, hb_buffer
 use buffer_glyphs::deletion::set_cluster;
 use buffer_glyphs::info::{hb_glyph_info_t, hb_mask_t};
 use buffer_lists::merges::merge_input;
+use buffer_lists::over;
 
 impl hb_buffer_t {
     /// Merges the clusters of the glyphs from `start` up to before `end`, indices of the input. At the monotone levels
@@ -26,6 +27,42 @@ impl hb_buffer_t {
         ensures items { items_of self.new ≡ items_of self.old }
         ensures origins { origins_of self.new
             ≡ origins_by (Merge InList (index_in_all start self.old) (index_in_all end self.old) ∷ []) self.old }
+    {
+        if self.have_output && !self.is_apart {
+            self.merge_over(start, end);
+        } else {
+            self.merge_apart(start, end);
+        }
+    }
+
+    fn merge_over(&mut self, start: usize, end: usize)
+        requires open { self.old.is_open ≡ true }
+        requires in_place { self.old.is_apart ≡ false }
+        requires ordered { start ≤ end }
+        requires within { end ≤ self.old.read + length self.old.ahead }
+        requires unread { self.old.read ≤ start }
+        ensures merged { self.new ≡ with_merged (index_in_all start self.old) (index_in_all end self.old) self.old }
+    {
+        self.order.settle(&self.out_info, &self.info);
+        let (marked, known) = over::merge_input(
+            &mut self.info,
+            self.front,
+            self.idx,
+            start - self.idx,
+            end - self.idx,
+            self.cluster_level,
+            self.order.known,
+        );
+        self.order.known = known;
+        self.scratch_flags = add_has_glyph_flags(marked, self.scratch_flags);
+    }
+
+    fn merge_apart(&mut self, start: usize, end: usize)
+        requires apart { self.old.is_open ≡ true → self.old.is_apart ≡ true }
+        requires ordered { start ≤ end }
+        requires within { end ≤ self.old.read + length self.old.ahead }
+        requires unread { self.old.is_open ≡ true → self.old.read ≤ start }
+        ensures merged { self.new ≡ with_merged (index_in_all start self.old) (index_in_all end self.old) self.old }
     {
         let from = self.first_of_input();
         self.order.settle(&self.out_info, &self.info);

@@ -8,11 +8,12 @@ ghost use Rattle.buffer_glyphs.specs.Events.{Replace};
 
 use super::hb_buffer_t;
 use buffer_lists::moves::put_in_front;
+use buffer_lists::over;
 use std::alloc::AllocError;
 
 impl hb_buffer_t {
     /// Moves the cursor over so many glyphs, which are appended to the output where one is open; answers false, and
-    /// moves nothing, where the output would have more than it may.
+    /// moves nothing, where the output would have more than it may. With the output in place it takes no memory.
     #[tactic(auto, using(crate::proofs::Kept::moved_all))]
     pub fn next_glyphs(&mut self, count: usize) -> Result<bool, AllocError>
         requires { count ≤ length self.old.ahead }
@@ -22,9 +23,14 @@ impl hb_buffer_t {
         ensures full { result ≡ Ok false → self.new ≡ after_refusal self.old }
         ensures err { OnErr result (self.new ≡ self.old) }
         ensures in_place { self.old.is_open ≡ false → result ≡ Ok true }
+        ensures stays { self.old.is_open ≡ true → self.old.is_apart ≡ false → result ≡ Ok true }
     {
         if !self.have_output {
             self.idx += count;
+            return Ok(true);
+        }
+        if !self.is_apart {
+            self.pass(count);
             return Ok(true);
         }
         if !self.has_output_room(count) {
@@ -36,6 +42,7 @@ impl hb_buffer_t {
 
     fn push_next(&mut self, count: usize) -> Result<(), AllocError>
         requires open { self.old.is_open ≡ true }
+        requires apart { self.old.is_apart ≡ true }
         requires there { count ≤ length self.old.ahead }
         requires room { has_output_room count self.old ≡ true }
         ensures moved { OnOk result (self.new ≡ after_next_glyphs count self.old) }
@@ -62,7 +69,7 @@ impl hb_buffer_t {
 
     /// Moves the cursor to before the i-th of all glyphs. While an output is open, glyphs move from the one side to the
     /// other; it answers false, and moves nothing, where a call before was refused for length, or the side that grows
-    /// would have more than it may.
+    /// would have more than it may. With the output in place it takes no memory.
     pub fn move_to(&mut self, i: usize) -> Result<bool, AllocError>
         requires { i ≤ length (all_glyphs self.old) }
         ensures held { IfOk result (λ b. b ≡ fits_moved i self.old) }
@@ -71,6 +78,8 @@ impl hb_buffer_t {
         ensures full { result ≡ Ok false → self.new ≡ after_refusal self.old }
         ensures err { OnErr result (self.new ≡ self.old) }
         ensures in_place { self.old.is_open ≡ false → result ≡ Ok true }
+        ensures stays { self.old.is_open ≡ true → self.old.is_apart ≡ false → self.old.has_refused ≡ false →
+            result ≡ Ok true }
     {
         if !self.have_output {
             self.idx = i;
@@ -79,7 +88,7 @@ impl hb_buffer_t {
         if !self.successful {
             return Ok(false);
         }
-        let count = self.out_info.len();
+        let count = self.out_len();
         if i > count {
             return self.next_glyphs(i - count);
         }
@@ -96,12 +105,31 @@ impl hb_buffer_t {
         ensures kept { all_glyphs self.new ≡ all_glyphs self.old }
         ensures full { result ≡ Ok false → self.new ≡ after_refusal self.old }
         ensures err { OnErr result (self.new ≡ self.old) }
+        ensures stays { self.old.is_apart ≡ false → result ≡ Ok true }
     {
+        if !self.is_apart {
+            self.pass_back(i);
+            return Ok(true);
+        }
         if !self.has_room_back(i) {
             return Ok(self.refuse());
         }
         self.take_back(i)?;
         Ok(true)
+    }
+
+    /// The same with the output in place.
+    fn pass_back(&mut self, i: usize)
+        requires open { self.old.is_open ≡ true }
+        requires in_place { self.old.is_apart ≡ false }
+        requires there { i ≤ length self.old.behind }
+        ensures moved { self.new ≡ after_move_to i self.old }
+        ensures room { has_room_back i self.old ≡ true }
+    {
+        self.order.settle(&self.out_info, &self.info);
+        over::pass_back(&mut self.info, self.front, self.idx, i);
+        self.idx -= self.front - i;
+        self.front = i;
     }
 
     /// Whether the input may have the glyphs of the output from the i-th on too.
@@ -111,11 +139,12 @@ impl hb_buffer_t {
         ensures { result ≡ has_room_back i self.now }
     {
         let rest = self.info.len() - self.idx;
-        self.out_info.len() - i <= self.max_len - rest
+        self.out_len() - i <= self.max_len - rest
     }
 
     fn take_back(&mut self, i: usize) -> Result<(), AllocError>
         requires open { self.old.is_open ≡ true }
+        requires apart { self.old.is_apart ≡ true }
         requires there { i ≤ length self.old.behind }
         requires room { has_room_back i self.old ≡ true }
         ensures moved { OnOk result (self.new ≡ after_move_to i self.old) }

@@ -1,23 +1,26 @@
 //! Single glyphs appended to the output (rustybuzz: hb/buffer.rs, `output_glyph`, `output_info`, `replace_glyph`).
-ghost use Rattle.std.specs.Prelude.{◌≡◌, ◌<◌, ◌+◌, ◌++◌, ◌∷◌, [], length, true, false, Ok, OnOk, OnErr, IfOk};
-ghost use Rattle.buffer_glyphs.specs.Items.{item_of, strip};
+ghost use Rattle.std.specs.Prelude.{◌≡◌, ◌≢◌, ◌<◌, ◌≤◌, ◌+◌, ◌++◌, ◌∷◌, [], take, drop, length, true, false, Ok, OnOk, OnErr, IfOk};
+ghost use Rattle.buffer_glyphs.specs.Items.{clusters, item_of, strip};
+ghost use Rattle.buffer_lists.specs.Known.{HasOrder};
 ghost use Rattle.buffer_glyphs.specs.Parts.{numbers_replaced};
 ghost use Rattle.buffer_glyphs.specs.Replacements.{items_replaced};
-ghost use Rattle.buffer_core.specs.Sides.{has_output_room, items_of, after_refusal, origins_of, origins_by};
+ghost use Rattle.buffer_core.specs.Sides.{all_glyphs, has_output_room, items_of, after_refusal, origins_of, origins_by};
 ghost use Rattle.buffer_core.specs.Merging.{fits_copies, with_output_glyph, with_output_info, with_replaced_glyph};
 ghost use Rattle.buffer_glyphs.specs.Origins.{origin_of, origins};
 ghost use Rattle.buffer_glyphs.specs.Events.{Replace};
 
 use super::hb_buffer_t;
-use super::room::has_left;
+use super::room::reserve_output;
 use buffer_glyphs::info::hb_glyph_info_t;
+use buffer_lists::order::KnownOrder;
+use buffer_lists::over;
 use buffer_lists::replacement::push_copies;
 use std::alloc::AllocError;
 
 impl hb_buffer_t {
     /// Appends a copy of the glyph at the cursor (of the last output glyph where the cursor is past the end; none where
     /// there is neither) under another number. It answers false, and appends none, where the output would have more
-    /// than it may.
+    /// than it may. Where the output stays in place it takes no memory.
     pub fn output_glyph(&mut self, glyph_index: u32) -> Result<bool, AllocError>
         requires { self.old.is_open ≡ true }
         ensures held { IfOk result (λ b. b ≡ fits_copies 1 self.old) }
@@ -28,28 +31,56 @@ impl hb_buffer_t {
             origins_of self.new ≡ origins_by (Replace (length self.old.behind) 0 1 ∷ []) self.old }
         ensures full { result ≡ Ok false → self.new ≡ after_refusal self.old }
         ensures err { OnErr result (self.new ≡ self.old) }
+        ensures stays { (with_output_glyph glyph_index self.old).is_apart ≡ false → result ≡ Ok true }
     {
-        if !self.fits_copies(1) {
+        if self.is_empty() {
+            return Ok(true);
+        }
+        if !self.is_apart && self.front < self.idx {
+            self.put_copy(glyph_index);
+            return Ok(true);
+        }
+        if !self.has_output_room(1) {
             return Ok(self.refuse());
         }
         self.push_copy(glyph_index)?;
         Ok(true)
     }
 
+    fn put_copy(&mut self, glyph_index: u32)
+        requires open { self.old.is_open ≡ true }
+        requires in_place { self.old.is_apart ≡ false }
+        requires within { length self.old.behind < self.old.read }
+        ensures put { self.new ≡ with_output_glyph glyph_index self.old }
+        ensures room { has_output_room 1 self.old ≡ true }
+    {
+        self.order.settle(&self.out_info, &self.info);
+        self.front = over::put_copies(
+            &mut self.info,
+            self.front,
+            self.idx,
+            self.idx,
+            &[glyph_index],
+        );
+    }
+
     fn push_copy(&mut self, glyph_index: u32) -> Result<(), AllocError>
         requires open { self.old.is_open ≡ true }
-        requires room { fits_copies 1 self.old ≡ true }
+        requires some { length (all_glyphs self.old) ≢ 0 }
+        requires room { has_output_room 1 self.old ≡ true }
+        requires leaves { self.old.is_apart ≡ false → self.old.read ≤ length self.old.behind }
         ensures put { OnOk result (self.new ≡ with_output_glyph glyph_index self.old) }
         ensures err { OnErr result (self.new ≡ self.old) }
     {
-        self.out_info.reserve(1)?;
         self.order.settle(&self.out_info, &self.info);
+        reserve_output(self.is_apart, &self.info, self.front, &mut self.out_info, 1)?;
         push_copies(&mut self.out_info, &self.info[self.idx..], &[glyph_index]);
-        self.is_apart = has_left(self.is_apart, self.idx, self.out_info.len());
+        self.is_apart = true;
         Ok(())
     }
 
-    /// Appends a glyph to the output; answers false, and appends none, where the output has as many as it may.
+    /// Appends a glyph to the output; answers false, and appends none, where the output has as many as it may. Where the
+    /// output stays in place it takes no memory.
     pub fn output_info(&mut self, glyph_info: hb_glyph_info_t) -> Result<bool, AllocError>
         requires { self.old.is_open ≡ true }
         ensures held { IfOk result (λ b. b ≡ has_output_room 1 self.old) }
@@ -60,7 +91,12 @@ impl hb_buffer_t {
             origins_of self.new ≡ origins self.old.behind ++ origin_of glyph_info ∷ origins self.old.ahead }
         ensures full { result ≡ Ok false → self.new ≡ after_refusal self.old }
         ensures err { OnErr result (self.new ≡ self.old) }
+        ensures stays { (with_output_info glyph_info self.old).is_apart ≡ false → result ≡ Ok true }
     {
+        if !self.is_apart && self.front < self.idx {
+            self.put_info(glyph_info);
+            return Ok(true);
+        }
         if !self.has_output_room(1) {
             return Ok(self.refuse());
         }
@@ -68,24 +104,40 @@ impl hb_buffer_t {
         Ok(true)
     }
 
+    fn put_info(&mut self, glyph_info: hb_glyph_info_t)
+        requires open { self.old.is_open ≡ true }
+        requires in_place { self.old.is_apart ≡ false }
+        requires within { length self.old.behind < self.old.read }
+        ensures put { self.new ≡ with_output_info glyph_info self.old }
+        ensures room { has_output_room 1 self.old ≡ true }
+    {
+        self.order.settle(&self.out_info, &self.info);
+        let known = self.order.known;
+        let (front, from) = (self.front, self.idx);
+        self.order.known = with_between(known, &self.info, front, glyph_info.cluster, from);
+        over::put(&mut self.info, front, from, glyph_info);
+        self.front += 1;
+    }
+
     fn push_info(&mut self, glyph_info: hb_glyph_info_t) -> Result<(), AllocError>
         requires open { self.old.is_open ≡ true }
         requires room { has_output_room 1 self.old ≡ true }
+        requires leaves { self.old.is_apart ≡ false → self.old.read ≤ length self.old.behind }
         ensures put { OnOk result (self.new ≡ with_output_info glyph_info self.old) }
         ensures err { OnErr result (self.new ≡ self.old) }
     {
-        self.out_info.reserve(1)?;
         self.order.settle(&self.out_info, &self.info);
+        reserve_output(self.is_apart, &self.info, self.front, &mut self.out_info, 1)?;
         let known = self.order.known;
         let rest = &self.info[self.idx..];
         self.order.known = known.with_between(&self.out_info, glyph_info.cluster, rest);
         self.out_info.push(glyph_info).unwrap();
-        self.is_apart = has_left(self.is_apart, self.idx, self.out_info.len());
+        self.is_apart = true;
         Ok(())
     }
 
     /// Appends the glyph at the cursor to the output under another number; answers false, and moves nothing, where the
-    /// output has as many as it may.
+    /// output has as many as it may. With the output in place it takes no memory.
     #[tactic(auto, using(crate::proofs::Kept::renumbered_origins))]
     pub fn replace_glyph(&mut self, glyph_index: u32) -> Result<bool, AllocError>
         requires open { self.old.is_open ≡ true }
@@ -97,7 +149,12 @@ impl hb_buffer_t {
         ensures origins { origins_of self.new ≡ origins_of self.old }
         ensures full { result ≡ Ok false → self.new ≡ after_refusal self.old }
         ensures err { OnErr result (self.new ≡ self.old) }
+        ensures stays { self.old.is_apart ≡ false → result ≡ Ok true }
     {
+        if !self.is_apart {
+            self.pass_renumbered(glyph_index);
+            return Ok(true);
+        }
         if !self.has_output_room(1) {
             return Ok(self.refuse());
         }
@@ -105,8 +162,26 @@ impl hb_buffer_t {
         Ok(true)
     }
 
+    fn pass_renumbered(&mut self, glyph_index: u32)
+        requires open { self.old.is_open ≡ true }
+        requires in_place { self.old.is_apart ≡ false }
+        requires there { 0 < length self.old.ahead }
+        ensures replaced { self.new ≡ with_replaced_glyph glyph_index self.old }
+        ensures room { has_output_room 1 self.old ≡ true }
+    {
+        self.order.settle(&self.out_info, &self.info);
+        let glyph = hb_glyph_info_t {
+            glyph_id: glyph_index,
+            ..self.info[self.idx]
+        };
+        over::put(&mut self.info, self.front, self.idx + 1, glyph);
+        self.front += 1;
+        self.idx += 1;
+    }
+
     fn push_renumbered(&mut self, glyph_index: u32) -> Result<(), AllocError>
         requires open { self.old.is_open ≡ true }
+        requires apart { self.old.is_apart ≡ true }
         requires there { 0 < length self.old.ahead }
         requires room { has_output_room 1 self.old ≡ true }
         ensures replaced { OnOk result (self.new ≡ with_replaced_glyph glyph_index self.old) }
@@ -120,4 +195,20 @@ impl hb_buffer_t {
         self.idx += 1;
         Ok(())
     }
+}
+
+/// What is known of the order of an output in place and the rest of the input with a glyph of the cluster between.
+fn with_between(
+    known: KnownOrder,
+    glyphs: &[hb_glyph_info_t],
+    front: usize,
+    cluster: u32,
+    from: usize,
+) -> KnownOrder
+    requires ordered { front ≤ from }
+    requires within { from ≤ length glyphs.now }
+    ensures { HasOrder known (clusters (take front glyphs.now) ++ clusters (drop from glyphs.now)) →
+        HasOrder result (clusters (take front glyphs.now) ++ cluster ∷ clusters (drop from glyphs.now)) }
+{
+    known.with_between(&glyphs[..front], cluster, &glyphs[from..])
 }

@@ -1,21 +1,23 @@
 //! Some glyphs replaced by others (rustybuzz: hb/buffer.rs, `replace_glyphs`).
-ghost use Rattle.std.specs.Prelude.{◌≡◌, ◌+◌, ◌≤◌, length, true, false, Ok, OnOk, OnErr, IfOk, ◌∷◌, []};
+ghost use Rattle.std.specs.Prelude.{◌≡◌, ◌≢◌, ◌<◌, ◌+◌, ◌≤◌, length, true, false, Ok, OnOk, OnErr, IfOk, ◌∷◌, []};
 ghost use Rattle.buffer_glyphs.specs.Parts.{numbers_replaced};
 ghost use Rattle.buffer_glyphs.specs.Replacements.{items_replaced};
-ghost use Rattle.buffer_core.specs.Sides.{items_of, after_refusal, origins_of, origins_by};
+ghost use Rattle.buffer_core.specs.Sides.{all_glyphs, has_output_room, items_of, after_refusal, origins_of, origins_by};
 ghost use Rattle.buffer_core.specs.Merging.{fits_copies, with_replaced};
 ghost use Rattle.buffer_glyphs.specs.Events.{Replace};
 
 use super::hb_buffer_t;
 use super::merges::add_has_glyph_flags;
-use super::room::has_left;
+use super::room::reserve_output;
+use buffer_lists::over;
 use buffer_lists::replacement::replace_first;
 use std::alloc::AllocError;
 
 impl hb_buffer_t {
     /// Merges the `num_in` glyphs at the cursor, deletes them, and appends a copy of the first input glyph (of the last
     /// output glyph where the input is empty; none where there is neither) for each of the `num_out` numbers. It
-    /// answers false, and changes neither list, where the output would have more than it may.
+    /// answers false, and changes neither list, where the output would have more than it may. It takes no memory where
+    /// the output stays in place.
     pub fn replace_glyphs(
         &mut self,
         num_in: usize,
@@ -33,23 +35,65 @@ impl hb_buffer_t {
             origins_of self.new ≡ origins_by (Replace (length self.old.behind) num_in num_out ∷ []) self.old }
         ensures full { result ≡ Ok false → self.new ≡ after_refusal self.old }
         ensures err { OnErr result (self.new ≡ self.old) }
+        ensures stays { (with_replaced num_in glyph_data.now self.old).is_apart ≡ false → result ≡ Ok true }
     {
-        if !self.fits_copies(num_out) {
+        if self.is_empty() {
+            return Ok(true);
+        }
+        if !self.is_apart && self.front + num_out <= self.idx + num_in {
+            self.replace_over(num_in, glyph_data);
+            return Ok(true);
+        }
+        if !self.has_output_room(num_out) {
             return Ok(self.refuse());
         }
         self.replace_taken(num_in, glyph_data)?;
         Ok(true)
     }
 
+    fn replace_over(&mut self, num_in: usize, glyph_data: &[u32])
+        requires open { self.old.is_open ≡ true }
+        requires in_place { self.old.is_apart ≡ false }
+        requires taken { num_in ≤ length self.old.ahead }
+        requires within { length self.old.behind + length glyph_data.now ≤ self.old.read + num_in }
+        ensures replaced { self.new ≡ with_replaced num_in glyph_data.now self.old }
+        ensures room { has_output_room (length glyph_data.now) self.old ≡ true }
+    {
+        self.order.settle(&self.out_info, &self.info);
+        let (marked, known, front) = over::replace_first(
+            &mut self.info,
+            self.front,
+            self.idx,
+            num_in,
+            glyph_data,
+            self.cluster_level,
+            self.order.known,
+        );
+        self.front = front;
+        self.idx += num_in;
+        self.order.known = known;
+        self.scratch_flags = add_has_glyph_flags(marked, self.scratch_flags);
+    }
+
     fn replace_taken(&mut self, num_in: usize, glyph_data: &[u32]) -> Result<(), AllocError>
         requires open { self.old.is_open ≡ true }
+        requires some { length (all_glyphs self.old) ≢ 0 }
         requires taken { num_in ≤ length self.old.ahead }
-        requires room { fits_copies (length glyph_data.now) self.old ≡ true }
+        requires room { has_output_room (length glyph_data.now) self.old ≡ true }
+        requires leaves { self.old.is_apart ≡ false →
+            self.old.read + num_in < length self.old.behind + length glyph_data.now }
         ensures replaced { OnOk result (self.new ≡ with_replaced num_in glyph_data.now self.old) }
         ensures err { OnErr result (self.new ≡ self.old) }
     {
-        self.out_info.reserve(glyph_data.len())?;
         self.order.settle(&self.out_info, &self.info);
+        let more = glyph_data.len();
+        reserve_output(
+            self.is_apart,
+            &self.info,
+            self.front,
+            &mut self.out_info,
+            more,
+        )?;
         let (marked, known) = replace_first(
             &mut self.out_info,
             &mut self.info[self.idx..],
@@ -60,16 +104,8 @@ impl hb_buffer_t {
         );
         self.idx += num_in;
         self.order.known = known;
-        self.is_apart = has_left(self.is_apart, self.idx, self.out_info.len());
+        self.is_apart = true;
         self.scratch_flags = add_has_glyph_flags(marked, self.scratch_flags);
         Ok(())
-    }
-
-    /// Whether so many copies may be appended to the output.
-    pub(super) fn fits_copies(&self, count: usize) -> bool
-        requires { self.now.is_open ≡ true }
-        ensures { result ≡ fits_copies count self.now }
-    {
-        self.is_empty() || self.has_output_room(count)
     }
 }

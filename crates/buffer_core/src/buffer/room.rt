@@ -1,8 +1,11 @@
 //! Whether a list may grow, and refusals for length (rustybuzz: hb/buffer.rs, `ensure`, `successful`).
-ghost use Rattle.std.specs.Prelude.{◌≡◌, ◌||◌, nat_lt, false, true};
+ghost use Rattle.std.specs.Prelude.{◌≡◌, ◌≤◌, ◌<◌, ◌+◌, ◌^◌, [], if◌then◌else◌, take, length, vec_len, vec_capacity, false, true, OnOk, OnErr};
 ghost use Rattle.buffer_core.specs.Sides.{has_output_room, after_refusal};
 
 use super::hb_buffer_t;
+use buffer_glyphs::info::hb_glyph_info_t;
+use buffer_lists::over;
+use std::alloc::AllocError;
 
 impl hb_buffer_t {
     /// Whether the output may have so many more glyphs.
@@ -10,7 +13,7 @@ impl hb_buffer_t {
         requires { self.now.is_open ≡ true }
         ensures { result ≡ has_output_room count self.now }
     {
-        count <= self.max_len - self.out_info.len()
+        count <= self.max_len - self.out_len()
     }
 
     /// Records that a list would have more glyphs than it may: no later `sync` succeeds. Answers false.
@@ -23,9 +26,23 @@ impl hb_buffer_t {
     }
 }
 
-/// Whether an output of `count` glyphs is apart from what was read: it was so before, or has more than were read.
-pub(super) fn has_left(is_apart: bool, read: usize, count: usize) -> bool
-    ensures { result ≡ (is_apart || nat_lt read count) }
+/// Makes room for so many more glyphs in an output that is apart, or copies one that is in place there.
+pub(super) fn reserve_output(
+    is_apart: bool,
+    glyphs: &[hb_glyph_info_t],
+    front: usize,
+    output: &mut Vec<hb_glyph_info_t>,
+    more: usize,
+) -> Result<(), AllocError>
+    requires there { is_apart ≡ false → front ≤ length glyphs.now }
+    requires emptied { is_apart ≡ false → output.old.items ≡ [] }
+    requires small { is_apart ≡ false → front + more < 2 ^ 64 }
+    ensures moved { OnOk result (output.new.items ≡ (if is_apart then output.old.items else take front glyphs.now)) }
+    ensures room { OnOk result (vec_len output.new + more ≤ vec_capacity output.new) }
+    ensures err { OnErr result (output.new.items ≡ output.old.items) }
 {
-    is_apart || read < count
+    if is_apart {
+        return output.reserve(more);
+    }
+    over::move_apart(glyphs, front, output, more)
 }

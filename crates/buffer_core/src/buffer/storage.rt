@@ -29,7 +29,7 @@ impl hb_buffer_t {
     pub fn is_empty(&self) -> bool
         ensures { result ≡ (length (all_glyphs self.now) == 0) }
     {
-        self.out_info.is_empty() && self.info.len() == self.first_of_input()
+        self.out_len() == 0 && self.lookahead_len() == 0
     }
 
     /// Whether an output is open.

@@ -1,4 +1,4 @@
-use Rattle.std.proofs.Common.{Ok, ap}
+use Rattle.std.proofs.Common.{rules}
 use Rattle.buffer_stages.proofs.Put.{all_put, put_more}
 use Rattle.buffer_stages.proofs.walks.replace_current.Goals as goal
 
@@ -8,4 +8,4 @@ returns-clause-ok c =
     all_put c.args.glyphs.now c.loop-glyph.glyph-index c.args.buffer.now c.loop-glyph.buffer c.skip_glyph.new.self r.open r.there r.same c.loop-glyph.invariant c.loop-glyph-test.false c.skip_glyph.ensures.skipped
 
 pub loop-glyph-preserved : goal.loop-glyph-preserved
-loop-glyph-preserved c = put_more c.args.glyphs.now c.loop-glyph.glyph-index _ c.args.buffer.now c.loop-glyph.buffer c.output_info.new.self c.loop-glyph-test.true c.loop-glyph.invariant (c.in_ok-output_info.ensures.put (ap Ok c.if-output_info.true))
+loop-glyph-preserved c = put_more c.args.glyphs.now c.loop-glyph.glyph-index _ c.args.buffer.now c.loop-glyph.buffer c.output_info.new.self c.loop-glyph-test.true c.loop-glyph.invariant (c.in_ok-output_info.ensures.put (search rules))

@@ -15,5 +15,9 @@ invariant_of-self-lent c w =
       output_within = first_of (search rules, grind (arith, common_steps));
       closed = first_of (search rules, grind (arith, common_steps));
       placed = rw closed (even ∙ sym counted ∙ length_refill b.info.len b.info.items w counted);
+      together = c.self.invariant.together;
+      front = rw closed tt;
+      emptied = rw closed tt;
+      counted = rw closed tt;
       ordered = rw c.of-self-inside.ensures.known tt;
     }

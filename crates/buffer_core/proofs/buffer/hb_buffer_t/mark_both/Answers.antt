@@ -36,6 +36,9 @@ new_out c = with_items c.self.inside.out_info (put_mid c.args.start (length c.de
 open_now : (c : After-self-3-1) → c.self.inside.have_output ≡ true
 open_now c = rw (← c.self.view_is) at c.requires.open
 
+apart : (c : After-self-3-1) → c.self.inside.is_apart ≡ true
+apart c = rw (← c.self.view_is) at c.requires.apart
+
 there : (c : After-self-3-1) → c.args.start ≤ length (old_out c)
 there c = grind (arith, common_steps)
 
@@ -81,7 +84,7 @@ ahead_is c =
 
 pub returns : goal.returns
 returns c = record {
-  marked = marked_across_view c.self.inside (new_info c) (new_out c) c.self.inside.order c.args.flags c.args.start c.args.end c.add_has_glyph_flags-self-inside.result (open_now c) (there c) (begins c) (out_is c) (ahead_is c) (marks c)
+  marked = marked_across_view c.self.inside (new_info c) (new_out c) c.self.inside.order c.args.flags c.args.start c.args.end c.add_has_glyph_flags-self-inside.result (open_now c) (apart c) (there c) (begins c) (out_is c) (ahead_is c) (marks c)
       ∙ ap (λ (s : Sides). with_flagged_apart c.args.flags c.args.start (index_in_all c.args.end s) s) c.self.view_is;
 }
 
@@ -111,5 +114,9 @@ invariant_of-self c =
       output_within = output_within;
       closed = rw (open_now c) tt;
       placed = rw (open_now c) tt;
-      ordered = rw (kept_info, kept_out) c.self.invariant.ordered;
+      together = rw (open_now c) tt;
+      front = rw (open_now c, apart c) tt;
+      emptied = rw (open_now c, apart c) tt;
+      counted = rw (open_now c, apart c) tt;
+      ordered = rw (open_now c, apart c, kept_info, kept_out) (rw (open_now c, apart c) at c.self.invariant.ordered);
     }

@@ -15,5 +15,9 @@ invariant_of-self-lent c w =
       output_within = first_of (search rules, grind (arith, common_steps));
       closed = first_of (search rules, grind (arith, common_steps));
       placed = rw closed (sym (length_refill b.pos.len b.pos.items w counted) ∙ counted ∙ even);
+      together = c.self.invariant.together;
+      front = rw closed tt;
+      emptied = rw closed tt;
+      counted = rw closed tt;
       ordered = c.self.invariant.ordered;
     }

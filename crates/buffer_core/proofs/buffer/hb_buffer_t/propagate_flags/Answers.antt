@@ -57,5 +57,9 @@ invariant_of-self c =
       output_within = first_of (search rules, grind (arith, common_steps));
       closed = first_of (search rules, grind (arith, common_steps));
       placed = first_of (search rules, grind (arith, common_steps));
-      ordered = rw (info, same) c.self.invariant.ordered;
+      together = c.self.invariant.together;
+      front = rw (closed c) tt;
+      emptied = rw (closed c) tt;
+      counted = rw (closed c) tt;
+      ordered = rw (closed c, info, same) (rw (closed c) at c.self.invariant.ordered);
     }

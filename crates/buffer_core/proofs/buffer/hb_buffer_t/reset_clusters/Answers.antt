@@ -26,5 +26,9 @@ invariant_of-self c =
       output_within = first_of (search rules, grind (arith, common_steps));
       closed = first_of (search rules, grind (arith, common_steps));
       placed = first_of (search rules, grind (arith, common_steps));
+      together = c.self.invariant.together;
+      front = rw closed tt;
+      emptied = rw closed tt;
+      counted = rw closed tt;
       ordered = rw (closed, none, c.number_all.ensures.items, c.of-self-inside.ensures.known, c.of-self-inside.ensures.lent, clusters_counted 0 c.self.inside.info.items) (counted_rises 0 c.self.inside.info.items);
     }

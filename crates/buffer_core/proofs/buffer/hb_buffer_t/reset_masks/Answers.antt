@@ -8,6 +8,7 @@ use Rattle.buffer_core.specs.Sides.{items_of, origins_of}
 use Rattle.buffer_core.specs.Masks.{with_masks}
 use Rattle.buffer_core.proofs.Masked.{masked_view, masked_items, masked_origins, reset_origins}
 use Rattle.buffer_core.proofs.Slices.{all_put}
+use Rattle.buffer_core.proofs.Ordered.{long_kept, none_kept}
 use Rattle.buffer_core.proofs.buffer.hb_buffer_t.reset_masks.Goals as goal
 
 pub returns-clause-masked : goal.returns-clause-masked
@@ -43,5 +44,9 @@ invariant_of-self c =
       output_within = first_of (search rules, grind (arith, common_steps));
       closed = first_of (search rules, grind (arith, common_steps));
       placed = first_of (search rules, grind (arith, common_steps));
+      together = c.self.invariant.together;
+      front = c.self.invariant.front;
+      emptied = none_kept b _ (ap length out ∙ length-map b.out_info.items f) c.self.invariant.emptied;
+      counted = long_kept b _ (ap length info ∙ length-map b.info.items f) c.self.invariant.counted;
       ordered = rw (info, out, clusters_masked c.args.mask b.info.items, clusters_masked c.args.mask b.out_info.items) c.self.invariant.ordered;
     }

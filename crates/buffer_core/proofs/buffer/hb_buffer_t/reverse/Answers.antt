@@ -33,5 +33,9 @@ invariant_of-self c =
       output_within = c.self.invariant.output_within;
       closed = c.self.invariant.closed;
       placed = rw closed (ap length c.reverse-2.ensures.items ∙ length-reverse c.self.inside.pos.items ∙ even ∙ sym (length-reverse c.self.inside.info.items) ∙ sym (ap length c.reverse.ensures.items));
+      together = c.self.invariant.together;
+      front = rw closed tt;
+      emptied = rw closed tt;
+      counted = rw closed tt;
       ordered = rw (closed, none, c.reverse.ensures.items, c.settle.ensures.back, ← clusters_reversed c.self.inside.info.items) known;
     }

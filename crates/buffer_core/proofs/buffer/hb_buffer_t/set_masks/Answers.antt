@@ -7,6 +7,7 @@ use Rattle.buffer_lists.specs.Masks.{glyph_set}
 use Rattle.buffer_core.specs.Masks.{with_set_masks}
 use Rattle.buffer_core.proofs.Masked.{mapped_view, clusters_set, set_items, set_origins, kept_origins}
 use Rattle.buffer_core.proofs.Slices.{all_put}
+use Rattle.buffer_core.proofs.Ordered.{long_kept, none_kept}
 use Rattle.buffer_core.proofs.buffer.hb_buffer_t.set_masks.Goals as goal
 
 pub returns-clause-set : goal.returns-clause-set
@@ -43,5 +44,9 @@ invariant_of-self c =
       output_within = first_of (search rules, grind (arith, common_steps));
       closed = first_of (search rules, grind (arith, common_steps));
       placed = first_of (search rules, grind (arith, common_steps));
+      together = c.self.invariant.together;
+      front = c.self.invariant.front;
+      emptied = none_kept b _ (ap length out ∙ length-map b.out_info.items f) c.self.invariant.emptied;
+      counted = long_kept b _ (ap length info ∙ length-map b.info.items f) c.self.invariant.counted;
       ordered = rw (info, out, clusters_set c.args.value c.args.mask c.args.cluster_start c.args.cluster_end b.info.items, clusters_set c.args.value c.args.mask c.args.cluster_start c.args.cluster_end b.out_info.items) c.self.invariant.ordered;
     }

@@ -1,11 +1,9 @@
 use Rattle.std.proofs.Common.{◌≡◌, ◌∙◌, true, ap, rules, arith}
 use Rattle.std.proofs.lemmas.Grind.{common_steps}
-use Rattle.buffer_glyphs.specs.Items.{clusters}
 use Rattle.buffer_core.specs.Merging.{with_glyph_skipped}
 use Rattle.buffer_core.specs.Sides.{items_of, origins_of}
 use Rattle.buffer_core.proofs.Apart.{skipped_view, skipped_items}
-use Rattle.buffer_core.proofs.Ordered.{order_skipped}
-use Rattle.buffer_lists.specs.Known.{known_input_clusters, known_output_clusters}
+use Rattle.buffer_core.proofs.Ordered.{front_skipped, known_skipped}
 use Rattle.buffer_core.proofs.buffer.hb_buffer_t.skip_glyph.Goals as goal
 use Rattle.buffer_core.proofs.MergedOrigins.{skipped_origins}
 
@@ -20,12 +18,17 @@ returns-clause-origins c = ap origins_of (returns-clause-skipped c) ∙ skipped_
 
 pub invariant_of-self : goal.invariant_of-self
 invariant_of-self c =
-    let open_now : c.self.inside.have_output ≡ true = rw (← c.self.view_is) at c.requires.open in
+    let b = c.self.inside in
+    let open_now : b.have_output ≡ true = rw (← c.self.view_is) at c.requires.open in
     record {
       cursor = first_of (search rules, grind (arith, common_steps));
       input_within = first_of (search rules, grind (arith, common_steps));
       output_within = first_of (search rules, grind (arith, common_steps));
       closed = first_of (search rules, grind (arith, common_steps));
       placed = first_of (search rules, grind (arith, common_steps));
-      ordered = rw open_now (order_skipped c.self.inside.order.known (known_output_clusters c.self.inside.order.lent (clusters c.self.inside.out_info.items)) (known_input_clusters c.self.inside.order.lent (clusters c.self.inside.info.items)) c.self.inside.idx (rw open_now at c.self.invariant.ordered));
+      together = c.self.invariant.together;
+      front = front_skipped b c.self.invariant.front;
+      emptied = c.self.invariant.emptied;
+      counted = c.self.invariant.counted;
+      ordered = known_skipped b open_now c.self.invariant.ordered;
     }

@@ -48,5 +48,9 @@ invariant_of-self-2 g c =
       output_within = c.self.invariant.output_within;
       closed = c.self.invariant.closed;
       placed = rw long c.self.invariant.placed;
+      together = c.self.invariant.together;
+      front = rw closed tt;
+      emptied = rw closed tt;
+      counted = rw closed tt;
       ordered = rw (closed, none, c.of-self-inside.ensures.known, c.of-self-inside.ensures.lent, items) kept;
     }

@@ -13,11 +13,11 @@ returns-then-not-self-clause-marked c =
     let e : index_in_all (start_or c.args.start) s ≡ start_or c.args.start = rw (← c.self.view_is) (closed_index (start_or c.args.start) c.self.inside c.if-not-self.true c.self.invariant.cursor) in
     c.unsafe_to_break.ensures.marked ∙ ap (λ i. with_flagged_apart 3 i (index_in_all (end_or c.args.end s) s) s) e
 
-marked : (c : goal.After-mark_both) → c.mark_both.new.self ≡ after_mark_across 3 c.args.start c.args.end c.args.self.now
+marked : (c : goal.After-mark_output) → c.mark_output.new.self ≡ after_mark_across 3 c.args.start c.args.end c.args.self.now
 marked c =
     let s = c.args.self.now in
     let count : c.len-count.result ≡ s.read + length s.ahead = first_of (search rules, grind (arith, common_steps)) in
-    c.mark_both.ensures.marked ∙ range_told (λ i j. with_flagged_apart 3 i (index_in_all j s) s) c.args.start c.args.end s _ _ _ c.unwrap_or.ensures count c.unwrap_or-2.ensures
+    c.mark_output.ensures.marked ∙ range_told (λ i j. with_flagged_apart 3 i (index_in_all j s) s) c.args.start c.args.end s _ _ _ c.unwrap_or.ensures count c.unwrap_or-2.ensures
 
 pub returns-clause-marked : goal.returns-clause-marked
 returns-clause-marked c = marked c

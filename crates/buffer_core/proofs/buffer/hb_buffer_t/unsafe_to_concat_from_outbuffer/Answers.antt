@@ -6,12 +6,12 @@ use Rattle.std.proofs.Common.{◌≡◌, ◌∙◌, ap, rules, arith, ◌+◌, l
 use Rattle.buffer_core.proofs.buffer.hb_buffer_t.unsafe_to_concat_from_outbuffer.Goals as goal
 use Rattle.buffer_core.specs.Merging.{index_in_all}
 
-marked : (c : goal.After-flag_both) → c.flag_both.new.self ≡ concat_marked_across c.args.start c.args.end c.args.self.now
+marked : (c : goal.After-flag_output) → c.flag_output.new.self ≡ concat_marked_across c.args.start c.args.end c.args.self.now
 marked c =
     let s = c.args.self.now in
     let count : c.len-count.result ≡ s.read + length s.ahead = first_of (search rules, grind (arith, common_steps)) in
     let asked : requests_concat s ≡ true = sym c.asks_concat.ensures ∙ c.if-asks_concat.true in
-    c.flag_both.ensures.marked ∙ range_told (λ i j. with_flagged 2 i (index_in_all j s) s) c.args.start c.args.end s _ _ _ c.unwrap_or.ensures count c.unwrap_or-then-asks_concat.ensures
+    c.flag_output.ensures.marked ∙ range_told (λ i j. with_flagged 2 i (index_in_all j s) s) c.args.start c.args.end s _ _ _ c.unwrap_or.ensures count c.unwrap_or-then-asks_concat.ensures
     ∙ sym (ap (λ b. if b then after_flag_across 2 c.args.start c.args.end s else s) asked)
 
 pub returns-then-asks_concat-clause-marked : goal.returns-then-asks_concat-clause-marked

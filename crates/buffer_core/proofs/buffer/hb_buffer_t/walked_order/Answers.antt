@@ -24,5 +24,9 @@ invariant_of-self c =
       output_within = c.self.invariant.output_within;
       closed = c.self.invariant.closed;
       placed = c.self.invariant.placed;
+      together = c.self.invariant.together;
+      front = c.self.invariant.front;
+      emptied = c.self.invariant.emptied;
+      counted = c.self.invariant.counted;
       ordered = rw (closed, none, c.settle.ensures.back) walked;
     }
