@@ -5,10 +5,11 @@ use Rattle.std.proofs.lemmas.List.{drop_more, drop_all, length-take-le}
 use Rattle.std.proofs.Math.Seq.{drop-append-add}
 use Rattle.buffer_glyphs.specs.declared.info.hb_glyph_info_t.{hb_glyph_info_t as Glyph}
 use Rattle.buffer_glyphs.specs.declared.level.BufferClusterLevel.{BufferClusterLevel as Level}
-use Rattle.buffer_glyphs.specs.declared.level.BufferClusterLevel.TheVariants.{MonotoneGraphemes, MonotoneCharacters, Characters}
+use Rattle.buffer_glyphs.specs.declared.level.BufferClusterLevel.TheVariants.{MonotoneGraphemes, MonotoneCharacters, Characters, Graphemes}
+use Rattle.buffer_glyphs.specs.Levels.{Marks}
 use Rattle.buffer_glyphs.specs.Items.{clusters}
 use Rattle.buffer_glyphs.specs.Parts.{first_of, is_number}
-use Rattle.buffer_glyphs.specs.Glyphs.{glyphs_merged_at, is_marked_at}
+use Rattle.buffer_glyphs.specs.Glyphs.{glyphs_merged_at, is_marked_as, is_marked_at}
 use Rattle.buffer_glyphs.specs.Lemmas.Glyphs.{length_merged_at}
 use Rattle.buffer_glyphs.specs.Deleting.{Deletes}
 use Rattle.buffer_glyphs.proofs.OneDeleted.{deletes_as}
@@ -18,10 +19,14 @@ beyond_front at gs ys le =
     let long : length (take at gs) ≡ at = length-take-le at gs le in
     ap (λ n. drop (n + 1) (take at gs ++ ys)) (sym long) ∙ drop-append-add (take at gs) ys 1
 
+none_marked : (n : ℕ) → false ≡ is_marked_as Marks 0 2 (n ∷ [])
+none_marked n = let same : (n == n) ≡ true = grind (arith, common_steps) in rw same refl
+
 none_apart : (level : Level) (n : ℕ) → false ≡ is_marked_at level 0 2 (n ∷ [])
 none_apart MonotoneGraphemes n = refl
 none_apart MonotoneCharacters n = refl
-none_apart Characters n = let same : (n == n) ≡ true = grind (arith, common_steps) in rw same refl
+none_apart Characters n = none_marked n
+none_apart Graphemes n = none_marked n
 
 lone : (level : Level) (g : Glyph) → drop 1 (glyphs_merged_at level 0 2 (g ∷ [])) ≡ []
 lone level g = drop_all 1 (glyphs_merged_at level 0 2 (g ∷ [])) (omega (arith, length_merged_at level 0 2 (g ∷ []) (omega arith)))

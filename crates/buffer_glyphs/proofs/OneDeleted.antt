@@ -1,15 +1,16 @@
 -- One glyph deleted: the glyphs left before and after it, and that clusters stay in order.
-use Rattle.std.proofs.Common.{ℕ, ◌≡◌, ◌≤◌, ◌<◌, ◌==◌, ◌||◌, inl, inr, nat_lt, Bool, true, false, if◌then◌else◌, List, [], ◌∷◌, ◌++◌, Option, Some, None, length, arith, refl, ap, sym, subst, ◌∙◌}
+use Rattle.std.proofs.Common.{ℕ, ◌≡◌, ◌≤◌, ◌<◌, ◌==◌, ◌||◌, inl, inr, nat_lt, Bool, true, false, if◌then◌else◌, List, [], ◌∷◌, ◌++◌, Option, Some, None, length, drop, arith, refl, ap, sym, subst, ◌∙◌}
 use Rattle.std.proofs.lemmas.Bool.Decides.{nat_tests}
 use Rattle.std.proofs.lemmas.Grind.{common_steps}
 use Rattle.buffer_glyphs.specs.declared.info.hb_glyph_info_t.{hb_glyph_info_t as Glyph}
 use Rattle.buffer_glyphs.specs.declared.level.BufferClusterLevel.{BufferClusterLevel as Level}
-use Rattle.buffer_glyphs.specs.declared.level.BufferClusterLevel.TheVariants.{MonotoneGraphemes, MonotoneCharacters, Characters}
+use Rattle.buffer_glyphs.specs.declared.level.BufferClusterLevel.TheVariants.{MonotoneGraphemes, MonotoneCharacters, Characters, Graphemes}
 use Rattle.buffer_glyphs.specs.Items.{clusters}
 use Rattle.buffer_glyphs.specs.Parts.{DeletePart, first_of, last_of, last_from, is_number}
 use Rattle.buffer_glyphs.specs.Deletions.{number_deleted}
 use Rattle.buffer_glyphs.specs.Order.{IsInOrder, IsOrdered}
 use Rattle.buffer_glyphs.specs.Levels.{IsMonotone}
+use Rattle.buffer_glyphs.specs.Merges.{numbers_merged_at}
 use Rattle.buffer_glyphs.specs.Lemmas.Deletions.{deletion_is_event, last_is, no_last}
 use Rattle.buffer_glyphs.specs.Lemmas.Parts.{event_keeps_order}
 use Rattle.buffer_glyphs.specs.Deleted.{clusters_deleted}
@@ -75,23 +76,28 @@ tail_of : (falls : Bool) (n : ℕ) (ns : List ℕ) → IsInOrder falls (n ∷ ns
 tail_of false n ns o = o.1
 tail_of true n ns o = o.1
 
-pub order_deleted : (falls : Bool) (level : Level) (front : List ℕ) (n : ℕ) (back : List ℕ) → IsInOrder falls (front ++ n ∷ back) → IsInOrder falls (number_deleted level front n back)
-order_deleted falls MonotoneGraphemes front n back o = order_at falls MonotoneGraphemes front n back tt o
-order_deleted falls MonotoneCharacters front n back o = order_at falls MonotoneCharacters front n back tt o
-order_deleted falls Characters front n back o = by_last (last_of front) refl
+-- at a level whose merges change no number
+order_apart : (falls : Bool) (level : Level) (front : List ℕ) (n : ℕ) (back : List ℕ) → ((ns : List ℕ) → numbers_merged_at level 0 2 ns ≡ ns) → IsInOrder falls (front ++ n ∷ back) → IsInOrder falls (number_deleted level front n back)
+order_apart falls level front n back same o = by_last (last_of front) refl
   where
-    alike : (p : ℕ) → last_of front ≡ Some p → number_deleted MonotoneGraphemes front n back ≡ number_deleted Characters front n back
+    alike : (p : ℕ) → last_of front ≡ Some p → number_deleted MonotoneGraphemes front n back ≡ number_deleted level front n back
     alike p e = rw e refl
 
-    none : front ≡ [] → number_deleted Characters front n back ≡ back
-    none e = rw e (elim (is_number (first_of back) n) as (λ t. (if t then back else back) ≡ back) [ true ↦ refl | false ↦ refl ])
+    none : front ≡ [] → number_deleted level front n back ≡ back
+    none e = rw e (elim (is_number (first_of back) n) as (λ t. (if t then back else drop 1 (numbers_merged_at level 0 2 (n ∷ back))) ≡ back) [ true ↦ refl | false ↦ ap (drop 1) (same (n ∷ back)) ])
 
-    by_last : (l : Option ℕ) → last_of front ≡ l → IsInOrder falls (number_deleted Characters front n back)
+    by_last : (l : Option ℕ) → last_of front ≡ l → IsInOrder falls (number_deleted level front n back)
     by_last (Some p) e = subst (IsInOrder falls) (alike p e) (order_at falls MonotoneGraphemes front n back tt o)
     by_last None e =
         let empty = no_last front e in
         let all : IsInOrder falls (n ∷ back) = subst (λ (ms : List ℕ). IsInOrder falls (ms ++ n ∷ back)) empty o in
         subst (IsInOrder falls) (sym (none empty)) (tail_of falls n back all)
+
+pub order_deleted : (falls : Bool) (level : Level) (front : List ℕ) (n : ℕ) (back : List ℕ) → IsInOrder falls (front ++ n ∷ back) → IsInOrder falls (number_deleted level front n back)
+order_deleted falls MonotoneGraphemes front n back o = order_at falls MonotoneGraphemes front n back tt o
+order_deleted falls MonotoneCharacters front n back o = order_at falls MonotoneCharacters front n back tt o
+order_deleted falls Characters front n back o = order_apart falls Characters front n back (λ ns. refl) o
+order_deleted falls Graphemes front n back o = order_apart falls Graphemes front n back (λ ns. refl) o
 
 -- in one direction or the other
 pub ordered_deleted : (level : Level) (front : List ℕ) (n : ℕ) (back : List ℕ) → IsOrdered (front ++ n ∷ back) → IsOrdered (number_deleted level front n back)

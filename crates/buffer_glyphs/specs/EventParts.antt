@@ -3,8 +3,9 @@ use Rattle.std.specs.Prelude.{ℕ, ◌≡◌, ◌+◌, List, [], ◌∷◌, ◌+
 use Rattle.std.specs.Int.RustNames.{bit_and}
 use Rattle.buffer_glyphs.specs.declared.level.BufferClusterLevel.{BufferClusterLevel}
 use Rattle.buffer_glyphs.specs.Parts.{PartEvent, JoinParts, ReplaceParts, DeletePart, CirclePart, ReverseParts}
+use Rattle.buffer_glyphs.specs.Levels.{grapheme_manner}
 use Rattle.buffer_glyphs.specs.Origins.{Origin, Span, spans, InList, Manner, Unites, Marks, Keeps, manner}
-use Rattle.buffer_glyphs.specs.Events.{Event, Merge, Replace, Circle, Delete, Move, Arrange, Sort, Reverse, Break, Concat, Tatweel, Spread, Reset}
+use Rattle.buffer_glyphs.specs.Events.{Event, Merge, MergeGrapheme, Replace, Circle, Delete, Move, Arrange, Sort, Reverse, Break, Concat, Tatweel, Spread, Reset}
 
 -- the join of a range, where its merge unites
 abbrev pub joins_of : Manner → ℕ → ℕ → List PartEvent
@@ -20,6 +21,7 @@ span_joins m at (s ∷ ss) = joins_of m (at + s.from) (at + s.to) ++ span_joins 
 -- the events on parts of one event on clusters
 abbrev pub parts_of_event : BufferClusterLevel → Event → List PartEvent
 parts_of_event level (Merge how from to) = joins_of (manner how level) from to
+parts_of_event level (MergeGrapheme from to) = joins_of (grapheme_manner level) from to
 parts_of_event level (Replace at taken given) = ReplaceParts at taken given ∷ []
 parts_of_event level (Circle after beside like) = CirclePart beside ∷ []
 parts_of_event level (Delete at) = DeletePart at ∷ []

@@ -2,12 +2,16 @@
 use Rattle.std.specs.Prelude.{ℕ, ◌≡◌, ◌≤◌, ◌+◌, Bool, true, false, List, [], ◌∷◌, Some, fold, length, reverse, slice_get}
 use Rattle.buffer_glyphs.specs.declared.level.BufferClusterLevel.{BufferClusterLevel}
 use Rattle.buffer_glyphs.specs.Parts.{elements_replaced}
+use Rattle.buffer_glyphs.specs.Levels.{grapheme_manner}
 use Rattle.buffer_glyphs.specs.Origins.{Origin, Merging, InList, manner, origins_merged_as, origins_deleted, with_range_arranged, is_seam, spans, spans_merged, origins_circled, origins_marked, origins_flagged, Asks, origins_spread, without_marks}
 
 -- one call, by indices of the whole list before it
 pub data Event : Type 0 where
   -- the indices from `from` up to before `to` are merged (`merge_clusters`, `merge_out_clusters`)
   Merge : (how : Merging) → (from to : ℕ) → Event
+  -- such indices, of a grapheme, are merged where the level merges graphemes (`merge_grapheme_clusters`,
+  -- `merge_out_grapheme_clusters`)
+  MergeGrapheme : (from to : ℕ) → Event
   -- so many glyphs from an index on are merged and replaced by copies of the first, past the end of the one before;
   -- none may be taken, or none given (`replace_glyphs`, `output_glyph`)
   Replace : (at taken given : ℕ) → Event
@@ -46,6 +50,7 @@ tatweel_marked false from to os = origins_marked 3 from to os
 -- clusters and flags after one event
 abbrev pub origins_after_event : Asks → BufferClusterLevel → List Origin → Event → List Origin
 origins_after_event asks level os (Merge how from to) = origins_merged_as (manner how level) from to os
+origins_after_event asks level os (MergeGrapheme from to) = origins_merged_as (grapheme_manner level) from to os
 origins_after_event asks level os (Replace at taken given) = elements_replaced at taken given (origins_merged_as (manner InList level) at (at + taken) os)
 origins_after_event asks level os (Circle after beside like) = origins_circled after beside like os
 origins_after_event asks level os (Delete at) = origins_deleted level at os
@@ -73,6 +78,7 @@ abbrev pub IsPlain : List Event → Type 0
 IsPlain [] = Unit {0}
 IsPlain (Arrange from order ∷ es) = ⊥
 IsPlain (Merge how from to ∷ es) = IsPlain es
+IsPlain (MergeGrapheme from to ∷ es) = IsPlain es
 IsPlain (Replace at taken given ∷ es) = IsPlain es
 IsPlain (Circle after beside like ∷ es) = IsPlain es
 IsPlain (Delete at ∷ es) = IsPlain es

@@ -39,7 +39,7 @@ glyphs_merged_as Unites from to gs = glyphs_merged (range_of from to (clusters g
 glyphs_merged_as Marks from to gs = glyphs_marked 3 from to gs
 glyphs_merged_as Keeps from to gs = gs
 
--- such indices merged at a level; at the level `Characters` they are flagged as unsafe to break and to concat
+-- such indices merged at a level, or flagged as unsafe to break and to concat
 abbrev pub glyphs_merged_at : BufferClusterLevel → ℕ → ℕ → List hb_glyph_info_t → List hb_glyph_info_t
 glyphs_merged_at level from to gs = glyphs_merged_as (manner InList level) from to gs
 

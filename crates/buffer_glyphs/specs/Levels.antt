@@ -1,6 +1,6 @@
 -- What a cluster level makes of each kind of merge: the one table that depends on levels.
 use Rattle.buffer_glyphs.specs.declared.level.BufferClusterLevel.{BufferClusterLevel}
-use Rattle.buffer_glyphs.specs.declared.level.BufferClusterLevel.TheVariants.{MonotoneGraphemes, MonotoneCharacters, Characters}
+use Rattle.buffer_glyphs.specs.declared.level.BufferClusterLevel.TheVariants.{MonotoneGraphemes, MonotoneCharacters, Characters, Graphemes}
 
 -- the calls that merge: in the input list, or within the output
 pub data Merging : Type 0 where
@@ -21,9 +21,18 @@ abbrev pub manner : Merging → BufferClusterLevel → Manner
 manner InList MonotoneGraphemes = Unites
 manner InList MonotoneCharacters = Unites
 manner InList Characters = Marks
+manner InList Graphemes = Marks
 manner InOutput MonotoneGraphemes = Unites
 manner InOutput MonotoneCharacters = Unites
 manner InOutput Characters = Keeps
+manner InOutput Graphemes = Keeps
+
+-- the manner of the merge of a grapheme at a level
+abbrev pub grapheme_manner : BufferClusterLevel → Manner
+grapheme_manner MonotoneGraphemes = Unites
+grapheme_manner MonotoneCharacters = Keeps
+grapheme_manner Characters = Keeps
+grapheme_manner Graphemes = Unites
 
 -- a manner that unites clusters
 abbrev pub IsUniting : Manner → Type 0

@@ -2,25 +2,28 @@
 use Rattle.std.proofs.Common.{ℕ, ◌≡◌, ◌≤◌, inl, inr, Bool, true, false, List, sym, subst}
 use Rattle.buffer_glyphs.specs.declared.info.hb_glyph_info_t.{hb_glyph_info_t}
 use Rattle.buffer_glyphs.specs.declared.level.BufferClusterLevel.{BufferClusterLevel}
-use Rattle.buffer_glyphs.specs.declared.level.BufferClusterLevel.TheVariants.{MonotoneGraphemes, MonotoneCharacters, Characters}
 use Rattle.buffer_glyphs.specs.Items.{clusters}
 use Rattle.buffer_glyphs.specs.Parts.{JoinParts}
-use Rattle.buffer_glyphs.specs.Merges.{numbers_merged_at}
+use Rattle.buffer_glyphs.specs.Levels.{InList, Manner, Unites, Marks, Keeps, manner}
+use Rattle.buffer_glyphs.specs.Merges.{numbers_merged_as, numbers_merged_at}
 use Rattle.buffer_glyphs.specs.Order.{IsInOrder, IsOrdered}
 use Rattle.buffer_glyphs.specs.Glyphs.{glyphs_merged_at}
 use Rattle.buffer_glyphs.specs.Lemmas.Parts.{event_keeps_order}
 use Rattle.buffer_glyphs.specs.Lemmas.Glyphs.{clusters_merged_at}
-use Rattle.buffer_glyphs.specs.Lemmas.Merges.{merge_joins}
+use Rattle.buffer_glyphs.specs.Lemmas.Merges.{merge_joins_ordered}
 
 ordered_from : (falls : Bool) (ns : List ℕ) → IsInOrder falls ns → IsOrdered ns
 ordered_from false ns h = inl h
 ordered_from true ns h = inr h
 
 -- rising clusters stay rising, and falling ones falling
+pub order_kept_as : (falls : Bool) (m : Manner) (from to : ℕ) (ns : List ℕ) → from ≤ to → IsInOrder falls ns → IsInOrder falls (numbers_merged_as m from to ns)
+order_kept_as falls Unites from to ns le h = subst (IsInOrder falls) (sym (merge_joins_ordered from to ns le (ordered_from falls ns h))) (event_keeps_order (JoinParts from to) falls ns h)
+order_kept_as falls Marks from to ns le h = h
+order_kept_as falls Keeps from to ns le h = h
+
 pub order_kept : (falls : Bool) (level : BufferClusterLevel) (from to : ℕ) (ns : List ℕ) → from ≤ to → IsInOrder falls ns → IsInOrder falls (numbers_merged_at level from to ns)
-order_kept falls MonotoneGraphemes from to ns le h = subst (IsInOrder falls) (sym (merge_joins MonotoneGraphemes from to ns le tt (ordered_from falls ns h))) (event_keeps_order (JoinParts from to) falls ns h)
-order_kept falls MonotoneCharacters from to ns le h = subst (IsInOrder falls) (sym (merge_joins MonotoneCharacters from to ns le tt (ordered_from falls ns h))) (event_keeps_order (JoinParts from to) falls ns h)
-order_kept falls Characters from to ns le h = h
+order_kept falls level from to ns le h = order_kept_as falls (manner InList level) from to ns le h
 
 pub order_merged : (level : BufferClusterLevel) (from to : ℕ) (gs new : List hb_glyph_info_t) → from ≤ to → new ≡ glyphs_merged_at level from to gs → IsOrdered (clusters gs) → IsOrdered (clusters new)
 order_merged level from to gs new le e o =

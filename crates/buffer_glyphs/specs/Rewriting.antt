@@ -1,7 +1,7 @@
 -- Items that arrange others, and the events on the way to them.
 use Rattle.std.specs.Prelude.{ℕ, ◌+◌, ◌==◌, ◌&&◌, if◌then◌else◌, List, [], ◌∷◌, ◌++◌, length, map}
 use Rattle.buffer_glyphs.specs.Items.{Item}
-use Rattle.buffer_glyphs.specs.Events.{Event, Merge, Replace, Circle, Delete, Move, Arrange, Sort, Reverse, Break, Concat, Tatweel, Spread, Reset}
+use Rattle.buffer_glyphs.specs.Events.{Event, Merge, MergeGrapheme, Replace, Circle, Delete, Move, Arrange, Sort, Reverse, Break, Concat, Tatweel, Spread, Reset}
 
 -- a list of items, and the events on the way to it from the items before
 pub record Arrangement : Type 0 where
@@ -23,6 +23,7 @@ replacement taken given = record { items = given; events = if taken == 1 && leng
 -- an event with its indices so many further
 abbrev pub shifted_event : ℕ → Event → Event
 shifted_event n (Merge how from to) = Merge how (n + from) (n + to)
+shifted_event n (MergeGrapheme from to) = MergeGrapheme (n + from) (n + to)
 shifted_event n (Replace at taken given) = Replace (n + at) taken given
 shifted_event n (Circle after beside like) = Circle after (n + beside) (n + like)
 shifted_event n (Delete at) = Delete (n + at)

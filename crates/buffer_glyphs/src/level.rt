@@ -9,6 +9,8 @@ pub enum BufferClusterLevel {
     MonotoneCharacters,
     /// Each character begins with its own number, and merges flag the range instead of renumbering it.
     Characters,
+    /// The characters of a grapheme have one number, and later merges flag the range instead of renumbering it.
+    Graphemes,
 }
 
 /// HarfBuzz's name of a cluster level, as a number.
@@ -19,5 +21,7 @@ pub const HB_BUFFER_CLUSTER_LEVEL_MONOTONE_GRAPHEMES: hb_buffer_cluster_level_t 
 pub const HB_BUFFER_CLUSTER_LEVEL_MONOTONE_CHARACTERS: hb_buffer_cluster_level_t = 1;
 
 pub const HB_BUFFER_CLUSTER_LEVEL_CHARACTERS: hb_buffer_cluster_level_t = 2;
+
+pub const HB_BUFFER_CLUSTER_LEVEL_GRAPHEMES: hb_buffer_cluster_level_t = 3;
 
 pub const HB_BUFFER_CLUSTER_LEVEL_DEFAULT: hb_buffer_cluster_level_t = 0;

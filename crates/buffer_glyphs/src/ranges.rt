@@ -12,8 +12,8 @@ use crate::runs::merge_within;
 
 /// Merges the clusters of the glyphs from `start` up to before `end`. At the monotone levels each cluster that occurs
 /// among them becomes the least of them, wherever it is, and a glyph whose cluster changes loses its three flags. At
-/// the level `Characters` those outside the least cluster are flagged as unsafe to break and to concat. Answers whether
-/// a glyph was flagged. Where all clusters are known to be in order it costs the range and the runs of glyphs at its
+/// the others those outside the least cluster are flagged as unsafe to break and to concat. Answers whether a glyph was
+/// flagged. Where all clusters are known to be in order it costs the range and the runs of glyphs at its
 /// ends.
 #[tactic(auto, using(crate::specs::Merging::order_merged, crate::specs::Merging::direction_merged))]
 pub fn merge_range(
@@ -49,7 +49,7 @@ pub fn merge_at(
     ensures marked { result ≡ is_marked_at level start end (clusters glyphs.old) }
 {
     match level {
-        BufferClusterLevel::Characters => {
+        BufferClusterLevel::Characters | BufferClusterLevel::Graphemes => {
             mark_within(
                 glyphs,
                 start,

@@ -12,7 +12,7 @@ use Rattle.buffer_glyphs.specs.Order.{IsFalling, IsRising, IsOrdered, IsInOrder,
 use Rattle.buffer_glyphs.specs.Merges.{least_number, merged_number}
 use Rattle.buffer_glyphs.specs.Glyphs.{in_cluster, glyphs_merged, glyphs_merged_at, is_marked_at}
 use Rattle.buffer_glyphs.specs.declared.level.BufferClusterLevel.{BufferClusterLevel as Level}
-use Rattle.buffer_glyphs.specs.declared.level.BufferClusterLevel.TheVariants.{MonotoneGraphemes, MonotoneCharacters, Characters}
+use Rattle.buffer_glyphs.specs.declared.level.BufferClusterLevel.TheVariants.{MonotoneGraphemes, MonotoneCharacters, Characters, Graphemes}
 use Rattle.buffer_glyphs.specs.Levels.{IsMonotone}
 use Rattle.std.specs.List.{list_all}
 use Rattle.buffer_glyphs.specs.Merging.{direction_merged}
@@ -479,11 +479,13 @@ pub merged_falling : (level : Level) (start end : ℕ) (gs : List Glyph) → IsM
 merged_falling MonotoneGraphemes start end gs mono = refl
 merged_falling MonotoneCharacters start end gs mono = refl
 merged_falling Characters start end gs mono = absurd mono
+merged_falling Graphemes start end gs mono = absurd mono
 
 pub none_marked : (level : Level) (start end : ℕ) (ns : List ℕ) (m : Bool) → IsMonotone level → m ≡ (m || is_marked_at level start end ns)
 none_marked MonotoneGraphemes start end ns m mono = elim m as (λ t. t ≡ (t || false)) [ true ↦ refl | false ↦ refl ]
 none_marked MonotoneCharacters start end ns m mono = elim m as (λ t. t ≡ (t || false)) [ true ↦ refl | false ↦ refl ]
 none_marked Characters start end ns m mono = absurd mono
+none_marked Graphemes start end ns m mono = absurd mono
 
 pub nothing_due : (gs : List Glyph) → IsFalling (clusters gs) → IsDueBefore 0 (record { from = 0; to = 0; cluster = 0 }) gs
 nothing_due gs falls = record { ordered = omega arith; before = omega arith; some = λ lt. absurd (omega (arith, lt)); above = λ n h. cc; least = λ n h. cc; falls = falls }

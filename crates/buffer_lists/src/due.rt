@@ -62,7 +62,7 @@ fn no_due(glyphs: &[hb_glyph_info_t], level: BufferClusterLevel, in_order: bool)
         return Due::Nothing;
     }
     match level {
-        BufferClusterLevel::Characters => Due::Nothing,
+        BufferClusterLevel::Characters | BufferClusterLevel::Graphemes => Due::Nothing,
         BufferClusterLevel::MonotoneGraphemes | BufferClusterLevel::MonotoneCharacters => {
             no_due_range(glyphs)
         }

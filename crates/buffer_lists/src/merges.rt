@@ -49,15 +49,15 @@ fn merge_beside_range(
     ensures { glyphs.new ≡ beside_merged level (clusters range.now) glyphs.old }
 {
     match level {
-        BufferClusterLevel::Characters => {}
+        BufferClusterLevel::Characters | BufferClusterLevel::Graphemes => {}
         BufferClusterLevel::MonotoneGraphemes | BufferClusterLevel::MonotoneCharacters => {
             merge_beside(glyphs, range, in_order);
         }
     }
 }
 
-/// Merges a range of the output on both lists, at the level `Characters` nothing; answers what is known of the order
-/// after it. Where clusters are in no order each glyph is compared with the range.
+/// Merges a range of the output on both lists, at the monotone levels alone; answers what is known of the order after
+/// it. Where clusters are in no order each glyph is compared with the range.
 #[tactic(auto, using(crate::proofs::Ordered::known_ordered))]
 pub fn merge_output(
     output: &mut [hb_glyph_info_t],
@@ -76,7 +76,7 @@ pub fn merge_output(
     ensures order { HasOrder result (clusters output.new ++ clusters input.new) }
 {
     match level {
-        BufferClusterLevel::Characters => known,
+        BufferClusterLevel::Characters | BufferClusterLevel::Graphemes => known,
         BufferClusterLevel::MonotoneGraphemes | BufferClusterLevel::MonotoneCharacters => {
             unite_output(output, input, start, end, known.is_known());
             known.walked(output, input)

@@ -199,7 +199,8 @@ impl KnownOrder {
         }
     }
 
-    /// What is known once a range of two lists has been merged. At the level `Characters` the lists are not walked.
+    /// What is known once a range of two lists has been merged. At a level that keeps no order the
+    /// lists are not walked.
     pub fn merged(
         self,
         level: BufferClusterLevel,
@@ -210,7 +211,7 @@ impl KnownOrder {
             HasOrder result (clusters output.now ++ clusters input.now) }
     {
         match level {
-            BufferClusterLevel::Characters => self,
+            BufferClusterLevel::Characters | BufferClusterLevel::Graphemes => self,
             BufferClusterLevel::MonotoneGraphemes | BufferClusterLevel::MonotoneCharacters => {
                 self.walked(output, input)
             }

@@ -1,10 +1,11 @@
 -- How many glyphs events leave, and events that drop no part.
 use Rattle.std.specs.Prelude.{ℕ, ◌<◌, ◌+◌, ◌-◌, ◌==◌, nat_lt, min, if◌then◌else◌, List, [], ◌∷◌, fold}
-use Rattle.buffer_glyphs.specs.Events.{Event, Merge, Replace, Circle, Delete, Move, Arrange, Sort, Reverse, Break, Concat, Tatweel, Spread, Reset}
+use Rattle.buffer_glyphs.specs.Events.{Event, Merge, MergeGrapheme, Replace, Circle, Delete, Move, Arrange, Sort, Reverse, Break, Concat, Tatweel, Spread, Reset}
 
 -- how many glyphs an event leaves of n
 abbrev pub count_after_event : ℕ → Event → ℕ
 count_after_event n (Merge how from to) = n
+count_after_event n (MergeGrapheme from to) = n
 count_after_event n (Replace at taken given) = min at n + (if n == 0 then 0 else given) + (n - (at + taken))
 count_after_event n (Circle after beside like) = if nat_lt beside n then n + 1 else n
 count_after_event n (Delete at) = if nat_lt at n then n - 1 else n
@@ -27,6 +28,7 @@ abbrev pub AreGiving : List Event → Type 0
 AreGiving [] = Unit {0}
 AreGiving (Replace at taken given ∷ es) = (0 < given) × AreGiving es
 AreGiving (Merge how from to ∷ es) = AreGiving es
+AreGiving (MergeGrapheme from to ∷ es) = AreGiving es
 AreGiving (Circle after beside like ∷ es) = AreGiving es
 AreGiving (Delete at ∷ es) = AreGiving es
 AreGiving (Move how from order ∷ es) = AreGiving es

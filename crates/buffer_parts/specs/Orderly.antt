@@ -4,7 +4,7 @@ use Rattle.std.specs.List.{list_all}
 use Rattle.buffer_glyphs.specs.declared.level.BufferClusterLevel.{BufferClusterLevel}
 use Rattle.buffer_glyphs.specs.Parts.{range_of}
 use Rattle.buffer_glyphs.specs.Origins.{Origin, Asks, numbers}
-use Rattle.buffer_glyphs.specs.Events.{Event, Merge, Replace, Circle, Delete, Move, Arrange, Sort, Reverse, Break, Concat, Tatweel, Spread, Reset, StaysInSpans, origins_after_event}
+use Rattle.buffer_glyphs.specs.Events.{Event, Merge, MergeGrapheme, Replace, Circle, Delete, Move, Arrange, Sort, Reverse, Break, Concat, Tatweel, Spread, Reset, StaysInSpans, origins_after_event}
 
 -- whether all numbers of a list are the same
 abbrev pub are_one : List ℕ → Bool
@@ -16,6 +16,7 @@ abbrev pub IsOrderlyAt : Event → List ℕ → Type 0
 IsOrderlyAt (Arrange from order) ns = are_one (range_of from (from + length order) ns) ≡ true
 IsOrderlyAt (Sort from order) ns = StaysInSpans order
 IsOrderlyAt (Merge how from to) ns = Unit {0}
+IsOrderlyAt (MergeGrapheme from to) ns = Unit {0}
 IsOrderlyAt (Replace at taken given) ns = Unit {0}
 IsOrderlyAt (Circle after beside like) ns = Unit {0}
 IsOrderlyAt (Delete at) ns = Unit {0}

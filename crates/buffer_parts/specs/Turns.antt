@@ -1,12 +1,13 @@
 -- Events without a reversal of the list.
 use Rattle.std.specs.Prelude.{List, [], ◌∷◌}
-use Rattle.buffer_glyphs.specs.Events.{Event, Merge, Replace, Circle, Delete, Move, Arrange, Sort, Reverse, Break, Concat, Tatweel, Spread, Reset}
+use Rattle.buffer_glyphs.specs.Events.{Event, Merge, MergeGrapheme, Replace, Circle, Delete, Move, Arrange, Sort, Reverse, Break, Concat, Tatweel, Spread, Reset}
 
 -- no event reverses the list
 abbrev pub IsUnturned : List Event → Type 0
 IsUnturned [] = Unit {0}
 IsUnturned (Reverse ∷ es) = ⊥
 IsUnturned (Merge how from to ∷ es) = IsUnturned es
+IsUnturned (MergeGrapheme from to ∷ es) = IsUnturned es
 IsUnturned (Replace at taken given ∷ es) = IsUnturned es
 IsUnturned (Circle after at like ∷ es) = IsUnturned es
 IsUnturned (Delete at ∷ es) = IsUnturned es

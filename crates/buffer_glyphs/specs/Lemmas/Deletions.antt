@@ -6,12 +6,11 @@ use Rattle.std.proofs.lemmas.Grind.{common_steps}
 use Rattle.std.proofs.lemmas.List.{drop-drop, take-map, drop-map, map-append, map-id}
 use Rattle.std.proofs.lemmas.Option.{slice_get-get_or}
 use Rattle.buffer_glyphs.specs.declared.level.BufferClusterLevel.{BufferClusterLevel}
-use Rattle.buffer_glyphs.specs.declared.level.BufferClusterLevel.TheVariants.{MonotoneGraphemes, MonotoneCharacters, Characters}
 use Rattle.buffer_glyphs.specs.Parts.{range_of, united_number, united_numbers, last_from, first_of, last_of, is_number, with_neighbour, numbers_united_if_last, numbers_united_without, before_deletion, numbers_without}
 use Rattle.buffer_glyphs.specs.Order.{IsChain, IsInOrder, BringsNone}
 use Rattle.buffer_glyphs.specs.Deletions.{end_renumbered, numbers_deleted_alone, number_deleted}
-use Rattle.buffer_glyphs.specs.Merges.{merged_numbers, numbers_merged_at}
-use Rattle.buffer_glyphs.specs.Levels.{IsMonotone}
+use Rattle.buffer_glyphs.specs.Merges.{merged_numbers, numbers_merged_as, numbers_merged_at}
+use Rattle.buffer_glyphs.specs.Levels.{InList, IsMonotone, IsUniting, Manner, Unites, Marks, Keeps, manner}
 use Rattle.buffer_glyphs.specs.Laws.{DeletionIsEvent}
 use Rattle.buffer_glyphs.specs.Lemmas.Drawn.{last_more}
 use Rattle.buffer_glyphs.specs.Lemmas.Ends.{from_first, to_last}
@@ -162,9 +161,12 @@ first_merged falls n (q ∷ qs) o = ap (drop 1) (merge_is_join falls [] (n ∷ q
 -- nothing is before n
 alone_first : (level : BufferClusterLevel) (falls : Bool) (front : List ℕ) (n : ℕ) (back : List ℕ) → IsMonotone level → IsInOrder falls (front ++ n ∷ back) → last_of front ≡ None
     → numbers_deleted_alone level None front n back ≡ numbers_without (length front) (with_neighbour None (first_of back) n (front ++ n ∷ back))
-alone_first MonotoneGraphemes falls [] n back mono o last = first_merged falls n back o
-alone_first MonotoneCharacters falls [] n back mono o last = first_merged falls n back o
-alone_first Characters falls [] n back mono o last = absurd mono
+alone_first level falls [] n back mono o last = by_manner (manner InList level) mono
+  where
+    by_manner : (m : Manner) → IsUniting m → drop 1 (numbers_merged_as m 0 2 (n ∷ back)) ≡ numbers_without 0 (with_neighbour None (first_of back) n (n ∷ back))
+    by_manner Unites u = first_merged falls n back o
+    by_manner Marks u = absurd u
+    by_manner Keeps u = absurd u
 alone_first level falls (x ∷ xs) n back mono o last = let none = no_last (x ∷ xs) last in cc
 
 alone : (level : BufferClusterLevel) (falls : Bool) (before : Option ℕ) (front : List ℕ) (n : ℕ) (back : List ℕ) → IsMonotone level → IsInOrder falls (front ++ n ∷ back) → last_of front ≡ before → is_number before n ≡ false → is_number (first_of back) n ≡ false

@@ -9,23 +9,23 @@ use Rattle.std.proofs.lemmas.Bool.Decides.{nat_tests}
 use Rattle.std.proofs.lemmas.List.{append-nil, map-append, take-map, drop-map, drop-drop, take-append-drop, length-map, map-id}
 use Rattle.std.proofs.lemmas.List.Sums.{fold-append}
 use Rattle.buffer_glyphs.specs.declared.level.BufferClusterLevel.{BufferClusterLevel}
-use Rattle.buffer_glyphs.specs.declared.level.BufferClusterLevel.TheVariants.{MonotoneGraphemes, MonotoneCharacters, Characters}
+use Rattle.buffer_glyphs.specs.declared.level.BufferClusterLevel.TheVariants.{MonotoneGraphemes, MonotoneCharacters, Characters, Graphemes}
 use Rattle.buffer_glyphs.specs.Parts.{JoinParts, ReplaceParts, DeletePart, CirclePart, first_of, range_of, copies, numbers_replaced, elements_replaced, after_part_event, after_part_events}
 use Rattle.buffer_glyphs.specs.Order.{BringsNone, IsOrdered}
 use Rattle.buffer_glyphs.specs.Merges.{least_number, merged_number, merged_numbers}
 use Rattle.buffer_glyphs.specs.Deletions.{number_deleted}
 use Rattle.buffer_glyphs.specs.Origins.{Origin, numbers, Asks, Manner, Unites, Marks, Keeps, Merging, InList, InOutput, manner, origins_merged_as, origins_marked, first_deleted, origins_deleted, picked_elements, with_range_arranged, Span, spans, spans_merged, flags_at, first_circled, origins_circled, origins_spread_after, spread_flags, settled_flags, run_flags, tatweel_settled, origins_spread, without_marks}
-use Rattle.buffer_glyphs.specs.Events.{Event, StaysInSpans, Merge, Replace, Circle, Delete, Move, Arrange, Sort, Reverse, Break, Concat, Tatweel, Spread, Reset, concat_marked, tatweel_marked, origins_after_event, origins_after, IsPlain}
+use Rattle.buffer_glyphs.specs.Events.{Event, StaysInSpans, Merge, MergeGrapheme, Replace, Circle, Delete, Move, Arrange, Sort, Reverse, Break, Concat, Tatweel, Spread, Reset, concat_marked, tatweel_marked, origins_after_event, origins_after, IsPlain}
 use Rattle.buffer_glyphs.specs.EventParts.{joins_of, span_joins, parts_of_event, parts_of, IsEven, AreEvenRuns, HaveNoConcat}
 use Rattle.buffer_glyphs.specs.Lemmas.Drawn.{drawn_replaced, drawn_doubled}
 use Rattle.buffer_glyphs.specs.Lemmas.Numbers.{Has, has_here, has_more, has_cases, has_either, has_take, has_drop, has_map, has_reverse, drawn_brings}
 use Rattle.buffer_glyphs.specs.Lemmas.Parts.{stays_ordered, numbers_through}
-use Rattle.buffer_glyphs.specs.Levels.{IsUniting, IsMonotone}
+use Rattle.buffer_glyphs.specs.Levels.{IsUniting, IsMonotone, grapheme_manner}
 use Rattle.buffer_glyphs.specs.Lemmas.Sorts.{spans_united, sorted_alike}
-use Rattle.buffer_glyphs.specs.Lemmas.Merges.{merge_joins, merged_at_brings, merged_in}
+use Rattle.buffer_glyphs.specs.Lemmas.Merges.{merge_joins, merge_joins_ordered, merged_in, numbers_brought}
 use Rattle.buffer_glyphs.specs.Lemmas.Deletions.{deletion_is_event, deletion_brings_none}
 use Rattle.buffer_glyphs.specs.Lemmas.Replacements.{among_seen}
-use Rattle.buffer_glyphs.specs.Lemmas.Origins.{numbers_listed, numbers_merged, numbers_marked, numbers_flagged, numbers_deleted}
+use Rattle.buffer_glyphs.specs.Lemmas.Origins.{numbers_listed, numbers_merged, numbers_merged_by, numbers_marked, numbers_flagged, numbers_deleted}
 
 pub map-reverse : {X Y : Type 0} (f : X → Y) (xs : List X) → map f (reverse xs) ≡ reverse (map f xs)
 map-reverse f [] = refl
@@ -84,9 +84,7 @@ same_brings : (old new : List ℕ) → new ≡ old → BringsNone old new
 same_brings old new e = λ n h. subst (λ (ns : List ℕ). Has ns n) e h
 
 merged_brings : (m : Manner) (from to : ℕ) (os : List Origin) → BringsNone (numbers os) (numbers (origins_merged_as m from to os))
-merged_brings Unites from to os = λ n h. merged_at_brings MonotoneGraphemes from to (numbers os) n (subst (λ (ns : List ℕ). Has ns n) (numbers_merged (range_of from to (numbers os)) os) h)
-merged_brings Marks from to os = same_brings (numbers os) (numbers (origins_marked 3 from to os)) (numbers_marked 3 from to os)
-merged_brings Keeps from to os = λ n h. h
+merged_brings m from to os = λ n h. numbers_brought m from to (numbers os) n (subst (λ (ns : List ℕ). Has ns n) (numbers_merged_by m from to os) h)
 
 picked_brings : (all : List ℕ) (order ns : List ℕ) (n : ℕ) → Has (picked_elements all order ns) n → Has all n ⊎ Has ns n
 picked_brings all [] ns n h = inr h
@@ -131,6 +129,7 @@ spans_bring m at (s ∷ ss) os =
 
 pub event_brings : (asks : Asks) (level : BufferClusterLevel) (os : List Origin) (e : Event) → BringsNone (numbers os) (numbers (origins_after_event asks level os e))
 event_brings asks level os (Merge how from to) = merged_brings (manner how level) from to os
+event_brings asks level os (MergeGrapheme from to) = merged_brings (grapheme_manner level) from to os
 event_brings asks level os (Replace at taken given) =
     let mid = origins_merged_as (manner InList level) at (at + taken) os in
     numbers_through (numbers os) (numbers mid) _ (merged_brings (manner InList level) at (at + taken) os)
@@ -166,19 +165,16 @@ unites_joins : (from to : ℕ) (ns : List ℕ) → IsOrdered ns → merged_numbe
 unites_joins from to ns o = by_test (nat_le from to) refl
   where
     by_test : (t : Bool) → nat_le from to ≡ t → merged_numbers (range_of from to ns) ns ≡ after_part_event ns (JoinParts from to)
-    by_test true e = merge_joins MonotoneGraphemes from to ns (grind (arith, nat_tests, e)) tt o
+    by_test true e = merge_joins_ordered from to ns (grind (arith, nat_tests, e)) o
     by_test false e =
         let gap : to - from ≡ 0 = grind (arith, nat_tests, e) in
         let none : range_of from to ns ≡ [] = none_left (to - from) (drop from ns) gap in
         rw none (map-id ns)
 
-merged_parts : (how : Merging) (level : BufferClusterLevel) (from to : ℕ) (os : List Origin) → IsMonotone level → IsOrdered (numbers os) → numbers (origins_merged_as (manner how level) from to os) ≡ after_part_events (joins_of (manner how level) from to) (numbers os)
-merged_parts InList MonotoneGraphemes from to os mono o = numbers_merged (range_of from to (numbers os)) os ∙ unites_joins from to (numbers os) o
-merged_parts InList MonotoneCharacters from to os mono o = numbers_merged (range_of from to (numbers os)) os ∙ unites_joins from to (numbers os) o
-merged_parts InList Characters from to os mono o = absurd mono
-merged_parts InOutput MonotoneGraphemes from to os mono o = numbers_merged (range_of from to (numbers os)) os ∙ unites_joins from to (numbers os) o
-merged_parts InOutput MonotoneCharacters from to os mono o = numbers_merged (range_of from to (numbers os)) os ∙ unites_joins from to (numbers os) o
-merged_parts InOutput Characters from to os mono o = absurd mono
+merged_parts : (m : Manner) (from to : ℕ) (os : List Origin) → IsOrdered (numbers os) → numbers (origins_merged_as m from to os) ≡ after_part_events (joins_of m from to) (numbers os)
+merged_parts Unites from to os o = numbers_merged (range_of from to (numbers os)) os ∙ unites_joins from to (numbers os) o
+merged_parts Marks from to os o = numbers_marked 3 from to os
+merged_parts Keeps from to os o = refl
 
 replaced_parts : (level : BufferClusterLevel) (at taken given : ℕ) (os : List Origin) → IsMonotone level → IsOrdered (numbers os)
     → numbers (elements_replaced at taken given (origins_merged_as (manner InList level) at (at + taken) os)) ≡ after_part_event (numbers os) (ReplaceParts at taken given)
@@ -238,21 +234,23 @@ moved_alike from order ns =
     let one : (k : ℕ) → Has (take (length order) (drop from ms)) k → k ≡ least_number range = λ k h. merged_alike range k (subst (λ (ks : List ℕ). Has ks k) near h) in
     ap (λ ks. take from ms ++ ks) (picked_alike (least_number range) (take (length order) (drop from ms)) order (drop from ms) one one) ∙ take-append-drop from ms
 
+-- at a monotone level every merge of a range unites
+pub moves_unite : (how : Merging) (level : BufferClusterLevel) → IsMonotone level → IsUniting (manner how level)
+moves_unite InList level mono = mono
+moves_unite InOutput MonotoneGraphemes mono = tt
+moves_unite InOutput MonotoneCharacters mono = tt
+moves_unite InOutput Characters mono = absurd mono
+moves_unite InOutput Graphemes mono = absurd mono
+
 moved_parts : (how : Merging) (level : BufferClusterLevel) (from : ℕ) (order : List ℕ) (os : List Origin) → IsMonotone level → IsOrdered (numbers os)
     → numbers (with_range_arranged from order (origins_merged_as (manner how level) from (from + length order) os)) ≡ after_part_events (joins_of (manner how level) from (from + length order)) (numbers os)
 moved_parts how level from order os mono o =
-    numbers_arranged from order (origins_merged_as (manner how level) from (from + length order) os) ∙ by_level how level mono ∙ merged_parts how level from (from + length order) os mono o
+    numbers_arranged from order (origins_merged_as (manner how level) from (from + length order) os) ∙ by_manner (manner how level) (moves_unite how level mono) ∙ merged_parts (manner how level) from (from + length order) os o
   where
-    united : with_range_arranged from order (numbers (origins_merged_as Unites from (from + length order) os)) ≡ numbers (origins_merged_as Unites from (from + length order) os)
-    united = rw (numbers_merged (range_of from (from + length order) (numbers os)) os) (moved_alike from order (numbers os))
-
-    by_level : (h : Merging) (l : BufferClusterLevel) → IsMonotone l → with_range_arranged from order (numbers (origins_merged_as (manner h l) from (from + length order) os)) ≡ numbers (origins_merged_as (manner h l) from (from + length order) os)
-    by_level InList MonotoneGraphemes m = united
-    by_level InList MonotoneCharacters m = united
-    by_level InList Characters m = absurd m
-    by_level InOutput MonotoneGraphemes m = united
-    by_level InOutput MonotoneCharacters m = united
-    by_level InOutput Characters m = absurd m
+    by_manner : (m : Manner) → IsUniting m → with_range_arranged from order (numbers (origins_merged_as m from (from + length order) os)) ≡ numbers (origins_merged_as m from (from + length order) os)
+    by_manner Unites u = rw (numbers_merged (range_of from (from + length order) (numbers os)) os) (moved_alike from order (numbers os))
+    by_manner Marks u = absurd u
+    by_manner Keeps u = absurd u
 
 numbers_spans : (at : ℕ) (ss : List Span) (os : List Origin) → numbers (spans_merged Unites at ss os) ≡ spans_united at ss (numbers os)
 numbers_spans at [] os = refl
@@ -276,7 +274,8 @@ sorted_parts level from order os mono s o = by_manner (manner InList level) mono
     by_manner Keeps u = absurd u
 
 event_parts : (asks : Asks) (level : BufferClusterLevel) (os : List Origin) (e : Event) (es : List Event) → IsMonotone level → IsPlain (e ∷ es) → IsOrdered (numbers os) → numbers (origins_after_event asks level os e) ≡ after_part_events (parts_of_event level e) (numbers os)
-event_parts asks level os (Merge how from to) es mono plain o = merged_parts how level from to os mono o
+event_parts asks level os (Merge how from to) es mono plain o = merged_parts (manner how level) from to os o
+event_parts asks level os (MergeGrapheme from to) es mono plain o = merged_parts (grapheme_manner level) from to os o
 event_parts asks level os (Replace at taken given) es mono plain o = replaced_parts level at taken given os mono o
 event_parts asks level os (Circle after beside like) es mono plain o = numbers_with_circle after beside like os
 event_parts asks level os (Delete at) es mono plain o = first_parts level at os (drop at os) mono o refl
@@ -292,6 +291,7 @@ event_parts asks level os Reset es mono plain o = numbers_reset os
 
 plain_rest : (e : Event) (es : List Event) → IsPlain (e ∷ es) → IsPlain es
 plain_rest (Merge how from to) es p = p
+plain_rest (MergeGrapheme from to) es p = p
 plain_rest (Replace at taken given) es p = p
 plain_rest (Circle after beside like) es p = p
 plain_rest (Delete at) es p = p

@@ -9,11 +9,11 @@ use Rattle.std.proofs.lemmas.List.{map-append, take-map, drop-map, drop-drop, ta
 use Rattle.std.proofs.Math.Seq.{take-append-add, drop-append-add}
 use Rattle.buffer_glyphs.specs.declared.info.hb_glyph_info_t.{hb_glyph_info_t}
 use Rattle.buffer_glyphs.specs.declared.level.BufferClusterLevel.{BufferClusterLevel}
-use Rattle.buffer_glyphs.specs.declared.level.BufferClusterLevel.TheVariants.{MonotoneGraphemes, MonotoneCharacters, Characters}
+use Rattle.buffer_glyphs.specs.Levels.{InList, Manner, Unites, Marks, Keeps, manner}
 use Rattle.buffer_glyphs.specs.Items.{item_of, strip, clusters, without_flags, glyph_flags}
 use Rattle.buffer_glyphs.specs.Parts.{range_of}
-use Rattle.buffer_glyphs.specs.Merges.{least_number, merged_number, merged_numbers, numbers_merged_at}
-use Rattle.buffer_glyphs.specs.Glyphs.{in_cluster, glyphs_merged, marked_outside, glyphs_marked, glyphs_merged_at, beside_merged, glyph_flagged, glyphs_flagged}
+use Rattle.buffer_glyphs.specs.Merges.{least_number, merged_number, merged_numbers, numbers_merged_as, numbers_merged_at}
+use Rattle.buffer_glyphs.specs.Glyphs.{in_cluster, glyphs_merged, marked_outside, glyphs_marked, glyphs_merged_as, glyphs_merged_at, beside_merged, beside_merged_as, glyph_flagged, glyphs_flagged}
 
 -- clearing the three flags again changes nothing
 pub without_flags_again : (m : ℕ) → without_flags (without_flags m) ≡ without_flags m
@@ -98,25 +98,34 @@ stays_marked v bits from to gs le same =
     rw (map-append v (take from gs ++ map (marked_outside bits low) range) (drop to gs), map-append v (take from gs) (map (marked_outside bits low) range), kept, ← map-append v (take from gs) range, ← map-append v (take from gs ++ range) (drop to gs), cut_out from to gs le) refl
 
 -- a merge changes no item
+pub strip_merged_as : (m : Manner) (from to : ℕ) (gs : List hb_glyph_info_t) → from ≤ to → strip (glyphs_merged_as m from to gs) ≡ strip gs
+strip_merged_as Unites from to gs le = strip_merged (range_of from to (clusters gs)) gs
+strip_merged_as Marks from to gs le = stays_marked item_of 3 from to gs le (λ low g. item_marked 3 low g (omega arith))
+strip_merged_as Keeps from to gs le = refl
+
 pub strip_merged_at : (level : BufferClusterLevel) (from to : ℕ) (gs : List hb_glyph_info_t) → from ≤ to → strip (glyphs_merged_at level from to gs) ≡ strip gs
-strip_merged_at MonotoneGraphemes from to gs le = strip_merged (range_of from to (clusters gs)) gs
-strip_merged_at MonotoneCharacters from to gs le = strip_merged (range_of from to (clusters gs)) gs
-strip_merged_at Characters from to gs le = stays_marked item_of 3 from to gs le (λ low g. item_marked 3 low g (omega arith))
+strip_merged_at level from to gs le = strip_merged_as (manner InList level) from to gs le
 
 -- its clusters and flags
+pub clusters_merged_as : (m : Manner) (from to : ℕ) (gs : List hb_glyph_info_t) → from ≤ to → clusters (glyphs_merged_as m from to gs) ≡ numbers_merged_as m from to (clusters gs)
+clusters_merged_as Unites from to gs le = clusters_merged (range_of from to (clusters gs)) gs
+clusters_merged_as Marks from to gs le = stays_marked (λ (g : hb_glyph_info_t). g.cluster) 3 from to gs le (λ low g. cluster_marked 3 low g)
+clusters_merged_as Keeps from to gs le = refl
+
 pub clusters_merged_at : (level : BufferClusterLevel) (from to : ℕ) (gs : List hb_glyph_info_t) → from ≤ to → clusters (glyphs_merged_at level from to gs) ≡ numbers_merged_at level from to (clusters gs)
-clusters_merged_at MonotoneGraphemes from to gs le = clusters_merged (range_of from to (clusters gs)) gs
-clusters_merged_at MonotoneCharacters from to gs le = clusters_merged (range_of from to (clusters gs)) gs
-clusters_merged_at Characters from to gs le = stays_marked (λ (g : hb_glyph_info_t). g.cluster) 3 from to gs le (λ low g. cluster_marked 3 low g)
+clusters_merged_at level from to gs le = clusters_merged_as (manner InList level) from to gs le
 
 -- as many glyphs as before
 pub length_merged_at : (level : BufferClusterLevel) (from to : ℕ) (gs : List hb_glyph_info_t) → from ≤ to → length (glyphs_merged_at level from to gs) ≡ length gs
 length_merged_at level from to gs le = sym (length-map (glyphs_merged_at level from to gs) item_of) ∙ ap length (strip_merged_at level from to gs le) ∙ length-map gs item_of
 
+pub length_beside_as : (m : Manner) (range : List ℕ) (gs : List hb_glyph_info_t) → length (beside_merged_as m range gs) ≡ length gs
+length_beside_as Unites range gs = length-map gs _
+length_beside_as Marks range gs = refl
+length_beside_as Keeps range gs = refl
+
 pub length_beside : (level : BufferClusterLevel) (range : List ℕ) (gs : List hb_glyph_info_t) → length (beside_merged level range gs) ≡ length gs
-length_beside MonotoneGraphemes range gs = length-map gs _
-length_beside MonotoneCharacters range gs = length-map gs _
-length_beside Characters range gs = refl
+length_beside level range gs = length_beside_as (manner InList level) range gs
 
 -- a range of the second of two lists
 pub slice_beyond : {X : Type 0} (xs ys : List X) (i j : ℕ) → slice_range (xs ++ ys) (length xs + i) (length xs + j) ≡ slice_range ys i j
@@ -148,11 +157,15 @@ merged_beyond : (xs ys : List hb_glyph_info_t) (i j : ℕ) → glyphs_merged (ra
 merged_beyond xs ys i j = rw (range_beyond xs ys i j) (map-append (λ (g : hb_glyph_info_t). in_cluster (merged_number (range_of i j (clusters ys)) g.cluster) g) xs ys)
 
 -- a merge of a range of the second of two lists
+pub merged_as_beyond : (m : Manner) (xs ys : List hb_glyph_info_t) (i j : ℕ)
+    → glyphs_merged_as m (length xs + i) (length xs + j) (xs ++ ys) ≡ beside_merged_as m (range_of i j (clusters ys)) xs ++ glyphs_merged_as m i j ys
+merged_as_beyond Unites xs ys i j = merged_beyond xs ys i j
+merged_as_beyond Marks xs ys i j = marked_beyond 3 xs ys i j
+merged_as_beyond Keeps xs ys i j = refl
+
 pub merged_at_beyond : (level : BufferClusterLevel) (xs ys : List hb_glyph_info_t) (i j : ℕ)
     → glyphs_merged_at level (length xs + i) (length xs + j) (xs ++ ys) ≡ beside_merged level (range_of i j (clusters ys)) xs ++ glyphs_merged_at level i j ys
-merged_at_beyond MonotoneGraphemes xs ys i j = merged_beyond xs ys i j
-merged_at_beyond MonotoneCharacters xs ys i j = merged_beyond xs ys i j
-merged_at_beyond Characters xs ys i j = marked_beyond 3 xs ys i j
+merged_at_beyond level xs ys i j = merged_as_beyond (manner InList level) xs ys i j
 
 pub strip_marked : (bits from to : ℕ) (gs : List hb_glyph_info_t) → bits < 8 → from ≤ to → strip (glyphs_marked bits from to gs) ≡ strip gs
 strip_marked bits from to gs lt le = stays_marked item_of bits from to gs le (λ low g. item_marked bits low g lt)

@@ -5,11 +5,10 @@ use Rattle.std.proofs.lemmas.Bool.Decides.{nat_tests}
 use Rattle.std.proofs.lemmas.Grind.{common_steps}
 use Rattle.std.proofs.lemmas.List.{map-id, drop-drop, take-append-drop}
 use Rattle.buffer_glyphs.specs.declared.level.BufferClusterLevel.{BufferClusterLevel}
-use Rattle.buffer_glyphs.specs.declared.level.BufferClusterLevel.TheVariants.{MonotoneGraphemes, MonotoneCharacters, Characters}
 use Rattle.buffer_glyphs.specs.Parts.{JoinParts, united_number, last_from, joined_numbers, range_of, after_part_event}
 use Rattle.buffer_glyphs.specs.Order.{AllFrom, IsChain, IsInOrder, IsOrdered, IsLeast, BringsNone, has_number}
-use Rattle.buffer_glyphs.specs.Merges.{least_number, merged_number, merged_numbers, numbers_merged_at, IsOneOn}
-use Rattle.buffer_glyphs.specs.Levels.{IsMonotone}
+use Rattle.buffer_glyphs.specs.Merges.{least_number, merged_number, merged_numbers, numbers_merged_as, numbers_merged_at, IsOneOn}
+use Rattle.buffer_glyphs.specs.Levels.{InList, IsMonotone, IsUniting, Manner, Unites, Marks, Keeps, manner}
 use Rattle.buffer_glyphs.specs.Laws.{MergeUnites, MergeIsJoin}
 use Rattle.buffer_glyphs.specs.Lemmas.Parts.{Stands, stands_self}
 use Rattle.buffer_glyphs.specs.Lemmas.Numbers.{Has, has_here, has_more, has_cases, has_right, has_either, has_take, has_drop, has_map, has_last_from}
@@ -169,14 +168,17 @@ merge_joins_order falls from to ns le o =
     let P : List ℕ → Type 0 = λ ms. IsInOrder falls ms → merged_numbers (range_of from to ns) ms ≡ joined_numbers (range_of from to ns) ms in
     subst P (cut_out from to ns le) (merge_is_join falls (take from ns) (range_of from to ns) (drop to ns)) o
 
-merge_joins_ordered : (from to : ℕ) (ns : List ℕ) → from ≤ to → IsOrdered ns → merged_numbers (range_of from to ns) ns ≡ after_part_event ns (JoinParts from to)
+pub merge_joins_ordered : (from to : ℕ) (ns : List ℕ) → from ≤ to → IsOrdered ns → merged_numbers (range_of from to ns) ns ≡ after_part_event ns (JoinParts from to)
 merge_joins_ordered from to ns le o = elim o [ inl rises ↦ merge_joins_order false from to ns le rises | inr falls ↦ merge_joins_order true from to ns le falls ]
 
 -- in order, at a monotone level, a merge of the indices from `from` up to before `to` is a join
 pub merge_joins : (level : BufferClusterLevel) (from to : ℕ) (ns : List ℕ) → from ≤ to → IsMonotone level → IsOrdered ns → numbers_merged_at level from to ns ≡ after_part_event ns (JoinParts from to)
-merge_joins MonotoneGraphemes from to ns le mono o = merge_joins_ordered from to ns le o
-merge_joins MonotoneCharacters from to ns le mono o = merge_joins_ordered from to ns le o
-merge_joins Characters from to ns le mono o = absurd mono
+merge_joins level from to ns le mono o = by_manner (manner InList level) mono
+  where
+    by_manner : (m : Manner) → IsUniting m → numbers_merged_as m from to ns ≡ after_part_event ns (JoinParts from to)
+    by_manner Unites u = merge_joins_ordered from to ns le o
+    by_manner Marks u = absurd u
+    by_manner Keeps u = absurd u
 
 has_in_range : (from to n : ℕ) (ns : List ℕ) → Has (range_of from to ns) n → Has ns n
 has_in_range from to n ns h = has_drop n from ns (has_take n (to - from) (drop from ns) h)
@@ -192,7 +194,10 @@ merge_brings_none from to ns n h =
     subst (Has ns) source.2 (merged_known range ns (λ m k. has_in_range from to m ns k) source.0 source.1 (has_number range source.0) refl)
 
 -- a merge brings no number
+pub numbers_brought : (m : Manner) (from to : ℕ) (ns : List ℕ) → BringsNone ns (numbers_merged_as m from to ns)
+numbers_brought Unites from to ns = merge_brings_none from to ns
+numbers_brought Marks from to ns = λ n h. h
+numbers_brought Keeps from to ns = λ n h. h
+
 pub merged_at_brings : (level : BufferClusterLevel) (from to : ℕ) (ns : List ℕ) → BringsNone ns (numbers_merged_at level from to ns)
-merged_at_brings MonotoneGraphemes from to ns = merge_brings_none from to ns
-merged_at_brings MonotoneCharacters from to ns = merge_brings_none from to ns
-merged_at_brings Characters from to ns = λ n h. h
+merged_at_brings level from to ns = numbers_brought (manner InList level) from to ns

@@ -7,14 +7,13 @@ use Rattle.std.proofs.lemmas.Bool.Decides.{nat_tests}
 use Rattle.std.proofs.lemmas.List.{map-append, take-map, drop-map, drop-drop, take-append-drop}
 use Rattle.buffer_glyphs.specs.declared.info.hb_glyph_info_t.{hb_glyph_info_t}
 use Rattle.buffer_glyphs.specs.declared.level.BufferClusterLevel.{BufferClusterLevel}
-use Rattle.buffer_glyphs.specs.declared.level.BufferClusterLevel.TheVariants.{MonotoneGraphemes, MonotoneCharacters, Characters}
 use Rattle.buffer_glyphs.specs.Items.{clusters, glyph_flags}
 use Rattle.buffer_glyphs.specs.Parts.{first_of, last_of, is_number, range_of, elements_replaced}
-use Rattle.buffer_glyphs.specs.Merges.{least_number, merged_number, merged_numbers, numbers_merged_at}
+use Rattle.buffer_glyphs.specs.Merges.{least_number, merged_number, merged_numbers, numbers_merged_as, numbers_merged_at}
 use Rattle.buffer_glyphs.specs.Deletions.{end_renumbered, numbers_deleted_alone, number_deleted}
-use Rattle.buffer_glyphs.specs.Glyphs.{in_cluster, glyphs_merged, marked_outside, glyphs_marked, glyphs_merged_at, glyph_flagged, glyphs_flagged}
+use Rattle.buffer_glyphs.specs.Glyphs.{in_cluster, glyphs_merged, marked_outside, glyphs_marked, glyphs_merged_as, glyphs_merged_at, glyph_flagged, glyphs_flagged}
 use Rattle.buffer_glyphs.specs.Replacements.{glyph_numbered, glyphs_replaced}
-use Rattle.buffer_glyphs.specs.Origins.{Origin, origin_of, origins, numbers, cast, origins_merged, flags_added, added_outside, with_range_changed, origins_marked, origins_flagged, InList, manner, origins_merged_as, end_cast, alone_deleted, one_deleted, Asks}
+use Rattle.buffer_glyphs.specs.Origins.{Origin, origin_of, origins, numbers, cast, origins_merged, flags_added, added_outside, with_range_changed, origins_marked, origins_flagged, InList, Manner, Unites, Marks, Keeps, manner, origins_merged_as, end_cast, alone_deleted, one_deleted, Asks}
 use Rattle.buffer_glyphs.specs.Lemmas.Glyphs.{cluster_in_cluster, flags_in_cluster, flags_set}
 use Rattle.buffer_glyphs.specs.Lemmas.Replacements.{replaced_seen, replaced_alike}
 use Rattle.std.proofs.lemmas.List.Sums.{fold-append}
@@ -80,10 +79,13 @@ numbers_marked bits from to os = within_kept (λ (o : Origin). o.cluster) (added
 pub numbers_flagged : (bits from to : ℕ) (os : List Origin) → numbers (origins_flagged bits from to os) ≡ numbers os
 numbers_flagged bits from to os = within_kept (λ (o : Origin). o.cluster) (flags_added bits) from to os (λ o. refl)
 
+pub numbers_merged_by : (m : Manner) (from to : ℕ) (os : List Origin) → numbers (origins_merged_as m from to os) ≡ numbers_merged_as m from to (numbers os)
+numbers_merged_by Unites from to os = numbers_merged (range_of from to (numbers os)) os
+numbers_merged_by Marks from to os = numbers_marked 3 from to os
+numbers_merged_by Keeps from to os = refl
+
 pub numbers_listed : (level : BufferClusterLevel) (from to : ℕ) (os : List Origin) → numbers (origins_merged_as (manner InList level) from to os) ≡ numbers_merged_at level from to (numbers os)
-numbers_listed MonotoneGraphemes from to os = numbers_merged (range_of from to (numbers os)) os
-numbers_listed MonotoneCharacters from to os = numbers_merged (range_of from to (numbers os)) os
-numbers_listed Characters from to os = numbers_marked 3 from to os
+numbers_listed level from to os = numbers_merged_by (manner InList level) from to os
 
 all_of_cluster : (p : ℕ) (os : List Origin) → list_all (λ (k : Origin). k.cluster == p) os ≡ list_all (λ k. k == p) (numbers os)
 all_of_cluster p [] = refl
@@ -158,10 +160,13 @@ origins_of_flagged bits from to gs lt le =
 merged_over : (from to : ℕ) (gs : List hb_glyph_info_t) → origins (glyphs_merged (range_of from to (clusters gs)) gs) ≡ origins_merged (range_of from to (numbers (origins gs))) (origins gs)
 merged_over from to gs = origins_of_merged (range_of from to (clusters gs)) gs ∙ ap (λ ns. origins_merged (range_of from to ns) (origins gs)) (sym (numbers_origins gs))
 
+pub origins_of_merged_as : (m : Manner) (from to : ℕ) (gs : List hb_glyph_info_t) → from ≤ to → origins (glyphs_merged_as m from to gs) ≡ origins_merged_as m from to (origins gs)
+origins_of_merged_as Unites from to gs le = merged_over from to gs
+origins_of_merged_as Marks from to gs le = origins_of_marked 3 from to gs (omega arith) le
+origins_of_merged_as Keeps from to gs le = refl
+
 pub origins_of_merged_at : (level : BufferClusterLevel) (from to : ℕ) (gs : List hb_glyph_info_t) → from ≤ to → origins (glyphs_merged_at level from to gs) ≡ origins_merged_as (manner InList level) from to (origins gs)
-origins_of_merged_at MonotoneGraphemes from to gs le = merged_over from to gs
-origins_of_merged_at MonotoneCharacters from to gs le = merged_over from to gs
-origins_of_merged_at Characters from to gs le = origins_of_marked 3 from to gs (omega arith) le
+origins_of_merged_at level from to gs le = origins_of_merged_as (manner InList level) from to gs le
 
 pub origins_of_replaced : (at taken : ℕ) (ns : List ℕ) (gs : List hb_glyph_info_t) → origins (glyphs_replaced at taken ns gs) ≡ elements_replaced at taken (length ns) (origins gs)
 origins_of_replaced at taken ns gs = replaced_seen origin_of glyph_numbered (λ o n. o) at taken ns gs (λ g n. refl) ∙ replaced_alike at taken ns (origins gs)

@@ -3,7 +3,7 @@ use Rattle.std.proofs.Common.{ℕ, suc, zero, ◌≡◌, ◌≤◌, Bool, true, 
 use Rattle.std.proofs.lemmas.List.{append-nil, drop-map, take-map, length-map, length-drop, map-append}
 use Rattle.buffer_glyphs.specs.declared.info.hb_glyph_info_t.{hb_glyph_info_t as Glyph}
 use Rattle.buffer_glyphs.specs.declared.level.BufferClusterLevel.{BufferClusterLevel as Level}
-use Rattle.buffer_glyphs.specs.declared.level.BufferClusterLevel.TheVariants.{MonotoneGraphemes, MonotoneCharacters, Characters}
+use Rattle.buffer_glyphs.specs.declared.level.BufferClusterLevel.TheVariants.{MonotoneGraphemes, MonotoneCharacters, Characters, Graphemes}
 use Rattle.buffer_glyphs.specs.Items.{Item, Position, item_of, strip, clusters}
 use Rattle.buffer_glyphs.specs.Parts.{range_of}
 use Rattle.buffer_glyphs.specs.Lemmas.Glyphs.{strip_merged, strip_merged_at}
@@ -34,6 +34,7 @@ beside_items false level range gs = refl
 beside_items true MonotoneGraphemes range gs = strip_merged range gs
 beside_items true MonotoneCharacters range gs = strip_merged range gs
 beside_items true Characters range gs = refl
+beside_items true Graphemes range gs = refl
 
 -- the items after the first group, whose items merge
 rest_items : (merge : Bool) (level : Level) (n : ℕ) (gs : List Glyph) → strip (drop n (glyphs_merged_if merge level 0 n gs)) ≡ drop n (strip gs)

@@ -6,15 +6,15 @@ use Rattle.std.proofs.lemmas.List.{drop-drop, take-map, drop-map, length-append,
 use Rattle.std.proofs.Math.Seq.{take-append_seam, drop-append_seam}
 use Rattle.buffer_glyphs.specs.declared.info.hb_glyph_info_t.{hb_glyph_info_t as Glyph}
 use Rattle.buffer_glyphs.specs.declared.level.BufferClusterLevel.{BufferClusterLevel}
-use Rattle.buffer_glyphs.specs.declared.level.BufferClusterLevel.TheVariants.{MonotoneGraphemes, MonotoneCharacters, Characters}
+use Rattle.buffer_glyphs.specs.declared.level.BufferClusterLevel.TheVariants.{MonotoneGraphemes, MonotoneCharacters, Characters, Graphemes}
 use Rattle.buffer_glyphs.specs.Items.{Position, clusters}
 use Rattle.buffer_glyphs.specs.Parts.{range_of}
 use Rattle.buffer_glyphs.specs.Merges.{least_number, merged_number}
 use Rattle.buffer_glyphs.specs.Order.{IsOrdered}
-use Rattle.buffer_glyphs.specs.Levels.{IsMonotone}
+use Rattle.buffer_glyphs.specs.Levels.{IsMonotone, Marks}
 use Rattle.buffer_glyphs.specs.Lemmas.Merges.{map_alike}
 use Rattle.buffer_glyphs.specs.Merging.{order_merged}
-use Rattle.buffer_glyphs.specs.Glyphs.{glyphs_merged_at, beside_merged, glyphs_merged, has_several_numbers}
+use Rattle.buffer_glyphs.specs.Glyphs.{glyphs_merged_at, beside_merged, glyphs_merged, has_several_numbers, is_marked_as}
 use Rattle.buffer_glyphs.specs.Lemmas.Glyphs.{merged_at_beyond, range_clusters, length_beside, length_merged_at, clusters_merged, cut_out, nothing_merged}
 use Rattle.buffer_lists.specs.Groups.{group_length}
 use Rattle.buffer_lists.specs.Turning.{Turning, range_reversed, glyphs_merged_if, is_marked_if, beside_if, first_turned, group_turned, turning_at, all_turned, turning_of}
@@ -48,6 +48,7 @@ beside_reverse : (level : BufferClusterLevel) (range : List ℕ) (gs : List Glyp
 beside_reverse MonotoneGraphemes range gs = sym (map-reverse _ gs)
 beside_reverse MonotoneCharacters range gs = sym (map-reverse _ gs)
 beside_reverse Characters range gs = refl
+beside_reverse Graphemes range gs = refl
 
 -- a merge after an index, on both sides of it
 merged_cut : (merge : Bool) (level : BufferClusterLevel) (start end : ℕ) (gs : List Glyph) → start ≤ end → start ≤ length gs
@@ -69,14 +70,18 @@ beside_turned : (merge : Bool) (level : BufferClusterLevel) (range : List ℕ) (
 beside_turned false level range gs = refl
 beside_turned true level range gs = beside_reverse level range gs
 
+several_cut : (start end : ℕ) (gs : List Glyph) → is_marked_as Marks start end (clusters gs) ≡ is_marked_as Marks 0 (end - start) (clusters (drop start gs))
+several_cut start end gs =
+    let f : Glyph → ℕ = λ g. g.cluster in
+    let none : end - start - 0 ≡ end - start = omega arith in
+    ap has_several_numbers (ap (take (end - start)) (drop-map f start gs) ∙ ap (λ n. take n (clusters (drop start gs))) (sym none))
+
 marked_cut : (merge : Bool) (level : BufferClusterLevel) (start end : ℕ) (gs : List Glyph) → is_marked_if merge level start end (clusters gs) ≡ is_marked_if merge level 0 (end - start) (clusters (drop start gs))
 marked_cut false level start end gs = refl
 marked_cut true MonotoneGraphemes start end gs = refl
 marked_cut true MonotoneCharacters start end gs = refl
-marked_cut true Characters start end gs =
-    let f : Glyph → ℕ = λ g. g.cluster in
-    let none : end - start - 0 ≡ end - start = omega arith in
-    ap has_several_numbers (ap (take (end - start)) (drop-map f start gs) ∙ ap (λ n. take n (clusters (drop start gs))) (sym none))
+marked_cut true Characters start end gs = several_cut start end gs
+marked_cut true Graphemes start end gs = several_cut start end gs
 
 merged_length : (merge : Bool) (level : BufferClusterLevel) (start end : ℕ) (gs : List Glyph) → start ≤ end → length (glyphs_merged_if merge level start end gs) ≡ length gs
 merged_length false level start end gs le = refl
@@ -133,6 +138,7 @@ in_range start end gs =
 -- positions that were merged have one cluster, at the levels that keep the order
 merged_range : (level : BufferClusterLevel) (start end : ℕ) (gs : List Glyph) → IsMonotone level → start ≤ end → reverse (clusters (slice_range (glyphs_merged_at level start end gs) start end)) ≡ clusters (slice_range (glyphs_merged_at level start end gs) start end)
 merged_range Characters start end gs mono le = absurd mono
+merged_range Graphemes start end gs mono le = absurd mono
 merged_range MonotoneGraphemes start end gs mono le = in_range start end gs
 merged_range MonotoneCharacters start end gs mono le = in_range start end gs
 
@@ -164,6 +170,7 @@ idle false level p gs ps pa m = rw (or_false m) refl
 idle true MonotoneGraphemes p gs ps pa m = rw (nothing_merged gs, or_false m) refl
 idle true MonotoneCharacters p gs ps pa m = rw (nothing_merged gs, or_false m) refl
 idle true Characters p gs ps pa m = rw (or_false m) refl
+idle true Graphemes p gs ps pa m = rw (or_false m) refl
 
 pub all_idle : (n : ℕ) (merge : Bool) (level : BufferClusterLevel) (p : Glyph → Glyph → Bool) (gs : List Glyph) (ps pa : List Position) (m : Bool)
     → all_turned merge level p n (record { glyphs = gs; positions = ps; rest_glyphs = []; rest_positions = pa; is_marked = m }) ≡ record { glyphs = gs; positions = ps; rest_glyphs = []; rest_positions = pa; is_marked = m }

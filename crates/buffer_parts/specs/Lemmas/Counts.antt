@@ -5,11 +5,11 @@ use Rattle.std.proofs.lemmas.Bool.Decides.{nat_tests}
 use Rattle.std.proofs.lemmas.Grind.{common_steps}
 use Rattle.std.proofs.lemmas.List.{length-map, length-take, length-reverse, take-append-drop, append-nil}
 use Rattle.buffer_glyphs.specs.declared.level.BufferClusterLevel.{BufferClusterLevel}
-use Rattle.buffer_glyphs.specs.Levels.{InList, Manner, Unites, Marks, Keeps, manner}
+use Rattle.buffer_glyphs.specs.Levels.{InList, Manner, Unites, Marks, Keeps, manner, grapheme_manner}
 use Rattle.buffer_glyphs.specs.Parts.{first_of, last_of, last_from, or, copies, is_number, elements_replaced}
 use Rattle.buffer_glyphs.specs.Order.{IsGiving}
 use Rattle.buffer_glyphs.specs.Origins.{Origin, Asks, Span, spans, numbers, cast, end_cast, alone_deleted, one_deleted, first_deleted, origins_deleted, origins_merged_as, origins_marked, origins_flagged, picked_elements, with_range_arranged, spans_merged, flags_at, first_circled, origins_circled, origins_spread}
-use Rattle.buffer_glyphs.specs.Events.{Event, Merge, Replace, Circle, Delete, Move, Arrange, Sort, Reverse, Break, Concat, Tatweel, Spread, Reset, concat_marked, tatweel_marked, origins_after_event}
+use Rattle.buffer_glyphs.specs.Events.{Event, Merge, MergeGrapheme, Replace, Circle, Delete, Move, Arrange, Sort, Reverse, Break, Concat, Tatweel, Spread, Reset, concat_marked, tatweel_marked, origins_after_event}
 use Rattle.buffer_glyphs.specs.EventParts.{joins_of, span_joins, parts_of}
 use Rattle.buffer_glyphs.specs.Lemmas.Origins.{numbers_marked, numbers_flagged}
 use Rattle.buffer_glyphs.specs.Lemmas.Deletions.{last_is}
@@ -147,6 +147,7 @@ reverse_count os = length-reverse os
 
 event_count : (asks : Asks) (level : BufferClusterLevel) (os : List Origin) (e : Event) → length (origins_after_event asks level os e) ≡ count_after_event (length os) e
 event_count asks level os (Merge how from to) = merged_count (manner how level) from to os
+event_count asks level os (MergeGrapheme from to) = merged_count (grapheme_manner level) from to os
 event_count asks level os (Replace at taken given) =
     let mid = origins_merged_as (manner InList level) at (at + taken) os in
     replaced_count at taken given mid ∙ ap (λ n. min at n + (if n == 0 then 0 else given) + (n - (at + taken))) (merged_count (manner InList level) at (at + taken) os)
@@ -181,6 +182,7 @@ pub giving_is_giving : GivingIsGiving
 giving_is_giving level [] ns g = tt
 giving_is_giving level (Replace at taken given ∷ es) ns g = (inl g.0, giving_is_giving level es _ g.1)
 giving_is_giving level (Merge how from to ∷ es) ns g = giving_in_turn (joins_of (manner how level) from to) (parts_of level es) ns (no_replacement (manner how level) from to ns) (giving_is_giving level es _ g)
+giving_is_giving level (MergeGrapheme from to ∷ es) ns g = giving_in_turn (joins_of (grapheme_manner level) from to) (parts_of level es) ns (no_replacement (grapheme_manner level) from to ns) (giving_is_giving level es _ g)
 giving_is_giving level (Circle after beside like ∷ es) ns g = (tt, giving_is_giving level es _ g)
 giving_is_giving level (Delete at ∷ es) ns g = (tt, giving_is_giving level es _ g)
 giving_is_giving level (Move how from order ∷ es) ns g =

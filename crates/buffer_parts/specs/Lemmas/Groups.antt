@@ -4,8 +4,7 @@ use Rattle.std.specs.List.{list_all}
 use Rattle.std.proofs.lemmas.Grind.{common_steps}
 use Rattle.std.proofs.lemmas.List.{take-map, drop-map, map-id}
 use Rattle.buffer_glyphs.specs.declared.level.BufferClusterLevel.{BufferClusterLevel}
-use Rattle.buffer_glyphs.specs.declared.level.BufferClusterLevel.TheVariants.{MonotoneGraphemes, MonotoneCharacters, Characters}
-use Rattle.buffer_glyphs.specs.Levels.{IsMonotone, InList, manner}
+use Rattle.buffer_glyphs.specs.Levels.{IsMonotone, IsUniting, InList, Manner, Unites, Marks, Keeps, manner}
 use Rattle.buffer_glyphs.specs.Parts.{JoinParts, united_number, last_from, range_of, after_part_event, after_part_events}
 use Rattle.buffer_glyphs.specs.Order.{IsOrdered, IsInOrder}
 use Rattle.buffer_glyphs.specs.Origins.{Origin, Asks, numbers}
@@ -77,12 +76,12 @@ single_groups_are_one at (n ∷ lens) ns s = (few (at + n - at) (drop at ns) (le
 
 merge_is : (asks : Asks) (level : BufferClusterLevel) (from to : ℕ) (os : List Origin) → IsMonotone level → IsOrdered (numbers os)
     → numbers (origins_after_event asks level os (Merge InList from to)) ≡ map (part_after_event (numbers os) (JoinParts from to)) (numbers os)
-merge_is asks level from to os mono o = orderly_event asks level os (Merge InList from to) mono tt o ∙ by_level level mono ∙ events_are_unions (JoinParts from to) (numbers os)
+merge_is asks level from to os mono o = orderly_event asks level os (Merge InList from to) mono tt o ∙ by_manner (manner InList level) mono ∙ events_are_unions (JoinParts from to) (numbers os)
   where
-    by_level : (l : BufferClusterLevel) → IsMonotone l → after_part_events (joins_of (manner InList l) from to) (numbers os) ≡ after_part_event (numbers os) (JoinParts from to)
-    by_level MonotoneGraphemes m = refl
-    by_level MonotoneCharacters m = refl
-    by_level Characters m = absurd m
+    by_manner : (m : Manner) → IsUniting m → after_part_events (joins_of m from to) (numbers os) ≡ after_part_event (numbers os) (JoinParts from to)
+    by_manner Unites u = refl
+    by_manner Marks u = absurd u
+    by_manner Keeps u = absurd u
 
 range_in_order : (falls : Bool) (from to : ℕ) (ns : List ℕ) → IsInOrder falls ns → IsInOrder falls (range_of from to ns)
 range_in_order falls from to ns h = order_drawn falls (drawn_take (to - from) (drop from ns)) (order_drawn falls (drawn_drop from ns) h)

@@ -6,11 +6,11 @@ use Rattle.std.proofs.lemmas.Grind.{common_steps}
 use Rattle.std.proofs.lemmas.List.{length-map, length-take, drop-drop}
 use Rattle.std.proofs.Math.Seq.{take-add, drop-nil}
 use Rattle.buffer_glyphs.specs.declared.level.BufferClusterLevel.{BufferClusterLevel}
-use Rattle.buffer_glyphs.specs.declared.level.BufferClusterLevel.TheVariants.{MonotoneGraphemes, MonotoneCharacters, Characters}
-use Rattle.buffer_glyphs.specs.Levels.{InList, InOutput}
+use Rattle.buffer_glyphs.specs.Levels.{IsUniting, Manner, Unites, Marks, Keeps, manner}
 use Rattle.buffer_glyphs.specs.Parts.{JoinParts, ReplaceParts, united_number, joined_numbers, range_of, numbers_without, numbers_replaced, after_part_event}
 use Rattle.buffer_glyphs.specs.Order.{IsInOrder, IsGiving, shares_part, has_number}
-use Rattle.buffer_glyphs.specs.EventParts.{parts_of}
+use Rattle.buffer_glyphs.specs.EventParts.{joins_of, parts_of}
+use Rattle.buffer_glyphs.specs.Lemmas.EventParts.{moves_unite}
 use Rattle.buffer_glyphs.specs.Lemmas.Numbers.{Has, has_here, has_more, has_cases, has_left, has_right}
 use Rattle.buffer_parts.specs.Orderly.{are_one}
 use Rattle.buffer_parts.specs.CharacterParts.{part_after_event}
@@ -151,9 +151,9 @@ ligature_gives level falls at end (i ∷ places) ns o total b =
     all_removed level at 0 0 end (i ∷ places) mid (omega arith) (omega (arith, past, inside)) b (omega (arith, count, total)) one
 
 pub ligatures_are_giving : LigaturesAreGiving
-ligatures_are_giving InList MonotoneGraphemes falls at end places ns mono o total b = (tt, ligature_gives MonotoneGraphemes falls at end places ns o total b)
-ligatures_are_giving InList MonotoneCharacters falls at end places ns mono o total b = (tt, ligature_gives MonotoneCharacters falls at end places ns o total b)
-ligatures_are_giving InList Characters falls at end places ns mono o total b = absurd mono
-ligatures_are_giving InOutput MonotoneGraphemes falls at end places ns mono o total b = (tt, ligature_gives MonotoneGraphemes falls at end places ns o total b)
-ligatures_are_giving InOutput MonotoneCharacters falls at end places ns mono o total b = (tt, ligature_gives MonotoneCharacters falls at end places ns o total b)
-ligatures_are_giving InOutput Characters falls at end places ns mono o total b = absurd mono
+ligatures_are_giving how level falls at end places ns mono o total b = by_manner (manner how level) (moves_unite how level mono)
+  where
+    by_manner : (m : Manner) → IsUniting m → IsGiving (joins_of m at (at + end) ++ parts_of level (ligature_deletions at 0 places)) ns
+    by_manner Unites u = (tt, ligature_gives level falls at end places ns o total b)
+    by_manner Marks u = absurd u
+    by_manner Keeps u = absurd u

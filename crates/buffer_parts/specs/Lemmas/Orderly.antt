@@ -10,7 +10,7 @@ use Rattle.buffer_glyphs.specs.Parts.{range_of, after_part_event, after_part_eve
 use Rattle.buffer_glyphs.specs.Order.{IsOrdered, IsInOrder, falls_after}
 use Rattle.buffer_glyphs.specs.Levels.{IsMonotone}
 use Rattle.buffer_glyphs.specs.Origins.{Origin, Asks, numbers, picked_elements, with_range_arranged}
-use Rattle.buffer_glyphs.specs.Events.{Event, Merge, Replace, Circle, Delete, Move, Arrange, Sort, Reverse, Break, Concat, Tatweel, Spread, Reset, IsPlain, origins_after_event, origins_after}
+use Rattle.buffer_glyphs.specs.Events.{Event, Merge, MergeGrapheme, Replace, Circle, Delete, Move, Arrange, Sort, Reverse, Break, Concat, Tatweel, Spread, Reset, IsPlain, origins_after_event, origins_after}
 use Rattle.buffer_glyphs.specs.EventParts.{parts_of_event, parts_of}
 use Rattle.buffer_glyphs.specs.Lemmas.Numbers.{Has, has_here, has_more, has_cases}
 use Rattle.buffer_glyphs.specs.Lemmas.Parts.{stays_ordered, keeps_order}
@@ -24,6 +24,7 @@ pub plain_is_orderly : PlainIsOrderly
 plain_is_orderly asks level [] os p = tt
 plain_is_orderly asks level (Arrange from order ∷ es) os p = absurd p
 plain_is_orderly asks level (Merge how from to ∷ es) os p = (tt, plain_is_orderly asks level es (origins_after_event asks level os (Merge how from to)) p)
+plain_is_orderly asks level (MergeGrapheme from to ∷ es) os p = (tt, plain_is_orderly asks level es (origins_after_event asks level os (MergeGrapheme from to)) p)
 plain_is_orderly asks level (Replace at taken given ∷ es) os p = (tt, plain_is_orderly asks level es (origins_after_event asks level os (Replace at taken given)) p)
 plain_is_orderly asks level (Circle after at like ∷ es) os p = (tt, plain_is_orderly asks level es (origins_after_event asks level os (Circle after at like)) p)
 plain_is_orderly asks level (Delete at ∷ es) os p = (tt, plain_is_orderly asks level es (origins_after_event asks level os (Delete at)) p)
@@ -118,6 +119,7 @@ pub orderly_event : (asks : Asks) (level : BufferClusterLevel) (os : List Origin
 orderly_event asks level os (Arrange from order) mono h o = numbers_arranged from order os ∙ arranged_one from order (numbers os) h
 orderly_event asks level os (Sort from order) mono h o = plain_event asks level os (Sort from order) mono (h, tt) o
 orderly_event asks level os (Merge how from to) mono h o = plain_event asks level os (Merge how from to) mono tt o
+orderly_event asks level os (MergeGrapheme from to) mono h o = plain_event asks level os (MergeGrapheme from to) mono tt o
 orderly_event asks level os (Replace at taken given) mono h o = plain_event asks level os (Replace at taken given) mono tt o
 orderly_event asks level os (Circle after at like) mono h o = plain_event asks level os (Circle after at like) mono tt o
 orderly_event asks level os (Delete at) mono h o = plain_event asks level os (Delete at) mono tt o

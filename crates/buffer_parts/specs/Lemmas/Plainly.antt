@@ -3,7 +3,7 @@ use Rattle.std.proofs.Common.{ℕ, ◌≡◌, ◌≤◌, ◌<◌, ◌+◌, ◌-�
 use Rattle.std.proofs.lemmas.Bool.Decides.{nat_tests}
 use Rattle.std.proofs.lemmas.Grind.{common_steps}
 use Rattle.std.proofs.lemmas.List.Sums.{fold-append}
-use Rattle.buffer_glyphs.specs.Events.{Event, Merge, Replace, Circle, Delete, Move, Arrange, Sort, Reverse, Break, Concat, Tatweel, Spread, Reset, IsPlain}
+use Rattle.buffer_glyphs.specs.Events.{Event, Merge, MergeGrapheme, Replace, Circle, Delete, Move, Arrange, Sort, Reverse, Break, Concat, Tatweel, Spread, Reset, IsPlain}
 use Rattle.buffer_parts.specs.Counts.{AreGiving, count_after, count_after_event}
 use Rattle.buffer_parts.specs.Turns.{IsUnturned}
 use Rattle.buffer_parts.specs.Plainly.{ArePlainlyKept, AreSteady}
@@ -13,6 +13,7 @@ both_plain : (es fs : List Event) → IsPlain es → IsPlain fs → IsPlain (es 
 both_plain [] fs p q = q
 both_plain (Arrange from order ∷ es) fs p q = absurd p
 both_plain (Merge how from to ∷ es) fs p q = both_plain es fs p q
+both_plain (MergeGrapheme from to ∷ es) fs p q = both_plain es fs p q
 both_plain (Replace at taken given ∷ es) fs p q = both_plain es fs p q
 both_plain (Circle after beside like ∷ es) fs p q = both_plain es fs p q
 both_plain (Delete at ∷ es) fs p q = both_plain es fs p q
@@ -29,6 +30,7 @@ both_give : (es fs : List Event) → AreGiving es → AreGiving fs → AreGiving
 both_give [] fs p q = q
 both_give (Arrange from order ∷ es) fs p q = both_give es fs p q
 both_give (Merge how from to ∷ es) fs p q = both_give es fs p q
+both_give (MergeGrapheme from to ∷ es) fs p q = both_give es fs p q
 both_give (Replace at taken given ∷ es) fs p q = (p.0, both_give es fs p.1 q)
 both_give (Circle after beside like ∷ es) fs p q = both_give es fs p q
 both_give (Delete at ∷ es) fs p q = both_give es fs p q
@@ -76,6 +78,7 @@ steady_plain (Delete at ∷ es) p = absurd p
 steady_plain (Arrange from order ∷ es) p = absurd p
 steady_plain (Reverse ∷ es) p = absurd p
 steady_plain (Merge how from to ∷ es) p = steady_plain es p
+steady_plain (MergeGrapheme from to ∷ es) p = steady_plain es p
 steady_plain (Move how from order ∷ es) p = steady_plain es p
 steady_plain (Sort from order ∷ es) p = (p.0, steady_plain es p.1)
 steady_plain (Break from to ∷ es) p = steady_plain es p
@@ -92,6 +95,7 @@ steady_unturned (Delete at ∷ es) p = absurd p
 steady_unturned (Arrange from order ∷ es) p = absurd p
 steady_unturned (Reverse ∷ es) p = absurd p
 steady_unturned (Merge how from to ∷ es) p = steady_unturned es p
+steady_unturned (MergeGrapheme from to ∷ es) p = steady_unturned es p
 steady_unturned (Move how from order ∷ es) p = steady_unturned es p
 steady_unturned (Sort from order ∷ es) p = steady_unturned es p.1
 steady_unturned (Break from to ∷ es) p = steady_unturned es p
@@ -108,6 +112,7 @@ steady_giving (Delete at ∷ es) p = absurd p
 steady_giving (Arrange from order ∷ es) p = absurd p
 steady_giving (Reverse ∷ es) p = absurd p
 steady_giving (Merge how from to ∷ es) p = steady_giving es p
+steady_giving (MergeGrapheme from to ∷ es) p = steady_giving es p
 steady_giving (Move how from order ∷ es) p = steady_giving es p
 steady_giving (Sort from order ∷ es) p = steady_giving es p.1
 steady_giving (Break from to ∷ es) p = steady_giving es p
@@ -124,6 +129,7 @@ steady_count n (Delete at ∷ es) p = absurd p
 steady_count n (Arrange from order ∷ es) p = absurd p
 steady_count n (Reverse ∷ es) p = absurd p
 steady_count n (Merge how from to ∷ es) p = steady_count n es p
+steady_count n (MergeGrapheme from to ∷ es) p = steady_count n es p
 steady_count n (Move how from order ∷ es) p = steady_count n es p
 steady_count n (Sort from order ∷ es) p = steady_count n es p.1
 steady_count n (Break from to ∷ es) p = steady_count n es p
@@ -140,6 +146,7 @@ both_steady (Delete at ∷ es) fs p q = absurd p
 both_steady (Arrange from order ∷ es) fs p q = absurd p
 both_steady (Reverse ∷ es) fs p q = absurd p
 both_steady (Merge how from to ∷ es) fs p q = both_steady es fs p q
+both_steady (MergeGrapheme from to ∷ es) fs p q = both_steady es fs p q
 both_steady (Move how from order ∷ es) fs p q = both_steady es fs p q
 both_steady (Sort from order ∷ es) fs p q = (p.0, both_steady es fs p.1 q)
 both_steady (Break from to ∷ es) fs p q = both_steady es fs p q

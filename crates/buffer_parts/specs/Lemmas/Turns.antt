@@ -1,11 +1,11 @@
 -- Events one after another.
 use Rattle.std.proofs.Common.{ℕ, ◌≡◌, Bool, not, List, [], ◌∷◌, ◌++◌, refl, ap, sym, ◌∙◌, append_assoc}
 use Rattle.buffer_glyphs.specs.declared.level.BufferClusterLevel.{BufferClusterLevel}
-use Rattle.buffer_glyphs.specs.Levels.{Manner, Unites, Marks, Keeps, InList, manner}
+use Rattle.buffer_glyphs.specs.Levels.{Manner, Unites, Marks, Keeps, InList, manner, grapheme_manner}
 use Rattle.buffer_glyphs.specs.Parts.{PartEvent, JoinParts, ReplaceParts, DeletePart, CirclePart, ReverseParts, after_part_event, after_part_events}
 use Rattle.buffer_glyphs.specs.Order.{IsGiving, falls_after}
 use Rattle.buffer_glyphs.specs.Origins.{Span, spans}
-use Rattle.buffer_glyphs.specs.Events.{Event, Reverse, Merge, Replace, Circle, Delete, Move, Arrange, Sort, Break, Concat, Tatweel, Spread, Reset}
+use Rattle.buffer_glyphs.specs.Events.{Event, Reverse, Merge, MergeGrapheme, Replace, Circle, Delete, Move, Arrange, Sort, Break, Concat, Tatweel, Spread, Reset}
 use Rattle.buffer_glyphs.specs.EventParts.{joins_of, span_joins, parts_of_event, parts_of}
 use Rattle.buffer_parts.specs.Turns.{IsUnturned}
 use Rattle.buffer_parts.specs.TextLaws.{UnturnedKeepsSide, TurnsAddUp}
@@ -47,6 +47,7 @@ pub unturned_keeps_side : UnturnedKeepsSide
 unturned_keeps_side level [] falls u = refl
 unturned_keeps_side level (Reverse ∷ es) falls u = absurd u
 unturned_keeps_side level (Merge how from to ∷ es) falls u = after_joins (manner how level) from to (parts_of level es) falls ∙ unturned_keeps_side level es falls u
+unturned_keeps_side level (MergeGrapheme from to ∷ es) falls u = after_joins (grapheme_manner level) from to (parts_of level es) falls ∙ unturned_keeps_side level es falls u
 unturned_keeps_side level (Replace at taken given ∷ es) falls u = unturned_keeps_side level es falls u
 unturned_keeps_side level (Circle after at like ∷ es) falls u = unturned_keeps_side level es falls u
 unturned_keeps_side level (Delete at ∷ es) falls u = unturned_keeps_side level es falls u
@@ -64,6 +65,7 @@ pub unturned_in_turn : (es fs : List Event) → IsUnturned es → IsUnturned fs 
 unturned_in_turn [] fs u w = w
 unturned_in_turn (Reverse ∷ es) fs u w = absurd u
 unturned_in_turn (Merge how from to ∷ es) fs u w = unturned_in_turn es fs u w
+unturned_in_turn (MergeGrapheme from to ∷ es) fs u w = unturned_in_turn es fs u w
 unturned_in_turn (Replace at taken given ∷ es) fs u w = unturned_in_turn es fs u w
 unturned_in_turn (Circle after at like ∷ es) fs u w = unturned_in_turn es fs u w
 unturned_in_turn (Delete at ∷ es) fs u w = unturned_in_turn es fs u w
