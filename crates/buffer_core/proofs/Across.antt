@@ -5,7 +5,7 @@ use Rattle.std.proofs.Common.{ℕ, ◌≡◌, ◌≤◌, ◌+◌, ◌-◌, true,
 use Rattle.std.proofs.lemmas.List.{map-append, take-append-drop, take-append-le, drop-append-le, take_at, drop_at, drop-drop, length-map, length-append, length-drop}
 use Rattle.std.proofs.Math.Seq.{take-append-add, drop-append-add}
 use Rattle.buffer_glyphs.specs.declared.info.hb_glyph_info_t.{hb_glyph_info_t}
-use Rattle.buffer_glyphs.specs.declared.level.BufferClusterLevel.TheVariants.{MonotoneGraphemes, MonotoneCharacters, Characters}
+use Rattle.buffer_glyphs.specs.declared.level.BufferClusterLevel.TheVariants.{MonotoneGraphemes, MonotoneCharacters, Characters, Graphemes}
 use Rattle.buffer_glyphs.specs.declared.level.BufferClusterLevel.{BufferClusterLevel}
 use Rattle.buffer_glyphs.specs.Items.{strip, clusters}
 use Rattle.buffer_glyphs.specs.Parts.{range_of}
@@ -139,17 +139,20 @@ both_merged : (level : BufferClusterLevel) (xs ys : List hb_glyph_info_t) (start
 both_merged MonotoneGraphemes xs ys start end le within = united_both xs ys start end le within
 both_merged MonotoneCharacters xs ys start end le within = united_both xs ys start end le within
 both_merged Characters xs ys start end le within = refl
+both_merged Graphemes xs ys start end le within = refl
 
 -- as many glyphs as before
 pub length_output_merged : (level : BufferClusterLevel) (start end : ℕ) (gs : List hb_glyph_info_t) → length (output_merged_at level start end gs) ≡ length gs
 length_output_merged MonotoneGraphemes start end gs = length-map gs _
 length_output_merged MonotoneCharacters start end gs = length-map gs _
 length_output_merged Characters start end gs = refl
+length_output_merged Graphemes start end gs = refl
 
 pub length_beside_output : (level : BufferClusterLevel) (range : List ℕ) (gs : List hb_glyph_info_t) → length (beside_merged_as (manner InOutput level) range gs) ≡ length gs
 length_beside_output MonotoneGraphemes range gs = length-map gs _
 length_beside_output MonotoneCharacters range gs = length-map gs _
 length_beside_output Characters range gs = refl
+length_beside_output Graphemes range gs = refl
 
 -- a merge of a range of the output
 output_merged_sides : (s : Sides) (behind ahead : List hb_glyph_info_t) (start end : ℕ) → start ≤ end → end ≤ length s.behind
@@ -181,6 +184,7 @@ strip_output_merged : (level : BufferClusterLevel) (start end : ℕ) (gs : List 
 strip_output_merged MonotoneGraphemes start end gs = strip_merged (range_of start end (clusters gs)) gs
 strip_output_merged MonotoneCharacters start end gs = strip_merged (range_of start end (clusters gs)) gs
 strip_output_merged Characters start end gs = refl
+strip_output_merged Graphemes start end gs = refl
 
 pub output_items : (start end : ℕ) (s : Sides) → items_of (with_output_merged start end s) ≡ items_of s
 output_items start end s = ap strip (all_output_merged start end s) ∙ strip_output_merged s.level start end (all_glyphs s)

@@ -30,3 +30,4 @@ pub mod Room
 pub mod Lent
 pub mod InPlace
 pub mod Leaving
+pub mod GraphemesMerged

@@ -4,7 +4,7 @@ use Rattle.std.proofs.Common.{ℕ, ◌≡◌, ◌≤◌, ◌+◌, ◌-◌, Bool,
 use Rattle.std.proofs.lemmas.List.{take-append-drop, length-take-le, take_at, drop_at}
 use Rattle.buffer_glyphs.specs.declared.info.hb_glyph_info_t.{hb_glyph_info_t}
 use Rattle.buffer_glyphs.specs.declared.level.BufferClusterLevel.{BufferClusterLevel}
-use Rattle.buffer_glyphs.specs.declared.level.BufferClusterLevel.TheVariants.{MonotoneGraphemes, MonotoneCharacters, Characters}
+use Rattle.buffer_glyphs.specs.declared.level.BufferClusterLevel.TheVariants.{MonotoneGraphemes, MonotoneCharacters, Characters, Graphemes}
 use Rattle.buffer_glyphs.specs.Items.{strip, clusters}
 use Rattle.buffer_glyphs.specs.Parts.{range_of}
 use Rattle.buffer_glyphs.specs.Glyphs.{glyphs_merged_at, beside_merged, is_marked_at, has_several_numbers}
@@ -38,6 +38,7 @@ pub same_marks : (level : BufferClusterLevel) (a b c d : ℕ) (ms ns : List ℕ)
 same_marks MonotoneGraphemes a b c d ms ns e = refl
 same_marks MonotoneCharacters a b c d ms ns e = refl
 same_marks Characters a b c d ms ns e = ap has_several_numbers e
+same_marks Graphemes a b c d ms ns e = ap has_several_numbers e
 
 pub merged_view : (b : Inside) (info out : Vec hb_glyph_info_t) (order : ClusterOrder) (from start end flags : ℕ) → b.idx ≤ length b.info.items → start ≤ end → (b.have_output ≡ true → b.idx ≤ start)
     → (b.have_output ≡ true → b.is_apart ≡ true) → from ≡ start_of b

@@ -6,7 +6,7 @@ use Rattle.std.proofs.lemmas.List.{append-nil, map-append, take-append-drop, tak
 use Rattle.std.proofs.Math.Seq.{take-append_seam, drop-append-add}
 use Rattle.buffer_glyphs.specs.declared.info.hb_glyph_info_t.{hb_glyph_info_t}
 use Rattle.buffer_glyphs.specs.declared.level.BufferClusterLevel.{BufferClusterLevel}
-use Rattle.buffer_glyphs.specs.declared.level.BufferClusterLevel.TheVariants.{MonotoneGraphemes, MonotoneCharacters, Characters}
+use Rattle.buffer_glyphs.specs.declared.level.BufferClusterLevel.TheVariants.{MonotoneGraphemes, MonotoneCharacters, Characters, Graphemes}
 use Rattle.buffer_glyphs.specs.Parts.{first_of, last_of, or, copies, elements_replaced, range_of}
 use Rattle.buffer_glyphs.specs.Glyphs.{glyphs_merged_at}
 use Rattle.buffer_glyphs.specs.Merges.{least_number, merged_number}
@@ -89,6 +89,7 @@ output_origins_at : (level : BufferClusterLevel) (from to : ℕ) (gs : List hb_g
 output_origins_at MonotoneGraphemes from to gs le = origins_of_merged_at MonotoneGraphemes from to gs le
 output_origins_at MonotoneCharacters from to gs le = origins_of_merged_at MonotoneCharacters from to gs le
 output_origins_at Characters from to gs le = refl
+output_origins_at Graphemes from to gs le = refl
 
 -- `merge_out_clusters`
 pub output_origins : (from to : ℕ) (s : Sides) → from ≤ to → origins_of (with_output_merged from to s) ≡ origins_by (Merge InOutput from to ∷ []) s

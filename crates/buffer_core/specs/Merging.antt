@@ -5,7 +5,7 @@ use Rattle.buffer_glyphs.specs.declared.info.hb_glyph_info_t.{hb_glyph_info_t}
 use Rattle.buffer_glyphs.specs.declared.level.BufferClusterLevel.{BufferClusterLevel}
 use Rattle.buffer_glyphs.specs.Items.{clusters}
 use Rattle.buffer_glyphs.specs.Parts.{first_of, last_of, or}
-use Rattle.buffer_glyphs.specs.Levels.{InOutput, manner}
+use Rattle.buffer_glyphs.specs.Levels.{InOutput, grapheme_manner, manner}
 use Rattle.buffer_glyphs.specs.Glyphs.{glyphs_merged_as, glyphs_merged_at, is_marked_at}
 use Rattle.buffer_glyphs.specs.Replacements.{numbered_copies, glyph_numbered}
 use Rattle.buffer_core.specs.Sides.{Sides, all_glyphs, has_output_room, with_behind}
@@ -22,17 +22,22 @@ with_glyphs gs s = record s { behind = take (length s.behind) gs; ahead = drop (
 abbrev pub with_has_glyph_flags : Bool → ℕ → ℕ
 with_has_glyph_flags any flags = if any then bit_or flags 32 else flags
 
--- the indices from `from` up to before `to` merged; at the level `Characters` they are flagged (`merge_clusters`)
+-- the indices from `from` up to before `to` merged, or flagged, by level (`merge_clusters`)
 abbrev pub with_merged : ℕ → ℕ → Sides → Sides
 with_merged from to s = record (with_glyphs (glyphs_merged_at s.level from to (all_glyphs s)) s) { scratch_flags = with_has_glyph_flags (is_marked_at s.level from to (clusters (all_glyphs s))) s.scratch_flags }
 
--- such indices of the output merged at a level; at the level `Characters` nothing changes
+-- such indices of the output merged at a level, or left alone
 abbrev pub output_merged_at : BufferClusterLevel → ℕ → ℕ → List hb_glyph_info_t → List hb_glyph_info_t
 output_merged_at level from to gs = glyphs_merged_as (manner InOutput level) from to gs
 
 -- the indices of the output from `from` up to before `to` merged (`merge_out_clusters`)
 abbrev pub with_output_merged : ℕ → ℕ → Sides → Sides
 with_output_merged from to s = with_glyphs (output_merged_at s.level from to (all_glyphs s)) s
+
+-- the indices from `from` up to before `to` of all glyphs, a grapheme, merged where the level merges graphemes
+-- (`merge_grapheme_clusters`, `merge_out_grapheme_clusters`)
+abbrev pub with_grapheme_merged : ℕ → ℕ → Sides → Sides
+with_grapheme_merged from to s = with_glyphs (glyphs_merged_as (grapheme_manner s.level) from to (all_glyphs s)) s
 
 -- the glyph that new glyphs are copies of: the glyph at the cursor, else the last output glyph
 abbrev pub model : Sides → Option hb_glyph_info_t

@@ -7,6 +7,7 @@ mod context;
 mod cursor;
 mod deletion;
 mod flags;
+mod grapheme_merges;
 mod graphemes;
 mod groups;
 mod known;

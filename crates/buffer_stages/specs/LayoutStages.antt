@@ -1,7 +1,7 @@
 -- Stages over a whole buffer that rustybuzz has with its layout calls (rustybuzz: hb/ot_layout.rs).
 use Rattle.std.specs.Prelude.{◌-◌, Bool, true, false, bit_and}
 use Rattle.buffer_glyphs.specs.declared.level.BufferClusterLevel.{BufferClusterLevel}
-use Rattle.buffer_glyphs.specs.declared.level.BufferClusterLevel.TheVariants.{MonotoneGraphemes, MonotoneCharacters, Characters}
+use Rattle.buffer_glyphs.specs.declared.level.BufferClusterLevel.TheVariants.{MonotoneGraphemes, MonotoneCharacters, Characters, Graphemes}
 use Rattle.buffer_glyphs.specs.Items.{Item}
 use Rattle.buffer_core.specs.Readings.{Stage, always}
 use Rattle.buffer_stages.specs.Stages.{with_items_mapped}
@@ -19,3 +19,4 @@ abbrev pub merges_graphemes : BufferClusterLevel → Bool
 merges_graphemes MonotoneGraphemes = false
 merges_graphemes MonotoneCharacters = true
 merges_graphemes Characters = false
+merges_graphemes Graphemes = false

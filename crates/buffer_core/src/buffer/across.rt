@@ -16,7 +16,7 @@ use buffer_lists::over;
 // Ranges that begin in the output.
 impl hb_buffer_t {
     /// Merges the clusters of the output's glyphs from `start` up to before `end`, as `merge_clusters` does those of
-    /// the input; at the level `Characters` it changes nothing. It takes no memory.
+    /// the input; at the levels `Characters` and `Graphemes` it changes nothing. It takes no memory.
     pub fn merge_out_clusters(&mut self, start: usize, end: usize)
         requires open { self.old.is_open ≡ true }
         requires ordered { start ≤ end }

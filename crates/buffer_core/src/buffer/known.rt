@@ -21,14 +21,14 @@ impl hb_buffer_t {
         known
     }
 
-    /// What is known of the order of clusters before merges: where clusters are kept apart the list is not walked for it.
+    /// What is known of the order of clusters before merges: where these renumber none the list is not walked for it.
     pub(super) fn order_before_merges(&mut self) -> KnownOrder
         requires { self.old.is_open ≡ false }
         ensures same { self.new ≡ self.old }
         ensures order { HasOrder result (clusters (all_glyphs self.old)) }
     {
         match self.cluster_level {
-            BufferClusterLevel::Characters => self.known_order(),
+            BufferClusterLevel::Characters | BufferClusterLevel::Graphemes => self.known_order(),
             BufferClusterLevel::MonotoneGraphemes | BufferClusterLevel::MonotoneCharacters => {
                 self.walked_order()
             }

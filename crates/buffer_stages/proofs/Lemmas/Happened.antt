@@ -1,16 +1,16 @@
 -- What happens to the origins of the glyphs, one call after another.
-use Rattle.std.proofs.Common.{ℕ, ◌≡◌, ◌≤◌, ◌+◌, ◌==◌, Bool, Some, List, [], ◌∷◌, ◌++◌, length, take, arith, refl, sym, ap, subst, ◌∙◌}
+use Rattle.std.proofs.Common.{ℕ, ◌≡◌, ◌≤◌, ◌+◌, ◌==◌, Bool, false, Some, List, [], ◌∷◌, ◌++◌, length, take, arith, refl, sym, ap, subst, ◌∙◌}
 use Rattle.std.specs.Prelude.{bit_and}
 use Rattle.std.proofs.lemmas.List.{length-append, length-map}
 use Rattle.buffer_glyphs.specs.declared.info.hb_glyph_info_t.{hb_glyph_info_t}
 use Rattle.buffer_glyphs.specs.Items.{Item, clusters, item_of}
-use Rattle.buffer_glyphs.specs.Events.{Event, Break, Merge, origins_after}
+use Rattle.buffer_glyphs.specs.Events.{Event, Break, Merge, MergeGrapheme, origins_after}
 use Rattle.buffer_glyphs.specs.Lemmas.Origins.{origins_after_both}
 use Rattle.buffer_core.specs.Sides.{Sides, Settings, all_glyphs, flag_requests_of, items_of, origins_by, origins_of, settings_of, stage_flags, view_of}
-use Rattle.buffer_core.specs.Merging.{index_in_all, with_has_glyph_flags, with_glyphs, with_merged}
+use Rattle.buffer_core.specs.Merging.{index_in_all, with_grapheme_merged, with_has_glyph_flags, with_glyphs, with_merged}
 use Rattle.buffer_core.specs.Marking.{range_flagged_apart}
-use Rattle.buffer_glyphs.specs.Glyphs.{glyphs_marked, glyphs_merged_at, is_marked_at, has_several_numbers}
-use Rattle.buffer_glyphs.specs.Levels.{InList}
+use Rattle.buffer_glyphs.specs.Glyphs.{glyphs_marked, glyphs_merged_as, glyphs_merged_at, is_marked_at, has_several_numbers}
+use Rattle.buffer_glyphs.specs.Levels.{InList, grapheme_manner}
 use Rattle.buffer_glyphs.specs.Parts.{range_of}
 use Rattle.buffer_core.proofs.Told.{stage_flags_ignore_glyph_flags}
 use Rattle.buffer_stages.specs.Ready.{IsReady}
@@ -71,6 +71,13 @@ merge_happens from to s new e items origins ready =
     call_happens (glyphs_merged_at s.level (index_in_all from s) (index_in_all to s) (all_glyphs s)) (is_marked_at s.level (index_in_all from s) (index_in_all to s) (clusters (all_glyphs s)))
     (Merge InList from to ∷ []) s new e items
     (origins ∙ ap (λ i. origins_by (Merge InList i (index_in_all to s) ∷ []) s) (whole_index from s ready) ∙ ap (λ i. origins_by (Merge InList from i ∷ []) s) (whole_index to s ready)) ready
+
+pub grapheme_happens : (from to : ℕ) (s new : Sides) → new ≡ with_grapheme_merged (index_in_all from s) (index_in_all to s) s → items_of new ≡ items_of s
+    → origins_of new ≡ origins_by (MergeGrapheme (index_in_all from s) (index_in_all to s) ∷ []) s → IsReady s → Happens (MergeGrapheme from to ∷ []) s new
+grapheme_happens from to s new e items origins ready =
+    call_happens (glyphs_merged_as (grapheme_manner s.level) (index_in_all from s) (index_in_all to s) (all_glyphs s)) false
+    (MergeGrapheme from to ∷ []) s new e items
+    (origins ∙ ap (λ i. origins_by (MergeGrapheme i (index_in_all to s) ∷ []) s) (whole_index from s ready) ∙ ap (λ i. origins_by (MergeGrapheme from i ∷ []) s) (whole_index to s ready)) ready
 
 pub break_happens : (from to : ℕ) (s new : Sides) → new ≡ range_flagged_apart 3 (Some from) (Some to) s → items_of new ≡ items_of s
     → origins_of new ≡ origins_by (Break (index_in_all from s) (index_in_all to s) ∷ []) s → IsReady s → Happens (Break from to ∷ []) s new

@@ -1,6 +1,6 @@
 -- Events by indices that are counted from further back.
 use Rattle.std.proofs.Common.{ℕ, ◌≡◌, ◌+◌, List, [], ◌∷◌, map, refl, arith}
-use Rattle.buffer_glyphs.specs.Events.{Event, Merge, Replace, Circle, Delete, Move, Arrange, Sort, Reverse, Break, Concat, Tatweel, Spread, Reset}
+use Rattle.buffer_glyphs.specs.Events.{Event, Merge, MergeGrapheme, Replace, Circle, Delete, Move, Arrange, Sort, Reverse, Break, Concat, Tatweel, Spread, Reset}
 use Rattle.buffer_glyphs.specs.Rewriting.{shifted_event}
 
 further : (n m i : ℕ) → n + (m + i) ≡ n + m + i
@@ -8,6 +8,7 @@ further n m i = omega arith
 
 shift_event : (n m : ℕ) (e : Event) → shifted_event n (shifted_event m e) ≡ shifted_event (n + m) e
 shift_event n m (Merge how from to) = rw (further n m from, further n m to) refl
+shift_event n m (MergeGrapheme from to) = rw (further n m from, further n m to) refl
 shift_event n m (Replace at taken given) = rw (further n m at) refl
 shift_event n m (Circle after beside like) = rw (further n m beside, further n m like) refl
 shift_event n m (Delete at) = rw (further n m at) refl
@@ -31,6 +32,7 @@ none_more n = omega arith
 
 shift_by_none : (e : Event) → shifted_event 0 e ≡ e
 shift_by_none (Merge how from to) = rw (none_more from, none_more to) refl
+shift_by_none (MergeGrapheme from to) = rw (none_more from, none_more to) refl
 shift_by_none (Replace at taken given) = rw (none_more at) refl
 shift_by_none (Circle after beside like) = rw (none_more beside, none_more like) refl
 shift_by_none (Delete at) = rw (none_more at) refl
