@@ -5,7 +5,7 @@ use Rattle.std.proofs.lemmas.List.{length-append, length-drop, length-take-le, t
 use Rattle.buffer_glyphs.specs.Items.{Item}
 use Rattle.buffer_glyphs.specs.Levels.{InList}
 use Rattle.buffer_glyphs.specs.declared.level.BufferClusterLevel.{BufferClusterLevel}
-use Rattle.buffer_glyphs.specs.Events.{Event, Merge, Replace, Circle, Delete, Move, Arrange, Sort, Reverse, Break, Concat, Tatweel, Spread, Reset}
+use Rattle.buffer_glyphs.specs.Events.{Event, Merge, MergeGrapheme, Replace, Circle, Delete, Move, Arrange, Sort, Reverse, Break, Concat, Tatweel, Spread, Reset}
 use Rattle.buffer_glyphs.specs.Origins.{with_range_changed}
 use Rattle.buffer_core.specs.Readings.{Read, View, always, with_events}
 use Rattle.buffer_core.specs.Sides.{Sides, items_of, view_of}
@@ -74,6 +74,7 @@ leading_between class new start end front run rest v e at last =
 
 shift_event : (n m : ℕ) (e : Event) → shifted_event n (shifted_event m e) ≡ shifted_event (n + m) e
 shift_event n m (Merge how from to) = rw (further n m from, further n m to) refl
+shift_event n m (MergeGrapheme from to) = rw (further n m from, further n m to) refl
 shift_event n m (Replace at taken given) = rw (further n m at) refl
 shift_event n m (Circle after beside like) = rw (further n m beside, further n m like) refl
 shift_event n m (Delete at) = rw (further n m at) refl

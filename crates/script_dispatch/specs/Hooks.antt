@@ -20,7 +20,7 @@ use Rattle.script_categories.specs.declared.shaper.hb_ot_script_shaper_t.TheVari
 use Rattle.script_hebrew.specs.Hebrew.{hebrew_pair}
 use Rattle.script_hebrew.specs.MarkOrder.{hebrew_order}
 use Rattle.script_thai.specs.Texts.{thai_text}
-use Rattle.script_hangul.specs.Hangul.{syllables_formed}
+use Rattle.script_hangul.specs.Hangul.{hangul_text}
 use Rattle.script_hangul.specs.MapMasks.{jamo_masks}
 use Rattle.script_hangul.specs.Masks.{with_letter_mask}
 use Rattle.script_khmer.specs.Khmer.{khmer_split}
@@ -48,7 +48,7 @@ use Rattle.script_syllabic.specs.Syllables.{syllables_by, syllables_cleared}
 -- the stage before normalizing: vowels of Thai and Lao, syllables of Hangul (HarfBuzz: preprocess_text)
 abbrev pub preprocessing_by : hb_ot_script_shaper_t → OtMapValue → Option Script → FaceParts → Tables → TextSettings → Stage
 preprocessing_by THAI_SHAPER m s font t settings = thai_text m s t font
-preprocessing_by HANGUL_SHAPER m s font t settings = syllables_formed font settings.flags
+preprocessing_by HANGUL_SHAPER m s font t settings = hangul_text font settings.flags
 preprocessing_by _ m s font t settings = as_it_is
 
 -- ---- characters

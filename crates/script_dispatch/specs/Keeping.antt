@@ -11,9 +11,9 @@ use Rattle.buffer_stage_laws.specs.Plainly.{KeepsPlainly}
 use Rattle.script_plan.specs.Rules.{EndAfterStart, Spans}
 use Rattle.script_categories.specs.declared.shaper.hb_ot_script_shaper_t.{hb_ot_script_shaper_t}
 use Rattle.script_thai.specs.ThaiPrivate.{with_private}
-use Rattle.script_thai.specs.ThaiVowel.{vowels_split}
+use Rattle.script_thai.specs.ThaiVowel.{vowels_decomposed}
 use Rattle.script_hangul.specs.declared.masks.JamoMasks.{JamoMasks}
-use Rattle.script_hangul.specs.Hangul.{syllables_formed}
+use Rattle.script_hangul.specs.Hangul.{hangul_text}
 use Rattle.script_hangul.specs.Masks.{with_letter_mask}
 use Rattle.script_syllabic.specs.Bytes.{syllables_set}
 use Rattle.script_khmer.specs.declared.khmer.KhmerMasks.{KhmerMasks}
@@ -33,9 +33,9 @@ use Rattle.script_arabic.specs.Tiles.{tiles_recorded}
 
 -- vowels of Thai and Lao, private forms of Thai, and syllables of Hangul
 pub record TextsKeepPlainly : Type 0 where
-  pub thai : KeepsPlainly vowels_split
+  pub thai : KeepsPlainly vowels_decomposed
   pub private_forms : (t : Tables) (font : FaceParts) → KeepsPlainly (always (with_private t font))
-  pub hangul : (font : FaceParts) (flags : BufferFlags) → KeepsPlainly (syllables_formed font flags)
+  pub hangul : (font : FaceParts) (flags : BufferFlags) → KeepsPlainly (hangul_text font flags)
 
 -- where syllables are, the features of their glyphs and what is recorded
 pub record SyllablesKeepPlainly : Type 0 where

@@ -94,7 +94,7 @@ character_got : (k : ℕ) (xs : List Item) (o : Option Item) → slice_get xs k 
 character_got k xs None e = tt
 character_got k xs (Some x) e = character_within_by k (length xs) x (is_character x.number) (slice_get_within xs k x e)
 
-character_within : (k : ℕ) (xs : List Item) → Within k (character_at k xs) (length xs)
+pub character_within : (k : ℕ) (xs : List Item) → Within k (character_at k xs) (length xs)
 character_within k xs = character_got k xs (slice_get xs k) refl
 
 -- two letters stay apart where three do not

@@ -3,3 +3,4 @@ pub mod Fits
 pub mod Walk
 pub mod Masked
 pub mod Requested
+pub mod Merged

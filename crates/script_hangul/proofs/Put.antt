@@ -16,9 +16,8 @@ use Rattle.buffer_stages.specs.Lemmas.Moves.{moved_length}
 use Rattle.buffer_stages.proofs.Lemmas.Walked.{both_walked}
 use Rattle.script_hangul.specs.declared.jamo.Letters.{Letters}
 use Rattle.script_hangul.specs.declared.jamo.Letters.TheVariants.{Two, Three}
-use Rattle.script_hangul.specs.Steps.{apart_step, before_syllable, circle_for, circle_beside, compose_step, grapheme_merged, keep_step, letters_from, numbers_of, letters_of_first, numbered_letter, with_tone_first, split_step, with_circle}
+use Rattle.script_hangul.specs.Steps.{apart_step, before_syllable, circle_for, circle_beside, compose_step, keep_step, letters_from, numbers_of, letters_of_first, numbered_letter, with_tone_first, split_step, with_circle}
 use Rattle.script_hangul.specs.Stepped.{Refuses, IsStepped, is_two}
-use Rattle.buffer_stages.proofs.Lemmas.Fitting.{level_same}
 
 -- other words for the same
 renamed : (o r o' r' : List Item) (es es' : List Event) (s t : Sides) → HasWalked o r es s t → o ≡ o' → r ≡ r' → es ≡ es' → HasWalked o' r' es' s t
@@ -86,31 +85,21 @@ two_letters s a b w v =
     ∙ append_assoc bs (letters_from 1 (take 1 xs)) (letters_from 2 (take 1 (drop 1 xs))) ∙ ap (λ ys. bs ++ ys) (letters_two xs))
     (ap (drop 1) w.ahead ∙ drop-drop 1 1 xs) refl
 
--- the output items of a syllable become a grapheme
-pub then_merged : (o r : List Item) (es : List Event) (at n : ℕ) (s m t : Sides) → HasWalked o r es s m → HasWalked (strip m.behind) (strip m.ahead) (grapheme_merged m.level at n) m t → HasWalked o r (es ++ grapheme_merged s.level at n) s t
-then_merged o r es at n s m t w v =
-    let both = both_walked o r (strip m.behind) (strip m.ahead) es (grapheme_merged m.level at n) s m t w v in
-    renamed (strip m.behind) (strip m.ahead) o r (es ++ grapheme_merged m.level at n) (es ++ grapheme_merged s.level at n) s t both w.behind w.ahead (ap (λ l. es ++ grapheme_merged l at n) (level_same o r es s m w))
-
-pub apart_two : (count at : ℕ) (s b t : Sides) → count ≡ 2 → at ≡ length s.behind → HasWalked (strip s.behind ++ letters_from 1 (take 2 (strip s.ahead))) (drop 2 (strip s.ahead)) [] s b → HasWalked (strip b.behind) (strip b.ahead) (grapheme_merged b.level at 2) b t
-    → IsStepped (apart_step count (strip s.behind) (strip s.ahead)) at s t
-apart_two count at s b t is len w v =
-    let o = strip s.behind ++ letters_from 1 (take 2 (strip s.ahead)) in
-    let r = drop 2 (strip s.ahead) in
-    rw is (record { walked = renamed o r o r (grapheme_merged s.level at 2) (grapheme_merged s.level (length (strip s.behind)) 2) s t (then_merged o r [] at 2 s b t w v) refl refl (ap (λ k. grapheme_merged s.level k 2) (len ∙ sym (seen_long s))); start = len ∙ sym (seen_long s) })
+pub apart_two : (count at : ℕ) (s b : Sides) → count ≡ 2 → at ≡ length s.behind → HasWalked (strip s.behind ++ letters_from 1 (take 2 (strip s.ahead))) (drop 2 (strip s.ahead)) [] s b → IsStepped (apart_step count (strip s.behind) (strip s.ahead)) at s b
+apart_two count at s b is len w = rw is (record { walked = w; start = len ∙ sym (seen_long s) })
 
 pub apart_three : (count at : ℕ) (s b t : Sides) → count ≡ 3 → at ≡ length s.behind → HasWalked (strip s.behind ++ letters_from 1 (take 2 (strip s.ahead))) (drop 2 (strip s.ahead)) [] s b
-    → HasWalked (strip b.behind ++ letters_from 3 (take 1 (strip b.ahead))) (drop 1 (strip b.ahead)) (grapheme_merged b.level at 3) b t → IsStepped (apart_step count (strip s.behind) (strip s.ahead)) at s t
+    → HasWalked (strip b.behind ++ letters_from 3 (take 1 (strip b.ahead))) (drop 1 (strip b.ahead)) [] b t → IsStepped (apart_step count (strip s.behind) (strip s.ahead)) at s t
 apart_three count at s b t is len w v =
     let bs = strip s.behind in
     let xs = strip s.ahead in
-    let both = both_walked (bs ++ letters_from 1 (take 2 xs)) (drop 2 xs) (strip b.behind ++ letters_from 3 (take 1 (strip b.ahead))) (drop 1 (strip b.ahead)) [] (grapheme_merged b.level at 3) s b t w v in
+    let both = both_walked (bs ++ letters_from 1 (take 2 xs)) (drop 2 xs) (strip b.behind ++ letters_from 3 (take 1 (strip b.ahead))) (drop 1 (strip b.ahead)) [] [] s b t w v in
     rw is (record {
-      walked = renamed (strip b.behind ++ letters_from 3 (take 1 (strip b.ahead))) (drop 1 (strip b.ahead)) (bs ++ letters_from 1 (take 3 xs)) (drop 3 xs) (grapheme_merged b.level at 3) (grapheme_merged s.level (length bs) 3) s t both
+      walked = renamed (strip b.behind ++ letters_from 3 (take 1 (strip b.ahead))) (drop 1 (strip b.ahead)) (bs ++ letters_from 1 (take 3 xs)) (drop 3 xs) [] [] s t both
           (ap (λ ys. ys ++ letters_from 3 (take 1 (strip b.ahead))) w.behind ∙ ap (λ ys. (bs ++ letters_from 1 (take 2 xs)) ++ letters_from 3 (take 1 ys)) w.ahead
           ∙ append_assoc bs (letters_from 1 (take 2 xs)) (letters_from 3 (take 1 (drop 2 xs))) ∙ ap (λ ys. bs ++ ys) (letters_three xs))
           (ap (drop 1) w.ahead ∙ drop-drop 1 2 xs)
-          (ap (λ l. grapheme_merged l at 3) (level_same (bs ++ letters_from 1 (take 2 xs)) (drop 2 xs) [] s b w) ∙ ap (λ k. grapheme_merged s.level k 3) (len ∙ sym (seen_long s)));
+          refl;
       start = len ∙ sym (seen_long s);
     })
 
@@ -156,21 +145,17 @@ parts_ahead letters s m w =
     let d = length-map s.ahead item_of in
     omega (arith, a, b, c, d)
 
-pub split_alone : (letters : Letters) (joins : Bool) (at count : ℕ) (s m t : Sides) → joins ≡ false → 0 < length s.ahead → at ≡ length s.behind → count ≡ length m.behind - at
+pub split_alone : (letters : Letters) (joins : Bool) (at : ℕ) (s m : Sides) → joins ≡ false → at ≡ length s.behind
     → HasWalked (strip s.behind ++ letters_from 1 (letters_of_first letters (strip s.ahead))) (drop 1 (strip s.ahead)) (Replace (length s.behind) 1 (length (numbers_of letters)) ∷ []) s m
-    → HasWalked (strip m.behind) (strip m.ahead) (grapheme_merged m.level at count) m t → IsStepped (split_step letters (if joins then 1 else 0) (strip s.behind) (strip s.ahead)) at s t
-split_alone letters true at count s m t none some len is w v = absurd (let bad = none in cc)
-split_alone letters false at count s m t none some len is w v =
+    → IsStepped (split_step letters (if joins then 1 else 0) (strip s.behind) (strip s.ahead)) at s m
+split_alone letters true at s m none len w = absurd (let bad = none in cc)
+split_alone letters false at s m none len w =
     let bs = strip s.behind in
     let xs = strip s.ahead in
     let k = length (numbers_of letters) in
-    let o = bs ++ letters_from 1 (letters_of_first letters xs) in
-    let many = parts_behind letters s m some w in
-    let all : count ≡ k + 0 = omega (arith, is, len, many) in
     record {
-      walked = renamed o (drop 1 xs) (bs ++ letters_from 1 (letters_of_first letters xs ++ [])) (drop 1 xs) (Replace (length s.behind) 1 k ∷ grapheme_merged s.level at count) (Replace (length bs) 1 k ∷ grapheme_merged s.level (length bs) (k + 0)) s t
-          (then_merged o (drop 1 xs) (Replace (length s.behind) 1 k ∷ []) at count s m t w v) (ap (λ ys. bs ++ letters_from 1 ys) (sym (append-nil (letters_of_first letters xs)))) refl
-          (ap₂ (λ i j. Replace i 1 k ∷ grapheme_merged s.level at j) (sym (seen_long s)) all ∙ ap (λ i. Replace (length bs) 1 k ∷ grapheme_merged s.level i (k + 0)) (len ∙ sym (seen_long s)));
+      walked = renamed (bs ++ letters_from 1 (letters_of_first letters xs)) (drop 1 xs) (bs ++ letters_from 1 (letters_of_first letters xs ++ [])) (drop 1 xs) (Replace (length s.behind) 1 k ∷ []) (Replace (length bs) 1 k ∷ []) s m w
+          (ap (λ ys. bs ++ letters_from 1 ys) (sym (append-nil (letters_of_first letters xs)))) refl (ap (λ i. Replace i 1 k ∷ []) (sym (seen_long s)));
       start = len ∙ sym (seen_long s);
     }
 
@@ -180,19 +165,19 @@ joined_out l v bs (x ∷ xs) lt = append_assoc bs (letters_from 1 (letters_of_fi
 
 pub split_joined : (letters : Letters) (joins : Bool) (at : ℕ) (s m t : Sides) → joins ≡ true → is_two letters ≡ true → 0 < length s.ahead → at ≡ length s.behind
     → HasWalked (strip s.behind ++ letters_from 1 (letters_of_first letters (strip s.ahead))) (drop 1 (strip s.ahead)) (Replace (length s.behind) 1 (length (numbers_of letters)) ∷ []) s m
-    → HasWalked (strip m.behind ++ letters_from 3 (take 1 (strip m.ahead))) (drop 1 (strip m.ahead)) (grapheme_merged m.level at 3) m t → IsStepped (split_step letters (if joins then 1 else 0) (strip s.behind) (strip s.ahead)) at s t
+    → HasWalked (strip m.behind ++ letters_from 3 (take 1 (strip m.ahead))) (drop 1 (strip m.ahead)) [] m t → IsStepped (split_step letters (if joins then 1 else 0) (strip s.behind) (strip s.ahead)) at s t
 split_joined letters false at s m t j two some len w v = absurd (let bad = j in cc)
 split_joined (Three l k z) true at s m t j two some len w v = absurd (let bad = two in cc)
 split_joined (Two l k) true at s m t j two some len w v =
     let bs = strip s.behind in
     let xs = strip s.ahead in
-    let both = both_walked (bs ++ letters_from 1 (letters_of_first (Two l k) xs)) (drop 1 xs) (strip m.behind ++ letters_from 3 (take 1 (strip m.ahead))) (drop 1 (strip m.ahead)) (Replace (length s.behind) 1 2 ∷ []) (grapheme_merged m.level at 3) s m t w v in
+    let both = both_walked (bs ++ letters_from 1 (letters_of_first (Two l k) xs)) (drop 1 xs) (strip m.behind ++ letters_from 3 (take 1 (strip m.ahead))) (drop 1 (strip m.ahead)) (Replace (length s.behind) 1 2 ∷ []) [] s m t w v in
     record {
       walked = renamed (strip m.behind ++ letters_from 3 (take 1 (strip m.ahead))) (drop 1 (strip m.ahead)) (bs ++ letters_from 1 (letters_of_first (Two l k) xs ++ take 1 (drop 1 xs))) (drop 2 xs)
-          (Replace (length s.behind) 1 2 ∷ grapheme_merged m.level at 3) (Replace (length bs) 1 2 ∷ grapheme_merged s.level (length bs) 3) s t both
+          (Replace (length s.behind) 1 2 ∷ []) (Replace (length bs) 1 2 ∷ []) s t both
           (ap (λ ys. ys ++ letters_from 3 (take 1 (strip m.ahead))) w.behind ∙ ap (λ ys. (bs ++ letters_from 1 (letters_of_first (Two l k) xs)) ++ letters_from 3 (take 1 ys)) w.ahead ∙ joined_out l k bs xs (some_items s some))
           (ap (drop 1) w.ahead ∙ drop-drop 1 1 xs)
-          (ap₂ (λ i q. Replace i 1 2 ∷ grapheme_merged q at 3) (sym (seen_long s)) (level_same (bs ++ letters_from 1 (letters_of_first (Two l k) xs)) (drop 1 xs) (Replace (length s.behind) 1 2 ∷ []) s m w) ∙ ap (λ i. Replace (length bs) 1 2 ∷ grapheme_merged s.level i 3) (len ∙ sym (seen_long s)));
+          (ap (λ i. Replace i 1 2 ∷ []) (sym (seen_long s)));
       start = len ∙ sym (seen_long s);
     }
 

@@ -8,8 +8,11 @@ use Rattle.buffer_common.specs.declared.constants.BufferFlags.{BufferFlags}
 use Rattle.layout_face.specs.declared.parts.FaceParts.{FaceParts}
 use Rattle.buffer_glyphs.specs.Items.{Item}
 use Rattle.buffer_glyphs.specs.Events.{Event}
-use Rattle.buffer_core.specs.Readings.{Stage}
+use Rattle.buffer_core.specs.Readings.{Stage, always, and_then}
 use Rattle.buffer_core.specs.Sides.{zero_positions}
+use Rattle.script_syllabic.specs.Graphemes.{with_graphemes_merged}
+use Rattle.script_hangul.specs.declared.actions.Action.{Action}
+use Rattle.script_hangul.specs.declared.actions.Action.TheVariants.{Keep, Apart, Compose, Split}
 use Rattle.script_hangul.specs.Jamo.{is_tone}
 use Rattle.script_hangul.specs.Actions.{action_on}
 use Rattle.script_hangul.specs.Steps.{Step, keep_step, step_of, tone_step}
@@ -57,7 +60,7 @@ events_after font circles level (suc steps) n out (x ∷ xs) =
     let s : Step = step font circles n out (x ∷ xs) in
     s.events level ++ events_after font circles level steps s.start s.out (drop (s.more + 1) (x ∷ xs))
 
--- the stage of a Hangul text, where the result is within the limit; each step consumes an item, so as many steps as
+-- the stage that forms a text's syllables, where the result is within the limit, without a merge of graphemes; each step consumes an item, so as many steps as
 -- items are enough
 abbrev pub syllables_formed : FaceParts → BufferFlags → Stage
 syllables_formed font flags v =
@@ -65,3 +68,23 @@ syllables_formed font flags v =
     if nat_le (length xs) v.max_len
     then Ok (record { view = record v { items = xs; positions = zero_positions (length xs) }; events = λ level. events_after font (wants_circles flags) level (length v.items) 0 [] v.items })
     else Err TooLong
+
+-- the number of characters of the syllable that an action leaves as several; 0 where it leaves one
+abbrev pub count_apart : Action → ℕ
+count_apart (Keep whole) = 0
+count_apart (Apart n) = n
+count_apart (Compose n u) = 0
+count_apart (Split letters joins) = if joins then 2 else 0
+
+-- the number of characters that begin with one grapheme: a syllable whose jamo stay apart
+abbrev pub rule_by : FaceParts → Option ℕ → List Item → ℕ
+rule_by font None xs = 0
+rule_by font (Some u) xs = count_apart (action_on font u (character_at 1 xs) (character_at 2 xs))
+
+-- that number, by the characters
+abbrev pub jamo_rule : FaceParts → List Item → ℕ
+jamo_rule font xs = rule_by font (character_at 0 xs) xs
+
+-- the stage of a Hangul text: graphemes are merged before anything is moved
+abbrev pub hangul_text : FaceParts → BufferFlags → Stage
+hangul_text font flags v = and_then (always (with_graphemes_merged (jamo_rule font)) v) (syllables_formed font flags)

@@ -2,13 +2,12 @@
 use Rattle.std.specs.Prelude.{ℕ, ◌+◌, ◌-◌, ◌==◌, ◌&&◌, Bool, false, nat_lt, if◌then◌else◌, List, [], ◌∷◌, ◌++◌, length, map, take, drop}
 use Rattle.std.specs.Option.{option_map_or}
 use Rattle.buffer_glyphs.specs.declared.level.BufferClusterLevel.{BufferClusterLevel}
-use Rattle.buffer_glyphs.specs.declared.level.BufferClusterLevel.TheVariants.{MonotoneGraphemes, MonotoneCharacters, Characters}
 use Rattle.layout_face.specs.declared.parts.FaceParts.{FaceParts}
 use Rattle.layout_face.specs.Glyphs.{nominal_glyph, width_of}
 use Rattle.buffer_properties.specs.Properties.{properties_of}
 use Rattle.buffer_glyphs.specs.Items.{Item}
 use Rattle.buffer_glyphs.specs.Levels.{InOutput}
-use Rattle.buffer_glyphs.specs.Events.{Event, Merge, Move, Replace}
+use Rattle.buffer_glyphs.specs.Events.{Event, Move, Replace}
 use Rattle.buffer_glyphs.specs.Replacements.{item_numbered}
 use Rattle.buffer_stages.specs.Moves.{order_of_move}
 use Rattle.buffer_stages.specs.Walks.{renumbered_first}
@@ -39,19 +38,13 @@ abbrev pub letters_from : ℕ → List Item → List Item
 letters_from n [] = []
 letters_from n (x ∷ xs) = numbered_letter n x ∷ letters_from (n + 1) xs
 
--- the merge of a syllable's jamo into one grapheme
-abbrev pub grapheme_merged : BufferClusterLevel → ℕ → ℕ → List Event
-grapheme_merged MonotoneGraphemes at n = Merge InOutput at (at + n) ∷ []
-grapheme_merged MonotoneCharacters at n = []
-grapheme_merged Characters at n = []
-
 -- the step that keeps the first item
 abbrev pub keep_step : Bool → List Item → List Item → Step
 keep_step whole out xs = record { out = out ++ take 1 xs; events = λ level. []; more = 0; start = if whole then length out else length (out ++ take 1 xs) }
 
 -- the step that keeps that many jamo apart, as one syllable
 abbrev pub apart_step : ℕ → List Item → List Item → Step
-apart_step n out xs = record { out = out ++ letters_from 1 (take n xs); events = λ level. grapheme_merged level (length out) n; more = n - 1; start = length out }
+apart_step n out xs = record { out = out ++ letters_from 1 (take n xs); events = λ level. []; more = n - 1; start = length out }
 
 -- the step that composes that many items to one syllable; only the character of the first changes
 abbrev pub compose_step : ℕ → ℕ → List Item → List Item → Step
@@ -71,7 +64,7 @@ letters_of_first letters (x ∷ xs) = map (item_numbered x) (numbers_of letters)
 abbrev pub split_step : Letters → ℕ → List Item → List Item → Step
 split_step letters n out xs = record {
   out = out ++ letters_from 1 (letters_of_first letters xs ++ take n (drop 1 xs));
-  events = λ level. Replace (length out) 1 (length (numbers_of letters)) ∷ grapheme_merged level (length out) (length (numbers_of letters) + n);
+  events = λ level. Replace (length out) 1 (length (numbers_of letters)) ∷ [];
   more = n;
   start = length out;
 }

@@ -4,12 +4,14 @@ ghost use Rattle.buffer_glyphs.specs.Items.{strip};
 ghost use Rattle.buffer_stages.specs.Ready.{IsReady};
 ghost use Rattle.script_hangul.specs.Actions.{action_on};
 ghost use Rattle.script_hangul.specs.Steps.{step_of};
-ghost use Rattle.script_hangul.specs.Hangul.{character_at, step, syllables_formed, wants_circles};
+ghost use Rattle.script_hangul.specs.Hangul.{character_at, count_apart, hangul_text, jamo_rule, step, syllables_formed, wants_circles};
+ghost use Rattle.script_syllabic.specs.Graphemes.{with_graphemes_merged};
+ghost use Rattle.buffer_core.specs.Readings.{always};
 ghost use Rattle.script_hangul.specs.Stepped.{Passes, Refuses, IsStepped};
 ghost use Rattle.buffer_stages.specs.Walks.{RefusesLength};
-ghost use Rattle.buffer_stages.specs.Stages.{DoesStage};
+ghost use Rattle.buffer_stages.specs.Stages.{DoesStage, IsFollowed};
 
-use crate::actions::action_on;
+use crate::actions::{Action, action_on};
 use crate::jamo::is_tone;
 use crate::performing::{keep, perform};
 use crate::tones::put_tone;
@@ -17,8 +19,10 @@ use bitflags::Flags;
 use buffer_common::constants::BufferFlags;
 use buffer_core::buffer::hb_buffer_t;
 use buffer_glyphs::cause::ShapeCause;
+use buffer_glyphs::info::hb_glyph_info_t;
 use buffer_stages::walks::finish;
 use layout_face::Face;
+use script_syllabic::graphemes::merge_grapheme;
 
 /// Composes jamo to syllables that the font has, and decomposes syllables that it lacks; sets the feature of each jamo
 /// that stays by itself; moves a tone mark with an advance before the syllable that it follows, and gives a tone mark
@@ -27,7 +31,71 @@ use layout_face::Face;
 /// # Errors
 ///
 /// `TooLong` where the text would have more characters than the buffer may hold, or lack of memory.
+#[tactic(auto, using(crate::proofs::Merged::hangul_done))]
 pub fn preprocess_text(face: &Face, buffer: &mut hb_buffer_t) -> Result<(), ShapeCause>
+    requires ready { IsReady buffer.old }
+    ensures { DoesStage (hangul_text face.now buffer.old.flags) result buffer.old buffer.new }
+{
+    // A tone mark that is moved takes clusters out of order, and then a merge would walk the whole text.
+    merge_jamo(face, buffer);
+    form_syllables(face, buffer)?;
+    Ok(())
+}
+
+/// Merges the characters of each syllable that stays several jamo into one grapheme.
+#[tactic(auto, using(script_syllabic::proofs::GraphemesMerged::nothing_merged, script_syllabic::proofs::GraphemesMerged::next_merged, script_syllabic::proofs::GraphemesMerged::all_merged, script_syllabic::proofs::GraphemesMerged::same_count))]
+fn merge_jamo(face: &Face, buffer: &mut hb_buffer_t)
+    requires ready { IsReady buffer.old }
+    ensures { IsFollowed (always (with_graphemes_merged (jamo_rule face.now))) buffer.old buffer.new }
+{
+    let count = buffer.len();
+    let mut at = 0;
+    while at < count {
+        let apart = count_jamo(face, &buffer.info_slice()[at..]);
+        merge_grapheme(at, apart, buffer);
+        at += 1;
+    }
+}
+
+/// The number of characters that begin with one grapheme, a syllable that stays several jamo; else 0.
+#[tactic(auto, using(crate::proofs::Merged::first_is))]
+fn count_jamo(face: &Face, glyphs: &[hb_glyph_info_t]) -> usize
+    ensures count { result ≡ jamo_rule face.now (strip glyphs.now) }
+    ensures within { result ≤ length glyphs.now }
+{
+    match character_in(glyphs, 0) {
+        Some(u) => {
+            let action = action_on(face, u, character_in(glyphs, 1), character_in(glyphs, 2));
+            count_apart(action)
+        }
+        None => 0,
+    }
+}
+
+/// The number of characters of the syllable that an action leaves as several jamo, or 0.
+fn count_apart(action: Action) -> usize
+    ensures { result ≡ count_apart action }
+{
+    match action {
+        Action::Apart(count) => count,
+        Action::Split(_, true) => 2,
+        Action::Keep(_) | Action::Compose(_, _) | Action::Split(_, false) => 0,
+    }
+}
+
+/// The i-th character, if there is one.
+fn character_in(glyphs: &[hb_glyph_info_t], i: usize) -> Option<char>
+    ensures { result ≡ character_at i (strip glyphs.now) }
+{
+    if i < glyphs.len() {
+        char::from_u32(glyphs[i].glyph_id)
+    } else {
+        None
+    }
+}
+
+/// Forms the syllables of a text.
+fn form_syllables(face: &Face, buffer: &mut hb_buffer_t) -> Result<(), ShapeCause>
     requires ready { IsReady buffer.old }
     ensures { DoesStage (syllables_formed face.now buffer.old.flags) result buffer.old buffer.new }
 {

@@ -4,7 +4,7 @@ ghost use Rattle.buffer_glyphs.specs.Items.{item_of, strip};
 ghost use Rattle.buffer_glyphs.specs.Origins.{origin_of};
 ghost use Rattle.buffer_glyphs.specs.Replacements.{item_numbered};
 ghost use Rattle.buffer_glyphs.specs.Events.{Replace};
-ghost use Rattle.script_hangul.specs.Steps.{apart_step, compose_step, grapheme_merged, keep_step, letters_from, numbers_of, letters_of_first, step_of, numbered_letter, split_step};
+ghost use Rattle.script_hangul.specs.Steps.{apart_step, compose_step, keep_step, letters_from, numbers_of, letters_of_first, step_of, numbered_letter, split_step};
 ghost use Rattle.script_hangul.specs.Stepped.{Refuses, IsStepped, fits_rest};
 ghost use Rattle.buffer_stages.specs.Walks.{RefusesLength, HasWalked};
 
@@ -13,8 +13,7 @@ use crate::jamo::Letters;
 use buffer_core::buffer::hb_buffer_t;
 use buffer_glyphs::cause::ShapeCause;
 use buffer_glyphs::info::hb_glyph_info_t;
-use buffer_glyphs::level::BufferClusterLevel;
-use buffer_stages::walks::{advance, advance_as, merge_behind, replace_current, replace_front};
+use buffer_stages::walks::{advance, advance_as, replace_current, replace_front};
 
 /// The jamo features, as `auxiliary` of a glyph: 1 ljmo, 2 vjmo, 3 tjmo.
 pub const LJMO: u8 = 1;
@@ -89,10 +88,9 @@ fn put_apart(count: usize, buffer: &mut hb_buffer_t) -> Result<usize, ShapeCause
     put_letter(LJMO, buffer)?;
     put_letter(VJMO, buffer)?;
     if count == 3 {
-        put_third(at, buffer)?;
+        put_letter(TJMO, buffer)?;
         return Ok(at);
     }
-    merge_grapheme(at, 2, buffer);
     Ok(at)
 }
 
@@ -132,34 +130,6 @@ fn letter_of(glyph: &hb_glyph_info_t, u: char, kind: u8) -> hb_glyph_info_t
     }
 }
 
-/// Merges the output's glyphs from an index on into one grapheme, at level MonotoneGraphemes.
-fn merge_grapheme(at: usize, count: usize, buffer: &mut hb_buffer_t)
-    requires open { buffer.old.is_open ≡ true }
-    requires within { at + count ≡ length buffer.old.behind }
-    ensures { HasWalked (strip buffer.old.behind) (strip buffer.old.ahead) (grapheme_merged buffer.old.level at count)
-        buffer.old buffer.new }
-{
-    let end = buffer.out_len();
-    match buffer.cluster_level() {
-        BufferClusterLevel::MonotoneGraphemes => merge_behind(at, end, buffer),
-        BufferClusterLevel::MonotoneCharacters | BufferClusterLevel::Characters => {}
-    }
-}
-
-/// Outputs the third jamo after the other two, and merges all three into one grapheme.
-fn put_third(at: usize, buffer: &mut hb_buffer_t) -> Result<(), ShapeCause>
-    requires open { buffer.old.is_open ≡ true }
-    requires there { 0 < length buffer.old.ahead }
-    requires two { at + 2 ≡ length buffer.old.behind }
-    ensures ok { OnOk result (HasWalked (strip buffer.old.behind ++ letters_from 3 (take 1 (strip buffer.old.ahead)))
-        (drop 1 (strip buffer.old.ahead)) (grapheme_merged buffer.old.level at 3) buffer.old buffer.new) }
-    ensures err { IfErr result (λ e. RefusesLength (length buffer.old.behind + 1) e buffer.old) }
-{
-    put_letter(TJMO, buffer)?;
-    merge_grapheme(at, 3, buffer);
-    Ok(())
-}
-
 /// Decomposes the current syllable into its jamo; a trailing consonant after it joins two of them.
 fn split(letters: Letters, joins: bool, buffer: &mut hb_buffer_t) -> Result<usize, ShapeCause>
     requires open { buffer.old.is_open ≡ true }
@@ -172,11 +142,9 @@ fn split(letters: Letters, joins: bool, buffer: &mut hb_buffer_t) -> Result<usiz
     let at = buffer.out_len();
     put_parts(letters, buffer)?;
     if joins {
-        put_third(at, buffer)?;
+        put_letter(TJMO, buffer)?;
         return Ok(at);
     }
-    let count = buffer.out_len() - at;
-    merge_grapheme(at, count, buffer);
     Ok(at)
 }
 

@@ -2,7 +2,7 @@
 ghost use Rattle.buffer_stages.specs.Ready.{IsReady};
 ghost use Rattle.buffer_stages.specs.Settings.{text_settings};
 ghost use Rattle.buffer_stages.specs.Stages.{DoesStage};
-ghost use Rattle.script_hangul.specs.Hangul.{syllables_formed};
+ghost use Rattle.script_hangul.specs.Hangul.{hangul_text};
 
 use crate::hangul;
 use buffer_core::buffer::hb_buffer_t;
@@ -16,7 +16,7 @@ use layout_face::Face;
 /// `TooLong` where the text would have more characters than the buffer may hold, or lack of memory.
 pub fn preprocess_text(face: &Face, buffer: &mut hb_buffer_t) -> Result<(), ShapeCause>
     requires ready { IsReady buffer.old }
-    ensures { DoesStage (syllables_formed face.now (text_settings buffer.old).flags) result buffer.old buffer.new }
+    ensures { DoesStage (hangul_text face.now (text_settings buffer.old).flags) result buffer.old buffer.new }
 {
     hangul::preprocess_text(face, buffer)
 }

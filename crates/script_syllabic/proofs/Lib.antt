@@ -6,6 +6,7 @@ pub mod Glyphs
 pub mod Recorded
 pub mod Counting
 pub mod Forming
+pub mod GraphemesMerged
 pub mod Masked
 pub mod Marks
 pub mod Does

@@ -10,3 +10,4 @@ pub mod Recorded
 pub mod Quiet
 pub mod Syllables
 pub mod Formed
+pub mod Graphemes

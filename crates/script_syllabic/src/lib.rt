@@ -7,6 +7,7 @@ pub mod characters;
 pub mod circles;
 pub mod clearing;
 pub mod forms;
+pub mod graphemes;
 pub mod laws;
 pub mod pauses;
 pub mod recording;

@@ -7,7 +7,7 @@ use Rattle.buffer_glyphs.specs.declared.info.hb_glyph_info_t.{hb_glyph_info_t}
 use Rattle.buffer_glyphs.specs.Items.{Item, item_of, strip}
 use Rattle.buffer_glyphs.specs.Events.{Move, Replace}
 use Rattle.buffer_glyphs.specs.Levels.{InOutput}
-use Rattle.buffer_core.specs.Sides.{Sides, Settings}
+use Rattle.buffer_core.specs.Sides.{Sides}
 use Rattle.buffer_stages.specs.Moves.{with_range_moved, order_of_move}
 use Rattle.buffer_stages.specs.Walks.{RefusesLength, HasWalked}
 use Rattle.buffer_stages.proofs.Lemmas.Walked.{both_walked}
@@ -59,13 +59,12 @@ vowel_moved out n a b le =
 pub vowel_walked : (at n : ℕ) (g : hb_glyph_info_t) (gs : List hb_glyph_info_t) (s mid new : Sides) → slice_get s.ahead 0 ≡ Some g → at ≡ length s.behind → n ≡ count_above (strip s.behind) → n ≤ at
     → strip gs ≡ nikhahit (item_of g) ∷ sara_aa (item_of g) ∷ [] → length gs ≡ 2
     → HasWalked (strip s.behind ++ strip gs) (drop 1 (strip s.ahead)) (Replace (length s.behind) 1 (length gs) ∷ []) s mid
-    → HasWalked (with_range_moved (at - n) n 1 (strip mid.behind)) (strip mid.ahead) (move_of_vowel mid.level at n) mid new
-    → (x : Item) (xs : List Item) → strip s.ahead ≡ x ∷ xs → HasWalked (with_vowel (strip s.behind) x) xs (events_of_vowel s.level (length s.behind) (count_above (strip s.behind))) s new
+    → HasWalked (with_range_moved (at - n) n 1 (strip mid.behind)) (strip mid.ahead) (move_of_vowel at n) mid new
+    → (x : Item) (xs : List Item) → strip s.ahead ≡ x ∷ xs → HasWalked (with_vowel (strip s.behind) x) xs (events_of_vowel (length s.behind) (count_above (strip s.behind))) s new
 vowel_walked at n g gs s mid new there is_at is_n le parts two w v x xs seen =
     let first : x ≡ item_of g = item_ahead g s.ahead x xs there seen in
     let long : length (strip s.behind) ≡ at = length-map s.behind item_of ∙ sym is_at in
-    let level : mid.level ≡ s.level = ap (λ (st : Settings). st.level) w.settings in
-    let both = both_walked (strip s.behind ++ strip gs) (drop 1 (strip s.ahead)) (with_range_moved (at - n) n 1 (strip mid.behind)) (strip mid.ahead) (Replace (length s.behind) 1 (length gs) ∷ []) (move_of_vowel mid.level at n) s mid new w v in
+    let both = both_walked (strip s.behind ++ strip gs) (drop 1 (strip s.ahead)) (with_range_moved (at - n) n 1 (strip mid.behind)) (strip mid.ahead) (Replace (length s.behind) 1 (length gs) ∷ []) (move_of_vowel at n) s mid new w v in
     let out : with_range_moved (at - n) n 1 (strip mid.behind) ≡ with_vowel (strip s.behind) x =
     ap (with_range_moved (at - n) n 1) (w.behind ∙ ap (λ ys. strip s.behind ++ ys) parts)
     ∙ ap (λ m. with_range_moved (m - n) n 1 (strip s.behind ++ (nikhahit (item_of g) ∷ sara_aa (item_of g) ∷ []))) (sym long)
@@ -73,9 +72,9 @@ vowel_walked at n g gs s mid new there is_at is_n le parts two w v x xs seen =
     ∙ ap (λ m. take (length (strip s.behind) - m) (strip s.behind) ++ (nikhahit (item_of g) ∷ drop (length (strip s.behind) - m) (strip s.behind)) ++ sara_aa (item_of g) ∷ []) is_n
     ∙ ap (with_vowel (strip s.behind)) (sym first) in
     let rest : strip mid.ahead ≡ xs = w.ahead ∙ ap (drop 1) seen in
-    let es : Replace (length s.behind) 1 (length gs) ∷ move_of_vowel mid.level at n ≡ events_of_vowel s.level (length s.behind) (count_above (strip s.behind)) =
-    ap (λ m. Replace (length s.behind) 1 m ∷ move_of_vowel mid.level at n) two ∙ ap (λ l. Replace (length s.behind) 1 2 ∷ move_of_vowel l at n) level
-    ∙ ap (λ m. Replace (length s.behind) 1 2 ∷ move_of_vowel s.level m n) is_at ∙ ap (λ m. Replace (length s.behind) 1 2 ∷ move_of_vowel s.level (length s.behind) m) is_n in
+    let es : Replace (length s.behind) 1 (length gs) ∷ move_of_vowel at n ≡ events_of_vowel (length s.behind) (count_above (strip s.behind)) =
+    ap (λ m. Replace (length s.behind) 1 m ∷ move_of_vowel at n) two
+    ∙ ap (λ m. Replace (length s.behind) 1 2 ∷ move_of_vowel m n) is_at ∙ ap (λ m. Replace (length s.behind) 1 2 ∷ move_of_vowel (length s.behind) m) is_n in
     subst (λ fs. HasWalked (with_vowel (strip s.behind) x) xs fs s new) es
     (record { behind = both.behind ∙ out; ahead = both.ahead ∙ rest; happened = both.happened; view = both.view; settings = both.settings; opened = both.opened; unrefused = both.unrefused })
 
@@ -90,36 +89,36 @@ vowel_long out x =
 
 -- whatever the character is
 pub character_is : (t : Bool) (x : Item) (xs : List Item) (s new : Sides) → is_sara_am x ≡ t
-    → HasWalked (if t then with_vowel (strip s.behind) x else strip s.behind ++ x ∷ []) xs (if t then events_of_vowel s.level (length (strip s.behind)) (count_above (strip s.behind)) else []) s new
-    → HasWalked (with_character (strip s.behind) x) xs (events_of_character s.level (strip s.behind) x) s new
+    → HasWalked (if t then with_vowel (strip s.behind) x else strip s.behind ++ x ∷ []) xs (if t then events_of_vowel (length (strip s.behind)) (count_above (strip s.behind)) else []) s new
+    → HasWalked (with_character (strip s.behind) x) xs (events_of_character (strip s.behind) x) s new
 character_is t x xs s new e w = rw e w
 
 pub vowel_is : (g : hb_glyph_info_t) (x : Item) (xs : List Item) (s new : Sides) → slice_get s.ahead 0 ≡ Some g → strip s.ahead ≡ x ∷ xs → is_sara_am (item_of g) ≡ true
-    → HasWalked (with_vowel (strip s.behind) x) xs (events_of_vowel s.level (length s.behind) (count_above (strip s.behind))) s new
-    → HasWalked (with_character (strip s.behind) x) xs (events_of_character s.level (strip s.behind) x) s new
+    → HasWalked (with_vowel (strip s.behind) x) xs (events_of_vowel (length s.behind) (count_above (strip s.behind))) s new
+    → HasWalked (with_character (strip s.behind) x) xs (events_of_character (strip s.behind) x) s new
 vowel_is g x xs s new there seen e w =
     let first = item_ahead g s.ahead x xs there seen in
-    character_is true x xs s new (ap is_sara_am first ∙ e) (subst (λ m. HasWalked (with_vowel (strip s.behind) x) xs (events_of_vowel s.level m (count_above (strip s.behind))) s new) (sym (length-map s.behind item_of)) w)
+    character_is true x xs s new (ap is_sara_am first ∙ e) (subst (λ m. HasWalked (with_vowel (strip s.behind) x) xs (events_of_vowel m (count_above (strip s.behind))) s new) (sym (length-map s.behind item_of)) w)
 
 pub other_is : (g : hb_glyph_info_t) (x : Item) (xs : List Item) (s new : Sides) → slice_get s.ahead 0 ≡ Some g → strip s.ahead ≡ x ∷ xs → is_sara_am (item_of g) ≡ false
     → HasWalked (strip s.behind ++ take 1 (strip s.ahead)) (drop 1 (strip s.ahead)) [] s new
-    → HasWalked (with_character (strip s.behind) x) xs (events_of_character s.level (strip s.behind) x) s new
+    → HasWalked (with_character (strip s.behind) x) xs (events_of_character (strip s.behind) x) s new
 other_is g x xs s new there seen e w =
     let first = item_ahead g s.ahead x xs there seen in
     character_is false x xs s new (ap is_sara_am first ∙ e)
     (record { behind = w.behind ∙ ap (λ ys. strip s.behind ++ take 1 ys) seen; ahead = w.ahead ∙ ap (drop 1) seen; happened = w.happened; view = w.view; settings = w.settings; opened = w.opened; unrefused = w.unrefused })
 
 -- no marks are before the parts
-pub joined_placed : (at marks : ℕ) (s new : Sides) → marks ≡ 0 → HasWalked (strip s.behind) (strip s.ahead) (move_of_vowel s.level at 0) s new
-    → HasWalked (with_range_moved (at - marks) marks 1 (strip s.behind)) (strip s.ahead) (move_of_vowel s.level at marks) s new
+pub joined_placed : (at marks : ℕ) (s new : Sides) → marks ≡ 0 → HasWalked (strip s.behind) (strip s.ahead) (move_of_vowel at 0) s new
+    → HasWalked (with_range_moved (at - marks) marks 1 (strip s.behind)) (strip s.ahead) (move_of_vowel at marks) s new
 joined_placed at marks s new e w =
     let same = nothing_moved at marks (strip s.behind) e in
-    subst (λ m. HasWalked (with_range_moved (at - marks) marks 1 (strip s.behind)) (strip s.ahead) (move_of_vowel s.level at m) s new) (sym e)
+    subst (λ m. HasWalked (with_range_moved (at - marks) marks 1 (strip s.behind)) (strip s.ahead) (move_of_vowel at m) s new) (sym e)
     (record { behind = w.behind ∙ sym same; ahead = w.ahead; happened = w.happened; view = w.view; settings = w.settings; opened = w.opened; unrefused = w.unrefused })
 
 -- the first part went before marks
 pub moved_placed : (at marks n k : ℕ) (s new : Sides) → n ≡ marks → k ≡ 1 → (marks == 0) ≡ false → HasWalked (with_range_moved (at - marks) n k (strip s.behind)) (strip s.ahead) (Move InOutput (at - marks) (order_of_move n k) ∷ []) s new
-    → HasWalked (with_range_moved (at - marks) marks 1 (strip s.behind)) (strip s.ahead) (move_of_vowel s.level at marks) s new
+    → HasWalked (with_range_moved (at - marks) marks 1 (strip s.behind)) (strip s.ahead) (move_of_vowel at marks) s new
 moved_placed at marks n k s new e f some w =
     let P : ℕ → ℕ → Type 0 = λ m j. HasWalked (with_range_moved (at - marks) m j (strip s.behind)) (strip s.ahead) (Move InOutput (at - marks) (order_of_move m j) ∷ []) s new in
     let w' = subst (λ j. P marks j) f (subst (λ m. P m k) e w) in

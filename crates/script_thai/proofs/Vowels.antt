@@ -5,7 +5,6 @@ use Rattle.std.proofs.lemmas.List.{append-nil, length-append, length-map}
 use Rattle.buffer_glyphs.specs.declared.cause.ShapeCause.{ShapeCause}
 use Rattle.buffer_glyphs.specs.declared.cause.ShapeCause.TheVariants.{OutOfMemory, TooLong}
 use Rattle.buffer_glyphs.specs.declared.info.hb_glyph_info_t.{hb_glyph_info_t}
-use Rattle.buffer_glyphs.specs.declared.level.BufferClusterLevel.{BufferClusterLevel}
 use Rattle.buffer_glyphs.specs.Items.{Item, item_of, strip}
 use Rattle.buffer_glyphs.specs.Events.{Event}
 use Rattle.buffer_core.specs.Readings.{reading_of}
@@ -16,14 +15,14 @@ use Rattle.buffer_stages.specs.Walks.{RefusesLength, HasWalked}
 use Rattle.buffer_stages.proofs.Lemmas.Walked.{both_walked, nothing_walked, walked_followed}
 use Rattle.script_thai.proofs.Vowel.{vowel_long}
 use Rattle.script_thai.specs.ThaiVowel.{is_sara_am, with_vowel, with_character, text_with_splits, events_of_character, split_events, vowels_split}
-use Rattle.buffer_stages.proofs.Lemmas.Fitting.{level_same, limit_same, written_exceed, written_fit}
+use Rattle.buffer_stages.proofs.Lemmas.Fitting.{limit_same, written_exceed, written_fit}
 
 -- the output and input together are what the whole walk makes
 pub record IsUnderway (left : ℕ) (s t : Sides) : Type 0 where
   pub events : List Event
   pub walked : HasWalked (strip t.behind) (strip t.ahead) events s t
   pub items : text_with_splits (strip t.behind) (strip t.ahead) ≡ text_with_splits [] (items_of s)
-  pub whole : events ++ split_events s.level (strip t.behind) (strip t.ahead) ≡ split_events s.level [] (items_of s)
+  pub whole : events ++ split_events (strip t.behind) (strip t.ahead) ≡ split_events [] (items_of s)
   pub count : length t.ahead ≡ left
 
 pub begun : (n : ℕ) (s : Sides) → length (all_glyphs s) ≡ n → IsUnderway n (with_output s) (with_output s)
@@ -31,7 +30,7 @@ begun n s e = record { events = []; walked = nothing_walked (with_output s) refl
 
 -- one character more
 pub more : (n : ℕ) (s t u : Sides) → 0 < n → IsUnderway n s t
-    → ((x : Item) (xs : List Item) → strip t.ahead ≡ x ∷ xs → HasWalked (with_character (strip t.behind) x) xs (events_of_character t.level (strip t.behind) x) t u)
+    → ((x : Item) (xs : List Item) → strip t.ahead ≡ x ∷ xs → HasWalked (with_character (strip t.behind) x) xs (events_of_character (strip t.behind) x) t u)
     → IsUnderway (n - 1) s u
 more n s t u lt h step = by_ahead t.ahead refl
   where
@@ -41,36 +40,34 @@ more n s t u lt h step = by_ahead t.ahead refl
         let x = item_of g in
         let xs = strip gs in
         let w = step x xs (ap strip e) in
-        let es = events_of_character s.level (strip t.behind) x in
-        let level = level_same (strip t.behind) (strip t.ahead) h.events s t h.walked in
-        let w' : HasWalked (with_character (strip t.behind) x) xs es t u = subst (λ (l : BufferClusterLevel). HasWalked (with_character (strip t.behind) x) xs (events_of_character l (strip t.behind) x) t u) level w in
-        let both = both_walked (strip t.behind) (strip t.ahead) (with_character (strip t.behind) x) xs h.events es s t u h.walked w' in
+        let es = events_of_character (strip t.behind) x in
+        let both = both_walked (strip t.behind) (strip t.ahead) (with_character (strip t.behind) x) xs h.events es s t u h.walked w in
         let many = ap (λ (ys : List hb_glyph_info_t). length ys) e in
-        let rest : length u.ahead ≡ length gs = sym (length-map u.ahead item_of) ∙ ap (λ (ys : List Item). length ys) w'.ahead ∙ length-map gs item_of in
+        let rest : length u.ahead ≡ length gs = sym (length-map u.ahead item_of) ∙ ap (λ (ys : List Item). length ys) w.ahead ∙ length-map gs item_of in
         let c = h.count in
         record {
           events = h.events ++ es;
           walked = record { behind = refl; ahead = refl; happened = both.happened; view = both.view; settings = both.settings; opened = both.opened; unrefused = both.unrefused };
-          items = ap (λ o. text_with_splits o (strip u.ahead)) w'.behind ∙ ap (text_with_splits (with_character (strip t.behind) x)) w'.ahead ∙ ap (text_with_splits (strip t.behind)) (sym (ap strip e)) ∙ h.items;
+          items = ap (λ o. text_with_splits o (strip u.ahead)) w.behind ∙ ap (text_with_splits (with_character (strip t.behind) x)) w.ahead ∙ ap (text_with_splits (strip t.behind)) (sym (ap strip e)) ∙ h.items;
           whole =
-              append_assoc h.events es (split_events s.level (strip u.behind) (strip u.ahead))
-              ∙ ap (λ o. h.events ++ (es ++ split_events s.level o (strip u.ahead))) w'.behind
-              ∙ ap (λ r. h.events ++ (es ++ split_events s.level (with_character (strip t.behind) x) r)) w'.ahead
-              ∙ ap (λ r. h.events ++ split_events s.level (strip t.behind) r) (sym (ap strip e)) ∙ h.whole;
+              append_assoc h.events es (split_events (strip u.behind) (strip u.ahead))
+              ∙ ap (λ o. h.events ++ (es ++ split_events o (strip u.ahead))) w.behind
+              ∙ ap (λ r. h.events ++ (es ++ split_events (with_character (strip t.behind) x) r)) w.ahead
+              ∙ ap (λ r. h.events ++ split_events (strip t.behind) r) (sym (ap strip e)) ∙ h.whole;
           count = omega (arith, many, rest, c, lt);
         }
 
 -- all characters
-all_walked : (s t : Sides) → IsUnderway 0 s t → HasWalked (text_with_splits [] (items_of s)) [] (split_events s.level [] (items_of s)) s t
+all_walked : (s t : Sides) → IsUnderway 0 s t → HasWalked (text_with_splits [] (items_of s)) [] (split_events [] (items_of s)) s t
 all_walked s t h = by_ahead t.ahead refl
   where
-    by_ahead : (gs : List hb_glyph_info_t) → t.ahead ≡ gs → HasWalked (text_with_splits [] (items_of s)) [] (split_events s.level [] (items_of s)) s t
+    by_ahead : (gs : List hb_glyph_info_t) → t.ahead ≡ gs → HasWalked (text_with_splits [] (items_of s)) [] (split_events [] (items_of s)) s t
     by_ahead (g ∷ gs) e = absurd (let some = ap (λ (ys : List hb_glyph_info_t). length ys) e in let c = h.count in omega (arith, some, c))
     by_ahead [] e =
         let none : strip t.ahead ≡ [] = ap strip e in
         let w = h.walked in
         let out : strip t.behind ≡ text_with_splits [] (items_of s) = ap (text_with_splits (strip t.behind)) (sym none) ∙ h.items in
-        let es : h.events ≡ split_events s.level [] (items_of s) = sym (append-nil h.events) ∙ ap (λ r. h.events ++ split_events s.level (strip t.behind) r) (sym none) ∙ h.whole in
+        let es : h.events ≡ split_events [] (items_of s) = sym (append-nil h.events) ∙ ap (λ r. h.events ++ split_events (strip t.behind) r) (sym none) ∙ h.whole in
         subst (λ fs. HasWalked (text_with_splits [] (items_of s)) [] fs s t) es
         (record { behind = out; ahead = none; happened = w.happened; view = w.view; settings = w.settings; opened = w.opened; unrefused = w.unrefused })
 
@@ -78,15 +75,15 @@ pub text_followed : (s t new : Sides) → IsReady s → IsUnderway 0 (with_outpu
 text_followed s t new ready h fits is =
     let w = all_walked (with_output s) t h in
     let xs = text_with_splits [] (items_of s) in
-    let within = written_fit xs (split_events s.level [] (items_of s)) s t w fits in
-    walked_followed vowels_split xs (split_events s.level [] (items_of s)) (λ level. split_events level [] (items_of s)) s t new ready w is (rw within refl) refl
+    let within = written_fit xs (split_events [] (items_of s)) s t w fits in
+    walked_followed vowels_split xs (split_events [] (items_of s)) (λ level. split_events [] (items_of s)) s t new ready w is (rw within refl) refl
 
 pub text_too_long : (e : ShapeCause) (s t : Sides) → IsReady s → IsUnderway 0 (with_output s) t → (e ≢ OutOfMemory → (e ≡ TooLong) × (fits_joined t ≡ false)) → e ≢ OutOfMemory → reading_of vowels_split (state_of s) ≡ Err e
 text_too_long e s t ready h over other =
     let w = all_walked (with_output s) t h in
     let xs = text_with_splits [] (items_of s) in
     let o = over other in
-    let within = written_exceed xs (split_events s.level [] (items_of s)) s t ready w o.1 in
+    let within = written_exceed xs (split_events [] (items_of s)) s t ready w o.1 in
     rw within (ap Err (sym o.0))
 
 vowel_grows : (out : List Item) (x : Item) → length out ≤ length (with_vowel out x)

@@ -7,7 +7,7 @@ use Rattle.layout_face.specs.declared.parts.FaceParts.{FaceParts}
 use Rattle.layout_map.specs.Compiled.{OtMapValue}
 use Rattle.buffer_core.specs.Readings.{Stage, always, and_then, as_it_is}
 use Rattle.script_thai.specs.ThaiPrivate.{with_private}
-use Rattle.script_thai.specs.ThaiVowel.{vowels_split}
+use Rattle.script_thai.specs.ThaiVowel.{vowels_decomposed}
 
 -- a text's script is Thai
 abbrev pub is_thai : Option Script → Bool
@@ -25,4 +25,4 @@ private_if b t font v = if b then always (with_private t font) v else as_it_is v
 -- the stage of Thai and Lao texts: vowels are decomposed, then marks replaced by private-use forms (HarfBuzz:
 -- preprocess_text_thai)
 abbrev pub thai_text : OtMapValue → Option Script → Tables → FaceParts → Stage
-thai_text m s t font v = and_then (vowels_split v) (private_if (has_private_forms m s) t font)
+thai_text m s t font v = and_then (vowels_decomposed v) (private_if (has_private_forms m s) t font)

@@ -1,6 +1,6 @@
 -- The vowels SARA AM of Thai and AM of Lao: each decomposes into a mark above and a vowel after the letter (Unicode
 -- core specification, 'Thai', 'Lao').
-use Rattle.std.specs.Prelude.{ℕ, ◌+◌, ◌-◌, ◌==◌, nat_le, Bool, if◌then◌else◌, List, [], ◌∷◌, ◌++◌, length, take, drop, reverse, Ok, Err}
+use Rattle.std.specs.Prelude.{ℕ, ◌+◌, ◌-◌, ◌==◌, ◌&&◌, not, nat_le, Bool, if◌then◌else◌, List, [], ◌∷◌, ◌++◌, length, take, drop, reverse, Ok, Err}
 use Rattle.std.specs.Int.RustNames.{bit_or}
 use Rattle.std.specs.List.{list_any, prefix_len}
 use Rattle.ucd_category.specs.declared.GeneralCategory.TheVariants.{NonspacingMark}
@@ -8,14 +8,13 @@ use Rattle.buffer_unicode.specs.Category.{category_number}
 use Rattle.buffer_properties.specs.Characters.{with_category}
 use Rattle.buffer_properties.specs.Properties.{CONTINUATION, without_bits}
 use Rattle.buffer_glyphs.specs.declared.cause.ShapeCause.TheVariants.{TooLong}
-use Rattle.buffer_glyphs.specs.declared.level.BufferClusterLevel.{BufferClusterLevel}
-use Rattle.buffer_glyphs.specs.declared.level.BufferClusterLevel.TheVariants.{MonotoneGraphemes, MonotoneCharacters, Characters}
 use Rattle.buffer_glyphs.specs.Items.{Item}
 use Rattle.buffer_glyphs.specs.Levels.{InOutput}
-use Rattle.buffer_glyphs.specs.Events.{Event, Merge, Move, Replace}
-use Rattle.buffer_core.specs.Readings.{Stage}
+use Rattle.buffer_glyphs.specs.Events.{Event, Move, Replace}
+use Rattle.buffer_core.specs.Readings.{Stage, always, and_then}
 use Rattle.buffer_core.specs.Sides.{zero_positions}
 use Rattle.buffer_stages.specs.Moves.{order_of_move}
+use Rattle.script_syllabic.specs.Graphemes.{with_graphemes_merged}
 
 -- the Thai character of one of Thai or Lao, at the same offset of its block
 abbrev pub thai_or_lao : ℕ → ℕ
@@ -64,33 +63,38 @@ abbrev pub text_with_splits : List Item → List Item → List Item
 text_with_splits out [] = out
 text_with_splits out (x ∷ xs) = text_with_splits (with_character out x) xs
 
--- the merge of a vowel without marks above: both halves with the item before them, at level MonotoneGraphemes
-abbrev pub merge_of_vowel : BufferClusterLevel → ℕ → List Event
-merge_of_vowel MonotoneGraphemes at = if at == 0 then [] else Merge InOutput (at - 1) (at + 2) ∷ []
-merge_of_vowel MonotoneCharacters at = []
-merge_of_vowel Characters at = []
+-- the number of characters that begin with one grapheme: two where the second is such a vowel, and the first no mark
+-- above; else none is merged
+abbrev pub vowel_rule : List Item → ℕ
+vowel_rule [] = 0
+vowel_rule (x ∷ []) = 0
+vowel_rule (x ∷ y ∷ ys) = if is_sara_am y && not (is_mark_above x) then 2 else 0
 
--- the events that move a vowel's first half at an index before that many marks above
-abbrev pub move_of_vowel : BufferClusterLevel → ℕ → ℕ → List Event
-move_of_vowel level at n = if n == 0 then merge_of_vowel level at else Move InOutput (at - n) (order_of_move n 1) ∷ []
+-- the event that moves a vowel's first half at an index before that many marks above
+abbrev pub move_of_vowel : ℕ → ℕ → List Event
+move_of_vowel at n = if n == 0 then [] else Move InOutput (at - n) (order_of_move n 1) ∷ []
 
 -- the events of a vowel at an index, after that many marks above
-abbrev pub events_of_vowel : BufferClusterLevel → ℕ → ℕ → List Event
-events_of_vowel level at n = Replace at 1 2 ∷ move_of_vowel level at n
+abbrev pub events_of_vowel : ℕ → ℕ → List Event
+events_of_vowel at n = Replace at 1 2 ∷ move_of_vowel at n
 
 -- the events of one character after a text
-abbrev pub events_of_character : BufferClusterLevel → List Item → Item → List Event
-events_of_character level out x = if is_sara_am x then events_of_vowel level (length out) (count_above out) else []
+abbrev pub events_of_character : List Item → Item → List Event
+events_of_character out x = if is_sara_am x then events_of_vowel (length out) (count_above out) else []
 
 -- the events of characters after a text
-abbrev pub split_events : BufferClusterLevel → List Item → List Item → List Event
-split_events level out [] = []
-split_events level out (x ∷ xs) = events_of_character level out x ++ split_events level (with_character out x) xs
+abbrev pub split_events : List Item → List Item → List Event
+split_events out [] = []
+split_events out (x ∷ xs) = events_of_character out x ++ split_events (with_character out x) xs
 
--- the stage that decomposes the vowels of a text, where the result is within the limit
+-- the stage that decomposes the vowels of a text, where the result is within the limit, without a merge of graphemes
 abbrev pub vowels_split : Stage
 vowels_split v =
     let xs : List Item = text_with_splits [] v.items in
     if nat_le (length xs) v.max_len
-    then Ok (record { view = record v { items = xs; positions = zero_positions (length xs) }; events = λ level. split_events level [] v.items })
+    then Ok (record { view = record v { items = xs; positions = zero_positions (length xs) }; events = λ level. split_events [] v.items })
     else Err TooLong
+
+-- the stage that decomposes the vowels of a text: graphemes are merged before anything is moved
+abbrev pub vowels_decomposed : Stage
+vowels_decomposed v = and_then (always (with_graphemes_merged vowel_rule) v) vowels_split

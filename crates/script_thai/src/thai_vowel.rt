@@ -2,19 +2,21 @@
 ghost use Rattle.std.specs.Prelude.{◌≡◌, ◌<◌, ◌≤◌, ◌+◌, ◌-◌, ◌∷◌, List, Some, true, length, slice_get, OnOk, IfErr};
 ghost use Rattle.buffer_glyphs.specs.Items.{Item, item_of, strip};
 ghost use Rattle.buffer_glyphs.specs.Origins.{origin_of};
+ghost use Rattle.buffer_core.specs.Readings.{always};
 ghost use Rattle.buffer_stages.specs.Ready.{IsReady};
-ghost use Rattle.script_thai.specs.ThaiVowel.{count_above, events_of_character, events_of_vowel, is_mark_above, is_sara_am, nikhahit, nonspacing, move_of_vowel, sara_aa, thai_or_lao, vowels_split, with_character, with_vowel};
+ghost use Rattle.script_thai.specs.ThaiVowel.{count_above, events_of_character, events_of_vowel, is_mark_above, is_sara_am, nikhahit, nonspacing, move_of_vowel, sara_aa, thai_or_lao, vowel_rule, vowels_decomposed, vowels_split, with_character, with_vowel};
+ghost use Rattle.script_syllabic.specs.Graphemes.{with_graphemes_merged};
 ghost use Rattle.buffer_stages.specs.Moves.{with_range_moved};
 ghost use Rattle.buffer_stages.specs.Walks.{RefusesLength, HasWalked};
-ghost use Rattle.buffer_stages.specs.Stages.{DoesStage};
+ghost use Rattle.buffer_stages.specs.Stages.{DoesStage, IsFollowed};
 
 use buffer_core::buffer::hb_buffer_t;
 use buffer_glyphs::cause::ShapeCause;
 use buffer_glyphs::flags::UnicodeProps;
 use buffer_glyphs::info::hb_glyph_info_t;
-use buffer_glyphs::level::BufferClusterLevel;
-use buffer_stages::walks::{advance, finish, merge_behind, move_behind, replace_current};
+use buffer_stages::walks::{advance, finish, move_behind, replace_current};
 use buffer_unicode::category::GeneralCategoryExt;
+use script_syllabic::graphemes::merge_grapheme;
 use unicode::properties::GeneralCategory;
 
 const SARA_AM: u32 = 0x0E33;
@@ -28,7 +30,51 @@ const LAO: u32 = 0x80;
 /// # Errors
 ///
 /// `TooLong` where the text would have more characters than the buffer may hold, or lack of memory.
+#[tactic(auto, using(script_syllabic::proofs::Quiet::followed_then, buffer_core::specs::Steps::refused_then))]
 pub fn preprocess_text(buffer: &mut hb_buffer_t) -> Result<(), ShapeCause>
+    requires ready { IsReady buffer.old }
+    ensures { DoesStage vowels_decomposed result buffer.old buffer.new }
+{
+    // A half that is moved takes clusters out of order, and then a merge would walk the whole text.
+    join_vowels(buffer);
+    split_vowels(buffer)?;
+    Ok(())
+}
+
+/// Merges each such vowel with the character before it into one grapheme, where that is no mark above.
+#[tactic(auto, using(script_syllabic::proofs::GraphemesMerged::nothing_merged, script_syllabic::proofs::GraphemesMerged::next_merged, script_syllabic::proofs::GraphemesMerged::all_merged, script_syllabic::proofs::GraphemesMerged::same_count))]
+fn join_vowels(buffer: &mut hb_buffer_t)
+    requires ready { IsReady buffer.old }
+    ensures { IsFollowed (always (with_graphemes_merged vowel_rule)) buffer.old buffer.new }
+{
+    let count = buffer.len();
+    let mut at = 0;
+    while at < count {
+        let joined = count_joined(&buffer.info_slice()[at..]);
+        merge_grapheme(at, joined, buffer);
+        at += 1;
+    }
+}
+
+/// The number of characters that begin with one grapheme, if the second is such a vowel after no mark above; else 0.
+fn count_joined(glyphs: &[hb_glyph_info_t]) -> usize
+    ensures count { result ≡ vowel_rule (strip glyphs.now) }
+    ensures within { result ≤ length glyphs.now }
+{
+    match glyphs {
+        [before, vowel, ..] => {
+            if is_sara_am(vowel) && !is_mark_above(before) {
+                2
+            } else {
+                0
+            }
+        }
+        _ => 0,
+    }
+}
+
+/// Decomposes the vowels of a text.
+fn split_vowels(buffer: &mut hb_buffer_t) -> Result<(), ShapeCause>
     requires ready { IsReady buffer.old }
     ensures { DoesStage vowels_split result buffer.old buffer.new }
 {
@@ -47,7 +93,7 @@ fn pass(buffer: &mut hb_buffer_t) -> Result<(), ShapeCause>
     requires there { 0 < length buffer.old.ahead }
     ensures ok { OnOk result ((x : Item) (xs : List Item) → strip buffer.old.ahead ≡ x ∷ xs
         → HasWalked (with_character (strip buffer.old.behind) x) xs
-        (events_of_character buffer.old.level (strip buffer.old.behind) x) buffer.old buffer.new) }
+        (events_of_character (strip buffer.old.behind) x) buffer.old buffer.new) }
     ensures err { IfErr result (λ e. (x : Item) (xs : List Item) → strip buffer.old.ahead ≡ x ∷ xs
         → RefusesLength (length (with_character (strip buffer.old.behind) x)) e buffer.old) }
 {
@@ -67,7 +113,7 @@ fn split(glyph: &hb_glyph_info_t, buffer: &mut hb_buffer_t) -> Result<(), ShapeC
     requires vowel { is_sara_am (item_of glyph.now) ≡ true }
     ensures ok { OnOk result ((x : Item) (xs : List Item) → strip buffer.old.ahead ≡ x ∷ xs
         → HasWalked (with_vowel (strip buffer.old.behind) x) xs
-        (events_of_vowel buffer.old.level (length buffer.old.behind) (count_above (strip buffer.old.behind))) buffer.old
+        (events_of_vowel (length buffer.old.behind) (count_above (strip buffer.old.behind))) buffer.old
         buffer.new) }
     ensures err { IfErr result (λ e. RefusesLength (length buffer.old.behind + 2) e buffer.old) }
 {
@@ -79,36 +125,19 @@ fn split(glyph: &hb_glyph_info_t, buffer: &mut hb_buffer_t) -> Result<(), ShapeC
 }
 
 /// Moves the first half of a vowel, whose halves begin at `at` of the output, before the marks above, and merges it
-/// with them; without marks both halves are merged with the character before them, at level MonotoneGraphemes.
+/// with them where the level does.
 fn move_half(at: usize, marks: usize, buffer: &mut hb_buffer_t)
     requires open { buffer.old.is_open ≡ true }
     requires parts { at + 2 ≡ length buffer.old.behind }
     requires before { marks ≤ at }
     ensures { HasWalked (with_range_moved (at - marks) marks 1 (strip buffer.old.behind)) (strip buffer.old.ahead)
-        (move_of_vowel buffer.old.level at marks) buffer.old buffer.new }
+        (move_of_vowel at marks) buffer.old buffer.new }
 {
     if marks == 0 {
-        return join(at, buffer);
-    }
-    let end = buffer.out_len();
-    move_behind(at - marks, at, end - 1, buffer);
-}
-
-/// Merges both halves of a vowel with the character before them, at level MonotoneGraphemes.
-fn join(at: usize, buffer: &mut hb_buffer_t)
-    requires open { buffer.old.is_open ≡ true }
-    requires parts { at + 2 ≡ length buffer.old.behind }
-    ensures { HasWalked (strip buffer.old.behind) (strip buffer.old.ahead) (move_of_vowel buffer.old.level at 0) buffer.old
-        buffer.new }
-{
-    if at == 0 {
         return;
     }
     let end = buffer.out_len();
-    match buffer.cluster_level() {
-        BufferClusterLevel::MonotoneGraphemes => merge_behind(at - 1, end, buffer),
-        BufferClusterLevel::MonotoneCharacters | BufferClusterLevel::Characters => {}
-    }
+    move_behind(at - marks, at, end - 1, buffer);
 }
 
 /// The first half, NIKHAHIT: a nonspacing mark that continues the grapheme.

@@ -2,19 +2,19 @@
 use Rattle.std.specs.Prelude.{ℕ, ◌+◌, ◌==◌, not, Bool, if◌then◌else◌, List, [], ◌∷◌}
 use Rattle.std.specs.Int.RustNames.{bit_and}
 use Rattle.buffer_glyphs.specs.declared.level.BufferClusterLevel.{BufferClusterLevel}
-use Rattle.buffer_glyphs.specs.declared.level.BufferClusterLevel.TheVariants.{MonotoneGraphemes, MonotoneCharacters, Characters}
+use Rattle.buffer_glyphs.specs.declared.level.BufferClusterLevel.TheVariants.{MonotoneGraphemes, MonotoneCharacters, Characters, Graphemes}
 use Rattle.buffer_glyphs.specs.Items.{Item}
-use Rattle.buffer_glyphs.specs.Levels.{InList}
-use Rattle.buffer_glyphs.specs.Events.{Event, Merge, Break}
+use Rattle.buffer_glyphs.specs.Events.{Event, MergeGrapheme, Break}
 use Rattle.buffer_core.specs.Readings.{View, Read}
 use Rattle.buffer_lists.specs.Facts.{group_lengths}
 use Rattle.buffer_core.specs.Graphemes.{continues}
 
--- the event of one grapheme: a merge at level MonotoneGraphemes, else an unsafe-to-break flag
+-- the event of one grapheme: a merge at the levels that merge graphemes, else an unsafe-to-break flag
 abbrev pub grapheme_event : BufferClusterLevel → ℕ → ℕ → Event
-grapheme_event MonotoneGraphemes from to = Merge InList from to
+grapheme_event MonotoneGraphemes from to = MergeGrapheme from to
 grapheme_event MonotoneCharacters from to = Break from to
 grapheme_event Characters from to = Break from to
+grapheme_event Graphemes from to = MergeGrapheme from to
 
 -- the events of graphemes of the given lengths, from an index on
 abbrev pub grapheme_events : BufferClusterLevel → ℕ → List ℕ → List Event

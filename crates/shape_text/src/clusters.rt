@@ -10,9 +10,9 @@ use buffer_common::constants::HB_BUFFER_SCRATCH_FLAG_HAS_NON_ASCII;
 use buffer_core::buffer::hb_buffer_t;
 use buffer_glyphs::level::BufferClusterLevel;
 
-/// Merges each grapheme of the text into a cluster at level MonotoneGraphemes, and flags it as unsafe to break at the
-/// others (`form_clusters`). A text without characters above U+007F stays unchanged: each of its characters is a
-/// grapheme. It takes linear time.
+/// Merges each grapheme of the text into a cluster at the levels MonotoneGraphemes and Graphemes, and flags it as
+/// unsafe to break at the others (`form_clusters`). A text without characters above U+007F stays unchanged: each of
+/// its characters is a grapheme. It takes linear time.
 #[tactic(auto, using(crate::proofs::Formed::clusters_followed, crate::proofs::Formed::none_followed))]
 pub fn form_clusters(buffer: &mut hb_buffer_t)
     requires { IsReady buffer.old }
@@ -38,7 +38,7 @@ fn form_graphemes(buffer: &mut hb_buffer_t)
     }
 }
 
-#[tactic(auto, using(buffer_stages::proofs::Lemmas::Happened::merge_happens, buffer_stages::proofs::Lemmas::Happened::break_happens, buffer_stages::proofs::Lemmas::Happened::end_of_input))]
+#[tactic(auto, using(buffer_stages::proofs::Lemmas::Happened::grapheme_happens, buffer_stages::proofs::Lemmas::Happened::break_happens, buffer_stages::proofs::Lemmas::Happened::end_of_input))]
 /// Merges the characters of a grapheme, or flags them as unsafe to break.
 fn form_grapheme(buffer: &mut hb_buffer_t, start: usize, end: usize)
     requires ready { IsReady buffer.old }
@@ -47,7 +47,9 @@ fn form_grapheme(buffer: &mut hb_buffer_t, start: usize, end: usize)
     ensures { Happens (grapheme_event buffer.old.level start end ∷ []) buffer.old buffer.new }
 {
     match buffer.cluster_level() {
-        BufferClusterLevel::MonotoneGraphemes => buffer.merge_clusters(start, end),
+        BufferClusterLevel::MonotoneGraphemes | BufferClusterLevel::Graphemes => {
+            buffer.merge_grapheme_clusters(start, end);
+        }
         BufferClusterLevel::MonotoneCharacters | BufferClusterLevel::Characters => {
             buffer.unsafe_to_break(Some(start), Some(end));
         }

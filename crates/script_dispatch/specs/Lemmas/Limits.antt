@@ -29,7 +29,8 @@ use Rattle.script_categories.specs.declared.shaper.hb_ot_script_shaper_t.{hb_ot_
 use Rattle.script_categories.specs.declared.shaper.hb_ot_script_shaper_t.TheVariants.{ARABIC_SHAPER, HANGUL_SHAPER, HEBREW_SHAPER, INDIC_SHAPER, KHMER_SHAPER, MYANMAR_SHAPER, MYANMAR_ZAWGYI_SHAPER, THAI_SHAPER, UNIVERSAL_SHAPER}
 use Rattle.script_thai.specs.ThaiPrivate.{with_private}
 use Rattle.script_thai.specs.ThaiVowel as thai
-use Rattle.script_hangul.specs.Hangul.{events_after, syllables_formed, text_after, wants_circles}
+use Rattle.script_hangul.specs.Hangul.{events_after, jamo_rule, syllables_formed, text_after, wants_circles}
+use Rattle.script_syllabic.specs.Graphemes.{with_graphemes_merged}
 use Rattle.script_hangul.specs.Masks.{with_letter_mask}
 use Rattle.script_indic_reordering.specs.Base.{Forms}
 use Rattle.script_indic_reordering.specs.Orders.{consonant_with_position, final_order, initial_syllable}
@@ -77,7 +78,10 @@ use Rattle.script_dispatch.specs.declared.any_shaper.hb_ot_any_shaper_t.TheVaria
 
 -- what is read where the limit allows it
 abbrev thai_read : View → Read
-thai_read v = record { view = record v { items = thai.text_with_splits [] v.items; positions = zero_positions (length (thai.text_with_splits [] v.items)) }; events = λ level. thai.split_events level [] v.items }
+thai_read v = record { view = record v { items = thai.text_with_splits [] v.items; positions = zero_positions (length (thai.text_with_splits [] v.items)) }; events = λ level. thai.split_events [] v.items }
+
+merged_limits : (rule : List Item → ℕ) → DependsOnNoLimit (always (with_graphemes_merged rule))
+merged_limits rule = always_by (with_graphemes_merged rule) record { seen = λ v limit scratch_flags. refl; scratch_flags = λ v. refl; tested = λ change v. refl; budgeted = λ change v. refl; budget = λ v. refl }
 
 thai_limits : DependsOnNoLimit thai.vowels_split
 thai_limits = limited_by (λ v. nat_le (length (thai.text_with_splits [] v.items)) v.max_len) thai_read TooLong
@@ -97,8 +101,8 @@ private_limits t font = always_by (with_private t font) record { seen = λ v lim
 
 text_limits : (shaper : hb_ot_script_shaper_t) (m : OtMapValue) (s : Option Script) (font : FaceParts) (t : Tables) (settings : TextSettings) → DependsOnNoLimit (preprocessing_by shaper m s font t settings)
 text_limits THAI_SHAPER m s font t settings =
-    then_by thai.vowels_split (private_if (has_private_forms m s) t font) thai_limits (either_by (always (with_private t font)) as_it_is (private_limits t font) same_by (has_private_forms m s))
-text_limits HANGUL_SHAPER m s font t settings = hangul_limits font settings.flags
+    then_by thai.vowels_decomposed (private_if (has_private_forms m s) t font) (then_by (always (with_graphemes_merged thai.vowel_rule)) thai.vowels_split (merged_limits thai.vowel_rule) thai_limits) (either_by (always (with_private t font)) as_it_is (private_limits t font) same_by (has_private_forms m s))
+text_limits HANGUL_SHAPER m s font t settings = then_by (always (with_graphemes_merged (jamo_rule font))) (syllables_formed font settings.flags) (merged_limits (jamo_rule font)) (hangul_limits font settings.flags)
 text_limits ARABIC_SHAPER m s font t settings = same_by
 text_limits HEBREW_SHAPER m s font t settings = same_by
 text_limits INDIC_SHAPER m s font t settings = same_by

@@ -22,7 +22,7 @@ use Rattle.script_categories.specs.Pauses.{pause_of_number}
 use Rattle.script_categories.specs.declared.shaper.hb_ot_script_shaper_t.{hb_ot_script_shaper_t}
 use Rattle.script_categories.specs.declared.shaper.hb_ot_script_shaper_t.TheVariants.{ARABIC_SHAPER, HANGUL_SHAPER, HEBREW_SHAPER, INDIC_SHAPER, KHMER_SHAPER, MYANMAR_SHAPER, MYANMAR_ZAWGYI_SHAPER, THAI_SHAPER, UNIVERSAL_SHAPER}
 use Rattle.script_thai.specs.ThaiPrivate.{with_private}
-use Rattle.script_thai.specs.ThaiVowel.{vowels_split}
+use Rattle.script_thai.specs.ThaiVowel.{vowels_decomposed}
 use Rattle.script_arabic.specs.MarkOrder.{arabic_order}
 use Rattle.script_hebrew.specs.MarkOrder.{hebrew_order}
 use Rattle.script_arabic.proofs.MarkCounts.{arabic_length, arabic_steady}
@@ -64,7 +64,7 @@ keeps_count (any.Script shaper) plan run = count_by shaper run
 
 text_kept : (shaper : hb_ot_script_shaper_t) (m : OtMapValue) (s : Option Script) (font : FaceParts) (t : Tables) (settings : TextSettings) → KeepsPlainly (preprocessing_by shaper m s font t settings)
 text_kept THAI_SHAPER m s font t settings =
-    then_plainly vowels_split (private_if (has_private_forms m s) t font) texts_keep_plainly.thai
+    then_plainly vowels_decomposed (private_if (has_private_forms m s) t font) texts_keep_plainly.thai
     (either_plainly (always (with_private t font)) as_it_is (texts_keep_plainly.private_forms t font) same_plainly (has_private_forms m s))
 text_kept HANGUL_SHAPER m s font t settings = texts_keep_plainly.hangul font settings.flags
 text_kept ARABIC_SHAPER m s font t settings = same_plainly

@@ -4,7 +4,7 @@ use Rattle.std.proofs.lemmas.List.{append-nil, map-append, length-map, length-ap
 use Rattle.buffer_glyphs.specs.declared.cause.ShapeCause.{ShapeCause}
 use Rattle.buffer_glyphs.specs.Items.{Item, item_of, strip}
 use Rattle.buffer_glyphs.specs.Origins.{origins}
-use Rattle.buffer_glyphs.specs.Events.{Event, Merge, Replace, Circle, Delete, Move, Arrange, Sort, Reverse, Break, Concat, Tatweel, Spread, Reset, origins_after}
+use Rattle.buffer_glyphs.specs.Events.{Event, Merge, MergeGrapheme, Replace, Circle, Delete, Move, Arrange, Sort, Reverse, Break, Concat, Tatweel, Spread, Reset, origins_after}
 use Rattle.buffer_glyphs.specs.Lemmas.Origins.{origins_after_both}
 use Rattle.buffer_core.specs.Sides.{Sides, all_glyphs, flag_requests_of}
 use Rattle.buffer_glyphs.specs.Rewriting.{Arrangement, eventless_arrangement, shifted_event, beside, in_turn}
@@ -18,6 +18,7 @@ further m n k = omega arith
 
 shifted_none : (e : Event) → shifted_event 0 e ≡ e
 shifted_none (Merge how from to) = rw (none_further from, none_further to) refl
+shifted_none (MergeGrapheme from to) = rw (none_further from, none_further to) refl
 shifted_none (Replace at taken given) = rw (none_further at) refl
 shifted_none (Circle after beside like) = rw (none_further beside, none_further like) refl
 shifted_none (Delete at) = rw (none_further at) refl
@@ -33,6 +34,7 @@ shifted_none Reset = refl
 
 shifted_twice : (m n : ℕ) (e : Event) → shifted_event m (shifted_event n e) ≡ shifted_event (m + n) e
 shifted_twice m n (Merge how from to) = rw (further m n from, further m n to) refl
+shifted_twice m n (MergeGrapheme from to) = rw (further m n from, further m n to) refl
 shifted_twice m n (Replace at taken given) = rw (further m n at) refl
 shifted_twice m n (Circle after beside like) = rw (further m n beside, further m n like) refl
 shifted_twice m n (Delete at) = rw (further m n at) refl

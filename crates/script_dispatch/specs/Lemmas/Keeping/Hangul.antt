@@ -5,7 +5,6 @@ use Rattle.std.proofs.lemmas.List.{length-append, length-drop, length-map, lengt
 use Rattle.std.proofs.lemmas.Grind.{common_steps}
 use Rattle.buffer_glyphs.specs.declared.cause.ShapeCause.TheVariants.{TooLong}
 use Rattle.buffer_glyphs.specs.declared.level.BufferClusterLevel.{BufferClusterLevel}
-use Rattle.buffer_glyphs.specs.declared.level.BufferClusterLevel.TheVariants.{MonotoneGraphemes, MonotoneCharacters, Characters}
 use Rattle.buffer_common.specs.declared.constants.BufferFlags.{BufferFlags}
 use Rattle.layout_face.specs.declared.parts.FaceParts.{FaceParts}
 use Rattle.buffer_glyphs.specs.Items.{Item}
@@ -21,21 +20,22 @@ use Rattle.buffer_stages.specs.Walks.{renumbered_first}
 use Rattle.buffer_parts.specs.Plainly.{ArePlainlyKept, AreSteady}
 use Rattle.buffer_parts.specs.Lemmas.Plainly.{plainly_in_turn, replacement_kept, steady_kept}
 use Rattle.buffer_stage_laws.specs.Plainly.{KeepsPlainly}
-use Rattle.buffer_stage_laws.specs.Lemmas.Plainly.{always_plainly, even_plainly, limited_plainly}
+use Rattle.buffer_stage_laws.specs.Lemmas.Plainly.{always_plainly, even_plainly, limited_plainly, then_plainly}
 use Rattle.script_arabic.proofs.Plainly.{kept_between}
 use Rattle.script_thai.specs.declared.thai_private.State.{State}
 use Rattle.script_thai.specs.declared.thai_private.Consonant.TheVariants.{NotConsonant}
 use Rattle.script_thai.specs.ThaiPrivate.{items_shaped, start_state, state_after, with_private}
+use Rattle.script_syllabic.specs.Graphemes.{with_graphemes_merged}
 use Rattle.script_hangul.specs.declared.jamo.Letters.{Letters}
 use Rattle.script_hangul.specs.declared.jamo.Letters.TheVariants.{Two, Three}
 use Rattle.script_hangul.specs.declared.actions.Action.{Action}
 use Rattle.script_hangul.specs.declared.actions.Action.TheVariants.{Keep, Apart, Compose, Split}
 use Rattle.script_hangul.specs.Jamo.{is_leading, is_syllable, is_tone, is_vowel, letters_of, whole_of}
 use Rattle.script_hangul.specs.Actions.{action_on, before_trailing, has_character, has_letters, joining_action, leading_action, letters_action, open_by, split_action, split_action_of, syllable_action, trailing_of}
-use Rattle.script_hangul.specs.Steps.{DOTTED_CIRCLE, Step, apart_step, before_syllable, circle_beside, compose_step, grapheme_merged, has_no_width, keep_step, letters_from, numbers_of, letters_of_first, step_of, with_tone_first, split_step, tone_step, with_circle}
-use Rattle.script_hangul.specs.Hangul.{character_at, events_after, step, step_by, syllables_formed, text_after, wants_circles}
+use Rattle.script_hangul.specs.Steps.{DOTTED_CIRCLE, Step, apart_step, before_syllable, circle_beside, compose_step, has_no_width, keep_step, letters_from, numbers_of, letters_of_first, step_of, with_tone_first, split_step, tone_step, with_circle}
+use Rattle.script_hangul.specs.Hangul.{character_at, events_after, hangul_text, jamo_rule, step, step_by, syllables_formed, text_after, wants_circles}
 use Rattle.script_dispatch.specs.Keeping.{TextsKeepPlainly}
-use Rattle.script_dispatch.specs.Lemmas.Keeping.Thai.{thai_keeps_plainly}
+use Rattle.script_dispatch.specs.Lemmas.Keeping.Thai.{merged_keeps_plainly, thai_keeps_plainly}
 
 -- ---- private forms of Thai
 
@@ -99,11 +99,6 @@ action_takes font u second third = by_tests (is_leading u) (is_syllable u)
 
 -- ---- steps
 
-grapheme_steady : (level : BufferClusterLevel) (at n : ℕ) → AreSteady (grapheme_merged level at n)
-grapheme_steady MonotoneGraphemes at n = tt
-grapheme_steady MonotoneCharacters at n = tt
-grapheme_steady Characters at n = tt
-
 letters_long : (n : ℕ) (xs : List Item) → length (letters_from n xs) ≡ length xs
 letters_long n [] = refl
 letters_long n (x ∷ xs) = ap suc (letters_long (n + 1) xs)
@@ -133,7 +128,7 @@ apart_kept n out xs level some =
     let all = length out + length xs in
     let end = length (out ++ letters_from 1 (take n xs)) + (length xs - (n - 1 + 1)) in
     let same : all ≡ end = letters_taken n (length xs) (length out) (length (take n xs)) (length (out ++ letters_from 1 (take n xs))) some c (a ∙ ap (λ k. length out + k) b) in
-    kept_between (grapheme_merged level (length out) n) all all all end refl same (steady_kept (grapheme_merged level (length out) n) all (grapheme_steady level (length out) n))
+    kept_between [] all all all end refl same (steady_kept [] all tt)
 
 composed_kept : (n u : ℕ) (out : List Item) (x : Item) (xs : List Item) (level : BufferClusterLevel) → 0 < n → StepKept (compose_step n u out (x ∷ xs)) level (length out) (suc (length xs))
 composed_kept n u out x xs level some =
@@ -159,9 +154,7 @@ split_kept letters n out x xs level =
     let end = length (out ++ letters_from 1 new) + (suc m - (n + 1)) in
     let new_long : length (out ++ letters_from 1 new) ≡ length out + (k + length (take n xs)) = omega (arith, a, b, c, d) in
     let left : length out + k + (length out + suc m - (length out + 1)) ≡ end = split_taken n m (length out) k (length (take n xs)) (length (out ++ letters_from 1 new)) e new_long in
-    plainly_in_turn (Replace (length out) 1 k ∷ []) (grapheme_merged level (length out) (k + n)) (length out + suc m) end end
-    (replacement_kept (length out) 1 k (length out + suc m) end (letters_some letters) (omega arith) (omega arith) left)
-    (steady_kept (grapheme_merged level (length out) (k + n)) end (grapheme_steady level (length out) (k + n)))
+    replacement_kept (length out) 1 k (length out + suc m) end (letters_some letters) (omega arith) (omega arith) left
 
 performed_kept : (a : Action) (out : List Item) (x : Item) (xs : List Item) (level : BufferClusterLevel) → TakesSome a → StepKept (step_of a out (x ∷ xs)) level (length out) (suc (length xs))
 performed_kept (Keep whole) out x xs level h = kept_kept whole out x xs level
@@ -228,14 +221,17 @@ hangul_kept font circles level (suc steps) n out (x ∷ xs) le =
     plainly_in_turn (s.events level) (events_after font circles level steps s.start s.out rest) (length out + suc (length xs)) (length s.out + length rest) (length (text_after font circles steps s.start s.out rest))
     (kept_between (s.events level) (length out + suc (length xs)) (length out + suc (length xs)) (length s.out + (suc (length xs) - (s.more + 1))) (length s.out + length rest) refl (ap (λ k. length s.out + k) (sym d)) (step_kept font circles n out x xs level)) (hangul_kept font circles level steps s.start s.out rest (omega (arith, le, d)))
 
-hangul_keeps_plainly : (font : FaceParts) (flags : BufferFlags) → KeepsPlainly (syllables_formed font flags)
-hangul_keeps_plainly font flags v r level e =
+formed_keeps_plainly : (font : FaceParts) (flags : BufferFlags) → KeepsPlainly (syllables_formed font flags)
+formed_keeps_plainly font flags v r level e =
     let xs = v.items in
     let circles = wants_circles flags in
     let ys = text_after font circles (length xs) 0 [] xs in
     let none : 0 + length xs ≡ length xs = omega arith in
     limited_plainly (nat_le (length ys) v.max_len) TooLong (length xs) (record { view = record v { items = ys; positions = zero_positions (length ys) }; events = λ l. events_after font circles l (length xs) 0 [] xs }) r level
     (kept_between (events_after font circles level (length xs) 0 [] xs) (0 + length xs) (length xs) (length ys) (length ys) none refl (hangul_kept font circles level (length xs) 0 [] xs (omega arith))) e
+
+hangul_keeps_plainly : (font : FaceParts) (flags : BufferFlags) → KeepsPlainly (hangul_text font flags)
+hangul_keeps_plainly font flags = then_plainly (always (with_graphemes_merged (jamo_rule font))) (syllables_formed font flags) (merged_keeps_plainly (jamo_rule font)) (formed_keeps_plainly font flags)
 
 pub texts_keep_plainly : TextsKeepPlainly
 texts_keep_plainly = record { thai = thai_keeps_plainly; private_forms = private_keeps_plainly; hangul = hangul_keeps_plainly }

@@ -4,46 +4,25 @@ use Rattle.script_hangul.proofs.Fits.{joined_there, split_there}
 use Rattle.script_hangul.proofs.Put.{joined_exceeds, parts_ahead, parts_behind, split_alone, split_joined, two_long}
 use Rattle.script_hangul.proofs.performing.split.Goals as goal
 
-pub put_third-requires-clause-there : goal.put_third-requires-clause-there
-put_third-requires-clause-there c =
+pub put_letter-requires-clause-there : goal.put_letter-requires-clause-there
+put_letter-requires-clause-there c =
     let more = (joined_there c.args.letters c.args.joins (length c.args.buffer.now.ahead) c.if-joins.true c.requires.there).0 in
     let rest = parts_ahead c.args.letters c.args.buffer.now c.put_parts.new.buffer c.in_ok-put_parts.ensures.ok in
     omega (arith, more, rest)
 
-pub put_third-requires-clause-two : goal.put_third-requires-clause-two
-put_third-requires-clause-two c =
+pub returns-in_err-put_letter-clause-err : goal.returns-in_err-put_letter-clause-err
+returns-in_err-put_letter-clause-err c =
+    let e = c.in_err-put_letter.field-0.0 in
     let there = joined_there c.args.letters c.args.joins (length c.args.buffer.now.ahead) c.if-joins.true c.requires.there in
-    let more = there.0 in
-    let k = two_long c.args.letters there.1 in
-    let many = parts_behind c.args.letters c.args.buffer.now c.put_parts.new.buffer (omega (arith, more)) c.in_ok-put_parts.ensures.ok in
-    let at = c.out_len-at.ensures in
-    omega (arith, k, many, at)
-
-pub returns-in_err-put_third-clause-err : goal.returns-in_err-put_third-clause-err
-returns-in_err-put_third-clause-err c =
-    let e = c.in_err-put_third.field-0.0 in
-    let there = joined_there c.args.letters c.args.joins (length c.args.buffer.now.ahead) c.if-joins.true c.requires.there in
-    passed_on c.from_residual-in_err-put_third.result e _ c.from_residual-in_err-put_third.ensures.1
-    (joined_exceeds c.args.letters c.args.joins e c.args.buffer.now c.put_parts.new.buffer c.if-joins.true there.1 there.0 c.in_ok-put_parts.ensures.ok c.in_err-put_third.ensures.err)
+    passed_on c.from_residual-in_err-put_letter.result e _ c.from_residual-in_err-put_letter.ensures.1
+    (joined_exceeds c.args.letters c.args.joins e c.args.buffer.now c.put_parts.new.buffer c.if-joins.true there.1 there.0 c.in_ok-put_parts.ensures.ok c.in_err-put_letter.ensures.err)
 
 pub returns-then-joins-clause-ok : goal.returns-then-joins-clause-ok
 returns-then-joins-clause-ok c =
     let s = c.args.buffer.now in
     let there = joined_there c.args.letters c.args.joins (length s.ahead) c.if-joins.true c.requires.there in
     let more = there.0 in
-    split_joined c.args.letters c.args.joins c.out_len-at.result s c.put_parts.new.buffer c.put_third.new.buffer c.if-joins.true there.1 (omega (arith, more)) c.out_len-at.ensures c.in_ok-put_parts.ensures.ok c.in_ok-put_third.ensures.ok
-
-pub merge_grapheme-requires-clause-within : goal.merge_grapheme-requires-clause-within
-merge_grapheme-requires-clause-within c =
-    let s = c.args.buffer.now in
-    let many = parts_behind c.args.letters s c.put_parts.new.buffer (split_there c.args.letters c.args.joins (length s.ahead) c.requires.there) c.in_ok-put_parts.ensures.ok in
-    let at = c.out_len-at.ensures in
-    let end = c.out_len.ensures in
-    omega (arith, many, at, end)
+    split_joined c.args.letters c.args.joins c.out_len-at.result s c.put_parts.new.buffer c.put_letter.new.buffer c.if-joins.true there.1 (omega (arith, more)) c.out_len-at.ensures c.in_ok-put_parts.ensures.ok c.in_ok-put_letter.ensures.ok
 
 pub returns-clause-ok : goal.returns-clause-ok
-returns-clause-ok c =
-    let s = c.args.buffer.now in
-    let at = c.out_len-at.result in
-    split_alone c.args.letters c.args.joins at (c.out_len.result - at) s c.put_parts.new.buffer c.merge_grapheme.new.buffer c.if-joins.false (split_there c.args.letters c.args.joins (length s.ahead) c.requires.there) c.out_len-at.ensures
-    (ap (λ (k : ℕ). k - at) c.out_len.ensures) c.in_ok-put_parts.ensures.ok c.merge_grapheme.ensures
+returns-clause-ok c = split_alone c.args.letters c.args.joins c.out_len-at.result c.args.buffer.now c.put_parts.new.buffer c.if-joins.false c.out_len-at.ensures c.in_ok-put_parts.ensures.ok

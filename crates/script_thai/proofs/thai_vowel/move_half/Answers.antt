@@ -1,9 +1,10 @@
 use Rattle.std.proofs.Common.{◌-◌, arith, ne_eqb}
+use Rattle.buffer_stages.proofs.Lemmas.Walked.{nothing_walked}
 use Rattle.script_thai.proofs.Vowel.{joined_placed, moved_placed}
 use Rattle.script_thai.proofs.thai_vowel.move_half.Goals as goal
 
 pub returns-then-marks-eq0 : goal.returns-then-marks-eq0
-returns-then-marks-eq0 c = joined_placed c.args.at c.args.marks c.args.buffer.now c.join.new.buffer c.if-marks-eq0.true c.join.ensures
+returns-then-marks-eq0 c = joined_placed c.args.at c.args.marks c.args.buffer.now c.args.buffer.now c.if-marks-eq0.true (nothing_walked c.args.buffer.now c.requires.open)
 
 pub returns : goal.returns
 returns c =

@@ -3,7 +3,7 @@ use Rattle.buffer_core.specs.Sides.{Sides, with_output}
 use Rattle.script_syllabic.proofs.Does.{passed_stage}
 use Rattle.script_thai.specs.ThaiVowel.{vowels_split}
 use Rattle.script_thai.proofs.Vowels.{IsUnderway, more, too_long}
-use Rattle.script_thai.proofs.thai_vowel.preprocess_text.Goals as goal
+use Rattle.script_thai.proofs.thai_vowel.split_vowels.Goals as goal
 
 pub returns-in_err-pass : goal.returns-in_err-pass
 returns-in_err-pass c =

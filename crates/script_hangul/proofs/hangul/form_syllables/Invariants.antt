@@ -1,7 +1,7 @@
 use Rattle.std.proofs.Common.{◌-◌}
 use Rattle.buffer_core.specs.Sides.{with_output}
 use Rattle.script_hangul.proofs.Walk.{IsUnderway}
-use Rattle.script_hangul.proofs.hangul.preprocess_text.Given as goal
+use Rattle.script_hangul.proofs.hangul.form_syllables.Given as goal
 
 -- so many steps are left
 abbrev pub invariant-loop : goal.invariant-loop

@@ -6,7 +6,7 @@ use Rattle.buffer_stages.specs.Walks.{RefusesLength}
 use Rattle.std.proofs.Common.{length}
 use Rattle.buffer_glyphs.specs.Items.{strip}
 use Rattle.script_hangul.proofs.Walk.{IsUnderway, more, too_long}
-use Rattle.script_hangul.proofs.hangul.preprocess_text.Goals as goal
+use Rattle.script_hangul.proofs.hangul.form_syllables.Goals as goal
 
 pub returns-in_err-start : goal.returns-in_err-start
 returns-in_err-start c =
