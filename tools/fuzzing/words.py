@@ -19,7 +19,7 @@ WRONG = [
     ["--features=kern=4294967296"],
     ["--features=toolong"],
     ["--features="],
-    ["--cluster-level", "3"],
+    ["--cluster-level", "4"],
     ["--cluster-level"],
     ["--direction", "x"],
     ["--direction", ""],
@@ -44,7 +44,7 @@ def draw_words(draw: Random, alphabet: Alphabet) -> tuple[list[str], bool]:
     if draw.random() < 0.2:
         words.append(f"--language={draw.choice(LANGUAGES)}")
     if draw.random() < 0.5:
-        words += ["--cluster-level", draw.choice("012")]
+        words += ["--cluster-level", draw.choice("0123")]
     if draw.random() < 0.4:
         words.append("--features=" + ",".join(feature(draw) for _ in range(draw.choice([1, 1, 2, 5]))))
     if draw.random() < 0.01:

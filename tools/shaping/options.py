@@ -59,8 +59,8 @@ def language(text: str) -> str:
 
 
 def level(text: str) -> str:
-    if text not in ("0", "1", "2"):
-        raise ValueError("a cluster level is 0, 1 or 2")
+    if text not in ("0", "1", "2", "3"):
+        raise ValueError("a cluster level is 0, 1, 2 or 3")
     return text
 
 
@@ -98,7 +98,7 @@ OPTIONS = (
     Option("script", "an ISO 15924 tag; guessed from the text", "S", script),
     Option("language", "a BCP 47 tag, as ro or de-CH", "L", language),
     Option("features", "features with commas, as -liga,kern=2; may be given again", "F", features),
-    Option("cluster-level", "0: graphemes share a cluster; 1: characters merge; 2: clusters never merge", "N", level),
+    Option("cluster-level", "0: graphemes share a cluster; 1: characters merge; 2: clusters never merge; 3: graphemes alone", "N", level),
     Option("bot", "the text begins a paragraph"),
     Option("eot", "the text ends a paragraph"),
     Option("preserve-default-ignorables", "show characters that are to be invisible"),

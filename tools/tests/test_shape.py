@@ -190,7 +190,7 @@ class Commands(unittest.TestCase):
             ("font", "a", "--direction=up"): "a direction begins with",
             ("font", "a", "--script=Arabic"): "a tag of four letters",
             ("font", "a", "--language="): "a language is a tag",
-            ("font", "a", "--cluster-level=3"): "a cluster level is 0, 1 or 2: '3'",
+            ("font", "a", "--cluster-level=4"): "a cluster level is 0, 1, 2 or 3: '4'",
             ("font", "a", "--index=-1"): "an index is a number",
             ("font", "a", "--bot", "--bot"): "--bot: given twice",
             ("font", "a", "--script=Latn", "--script=Arab"): "--script: given twice",

@@ -22,6 +22,7 @@ fn cluster_level(word: &str) -> ClusterLevel {
     match word {
         "1" => ClusterLevel::MonotoneCharacters,
         "2" => ClusterLevel::Characters,
+        "3" => ClusterLevel::Graphemes,
         _ => ClusterLevel::MonotoneGraphemes,
     }
 }

@@ -163,6 +163,7 @@ pub enum ClusterLevel {
     MonotoneGraphemes = 0,
     MonotoneCharacters = 1,
     Characters = 2,
+    Graphemes = 3,
 }
 
 /// The number of a tag, as of a feature or a script.

@@ -4,7 +4,7 @@ use Rattle.buffer_common.specs.declared.direction.Direction.{Direction}
 use Rattle.buffer_common.specs.declared.direction.Direction.TheVariants.{Invalid, LeftToRight, RightToLeft, TopToBottom, BottomToTop}
 use Rattle.buffer_common.specs.declared.script.Script.{Script}
 use Rattle.buffer_glyphs.specs.declared.level.BufferClusterLevel.{BufferClusterLevel}
-use Rattle.buffer_glyphs.specs.declared.level.BufferClusterLevel.TheVariants.{MonotoneGraphemes, MonotoneCharacters, Characters}
+use Rattle.buffer_glyphs.specs.declared.level.BufferClusterLevel.TheVariants.{MonotoneGraphemes, MonotoneCharacters, Characters, Graphemes}
 use Rattle.buffer_glyphs.specs.declared.cause.ShapeCause.TheVariants as cause
 use Rattle.shell_json.specs.declared.fault.JsonFault.TheVariants as json
 use Rattle.shell_readers.specs.declared.fault.RunFault.{RunFault}
@@ -19,9 +19,9 @@ direction_numbered n =
 abbrev pub script_numbered : ℕ → Option Script
 script_numbered n = if n == 0 then None else Some (record { 0 = record { 0 = n } })
 
--- the cluster level of a number (`hb_buffer_cluster_level_t`); a number above 2 is the default's
+-- the cluster level of a number (`hb_buffer_cluster_level_t`); a number above 3 is the default's
 abbrev pub level_numbered : ℕ → BufferClusterLevel
-level_numbered n = if n == 1 then MonotoneCharacters else if n == 2 then Characters else MonotoneGraphemes
+level_numbered n = if n == 1 then MonotoneCharacters else if n == 2 then Characters else if n == 3 then Graphemes else MonotoneGraphemes
 
 -- the number of a fault: 1 for lack of memory, in whichever step, and one for each other cause; 15 for those of the program's
 -- words and files, which no call has

@@ -40,6 +40,7 @@ pub fn level_numbered(number: u32) -> BufferClusterLevel
     match number {
         1 => BufferClusterLevel::MonotoneCharacters,
         2 => BufferClusterLevel::Characters,
+        3 => BufferClusterLevel::Graphemes,
         _ => BufferClusterLevel::MonotoneGraphemes,
     }
 }

@@ -15,8 +15,8 @@ pub mod buffer {
     pub use buffer_glyphs::info::hb_glyph_info_t;
     pub use buffer_glyphs::level::{
         BufferClusterLevel, HB_BUFFER_CLUSTER_LEVEL_CHARACTERS, HB_BUFFER_CLUSTER_LEVEL_DEFAULT,
-        HB_BUFFER_CLUSTER_LEVEL_MONOTONE_CHARACTERS, HB_BUFFER_CLUSTER_LEVEL_MONOTONE_GRAPHEMES,
-        hb_buffer_cluster_level_t,
+        HB_BUFFER_CLUSTER_LEVEL_GRAPHEMES, HB_BUFFER_CLUSTER_LEVEL_MONOTONE_CHARACTERS,
+        HB_BUFFER_CLUSTER_LEVEL_MONOTONE_GRAPHEMES, hb_buffer_cluster_level_t,
     };
     pub use buffer_glyphs::position::GlyphPosition;
     pub use buffer_wrappers::glyphs::GlyphBuffer;

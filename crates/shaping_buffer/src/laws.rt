@@ -22,8 +22,8 @@ use buffer_glyphs::info::{
 };
 use buffer_glyphs::level::{
     BufferClusterLevel, HB_BUFFER_CLUSTER_LEVEL_CHARACTERS, HB_BUFFER_CLUSTER_LEVEL_DEFAULT,
-    HB_BUFFER_CLUSTER_LEVEL_MONOTONE_CHARACTERS, HB_BUFFER_CLUSTER_LEVEL_MONOTONE_GRAPHEMES,
-    hb_buffer_cluster_level_t,
+    HB_BUFFER_CLUSTER_LEVEL_GRAPHEMES, HB_BUFFER_CLUSTER_LEVEL_MONOTONE_CHARACTERS,
+    HB_BUFFER_CLUSTER_LEVEL_MONOTONE_GRAPHEMES, hb_buffer_cluster_level_t,
 };
 use buffer_glyphs::names::{GlyphId, hb_glyph_extents_t};
 use buffer_glyphs::position::GlyphPosition;
@@ -177,14 +177,15 @@ pub fn hangul_numbers() -> [u32; 9]
     ]
 }
 
-/// The levels of clusters: monotone graphemes, monotone characters, characters, and the default.
-pub fn cluster_level_numbers() -> [hb_buffer_cluster_level_t; 4]
-    ensures { result ≡ 0 ∷ 1 ∷ 2 ∷ 0 ∷ [] }
+/// The levels of clusters: monotone graphemes, monotone characters, characters, graphemes, and the default.
+pub fn cluster_level_numbers() -> [hb_buffer_cluster_level_t; 5]
+    ensures { result ≡ 0 ∷ 1 ∷ 2 ∷ 3 ∷ 0 ∷ [] }
 {
     [
         HB_BUFFER_CLUSTER_LEVEL_MONOTONE_GRAPHEMES,
         HB_BUFFER_CLUSTER_LEVEL_MONOTONE_CHARACTERS,
         HB_BUFFER_CLUSTER_LEVEL_CHARACTERS,
+        HB_BUFFER_CLUSTER_LEVEL_GRAPHEMES,
         HB_BUFFER_CLUSTER_LEVEL_DEFAULT,
     ]
 }

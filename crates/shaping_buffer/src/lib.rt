@@ -21,8 +21,8 @@ pub use buffer_glyphs::info::{
 };
 pub use buffer_glyphs::level::{
     BufferClusterLevel, HB_BUFFER_CLUSTER_LEVEL_CHARACTERS, HB_BUFFER_CLUSTER_LEVEL_DEFAULT,
-    HB_BUFFER_CLUSTER_LEVEL_MONOTONE_CHARACTERS, HB_BUFFER_CLUSTER_LEVEL_MONOTONE_GRAPHEMES,
-    hb_buffer_cluster_level_t,
+    HB_BUFFER_CLUSTER_LEVEL_GRAPHEMES, HB_BUFFER_CLUSTER_LEVEL_MONOTONE_CHARACTERS,
+    HB_BUFFER_CLUSTER_LEVEL_MONOTONE_GRAPHEMES, hb_buffer_cluster_level_t,
 };
 pub use buffer_glyphs::names::{GlyphId, GlyphNames, hb_glyph_extents_t};
 pub use buffer_glyphs::position::GlyphPosition;

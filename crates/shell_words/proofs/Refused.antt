@@ -3,7 +3,7 @@ use Rattle.std.proofs.Common.{◌≡◌, ℕ, Bool, true, false, List, [], ◌�
 use Rattle.std.specs.Option.{ok_or}
 use Rattle.std.specs.Prelude.{if◌then◌else◌}
 use Rattle.std.specs.Str.{bytes_eq}
-use Rattle.buffer_glyphs.specs.declared.level.BufferClusterLevel.TheVariants.{MonotoneGraphemes, MonotoneCharacters, Characters}
+use Rattle.buffer_glyphs.specs.declared.level.BufferClusterLevel.TheVariants.{MonotoneGraphemes, MonotoneCharacters, Characters, Graphemes}
 use Rattle.std.specs.List.{flat_map}
 use Rattle.buffer_tags.specs.declared.feature.Feature.{Feature}
 use Rattle.buffer_tags.specs.FeatureText.{feature_of_text}
@@ -62,7 +62,8 @@ level-text-refused : (text : List ℕ) → RefusedByWords (level_of_text text)
 level-text-refused text =
     if-refused (bytes_eq text (codes "0")) _ _ (ok-refused MonotoneGraphemes)
     (if-refused (bytes_eq text (codes "1")) _ _ (ok-refused MonotoneCharacters)
-    (if-refused (bytes_eq text (codes "2")) _ _ (ok-refused Characters) words-refused))
+    (if-refused (bytes_eq text (codes "2")) _ _ (ok-refused Characters)
+    (if-refused (bytes_eq text (codes "3")) _ _ (ok-refused Graphemes) words-refused)))
 
 level-refused : (o : Option (List ℕ)) → RefusedByWords (level_or_default o)
 level-refused None = ok-refused MonotoneGraphemes

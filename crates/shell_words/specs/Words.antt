@@ -13,7 +13,7 @@ use Rattle.clap.specs.declared.error.kind.ErrorKind.{ErrorKind}
 use Rattle.clap.specs.declared.error.kind.ErrorKind.TheVariants as kind
 use Rattle.buffer_glyphs.specs.declared.flags.SerializeFlags.{SerializeFlags}
 use Rattle.buffer_glyphs.specs.declared.level.BufferClusterLevel.{BufferClusterLevel}
-use Rattle.buffer_glyphs.specs.declared.level.BufferClusterLevel.TheVariants.{MonotoneGraphemes, MonotoneCharacters, Characters}
+use Rattle.buffer_glyphs.specs.declared.level.BufferClusterLevel.TheVariants.{MonotoneGraphemes, MonotoneCharacters, Characters, Graphemes}
 use Rattle.shell_readers.specs.declared.fault.RunFault.{RunFault}
 use Rattle.shell_readers.specs.declared.fault.RunFault.TheVariants.{Words, OutOfMemory}
 use Rattle.shell_words.specs.declared.command.Kind.{Kind}
@@ -162,12 +162,13 @@ language_or_none (Some text) = language_of_text text
 abbrev pub language_in : Lookup → Result (Option (List ℕ)) RunFault
 language_in value = language_or_none (value (codes "language"))
 
--- the cluster level of a number, 0 to 2
+-- the cluster level of a number, 0 to 3
 abbrev pub level_of_text : List ℕ → Result BufferClusterLevel RunFault
 level_of_text text =
     if bytes_eq text (codes "0") then Ok MonotoneGraphemes
     else if bytes_eq text (codes "1") then Ok MonotoneCharacters
     else if bytes_eq text (codes "2") then Ok Characters
+    else if bytes_eq text (codes "3") then Ok Graphemes
     else Err Words
 
 -- the cluster level of an optional text

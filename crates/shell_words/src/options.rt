@@ -37,7 +37,7 @@ pub struct CommandLine {
 
 /// Parses the command-line words `hb_shape [options] TABLES FONT TEXT`, the first of which is the program's name. The
 /// options may be anywhere among the names of the files, each at most once: `--direction D`, `--script S`, `--language
-/// L`, `--cluster-level 0` to `2`; for the text `--bot`, `--eot`, `--preserve-default-ignorables`,
+/// L`, `--cluster-level 0` to `3`; for the text `--bot`, `--eot`, `--preserve-default-ignorables`,
 /// `--remove-default-ignorables`, `--no-dotted-circle`, `--unsafe-to-concat` and `--safe-to-insert-tatweel`; for the
 /// output `--no-clusters`, `--no-positions`, `--no-glyph-names`, `--show-extents`, `--show-flags`, `--no-advances` and
 /// `--slices`. Only `--features F` may be repeated; each F is features separated by commas. All other words, `--help`
@@ -160,6 +160,8 @@ fn level(text: &str) -> Result<BufferClusterLevel, RunFault>
         Ok(BufferClusterLevel::MonotoneCharacters)
     } else if text == "2" {
         Ok(BufferClusterLevel::Characters)
+    } else if text == "3" {
+        Ok(BufferClusterLevel::Graphemes)
     } else {
         Err(RunFault::Words)
     }
