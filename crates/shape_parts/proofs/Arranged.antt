@@ -4,7 +4,7 @@ use Rattle.std.proofs.lemmas.Bool.Decides.{nat_tests}
 use Rattle.std.proofs.lemmas.Grind.{common_steps}
 use Rattle.std.proofs.lemmas.List.{length-append, map-append}
 use Rattle.std.proofs.lemmas.List.Sums.{fold-append}
-use Rattle.buffer_glyphs.specs.Events.{Event, Merge, Replace, Circle, Delete, Move, Arrange, Sort, Reverse, Break, Concat, Tatweel, Spread, Reset, IsPlain}
+use Rattle.buffer_glyphs.specs.Events.{Event, Merge, MergeGrapheme, Replace, Circle, Delete, Move, Arrange, Sort, Reverse, Break, Concat, Tatweel, Spread, Reset, IsPlain}
 use Rattle.buffer_glyphs.specs.Items.{Item}
 use Rattle.buffer_glyphs.specs.Rewriting.{Arrangement, beside, eventless_arrangement, in_turn, replacement, shifted_event}
 use Rattle.buffer_parts.specs.Counts.{AreGiving, count_after, count_after_event}
@@ -20,6 +20,7 @@ use Rattle.shape_parts.proofs.Events.{both_give, both_plain}
 shifted_plain : (n : ℕ) (es : List Event) → IsPlain es → IsPlain (map (shifted_event n) es)
 shifted_plain n [] p = tt
 shifted_plain n (Merge how from to ∷ es) p = shifted_plain n es p
+shifted_plain n (MergeGrapheme from to ∷ es) p = shifted_plain n es p
 shifted_plain n (Replace at taken given ∷ es) p = shifted_plain n es p
 shifted_plain n (Circle after beside like ∷ es) p = shifted_plain n es p
 shifted_plain n (Delete at ∷ es) p = shifted_plain n es p
@@ -36,6 +37,7 @@ shifted_plain n (Reset ∷ es) p = shifted_plain n es p
 shifted_unturned : (n : ℕ) (es : List Event) → IsUnturned es → IsUnturned (map (shifted_event n) es)
 shifted_unturned n [] p = tt
 shifted_unturned n (Merge how from to ∷ es) p = shifted_unturned n es p
+shifted_unturned n (MergeGrapheme from to ∷ es) p = shifted_unturned n es p
 shifted_unturned n (Replace at taken given ∷ es) p = shifted_unturned n es p
 shifted_unturned n (Circle after beside like ∷ es) p = shifted_unturned n es p
 shifted_unturned n (Delete at ∷ es) p = shifted_unturned n es p
@@ -52,6 +54,7 @@ shifted_unturned n (Reset ∷ es) p = shifted_unturned n es p
 shifted_giving : (n : ℕ) (es : List Event) → AreGiving es → AreGiving (map (shifted_event n) es)
 shifted_giving n [] p = tt
 shifted_giving n (Merge how from to ∷ es) p = shifted_giving n es p
+shifted_giving n (MergeGrapheme from to ∷ es) p = shifted_giving n es p
 shifted_giving n (Replace at taken given ∷ es) p = (p.0, shifted_giving n es p.1)
 shifted_giving n (Circle after beside like ∷ es) p = shifted_giving n es p
 shifted_giving n (Delete at ∷ es) p = shifted_giving n es p

@@ -8,7 +8,7 @@ use Rattle.buffer_common.specs.Direction.{is_backward, is_vertical}
 use Rattle.buffer_unicode_tables.specs.Tables.{Tables}
 use Rattle.buffer_glyphs.specs.declared.cause.ShapeCause.TheVariants.{TooLong}
 use Rattle.buffer_glyphs.specs.declared.level.BufferClusterLevel.{BufferClusterLevel}
-use Rattle.buffer_glyphs.specs.declared.level.BufferClusterLevel.TheVariants.{MonotoneGraphemes, MonotoneCharacters, Characters}
+use Rattle.buffer_glyphs.specs.declared.level.BufferClusterLevel.TheVariants.{MonotoneGraphemes, MonotoneCharacters, Characters, Graphemes}
 use Rattle.buffer_glyphs.specs.Events.{Circle}
 use Rattle.buffer_glyphs.specs.Items.{Item}
 use Rattle.buffer_parts.specs.Plainly.{ArePlainlyKept, AreSteady}
@@ -94,6 +94,7 @@ graphemes_steady level at [] = tt
 graphemes_steady MonotoneGraphemes at (n ∷ lens) = graphemes_steady MonotoneGraphemes (at + n) lens
 graphemes_steady MonotoneCharacters at (n ∷ lens) = graphemes_steady MonotoneCharacters (at + n) lens
 graphemes_steady Characters at (n ∷ lens) = graphemes_steady Characters (at + n) lens
+graphemes_steady Graphemes at (n ∷ lens) = graphemes_steady Graphemes (at + n) lens
 
 pub clusters_steady : (b : Bool) (level : BufferClusterLevel) (lens : List ℕ) → AreSteady (if b then grapheme_events level 0 lens else [])
 clusters_steady true level lens = graphemes_steady level 0 lens

@@ -19,11 +19,11 @@ use Rattle.buffer_unicode.specs.Character.{is_default_ignorable_character}
 use Rattle.buffer_unicode_tables.specs.Lawful.{AsciiHasNoMarks}
 use Rattle.buffer_unicode_tables.specs.Tables.{Tables, is_pictographic}
 use Rattle.buffer_glyphs.specs.declared.level.BufferClusterLevel.{BufferClusterLevel}
-use Rattle.buffer_glyphs.specs.declared.level.BufferClusterLevel.TheVariants.{MonotoneGraphemes, MonotoneCharacters, Characters}
+use Rattle.buffer_glyphs.specs.declared.level.BufferClusterLevel.TheVariants.{MonotoneGraphemes, MonotoneCharacters, Characters, Graphemes}
 use Rattle.buffer_glyphs.specs.EventParts.{parts_of}
-use Rattle.buffer_glyphs.specs.Events.{Event, Arrange, Circle, IsPlain, Merge, Reverse}
+use Rattle.buffer_glyphs.specs.Events.{Event, Arrange, Circle, IsPlain, MergeGrapheme, Reverse, origins_after_event}
 use Rattle.buffer_glyphs.specs.Items.{Item}
-use Rattle.buffer_glyphs.specs.Levels.{IsMonotone, InList}
+use Rattle.buffer_glyphs.specs.Levels.{IsMonotone}
 use Rattle.buffer_glyphs.specs.Order.{IsOrdered, falls_after}
 use Rattle.buffer_glyphs.specs.Origins.{Asks, Origin, numbers}
 use Rattle.buffer_lists.specs.Events.{group_events, indices_reversed}
@@ -85,9 +85,10 @@ are_arranges : (at : ℕ) (lens : List ℕ) → group_events false at lens ≡ a
 are_arranges at [] = refl
 are_arranges at (n ∷ lens) = ap (λ es. Arrange at (indices_reversed n) ∷ es) (are_arranges (at + n) lens)
 
-are_merges : (at : ℕ) (lens : List ℕ) → grapheme_events MonotoneGraphemes at lens ≡ merges_from at lens
-are_merges at [] = refl
-are_merges at (n ∷ lens) = ap (λ es. Merge InList at (at + n) ∷ es) (are_merges (at + n) lens)
+-- at the level MonotoneGraphemes the merges of graphemes are merges of ranges
+are_merges : (asks : Asks) (at : ℕ) (lens : List ℕ) (es : List Event) (os : List Origin) → IsOrderly asks MonotoneGraphemes (merges_from at lens ++ es) os → IsOrderly asks MonotoneGraphemes (grapheme_events MonotoneGraphemes at lens ++ es) os
+are_merges asks at [] es os h = h
+are_merges asks at (n ∷ lens) es os h = (tt, are_merges asks (at + n) lens es (origins_after_event asks MonotoneGraphemes os (MergeGrapheme at (at + n))) h.1)
 
 reversed_many : (n : ℕ) → length (indices_reversed n) ≡ n
 reversed_many n = length_reversed_indices n
@@ -98,7 +99,7 @@ reversed_many n = length_reversed_indices n
 turn_orderly : (asks : Asks) (level : BufferClusterLevel) (wide : Bool) (lens : List ℕ) (os : List Origin) → IsMonotone level → IsOrdered (numbers os) → (wide ≡ false → AreSingle lens)
     → IsOrderly asks level ((if wide then grapheme_events level 0 lens else []) ++ (group_events (merges_graphemes level) 0 lens ++ Reverse ∷ [])) os
 turn_orderly asks MonotoneGraphemes true lens os mono o single =
-    subst (λ (es : List Event). IsOrderly asks MonotoneGraphemes (es ++ (group_events false 0 lens ++ Reverse ∷ [])) os) (sym (are_merges 0 lens))
+    are_merges asks 0 lens (group_events false 0 lens ++ Reverse ∷ []) os
     (subst (λ (es : List Event). IsOrderly asks MonotoneGraphemes (merges_from 0 lens ++ (es ++ Reverse ∷ [])) os) (sym (are_arranges 0 lens)) (merged_groups_may_turn indices_reversed asks MonotoneGraphemes 0 lens os reversed_many mono o))
 turn_orderly asks MonotoneGraphemes false lens os mono o single =
     subst (λ (es : List Event). IsOrderly asks MonotoneGraphemes (es ++ Reverse ∷ []) os) (sym (are_arranges 0 lens)) (one_groups_may_turn indices_reversed asks MonotoneGraphemes 0 lens os reversed_many (single_groups_are_one 0 lens (numbers os) (single refl)))
@@ -106,6 +107,7 @@ turn_orderly asks MonotoneCharacters wide lens os mono o single =
     let clusters = if wide then grapheme_events MonotoneCharacters 0 lens else [] in
     plain_is_orderly asks MonotoneCharacters (clusters ++ (group_events true 0 lens ++ Reverse ∷ [])) os (both_plain clusters (group_events true 0 lens ++ Reverse ∷ []) (steady_plain clusters (clusters_steady wide MonotoneCharacters lens)) (moves_plain 0 lens))
 turn_orderly asks Characters wide lens os mono o single = absurd mono
+turn_orderly asks Graphemes wide lens os mono o single = absurd mono
 
 turn_kept : (level : BufferClusterLevel) (wide : Bool) (lens : List ℕ) (n : ℕ) → (wide ≡ false → AreSingle lens)
     → AreKept level ((if wide then grapheme_events level 0 lens else []) ++ (group_events (merges_graphemes level) 0 lens ++ Reverse ∷ [])) n n

@@ -16,3 +16,5 @@ pub mod Lines
 pub mod Parts
 pub mod Texts
 pub mod Shapers
+pub mod GraphemeNumbers
+pub mod GraphemeClusters

@@ -25,7 +25,7 @@ use Rattle.script_categories.specs.declared.pause.hb_script_pause_t.TheVariants.
 use Rattle.script_categories.specs.declared.shaper.hb_ot_script_shaper_t.{hb_ot_script_shaper_t}
 use Rattle.script_categories.specs.declared.shaper.hb_ot_script_shaper_t.TheVariants.{ARABIC_SHAPER, HANGUL_SHAPER, HEBREW_SHAPER, INDIC_SHAPER, KHMER_SHAPER, MYANMAR_SHAPER, MYANMAR_ZAWGYI_SHAPER, THAI_SHAPER, UNIVERSAL_SHAPER}
 use Rattle.script_arabic.specs.Tiles.{tile_recorded}
-use Rattle.script_hangul.specs.Hangul.{events_after, syllables_formed, text_after, wants_circles}
+use Rattle.script_hangul.specs.Hangul.{events_after, hangul_text, jamo_rule, syllables_formed, text_after, wants_circles}
 use Rattle.script_indic.specs.Config.{indic_config}
 use Rattle.script_indic.specs.FontForms.{font_forms}
 use Rattle.script_indic.specs.Masks.{indic_masks}
@@ -47,7 +47,8 @@ use Rattle.script_syllabic.specs.Spans.{categories_counted, counted_index, unive
 use Rattle.script_syllabic.specs.Syllables.{syllables_by, then_syllables}
 use Rattle.script_thai.specs.Texts.{has_private_forms, private_if}
 use Rattle.script_thai.specs.ThaiPrivate.{with_private}
-use Rattle.script_thai.specs.ThaiVowel.{split_events, text_with_splits, vowels_split}
+use Rattle.script_thai.specs.ThaiVowel.{split_events, text_with_splits, vowel_rule, vowels_decomposed, vowels_split}
+use Rattle.script_syllabic.specs.Graphemes.{with_graphemes_merged}
 use Rattle.script_universal.specs.Masks.{form_masks, letters_join, letters_joined_if}
 use Rattle.script_universal.specs.Reordering.{universal_syllable}
 use Rattle.script_universal.specs.Pauses.{forms_set, universal_circles}
@@ -88,16 +89,21 @@ either false s t p q = q
 
 -- ---- the text
 
-thai_keeps : (m : OtMapValue) (s : Option Script) (t : Tables) (font : FaceParts) → KeepsDirection (λ v. and_then (vowels_split v) (private_if (has_private_forms m s) t font))
+thai_keeps : (m : OtMapValue) (s : Option Script) (t : Tables) (font : FaceParts) → KeepsDirection (λ v. and_then (vowels_decomposed v) (private_if (has_private_forms m s) t font))
 thai_keeps m s t font =
-    stages_direction vowels_split (private_if (has_private_forms m s) t font)
-    (λ v r e. limited (nat_le (length (text_with_splits [] v.items)) v.max_len) TooLong v (record { view = record v { items = text_with_splits [] v.items; positions = zero_positions (length (text_with_splits [] v.items)) }; events = λ level. split_events level [] v.items }) r refl e)
+    stages_direction vowels_decomposed (private_if (has_private_forms m s) t font)
+    (stages_direction (always (with_graphemes_merged vowel_rule)) vowels_split (always_direction (with_graphemes_merged vowel_rule) (λ v. refl))
+    (λ v r e. limited (nat_le (length (text_with_splits [] v.items)) v.max_len) TooLong v (record { view = record v { items = text_with_splits [] v.items; positions = zero_positions (length (text_with_splits [] v.items)) }; events = λ level. split_events [] v.items }) r refl e))
     (either (has_private_forms m s) (always (with_private t font)) as_it_is (always_direction (with_private t font) (λ v. refl)) same)
 
-hangul_keeps : (font : FaceParts) (flags : BufferFlags) → KeepsDirection (syllables_formed font flags)
-hangul_keeps font flags v r e =
+formed_keeps : (font : FaceParts) (flags : BufferFlags) → KeepsDirection (syllables_formed font flags)
+formed_keeps font flags v r e =
     let xs = text_after font (wants_circles flags) (length v.items) 0 [] v.items in
     limited (nat_le (length xs) v.max_len) TooLong v (record { view = record v { items = xs; positions = zero_positions (length xs) }; events = λ level. events_after font (wants_circles flags) level (length v.items) 0 [] v.items }) r refl e
+
+hangul_keeps : (font : FaceParts) (flags : BufferFlags) → KeepsDirection (hangul_text font flags)
+hangul_keeps font flags =
+    stages_direction (always (with_graphemes_merged (jamo_rule font))) (syllables_formed font flags) (always_direction (with_graphemes_merged (jamo_rule font)) (λ v. refl)) (formed_keeps font flags)
 
 text_keeps : (shaper : hb_ot_script_shaper_t) (m : OtMapValue) (s : Option Script) (font : FaceParts) (t : Tables) (settings : TextSettings) → KeepsDirection (preprocessing_by shaper m s font t settings)
 text_keeps THAI_SHAPER m s font t settings = thai_keeps m s t font

@@ -48,7 +48,7 @@ first_least (c ∷ cs) some = record { among = has_here 0 (offsets_from (0 + len
 pub starts_rise : StartsRise
 starts_rise text = (offsets_rise 0 (chars text), first_least (chars text))
 
-pushed_clusters : (at : ℕ) (cs : List ℕ) → clusters (added_text_from at cs) ≡ offsets_from at cs
+pub pushed_clusters : (at : ℕ) (cs : List ℕ) → clusters (added_text_from at cs) ≡ offsets_from at cs
 pushed_clusters at [] = refl
 pushed_clusters at (c ∷ cs) = ap (λ ns. at ∷ ns) (pushed_clusters (at + len_utf8 c) cs)
 
@@ -74,7 +74,7 @@ pub record IsLeftBy (a : Reading) (text result : BufferState) : Type 0 where
   pub is_read : a ≡ Ok read
   pub left : result ≡ state_after read text
 
-left_by : (a : Reading) (text result : BufferState) → Follows a text result → IsLeftBy a text result
+pub left_by : (a : Reading) (text result : BufferState) → Follows a text result → IsLeftBy a text result
 left_by (Ok r) text result f = record { read = r; is_read = refl; left = f }
 left_by (Err c) text result f = absurd f
 
@@ -82,7 +82,7 @@ left_by_this : (a : Reading) (text result : BufferState) (r : Read) → a ≡ Ok
 left_by_this a text result r e f = subst (λ (b : Reading). Follows b text result) e f
 
 -- the clusters of glyphs are those of their state
-result_clusters : (result : Sides) (t : BufferState) → state_of result ≡ t → clusters (all_glyphs result) ≡ numbers t.origins
+pub result_clusters : (result : Sides) (t : BufferState) → state_of result ≡ t → clusters (all_glyphs result) ≡ numbers t.origins
 result_clusters result t e = sym (numbers_origins (all_glyphs result)) ∙ ap (λ (s : BufferState). numbers s.origins) e
 
 no_items : (gs : List hb_glyph_info_t) → strip gs ≡ [] → gs ≡ []
@@ -115,7 +115,7 @@ shaped_texts_keep_least p text result falls m h mono o f some l =
 
 -- ---- texts that were pushed once
 
-pushed_rise : (bytes : List ℕ) (text : Sides) → IsPushedOnce bytes text → IsRising (clusters (all_glyphs text))
+pub pushed_rise : (bytes : List ℕ) (text : Sides) → IsPushedOnce bytes text → IsRising (clusters (all_glyphs text))
 pushed_rise bytes text once = subst IsRising (sym once) (offsets_rise 0 (chars bytes))
 
 -- a text of which some cluster is known has the cluster 0

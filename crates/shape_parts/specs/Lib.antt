@@ -4,3 +4,4 @@ pub mod StageLaws
 pub mod Premises
 pub mod Laws
 pub mod TextLaws
+pub mod GraphemeLaws

@@ -5,6 +5,7 @@
 
 pub mod character_laws;
 pub mod glyph_laws;
+pub mod grapheme_laws;
 pub mod line_laws;
 pub mod position_laws;
 pub mod reading_laws;
