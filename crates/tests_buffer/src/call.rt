@@ -24,8 +24,11 @@ pub enum Call {
     /// Keeps characters apart.
     KeepApart,
     Limit(usize),
+    Level(BufferClusterLevel),
     Merge(usize, usize),
+    MergeGrapheme(usize, usize),
     MergeOut(usize, usize),
+    MergeOutGrapheme(usize, usize),
     MoveTo(usize),
     Next,
     NextMany(usize),
@@ -66,7 +69,7 @@ pub enum Call {
 /// Makes a call, and returns its answer: true where it has none, and false where the call is not permitted.
 pub fn make(buffer: &mut hb_buffer_t, alloc: Global, call: &Call) -> Result<bool, AllocError> {
     match *call {
-        Ask(_) | KeepApart | Clear | ResetMasks(_) | SetMasks(..) => {
+        Ask(_) | KeepApart | Level(_) | Clear | ResetMasks(_) | SetMasks(..) => {
             set(buffer, call);
             Ok(true)
         }
@@ -75,7 +78,9 @@ pub fn make(buffer: &mut hb_buffer_t, alloc: Global, call: &Call) -> Result<bool
             Ok(write(buffer, call))
         }
         Next | NextMany(_) | MoveTo(_) => walk(buffer, call),
-        Merge(..) | UnsafeToBreak(..) | Concat(..) | Tatweel(..) => Ok(mark(buffer, call)),
+        Merge(..) | MergeGrapheme(..) | UnsafeToBreak(..) | Concat(..) | Tatweel(..) => {
+            Ok(mark(buffer, call))
+        }
         _ if buffer.have_output() => make_in_output(buffer, call),
         _ => make_in_list(buffer, alloc, call),
     }
@@ -86,6 +91,7 @@ fn set(buffer: &mut hb_buffer_t, call: &Call) {
     match *call {
         Ask(flags) => buffer.set_flags(flags),
         KeepApart => buffer.set_cluster_level(BufferClusterLevel::Characters),
+        Level(level) => buffer.set_cluster_level(level),
         ResetMasks(mask) => buffer.reset_masks(mask),
         SetMasks(value, mask, start, end) => buffer.set_masks(value, mask, start, end),
         _ => buffer.clear(),
@@ -126,7 +132,7 @@ fn walk(buffer: &mut hb_buffer_t, call: &Call) -> Result<bool, AllocError> {
 /// Calls on a range of the input.
 fn mark(buffer: &mut hb_buffer_t, call: &Call) -> bool {
     let (start, end) = match *call {
-        Merge(start, end) => (Some(start), Some(end)),
+        Merge(start, end) | MergeGrapheme(start, end) => (Some(start), Some(end)),
         UnsafeToBreak(start, end) | Concat(start, end) | Tatweel(start, end) => (start, end),
         _ => return false,
     };
@@ -136,6 +142,7 @@ fn mark(buffer: &mut hb_buffer_t, call: &Call) -> bool {
     }
     match *call {
         Merge(..) => buffer.merge_clusters(first, last),
+        MergeGrapheme(..) => buffer.merge_grapheme_clusters(first, last),
         UnsafeToBreak(..) => buffer.unsafe_to_break(start, end),
         Concat(..) => buffer.unsafe_to_concat(start, end),
         _ => buffer.safe_to_insert_tatweel(start, end),
@@ -241,6 +248,9 @@ fn change_output(buffer: &mut hb_buffer_t, call: &Call) -> bool
     match *call {
         MergeOut(start, end) if start <= end && end <= buffer.out_len() => {
             buffer.merge_out_clusters(start, end);
+        }
+        MergeOutGrapheme(start, end) if start <= end && end <= buffer.out_len() => {
+            buffer.merge_out_grapheme_clusters(start, end);
         }
         BreakAcross(start, end) if reaches_across(buffer, start, end) => {
             buffer.unsafe_to_break_from_outbuffer(start, end);

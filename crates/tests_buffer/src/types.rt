@@ -18,13 +18,15 @@ static NUMBERS: [(u32, u32); 8] = [
     (HB_BUFFER_CLUSTER_LEVEL_MONOTONE_GRAPHEMES, 0),
     (HB_BUFFER_CLUSTER_LEVEL_MONOTONE_CHARACTERS, 1),
     (HB_BUFFER_CLUSTER_LEVEL_CHARACTERS, 2),
+    (HB_BUFFER_CLUSTER_LEVEL_GRAPHEMES, 3),
     (HB_BUFFER_CLUSTER_LEVEL_DEFAULT, 0),
 ];
 
-static LEVELS: [(BufferClusterLevel, u32); 3] = [
+static LEVELS: [(BufferClusterLevel, u32); 4] = [
     (BufferClusterLevel::MonotoneGraphemes, 0),
     (BufferClusterLevel::MonotoneCharacters, 1),
     (BufferClusterLevel::Characters, 2),
+    (BufferClusterLevel::Graphemes, 3),
 ];
 
 static GLYPH_PROPS: [(GlyphPropsFlags, u16); 7] = [

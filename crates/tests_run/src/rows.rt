@@ -19,6 +19,7 @@ pub(crate) fn level_of(number: &str) -> BufferClusterLevel {
     match number {
         "0" => BufferClusterLevel::MonotoneGraphemes,
         "1" => BufferClusterLevel::MonotoneCharacters,
+        "3" => BufferClusterLevel::Graphemes,
         _ => BufferClusterLevel::Characters,
     }
 }

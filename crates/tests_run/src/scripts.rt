@@ -25,7 +25,7 @@ const TABLES: &str =
 // of it join. A sign that becomes two tiles, the second of which repeats: a tile 300 wide is laid four times over a
 // word of 1100, beside one of 100, and each copy overlaps its neighbour by 66. A Balinese character, and its
 // decomposition; Balinese marks of classes 7 and 9 in both orders; a Myanmar character, and its decomposition. A syllable
-// of Hangul, and a bracket before a Hebrew letter. The first half of a Thai vowel is moved
+// of Hangul, jamo that stay apart, and a bracket before a Hebrew letter. The first half of a Thai vowel is moved
 // before the tone mark. Last a repha of Dives Akuru, and a dotted circle, which is inserted after two rephas with the
 // second one's cluster; then the first repha is moved after it. In the last font a lookup acts on the circle, which was
 // not there when an earlier lookup was tried.
@@ -52,11 +52,18 @@ direction=r;U+628 628 628;23=4+400|22=2+400|21=0+400
 {"upem":1000,"cmap":[[44032,19]],"h":[[19,900]]}
 ;U+1100 1161;19=0+900
 
+{"upem":1000,"cmap":[[4352,20],[4449,21]],"h":[[20,400],[21,300]]}
+;U+1100 1161;20=0+400|21=0+300
+level=2;U+1100 1161;20=0+400|21=3+300
+level=3;U+1100 1161;20=0+400|21=0+300
+
 {"upem":1000,"cmap":[[40,12],[41,13]],"h":[[12,300],[13,300]]}
 direction=r;U+28 5D0;0=1+0|13=0+300
 
 {"upem":1000,"cmap":[[3604,30],[3634,33],[3659,32],[3661,31]],"h":[[30,500],[33,400]],"gsub":{"scripts":[["thai",{"features":[]},[]]]}}
 ;U+E14 E4B E33;30=0+500|31=0+0|32=0+0|33=0+400
+level=3;U+E14 E4B E33;30=0+500|31=6+0|32=0+0|33=6+400
+level=3;U+E14 E33;30=0+500|31=0+0|33=0+400
 
 {"upem":1000,"cmap":[[9676,10],[72001,5]],"h":[[5,200],[10,600]]}
 level=2;U+11941 11941;5=4+200|10=4+600|5=0+200

@@ -9,7 +9,7 @@ const TABLES: &str =
 
 // A default ignorable is deleted where that is requested, and else has zero width. An em space is as wide as the em. A
 // mark composes with its base where the font has the composite, and the composite is decomposed where it has only the
-// two. A dotted circle is inserted before a mark at the start of a text. Then a variant and a fraction. A mark is
+// two. A mark is in its base's cluster where graphemes are clusters. A dotted circle is inserted before a mark at the start of a text. Then a variant and a fraction. A mark is
 // positioned above the extents of its base, and at its anchor where there is one.
 static ROWS: &str =
     r#"{"upem":1000,"ascender":800,"cmap":[[97,1],[98,2],[102,3],[105,4]],"h":[[1,500],[2,600],[3,300],[4,250]]}
@@ -25,6 +25,10 @@ direction=t;a;1=0@-250,-800+0,-1000
 
 {"upem":1000,"cmap":[[97,1],[769,9]],"h":[[1,500],[9,200]]}
 ;U+E1;1=0+500|9=0@-200,0+0
+
+{"upem":1000,"cmap":[[97,1],[98,2],[769,9]],"h":[[1,500],[2,600],[9,200]]}
+level=2;U+61 301 62;1=0+500|9=1@-200,0+0|2=3+600
+level=3;U+61 301 62;1=0+500|9=0@-200,0+0|2=3+600
 
 {"upem":1000,"cmap":[[769,9],[9676,10]],"h":[[9,200],[10,600]]}
 buffer=1;U+301;10=0+600|9=0@-200,0+0

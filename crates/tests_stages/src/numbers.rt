@@ -176,6 +176,7 @@ impl Numbers {
         match self.next() {
             0 => BufferClusterLevel::MonotoneGraphemes,
             1 => BufferClusterLevel::MonotoneCharacters,
+            3 => BufferClusterLevel::Graphemes,
             _ => BufferClusterLevel::Characters,
         }
     }

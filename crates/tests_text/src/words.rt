@@ -13,7 +13,7 @@ use std::test::Fail;
 // Command-line words that are refused, separated by bars.
 const REFUSED: &str = "hb_shape|--language=|a|b|c
 hb_shape|--language=en|--language=en|a|b|c
-hb_shape|--cluster-level=3|a|b|c
+hb_shape|--cluster-level=4|a|b|c
 hb_shape|--cluster-level=0|--cluster-level=0|a|b|c
 hb_shape|--eot|--eot|a|b|c
 hb_shape|--no-clusters|--no-clusters|a|b|c
