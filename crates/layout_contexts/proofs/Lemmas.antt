@@ -8,3 +8,4 @@ pub mod Acting
 pub mod Subtables
 pub mod Nested
 pub mod Uncovered
+pub mod Ranges

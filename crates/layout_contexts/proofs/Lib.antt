@@ -5,3 +5,4 @@ pub mod Matching
 pub mod Cuts
 pub mod Settled
 pub mod Begun
+mod Beginning

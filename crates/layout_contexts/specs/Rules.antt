@@ -1,10 +1,10 @@
 -- The rules of a subtable, in any of its formats.
-use Rattle.std.specs.Prelude.{Bool, true, List, map}
+use Rattle.std.specs.Prelude.{ℕ, ◌≡◌, ◌≤◌, ◌<◌, Bool, true, false, List, length, map, Some, slice_get}
 use Rattle.buffer_glyphs.specs.Items.{Item}
 use Rattle.layout_tables.specs.declared.context.ContextSubtable.{ContextSubtable}
 use Rattle.layout_tables.specs.declared.context.ContextSubtable.TheVariants.{Glyphs, Classes, Coverage}
 use Rattle.layout_match.specs.Sequences.{is_covered_by}
-use Rattle.layout_contexts.specs.Chains.{Chain, class_chain, coverage_chain, glyph_chain}
+use Rattle.layout_contexts.specs.Chains.{Chain, begins, class_chain, coverage_chain, glyph_chain}
 
 -- the rules, in the order in which they are tried
 abbrev pub chains_of : ContextSubtable → List Chain
@@ -17,3 +17,10 @@ abbrev pub is_tried_at : ContextSubtable → Item → Bool
 is_tried_at (Glyphs rules) x = true
 is_tried_at (Classes s) x = is_covered_by s.first x
 is_tried_at (Coverage rules) x = true
+
+-- all rules that begin with an item stand from an index on and before another
+pub record BeginWithin (x : Item) (rules : List Chain) (start end : ℕ) : Type 0 where
+  pub ordered : start ≤ end
+  pub within : end ≤ length rules
+  pub before : (k : ℕ) (r : Chain) → slice_get rules k ≡ Some r → k < start → begins r.input x ≡ false
+  pub after : (k : ℕ) (r : Chain) → slice_get rules k ≡ Some r → end ≤ k → begins r.input x ≡ false

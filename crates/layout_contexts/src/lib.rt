@@ -12,4 +12,4 @@ pub use chain::{ChainRule, first_matches, match_chain};
 pub use counts::glyph_count;
 pub use match_indices::settle_indices;
 pub use records::{MAX_NESTING_LEVEL, begin_record, move_to_match_end, settle_match};
-pub use rules::{class_rule, coverage_rule, glyph_rule, is_tried_at, rule_at, rule_count};
+pub use rules::{class_rule, coverage_rule, glyph_rule, is_tried_at, rule_at, rules_at};

@@ -3,7 +3,7 @@ ghost use Rattle.std.specs.Prelude.{◌≡◌, ◌<◌, length, slice_get, Some}
 ghost use Rattle.buffer_glyphs.specs.Items.{item_of};
 ghost use Rattle.layout_contexts.specs.Chains.{class_chain, coverage_chain, glyph_chain};
 ghost use Rattle.layout_contexts.specs.Fitting.{chain_of};
-ghost use Rattle.layout_contexts.specs.Rules.{chains_of, is_tried_at};
+ghost use Rattle.layout_contexts.specs.Rules.{BeginWithin, chains_of, is_tried_at};
 
 use crate::chain::ChainRule;
 use buffer_glyphs::info::hb_glyph_info_t;
@@ -48,7 +48,7 @@ pub fn coverage_rule(rule: &SequenceRule<Coverage>) -> ChainRule<'_>
 }
 
 /// How many rules a subtable has.
-pub fn rule_count(subtable: &ContextSubtable) -> usize
+fn rule_count(subtable: &ContextSubtable) -> usize
     ensures { result ≡ length (chains_of subtable.now) }
 {
     match subtable {
@@ -77,5 +77,24 @@ pub fn is_tried_at(subtable: &ContextSubtable, info: &hb_glyph_info_t) -> bool
     match subtable {
         ContextSubtable::Classes(rules) => match_coverage(info, &rules.first),
         ContextSubtable::Glyphs(_) | ContextSubtable::Coverage(_) => true,
+    }
+}
+
+/// The index from which on, and that before which, all rules of a subtable stand that begin with a glyph, or with its
+/// class.
+#[tactic(auto, using(crate::proofs::Beginning::all_begin, crate::proofs::Beginning::glyphs_begin, crate::proofs::Beginning::classes_begin))]
+pub fn rules_at(subtable: &ContextSubtable, info: &hb_glyph_info_t) -> (usize, usize)
+    ensures { BeginWithin (item_of info.now) (chains_of subtable.now) result.0 result.1 }
+{
+    if info.glyph_id > 65535 {
+        return (0, rule_count(subtable));
+    }
+    let glyph = info.glyph_id as u16;
+    match subtable {
+        ContextSubtable::Glyphs(rules) => rules.beginning_with(glyph),
+        ContextSubtable::Classes(rules) => {
+            rules.rules.beginning_with(rules.input.class_of(glyph))
+        }
+        ContextSubtable::Coverage(rules) => (0, rules.len()),
     }
 }

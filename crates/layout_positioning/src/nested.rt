@@ -27,7 +27,7 @@ use buffer_glyphs::cause::ShapeCause;
 use layout_common::digested::Digested;
 use layout_contexts::{
     ChainRule, begin_record, first_matches, glyph_count, is_tried_at, match_chain,
-    move_to_match_end, rule_at, rule_count, settle_match,
+    move_to_match_end, rule_at, rules_at, settle_match,
 };
 use layout_face::positioning::{PositioningLookup, PositioningSubtables, PositioningTable};
 use layout_gpos::apply::apply_first;
@@ -200,7 +200,7 @@ fn apply_context(
     apply_rules(table, depth, subtable.inner(), ctx, last, buffer)
 }
 
-/// Applies the first matching rule of a context at the cursor.
+/// Applies the first matching rule of a context at the cursor. Rules that begin with another glyph are passed over.
 #[cycle(nested)]
 #[tactic(auto, using(buffer_stages::proofs::Lemmas::Performed::passed_first, layout_gpos::proofs::Lemmas::Passed::passed_closed, buffer_stages::proofs::Lemmas::Performed::passed_unrefused, buffer_stages::proofs::Lemmas::Performed::passed_numbers))]
 fn apply_rules(
@@ -222,7 +222,8 @@ fn apply_rules(
         ctx.now.random_state ctx.now.random_state buffer.old buffer.new }
     ensures kept { OnOk result (AreKept (apply_context_of ctx.now) (items_of buffer.new) last.new) }
 {
-    for i in 0..rule_count(subtable) {
+    let (start, end) = rules_at(subtable, buffer.cur(0));
+    for i in start..end {
         let rule = rule_at(subtable, i);
         match apply_rule(table, depth, &rule, ctx, last, buffer) {
             Ok(false) => {}

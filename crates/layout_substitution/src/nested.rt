@@ -25,7 +25,7 @@ use buffer_glyphs::cause::ShapeCause;
 use layout_common::digested::Digested;
 use layout_contexts::{
     ChainRule, begin_record, first_matches, glyph_count, is_tried_at, match_chain,
-    move_to_match_end, rule_at, rule_count, settle_match,
+    move_to_match_end, rule_at, rules_at, settle_match,
 };
 use layout_face::substitution::{SubstitutionSubtables, SubstitutionTable};
 use layout_gsub::apply::apply_first;
@@ -160,7 +160,7 @@ fn apply_context(
     apply_rules(table, depth, subtable.inner(), ctx, buffer)
 }
 
-/// Applies the first matching rule of a context at the cursor.
+/// Applies the first matching rule of a context at the cursor. Rules that begin with another glyph are passed over.
 #[cycle(nested)]
 #[tactic(auto, using(buffer_stages::proofs::Lemmas::Performed::passed_first, buffer_stages::proofs::Lemmas::Performed::passed_open, buffer_stages::proofs::Lemmas::Performed::passed_unrefused, buffer_stages::proofs::Lemmas::Performed::passed_numbers))]
 fn apply_rules(
@@ -179,7 +179,8 @@ fn apply_rules(
         ctx.old.random_state ctx.new.random_state buffer.old buffer.new }
     ensures context { apply_context_of ctx.new ≡ apply_context_of ctx.old }
 {
-    for i in 0..rule_count(subtable) {
+    let (start, end) = rules_at(subtable, buffer.cur(0));
+    for i in start..end {
         let rule = rule_at(subtable, i);
         match apply_rule(table, depth, &rule, ctx, buffer) {
             Ok(false) => {}

@@ -1,3 +1,4 @@
 pub mod PairSearch
 pub mod Covering
 mod CoveredRows
+mod Begins

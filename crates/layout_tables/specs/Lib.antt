@@ -7,3 +7,4 @@ pub mod Layout
 pub mod Choice
 pub mod Indices
 pub mod Covers
+pub mod Rules

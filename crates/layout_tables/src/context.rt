@@ -1,4 +1,5 @@
 //! Contexts and chained contexts (OpenType, chapter 2, sequence context and chained sequence context formats 1 to 3).
+use crate::rules::SequenceRules;
 use layout_common::array::Array;
 use layout_common::class_definition::ClassDefinition;
 use layout_common::coverage::Coverage;
@@ -34,7 +35,7 @@ pub struct ClassRules {
     pub input: ClassDefinition,
     pub lookahead: ClassDefinition,
     /// The rules, in the order in which they are tried.
-    pub rules: Array<SequenceRule<u16>>,
+    pub rules: SequenceRules,
 }
 
 /// A contextual or chained contextual subtable in one of its formats, with its rules in the order in which they are
@@ -42,7 +43,7 @@ pub struct ClassRules {
 #[derive(Debug, Drop)]
 pub enum ContextSubtable {
     /// Items are glyphs (format 1).
-    Glyphs(Array<SequenceRule<u16>>),
+    Glyphs(SequenceRules),
     /// Items are classes (format 2).
     Classes(ClassRules),
     /// Items are sets of glyphs (format 3).

@@ -14,6 +14,7 @@ pub mod ligature;
 pub mod mark;
 pub mod pair;
 pub mod reverse;
+pub mod rules;
 pub mod script;
 pub mod sequence;
 pub mod single_pos;

@@ -2,7 +2,8 @@
 ghost use Rattle.std.specs.Prelude.{◌≡◌, ◌≢◌, IfOk, IfErr, Ok, Err, codes};
 ghost use Rattle.serde_json.specs.Find.{get};
 ghost use Rattle.serde_json.specs.View.{view};
-ghost use Rattle.shell_face_json.specs.Contexts.{lookup_record, rule, context, format_in, format_of, rules_in, class_rules, class_maps, no_classes};
+ghost use Rattle.shell_face_json.specs.Contexts.{lookup_record, rule, context, format_in, format_of, rules_in, class_rules, class_maps, no_classes, rules};
+ghost use Rattle.shell_face_json.specs.Lists.{number_below};
 
 use crate::glyphs::read_coverage_at;
 use crate::objects::{object, read_in_turn_at};
@@ -11,6 +12,7 @@ use crate::value::Part;
 use buffer_rows::SortedRows;
 use layout_common::class_definition::ClassDefinition;
 use layout_tables::context::{ClassRules, ContextSubtable, SequenceLookupRecord, SequenceRule};
+use layout_tables::rules::SequenceRules;
 use serde_json::Value;
 use shell_json::fault::JsonFault;
 use std::alloc::Global;
@@ -60,9 +62,7 @@ impl Part for ContextSubtable {
     fn read_part(alloc: Global, value: &Value, limit: usize) -> Result<ContextSubtable, JsonFault> {
         object(value)?;
         match read_format(value)? {
-            ContextFormat::Glyphs => Ok(ContextSubtable::Glyphs(read_in_turn_at(
-                alloc, value, "rules", limit,
-            )?)),
+            ContextFormat::Glyphs => Ok(ContextSubtable::Glyphs(read_rules(alloc, value, limit)?)),
             ContextFormat::Classes => Ok(ContextSubtable::Classes(read_class_rules(
                 alloc, value, limit,
             )?)),
@@ -71,6 +71,15 @@ impl Part for ContextSubtable {
             )?)),
         }
     }
+}
+
+/// Reads the rules of a format by glyphs or by classes.
+fn read_rules(alloc: Global, value: &Value, limit: usize) -> Result<SequenceRules, JsonFault>
+    ensures ok { IfOk result (λ r. rules limit (number_below limit) (view value.now) ≡ Ok r) }
+    ensures refused { IfErr result (λ e. e ≢ JsonFault.OutOfMemory
+        → rules limit (number_below limit) (view value.now) ≡ Err e) }
+{
+    Ok(SequenceRules::new(read_in_turn_at(alloc, value, "rules", limit)?))
 }
 
 fn read_format(value: &Value) -> Result<ContextFormat, JsonFault>
@@ -103,7 +112,7 @@ fn read_class_rules(alloc: Global, value: &Value, limit: usize) -> Result<ClassR
 {
     let (backtrack, (input, (lookahead, ()))) = read_class_maps(alloc, value, limit)?;
     let first = read_coverage_at(alloc, value, "first", limit)?;
-    let rules = read_in_turn_at(alloc, value, "rules", limit)?;
+    let rules = read_rules(alloc, value, limit)?;
     Ok(ClassRules {
         first,
         backtrack,

@@ -6,6 +6,7 @@ use layout_common::digested::Digested;
 use layout_face::layout::LayoutLookup;
 use layout_face::substitution::{SubstLookup, SubstitutionSubtables};
 use layout_tables::context::{ContextSubtable, SequenceRule};
+use layout_tables::rules::SequenceRules;
 use std::alloc::Global;
 use std::test::Fail;
 
@@ -79,7 +80,8 @@ fn context(alloc: Global, inputs: &[&[u16]]) -> Result<Digested<ContextSubtable>
     for input in inputs {
         rules.push(rule(alloc, input)?)?;
     }
-    Ok(Digested::new(ContextSubtable::Glyphs(Array::new(rules))))
+    let rules = SequenceRules::new(Array::new(rules));
+    Ok(Digested::new(ContextSubtable::Glyphs(rules)))
 }
 
 // A lookup of two contexts by glyphs: it can act where the input of a rule begins.

@@ -7,6 +7,7 @@ use layout_common::digested::Digested;
 use layout_common::glyph_row::GlyphRow;
 use layout_face::substitution::{SubstLookup, SubstitutionSubtables};
 use layout_tables::context::{ClassRules, ContextSubtable, SequenceRule};
+use layout_tables::rules::SequenceRules;
 use layout_would_apply::lookup::would_apply;
 use layout_would_apply::subtables::{WouldApply, WouldApplyContext};
 use std::alloc::Global;
@@ -78,7 +79,7 @@ fn by_classes(alloc: Global, row: &Row) -> Result<ContextSubtable, Fail> {
         backtrack: classes(alloc)?,
         input: classes(alloc)?,
         lookahead: classes(alloc)?,
-        rules: rules(alloc, row)?,
+        rules: SequenceRules::new(rules(alloc, row)?),
     }))
 }
 
@@ -92,7 +93,7 @@ fn holds(subtable: &ContextSubtable, row: &Row) -> bool {
 }
 
 fn holds_by_glyphs(alloc: Global, row: &Row) -> Result<bool, Fail> {
-    let subtable = ContextSubtable::Glyphs(rules(alloc, row)?);
+    let subtable = ContextSubtable::Glyphs(SequenceRules::new(rules(alloc, row)?));
     Ok(holds(&subtable, row))
 }
 

@@ -17,6 +17,7 @@ use Rattle.layout_contexts.specs.Records.{IsRecordBegun}
 use Rattle.layout_contexts.specs.Rules.{chains_of, is_tried_at}
 use Rattle.layout_contexts.proofs.Lemmas.Acting.{match_inside, rule_acted, rule_failed}
 use Rattle.layout_contexts.proofs.Lemmas.Inside.{then_stays}
+use Rattle.layout_contexts.proofs.Lemmas.Ranges.{passed_after, passed_before}
 use Rattle.layout_contexts.proofs.Lemmas.Uncovered.{context_uncovered}
 use Rattle.layout_match.proofs.Lemmas.Met.{not_tried as glyph_not_tried}
 use Rattle.layout_tables.specs.Covers.{covers_context}
@@ -72,6 +73,15 @@ pub apply_contexts-returns-clause-performs : goal.apply_contexts-returns-clause-
 apply_contexts-returns-clause-performs t c =
     passed_all (context_subtable (nested_actions c.args.table.now.lookups c.args.depth c.args.buffer.now.direction (apply_context_of c.args.ctx.now)) (apply_context_of c.args.ctx.now)) c.args.subtables.now c.loop-subtable.subtable-index c.args.ctx.now.random_state c.args.buffer.now c.loop-subtable.buffer c.loop-subtable-test.false c.loop-subtable.invariant.passed
 
+pub apply_rules-loop-i-init : goal.apply_rules-loop-i-init
+apply_rules-loop-i-init t c =
+    let a = apply_context_of c.args.ctx.now in
+    let nest = nested_actions c.args.table.now.lookups c.args.depth c.args.buffer.now.direction a in
+    record {
+      passed = passed_before nest a (chains_of c.args.subtable.now) c.args.ctx.now.random_state c.rules_at-start.result.0 c.rules_at-start.result.1 c.args.buffer.now c.cur.result.now c.cur.ensures c.rules_at-start.ensures;
+      kept = c.requires.kept;
+    }
+
 pub apply_rules-returns-in-Ok-true-clause-performs : goal.apply_rules-returns-in-Ok-true-clause-performs
 apply_rules-returns-in-Ok-true-clause-performs t c =
     let i = c.loop-i.invariant.passed in
@@ -79,7 +89,7 @@ apply_rules-returns-in-Ok-true-clause-performs t c =
     let x = chain_of c.rule_at-rule.result in
     let act : Chain → Direction → Action = λ r d. chain_rule (nested_actions c.args.table.now.lookups c.args.depth d (apply_context_of c.args.ctx.now)) (apply_context_of c.args.ctx.now) r in
     let at : x ≡ get_or all c.loop-i.i x = sym (get_or_from_slice_get all c.loop-i.i x x c.rule_at-rule.ensures) in
-    first_acts act all c.loop-i.i x c.loop-i.buffer.direction c.args.buffer.now.direction c.args.ctx.now.random_state c.args.ctx.now.random_state c.args.ctx.now.random_state c.in-Ok-true.field-0 c.args.buffer.now c.loop-i.buffer c.apply_rule.new.buffer (omega (arith, c.loop-i-test.true, c.rule_count-i-end.ensures)) at i (still_direction c.args.buffer.now c.loop-i.buffer i.still) refl c.in-Ok-true.field-0-test c.in-Ok-true.ensures.performs
+    first_acts act all c.loop-i.i x c.loop-i.buffer.direction c.args.buffer.now.direction c.args.ctx.now.random_state c.args.ctx.now.random_state c.args.ctx.now.random_state c.in-Ok-true.field-0 c.args.buffer.now c.loop-i.buffer c.apply_rule.new.buffer (omega (arith, c.loop-i-test.true, c.rules_at-start.ensures.within)) at i (still_direction c.args.buffer.now c.loop-i.buffer i.still) refl c.in-Ok-true.field-0-test c.in-Ok-true.ensures.performs
 
 pub apply_rules-returns-in-Err-clause-performs : goal.apply_rules-returns-in-Err-clause-performs
 apply_rules-returns-in-Err-clause-performs t c =
@@ -88,7 +98,7 @@ apply_rules-returns-in-Err-clause-performs t c =
     let x = chain_of c.rule_at-rule.result in
     let act : Chain → Direction → Action = λ r d. chain_rule (nested_actions c.args.table.now.lookups c.args.depth d (apply_context_of c.args.ctx.now)) (apply_context_of c.args.ctx.now) r in
     let at : x ≡ get_or all c.loop-i.i x = sym (get_or_from_slice_get all c.loop-i.i x x c.rule_at-rule.ensures) in
-    first_refuses act all c.loop-i.i x c.loop-i.buffer.direction c.args.buffer.now.direction c.args.ctx.now.random_state c.args.ctx.now.random_state c.args.ctx.now.random_state c.in-Err.cause c.args.buffer.now c.loop-i.buffer c.apply_rule.new.buffer (omega (arith, c.loop-i-test.true, c.rule_count-i-end.ensures)) at i (still_direction c.args.buffer.now c.loop-i.buffer i.still) refl c.in-Err.ensures.performs
+    first_refuses act all c.loop-i.i x c.loop-i.buffer.direction c.args.buffer.now.direction c.args.ctx.now.random_state c.args.ctx.now.random_state c.args.ctx.now.random_state c.in-Err.cause c.args.buffer.now c.loop-i.buffer c.apply_rule.new.buffer (omega (arith, c.loop-i-test.true, c.rules_at-start.ensures.within)) at i (still_direction c.args.buffer.now c.loop-i.buffer i.still) refl c.in-Err.ensures.performs
 
 pub apply_rules-loop-i-preserved : goal.apply_rules-loop-i-preserved
 apply_rules-loop-i-preserved t c =
@@ -97,11 +107,13 @@ apply_rules-loop-i-preserved t c =
     let x = chain_of c.rule_at-rule.result in
     let act : Chain → Direction → Action = λ r d. chain_rule (nested_actions c.args.table.now.lookups c.args.depth d (apply_context_of c.args.ctx.now)) (apply_context_of c.args.ctx.now) r in
     let at : x ≡ get_or all c.loop-i.i x = sym (get_or_from_slice_get all c.loop-i.i x x c.rule_at-rule.ensures) in
-    record { passed = (first_passes act all c.loop-i.i x c.loop-i.buffer.direction c.args.buffer.now.direction c.args.ctx.now.random_state c.args.ctx.now.random_state c.args.ctx.now.random_state c.in-Ok-false.field-0 c.args.buffer.now c.loop-i.buffer c.apply_rule.new.buffer (omega (arith, c.loop-i-test.true, c.rule_count-i-end.ensures)) at i (still_direction c.args.buffer.now c.loop-i.buffer i.still) refl c.in-Ok-false.field-0-test c.in-Ok-false.ensures.performs).0; kept = c.in-Ok-false.ensures.kept }
+    record { passed = (first_passes act all c.loop-i.i x c.loop-i.buffer.direction c.args.buffer.now.direction c.args.ctx.now.random_state c.args.ctx.now.random_state c.args.ctx.now.random_state c.in-Ok-false.field-0 c.args.buffer.now c.loop-i.buffer c.apply_rule.new.buffer (omega (arith, c.loop-i-test.true, c.rules_at-start.ensures.within)) at i (still_direction c.args.buffer.now c.loop-i.buffer i.still) refl c.in-Ok-false.field-0-test c.in-Ok-false.ensures.performs).0; kept = c.in-Ok-false.ensures.kept }
 
 pub apply_rules-returns-clause-performs : goal.apply_rules-returns-clause-performs
 apply_rules-returns-clause-performs t c =
-    passed_all (chain_rule (nested_actions c.args.table.now.lookups c.args.depth c.args.buffer.now.direction (apply_context_of c.args.ctx.now)) (apply_context_of c.args.ctx.now)) (chains_of c.args.subtable.now) c.loop-i.i c.args.ctx.now.random_state c.args.buffer.now c.loop-i.buffer (omega (arith, c.loop-i-test.false, c.rule_count-i-end.ensures)) c.loop-i.invariant.passed
+    let a = apply_context_of c.args.ctx.now in
+    let nest = nested_actions c.args.table.now.lookups c.args.depth c.args.buffer.now.direction a in
+    passed_after nest a (chains_of c.args.subtable.now) c.args.ctx.now.random_state c.rules_at-start.result.0 c.rules_at-start.result.1 c.loop-i.i c.args.buffer.now c.loop-i.buffer c.cur.result.now c.cur.ensures c.rules_at-start.ensures c.loop-i-test.false (omega (arith, c.loop-i.auto.i-end, c.rules_at-start.ensures.ordered, c.rules_at-start.ensures.within)) c.loop-i.invariant.passed
 
 pub apply_record-returns-in-Ok-true-clause-walks : goal.apply_record-returns-in-Ok-true-clause-walks
 apply_record-returns-in-Ok-true-clause-walks t c =

@@ -1,4 +1,4 @@
-use Rattle.std.proofs.Common.{◌≡◌, ◌-◌, ◌∙◌, false, get_or, sym, subst, arith, ℕ}
+use Rattle.std.proofs.Common.{◌≡◌, ◌-◌, ◌∙◌, false, get_or, refl, sym, subst, arith, ℕ}
 use Rattle.std.proofs.lemmas.Option.{get_or_from_slice_get}
 use Rattle.layout_tables.specs.declared.context.ContextSubtable.{ContextSubtable}
 use Rattle.layout_match.specs.Applied.{ApplyContext, apply_context_of}
@@ -11,6 +11,7 @@ use Rattle.layout_contexts.specs.Fitting.{IsMatched, chain_of}
 use Rattle.layout_contexts.specs.Rules.{chains_of, is_tried_at}
 use Rattle.layout_contexts.proofs.Lemmas.Acting.{match_inside, rule_acted, rule_failed}
 use Rattle.layout_contexts.proofs.Lemmas.Inside.{then_stays}
+use Rattle.layout_contexts.proofs.Lemmas.Ranges.{passed_after, passed_before}
 use Rattle.layout_contexts.proofs.Lemmas.Uncovered.{context_uncovered}
 use Rattle.layout_match.proofs.Lemmas.Met.{not_tried as glyph_not_tried}
 use Rattle.layout_tables.specs.Covers.{covers_context}
@@ -75,6 +76,15 @@ apply_contexts-returns-clause-performs t c =
     let P : ℕ → Type 0 = λ n. IsPerformed (first_rule act c.args.subtables.now (cut_with c.args.ctx.now.random_state c.args.buffer.now)) false c.args.ctx.now.random_state n c.args.buffer.now c.loop-subtable.buffer in
     subst P (sym i.random) all
 
+pub apply_rules-loop-i-init : goal.apply_rules-loop-i-init
+apply_rules-loop-i-init t c =
+    let a = apply_context_of c.args.ctx.now in
+    record {
+      passed = passed_before (nested_actions c.args.table.now.lookups c.args.depth a) a (chains_of c.args.subtable.now) c.args.ctx.now.random_state c.rules_at-start.result.0 c.rules_at-start.result.1 c.args.buffer.now c.cur.result.now c.cur.ensures c.rules_at-start.ensures;
+      context = refl;
+      random = refl;
+    }
+
 pub apply_rules-returns-in-Ok-true-clause-performs : goal.apply_rules-returns-in-Ok-true-clause-performs
 apply_rules-returns-in-Ok-true-clause-performs t c =
     let i = c.loop-i.invariant in
@@ -82,7 +92,7 @@ apply_rules-returns-in-Ok-true-clause-performs t c =
     let x = chain_of c.rule_at-rule.result in
     let act : Chain → ApplyContext → Action = λ r a. chain_rule (nested_actions c.args.table.now.lookups c.args.depth a) a r in
     let at : x ≡ get_or all c.loop-i.i x = sym (get_or_from_slice_get all c.loop-i.i x x c.rule_at-rule.ensures) in
-    first_acts act all c.loop-i.i x (apply_context_of c.loop-i.ctx) (apply_context_of c.args.ctx.now) c.loop-i.ctx.random_state c.args.ctx.now.random_state c.apply_rule.new.ctx.random_state c.in-Ok-true.field-0 c.args.buffer.now c.loop-i.buffer c.apply_rule.new.buffer (omega (arith, c.loop-i-test.true, c.rule_count-i-end.ensures)) at i.passed i.context i.random c.in-Ok-true.field-0-test c.in-Ok-true.ensures.performs
+    first_acts act all c.loop-i.i x (apply_context_of c.loop-i.ctx) (apply_context_of c.args.ctx.now) c.loop-i.ctx.random_state c.args.ctx.now.random_state c.apply_rule.new.ctx.random_state c.in-Ok-true.field-0 c.args.buffer.now c.loop-i.buffer c.apply_rule.new.buffer (omega (arith, c.loop-i-test.true, c.rules_at-start.ensures.within)) at i.passed i.context i.random c.in-Ok-true.field-0-test c.in-Ok-true.ensures.performs
 
 pub apply_rules-returns-in-Err-clause-performs : goal.apply_rules-returns-in-Err-clause-performs
 apply_rules-returns-in-Err-clause-performs t c =
@@ -91,7 +101,7 @@ apply_rules-returns-in-Err-clause-performs t c =
     let x = chain_of c.rule_at-rule.result in
     let act : Chain → ApplyContext → Action = λ r a. chain_rule (nested_actions c.args.table.now.lookups c.args.depth a) a r in
     let at : x ≡ get_or all c.loop-i.i x = sym (get_or_from_slice_get all c.loop-i.i x x c.rule_at-rule.ensures) in
-    first_refuses act all c.loop-i.i x (apply_context_of c.loop-i.ctx) (apply_context_of c.args.ctx.now) c.loop-i.ctx.random_state c.args.ctx.now.random_state c.apply_rule.new.ctx.random_state c.in-Err.cause c.args.buffer.now c.loop-i.buffer c.apply_rule.new.buffer (omega (arith, c.loop-i-test.true, c.rule_count-i-end.ensures)) at i.passed i.context i.random c.in-Err.ensures.performs
+    first_refuses act all c.loop-i.i x (apply_context_of c.loop-i.ctx) (apply_context_of c.args.ctx.now) c.loop-i.ctx.random_state c.args.ctx.now.random_state c.apply_rule.new.ctx.random_state c.in-Err.cause c.args.buffer.now c.loop-i.buffer c.apply_rule.new.buffer (omega (arith, c.loop-i-test.true, c.rules_at-start.ensures.within)) at i.passed i.context i.random c.in-Err.ensures.performs
 
 pub apply_rules-loop-i-preserved : goal.apply_rules-loop-i-preserved
 apply_rules-loop-i-preserved t c =
@@ -100,7 +110,7 @@ apply_rules-loop-i-preserved t c =
     let x = chain_of c.rule_at-rule.result in
     let act : Chain → ApplyContext → Action = λ r a. chain_rule (nested_actions c.args.table.now.lookups c.args.depth a) a r in
     let at : x ≡ get_or all c.loop-i.i x = sym (get_or_from_slice_get all c.loop-i.i x x c.rule_at-rule.ensures) in
-    let p = first_passes act all c.loop-i.i x (apply_context_of c.loop-i.ctx) (apply_context_of c.args.ctx.now) c.loop-i.ctx.random_state c.args.ctx.now.random_state c.apply_rule.new.ctx.random_state c.in-Ok-false.field-0 c.args.buffer.now c.loop-i.buffer c.apply_rule.new.buffer (omega (arith, c.loop-i-test.true, c.rule_count-i-end.ensures)) at i.passed i.context i.random c.in-Ok-false.field-0-test c.in-Ok-false.ensures.performs in
+    let p = first_passes act all c.loop-i.i x (apply_context_of c.loop-i.ctx) (apply_context_of c.args.ctx.now) c.loop-i.ctx.random_state c.args.ctx.now.random_state c.apply_rule.new.ctx.random_state c.in-Ok-false.field-0 c.args.buffer.now c.loop-i.buffer c.apply_rule.new.buffer (omega (arith, c.loop-i-test.true, c.rules_at-start.ensures.within)) at i.passed i.context i.random c.in-Ok-false.field-0-test c.in-Ok-false.ensures.performs in
     record { passed = p.0; context = c.apply_rule.ensures.context ∙ i.context; random = p.1 }
 
 pub apply_rules-returns-clause-performs : goal.apply_rules-returns-clause-performs
@@ -108,8 +118,9 @@ apply_rules-returns-clause-performs t c =
     let i = c.loop-i.invariant in
     let a = apply_context_of c.args.ctx.now in
     let all = chains_of c.args.subtable.now in
-    let act = chain_rule (nested_actions c.args.table.now.lookups c.args.depth a) a in
-    let done = passed_all act all c.loop-i.i c.args.ctx.now.random_state c.args.buffer.now c.loop-i.buffer (omega (arith, c.loop-i-test.false, c.rule_count-i-end.ensures)) i.passed in
+    let nest = nested_actions c.args.table.now.lookups c.args.depth a in
+    let act = chain_rule nest a in
+    let done = passed_after nest a all c.args.ctx.now.random_state c.rules_at-start.result.0 c.rules_at-start.result.1 c.loop-i.i c.args.buffer.now c.loop-i.buffer c.cur.result.now c.cur.ensures c.rules_at-start.ensures c.loop-i-test.false (omega (arith, c.loop-i.auto.i-end, c.rules_at-start.ensures.ordered, c.rules_at-start.ensures.within)) i.passed in
     let P : ℕ → Type 0 = λ n. IsPerformed (first_rule act all (cut_with c.args.ctx.now.random_state c.args.buffer.now)) false c.args.ctx.now.random_state n c.args.buffer.now c.loop-i.buffer in
     subst P (sym i.random) done
 
