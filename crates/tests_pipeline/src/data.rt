@@ -6,10 +6,12 @@ use script_categories::SyllableTable;
 use serde_json::Value;
 use shape_pipeline::hb_shape_data_t;
 use shell_face_json::read_face;
+use shell_tables_json::{read_languages, read_syllables, read_tables};
 use std::alloc::Global;
 use std::test::Fail;
 
-const TABLES: &str =
+/// Tables for characters of the Latin script.
+pub(crate) const TABLES: &str =
     "{\"splits\":[[225,97,769]],\"pairs\":[[97,769,225]],\"classes\":[[769,230],[803,220]]}";
 
 /// The tables that shaping depends on, beside a font.
@@ -30,9 +32,30 @@ impl<'a> Tables<'a> {
     }
 }
 
-/// The value of tables.
-pub(crate) fn value(alloc: Global) -> Result<Value, Fail> {
-    Ok(Value::from_str(alloc, TABLES)?)
+/// Tables that are read from a text.
+pub(crate) struct ReadTables {
+    characters: UnicodeTables,
+    spans: SyllableTable,
+    languages: LanguageTable,
+}
+
+impl ReadTables {
+    pub(crate) fn from_text(alloc: Global, text: &str) -> Result<ReadTables, Fail> {
+        let value = Value::from_str(alloc, text)?;
+        Ok(ReadTables {
+            characters: read_tables(alloc, &value)?,
+            spans: read_syllables(alloc, &value)?,
+            languages: read_languages(alloc, &value)?,
+        })
+    }
+
+    pub(crate) fn borrowed(&self) -> Tables<'_> {
+        Tables {
+            characters: &self.characters,
+            spans: &self.spans,
+            languages: &self.languages,
+        }
+    }
 }
 
 pub(crate) fn face_of(alloc: Global, font: &str) -> Result<Face, Fail> {

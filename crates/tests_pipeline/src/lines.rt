@@ -1,16 +1,12 @@
 //! Lines of mixed scripts: at both monotone levels their results have slices, which join to the lines.
-use crate::data::{Tables, face_of};
+use crate::data::{ReadTables, Tables, face_of};
 use buffer_common::constants::BufferFlags;
 use buffer_common::direction::Direction;
 use buffer_glyphs::level::BufferClusterLevel;
-use buffer_unicode_tables::UnicodeTables;
 use buffer_wrappers::glyphs::GlyphBuffer;
 use buffer_wrappers::unicode_buffer::UnicodeBuffer;
 use layout_face::Face;
-use script_categories::SyllableTable;
-use serde_json::Value;
 use shape_pipeline::shaping::shape;
-use shell_tables_json::{read_languages, read_syllables, read_tables};
 use source_slices::fitting::slices_fit;
 use source_slices::slices::{SourceSlice, source_slices};
 use std::alloc::{AllocError, Global};
@@ -186,41 +182,10 @@ fn are_sliced_in_font(rt: &impl Abort, alloc: Global, tables: Tables<'_>) -> Res
     are_sliced(rt, alloc, &face, tables)
 }
 
-fn are_sliced_by_languages(
-    rt: &impl Abort,
-    alloc: Global,
-    value: &Value,
-    characters: &UnicodeTables,
-    spans: &SyllableTable,
-) -> Result<(), Fail> {
-    let languages = read_languages(alloc, value)?;
-    let tables = Tables {
-        characters,
-        spans,
-        languages: &languages,
-    };
-    are_sliced_in_font(rt, alloc, tables)
-}
-
-fn are_sliced_by_spans(
-    rt: &impl Abort,
-    alloc: Global,
-    value: &Value,
-    characters: &UnicodeTables,
-) -> Result<(), Fail> {
-    let spans = read_syllables(alloc, value)?;
-    are_sliced_by_languages(rt, alloc, value, characters, &spans)
-}
-
-fn are_sliced_by_tables(rt: &impl Abort, alloc: Global, value: &Value) -> Result<(), Fail> {
-    let characters = read_tables(alloc, value)?;
-    are_sliced_by_spans(rt, alloc, value, &characters)
-}
-
 #[test]
 fn lines_of_mixed_scripts_have_slices(rt: HostRuntime) -> Result<(), Fail> {
-    let value = Value::from_str(rt.alloc(), TABLES)?;
-    are_sliced_by_tables(&rt, rt.alloc(), &value)
+    let tables = ReadTables::from_text(rt.alloc(), TABLES)?;
+    are_sliced_in_font(&rt, rt.alloc(), tables.borrowed())
 }
 
 // Of the Unicode Character Database, what the words' characters have; machines of syllables for their categories alone.

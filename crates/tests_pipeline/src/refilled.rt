@@ -1,18 +1,14 @@
 //! The buffer that a refused text hands back, filled again. `tools/short_memory tests_pipeline refilled` refuses each
 //! allocation of the first text in turn; the second text is then shaped as if it were the first.
-use crate::data::{Tables, face_of, value};
+use crate::data::{ReadTables, TABLES, Tables, face_of};
 use buffer_common::constants::BufferFlags;
 use buffer_common::direction::Direction;
 use buffer_glyphs::cause::ShapeCause;
 use buffer_glyphs::flags::SerializeFlags;
 use buffer_glyphs::level::BufferClusterLevel;
-use buffer_unicode_tables::UnicodeTables;
 use buffer_wrappers::unicode_buffer::UnicodeBuffer;
 use layout_face::Face;
-use script_categories::SyllableTable;
-use serde_json::Value;
 use shape_pipeline::shaping::shape;
-use shell_tables_json::{read_languages, read_syllables, read_tables};
 use std::alloc::{AllocError, Global};
 use std::process::Abort;
 use std::test::Fail;
@@ -87,39 +83,8 @@ fn lines_follow(rt: &impl Abort, alloc: Global, tables: Tables<'_>) -> Result<()
     Ok(())
 }
 
-fn follow_by_languages(
-    rt: &impl Abort,
-    alloc: Global,
-    value: &Value,
-    characters: &UnicodeTables,
-    spans: &SyllableTable,
-) -> Result<(), Fail> {
-    let languages = read_languages(alloc, value)?;
-    let tables = Tables {
-        characters,
-        spans,
-        languages: &languages,
-    };
-    lines_follow(rt, alloc, tables)
-}
-
-fn follow_by_spans(
-    rt: &impl Abort,
-    alloc: Global,
-    value: &Value,
-    characters: &UnicodeTables,
-) -> Result<(), Fail> {
-    let spans = read_syllables(alloc, value)?;
-    follow_by_languages(rt, alloc, value, characters, &spans)
-}
-
-fn follow(rt: &impl Abort, alloc: Global, value: &Value) -> Result<(), Fail> {
-    let characters = read_tables(alloc, value)?;
-    follow_by_spans(rt, alloc, value, &characters)
-}
-
 #[test]
 fn refused_buffers_are_filled_again(rt: HostRuntime) -> Result<(), Fail> {
-    let value = value(rt.alloc())?;
-    follow(&rt, rt.alloc(), &value)
+    let tables = ReadTables::from_text(rt.alloc(), TABLES)?;
+    lines_follow(&rt, rt.alloc(), tables.borrowed())
 }

@@ -1,23 +1,19 @@
 //! Texts that are shaped with a plan and without one.
 ghost use Rattle.buffer_wrappers.specs.Wrappers.{AreGlyphs};
 
-use crate::data::{Tables, face_of, value};
+use crate::data::{ReadTables, TABLES, Tables, face_of};
 use crate::planner;
 use crate::plans::{decomposing_plan_of_row, plan_of_row};
 use crate::rows::{flags_of, part, text_of};
 use buffer_glyphs::cause::ShapeCause;
-use buffer_unicode_tables::UnicodeTables;
 use buffer_wrappers::glyphs::GlyphBuffer;
 use buffer_wrappers::unicode_buffer::UnicodeBuffer;
 use layout_face::Face;
-use script_categories::SyllableTable;
 use script_plan::hb_ot_shaper_t;
 use script_plan::plan::hb_ot_shape_plan_t;
-use serde_json::Value;
 use shape_pipeline::context::{hb_ot_shape_context_t, shape_internal};
 use shape_pipeline::hb_ot_any_shaper_t;
 use shape_pipeline::shaping::{ShapeFault, nested_lookups_left, shape, shape_with_plan};
-use shell_tables_json::{read_languages, read_syllables, read_tables};
 use std::alloc::{AllocError, Global};
 use std::process::Abort;
 use std::test::Fail;
@@ -230,40 +226,9 @@ fn budgets_are_counted(rt: &impl Abort, alloc: Global, tables: Tables<'_>) -> Re
     Ok(())
 }
 
-fn agree_by_languages(
-    rt: &impl Abort,
-    alloc: Global,
-    value: &Value,
-    characters: &UnicodeTables,
-    spans: &SyllableTable,
-) -> Result<(), Fail> {
-    let languages = read_languages(alloc, value)?;
-    let tables = Tables {
-        characters,
-        spans,
-        languages: &languages,
-    };
-    rows_agree(rt, alloc, tables)?;
-    budgets_are_counted(rt, alloc, tables)
-}
-
-fn agree_by_spans(
-    rt: &impl Abort,
-    alloc: Global,
-    value: &Value,
-    characters: &UnicodeTables,
-) -> Result<(), Fail> {
-    let spans = read_syllables(alloc, value)?;
-    agree_by_languages(rt, alloc, value, characters, &spans)
-}
-
-fn agree(rt: &impl Abort, alloc: Global, value: &Value) -> Result<(), Fail> {
-    let characters = read_tables(alloc, value)?;
-    agree_by_spans(rt, alloc, value, &characters)
-}
-
 #[test]
 fn texts(rt: HostRuntime) -> Result<(), Fail> {
-    let value = value(rt.alloc())?;
-    agree(&rt, rt.alloc(), &value)
+    let tables = ReadTables::from_text(rt.alloc(), TABLES)?;
+    rows_agree(&rt, rt.alloc(), tables.borrowed())?;
+    budgets_are_counted(&rt, rt.alloc(), tables.borrowed())
 }
