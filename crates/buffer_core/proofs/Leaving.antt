@@ -6,7 +6,7 @@ use Rattle.std.proofs.lemmas.Bool.Decides.{nat_tests}
 use Rattle.std.proofs.lemmas.List.{take-map, drop-map, drop-drop, length-append, length-map}
 use Rattle.buffer_glyphs.specs.declared.info.hb_glyph_info_t.{hb_glyph_info_t}
 use Rattle.buffer_glyphs.specs.declared.level.BufferClusterLevel.{BufferClusterLevel}
-use Rattle.buffer_glyphs.specs.declared.level.BufferClusterLevel.TheVariants.{MonotoneGraphemes, MonotoneCharacters, Characters}
+use Rattle.buffer_glyphs.specs.declared.level.BufferClusterLevel.TheVariants.{MonotoneGraphemes, MonotoneCharacters, Characters, Graphemes}
 use Rattle.buffer_glyphs.specs.Items.{clusters}
 use Rattle.buffer_glyphs.specs.Parts.{first_of, last_of, or, range_of}
 use Rattle.buffer_glyphs.specs.Glyphs.{glyphs_merged_at, beside_merged, is_marked_at}
@@ -213,3 +213,4 @@ nothing_replaced taken numbers s none le =
     at_level MonotoneGraphemes = let left = none_left s.is_apart s.read in let read : s.read + 0 ≡ s.read = omega arith in rw (read, left) refl
     at_level MonotoneCharacters = let left = none_left s.is_apart s.read in let read : s.read + 0 ≡ s.read = omega arith in rw (read, left) refl
     at_level Characters = let left = none_left s.is_apart s.read in let read : s.read + 0 ≡ s.read = omega arith in rw (read, left) refl
+    at_level Graphemes = let left = none_left s.is_apart s.read in let read : s.read + 0 ≡ s.read = omega arith in rw (read, left) refl

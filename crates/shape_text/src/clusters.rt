@@ -10,9 +10,9 @@ use buffer_common::constants::HB_BUFFER_SCRATCH_FLAG_HAS_NON_ASCII;
 use buffer_core::buffer::hb_buffer_t;
 use buffer_glyphs::level::BufferClusterLevel;
 
-/// Merges each grapheme of the text into a cluster at the levels MonotoneGraphemes and Graphemes, and flags it as
-/// unsafe to break at the others (`form_clusters`). A text without characters above U+007F stays unchanged: each of
-/// its characters is a grapheme. It takes linear time.
+/// Merges each grapheme of the text into a cluster at the levels MonotoneGraphemes and Graphemes, and flags it as unsafe
+/// to break at the others (`form_clusters`). A text without characters above U+007F stays unchanged: each of its
+/// characters is a grapheme. It takes linear time.
 #[tactic(auto, using(crate::proofs::Formed::clusters_followed, crate::proofs::Formed::none_followed))]
 pub fn form_clusters(buffer: &mut hb_buffer_t)
     requires { IsReady buffer.old }

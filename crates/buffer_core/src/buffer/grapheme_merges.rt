@@ -9,10 +9,10 @@ use super::hb_buffer_t;
 use buffer_glyphs::level::BufferClusterLevel;
 
 impl hb_buffer_t {
-    /// Merges the clusters of a grapheme, the glyphs from `start` up to before `end`, indices of the input. At the
-    /// levels `MonotoneGraphemes` and `Graphemes` each cluster that occurs among them becomes the least of them,
-    /// wherever it is, and a glyph whose cluster changes loses its three flags; at the others nothing changes. It
-    /// takes no memory, and costs what `merge_clusters` costs at the level `MonotoneGraphemes`.
+    /// Merges the clusters of a grapheme, the glyphs from `start` up to before `end`, indices of the input. At the levels
+    /// `MonotoneGraphemes` and `Graphemes` each cluster that occurs among them becomes the least of them, wherever it is,
+    /// and a glyph whose cluster changes loses its three flags; at the others nothing changes. It takes no memory, and
+    /// costs what `merge_clusters` costs at the level `MonotoneGraphemes`.
     pub fn merge_grapheme_clusters(&mut self, start: usize, end: usize)
         requires ordered { start ≤ end }
         requires within { end ≤ self.old.read + length self.old.ahead }

@@ -14,11 +14,11 @@ use buffer_lists::merges::merge_input;
 use buffer_lists::over;
 
 impl hb_buffer_t {
-    /// Merges the clusters of the glyphs from `start` up to before `end`, indices of the input. At the monotone
-    /// levels each cluster that occurs among them becomes the least of them, wherever it is, and a glyph whose
-    /// cluster changes loses its three flags. At the levels `Characters` and `Graphemes` the glyphs outside the least
-    /// cluster are flagged as unsafe to break and to concat. It takes no memory. Where clusters rise or fall it costs
-    /// the range and the runs of glyphs at its ends; in no order each glyph is compared with the range.
+    /// Merges the clusters of the glyphs from `start` up to before `end`, indices of the input. At the monotone levels
+    /// each cluster that occurs among them becomes the least of them, wherever it is, and a glyph whose cluster changes
+    /// loses its three flags. At the levels `Characters` and `Graphemes` the glyphs outside the least cluster are flagged
+    /// as unsafe to break and to concat. It takes no memory. Where clusters rise or fall it costs the range and the runs
+    /// of glyphs at its ends; in no order each glyph is compared with the range.
     pub fn merge_clusters(&mut self, start: usize, end: usize)
         requires ordered { start ≤ end }
         requires within { end ≤ self.old.read + length self.old.ahead }
