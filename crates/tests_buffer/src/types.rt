@@ -10,7 +10,7 @@ use std::alloc::{AllocError, AllocFailed};
 use std::test::Fail;
 
 /// Numbers of flags and levels: the actual and the expected one.
-static NUMBERS: [(u32, u32); 8] = [
+static NUMBERS: [(u32, u32); 9] = [
     (UNSAFE_TO_BREAK, 1),
     (UNSAFE_TO_CONCAT, 2),
     (SAFE_TO_INSERT_TATWEEL, 4),
