@@ -87,4 +87,4 @@ glyphs_circled t (g ∷ gs) = glyph_circle t g ∷ g ∷ gs
 
 -- a buffer with a circle before its first glyph
 abbrev pub with_circle_put : Tables → Sides → Sides
-with_circle_put t s = record s { behind = []; ahead = glyphs_circled t (all_glyphs s); positions = zero_positions (length (all_glyphs s) + 1); scratch_flags = bit_or s.scratch_flags (scratch_flags_of DOTTED_CIRCLE) }
+with_circle_put t s = record s { behind = []; is_apart = false; ahead = glyphs_circled t (all_glyphs s); positions = zero_positions (length (all_glyphs s) + 1); scratch_flags = bit_or s.scratch_flags (scratch_flags_of DOTTED_CIRCLE) }
