@@ -33,6 +33,7 @@ impl<'a> Tables<'a> {
 }
 
 /// Tables that are read from a text.
+#[derive(Drop)]
 pub(crate) struct ReadTables {
     characters: UnicodeTables,
     spans: SyllableTable,
