@@ -30,4 +30,3 @@ pub mod Room
 pub mod Lent
 pub mod InPlace
 pub mod Leaving
-pub mod GraphemesMerged

@@ -4,7 +4,7 @@ ghost use Rattle.buffer_glyphs.specs.declared.info.hb_glyph_info_t.{hb_glyph_inf
 ghost use Rattle.buffer_glyphs.specs.Items.{clusters, item_of, strip};
 ghost use Rattle.buffer_lists.specs.Known.{HasOrder};
 ghost use Rattle.buffer_glyphs.specs.Levels.{InOutput};
-ghost use Rattle.buffer_glyphs.specs.Events.{Merge, MergeGrapheme, Move, Replace};
+ghost use Rattle.buffer_glyphs.specs.Events.{Merge, Move, Replace};
 ghost use Rattle.buffer_glyphs.specs.Origins.{origin_of, origins};
 ghost use Rattle.buffer_core.specs.Sides.{fits_joined, after_sync};
 ghost use Rattle.buffer_stages.specs.Moves.{with_range_moved, order_of_move};
@@ -89,18 +89,6 @@ pub fn merge_behind(start: usize, end: usize, buffer: &mut hb_buffer_t)
         buffer.new }
 {
     buffer.merge_out_clusters(start, end);
-}
-
-/// Merges the glyphs of the output from `start` up to before `end`, a grapheme, where the level merges graphemes. It
-/// takes no memory.
-pub fn merge_grapheme_behind(start: usize, end: usize, buffer: &mut hb_buffer_t)
-    requires open { buffer.old.is_open ≡ true }
-    requires ordered { start ≤ end }
-    requires within { end ≤ length buffer.old.behind }
-    ensures { HasWalked (strip buffer.old.behind) (strip buffer.old.ahead) (MergeGrapheme start end ∷ []) buffer.old
-        buffer.new }
-{
-    buffer.merge_out_grapheme_clusters(start, end);
 }
 
 /// Merges the glyphs of the output from `start` up to before `end`, and moves those before `middle` after the others.

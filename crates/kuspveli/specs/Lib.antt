@@ -15,4 +15,4 @@ pub use Rattle.shell_json.specs as shell_json
 pub use Rattle.shell_readers.specs as shell_readers
 pub use Rattle.shell_tables_json.specs as shell_tables_json
 pub use Rattle.shell_words.specs as shell_words
-pub use Rattle.source_slices.specs as source_slices
+pub use Rattle.shape_slices.specs as shape_slices

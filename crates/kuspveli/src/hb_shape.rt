@@ -9,9 +9,9 @@ pub use shell_readers::fault::RunFault;
 pub use shell_readers::options::Options;
 pub use shell_tables_json::{read_languages, read_syllables, read_tables};
 pub use shell_words::{CommandLine, parse_options};
-pub use source_slices::slices::source_slices;
+pub use shape_slices::slices::source_slices;
 
 /// Whether a result has slices.
 pub mod fitting {
-    pub use source_slices::fitting::slices_fit;
+    pub use shape_slices::fitting::slices_fit;
 }

@@ -24,8 +24,8 @@ use Rattle.script_dispatch.specs.Requests.{any_kind}
 use Rattle.script_plan.specs.Plans.{planned_shaper, text_plan}
 use Rattle.shape_pipeline.specs.Laws.{TextsAreEven}
 use Rattle.shape_pipeline.specs.Shaped.{language_tags, text_reading}
-use Rattle.source_slices.specs.Fitting.{character_starts}
-use Rattle.source_slices.proofs.Flags.{runs_have_one_flag_set}
+use Rattle.shape_slices.specs.Fitting.{character_starts}
+use Rattle.shape_slices.proofs.Flags.{runs_have_one_flag_set}
 use Rattle.shape_parts.specs.Premises.{HasOrderedClusters, IsPushedOnce}
 use Rattle.shape_parts.specs.TextLaws.{GuessingKeepsClusters, PushedTextsArePushedOnce, ShapedClustersAreParts, ShapedClustersStandInLine, ShapedRunsHaveOneFlagSet, ShapedSlicesAreNoCoarser, ShapedTextsFit, ShapedTextsKeepLeast, ShapersKeepParts, StartsRise}
 use Rattle.shape_parts.proofs.Lines.{clusters_stand_in_line}

@@ -11,7 +11,7 @@ use Rattle.shape_text.specs.Clusters.{grapheme_lengths}
 use Rattle.shape_text.specs.Properties.{items_prepared}
 use Rattle.shape_pipeline.specs.Results.{IsShapedBy}
 use Rattle.shape_pipeline.specs.Shaping.{Shaping}
-use Rattle.source_slices.specs.Fitting.{character_starts}
+use Rattle.shape_slices.specs.Fitting.{character_starts}
 
 -- the first number of each range of the given lengths, one range after another
 abbrev pub first_numbers : List ℕ → List ℕ → List ℕ

@@ -12,7 +12,7 @@ use Rattle.layout_face.specs.declared.parts.FaceParts.{FaceParts}
 use Rattle.script_plan.specs.Rules.{EndAfterStart, RulesKeepParts, ShaperRules, Spans}
 use Rattle.shape_parts.specs.Lines.{KeepsDirection}
 use Rattle.shape_pipeline.specs.Shaping.{Shaping}
-use Rattle.source_slices.specs.Fitting.{character_starts}
+use Rattle.shape_slices.specs.Fitting.{character_starts}
 
 -- what a text is shaped by keeps the parts of texts: the tables are lawful; each rule of the shaper keeps parts, and its order of a run of marks keeps their count; and each syllable that the machines find ends after its start
 pub record ShapingKeepsParts (p : Shaping) : Type 0 where

@@ -25,10 +25,10 @@ use Rattle.script_plan.specs.Rules.{EndAfterStart, Spans}
 use Rattle.shape_pipeline.specs.Results.{IsShapedBy}
 use Rattle.shape_pipeline.specs.Shaped.{by_text, language_tags, text_reading}
 use Rattle.shape_pipeline.specs.Shaping.{Shaping}
-use Rattle.source_slices.specs.declared.slices.SourceSlice.{SourceSlice}
-use Rattle.source_slices.specs.Laws.{HasOneFlagSet}
-use Rattle.source_slices.specs.Runs.{AreSourceSlices}
-use Rattle.source_slices.specs.Fitting.{SlicesFit, character_starts}
+use Rattle.shape_slices.specs.declared.slices.SourceSlice.{SourceSlice}
+use Rattle.shape_slices.specs.Laws.{HasOneFlagSet}
+use Rattle.shape_slices.specs.Runs.{AreSourceSlices}
+use Rattle.shape_slices.specs.Fitting.{SlicesFit, character_starts}
 use Rattle.shape_parts.specs.Premises.{IsPushedOnce, RulesKeepDirection, ShapingKeepsParts}
 
 -- ---- a text pushed once

@@ -1,7 +1,7 @@
 -- The keys of an object.
-use Rattle.std.specs.Prelude.{ℕ, List, [], ◌∷◌, Bool, true, false, ⊤, if◌then◌else◌, is_some, Option, Some, None, Result, Ok, Err}
+use Rattle.std.specs.Prelude.{if◌then◌else◌, is_some, Option, Some, None, Result, Ok, Err}
 use Rattle.serde_json.specs.Data.{Data}
-use Rattle.serde_json.specs.Find.{get, as_object}
+use Rattle.serde_json.specs.Find.{as_object}
 use Rattle.shell_json.specs.declared.fault.JsonFault.{JsonFault}
 use Rattle.shell_json.specs.declared.fault.JsonFault.TheVariants.{WrongShape}
 use Rattle.shell_json.specs.Cell.{and_then}
@@ -15,15 +15,6 @@ read_or missing read (Some d) = read d
 abbrev pub optional_value : {A : Type 0} → (Data → Result A JsonFault) → Option Data → Result (Option A) JsonFault
 optional_value read None = Ok None
 optional_value read (Some d) = and_then (read d) (λ a. Ok (Some a))
-
--- an object has one of the keys
-abbrev pub has_some : List (List ℕ) → Data → Bool
-has_some [] d = false
-has_some (k ∷ ks) d = if is_some (get k d) then true else has_some ks d
-
--- refuses an object with one of the keys, which are not supported yet
-abbrev pub without : List (List ℕ) → Data → Result ⊤ JsonFault
-without ks d = if has_some ks d then Err WrongShape else Ok tt
 
 -- a value that is an object
 abbrev pub of_object : {A : Type 0} → (Data → Result A JsonFault) → Data → Result A JsonFault

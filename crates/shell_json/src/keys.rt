@@ -1,9 +1,8 @@
-//! Refuses keys of an object that are not known.
-
-ghost use Rattle.std.specs.Prelude.{◌≡◌, map};
+//! The value of a key of an object.
+ghost use Rattle.std.specs.Prelude.{◌≡◌};
 ghost use Rattle.serde_json.specs.Find.{get};
 ghost use Rattle.serde_json.specs.View.{view};
-ghost use Rattle.shell_json.specs.Objects.{read_or, has_some, without};
+ghost use Rattle.shell_json.specs.Objects.{read_or};
 
 use crate::cell::Cell;
 use crate::fault::JsonFault;
@@ -17,16 +16,4 @@ pub fn read_key<T: Cell>(value: &Value, key: &str, missing: T) -> Result<T, Json
         Some(value) => T::read(value),
         None => Ok(missing),
     }
-}
-
-/// Refuses an object that has one of the keys.
-pub fn refuse_keys(value: &Value, keys: &[&str]) -> Result<(), JsonFault>
-    ensures { result ≡ without (map (λ k. k.now) keys.now) (view value.now) }
-{
-    for key in keys {
-        if value.get(*key).is_some() {
-            return Err(JsonFault::WrongShape);
-        }
-    }
-    Ok(())
 }

@@ -3,11 +3,11 @@ use Rattle.std.proofs.Common.{ℕ, ◌≡◌, ◌↔◌, Bool, true, false, if�
 use Rattle.std.specs.Prelude.{IsTrue}
 use Rattle.std.specs.List.{flat_map}
 use Rattle.buffer_parts.specs.Fits.{FitsText}
-use Rattle.source_slices.specs.declared.slices.SourceSlice.{SourceSlice}
-use Rattle.source_slices.specs.Deciding.{are_fitting}
-use Rattle.source_slices.specs.Fitting.{character_starts}
-use Rattle.source_slices.specs.Runs.{AreSourceSlices, byte_range}
-use Rattle.source_slices.proofs.Fits.{fits_from_tests, order_of_fitting, tests_from_fits}
+use Rattle.shape_slices.specs.declared.slices.SourceSlice.{SourceSlice}
+use Rattle.shape_slices.specs.Deciding.{are_fitting}
+use Rattle.shape_slices.specs.Fitting.{character_starts}
+use Rattle.shape_slices.specs.Runs.{AreSourceSlices, byte_range}
+use Rattle.shape_slices.proofs.Fits.{fits_from_tests, order_of_fitting, tests_from_fits}
 use Rattle.shell_run.specs.Slices.{byte_ranges, no_slices, slice_line, slice_lines}
 
 -- the lines of the slices of clusters that fit a text

@@ -3,9 +3,9 @@ use Rattle.std.specs.Prelude.{ℕ, ◌++◌, ◌∷◌, Bool, not, if◌then◌e
 use Rattle.std.specs.Fmt.{decimal}
 use Rattle.std.specs.List.{flat_map}
 use Rattle.buffer_parts.specs.Slices.{slices}
-use Rattle.source_slices.specs.Deciding.{are_fitting, rise_from}
-use Rattle.source_slices.specs.Fitting.{character_starts}
-use Rattle.source_slices.specs.Runs.{along_glyphs}
+use Rattle.shape_slices.specs.Deciding.{are_fitting, rise_from}
+use Rattle.shape_slices.specs.Fitting.{character_starts}
+use Rattle.shape_slices.specs.Runs.{along_glyphs}
 
 -- the bytes of the slices of a text of `end` bytes, one slice for each run of glyphs of one cluster, in the order of the glyphs
 abbrev pub byte_ranges : List ℕ → ℕ → List (ℕ × ℕ)

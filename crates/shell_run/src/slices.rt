@@ -3,12 +3,12 @@ ghost use Rattle.std.specs.Prelude.{◌≡◌, ◌++◌, map, OnOk, string_bytes
 ghost use Rattle.std.specs.List.{flat_map};
 ghost use Rattle.buffer_glyphs.specs.Items.{clusters};
 ghost use Rattle.buffer_core.specs.Sides.{all_glyphs};
-ghost use Rattle.source_slices.specs.Runs.{byte_range};
+ghost use Rattle.shape_slices.specs.Runs.{byte_range};
 ghost use Rattle.shell_run.specs.Slices.{requested_lines, slice_line, slice_lines};
 
 use buffer_wrappers::glyphs::GlyphBuffer;
-use source_slices::fitting::slices_fit;
-use source_slices::slices::{SourceSlice, source_slices};
+use shape_slices::fitting::slices_fit;
+use shape_slices::slices::{SourceSlice, source_slices};
 use std::alloc::{AllocError, Global};
 
 /// Appends the lines of the slices of a text, where they are requested.

@@ -1,22 +1,18 @@
 //! Graphemes, clusters and default ignorables of a buffer (rustybuzz: hb/ot_shape.rs, hb/ot_layout.rs).
-ghost use Rattle.std.specs.Prelude.{◌≡◌, ◌≤◌, ◌==◌, ◌++◌, ◌∷◌, [], false, map, take, drop, length, slice_range, OnOk, OnErr};
+ghost use Rattle.std.specs.Prelude.{◌≡◌, ◌==◌, false};
 ghost use Rattle.buffer_glyphs.specs.Items.{item_of};
 ghost use Rattle.buffer_glyphs.specs.PropertyWords.{is_default_ignorable};
-ghost use Rattle.buffer_glyphs.specs.Events.{Sort};
-ghost use Rattle.buffer_stable_order.specs.Keys.{key_order};
-ghost use Rattle.buffer_lists.specs.Events.{deletions, groups_reversed, order_of};
+ghost use Rattle.buffer_lists.specs.Events.{deletions, groups_reversed};
 ghost use Rattle.buffer_lists.specs.Facts.{items_kept, positions_kept, positions_turned};
 ghost use Rattle.buffer_lists.specs.Turning.{groups_reversed_list};
 ghost use Rattle.buffer_core.specs.Graphemes.{continues};
 ghost use Rattle.buffer_core.specs.Grouping.{with_groups_reversed, with_picked_deleted};
 ghost use Rattle.buffer_core.specs.Sides.{all_glyphs, items_of, origins_by, origins_of};
-ghost use Rattle.buffer_core.specs.Sorting.{with_range_sorted};
 
 use super::hb_buffer_t;
 use buffer_glyphs::flags::UnicodeProps;
 use buffer_glyphs::info::hb_glyph_info_t;
 use buffer_glyphs::property_words::_hb_glyph_info_is_default_ignorable;
-use std::alloc::{AllocError, Global};
 
 // Groups, deletion and sort with the tests of shaping.
 impl hb_buffer_t {
@@ -54,35 +50,6 @@ impl hb_buffer_t {
             ≡ origins_by (deletions is_default_ignorable (items_of self.old)) self.old }
     {
         self.delete_glyphs_inplace(|glyph| _hb_glyph_info_is_default_ignorable(glyph));
-    }
-
-    /// Sorts the marks from `start` up to before `end` stably by their modified combining classes, and merges each
-    /// smallest span that the order permutes.
-    pub fn sort_by_class(
-        &mut self,
-        alloc: Global,
-        start: usize,
-        end: usize,
-    ) -> Result<(), AllocError>
-        requires closed { self.old.is_open ≡ false }
-        requires ordered { start ≤ end }
-        requires within { end ≤ length (all_glyphs self.old) }
-        ensures sorted { OnOk result
-            (self.new ≡ with_range_sorted start end (λ g. g.modified_combining_class) self.old) }
-        ensures items { OnOk result (items_of self.new
-            ≡ take start (items_of self.old) ++ key_order (λ x. x.class) (slice_range (items_of self.old) start end)
-            ++ drop end (items_of self.old)) }
-        ensures origins { OnOk result (origins_of self.new
-            ≡ origins_by (Sort start (order_of (map (λ x. x.class) (slice_range (items_of self.old) start end))) ∷ [])
-            self.old) }
-        ensures err { OnErr result (self.new ≡ self.old) }
-    {
-        self.sort(
-            alloc,
-            start,
-            end,
-            |glyph| u32::from(glyph.modified_combining_class),
-        )
     }
 }
 

@@ -1,5 +1,5 @@
 -- Texts on their way through an open output.
-use Rattle.std.proofs.Common.{ℕ, ◌≡◌, ◌≤◌, ◌+◌, ◌==◌, true, if◌then◌else◌, List, [], ◌∷◌, ◌++◌, Ok, Err, length, take, drop, refl, sym, ap, subst, ◌∙◌, arith}
+use Rattle.std.proofs.Common.{ℕ, ◌≡◌, ◌≤◌, ◌+◌, ◌==◌, true, List, [], ◌∷◌, ◌++◌, Ok, Err, length, take, drop, refl, sym, ap, subst, ◌∙◌, arith}
 use Rattle.std.specs.Prelude.{bit_and, Result, IfErr, IsErrAnd}
 use Rattle.std.proofs.lemmas.List.{append-nil, map-append, length-append, length-map, length-replicate, take-append-drop, take-map, drop-map}
 use Rattle.std.proofs.Math.Seq.{take-append_seam, drop-append_seam}
@@ -7,13 +7,12 @@ use Rattle.buffer_glyphs.specs.declared.info.hb_glyph_info_t.{hb_glyph_info_t}
 use Rattle.buffer_glyphs.specs.declared.level.BufferClusterLevel.{BufferClusterLevel}
 use Rattle.buffer_glyphs.specs.Items.{Item, item_of, strip, zero_position}
 use Rattle.buffer_glyphs.specs.Origins.{origin_of, origins, with_range_arranged, manner, origins_merged_as}
-use Rattle.buffer_glyphs.specs.Levels.{InOutput, grapheme_manner}
-use Rattle.buffer_glyphs.specs.Events.{Event, Merge, MergeGrapheme, Move, origins_after}
-use Rattle.buffer_glyphs.specs.Glyphs.{glyphs_merged_as}
+use Rattle.buffer_glyphs.specs.Levels.{InOutput}
+use Rattle.buffer_glyphs.specs.Events.{Event, Merge, Move, origins_after}
 use Rattle.buffer_core.specs.Readings.{View, Stage, Follows}
 use Rattle.buffer_glyphs.specs.Lemmas.Origins.{origins_after_both}
 use Rattle.buffer_core.specs.Sides.{Sides, Settings, all_glyphs, flag_requests_of, items_of, origins_of, origins_by, settings_of, view_of, state_of, with_output, after_sync, after_next_glyphs, zero_positions}
-use Rattle.buffer_core.specs.Merging.{with_grapheme_merged, with_output_merged, output_merged_at}
+use Rattle.buffer_core.specs.Merging.{with_output_merged, output_merged_at}
 use Rattle.buffer_core.proofs.Lent.{output_comes_back}
 use Rattle.buffer_core.specs.Lending.{with_output_refilled}
 use Rattle.buffer_stages.specs.Ready.{IsReady}
@@ -70,17 +69,6 @@ pub merge_walked : (from to : ℕ) (s new : Sides) → new ≡ with_output_merge
 merge_walked from to s new e items from_where opened =
     let P : Sides → Type 0 = λ n. items_of n ≡ items_of s → origins_of n ≡ origins_by (Merge InOutput from to ∷ []) s → HasWalked (strip s.behind) (strip s.ahead) (Merge InOutput from to ∷ []) s n in
     let gs = output_merged_at s.level from to (all_glyphs s) in
-    subst P (sym e) (λ same o.
-    let whole : strip gs ≡ strip s.behind ++ strip s.ahead = ap strip (sym (take-append-drop (length s.behind) gs)) ∙ same ∙ map-append item_of s.behind s.ahead in
-    let parts = sides_kept (length s.behind) gs (strip s.behind) (strip s.ahead) (sym (length-map s.behind item_of)) whole in
-    record { behind = parts.0; ahead = parts.1; happened = o; view = refl; settings = refl; opened = opened; unrefused = refl }) items from_where
-
--- a grapheme of the output merged
-pub grapheme_walked : (from to : ℕ) (s new : Sides) → new ≡ with_grapheme_merged from to s → items_of new ≡ items_of s → origins_of new ≡ origins_by (MergeGrapheme from to ∷ []) s → s.is_open ≡ true
-    → HasWalked (strip s.behind) (strip s.ahead) (MergeGrapheme from to ∷ []) s new
-grapheme_walked from to s new e items from_where opened =
-    let P : Sides → Type 0 = λ n. items_of n ≡ items_of s → origins_of n ≡ origins_by (MergeGrapheme from to ∷ []) s → HasWalked (strip s.behind) (strip s.ahead) (MergeGrapheme from to ∷ []) s n in
-    let gs = glyphs_merged_as (grapheme_manner s.level) from to (all_glyphs s) in
     subst P (sym e) (λ same o.
     let whole : strip gs ≡ strip s.behind ++ strip s.ahead = ap strip (sym (take-append-drop (length s.behind) gs)) ∙ same ∙ map-append item_of s.behind s.ahead in
     let parts = sides_kept (length s.behind) gs (strip s.behind) (strip s.ahead) (sym (length-map s.behind item_of)) whole in

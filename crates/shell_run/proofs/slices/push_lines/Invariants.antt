@@ -1,6 +1,6 @@
 use Rattle.std.proofs.Common.{◌≡◌, ◌++◌, drop, map, string_bytes}
 use Rattle.std.specs.List.{flat_map}
-use Rattle.source_slices.specs.Runs.{byte_range}
+use Rattle.shape_slices.specs.Runs.{byte_range}
 use Rattle.shell_run.specs.Slices.{slice_line}
 use Rattle.shell_run.proofs.slices.push_lines.Given as goal
 
