@@ -1,5 +1,5 @@
 -- Glyphs appended to the output in place of the current one.
-use Rattle.std.proofs.Common.{ℕ, ◌≡◌, ◌≤◌, ◌+◌, ◌==◌, Bool, true, false, List, [], ◌∷◌, ◌++◌, Option, Some, None, length, map, drop, refl, sym, ap, subst, ◌∙◌, append_assoc, arith, if◌then◌else◌}
+use Rattle.std.proofs.Common.{ℕ, ◌≡◌, ◌≤◌, ◌<◌, ◌+◌, ◌==◌, Bool, true, false, List, [], ◌∷◌, ◌++◌, Option, Some, None, length, map, drop, refl, sym, ap, subst, ◌∙◌, append_assoc, arith, if◌then◌else◌}
 use Rattle.std.specs.Prelude.{slice_get, replicate}
 use Rattle.std.proofs.lemmas.List.{map-append, length-map}
 use Rattle.std.proofs.Math.Seq.{take-append_seam, drop-append_seam, drop-append-add}
@@ -11,14 +11,16 @@ use Rattle.buffer_glyphs.specs.Origins.{Origin, origin_of, origins, InList, mann
 use Rattle.buffer_glyphs.specs.Events.{Replace, origins_after}
 use Rattle.buffer_glyphs.specs.declared.level.BufferClusterLevel.{BufferClusterLevel}
 use Rattle.buffer_core.specs.Sides.{Sides, all_glyphs, flag_requests_of}
-use Rattle.buffer_core.specs.Merging.{with_output_info, with_glyph_skipped}
+use Rattle.buffer_core.specs.Sides.{after_next_glyphs}
+use Rattle.buffer_core.specs.Merging.{with_glyph_skipped}
+use Rattle.buffer_core.specs.Lending.{with_glyph_ahead}
 use Rattle.buffer_stages.specs.Lemmas.Alone.{merged_alone}
 use Rattle.buffer_glyphs.specs.Rewriting.{eventless_arrangement, replacement, shifted_event}
 use Rattle.buffer_properties.specs.Normalizer.{Normalizer, has_character}
 use Rattle.buffer_properties.specs.declared.normal_mode.Reach.{Reach}
 use Rattle.buffer_properties.specs.SupportedExpansion.{expansion}
 use Rattle.buffer_properties.specs.Expanding.{whole_item, piece_of, items_for, expanded_item, item_expansion}
-use Rattle.shape_normalize.specs.Glyphs.{part_glyph, part_glyphs, Puts, count_of}
+use Rattle.shape_normalize.specs.Glyphs.{part_glyph, part_glyphs, Puts, count_of, with_glyph_replaced}
 use Rattle.buffer_stages.specs.Appending.{AppendsArrangement, RefusesRoomFor}
 use Rattle.shape_normalize.proofs.Lemmas.Chain.{overfills_more}
 
@@ -61,6 +63,14 @@ put_skipped gs g rest left s new at same is = subst (λ (t : Sides). AppendsArra
   frame = refl;
 })
 
+-- a glyph set at the cursor, over which the cursor moves
+pub replaced_ahead : (info : hb_glyph_info_t) (s mid new : Sides) → 0 < length s.ahead → mid ≡ with_glyph_ahead 0 info s → new ≡ after_next_glyphs 1 mid → new ≡ with_glyph_replaced info s
+replaced_ahead info s mid new some set moved = moved ∙ ap (after_next_glyphs 1) set ∙ by_case s.ahead refl
+  where
+    by_case : (gs : List hb_glyph_info_t) → s.ahead ≡ gs → after_next_glyphs 1 (with_glyph_ahead 0 info s) ≡ with_glyph_replaced info s
+    by_case [] e = absurd (let none = ap length e in omega (arith, none, some))
+    by_case (g ∷ gs) e = rw e refl
+
 parts_origins : (c : Normalizer) (g : hb_glyph_info_t) (us : List ℕ) → origins (map (part_glyph c g) us) ≡ replicate (length (map (part_glyph c g) us)) (origin_of g)
 parts_origins c g [] = refl
 parts_origins c g (u ∷ us) = ap (λ os. origin_of g ∷ os) (parts_origins c g us)
@@ -81,35 +91,35 @@ rest_ahead : (g : hb_glyph_info_t) (gs : List hb_glyph_info_t) (x : Item) (xs : 
 rest_ahead g gs x xs is seen = let e : x ∷ xs ≡ item_of g ∷ strip (drop 1 gs) = sym seen ∙ ap strip is in cc
 
 -- an item that was decomposed into the characters that were appended to the output
-pub parts_brought : (c : Normalizer) (reach : Reach) (b : Bool) (g : hb_glyph_info_t) (old mid new : Sides) (x : Item) (xs : List Item) → slice_get old.ahead 0 ≡ Some g → strip old.ahead ≡ x ∷ xs
-    → Puts c (expansion reach (has_character c) c.splits g.glyph_id) b old mid → b ≡ true → new ≡ with_glyph_skipped mid → AppendsArrangement (item_expansion c reach x) xs old new
+pub parts_brought : (c : Normalizer) (reach : Reach) (b : Bool) (g : hb_glyph_info_t) (old new : Sides) (x : Item) (xs : List Item) → slice_get old.ahead 0 ≡ Some g → strip old.ahead ≡ x ∷ xs
+    → Puts c (expansion reach (has_character c) c.splits g.glyph_id) true b old new → b ≡ true → AppendsArrangement (item_expansion c reach x) xs old new
 unfolding expanded_item
-parts_brought c reach b g old mid new x xs at seen put went is =
+parts_brought c reach b g old new x xs at seen put went =
     let first = first_ahead g old.ahead x xs at seen in
     let item = item_ahead g old.ahead x xs first seen in
     rw (item) (by_case (expansion reach (has_character c) c.splits g.glyph_id) put first)
   where
-    by_case : (o : Option (List ℕ)) → Puts c o b old mid → old.ahead ≡ g ∷ drop 1 old.ahead → AppendsArrangement (replacement 1 (items_for c (item_of g) o)) xs old new
+    by_case : (o : Option (List ℕ)) → Puts c o true b old new → old.ahead ≡ g ∷ drop 1 old.ahead → AppendsArrangement (replacement 1 (items_for c (item_of g) o)) xs old new
     by_case None p first = absurd (let bad = p.0 in cc)
     by_case (Some us) p first =
         let gs = map (part_glyph c g) us in
-        let mid_is : mid ≡ record old { behind = old.behind ++ gs; is_apart = mid.is_apart } = p.1 ∙ ap (λ o. record old { behind = old.behind ++ part_glyphs c us o; is_apart = mid.is_apart }) at in
+        let is : new ≡ with_glyph_skipped (record old { behind = old.behind ++ gs; is_apart = new.is_apart }) = p.1 ∙ ap (λ o. with_glyph_skipped (record old { behind = old.behind ++ part_glyphs c us o; is_apart = new.is_apart })) at in
         subst (λ ys. AppendsArrangement (replacement 1 ys) xs old new) (parts_items c g us)
         (subst (λ zs. AppendsArrangement (replacement 1 (strip gs)) zs old new) (rest_ahead g old.ahead x xs first seen)
-        (put_skipped gs g (drop 1 old.ahead) mid.is_apart old new first (parts_origins c g us) (is ∙ ap with_glyph_skipped mid_is)))
+        (put_skipped gs g (drop 1 old.ahead) new.is_apart old new first (parts_origins c g us) is))
 
 -- an item that was replaced by one glyph
 pub placed_brought : (g info : hb_glyph_info_t) (y : Item) (old mid new : Sides) (x : Item) (xs : List Item) → slice_get old.ahead 0 ≡ Some g → strip old.ahead ≡ x ∷ xs
-    → item_of info ≡ y → origin_of info ≡ origin_of g → mid ≡ old → new ≡ with_glyph_skipped (with_output_info info mid) → AppendsArrangement (eventless_arrangement (y ∷ [])) xs old new
+    → item_of info ≡ y → origin_of info ≡ origin_of g → mid ≡ old → new ≡ with_glyph_replaced info mid → AppendsArrangement (eventless_arrangement (y ∷ [])) xs old new
 placed_brought g info y old mid new x xs at seen whole same stays is =
     let first = first_ahead g old.ahead x xs at seen in
     subst (λ z. AppendsArrangement (eventless_arrangement (z ∷ [])) xs old new) whole
     (subst (λ zs. AppendsArrangement (eventless_arrangement (item_of info ∷ [])) zs old new) (rest_ahead g old.ahead x xs first seen)
-    (put_skipped (info ∷ []) g (drop 1 old.ahead) (with_output_info info old).is_apart old new first (ap (λ o. o ∷ []) same) (is ∙ ap (λ s. with_glyph_skipped (with_output_info info s)) stays)))
+    (put_skipped (info ∷ []) g (drop 1 old.ahead) old.is_apart old new first (ap (λ o. o ∷ []) same) (is ∙ ap (with_glyph_replaced info) stays)))
 
 -- an item that stays whole
 pub whole_brought : (c : Normalizer) (reach : Reach) (b : Bool) (g info : hb_glyph_info_t) (old mid new : Sides) (x : Item) (xs : List Item) → slice_get old.ahead 0 ≡ Some g → strip old.ahead ≡ x ∷ xs
-    → Puts c (expansion reach (has_character c) c.splits g.glyph_id) b old mid → b ≡ false → item_of info ≡ whole_item c (item_of g) → origin_of info ≡ origin_of g → new ≡ with_glyph_skipped (with_output_info info mid)
+    → Puts c (expansion reach (has_character c) c.splits g.glyph_id) true b old mid → b ≡ false → item_of info ≡ whole_item c (item_of g) → origin_of info ≡ origin_of g → new ≡ with_glyph_replaced info mid
     → AppendsArrangement (item_expansion c reach x) xs old new
 unfolding expanded_item
 whole_brought c reach b g info old mid new x xs at seen none stays whole same is =
@@ -117,7 +127,7 @@ whole_brought c reach b g info old mid new x xs at seen none stays whole same is
     let item = item_ahead g old.ahead x xs first seen in
     rw (item) (by_case (expansion reach (has_character c) c.splits g.glyph_id) none first)
   where
-    by_case : (o : Option (List ℕ)) → Puts c o b old mid → old.ahead ≡ g ∷ drop 1 old.ahead → AppendsArrangement (replacement 1 (items_for c (item_of g) o)) xs old new
+    by_case : (o : Option (List ℕ)) → Puts c o true b old mid → old.ahead ≡ g ∷ drop 1 old.ahead → AppendsArrangement (replacement 1 (items_for c (item_of g) o)) xs old new
     by_case (Some us) p first = absurd (let bad = p.0 in cc)
     by_case None p first = placed_brought g info (whole_item c (item_of g)) old mid new x xs at seen whole same p.1 is
 
@@ -135,13 +145,13 @@ parts_too_many c reach g e old at over x xs seen =
     (items_count c (item_of g) (expansion reach (has_character c) c.splits g.glyph_id)) over)
 
 -- one that was too many
-pub whole_too_many : (c : Normalizer) (reach : Reach) (b : Bool) (g : hb_glyph_info_t) (e : ShapeCause) (old mid : Sides) → slice_get old.ahead 0 ≡ Some g → Puts c (expansion reach (has_character c) c.splits g.glyph_id) b old mid → b ≡ false
+pub whole_too_many : (c : Normalizer) (reach : Reach) (b : Bool) (g : hb_glyph_info_t) (e : ShapeCause) (old mid : Sides) → slice_get old.ahead 0 ≡ Some g → Puts c (expansion reach (has_character c) c.splits g.glyph_id) true b old mid → b ≡ false
     → RefusesRoomFor 1 e mid → (x : Item) (xs : List Item) → strip old.ahead ≡ x ∷ xs → RefusesRoomFor (length (expanded_item c reach x)) e old
 unfolding expanded_item
 whole_too_many c reach b g e old mid at none stays over x xs seen =
     let item = item_ahead g old.ahead x xs (first_ahead g old.ahead x xs at seen) seen in
     rw item (by_case (expansion reach (has_character c) c.splits g.glyph_id) none)
   where
-    by_case : (o : Option (List ℕ)) → Puts c o b old mid → RefusesRoomFor (length (items_for c (item_of g) o)) e old
+    by_case : (o : Option (List ℕ)) → Puts c o true b old mid → RefusesRoomFor (length (items_for c (item_of g) o)) e old
     by_case (Some us) p = absurd (let bad = p.0 in cc)
     by_case None p = subst (RefusesRoomFor 1 e) p.1 over

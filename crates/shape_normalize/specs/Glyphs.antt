@@ -1,8 +1,9 @@
 -- Glyph records of the characters that replace others.
-use Rattle.std.specs.Prelude.{ℕ, Bool, ◌≡◌, ◌++◌, List, [], Option, Some, None, unwrap_or, map, slice_get, length, true, false}
+use Rattle.std.specs.Prelude.{ℕ, Bool, ◌≡◌, ◌++◌, ◌+◌, ◌∷◌, List, [], Option, Some, None, unwrap_or, map, slice_get, length, drop, true, false}
 use Rattle.buffer_glyphs.specs.declared.info.hb_glyph_info_t.{hb_glyph_info_t}
 use Rattle.buffer_properties.specs.Properties.{properties_of, character_class}
 use Rattle.buffer_core.specs.Sides.{Sides}
+use Rattle.buffer_core.specs.Merging.{with_glyph_skipped}
 use Rattle.buffer_properties.specs.Normalizer.{Normalizer}
 
 -- the glyph record of a half of a decomposed character
@@ -14,14 +15,24 @@ abbrev pub part_glyphs : Normalizer → List ℕ → Option hb_glyph_info_t → 
 part_glyphs c us None = []
 part_glyphs c us (Some g) = map (part_glyph c g) us
 
--- the characters of the current glyph were appended to the output, and nothing else changes but whether it is apart
-abbrev pub HasHalvesOutput : Normalizer → List ℕ → Sides → Sides → Type 0
-HasHalvesOutput c us old new = new ≡ record old { behind = old.behind ++ part_glyphs c us (slice_get old.ahead 0); is_apart = new.is_apart }
+-- the glyph at the cursor replaced by another one, over which the cursor moved
+abbrev pub with_glyph_replaced : hb_glyph_info_t → Sides → Sides
+with_glyph_replaced g s = record s { behind = s.behind ++ g ∷ []; ahead = drop 1 s.ahead; read = s.read + 1 }
+
+-- the current glyph read, where the last character that replaces it was output
+abbrev pub with_current_read : Bool → Sides → Sides
+with_current_read true s = with_glyph_skipped s
+with_current_read false s = s
+
+-- characters of the current glyph were appended to the output, with which it was read where these are its last ones;
+-- nothing else changes but whether the output is apart
+abbrev pub HasHalvesOutput : Normalizer → List ℕ → Bool → Sides → Sides → Type 0
+HasHalvesOutput c us last old new = new ≡ with_current_read last (record old { behind = old.behind ++ part_glyphs c us (slice_get old.ahead 0); is_apart = new.is_apart })
 
 -- characters were appended to the output, if there are any, and the call returns whether there were
-abbrev pub Puts : Normalizer → Option (List ℕ) → Bool → Sides → Sides → Type 0
-Puts c None b old new = (b ≡ false) × (new ≡ old)
-Puts c (Some us) b old new = (b ≡ true) × HasHalvesOutput c us old new
+abbrev pub Puts : Normalizer → Option (List ℕ) → Bool → Bool → Sides → Sides → Type 0
+Puts c None last b old new = (b ≡ false) × (new ≡ old)
+Puts c (Some us) last b old new = (b ≡ true) × HasHalvesOutput c us last old new
 
 -- the number of characters, 0 for none
 abbrev pub count_of : Option (List ℕ) → ℕ

@@ -1,7 +1,6 @@
 //! The characters of a buffer, with what normalizing reads and sets of them (rustybuzz: hb/ot_shape_normalize.rs).
-ghost use Rattle.std.specs.Prelude.{◌≡◌, ◌<◌, if◌then◌else◌, unwrap_or};
+ghost use Rattle.std.specs.Prelude.{◌≡◌, ◌<◌, if◌then◌else◌, unwrap_or, Some};
 ghost use Rattle.buffer_properties.specs.Characters.{is_space, is_selector, mark_class, unjoined_selector, with_glyph, standing_for};
-ghost use Rattle.buffer_properties.specs.Normalizer.{has_character};
 ghost use Rattle.buffer_properties.specs.Expanding.{space_glyph, hyphen_glyph, whole_item, with_own_glyph};
 ghost use Rattle.buffer_glyphs.specs.Items.{item_of};
 ghost use Rattle.buffer_glyphs.specs.Origins.{origin_of};
@@ -59,20 +58,19 @@ fn space_fallback(u: u32) -> u8
     }
 }
 
-/// Whether the font has a character.
-pub(crate) fn has<N: Normalizing>(by: &N, u: u32) -> bool
-    ensures { result ≡ has_character (N.normalizer by.now) u }
-{
-    by.glyph(u).is_some()
-}
-
 /// A glyph record of a half of a character's decomposition, with the font's glyph.
-pub(crate) fn part_of<N: Normalizing>(by: &N, info: &hb_glyph_info_t, u: char) -> hb_glyph_info_t
+pub(crate) fn part_of<N: Normalizing>(
+    by: &N,
+    info: &hb_glyph_info_t,
+    u: char,
+    glyph: u32,
+) -> hb_glyph_info_t
+    requires { (N.normalizer by.now).glyph_of u ≡ Some glyph }
     ensures { result ≡ part_glyph (N.normalizer by.now) info.now u }
 {
     hb_glyph_info_t {
         glyph_id: u32::from(u),
-        glyph_index: by.glyph(u32::from(u)).unwrap_or(0),
+        glyph_index: glyph,
         unicode_props: UnicodeProps(properties_of(u)),
         modified_combining_class: character_class(by.tables(), u),
         ..*info
@@ -111,12 +109,17 @@ fn hyphen_glyph<N: Normalizing>(by: &N, info: &hb_glyph_info_t) -> Option<u32>
     }
 }
 
-/// A character that isn't decomposed, with its glyph.
-pub(crate) fn whole_of<N: Normalizing>(by: &N, info: &hb_glyph_info_t) -> hb_glyph_info_t
+/// A character that isn't decomposed, with `glyph`, the font's glyph for it, or with another's where the font has none.
+pub(crate) fn whole_of<N: Normalizing>(
+    by: &N,
+    info: &hb_glyph_info_t,
+    glyph: Option<u32>,
+) -> hb_glyph_info_t
+    requires { glyph ≡ (N.normalizer by.now).glyph_of info.now.glyph_id }
     ensures item { item_of result ≡ whole_item (N.normalizer by.now) (item_of info.now) }
     ensures origin { origin_of result ≡ origin_of info.now }
 {
-    if let Some(glyph_index) = by.glyph(info.glyph_id) {
+    if let Some(glyph_index) = glyph {
         return hb_glyph_info_t {
             glyph_index,
             ..*info

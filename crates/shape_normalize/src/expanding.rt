@@ -1,6 +1,6 @@
 //! The first round: decomposes characters, and combines variation selectors with the character before them
 //! (rustybuzz: hb/ot_shape_normalize.rs).
-ghost use Rattle.std.specs.Prelude.{◌≡◌, ◌<◌, ◌≤◌, ◌+◌, ◌++◌, ◌∷◌, [], List, false, length, map, take, true, IfOk, IfErr, OnOk};
+ghost use Rattle.std.specs.Prelude.{◌≡◌, ◌<◌, ◌≤◌, ◌+◌, ◌++◌, ◌∷◌, [], List, false, length, map, take, true, Some, IfOk, IfErr, OnOk};
 ghost use Rattle.std.specs.List.{list_any};
 ghost use Rattle.buffer_glyphs.specs.Items.{Item, strip};
 ghost use Rattle.buffer_glyphs.specs.Rewriting.{in_turn};
@@ -12,7 +12,7 @@ ghost use Rattle.buffer_stages.specs.Appending.{AppendsArrangement, RefusesRoomF
 ghost use Rattle.shape_normalize.specs.Walking.{Groups, GroupsTooMany, Walks, WalksTooMany, IsExpanded, ExpandsTooMany};
 ghost use Rattle.shape_normalize.specs.Glyphs.{HasHalvesOutput, Puts, count_of};
 
-use crate::characters::{has, is_selector, part_of, whole_of};
+use crate::characters::{is_selector, part_of, whole_of};
 use crate::normalizing::Normalizing;
 use crate::outputting::output_replacement;
 use crate::selecting::expand_selected;
@@ -21,14 +21,25 @@ use buffer_glyphs::cause::ShapeCause;
 use buffer_properties::categories::is_mark;
 use buffer_properties::{NormalizationMode, Reach};
 
-/// Appends a character of the font to the output.
-fn put_part<N: Normalizing>(by: &N, u: char, buffer: &mut hb_buffer_t) -> Result<(), ShapeCause>
+/// Appends a character to the output, with the font's glyph for it; the last one that replaces the current character is
+/// put in its place.
+fn put_part<N: Normalizing>(
+    by: &N,
+    u: char,
+    glyph: u32,
+    is_last: bool,
+    buffer: &mut hb_buffer_t,
+) -> Result<(), ShapeCause>
     requires open { buffer.old.is_open ≡ true }
     requires there { 0 < length buffer.old.ahead }
-    ensures ok { OnOk result (HasHalvesOutput (N.normalizer by.now) (u ∷ []) buffer.old buffer.new) }
+    requires glyph { (N.normalizer by.now).glyph_of u ≡ Some glyph }
+    ensures ok { OnOk result (HasHalvesOutput (N.normalizer by.now) (u ∷ []) is_last buffer.old buffer.new) }
     ensures err { IfErr result (λ e. RefusesRoomFor 1 e buffer.old) }
 {
-    let part = part_of(by, buffer.cur(0), u);
+    let part = part_of(by, buffer.cur(0), u, glyph);
+    if is_last {
+        return output_replacement(part, buffer);
+    }
     if !buffer.output_info(part)? {
         return Err(ShapeCause::TooLong);
     }
@@ -36,22 +47,28 @@ fn put_part<N: Normalizing>(by: &N, u: char, buffer: &mut hb_buffer_t) -> Result
 }
 
 /// Appends a character to the output, if the font has it.
-fn put_alone<N: Normalizing>(by: &N, u: char, buffer: &mut hb_buffer_t) -> Result<bool, ShapeCause>
+fn put_alone<N: Normalizing>(
+    by: &N,
+    u: char,
+    is_last: bool,
+    buffer: &mut hb_buffer_t,
+) -> Result<bool, ShapeCause>
     requires open { buffer.old.is_open ≡ true }
     requires there { 0 < length buffer.old.ahead }
     ensures ok { IfOk result (λ b. Puts (N.normalizer by.now) (alone (has_character (N.normalizer by.now)) u)
-        b buffer.old buffer.new) }
+        is_last b buffer.old buffer.new) }
     ensures err { IfErr result (λ e. RefusesRoomFor (count_of (alone (has_character (N.normalizer by.now)) u))
         e buffer.old) }
 {
-    if !has(by, u as u32) {
+    let Some(glyph) = by.glyph(u as u32) else {
         return Ok(false);
-    }
-    put_part(by, u, buffer)?;
+    };
+    put_part(by, u, glyph, is_last, buffer)?;
     Ok(true)
 }
 
-/// Appends the characters of the font that a character decomposes to, with at most `depth` decompositions.
+/// Appends the characters of the font that a character decomposes to, with at most `depth` decompositions; where they
+/// are the last ones, the last of them is put in the place of the current character.
 #[cycle(expand)]
 #[tactic(auto, using(crate::proofs::Supported::supported_zero, crate::proofs::Supported::supported_step))]
 fn put_supported<N: Normalizing>(
@@ -59,31 +76,32 @@ fn put_supported<N: Normalizing>(
     reach: Reach,
     depth: u32,
     u: char,
+    is_last: bool,
     buffer: &mut hb_buffer_t,
 ) -> Result<bool, ShapeCause>
     requires open { buffer.old.is_open ≡ true }
     requires there { 0 < length buffer.old.ahead }
     ensures ok { IfOk result (λ b. Puts (N.normalizer by.now)
         (supported_expansion reach (has_character (N.normalizer by.now)) (N.normalizer by.now).splits depth u)
-        b buffer.old buffer.new) }
+        is_last b buffer.old buffer.new) }
     ensures err { IfErr result (λ e. RefusesRoomFor (count_of (supported_expansion reach (has_character (N.normalizer by.now))
         (N.normalizer by.now).splits depth u)) e buffer.old) }
 {
     if depth == 0 {
-        return put_alone(by, u, buffer);
+        return put_alone(by, u, is_last, buffer);
     }
     match reach {
         Reach::Least => {
-            if has(by, u as u32) {
-                return put_alone(by, u, buffer);
-            }
-            put_in_parts(by, reach, depth - 1, u as u32, buffer)
-        }
-        Reach::Greatest => {
-            if put_in_parts(by, reach, depth - 1, u as u32, buffer)? {
+            if put_alone(by, u, is_last, buffer)? {
                 return Ok(true);
             }
-            put_alone(by, u, buffer)
+            put_in_parts(by, reach, depth - 1, u as u32, is_last, buffer)
+        }
+        Reach::Greatest => {
+            if put_in_parts(by, reach, depth - 1, u as u32, is_last, buffer)? {
+                return Ok(true);
+            }
+            put_alone(by, u, is_last, buffer)
         }
     }
 }
@@ -96,6 +114,7 @@ fn put_in_parts<N: Normalizing>(
     reach: Reach,
     depth: u32,
     u: u32,
+    is_last: bool,
     buffer: &mut hb_buffer_t,
 ) -> Result<bool, ShapeCause>
     requires open { buffer.old.is_open ≡ true }
@@ -103,7 +122,7 @@ fn put_in_parts<N: Normalizing>(
     ensures ok { IfOk result (λ b. Puts (N.normalizer by.now)
         (by_supported (has_character (N.normalizer by.now))
         (supported_expansion reach (has_character (N.normalizer by.now)) (N.normalizer by.now).splits depth)
-        ((N.normalizer by.now).splits u)) b buffer.old buffer.new) }
+        ((N.normalizer by.now).splits u)) is_last b buffer.old buffer.new) }
     ensures err { IfErr result (λ e. RefusesRoomFor (count_of (by_supported (has_character (N.normalizer by.now))
         (supported_expansion reach (has_character (N.normalizer by.now)) (N.normalizer by.now).splits depth)
         ((N.normalizer by.now).splits u))) e buffer.old) }
@@ -111,43 +130,46 @@ fn put_in_parts<N: Normalizing>(
     let Some((first, second)) = by.decompose(u) else {
         return Ok(false);
     };
-    if second != '\0' && !has(by, second as u32) {
-        return Ok(false);
-    }
-    if !put_supported(by, reach, depth, first, buffer)? {
-        return Ok(false);
-    }
     if second == '\0' {
-        return Ok(true);
+        return put_supported(by, reach, depth, first, is_last, buffer);
     }
-    put_part(by, second, buffer)?;
+    let Some(glyph) = by.glyph(second as u32) else {
+        return Ok(false);
+    };
+    if !put_supported(by, reach, depth, first, false, buffer)? {
+        return Ok(false);
+    }
+    put_part(by, second, glyph, is_last, buffer)?;
     Ok(true)
 }
 
-/// Appends the decomposition of a character, where it has one that the font supports.
+/// Replaces the current character by its decomposition, where it has one that the font supports; `has` is whether the
+/// font has the character.
 #[tactic(auto, unfolding(buffer_properties::specs::SupportedExpansion::in_pieces))]
 fn put_expansion<N: Normalizing>(
     by: &N,
     reach: Reach,
     u: u32,
+    has: bool,
     buffer: &mut hb_buffer_t,
 ) -> Result<bool, ShapeCause>
     requires open { buffer.old.is_open ≡ true }
     requires there { 0 < length buffer.old.ahead }
+    requires known { has ≡ has_character (N.normalizer by.now) u }
     ensures ok { IfOk result (λ b. Puts (N.normalizer by.now)
         (expansion reach (has_character (N.normalizer by.now)) (N.normalizer by.now).splits u)
-        b buffer.old buffer.new) }
+        true b buffer.old buffer.new) }
     ensures err { IfErr result (λ e. RefusesRoomFor (count_of (expansion reach (has_character (N.normalizer by.now))
         (N.normalizer by.now).splits u)) e buffer.old) }
 {
     match reach {
         Reach::Least => {
-            if has(by, u) {
+            if has {
                 return Ok(false);
             }
-            put_in_parts(by, Reach::Least, 8, u, buffer)
+            put_in_parts(by, Reach::Least, 8, u, true, buffer)
         }
-        Reach::Greatest => put_in_parts(by, Reach::Greatest, 8, u, buffer),
+        Reach::Greatest => put_in_parts(by, Reach::Greatest, 8, u, true, buffer),
     }
 }
 
@@ -165,11 +187,11 @@ fn expand_current<N: Normalizing>(
         → RefusesRoomFor (length (expanded_item (N.normalizer by.now) reach x)) e buffer.old) }
 {
     let info = *buffer.cur(0);
-    if put_expansion(by, reach, info.glyph_id, buffer)? {
-        buffer.skip_glyph();
+    let glyph = by.glyph(info.glyph_id);
+    if put_expansion(by, reach, info.glyph_id, glyph.is_some(), buffer)? {
         return Ok(());
     }
-    output_replacement(whole_of(by, &info), buffer)?;
+    output_replacement(whole_of(by, &info, glyph), buffer)?;
     Ok(())
 }
 

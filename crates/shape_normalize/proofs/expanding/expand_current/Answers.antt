@@ -9,7 +9,7 @@ returns-in_err-put_expansion-clause-err g c =
     (parts_too_many (g.N.Normalizing.normalizer c.args.by.now) c.args.reach c.cur.result.now e c.args.buffer.now c.cur.ensures c.in_err-put_expansion.ensures.err)
 
 pub returns-then-branch-clause-ok : goal.returns-then-branch-clause-ok
-returns-then-branch-clause-ok g c = λ x xs seen. parts_brought (g.N.Normalizing.normalizer c.args.by.now) c.args.reach c.in_ok-put_expansion.field-0 c.cur.result.now c.args.buffer.now c.put_expansion.new.buffer c.skip_glyph.new.self x xs c.cur.ensures seen c.in_ok-put_expansion.ensures.ok c.if-branch.true c.skip_glyph.ensures.skipped
+returns-then-branch-clause-ok g c = λ x xs seen. parts_brought (g.N.Normalizing.normalizer c.args.by.now) c.args.reach c.in_ok-put_expansion.field-0 c.cur.result.now c.args.buffer.now c.put_expansion.new.buffer x xs c.cur.ensures seen c.in_ok-put_expansion.ensures.ok c.if-branch.true
 
 pub returns-in_err-output_replacement-clause-err : goal.returns-in_err-output_replacement-clause-err
 returns-in_err-output_replacement-clause-err g c =
