@@ -1,6 +1,7 @@
 -- Grapheme joiners that are shown, one after another.
 use Rattle.std.proofs.Common.{ℕ, ◌≡◌, ◌≢◌, ◌≤◌, ◌<◌, ◌+◌, ◌-◌, ◌==◌, ◌&&◌, ◌||◌, nat_le, Bool, true, false, List, [], ◌∷◌, ◌++◌, length, refl, sym, ap, ap₂, ◌∙◌, append_assoc, arith}
 use Rattle.std.specs.Prelude.{slice_get, slice_set, option_map, Some}
+use Rattle.std.specs.List.{list_any}
 use Rattle.std.proofs.lemmas.Bool.{cond-true, cond-false}
 use Rattle.std.proofs.lemmas.Bool.Decides.{nat_tests}
 use Rattle.std.proofs.lemmas.List.{length-map, length-append}
@@ -184,3 +185,31 @@ few_stay s ready few = by_case s.ahead refl
     by_case (g ∷ h ∷ gs) e = absurd (let many = ap length e in omega (arith, many, few))
     by_case [] e = let items : items_of s ≡ [] = ap strip (all_ahead s ready ∙ e) in stays (joiners_shown (items_of s)) s (items ∙ ap joiners_shown (sym items)) ready
     by_case (g ∷ []) e = let items : items_of s ≡ item_of g ∷ [] = ap strip (all_ahead s ready ∙ e) in stays (joiners_shown (items_of s)) s (items ∙ ap joiners_shown (sym items)) ready
+
+-- ---- no joiner at all
+
+none_shown : (before : Item) (gs : List hb_glyph_info_t) → list_any (λ (g : hb_glyph_info_t). g.glyph_id == 0x034F) gs ≡ false → with_joiners_shown before (strip gs) ≡ strip gs
+none_shown before [] none = refl
+none_shown before (g ∷ []) none = refl
+none_shown before (g ∷ h ∷ gs) none =
+    let other : (g.glyph_id == 0x034F) ≡ false = (neither (g.glyph_id == 0x034F) (list_any (λ (k : hb_glyph_info_t). k.glyph_id == 0x034F) (h ∷ gs)) none).0 in
+    let rest = (neither (g.glyph_id == 0x034F) (list_any (λ (k : hb_glyph_info_t). k.glyph_id == 0x034F) (h ∷ gs)) none).1 in
+    ap₂ (λ x xs. x ∷ xs) (not_joined before (item_of g) (item_of h) (ap (λ b. b && separates_nothing before (item_of h)) other)) (none_shown (item_of g) (h ∷ gs) rest)
+  where
+    neither : (a b : Bool) → (a || b) ≡ false → (a ≡ false) × (b ≡ false)
+    neither false false e = (refl, refl)
+    neither false true e = absurd (let bad = e in cc)
+    neither true b e = absurd (let bad = e in cc)
+
+pub none_stays : (s : Sides) → IsReady s → list_any (λ (g : hb_glyph_info_t). g.glyph_id == 0x034F) (all_glyphs s) ≡ false → HasItems (joiners_shown (items_of s)) s s
+none_stays s ready none = by_case (all_glyphs s) refl none
+  where
+    by_case : (gs : List hb_glyph_info_t) → all_glyphs s ≡ gs → list_any (λ (g : hb_glyph_info_t). g.glyph_id == 0x034F) gs ≡ false → HasItems (joiners_shown (items_of s)) s s
+    by_case [] e none = stays (joiners_shown (items_of s)) s (ap strip e ∙ ap joiners_shown (sym (ap strip e))) ready
+    by_case (g ∷ gs) e none =
+        let later = rest_of (g.glyph_id == 0x034F) (list_any (λ (k : hb_glyph_info_t). k.glyph_id == 0x034F) gs) none in
+        stays (joiners_shown (items_of s)) s (ap strip e ∙ ap (λ xs. item_of g ∷ xs) (sym (none_shown (item_of g) gs later)) ∙ ap joiners_shown (sym (ap strip e))) ready
+      where
+        rest_of : (a b : Bool) → (a || b) ≡ false → b ≡ false
+        rest_of false b e = e
+        rest_of true b e = absurd (let bad = e in cc)

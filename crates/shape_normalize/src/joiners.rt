@@ -1,5 +1,6 @@
 //! Unhides grapheme joiners that keep nothing apart (rustybuzz: hb/ot_shape_normalize.rs).
 ghost use Rattle.std.specs.Prelude.{◌≡◌, ◌<◌, ◌≤◌, ◌+◌, ◌==◌, ◌||◌, nat_le, length};
+ghost use Rattle.std.specs.List.{list_any};
 ghost use Rattle.buffer_glyphs.specs.Items.{item_of};
 ghost use Rattle.buffer_glyphs.specs.Origins.{origin_of};
 ghost use Rattle.buffer_core.specs.Sides.{items_of};
@@ -70,12 +71,23 @@ fn show_between(count: usize, buffer: &mut hb_buffer_t)
     }
 }
 
+/// Whether there is a grapheme joiner.
+fn has_joiner(glyphs: &[hb_glyph_info_t]) -> bool
+    ensures { result ≡ list_any (λ g. g.glyph_id == 0x034F) glyphs.now }
+{
+    glyphs.iter().any(|glyph| glyph.glyph_id == JOINER)
+}
+
 /// Unhides each grapheme joiner between two items where the next class is 0, or at least the previous one. It takes
-/// linear time.
+/// linear time; a text without joiners is only searched for one.
+#[tactic(auto, using(crate::proofs::Shown::none_stays))]
 pub(crate) fn show_joiners(buffer: &mut hb_buffer_t)
     requires ready { IsReady buffer.old }
     ensures { HasItems (joiners_shown (items_of buffer.old)) buffer.old buffer.new }
 {
+    if !has_joiner(buffer.info_slice()) {
+        return;
+    }
     let count = buffer.lookahead_len();
     if count < 2 {
         return;
