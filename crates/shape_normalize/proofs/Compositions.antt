@@ -24,8 +24,11 @@ merged_count : (s a b : Sides) → all_glyphs a ≡ all_glyphs s → items_of b 
 merged_count s a b kept items = sym (length-map (all_glyphs b) item_of) ∙ ap length items ∙ length-map (all_glyphs a) item_of ∙ ap length kept
 
 -- room for what comes next
+pub room_walked : (n : ℕ) (s a : Sides) → HasRoom s → a ≡ after_next_glyphs n s → all_glyphs a ≡ all_glyphs s → HasRoom a
+room_walked n s a room next kept = let same = ap length kept in room_kept s a (ap frame_of next) (omega (arith, same)) room
+
 pub room_passed : (s a : Sides) → HasRoom s → a ≡ after_next_glyphs 1 s → all_glyphs a ≡ all_glyphs s → HasRoom a
-room_passed s a room next kept = let same = ap length kept in room_kept s a (ap frame_of next) (omega (arith, same)) room
+room_passed s a = room_walked 1 s a
 
 pub room_merged : (from to : ℕ) (s a b : Sides) → HasRoom s → a ≡ after_next_glyphs 1 s → all_glyphs a ≡ all_glyphs s → b ≡ with_output_merged from to a → items_of b ≡ items_of a → HasRoom b
 room_merged from to s a b room next kept merges items = let same = merged_count s a b kept items in room_kept s b (ap frame_of merges ∙ ap frame_of next) (omega (arith, same)) room

@@ -12,6 +12,7 @@ pub mod Joined
 pub mod Room
 pub mod Compositions
 pub mod Walk
+pub mod Uncomposed
 pub mod Sorted
 pub mod Runs
 pub mod Shown

@@ -10,13 +10,16 @@ use Rattle.buffer_stages.specs.Ready.{IsReady}
 use Rattle.buffer_stages.specs.Appending.{frame_of}
 use Rattle.shape_normalize.specs.Composed.{HasRoom}
 
-pub fits_next_glyph : (s : Sides) → HasRoom s → 0 < length s.ahead → fits_next 1 s ≡ true
-fits_next_glyph s room some =
+pub fits_next_ones : (n : ℕ) (s : Sides) → HasRoom s → n ≤ length s.ahead → fits_next n s ≡ true
+fits_next_ones n s room some =
     let fits = room.fits in
     let sides = length-append s.behind s.ahead in
-    let le : length s.behind + 1 ≤ s.max_len = omega (arith, fits, sides, some) in
-    let t : has_output_room 1 s ≡ true = grind (arith, nat_tests, le) in
+    let le : length s.behind + n ≤ s.max_len = omega (arith, fits, sides, some) in
+    let t : has_output_room n s ≡ true = grind (arith, nat_tests, le) in
     cond-true _ _ _ room.is_open ∙ t
+
+pub fits_next_glyph : (s : Sides) → HasRoom s → 0 < length s.ahead → fits_next 1 s ≡ true
+fits_next_glyph s room some = fits_next_ones 1 s room (omega (arith, some))
 
 holds : (at : ℕ) (s : Sides) → HasRoom s → at ≤ length (all_glyphs s) → side_holds at s ≡ true
 holds at s room le =

@@ -4,13 +4,14 @@ use Rattle.std.specs.Prelude.{slice_get, slice_set, option_map, Option, Some, No
 use Rattle.std.specs.Option.{option_map_or, option_and_then}
 use Rattle.std.proofs.lemmas.Option.{slice_get-map}
 use Rattle.std.proofs.lemmas.Bool.{cond-true, cond-false}
-use Rattle.std.proofs.lemmas.List.{append-nil, map-append, length-map, length-append, take-map, drop-map}
+use Rattle.std.proofs.lemmas.List.{append-nil, map-append, length-map, length-append, take-map, drop-map, take_at}
+use Rattle.std.proofs.Math.Seq.{drop-append_seam}
 use Rattle.buffer_glyphs.specs.declared.info.hb_glyph_info_t.{hb_glyph_info_t}
 use Rattle.buffer_glyphs.specs.Items.{Item, item_of, strip}
 use Rattle.buffer_glyphs.specs.Origins.{origins}
 use Rattle.buffer_glyphs.specs.Events.{Event, origins_after}
 use Rattle.buffer_glyphs.specs.Lemmas.Origins.{origins_after_both}
-use Rattle.buffer_core.specs.Sides.{Sides, all_glyphs, flag_requests_of, origins_of, origins_by, after_next_glyphs}
+use Rattle.buffer_core.specs.Sides.{Sides, all_glyphs, flag_requests_of, items_of, origins_of, origins_by, after_next_glyphs}
 use Rattle.buffer_glyphs.specs.Rewriting.{Arrangement, eventless_arrangement, shifted_event}
 use Rattle.buffer_properties.specs.Characters.{is_mark, mark_class}
 use Rattle.buffer_properties.specs.Composing.{becoming, composite, composition_from, composed_list, with_composition, is_not_blocked, last_class}
@@ -18,9 +19,9 @@ use Rattle.buffer_properties.specs.Normalizer.{Normalizer}
 use Rattle.buffer_stages.specs.Appending.{AppendsArrangement, frame_of}
 use Rattle.shape_normalize.proofs.Lemmas.Chain.{all_shifted_none}
 use Rattle.shape_normalize.specs.Composed.{composition_events, HasRoom}
-use Rattle.shape_normalize.specs.Starters.{IsAt, Joins, Composes}
+use Rattle.shape_normalize.specs.Starters.{IsAt, IsUncomposed, Joins, Composes}
 use Rattle.shape_normalize.proofs.Room.{room_kept}
-use Rattle.shape_normalize.proofs.Compositions.{room_passed}
+use Rattle.shape_normalize.proofs.Compositions.{room_passed, room_walked}
 
 -- events, and then an arrangement
 abbrev before : List Event → Arrangement → Arrangement
@@ -29,8 +30,9 @@ before es a = record { items = a.items; events = es ++ a.events }
 before_both : (es fs : List Event) (a : Arrangement) → before es (before fs a) ≡ before (es ++ fs) a
 before_both es fs a = ap (λ gs. record { items = a.items; events = gs }) (sym (append_assoc es fs a.events))
 
--- that many items were walked over since the first; the last starter is there
-pub record IsComposing (c : Normalizer) (count at n : ℕ) (start now : Sides) : Type 0 where
+-- that many items were walked over since an index before which no mark is composed; the last starter is there, and the
+-- whole list becomes `goal`
+pub record IsComposing (c : Normalizer) (goal : Arrangement) (count at n : ℕ) (start now : Sides) : Type 0 where
   pub done : List Item
   pub x : Item
   pub between : List Item
@@ -43,46 +45,49 @@ pub record IsComposing (c : Normalizer) (count at n : ℕ) (start now : Sides) :
   pub happened : origins_of now ≡ origins_by es start
   pub frame : frame_of now ≡ frame_of start
   pub room : HasRoom now
-  pub whole : (y : Item) (zs : List Item) → strip start.behind ≡ y ∷ [] → strip start.ahead ≡ zs → composition_from c [] y [] zs ≡ before es (composition_from c done x between ys)
+  pub whole : goal ≡ before es (composition_from c done x between ys)
 
-pub composing_begun : (c : Normalizer) (count : ℕ) (s p : Sides) → HasRoom s → s.behind ≡ [] → count ≡ length s.ahead → 0 < count → p ≡ after_next_glyphs 1 s → all_glyphs p ≡ all_glyphs s → IsComposing c count 1 0 p p
-composing_begun c count s p room front len some next eventless_arrangement = by_case s.ahead refl
-  where
-    by_case : (gs : List hb_glyph_info_t) → s.ahead ≡ gs → IsComposing c count 1 0 p p
-    by_case [] e = absurd (let none = ap length e in omega (arith, none, len, some))
-    by_case (g ∷ gs) e =
-        let back : p.behind ≡ g ∷ [] = ap (λ (t : Sides). t.behind) next ∙ ap₂ (λ hs ks. hs ++ take 1 ks) front e in
-        let rest : p.ahead ≡ gs = ap (λ (t : Sides). t.ahead) next ∙ ap (drop 1) e in
-        record {
-          done = [];
-          x = item_of g;
-          between = [];
-          ys = strip gs;
-          es = [];
-          behind = ap strip back;
-          ahead = ap strip rest;
-          starts = refl;
-          left = let all = ap length e in omega (arith, all, len, length-map gs item_of);
-          happened = refl;
-          frame = refl;
-          room = room_passed s p room next eventless_arrangement;
-          whole = λ y zs f h.
-              let same : item_of g ∷ [] ≡ y ∷ [] = sym (ap strip back) ∙ f in
-              let first : item_of g ≡ y = cc in
-              ap₂ (λ y zs. composition_from c [] y [] zs) (sym first) (sym h ∙ ap strip rest);
-        }
+items_passed : (s p : Sides) → s.behind ≡ [] → all_glyphs p ≡ all_glyphs s → items_of p ≡ strip s.ahead
+items_passed s p front kept = ap strip kept ∙ ap (λ hs. strip (hs ++ s.ahead)) front
 
-pub composing_room : (c : Normalizer) (count at n : ℕ) (start now : Sides) → IsComposing c count at n start now → HasRoom now
-composing_room c count at n start now w = w.room
+pub composing_begun : (c : Normalizer) (at n count : ℕ) (s p : Sides) → HasRoom s → s.behind ≡ [] → count ≡ length s.ahead → at < count → IsUncomposed c at n (strip s.ahead) → p ≡ after_next_glyphs at s → all_glyphs p ≡ all_glyphs s
+    → IsComposing c (composed_list c (items_of p)) count at n p p
+composing_begun c at n count s p room front len lt w next kept =
+    let ends = w.ends in
+    let met : length (w.done ++ w.x ∷ w.between) ≡ at = let sides = length-append w.done (w.x ∷ w.between) in omega (arith, sides, ends) in
+    let seam : strip s.ahead ≡ (w.done ++ w.x ∷ w.between) ++ w.ys = w.parts ∙ sym (append_assoc w.done (w.x ∷ w.between) w.ys) in
+    record {
+      done = w.done;
+      x = w.x;
+      between = w.between;
+      ys = w.ys;
+      es = [];
+      behind = ap (λ (t : Sides). strip t.behind) next ∙ ap (λ hs. strip (hs ++ take at s.ahead)) front ∙ sym (take-map item_of at s.ahead) ∙ ap (take at) seam ∙ take_at (w.done ++ w.x ∷ w.between) w.ys at met;
+      ahead =
+          ap (λ (t : Sides). strip t.ahead) next ∙ sym (drop-map item_of at s.ahead) ∙ ap (drop at) seam ∙ ap (λ k. drop k ((w.done ++ w.x ∷ w.between) ++ w.ys)) (sym met)
+          ∙ drop-append_seam (w.done ++ w.x ∷ w.between) w.ys;
+      starts = w.starts;
+      left =
+          let all = ap length seam in
+          let sides = length-append (w.done ++ w.x ∷ w.between) w.ys in
+          omega (arith, all, sides, met, len, length-map s.ahead item_of);
+      happened = refl;
+      frame = refl;
+      room = room_walked at s p room next kept;
+      whole = ap (composed_list c) (items_passed s p front kept) ∙ w.whole;
+    }
 
-pub composing_there : (c : Normalizer) (count at n : ℕ) (start now : Sides) → at < count → IsComposing c count at n start now → 0 < length now.ahead
-composing_there c count at n start now lt w =
+pub composing_room : (c : Normalizer) (goal : Arrangement) (count at n : ℕ) (start now : Sides) → IsComposing c goal count at n start now → HasRoom now
+composing_room c goal count at n start now w = w.room
+
+pub composing_there : (c : Normalizer) (goal : Arrangement) (count at n : ℕ) (start now : Sides) → at < count → IsComposing c goal count at n start now → 0 < length now.ahead
+composing_there c goal count at n start now lt w =
     let seen = ap length w.ahead in
     let left = w.left in
     omega (arith, seen, left, lt, length-map now.ahead item_of)
 
-pub composing_behind : (c : Normalizer) (count at n : ℕ) (start now : Sides) → IsComposing c count at n start now → n < length now.behind
-composing_behind c count at n start now w =
+pub composing_behind : (c : Normalizer) (goal : Arrangement) (count at n : ℕ) (start now : Sides) → IsComposing c goal count at n start now → n < length now.behind
+composing_behind c goal count at n start now w =
     let seen = ap length w.behind in
     let starts = w.starts in
     omega (arith, seen, starts, length-map now.behind item_of, length-append w.done (w.x ∷ w.between))
@@ -121,22 +126,22 @@ joined_from c done x z between y ys n found count =
     (if mark_class y == 0 then composition_from c (done ++ x ∷ between) y [] ys else composition_from c done x (between ++ y ∷ []) ys)) found
     ∙ ap (λ k. with_composition (length done) k (composition_from c done z between ys)) (sym count)
 
-passed_from : (c : Normalizer) (done : List Item) (x : Item) (between : List Item) (y : Item) (ys : List Item) → composite c x between y ≡ None
+pub passed_from : (c : Normalizer) (done : List Item) (x : Item) (between : List Item) (y : Item) (ys : List Item) → composite c x between y ≡ None
     → composition_from c done x between (y ∷ ys) ≡ (if mark_class y == 0 then composition_from c (done ++ x ∷ between) y [] ys else composition_from c done x (between ++ y ∷ []) ys)
 passed_from c done x between y ys none =
     ap (λ o. option_map_or (λ composed. with_composition (length done) (length done + 1 + length between) (composition_from c done composed between ys)) o
     (if mark_class y == 0 then composition_from c (done ++ x ∷ between) y [] ys else composition_from c done x (between ++ y ∷ []) ys)) none
 
-pub composing_more : (c : Normalizer) (count at n m : ℕ) (start now next : Sides) → at < count → IsComposing c count at n start now → Composes c n m now next → IsComposing c count (at + 1) m start next
-composing_more c count at n m start now next lt w goes = by_case w.ys refl
+pub composing_more : (c : Normalizer) (goal : Arrangement) (count at n m : ℕ) (start now next : Sides) → at < count → IsComposing c goal count at n start now → Composes c n m now next → IsComposing c goal count (at + 1) m start next
+composing_more c goal count at n m start now next lt w goes = by_case w.ys refl
   where
-    by_case : (zs : List Item) → w.ys ≡ zs → IsComposing c count (at + 1) m start next
+    by_case : (zs : List Item) → w.ys ≡ zs → IsComposing c goal count (at + 1) m start next
     by_case [] e = absurd (let none = ap length e in let left = w.left in omega (arith, none, left, lt))
     by_case (y ∷ ys) e =
         by_found y ys e (composite c w.x w.between y) refl
         (goes w.done w.x w.between y ys (record { behind = w.behind; starts = w.starts; ahead = w.ahead ∙ e }))
       where
-        by_found : (y : Item) (ys : List Item) → w.ys ≡ y ∷ ys → (o : Option Item) → composite c w.x w.between y ≡ o → Joins o n m y now next → IsComposing c count (at + 1) m start next
+        by_found : (y : Item) (ys : List Item) → w.ys ≡ y ∷ ys → (o : Option Item) → composite c w.x w.between y ≡ o → Joins o n m y now next → IsComposing c goal count (at + 1) m start next
         by_found y ys e (Some z) found goes =
             let is = goes.1 in
             let there = count_at w.done w.x w.between now w.behind in
@@ -164,8 +169,8 @@ composing_more c count at n m start now next lt w goes = by_case w.ys refl
                   let five = ap length rest in
                   let six = ap length (w.ahead ∙ e) in
                   room_kept now next is.frame (both_sides next now (omega (arith, one, two, three, four)) (omega (arith, five, six))) w.room;
-              whole = λ v zs f h.
-                  w.whole v zs f h ∙ ap (λ zs. before w.es (composition_from c w.done w.x w.between zs)) e
+              whole =
+                  w.whole ∙ ap (λ zs. before w.es (composition_from c w.done w.x w.between zs)) e
                   ∙ ap (before w.es) (joined_from c w.done w.x z w.between y ys (length now.behind) found there)
                   ∙ before_both w.es fs (composition_from c w.done z w.between ys);
             }
@@ -188,7 +193,7 @@ composing_more c count at n m start now next lt w goes = by_case w.ys refl
             holds : frame_of next ≡ frame_of start
             holds = ap frame_of goes.moved ∙ w.frame
 
-            by_class : (t : Bool) → (mark_class y == 0) ≡ t → IsComposing c count (at + 1) m start next
+            by_class : (t : Bool) → (mark_class y == 0) ≡ t → IsComposing c goal count (at + 1) m start next
             by_class true t = record {
               done = w.done ++ w.x ∷ w.between;
               x = y;
@@ -206,8 +211,8 @@ composing_more c count at n m start now next lt w goes = by_case w.ys refl
               happened = stays;
               frame = holds;
               room = room_passed now next w.room goes.moved goes.kept;
-              whole = λ v zs f h.
-                  w.whole v zs f h ∙ ap (λ zs. before w.es (composition_from c w.done w.x w.between zs)) e
+              whole =
+                  w.whole ∙ ap (λ zs. before w.es (composition_from c w.done w.x w.between zs)) e
                   ∙ ap (before w.es) (passed_from c w.done w.x w.between y ys found ∙ cond-true _ _ _ t);
             }
             by_class false t = record {
@@ -223,23 +228,19 @@ composing_more c count at n m start now next lt w goes = by_case w.ys refl
               happened = stays;
               frame = holds;
               room = room_passed now next w.room goes.moved goes.kept;
-              whole = λ v zs f h.
-                  w.whole v zs f h ∙ ap (λ zs. before w.es (composition_from c w.done w.x w.between zs)) e
+              whole =
+                  w.whole ∙ ap (λ zs. before w.es (composition_from c w.done w.x w.between zs)) e
                   ∙ ap (before w.es) (passed_from c w.done w.x w.between y ys found ∙ cond-false _ _ _ t);
             }
 
-pub composing_done : (c : Normalizer) (count at n : ℕ) (s p now : Sides) → count ≤ at → s.behind ≡ [] → count ≡ length s.ahead → 0 < count → p ≡ after_next_glyphs 1 s → all_glyphs p ≡ all_glyphs s → IsComposing c count at n p now
+pub composing_done : (c : Normalizer) (count at from n : ℕ) (s p now : Sides) → count ≤ at → s.behind ≡ [] → p ≡ after_next_glyphs from s → all_glyphs p ≡ all_glyphs s → IsComposing c (composed_list c (items_of p)) count at n p now
     → AppendsArrangement (composed_list c (strip s.ahead)) [] s now
-composing_done c count at n s p now le front len some next same w = by_case s.ahead refl w.ys refl
+composing_done c count at from n s p now le front next same w = by_case w.ys refl
   where
-    by_case : (gs : List hb_glyph_info_t) → s.ahead ≡ gs → (zs : List Item) → w.ys ≡ zs → AppendsArrangement (composed_list c (strip s.ahead)) [] s now
-    by_case gs e (y ∷ ys) f = absurd (let more = ap length f in let left = w.left in omega (arith, more, left, le))
-    by_case [] e [] f = absurd (let none = ap length e in omega (arith, none, len, some))
-    by_case (g ∷ gs) e [] f =
-        let back : p.behind ≡ g ∷ [] = ap (λ (t : Sides). t.behind) next ∙ ap₂ (λ hs ks. hs ++ take 1 ks) front e in
-        let rest : p.ahead ≡ gs = ap (λ (t : Sides). t.ahead) next ∙ ap (drop 1) e in
-        let is : composed_list c (strip s.ahead) ≡ before w.es (eventless_arrangement (w.done ++ w.x ∷ w.between)) =
-        ap (λ hs. composed_list c (strip hs)) e ∙ w.whole (item_of g) (strip gs) (ap strip back) (ap strip rest) ∙ ap (λ zs. before w.es (composition_from c w.done w.x w.between zs)) f in
+    by_case : (zs : List Item) → w.ys ≡ zs → AppendsArrangement (composed_list c (strip s.ahead)) [] s now
+    by_case (y ∷ ys) f = absurd (let more = ap length f in let left = w.left in omega (arith, more, left, le))
+    by_case [] f =
+        let is : composed_list c (strip s.ahead) ≡ before w.es (eventless_arrangement (w.done ++ w.x ∷ w.between)) = ap (composed_list c) (sym (items_passed s p front same)) ∙ w.whole ∙ ap (λ zs. before w.es (composition_from c w.done w.x w.between zs)) f in
         let frame : frame_of p ≡ frame_of s = ap frame_of next in
         record {
           behind = w.behind ∙ ap (λ (a : Arrangement). a.items) (sym is) ∙ ap (λ hs. strip hs ++ (composed_list c (strip s.ahead)).items) (sym front);
@@ -251,13 +252,6 @@ composing_done c count at n s p now le front len some next same w = by_case s.ah
               ∙ ap (λ k. origins_by (map (shifted_event k) (composed_list c (strip s.ahead)).events) s) (ap length (sym front));
           frame = w.frame ∙ frame;
         }
-
-pub nothing_composed : (c : Normalizer) (s : Sides) → 0 ≡ length s.ahead → AppendsArrangement (composed_list c (strip s.ahead)) [] s s
-nothing_composed c s none = by_case s.ahead refl
-  where
-    by_case : (gs : List hb_glyph_info_t) → s.ahead ≡ gs → AppendsArrangement (composed_list c (strip s.ahead)) [] s s
-    by_case (g ∷ gs) e = absurd (let some = ap length e in omega (arith, none, some))
-    by_case [] e = rw e (record { behind = sym (append-nil (strip s.behind)); ahead = refl; happened = refl; frame = refl })
 
 -- ---- what a mark reaches
 

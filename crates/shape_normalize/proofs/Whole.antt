@@ -11,6 +11,7 @@ use Rattle.buffer_glyphs.specs.Events.{Event, origins_after}
 use Rattle.buffer_core.specs.Readings.{View, reading_of}
 use Rattle.buffer_glyphs.specs.Lemmas.Origins.{origins_after_both}
 use Rattle.buffer_core.specs.Sides.{Sides, Settings, all_glyphs, flag_requests_of, items_of, origins_by, origins_of, state_of, settings_of, view_of, zero_positions}
+use Rattle.buffer_stages.specs.Ready.{IsReady}
 use Rattle.buffer_stages.specs.Stages.{IsFollowed}
 use Rattle.buffer_stages.specs.Lemmas.Written.{happened_followed}
 use Rattle.buffer_glyphs.specs.Rewriting.{Arrangement, eventless_arrangement}
@@ -79,6 +80,18 @@ placed_arranged a s t zero is =
 
 shown_arranged : (xs : List Item) (s t : Sides) → s.positions ≡ zero_positions (length (all_glyphs s)) → HasItems xs s t → IsArranged (eventless_arrangement xs) s t
 shown_arranged xs s t zero h = placed_arranged (eventless_arrangement xs) s t zero (record { items = h.items ∙ sym (append-nil xs); happened = h.origins; frame = h.frame; ready = h.ready })
+
+-- positions stay zero while marks are ordered and joiners shown
+pub zero_ordered : (c : Normalizer) (s t u : Sides) → s.positions ≡ zero_positions (length (all_glyphs s)) → IsRearranged [] (ordered_list c.reorders (items_of s)) [] s t → HasItems (joiners_shown (items_of t)) t u
+    → u.positions ≡ zero_positions (length (all_glyphs u))
+zero_ordered c s t u zero sorted h =
+    zero_after (eventless_arrangement (joiners_shown (items_of t))) t u
+    (shown_arranged (joiners_shown (items_of t)) t u (zero_after (ordered_list c.reorders (items_of s)) s t (placed_arranged (ordered_list c.reorders (items_of s)) s t zero sorted)) h)
+
+-- a list in which no mark is composed stays
+pub nothing_composed : (c : Normalizer) (s : Sides) → IsReady s → s.positions ≡ zero_positions (length (all_glyphs s)) → composed_list c (items_of s) ≡ eventless_arrangement (items_of s) → IsArranged (composed_list c (items_of s)) s s
+nothing_composed c s ready zero none =
+    subst (λ (a : Arrangement). IsArranged a s s) (sym none) (shown_arranged (items_of s) s s zero (record { items = refl; origins = refl; frame = refl; ready = ready }))
 
 -- no mark follows the first item of the text
 pub marks_alone : (c : Normalizer) (b : Bool) (s t : Sides) → b ≡ false → s.positions ≡ zero_positions (length (all_glyphs s)) → HasItems (joiners_shown (items_of s)) s t → IsArranged (arranged_marks b c (items_of s)) s t

@@ -1,9 +1,10 @@
 -- The walk from starter to starter in an open output.
-use Rattle.std.specs.Prelude.{ℕ, ◌≡◌, ◌==◌, ◌++◌, if◌then◌else◌, List, ◌∷◌, length, Option, Some, None, option_map}
+use Rattle.std.specs.Prelude.{ℕ, ◌≡◌, ◌<◌, ◌+◌, ◌==◌, ◌++◌, if◌then◌else◌, List, ◌∷◌, length, Option, Some, None, option_map}
 use Rattle.buffer_glyphs.specs.Items.{Item, strip}
 use Rattle.buffer_core.specs.Sides.{Sides, all_glyphs, after_next_glyphs}
 use Rattle.buffer_properties.specs.Characters.{mark_class, standing_for, with_glyph}
-use Rattle.buffer_properties.specs.Composing.{composite}
+use Rattle.buffer_glyphs.specs.Rewriting.{eventless_arrangement}
+use Rattle.buffer_properties.specs.Composing.{composite, composed_list, composition_from}
 use Rattle.buffer_properties.specs.Normalizer.{Normalizer}
 use Rattle.shape_normalize.specs.Composed.{IsComposed}
 
@@ -40,3 +41,27 @@ Joins None n m y old new = IsPassed n m y old new
 -- one step of the walk: the current item is composed with the last starter, or output
 abbrev pub Composes : Normalizer → ℕ → ℕ → Sides → Sides → Type 0
 Composes c n m old new = (done : List Item) (x : Item) (between : List Item) (y : Item) (ys : List Item) → IsAt n done x between y ys old → Joins (composite c x between y) n m y old new
+
+-- ---- the marks before the first one that is composed
+
+-- the mark at one index is not composed with the starter at another
+abbrev pub StaysApart : Normalizer → ℕ → ℕ → List Item → Type 0
+StaysApart c n at xs = (done : List Item) (x : Item) (between : List Item) (y : Item) (ys : List Item) → xs ≡ done ++ x ∷ (between ++ y ∷ ys) → length done ≡ n → length done + 1 + length between ≡ at
+    → composite c x between y ≡ None
+
+-- no mark before an index is composed; the last starter before it is at another one
+pub record IsUncomposed (c : Normalizer) (at n : ℕ) (xs : List Item) : Type 0 where
+  pub done : List Item
+  pub x : Item
+  pub between : List Item
+  pub ys : List Item
+  pub parts : xs ≡ done ++ x ∷ (between ++ ys)
+  pub starts : length done ≡ n
+  pub ends : length done + 1 + length between ≡ at
+  pub whole : composed_list c xs ≡ composition_from c done x between ys
+
+-- what a search for the first mark that is composed answers: None where none is; else no mark before the index that it
+-- found is composed, and the last starter before that is at the other one
+abbrev pub FindsComposition : Normalizer → Option (ℕ × ℕ) → List Item → Type 0
+FindsComposition c None xs = composed_list c xs ≡ eventless_arrangement xs
+FindsComposition c (Some p) xs = IsUncomposed c p.0 p.1 xs × (p.0 < length xs)

@@ -29,6 +29,21 @@ pub(crate) fn pass_glyph(buffer: &mut hb_buffer_t) -> Result<(), ShapeCause>
     Ok(())
 }
 
+/// Outputs the next `count` glyphs; the output has room for them.
+#[tactic(auto, using(crate::proofs::Room::fits_next_ones))]
+pub(crate) fn pass_glyphs(count: usize, buffer: &mut hb_buffer_t) -> Result<(), ShapeCause>
+    requires room { HasRoom buffer.old }
+    requires there { count ≤ length buffer.old.ahead }
+    ensures moved { OnOk result (buffer.new ≡ after_next_glyphs count buffer.old) }
+    ensures kept { OnOk result (all_glyphs buffer.new ≡ all_glyphs buffer.old) }
+    ensures err { IfErr result (λ e. e ≡ ShapeCause.OutOfMemory) }
+{
+    if !buffer.next_glyphs(count)? {
+        return Err(ShapeCause::TooLong);
+    }
+    Ok(())
+}
+
 /// Moves the cursor to an index of the list; both sides have room for the whole list.
 #[tactic(auto, using(crate::proofs::Room::fits_going))]
 fn move_cursor(at: usize, buffer: &mut hb_buffer_t) -> Result<(), ShapeCause>

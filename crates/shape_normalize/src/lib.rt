@@ -11,5 +11,6 @@ pub mod normalizing;
 pub mod ordering;
 mod outputting;
 pub mod rounds;
+mod searching;
 mod selecting;
 pub mod starters;

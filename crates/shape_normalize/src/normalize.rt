@@ -51,7 +51,7 @@ fn has_later_mark(glyphs: &[hb_glyph_info_t]) -> bool
 }
 
 /// Sorts and composes marks where there is one after the text's first item, and unhides joiners.
-#[tactic(auto, using(crate::proofs::Whole::marks_alone, crate::proofs::Whole::marks_ordered, crate::proofs::Whole::marks_composed))]
+#[tactic(auto, using(crate::proofs::Whole::marks_alone, crate::proofs::Whole::marks_ordered, crate::proofs::Whole::marks_composed, crate::proofs::Whole::zero_ordered))]
 fn arrange_marks<N: Normalizing>(
     by: &N,
     alloc: Global,

@@ -1,6 +1,6 @@
 //! The first and the third round, each over its own output (rustybuzz: hb/ot_shape_normalize.rs).
 ghost use Rattle.std.specs.Prelude.{◌≡◌, ◌≢◌, ◌≤◌, ◌<◌, length, IfErr, OnOk};
-ghost use Rattle.buffer_core.specs.Sides.{items_of, after_sync};
+ghost use Rattle.buffer_core.specs.Sides.{all_glyphs, items_of, after_sync, zero_positions};
 ghost use Rattle.buffer_stages.specs.Ready.{IsReady};
 ghost use Rattle.buffer_properties.specs.Composing.{composed_list};
 ghost use Rattle.buffer_properties.specs.Expanding.{expanded_list};
@@ -9,6 +9,7 @@ ghost use Rattle.shape_normalize.specs.Rounds.{IsArranged};
 
 use crate::expanding::expand_list;
 use crate::normalizing::Normalizing;
+use crate::searching::first_composition;
 use crate::starters::compose_list;
 use buffer_core::buffer::hb_buffer_t;
 use buffer_glyphs::cause::ShapeCause;
@@ -56,23 +57,29 @@ fn join_output(buffer: &mut hb_buffer_t) -> Result<(), ShapeCause>
 }
 
 /// The third round: marks are composed with their base where the font has the result. It takes linear time, plus, for
-/// each composed mark, time linear in the number of items between it and its base.
+/// each composed mark, time linear in the number of items between it and its base. A list in which none is composed is
+/// only read.
 ///
 /// # Errors
 ///
 /// Lack of memory.
+#[tactic(auto, using(crate::proofs::Whole::nothing_composed))]
 pub(crate) fn compose_characters<N: Normalizing>(
     by: &N,
     buffer: &mut hb_buffer_t,
 ) -> Result<(), ShapeCause>
     requires ready { IsReady buffer.old }
+    requires placed { buffer.old.positions ≡ zero_positions (length (all_glyphs buffer.old)) }
     ensures ok { OnOk result (IsArranged (composed_list (N.normalizer by.now) (items_of buffer.old)) buffer.old
         buffer.new) }
     ensures err { IfErr result (λ e. e ≡ ShapeCause.OutOfMemory) }
 {
+    let Some((at, starter)) = first_composition(by, buffer.info_slice()) else {
+        return Ok(());
+    };
     let count = buffer.len();
     buffer.clear_output()?;
-    compose_list(by, count, buffer)?;
+    compose_list(by, at, starter, count, buffer)?;
     join_output(buffer)?;
     Ok(())
 }

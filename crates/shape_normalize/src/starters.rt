@@ -7,10 +7,10 @@ ghost use Rattle.buffer_core.specs.Sides.{all_glyphs};
 ghost use Rattle.buffer_properties.specs.Composing.{becoming, composed_list, is_not_blocked};
 ghost use Rattle.buffer_stages.specs.Appending.{AppendsArrangement};
 ghost use Rattle.shape_normalize.specs.Composed.{HasRoom};
-ghost use Rattle.shape_normalize.specs.Starters.{become, Composes, Composites, IsAt, Passes};
+ghost use Rattle.shape_normalize.specs.Starters.{become, Composes, Composites, IsAt, IsUncomposed, Passes};
 
 use crate::characters::mark_class;
-use crate::composing::{compose_mark, out_at, pass_glyph};
+use crate::composing::{compose_mark, out_at, pass_glyph, pass_glyphs};
 use crate::normalizing::Normalizing;
 use buffer_core::buffer::hb_buffer_t;
 use buffer_glyphs::cause::ShapeCause;
@@ -32,7 +32,7 @@ fn is_reaching(starter: usize, buffer: &hb_buffer_t) -> bool
 }
 
 /// The composite of a starter and a mark, with the font's glyph.
-fn composite_of<N: Normalizing>(
+pub(crate) fn composite_of<N: Normalizing>(
     by: &N,
     first: &hb_glyph_info_t,
     second: &hb_glyph_info_t,
@@ -104,51 +104,34 @@ fn compose_next<N: Normalizing>(
     }
 }
 
-/// Handles that many items, the first of which is the starter until an item of class 0 follows.
-fn compose_all<N: Normalizing>(
-    by: &N,
-    count: usize,
-    buffer: &mut hb_buffer_t,
-) -> Result<(), ShapeCause>
-    requires room { HasRoom buffer.old }
-    requires front { buffer.old.behind ≡ [] }
-    requires counted { count ≡ length buffer.old.ahead }
-    requires some { 0 < count }
-    ensures ok { OnOk result (AppendsArrangement (composed_list (N.normalizer by.now) (strip buffer.old.ahead)) [] buffer.old
-        buffer.new) }
-    ensures room { OnOk result (HasRoom buffer.new) }
-    ensures err { IfErr result (λ e. e ≡ ShapeCause.OutOfMemory) }
-{
-    pass_glyph(buffer)?;
-    let mut starter = 0;
-    for _ in 1..count {
-        starter = compose_next(by, starter, buffer)?;
-    }
-    Ok(())
-}
-
-/// The third round, from the start of an open output with room for the list: marks are composed with their base where
-/// the font has the result. Afterwards the whole list is output.
+/// The third round, from the start of an open output with room for the list: marks from an index on are composed with
+/// their base where the font has the result; no mark before it is, and the last starter before it is given. Afterwards
+/// the whole list is output.
 ///
 /// # Errors
 ///
 /// Lack of memory.
 pub(crate) fn compose_list<N: Normalizing>(
     by: &N,
+    at: usize,
+    starter: usize,
     count: usize,
     buffer: &mut hb_buffer_t,
 ) -> Result<(), ShapeCause>
     requires room { HasRoom buffer.old }
     requires front { buffer.old.behind ≡ [] }
     requires counted { count ≡ length buffer.old.ahead }
+    requires within { at < count }
+    requires uncomposed { IsUncomposed (N.normalizer by.now) at starter (strip buffer.old.ahead) }
     ensures ok { OnOk result (AppendsArrangement (composed_list (N.normalizer by.now) (strip buffer.old.ahead)) [] buffer.old
         buffer.new) }
     ensures room { OnOk result (HasRoom buffer.new) }
     ensures err { IfErr result (λ e. e ≡ ShapeCause.OutOfMemory) }
 {
-    if count == 0 {
-        return Ok(());
+    pass_glyphs(at, buffer)?;
+    let mut starter = starter;
+    for _ in at..count {
+        starter = compose_next(by, starter, buffer)?;
     }
-    compose_all(by, count, buffer)?;
     Ok(())
 }
