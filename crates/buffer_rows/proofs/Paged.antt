@@ -14,7 +14,7 @@ use Rattle.buffer_rows.specs.Pages.{ArePages, Extends, IsBlock, IsPage, IsPaged,
 lower : (a b first : ℕ) → a ≤ b → nat_lt b first ≡ true → nat_lt a first ≡ true
 lower a b first le h = grind (arith, nat_tests)
 
-below_differs : (a k : ℕ) → a < k → (a == k) ≡ false
+pub below_differs : (a k : ℕ) → a < k → (a == k) ≡ false
 below_differs a k h = grind (arith, nat_tests)
 
 above_differs : (a k : ℕ) → k < a → (a == k) ≡ false
@@ -31,7 +31,7 @@ module _ {R : Type 0} (number : R → ℕ) where
       rw here (none_before k rows s (λ i d lt. h (suc i) d (omega (arith, lt))))
 
   -- nor have rows above it
-  none_above : (k : ℕ) (rows : List R) → ((i : ℕ) (d : R) → i < length rows → k < number (get_or rows i d)) → row_of number k rows ≡ None
+  pub none_above : (k : ℕ) (rows : List R) → ((i : ℕ) (d : R) → i < length rows → k < number (get_or rows i d)) → row_of number k rows ≡ None
   none_above k [] h = refl
   none_above k (r ∷ rows) h =
       let here : (number r == k) ≡ false = above_differs (number r) k (h 0 r (omega arith)) in
@@ -70,7 +70,7 @@ below_each number b (r ∷ rows) (suc i) d h lt =
     omega (arith, first, later)
 
 -- the numbers never fall
-never_falls : {R : Type 0} (number : R → ℕ) (rows : List R) (i j : ℕ) (d : R) → numbers_rise number rows ≡ true → i ≤ j → j < length rows → number (get_or rows i d) ≤ number (get_or rows j d)
+pub never_falls : {R : Type 0} (number : R → ℕ) (rows : List R) (i j : ℕ) (d : R) → numbers_rise number rows ≡ true → i ≤ j → j < length rows → number (get_or rows i d) ≤ number (get_or rows j d)
 never_falls number [] i j d h le lt = absurd (omega (arith, lt))
 never_falls number (r ∷ rows) zero zero d h le lt = omega arith
 never_falls number (r ∷ rows) zero (suc j) d h le lt =
@@ -180,7 +180,7 @@ pages_grow number rows pages old new page block e more here h = λ p b at.
 pub none_on_page : {R : Type 0} (number : R → ℕ) (rows : List R) (pages slots : List ℕ) (k block : ℕ) → IsPaged number rows pages slots → slice_get pages (k / 128) ≡ Some block → block ≡ 0 → row_of number k rows ≡ None
 none_on_page number rows pages slots k block paged at z = (paged.found (k / 128) block at).none z k (omega arith) (omega arith)
 
-same_record : {R : Type 0} (f : ℕ → Option R) (o : Option ℕ) (slot : ℕ) (y : Option R) → o ≡ Some slot → option_map f o ≡ Some y → f slot ≡ y
+pub same_record : {R : Type 0} (f : ℕ → Option R) (o : Option ℕ) (slot : ℕ) (y : Option R) → o ≡ Some slot → option_map f o ≡ Some y → f slot ≡ y
 same_record f None slot y e h = cc
 same_record f (Some x) slot y e h = let same : x ≡ slot = cc in let found : f x ≡ y = cc in rw (sym same) found
 

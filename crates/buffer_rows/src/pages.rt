@@ -1,19 +1,12 @@
 //! A table of records in the strict order of their numbers, with an index of its pages.
-ghost use Rattle.std.specs.Prelude.{◌≡◌, ◌≤◌, ◌<◌, ◌+◌, ◌%◌, ◌^◌, ℕ, true, IfOk, IfSome, length, slice_get};
+ghost use Rattle.std.specs.Prelude.{◌≡◌, ◌≤◌, ◌<◌, ◌+◌, ◌%◌, ◌^◌, true, IfOk, length};
 ghost use Rattle.buffer_rows.specs.Keys.{numbers_rise, row_of};
-ghost use Rattle.buffer_rows.specs.Pages.{ArePages, Extends, IsBlock, IsPage, IsStart, record_in};
+ghost use Rattle.buffer_rows.specs.Pages.{ArePages, Extends, IsPage};
 
+use crate::numbered::{Numbered, find_number, first_from};
+use crate::slots::{entry, push_slots, record_in};
 use std::alloc::{AllocError, Global};
 use std::marker::Model;
-
-/// A record that is found by a number.
-pub trait Numbered: Copy {
-    ghost number_of: { Self → ℕ };
-
-    /// The number by which the list is ordered.
-    fn number(&self) -> u32
-        ensures { result ≡ number_of self.now };
-}
 
 /// How many numbers a page has.
 const PAGE: u32 = 128;
@@ -21,8 +14,9 @@ const PAGE: u32 = 128;
 /// How many pages the characters have.
 const PAGES: u32 = 0x110000 / PAGE;
 
-/// The greatest number of slots, so that pages and slots take at most 64 KB.
-const MAX_SLOTS: usize = 188 * 128;
+/// The greatest number of slots, those of 1,024 pages, so that pages and slots take at most 273 KB. Fonts of Chinese,
+/// Japanese and Korean have some 300 to 700 pages.
+const MAX_SLOTS: usize = 1024 * 128;
 
 /// An index of the records by their numbers, page by page.
 #[derive(Drop)]
@@ -53,7 +47,7 @@ impl<R: Numbered> Model for PagedRows<R> {
 }
 
 impl<R: Numbered> PagedRows<R> {
-    /// A table of records whose numbers rise strictly. Its index takes at most 64 KB; records whose pages have no room
+    /// A table of records whose numbers rise strictly. Its index takes at most 273 KB; records whose pages have no room
     /// in it, and numbers that are no characters, are found by binary search.
     pub fn new(alloc: Global, rows: Vec<R>) -> Result<PagedRows<R>, AllocError>
         requires { numbers_rise R.number_of rows.items ≡ true }
@@ -89,26 +83,20 @@ impl<R: Numbered> PagedRows<R> {
     }
 }
 
-fn entry(entries: &[u16], index: usize) -> Option<u16>
-    ensures { result ≡ slice_get entries.now index }
+/// How many slots the pages of the records have, up to the greatest number.
+fn slots_of<R: Numbered>(rows: &[R]) -> usize
+    ensures { result ≤ 131072 }
 {
-    entries.get(index).copied()
-}
-
-fn record_in<R: Numbered>(rows: &[R], slot: u16) -> Option<R>
-    ensures { result ≡ record_in rows.now slot }
-{
-    if slot == 0 {
-        return None;
+    let mut count = 0usize;
+    let mut before = None;
+    for row in rows {
+        let page = row.number() / PAGE;
+        if before != Some(page) {
+            count = count.saturating_add(PAGE as usize);
+        }
+        before = Some(page);
     }
-    rows.get(slot as usize - 1).copied()
-}
-
-/// How many slots are enough for so many records, a page for each, up to the greatest number.
-fn slots_of(count: usize) -> usize
-    ensures { result ≤ 24064 }
-{
-    count.saturating_mul(PAGE as usize).min(MAX_SLOTS)
+    count.min(MAX_SLOTS)
 }
 
 /// The pages of the characters, as far as their slots have room; none where an index is no slot.
@@ -116,7 +104,7 @@ fn index_of<R: Numbered>(alloc: Global, rows: &[R]) -> Result<Index, AllocError>
     requires { numbers_rise R.number_of rows.now ≡ true }
     ensures { IfOk result (λ i. ArePages R.number_of rows.now i.pages.items i.slots.items) }
 {
-    if rows.len() >= u16::MAX as usize {
+    if rows.is_empty() || rows.len() >= u16::MAX as usize {
         return Ok(Index {
             pages: Vec::new(alloc),
             slots: Vec::new(alloc),
@@ -124,7 +112,7 @@ fn index_of<R: Numbered>(alloc: Global, rows: &[R]) -> Result<Index, AllocError>
     }
     // Neither list grows past its room, so that no more than this is ever allocated.
     let mut pages = Vec::with_capacity(alloc, PAGES as usize)?;
-    let mut slots = Vec::with_capacity(alloc, slots_of(rows.len()))?;
+    let mut slots = Vec::with_capacity(alloc, slots_of(rows))?;
     for page in 0..PAGES {
         if slots.len() >= MAX_SLOTS {
             return Ok(Index { pages, slots });
@@ -141,7 +129,7 @@ fn push_page<R: Numbered>(rows: &[R], first: u32, slots: &mut Vec<u16>) -> Resul
     requires rising { numbers_rise R.number_of rows.now ≡ true }
     requires few { length rows.now < 65535 }
     requires fits { first + 128 < 2 ^ 32 }
-    requires room { length slots.old.items < 24064 }
+    requires room { length slots.old.items < 131072 }
     requires whole { length slots.old.items % 128 ≡ 0 }
     ensures page { IfOk result (λ block. IsPage R.number_of rows.now slots.new.items first block) }
     ensures kept { IfOk result (λ _. Extends slots.old.items slots.new.items) }
@@ -151,54 +139,6 @@ fn push_page<R: Numbered>(rows: &[R], first: u32, slots: &mut Vec<u16>) -> Resul
         return Ok(0);
     }
     let block = slots.len() / PAGE as usize + 1;
-    push_block(rows, first, slots)?;
+    push_slots(rows, first, PAGE, slots)?;
     Ok(block as u16)
-}
-
-/// Appends the slots of a page.
-#[tactic(auto, using(crate::proofs::Paged::block_grows, crate::proofs::Paged::one_more, crate::proofs::Paged::extends_on, crate::proofs::Paged::itself))]
-fn push_block<R: Numbered>(rows: &[R], first: u32, slots: &mut Vec<u16>) -> Result<(), AllocError>
-    requires rising { numbers_rise R.number_of rows.now ≡ true }
-    requires few { length rows.now < 65535 }
-    requires fits { first + 128 < 2 ^ 32 }
-    ensures block { IfOk result
-        (λ _. IsBlock R.number_of rows.now slots.new.items (length slots.old.items) first 128) }
-    ensures kept { IfOk result (λ _. Extends slots.old.items slots.new.items) }
-    ensures length { IfOk result (λ _. length slots.new.items ≡ length slots.old.items + 128) }
-{
-    for low in 0..PAGE {
-        slots.push(slot_of(rows, first + low))?;
-    }
-    Ok(())
-}
-
-/// One more than the index of a number's record, 0 where it has none.
-fn slot_of<R: Numbered>(rows: &[R], number: u32) -> u16
-    requires rising { numbers_rise R.number_of rows.now ≡ true }
-    requires few { length rows.now < 65535 }
-    ensures { record_in rows.now result ≡ row_of R.number_of number rows.now }
-{
-    match rows.binary_search_by_key(&number, |row| row.number()) {
-        Ok(index) => index as u16 + 1,
-        Err(_) => 0,
-    }
-}
-
-/// The index of the first record whose number is at least `first`.
-pub fn first_from<R: Numbered>(rows: &[R], first: u32) -> usize
-    requires { numbers_rise R.number_of rows.now ≡ true }
-    ensures { IsStart R.number_of rows.now first result }
-{
-    rows.partition_point(|row| row.number() < first)
-}
-
-/// The record of a number, in logarithmic time.
-fn find_number<R: Numbered>(rows: &[R], number: u32) -> Option<R>
-    requires { numbers_rise R.number_of rows.now ≡ true }
-    ensures { result ≡ row_of R.number_of number rows.now }
-{
-    match rows.binary_search_by_key(&number, |row| row.number()) {
-        Ok(index) => Some(rows[index]),
-        Err(_) => None,
-    }
 }

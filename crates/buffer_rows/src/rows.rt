@@ -60,4 +60,12 @@ impl<R: Keyed> SortedRows<R> {
     {
         &self.rows
     }
+
+    /// The records as a vector, whose keys rise strictly.
+    pub fn into_vec(self) -> Vec<R>
+        ensures same { result.items ≡ self }
+        ensures rising { is_rising R.Key.cmp R.key_of None result.items ≡ true }
+    {
+        self.rows
+    }
 }

@@ -1,7 +1,7 @@
 use Rattle.std.proofs.Common.{nat_lt, rules}
 use Rattle.std.proofs.lemmas.List.Sorted.{IsPartitionPoint-from_clause}
 use Rattle.buffer_rows.proofs.Paged.{rows_are_partitioned, start_at}
-use Rattle.buffer_rows.proofs.pages.first_from.Goals as goal
+use Rattle.buffer_rows.proofs.numbered.first_from.Goals as goal
 
 -- the closure compares a row's number
 pub returns : goal.returns

@@ -1,6 +1,6 @@
 use Rattle.std.proofs.Common.{◌≡◌, ◌+◌, length}
 use Rattle.buffer_rows.specs.Pages.{Extends, IsBlock}
-use Rattle.buffer_rows.proofs.pages.push_block.Given as goal
+use Rattle.buffer_rows.proofs.slots.push_slots.Given as goal
 
 abbrev pub invariant-loop-low : goal.invariant-loop-low
 invariant-loop-low g l = record {
