@@ -2,3 +2,4 @@ pub mod CoverageOrder
 pub mod CoverageSearch
 pub mod Covering
 pub mod Bits
+pub mod Words

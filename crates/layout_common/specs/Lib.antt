@@ -3,3 +3,4 @@ pub mod Coverage
 pub mod Rows
 pub mod Buckets
 pub mod Lemmas
+pub mod Bits

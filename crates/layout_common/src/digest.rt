@@ -146,7 +146,16 @@ fn bucket<const SHIFT: u8>(glyph: u16) -> u32
     group::<SHIFT>(glyph) & 63
 }
 
-fn with_bucket(mask: u64, bucket: u32) -> u64
+/// Whether the mask has a bucket.
+pub(crate) fn has_bucket(mask: u64, bucket: u32) -> bool
+    requires { bucket < 64 }
+    ensures { result ≡ has_bucket mask bucket }
+{
+    mask >> bucket & 1 != 0
+}
+
+/// The mask with a bucket.
+pub(crate) fn with_bucket(mask: u64, bucket: u32) -> u64
     requires { bucket < 64 }
     ensures { (b : ℕ) → has_bucket result b ≡ (has_bucket mask b || b == bucket) }
 {
@@ -244,7 +253,7 @@ impl<const SHIFT: u8> hb_set_digest_ext for hb_set_digest_bits_pattern_t<SHIFT> 
     }
 
     fn may_have_glyph(&self, glyph: u16) -> bool {
-        self.mask >> bucket::<SHIFT>(glyph) & 1 != 0
+        has_bucket(self.mask, bucket::<SHIFT>(glyph))
     }
 
     fn may_have(&self, other: &Self) -> bool {

@@ -4,7 +4,7 @@ ghost use Rattle.layout_common.specs.Rows.{value_of};
 
 use crate::digest::hb_set_digest_ext;
 use crate::digested::Covers;
-use buffer_rows::{Keyed, SortedRows};
+use buffer_rows::{Keyed, Numbered, SortedRows};
 
 /// A glyph, and a table's value for it.
 #[derive(Clone, Copy, Debug, Drop)]
@@ -20,6 +20,14 @@ impl<V> Keyed for GlyphRow<V> {
 
     fn key(&self) -> u16 {
         self.glyph
+    }
+}
+
+impl<V: Copy> Numbered for GlyphRow<V> {
+    ghost number_of = { λ r. r.glyph };
+
+    fn number(&self) -> u32 {
+        u32::from(self.glyph)
     }
 }
 

@@ -7,5 +7,6 @@ pub mod coverage;
 pub mod digest;
 pub mod digested;
 pub mod flags;
+pub mod glyph_bits;
 pub mod glyph_row;
 pub mod laws;

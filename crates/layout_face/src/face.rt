@@ -63,11 +63,10 @@ impl Face {
     }
 
     /// The glyph of a character, none where the font has none.
-    #[tactic(auto, using(buffer_rows::proofs::Searched::row_of_number))]
     pub fn get_nominal_glyph(&self, c: char) -> Option<u16>
         ensures { result ≡ nominal_glyph c self.now }
     {
-        match self.parts.cmap.get(c) {
+        match self.parts.cmap.get(u32::from(c)) {
             Some(row) => Some(row.glyph),
             None => None,
         }

@@ -7,7 +7,7 @@ ghost use Rattle.layout_face.specs.Indices.{indices_fit};
 use crate::positioning::PositioningTable;
 use crate::substitution::SubstitutionTable;
 use buffer_glyphs::names::hb_glyph_extents_t;
-use buffer_rows::{Keyed, SortedRows};
+use buffer_rows::{Keyed, Numbered, PagedRows, SortedRows};
 use layout_common::array::Array;
 use layout_common::class_definition::ClassDefinition;
 use layout_common::coverage::Coverage;
@@ -28,6 +28,14 @@ impl Keyed for CharacterRow {
 
     fn key(&self) -> char {
         self.character
+    }
+}
+
+impl Numbered for CharacterRow {
+    ghost number_of = { λ r. r.character };
+
+    fn number(&self) -> u32 {
+        u32::from(self.character)
     }
 }
 
@@ -109,7 +117,7 @@ pub struct FaceParts {
     pub upem: u16,
     pub ascender: i16,
     /// The glyph of a character.
-    pub cmap: SortedRows<CharacterRow>,
+    pub cmap: PagedRows<CharacterRow>,
     /// The glyph of a character with a variation selector.
     pub variants: SortedRows<VariationRow>,
     /// Widths: the advances of a horizontal line, to the right.

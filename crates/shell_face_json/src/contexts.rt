@@ -9,7 +9,6 @@ use crate::glyphs::read_coverage_at;
 use crate::objects::{object, read_in_turn_at};
 use crate::rows::read_row;
 use crate::value::Part;
-use buffer_rows::SortedRows;
 use layout_common::class_definition::ClassDefinition;
 use layout_tables::context::{ClassRules, ContextSubtable, SequenceLookupRecord, SequenceRule};
 use layout_tables::rules::SequenceRules;
@@ -141,7 +140,5 @@ fn read_class_maps(alloc: Global, value: &Value, limit: usize) -> Result<ClassMa
 fn no_classes(alloc: Global) -> ClassDefinition
     ensures { result ≡ no_classes }
 {
-    ClassDefinition {
-        rows: SortedRows::new(Vec::new(alloc)),
-    }
+    ClassDefinition::empty(alloc)
 }

@@ -8,7 +8,7 @@ use crate::glyphs::{GLYPH_LIMIT, read_classes_at};
 use crate::objects::{object, read_by_key_at, read_in_turn_at, read_optional_at};
 use crate::value::Part;
 use buffer_glyphs::names::hb_glyph_extents_t;
-use buffer_rows::SortedRows;
+use buffer_rows::{PagedRows, SortedRows};
 use layout_common::array::Array;
 use layout_common::class_definition::ClassDefinition;
 use layout_common::coverage::Coverage;
@@ -20,7 +20,7 @@ use layout_face::substitution::SubstitutionTable;
 use serde_json::Value;
 use shell_json::fault::JsonFault;
 use shell_json::keys::read_key;
-use std::alloc::Global;
+use std::alloc::{AllocError, Global};
 
 /// Reads a font. Unknown keys are skipped. Of several faults it returns the first by the order of the format's keys,
 /// then by the order of their rows; of one row's faults wrong shapes come first, then floats, ranges, and the order of
@@ -69,14 +69,24 @@ fn read_face_parts(alloc: Global, value: &Value) -> Result<FaceParts, JsonFault>
 fn read_characters(
     alloc: Global,
     value: &Value,
-) -> Result<(SortedRows<CharacterRow>, SortedRows<VariationRow>), JsonFault>
+) -> Result<(PagedRows<CharacterRow>, SortedRows<VariationRow>), JsonFault>
     ensures ok { IfOk result (λ p. character_keys (view value.now) ≡ Ok p) }
     ensures refused { IfErr result (λ e. e ≢ JsonFault.OutOfMemory
         → character_keys (view value.now) ≡ Err e) }
 {
     let cmap = read_by_key_at(alloc, value, "cmap", GLYPH_LIMIT)?;
     let variants = read_by_key_at(alloc, value, "variants", GLYPH_LIMIT)?;
-    Ok((cmap, variants))
+    Ok((index_characters(alloc, cmap)?, variants))
+}
+
+/// The glyphs of characters, with an index of the characters' pages.
+pub(crate) fn index_characters(
+    alloc: Global,
+    rows: SortedRows<CharacterRow>,
+) -> Result<PagedRows<CharacterRow>, AllocError>
+    ensures { IfOk result (λ paged. paged ≡ rows) }
+{
+    PagedRows::new(alloc, rows.into_vec())
 }
 
 type Rows<V> = SortedRows<GlyphRow<V>>;
@@ -168,9 +178,7 @@ pub fn no_definition(alloc: Global) -> GlyphDefinition
 {
     GlyphDefinition {
         classes: None,
-        attach: ClassDefinition {
-            rows: SortedRows::new(Vec::new(alloc)),
-        },
+        attach: ClassDefinition::empty(alloc),
         sets: Array::new(Vec::new(alloc)),
     }
 }

@@ -38,7 +38,7 @@ impl Part for Coverage {
 
     fn read_part(alloc: Global, value: &Value, limit: usize) -> Result<Coverage, JsonFault> {
         let glyphs: Array<u16> = Part::read_part(alloc, value, limit)?;
-        Ok(Coverage::new(glyphs.into_vec()))
+        Ok(Coverage::new(alloc, glyphs.into_vec())?)
     }
 }
 
@@ -62,7 +62,7 @@ pub fn read_classes(
         → classes_in limit (items_view values.now) ≡ Err e) }
 {
     let rows = read_by_key(alloc, values, limit)?;
-    Ok(ClassDefinition { rows })
+    Ok(ClassDefinition::new(alloc, rows)?)
 }
 
 /// Reads the classes under a key.
@@ -91,5 +91,5 @@ pub fn read_coverage_at(
         → coverage_at limit key.now (view value.now) ≡ Err e) }
 {
     let glyphs: Array<u16> = read_in_turn_at(alloc, value, key, limit)?;
-    Ok(Coverage::new(glyphs.into_vec()))
+    Ok(Coverage::new(alloc, glyphs.into_vec())?)
 }

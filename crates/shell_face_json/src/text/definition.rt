@@ -8,7 +8,6 @@ use crate::face::no_definition;
 use crate::glyphs::GLYPH_LIMIT;
 use crate::text::rows::{ListTaker, RowTaker};
 use crate::text::table::parts_or_none;
-use buffer_rows::SortedRows;
 use json::Reader;
 use layout_common::array::Array;
 use layout_common::class_definition::ClassDefinition;
@@ -37,7 +36,7 @@ impl ValueTaker for ClassTaker {
     ) -> Result<ClassDefinition, Unread> {
         let taker = RowTaker::<GlyphRow<u16>>::new(GLYPH_LIMIT);
         let rows = taker.take_value(alloc, reader, depth)?;
-        Ok(ClassDefinition { rows })
+        Ok(ClassDefinition::new(alloc, rows)?)
     }
 }
 
@@ -97,9 +96,7 @@ fn classes_or_none(alloc: Global, found: Option<ClassDefinition>) -> ClassDefini
 {
     match found {
         Some(classes) => classes,
-        None => ClassDefinition {
-            rows: SortedRows::new(Vec::new(alloc)),
-        },
+        None => ClassDefinition::empty(alloc),
     }
 }
 

@@ -6,6 +6,7 @@ ghost use Rattle.shell_face_json.specs.Lists.{is_object};
 ghost use Rattle.shell_face_json.specs.Face.{face_keys};
 ghost use Rattle.shell_face_json.specs.Text.Face.{face_in};
 
+use crate::face::index_characters;
 use crate::read_face;
 use crate::text::keys::{take_metrics, take_rows, take_tables, take_two};
 use json::Scratch;
@@ -64,6 +65,7 @@ fn take_parts(alloc: Global, text: &str, scratch: &mut Scratch) -> Result<FacePa
     let (origins, extents) = take_two(alloc, text, scratch, "origins", "extents")?;
     let names = take_rows(alloc, text, scratch, "names")?;
     let (gsub, gpos) = take_tables(alloc, text, scratch, gdef.sets.len())?;
+    let cmap = index_characters(alloc, cmap)?;
     Ok(FaceParts {
         upem,
         ascender,
