@@ -1,6 +1,7 @@
 pub mod Lemmas
 pub mod Shifted
 pub mod Fitted
+pub mod Followed
 pub mod Matching
 pub mod Cuts
 pub mod Settled

@@ -4,6 +4,7 @@ pub mod Nested
 pub mod Chains
 pub mod Nesting
 pub mod Fitting
+pub mod Following
 pub mod Records
 pub mod Rules
 pub mod Inside

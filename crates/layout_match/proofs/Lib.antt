@@ -4,3 +4,4 @@ pub mod Each
 pub mod Own
 pub mod Law
 pub mod Words
+pub mod Next

@@ -2,6 +2,7 @@ pub mod Sequences
 pub mod Searches
 pub mod Matches
 pub mod Applied
+pub mod Next
 pub mod Walks
 pub mod Laws
 pub mod Trying

@@ -59,7 +59,7 @@ pub fn is_left_out(face: &Face, lookup_props: u32, info: &hb_glyph_info_t) -> bo
 }
 
 impl<'a> GlyphSearch<'a> {
-    fn is_skippable(&self, info: &hb_glyph_info_t) -> bool
+    pub(crate) fn is_skippable(&self, info: &hb_glyph_info_t) -> bool
         ensures { result ≡ is_skippable (search_of self.now) (item_of info.now) }
     {
         let props = info.unicode_props.0;
@@ -69,7 +69,7 @@ impl<'a> GlyphSearch<'a> {
             && (self.ignore_zwj || props & UnicodeProps::CF_ZWJ.0 == 0)
     }
 
-    fn has_mask(&self, info: &hb_glyph_info_t) -> bool
+    pub(crate) fn has_mask(&self, info: &hb_glyph_info_t) -> bool
         ensures { result ≡ has_mask (search_of self.now).mask (item_of info.now) }
     {
         // A mask of features has none of the glyph flags.
@@ -80,7 +80,7 @@ impl<'a> GlyphSearch<'a> {
         }
     }
 
-    fn is_in_syllable(&self, info: &hb_glyph_info_t) -> bool
+    pub(crate) fn is_in_syllable(&self, info: &hb_glyph_info_t) -> bool
         ensures { result ≡ is_in_syllable (search_of self.now).syllable (item_of info.now) }
     {
         match self.syllable {

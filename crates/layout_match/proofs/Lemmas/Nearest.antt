@@ -14,7 +14,7 @@ some_left : {X : Type 0} (xs : List X) (k : ℕ) (x : X) → slice_get xs k ≡ 
 some_left xs k x at = drop_more xs k x (slice_get_within xs k x at) ∙ ap (λ y. y ∷ drop (k + 1) xs) (get_or_from_slice_get xs k x x at)
 
 -- what comes of the items from one on
-nearest_there : (ask : Item → match_t) (at : ℕ) (xs : List Item) (x : Item) (r : match_t) → slice_get xs at ≡ Some x → r ≡ ask x → nearest_from ask at xs ≡ by_answer r at (nearest_from ask (at + 1) xs)
+pub nearest_there : (ask : Item → match_t) (at : ℕ) (xs : List Item) (x : Item) (r : match_t) → slice_get xs at ≡ Some x → r ≡ ask x → nearest_from ask at xs ≡ by_answer r at (nearest_from ask (at + 1) xs)
 nearest_there ask at xs x r there scratch_flags = rw (some_left xs at x there, scratch_flags) refl
 
 pub item_there : (gs : List hb_glyph_info_t) (at : ℕ) (g : hb_glyph_info_t) → slice_get gs at ≡ Some g → slice_get (strip gs) at ≡ Some (item_of g)

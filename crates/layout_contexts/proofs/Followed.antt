@@ -1,0 +1,65 @@
+-- Rules that cannot match by the glyph after the one where they are tried.
+use Rattle.std.proofs.Common.{ℕ, ◌≡◌, ◌≤◌, ◌<◌, ◌+◌, true, false, Bool, List, [], ◌∷◌, length, drop, Option, Some, None, Result, Ok, Err, if◌then◌else◌, inl, inr, refl, sym, ap, ◌∙◌, arith}
+use Rattle.std.specs.Prelude.{nat_le, ◌&&◌}
+use Rattle.buffer_glyphs.specs.Items.{Item}
+use Rattle.buffer_glyphs.specs.Parts.{first_of}
+use Rattle.layout_match.specs.declared.next_glyph.NextGlyphs.{NextGlyphs}
+use Rattle.layout_match.specs.Applied.{ApplyContext, own_search, context_search}
+use Rattle.layout_match.specs.Matches.{answers_of, input_end, lookahead_end, sequence_end, then_sequence_end}
+use Rattle.layout_match.specs.Next.{Fails, IsNext, may_find}
+use Rattle.layout_match.specs.Searches.{Search, answer}
+use Rattle.layout_match.specs.Sequences.{test_at}
+use Rattle.buffer_stages.specs.Actions.{Cut, Passes, Action, at_first, attempt_around}
+use Rattle.layout_contexts.specs.Chains.{Chain, begins, by_input, by_lookahead, chain_at, chain_rule}
+use Rattle.layout_contexts.specs.Following.{OnlyTries, may_find_second, may_follow}
+
+-- ---- the test
+
+pub second_input : (next : NextGlyphs) (input lookahead : List (Item → Bool)) → 1 < length input → may_find next.input (test_at input 1) ≡ may_find_second next (drop 1 input) lookahead
+second_input next [] lookahead lt = absurd (omega (arith, lt))
+second_input next (a ∷ []) lookahead lt = absurd (omega (arith, lt))
+second_input next (a ∷ b ∷ input) lookahead lt = refl
+
+pub first_lookahead : (next : NextGlyphs) (input lookahead : List (Item → Bool)) → length input ≤ 1 → 0 < length lookahead → may_find next.lookahead (test_at lookahead 0) ≡ may_find_second next (drop 1 input) lookahead
+first_lookahead next [] [] le lt = absurd (omega (arith, lt))
+first_lookahead next [] (c ∷ lookahead) le lt = refl
+first_lookahead next (a ∷ []) [] le lt = absurd (omega (arith, lt))
+first_lookahead next (a ∷ []) (c ∷ lookahead) le lt = refl
+first_lookahead next (a ∷ b ∷ input) lookahead le lt = absurd (omega (arith, le))
+
+pub alone : (next : NextGlyphs) (input lookahead : List (Item → Bool)) → length input ≤ 1 → length lookahead ≤ 0 → true ≡ may_find_second next (drop 1 input) lookahead
+alone next [] [] le none = refl
+alone next (a ∷ []) [] le none = refl
+alone next (a ∷ b ∷ input) lookahead le none = absurd (omega (arith, le))
+alone next input (c ∷ lookahead) le none = absurd (omega (arith, none))
+
+-- ---- the rule
+
+-- a sequence whose first item isn't found
+sequence_fails : (s : Search) (test : Item → Bool) (tests : List (Item → Bool)) (from : ℕ) (xs : List Item) → Fails (answer s test) from xs → (end : ℕ) × (sequence_end (answers_of s (test ∷ tests)) from xs ≡ Err end)
+sequence_fails s test tests from xs fails = (fails.0, ap (λ found. then_sequence_end found (λ next. sequence_end (answers_of s tests) next xs)) fails.1)
+
+-- by the items of a rule's input after its first, and those of its lookahead
+input_tries : (nest : Option (ℕ → Action)) (a : ApplyContext) (r : Chain) (c : Cut) (next : NextGlyphs) (input lookahead : List (Item → Bool)) → drop 1 r.input ≡ input → r.lookahead ≡ lookahead → IsNext next.input (own_search a c.rest) 1 c.rest → IsNext next.lookahead (context_search a c.rest) 1 c.rest
+    → may_find_second next input lookahead ≡ false → OnlyTries (by_input nest a r (input_end (own_search a c.rest) (drop 1 r.input) c.rest) c)
+input_tries nest a r c next (test ∷ input) lookahead is at own context none =
+    let found = sequence_fails (own_search a c.rest) test input 1 c.rest (own test none) in
+    let fails : by_input nest a r (input_end (own_search a c.rest) (drop 1 r.input) c.rest) c ≡ attempt_around 0 found.0 c = rw (is, found.1) refl in
+    inr (length c.front - 0, length c.front + found.0, fails)
+input_tries nest a r c next [] (test ∷ lookahead) is at own context none =
+    let found = sequence_fails (context_search a c.rest) test lookahead 1 c.rest (context test none) in
+    let fails : by_input nest a r (input_end (own_search a c.rest) (drop 1 r.input) c.rest) c ≡ attempt_around 0 found.0 c = rw (is, at, found.1) refl in
+    inr (length c.front - 0, length c.front + found.0, fails)
+input_tries nest a r c next [] [] is at own context none = cc
+
+by_start : (nest : Option (ℕ → Action)) (a : ApplyContext) (r : Chain) (c : Cut) (b : Bool) → OnlyTries (by_input nest a r (input_end (own_search a c.rest) (drop 1 r.input) c.rest) c) → OnlyTries (if b then by_input nest a r (input_end (own_search a c.rest) (drop 1 r.input) c.rest) c else Passes [])
+by_start nest a r c true tries = tries
+by_start nest a r c false tries = inl refl
+
+by_first : (nest : Option (ℕ → Action)) (a : ApplyContext) (r : Chain) (c : Cut) (first : Option Item) → OnlyTries (by_input nest a r (input_end (own_search a c.rest) (drop 1 r.input) c.rest) c) → OnlyTries (at_first (chain_at nest a r) first c)
+by_first nest a r c None tries = inl refl
+by_first nest a r c (Some x) tries = by_start nest a r c (begins r.input x && nat_le (length r.input) 64) tries
+
+-- a rule excluded by the next glyph passes, after an attempt at most
+pub excluded_tries : (nest : Option (ℕ → Action)) (a : ApplyContext) (r : Chain) (c : Cut) (next : NextGlyphs) → IsNext next.input (own_search a c.rest) 1 c.rest → IsNext next.lookahead (context_search a c.rest) 1 c.rest → may_follow next r ≡ false → OnlyTries (chain_rule nest a r c)
+excluded_tries nest a r c next own context none = by_first nest a r c (first_of c.rest) (input_tries nest a r c next (drop 1 r.input) r.lookahead refl refl own context none)
