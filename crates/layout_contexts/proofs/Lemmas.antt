@@ -9,3 +9,4 @@ pub mod Subtables
 pub mod Nested
 pub mod Uncovered
 pub mod Ranges
+pub mod Following
