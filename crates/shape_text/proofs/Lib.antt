@@ -1,3 +1,4 @@
+pub mod Words
 pub mod Prepared
 pub mod Formed
 pub mod Circled

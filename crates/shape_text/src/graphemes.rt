@@ -4,6 +4,7 @@ ghost use Rattle.std.specs.Prelude.{◌≡◌};
 ghost use Rattle.unicode.specs.GeneralCategory.{general_category};
 ghost use Rattle.shape_text.specs.Graphemes.{continues, is_emoji_modifier, is_extender, is_joined, is_other_extender, is_regional_indicator};
 
+use buffer_unicode::category::hb_unicode_general_category_t;
 use buffer_unicode::{CharExt, GeneralCategoryExt};
 use buffer_unicode_tables::{CharTablesExt, UnicodeTables};
 use unicode::properties::GeneralCategory;
@@ -21,26 +22,37 @@ pub struct Before {
 pub fn continues(tables: &UnicodeTables, before: Option<Before>, u: char) -> bool
     ensures { result ≡ continues tables.now before u }
 {
+    continues_as(tables, u.general_category(), before, u)
+}
+
+/// Whether a character of that general category continues the grapheme of the one before.
+pub(crate) fn continues_as(
+    tables: &UnicodeTables,
+    category: hb_unicode_general_category_t,
+    before: Option<Before>,
+    u: char,
+) -> bool
+    requires { category ≡ general_category u }
+    ensures { result ≡ continues tables.now before u }
+{
     match before {
-        None => is_extender(u),
-        Some(before) => is_extender(u) || is_joined(tables, before, u),
+        None => is_extender(category, u),
+        Some(before) => is_extender(category, u) || is_joined(tables, before, u),
     }
 }
 
-fn is_extender(u: char) -> bool
+fn is_extender(category: hb_unicode_general_category_t, u: char) -> bool
+    requires { category ≡ general_category u }
     ensures { result ≡ is_extender u }
 {
-    u.general_category().is_mark()
-        || is_emoji_modifier(u)
-        || u == '\u{200D}'
-        || is_other_extender(u)
+    category.is_mark() || is_emoji_modifier(category, u) || u == '\u{200D}' || is_other_extender(u)
 }
 
-fn is_emoji_modifier(u: char) -> bool
+fn is_emoji_modifier(category: hb_unicode_general_category_t, u: char) -> bool
+    requires { category ≡ general_category u }
     ensures { result ≡ is_emoji_modifier u }
 {
-    matches!(u, '\u{1F3FB}'..='\u{1F3FF}')
-        && matches!(u.general_category(), GeneralCategory::ModifierSymbol)
+    matches!(u, '\u{1F3FB}'..='\u{1F3FF}') && matches!(category, GeneralCategory::ModifierSymbol)
 }
 
 fn is_other_extender(u: char) -> bool

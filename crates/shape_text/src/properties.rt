@@ -1,23 +1,29 @@
 //! The properties of a text's characters, set_unicode_props (rustybuzz: hb/ot_shape.rs).
-ghost use Rattle.std.specs.Prelude.{◌≡◌, true, None};
+ghost use Rattle.std.specs.Prelude.{◌≡◌, ◌≤◌, ◌+◌, ◌==◌, nat_le, true, None, if◌then◌else◌};
 ghost use Rattle.std.specs.Char.{IsScalar};
-ghost use Rattle.buffer_properties.specs.Properties.{scratch_flags_of};
+ghost use Rattle.unicode.specs.GeneralCategory.{general_category};
+ghost use Rattle.buffer_unicode.specs.Character.{is_default_ignorable_character};
+ghost use Rattle.buffer_properties.specs.Properties.{CONTINUATION, bit_if, character_class, properties_of, scratch_flags_of};
 ghost use Rattle.std.specs.Int.RustNames.{bit_or};
 ghost use Rattle.buffer_glyphs.specs.Items.{strip};
 ghost use Rattle.buffer_core.specs.Readings.{always};
 ghost use Rattle.buffer_core.specs.Sides.{items_of};
 ghost use Rattle.buffer_stages.specs.Ready.{IsReady};
-ghost use Rattle.shape_text.specs.Properties.{are_characters, glyph_prepared, glyphs_prepared, scratch_flags_of_glyphs, with_properties, property_word_of};
+ghost use Rattle.shape_text.specs.Properties.{are_characters, glyph_prepared, glyphs_prepared, scratch_flags_of_glyphs, with_properties};
 ghost use Rattle.buffer_stages.specs.Stages.{IsFollowed};
 
-use crate::graphemes::{Before, continues};
-use buffer_common::constants::hb_buffer_scratch_flags_t;
+use crate::graphemes::{Before, continues_as};
+use buffer_common::constants::{
+    HB_BUFFER_SCRATCH_FLAG_HAS_CGJ, HB_BUFFER_SCRATCH_FLAG_HAS_DEFAULT_IGNORABLES,
+    HB_BUFFER_SCRATCH_FLAG_HAS_NON_ASCII, hb_buffer_scratch_flags_t,
+};
 use buffer_core::buffer::hb_buffer_t;
 use buffer_glyphs::flags::UnicodeProps;
 use buffer_glyphs::info::hb_glyph_info_t;
 use buffer_properties::character::properties_of;
-use buffer_properties::info::init_unicode_props;
-use buffer_unicode_tables::UnicodeTables;
+use buffer_unicode::category::hb_unicode_general_category_t;
+use buffer_unicode::{CharExt, GeneralCategoryExt};
+use buffer_unicode_tables::{CharTablesExt, UnicodeTables};
 
 /// Sets the property word and the combining class of each character, by Unicode and the tables, and the buffer's
 /// scratch flags (`set_unicode_props`). The property word says whether a character continues the grapheme of the one
@@ -45,8 +51,9 @@ fn prepare(
     let mut before = None;
     for glyph in glyphs.iter_mut() {
         let u = glyph.as_char();
-        let is_continuation = continues(tables, before, u);
-        prepare_glyph(tables, is_continuation, glyph, scratch_flags);
+        let category = u.general_category();
+        let is_continuation = continues_as(tables, category, before, u);
+        prepare_glyph(tables, category, is_continuation, glyph, scratch_flags);
         before = Some(Before {
             character: u,
             continues: is_continuation,
@@ -54,28 +61,96 @@ fn prepare(
     }
 }
 
-/// Sets the property word and the combining class of one character.
+/// Sets the property word and the combining class of one character of that general category.
 fn prepare_glyph(
     tables: &UnicodeTables,
+    category: hb_unicode_general_category_t,
     is_continuation: bool,
     glyph: &mut hb_glyph_info_t,
     scratch_flags: &mut hb_buffer_scratch_flags_t,
 )
-    requires { IsScalar glyph.old.glyph_id }
+    requires character { IsScalar glyph.old.glyph_id }
+    requires category { category ≡ general_category glyph.old.glyph_id }
     ensures glyph { glyph.new ≡ glyph_prepared tables.now is_continuation glyph.old }
     ensures scratch_flags { scratch_flags.new ≡ bit_or scratch_flags.old (scratch_flags_of glyph.old.glyph_id) }
 {
     let u = glyph.as_char();
-    init_unicode_props(glyph, tables, scratch_flags);
-    glyph.unicode_props = UnicodeProps(word_of(is_continuation, u));
+    let is_ignorable = u.is_default_ignorable();
+    let word = property_word(category, is_ignorable, u);
+    glyph.unicode_props = UnicodeProps(with_continuation(is_continuation, word));
+    glyph.modified_combining_class = class_of(tables, category, u);
+    *scratch_flags |= scratch_flags_of(is_ignorable, u);
 }
 
-fn word_of(is_continuation: bool, u: char) -> u16
-    ensures { result ≡ property_word_of is_continuation u }
+/// The property word of a character of that general category: all bits above the category belong to default ignorables.
+#[tactic(auto, using(crate::proofs::Words::plain_word))]
+fn property_word(category: hb_unicode_general_category_t, is_ignorable: bool, u: char) -> u16
+    requires category { category ≡ general_category u }
+    requires ignorable { is_ignorable ≡ is_default_ignorable_character u }
+    ensures { result ≡ properties_of u }
+{
+    if is_ignorable {
+        properties_of(u)
+    } else {
+        category.to_rb() as u16
+    }
+}
+
+fn with_continuation(is_continuation: bool, word: u16) -> u16
+    ensures { result ≡ (if is_continuation then bit_or word CONTINUATION else word) }
 {
     if is_continuation {
-        properties_of(u) | UnicodeProps::CONTINUATION.0
+        word | UnicodeProps::CONTINUATION.0
     } else {
-        properties_of(u)
+        word
     }
+}
+
+/// The modified combining class of a character of that general category, 0 for one that is no combining mark.
+#[tactic(auto, unfolding(buffer_properties::specs::Properties::character_class))]
+fn class_of(tables: &UnicodeTables, category: hb_unicode_general_category_t, u: char) -> u8
+    requires { category ≡ general_category u }
+    ensures { result ≡ character_class tables.now u }
+{
+    if category.is_mark() {
+        u.modified_combining_class(tables)
+    } else {
+        0
+    }
+}
+
+/// The scratch flags that a character sets.
+#[tactic(auto, using(crate::proofs::Words::plain_flags, crate::proofs::Words::ignorable_flags))]
+fn scratch_flags_of(is_ignorable: bool, u: char) -> hb_buffer_scratch_flags_t
+    requires { is_ignorable ≡ is_default_ignorable_character u }
+    ensures { result ≡ scratch_flags_of u }
+{
+    if is_ignorable {
+        ignorable_flags(u)
+    } else {
+        non_ascii_flag(u)
+    }
+}
+
+fn non_ascii_flag(u: char) -> hb_buffer_scratch_flags_t
+    ensures value { result ≡ bit_if (nat_le 0x80 u) HB_BUFFER_SCRATCH_FLAG_HAS_NON_ASCII }
+    ensures below { result ≤ HB_BUFFER_SCRATCH_FLAG_HAS_NON_ASCII }
+{
+    if '\u{80}' <= u {
+        HB_BUFFER_SCRATCH_FLAG_HAS_NON_ASCII
+    } else {
+        0
+    }
+}
+
+fn ignorable_flags(u: char) -> hb_buffer_scratch_flags_t
+    ensures { result ≡ bit_if (nat_le 0x80 u) HB_BUFFER_SCRATCH_FLAG_HAS_NON_ASCII
+        + (HB_BUFFER_SCRATCH_FLAG_HAS_DEFAULT_IGNORABLES + bit_if (u == 0x034F) HB_BUFFER_SCRATCH_FLAG_HAS_CGJ) }
+{
+    let joiner = if u == '\u{34F}' {
+        HB_BUFFER_SCRATCH_FLAG_HAS_CGJ
+    } else {
+        0
+    };
+    non_ascii_flag(u) + (HB_BUFFER_SCRATCH_FLAG_HAS_DEFAULT_IGNORABLES + joiner)
 }
