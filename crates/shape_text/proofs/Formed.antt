@@ -1,5 +1,5 @@
 -- The graphemes of a text, one after another.
-use Rattle.std.proofs.Common.{ℕ, suc, ◌≡◌, ◌<◌, ◌≤◌, ◌+◌, ◌==◌, true, false, not, if◌then◌else◌, List, [], ◌∷◌, ◌++◌, length, drop, arith, refl, sym, ap, subst, ◌∙◌, append_assoc}
+use Rattle.std.proofs.Common.{ℕ, suc, ◌≡◌, ◌<◌, ◌≤◌, ◌+◌, ◌-◌, ◌==◌, true, false, not, if◌then◌else◌, List, [], ◌∷◌, ◌++◌, length, drop, arith, refl, sym, ap, subst, ◌∙◌, append_assoc}
 use Rattle.std.specs.Prelude.{bit_and}
 use Rattle.std.specs.List.{prefix_len}
 use Rattle.std.proofs.lemmas.List.{append-nil, drop_all, drop-drop, drop-map, length-map, length-drop}
@@ -7,16 +7,21 @@ use Rattle.std.proofs.lemmas.List.Sums.{prefix_len-le-length}
 use Rattle.std.proofs.lemmas.Nat.{and_assoc}
 use Rattle.buffer_glyphs.specs.declared.info.hb_glyph_info_t.{hb_glyph_info_t}
 use Rattle.buffer_glyphs.specs.Items.{Item, item_of, strip}
-use Rattle.buffer_glyphs.specs.Events.{Event}
+use Rattle.buffer_glyphs.specs.declared.level.BufferClusterLevel.{BufferClusterLevel}
+use Rattle.buffer_glyphs.specs.declared.level.BufferClusterLevel.TheVariants.{MonotoneGraphemes, MonotoneCharacters, Characters, Graphemes}
+use Rattle.buffer_glyphs.specs.Levels.{Marks, grapheme_manner}
+use Rattle.buffer_glyphs.specs.Origins.{Asks, Origin}
+use Rattle.buffer_glyphs.specs.Events.{Event, origins_after}
 use Rattle.buffer_core.specs.Readings.{View, always}
 use Rattle.buffer_core.specs.Graphemes.{continues}
 use Rattle.buffer_lists.specs.Groups.{group_length, joined_count}
 use Rattle.buffer_lists.specs.Lemmas.Ranges.{lengths_cut}
 use Rattle.buffer_lists.specs.Runs as Runs
-use Rattle.buffer_core.specs.Sides.{Settings, Sides, all_glyphs, items_of, stage_flags, view_of}
+use Rattle.buffer_core.specs.Sides.{Settings, Sides, all_glyphs, flag_requests_of, items_of, origins_of, stage_flags, view_of}
 use Rattle.buffer_stages.specs.Ready.{IsReady}
 use Rattle.buffer_stages.specs.Stages.{Happens, IsFollowed}
 use Rattle.buffer_stages.proofs.Lemmas.Happened.{nothing_happens, both_happen}
+use Rattle.buffer_stages.specs.Lemmas.Alone.{merged_alone}
 use Rattle.buffer_stages.specs.Lemmas.Written.{read_followed}
 use Rattle.shape_text.specs.Clusters.{grapheme_event, grapheme_events, grapheme_lengths, has_non_ascii, with_clusters}
 
@@ -52,6 +57,19 @@ grapheme_ends start end gs lt e =
     let some = grapheme_some (drop start gs) (omega (arith, len, lt)) in
     let few = grapheme_few (drop start gs) in
     (omega (arith, some, e), omega (arith, few, len, e, lt))
+
+-- a grapheme of one character stays as it is
+alone_unchanged : (level : BufferClusterLevel) (start : ℕ) (asks : Asks) (os : List Origin) → origins_after asks level (grapheme_event level start (start + 1) ∷ []) os ≡ os
+alone_unchanged MonotoneGraphemes start asks os = merged_alone (grapheme_manner MonotoneGraphemes) start os
+alone_unchanged MonotoneCharacters start asks os = merged_alone Marks start os
+alone_unchanged Characters start asks os = merged_alone Marks start os
+alone_unchanged Graphemes start asks os = merged_alone (grapheme_manner Graphemes) start os
+
+pub alone_happens : (start end : ℕ) (s : Sides) → IsReady s → start < end → end - start ≤ 1 → Happens (grapheme_event s.level start end ∷ []) s s
+alone_happens start end s ready lt le =
+    let e : start + 1 ≡ end = omega (arith, lt, le) in
+    subst (λ k. Happens (grapheme_event s.level start k ∷ []) s s) e
+    (record { view = refl; origins = sym (alone_unchanged s.level start (flag_requests_of s) (origins_of s)); settings = refl; ready = ready })
 
 -- ---- the walk
 

@@ -4,6 +4,8 @@ use Rattle.std.specs.List.{list_any}
 use Rattle.std.proofs.lemmas.List.{length-append, length-drop, length-map, length-take}
 use Rattle.buffer_glyphs.specs.declared.info.hb_glyph_info_t.{hb_glyph_info_t}
 use Rattle.buffer_common.specs.Direction.{opposite}
+use Rattle.buffer_common.specs.declared.direction.Direction.{Direction}
+use Rattle.buffer_common.specs.declared.direction.Direction.TheVariants.{Invalid, LeftToRight, RightToLeft, TopToBottom, BottomToTop}
 use Rattle.buffer_common.specs.declared.script.Script.{Script}
 use Rattle.buffer_glyphs.specs.Items.{Item, Position, item_of, strip}
 use Rattle.buffer_core.specs.Readings.{View, Read, always, state_after, then_read, with_events}
@@ -23,7 +25,7 @@ use Rattle.buffer_properties.specs.Categories.{is_letter}
 use Rattle.buffer_stages.specs.LayoutStages.{merges_graphemes}
 use Rattle.buffer_stages.specs.Stages.{IsFollowed}
 use Rattle.buffer_stages.specs.Lemmas.Written.{read_followed}
-use Rattle.shape_text.specs.NativeOrder.{continues_grapheme, is_number_text, is_numeral, is_reversed, in_native_order, reversed_text}
+use Rattle.shape_text.specs.NativeOrder.{continues_grapheme, is_number_text, is_numeral, is_reversed, in_native_order, reversed_text, runs_against, with_numbers}
 
 any_stripped : (p : Item → Bool) (gs : List hb_glyph_info_t) → list_any p (strip gs) ≡ list_any (λ (g : hb_glyph_info_t). p (item_of g)) gs
 any_stripped p [] = refl
@@ -32,6 +34,19 @@ any_stripped p (g ∷ gs) = rw (any_stripped p gs) refl
 pub number_text_stripped : (gs : List hb_glyph_info_t)
     → is_number_text (strip gs) ≡ (list_any (λ (g : hb_glyph_info_t). is_numeral (item_of g)) gs && not (list_any (λ (g : hb_glyph_info_t). is_letter (item_of g)) gs))
 number_text_stripped gs = rw (any_stripped is_numeral gs, any_stripped is_letter gs) refl
+
+-- numbers alone keep a text from being reversed, and never reverse it
+pub numbers_stay : (numbers : Bool) (text written : Direction) → runs_against text written ≡ false → runs_against text (with_numbers numbers text written) ≡ false
+numbers_stay true LeftToRight RightToLeft e = cc
+numbers_stay true LeftToRight LeftToRight e = refl
+numbers_stay true LeftToRight TopToBottom e = refl
+numbers_stay true LeftToRight BottomToTop e = refl
+numbers_stay true LeftToRight Invalid e = refl
+numbers_stay true RightToLeft written e = e
+numbers_stay true TopToBottom written e = e
+numbers_stay true BottomToTop written e = e
+numbers_stay true Invalid written e = e
+numbers_stay false text written e = e
 
 -- one stage after another
 pub both_followed : (r q : View → Read) (a b c : Sides) → IsFollowed (always r) a b → IsFollowed (always q) b c → IsFollowed (always (λ v. then_read (r v) (q (r v).view))) a c

@@ -38,9 +38,22 @@ fn form_graphemes(buffer: &mut hb_buffer_t)
     }
 }
 
-#[tactic(auto, using(buffer_stages::proofs::Lemmas::Happened::grapheme_happens, buffer_stages::proofs::Lemmas::Happened::break_happens, buffer_stages::proofs::Lemmas::Happened::end_of_input))]
-/// Merges the characters of a grapheme, or flags them as unsafe to break.
+#[tactic(auto, using(crate::proofs::Formed::alone_happens))]
+/// Merges the characters of a grapheme, or flags them as unsafe to break. Most graphemes are one character, which
+/// neither changes.
 fn form_grapheme(buffer: &mut hb_buffer_t, start: usize, end: usize)
+    requires ready { IsReady buffer.old }
+    requires some { start < end }
+    requires within { end ≤ length (all_glyphs buffer.old) }
+    ensures { Happens (grapheme_event buffer.old.level start end ∷ []) buffer.old buffer.new }
+{
+    if end - start > 1 {
+        unite_grapheme(buffer, start, end);
+    }
+}
+
+#[tactic(auto, using(buffer_stages::proofs::Lemmas::Happened::grapheme_happens, buffer_stages::proofs::Lemmas::Happened::break_happens, buffer_stages::proofs::Lemmas::Happened::end_of_input))]
+fn unite_grapheme(buffer: &mut hb_buffer_t, start: usize, end: usize)
     requires ready { IsReady buffer.old }
     requires ordered { start ≤ end }
     requires within { end ≤ length (all_glyphs buffer.old) }

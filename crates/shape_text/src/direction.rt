@@ -112,16 +112,19 @@ fn order_graphemes(buffer: &mut hb_buffer_t)
     }
 }
 
+#[tactic(auto, using(crate::proofs::Turned::numbers_stay))]
 fn is_turned(buffer: &hb_buffer_t) -> bool
     requires { buffer.now.is_open ≡ false }
     ensures { result ≡ is_reversed buffer.now.script buffer.now.direction (items_of buffer.now) }
 {
     let text = buffer.direction();
+    let written = script_direction(buffer.script());
+    // Numbers never reverse a text that its script doesn't, so it needs no search for them.
+    if !runs_against(text, written) {
+        return false;
+    }
     let numbers = is_number_text(buffer.info_slice());
-    runs_against(
-        text,
-        with_numbers(numbers, text, script_direction(buffer.script())),
-    )
+    runs_against(text, with_numbers(numbers, text, written))
 }
 
 fn turn_graphemes(buffer: &mut hb_buffer_t)
