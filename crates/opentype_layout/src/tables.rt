@@ -1,6 +1,6 @@
 //! What a font is made of: rows, coverage, classes, the tables of layout and their subtables.
 
-pub use buffer_rows::{Keyed, SortedRows};
+pub use buffer_rows::{DenseRows, Keyed, PagedRows, SortedRows};
 pub use layout_common::array::Array;
 pub use layout_common::class_definition::ClassDefinition;
 pub use layout_common::coverage::Coverage;

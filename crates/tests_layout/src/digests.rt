@@ -52,7 +52,7 @@ fn long_ranges(rt: HostRuntime) -> Result<(), Fail> {
 #[test]
 fn sets_apart(rt: HostRuntime) -> Result<(), Fail> {
     let alloc = rt.alloc();
-    let coverage = Coverage::new([40, 20].to_vec(alloc)?);
+    let coverage = Coverage::new(alloc, [40, 20].to_vec(alloc)?)?;
     let mut covered = hb_set_digest_t::new();
     CoverageExt::collect(&coverage, &mut covered);
     let mut other = hb_set_digest_t::new();

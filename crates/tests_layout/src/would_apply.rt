@@ -68,14 +68,12 @@ fn classes(alloc: Global) -> Result<ClassDefinition, Fail> {
     if !buffer_rows::is_rising(&rows) {
         return Err("not rising".into());
     }
-    Ok(ClassDefinition {
-        rows: SortedRows::new(rows),
-    })
+    Ok(ClassDefinition::new(alloc, SortedRows::new(rows))?)
 }
 
 fn by_classes(alloc: Global, row: &Row) -> Result<ContextSubtable, Fail> {
     Ok(ContextSubtable::Classes(ClassRules {
-        first: Coverage::new([1, 2].to_vec(alloc)?),
+        first: Coverage::new(alloc, [1, 2].to_vec(alloc)?)?,
         backtrack: classes(alloc)?,
         input: classes(alloc)?,
         lookahead: classes(alloc)?,
@@ -118,8 +116,8 @@ fn contexts_would_apply(rt: HostRuntime) -> Result<(), Fail> {
 /// A rule on glyph 1 or 2, and then 3.
 fn set_rule(alloc: Global) -> Result<SequenceRule<Coverage>, Fail> {
     let mut input = Vec::new(alloc);
-    input.push(Coverage::new([1, 2].to_vec(alloc)?))?;
-    input.push(Coverage::new([3].to_vec(alloc)?))?;
+    input.push(Coverage::new(alloc, [1, 2].to_vec(alloc)?)?)?;
+    input.push(Coverage::new(alloc, [3].to_vec(alloc)?)?)?;
     Ok(SequenceRule {
         backtrack: Array::new(Vec::new(alloc)),
         input: Array::new(input),

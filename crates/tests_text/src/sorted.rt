@@ -166,10 +166,10 @@ fn has_pages(alloc: Global, count: u32) -> Result<bool, Fail> {
     Ok(are_found(&table, count) && table.get(letter_of(count)).is_none())
 }
 
-// The index has room for 188 pages; records after those are found by binary search.
+// The index has room for 1,024 pages; records after those are found by binary search.
 #[test]
 fn pages(rt: HostRuntime) -> Result<(), Fail> {
-    for count in [0, 1, 188, 189, 500] {
+    for count in [0, 1, 1024, 1025, 1100] {
         let are_found = has_pages(rt.alloc(), count)?;
         assert!(rt; are_found, "{count}");
     }

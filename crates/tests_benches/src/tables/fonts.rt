@@ -66,10 +66,17 @@ fn time_coverage(rt: &HostRuntime, coverage: &Coverage, glyphs: &[u16]) -> io::R
     print_time(rt, "coverage", start, found)
 }
 
-fn time_classes(rt: &HostRuntime, classes: &ClassDefinition, glyphs: &[u16]) -> io::Result<()> {
+fn time_rows(
+    rt: &HostRuntime,
+    rows: &SortedRows<GlyphRow<u16>>,
+    glyphs: &[u16],
+) -> io::Result<()> {
     let start = Instant::now(rt)?;
-    let found = rows_found(&classes.rows, glyphs);
-    print_time(rt, "glyph row", start, found)?;
+    let found = rows_found(rows, glyphs);
+    print_time(rt, "glyph row", start, found)
+}
+
+fn time_classes(rt: &HostRuntime, classes: &ClassDefinition, glyphs: &[u16]) -> io::Result<()> {
     let start = Instant::now(rt)?;
     let found = classes_found(classes, glyphs);
     print_time(rt, "class", start, found)
@@ -83,7 +90,8 @@ pub(crate) fn ask_font(rt: &HostRuntime) -> io::Result<()> {
         return Ok(());
     }
     let rows = SortedRows::new(rows);
-    time_classes(rt, &ClassDefinition { rows }, &glyphs)?;
-    let coverage = Coverage::new(covered_glyphs(rt.alloc())?);
+    time_rows(rt, &rows, &glyphs)?;
+    time_classes(rt, &ClassDefinition::new(rt.alloc(), rows)?, &glyphs)?;
+    let coverage = Coverage::new(rt.alloc(), covered_glyphs(rt.alloc())?)?;
     time_coverage(rt, &coverage, &glyphs)
 }
