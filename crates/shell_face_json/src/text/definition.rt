@@ -36,7 +36,8 @@ impl ValueTaker for ClassTaker {
     ) -> Result<ClassDefinition, Unread> {
         let taker = RowTaker::<GlyphRow<u16>>::new(GLYPH_LIMIT);
         let rows = taker.take_value(alloc, reader, depth)?;
-        Ok(ClassDefinition::new(alloc, rows)?)
+        let classes = ClassDefinition::new(alloc, rows)?;
+        Ok(classes)
     }
 }
 

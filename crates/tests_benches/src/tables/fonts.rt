@@ -66,11 +66,7 @@ fn time_coverage(rt: &HostRuntime, coverage: &Coverage, glyphs: &[u16]) -> io::R
     print_time(rt, "coverage", start, found)
 }
 
-fn time_rows(
-    rt: &HostRuntime,
-    rows: &SortedRows<GlyphRow<u16>>,
-    glyphs: &[u16],
-) -> io::Result<()> {
+fn time_rows(rt: &HostRuntime, rows: &SortedRows<GlyphRow<u16>>, glyphs: &[u16]) -> io::Result<()> {
     let start = Instant::now(rt)?;
     let found = rows_found(rows, glyphs);
     print_time(rt, "glyph row", start, found)
