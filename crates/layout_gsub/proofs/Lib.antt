@@ -9,3 +9,4 @@ pub mod Tested
 pub mod Merged
 pub mod Multiplied
 pub mod Around
+pub mod Following

@@ -1,6 +1,6 @@
 -- Ligature substitution (OpenType, GSUB lookup type 4) over glyphs that its lookup skips: ligature numbers, and the
 -- components that marks belong to.
-use Rattle.std.specs.Prelude.{ℕ, ◌+◌, ◌-◌, ◌%◌, ◌==◌, ◌&&◌, ◌||◌, Bool, false, not, min, nat_lt, is_some, if◌then◌else◌, List, [], ◌∷◌, ◌++◌, length, map, take, drop, Option, Some, None, Result, Ok, Err, slice_get, slice_range}
+use Rattle.std.specs.Prelude.{ℕ, ◌+◌, ◌-◌, ◌%◌, ◌==◌, ◌&&◌, ◌||◌, Bool, true, false, not, min, nat_lt, is_some, if◌then◌else◌, List, [], ◌∷◌, ◌++◌, length, map, take, drop, Option, Some, None, Result, Ok, Err, slice_get, slice_range}
 use Rattle.std.specs.Int.RustNames.{bit_and, bit_or}
 use Rattle.std.specs.List.{list_all, sum}
 use Rattle.buffer_glyphs.specs.Items.{Item}
@@ -12,7 +12,9 @@ use Rattle.layout_face.specs.declared.parts.GlyphDefinition.{GlyphDefinition}
 use Rattle.layout_tables.specs.Layout.{LigatureTable, LigatureSetTable, ligature_set_of}
 use Rattle.layout_match.specs.Applied.{ApplyContext, own_search}
 use Rattle.buffer_glyphs.specs.LigatureWords.{component_word, is_base_glyph, is_mark, lig_comp, lig_id, lig_num_comps, ligature_word}
+use Rattle.layout_match.specs.declared.next_glyph.NextGlyph.{NextGlyph}
 use Rattle.layout_match.specs.Matches.{input_end, input_indices}
+use Rattle.layout_match.specs.Next.{may_find}
 use Rattle.layout_match.specs.Sequences.{is_glyph}
 use Rattle.buffer_stages.specs.Actions.{Passes, Acts, Action, at_first, first_rule, within_limit, attempt_around}
 use Rattle.layout_gsub.specs.Replacements.{glyph_props_of, single_substitution}
@@ -149,6 +151,11 @@ ligature_over a l c =
     if length l.components == 0 then single_substitution a.font.gdef (Some l.glyph) c
     else if nat_lt (length l.components) 64 then ligature_found a l (input_end (own_search a c.rest) (map is_glyph l.components) c.rest) c
     else Passes []
+
+-- whether a ligature's components after the first may be found, as far as the next glyph says
+abbrev pub may_follow : NextGlyph → List ℕ → Bool
+may_follow next [] = true
+may_follow next (glyph ∷ components) = may_find next (is_glyph glyph)
 
 -- the first of a set's ligatures that matches
 abbrev pub ligatures_over : ApplyContext → Option LigatureSetTable → Action

@@ -1,21 +1,24 @@
 //! Ligature substitution (OpenType, GSUB lookup type 4).
 ghost use Rattle.std.specs.Prelude.{◌≡◌, ◌<◌, true, length, map};
+ghost use Rattle.buffer_core.specs.Sides.{items_of};
 ghost use Rattle.buffer_glyphs.specs.Items.{strip};
 ghost use Rattle.layout_match.specs.Applied.{apply_context_of, own_search};
 ghost use Rattle.layout_match.specs.Matches.{input_end};
 ghost use Rattle.layout_match.specs.Sequences.{is_glyph};
+ghost use Rattle.buffer_stages.specs.Actions.{first_rule};
+ghost use Rattle.buffer_stages.specs.Buffers.{are_glyphs};
 ghost use Rattle.buffer_stages.specs.Performing.{Performs, cut_with};
-ghost use Rattle.layout_gsub.specs.Ligating.{ligature_found, ligature_over, ligature_subst};
+ghost use Rattle.layout_gsub.specs.Ligating.{ligature_found, ligature_over, ligature_subst, may_follow};
 
-use crate::apply::{Apply, Skippable, apply_first};
+use crate::apply::{Apply, Skippable};
 use crate::ligate::ligate_input;
 use crate::replacement::replace_glyph;
 use buffer_core::buffer::hb_buffer_t;
 use buffer_glyphs::cause::ShapeCause;
 use layout_match::marking::mark_attempt;
 use layout_match::{
-    MAX_CONTEXT_LENGTH, MatchPositions, MatchSequence, hb_ot_apply_context_t, input_end,
-    match_input,
+    MAX_CONTEXT_LENGTH, MatchPositions, MatchSequence, NextGlyph, hb_ot_apply_context_t, input_end,
+    match_input, next_glyphs,
 };
 use layout_tables::ligature::{Ligature, LigatureSubst};
 
@@ -69,6 +72,48 @@ impl Apply for Ligature {
     }
 }
 
+/// Whether a ligature that begins with the glyph at the cursor may match by the one after it: its second component.
+#[tactic(auto, using(crate::proofs::Following::no_second, crate::proofs::Following::second_component))]
+fn may_follow(ligature: &Ligature, next: &NextGlyph) -> bool
+    ensures { result ≡ may_follow next.now ligature.now.components }
+{
+    let components = ligature.components();
+    if components.is_empty() {
+        return true;
+    }
+    next.may_fit(&MatchSequence::Glyphs(components), 0)
+}
+
+/// Applies the first of some ligatures that begin with the glyph at the cursor. One whose second component can't be the
+/// next glyph is passed over (HarfBuzz: the fast path of `LigatureSet::apply`), unless failed matches are flagged.
+#[tactic(auto, using(buffer_stages::proofs::Lemmas::Performed::passed_first, buffer_stages::proofs::Lemmas::Performed::passed_open, buffer_stages::proofs::Lemmas::Performed::passed_numbers, buffer_stages::proofs::Lemmas::Performed::passed_all))]
+fn apply_ligatures(
+    ligatures: &[Ligature],
+    ctx: &mut hb_ot_apply_context_t,
+    buffer: &mut hb_buffer_t,
+) -> Result<bool, ShapeCause>
+    requires open { buffer.old.is_open ≡ true }
+    requires there { 0 < length buffer.old.ahead }
+    requires number { are_glyphs (items_of buffer.old) ≡ true }
+    ensures performs { Performs (first_rule (ligature_over (apply_context_of ctx.old)) ligatures.now
+        (cut_with ctx.old.random_state buffer.old)) result ctx.old.random_state ctx.new.random_state buffer.old
+        buffer.new }
+    ensures context { apply_context_of ctx.new ≡ apply_context_of ctx.old }
+{
+    let next = next_glyphs(ctx, buffer).input;
+    for ligature in ligatures {
+        if !may_follow(ligature, &next) {
+            continue;
+        }
+        match ligature.apply(ctx, buffer) {
+            Ok(false) => {}
+            Ok(true) => return Ok(true),
+            Err(cause) => return Err(cause),
+        }
+    }
+    Ok(false)
+}
+
 /// Ligature substitution (OpenType, GSUB lookup type 4): the first of the subtable's ligatures whose components are
 /// found from the glyph at the cursor on replaces them. Each one before it that begins with the glyph and fails flags
 /// what the search read as unsafe to concat, where that is requested.
@@ -82,7 +127,7 @@ impl Apply for LigatureSubst {
         buffer: &mut hb_buffer_t,
     ) -> Result<bool, ShapeCause> {
         match self.set_of(buffer.cur(0).as_glyph().0) {
-            Some(set) => apply_first(set.ligatures(), ctx, buffer),
+            Some(set) => apply_ligatures(set.ligatures(), ctx, buffer),
             None => Ok(false),
         }
     }

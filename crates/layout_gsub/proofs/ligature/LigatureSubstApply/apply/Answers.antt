@@ -12,10 +12,10 @@ pub returns-in-Some-clause-performs : goal.returns-in-Some-clause-performs
 returns-in-Some-clause-performs c =
     let s = c.args.buffer.now in
     let ctx = c.args.ctx.now in
-    let new = c.apply_first.new in
+    let new = c.apply_ligatures.new in
     let some : ligature_set_of c.as_glyph.result.0 c.args.self.now ≡ Some c.in-Some.set.now = sym (rw c.in-Some.is at c.set_of.ensures) in
-    let P : List LigatureTable → Type 0 = λ ls. Performs (first_rule (ligature_over (apply_context_of ctx)) ls (cut_with ctx.random_state s)) c.apply_first.result ctx.random_state new.ctx.random_state s new.buffer in
-    ligatures_perform (apply_context_of ctx) c.args.self.now ctx.random_state new.ctx.random_state s new.buffer c.cur.result.now c.as_glyph.result.0 (Some c.in-Some.set.now) c.apply_first.result c.cur.ensures c.as_glyph.ensures some (subst P c.ligatures.ensures c.apply_first.ensures.performs)
+    let P : List LigatureTable → Type 0 = λ ls. Performs (first_rule (ligature_over (apply_context_of ctx)) ls (cut_with ctx.random_state s)) c.apply_ligatures.result ctx.random_state new.ctx.random_state s new.buffer in
+    ligatures_perform (apply_context_of ctx) c.args.self.now ctx.random_state new.ctx.random_state s new.buffer c.cur.result.now c.as_glyph.result.0 (Some c.in-Some.set.now) c.apply_ligatures.result c.cur.ensures c.as_glyph.ensures some (subst P c.ligatures.ensures c.apply_ligatures.ensures.performs)
 
 pub returns-in-None-clause-performs : goal.returns-in-None-clause-performs
 returns-in-None-clause-performs c =
