@@ -24,12 +24,12 @@ use buffer_core::buffer::hb_buffer_t;
 use buffer_glyphs::cause::ShapeCause;
 use layout_common::digested::Digested;
 use layout_contexts::{
-    ChainRule, begin_record, first_matches, glyph_count, is_tried_at, match_chain,
+    ChainRule, begin_record, first_matches, glyph_count, is_tried_at, match_chain, may_follow,
     move_to_match_end, rule_at, rules_at, settle_match,
 };
 use layout_face::substitution::{SubstitutionSubtables, SubstitutionTable};
 use layout_gsub::apply::apply_first;
-use layout_match::{MatchPositions, hb_ot_apply_context_t};
+use layout_match::{MatchPositions, hb_ot_apply_context_t, next_glyphs};
 use layout_tables::context::{ContextSubtable, SequenceLookupRecord};
 
 /// Applies the lookup at an index of the table at the cursor, nested in another: with its own flag, and without a test
@@ -160,7 +160,9 @@ fn apply_context(
     apply_rules(table, depth, subtable.inner(), ctx, buffer)
 }
 
-/// Applies the first matching rule of a context at the cursor. Rules that begin with another glyph are passed over.
+/// Applies the first matching rule of a context at the cursor. Rules that begin with another glyph are passed over, and so
+/// are those whose next item can't be the next glyph (HarfBuzz's fast path: the second item is matched before the rule is
+/// walked), unless failed matches are flagged.
 #[cycle(nested)]
 #[tactic(auto, using(buffer_stages::proofs::Lemmas::Performed::passed_first, buffer_stages::proofs::Lemmas::Performed::passed_open, buffer_stages::proofs::Lemmas::Performed::passed_unrefused, buffer_stages::proofs::Lemmas::Performed::passed_numbers))]
 fn apply_rules(
@@ -180,8 +182,12 @@ fn apply_rules(
     ensures context { apply_context_of ctx.new ≡ apply_context_of ctx.old }
 {
     let (start, end) = rules_at(subtable, buffer.cur(0));
+    let next = next_glyphs(ctx, buffer);
     for i in start..end {
         let rule = rule_at(subtable, i);
+        if !may_follow(&rule, &next) {
+            continue;
+        }
         match apply_rule(table, depth, &rule, ctx, buffer) {
             Ok(false) => {}
             Ok(true) => return Ok(true),
