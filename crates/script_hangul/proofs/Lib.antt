@@ -4,3 +4,4 @@ pub mod Walk
 pub mod Masked
 pub mod Requested
 pub mod Merged
+pub mod Unchanged

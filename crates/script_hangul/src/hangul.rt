@@ -13,6 +13,7 @@ ghost use Rattle.buffer_stages.specs.Stages.{DoesStage, IsFollowed};
 
 use crate::actions::{Action, action_on};
 use crate::jamo::is_tone;
+use crate::kept::is_kept;
 use crate::performing::{keep, perform};
 use crate::tones::put_tone;
 use bitflags::Flags;
@@ -31,8 +32,22 @@ use script_syllabic::graphemes::merge_grapheme;
 /// # Errors
 ///
 /// `TooLong` where the text would have more characters than the buffer may hold, or lack of memory.
-#[tactic(auto, using(crate::proofs::Merged::hangul_done))]
 pub fn preprocess_text(face: &Face, buffer: &mut hb_buffer_t) -> Result<(), ShapeCause>
+    requires ready { IsReady buffer.old }
+    ensures { DoesStage (hangul_text face.now buffer.old.flags) result buffer.old buffer.new }
+{
+    // The length says that the text is within the limit.
+    let _len = buffer.len();
+    if is_kept(face, buffer.info_slice()) {
+        buffer.clear_positions();
+        return Ok(());
+    }
+    change_text(face, buffer)
+}
+
+/// Changes a text that doesn't stay as it is.
+#[tactic(auto, using(crate::proofs::Merged::hangul_done))]
+fn change_text(face: &Face, buffer: &mut hb_buffer_t) -> Result<(), ShapeCause>
     requires ready { IsReady buffer.old }
     ensures { DoesStage (hangul_text face.now buffer.old.flags) result buffer.old buffer.new }
 {
@@ -84,7 +99,7 @@ fn count_apart(action: Action) -> usize
 }
 
 /// The i-th character, if there is one.
-fn character_in(glyphs: &[hb_glyph_info_t], i: usize) -> Option<char>
+pub(crate) fn character_in(glyphs: &[hb_glyph_info_t], i: usize) -> Option<char>
     ensures { result ≡ character_at i (strip glyphs.now) }
 {
     if i < glyphs.len() {

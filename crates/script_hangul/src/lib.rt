@@ -4,6 +4,7 @@
 pub mod actions;
 pub mod hangul;
 pub mod jamo;
+mod kept;
 pub mod map_masks;
 pub mod masks;
 mod performing;
