@@ -1,5 +1,7 @@
 //! Positions each mark of a text around the base before it (rustybuzz: hb/ot_shape_fallback.rs).
 ghost use Rattle.std.specs.Prelude.{◌≡◌, ◌≤◌, ◌<◌, ◌+◌, true, length, drop, [], ◌∷◌};
+ghost use Rattle.std.specs.List.{list_any};
+ghost use Rattle.buffer_properties.specs.Characters.{is_mark};
 ghost use Rattle.buffer_glyphs.specs.Events.{Break};
 ghost use Rattle.buffer_glyphs.specs.Items.{item_of, strip};
 ghost use Rattle.buffer_core.specs.Readings.{always};
@@ -60,8 +62,31 @@ fn script_direction(script: Option<Script>) -> Direction
 /// Positions each mark around the base before it, by its combining class (HarfBuzz:
 /// _hb_ot_shape_fallback_mark_position); base and marks are flagged as unsafe to break. With `adjust_offsets`, a mark
 /// at a base without extents is shifted back by the advance that it loses. It takes linear time and no memory.
-#[tactic(auto, using(crate::proofs::Placed::marks_done, crate::proofs::Placed::same_numbers))]
+#[tactic(auto, using(crate::proofs::Lemmas::Unmarked::unmarked_done))]
 pub fn position_marks(
+    face: &Face,
+    components: Direction,
+    adjust_offsets: bool,
+    buffer: &mut hb_buffer_t,
+)
+    requires ready { IsReady buffer.old }
+    requires numbers { are_glyphs (items_of buffer.old) ≡ true }
+    ensures { IsDone (always (with_positioned_marks face.now components adjust_offsets)) buffer.old buffer.new }
+{
+    // Most texts have no mark, and then no base's extents matter.
+    if has_mark(buffer.info_slice()) {
+        position_all_marks(face, components, adjust_offsets, buffer);
+    }
+}
+
+fn has_mark(glyphs: &[hb_glyph_info_t]) -> bool
+    ensures { result ≡ list_any (λ g. is_mark (item_of g)) glyphs.now }
+{
+    glyphs.iter().any(|glyph| is_mark(glyph))
+}
+
+#[tactic(auto, using(crate::proofs::Placed::marks_done, crate::proofs::Placed::same_numbers))]
+fn position_all_marks(
     face: &Face,
     components: Direction,
     adjust_offsets: bool,
