@@ -1,5 +1,7 @@
 //! Default ignorable characters, which show no glyph.
 ghost use Rattle.std.specs.Prelude.{◌≡◌};
+ghost use Rattle.std.specs.List.{list_any};
+ghost use Rattle.buffer_glyphs.specs.PropertyWords.{is_default_ignorable};
 ghost use Rattle.buffer_glyphs.specs.Items.{item_of};
 ghost use Rattle.buffer_glyphs.specs.Origins.{origin_of};
 ghost use Rattle.buffer_core.specs.Readings.{always};
@@ -52,7 +54,26 @@ fn invisible_glyph(face: &Face, buffer: &hb_buffer_t) -> Option<u16>
     }
 }
 
+#[tactic(auto, using(crate::proofs::Shown::items_stay_done))]
 fn hide_by(invisible: u16, buffer: &mut hb_buffer_t)
+    requires { IsReady buffer.old }
+    ensures { IsDone (always (with_items_mapped (hidden_item invisible))) buffer.old buffer.new }
+{
+    if has_ignorable(buffer.info_slice()) {
+        hide_each(invisible, buffer);
+    }
+}
+
+/// Whether one of the glyphs is a default ignorable.
+pub(crate) fn has_ignorable(glyphs: &[hb_glyph_info_t]) -> bool
+    ensures { result ≡ list_any (λ g. is_default_ignorable (item_of g)) glyphs.now }
+{
+    glyphs
+        .iter()
+        .any(|glyph| _hb_glyph_info_is_default_ignorable(glyph))
+}
+
+fn hide_each(invisible: u16, buffer: &mut hb_buffer_t)
     requires { IsReady buffer.old }
     ensures { IsDone (always (with_items_mapped (hidden_item invisible))) buffer.old buffer.new }
 {

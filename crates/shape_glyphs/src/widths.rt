@@ -7,6 +7,7 @@ ghost use Rattle.buffer_stages.specs.PositionMaps.{with_positions_mapped};
 ghost use Rattle.buffer_stages.specs.Stages.{IsFollowed};
 ghost use Rattle.shape_glyphs.specs.Widths.{ignorable_position, keeps_widths, widthless, zero_widths};
 
+use crate::ignorables::has_ignorable;
 use bitflags::Flags;
 use buffer_common::constants::BufferFlags;
 use buffer_core::buffer::hb_buffer_t;
@@ -34,7 +35,18 @@ fn keeps_widths(flags: BufferFlags) -> bool
         || flags.contains(BufferFlags::REMOVE_DEFAULT_IGNORABLES)
 }
 
+#[tactic(auto, using(crate::proofs::Shown::widths_stay))]
 fn zero_widths(buffer: &mut hb_buffer_t)
+    requires { IsReady buffer.old }
+    ensures { IsFollowed (always (with_positions_mapped ignorable_position)) buffer.old buffer.new }
+{
+    // Most texts have no default ignorable, and finding that takes less than rewriting every position.
+    if has_ignorable(buffer.info_slice()) {
+        zero_each_width(buffer);
+    }
+}
+
+fn zero_each_width(buffer: &mut hb_buffer_t)
     requires { IsReady buffer.old }
     ensures { IsFollowed (always (with_positions_mapped ignorable_position)) buffer.old buffer.new }
 {

@@ -1,6 +1,6 @@
 use Rattle.std.proofs.Common.{rules}
 use Rattle.shape_glyphs.specs.Widths.{ignorable_position}
-use Rattle.shape_glyphs.proofs.widths.zero_widths.Goals as goal
+use Rattle.shape_glyphs.proofs.widths.zero_each_width.Goals as goal
 
 pub returns : goal.returns
 returns c =
