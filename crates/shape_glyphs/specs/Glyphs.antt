@@ -1,5 +1,5 @@
 -- Characters as glyphs, and the glyph classes of fonts without GDEF classes.
-use Rattle.std.specs.Prelude.{ℕ, ◌&&◌, not, Bool, nat_le, if◌then◌else◌}
+use Rattle.std.specs.Prelude.{ℕ, ◌&&◌, not, nat_le, if◌then◌else◌}
 use Rattle.buffer_glyphs.specs.Items.{Item}
 use Rattle.buffer_core.specs.Readings.{View, Read}
 use Rattle.buffer_glyphs.specs.PropertyWords.{is_default_ignorable}
