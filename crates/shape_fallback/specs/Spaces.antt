@@ -1,5 +1,5 @@
 -- The widths of spaces that a font may lack (The Unicode Standard, section 6.2, space characters).
-use Rattle.std.specs.Prelude.{ℕ, ℤ, pos, neg_ℤ, ◌+◌, ◌*◌, ◌/◌, ◌==◌, ◌&&◌, Bool, if◌then◌else◌, List, [], ◌∷◌, Option, Some, None, bit_and}
+use Rattle.std.specs.Prelude.{ℕ, ℤ, pos, neg_ℤ, ◌+◌, ◌*◌, ◌/◌, ◌==◌, ◌&&◌, not, Bool, if◌then◌else◌, List, [], ◌∷◌, Option, Some, None, bit_and}
 use Rattle.std.specs.Option.{option_or}
 use Rattle.std.specs.List.{list_any}
 use Rattle.std.specs.Int.RustNames.{int_div}
@@ -65,6 +65,10 @@ space_of_type d font type p =
 -- a space that is not part of a ligature; its type is in its combining class field
 abbrev pub is_own_space : Item → Bool
 is_own_space x = is_space x && bit_and x.glyph_props 32 == 0
+
+-- a space with a type, which the normalizer gives to one that the font lacks
+abbrev pub is_typed_space : Item → Bool
+is_typed_space x = not (x.class == 0) && is_own_space x
 
 -- the position of an item, adjusted if it is a space
 abbrev pub space_position : Direction → FaceParts → Item → Position → Position

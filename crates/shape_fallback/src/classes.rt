@@ -1,6 +1,8 @@
 //! The combining classes by which fallback positions marks, recategorize_combining_class
 //! (rustybuzz: hb/ot_shape_fallback.rs).
 ghost use Rattle.std.specs.Prelude.{◌≡◌};
+ghost use Rattle.std.specs.List.{list_any};
+ghost use Rattle.buffer_properties.specs.Categories.{is_nonspacing_mark};
 ghost use Rattle.buffer_glyphs.specs.Items.{item_of};
 ghost use Rattle.buffer_glyphs.specs.Origins.{origin_of};
 ghost use Rattle.buffer_core.specs.Readings.{always};
@@ -32,7 +34,23 @@ const ABOVE_RIGHT: u8 = 232;
 
 /// Sets the combining class of each nonspacing mark to the one by which it is positioned, for a font without mark
 /// positioning. The glyph records hold characters. It takes linear time and no memory.
+#[tactic(auto, using(crate::proofs::Untouched::classes_stay))]
 pub fn _hb_ot_shape_fallback_mark_position_recategorize_marks(buffer: &mut hb_buffer_t)
+    requires { IsReady buffer.old }
+    ensures { IsFollowed (always with_fallback_classes) buffer.old buffer.new }
+{
+    if has_nonspacing_mark(buffer.info_slice()) {
+        recategorize_each(buffer);
+    }
+}
+
+fn has_nonspacing_mark(glyphs: &[hb_glyph_info_t]) -> bool
+    ensures { result ≡ list_any (λ g. is_nonspacing_mark (item_of g)) glyphs.now }
+{
+    glyphs.iter().any(|glyph| is_nonspacing_mark(glyph))
+}
+
+fn recategorize_each(buffer: &mut hb_buffer_t)
     requires { IsReady buffer.old }
     ensures { IsFollowed (always with_fallback_classes) buffer.old buffer.new }
 {

@@ -3,7 +3,8 @@ ghost use Rattle.std.specs.Prelude.{◌≡◌, ◌<◌, ◌+◌, ◌*◌, ◌/�
 ghost use Rattle.buffer_glyphs.specs.Items.{item_of};
 ghost use Rattle.buffer_core.specs.Readings.{always};
 ghost use Rattle.buffer_stages.specs.Ready.{IsDone, IsReady};
-ghost use Rattle.shape_fallback.specs.Spaces.{position_with_advance, digits, first_glyph, half, is_own_space, is_part_of_em, of_found, of_glyph, of_length, space_position, space_of_type, stops, with_spaces};
+ghost use Rattle.std.specs.List.{list_any};
+ghost use Rattle.shape_fallback.specs.Spaces.{digits, first_glyph, half, is_own_space, is_part_of_em, is_typed_space, of_found, of_glyph, of_length, position_with_advance, space_of_type, space_position, stops, with_spaces};
 
 use buffer_common::direction::Direction;
 use buffer_core::buffer::hb_buffer_t;
@@ -13,14 +14,37 @@ use buffer_glyphs::position::GlyphPosition;
 use buffer_properties::categories::is_space;
 use buffer_stages::positions::map_positions;
 use buffer_unicode::space::{
-    SPACE_4_EM_18, SPACE_EM, SPACE_EM_2, SPACE_EM_3, SPACE_EM_4, SPACE_EM_5, SPACE_EM_6,
+    NOT_SPACE, SPACE_4_EM_18, SPACE_EM, SPACE_EM_2, SPACE_EM_3, SPACE_EM_4, SPACE_EM_5, SPACE_EM_6,
     SPACE_EM_16, SPACE_FIGURE, SPACE_NARROW, SPACE_PUNCTUATION, space_t,
 };
 use layout_face::Face;
 
 /// Sets the advance of each space of a fixed width, in font units along the line, for which the font has no glyph of
 /// its own. It takes linear time and no memory.
+#[tactic(auto, using(crate::proofs::Untouched::spaces_stay))]
 pub fn _hb_ot_shape_fallback_spaces(face: &Face, buffer: &mut hb_buffer_t)
+    requires { IsReady buffer.old }
+    ensures { IsDone (always (with_spaces face.now)) buffer.old buffer.new }
+{
+    // The normalizer gives a type to a space that the font lacks, which is rare.
+    if has_typed_space(buffer.info_slice()) {
+        adjust_spaces(face, buffer);
+    }
+}
+
+fn has_typed_space(glyphs: &[hb_glyph_info_t]) -> bool
+    ensures { result ≡ list_any (λ g. is_typed_space (item_of g)) glyphs.now }
+{
+    glyphs.iter().any(|glyph| is_typed_space(glyph))
+}
+
+fn is_typed_space(glyph: &hb_glyph_info_t) -> bool
+    ensures { result ≡ is_typed_space (item_of glyph.now) }
+{
+    glyph.modified_combining_class != NOT_SPACE && is_own_space(glyph)
+}
+
+fn adjust_spaces(face: &Face, buffer: &mut hb_buffer_t)
     requires { IsReady buffer.old }
     ensures { IsDone (always (with_spaces face.now)) buffer.old buffer.new }
 {

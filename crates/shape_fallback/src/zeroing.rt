@@ -1,5 +1,7 @@
 //! Zeroes the advances of marks (rustybuzz: hb/ot_shape.rs, zero_mark_widths_by_gdef; hb/ot_shape_fallback.rs).
 ghost use Rattle.std.specs.Prelude.{◌≡◌};
+ghost use Rattle.std.specs.List.{list_any};
+ghost use Rattle.buffer_glyphs.specs.LigatureWords.{is_mark};
 ghost use Rattle.buffer_glyphs.specs.Items.{item_of};
 ghost use Rattle.buffer_core.specs.Readings.{always};
 ghost use Rattle.buffer_stages.specs.Ready.{IsDone, IsReady};
@@ -14,7 +16,24 @@ use layout_offsets::zeroing::zeroed;
 
 /// Zeroes the advances of glyphs of GDEF class MARK. With `adjust_offsets`, which is for forward text in a font without
 /// mark positioning, each is shifted back by the advance that it had. It takes linear time and no memory.
+#[tactic(auto, using(crate::proofs::Untouched::widths_stay))]
 pub fn zero_mark_widths_by_gdef(buffer: &mut hb_buffer_t, adjust_offsets: bool)
+    requires { IsReady buffer.old }
+    ensures { IsDone (always (with_marks_zeroed adjust_offsets)) buffer.old buffer.new }
+{
+    // Finding a mark takes less than rewriting every position, and most texts have none.
+    if has_mark(buffer.info_slice()) {
+        zero_each_width(buffer, adjust_offsets);
+    }
+}
+
+fn has_mark(glyphs: &[hb_glyph_info_t]) -> bool
+    ensures { result ≡ list_any (λ g. is_mark (item_of g)) glyphs.now }
+{
+    glyphs.iter().any(|glyph| _hb_glyph_info_is_mark(glyph))
+}
+
+fn zero_each_width(buffer: &mut hb_buffer_t, adjust_offsets: bool)
     requires { IsReady buffer.old }
     ensures { IsDone (always (with_marks_zeroed adjust_offsets)) buffer.old buffer.new }
 {

@@ -1,6 +1,6 @@
 use Rattle.std.proofs.Common.{rules}
 use Rattle.shape_fallback.specs.Spaces.{space_position}
-use Rattle.shape_fallback.proofs.spaces._hb_ot_shape_fallback_spaces.Goals as goal
+use Rattle.shape_fallback.proofs.spaces.adjust_spaces.Goals as goal
 
 pub returns : goal.returns
 returns c =

@@ -1,6 +1,6 @@
 use Rattle.std.proofs.Common.{rules}
 use Rattle.shape_fallback.specs.Zeroing.{mark_zeroed}
-use Rattle.shape_fallback.proofs.zeroing.zero_mark_widths_by_gdef.Goals as goal
+use Rattle.shape_fallback.proofs.zeroing.zero_each_width.Goals as goal
 
 pub returns : goal.returns
 returns c = c.map_positions.ensures (mark_zeroed c.args.adjust_offsets) (λ g p q r. search rules)
