@@ -33,7 +33,7 @@ joined_front x [] = refl
 joined_front x (g ∷ gs) = ap (λ n. if Runs.continues g then n else 0) (ap suc (joined_front (item_of g) gs) ∙ one_more (prefix_len Runs.continues gs))
 
 -- the first grapheme, and the others
-lengths_of : (g : hb_glyph_info_t) (gs : List hb_glyph_info_t) → grapheme_lengths (strip (g ∷ gs)) ≡ Runs.grapheme_length (g ∷ gs) ∷ grapheme_lengths (drop (Runs.grapheme_length (g ∷ gs)) (strip (g ∷ gs)))
+pub lengths_of : (g : hb_glyph_info_t) (gs : List hb_glyph_info_t) → grapheme_lengths (strip (g ∷ gs)) ≡ Runs.grapheme_length (g ∷ gs) ∷ grapheme_lengths (drop (Runs.grapheme_length (g ∷ gs)) (strip (g ∷ gs)))
 lengths_of g gs =
     let many : group_length (λ (a b : Item). continues b) (strip (g ∷ gs)) ≡ Runs.grapheme_length (g ∷ gs) = ap suc (joined_front (item_of g) gs) in
     lengths_cut (λ (a b : Item). continues b) (item_of g) (strip gs) ∙ ap (λ n. n ∷ grapheme_lengths (drop n (strip (g ∷ gs)))) many
@@ -59,7 +59,7 @@ grapheme_ends start end gs lt e =
     (omega (arith, some, e), omega (arith, few, len, e, lt))
 
 -- a grapheme of one character stays as it is
-alone_unchanged : (level : BufferClusterLevel) (start : ℕ) (asks : Asks) (os : List Origin) → origins_after asks level (grapheme_event level start (start + 1) ∷ []) os ≡ os
+pub alone_unchanged : (level : BufferClusterLevel) (start : ℕ) (asks : Asks) (os : List Origin) → origins_after asks level (grapheme_event level start (start + 1) ∷ []) os ≡ os
 alone_unchanged MonotoneGraphemes start asks os = merged_alone (grapheme_manner MonotoneGraphemes) start os
 alone_unchanged MonotoneCharacters start asks os = merged_alone Marks start os
 alone_unchanged Characters start asks os = merged_alone Marks start os

@@ -9,3 +9,4 @@ pub mod Ranged
 pub mod Digits
 pub mod RangeMasks
 pub mod Slashes
+pub mod Alone

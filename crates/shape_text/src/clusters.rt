@@ -6,6 +6,7 @@ ghost use Rattle.buffer_stages.specs.Ready.{IsReady};
 ghost use Rattle.shape_text.specs.Clusters.{grapheme_event, grapheme_events, grapheme_lengths, with_clusters};
 ghost use Rattle.buffer_stages.specs.Stages.{Happens, IsFollowed};
 
+use crate::direction::has_continuation;
 use buffer_common::constants::HB_BUFFER_SCRATCH_FLAG_HAS_NON_ASCII;
 use buffer_core::buffer::hb_buffer_t;
 use buffer_glyphs::level::BufferClusterLevel;
@@ -23,8 +24,20 @@ pub fn form_clusters(buffer: &mut hb_buffer_t)
     }
 }
 
-#[tactic(auto, using(crate::proofs::Formed::none_formed, crate::proofs::Formed::next_formed, crate::proofs::Formed::all_formed, crate::proofs::Formed::grapheme_ends, crate::proofs::Formed::same_count))]
+#[tactic(auto, using(crate::proofs::Alone::graphemes_stay))]
 fn form_graphemes(buffer: &mut hb_buffer_t)
+    requires { IsReady buffer.old }
+    ensures { Happens (grapheme_events buffer.old.level 0 (grapheme_lengths (items_of buffer.old))) buffer.old
+        buffer.new }
+{
+    // Without a continuation each character is a grapheme.
+    if has_continuation(buffer.info_slice()) {
+        form_each_grapheme(buffer);
+    }
+}
+
+#[tactic(auto, using(crate::proofs::Formed::none_formed, crate::proofs::Formed::next_formed, crate::proofs::Formed::all_formed, crate::proofs::Formed::grapheme_ends, crate::proofs::Formed::same_count))]
+fn form_each_grapheme(buffer: &mut hb_buffer_t)
     requires { IsReady buffer.old }
     ensures { Happens (grapheme_events buffer.old.level 0 (grapheme_lengths (items_of buffer.old))) buffer.old
         buffer.new }

@@ -8,7 +8,7 @@ ghost use Rattle.buffer_core.specs.Graphemes.{continues};
 ghost use Rattle.buffer_core.specs.Sides.{items_of};
 ghost use Rattle.buffer_stages.specs.Ready.{IsReady};
 ghost use Rattle.buffer_properties.specs.Categories.{is_letter};
-ghost use Rattle.buffer_stages.specs.Stages.{IsFollowed};
+ghost use Rattle.buffer_stages.specs.Stages.{IsFollowed, with_items_mapped};
 ghost use Rattle.shape_text.specs.NativeOrder.{is_number_text, is_numeral, is_reversed, native_order, in_native_order, runs_against, script_direction, reversed_text, with_numbers, without_continuation};
 
 use buffer_common::direction::Direction;
@@ -99,6 +99,30 @@ pub fn ensure_native_direction(buffer: &mut hb_buffer_t)
     ensures { IsFollowed (always (native_order buffer.old.script)) buffer.old buffer.new }
 {
     order_graphemes(buffer);
+    clear_continuations(buffer);
+}
+
+#[tactic(auto, using(crate::proofs::Alone::continuations_stay))]
+fn clear_continuations(buffer: &mut hb_buffer_t)
+    requires { IsReady buffer.old }
+    ensures { IsFollowed (always (with_items_mapped without_continuation)) buffer.old buffer.new }
+{
+    if has_continuation(buffer.info_slice()) {
+        clear_each_continuation(buffer);
+    }
+}
+
+/// Whether one of the characters continues a grapheme.
+pub(crate) fn has_continuation(glyphs: &[hb_glyph_info_t]) -> bool
+    ensures { result ≡ list_any (λ g. continues (item_of g)) glyphs.now }
+{
+    glyphs.iter().any(|glyph| continues_grapheme(glyph))
+}
+
+fn clear_each_continuation(buffer: &mut hb_buffer_t)
+    requires { IsReady buffer.old }
+    ensures { IsFollowed (always (with_items_mapped without_continuation)) buffer.old buffer.new }
+{
     map_glyphs(buffer, |glyph| without_continuation(glyph));
 }
 

@@ -1,7 +1,7 @@
 use Rattle.std.proofs.Common.{◌≡◌, ◌-◌, length}
 use Rattle.buffer_core.specs.Sides.{all_glyphs}
 use Rattle.shape_text.proofs.Formed.{AreFormed}
-use Rattle.shape_text.proofs.clusters.form_graphemes.Given as goal
+use Rattle.shape_text.proofs.clusters.form_each_grapheme.Given as goal
 
 abbrev pub invariant-loop-start : goal.invariant-loop-start
 invariant-loop-start l = record {
