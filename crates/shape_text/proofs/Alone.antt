@@ -1,5 +1,5 @@
 -- A text whose graphemes are single characters.
-use Rattle.std.proofs.Common.{ℕ, ◌≡◌, ◌+◌, ◌-◌, ◌==◌, ◌||◌, not, Bool, true, false, if◌then◌else◌, List, [], ◌∷◌, length, map, drop, suc, refl, sym, ap, ap₂, ◌∙◌, arith}
+use Rattle.std.proofs.Common.{ℕ, ◌≡◌, ◌+◌, ◌-◌, ◌==◌, not, false, List, [], ◌∷◌, map, drop, suc, refl, sym, ap, ap₂, ◌∙◌, arith}
 use Rattle.std.specs.Prelude.{bit_and}
 use Rattle.std.specs.List.{list_any, prefix_len}
 use Rattle.std.proofs.lemmas.Bool.{or_parts}
@@ -16,7 +16,7 @@ use Rattle.buffer_lists.specs.Runs as Runs
 use Rattle.buffer_stages.specs.Ready.{IsReady}
 use Rattle.buffer_stages.specs.Stages.{Happens, IsFollowed, with_items_mapped}
 use Rattle.buffer_stages.specs.Lemmas.Written.{read_followed}
-use Rattle.shape_text.specs.Clusters.{grapheme_event, grapheme_events, grapheme_lengths}
+use Rattle.shape_text.specs.Clusters.{grapheme_events, grapheme_lengths}
 use Rattle.shape_text.specs.NativeOrder.{without_continuation}
 use Rattle.shape_text.proofs.Formed.{alone_unchanged, lengths_of}
 

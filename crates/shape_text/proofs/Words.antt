@@ -1,5 +1,5 @@
 -- The property word and the scratch flags of a character that is no default ignorable.
-use Rattle.std.proofs.Common.{ℕ, ◌≡◌, ◌≤◌, ◌+◌, ◌==◌, Bool, nat_le, true, false, ◌||◌, if◌then◌else◌, List, ◌∷◌, drop, refl, ap, arith}
+use Rattle.std.proofs.Common.{ℕ, ◌≡◌, ◌≤◌, ◌+◌, ◌==◌, Bool, nat_le, true, false, ◌||◌, List, ◌∷◌, drop, refl, ap, arith}
 use Rattle.std.proofs.lemmas.Bool.Decides.{nat_tests}
 use Rattle.std.proofs.lemmas.Bool.{or_parts}
 use Rattle.std.specs.List.{list_any}
