@@ -1,5 +1,5 @@
 -- Jamo that are merged before syllables are formed.
-use Rattle.std.proofs.Common.{ℕ, ◌≡◌, ◌≢◌, ◌<◌, ◌≤◌, Bool, true, false, nat_lt, if◌then◌else◌, List, [], Option, Some, None, Ok, Err, length, arith, refl, sym, ap, subst}
+use Rattle.std.proofs.Common.{ℕ, ◌≡◌, ◌<◌, ◌≤◌, true, false, List, Option, Some, None, Ok, Err, length, arith, refl, sym, ap, subst}
 use Rattle.std.specs.Prelude.{Result}
 use Rattle.std.proofs.lemmas.Bool.Decides.{nat_tests}
 use Rattle.std.proofs.lemmas.List.{length-map}
@@ -7,7 +7,7 @@ use Rattle.buffer_common.specs.declared.constants.BufferFlags.{BufferFlags}
 use Rattle.buffer_glyphs.specs.declared.cause.ShapeCause.{ShapeCause}
 use Rattle.buffer_glyphs.specs.declared.info.hb_glyph_info_t.{hb_glyph_info_t}
 use Rattle.buffer_glyphs.specs.Items.{Item, item_of, strip}
-use Rattle.buffer_core.specs.Readings.{always, and_then, reading_of}
+use Rattle.buffer_core.specs.Readings.{always, reading_of}
 use Rattle.buffer_core.specs.Sides.{Settings, Sides, state_of}
 use Rattle.buffer_core.specs.Steps.{refused_then}
 use Rattle.buffer_stages.specs.Stages.{DoesStage, IsFollowed}

@@ -1,5 +1,5 @@
 -- Dotted circles for tone marks are inserted by a setting that is no request for glyph flags.
-use Rattle.std.proofs.Common.{ℕ, ◌≡◌, ◌==◌, not, Bool, if◌then◌else◌, nat_le, List, [], length, Result, Ok, Err, sym, ap, subst}
+use Rattle.std.proofs.Common.{◌≡◌, ◌==◌, not, Bool, if◌then◌else◌, nat_le, List, [], length, Result, Ok, Err, sym, ap, subst}
 use Rattle.std.proofs.lemmas.Nat.{and_assoc}
 use Rattle.buffer_glyphs.specs.declared.cause.ShapeCause.{ShapeCause}
 use Rattle.buffer_glyphs.specs.declared.cause.ShapeCause.TheVariants.{TooLong}

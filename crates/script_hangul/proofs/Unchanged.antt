@@ -20,7 +20,7 @@ use Rattle.script_hangul.specs.declared.actions.Action.TheVariants.{Keep, Apart,
 use Rattle.script_hangul.specs.Jamo.{is_tone}
 use Rattle.script_hangul.specs.Actions.{action_on}
 use Rattle.script_hangul.specs.Steps.{Step, keep_step, step_of, tone_step}
-use Rattle.script_hangul.specs.Hangul.{character_at, count_apart, events_after, hangul_text, jamo_rule, rule_by, step, step_by, text_after, wants_circles}
+use Rattle.script_hangul.specs.Hangul.{character_at, count_apart, events_after, hangul_text, jamo_rule, rule_by, step_by, text_after, wants_circles}
 use Rattle.script_hangul.specs.Kept.{is_keep, is_kept, keeps_by, keeps_first}
 
 -- ---- one character

@@ -1,7 +1,7 @@
-use Rattle.std.proofs.Common.{ℕ, ◌-◌, length, arith, ap}
+use Rattle.std.proofs.Common.{length, arith}
 use Rattle.buffer_stages.proofs.Lemmas.Walked.{passed_on}
-use Rattle.script_hangul.proofs.Fits.{joined_there, split_there}
-use Rattle.script_hangul.proofs.Put.{joined_exceeds, parts_ahead, parts_behind, split_alone, split_joined, two_long}
+use Rattle.script_hangul.proofs.Fits.{joined_there}
+use Rattle.script_hangul.proofs.Put.{joined_exceeds, parts_ahead, split_alone, split_joined}
 use Rattle.script_hangul.proofs.performing.split.Goals as goal
 
 pub put_letter-requires-clause-there : goal.put_letter-requires-clause-there
