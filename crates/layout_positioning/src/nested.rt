@@ -26,7 +26,7 @@ use buffer_core::buffer::hb_buffer_t;
 use buffer_glyphs::cause::ShapeCause;
 use layout_common::digested::Digested;
 use layout_contexts::{
-    ChainRule, begin_record, first_matches, glyph_count, is_tried_at, match_chain,
+    ChainRule, begin_record, first_matches, glyph_count, is_tried_at, match_chain, may_follow,
     move_to_match_end, rule_at, rules_at, settle_match,
 };
 use layout_face::positioning::{PositioningLookup, PositioningSubtables, PositioningTable};
@@ -37,7 +37,7 @@ use layout_gpos::mark_lig::MarkToLigature;
 use layout_gpos::mark_mark::MarkToMark;
 use layout_gpos::pair::PairAdjustment;
 use layout_gpos::single::SingleAdjustment;
-use layout_match::{MatchPositions, hb_ot_apply_context_t};
+use layout_match::{MatchPositions, hb_ot_apply_context_t, next_glyphs};
 use layout_tables::context::{ContextSubtable, SequenceLookupRecord};
 
 /// The parameters of a lookup nested in another: its own flag, and all else as the other's.
@@ -200,7 +200,9 @@ fn apply_context(
     apply_rules(table, depth, subtable.inner(), ctx, last, buffer)
 }
 
-/// Applies the first matching rule of a context at the cursor. Rules that begin with another glyph are passed over.
+/// Applies the first matching rule of a context at the cursor. Rules that begin with another glyph are passed over, and so
+/// are those whose next item can't be the next glyph (HarfBuzz's fast path: the second item is matched before the rule is
+/// walked), unless failed matches are flagged.
 #[cycle(nested)]
 #[tactic(auto, using(buffer_stages::proofs::Lemmas::Performed::passed_first, layout_gpos::proofs::Lemmas::Passed::passed_closed, buffer_stages::proofs::Lemmas::Performed::passed_unrefused, buffer_stages::proofs::Lemmas::Performed::passed_numbers))]
 fn apply_rules(
@@ -223,8 +225,12 @@ fn apply_rules(
     ensures kept { OnOk result (AreKept (apply_context_of ctx.now) (items_of buffer.new) last.new) }
 {
     let (start, end) = rules_at(subtable, buffer.cur(0));
+    let next = next_glyphs(ctx, buffer);
     for i in start..end {
         let rule = rule_at(subtable, i);
+        if !may_follow(&rule, &next) {
+            continue;
+        }
         match apply_rule(table, depth, &rule, ctx, last, buffer) {
             Ok(false) => {}
             Ok(true) => return Ok(true),
