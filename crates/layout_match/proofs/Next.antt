@@ -1,14 +1,13 @@
 -- What a search finds next, whatever its item's test is.
-use Rattle.std.proofs.Common.{ℕ, ◌≡◌, ◌≤◌, ◌+◌, Bool, true, false, List, length, slice_get, Some, None, Ok, Err, refl, sym, ap, ◌∙◌}
+use Rattle.std.proofs.Common.{ℕ, ◌≡◌, ◌+◌, Bool, true, false, List, length, slice_get, Some, None, refl, sym, ap, ◌∙◌}
 use Rattle.std.specs.Prelude.{◌&&◌}
-use Rattle.std.proofs.lemmas.Bool.{and_left, and_right}
 use Rattle.buffer_glyphs.specs.declared.info.hb_glyph_info_t.{hb_glyph_info_t}
 use Rattle.buffer_glyphs.specs.Items.{Item, item_of, strip}
 use Rattle.layout_match.specs.declared.search.match_t.TheVariants.{NOT_MATCH, SKIP}
 use Rattle.layout_match.specs.declared.next_glyph.NextGlyph.{NextGlyph}
 use Rattle.layout_match.specs.declared.next_glyph.NextGlyph.TheVariants.{Missing, Found, Unknown}
 use Rattle.layout_match.specs.Matches.{by_answer, nearest_from}
-use Rattle.layout_match.specs.Next.{Decides, Fails, IsAdmitted, IsNext, may_find}
+use Rattle.layout_match.specs.Next.{Decides, IsAdmitted, IsNext}
 use Rattle.layout_match.specs.Searches.{Search, answer, has_mask, is_in_syllable, is_left_out, is_skippable, is_wanted}
 use Rattle.layout_match.proofs.Lemmas.Nearest.{ended_there, item_there, nearest_there, passed_there}
 

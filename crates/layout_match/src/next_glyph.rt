@@ -1,6 +1,6 @@
 //! The next glyph that the search for a rule's items can find, against which rules are held before they are walked
 //! (HarfBuzz: hb-ot-layout-gsubgpos.hh, the fast path of `RuleSet::apply` and `ChainRuleSet::apply`).
-ghost use Rattle.std.specs.Prelude.{◌≡◌, ◌<◌, ◌≤◌, true, false, length};
+ghost use Rattle.std.specs.Prelude.{◌≡◌, ◌<◌, true, length};
 ghost use Rattle.std.specs.Option.{option_copied};
 ghost use Rattle.buffer_glyphs.specs.Items.{item_of, strip};
 ghost use Rattle.buffer_core.specs.Sides.{flag_requests_of};
@@ -100,9 +100,12 @@ fn flags_failures(buffer: &hb_buffer_t) -> bool
 /// matches are flagged, nothing is told.
 pub fn next_glyphs(ctx: &hb_ot_apply_context_t, buffer: &hb_buffer_t) -> NextGlyphs
     requires { 0 < length buffer.now.ahead }
-    ensures input { IsNext result.input (own_search (apply_context_of ctx.now) (strip buffer.now.ahead)) 1 (strip buffer.now.ahead) }
-    ensures lookahead { IsNext result.lookahead (context_search (apply_context_of ctx.now) (strip buffer.now.ahead)) 1 (strip buffer.now.ahead) }
-    ensures unflagged { (flag_requests_of buffer.now).concat ≡ true → (result.input ≡ Unknown) × (result.lookahead ≡ Unknown) }
+    ensures input { IsNext result.input (own_search (apply_context_of ctx.now) (strip buffer.now.ahead)) 1
+        (strip buffer.now.ahead) }
+    ensures lookahead { IsNext result.lookahead (context_search (apply_context_of ctx.now) (strip buffer.now.ahead)) 1
+        (strip buffer.now.ahead) }
+    ensures unflagged { (flag_requests_of buffer.now).concat ≡ true
+        → (result.input ≡ Unknown) × (result.lookahead ≡ Unknown) }
 {
     if flags_failures(buffer) {
         return NextGlyphs {
