@@ -6,3 +6,5 @@ pub mod Steps
 pub mod Stages
 pub mod Untouched
 pub mod Held
+pub mod Idle
+pub mod Runs

@@ -1,11 +1,13 @@
--- What one step of a lookup over a buffer leaves.
-use Rattle.std.specs.Prelude.{ℕ, suc, ◌≡◌, ◌≤◌, ◌-◌, true, length, Err}
+-- What one step of a lookup over a buffer leaves, or a run of glyphs that it isn't tried at.
+use Rattle.std.specs.Prelude.{ℕ, suc, ◌≡◌, ◌<◌, ◌≤◌, ◌+◌, ◌-◌, true, false, nat_le, length, take, Err}
 use Rattle.buffer_glyphs.specs.declared.cause.ShapeCause.{ShapeCause}
+use Rattle.buffer_glyphs.specs.Items.{strip}
 use Rattle.buffer_core.specs.Readings.{View, BufferState, Follows}
-use Rattle.buffer_core.specs.Sides.{Sides, items_of, state_of}
+use Rattle.buffer_core.specs.Sides.{Sides, after_next_glyphs, items_of, state_of}
 use Rattle.buffer_stages.specs.Actions.{Action}
 use Rattle.buffer_stages.specs.Buffers.{are_glyphs, IsStill}
 use Rattle.buffer_stages.specs.Performing.{cut_with}
+use Rattle.layout_match.specs.Skipping.{PassesAll}
 use Rattle.layout_match.specs.Trying.{trials}
 
 -- a rule was tried at the cursor, which then moved on where it could, from one random state to another; the reading
@@ -20,3 +22,19 @@ pub record IsStep (act : Action) (before after : ℕ) (old new : Sides) : Type 0
 -- a rule refused at the cursor, or the items done have no room for one more
 abbrev pub IsGivenUp : Action → ℕ → Sides → ShapeCause → Type 0
 IsGivenUp act before old cause = (v : View) (n : ℕ) → trials act v (suc n) (cut_with before old) ≡ Err cause
+
+-- the cursor moved over glyphs at each of which a rule passes and flags nothing; the items done have room for them
+pub record IsIdleRun (act : Action) (old new : Sides) : Type 0 where
+  pub count : ℕ
+  pub within : count ≤ length old.ahead
+  pub passes : PassesAll act (take count (strip old.ahead))
+  pub room : 0 < count → nat_le (length old.behind + count) old.max_len ≡ true
+  pub moved : new ≡ after_next_glyphs count old
+
+-- a rule passes and flags nothing at each of some glyphs ahead, for which the items done have no room
+pub record IsIdleRunTooLong (act : Action) (old : Sides) : Type 0 where
+  pub count : ℕ
+  pub some : 0 < count
+  pub within : count ≤ length old.ahead
+  pub passes : PassesAll act (take count (strip old.ahead))
+  pub full : nat_le (length old.behind + count) old.max_len ≡ false

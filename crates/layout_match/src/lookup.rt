@@ -1,6 +1,7 @@
-//! Whether a lookup applies to a glyph, and whether it is to be tried there.
-ghost use Rattle.std.specs.Prelude.{ℕ, ◌≡◌, ◌<◌, [], true, false, length};
-ghost use Rattle.buffer_glyphs.specs.Items.{Item, item_of};
+//! Whether a lookup applies to a glyph, and at which glyphs it is to be tried.
+ghost use Rattle.std.specs.Prelude.{ℕ, ◌≡◌, ◌<◌, ◌≤◌, ◌&&◌, [], true, false, length, take};
+ghost use Rattle.std.specs.List.{list_any};
+ghost use Rattle.buffer_glyphs.specs.Items.{Item, item_of, strip};
 ghost use Rattle.buffer_core.specs.Sides.{items_of};
 ghost use Rattle.buffer_stages.specs.Actions.{Action, Passes};
 ghost use Rattle.buffer_stages.specs.Buffers.{are_glyphs};
@@ -13,6 +14,7 @@ use crate::hb_ot_apply_context_t;
 use buffer_core::buffer::hb_buffer_t;
 use buffer_glyphs::info::hb_glyph_info_t;
 use buffer_stages::mask::shares_mask;
+use layout_common::digest::{hb_set_digest_ext, hb_set_digest_t};
 use layout_common::digested::{Covers, Digested};
 
 /// Whether a lookup applies to a glyph: it has a bit of the lookup's mask, and the lookup flag admits it.
@@ -43,4 +45,37 @@ pub fn is_tried<S: Covers>(
         return false;
     }
     meets(ctx, info)
+}
+
+/// Whether a lookup is to be tried at a glyph: the digest of its subtables has the glyph, and the lookup applies to it.
+fn may_act_at(ctx: &hb_ot_apply_context_t, digest: &hb_set_digest_t, info: &hb_glyph_info_t) -> bool
+    requires { info.now.glyph_id ≤ 65535 }
+    ensures { result ≡ (⟦<hb_set_digest_t as hb_set_digest_ext>⟧.may_have digest.now info.now.glyph_id
+        && meets (apply_context_of ctx.now) (item_of info.now)) }
+{
+    digest.may_have_glyph(info.as_glyph().0) && meets(ctx, info)
+}
+
+/// How many glyphs from the cursor on a lookup is not to be tried at: each is one that it doesn't apply to, or that its
+/// subtables don't cover.
+#[tactic(auto, using(crate::proofs::Lemmas::Idle::number_ahead_at))]
+pub fn idle_run<S: Covers>(
+    ctx: &hb_ot_apply_context_t,
+    subtables: &Digested<S>,
+    buffer: &hb_buffer_t,
+) -> usize
+    requires { are_glyphs (items_of buffer.now) ≡ true }
+    ensures within { result ≤ length buffer.now.ahead }
+    ensures idle { list_any (λ (x : Item). meets (apply_context_of ctx.now) x && S.covers subtables.now x.number)
+        (take result (strip buffer.now.ahead)) ≡ false }
+{
+    let count = buffer.lookahead_len();
+    // A copy of the digest, so that it need not be read again at each glyph.
+    let digest = subtables.digest();
+    for at in 0..count {
+        if may_act_at(ctx, &digest, buffer.cur(at)) {
+            return at;
+        }
+    }
+    count
 }

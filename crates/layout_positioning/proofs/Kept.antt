@@ -3,13 +3,13 @@ use Rattle.std.proofs.Common.{ℕ, ◌≡◌, ◌++◌, Bool, false, Option, Non
 use Rattle.std.specs.Prelude.{Result, OnOk}
 use Rattle.std.proofs.lemmas.List.{take-append-drop, map-append}
 use Rattle.buffer_glyphs.specs.declared.cause.ShapeCause.{ShapeCause}
-use Rattle.buffer_glyphs.specs.Items.{Item, item_of, strip}
+use Rattle.buffer_glyphs.specs.Items.{item_of, strip}
 use Rattle.buffer_core.specs.Sides.{Sides, all_glyphs, items_of, after_next_glyphs}
 use Rattle.layout_tables.specs.declared.context.SequenceLookupRecord.{SequenceLookupRecord}
 use Rattle.layout_face.specs.declared.positioning.PositioningLookup.{PositioningLookup}
 use Rattle.layout_face.specs.declared.positioning.PositioningSubtables.{PositioningSubtables}
 use Rattle.layout_match.specs.Applied.{ApplyContext}
-use Rattle.buffer_stages.specs.Actions.{Cut, whole, Action, Outcome, Passes, Acts, Refuses}
+use Rattle.buffer_stages.specs.Actions.{Cut, whole, Outcome, Passes, Acts, Refuses}
 use Rattle.buffer_stages.specs.Performing.{Performs, cut_with}
 use Rattle.buffer_stages.proofs.Lemmas.Frames.{same_numbers}
 use Rattle.layout_contexts.specs.Chains.{Chain, chain_rule}

@@ -6,3 +6,4 @@ pub mod Left
 pub mod Kept
 pub mod Uncovered
 pub mod Skipped
+pub mod Idle

@@ -68,7 +68,7 @@ fn apply_mapped<T: TextDigest>(
 /// refuses only where a list has more glyphs than it may. What is known of the text serves all of them, since they leave
 /// its glyphs.
 #[tactic(auto, using(crate::proofs::Ways::none_done, crate::proofs::Ways::one_refused, crate::proofs::Ways::all_done))]
-pub fn apply_lookups<T: TextDigest>(
+pub(crate) fn apply_lookups<T: TextDigest>(
     face: &Face,
     table: &PositioningTable,
     lookups: &[lookup_map_t],

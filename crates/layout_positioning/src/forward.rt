@@ -1,10 +1,11 @@
 //! A positioning lookup over a buffer (rustybuzz: hb/ot_layout.rs, `apply_forward`).
-ghost use Rattle.std.specs.Prelude.{◌≡◌, ◌≢◌, true, false, IfErr, OnOk};
+ghost use Rattle.std.specs.Prelude.{◌≡◌, ◌≢◌, ◌<◌, List, length, true, false, IfErr, OnOk};
 ghost use Rattle.buffer_core.specs.Sides.{items_of};
+ghost use Rattle.layout_face.specs.declared.positioning.PositioningLookup.{PositioningLookup as Lookup};
 ghost use Rattle.layout_match.specs.Applied.{apply_context_of};
 ghost use Rattle.buffer_stages.specs.Buffers.{are_glyphs};
 ghost use Rattle.buffer_stages.specs.Ready.{DoesGlyphStageFrom, IsReady};
-ghost use Rattle.layout_match.specs.Steps.{IsGivenUp, IsStep};
+ghost use Rattle.layout_match.specs.Steps.{IsGivenUp, IsIdleRun, IsStep};
 ghost use Rattle.layout_gpos.specs.Bases.{AreKept};
 ghost use Rattle.layout_positioning.specs.Lookups.{positioning_pass, lookup_action};
 
@@ -15,9 +16,22 @@ use layout_face::positioning::{PositioningLookup, PositioningTable};
 use layout_gpos::bases::LastSearches;
 use layout_gpos::placing::pass;
 use layout_match::hb_ot_apply_context_t;
+use layout_match::lookup::idle_run;
 
-/// Tries a lookup at the cursor, and moves over the glyph where it doesn't act; at the end it does nothing.
-#[tactic(auto, using(layout_match::proofs::Lemmas::Steps::step_ended, layout_match::proofs::Lemmas::Steps::given_up, layout_match::proofs::Lemmas::Steps::passed_there, layout_gpos::proofs::Lemmas::Passed::closed_there, crate::proofs::Kept::passed_kept))]
+/// Moves the cursor over the glyphs that a lookup is not to be tried at, to the next one where it is.
+fn pass_idle(lookup: &PositioningLookup, ctx: &hb_ot_apply_context_t, buffer: &mut hb_buffer_t)
+    requires closed { buffer.old.is_open ≡ false }
+    requires numbers { are_glyphs (items_of buffer.old) ≡ true }
+    ensures { (table : List Lookup) → IsIdleRun (lookup_action table buffer.old.direction (apply_context_of ctx.now)
+        lookup.now) buffer.old buffer.new }
+{
+    let _count = buffer.len();
+    let run = idle_run(ctx, &lookup.subtables, buffer);
+    pass(buffer, run);
+}
+
+/// Tries a lookup at the cursor, and moves over the glyph where it doesn't act.
+#[tactic(auto, using(layout_match::proofs::Lemmas::Steps::given_up, layout_match::proofs::Lemmas::Steps::passed_there, layout_gpos::proofs::Lemmas::Passed::closed_there, crate::proofs::Kept::passed_kept))]
 fn apply_next(
     table: &PositioningTable,
     lookup: &PositioningLookup,
@@ -26,6 +40,7 @@ fn apply_next(
     buffer: &mut hb_buffer_t,
 ) -> Result<(), ShapeCause>
     requires closed { buffer.old.is_open ≡ false }
+    requires there { 0 < length buffer.old.ahead }
     requires unrefused { buffer.old.has_refused ≡ false }
     requires numbers { are_glyphs (items_of buffer.old) ≡ true }
     requires kept { AreKept (apply_context_of ctx.now) (items_of buffer.old) last.old }
@@ -36,10 +51,7 @@ fn apply_next(
         buffer.old.direction (apply_context_of ctx.now) lookup.now) ctx.now.random_state buffer.old e) }
     ensures kept { OnOk result (AreKept (apply_context_of ctx.now) (items_of buffer.new) last.new) }
 {
-    let count = buffer.len();
-    if buffer.idx() == count {
-        return Ok(());
-    }
+    let _count = buffer.len();
     if apply_lookup(table, lookup, ctx, last, buffer)? {
         return Ok(());
     }
@@ -59,10 +71,11 @@ pub fn apply_forward(
     ensures { DoesGlyphStageFrom ctx.now.random_state ctx.now.random_state (positioning_pass (lookup_action
         table.now.lookups buffer.old.direction (apply_context_of ctx.now) lookup.now)) result buffer.old buffer.new }
 {
-    let count = buffer.len();
     let mut last = LastSearches::new();
-    for _ in 0..count {
+    pass_idle(lookup, ctx, buffer);
+    while buffer.idx() < buffer.len() {
         apply_next(table, lookup, ctx, &mut last, buffer)?;
+        pass_idle(lookup, ctx, buffer);
     }
     let _end = buffer.len();
     let _ = buffer.move_to(0);

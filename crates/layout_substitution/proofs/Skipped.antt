@@ -6,7 +6,7 @@ use Rattle.std.specs.List.{list_any}
 use Rattle.buffer_glyphs.specs.Items.{Item, item_of, zero_position}
 use Rattle.buffer_core.specs.Readings.{View, Reading, Stage, Follows, then_reading, with_events}
 use Rattle.buffer_core.specs.Steps.{follows_same}
-use Rattle.buffer_core.specs.Sides.{Sides, all_glyphs, items_of, with_cleared_positions, zero_positions}
+use Rattle.buffer_core.specs.Sides.{Sides, after_sync, all_glyphs, items_of, with_cleared_positions, zero_positions}
 use Rattle.buffer_stages.specs.Actions.{Action, Cut, Passes, uncut_with_positions, view_at, whole}
 use Rattle.buffer_stages.specs.Ready.{IsDoneFrom, IsReady, state_with}
 use Rattle.layout_face.specs.Lookups.{is_reverse, substitution_covers}
@@ -19,6 +19,7 @@ use Rattle.layout_match.specs.Trying.{after_outcome, forward_pass, with_zero_pos
 use Rattle.layout_match.proofs.Lemmas.Held.{passes_uncovered}
 use Rattle.layout_match.proofs.Lemmas.Untouched.{idle_passes, left_alone}
 use Rattle.layout_substitution.specs.Lookups.{backward_pass, backward_trials, cut_at_index, first_reverse, first_subtable, lookup_action, lookup_context, lookup_stage, nested_actions, reverse_action}
+use Rattle.layout_substitution.specs.Steps.{HasZeroPositions}
 use Rattle.layout_substitution.proofs.Uncovered.{first_reverse_uncovered, first_uncovered}
 
 -- ---- from the left
@@ -93,3 +94,18 @@ skipped_items false old new left cleared = ap items_of (cleared refl)
 
 pub skipped_held : (t : TextSets) (b : Bool) (old new : Sides) → (b ≡ true → new ≡ old) → (b ≡ false → new ≡ with_cleared_positions old) → HoldsText t (items_of old) → HoldsText t (items_of new)
 skipped_held t b old new left cleared held = subst (HoldsText t) (sym (skipped_items b old new left cleared)) held
+
+-- ---- positions that are known to be zero
+
+pub already_cleared : (s : Sides) → HasZeroPositions s → s ≡ with_cleared_positions s
+already_cleared s none = ap (λ ps. record s { positions = ps }) none
+
+pub cleared_now : (s new : Sides) → new ≡ with_cleared_positions s → HasZeroPositions new
+cleared_now s new is =
+    let P : Sides → Type 0 = λ t. HasZeroPositions t in
+    subst P (sym is) (ap zero_positions (sym (length-replicate (length s.positions) zero_position)))
+
+pub zero_synced : (s new : Sides) → new ≡ after_sync s → HasZeroPositions new
+zero_synced s new is =
+    let P : Sides → Type 0 = λ t. HasZeroPositions t in
+    subst P (sym is) (ap zero_positions (sym (length-replicate (length (all_glyphs s)) zero_position)))

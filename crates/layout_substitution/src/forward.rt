@@ -1,22 +1,48 @@
 //! A lookup over a buffer with an open output (rustybuzz: hb/ot_layout.rs, `apply_forward`).
-ghost use Rattle.std.specs.Prelude.{◌≡◌, ◌≢◌, true, false, Ok, Err, IfErr, OnOk};
+ghost use Rattle.std.specs.Prelude.{◌≡◌, ◌≢◌, ◌<◌, List, length, true, false, Ok, Err, IfErr, OnOk};
 ghost use Rattle.buffer_core.specs.Sides.{items_of};
+ghost use Rattle.layout_face.specs.declared.substitution.SubstLookup.{SubstLookup as Lookup};
 ghost use Rattle.layout_match.specs.Applied.{apply_context_of};
+ghost use Rattle.buffer_glyphs.specs.declared.cause.ShapeCause.TheVariants.{TooLong};
 ghost use Rattle.buffer_stages.specs.Buffers.{are_glyphs};
 ghost use Rattle.buffer_stages.specs.Ready.{DoesGlyphStageFrom, IsReady};
 ghost use Rattle.layout_match.specs.Trying.{forward_pass};
 ghost use Rattle.layout_substitution.specs.Lookups.{lookup_action};
-ghost use Rattle.layout_match.specs.Steps.{IsGivenUp, IsStep};
+ghost use Rattle.layout_match.specs.Steps.{IsGivenUp, IsIdleRun, IsIdleRunTooLong, IsStep};
+ghost use Rattle.layout_substitution.specs.Steps.{HasZeroPositions};
 
 use crate::lookup::apply_lookup;
 use buffer_core::buffer::hb_buffer_t;
 use buffer_glyphs::cause::ShapeCause;
 use layout_face::substitution::{SubstLookup, SubstitutionTable};
 use layout_match::hb_ot_apply_context_t;
+use layout_match::lookup::idle_run;
 
-/// Tries a lookup at the cursor, and moves over the glyph where it doesn't act; at the end it does nothing. It answers
-/// whether it acted, here or before.
-#[tactic(auto, using(layout_match::proofs::Lemmas::Steps::step_ended))]
+/// Moves the cursor over the glyphs that a lookup is not to be tried at, to the next one where it is.
+fn pass_idle(
+    lookup: &SubstLookup,
+    ctx: &hb_ot_apply_context_t,
+    buffer: &mut hb_buffer_t,
+) -> Result<(), ShapeCause>
+    requires open { buffer.old.is_open ≡ true }
+    requires numbers { are_glyphs (items_of buffer.old) ≡ true }
+    ensures ok { OnOk result ((table : List Lookup) → IsIdleRun (lookup_action table (apply_context_of ctx.now) lookup.now)
+        buffer.old buffer.new) }
+    ensures err { IfErr result (λ e. e ≢ ShapeCause.OutOfMemory → (e ≡ TooLong) × ((table : List Lookup)
+        → IsIdleRunTooLong (lookup_action table (apply_context_of ctx.now) lookup.now) buffer.old)) }
+{
+    let count = idle_run(ctx, &lookup.subtables, buffer);
+    if count == 0 {
+        return Ok(());
+    }
+    if !buffer.next_glyphs(count)? {
+        return Err(ShapeCause::TooLong);
+    }
+    Ok(())
+}
+
+/// Tries a lookup at the cursor, and moves over the glyph where it doesn't act. It answers whether it acted, here or
+/// before.
 fn apply_next(
     table: &SubstitutionTable,
     lookup: &SubstLookup,
@@ -25,6 +51,7 @@ fn apply_next(
     buffer: &mut hb_buffer_t,
 ) -> Result<bool, ShapeCause>
     requires open { buffer.old.is_open ≡ true }
+    requires there { 0 < length buffer.old.ahead }
     requires unrefused { buffer.old.has_refused ≡ false }
     requires numbers { are_glyphs (items_of buffer.old) ≡ true }
     ensures ok { OnOk result (IsStep (lookup_action table.now.lookups
@@ -36,9 +63,6 @@ fn apply_next(
     ensures before { result ≡ Ok false → acted ≡ false }
     ensures unchanged { result ≡ Ok false → items_of buffer.new ≡ items_of buffer.old }
 {
-    if buffer.idx() == buffer.len() {
-        return Ok(acted);
-    }
     if apply_lookup(table, lookup, ctx, buffer)? {
         return Ok(true);
     }
@@ -63,12 +87,14 @@ pub fn apply_forward(
         table.now.lookups (apply_context_of ctx.old) lookup.now)) result buffer.old buffer.new }
     ensures context { apply_context_of ctx.new ≡ apply_context_of ctx.old }
     ensures unchanged { result ≡ Ok false → items_of buffer.new ≡ items_of buffer.old }
+    ensures cleared { OnOk result (HasZeroPositions buffer.new) }
 {
-    let count = buffer.len();
     buffer.clear_output()?;
+    pass_idle(lookup, ctx, buffer)?;
     let mut acted = false;
-    for _ in 0..count {
+    while buffer.idx() < buffer.len() {
         acted = apply_next(table, lookup, ctx, acted, buffer)?;
+        pass_idle(lookup, ctx, buffer)?;
     }
     if !buffer.sync()? {
         return Err(ShapeCause::TooLong);

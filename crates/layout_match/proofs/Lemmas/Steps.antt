@@ -17,11 +17,11 @@ use Rattle.buffer_stages.proofs.Lemmas.Performed.{same_with}
 use Rattle.layout_match.specs.Trying.{trials, trial_at, after_outcome, outcome_past_item}
 use Rattle.layout_match.specs.Steps.{IsStep, IsGivenUp}
 
-empty : {X : Type 0} (xs : List X) → length xs ≡ 0 → xs ≡ []
+pub empty : {X : Type 0} (xs : List X) → length xs ≡ 0 → xs ≡ []
 empty [] e = refl
 empty (x ∷ xs) e = cc
 
-ended : (act : Action) (v : View) (n : ℕ) (c : Cut) → c.rest ≡ [] → trials act v n c ≡ Ok (with_events [] (view_at v c))
+pub ended : (act : Action) (v : View) (n : ℕ) (c : Cut) → c.rest ≡ [] → trials act v n c ≡ Ok (with_events [] (view_at v c))
 ended act v zero c e = refl
 ended act v (suc n) c e = ap (λ (xs : List Item). trial_at act (trials act v n) v xs c) e
 
@@ -45,22 +45,6 @@ then_tried act v n before after es w c s new final is at still happened f =
 then_refused : (act : Action) (v : View) (n before after : ℕ) (es : List Event) (w : View) (c : Cut) (s new : Sides) (cause : ShapeCause) → trials act v (suc n) (cut_with before s) ≡ then_reading (with_events es w) (trials act v n c) → cut_with after new ≡ c
     → trials act v n (cut_with after new) ≡ Err cause → trials act v (suc n) (cut_with before s) ≡ Err cause
 then_refused act v n before after es w c s new cause is at e = is ∙ ap (then_reading (with_events es w)) (ap (trials act v n) (sym at) ∙ e)
-
--- at the end nothing is tried
-pub step_ended : (act : Action) (r : ℕ) (s : Sides) → length s.ahead ≡ 0 → IsStep act r r s s
-step_ended act r s e =
-    let none : strip s.ahead ≡ [] = ap strip (empty s.ahead e) in
-    let c = cut_with r s in
-    record {
-      still = refl;
-      less = omega (arith, e);
-      numbers = λ h. h;
-      follows = λ v n final f.
-          let same : trials act v n c ≡ trials act v (suc n) c = ended act v n c none ∙ sym (ended act v (suc n) c none) in
-          let P : Reading → Type 0 = λ q. Follows q (state_of s) final in
-          subst P same f;
-      refuses = λ v n cause g. ended act v (suc n) c none ∙ sym (ended act v n c none) ∙ g;
-    }
 
 -- ---- a rule that acts
 

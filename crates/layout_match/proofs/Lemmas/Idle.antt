@@ -1,0 +1,82 @@
+-- Glyphs that a lookup is not tried at.
+use Rattle.std.proofs.Common.{ℕ, suc, zero, ◌≡◌, ◌≤◌, ◌+◌, ◌&&◌, ◌||◌, Bool, true, false, nat_le, List, [], ◌∷◌, take, refl, sym, ap, ◌∙◌, arith, slice_get, Some}
+use Rattle.std.specs.List.{list_any}
+use Rattle.std.proofs.lemmas.Bool.Decides.{nat_tests}
+use Rattle.std.proofs.lemmas.Grind.{common_steps}
+use Rattle.std.proofs.lemmas.List.{map-append}
+use Rattle.buffer_glyphs.specs.declared.info.hb_glyph_info_t.{hb_glyph_info_t}
+use Rattle.buffer_glyphs.specs.Items.{Item, item_of, strip}
+use Rattle.buffer_core.specs.Sides.{Sides, items_of}
+use Rattle.buffer_stages.specs.Actions.{Action}
+use Rattle.buffer_stages.specs.Buffers.{are_glyphs}
+use Rattle.buffer_stages.proofs.Lemmas.Glyphs.{all_of_back}
+use Rattle.layout_match.specs.Applied.{ApplyContext}
+use Rattle.layout_match.specs.Skipping.{PassesAll, PassesAt}
+use Rattle.layout_match.specs.Trying.{meets, met_first}
+use Rattle.layout_match.proofs.Lemmas.Held.{passes_uncovered}
+use Rattle.layout_match.proofs.Lemmas.Untouched.{rule_passes, unmet_passes}
+
+-- the number of a glyph at an index
+number_at : (gs : List hb_glyph_info_t) (k : ℕ) (g : hb_glyph_info_t) → slice_get gs k ≡ Some g → are_glyphs (strip gs) ≡ true → g.glyph_id ≤ 65535
+number_at [] k g at e = cc
+number_at (h ∷ gs) zero g at e =
+    let same : h ≡ g = cc in
+    let here : nat_le h.glyph_id 65535 ≡ true = grind (arith, common_steps, e) in
+    rw (← same) (grind (arith, nat_tests, here))
+number_at (h ∷ gs) (suc k) g at e = number_at gs k g at (grind (arith, common_steps, e))
+
+pub number_ahead_at : (s : Sides) (k : ℕ) (g : hb_glyph_info_t) → slice_get s.ahead k ≡ Some g → are_glyphs (items_of s) ≡ true → g.glyph_id ≤ 65535
+number_ahead_at s k g at e = number_at s.ahead k g at (all_of_back (λ (x : Item). nat_le x.number 65535) (strip s.behind) (strip s.ahead) (ap are_glyphs (sym (map-append item_of s.behind s.ahead)) ∙ e))
+
+-- ---- a test that none of the first so many items passes
+
+pub none_first : (test : Item → Bool) (xs : List Item) → list_any test (take 0 xs) ≡ false
+none_first test [] = refl
+none_first test (x ∷ xs) = refl
+
+or_none : (a b : Bool) → a ≡ false → b ≡ false → (a || b) ≡ false
+or_none false false e f = refl
+or_none false true e f = cc
+or_none true b e f = cc
+
+first_none : (a b : Bool) → (a || b) ≡ false → a ≡ false
+first_none false b e = refl
+first_none true b e = cc
+
+rest_none : (a b : Bool) → (a || b) ≡ false → b ≡ false
+rest_none false b e = e
+rest_none true b e = cc
+
+pub none_next : (test : Item → Bool) (gs : List hb_glyph_info_t) (k : ℕ) (g : hb_glyph_info_t) → slice_get gs k ≡ Some g → list_any test (take k (strip gs)) ≡ false → test (item_of g) ≡ false → list_any test (take (k + 1) (strip gs)) ≡ false
+none_next test [] k g at none off = cc
+none_next test (h ∷ gs) zero g at none off =
+    let same : h ≡ g = cc in
+    or_none (test (item_of h)) (list_any test (take 0 (strip gs))) (ap (λ i. test (item_of i)) same ∙ off) (none_first test (strip gs))
+none_next test (h ∷ gs) (suc k) g at none off =
+    let e : suc k + 1 ≡ suc (k + 1) = omega arith in
+    let here = first_none (test (item_of h)) (list_any test (take k (strip gs))) none in
+    let more = none_next test gs k g at (rest_none (test (item_of h)) (list_any test (take k (strip gs))) none) off in
+    ap (λ n. list_any test (take n (strip (h ∷ gs)))) e ∙ or_none (test (item_of h)) (list_any test (take (k + 1) (strip gs))) here more
+
+-- where a set that has what is covered misses, or a lookup doesn't meet, it need not be tried
+pub not_tried_there : (covered has met tried : Bool) → (covered ≡ true → has ≡ true) → tried ≡ (has && met) → tried ≡ false → (met && covered) ≡ false
+not_tried_there covered has met tried holds is none = by_cover covered has met holds (sym is ∙ none)
+  where
+    by_cover : (c h m : Bool) → (c ≡ true → h ≡ true) → (h && m) ≡ false → (m && c) ≡ false
+    by_cover false h false f e = refl
+    by_cover false h true f e = refl
+    by_cover true h false f e = refl
+    by_cover true h true f e = let there : h ≡ true = f refl in cc
+
+-- ---- a lookup passes at each glyph that it isn't tried at
+
+-- a lookup passes where it doesn't apply to an item, or its rule passes
+idle_at : (a : ApplyContext) (act : Action) (covered : Bool) (x : Item) → (covered ≡ false → PassesAt act x) → (meets a x && covered) ≡ false → PassesAt (met_first a act) x
+idle_at a act covered x passes none = by_meeting (meets a x) refl none
+  where
+    by_meeting : (b : Bool) → meets a x ≡ b → (b && covered) ≡ false → PassesAt (met_first a act) x
+    by_meeting true is uncovered = rule_passes a act x (passes uncovered)
+    by_meeting false is uncovered = unmet_passes a act x is
+
+pub idle_all : (a : ApplyContext) (act : Action) (covers : ℕ → Bool) (xs : List Item) → ((x : Item) → covers x.number ≡ false → PassesAt act x) → list_any (λ (x : Item). meets a x && covers x.number) xs ≡ false → PassesAll (met_first a act) xs
+idle_all a act covers xs passes none = passes_uncovered (met_first a act) (λ x. meets a x && covers x.number) xs none (λ x off. idle_at a act (covers x.number) x (passes x) off)
