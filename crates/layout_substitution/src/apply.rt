@@ -6,19 +6,17 @@ ghost use Rattle.layout_map_features.specs.declared.per_table.TableIndex.TheVari
 ghost use Rattle.layout_match.specs.Applied.{apply_context_of};
 ghost use Rattle.layout_match.specs.Skipping.{HoldsText};
 ghost use Rattle.buffer_stages.specs.Buffers.{are_glyphs};
-ghost use Rattle.buffer_stages.specs.Ready.{DoesGlyphStage, DoesGlyphStageFrom, IsReady};
-ghost use Rattle.buffer_stages.specs.Pauses.{with_own_random};
+ghost use Rattle.buffer_stages.specs.Ready.{DoesGlyphStageFrom, IsReady};
+ghost use Rattle.layout_substitution.specs.Steps.{HasZeroPositions};
 ghost use Rattle.layout_substitution.specs.Lookups.{lookup_context, lookup_applied, lookup_stage, lookups_stage};
 
 use crate::backward::apply_backward;
 use crate::forward::apply_forward;
 use buffer_core::buffer::hb_buffer_t;
 use buffer_glyphs::cause::ShapeCause;
-use layout_face::Face;
 use layout_face::substitution::{SubstLookup, SubstitutionTable};
 use layout_map_features::lookup::lookup_map_t;
-use layout_map_features::per_table::TableIndex;
-use layout_match::{TextDigest, TextGlyphs, hb_ot_apply_context_t};
+use layout_match::{TextDigest, hb_ot_apply_context_t};
 
 /// Tries a lookup at each glyph: one of reverse chaining from the right, in place, any other from the left. It answers
 /// whether it acted anywhere.
@@ -34,6 +32,7 @@ fn apply_everywhere(
         (apply_context_of ctx.old) lookup.now) result buffer.old buffer.new }
     ensures context { apply_context_of ctx.new ≡ apply_context_of ctx.old }
     ensures unchanged { result ≡ Ok false → items_of buffer.new ≡ items_of buffer.old }
+    ensures cleared { is_reverse lookup.now.subtables ≡ false → OnOk result (HasZeroPositions buffer.new) }
 {
     if lookup.is_reverse() {
         return Ok(apply_backward(lookup, ctx, buffer));
@@ -55,49 +54,60 @@ fn set_lookup(ctx: &mut hb_ot_apply_context_t, lookup: &SubstLookup, lookup_map:
     ctx.lookup_props = lookup.props();
 }
 
-/// Leaves out a lookup that can act nowhere: from the left it clears all positions, as wherever it is applied.
-fn skip_lookup(lookup: &SubstLookup, buffer: &mut hb_buffer_t)
+/// Leaves out a lookup that can act nowhere: from the left it clears all positions, as wherever it is applied, unless
+/// they are known to be zero. It answers whether they are known to be zero now.
+#[tactic(auto, using(crate::proofs::Skipped::already_cleared, crate::proofs::Skipped::cleared_now))]
+fn skip_lookup(lookup: &SubstLookup, cleared: bool, buffer: &mut hb_buffer_t) -> bool
+    requires { cleared ≡ true → HasZeroPositions buffer.old }
     ensures backward { is_reverse lookup.now.subtables ≡ true → buffer.new ≡ buffer.old }
     ensures forward { is_reverse lookup.now.subtables ≡ false → buffer.new ≡ with_cleared_positions buffer.old }
+    ensures cleared { result ≡ true → HasZeroPositions buffer.new }
 {
-    if !lookup.is_reverse() {
-        buffer.clear_positions();
+    if lookup.is_reverse() {
+        return cleared;
     }
+    if cleared {
+        return true;
+    }
+    buffer.clear_positions();
+    true
 }
 
 /// Applies the lookup at an index of the table, unless it can act at no glyph of the text; an index without one does
-/// nothing.
+/// nothing. `cleared` says that all positions are zero, and so does the answer.
 #[tactic(auto, using(crate::proofs::Skipped::skipped_held))]
 fn apply_mapped<T: TextDigest>(
     table: &SubstitutionTable,
     lookup_map: &lookup_map_t,
     text: &mut T,
+    cleared: bool,
     ctx: &mut hb_ot_apply_context_t,
     buffer: &mut hb_buffer_t,
-) -> Result<(), ShapeCause>
+) -> Result<bool, ShapeCause>
     requires substitution { ctx.old.table_index ≡ GSUB }
     requires ready { IsReady buffer.old }
     requires numbers { are_glyphs (items_of buffer.old) ≡ true }
     requires held { HoldsText (T.sets text.old) (items_of buffer.old) }
+    requires cleared { cleared ≡ true → HasZeroPositions buffer.old }
     ensures stage { DoesGlyphStageFrom ctx.old.random_state ctx.new.random_state (lookup_stage ctx.old.face.now
         table.now.lookups (slice_get table.now.lookups lookup_map.now.index) lookup_map.now) result buffer.old
         buffer.new }
     ensures table { ctx.new.table_index ≡ GSUB }
     ensures face { ctx.new.face.now ≡ ctx.old.face.now }
     ensures held { OnOk result (HoldsText (T.sets text.new) (items_of buffer.new)) }
+    ensures cleared { result ≡ Ok true → HasZeroPositions buffer.new }
 {
     let Some(lookup) = table.get_lookup(lookup_map.index) else {
-        return Ok(());
+        return Ok(cleared);
     };
     let _count = buffer.len();
     if text.misses(lookup_map.mask, &lookup.subtables, buffer) {
-        skip_lookup(lookup, buffer);
-        return Ok(());
+        return Ok(skip_lookup(lookup, cleared, buffer));
     }
     set_lookup(ctx, lookup, lookup_map);
     let acted = apply_everywhere(table, lookup, ctx, buffer)?;
     text.after_lookup(acted);
-    Ok(())
+    Ok(!lookup.is_reverse())
 }
 
 /// Applies lookups one after another. What is known of the text serves all of them, and holds its glyphs afterwards.
@@ -118,27 +128,10 @@ pub(crate) fn apply_all<T: TextDigest>(
     ensures face { ctx.new.face.now ≡ ctx.old.face.now }
     ensures held { OnOk result (HoldsText (T.sets text.new) (items_of buffer.new)) }
 {
+    // A lookup from the left leaves all positions zero, which the next ones that are skipped need not clear again.
+    let mut cleared = false;
     for lookup_map in lookups {
-        apply_mapped(table, lookup_map, text, ctx, buffer)?;
+        cleared = apply_mapped(table, lookup_map, text, cleared, ctx, buffer)?;
     }
     Ok(())
-}
-
-/// Applies GSUB lookups of the font one after another, each at all glyphs: from the left, moving on after the glyphs
-/// that it made, or for reverse chaining from the right. Random numbers are drawn from the state 1 on. It refuses for
-/// want of memory, or where a list would have more glyphs than it may.
-pub fn apply_lookups(
-    face: &Face,
-    table: &SubstitutionTable,
-    lookups: &[lookup_map_t],
-    buffer: &mut hb_buffer_t,
-) -> Result<(), ShapeCause>
-    requires ready { IsReady buffer.old }
-    requires numbers { are_glyphs (items_of buffer.old) ≡ true }
-    ensures { DoesGlyphStage (with_own_random (lookups_stage face.now table.now.lookups lookups.now)) result
-        buffer.old buffer.new }
-{
-    let mut ctx = hb_ot_apply_context_t::new(TableIndex::GSUB, face);
-    let mut text = TextGlyphs::new();
-    apply_all(table, lookups, &mut text, &mut ctx, buffer)
 }

@@ -1,4 +1,4 @@
-use Rattle.std.proofs.Common.{false, get_or, slice_get, subst, ◌∙◌}
+use Rattle.std.proofs.Common.{Ok, false, get_or, slice_get, subst, ap, ◌∙◌}
 use Rattle.layout_face.specs.declared.parts.FaceParts.{FaceParts}
 use Rattle.layout_map_features.specs.declared.lookup.lookup_map_t.{lookup_map_t}
 use Rattle.buffer_stages.specs.Ready.{IsDoneFrom}
@@ -17,8 +17,9 @@ loop-lookup_map-preserved g c =
     record {
       done =
           one_done c.args.ctx.now.face.now c.args.table.now.lookups c.args.lookups.now c.loop-lookup_map.lookup_map-index none c.args.ctx.now.random_state r after c.args.buffer.now c.loop-lookup_map.buffer c.apply_mapped.new.buffer c.loop-lookup_map-test.true i.done
-          (subst P i.face c.in_ok-apply_mapped.ensures.stage);
+          (subst P i.face c.in_ok-cleared.ensures.stage);
       substitution = c.apply_mapped.ensures.table;
-      held = c.in_ok-apply_mapped.ensures.held;
+      held = c.in_ok-cleared.ensures.held;
       face = c.apply_mapped.ensures.face ∙ i.face;
+      cleared = λ is. c.apply_mapped.ensures.cleared (c.in_ok-cleared.was ∙ ap Ok is);
     }

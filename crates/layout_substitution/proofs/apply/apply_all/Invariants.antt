@@ -1,7 +1,8 @@
-use Rattle.std.proofs.Common.{◌≡◌, drop}
+use Rattle.std.proofs.Common.{◌≡◌, true, drop}
 use Rattle.layout_map_features.specs.declared.per_table.TableIndex.TheVariants.{GSUB}
 use Rattle.buffer_core.specs.Sides.{items_of}
 use Rattle.layout_match.specs.Skipping.{HoldsText}
+use Rattle.layout_substitution.specs.Steps.{HasZeroPositions}
 use Rattle.layout_substitution.proofs.Stages.{AreDone}
 use Rattle.layout_substitution.proofs.apply.apply_all.Given as goal
 
@@ -12,4 +13,5 @@ invariant-loop-lookup_map g l = record {
   substitution : l.ctx.table_index ≡ GSUB;
   held : HoldsText (g.T.TextDigest.sets l.text) (items_of l.buffer);
   face : l.ctx.face.now ≡ l.fn.ctx.face.now;
+  cleared : l.cleared ≡ true → HasZeroPositions l.buffer;
 }
