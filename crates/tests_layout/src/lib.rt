@@ -1,4 +1,7 @@
 //! Tests of fonts: what a font is read as, requests for features up to the stages of lookups, and what lookups would do.
+//!
+//! Each module of tests has a line `#[cfg(test)]`, since the gate also proves the crate without its tests: with none of
+//! these lines it would prove every function twice.
 #![tactic(auto)]
 
 #[cfg(test)]

@@ -1,5 +1,8 @@
 //! Tests of shaping with and without plans, with a shaper of their own, and of the conditions under which canonically
 //! equivalent texts shape alike.
+//!
+//! Each module of tests has a line `#[cfg(test)]`, since the gate also proves the crate without its tests: with none of
+//! these lines it would prove every function twice.
 #![tactic(auto)]
 
 #[cfg(test)]

@@ -1,4 +1,4 @@
-//! Shapers whose rules the laws of `shape_plan` refuse.
+//! Shapers whose rules the laws of `script_plan` refuse.
 #![tactic(auto)]
 
 pub mod laws;

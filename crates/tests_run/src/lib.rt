@@ -1,4 +1,7 @@
 //! Runs of the shaper from bytes to the line or the fault: tests that cross the crates of the program.
+//!
+//! Each module of tests has a line `#[cfg(test)]`, since the gate also proves the crate without its tests: with none of
+//! these lines it would prove every function twice.
 #![tactic(auto)]
 
 #[cfg(test)]

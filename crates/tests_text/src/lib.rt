@@ -1,4 +1,7 @@
 //! Tests of texts, characters, words, JSON values, tables, syllables and languages.
+//!
+//! Each module of tests has a line `#[cfg(test)]`, since the gate also proves the crate without its tests: with none of
+//! these lines it would prove every function twice.
 #![tactic(auto)]
 
 #[cfg(test)]
