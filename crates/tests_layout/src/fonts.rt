@@ -91,18 +91,28 @@ fn character(number: &str) -> Option<char> {
     char::from_u32(number.parse::<u32>().ok()?)
 }
 
+/// A character and the variation selector after it, if there is one, by their numbers.
+fn characters(numbers: &str) -> Option<(char, Option<char>)> {
+    match numbers.split_once(' ') {
+        Some((letter, selector)) => Some((character(letter)?, Some(character(selector)?))),
+        None => Some((character(numbers)?, None)),
+    }
+}
+
 /// Whether a font's answer about a character, alone or with a variation selector, is that of a row.
 pub(crate) fn answers_of_characters(
     alloc: Global,
     font: &Face,
     numbers: &str,
     answer: &str,
-) -> Option<bool> {
-    let Some((letter, selector)) = numbers.split_once(' ') else {
-        return prints(alloc, &font.get_nominal_glyph(character(numbers)?), answer);
-    };
-    let glyphs = glyphs_of(font, character(letter)?, character(selector)?);
-    prints(alloc, &glyphs, answer)
+) -> Result<bool, AllocError> {
+    match characters(numbers) {
+        Some((letter, Some(selector))) => {
+            prints(alloc, &glyphs_of(font, letter, selector), answer)
+        }
+        Some((letter, None)) => prints(alloc, &font.get_nominal_glyph(letter), answer),
+        None => Ok(false),
+    }
 }
 
 /// Whether a font's answer to a question is that of its row.
@@ -112,7 +122,7 @@ pub(crate) fn answers(
     question: &str,
     [glyph, _, _]: [u16; 3],
     answer: &str,
-) -> Option<bool> {
+) -> Result<bool, AllocError> {
     match question {
         "lengths" => prints(alloc, &lengths_of(font, glyph), answer),
         "extents" => prints(alloc, &font.glyph_extents(glyph), answer),
@@ -120,13 +130,13 @@ pub(crate) fn answers(
         "classes" => prints(alloc, &classes_of(font, glyph), answer),
         "sets" => prints(alloc, &sets_with(font, glyph), answer),
         "tables" => prints(alloc, &tables_of(font), answer),
-        _ => None,
+        _ => Ok(false),
     }
 }
 
 #[test]
 fn answers_of_a_font(rt: HostRuntime) -> Result<(), Fail> {
-    assert_eq!(rt; first_wrong(rt.alloc(), FONT, ANSWERS), Ok(None));
+    assert_eq!(rt; first_wrong(rt.alloc(), FONT, ANSWERS)?, None);
     Ok(())
 }
 
@@ -147,7 +157,7 @@ static TABLES: [(&str, &str); 4] = [
 #[test]
 fn tables_of_a_font(rt: HostRuntime) -> Result<(), Fail> {
     for (text, row) in &TABLES {
-        assert_eq!(rt; first_wrong(rt.alloc(), text, row), Ok(None), "{text}");
+        assert_eq!(rt; first_wrong(rt.alloc(), text, row)?, None, "{text}");
     }
     Ok(())
 }
@@ -160,15 +170,19 @@ const ALL_KEYS: &str =
 "scripts":[["DFLT",null,[]],["latn",{"required":1,"features":[0]},[["DEU ",{}]]]],"size":3},"gpos":{"scripts":[]},
 "gdef":{"sets":[[9],[]],"attach":[[9,2]],"classes":[[1,1],[9,3]],"carets":{"1":[250]}}}"#;
 
-fn is_read_by_parts(alloc: Global, text: &str) -> bool {
-    read_by_parts(alloc, text).is_ok()
+/// Reads a font that can be read by its parts, so that only want of memory can prevent it.
+fn read_font_by_parts(alloc: Global, text: &str) -> Result<(), AllocError> {
+    match read_by_parts(alloc, text) {
+        Ok(_) => Ok(()),
+        Err(_) => Err(AllocError),
+    }
 }
 
 // A font that is read whole takes several times the memory.
 #[test]
 fn fonts_are_read_by_parts(rt: HostRuntime) -> Result<(), Fail> {
     for text in ["{}", ALL_KEYS, substitutions::FONT, positions::FONT] {
-        assert!(rt; is_read_by_parts(rt.alloc(), text), "{text}");
+        read_font_by_parts(rt.alloc(), text)?;
     }
     Ok(())
 }
@@ -186,9 +200,7 @@ fn many_rows(alloc: Global) -> Result<String, AllocError> {
 #[test]
 fn many_characters(rt: HostRuntime) -> Result<(), Fail> {
     let text = many_rows(rt.alloc())?;
-    assert_eq!(rt;
-        first_wrong(rt.alloc(), &text, "character 201071: Some(999)"),
-        Ok(None)
-    );
+    let wrong = first_wrong(rt.alloc(), &text, "character 201071: Some(999)")?;
+    assert_eq!(rt; wrong, None);
     Ok(())
 }

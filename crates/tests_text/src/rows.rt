@@ -10,9 +10,17 @@ fn split_rows(alloc: Global, splits: &[[u32; 3]]) -> Result<UnicodeRows, AllocEr
     Ok(rows)
 }
 
+/// A fault, where it isn't want of memory.
+fn but_for_memory(fault: Option<TablesFault>) -> Result<Option<TablesFault>, AllocError> {
+    match fault {
+        Some(TablesFault::OutOfMemory) => Err(AllocError),
+        _ => Ok(fault),
+    }
+}
+
 fn fault(alloc: Global, splits: &[[u32; 3]]) -> Result<Option<TablesFault>, AllocError> {
     let rows = split_rows(alloc, splits)?;
-    Ok(UnicodeTables::new(alloc, &rows).err())
+    but_for_memory(UnicodeTables::new(alloc, &rows).err())
 }
 
 const SPLITS: [([[u32; 3]; 2], Option<TablesFault>); 4] = [
@@ -51,33 +59,38 @@ fn whole_of(alloc: Global, first: u32, second: u32) -> Result<Option<char>, Tabl
     Ok(find_row(&pairs, first, second).map(|row| row.whole))
 }
 
-fn are_found(alloc: Global) -> [bool; 4] {
-    [
-        second_of(alloc, 0xE1) == Ok(Some('\u{301}')),
-        second_of(alloc, 0xE2) == Ok(None),
-        whole_of(alloc, 0x61, 0x300) == Ok(Some('\u{E0}')),
-        whole_of(alloc, 0x61, 0x301) == Ok(None),
-    ]
+fn found(alloc: Global) -> Result<[Option<char>; 4], TablesFault> {
+    Ok([
+        second_of(alloc, 0xE1)?,
+        second_of(alloc, 0xE2)?,
+        whole_of(alloc, 0x61, 0x300)?,
+        whole_of(alloc, 0x61, 0x301)?,
+    ])
 }
 
 #[test]
-fn finds_rows(rt: HostRuntime) {
-    assert_eq!(rt; are_found(rt.alloc()), [true; 4]);
+fn finds_rows(rt: HostRuntime) -> Result<(), Fail> {
+    assert_eq!(rt;
+        found(rt.alloc())?,
+        [Some('\u{301}'), None, Some('\u{E0}'), None]
+    );
+    Ok(())
 }
 
-fn fault_of(alloc: Global, rows: &[[u32; 3]]) -> Option<TablesFault> {
+fn fault_of(alloc: Global, rows: &[[u32; 3]]) -> Result<Option<TablesFault>, AllocError> {
     let splits: Result<Vec<Split>, TablesFault> = read_rows(alloc, rows);
-    splits.err()
+    but_for_memory(splits.err())
 }
 
 #[test]
-fn refuses_rows(rt: HostRuntime) {
+fn refuses_rows(rt: HostRuntime) -> Result<(), Fail> {
     for (rows, want) in [
         ([[1, 2, 3], [1, 2, 3]], TablesFault::OutOfOrder),
         ([[1, 2, 3], [1, 0xD800, 3]], TablesFault::OutOfRange),
     ] {
-        assert_eq!(rt; fault_of(rt.alloc(), &rows), Some(want));
+        assert_eq!(rt; fault_of(rt.alloc(), &rows)?, Some(want));
     }
+    Ok(())
 }
 
 fn ranges(alloc: Global) -> Result<CharacterRanges, AllocError> {

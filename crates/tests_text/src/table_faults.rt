@@ -4,7 +4,7 @@ use buffer_unicode_tables::{LawFault, UnicodeTables};
 use serde_json::Value;
 use shell_json::fault::JsonFault;
 use shell_tables_json::{read_languages, read_syllables, read_tables};
-use std::alloc::Global;
+use std::alloc::{AllocError, Global};
 use std::process::Abort;
 use std::test::Fail;
 
@@ -114,26 +114,28 @@ none: {"splits":[[225,97,769],[7841,97,803],[983040,225,803]],"pairs":[[7841,769
 PairNotEquivalent: {"splits":[[225,97,769],[7841,97,803],[983040,225,803]],"pairs":[[7841,769,983040]],"classes":[[769,230],[803,230]]}
 PairNotEquivalent: {"splits":[[225,97,769]],"pairs":[[97,769,226]]}"#;
 
-fn name_of(fault: Option<JsonFault>) -> &'static str {
+/// A fault's name, where it isn't want of memory.
+fn name_of(fault: Option<JsonFault>) -> Result<&'static str, Fail> {
     match fault {
-        Some(fault) => fault.name(),
-        None => "none",
+        Some(JsonFault::OutOfMemory) => Err(AllocError)?,
+        Some(fault) => Ok(fault.name()),
+        None => Ok("none"),
     }
 }
 
 fn tables_fault(alloc: Global, text: &str) -> Result<&'static str, Fail> {
     let value = Value::from_str(alloc, text)?;
-    Ok(name_of(read_tables(alloc, &value).err()))
+    name_of(read_tables(alloc, &value).err())
 }
 
 fn syllables_fault(alloc: Global, text: &str) -> Result<&'static str, Fail> {
     let value = Value::from_str(alloc, text)?;
-    Ok(name_of(read_syllables(alloc, &value).err()))
+    name_of(read_syllables(alloc, &value).err())
 }
 
 fn languages_fault(alloc: Global, text: &str) -> Result<&'static str, Fail> {
     let value = Value::from_str(alloc, text)?;
-    Ok(name_of(read_languages(alloc, &value).err()))
+    name_of(read_languages(alloc, &value).err())
 }
 
 fn law_name(fault: Option<LawFault>) -> &'static str {

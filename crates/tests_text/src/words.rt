@@ -65,8 +65,10 @@ fn command_line(alloc: Global, line: &str) -> Result<Result<CommandLine, RunFaul
 }
 
 fn is_refused(alloc: Global, line: &str) -> Result<bool, AllocError> {
-    let found = command_line(alloc, line)?;
-    Ok(found.err() == Some(RunFault::Words))
+    match command_line(alloc, line)?.err() {
+        Some(RunFault::OutOfMemory) => Err(AllocError),
+        fault => Ok(fault == Some(RunFault::Words)),
+    }
 }
 
 #[test]
