@@ -1,13 +1,14 @@
 -- Buffers that stay ready.
-use Rattle.std.proofs.Common.{zero, suc, ℕ, ◌≡◌, ◌+◌, List, [], ◌∷◌, ◌++◌, length, set, refl, sym, ap, subst, ◌∙◌, arith}
+use Rattle.std.proofs.Common.{zero, suc, ℕ, ◌≡◌, ◌+◌, true, List, [], ◌∷◌, ◌++◌, length, set, refl, sym, ap, subst, ◌∙◌, arith}
 use Rattle.std.specs.Prelude.{slice_set}
 use Rattle.std.proofs.lemmas.List.{length-append, length-set}
 use Rattle.buffer_glyphs.specs.declared.info.hb_glyph_info_t.{hb_glyph_info_t}
 use Rattle.buffer_glyphs.specs.Items.{Item, Position, zero_position}
-use Rattle.buffer_core.specs.Sides.{Sides, with_added}
+use Rattle.buffer_core.specs.Sides.{Sides, with_added, with_output}
 use Rattle.buffer_core.specs.Lending.{with_glyph_ahead, with_positions_refilled}
 use Rattle.buffer_stages.specs.Ready.{IsReady}
-use Rattle.buffer_glyphs.specs.Rewriting.{eventless_arrangement}
+use Rattle.buffer_glyphs.specs.Rewriting.{Arrangement, eventless_arrangement}
+use Rattle.buffer_stages.specs.Appending.{AppendsArrangement}
 use Rattle.buffer_stages.specs.Rearranged.{Rearranges}
 use Rattle.buffer_stages.specs.Lemmas.Written.{refilled_whole}
 
@@ -56,3 +57,7 @@ placed_ready i p ps s t ready is e =
       placed = ap (λ (qs : List Position). length qs) whole ∙ length-set s.positions i p ∙ ready.placed;
       unrefused = ready.unrefused;
     }))
+
+-- an output that was opened and appended to is open
+pub output_open : (a : Arrangement) (xs : List Item) (s t u : Sides) → t ≡ with_output s → AppendsArrangement a xs t u → u.is_open ≡ true
+output_open a xs s t u opened appended = ap (λ (q : Sides). q.is_open) appended.frame ∙ ap (λ (q : Sides). q.is_open) opened

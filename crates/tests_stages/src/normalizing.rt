@@ -1,4 +1,5 @@
 //! Normalizing on the buffer.
+mod in_place;
 mod indic;
 mod lists;
 mod rows;
