@@ -19,12 +19,12 @@ may_find Unknown test = true
 abbrev pub Fails : (Item → match_t) → ℕ → List Item → Type 0
 Fails ask from xs = (end : ℕ) × (nearest_from ask from xs ≡ Err end)
 
--- what is told of the next glyph of a search from an index on holds: no item is found whose test is excluded
+-- what the next glyph says of a search from an index on holds: no item is found whose test is excluded
 abbrev pub IsNext : NextGlyph → Search → ℕ → List Item → Type 0
 IsNext next s from xs = (test : Item → Bool) → may_find next test ≡ false → Fails (answer s test) from xs
 
--- what is told of a search holds where its next item is one that the lookup flag admits: it ends the search of each
--- test that is excluded
+-- what the next glyph says of a search holds where the next item is one that the lookup flag admits: it ends the search
+-- of each test that is excluded
 abbrev pub Decides : NextGlyph → Search → Item → Type 0
 Decides next s x = (test : Item → Bool) → may_find next test ≡ false → is_left_out s.props s.sets x ≡ false → answer s test x ≡ NOT_MATCH
 

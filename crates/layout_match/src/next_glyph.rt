@@ -95,9 +95,9 @@ fn flags_failures(buffer: &hb_buffer_t) -> bool
         .contains(BufferFlags::PRODUCE_UNSAFE_TO_CONCAT)
 }
 
-#[tactic(auto, using(crate::proofs::Next::nothing_told, crate::proofs::Next::found_told, crate::proofs::Next::missing_told))]
 /// What the searches for a rule's input and for its lookahead find next after the glyph at the cursor. Where failed
-/// matches are flagged, nothing is told.
+/// matches are flagged, nothing is known.
+#[tactic(auto, using(crate::proofs::Next::nothing_told, crate::proofs::Next::found_told, crate::proofs::Next::missing_told))]
 pub fn next_glyphs(ctx: &hb_ot_apply_context_t, buffer: &hb_buffer_t) -> NextGlyphs
     requires { 0 < length buffer.now.ahead }
     ensures input { IsNext result.input (own_search (apply_context_of ctx.now) (strip buffer.now.ahead)) 1
