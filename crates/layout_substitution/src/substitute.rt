@@ -1,5 +1,8 @@
 //! Substitution, GSUB stage after GSUB stage (rustybuzz: hb/ot_layout_gsub_table.rs, `substitute`; hb/ot_layout.rs,
 //! `apply_layout_table`).
+//!
+//! `apply_stage` repeats the parameters and clauses of `apply_all`, which it calls: a stage promises what a list of
+//! lookups does, for a font without GSUB too.
 ghost use Rattle.std.specs.Prelude.{ℕ, ◌≡◌, OnOk, true};
 ghost use Rattle.std.specs.Option.{option_map_or, option_map};
 ghost use Rattle.buffer_core.specs.Sides.{items_of};
