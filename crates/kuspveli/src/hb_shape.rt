@@ -3,13 +3,13 @@
 
 pub use buffer_glyphs::cause::ShapeCause;
 pub use script_categories::SyllableTable;
+pub use shape_slices::slices::source_slices;
 pub use shell_face_json::read_face;
 pub use shell_json::fault::JsonFault;
 pub use shell_readers::fault::RunFault;
 pub use shell_readers::options::Options;
 pub use shell_tables_json::{read_languages, read_syllables, read_tables};
 pub use shell_words::{CommandLine, parse_options};
-pub use shape_slices::slices::source_slices;
 
 /// Whether a result has slices.
 pub mod fitting {
