@@ -1,4 +1,6 @@
 //! Reads a font from a JSON text.
+//!
+//! Both readers of a font end in the list of all fields of `FaceParts`, which a font is made of.
 ghost use Rattle.std.specs.Prelude.{◌≡◌, ◌≢◌, IfOk, IfErr, Ok, Err, Some};
 ghost use Rattle.serde_json.specs.Data.{Data};
 ghost use Rattle.serde_json.specs.Read.{read};
