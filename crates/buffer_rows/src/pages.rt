@@ -14,8 +14,8 @@ const PAGE: u32 = 128;
 /// How many pages the characters have.
 const PAGES: u32 = 0x110000 / PAGE;
 
-/// The greatest number of slots, those of 1,024 pages, so that pages and slots take at most 273 KB. Fonts of Chinese,
-/// Japanese and Korean have some 300 to 700 pages.
+/// The greatest number of slots, those of 1,024 pages, so that pages and slots take at most 273 KB. A font of Han and
+/// Hangul has some 300 pages (NanumGothic 289), and more with plane 2.
 const MAX_SLOTS: usize = 1024 * 128;
 
 /// An index of the records by their numbers, page by page.

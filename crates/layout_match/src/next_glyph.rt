@@ -52,8 +52,8 @@ pub struct NextGlyphs {
 }
 
 impl<'a> GlyphSearch<'a> {
-    #[tactic(auto, using(crate::proofs::Next::decides_unknown, crate::proofs::Next::decides_found, crate::proofs::Next::decides_missing))]
     /// What the search finds where its next glyph is one that the lookup flag admits.
+    #[tactic(auto, using(crate::proofs::Next::decides_unknown, crate::proofs::Next::decides_found, crate::proofs::Next::decides_missing))]
     fn next_at(&self, info: &hb_glyph_info_t) -> NextGlyph
         ensures { Decides result (search_of self.now) (item_of info.now) }
     {
@@ -67,8 +67,8 @@ impl<'a> GlyphSearch<'a> {
     }
 }
 
-#[tactic(auto, using(crate::proofs::Next::goes_on, crate::proofs::Next::goes_past, crate::proofs::Next::admitted_there, crate::proofs::Next::none_admitted))]
 /// The first glyph after the one at the cursor that a lookup flag admits.
+#[tactic(auto, using(crate::proofs::Next::goes_on, crate::proofs::Next::goes_past, crate::proofs::Next::admitted_there, crate::proofs::Next::none_admitted))]
 fn first_admitted<'a>(
     face: &Face,
     lookup_props: u32,

@@ -44,6 +44,7 @@ pub fn _hb_ot_shape_fallback_mark_position_recategorize_marks(buffer: &mut hb_bu
     }
 }
 
+/// Whether one of the characters is a nonspacing mark.
 fn has_nonspacing_mark(glyphs: &[hb_glyph_info_t]) -> bool
     ensures { result ≡ list_any (λ g. is_nonspacing_mark (item_of g)) glyphs.now }
 {

@@ -74,12 +74,13 @@ pub fn position_marks(
     ensures { IsDone (always (with_positioned_marks face.now components adjust_offsets)) buffer.old buffer.new }
 {
     // Most texts have no mark, and then no base's extents matter.
-    if has_mark(buffer.info_slice()) {
+    if has_combining_mark(buffer.info_slice()) {
         position_all_marks(face, components, adjust_offsets, buffer);
     }
 }
 
-fn has_mark(glyphs: &[hb_glyph_info_t]) -> bool
+/// Whether one of the characters is a combining mark.
+fn has_combining_mark(glyphs: &[hb_glyph_info_t]) -> bool
     ensures { result ≡ list_any (λ g. is_mark (item_of g)) glyphs.now }
 {
     glyphs.iter().any(|glyph| is_mark(glyph))

@@ -32,6 +32,7 @@ pub fn _hb_ot_shape_fallback_spaces(face: &Face, buffer: &mut hb_buffer_t)
     }
 }
 
+/// Whether one of the characters is a space with a type.
 fn has_typed_space(glyphs: &[hb_glyph_info_t]) -> bool
     ensures { result ≡ list_any (λ g. is_typed_space (item_of g)) glyphs.now }
 {

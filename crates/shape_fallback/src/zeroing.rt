@@ -22,12 +22,13 @@ pub fn zero_mark_widths_by_gdef(buffer: &mut hb_buffer_t, adjust_offsets: bool)
     ensures { IsDone (always (with_marks_zeroed adjust_offsets)) buffer.old buffer.new }
 {
     // Finding a mark takes less than rewriting every position, and most texts have none.
-    if has_mark(buffer.info_slice()) {
+    if has_mark_glyph(buffer.info_slice()) {
         zero_each_width(buffer, adjust_offsets);
     }
 }
 
-fn has_mark(glyphs: &[hb_glyph_info_t]) -> bool
+/// Whether one of the glyphs is of GDEF class MARK.
+fn has_mark_glyph(glyphs: &[hb_glyph_info_t]) -> bool
     ensures { result ≡ list_any (λ g. is_mark (item_of g)) glyphs.now }
 {
     glyphs.iter().any(|glyph| _hb_glyph_info_is_mark(glyph))

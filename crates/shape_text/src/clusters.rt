@@ -51,9 +51,9 @@ fn form_each_grapheme(buffer: &mut hb_buffer_t)
     }
 }
 
-#[tactic(auto, using(crate::proofs::Formed::alone_happens))]
 /// Merges the characters of a grapheme, or flags them as unsafe to break. Most graphemes are one character, which
 /// neither changes.
+#[tactic(auto, using(crate::proofs::Formed::alone_happens))]
 fn form_grapheme(buffer: &mut hb_buffer_t, start: usize, end: usize)
     requires ready { IsReady buffer.old }
     requires some { start < end }
@@ -65,6 +65,7 @@ fn form_grapheme(buffer: &mut hb_buffer_t, start: usize, end: usize)
     }
 }
 
+/// Merges or flags the characters of a grapheme, by the cluster level.
 #[tactic(auto, using(buffer_stages::proofs::Lemmas::Happened::grapheme_happens, buffer_stages::proofs::Lemmas::Happened::break_happens, buffer_stages::proofs::Lemmas::Happened::end_of_input))]
 fn unite_grapheme(buffer: &mut hb_buffer_t, start: usize, end: usize)
     requires ready { IsReady buffer.old }

@@ -4,8 +4,8 @@ ghost use Rattle.std.specs.Prelude.{◌≡◌};
 ghost use Rattle.unicode.specs.GeneralCategory.{general_category};
 ghost use Rattle.shape_text.specs.Graphemes.{continues, is_emoji_modifier, is_extender, is_joined, is_other_extender, is_regional_indicator};
 
+use buffer_unicode::GeneralCategoryExt;
 use buffer_unicode::category::hb_unicode_general_category_t;
-use buffer_unicode::{CharExt, GeneralCategoryExt};
 use buffer_unicode_tables::{CharTablesExt, UnicodeTables};
 use unicode::properties::GeneralCategory;
 
@@ -16,17 +16,10 @@ pub struct Before {
     pub continues: bool,
 }
 
-/// Whether a character continues the grapheme of the one before (`set_unicode_props`): marks, emoji modifiers, joiners
-/// and extenders do (UAX 29 GB9, GB9a); so do the second of two regional indicators (GB12, GB13), and a pictographic
-/// character after a joiner (GB11).
-pub fn continues(tables: &UnicodeTables, before: Option<Before>, u: char) -> bool
-    ensures { result ≡ continues tables.now before u }
-{
-    continues_as(tables, u.general_category(), before, u)
-}
-
-/// Whether a character of that general category continues the grapheme of the one before.
-pub(crate) fn continues_as(
+/// Whether a character of that general category continues the grapheme of the one before (`set_unicode_props`): marks,
+/// emoji modifiers, joiners and extenders do (UAX 29 GB9, GB9a); so do the second of two regional indicators (GB12,
+/// GB13), and a pictographic character after a joiner (GB11).
+pub(crate) fn continues(
     tables: &UnicodeTables,
     category: hb_unicode_general_category_t,
     before: Option<Before>,

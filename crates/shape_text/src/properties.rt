@@ -12,7 +12,7 @@ ghost use Rattle.buffer_stages.specs.Ready.{IsReady};
 ghost use Rattle.shape_text.specs.Properties.{are_characters, glyph_prepared, glyphs_prepared, scratch_flags_of_glyphs, with_properties};
 ghost use Rattle.buffer_stages.specs.Stages.{IsFollowed};
 
-use crate::graphemes::{Before, continues_as};
+use crate::graphemes::{Before, continues};
 use buffer_common::constants::{
     HB_BUFFER_SCRATCH_FLAG_HAS_CGJ, HB_BUFFER_SCRATCH_FLAG_HAS_DEFAULT_IGNORABLES,
     HB_BUFFER_SCRATCH_FLAG_HAS_NON_ASCII, hb_buffer_scratch_flags_t,
@@ -52,7 +52,7 @@ fn prepare(
     for glyph in glyphs.iter_mut() {
         let u = glyph.as_char();
         let category = u.general_category();
-        let is_continuation = continues_as(tables, category, before, u);
+        let is_continuation = continues(tables, category, before, u);
         prepare_glyph(tables, category, is_continuation, glyph, scratch_flags);
         before = Some(Before {
             character: u,
