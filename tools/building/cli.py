@@ -14,7 +14,7 @@ from pathlib import Path
 from typing import Any, Iterator
 
 from building.gate import Failure, Gate
-from building.tree import clear, lay_tree, needed_lines, stamp_of, tree_of
+from building.tree import clear, last_change, lay_tree, needed_lines, stamp_of, tree_of
 from common.faults import FILES, ToolFault
 from common.parsing import Words
 from sources.crates import ROOT
@@ -22,9 +22,10 @@ from sources.crates import ROOT
 NAME = "build"
 PROGRAM = "hb_shape"
 ABOUT = f"""Proves and builds the program, crates/{PROGRAM}/out/{PROGRAM}, and all that it is built on, by rt ci over a
-copy of these crates alone. What passes is kept on the machine, so that neither a later build nor a later rt ci proves
-it again. A line is printed for each crate that passed. A program that is built of the same sources is left as it is,
-and one that is there stays until the new one is built."""
+copy of these crates alone. On kits whose gate keeps what passes, neither a later build nor a later rt ci proves it
+again. A line is printed for each crate that passed. A program that is built of the same sources is left as it is, and
+so is one that the clone's gate left and that is newer than its sources; one that is there stays until the new one is
+built."""
 EXAMPLES = """examples:
   tools/build                 all that is not built yet
   tools/build --jobs 2        with two checks at once
@@ -138,11 +139,14 @@ def log() -> Path:
 
 
 def is_built(kit: str) -> bool:
-    """Whether the program that is there was built of what stands there now."""
-    if not (os.access(program(), os.X_OK) and stamp_file().is_file()):
+    """Whether the program that is there was built of what stands there now: by its stamp, or by its time where it has
+    none, as where the clone's gate built it."""
+    if not os.access(program(), os.X_OK):
         return False
-    stamp = stamp_of(ROOT, needed_lines(ROOT, PROGRAM), kit)
-    return stamp_file().read_text(encoding="utf-8") == f"{stamp} {sum_of(program())}\n"
+    lines = needed_lines(ROOT, PROGRAM)
+    if not stamp_file().is_file():
+        return program().stat().st_mtime_ns > last_change(ROOT, lines)
+    return stamp_file().read_text(encoding="utf-8") == f"{stamp_of(ROOT, lines, kit)} {sum_of(program())}\n"
 
 
 def sum_of(path: Path) -> str:

@@ -21,10 +21,11 @@ TAIL = 30
 
 @dataclass(frozen=True)
 class Failure:
-    """What the gate failed with: a crate, where it names one, and what it printed of it."""
+    """What the gate or a build failed with: a crate, where it names one, what it printed of it, and its status."""
 
     name: str
     lines: list[str]
+    status: int = 1
 
     def was_killed(self) -> bool:
         return any(KILLED in line for line in self.lines)

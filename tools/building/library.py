@@ -10,6 +10,7 @@ from pathlib import Path
 
 from building.cli import BuildWords, alone_in, kit_version, positive, sum_of
 from building.gate import Failure, Gate
+from building.libraries import STOPPED, archive_words, are_built, keeps_proofs, kit_folder
 from building.tree import clear, lay_tree, needed_lines, stamp_of, tree_of
 from common.faults import FILES, ToolFault
 from sources.crates import ROOT
@@ -17,9 +18,10 @@ from sources.crates import ROOT
 NAME = "build_library"
 CRATE = "kuspveli_c"
 ABOUT = f"""Proves and builds the library for C: libkuspveli.a and libkuspveli.so in crates/{CRATE}/out, which
-include/kuspveli.h declares. The proofs are those of rt ci over the crates that the library is built on, without their
-must-fail edits, and are kept on the machine; then rt lib builds the archive. Both files have the five calls alone as
-their symbols, and need nothing but the C library. What is built of the same sources is left as it is."""
+include/kuspveli.h declares. Where the clone's gate has left the libraries of all crates below, each newer than its
+sources, {CRATE} alone is proved, over these; else all of them are, by rt ci over copies of the crates without their
+must-fail edits. Both files have the five calls alone as their symbols, and need nothing but the C library. What is
+built of the same sources is left as it is."""
 # What the archive calls for memory comes with the kit, over malloc, realloc and free.
 HEAP = Path("c") / "liblibc_c.a"
 CALLS = "kus_*"
@@ -56,35 +58,67 @@ def build(jobs: int | None) -> int:
 
 def build_alone(jobs: int | None, kit: str, held: int) -> Failure | None:
     out_folder().mkdir(exist_ok=True)
+    if are_built(ROOT, CRATE):
+        tell(f"the libraries below {CRATE} are built: 1 crate to prove")
+        failure = build_here(jobs, kit)
+        if failure is None or failure.status != STOPPED:
+            return failure
+        tell(f"rattle does not take them:\n{failure.tail()}")
+    return build_whole(jobs, kit, held)
+
+
+def build_here(jobs: int | None, kit: str) -> Failure | None:
+    """Builds over the libraries of the clone itself. A file that is edited meanwhile is built by the next build."""
+    log().write_text("", encoding="utf-8")
+    stamp = current_stamp(kit)
+    failure = build_archive(ROOT, jobs, is_over=True)
+    if failure is None and stamp == current_stamp(kit):
+        write_stamp(stamp)
+    return failure
+
+
+def build_whole(jobs: int | None, kit: str, held: int) -> Failure | None:
+    """Proves all crates by the gate, and builds over the libraries that it leaves, or by rt lib where it keeps proofs."""
     tree, lines = tree_of(ROOT, CRATE), needed_lines(ROOT, CRATE)
     try:
         lay_tree(ROOT, tree, lines)
         gate = Gate(ROOT, tree, len(lines), log(), held, tool=NAME)
         gate.tell(f"{len(lines)} crates to prove")
-        failure = gate.run(jobs) or run_lib(tree)
+        failure = gate.run(jobs) or build_archive(tree, jobs, is_over=not keeps_proofs())
         if failure is None:
-            link(tree / "crates" / CRATE / "out" / f"lib{CRATE}.a")
-            stamp_file().write_text(f"{stamp_of(tree, lines, kit)} {sums()}\n", encoding="utf-8")
+            write_stamp(stamp_of(tree, lines, kit))
     finally:
         clear(tree)
     return failure
 
 
-def run_lib(tree: Path) -> Failure | None:
-    """Builds the archive over the libraries that the gate left in the tree."""
-    folder = tree / "crates" / CRATE
-    ran = subprocess.run(["rt", "lib"], cwd=folder, capture_output=True, text=True, errors="replace", check=False)
-    printed = (ran.stdout + ran.stderr).replace(str(tree), str(ROOT))
+def build_archive(root: Path, jobs: int | None, *, is_over: bool) -> Failure | None:
+    """Proves the crate over the libraries that are there, or by rt lib, and links what is built of it."""
+    folder = root / "crates" / CRATE
+    made = folder / "out" / f"lib{CRATE}.a"
+    words = archive_words(root, CRATE, made, jobs or 1) if is_over else ["rt", "lib"]
+    both = {"stdout": subprocess.PIPE, "stderr": subprocess.STDOUT}
+    ran = subprocess.run(words, cwd=folder, stdin=subprocess.DEVNULL, **both, text=True, errors="replace", check=False)
+    printed = ran.stdout.replace(str(root), str(ROOT))
+    if ran.returncode < 0:
+        printed += f"{words[0]} was killed by signal {-ran.returncode}\n"
     with open(log(), "a", encoding="utf-8") as file:
         file.write(printed)
-    return Failure(CRATE, printed.splitlines(keepends=True)) if ran.returncode else None
+    if ran.returncode:
+        return Failure(CRATE, printed.splitlines(keepends=True), ran.returncode)
+    link(made)
+    return None
+
+
+def tell(what: str) -> None:
+    print(f"{NAME}: {what}", file=sys.stderr, flush=True)
 
 
 # ---- one object, with the calls alone as its symbols
 
 
 def link(made: Path) -> None:
-    """Makes the archive and the shared library of what rt lib made and of the kit's calls of the heap."""
+    """Makes the archive and the shared library of what rattle made and of the kit's calls of the heap."""
     whole = out_folder() / "whole.o"
     new_archive, new_shared = archive().with_suffix(".new.a"), shared().with_suffix(".new.so")
     try:
@@ -96,7 +130,7 @@ def link(made: Path) -> None:
         os.replace(new_archive, archive())
         os.replace(new_shared, shared())
     finally:
-        for path in (whole, new_archive, new_shared):
+        for path in (made, whole, new_archive, new_shared):
             path.unlink(missing_ok=True)
 
 
@@ -104,12 +138,6 @@ def call(*words: str | Path) -> None:
     ran = subprocess.run(words, capture_output=True, text=True, errors="replace", check=False)
     if ran.returncode:
         raise ToolFault(FILES, f"{words[0]} failed: {ran.stderr.strip()}")
-
-
-def kit_folder() -> Path:
-    """The kit's folder, in which its first page stands."""
-    ran = subprocess.run(["rt", "doc"], capture_output=True, text=True, check=True)
-    return Path(ran.stdout.strip()).parent
 
 
 # ---- what is there
@@ -135,13 +163,21 @@ def log() -> Path:
     return out_folder() / "build.log"
 
 
-def sums() -> str:
-    return f"{sum_of(archive())} {sum_of(shared())}"
+def current_stamp(kit: str) -> str:
+    return stamp_of(ROOT, needed_lines(ROOT, CRATE), kit)
+
+
+def stamped(stamp: str) -> str:
+    """A stamp of sources with the sums of both files, a line."""
+    return f"{stamp} {sum_of(archive())} {sum_of(shared())}\n"
+
+
+def write_stamp(stamp: str) -> None:
+    stamp_file().write_text(stamped(stamp), encoding="utf-8")
 
 
 def is_built(kit: str) -> bool:
     """Whether both files that are there were built of what stands there now."""
     if not (archive().is_file() and shared().is_file() and stamp_file().is_file()):
         return False
-    stamp = stamp_of(ROOT, needed_lines(ROOT, CRATE), kit)
-    return stamp_file().read_text(encoding="utf-8") == f"{stamp} {sums()}\n"
+    return stamp_file().read_text(encoding="utf-8") == stamped(current_stamp(kit))

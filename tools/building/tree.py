@@ -36,14 +36,24 @@ def needed_lines(root: Path, crate: str) -> dict[str, str]:
     return lines
 
 
-def files_of(root: Path, names: Iterable[str]) -> list[Path]:
-    """The files that the gate reads of these crates."""
+def paths_of(root: Path, names: Iterable[str]) -> list[Path]:
+    """The files that the gate reads of these crates, with their folders, where they are there."""
     found = [root / HANDLES]
     for name in names:
         for part in READ:
             path = root / "crates" / name / part
             found += [path, *sorted(path.rglob("*"))]
-    return [path for path in found if path.is_file()]
+    return [path for path in found if path.exists()]
+
+
+def files_of(root: Path, names: Iterable[str]) -> list[Path]:
+    """The files that the gate reads of these crates."""
+    return [path for path in paths_of(root, names) if path.is_file()]
+
+
+def last_change(root: Path, names: Iterable[str]) -> int:
+    """When a file of these crates was last written, added or removed, in nanoseconds."""
+    return max(path.stat().st_mtime_ns for path in [root / LIST, *paths_of(root, names)])
 
 
 def stamp_of(root: Path, lines: dict[str, str], kit: str) -> str:

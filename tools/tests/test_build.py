@@ -147,6 +147,29 @@ class Built(unittest.TestCase):
             self.assertEqual(self.build()[0], 0)
             self.assertEqual(len(self.called()), 1, number)
 
+    def test_gate_built(self) -> None:
+        """A program without a stamp, as the clone's gate leaves it, is built where it is newer than all its sources."""
+        self.build()
+        self.called()
+        (self.out / "built_by").unlink()
+        self.assertEqual(self.build(), (0, "built crates/hb_shape/out/hb_shape\n"))
+        self.write("beside", "fn g() {}\n")
+        self.build()
+        self.assertEqual(self.called(), [])
+        changes = (
+            lambda: self.write("low", "fn f() {}\n"),
+            lambda: (self.root / "crates/low/src/gone.rt").unlink(),
+            lambda: (self.root / "crates.txt").write_text(CRATES),
+        )
+        for number, change in enumerate(changes):
+            write_files(self.root / "crates/low/src", {"gone.rt": ""})
+            self.build()
+            (self.out / "built_by").unlink(missing_ok=True)
+            self.called()
+            change()
+            self.build()
+            self.assertEqual(len(self.called()), 1, number)
+
     def test_fault(self) -> None:
         """A crate that is not proved is told with what rt said of it, and at once; the program that was there stays."""
         self.build()
