@@ -10,9 +10,10 @@ from typing import Any
 
 from beside.differences import Difference, difference
 from beside.pages import text_of
-from beside.programs import THEIRS, Files, build_driver, printed_by, used_by
+from beside.programs import THEIRS, Files, build_driver, build_own_driver, printed_by, used_by
 from beside.sets import PACKAGES, SETS, Set
 from beside.table import Pair, Row, head, row_line, slope, summary
+from building.library import archive
 from common.faults import FILES, WORDS, ToolFault
 from common.notes import Notes, Progress
 from common.parsing import Words
@@ -26,20 +27,20 @@ PAGE = 10_000
 LARGE = 1_000_000
 # Programs that a run needs, each with its package.
 PROGRAMS = ((THEIRS, "libharfbuzz-bin"), ("gcc", "gcc"))
-# Rounds of the driver in one run of it.
+# Rounds of a driver in one run of it.
 ROUNDS = 5
-ABOUT = f"""Measures the program beside hb-shape, and beside libharfbuzz with a plan that is kept, on real fonts of
-Debian's packages, and prints one table in Markdown, in nanoseconds of processor time for each character.
+ABOUT = f"""Measures the program beside hb-shape, and the library for C beside libharfbuzz, with a plan that both keep,
+on real fonts of Debian's packages, and prints one table in Markdown, in nanoseconds of processor time for each
+character.
 
 A set's text is made of a list of words in bench/beside/words. Each program shapes a text of a page
 ({PAGE:,} characters) and one of --pages pages, several times in turn; the least time of each counts, and the slope
 between the two is what a character takes. What both texts take alike cancels in it: reading font and tables, and the
-plan. So the program's slope is also what it takes with a plan that is kept. In the columns of the whole programs both
-print all of a glyph but its name; beside libharfbuzz, which prints nothing there, the program prints the numbers of
-glyphs alone. Reading the text and printing these is in its time, so that ratio is an upper bound.
+plan. In the columns of the programs both print all of a glyph but its name. In those of the libraries a driver of each
+opens the font once and shapes a text again and again; it prints nothing.
 
-Before a set is measured both texts are shaped once by all three, and their glyphs, clusters, offsets and advances
-are compared. Below the table stand the rows above 1.0, and where glyphs differ."""
+Before a set is measured both texts are shaped once by all four, and their glyphs, clusters, offsets and advances are
+compared. Below the table stand the rows above 1.0, and where glyphs differ."""
 AFTER = f"""Needs {THEIRS} (libharfbuzz-bin), gcc and libharfbuzz-dev, python3-fonttools, unicode-data, and the fonts
 ({', '.join(PACKAGES)}).
 The status is 1 where glyphs differ otherwise than docs/DIFFERENCES.md says.
@@ -59,7 +60,7 @@ def main(words: list[str]) -> int:
     if options.texts is not None:
         write_texts(options.texts, sets)
         return 0
-    need(sets, options.program)
+    need(sets, options.program, options.library)
     if options.cpu is not None:
         os.sched_setaffinity(0, {options.cpu})
     with tempfile.TemporaryDirectory() as made, cache_folder() as kept:
@@ -79,6 +80,7 @@ def read_options(words: list[str]) -> argparse.Namespace:
     parser.add_argument("--glyphs", action="store_true", help="compare glyphs, and measure nothing")
     parser.add_argument("--texts", type=Path, metavar="FOLDER", help="write the texts of a page, and measure nothing")
     parser.add_argument("--program", type=Path, default=PROGRAM, metavar="FILE", help="the program to measure")
+    parser.add_argument("--library", type=Path, default=archive(), metavar="FILE", help="the archive to measure")
     options = parser.parse_args(words)
     if options.pages < 2:
         raise ToolFault(WORDS, "--pages: a slope needs two lengths, so 2 pages or more")
@@ -115,10 +117,12 @@ def write_texts(folder: Path, sets: list[Set]) -> None:
         (folder / f"{chosen.title}.txt").write_text(text_of(chosen, PAGE) + "\n", encoding="utf-8")
 
 
-def need(sets: list[Set], program: Path) -> None:
-    """Refuses before anything is made where a program or a font is missing."""
+def need(sets: list[Set], program: Path, library: Path) -> None:
+    """Refuses before anything is made where a program, the library or a font is missing."""
     if not os.access(program, os.X_OK):
         raise ToolFault(FILES, f"{program} is not there: tools/build proves and builds it")
+    if not library.is_file():
+        raise ToolFault(FILES, f"{library} is not there: tools/build_library proves and builds it")
     packages = {chosen.package for chosen in sets if not chosen.font.is_file()}
     packages |= {package for program, package in PROGRAMS if not shutil.which(program)}
     if packages:
@@ -127,13 +131,14 @@ def need(sets: list[Set], program: Path) -> None:
 
 def measure_all(sets: list[Set], options: argparse.Namespace, made: Path, kept: Path) -> int:
     """Prints each row as soon as it is measured, and the summary."""
-    driver, tables, progress = build_driver(made), tables_file(kept), Progress(NAME)
+    drivers = build_driver(made), build_own_driver(made, options.library)
+    tables, progress = tables_file(kept), Progress(NAME)
     rows: list[Row] = []
     if not options.glyphs:
         print(f"{what_is_measured(options)}\n\n{head(options.memory)}", flush=True)
     for at, chosen in enumerate(sets):
         progress.step(chosen.title, at + 1, len(sets))
-        files = Files(chosen, options.program, tables, font_file(kept, chosen.font), driver)
+        files = Files(chosen, options.program, tables, font_file(kept, chosen.font), *drivers)
         row = measure(files, options, made)
         rows.append(row)
         progress.end()
@@ -187,11 +192,12 @@ def written_text(folder: Path, chosen: Set, characters: int) -> tuple[Path, int]
 
 
 def differences(files: Files, texts: list[Path]) -> Difference | None:
-    """Where the program's glyphs of a text differ from those of hb-shape or of libharfbuzz; None where nowhere."""
-    by_library = printed_by(files.kept(0, texts))
-    for text, line in zip(texts, by_library, strict=True):
-        own, theirs = ("".join(printed_by(words)) for words in (files.own(text), files.theirs(text)))
-        found = difference(own, theirs.strip("[]")) or difference(own, line.strip("[]"))
+    """Where the glyphs of a text differ, the program's from those of hb-shape or the library's from those of
+    libharfbuzz; None where nowhere."""
+    by_programs = [["".join(printed_by(words)) for words in (files.own(text), files.theirs(text))] for text in texts]
+    by_libraries = zip(printed_by(files.own_rounds(0, texts)), printed_by(files.their_rounds(0, texts)), strict=True)
+    for own, theirs in (*by_programs, *by_libraries):
+        found = difference(own, theirs.strip("[]"))
         if found is not None:
             return found
     return None
@@ -201,21 +207,22 @@ Times = tuple[float, float]
 
 
 def times(files: Files, texts: list[Path], runs: int) -> tuple[Times, Times, Times, Times]:
-    """The least time for each of two texts: hb-shape, the program, libharfbuzz with a plan kept, and the program with
-    numbers alone printed. They run in turn, so that what else the machine does meets all of them."""
+    """The least time for each of two texts: hb-shape, the program, libharfbuzz and libkuspveli. They run in turn, so
+    that what else the machine does meets all of them."""
     least: dict[Any, float] = {}
 
     def note(key: Any, seconds: float) -> None:
         least[key] = min(least.get(key, seconds), seconds)
 
+    rounds = {"their rounds": files.their_rounds(ROUNDS, texts), "own rounds": files.own_rounds(ROUNDS, texts)}
     for _ in range(runs):
         for at, text in enumerate(texts):
             note(("theirs", at), used_by(files.theirs(text)).seconds)
             note(("own", at), used_by(files.own(text)).seconds)
-            note(("bare", at), used_by(files.own(text, bare=True)).seconds)
-        for at, taken in enumerate(printed_by(files.kept(ROUNDS, texts))):
-            note(("kept", at), int(taken) / 1e9)
-    found = [(least[name, 0], least[name, 1]) for name in ("theirs", "own", "kept", "bare")]
+        for name, words in rounds.items():
+            for at, taken in enumerate(printed_by(words)):
+                note((name, at), int(taken) / 1e9)
+    found = [(least[name, 0], least[name, 1]) for name in ("theirs", "own", "their rounds", "own rounds")]
     return found[0], found[1], found[2], found[3]
 
 

@@ -12,16 +12,9 @@
 #include <hb.h>
 #include <stdio.h>
 #include <stdlib.h>
-#include <time.h>
+#include "clock.h"
 
 static const char *const SHAPERS[] = {"ot", NULL};
-
-static long long processor_time(void)
-{
-    struct timespec time;
-    clock_gettime(CLOCK_PROCESS_CPUTIME_ID, &time);
-    return time.tv_sec * 1000000000LL + time.tv_nsec;
-}
 
 static void fail(const char *what, const char *name)
 {

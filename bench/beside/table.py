@@ -6,7 +6,7 @@ from beside.differences import Difference
 
 MIB = 1 << 20
 WHOLE_HEAD = ("hb-shape", "program", "ratio")
-KEPT_HEAD = ("libharfbuzz, plan kept", "program, plan cancelled", "ratio")
+KEPT_HEAD = ("libharfbuzz, plan kept", "libkuspveli, plan kept", "ratio")
 HEAD = ("Set", "Font", *WHOLE_HEAD, *KEPT_HEAD, "glyphs")
 MEMORY_HEAD = ("hb-shape, MiB", "program, MiB", "ratio")
 # The ratio above which a row is named, of time and of memory.
@@ -16,20 +16,20 @@ MEMORY_BOUND = 1.2
 
 @dataclass(frozen=True)
 class Pair:
-    """What HarfBuzz takes, and what the program takes."""
+    """What HarfBuzz takes, and what the program or the library takes."""
 
     theirs: float
     own: float
 
     @property
     def ratio(self) -> float | None:
-        """How often what HarfBuzz takes is in what the program takes; None where nothing was measured above zero."""
+        """How often what HarfBuzz takes is in the other; None where nothing was measured above zero."""
         return self.own / self.theirs if self.theirs > 0 and self.own > 0 else None
 
 
 @dataclass(frozen=True)
 class Row:
-    """A set: nanoseconds a character of whole programs and with the plan kept, where glyphs differ, peaks in bytes."""
+    """A set: nanoseconds a character of the programs and of the libraries, where glyphs differ, peaks in bytes."""
 
     name: str
     font: str

@@ -14,10 +14,14 @@ from support import DEJAVU, TOOLS  # noqa: F401  (it puts the tools and bench/ o
 from beside import cli
 from beside.differences import Difference, difference
 from beside.pages import WORDS, chances, read_words, text_from, text_of, words_of
-from beside.programs import build_driver, printed_by, used_by
+from beside.programs import Files, build_driver, build_own_driver, printed_by, used_by
 from beside.sets import PACKAGES, SETS
 from beside.table import MIB, Pair, Row, head, row_line, slope, summary
+from building.library import archive
 from common.faults import ToolFault
+from shaping.cache import cache_folder
+from shaping.cli import tables_file
+from shaping.program import PROGRAM
 
 # The longest list has 73 words; one of fewer than 30 says little of a language.
 FEWEST, MOST = 30, 80
@@ -176,7 +180,8 @@ class Running(unittest.TestCase):
             (["--runs=0"], "no number above 0"),
             (["--only=Klingon"], "no set has 'Klingon'"),
             (["--cpu=99999"], "no processor"),
-            (["--program=/no/program"], "tools/build"),
+            (["--program=/no/program"], "tools/build proves"),
+            (["--program=/bin/sh", "--library=/no/archive"], "tools/build_library proves"),
         ):
             with self.assertRaisesRegex(ToolFault, told):
                 cli.main(words)
@@ -210,6 +215,20 @@ class Running(unittest.TestCase):
                 words = ["hb-shape", "--no-glyph-names", "--utf8-clusters", f"--text-file={path}", DEJAVU]
                 self.assertEqual([line], printed_by(words))
             short, long = map(int, printed_by([str(driver), "en", DEJAVU, "3", *map(str, texts)]))
+            self.assertTrue(0 < short < long)
+
+    @unittest.skipUnless(CAN_DRIVE and archive().is_file(), "needs the library, libharfbuzz-dev, gcc and DejaVu Sans")
+    def test_own_driver(self) -> None:
+        """The library's driver prints glyphs as that of libharfbuzz does, without flags, and measures as it does."""
+        (chosen,) = cli.chosen_sets(["Latin, DejaVuSans"])
+        with tempfile.TemporaryDirectory() as folder, cache_folder() as kept:
+            drivers = build_driver(Path(folder)), build_own_driver(Path(folder), archive())
+            files = Files(chosen, PROGRAM, tables_file(kept), cli.font_file(kept, chosen.font), *drivers)
+            texts = [cli.written_text(Path(folder), chosen, characters)[0] for characters in (100, 5_000)]
+            for own, theirs in zip(*(printed_by(words(0, texts)) for words in (files.own_rounds, files.their_rounds))):
+                self.assertNotIn("#", own)
+                self.assertIsNone(difference(own, theirs.strip("[]")))
+            short, long = map(int, printed_by(files.own_rounds(3, texts)))
             self.assertTrue(0 < short < long)
 
 
