@@ -93,11 +93,27 @@ def count_calls(work: Path, tables: Path, font: Path, calls: int, words: list[st
     return call([program, tables, font, str(calls), *words]).strip()
 
 
-def times(work: Path, tables: Path, font: Path, file: Path, word: str) -> list[tuple[str, float, float, bool]]:
-    """A word with the microseconds of a call and of HarfBuzz's, and whether the glyphs are the same."""
+@dataclass(frozen=True)
+class Times:
+    """The microseconds of a call and of HarfBuzz's for a word, and whether the glyphs are the same."""
+
+    own: float
+    theirs: float
+    is_same: bool
+
+    @property
+    def ratio(self) -> float:
+        return self.own / self.theirs
+
+    def least(self, other: "Times") -> "Times":
+        return Times(min(self.own, other.own), min(self.theirs, other.theirs), self.is_same and other.is_same)
+
+
+def times(work: Path, tables: Path, font: Path, file: Path, word: str) -> Times:
+    """What a word takes in one run."""
     program = work / "beside"
     if not program.exists():
         flags = [*harfbuzz("--cflags"), SOURCES / "beside.c", archive(), *harfbuzz("--libs")]
         call(["gcc", "-std=gnu11", "-O2", *WARNINGS, f"-I{INCLUDE}", "-o", program, *flags])
-    rows = [line.split(" ") for line in call([program, tables, font, file, word]).splitlines()]
-    return [(row[0], float(row[1]), float(row[2]), row[3] == "same") for row in rows]
+    own, theirs, glyphs = call([program, tables, font, file, word]).split()
+    return Times(float(own), float(theirs), glyphs == "same")

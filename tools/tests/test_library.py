@@ -15,6 +15,7 @@ from support import write_files
 from building import library
 from building.libraries import FORMAT, STOPPED, library_of
 from building.tree import tree_of
+from library_tests import cli, drivers
 from library_tests.cases import SETTINGS, WORDS, scripts
 from sources.crates import ROOT
 
@@ -78,6 +79,30 @@ class Cases(unittest.TestCase):
                 self.assertEqual(len(words), 7)
                 self.assertEqual(b"" if text == "-" else bytes.fromhex(text), case.text.encode())
         self.assertIn("Devanagari", WORDS.read_text(encoding="utf-8"))
+
+
+class Timed(unittest.TestCase):
+    def test_judged(self) -> None:
+        """Of each word the least of three runs counts, of both sides; each that costs twice as much is a fault."""
+        some = scripts()[:3]
+        # Just below twice as much, exactly twice, and twice by one run alone.
+        taken = {0: (1.99, 1.0), 1: (4.0, 2.0), 2: (1.0, 1.0)}
+        asked = []
+
+        def times(*given: object) -> drivers.Times:
+            asked.append(given[-1])
+            own, theirs = taken[(len(asked) - 1) % 3]
+            busy = 5 if len(asked) <= 3 else 1
+            return drivers.Times(own * busy, theirs, is_same=len(asked) != 6)
+
+        with mock.patch.object(drivers, "times", times), contextlib.redirect_stdout(io.StringIO()) as shown:
+            slow = cli.tell_times(Path(), Path(), {script.font: Path() for script in some}, some)
+        self.assertEqual(slow, 1)
+        self.assertEqual(asked, [script.cases[0].text for script in some] * cli.RUNS)
+        ends = ["1.99 µs, HarfBuzz 1.00 µs (1.99)", "4.00 µs, HarfBuzz 2.00 µs (2.00), too much"]
+        ends += ["1.00 µs, HarfBuzz 1.00 µs (1.00), other glyphs"]
+        for line, end in zip(shown.getvalue().splitlines(), ends, strict=True):
+            self.assertTrue(line.endswith(f": {end}"), line)
 
 
 class Built(unittest.TestCase):

@@ -1,23 +1,23 @@
-/* beside TABLES FONT FILE WORD..: for each word the microseconds of a call by the kept plan, and of hb_shape, which keeps
- * its plan with the face; the best of many rounds, in turn. */
+/* beside TABLES FONT FILE WORD: the microseconds of processor time of a call by the kept plan, and of hb_shape, which
+ * keeps its plan with the face; the least of many rounds, in turn. A round is shorter than the time that a busy machine
+ * leaves a process alone. */
 #include <hb-ot.h>
 #include <hb.h>
-#include <time.h>
+#include "clock.h"
 #include "common.h"
 
 #define MOST 512
-#define ROUNDS 40
-#define TURNS 500
+#define ROUNDS 400
+#define TURNS 50
 
 /* The OpenType shaper alone: some fonts have rules for others. */
 static const char *const shapers[] = { "ot", NULL };
 
+/* The microseconds of a turn since a time. */
 static double
-now (void)
+each_since (long long start)
 {
-  struct timespec t;
-  clock_gettime (CLOCK_MONOTONIC, &t);
-  return (double) t.tv_sec * 1e6 + (double) t.tv_nsec / 1e3;
+  return (double) (processor_time () - start) / 1e3 / TURNS;
 }
 
 static kus_glyph_info_t infos[MOST];
@@ -27,23 +27,23 @@ static double
 own (kus_font_t *font, const char *word, size_t *made)
 {
   kus_text_t text = kus_text (word, strlen (word));
-  double start = now ();
+  long long start = processor_time ();
   for (int k = 0; k < TURNS; k++)
     if (kus_shape (font, &text, infos, MOST, positions, MOST, made) != KUS_OK) fail ("not shaped", word);
-  return (now () - start) / TURNS;
+  return each_since (start);
 }
 
 static double
 other (hb_font_t *font, hb_buffer_t *buffer, const char *word)
 {
-  double start = now ();
+  long long start = processor_time ();
   for (int k = 0; k < TURNS; k++) {
     hb_buffer_reset (buffer);
     hb_buffer_add_utf8 (buffer, word, -1, 0, -1);
     hb_buffer_guess_segment_properties (buffer);
     hb_shape_full (font, buffer, NULL, 0, shapers);
   }
-  return (now () - start) / TURNS;
+  return each_since (start);
 }
 
 static int
@@ -61,22 +61,20 @@ same (hb_buffer_t *buffer, size_t made)
 int
 main (int count, char **words)
 {
-  if (count < 5) fail ("beside", "TABLES FONT FILE WORD..");
+  if (count != 5) fail ("beside", "TABLES FONT FILE WORD");
   kus_font_t font = open_font (words[1], words[2]);
   hb_blob_t *blob = hb_blob_create_from_file (words[3]);
   hb_face_t *face = hb_face_create (blob, 0);
   hb_font_t *their_font = hb_font_create (face);
   hb_buffer_t *buffer = hb_buffer_create ();
-  for (int w = 4; w < count; w++) {
-    double mine = 1e9, theirs = 1e9;
-    size_t made = 0;
-    for (int k = 0; k < ROUNDS; k++) {
-      double a = own (&font, words[w], &made), b = other (their_font, buffer, words[w]);
-      mine = a < mine ? a : mine;
-      theirs = b < theirs ? b : theirs;
-    }
-    printf ("%s %.2f %.2f %s\n", words[w], mine, theirs, same (buffer, made) ? "same" : "differ");
+  double mine = 1e9, theirs = 1e9;
+  size_t made = 0;
+  for (int k = 0; k < ROUNDS; k++) {
+    double a = own (&font, words[4], &made), b = other (their_font, buffer, words[4]);
+    mine = a < mine ? a : mine;
+    theirs = b < theirs ? b : theirs;
   }
+  printf ("%.3f %.3f %s\n", mine, theirs, same (buffer, made) ? "same" : "differ");
   hb_buffer_destroy (buffer);
   hb_font_destroy (their_font);
   hb_face_destroy (face);
