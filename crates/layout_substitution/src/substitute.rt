@@ -61,9 +61,11 @@ fn apply_stages<P: Pause, T: TextDigest>(
     requires ready { IsReady buffer.old }
     requires numbers { are_glyphs (items_of buffer.old) ≡ true }
     requires held { HoldsText (T.sets text.old) (items_of buffer.old) }
-    ensures { DoesGlyphStageFrom ctx.old.random_state ctx.new.random_state (table_stages ctx.old.face.now
+    ensures stage { DoesGlyphStageFrom ctx.old.random_state ctx.new.random_state (table_stages ctx.old.face.now
         (substitution_lookups ctx.old.face.now) map.now.tables.gsub (P.stage pause.now (text_settings buffer.old)) 0
         map.now.tables.gsub.stages) result buffer.old buffer.new }
+    ensures table { ctx.new.table_index ≡ GSUB }
+    ensures face { ctx.new.face.now ≡ ctx.old.face.now }
 {
     let stages = map.stages(TableIndex::GSUB);
     for i in 0..stages.len() {
@@ -76,7 +78,8 @@ fn apply_stages<P: Pause, T: TextDigest>(
 }
 
 /// Applies the lookups of a map's GSUB stages, each stage ended by its pause. The context is one of GSUB; each lookup
-/// sets its own mask and flag in it. It refuses as `substitute` does.
+/// sets its own mask, flag and the map's other parameters in it, and leaves its table and font. It refuses as
+/// `substitute` does.
 pub fn apply_layout_table<P: Pause>(
     map: &hb_ot_map_t,
     ctx: &mut hb_ot_apply_context_t,
@@ -86,9 +89,11 @@ pub fn apply_layout_table<P: Pause>(
     requires substitution { ctx.old.table_index ≡ GSUB }
     requires ready { IsReady buffer.old }
     requires numbers { are_glyphs (items_of buffer.old) ≡ true }
-    ensures { DoesGlyphStageFrom ctx.old.random_state ctx.new.random_state (table_stages ctx.old.face.now
+    ensures stage { DoesGlyphStageFrom ctx.old.random_state ctx.new.random_state (table_stages ctx.old.face.now
         (substitution_lookups ctx.old.face.now) map.now.tables.gsub (P.stage pause.now (text_settings buffer.old)) 0
         map.now.tables.gsub.stages) result buffer.old buffer.new }
+    ensures table { ctx.new.table_index ≡ GSUB }
+    ensures face { ctx.new.face.now ≡ ctx.old.face.now }
 {
     let mut text = TextGlyphs::new();
     apply_stages(map, &mut text, ctx, buffer, pause)

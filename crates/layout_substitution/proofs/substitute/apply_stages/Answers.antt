@@ -7,8 +7,8 @@ use Rattle.layout_match.proofs.Lemmas.Stages.{stage_refused}
 use Rattle.layout_substitution.proofs.Ways.{stage_done, stage_pause_refused}
 use Rattle.layout_substitution.proofs.substitute.apply_stages.Goals as goal
 
-pub returns-in_err-introduced : goal.returns-in_err-introduced
-returns-in_err-introduced g c =
+pub returns-in_err-introduced-clause-stage : goal.returns-in_err-introduced-clause-stage
+returns-in_err-introduced-clause-stage g c =
     let was = c.loop-i.invariant in
     let none : StageMap = record { last_lookup = 0; pause = None } in
     let t = c.args.map.now.tables.gsub in
