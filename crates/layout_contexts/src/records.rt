@@ -1,5 +1,5 @@
 //! The lookup records of a rule that matched (rustybuzz: hb/ot_layout_gsubgpos.rs, `apply_lookup`).
-ghost use Rattle.std.specs.Prelude.{◌≡◌, ◌≤◌, ◌<◌, ◌+◌, ◌^◌, [], ℕ, true, false, length, slice_get, Some, OnOk, IfErr};
+ghost use Rattle.std.specs.Prelude.{◌≡◌, ◌≢◌, ◌≤◌, ◌<◌, ◌+◌, ◌^◌, [], ℕ, true, false, length, slice_get, Some, OnOk, IfErr};
 ghost use Rattle.buffer_stages.specs.Actions.{whole};
 ghost use Rattle.buffer_stages.specs.Buffers.{cut_of};
 ghost use Rattle.buffer_stages.specs.Performing.{cut_with};
@@ -27,6 +27,7 @@ fn move_cursor_to(index: usize, buffer: &mut hb_buffer_t) -> Result<(), ShapeCau
     ensures held { OnOk result (holds index (cut_of buffer.old) ≡ true) }
     ensures ok { OnOk result (IsMoved index buffer.old buffer.new) }
     ensures err { IfErr result (λ e. IsMoveRefusal index (cut_of buffer.old) e) }
+    ensures memory { buffer.old.is_open ≡ false → IfErr result (λ e. e ≢ ShapeCause.OutOfMemory) }
 {
     let _count = buffer.len();
     if !buffer.move_to(index)? {
@@ -66,7 +67,8 @@ pub fn begin_record(
     buffer: &mut hb_buffer_t,
 ) -> Result<Option<usize>, ShapeCause>
     requires kept { buffer.old.has_refused ≡ false }
-    ensures { RecordBegins lookup_record.now indices.now.items result buffer.old buffer.new }
+    ensures begins { RecordBegins lookup_record.now indices.now.items result buffer.old buffer.new }
+    ensures memory { buffer.old.is_open ≡ false → IfErr result (λ e. e ≢ ShapeCause.OutOfMemory) }
 {
     let Some(index) = index_at(indices, usize::from(lookup_record.sequence_index)) else {
         return Ok(None);
@@ -115,8 +117,9 @@ pub fn settle_match(
 /// Moves the cursor to the end of the match, or to the end of the list where that is before it.
 pub fn move_to_match_end(end: usize, buffer: &mut hb_buffer_t) -> Result<bool, ShapeCause>
     requires kept { buffer.old.has_refused ≡ false }
-    ensures { (random : ℕ) → Nests (cut_after_match (Walks (cut_with random buffer.old) [] end
+    ensures nests { (random : ℕ) → Nests (cut_after_match (Walks (cut_with random buffer.old) [] end
         [])) result random random buffer.old buffer.new }
+    ensures memory { buffer.old.is_open ≡ false → IfErr result (λ e. e ≢ ShapeCause.OutOfMemory) }
 {
     let index = end.min(glyph_count(buffer));
     if let Err(cause) = move_cursor_to(index, buffer) {

@@ -1,5 +1,5 @@
 //! Applies positioning lookups to a whole buffer (rustybuzz: hb/ot_layout.rs, `apply_string`, `apply_layout_table`).
-ghost use Rattle.std.specs.Prelude.{◌≡◌, OnOk, true, slice_get};
+ghost use Rattle.std.specs.Prelude.{◌≡◌, ◌≢◌, OnOk, true, slice_get, IfErr};
 ghost use Rattle.buffer_core.specs.Sides.{items_of};
 ghost use Rattle.layout_match.specs.Applied.{apply_context_of};
 ghost use Rattle.layout_match.specs.Skipping.{HoldsText};
@@ -52,6 +52,7 @@ fn apply_mapped<T: TextDigest>(
     ensures stage { DoesGlyphStageFrom 1 1 (lookup_stage face.now table.now.lookups (slice_get table.now.lookups
         lookup_map.now.index) lookup_map.now) result buffer.old buffer.new }
     ensures held { OnOk result (HoldsText (T.sets text.new) (items_of buffer.new)) }
+    ensures memory { IfErr result (λ e. e ≢ ShapeCause.OutOfMemory) }
 {
     let Some(lookup) = table.get_lookup(lookup_map.index) else {
         return Ok(());
@@ -81,6 +82,7 @@ pub(crate) fn apply_lookups<T: TextDigest>(
     ensures stage { DoesGlyphStageFrom 1 1 (lookups_stage face.now table.now.lookups lookups.now) result buffer.old
         buffer.new }
     ensures held { OnOk result (HoldsText (T.sets text.new) (items_of buffer.new)) }
+    ensures memory { IfErr result (λ e. e ≢ ShapeCause.OutOfMemory) }
 {
     for lookup_map in lookups {
         apply_mapped(face, table, lookup_map, text, buffer)?;

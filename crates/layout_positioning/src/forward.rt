@@ -50,6 +50,7 @@ fn apply_next(
     ensures err { IfErr result (λ e. e ≢ ShapeCause.OutOfMemory → IsGivenUp (lookup_action table.now.lookups
         buffer.old.direction (apply_context_of ctx.now) lookup.now) ctx.now.random_state buffer.old e) }
     ensures kept { OnOk result (AreKept (apply_context_of ctx.now) (items_of buffer.new) last.new) }
+    ensures memory { IfErr result (λ e. e ≢ ShapeCause.OutOfMemory) }
 {
     let _count = buffer.len();
     if apply_lookup(table, lookup, ctx, last, buffer)? {
@@ -68,8 +69,9 @@ pub fn apply_forward(
 ) -> Result<(), ShapeCause>
     requires ready { IsReady buffer.old }
     requires numbers { are_glyphs (items_of buffer.old) ≡ true }
-    ensures { DoesGlyphStageFrom ctx.now.random_state ctx.now.random_state (positioning_pass (lookup_action
+    ensures stage { DoesGlyphStageFrom ctx.now.random_state ctx.now.random_state (positioning_pass (lookup_action
         table.now.lookups buffer.old.direction (apply_context_of ctx.now) lookup.now)) result buffer.old buffer.new }
+    ensures memory { IfErr result (λ e. e ≢ ShapeCause.OutOfMemory) }
 {
     let mut last = LastSearches::new();
     pass_idle(lookup, ctx, buffer);

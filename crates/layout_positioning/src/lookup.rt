@@ -1,5 +1,5 @@
 //! A GPOS lookup at the cursor (rustybuzz: `PositioningLookup`).
-ghost use Rattle.std.specs.Prelude.{◌≡◌, ◌<◌, true, false, OnOk, length};
+ghost use Rattle.std.specs.Prelude.{◌≡◌, ◌≢◌, ◌<◌, true, false, OnOk, length, IfErr};
 ghost use Rattle.buffer_core.specs.Sides.{items_of};
 ghost use Rattle.layout_match.specs.Applied.{apply_context_of};
 ghost use Rattle.buffer_stages.specs.Buffers.{are_glyphs};
@@ -35,6 +35,7 @@ pub fn apply_lookup(
         (cut_with ctx.now.random_state buffer.old)) result ctx.now.random_state ctx.now.random_state buffer.old
         buffer.new }
     ensures kept { OnOk result (AreKept (apply_context_of ctx.now) (items_of buffer.new) last.new) }
+    ensures memory { IfErr result (λ e. e ≢ ShapeCause.OutOfMemory) }
 {
     if !is_tried(ctx, &lookup.subtables, buffer) {
         return Ok(false);

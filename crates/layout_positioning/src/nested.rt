@@ -5,7 +5,7 @@
 //! a record) is written for each of the two tables, here and in `layout_substitution`, and the two repeat each other.
 //! Within this file too functions repeat clauses: each one of the cycle calls the next, so each requires what the next
 //! requires and refuses as the next refuses.
-ghost use Rattle.std.specs.Prelude.{◌≡◌, ◌≢◌, ◌≤◌, ◌<◌, ◌+◌, true, false, length, slice_get, IfOk, OnOk, Some, None};
+ghost use Rattle.std.specs.Prelude.{◌≡◌, ◌≢◌, ◌≤◌, ◌<◌, ◌+◌, true, false, length, slice_get, IfOk, OnOk, Some, None, IfErr};
 ghost use Rattle.buffer_core.specs.Sides.{items_of};
 ghost use Rattle.layout_contexts.specs.Chains.{chain_rule, context_subtable};
 ghost use Rattle.layout_contexts.specs.Fitting.{chain_of};
@@ -76,6 +76,7 @@ pub(crate) fn recurse(
         (cut_with ctx.now.random_state buffer.old)) result ctx.now.random_state ctx.now.random_state buffer.old
         buffer.new }
     ensures kept { OnOk result (AreKept (apply_context_of ctx.now) (items_of buffer.new) last.new) }
+    ensures memory { IfErr result (λ e. e ≢ ShapeCause.OutOfMemory) }
 {
     let Some(lookup) = table.get_lookup(index) else {
         return Ok(false);
@@ -111,6 +112,7 @@ pub(crate) fn apply_subtables(
         (cut_with ctx.now.random_state buffer.old)) result ctx.now.random_state ctx.now.random_state buffer.old
         buffer.new }
     ensures kept { OnOk result (AreKept (apply_context_of ctx.now) (items_of buffer.new) last.new) }
+    ensures memory { IfErr result (λ e. e ≢ ShapeCause.OutOfMemory) }
 {
     match subtables {
         PositioningSubtables::Single(subtables) => {
@@ -157,6 +159,7 @@ fn apply_contexts(
         (cut_with ctx.now.random_state buffer.old))
         result ctx.now.random_state ctx.now.random_state buffer.old buffer.new }
     ensures kept { OnOk result (AreKept (apply_context_of ctx.now) (items_of buffer.new) last.new) }
+    ensures memory { IfErr result (λ e. e ≢ ShapeCause.OutOfMemory) }
 {
     for subtable in subtables {
         match apply_context(table, depth, subtable, ctx, last, buffer) {
@@ -189,6 +192,7 @@ fn apply_context(
         (apply_context_of ctx.now)) (apply_context_of ctx.now) subtable.now (cut_with ctx.now.random_state buffer.old)) result
         ctx.now.random_state ctx.now.random_state buffer.old buffer.new }
     ensures kept { OnOk result (AreKept (apply_context_of ctx.now) (items_of buffer.new) last.new) }
+    ensures memory { IfErr result (λ e. e ≢ ShapeCause.OutOfMemory) }
 {
     let info = buffer.cur(0);
     if !subtable.may_have_glyph(info.as_glyph().0) {
@@ -223,6 +227,7 @@ fn apply_rules(
         result
         ctx.now.random_state ctx.now.random_state buffer.old buffer.new }
     ensures kept { OnOk result (AreKept (apply_context_of ctx.now) (items_of buffer.new) last.new) }
+    ensures memory { IfErr result (λ e. e ≢ ShapeCause.OutOfMemory) }
 {
     let (start, end) = rules_at(subtable, buffer.cur(0));
     let next = next_glyphs(ctx, buffer);
@@ -259,6 +264,7 @@ fn apply_rule(
         (apply_context_of ctx.now) (chain_of rule.now) (cut_with ctx.now.random_state buffer.old)) result
         ctx.now.random_state ctx.now.random_state buffer.old buffer.new }
     ensures kept { OnOk result (AreKept (apply_context_of ctx.now) (items_of buffer.new) last.new) }
+    ensures memory { IfErr result (λ e. e ≢ ShapeCause.OutOfMemory) }
 {
     if !first_matches(rule, buffer.cur(0)) {
         return Ok(false);
@@ -307,6 +313,7 @@ fn apply_records(
     ensures inside { IfOk result (λ at. StaysInside (length (whole (cut_of buffer.old)))
         (length (whole (cut_of buffer.new))) indices.old.items indices.new.items end at) }
     ensures kept { OnOk result (AreKept (apply_context_of ctx.now) (items_of buffer.new) last.new) }
+    ensures memory { IfErr result (λ e. e ≢ ShapeCause.OutOfMemory) }
 {
     if depth == 0 {
         return Ok(end);
@@ -356,6 +363,7 @@ fn apply_record(
     ensures inside { IfOk result (λ at. StaysInside (length (whole (cut_of buffer.old)))
         (length (whole (cut_of buffer.new))) indices.old.items indices.new.items end at) }
     ensures kept { OnOk result (AreKept (apply_context_of ctx.now) (items_of buffer.new) last.new) }
+    ensures memory { IfErr result (λ e. e ≢ ShapeCause.OutOfMemory) }
 {
     let index_in_match = match begin_record(lookup_record, indices, buffer) {
         Ok(Some(index_in_match)) => index_in_match,

@@ -1,5 +1,5 @@
 //! A nested GPOS lookup as a method of the apply context (rustybuzz: hb/ot_layout_gsubgpos.rs, `recurse`).
-ghost use Rattle.std.specs.Prelude.{ℕ, ◌≡◌, ◌<◌, true, false, length, slice_get};
+ghost use Rattle.std.specs.Prelude.{ℕ, ◌≡◌, ◌≢◌, ◌<◌, true, false, length, slice_get, IfErr};
 ghost use Rattle.buffer_core.specs.Sides.{items_of};
 ghost use Rattle.buffer_stages.specs.Buffers.{are_glyphs};
 ghost use Rattle.buffer_stages.specs.Performing.{Performs, cut_with};
@@ -29,10 +29,11 @@ pub trait Nesting {
         requires unrefused { buffer.old.has_refused ≡ false }
         requires there { 0 < length buffer.old.ahead }
         requires number { are_glyphs (items_of buffer.old) ≡ true }
-        ensures { Performs (nested_lookup (nested_actions (positioning_lookups (applied self.now).font) 63
+        ensures performs { Performs (nested_lookup (nested_actions (positioning_lookups (applied self.now).font) 63
             buffer.old.direction) (slice_get (positioning_lookups (applied self.now).font) index) buffer.old.direction
             (applied self.now) (cut_with (random self.now) buffer.old)) result (random self.now) (random self.now)
-            buffer.old buffer.new };
+            buffer.old buffer.new }
+        ensures memory { IfErr result (λ e. e ≢ ShapeCause.OutOfMemory) };
 }
 
 impl<'a> Nesting for hb_ot_apply_context_t<'a> {
@@ -54,10 +55,11 @@ fn apply_nested(
     requires unrefused { buffer.old.has_refused ≡ false }
     requires there { 0 < length buffer.old.ahead }
     requires number { are_glyphs (items_of buffer.old) ≡ true }
-    ensures { Performs (nested_lookup (nested_actions (positioning_lookups ctx.now.face.now) 63 buffer.old.direction)
+    ensures performs { Performs (nested_lookup (nested_actions (positioning_lookups ctx.now.face.now) 63 buffer.old.direction)
         (slice_get (positioning_lookups ctx.now.face.now) index) buffer.old.direction (apply_context_of ctx.now)
         (cut_with ctx.now.random_state buffer.old)) result ctx.now.random_state ctx.now.random_state buffer.old
         buffer.new }
+    ensures memory { IfErr result (λ e. e ≢ ShapeCause.OutOfMemory) }
 {
     match ctx.face.gpos() {
         Some(table) => {

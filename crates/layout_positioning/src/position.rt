@@ -1,6 +1,6 @@
 //! Positioning, GPOS stage after GPOS stage (rustybuzz: hb/ot_layout_gpos_table.rs, `position`; hb/ot_layout.rs,
 //! `apply_layout_table`).
-ghost use Rattle.std.specs.Prelude.{ℕ, ◌≡◌, true, OnOk};
+ghost use Rattle.std.specs.Prelude.{ℕ, ◌≡◌, ◌≢◌, true, OnOk, IfErr};
 ghost use Rattle.buffer_core.specs.Sides.{items_of};
 ghost use Rattle.buffer_stages.specs.Buffers.{are_glyphs};
 ghost use Rattle.buffer_stages.specs.Ready.{DoesGlyphStage, DoesGlyphStageFrom, IsReady};
@@ -31,6 +31,7 @@ fn apply_stage<T: TextDigest>(
     ensures stage { DoesGlyphStageFrom 1 1 (lookups_stage face.now (positioning_lookups face.now) lookups.now) result
         buffer.old buffer.new }
     ensures held { OnOk result (HoldsText (T.sets text.new) (items_of buffer.new)) }
+    ensures memory { IfErr result (λ e. e ≢ ShapeCause.OutOfMemory) }
 {
     match face.gpos() {
         Some(table) => apply_lookups(face, table, lookups, text, buffer),

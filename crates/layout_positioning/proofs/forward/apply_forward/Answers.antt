@@ -41,8 +41,8 @@ loop-last-smaller c =
     let there : 0 < length now.ahead = omega (arith, c.idx.ensures, c.len.ensures.input, c.loop-last-test.true) in
     step_and_run_fewer (act now.direction) (act mid.direction) c.args.ctx.now.random_state now mid c.pass_idle-in-loop-last.new.buffer there c.in_ok-apply_next.ensures.ok (c.pass_idle-in-loop-last.ensures c.args.table.now.lookups)
 
-pub returns-in_err-apply_next : goal.returns-in_err-apply_next
-returns-in_err-apply_next c =
+pub returns-in_err-apply_next-clause-stage : goal.returns-in_err-apply_next-clause-stage
+returns-in_err-apply_next-clause-stage c =
     let s = c.args.buffer.now in
     let cause = c.in_err-apply_next.field-0.0 in
     let there : 0 < length c.loop-last.buffer.ahead = omega (arith, c.idx.ensures, c.len.ensures.input, c.loop-last-test.true) in
@@ -50,8 +50,8 @@ returns-in_err-apply_next c =
     (λ not_memory.
     over_refused (λ d. lookup_action c.args.table.now.lookups d (apply_context_of c.args.ctx.now) c.args.lookup.now) (length (all_glyphs s)) c.args.ctx.now.random_state s c.loop-last.buffer cause c.requires.ready refl there c.loop-last.invariant.underway (c.in_err-apply_next.ensures.err not_memory))
 
-pub returns : goal.returns
-returns c =
+pub returns-clause-stage : goal.returns-clause-stage
+returns-clause-stage c =
     let s = c.args.buffer.now in
     let now = c.loop-last.buffer in
     let closed : now.is_open ≡ false = still_open s now c.loop-last.invariant.underway.still ∙ c.requires.ready.closed in

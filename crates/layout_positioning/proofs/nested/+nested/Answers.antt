@@ -133,7 +133,7 @@ apply_record-returns-in-Ok-true-clause-walks t c =
     let s = c.args.buffer.now in
     let mid = c.begin_record.new.buffer in
     let final = c.recurse.new.buffer in
-    let b : IsRecordBegun c.args.lookup_record.now c.args.indices.now.items c.in-Ok-Some.index_in_match s mid = begun_some c.args.lookup_record.now c.args.indices.now.items c.in-Ok-Some.index_in_match c.in-Ok-Some.field-0 s mid (let f = c.in-Ok-Some.field-0-is in let g = c.in-Ok-Some.index_in_match-is in cc) c.in-Ok-Some.ensures in
+    let b : IsRecordBegun c.args.lookup_record.now c.args.indices.now.items c.in-Ok-Some.index_in_match s mid = begun_some c.args.lookup_record.now c.args.indices.now.items c.in-Ok-Some.index_in_match c.in-Ok-Some.field-0 s mid (let f = c.in-Ok-Some.field-0-is in let g = c.in-Ok-Some.index_in_match-is in cc) c.in-Ok-Some.ensures.begins in
     let P : Direction → Type 0 = λ d. IsPerformed (nested_act c.args.table.now.lookups c.args.depth d (apply_context_of c.args.ctx.now) c.args.lookup_record.now.lookup_index (cut_with c.args.ctx.now.random_state mid)) c.in-Ok-true.field-0 c.args.ctx.now.random_state c.args.ctx.now.random_state mid final in
     let there = subst P (still_direction s mid (b.left c.args.ctx.now.random_state).still) c.in-Ok-true.ensures.performs in
     record_acted (nested_act c.args.table.now.lookups c.args.depth s.direction (apply_context_of c.args.ctx.now)) c.args.lookup_record.now c.args.indices.now.items c.settle_match.new.indices.items c.in-Ok-Some.index_in_match c.args.end c.settle_match.result c.glyph_count-before.result c.args.ctx.now.random_state c.args.ctx.now.random_state c.in-Ok-true.field-0
@@ -144,7 +144,7 @@ apply_record-returns-in-Ok-true-clause-inside t c =
     let s = c.args.buffer.now in
     let mid = c.begin_record.new.buffer in
     let final = c.recurse.new.buffer in
-    let b : IsRecordBegun c.args.lookup_record.now c.args.indices.now.items c.in-Ok-Some.index_in_match s mid = begun_some c.args.lookup_record.now c.args.indices.now.items c.in-Ok-Some.index_in_match c.in-Ok-Some.field-0 s mid (let f = c.in-Ok-Some.field-0-is in let g = c.in-Ok-Some.index_in_match-is in cc) c.in-Ok-Some.ensures in
+    let b : IsRecordBegun c.args.lookup_record.now c.args.indices.now.items c.in-Ok-Some.index_in_match s mid = begun_some c.args.lookup_record.now c.args.indices.now.items c.in-Ok-Some.index_in_match c.in-Ok-Some.field-0 s mid (let f = c.in-Ok-Some.field-0-is in let g = c.in-Ok-Some.index_in_match-is in cc) c.in-Ok-Some.ensures.begins in
     record_inside _ c.args.lookup_record.now c.args.indices.now.items c.settle_match.new.indices.items c.in-Ok-Some.index_in_match c.args.end c.settle_match.result c.glyph_count-before.result c.args.ctx.now.random_state c.args.ctx.now.random_state c.in-Ok-true.field-0
     s mid final b c.in-Ok-true.field-0-test c.in-Ok-true.ensures.performs c.glyph_count-before.ensures.count c.settle_match.ensures.indices c.settle_match.ensures.end
 
@@ -153,7 +153,7 @@ apply_record-returns-in-Ok-false-clause-walks t c =
     let s = c.args.buffer.now in
     let mid = c.begin_record.new.buffer in
     let final = c.recurse.new.buffer in
-    let b : IsRecordBegun c.args.lookup_record.now c.args.indices.now.items c.in-Ok-Some.index_in_match s mid = begun_some c.args.lookup_record.now c.args.indices.now.items c.in-Ok-Some.index_in_match c.in-Ok-Some.field-0 s mid (let f = c.in-Ok-Some.field-0-is in let g = c.in-Ok-Some.index_in_match-is in cc) c.in-Ok-Some.ensures in
+    let b : IsRecordBegun c.args.lookup_record.now c.args.indices.now.items c.in-Ok-Some.index_in_match s mid = begun_some c.args.lookup_record.now c.args.indices.now.items c.in-Ok-Some.index_in_match c.in-Ok-Some.field-0 s mid (let f = c.in-Ok-Some.field-0-is in let g = c.in-Ok-Some.index_in_match-is in cc) c.in-Ok-Some.ensures.begins in
     let P : Direction → Type 0 = λ d. IsPerformed (nested_act c.args.table.now.lookups c.args.depth d (apply_context_of c.args.ctx.now) c.args.lookup_record.now.lookup_index (cut_with c.args.ctx.now.random_state mid)) c.in-Ok-false.field-0 c.args.ctx.now.random_state c.args.ctx.now.random_state mid final in
     let there = subst P (still_direction s mid (b.left c.args.ctx.now.random_state).still) c.in-Ok-false.ensures.performs in
     record_passed (nested_act c.args.table.now.lookups c.args.depth s.direction (apply_context_of c.args.ctx.now)) c.args.lookup_record.now c.args.indices.now.items c.in-Ok-Some.index_in_match c.args.end c.args.ctx.now.random_state c.args.ctx.now.random_state c.in-Ok-false.field-0
@@ -163,7 +163,7 @@ pub apply_record-returns-in-Err-recurse-clause-walks : goal.apply_record-returns
 apply_record-returns-in-Err-recurse-clause-walks t c =
     let s = c.args.buffer.now in
     let mid = c.begin_record.new.buffer in
-    let b : IsRecordBegun c.args.lookup_record.now c.args.indices.now.items c.in-Ok-Some.index_in_match s mid = begun_some c.args.lookup_record.now c.args.indices.now.items c.in-Ok-Some.index_in_match c.in-Ok-Some.field-0 s mid (let f = c.in-Ok-Some.field-0-is in let g = c.in-Ok-Some.index_in_match-is in cc) c.in-Ok-Some.ensures in
+    let b : IsRecordBegun c.args.lookup_record.now c.args.indices.now.items c.in-Ok-Some.index_in_match s mid = begun_some c.args.lookup_record.now c.args.indices.now.items c.in-Ok-Some.index_in_match c.in-Ok-Some.field-0 s mid (let f = c.in-Ok-Some.field-0-is in let g = c.in-Ok-Some.index_in_match-is in cc) c.in-Ok-Some.ensures.begins in
     record_lookup_refused c.args.table.now.lookups c.args.depth (apply_context_of c.args.ctx.now) c.args.lookup_record.now c.args.indices.now.items c.args.indices.now.items c.in-Ok-Some.index_in_match c.args.end c.args.ctx.now.random_state c.in-Err-recurse.cause s mid c.recurse.new.buffer b c.in-Err-recurse.ensures.performs
 
 pub apply_records-returns-then-depth-eq0-clause-walks : goal.apply_records-returns-then-depth-eq0-clause-walks
@@ -215,7 +215,7 @@ apply_rule-returns-in-Ok-clause-performs t c =
     let m : IsMatched (apply_context_of c.args.ctx.now) (chain_of c.args.rule.now) c.args.ctx.now.random_state c.in-Some.end c.match_chain.new.indices.items s mid = c.in-Some.ensures in
     let P : Direction → Type 0 = λ d. Walking (each_nested (nested_actions c.args.table.now.lookups c.args.depth d (apply_context_of c.args.ctx.now)) (chain_of c.args.rule.now).records (cut_with c.args.ctx.now.random_state mid) c.match_chain.new.indices.items c.in-Some.end) (Ok c.in-Ok.at) c.apply_records.new.indices.items c.args.ctx.now.random_state mid c.apply_records.new.buffer in
     rule_acted (apply_context_of c.args.ctx.now) (nested_actions c.args.table.now.lookups c.args.depth c.args.buffer.now.direction (apply_context_of c.args.ctx.now)) (chain_of c.args.rule.now) c.args.ctx.now.random_state c.args.ctx.now.random_state c.in-Some.end c.in-Ok.at c.match_chain.new.indices.items c.apply_records.new.indices.items c.move_to_match_end.result
-    s mid c.apply_records.new.buffer c.move_to_match_end.new.buffer m (subst P (still_direction s mid m.still) c.in-Ok.ensures.walks) c.in-Ok.ensures.inside (c.move_to_match_end.ensures c.args.ctx.now.random_state)
+    s mid c.apply_records.new.buffer c.move_to_match_end.new.buffer m (subst P (still_direction s mid m.still) c.in-Ok.ensures.walks) c.in-Ok.ensures.inside (c.move_to_match_end.ensures.nests c.args.ctx.now.random_state)
 
 pub apply_rule-returns-in-Err-clause-performs : goal.apply_rule-returns-in-Err-clause-performs
 apply_rule-returns-in-Err-clause-performs t c =
@@ -247,7 +247,7 @@ apply_record-recurse-requires t c =
     let k = c.args.lookup_record.now in
     let ps = c.args.indices.now.items in
     let p = c.in-Ok-Some.index_in_match in
-    let b : IsRecordBegun k ps p s mid = begun_some k ps p c.in-Ok-Some.field-0 s mid (let f = c.in-Ok-Some.field-0-is in let g = c.in-Ok-Some.index_in_match-is in cc) c.in-Ok-Some.ensures in
+    let b : IsRecordBegun k ps p s mid = begun_some k ps p c.in-Ok-Some.field-0 s mid (let f = c.in-Ok-Some.field-0-is in let g = c.in-Ok-Some.index_in_match-is in cc) c.in-Ok-Some.ensures.begins in
     (omega (arith, c.decreases), (begun_closed k ps p s mid b c.requires.closed, (begun_unrefused k ps p s mid b c.requires.unrefused, (b.ahead, (begun_numbers k ps p s mid b c.requires.number, begun_kept k ps p (apply_context_of c.args.ctx.now) c.args.last.now s mid b c.requires.kept)))))
 
 pub apply_rule-returns-in_default-clause-kept : goal.apply_rule-returns-in_default-clause-kept
@@ -255,4 +255,4 @@ apply_rule-returns-in_default-clause-kept t c =
     unmatched_kept (apply_context_of c.args.ctx.now) (chain_of c.args.rule.now) c.args.ctx.now.random_state c.match_chain.new.indices.items c.match_chain.result c.args.last.now c.args.buffer.now c.match_chain.new.buffer c.in_default.is c.match_chain.ensures c.requires.kept
 
 pub apply_rule-returns-in-Ok-clause-kept : goal.apply_rule-returns-in-Ok-clause-kept
-apply_rule-returns-in-Ok-clause-kept t c = behind_kept (apply_context_of c.args.ctx.now) c.in-Ok.at c.move_to_match_end.result c.apply_records.new.last c.apply_records.new.buffer c.move_to_match_end.new.buffer c.in-Ok.ensures.kept c.move_to_match_end.ensures
+apply_rule-returns-in-Ok-clause-kept t c = behind_kept (apply_context_of c.args.ctx.now) c.in-Ok.at c.move_to_match_end.result c.apply_records.new.last c.apply_records.new.buffer c.move_to_match_end.new.buffer c.in-Ok.ensures.kept c.move_to_match_end.ensures.nests

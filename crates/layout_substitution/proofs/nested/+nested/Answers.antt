@@ -141,17 +141,17 @@ apply_rules-returns-clause-performs t c =
 pub apply_record-returns-in-Ok-true-clause-walks : goal.apply_record-returns-in-Ok-true-clause-walks
 apply_record-returns-in-Ok-true-clause-walks t c =
     record_acted (nested_act c.args.table.now.lookups c.args.depth (apply_context_of c.args.ctx.now)) c.args.lookup_record.now c.args.indices.now.items c.settle_match.new.indices.items c.in-Ok-Some.index_in_match c.args.end c.settle_match.result c.glyph_count-before.result c.args.ctx.now.random_state c.recurse.new.ctx.random_state c.in-Ok-true.field-0
-    c.args.buffer.now c.begin_record.new.buffer c.recurse.new.buffer (begun_some c.args.lookup_record.now c.args.indices.now.items c.in-Ok-Some.index_in_match c.in-Ok-Some.field-0 c.args.buffer.now c.begin_record.new.buffer (let f = c.in-Ok-Some.field-0-is in let g = c.in-Ok-Some.index_in_match-is in cc) c.in-Ok-Some.ensures) c.in-Ok-true.field-0-test c.in-Ok-true.ensures.performs c.glyph_count-before.ensures.count c.settle_match.ensures.indices c.settle_match.ensures.end
+    c.args.buffer.now c.begin_record.new.buffer c.recurse.new.buffer (begun_some c.args.lookup_record.now c.args.indices.now.items c.in-Ok-Some.index_in_match c.in-Ok-Some.field-0 c.args.buffer.now c.begin_record.new.buffer (let f = c.in-Ok-Some.field-0-is in let g = c.in-Ok-Some.index_in_match-is in cc) c.in-Ok-Some.ensures.begins) c.in-Ok-true.field-0-test c.in-Ok-true.ensures.performs c.glyph_count-before.ensures.count c.settle_match.ensures.indices c.settle_match.ensures.end
 
 pub apply_record-returns-in-Ok-true-clause-inside : goal.apply_record-returns-in-Ok-true-clause-inside
 apply_record-returns-in-Ok-true-clause-inside t c =
     record_inside _ c.args.lookup_record.now c.args.indices.now.items c.settle_match.new.indices.items c.in-Ok-Some.index_in_match c.args.end c.settle_match.result c.glyph_count-before.result c.args.ctx.now.random_state c.recurse.new.ctx.random_state c.in-Ok-true.field-0
-    c.args.buffer.now c.begin_record.new.buffer c.recurse.new.buffer (begun_some c.args.lookup_record.now c.args.indices.now.items c.in-Ok-Some.index_in_match c.in-Ok-Some.field-0 c.args.buffer.now c.begin_record.new.buffer (let f = c.in-Ok-Some.field-0-is in let g = c.in-Ok-Some.index_in_match-is in cc) c.in-Ok-Some.ensures) c.in-Ok-true.field-0-test c.in-Ok-true.ensures.performs c.glyph_count-before.ensures.count c.settle_match.ensures.indices c.settle_match.ensures.end
+    c.args.buffer.now c.begin_record.new.buffer c.recurse.new.buffer (begun_some c.args.lookup_record.now c.args.indices.now.items c.in-Ok-Some.index_in_match c.in-Ok-Some.field-0 c.args.buffer.now c.begin_record.new.buffer (let f = c.in-Ok-Some.field-0-is in let g = c.in-Ok-Some.index_in_match-is in cc) c.in-Ok-Some.ensures.begins) c.in-Ok-true.field-0-test c.in-Ok-true.ensures.performs c.glyph_count-before.ensures.count c.settle_match.ensures.indices c.settle_match.ensures.end
 
 pub apply_record-returns-in-Ok-false-clause-walks : goal.apply_record-returns-in-Ok-false-clause-walks
 apply_record-returns-in-Ok-false-clause-walks t c =
     record_passed (nested_act c.args.table.now.lookups c.args.depth (apply_context_of c.args.ctx.now)) c.args.lookup_record.now c.args.indices.now.items c.in-Ok-Some.index_in_match c.args.end c.args.ctx.now.random_state c.recurse.new.ctx.random_state c.in-Ok-false.field-0
-    c.args.buffer.now c.begin_record.new.buffer c.recurse.new.buffer (begun_some c.args.lookup_record.now c.args.indices.now.items c.in-Ok-Some.index_in_match c.in-Ok-Some.field-0 c.args.buffer.now c.begin_record.new.buffer (let f = c.in-Ok-Some.field-0-is in let g = c.in-Ok-Some.index_in_match-is in cc) c.in-Ok-Some.ensures) c.in-Ok-false.field-0-test c.in-Ok-false.ensures.performs
+    c.args.buffer.now c.begin_record.new.buffer c.recurse.new.buffer (begun_some c.args.lookup_record.now c.args.indices.now.items c.in-Ok-Some.index_in_match c.in-Ok-Some.field-0 c.args.buffer.now c.begin_record.new.buffer (let f = c.in-Ok-Some.field-0-is in let g = c.in-Ok-Some.index_in_match-is in cc) c.in-Ok-Some.ensures.begins) c.in-Ok-false.field-0-test c.in-Ok-false.ensures.performs
 
 pub apply_records-returns-then-depth-eq0-clause-walks : goal.apply_records-returns-then-depth-eq0-clause-walks
 apply_records-returns-then-depth-eq0-clause-walks t c =
@@ -195,7 +195,7 @@ pub apply_rule-returns-in-Ok-clause-performs : goal.apply_rule-returns-in-Ok-cla
 apply_rule-returns-in-Ok-clause-performs t c =
     let a = apply_context_of c.args.ctx.now in
     rule_acted a (nested_actions c.args.table.now.lookups c.args.depth a) (chain_of c.args.rule.now) c.args.ctx.now.random_state c.apply_records.new.ctx.random_state c.in-Some.end c.in-Ok.at c.match_chain.new.indices.items c.apply_records.new.indices.items c.move_to_match_end.result
-    c.args.buffer.now c.match_chain.new.buffer c.apply_records.new.buffer c.move_to_match_end.new.buffer c.in-Some.ensures c.in-Ok.ensures.walks c.in-Ok.ensures.inside (c.move_to_match_end.ensures c.apply_records.new.ctx.random_state)
+    c.args.buffer.now c.match_chain.new.buffer c.apply_records.new.buffer c.move_to_match_end.new.buffer c.in-Some.ensures c.in-Ok.ensures.walks c.in-Ok.ensures.inside (c.move_to_match_end.ensures.nests c.apply_records.new.ctx.random_state)
 
 pub apply_rule-returns-in-Err-clause-performs : goal.apply_rule-returns-in-Err-clause-performs
 apply_rule-returns-in-Err-clause-performs t c =
