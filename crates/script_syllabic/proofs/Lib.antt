@@ -3,6 +3,7 @@ pub mod Put
 pub mod Underway
 pub mod Marking
 pub mod Glyphs
+pub mod Longer
 pub mod Recorded
 pub mod Counting
 pub mod Forming

@@ -1,8 +1,9 @@
 -- Stages that bring no glyph number in, one after another, and circles before them.
-use Rattle.std.proofs.Common.{ℕ, ◌≡◌, ◌==◌, Bool, true, false, if◌then◌else◌, List, Option, None, Ok, Err, map, refl, sym, ap, subst, ◌∙◌}
-use Rattle.std.specs.Prelude.{bit_and, option_map, unwrap_or, Result}
+use Rattle.std.proofs.Common.{ℕ, ◌≡◌, ◌==◌, Bool, true, false, if◌then◌else◌, List, length, Option, None, Ok, Err, map, refl, sym, ap, subst, ◌∙◌}
+use Rattle.std.specs.Prelude.{bit_and, nat_lt, option_map, unwrap_or, Result}
 use Rattle.std.specs.List.Sorted.{IsPermutation}
-use Rattle.std.proofs.lemmas.List.Sorted.{IsPermutation-refl, IsPermutation-trans}
+use Rattle.std.proofs.lemmas.List.Sorted.{IsPermutation-refl, IsPermutation-trans, length_permutation}
+use Rattle.std.proofs.lemmas.List.{length-map}
 use Rattle.std.proofs.lemmas.Nat.{and_assoc}
 use Rattle.buffer_glyphs.specs.declared.cause.ShapeCause.{ShapeCause}
 use Rattle.buffer_common.specs.declared.constants.BufferFlags.{BufferFlags}
@@ -110,6 +111,15 @@ ordered_brings_none circles rule a b c inserted p told f g none =
     let same : items_of b ≡ items_of a = ap (λ (run : BufferState). run.view.items) stays in
     let q = syllables_quiet rule b c p g in
     subst (λ xs. BringsNoGlyph xs (items_of c)) same (quiet_brings_none (syllables_by rule) b c q)
+
+pub quiet_length : (stage : Stage) (a b : Sides) → IsQuiet stage a b → length (items_of a) ≡ length (items_of b)
+quiet_length stage a b q =
+    let number : Item → ℕ = λ x. x.number in
+    sym (length-map (items_of a) number) ∙ sym (length_permutation (numbers_of (items_of a)) (numbers_of (items_of b)) q.numbers) ∙ length-map (items_of b) number
+
+pub ordered_longer : (rule : List Item → Arrangement) (a b c : Sides) (inserted : Bool) → ((ys : List Item) → IsPermuted ys (rule ys))
+    → inserted ≡ nat_lt (length (items_of a)) (length (items_of b)) → IsFollowed (syllables_by rule) b c → inserted ≡ nat_lt (length (items_of a)) (length (items_of c))
+ordered_longer rule a b c inserted p told g = told ∙ ap (nat_lt (length (items_of a))) (quiet_length (syllables_by rule) b c (syllables_quiet rule b c p g))
 
 pub circles_refused : (font : FaceParts) (flags : BufferFlags) (kind category : ℕ) (repha position : Option ℕ) (rule : List Item → Arrangement) (a : Sides) (e : ShapeCause)
     → reading_of (circles_by (circle_rule font flags kind category repha position)) (state_of a) ≡ Err e → reading_of (Order font (text_flags flags) kind category repha position rule) (state_of a) ≡ Err e

@@ -1,5 +1,5 @@
 //! Inserts a dotted circle into each broken syllable, insert_dotted_circles (rustybuzz: hb/ot_shaper_syllabic.rs).
-ghost use Rattle.std.specs.Prelude.{◌≡◌, ◌<◌, ◌≤◌, ◌+◌, ◌-◌, Err, Some, true, length, slice_get, IfOk, IfErr, OnOk};
+ghost use Rattle.std.specs.Prelude.{◌≡◌, ◌<◌, ◌≤◌, ◌+◌, ◌-◌, Err, Some, true, length, nat_lt, slice_get, IfOk, IfErr, OnOk};
 ghost use Rattle.std.specs.List.{list_any, prefix_len};
 ghost use Rattle.buffer_glyphs.specs.Items.{item_of, strip};
 ghost use Rattle.buffer_glyphs.specs.Origins.{origin_of};
@@ -44,6 +44,7 @@ pub struct CircleRule {
 /// # Errors
 ///
 /// `TooLong` where the text would have more glyphs than the buffer may hold, or lack of memory.
+#[tactic(auto, using(crate::proofs::Longer::not_longer))]
 pub fn insert_dotted_circles(
     face: &Face,
     buffer: &mut hb_buffer_t,
@@ -57,6 +58,8 @@ pub fn insert_dotted_circles(
     ensures inserted { IfOk result (λ b. b ≡ puts_circles
         (circle_rule face.now buffer.old.flags kind circle_category repha_category circle_position)
         (items_of buffer.old)) }
+    ensures longer { 0 < kind
+        → IfOk result (λ inserted. inserted ≡ nat_lt (length (items_of buffer.old)) (length (items_of buffer.new))) }
     ensures stage { DoesStage
         (circles_by (circle_rule face.now buffer.old.flags kind circle_category repha_category circle_position)) result
         buffer.old buffer.new }
@@ -74,12 +77,14 @@ pub fn insert_dotted_circles(
     circles_by(&rule, buffer)
 }
 
-#[tactic(auto, using(crate::proofs::Glyphs::put_keeps_glyphs))]
+#[tactic(auto, using(crate::proofs::Glyphs::put_keeps_glyphs, crate::proofs::Longer::put_longer, crate::proofs::Longer::not_longer))]
 fn circles_by(rule: &CircleRule, buffer: &mut hb_buffer_t) -> Result<bool, ShapeCause>
     requires ready { IsReady buffer.old }
     ensures glyphs { OnOk result (rule.now.glyph ≤ 65535 → are_glyphs (items_of buffer.old) ≡ true
         → are_glyphs (items_of buffer.new) ≡ true) }
     ensures inserted { IfOk result (λ b. b ≡ puts_circles (Some rule.now) (items_of buffer.old)) }
+    ensures longer { 0 < rule.now.kind
+        → IfOk result (λ inserted. inserted ≡ nat_lt (length (items_of buffer.old)) (length (items_of buffer.new))) }
     ensures stage { DoesStage (circles_by (Some rule.now)) result buffer.old buffer.new }
 {
     if !has_broken(rule, buffer.info_slice()) {

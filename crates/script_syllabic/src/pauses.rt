@@ -1,6 +1,6 @@
 //! The pauses between GSUB stages that several shapers of syllables have (rustybuzz: hb/ot_layout.rs,
 //! hb/ot_shaper_khmer.rs and hb/ot_shaper_myanmar.rs).
-ghost use Rattle.std.specs.Prelude.{◌≡◌, false, Ok, IfErr, OnOk};
+ghost use Rattle.std.specs.Prelude.{◌≡◌, false, Ok, IfOk, IfErr, OnOk};
 ghost use Rattle.buffer_core.specs.Sides.{items_of};
 ghost use Rattle.buffer_stages.specs.Ready.{DoesGlyphStage, IsDone, IsReady};
 ghost use Rattle.buffer_stages.specs.Pauses.{BringsNoGlyph};
@@ -29,6 +29,7 @@ pub fn setup_syllables<S: SyllableSpans>(
 ) -> Result<bool, ShapeCause>
     requires ready { IsReady buffer.old }
     ensures stage { DoesGlyphStage (syllables_set (S.span_of spans.now) shaper) result buffer.old buffer.new }
+    ensures inserts_none { IfOk result (λ inserted. inserted ≡ false) }
     ensures brings_none { result ≡ Ok false → BringsNoGlyph (items_of buffer.old) (items_of buffer.new) }
 {
     syllables::setup_syllables(alloc, spans, shaper, buffer)?;
@@ -39,6 +40,7 @@ pub fn setup_syllables<S: SyllableSpans>(
 pub fn clear_syllables(buffer: &mut hb_buffer_t) -> Result<bool, ShapeCause>
     requires ready { IsReady buffer.old }
     ensures ok { OnOk result (IsDone syllables_cleared buffer.old buffer.new) }
+    ensures inserts_none { IfOk result (λ inserted. inserted ≡ false) }
     ensures brings_none { result ≡ Ok false → BringsNoGlyph (items_of buffer.old) (items_of buffer.new) }
     ensures err { IfErr result (λ e. e ≡ ShapeCause.OutOfMemory) }
 {
@@ -51,6 +53,7 @@ pub fn clear_syllables(buffer: &mut hb_buffer_t) -> Result<bool, ShapeCause>
 pub fn clear_substitution_flags(buffer: &mut hb_buffer_t) -> Result<bool, ShapeCause>
     requires ready { IsReady buffer.old }
     ensures ok { OnOk result (IsDone substitutions_cleared buffer.old buffer.new) }
+    ensures inserts_none { IfOk result (λ inserted. inserted ≡ false) }
     ensures brings_none { result ≡ Ok false → BringsNoGlyph (items_of buffer.old) (items_of buffer.new) }
     ensures err { IfErr result (λ e. e ≡ ShapeCause.OutOfMemory) }
 {
