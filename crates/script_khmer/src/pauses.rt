@@ -1,5 +1,5 @@
 //! The pauses of the Khmer shaper (rustybuzz: hb/ot_shaper_khmer.rs).
-ghost use Rattle.std.specs.Prelude.{◌≡◌, true, false, Ok};
+ghost use Rattle.std.specs.Prelude.{◌≡◌, true, false, length, nat_lt, Ok, IfOk};
 ghost use Rattle.buffer_core.specs.Sides.{items_of};
 ghost use Rattle.buffer_stages.specs.Buffers.{are_glyphs};
 ghost use Rattle.buffer_stages.specs.Ready.{DoesGlyphStage, IsReady};
@@ -33,6 +33,7 @@ pub fn reorder_khmer(
     requires numbers { are_glyphs (items_of buffer.old) ≡ true }
     ensures stage { DoesGlyphStage (khmer_order face.now (text_settings buffer.old).flags (khmer_masks map.now)) result
         buffer.old buffer.new }
+    ensures longer { IfOk result (λ inserted. inserted ≡ nat_lt (length (items_of buffer.old)) (length (items_of buffer.new))) }
     ensures brings_none { result ≡ Ok false → BringsNoGlyph (items_of buffer.old) (items_of buffer.new) }
 {
     let masks = khmer_masks(map);
@@ -48,6 +49,7 @@ fn reorder_with(
     requires numbers { are_glyphs (items_of buffer.old) ≡ true }
     ensures stage { DoesGlyphStage (khmer_order face.now (text_settings buffer.old).flags masks.now) result buffer.old
         buffer.new }
+    ensures longer { IfOk result (λ inserted. inserted ≡ nat_lt (length (items_of buffer.old)) (length (items_of buffer.new))) }
     ensures brings_none { result ≡ Ok false → BringsNoGlyph (items_of buffer.old) (items_of buffer.new) }
 {
     let inserted = insert_dotted_circles(

@@ -1,5 +1,5 @@
 //! The pauses of the Myanmar shaper (rustybuzz: hb/ot_shaper_myanmar.rs).
-ghost use Rattle.std.specs.Prelude.{◌≡◌, true, false, Ok};
+ghost use Rattle.std.specs.Prelude.{◌≡◌, true, false, length, nat_lt, Ok, IfOk};
 ghost use Rattle.buffer_core.specs.Sides.{items_of};
 ghost use Rattle.buffer_stages.specs.Buffers.{are_glyphs};
 ghost use Rattle.buffer_stages.specs.Ready.{DoesGlyphStage, IsReady};
@@ -30,6 +30,7 @@ pub fn reorder_myanmar(
     requires ready { IsReady buffer.old }
     requires numbers { are_glyphs (items_of buffer.old) ≡ true }
     ensures stage { DoesGlyphStage (myanmar_order face.now (text_settings buffer.old).flags) result buffer.old buffer.new }
+    ensures longer { IfOk result (λ inserted. inserted ≡ nat_lt (length (items_of buffer.old)) (length (items_of buffer.new))) }
     ensures brings_none { result ≡ Ok false → BringsNoGlyph (items_of buffer.old) (items_of buffer.new) }
 {
     let inserted = insert_dotted_circles(

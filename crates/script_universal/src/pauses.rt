@@ -1,5 +1,5 @@
 //! The pauses of the universal shaper (rustybuzz: hb/ot_shaper_use.rs).
-ghost use Rattle.std.specs.Prelude.{◌≡◌, ◌≢◌, true, false, codes, Ok, Err, IfErr, OnOk};
+ghost use Rattle.std.specs.Prelude.{◌≡◌, ◌≢◌, true, false, codes, length, nat_lt, Ok, Err, IfOk, IfErr, OnOk};
 ghost use Rattle.buffer_core.specs.Readings.{reading_of};
 ghost use Rattle.buffer_core.specs.Sides.{items_of, state_of};
 ghost use Rattle.buffer_stages.specs.Buffers.{are_glyphs};
@@ -48,6 +48,7 @@ pub fn setup_syllables<S: SyllableSpans>(
     requires ready { IsReady buffer.old }
     ensures stage { DoesGlyphStage (universal_syllables_set (S.span_of spans.now) (mask_at_one (codes "rphf") map.now)
         (form_masks map.now script)) result buffer.old buffer.new }
+    ensures inserts_none { IfOk result (λ inserted. inserted ≡ false) }
     ensures brings_none { result ≡ Ok false → BringsNoGlyph (items_of buffer.old) (items_of buffer.new) }
 {
     let rphf = rphf_mask(map);
@@ -65,6 +66,7 @@ fn setup_with<S: SyllableSpans>(
     requires ready { IsReady buffer.old }
     ensures stage { DoesGlyphStage (universal_syllables_set (S.span_of spans.now) rphf_mask forms) result buffer.old
         buffer.new }
+    ensures inserts_none { IfOk result (λ inserted. inserted ≡ false) }
     ensures brings_none { result ≡ Ok false → BringsNoGlyph (items_of buffer.old) (items_of buffer.new) }
 {
     set_up(alloc, spans, rphf_mask, forms, buffer)?;
@@ -110,6 +112,7 @@ pub fn record_rphf(map: &hb_ot_map_t, buffer: &mut hb_buffer_t) -> Result<bool, 
     requires ready { IsReady buffer.old }
     ensures ok { OnOk result (IsDone (syllables_by (rphf_recorded (mask_at_one (codes "rphf") map.now))) buffer.old
         buffer.new) }
+    ensures inserts_none { IfOk result (λ inserted. inserted ≡ false) }
     ensures brings_none { result ≡ Ok false → BringsNoGlyph (items_of buffer.old) (items_of buffer.new) }
     ensures err { IfErr result (λ e. e ≡ ShapeCause.OutOfMemory) }
 {
@@ -120,6 +123,7 @@ pub fn record_rphf(map: &hb_ot_map_t, buffer: &mut hb_buffer_t) -> Result<bool, 
 fn record_with(mask: hb_mask_t, buffer: &mut hb_buffer_t) -> Result<bool, ShapeCause>
     requires ready { IsReady buffer.old }
     ensures ok { OnOk result (IsDone (syllables_by (rphf_recorded mask)) buffer.old buffer.new) }
+    ensures inserts_none { IfOk result (λ inserted. inserted ≡ false) }
     ensures brings_none { result ≡ Ok false → BringsNoGlyph (items_of buffer.old) (items_of buffer.new) }
     ensures err { IfErr result (λ e. e ≡ ShapeCause.OutOfMemory) }
 {
@@ -135,6 +139,7 @@ fn record_with(mask: hb_mask_t, buffer: &mut hb_buffer_t) -> Result<bool, ShapeC
 pub fn record_pref(buffer: &mut hb_buffer_t) -> Result<bool, ShapeCause>
     requires ready { IsReady buffer.old }
     ensures ok { OnOk result (IsDone (syllables_by pref_recorded) buffer.old buffer.new) }
+    ensures inserts_none { IfOk result (λ inserted. inserted ≡ false) }
     ensures brings_none { result ≡ Ok false → BringsNoGlyph (items_of buffer.old) (items_of buffer.new) }
     ensures err { IfErr result (λ e. e ≡ ShapeCause.OutOfMemory) }
 {
@@ -153,6 +158,7 @@ pub fn reorder_use(face: &Face, buffer: &mut hb_buffer_t) -> Result<bool, ShapeC
     requires numbers { are_glyphs (items_of buffer.old) ≡ true }
     ensures stage { DoesGlyphStage (universal_order face.now (text_settings buffer.old).flags) result buffer.old
         buffer.new }
+    ensures longer { IfOk result (λ inserted. inserted ≡ nat_lt (length (items_of buffer.old)) (length (items_of buffer.new))) }
     ensures brings_none { result ≡ Ok false → BringsNoGlyph (items_of buffer.old) (items_of buffer.new) }
 {
     let inserted = insert_dotted_circles(face, buffer, BROKEN_CLUSTER, B, Some(R), None)?;

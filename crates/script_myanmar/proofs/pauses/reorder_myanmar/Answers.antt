@@ -1,4 +1,4 @@
-use Rattle.std.proofs.Common.{None}
+use Rattle.std.proofs.Common.{None, arith}
 use Rattle.script_categories.specs.declared.ot_category_t.TheConstants as category
 use Rattle.script_categories.specs.declared.syllable_kinds.myanmar.TheConstants as myanmar
 use Rattle.script_myanmar.specs.Myanmar.{myanmar_syllable}
@@ -7,13 +7,17 @@ use Rattle.script_syllabic.specs.Rules.{circle_rule}
 use Rattle.buffer_stages.specs.Settings.{text_flags}
 use Rattle.script_myanmar.specs.Pauses.{myanmar_order}
 use Rattle.script_syllabic.proofs.Does.{passed_glyph_stage}
-use Rattle.script_syllabic.proofs.Quiet.{circles_refused, ordered_brings_none, ordered_done, ok_is}
+use Rattle.script_syllabic.proofs.Quiet.{circles_refused, ordered_brings_none, ordered_done, ordered_longer, ok_is}
 use Rattle.script_myanmar.proofs.pauses.reorder_myanmar.Goals as goal
 
 pub returns-clause-stage : goal.returns-clause-stage
 returns-clause-stage c =
     let i = c.in_ok-inserted.ensures in
     ordered_done c.args.face.now c.args.buffer.now.flags myanmar.BROKEN_CLUSTER category.OT_DOTTEDCIRCLE None None myanmar_syllable c.args.buffer.now c.insert_dotted_circles.new.buffer c.reorder_myanmar.new.buffer syllable_permutes i.stage i.glyphs c.in_ok-reorder_myanmar.ensures
+
+pub returns-clause-longer : goal.returns-clause-longer
+returns-clause-longer c =
+    ordered_longer myanmar_syllable c.args.buffer.now c.insert_dotted_circles.new.buffer c.reorder_myanmar.new.buffer c.in_ok-inserted.inserted syllable_permutes (c.in_ok-inserted.ensures.longer (omega arith)) c.in_ok-reorder_myanmar.ensures
 
 pub returns-clause-brings_none : goal.returns-clause-brings_none
 returns-clause-brings_none c = λ e.

@@ -1,4 +1,4 @@
-use Rattle.std.proofs.Common.{None, Some}
+use Rattle.std.proofs.Common.{None, Some, arith}
 use Rattle.script_categories.specs.declared.category.TheConstants as category
 use Rattle.script_categories.specs.declared.syllable_kinds.universal.TheConstants as universal
 use Rattle.script_universal.specs.Reordering.{universal_syllable}
@@ -7,13 +7,17 @@ use Rattle.script_syllabic.specs.Rules.{circle_rule}
 use Rattle.buffer_stages.specs.Settings.{text_flags}
 use Rattle.script_universal.specs.Pauses.{universal_order}
 use Rattle.script_syllabic.proofs.Does.{passed_glyph_stage}
-use Rattle.script_syllabic.proofs.Quiet.{circles_refused, ordered_brings_none, ordered_done, ok_is}
+use Rattle.script_syllabic.proofs.Quiet.{circles_refused, ordered_brings_none, ordered_done, ordered_longer, ok_is}
 use Rattle.script_universal.proofs.pauses.reorder_use.Goals as goal
 
 pub returns-clause-stage : goal.returns-clause-stage
 returns-clause-stage c =
     let i = c.in_ok-inserted.ensures in
     ordered_done c.args.face.now c.args.buffer.now.flags universal.BROKEN_CLUSTER category.B (Some category.R) None universal_syllable c.args.buffer.now c.insert_dotted_circles.new.buffer c.reorder_use.new.buffer syllable_permutes i.stage i.glyphs c.in_ok-reorder_use.ensures
+
+pub returns-clause-longer : goal.returns-clause-longer
+returns-clause-longer c =
+    ordered_longer universal_syllable c.args.buffer.now c.insert_dotted_circles.new.buffer c.reorder_use.new.buffer c.in_ok-inserted.inserted syllable_permutes (c.in_ok-inserted.ensures.longer (omega arith)) c.in_ok-reorder_use.ensures
 
 pub returns-clause-brings_none : goal.returns-clause-brings_none
 returns-clause-brings_none c = λ e.
