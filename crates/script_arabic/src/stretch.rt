@@ -1,5 +1,5 @@
 //! Lays tiles over the word before them, apply_stch (rustybuzz: hb/ot_shaper_arabic.rs).
-ghost use Rattle.std.specs.Prelude.{◌≡◌, ◌≤◌, Err, false, length};
+ghost use Rattle.std.specs.Prelude.{◌≡◌, ◌≤◌, Err, false, length, IsOk};
 ghost use Rattle.std.specs.List.{list_any};
 ghost use Rattle.buffer_glyphs.specs.Items.{item_of};
 ghost use Rattle.buffer_core.specs.Sides.{all_glyphs, items_of};
@@ -31,7 +31,9 @@ use std::alloc::Global;
 #[tactic(auto, using(crate::proofs::Listed::runs_cover, crate::proofs::Listed::tiles_cover, crate::proofs::Untouched::untouched_done))]
 pub fn apply_stch(alloc: Global, face: &Face, buffer: &mut hb_buffer_t) -> Result<(), ShapeCause>
     requires ready { IsReady buffer.old }
-    ensures { DoesGlyphStage (tiles_laid face.now) result buffer.old buffer.new }
+    ensures stage { DoesGlyphStage (tiles_laid face.now) result buffer.old buffer.new }
+    ensures succeeds { list_any is_tile (items_of buffer.old) ≡ false → IsOk result }
+    ensures untouched { list_any is_tile (items_of buffer.old) ≡ false → buffer.new ≡ buffer.old }
 {
     if !has_tiles(buffer) {
         return Ok(());
