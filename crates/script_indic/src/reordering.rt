@@ -1,5 +1,5 @@
 //! The two pauses of the Indic shaper (rustybuzz: hb/ot_shaper_indic.rs).
-ghost use Rattle.std.specs.Prelude.{◌≡◌, true, false, Ok};
+ghost use Rattle.std.specs.Prelude.{◌≡◌, true, false, length, nat_lt, Ok, IfOk};
 ghost use Rattle.buffer_core.specs.Sides.{items_of};
 ghost use Rattle.buffer_stages.specs.Buffers.{are_glyphs};
 ghost use Rattle.buffer_stages.specs.Pauses.{BringsNoGlyph};
@@ -45,6 +45,7 @@ pub fn initial_reordering(
     requires numbers { are_glyphs (items_of buffer.old) ≡ true }
     ensures stage { DoesGlyphStage (indic_initial map.now script face.now (text_settings buffer.old).flags) result
         buffer.old buffer.new }
+    ensures longer { IfOk result (λ inserted. inserted ≡ nat_lt (length (items_of buffer.old)) (length (items_of buffer.new))) }
     ensures brings_none { result ≡ Ok false → BringsNoGlyph (items_of buffer.old) (items_of buffer.new) }
 {
     let config = indic_config(script);
@@ -90,6 +91,7 @@ pub fn reorder_initially<F: IndicForms>(
     ensures stage { DoesGlyphStage
         (initial_stage face.now (text_settings buffer.old).flags (F.forms_of forms.now) virama mode masks.now) result
         buffer.old buffer.new }
+    ensures longer { IfOk result (λ inserted. inserted ≡ nat_lt (length (items_of buffer.old)) (length (items_of buffer.new))) }
     ensures brings_none { result ≡ Ok false → BringsNoGlyph (items_of buffer.old) (items_of buffer.new) }
 {
     update_positions(forms, virama, buffer);
@@ -118,6 +120,7 @@ fn insert_and_reorder<F: IndicForms>(
     ensures stage { DoesGlyphStage
         (circles_order face.now (text_settings buffer.old).flags (initial_syllable mode masks.now (F.forms_of forms.now)))
         result buffer.old buffer.new }
+    ensures longer { IfOk result (λ inserted. inserted ≡ nat_lt (length (items_of buffer.old)) (length (items_of buffer.new))) }
     ensures brings_none { result ≡ Ok false → BringsNoGlyph (items_of buffer.old) (items_of buffer.new) }
 {
     let inserted = insert_dotted_circles(
@@ -133,7 +136,7 @@ fn insert_and_reorder<F: IndicForms>(
 }
 
 /// Reorders the syllables of a text once their forms are made (`final_reordering`), by the masks of a map and the values
-/// of the text's script. It inserts no glyph.
+/// of the text's script. Returns false: no glyph is inserted.
 ///
 /// # Errors
 ///
@@ -145,6 +148,7 @@ pub fn final_reordering(
 ) -> Result<bool, ShapeCause>
     requires { IsReady buffer.old }
     ensures stage { DoesGlyphStage (indic_final map.now script) result buffer.old buffer.new }
+    ensures inserts_none { IfOk result (λ inserted. inserted ≡ false) }
     ensures brings_none { result ≡ Ok false → BringsNoGlyph (items_of buffer.old) (items_of buffer.new) }
 {
     let config = indic_config(script);
@@ -159,6 +163,7 @@ fn reorder_finally(
 ) -> Result<bool, ShapeCause>
     requires { IsReady buffer.old }
     ensures stage { DoesGlyphStage (final_stage reph_pos masks.now) result buffer.old buffer.new }
+    ensures inserts_none { IfOk result (λ inserted. inserted ≡ false) }
     ensures brings_none { result ≡ Ok false → BringsNoGlyph (items_of buffer.old) (items_of buffer.new) }
 {
     reorder_final(reph_pos, masks, buffer)?;

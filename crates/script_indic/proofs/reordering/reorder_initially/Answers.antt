@@ -4,7 +4,7 @@ use Rattle.buffer_stages.specs.Ready.{DoesGlyphStage}
 use Rattle.buffer_stages.specs.Settings.{text_settings}
 use Rattle.script_indic_reordering.specs.Orders.{initial_syllable}
 use Rattle.script_indic.specs.Reordering.{circles_order, consonants_updated}
-use Rattle.script_indic.proofs.Composed.{brings_then, done_then, numbers_stay, same_flags}
+use Rattle.script_indic.proofs.Composed.{brings_then, done_then, longer_then, numbers_stay, same_flags}
 use Rattle.script_indic.proofs.reordering.reorder_initially.Goals as goal
 
 pub returns-clause-stage : goal.returns-clause-stage
@@ -19,6 +19,11 @@ returns-clause-stage g c =
     let d = c.insert_and_reorder.new.buffer in
     done_then first (circles_order c.args.face.now (text_settings a).flags rule) a b d r q
     (subst (λ f. DoesGlyphStage (circles_order c.args.face.now f rule) r b d) (same_flags first a b q) c.insert_and_reorder.ensures.stage)
+
+pub returns-clause-longer : goal.returns-clause-longer
+returns-clause-longer g c =
+    let forms = g.F.IndicForms.forms_of c.args.forms.now in
+    longer_then (consonants_updated forms c.args.virama) c.args.buffer.now c.update_positions.new.buffer (items_of c.insert_and_reorder.new.buffer) c.insert_and_reorder.result c.update_positions.ensures c.insert_and_reorder.ensures.longer
 
 pub returns-clause-brings_none : goal.returns-clause-brings_none
 returns-clause-brings_none g c = λ e.
