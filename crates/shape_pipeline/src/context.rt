@@ -33,7 +33,7 @@ pub struct hb_ot_shape_context_t<'a, S: hb_ot_shaper_t, P: SyllableSpans, L: Lan
 
 /// Shapes the text of a context's buffer by the plan: all that the stages see of the buffer, and where its glyphs come
 /// from, follow the text's reading. Each glyph has a number that a glyph can have; what was set for the text stays, and
-/// the direction is the target's.
+/// the direction is the target's. The context's other fields stay, also where it refuses.
 ///
 /// # Errors
 ///
@@ -48,6 +48,7 @@ pub fn shape_internal<S: hb_ot_shaper_t, P: SyllableSpans, L: LanguageTags>(
     requires characters { are_characters (items_of ctx.old.buffer.now) ≡ true }
     requires target { ctx.old.plan.now.script_plan.direction ≡ ctx.old.target_direction }
     ensures same_reference { ctx.new.buffer.ghost_name ≡ ctx.old.buffer.ghost_name }
+    ensures rest { ctx.new ≡ record ctx.old { buffer = ctx.new.buffer } }
     ensures ok { OnOk result (Follows (reading (by_plan (S.traits ctx.old.plan.now.shaper)
         (S.rules ctx.old.plan.now.shaper ctx.old.plan.now.script_plan) ctx.old.plan.now ctx.old.face.now
         ctx.old.shape_data.tables.now (P.span_of ctx.old.shape_data.spans.now) (text_settings ctx.old.buffer.now))

@@ -67,7 +67,7 @@ impl<S: hb_ot_shaper_t, P: SyllableSpans, L: LanguageTags> hb_ot_shape_normalize
     P,
     L,
 > {
-    /// Normalizes the text of the context's buffer (`_hb_ot_shape_normalize`).
+    /// Normalizes the text of the context's buffer (`_hb_ot_shape_normalize`). The context's other fields stay.
     ///
     /// # Errors
     ///
@@ -75,6 +75,7 @@ impl<S: hb_ot_shaper_t, P: SyllableSpans, L: LanguageTags> hb_ot_shape_normalize
     pub fn normalize(&mut self, alloc: Global) -> Result<(), ShapeCause>
         requires { IsReady self.old.buffer.now }
         ensures same_reference { self.new.buffer.ghost_name ≡ self.old.buffer.ghost_name }
+        ensures rest { self.new ≡ record self.old { buffer = self.new.buffer } }
         ensures stage { DoesStage (normalization (normalizer (by_plan (S.traits self.old.plan.now.shaper)
             (S.rules self.old.plan.now.shaper self.old.plan.now.script_plan) self.old.plan.now self.old.face.now
             self.old.shape_data.tables.now (P.span_of self.old.shape_data.spans.now)
