@@ -17,3 +17,4 @@ pub mod Sorted
 pub mod Runs
 pub mod Shown
 pub mod Whole
+pub mod Taken

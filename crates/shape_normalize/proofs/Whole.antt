@@ -39,7 +39,7 @@ later_mark_seen g gs = any_mark_seen gs
 abbrev and_then : Arrangement → Arrangement → Arrangement
 and_then a b = record { items = b.items; events = a.events ++ b.events }
 
-by_settings : (es : List Event) (a b : Sides) → settings_of b ≡ settings_of a → origins_by es b ≡ origins_after (flag_requests_of a) a.level es (origins_of b)
+pub by_settings : (es : List Event) (a b : Sides) → settings_of b ≡ settings_of a → origins_by es b ≡ origins_after (flag_requests_of a) a.level es (origins_of b)
 by_settings es a b e =
     ap (λ (st : Settings). origins_after (flag_requests_of b) st.level es (origins_of b)) e
     ∙ ap (λ (st : Settings). origins_after (record { concat = bit_and st.flags.0 64 == 64; tatweel = bit_and st.flags.0 128 == 128 }) a.level es (origins_of b)) e

@@ -4,3 +4,4 @@ pub mod Rounds
 pub mod Composed
 pub mod Starters
 pub mod Runs
+pub mod Fronts

@@ -216,7 +216,7 @@ fn expand_each<N: Normalizing>(
 }
 
 /// How far a character without marks is decomposed.
-fn reach_alone(mode: NormalizationMode) -> Reach
+pub(crate) fn reach_alone(mode: NormalizationMode) -> Reach
     ensures { result ≡ reach_alone mode }
 {
     match mode {
@@ -317,7 +317,7 @@ fn expand_all<N: Normalizing>(
     Ok(())
 }
 
-/// The first round, from the start of an open output: each character is decomposed as far as the shaper and the font
+/// The first round, from the cursor of an open output on: each character is decomposed as far as the shaper and the font
 /// require, a variation selector is combined with the character before it where the font has the pair, and each gets
 /// the font's glyph. Afterwards the whole list is output. It takes linear time, and no memory but the output's.
 ///
@@ -326,13 +326,12 @@ fn expand_all<N: Normalizing>(
 /// `TooLong` where the output would have more glyphs than the buffer may hold, or lack of memory.
 pub fn expand_list<N: Normalizing>(by: &N, buffer: &mut hb_buffer_t) -> Result<(), ShapeCause>
     requires open { buffer.old.is_open ≡ true }
-    requires unread { buffer.old.read ≡ 0 }
     ensures ok { OnOk result (AppendsArrangement (expanded_list (N.normalizer by.now) (strip buffer.old.ahead)) []
         buffer.old buffer.new) }
     ensures err { IfErr result (λ e. RefusesRoomFor (length (expanded_list (N.normalizer by.now)
         (strip buffer.old.ahead)).items) e buffer.old) }
 {
-    let count = buffer.len();
+    let count = buffer.lookahead_len();
     if count == 0 {
         return Ok(());
     }

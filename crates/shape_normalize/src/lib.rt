@@ -5,6 +5,7 @@
 pub mod characters;
 pub mod composing;
 pub mod expanding;
+mod fronts;
 pub mod joiners;
 pub mod normalize;
 pub mod normalizing;

@@ -7,7 +7,7 @@ ghost use Rattle.buffer_properties.specs.Expanding.{expanded_list};
 ghost use Rattle.shape_normalize.specs.Composed.{HasRoom};
 ghost use Rattle.shape_normalize.specs.Rounds.{IsArranged};
 
-use crate::expanding::expand_list;
+use crate::fronts::{expand_after, take_front};
 use crate::normalizing::Normalizing;
 use crate::searching::first_composition;
 use crate::starters::compose_list;
@@ -21,7 +21,7 @@ use buffer_glyphs::cause::ShapeCause;
 /// # Errors
 ///
 /// `TooLong` where the list would have more characters than the buffer may hold, or lack of memory.
-#[tactic(auto, using(crate::proofs::Joined::list_overfills))]
+#[tactic(auto, using(crate::proofs::Taken::rest_overfills))]
 pub(crate) fn expand_characters<N: Normalizing>(
     by: &N,
     buffer: &mut hb_buffer_t,
@@ -35,8 +35,11 @@ pub(crate) fn expand_characters<N: Normalizing>(
         → (e ≡ ShapeCause.TooLong) × (buffer.old.max_len < length
         (expanded_list (N.normalizer by.now) (items_of buffer.old)).items)) }
 {
+    let front = take_front(by, buffer);
+    // The length says that the text is within the limit.
+    let _len = buffer.len();
     buffer.clear_output()?;
-    expand_list(by, buffer)?;
+    expand_after(by, front, buffer)?;
     if !buffer.sync()? {
         return Err(ShapeCause::TooLong);
     }

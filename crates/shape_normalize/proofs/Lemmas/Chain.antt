@@ -59,10 +59,10 @@ all_shifted_twice m n (e ∷ es) = ap₂ (λ e es. e ∷ es) (shifted_twice m n 
 arranged_same : (a b : Arrangement) → a.items ≡ b.items → a.events ≡ b.events → a ≡ b
 arranged_same a b items events = ap (λ xs. record { items = xs; events = a.events }) items ∙ ap (λ es. record { items = b.items; events = es }) events
 
-none_beside : (a : Arrangement) → beside (eventless_arrangement []) a ≡ a
+pub none_beside : (a : Arrangement) → beside (eventless_arrangement []) a ≡ a
 none_beside a = arranged_same (beside (eventless_arrangement []) a) a refl (all_shifted_none a.events)
 
-beside_assoc : (a b d : Arrangement) → beside (beside a b) d ≡ beside a (beside b d)
+pub beside_assoc : (a b d : Arrangement) → beside (beside a b) d ≡ beside a (beside b d)
 beside_assoc a b d =
     let m = length a.items in
     let n = length b.items in
