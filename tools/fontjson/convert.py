@@ -52,7 +52,7 @@ def metric_keys(source: Source, wanted: set[str]) -> dict[str, Any]:
         "ascender": lambda: metrics.ascender(source),
         "cmap": lambda: cmap,
         "variants": lambda: metrics.variant_rows(source, cmap),
-        "h": lambda: metrics.horizontal_rows(source),
+        "h": lambda: metrics.advance_rows(source, "hmtx"),
         "v": lambda: metrics.vertical_rows(source),
         "origins": lambda: metrics.origin_rows(source, boxes),
         "extents": lambda: metrics.extent_rows(source, boxes),

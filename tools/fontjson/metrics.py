@@ -101,16 +101,11 @@ def variant_rows(source: Source, cmap: list[Row]) -> list[Row]:
 
 
 def advance_rows(source: Source, table: str) -> list[Row]:
-    """Glyphs and their advances."""
+    """Glyphs and their advances, those of 0 too: a reader finds a glyph's row at once where no glyph lacks one."""
     if not source.has(table):
         return []
     metrics = source.font[table].metrics
     return [[glyph, metrics[name][0]] for glyph, name in enumerate(source.font.getGlyphOrder()) if name in metrics]
-
-
-def horizontal_rows(source: Source) -> list[Row]:
-    """Advances that are not 0, which a missing row means."""
-    return [row for row in advance_rows(source, "hmtx") if row[1] != 0]
 
 
 def vertical_rows(source: Source) -> list[Row]:

@@ -41,7 +41,7 @@ class Converted(unittest.TestCase):
         for font, value in self.each():
             number = font.getGlyphID
             self.assertEqual(dict(value["cmap"]), {c: number(g) for c, g in font.getBestCmap().items() if number(g)})
-            advances = {number(g): w for g, (w, _) in font["hmtx"].metrics.items() if w}
+            advances = {number(g): w for g, (w, _) in font["hmtx"].metrics.items()}
             self.assertEqual(dict(value["h"]), advances)
             classes = {number(g): c for g, c in font["GDEF"].table.GlyphClassDef.classDefs.items() if c}
             self.assertEqual(dict(value["gdef"]["classes"]), classes)

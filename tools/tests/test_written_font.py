@@ -111,7 +111,7 @@ class WrittenFont(unittest.TestCase):
             "ascender": 750,
             "cmap": [[97, A], [98, B], [99, C], [102, F], [105, I], [0x301, ACUTE], [0x1F600, X]],
             "variants": [[97, 0xFE00, A_ALT], [98, 0xFE01, B]],
-            "h": [[glyph, 500] for glyph in range(len(GLYPHS)) if glyph not in (ACUTE, GRAVE)],
+            "h": [[glyph, 0 if glyph in (ACUTE, GRAVE) else 500] for glyph in range(len(GLYPHS))],
             "v": [[glyph, 900] for glyph in range(len(GLYPHS))],
             # The last glyph has no outline: its box is empty, and its origin stands at its bearing.
             "origins": [*([glyph, 510] for glyph in boxed), [X, 30]],
