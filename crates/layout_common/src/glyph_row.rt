@@ -31,17 +31,27 @@ impl<V: Copy> Numbered for GlyphRow<V> {
     }
 }
 
-/// A table's value for a glyph, none where it has no row of the glyph: at once where no glyph between the first row's
-/// and this one lacks a row, as in tables of advances, else in logarithmic time.
+/// A guess at the index of a glyph's row. Since glyphs rise, the row is at its distance from the first glyph or before it;
+/// the guess is right where no glyph between the row there and the glyph's own lacks a row.
+fn likely_index<V>(rows: &[GlyphRow<V>], glyph: u16) -> usize {
+    let (Some(first), Some(last)) = (rows.first(), rows.last()) else {
+        return 0;
+    };
+    let farthest = usize::from(glyph.saturating_sub(first.glyph));
+    let (index, row) = match rows.get(farthest) {
+        Some(row) => (farthest, row),
+        None => (rows.len() - 1, last),
+    };
+    index.saturating_sub(usize::from(row.glyph.saturating_sub(glyph)))
+}
+
+/// A table's value for a glyph, none where it has no row of the glyph: at once where the guess is right, as almost
+/// always in tables of advances, else in logarithmic time.
 #[tactic(auto, using(buffer_rows::proofs::Searched::row_of_number))]
 pub fn find_value<V: Copy>(rows: &SortedRows<GlyphRow<V>>, glyph: u16) -> Option<V>
     ensures { result ≡ value_of glyph rows.now }
 {
-    let first = match rows.as_slice() {
-        [first, ..] => first.glyph,
-        [] => return None,
-    };
-    match rows.get_near(glyph, usize::from(glyph.saturating_sub(first))) {
+    match rows.get_near(glyph, likely_index(rows.as_slice(), glyph)) {
         Some(row) => Some(row.value),
         None => None,
     }
