@@ -10,7 +10,7 @@ use std::alloc::{AllocError, Global};
 use std::marker::Model;
 
 /// How many slots there are at most for each record.
-const SLOTS_PER_ROW: usize = 8;
+const SLOTS_PER_ROW: usize = 32;
 
 /// Records whose numbers rise strictly, each found at once by its number where the numbers are dense.
 #[derive(Debug, Drop)]
@@ -36,7 +36,7 @@ impl<R: Numbered> Model for DenseRows<R> {
 }
 
 impl<R: Numbered> DenseRows<R> {
-    /// A table of records whose numbers rise strictly. Its slots take at most 16 bytes for each record; where the
+    /// A table of records whose numbers rise strictly. Its slots take at most 64 bytes for each record; where the
     /// numbers lie so far apart that this isn't enough, records are found by binary search.
     pub fn new(alloc: Global, rows: Vec<R>) -> Result<DenseRows<R>, AllocError>
         requires { numbers_rise R.number_of rows.items ≡ true }
