@@ -4,7 +4,7 @@ use crate::memory::{plain_options, ran};
 use crate::rows::characters;
 use buffer_glyphs::flags::SerializeFlags;
 use shell_readers::options::Options;
-use std::alloc::Global;
+use std::alloc::{AllocError, Global};
 use std::process::Abort;
 use std::test::Fail;
 
@@ -116,15 +116,15 @@ static TEXTS: &str =
 const SHOWN: SerializeFlags = SerializeFlags(5);
 
 /// What a run prints of a text; nothing where it is refused.
-fn printed(alloc: Global, text: &str) -> Vec<u8> {
+fn printed(alloc: Global, text: &str) -> Result<Vec<u8>, AllocError> {
     let options = Options {
         flags: SHOWN,
         ..plain_options(alloc)
     };
-    let (answer, out) = ran(alloc, options, TABLES, FONT, text.as_bytes());
+    let (answer, out) = ran(alloc, options, TABLES, FONT, text.as_bytes())?;
     match answer {
-        Ok(()) => out,
-        Err(_) => Vec::new(alloc),
+        Ok(()) => Ok(out),
+        Err(_) => Ok(Vec::new(alloc)),
     }
 }
 
@@ -145,9 +145,9 @@ fn spellings(alloc: Global, start: &str, marks: &str) -> Result<Vec<String>, Fai
     Ok(texts)
 }
 
-fn print_alike(alloc: Global, first: &str, second: &str) -> bool {
-    let line = printed(alloc, first);
-    !line.is_empty() && line == printed(alloc, second)
+fn print_alike(alloc: Global, first: &str, second: &str) -> Result<bool, AllocError> {
+    let line = printed(alloc, first)?;
+    Ok(!line.is_empty() && line == printed(alloc, second)?)
 }
 
 /// How many spellings of a text there are beside the first; each is another text, and prints alike.
@@ -156,10 +156,8 @@ fn follow_spellings(rt: &impl Abort, alloc: Global, texts: &[String]) -> Result<
         return Ok(0);
     };
     for text in others {
-        assert!(rt;
-            text != first && print_alike(alloc, first, text),
-            "{first} {text}"
-        );
+        let alike = print_alike(alloc, first, text)?;
+        assert!(rt; text != first && alike, "{first} {text}");
     }
     Ok(others.len())
 }

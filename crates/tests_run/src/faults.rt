@@ -38,7 +38,7 @@ static BEFORE_LETTER: &str = r#";{};{"cmap":[[98,1],[97,2]]};U1 OutOfOrder
 
 fn is_refused(alloc: Global, row: &str, text: &[u8]) -> Result<bool, Fail> {
     let options = asked(alloc, part(row, 0))?;
-    let (answer, out) = ran(alloc, options, part(row, 1), part(row, 2), text);
+    let (answer, out) = ran(alloc, options, part(row, 1), part(row, 2), text)?;
     Ok(out.is_empty() && answer.is_err_and(|fault| fault.name() == part(row, 3)))
 }
 

@@ -67,7 +67,7 @@ fn is_stacked(alloc: Global, count: u32, last: &str) -> Result<bool, AllocError>
     let text = stacked(alloc, count)?;
     let font = font_of(alloc, MARK_ON_BASE)?;
     let options = plain_options(alloc);
-    let (answer, out) = ran(alloc, options, "{}", &font, text.as_bytes());
+    let (answer, out) = ran(alloc, options, "{}", &font, text.as_bytes())?;
     Ok(answer == Ok(()) && out.as_slice().ends_with(last.as_bytes()))
 }
 

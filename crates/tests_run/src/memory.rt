@@ -6,7 +6,7 @@ use buffer_glyphs::level::BufferClusterLevel;
 use shell_readers::fault::RunFault;
 use shell_readers::options::Options;
 use shell_run::running::run;
-use std::alloc::Global;
+use std::alloc::{AllocError, Global};
 
 const NUMBERS: SerializeFlags = SerializeFlags(4);
 
@@ -24,18 +24,20 @@ pub(crate) fn plain_options(alloc: Global) -> Options {
     }
 }
 
-/// The output of a run over memory, and its result.
+/// The output of a run over memory, and its result. A run fails for want of memory also where the output can't grow.
 pub(crate) fn ran(
     alloc: Global,
     options: Options,
     tables: &str,
     font: &str,
     text: &[u8],
-) -> (Result<(), RunFault>, Vec<u8>) {
+) -> Result<(Result<(), RunFault>, Vec<u8>), AllocError> {
     let mut tables = tables.as_bytes();
     let mut font = font.as_bytes();
     let mut text = text;
     let mut out = Vec::new(alloc);
-    let answer = run(alloc, options, &mut tables, &mut font, &mut text, &mut out);
-    (answer, out)
+    match run(alloc, options, &mut tables, &mut font, &mut text, &mut out) {
+        Err(RunFault::OutOfMemory | RunFault::Write) => Err(AllocError),
+        answer => Ok((answer, out)),
+    }
 }

@@ -67,14 +67,21 @@ fn is_line(bytes: &[u8], line: &str) -> bool {
     bytes.strip_suffix(b"\n") == Some(line.as_bytes())
 }
 
+/// More bytes than a row's line, its fault or its files have, so that recording them asks for no memory.
+const ROOM: usize = 64;
+
 fn is_followed(alloc: Global, row: &'static str) -> Result<bool, Fail> {
     let words = words_of(alloc, part(row, 0))?;
     let mut files = MemoryFiles {
         missing: part(row, 1),
-        asked: String::new(alloc),
+        asked: String::with_capacity(alloc, ROOM)?,
     };
-    let (mut written, mut reported) = (Vec::new(alloc), Vec::new(alloc));
+    let mut written = Vec::with_capacity(alloc, ROOM)?;
+    let mut reported = Vec::with_capacity(alloc, ROOM)?;
     let status = shape(alloc, &words, &mut files, &mut written, &mut reported)?;
+    if is_line(&reported, "hb_shape: OutOfMemory") {
+        return Err(AllocError.into());
+    }
     Ok(
         part(row, 2).parse() == Ok(status)
             && is_line(&written, part(row, 3))

@@ -51,7 +51,7 @@ fn is_followed(alloc: Global, row: &str) -> Result<bool, Fail> {
     let text = text_of(alloc, part(row, 2), count)?;
     let line = line_of(alloc, part(row, 2), part(row, 3), count)?;
     let options = asked(alloc, part(row, 1))?;
-    Ok(prints(alloc, options, "{}", part(row, 4), &text, &line))
+    Ok(prints(alloc, options, "{}", part(row, 4), &text, &line)?)
 }
 
 #[test]

@@ -78,9 +78,9 @@ pub(crate) fn prints(
     font: &str,
     text: &str,
     lines: &str,
-) -> bool {
-    let (answer, out) = ran(alloc, options, tables, font, text.as_bytes());
-    answer == Ok(()) && out.strip_suffix(b"\n") == Some(lines.as_bytes())
+) -> Result<bool, AllocError> {
+    let (answer, out) = ran(alloc, options, tables, font, text.as_bytes())?;
+    Ok(answer == Ok(()) && out.strip_suffix(b"\n") == Some(lines.as_bytes()))
 }
 
 /// The printed lines of a row, separated by line feeds.
@@ -99,7 +99,7 @@ pub(crate) fn is_followed(
     let text = text_of(alloc, part(row, 1))?;
     let options = asked(alloc, part(row, 0))?;
     let lines = lines_of(alloc, row)?;
-    Ok(prints(alloc, options, tables, font, &text, &lines))
+    Ok(prints(alloc, options, tables, font, &text, &lines)?)
 }
 
 /// A font, and after it the rows that must hold in it.

@@ -52,7 +52,7 @@ fn is_printed(
     let options = options_of(alloc, script, level, buffer_flags, flags)?;
     let font = font_of(alloc, font, own)?;
     let text = characters(alloc, text)?;
-    Ok(prints(alloc, options, tables, &font, &text, line))
+    Ok(prints(alloc, options, tables, &font, &text, line)?)
 }
 
 fn is_followed(alloc: Global, script: Script, font: (&str, &str), row: &str) -> Result<bool, Fail> {

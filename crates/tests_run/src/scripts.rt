@@ -93,7 +93,7 @@ fn stretched(alloc: Global, letters: u32) -> Result<String, AllocError> {
 fn is_refused(alloc: Global, letters: u32, cause: ShapeCause) -> Result<bool, AllocError> {
     let text = stretched(alloc, letters)?;
     let options = plain_options(alloc);
-    let (answer, out) = ran(alloc, options, TABLES, WIDE, text.as_bytes());
+    let (answer, out) = ran(alloc, options, TABLES, WIDE, text.as_bytes())?;
     Ok(answer == Err(RunFault::Shape(cause)) && out.is_empty())
 }
 

@@ -2,7 +2,7 @@
 use crate::memory::plain_options;
 use shell_readers::fault::RunFault;
 use shell_run::running::run;
-use std::alloc::Global;
+use std::alloc::{AllocError, Global};
 use std::io;
 use std::io::{ErrorKind, Read, Write};
 use std::test::Fail;
@@ -82,6 +82,14 @@ impl Write for ByteWriter {
     }
 }
 
+/// The result of a run, unless memory was refused.
+fn with_memory(answer: Result<(), RunFault>) -> Result<Result<(), RunFault>, AllocError> {
+    match answer {
+        Err(RunFault::OutOfMemory) => Err(AllocError),
+        answer => Ok(answer),
+    }
+}
+
 fn reader(bytes: &[u8]) -> ByteReader<'_> {
     ByteReader {
         rest: bytes,
@@ -94,10 +102,11 @@ fn ran_by_bytes(alloc: Global, room: usize) -> Result<(Result<(), RunFault>, Vec
     let options = plain_options(alloc);
     let (mut tables, mut font, mut text) = (reader(b"{}"), reader(FONT), reader(b"ab"));
     let mut out = ByteWriter {
-        taken: Vec::new(alloc),
+        taken: Vec::with_capacity(alloc, room)?,
         room,
     };
     let answer = run(alloc, options, &mut tables, &mut font, &mut text, &mut out);
+    let answer = with_memory(answer)?;
     if (tables.ends, font.ends, text.ends) != (1, 1, 1) {
         return Err("an end that is asked for twice, or not at all".into());
     }
@@ -127,7 +136,7 @@ fn failed_reads(alloc: Global) -> Result<[Result<(), RunFault>; 2], Fail> {
     let asked = plain_options(alloc);
     let (mut tables, mut text) = (FailingReader, b"a".as_slice());
     let of_tables = run(alloc, asked, &mut tables, &mut font, &mut text, &mut out);
-    Ok([of_text, of_tables])
+    Ok([with_memory(of_text)?, with_memory(of_tables)?])
 }
 
 #[test]
@@ -137,17 +146,17 @@ fn failed_reads_come_first(rt: HostRuntime) -> Result<(), Fail> {
 }
 
 // The result of tables without an end, and what is written.
-fn ran_endlessly(alloc: Global) -> (Result<(), RunFault>, Vec<u8>) {
+fn ran_endlessly(alloc: Global) -> Result<(Result<(), RunFault>, Vec<u8>), AllocError> {
     let mut out = Vec::new(alloc);
     let asked = plain_options(alloc);
     let (mut tables, mut font, mut text) = (EndlessReader, FONT, b"ab".as_slice());
     let answer = run(alloc, asked, &mut tables, &mut font, &mut text, &mut out);
-    (answer, out)
+    Ok((with_memory(answer)?, out))
 }
 
 #[test]
 fn reads_without_an_end_are_limited(rt: HostRuntime) -> Result<(), Fail> {
-    let (answer, out) = ran_endlessly(rt.alloc());
+    let (answer, out) = ran_endlessly(rt.alloc())?;
     assert!(rt; answer == Err(RunFault::ReadLimit) && out.is_empty());
     Ok(())
 }
