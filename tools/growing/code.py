@@ -136,6 +136,10 @@ def answer_and_body(text: str, at: int) -> tuple[str, str]:
     words: list[str] = []
     answer = None
     while index < len(text):
+        if text[index] in "([":
+            # An array's type has a semicolon of its own.
+            index = closing(text, index)
+            continue
         if text[index] == ";":
             return plain(answer if answer is not None else text[at:index]), ""
         if text[index] == "{":

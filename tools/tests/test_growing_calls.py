@@ -49,7 +49,8 @@ trait Shaper { fn grow(&self) -> Result<(), AllocError>; }
 """,
     "crates/tests_high/src/lib.rt": """use high::read;
 #[test]
-fn reads(rt: HostRuntime) -> Result<(), Fail> { read(rt.alloc())?; high::own; Ok(()) }
+fn reads(rt: HostRuntime) -> Result<(), Fail> { both(rt.alloc())?; high::own; Ok(()) }
+fn both(alloc: Global) -> Result<[List; 2], Fail> { Ok([read(alloc)?, read(alloc)?]) }
 """,
 }
 
@@ -100,7 +101,7 @@ class GrowingCalls(unittest.TestCase):
         self.assertEqual(growing, ["push", "made", "read", "unread"])
         reach = cli.Reach(functions, self.root)
         reached = [each.name for each in functions if reach.tests[each]]
-        self.assertEqual(reached, ["push", "made", "read", "own"])
+        self.assertEqual(reached, ["push", "made", "read", "own", "both"])
 
     def told(self, *words: str) -> tuple[int, str]:
         """The tool's status and what it prints of the repository."""
