@@ -145,7 +145,7 @@ walk_done c count at k start now next le w goes x xs seen = by_case w.ys refl
         subst (λ ps. AppendsArrangement (in_turn ps) [] start next) whole (brought_both w.done (expanded_group c w.x w.marks) (w.x ∷ (w.marks ++ w.ys)) [] start now next w.brought last)
 
 -- the item at an index
-pub item_there : (gs : List hb_glyph_info_t) (front : List Item) (y : Item) (ys : List Item) (g : hb_glyph_info_t) → strip gs ≡ front ++ y ∷ ys → slice_get gs (length front) ≡ Some g → item_of g ≡ y
+item_there : (gs : List hb_glyph_info_t) (front : List Item) (y : Item) (ys : List Item) (g : hb_glyph_info_t) → strip gs ≡ front ++ y ∷ ys → slice_get gs (length front) ≡ Some g → item_of g ≡ y
 item_there [] [] y ys g seen at = absurd (let bad = seen in cc)
 item_there [] (x ∷ front) y ys g seen at = absurd (let bad = seen in cc)
 item_there (h ∷ gs) [] y ys g seen at = let same : h ≡ g = cc in let item : item_of h ≡ y = cc in ap item_of (sym same) ∙ item

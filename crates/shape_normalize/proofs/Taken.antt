@@ -1,10 +1,12 @@
 -- Characters at the front of a text that get their glyphs before the walk over the others.
-use Rattle.std.proofs.Common.{ℕ, ◌≡◌, ◌≢◌, ◌≤◌, ◌<◌, ◌+◌, false, true, List, [], ◌∷◌, ◌++◌, Option, Some, None, length, take, drop, refl, sym, ap, ap₂, subst, ◌∙◌, append_assoc, arith}
-use Rattle.std.specs.Prelude.{slice_get, slice_set, option_map, unwrap_or, is_some}
-use Rattle.std.proofs.lemmas.Bool.{cond-true, cond-false}
-use Rattle.std.proofs.lemmas.List.{map-append, length-map, length-append, take-map, drop-map, take_at}
-use Rattle.std.proofs.lemmas.Option.{slice_get-map}
-use Rattle.std.proofs.Math.Seq.{drop-append_seam}
+use Rattle.std.proofs.Common.{ℕ, ◌≡◌, ◌≢◌, ◌≤◌, ◌<◌, ◌+◌, ◌-◌, ◌&&◌, ◌||◌, Bool, false, true, List, [], ◌∷◌, ◌++◌, Option, Some, None, length, map, take, drop, refl, sym, ap, ap₂, subst, ◌∙◌, append_assoc, arith}
+use Rattle.std.specs.Prelude.{slice_set, suc, unwrap_or, is_some, is_none, if◌then◌else◌}
+use Rattle.std.specs.List.{list_all, list_any, prefix_len}
+use Rattle.std.proofs.lemmas.Bool.{and_parts, cond-true, cond-false}
+use Rattle.std.proofs.lemmas.List.{append-nil, map-append, length-map, length-append, length-take-le, take-append-drop, length-drop, drop_all, take-map, drop-map, take_at}
+use Rattle.std.proofs.lemmas.List.Sums.{prefix_len-le-length}
+use borrow.Rule.Slice.PartMut.{put_mid}
+use Rattle.std.proofs.Math.Seq.{drop-append_seam, take-append-add, drop-append-add}
 use Rattle.buffer_glyphs.specs.declared.cause.ShapeCause.{ShapeCause}
 use Rattle.buffer_glyphs.specs.declared.cause.ShapeCause.TheVariants.{OutOfMemory, TooLong}
 use Rattle.buffer_glyphs.specs.declared.info.hb_glyph_info_t.{hb_glyph_info_t}
@@ -15,126 +17,214 @@ use Rattle.buffer_glyphs.specs.Rewriting.{Arrangement, beside, eventless_arrange
 use Rattle.buffer_core.specs.Readings.{View}
 use Rattle.buffer_core.specs.Sides.{Sides, after_next_glyphs, all_glyphs, flag_requests_of, items_of, with_output}
 use Rattle.buffer_core.specs.Lending.{with_refilled}
-use Rattle.buffer_properties.specs.Characters.{is_mark, with_glyph}
-use Rattle.buffer_properties.specs.Expanding.{expanded_item, expanded_list, item_expansion, items_for, whole_item, with_found_glyph, with_own_glyph}
-use Rattle.buffer_properties.specs.Normalizer.{Normalizer, has_character, reach_alone}
-use Rattle.buffer_properties.specs.SupportedExpansion.{expansion}
-use Rattle.buffer_properties.specs.declared.normal_mode.Reach.TheVariants.{Least}
+use Rattle.buffer_properties.specs.Characters.{is_mark, is_selector, with_glyph}
+use Rattle.buffer_properties.specs.Expanding.{expanded_group, expanded_groups, expanded_item, expanded_list, item_expansion, items_for, whole_item, with_found_glyph, with_own_glyph}
+use Rattle.buffer_properties.specs.Normalizer.{Normalizer, has_character, reach_alone, reach_with_marks}
+use Rattle.buffer_properties.specs.SupportedExpansion.{by_supported, expansion, in_pieces, supported_expansion}
+use Rattle.buffer_properties.specs.declared.normal_mode.Reach.{Reach}
+use Rattle.buffer_properties.specs.declared.normal_mode.Reach.TheVariants.{Least, Greatest}
 use Rattle.buffer_stages.specs.Appending.{AppendsArrangement, RefusesRoomFor, frame_of, with_arranged}
 use Rattle.buffer_stages.specs.Ready.{IsReady}
 use Rattle.buffer_stages.specs.Stages.{Becomes}
 use Rattle.buffer_stages.specs.Lemmas.Written.{written_all, written_becomes}
-use Rattle.shape_normalize.specs.Fronts.{TakesFront, TakesGlyph, TakesGlyphs, expansion_after}
+use Rattle.shape_normalize.specs.Fronts.{StaysWhole, TakesFront, TakesGlyphs, expansion_after, glyph_with_own, is_undecomposed, is_whole}
 use Rattle.shape_normalize.specs.Rounds.{IsArranged}
-use Rattle.shape_normalize.proofs.Compositions.{set_same, set_seen}
-use Rattle.shape_normalize.proofs.GroupWalk.{item_there}
 use Rattle.shape_normalize.proofs.Joined.{list_overfills}
-use Rattle.shape_normalize.proofs.Lemmas.Chain.{beside_assoc, brought_then, none_beside, overfills_behind}
-use Rattle.shape_normalize.proofs.Walk.{get_seam, set_seam}
+use Rattle.shape_normalize.proofs.Lemmas.Chain.{beside_assoc, brought_then, in_turn_both, none_beside, overfills_behind}
 use Rattle.shape_normalize.proofs.Whole.{by_settings}
 
 -- ---- one character
 
--- a character that the font has stays whole
-one_expanded : (c : Normalizer) (x : Item) (n : ℕ) → reach_alone c.mode ≡ Least → c.glyph_of x.number ≡ Some n → item_expansion c (reach_alone c.mode) x ≡ eventless_arrangement (with_own_glyph c x ∷ [])
-unfolding expanded_item
-one_expanded c x n reach found =
-    let has : has_character c x.number ≡ true = ap is_some found in
-    let whole : expansion Least (has_character c) c.splits x.number ≡ None = cond-true _ _ _ has in
-    let own : whole_item c x ≡ with_own_glyph c x = ap (with_found_glyph c x) found ∙ sym (ap (λ o. with_glyph (unwrap_or o 0) x) found) in
-    ap (λ r. item_expansion c r x) reach ∙ ap (λ o. replacement 1 (items_for c x o)) whole ∙ ap (λ y. eventless_arrangement (y ∷ [])) own
+own_whole : (c : Normalizer) (x : Item) (o : Option ℕ) → c.glyph_of x.number ≡ o → is_some o ≡ true → whole_item c x ≡ with_own_glyph c x
+own_whole c x (Some n) e t = ap (with_found_glyph c x) e ∙ sym (ap (λ o. with_glyph (unwrap_or o 0) x) e)
+own_whole c x None e t = absurd (let bad = t in cc)
 
--- and the others are expanded after it, where no mark follows it
-alone_expanded : (c : Normalizer) (x : Item) (n : ℕ) (rest : List Item) → reach_alone c.mode ≡ Least → c.glyph_of x.number ≡ Some n → ((y : Item) (ys : List Item) → rest ≡ y ∷ ys → is_mark y ≡ false)
-    → expanded_list c (x ∷ rest) ≡ beside (eventless_arrangement (with_own_glyph c x ∷ [])) (expanded_list c rest)
-alone_expanded c x n [] reach found free = ap (λ a. beside a (eventless_arrangement [])) (one_expanded c x n reach found)
-alone_expanded c x n (y ∷ ys) reach found free = ap in_turn (cond-false _ _ _ (free y ys refl)) ∙ ap (λ a. beside a (expanded_list c (y ∷ ys))) (one_expanded c x n reach found)
-
-next_unmarked : (i : ℕ) (gs : List hb_glyph_info_t) (front : List Item) (y : Item) (ys : List Item) → strip gs ≡ front ++ y ∷ ys → length front ≡ i
-    → ((g : hb_glyph_info_t) → slice_get gs i ≡ Some g → is_mark (item_of g) ≡ false) → is_mark y ≡ false
-next_unmarked i gs front y ys e len free = by_case (slice_get gs i) refl
+undecomposed : (c : Normalizer) (reach : Reach) (u : ℕ) → has_character c u ≡ true → is_undecomposed reach (c.splits u) ≡ true → expansion reach (has_character c) c.splits u ≡ None
+unfolding in_pieces
+undecomposed c Least u has stays = cond-true _ _ _ has
+undecomposed c Greatest u has stays = by_case (c.splits u) refl stays
   where
-    by_case : (o : Option hb_glyph_info_t) → slice_get gs i ≡ o → is_mark y ≡ false
-    by_case (Some g) at = sym (ap is_mark (item_there gs front y ys g e (ap (slice_get gs) len ∙ at))) ∙ free g at
-    by_case None at =
-        let there : None ≡ Some y = sym (slice_get-map item_of gs i ∙ ap (option_map item_of) at) ∙ ap₂ slice_get e (sym len) ∙ get_seam front y ys in
-        absurd (let bad = there in cc)
+    by_case : (o : Option (ℕ × ℕ)) → c.splits u ≡ o → is_none o ≡ true → by_supported (has_character c) (supported_expansion Greatest (has_character c) c.splits 8) (c.splits u) ≡ None
+    by_case None e t = ap (by_supported (has_character c) (supported_expansion Greatest (has_character c) c.splits 8)) e
+    by_case (Some p) e t = absurd (let bad = t in cc)
 
--- a character that got its glyph
-pub glyph_taken : (c : Normalizer) (i n : ℕ) (g : hb_glyph_info_t) (old new : List hb_glyph_info_t) → reach_alone c.mode ≡ Least → slice_get old i ≡ Some g → c.glyph_of g.glyph_id ≡ Some n
-    → ((h : hb_glyph_info_t) → slice_get old (i + 1) ≡ Some h → is_mark (item_of h) ≡ false) → new ≡ slice_set old i (record g { glyph_index = n }) → TakesGlyph c i old new
-glyph_taken c i n g old new reach at has free is done x rest e len =
-    let same : item_of g ≡ x = item_there old done x rest g e (ap (slice_get old) len ∙ at) in
-    let found : c.glyph_of x.number ≡ Some n = ap (λ (y : Item). c.glyph_of y.number) (sym same) ∙ has in
-    let own : with_glyph n (item_of g) ≡ with_own_glyph c x = ap (with_glyph n) same ∙ sym (ap (λ o. with_glyph (unwrap_or o 0) x) found) in (
-      ap strip is ∙ set_seen item_of old i (record g { glyph_index = n }) ∙ ap₂ (λ xs z. slice_set xs i z) e own ∙ ap (λ k. slice_set (done ++ x ∷ rest) k (with_own_glyph c x)) (sym len)
-          ∙ set_seam done x rest (with_own_glyph c x),
-      alone_expanded c x n rest reach found (λ y ys f.
-          next_unmarked (i + 1) old (done ++ x ∷ []) y ys (e ∙ ap (λ zs. done ++ x ∷ zs) f ∙ sym (append_assoc done (x ∷ []) (y ∷ ys)))
-          (let all = length-append done (x ∷ []) in omega (arith, all, len)) free),
-    )
+-- a character that stays whole
+one_whole : (c : Normalizer) (reach : Reach) (x : Item) → is_whole c reach x ≡ true → item_expansion c reach x ≡ eventless_arrangement (with_own_glyph c x ∷ [])
+unfolding expanded_item
+one_whole c reach x whole =
+    let both = and_parts (is_some (c.glyph_of x.number)) (is_undecomposed reach (c.splits x.number)) whole in
+    ap (λ o. replacement 1 (items_for c x o)) (undecomposed c reach x.number both.0 both.1) ∙ ap (λ y. eventless_arrangement (y ∷ [])) (own_whole c x (c.glyph_of x.number) refl both.0)
 
-pub origins_stay : (i n : ℕ) (g : hb_glyph_info_t) (old new : List hb_glyph_info_t) → slice_get old i ≡ Some g → new ≡ slice_set old i (record g { glyph_index = n }) → origins new ≡ origins old
-origins_stay i n g old new at is =
-    let there : slice_get (origins old) i ≡ Some (origin_of g) = slice_get-map origin_of old i ∙ ap (option_map origin_of) at in
-    ap origins is ∙ set_seen origin_of old i (record g { glyph_index = n }) ∙ set_same (origins old) i (origin_of g) there
+-- ---- a character with its marks
+
+all_whole : (c : Normalizer) (reach : Reach) (gs : List hb_glyph_info_t) → list_all (λ (g : hb_glyph_info_t). is_whole c reach (item_of g)) gs ≡ true
+    → in_turn (map (item_expansion c reach) (strip gs)) ≡ eventless_arrangement (map (with_own_glyph c) (strip gs))
+all_whole c reach [] all = refl
+all_whole c reach (g ∷ gs) all =
+    let both = and_parts (is_whole c reach (item_of g)) (list_all (λ (g : hb_glyph_info_t). is_whole c reach (item_of g)) gs) all in
+    ap₂ beside (one_whole c reach (item_of g) both.0) (all_whole c reach gs both.1)
+
+any_selector : (gs : List hb_glyph_info_t) → list_any is_selector (strip gs) ≡ list_any (λ (g : hb_glyph_info_t). is_selector (item_of g)) gs
+any_selector [] = refl
+any_selector (g ∷ gs) = ap (λ b. is_selector (item_of g) || b) (any_selector gs)
+
+pub lone_stays : (c : Normalizer) (gs : List hb_glyph_info_t) → length gs < 2 → list_all (λ (g : hb_glyph_info_t). is_whole c (reach_alone c.mode) (item_of g)) gs ≡ true → StaysWhole c gs
+lone_stays c gs few all x [] e = subst (λ xs. in_turn (map (item_expansion c (reach_alone c.mode)) xs) ≡ eventless_arrangement (map (with_own_glyph c) xs)) e (all_whole c (reach_alone c.mode) gs all)
+lone_stays c gs few all x (m ∷ ms) e = absurd (let many = ap length e in omega (arith, few, many, length-map gs item_of))
+
+pub marked_stays : (c : Normalizer) (gs : List hb_glyph_info_t) → 2 ≤ length gs → list_any (λ (g : hb_glyph_info_t). is_selector (item_of g)) gs ≡ false
+    → list_all (λ (g : hb_glyph_info_t). is_whole c (reach_with_marks c.mode) (item_of g)) gs ≡ true → StaysWhole c gs
+marked_stays c gs many none all x [] e = absurd (let few = ap length e in omega (arith, few, many, length-map gs item_of))
+marked_stays c gs many none all x (m ∷ ms) e =
+    ap in_turn (cond-false _ _ _ (ap (list_any is_selector) (sym e) ∙ any_selector gs ∙ none))
+    ∙ subst (λ xs. in_turn (map (item_expansion c (reach_with_marks c.mode)) xs) ≡ eventless_arrangement (map (with_own_glyph c) xs)) e (all_whole c (reach_with_marks c.mode) gs all)
+
+abbrev groups_of : Normalizer → List Item → List Arrangement
+groups_of c [] = []
+groups_of c (y ∷ ys) = expanded_groups c y [] ys
+
+groups_list : (c : Normalizer) (xs : List Item) → in_turn (groups_of c xs) ≡ expanded_list c xs
+groups_list c [] = refl
+groups_list c (x ∷ xs) = refl
+
+one_more : (n : ℕ) → 1 + n ≡ suc n
+one_more n = omega arith
+
+-- a character with the marks after it, and the rest
+groups_over : (c : Normalizer) (x : Item) (ms ys : List Item) → expanded_groups c x ms ys ≡ expanded_group c x (ms ++ take (prefix_len is_mark ys) ys) ++ groups_of c (drop (prefix_len is_mark ys) ys)
+groups_over c x ms [] = ap (expanded_group c x) (sym (append-nil ms)) ∙ sym (append-nil (expanded_group c x (ms ++ [])))
+groups_over c x ms (y ∷ ys) = by_mark (is_mark y) refl (groups_over c x (ms ++ y ∷ []) ys)
+  where
+    by_mark : (t : Bool) → is_mark y ≡ t → expanded_groups c x (ms ++ y ∷ []) ys ≡ expanded_group c x ((ms ++ y ∷ []) ++ take (prefix_len is_mark ys) ys) ++ groups_of c (drop (prefix_len is_mark ys) ys)
+        → expanded_groups c x ms (y ∷ ys) ≡ expanded_group c x (ms ++ take (prefix_len is_mark (y ∷ ys)) (y ∷ ys)) ++ groups_of c (drop (prefix_len is_mark (y ∷ ys)) (y ∷ ys))
+    by_mark true m over =
+        let more : prefix_len is_mark (y ∷ ys) ≡ suc (prefix_len is_mark ys) = cond-true _ _ _ m ∙ one_more (prefix_len is_mark ys) in
+        cond-true _ _ _ m ∙ over
+        ∙ ap (λ zs. expanded_group c x zs ++ groups_of c (drop (prefix_len is_mark ys) ys)) (append_assoc ms (y ∷ []) (take (prefix_len is_mark ys) ys))
+        ∙ sym (ap (λ n. expanded_group c x (ms ++ take n (y ∷ ys)) ++ groups_of c (drop n (y ∷ ys))) more)
+    by_mark false m over =
+        let none : prefix_len is_mark (y ∷ ys) ≡ 0 = cond-false _ _ _ m in
+        cond-false _ _ _ m ∙ ap (λ zs. expanded_group c x zs ++ groups_of c (y ∷ ys)) (sym (append-nil ms))
+        ∙ sym (ap (λ n. expanded_group c x (ms ++ take n (y ∷ ys)) ++ groups_of c (drop n (y ∷ ys))) none)
+
+prefix_seen : (gs : List hb_glyph_info_t) → prefix_len is_mark (strip gs) ≡ prefix_len (λ (g : hb_glyph_info_t). is_mark (item_of g)) gs
+prefix_seen [] = refl
+prefix_seen (g ∷ gs) = ap (λ n. if is_mark (item_of g) then 1 + n else 0) (prefix_seen gs)
+
+glyphs_given : (c : Normalizer) (gs : List hb_glyph_info_t) → strip (map (glyph_with_own c) gs) ≡ map (with_own_glyph c) (strip gs)
+glyphs_given c [] = refl
+glyphs_given c (g ∷ gs) = ap (λ xs. with_own_glyph c (item_of g) ∷ xs) (glyphs_given c gs)
+
+origins_given : (c : Normalizer) (gs : List hb_glyph_info_t) → origins (map (glyph_with_own c) gs) ≡ origins gs
+origins_given c [] = refl
+origins_given c (g ∷ gs) = ap (λ os. origin_of g ∷ os) (origins_given c gs)
+
+group_taken : (c : Normalizer) (k n : ℕ) (g : hb_glyph_info_t) (gs new : List hb_glyph_info_t) → k ≡ prefix_len (λ (g : hb_glyph_info_t). is_mark (item_of g)) gs → n ≡ suc k → StaysWhole c (take n (g ∷ gs))
+    → new ≡ map (glyph_with_own c) (take n (g ∷ gs)) ++ drop n (g ∷ gs) → TakesGlyphs c n (g ∷ gs) new
+group_taken c k n g gs new count more stays is =
+    let few : prefix_len is_mark (strip gs) ≡ k = prefix_seen gs ∙ sym count in
+    let group : strip (take n (g ∷ gs)) ≡ item_of g ∷ take k (strip gs) = ap (λ j. strip (take j (g ∷ gs))) more ∙ ap (λ xs. item_of g ∷ xs) (sym (take-map item_of k gs)) in
+    let others : strip (drop n (g ∷ gs)) ≡ drop k (strip gs) = ap (λ j. strip (drop j (g ∷ gs))) more ∙ sym (drop-map item_of k gs) in
+    let given : strip (map (glyph_with_own c) (take n (g ∷ gs))) ≡ map (with_own_glyph c) (item_of g ∷ take k (strip gs)) = glyphs_given c (take n (g ∷ gs)) ∙ ap (map (with_own_glyph c)) group in
+    let seen : strip new ≡ map (with_own_glyph c) (item_of g ∷ take k (strip gs)) ++ drop k (strip gs) =
+    ap strip is ∙ map-append item_of (map (glyph_with_own c) (take n (g ∷ gs))) (drop n (g ∷ gs)) ∙ ap₂ (λ xs ys. xs ++ ys) given others in
+    let within : k ≤ length (strip gs) = let le = prefix_len-le-length is_mark (strip gs) in omega (arith, le, few) in
+    let long : length (map (with_own_glyph c) (item_of g ∷ take k (strip gs))) ≡ n =
+    let one = length-map (item_of g ∷ take k (strip gs)) (with_own_glyph c) in let two = length-take-le k (strip gs) within in omega (arith, one, two, within, more) in
+    let front : take n (strip new) ≡ map (with_own_glyph c) (item_of g ∷ take k (strip gs)) = ap (take n) seen ∙ take_at (map (with_own_glyph c) (item_of g ∷ take k (strip gs))) (drop k (strip gs)) n long in
+    let back : drop n (strip new) ≡ drop k (strip gs) =
+    ap (drop n) seen ∙ ap (λ j. drop j (map (with_own_glyph c) (item_of g ∷ take k (strip gs)) ++ drop k (strip gs))) (sym long) ∙ drop-append_seam (map (with_own_glyph c) (item_of g ∷ take k (strip gs))) (drop k (strip gs)) in
+    record {
+      expanded =
+          ap in_turn (groups_over c (item_of g) [] (strip gs)) ∙ ap (λ j. in_turn (expanded_group c (item_of g) (take j (strip gs)) ++ groups_of c (drop j (strip gs)))) few
+          ∙ sym (in_turn_both (expanded_group c (item_of g) (take k (strip gs))) (groups_of c (drop k (strip gs))))
+          ∙ ap₂ beside (stays (item_of g) (take k (strip gs)) group) (groups_list c (drop k (strip gs)))
+          ∙ ap₂ (λ xs ys. beside (eventless_arrangement xs) (expanded_list c ys)) (sym front) (sym back);
+      origins =
+          ap origins is ∙ map-append origin_of (map (glyph_with_own c) (take n (g ∷ gs))) (drop n (g ∷ gs)) ∙ ap (λ os. os ++ origins (drop n (g ∷ gs))) (origins_given c (take n (g ∷ gs)))
+          ∙ sym (map-append origin_of (take n (g ∷ gs)) (drop n (g ∷ gs))) ∙ ap origins (take-append-drop n (g ∷ gs));
+      within =
+          let all = ap length seen in
+          let sides = length-append (map (with_own_glyph c) (item_of g ∷ take k (strip gs))) (drop k (strip gs)) in
+          omega (arith, all, sides, long, length-map new item_of);
+    }
+
+pub given_group : (c : Normalizer) (k : ℕ) (hs : List hb_glyph_info_t) (g : hb_glyph_info_t) (gs given : List hb_glyph_info_t) → hs ≡ g ∷ gs → k ≡ prefix_len (λ (g : hb_glyph_info_t). is_mark (item_of g)) gs → StaysWhole c (take (k + 1) hs)
+    → given ≡ map (glyph_with_own c) (take (k + 1) hs) → TakesGlyphs c (k + 1) hs (given ++ drop (k + 1) hs)
+given_group c k hs g gs given e count stays is =
+    subst (λ ws. StaysWhole c (take (k + 1) ws) → given ≡ map (glyph_with_own c) (take (k + 1) ws) → TakesGlyphs c (k + 1) ws (given ++ drop (k + 1) ws)) (sym e)
+    (λ st i. group_taken c k (k + 1) g gs (given ++ drop (k + 1) (g ∷ gs)) count (omega arith) st (ap (λ xs. xs ++ drop (k + 1) (g ∷ gs)) i)) stays is
+
+-- ---- a character without marks
+
+pub no_glyph : (c : Normalizer) (g : hb_glyph_info_t) → c.glyph_of g.glyph_id ≡ None → None ≡ (if is_whole c (reach_alone c.mode) (item_of g) then Some (glyph_with_own c g) else None)
+no_glyph c g none = sym (cond-false _ _ _ (ap (λ o. is_some o && is_undecomposed (reach_alone c.mode) (c.splits g.glyph_id)) none))
+
+pub split_glyph : (c : Normalizer) (n : ℕ) (g : hb_glyph_info_t) → c.glyph_of g.glyph_id ≡ Some n → is_undecomposed (reach_alone c.mode) (c.splits g.glyph_id) ≡ false
+    → None ≡ (if is_whole c (reach_alone c.mode) (item_of g) then Some (glyph_with_own c g) else None)
+split_glyph c n g found splits = sym (cond-false _ _ _ (ap₂ (λ o b. is_some o && b) found splits))
+
+pub own_glyph : (c : Normalizer) (n : ℕ) (g : hb_glyph_info_t) → c.glyph_of g.glyph_id ≡ Some n → is_undecomposed (reach_alone c.mode) (c.splits g.glyph_id) ≡ true
+    → Some (record g { glyph_index = n }) ≡ (if is_whole c (reach_alone c.mode) (item_of g) then Some (glyph_with_own c g) else None)
+own_glyph c n g found stays = ap (λ o. Some (record g { glyph_index = unwrap_or o 0 })) (sym found) ∙ sym (cond-true _ _ _ (ap₂ (λ o b. is_some o && b) found stays))
+
+pub lone_taken : (c : Normalizer) (k : ℕ) (hs : List hb_glyph_info_t) (g h : hb_glyph_info_t) (gs : List hb_glyph_info_t) → hs ≡ g ∷ gs → k ≡ prefix_len (λ (g : hb_glyph_info_t). is_mark (item_of g)) gs → k + 1 ≡ 1
+    → Some h ≡ (if is_whole c (reach_alone c.mode) (item_of g) then Some (glyph_with_own c g) else None) → TakesGlyphs c 1 hs (slice_set hs 0 h)
+lone_taken c k hs g h gs e count one found = by_case (is_whole c (reach_alone c.mode) (item_of g)) refl
+  where
+    by_case : (t : Bool) → is_whole c (reach_alone c.mode) (item_of g) ≡ t → TakesGlyphs c 1 hs (slice_set hs 0 h)
+    by_case false w = absurd (let bad : Some h ≡ None = found ∙ cond-false _ _ _ w in cc)
+    by_case true w =
+        let is : Some h ≡ Some (glyph_with_own c g) = found ∙ cond-true _ _ _ w in
+        let same : h ≡ glyph_with_own c g = cc in
+        let none : 0 ≡ prefix_len (λ (g : hb_glyph_info_t). is_mark (item_of g)) gs = omega (arith, count, one) in
+        subst (λ ws. TakesGlyphs c 1 ws (slice_set ws 0 h)) (sym e)
+        (subst (λ x. TakesGlyphs c 1 (g ∷ gs) (x ∷ gs)) (sym same)
+        (group_taken c 0 1 g gs (glyph_with_own c g ∷ gs) none refl (lone_stays c (g ∷ []) (omega arith) (ap (λ b. b && true) w)) refl))
 
 -- ---- so many
 
 same_length : (old new : List hb_glyph_info_t) → origins new ≡ origins old → length new ≡ length old
 same_length old new same = sym (length-map new origin_of) ∙ ap (λ (os : List Origin). length os) same ∙ length-map old origin_of
 
--- so many characters got their glyphs
-pub record IsTaking (c : Normalizer) (at : ℕ) (start now : List hb_glyph_info_t) : Type 0 where
-  pub done : List Item
-  pub rest : List Item
-  pub seen : strip now ≡ done ++ rest
-  pub met : length done ≡ at
-  pub whole : expanded_list c (strip start) ≡ beside (eventless_arrangement done) (expanded_list c rest)
-  pub origins : origins now ≡ origins start
-  pub long : length now ≡ length start
+pub nothing_taken : (c : Normalizer) (gs : List hb_glyph_info_t) → TakesGlyphs c 0 gs gs
+nothing_taken c gs = record { expanded = sym (none_beside (expanded_list c (strip gs))); origins = refl; within = omega arith }
 
-pub taking_begun : (c : Normalizer) (start : List hb_glyph_info_t) → IsTaking c 0 start start
-taking_begun c start = record { done = []; rest = strip start; seen = refl; met = refl; whole = sym (none_beside (expanded_list c (strip start))); origins = refl; long = refl }
-
-pub taking_more : (c : Normalizer) (at : ℕ) (start now next : List hb_glyph_info_t) → at < length start → IsTaking c at start now → TakesGlyph c at now next → origins next ≡ origins now → IsTaking c (at + 1) start next
-taking_more c at start now next lt w takes same = by_case w.rest refl
-  where
-    by_case : (zs : List Item) → w.rest ≡ zs → IsTaking c (at + 1) start next
-    by_case [] e = absurd (let all = ap length (w.seen ∙ ap (λ zs. w.done ++ zs) e) in omega (arith, all, lt, w.met, w.long, length-map now item_of, length-append w.done []))
-    by_case (x ∷ rest) e =
-        let goes = takes w.done x rest (w.seen ∙ ap (λ zs. w.done ++ zs) e) w.met in
-        record {
-          done = w.done ++ with_own_glyph c x ∷ [];
-          rest = rest;
-          seen = goes.0 ∙ sym (append_assoc w.done (with_own_glyph c x ∷ []) rest);
-          met = let all = length-append w.done (with_own_glyph c x ∷ []) in omega (arith, all, w.met);
-          whole =
-              w.whole ∙ ap (λ zs. beside (eventless_arrangement w.done) (expanded_list c zs)) e ∙ ap (beside (eventless_arrangement w.done)) goes.1
-              ∙ sym (beside_assoc (eventless_arrangement w.done) (eventless_arrangement (with_own_glyph c x ∷ [])) (expanded_list c rest));
-          origins = same ∙ w.origins;
-          long = same_length now next same ∙ w.long;
-        }
-
-pub taking_done : (c : Normalizer) (at n : ℕ) (start now : List hb_glyph_info_t) → at ≡ n → IsTaking c at start now → TakesGlyphs c n start now
-taking_done c at n start now is w =
-    let met : length w.done ≡ n = w.met ∙ is in
-    let front : take n (strip now) ≡ w.done = ap (take n) w.seen ∙ take_at w.done w.rest n met in
-    let back : drop n (strip now) ≡ w.rest = ap (drop n) w.seen ∙ ap (λ k. drop k (w.done ++ w.rest)) (sym met) ∙ drop-append_seam w.done w.rest in
+both_taken : (c : Normalizer) (at n : ℕ) (start now new next : List hb_glyph_info_t) → TakesGlyphs c at start now → TakesGlyphs c n (drop at now) new → next ≡ take at now ++ new → TakesGlyphs c (at + n) start next
+both_taken c at n start now new next before takes is =
+    let seen : strip next ≡ take at (strip now) ++ strip new = ap strip is ∙ map-append item_of (take at now) new ∙ ap (λ xs. xs ++ strip new) (sym (take-map item_of at now)) in
+    let long : length (take at (strip now)) ≡ at = let all = length-map now item_of in let le = before.within in length-take-le at (strip now) (omega (arith, all, le)) in
+    let front : take (at + n) (strip next) ≡ take at (strip now) ++ take n (strip new) =
+    ap (take (at + n)) seen ∙ ap (λ k. take (k + n) (take at (strip now) ++ strip new)) (sym long) ∙ take-append-add (take at (strip now)) (strip new) n in
+    let back : drop (at + n) (strip next) ≡ drop n (strip new) =
+    ap (drop (at + n)) seen ∙ ap (λ k. drop (k + n) (take at (strip now) ++ strip new)) (sym long) ∙ drop-append-add (take at (strip now)) (strip new) n in
     record {
-      expanded = w.whole ∙ ap₂ (λ xs ys. beside (eventless_arrangement xs) (expanded_list c ys)) (sym front) (sym back);
-      origins = w.origins;
-      within = let all = ap length w.seen in omega (arith, all, met, length-map now item_of, length-append w.done w.rest);
+      expanded =
+          before.expanded ∙ ap (λ xs. beside (eventless_arrangement (take at (strip now))) (expanded_list c xs)) (drop-map item_of at now) ∙ ap (beside (eventless_arrangement (take at (strip now)))) takes.expanded
+          ∙ sym (beside_assoc (eventless_arrangement (take at (strip now))) (eventless_arrangement (take n (strip new))) (expanded_list c (drop n (strip new))))
+          ∙ ap₂ (λ xs ys. beside (eventless_arrangement xs) (expanded_list c ys)) (sym front) (sym back);
+      origins =
+          ap origins is ∙ map-append origin_of (take at now) new ∙ ap (λ os. origins (take at now) ++ os) takes.origins ∙ sym (map-append origin_of (take at now) (drop at now)) ∙ ap origins (take-append-drop at now)
+          ∙ before.origins;
+      within =
+          let all = ap length seen in
+          let sides = length-append (take at (strip now)) (strip new) in
+          let le = takes.within in
+          omega (arith, all, sides, long, le, length-map next item_of, length-map new item_of);
     }
 
--- ---- on the buffer
+put_rest : (at : ℕ) (xs ys : List hb_glyph_info_t) → put_mid at (length xs - at) xs ys ≡ take at xs ++ ys
+put_rest at xs ys =
+    let long = length-drop at xs in
+    ap (λ zs. take at xs ++ (ys ++ zs)) (drop_all (length xs - at) (drop at xs) (omega (arith, long))) ∙ ap (λ zs. take at xs ++ zs) (append-nil ys)
 
-pub none_taken : (c : Normalizer) (s : Sides) → IsReady s → TakesFront c 0 s s
-none_taken c s ready = record {
-  expanded = sym (none_beside (expanded_list c (items_of s)));
-  becomes = record { view = refl; origins = refl; settings = refl; ready = ready };
-  within = omega arith;
-}
+pub more_taken : (c : Normalizer) (at n : ℕ) (start now rest new : List hb_glyph_info_t) → TakesGlyphs c at start now → rest ≡ drop at now → TakesGlyphs c n rest new → TakesGlyphs c (at + n) start (put_mid at (length now - at) now new)
+more_taken c at n start now rest new before is takes = both_taken c at n start now new (put_mid at (length now - at) now new) before (subst (λ gs. TakesGlyphs c n gs new) is takes) (put_rest at now new)
+
+pub none_more : (c : Normalizer) (at n : ℕ) (start now : List hb_glyph_info_t) → n ≡ 0 → TakesGlyphs c (at + n) start now → TakesGlyphs c at start now
+none_more c at n start now none takes = let same : at + n ≡ at = omega (arith, none) in subst (λ k. TakesGlyphs c k start now) same takes
+
+-- ---- on the buffer
 
 pub front_taken : (c : Normalizer) (n : ℕ) (gs : List hb_glyph_info_t) (s : Sides) → IsReady s → TakesGlyphs c n (all_glyphs s) gs → TakesFront c n s (with_refilled gs s)
 front_taken c n gs s ready takes =

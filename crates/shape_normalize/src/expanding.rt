@@ -229,7 +229,7 @@ pub(crate) fn reach_alone(mode: NormalizationMode) -> Reach
 }
 
 /// How far a character with marks, and each of its marks, is decomposed.
-fn reach_with_marks(mode: NormalizationMode) -> Reach
+pub(crate) fn reach_with_marks(mode: NormalizationMode) -> Reach
     ensures { result ≡ reach_with_marks mode }
 {
     match mode {

@@ -1,88 +1,153 @@
 //! The first round at the front of a text: characters that stay whole need no output (rustybuzz:
 //! hb/ot_shape_normalize.rs).
-ghost use Rattle.std.specs.Prelude.{◌≡◌, ◌<◌, ◌≤◌, ◌+◌, [], false, length, slice_get, true, Some, IfErr, OnOk};
+ghost use Rattle.std.specs.Prelude.{◌≡◌, ◌≤◌, [], length, map, true, if◌then◌else◌, None, Some, IfErr, OnOk};
+ghost use Rattle.std.specs.List.{list_all, list_any, prefix_len};
 ghost use Rattle.buffer_core.specs.Sides.{all_glyphs};
 ghost use Rattle.buffer_glyphs.specs.Items.{item_of, strip};
-ghost use Rattle.buffer_glyphs.specs.Origins.{origins};
-ghost use Rattle.buffer_glyphs.specs.declared.info.hb_glyph_info_t.{hb_glyph_info_t as Glyph};
-ghost use Rattle.buffer_properties.specs.Characters.{is_mark};
+ghost use Rattle.buffer_properties.specs.Characters.{is_mark, is_selector};
 ghost use Rattle.buffer_properties.specs.Normalizer.{reach_alone};
-ghost use Rattle.buffer_properties.specs.declared.normal_mode.Reach.TheVariants.{Least};
 ghost use Rattle.buffer_stages.specs.Appending.{AppendsArrangement, RefusesRoomFor};
 ghost use Rattle.buffer_stages.specs.Ready.{IsReady};
 ghost use Rattle.shape_normalize.specs.Composed.{HasRoom};
-ghost use Rattle.shape_normalize.specs.Fronts.{TakesFront, TakesGlyph, TakesGlyphs, expansion_after};
+ghost use Rattle.shape_normalize.specs.Fronts.{StaysWhole, TakesFront, TakesGlyphs, expansion_after, glyph_with_own, is_undecomposed, is_whole};
 
+use crate::characters::is_selector;
 use crate::composing::pass_glyphs;
-use crate::expanding::{expand_list, reach_alone};
+use crate::expanding::{expand_list, reach_alone, reach_with_marks};
 use crate::normalizing::Normalizing;
-use crate::searching::glyph_at;
 use buffer_core::buffer::hb_buffer_t;
 use buffer_glyphs::cause::ShapeCause;
 use buffer_glyphs::info::hb_glyph_info_t;
 use buffer_properties::Reach;
 use buffer_properties::categories::is_mark;
 
-/// Whether no mark follows the character at an index.
-fn is_alone(i: usize, glyphs: &[hb_glyph_info_t]) -> bool
-    requires { i < length glyphs.now }
-    ensures { result ≡ true → (g : Glyph) → slice_get glyphs.now (i + 1) ≡ Some g → is_mark (item_of g) ≡ false }
+/// How many marks a list begins with.
+#[tactic(auto, using(buffer_lists::specs::Lemmas::Neighbours::front_within))]
+fn count_marks(glyphs: &[hb_glyph_info_t]) -> usize
+    ensures front { result ≡ prefix_len (λ g. is_mark (item_of g)) glyphs.now }
+    ensures within { result ≤ length glyphs.now }
 {
-    i + 1 == glyphs.len() || !is_mark(&glyphs[i + 1])
+    glyphs.iter().take_while(|glyph| is_mark(glyph)).count()
 }
 
-/// Gives the character at an index the font's glyph, where the font has it and no mark follows; returns whether it did.
-#[tactic(auto, using(crate::proofs::Taken::origins_stay))]
-fn take_glyph<N: Normalizing>(by: &N, i: usize, glyphs: &mut [hb_glyph_info_t]) -> bool
-    requires reach { reach_alone (N.normalizer by.now).mode ≡ Least }
-    requires there { i < length glyphs.old }
-    ensures taken { result ≡ true → TakesGlyph (N.normalizer by.now) i glyphs.old glyphs.new }
-    ensures origins { result ≡ true → origins glyphs.new ≡ origins glyphs.old }
-    ensures left { result ≡ false → glyphs.new ≡ glyphs.old }
+/// Whether a decomposition is not looked for, or there is none.
+fn is_undecomposed<N: Normalizing>(by: &N, reach: Reach, u: u32) -> bool
+    ensures { result ≡ is_undecomposed reach ((N.normalizer by.now).splits u) }
 {
-    if !is_alone(i, glyphs) {
-        return false;
+    match reach {
+        Reach::Least => true,
+        Reach::Greatest => by.decompose(u).is_none(),
     }
-    let glyph = *glyph_at(i, glyphs);
-    let Some(glyph_index) = by.glyph(glyph.glyph_id) else {
-        return false;
-    };
-    glyphs[i] = hb_glyph_info_t {
+}
+
+/// Whether a character stays whole: the font has it, and it isn't decomposed.
+fn is_whole<N: Normalizing>(by: &N, reach: Reach, glyph: &hb_glyph_info_t) -> bool
+    ensures { result ≡ is_whole (N.normalizer by.now) reach (item_of glyph.now) }
+{
+    by.glyph(glyph.glyph_id).is_some() && is_undecomposed(by, reach, glyph.glyph_id)
+}
+
+/// A character without marks that stays whole, with the font's glyph.
+#[tactic(auto, using(crate::proofs::Taken::no_glyph, crate::proofs::Taken::split_glyph, crate::proofs::Taken::own_glyph))]
+fn whole_alone<N: Normalizing>(by: &N, glyph: hb_glyph_info_t) -> Option<hb_glyph_info_t>
+    ensures { result ≡ (if is_whole (N.normalizer by.now) (reach_alone (N.normalizer by.now).mode) (item_of glyph)
+        then Some (glyph_with_own (N.normalizer by.now) glyph) else None) }
+{
+    let glyph_index = by.glyph(glyph.glyph_id)?;
+    if !is_undecomposed(by, reach_alone(by.mode()), glyph.glyph_id) {
+        return None;
+    }
+    Some(hb_glyph_info_t {
         glyph_index,
         ..glyph
-    };
-    true
+    })
 }
 
-/// Gives the characters before the first one that may not stay whole the font's glyphs; returns how many they are.
-fn take_each<N: Normalizing>(by: &N, glyphs: &mut [hb_glyph_info_t]) -> usize
-    requires { reach_alone (N.normalizer by.now).mode ≡ Least }
+fn are_whole<N: Normalizing>(by: &N, reach: Reach, glyphs: &[hb_glyph_info_t]) -> bool
+    ensures { result ≡ list_all (λ g. is_whole (N.normalizer by.now) reach (item_of g)) glyphs.now }
+{
+    glyphs.iter().all(|glyph| is_whole(by, reach, glyph))
+}
+
+fn has_selector(glyphs: &[hb_glyph_info_t]) -> bool
+    ensures { result ≡ list_any (λ g. is_selector (item_of g)) glyphs.now }
+{
+    glyphs.iter().any(|glyph| is_selector(glyph))
+}
+
+/// Whether a character, with the marks after it, stays whole.
+#[tactic(auto, using(crate::proofs::Taken::lone_stays, crate::proofs::Taken::marked_stays))]
+fn stays_whole<N: Normalizing>(by: &N, group: &[hb_glyph_info_t]) -> bool
+    ensures { result ≡ true → StaysWhole (N.normalizer by.now) group.now }
+{
+    if group.len() < 2 {
+        return are_whole(by, reach_alone(by.mode()), group);
+    }
+    !has_selector(group) && are_whole(by, reach_with_marks(by.mode()), group)
+}
+
+fn with_glyph<N: Normalizing>(by: &N, glyph: hb_glyph_info_t) -> hb_glyph_info_t
+    ensures { result ≡ glyph_with_own (N.normalizer by.now) glyph }
+{
+    hb_glyph_info_t {
+        glyph_index: by.glyph(glyph.glyph_id).unwrap_or(0),
+        ..glyph
+    }
+}
+
+#[tactic(auto, using(buffer_glyphs::specs::Lists::map_step))]
+fn give_glyphs<N: Normalizing>(by: &N, glyphs: &mut [hb_glyph_info_t])
+    ensures { glyphs.new ≡ map (glyph_with_own (N.normalizer by.now)) glyphs.old }
+{
+    for glyph in glyphs.iter_mut() {
+        *glyph = with_glyph(by, *glyph);
+    }
+}
+
+/// Gives the character that a list begins with, and the marks after it, the font's glyphs, where all of them stay whole;
+/// returns how many they are, or 0.
+fn take_group<N: Normalizing>(by: &N, glyphs: &mut [hb_glyph_info_t]) -> usize
     ensures { TakesGlyphs (N.normalizer by.now) result glyphs.old glyphs.new }
 {
-    let count = glyphs.len();
-    for at in 0..count {
-        if !take_glyph(by, at, glyphs) {
-            return at;
-        }
+    let Some((first, rest)) = glyphs.split_first() else {
+        return 0;
+    };
+    let count = count_marks(rest) + 1;
+    // Most characters have no mark, and then one look-up is enough.
+    if count == 1 {
+        let Some(info) = whole_alone(by, *first) else {
+            return 0;
+        };
+        glyphs[0] = info;
+        return 1;
     }
+    if !stays_whole(by, &glyphs[..count]) {
+        return 0;
+    }
+    give_glyphs(by, &mut glyphs[..count]);
     count
 }
 
-/// Gives the characters before the first one that may not stay whole the font's glyphs; returns how many they are. It
-/// takes no memory.
-pub(crate) fn take_front<N: Normalizing>(by: &N, buffer: &mut hb_buffer_t) -> usize
-    requires { IsReady buffer.old }
-    ensures { TakesFront (N.normalizer by.now) result buffer.old buffer.new }
+/// Gives the characters before the first that may not stay whole, with the marks after it, the font's glyphs; returns
+/// how many they are.
+fn take_each<N: Normalizing>(by: &N, glyphs: &mut [hb_glyph_info_t]) -> usize
+    ensures { TakesGlyphs (N.normalizer by.now) result glyphs.old glyphs.new }
 {
-    match reach_alone(by.mode()) {
-        Reach::Greatest => 0,
-        Reach::Least => take_glyphs(by, buffer),
+    let mut at = 0;
+    while at < glyphs.len() {
+        let count = take_group(by, &mut glyphs[at..]);
+        if count == 0 {
+            return at;
+        }
+        at += count;
     }
+    at
 }
 
-fn take_glyphs<N: Normalizing>(by: &N, buffer: &mut hb_buffer_t) -> usize
-    requires ready { IsReady buffer.old }
-    requires reach { reach_alone (N.normalizer by.now).mode ≡ Least }
+/// Gives the characters before the first that may not stay whole, with the marks after it, the font's glyphs; returns
+/// how many they are. It takes linear time and no memory.
+pub(crate) fn take_front<N: Normalizing>(by: &N, buffer: &mut hb_buffer_t) -> usize
+    requires { IsReady buffer.old }
     ensures { TakesFront (N.normalizer by.now) result buffer.old buffer.new }
 {
     // No cluster changes, so what is known of their order still holds.

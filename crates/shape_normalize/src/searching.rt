@@ -12,7 +12,7 @@ use buffer_glyphs::info::hb_glyph_info_t;
 use buffer_properties::categories::is_mark;
 
 /// The glyph at an index.
-pub(crate) fn glyph_at(i: usize, glyphs: &[hb_glyph_info_t]) -> &hb_glyph_info_t
+fn glyph_at(i: usize, glyphs: &[hb_glyph_info_t]) -> &hb_glyph_info_t
     requires { i < length glyphs.now }
     ensures { slice_get glyphs.now i ≡ Some result.now }
 {

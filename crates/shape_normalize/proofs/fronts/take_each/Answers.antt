@@ -1,10 +1,17 @@
-use Rattle.shape_normalize.proofs.Taken.{taking_begun, taking_more}
+use Rattle.buffer_lists.specs.Lemmas.Neighbours.{rest_whole}
+use Rattle.shape_normalize.proofs.Taken.{more_taken, none_more, nothing_taken}
 use Rattle.shape_normalize.proofs.fronts.take_each.Goals as goal
 
 pub loop-at-init : goal.loop-at-init
-loop-at-init g c = taking_begun (g.N.Normalizing.normalizer c.args.by.now) c.args.glyphs.now
+loop-at-init g c = nothing_taken (g.N.Normalizing.normalizer c.args.by.now) c.args.glyphs.now
 
 pub loop-at-preserved : goal.loop-at-preserved
 loop-at-preserved g c =
-    taking_more (g.N.Normalizing.normalizer c.args.by.now) c.loop-at.at c.args.glyphs.now c.loop-at.glyphs c.take_glyph.new.glyphs c.loop-at-test.true c.loop-at.invariant (c.take_glyph.ensures.taken c.if-not-take_glyph.false)
-    (c.take_glyph.ensures.origins c.if-not-take_glyph.false)
+    more_taken (g.N.Normalizing.normalizer c.args.by.now) c.loop-at.at c.take_group-count.result c.args.glyphs.now c.loop-at.glyphs _ c.take_group-count.new.glyphs c.loop-at.invariant (rest_whole c.loop-at.at c.loop-at.glyphs)
+    c.take_group-count.ensures
+
+pub returns-then-count-eq0 : goal.returns-then-count-eq0
+returns-then-count-eq0 g c =
+    none_more (g.N.Normalizing.normalizer c.args.by.now) c.loop-at.at c.take_group-count.result c.args.glyphs.now _ c.if-count-eq0.true
+    (more_taken (g.N.Normalizing.normalizer c.args.by.now) c.loop-at.at c.take_group-count.result c.args.glyphs.now c.loop-at.glyphs _ c.take_group-count.new.glyphs c.loop-at.invariant (rest_whole c.loop-at.at c.loop-at.glyphs)
+    c.take_group-count.ensures)

@@ -1,5 +1,9 @@
-use Rattle.shape_normalize.proofs.Taken.{IsTaking}
+use Rattle.std.proofs.Common.{◌-◌, length}
+use Rattle.shape_normalize.specs.Fronts.{TakesGlyphs}
 use Rattle.shape_normalize.proofs.fronts.take_each.Given as goal
 
 abbrev pub invariant-loop-at : goal.invariant-loop-at
-invariant-loop-at g l = IsTaking (g.N.Normalizing.normalizer l.by) l.at l.initial.glyphs l.glyphs
+invariant-loop-at g l = TakesGlyphs (g.N.Normalizing.normalizer l.by) l.at l.initial.glyphs l.glyphs
+
+abbrev pub decreases-loop-at : goal.decreases-loop-at
+decreases-loop-at g l = length l.glyphs - l.at
