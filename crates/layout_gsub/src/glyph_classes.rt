@@ -12,7 +12,7 @@ use buffer_stages::glyphs::map_glyphs;
 use layout_face::Face;
 
 /// Sets each glyph's properties to its GDEF class, and clears its ligature word (`hb_ot_layout_substitute_start`). It
-/// takes no memory; each glyph takes one search in the font's classes.
+/// takes no memory; each glyph takes one search in the font's classes, and a mark one in its attachment classes.
 pub fn hb_ot_layout_substitute_start(face: &Face, buffer: &mut hb_buffer_t)
     requires { IsReady buffer.old }
     ensures { IsDone (always (with_font_classes face.now)) buffer.old buffer.new }

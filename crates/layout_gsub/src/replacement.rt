@@ -11,22 +11,23 @@ use buffer_glyphs::flags::GlyphPropsFlags;
 use layout_face::Face;
 use layout_match::hb_ot_apply_context_t;
 
-fn props_of_class(class: u16, attachment: u16) -> GlyphPropsFlags
-    ensures { result.0 ≡ props_of_class class attachment }
+/// The properties that GDEF gives a glyph: its class, and for class MARK its attachment class in the second byte. A glyph
+/// of another class takes one search.
+pub fn glyph_props(face: &Face, glyph: u16) -> GlyphPropsFlags
+    ensures { result.0 ≡ glyph_props_of face.now.gdef glyph }
 {
-    match class {
+    match face.glyph_class(glyph) {
         1 => GlyphPropsFlags::BASE_GLYPH,
         2 => GlyphPropsFlags::LIGATURE,
-        3 => GlyphPropsFlags(GlyphPropsFlags::MARK.0 + attachment % 256 * 256),
+        3 => mark_props(face.mark_attachment_class(glyph)),
         _ => GlyphPropsFlags(0),
     }
 }
 
-/// The properties that GDEF gives a glyph: its class, and for class MARK its attachment class in the second byte.
-pub fn glyph_props(face: &Face, glyph: u16) -> GlyphPropsFlags
-    ensures { result.0 ≡ glyph_props_of face.now.gdef glyph }
+fn mark_props(attachment: u16) -> GlyphPropsFlags
+    ensures { result.0 ≡ props_of_class 3 attachment }
 {
-    props_of_class(face.glyph_class(glyph), face.mark_attachment_class(glyph))
+    GlyphPropsFlags(GlyphPropsFlags::MARK.0 + attachment % 256 * 256)
 }
 
 /// The properties of a glyph that replaces one with the properties `old`.
