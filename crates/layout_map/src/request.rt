@@ -1,6 +1,6 @@
 //! One request to the map builder: a feature, or the end of a GSUB stage (rustybuzz: hb/ot_map.rs, enable_feature,
 //! add_feature, disable_feature and add_gsub_pause).
-ghost use Rattle.std.specs.Prelude.{◌≡◌, fold, OnOk};
+ghost use Rattle.std.specs.Prelude.{ℕ, ◌≡◌, ◌<◌, OnErr, OnOk, fold, length, take};
 ghost use Rattle.layout_map.specs.Requests.{with_map_request};
 
 use crate::builder::hb_ot_map_builder_t;
@@ -20,9 +20,10 @@ pub enum MapRequest {
     GsubPause(u8),
 }
 
-/// Adds a feature to the builder, or ends the GSUB stage.
+/// Adds a feature to the builder, or ends the GSUB stage. Where memory is short the builder stays as it was.
 pub fn add_request(builder: &mut hb_ot_map_builder_t, request: MapRequest) -> Result<(), AllocError>
-    ensures { OnOk result (builder.new ≡ with_map_request builder.old request) }
+    ensures ok { OnOk result (builder.new ≡ with_map_request builder.old request) }
+    ensures err { OnErr result (builder.new ≡ builder.old) }
 {
     match request {
         MapRequest::Feature { tag, flags, value } => builder.add_feature(tag, flags, value),
@@ -30,12 +31,14 @@ pub fn add_request(builder: &mut hb_ot_map_builder_t, request: MapRequest) -> Re
     }
 }
 
-/// Adds several requests in order.
+/// Adds several requests in order. Where memory is short it has added those before some request.
 pub fn add_requests(
     builder: &mut hb_ot_map_builder_t,
     requests: &[MapRequest],
 ) -> Result<(), AllocError>
-    ensures { OnOk result (builder.new ≡ fold with_map_request builder.old requests.now) }
+    ensures ok { OnOk result (builder.new ≡ fold with_map_request builder.old requests.now) }
+    ensures err { OnErr result ((n : ℕ) × (n < length requests.now) × (builder.new
+        ≡ fold with_map_request builder.old (take n requests.now))) }
 {
     for &request in requests {
         add_request(builder, request)?;
