@@ -1,6 +1,7 @@
 //! Laws of all buffers.
 ghost use Rattle.std.specs.Prelude.{◌≡◌, ◌≤◌, length, true, false};
 ghost use Rattle.buffer_core.specs.Laws.{DeletesAsWalk, OutputComesBack, ReverseTwice};
+ghost use Rattle.buffer_core.specs.Sides.{after_next_glyphs};
 
 use crate::buffer::hb_buffer_t;
 
@@ -21,12 +22,14 @@ pub fn law_output_comes_back()
     ensures { OutputComesBack }
 {}
 
-/// While the output is in the place of what was read, `next_glyph` succeeds whatever memory is there; answers true.
+/// While the output is in the place of what was read, `next_glyph` succeeds whatever memory is there: so many calls of it
+/// move so many glyphs behind the cursor. It answers true.
 pub fn law_walks_in_place(count: usize, buffer: &mut hb_buffer_t) -> bool
     requires open { buffer.old.is_open ≡ true }
     requires in_place { buffer.old.is_apart ≡ false }
     requires there { count ≤ length buffer.old.ahead }
     ensures walked { result ≡ true }
+    ensures moved { buffer.new ≡ after_next_glyphs count buffer.old }
     ensures open { buffer.new.is_open ≡ true }
     ensures in_place { buffer.new.is_apart ≡ false }
 {
