@@ -2,6 +2,8 @@
 //! `LayoutLookup`).
 ghost use Rattle.std.specs.Prelude.{ℕ, ◌≡◌, Bool, List, false, true, slice_get};
 ghost use Rattle.std.specs.Option.{option_copied};
+ghost use Rattle.layout_map_features.specs.declared.per_table.TableIndex.{TableIndex};
+ghost use Rattle.layout_map_features.specs.declared.per_table.TableIndex.TheVariants.{GPOS, GSUB};
 ghost use Rattle.layout_face.specs.Lookups.{is_reverse, positioning_covers, props_of, substitution_covers};
 
 use crate::positioning::{PositioningLookup, PositioningTable};
@@ -37,8 +39,12 @@ pub trait LayoutTable {
     /// Which of the two tables it is.
     const INDEX: TableIndex;
 
+    ghost INDEX: { TableIndex };
+
     /// Whether its lookups leave the number of glyphs, and so need no output.
     const IN_PLACE: bool;
+
+    ghost IN_PLACE: { Bool };
 
     type Lookup: LayoutLookup;
 
@@ -92,7 +98,11 @@ impl LayoutLookup for PositioningLookup {
 impl LayoutTable for SubstitutionTable {
     const INDEX: TableIndex = TableIndex::GSUB;
 
+    ghost INDEX = { GSUB };
+
     const IN_PLACE: bool = false;
+
+    ghost IN_PLACE = { false };
 
     type Lookup = SubstLookup;
 
@@ -106,7 +116,11 @@ impl LayoutTable for SubstitutionTable {
 impl LayoutTable for PositioningTable {
     const INDEX: TableIndex = TableIndex::GPOS;
 
+    ghost INDEX = { GPOS };
+
     const IN_PLACE: bool = true;
+
+    ghost IN_PLACE = { true };
 
     type Lookup = PositioningLookup;
 
