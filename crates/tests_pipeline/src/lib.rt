@@ -14,6 +14,8 @@ mod dispatch;
 #[cfg(test)]
 mod lines;
 #[cfg(test)]
+mod normalized;
+#[cfg(test)]
 mod planner;
 #[cfg(test)]
 mod plans;

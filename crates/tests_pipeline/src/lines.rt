@@ -1,5 +1,6 @@
 //! Lines of mixed scripts: at both monotone levels their results have slices, which join to the lines.
 use crate::data::{ReadTables, Tables, face_of};
+use crate::rows::part;
 use buffer_common::constants::BufferFlags;
 use buffer_common::direction::Direction;
 use buffer_glyphs::level::BufferClusterLevel;
@@ -26,60 +27,23 @@ const WORDS_IN_LINE: usize = 5;
 // Latin, Greek, Cyrillic, Arabic, Hebrew, Thai, Hangul, Khmer, Myanmar, Balinese, Javanese, Tibetan and Devanagari:
 // marks out of order, characters that decompose and that compose, vowels that are reordered and that are split, broken
 // syllables, a soft hyphen and joiners.
-const WORDS: [&str; 47] = [
-    "office",
-    "a\u{301}\u{323}b",
-    "\u{E6}ffl\u{E9}",
-    "fi\u{AD}fi",
-    "1\u{2044}2",
-    "the\u{B7}the",
-    "\u{1EC7}q\u{307}\u{301}",
-    "\u{3B1}\u{3B2}\u{3B3}",
-    "\u{390}\u{3C2}",
-    "\u{3C9}\u{345}\u{301}",
-    "\u{43F}\u{440}\u{438}\u{432}",
-    "\u{439}\u{438}\u{306}",
-    "\u{644}\u{627}",
-    "\u{628}\u{64B}\u{651}\u{628}\u{644}\u{627}",
-    "\u{633}\u{644}\u{627}\u{645}",
-    "\u{628}\u{200D}\u{627}",
-    "\u{5E9}\u{5C1}\u{5B8}\u{5DC}\u{5D5}\u{5B9}\u{5DD}",
-    "(\u{5D1}\u{5BC}\u{5B0})",
-    "\u{E01}\u{E33}",
-    "\u{E19}\u{E49}\u{E33}",
-    "\u{E1B}\u{E39}\u{E48}",
-    "\u{1100}\u{1161}\u{11A8}",
-    "\u{AC00}\u{11A8}",
-    "\u{AC00}\u{302E}",
-    "\u{D55C}\u{1161}",
-    "\u{1780}\u{17D2}\u{179A}\u{17C4}",
-    "\u{179F}\u{17D2}\u{179A}\u{17BB}\u{1780}",
-    "\u{17C1}",
-    "\u{1781}\u{17D2}\u{1798}\u{17C2}\u{179A}",
-    "\u{1019}\u{103C}\u{1014}\u{103A}",
-    "\u{101E}\u{1004}\u{103A}\u{1039}\u{1018}\u{1031}\u{102C}",
-    "\u{1031}\u{1031}",
-    "\u{1B05}\u{1B35}\u{1B36}",
-    "\u{1B2E}\u{1B3E}\u{1B44}\u{1B2E}",
-    "\u{1B33}\u{1B40}\u{1B2E}",
-    "\u{A98F}\u{A9BA}\u{A9C0}\u{A98F}",
-    "\u{A9B1}\u{A9BA}\u{A9B4}\u{A98F}",
-    "\u{A982}\u{A98F}\u{A9BF}",
-    "\u{F56}\u{F7C}\u{F51}",
-    "\u{F66}\u{F92}\u{FB2}\u{F74}\u{F56}",
-    "\u{F0B}",
-    "\u{939}\u{93F}\u{928}",
-    "\u{930}\u{94D}\u{915}",
-    "\u{915}\u{94D}\u{937}\u{93F}",
-    "\u{3B1}\u{345}\u{301}\u{AD}",
-    "\u{430}\u{301}\u{306}",
-    "\u{F40}\u{F90}\u{FB5}\u{F71}\u{F72}",
-];
+const WORDS: &str =
+    "office;a\u{301}\u{323}b;\u{E6}ffl\u{E9};fi\u{AD}fi;1\u{2044}2;the\u{B7}the;\u{1EC7}q\u{307}\u{301};\
+    \u{3B1}\u{3B2}\u{3B3};\u{390}\u{3C2};\u{3C9}\u{345}\u{301};\u{43F}\u{440}\u{438}\u{432};\
+    \u{439}\u{438}\u{306};\u{644}\u{627};\u{628}\u{64B}\u{651}\u{628}\u{644}\u{627};\
+    \u{633}\u{644}\u{627}\u{645};\u{628}\u{200D}\u{627};\u{5E9}\u{5C1}\u{5B8}\u{5DC}\u{5D5}\u{5B9}\u{5DD};\
+    (\u{5D1}\u{5BC}\u{5B0});\u{E01}\u{E33};\u{E19}\u{E49}\u{E33};\u{E1B}\u{E39}\u{E48};\u{1100}\u{1161}\u{11A8};\
+    \u{AC00}\u{11A8};\u{AC00}\u{302E};\u{D55C}\u{1161};\u{1780}\u{17D2}\u{179A}\u{17C4};\
+    \u{179F}\u{17D2}\u{179A}\u{17BB}\u{1780};\u{17C1};\u{1781}\u{17D2}\u{1798}\u{17C2}\u{179A};\
+    \u{1019}\u{103C}\u{1014}\u{103A};\u{101E}\u{1004}\u{103A}\u{1039}\u{1018}\u{1031}\u{102C};\u{1031}\u{1031};\
+    \u{1B05}\u{1B35}\u{1B36};\u{1B2E}\u{1B3E}\u{1B44}\u{1B2E};\u{1B33}\u{1B40}\u{1B2E};\
+    \u{A98F}\u{A9BA}\u{A9C0}\u{A98F};\u{A9B1}\u{A9BA}\u{A9B4}\u{A98F};\u{A982}\u{A98F}\u{A9BF};\
+    \u{F56}\u{F7C}\u{F51};\u{F66}\u{F92}\u{FB2}\u{F74}\u{F56};\u{F0B};\u{939}\u{93F}\u{928};\
+    \u{930}\u{94D}\u{915};\u{915}\u{94D}\u{937}\u{93F};\u{3B1}\u{345}\u{301}\u{AD};\u{430}\u{301}\u{306};\
+    \u{F40}\u{F90}\u{FB5}\u{F71}\u{F72}";
 
 // A space, nothing, and characters that are ignored: non-joiner, grapheme joiner, zero width space, joiner, selector.
-const SEPARATORS: [&str; 7] = [
-    " ", "", "\u{200C}", "\u{34F}", "\u{200B}", "\u{200D}", "\u{FE0F}",
-];
+const SEPARATORS: &str = " ;;\u{200C};\u{34F};\u{200B};\u{200D};\u{FE0F}";
 
 /// A line by its number: its first word goes through all words, and each next one is as far from the one before, a step
 /// that is no multiple of their number, so that its words differ.
@@ -87,8 +51,8 @@ fn line(alloc: Global, number: usize) -> Result<String, AllocError> {
     let mut line = String::new(alloc);
     for index in 0..WORDS_IN_LINE {
         let at = number.wrapping_add(index.wrapping_mul(number / 47 + 1));
-        line.push_str(SEPARATORS[at % 7])?;
-        line.push_str(WORDS[at % 47])?;
+        line.push_str(part(SEPARATORS, at % 7))?;
+        line.push_str(part(WORDS, at % 47))?;
     }
     Ok(line)
 }
@@ -163,7 +127,7 @@ fn is_sliced(
     let text = text_of(alloc, &line, level, number)?;
     match shape(alloc, face, tables.data(), &[], text) {
         Ok(glyphs) => Ok(has_slices(alloc, &glyphs, &line)?),
-        Err(_) => Ok(false),
+        Err(fault) => Err(fault.cause.into()),
     }
 }
 

@@ -32,6 +32,14 @@ graphemes;glyphs;97,0 769,1 803,2;{"upem":1000,"cmap":[[97,1],[225,8],[769,9],[8
 graphemes;glyphs;97,0 769,1 803,2;{"upem":1000,"cmap":[[97,1],[225,8],[769,9],[803,10]],"h":[[1,500],[8,510]]};1|10|9;decomposing
 graphemes;;97,0;{"cmap":[[97,1]],"gsub":{"scripts":[["DFLT",{"features":[0]},[]]],"features":[["ccmp",[0,1,2,3]]],"lookups":[{"type":"multiple","subtables":[[[1,[1,1,1,1,1,1,1,1,1,1,1,1]]]]},{"type":"multiple","subtables":[[[1,[1,1,1,1,1,1,1,1,1,1,1,1]]]]},{"type":"multiple","subtables":[[[1,[1,1,1,1,1,1,1,1,1,1,1,1]]]]},{"type":"multiple","subtables":[[[1,[1,1,1,1,1,1,1,1,1,1,1,1]]]]}]}};S2 TooLong 0"#;
 
+/// The cause of a refusal, unless it is want of memory.
+fn own_cause(cause: ShapeCause) -> Result<ShapeCause, AllocError> {
+    match cause {
+        ShapeCause::OutOfMemory => Err(AllocError),
+        cause => Ok(cause),
+    }
+}
+
 /// The printed glyphs, or why there are none, with the number of characters that are left.
 fn answer(
     alloc: Global,
@@ -41,7 +49,10 @@ fn answer(
 ) -> Result<String, AllocError> {
     match shaped {
         Ok(glyphs) => glyphs.serialize(alloc, face, flags_of(row)),
-        Err(fault) => format!(in alloc; "{} {}", fault.cause, fault.buffer.len()),
+        Err(fault) => {
+            let cause = own_cause(fault.cause)?;
+            format!(in alloc; "{cause} {}", fault.buffer.len())
+        }
     }
 }
 
@@ -62,10 +73,13 @@ fn greatest_of_text(
     face: &Face,
     tables: Tables<'_>,
     text: UnicodeBuffer,
-) -> Option<u16> {
+) -> Result<Option<u16>, AllocError> {
     match shape(alloc, face, tables.data(), &[], text) {
-        Ok(glyphs) => Some(greatest_glyph(&glyphs)),
-        Err(_) => None,
+        Ok(glyphs) => Ok(Some(greatest_glyph(&glyphs))),
+        Err(fault) => {
+            own_cause(fault.cause)?;
+            Ok(None)
+        }
     }
 }
 
@@ -132,7 +146,7 @@ fn gives_in_context(
     text.guess_segment_properties();
     let line = match shaped_in_context(alloc, face, tables, plan, text) {
         Ok(glyphs) => glyphs.serialize(alloc, face, flags_of(row))?,
-        Err(cause) => format!(in alloc; "{cause} 0")?,
+        Err(cause) => format!(in alloc; "{} 0", own_cause(cause)?)?,
     };
     Ok(line.as_str() == part(row, 4))
 }
@@ -174,7 +188,7 @@ fn gives(alloc: Global, row: &str, face: &Face, tables: Tables<'_>) -> Result<bo
     if part(row, 5) == "decomposing" {
         return gives_decomposed(alloc, row, face, tables);
     }
-    let greatest = greatest_of_text(alloc, face, tables, text_of(alloc, row)?);
+    let greatest = greatest_of_text(alloc, face, tables, text_of(alloc, row)?)?;
     let known = greatest.unwrap_or(0) <= 10;
     let by_itself = gives_by_itself(alloc, row, face, tables)?;
     let planned = gives_planned(alloc, row, face, tables)?;
@@ -199,30 +213,19 @@ fn rows_agree(rt: &impl Abort, alloc: Global, tables: Tables<'_>) -> Result<(), 
 const NESTING: &str =
     r#"{"cmap":[[97,1],[98,2]],"gsub":{"scripts":[["DFLT",{"features":[0]},[]]],"features":[["calt",[0]]],"lookups":[{"type":"chain","subtables":[{"format":"glyphs","rules":[[[2],[1],[],[[0,1]]]]}]},{"type":"single","subtables":[[[1,3]]]}]}}"#;
 
-/// What is left of the budget of a text's nested lookups, where the text is shaped.
-fn left_of_text(
-    alloc: Global,
-    face: &Face,
-    tables: Tables<'_>,
-    text: UnicodeBuffer,
-) -> Option<i32> {
-    match nested_lookups_left(alloc, face, tables.data(), &[], text) {
-        Ok(left) => Some(left),
-        Err(_) => None,
-    }
-}
-
-fn left_of_row(alloc: Global, tables: Tables<'_>, row: &str) -> Result<Option<i32>, Fail> {
+/// What is left of the budget of a row's nested lookups.
+fn left_of_row(alloc: Global, tables: Tables<'_>, row: &str) -> Result<i32, Fail> {
     let face = face_of(alloc, NESTING)?;
-    Ok(left_of_text(alloc, &face, tables, text_of(alloc, row)?))
+    let text = text_of(alloc, row)?;
+    Ok(nested_lookups_left(alloc, &face, tables.data(), &[], text)?)
 }
 
 // The budget of a short text is 16,384.
 fn budgets_are_counted(rt: &impl Abort, alloc: Global, tables: Tables<'_>) -> Result<(), Fail> {
     let none_nested = left_of_row(alloc, tables, "graphemes;;97,0 98,1")?;
-    assert_eq!(rt; none_nested, Some(16_384));
+    assert_eq!(rt; none_nested, 16_384);
     let one_nested = left_of_row(alloc, tables, "graphemes;;98,0 97,1")?;
-    assert_eq!(rt; one_nested, Some(16_383));
+    assert_eq!(rt; one_nested, 16_383);
     Ok(())
 }
 
