@@ -10,7 +10,7 @@ use std::test::Fail;
 
 // Each row has a script, the chosen script of GSUB, if there is one, and the shaper. By the tags of their scripts the nine
 // scripts of India have the Indic shaper, but by those that end in 3 the universal one.
-const ROWS: &str = "Deva;dev3;universal
+static ROWS: &str = "Deva;dev3;universal
 Deva;dev2;indic
 Deva;deva;indic
 Deva;DFLT;default

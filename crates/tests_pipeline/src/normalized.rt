@@ -1,5 +1,5 @@
 //! Texts that are normalized by a plan, with a context and without one.
-ghost use Rattle.std.specs.Prelude.{◌≡◌, false, IfOk};
+ghost use Rattle.std.specs.Prelude.{◌≡◌, false, IfOk, OnOk};
 ghost use Rattle.buffer_stages.specs.Ready.{IsReady};
 
 use crate::data::{ReadTables, TABLES, Tables, face_of};
@@ -24,7 +24,7 @@ use std::test::Fail;
 // its marks alone. By UAX 15 a letter composes with an acute after it (D117), also across a dot below, which has a
 // lesser class (D115); the dot precedes the acute in canonical order (D109); and a composed letter decomposes into both
 // (D68).
-const ROWS: &str = "{\"cmap\":[[97,1],[225,8],[769,9],[803,10]]};a\u{301}\u{E1};\u{E1}\u{E1}
+static ROWS: &str = "{\"cmap\":[[97,1],[225,8],[769,9],[803,10]]};a\u{301}\u{E1};\u{E1}\u{E1}
 {\"cmap\":[[97,1],[225,8],[769,9],[803,10]]};a\u{301}\u{323};\u{E1}\u{323}
 {\"cmap\":[[97,1],[769,9],[803,10]]};a\u{301}\u{E1};a\u{301}a\u{301}
 {\"cmap\":[[97,1],[769,9],[803,10]]};\u{E1}\u{323};a\u{323}\u{301}";
@@ -39,8 +39,19 @@ fn describe(tables: &UnicodeTables, glyphs: &mut [hb_glyph_info_t]) {
     }
 }
 
-/// The characters of a text, with their properties and classes. An output that is opened and closed leaves a position
-/// for each, and the cursor before all.
+/// Opens and closes an output, which leaves a position for each glyph, and the cursor before all.
+fn settle(buffer: &mut hb_buffer_t) -> Result<(), ShapeCause>
+    requires { buffer.old.is_open ≡ false }
+    ensures { OnOk result (IsReady buffer.new) }
+{
+    buffer.clear_output()?;
+    if !buffer.sync()? {
+        return Err(ShapeCause::TooLong);
+    }
+    Ok(())
+}
+
+/// The characters of a text, with their properties and classes.
 fn prepared(alloc: Global, tables: &UnicodeTables, text: &str) -> Result<hb_buffer_t, ShapeCause>
     ensures { IfOk result (λ b. IsReady b) }
 {
@@ -49,10 +60,7 @@ fn prepared(alloc: Global, tables: &UnicodeTables, text: &str) -> Result<hb_buff
         return Err(ShapeCause::TooLong);
     }
     describe(tables, buffer.info_slice_mut());
-    buffer.clear_output()?;
-    if !buffer.sync()? {
-        return Err(ShapeCause::TooLong);
-    }
+    settle(&mut buffer)?;
     Ok(buffer)
 }
 

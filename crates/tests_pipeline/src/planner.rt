@@ -17,23 +17,32 @@ use std::alloc::{AllocError, Global};
 use std::test::Fail;
 
 /// A font without GPOS.
-const FONT: &str = r#"{"cmap":[[97,1]]}"#;
+static FONT: &str = r#"{"cmap":[[97,1]]}"#;
 
-/// A map without the feature stch: Arabic data is of no stretched words, and Thai has none.
-fn makes_data(map: &hb_ot_map_t) -> bool {
-    let arabic = match ARABIC_SHAPER.create_data(map, None) {
+/// Arabic data of a map without the feature stch is of no stretched words.
+fn makes_arabic_data(map: &hb_ot_map_t) -> bool {
+    match ARABIC_SHAPER.create_data(map, None) {
         Ok(hb_script_plan_data_t::Arabic(masks)) => !masks.has_stch,
         _ => false,
-    };
-    let indic = match INDIC_SHAPER.create_data(map, None) {
+    }
+}
+
+fn makes_indic_data(map: &hb_ot_map_t) -> bool {
+    match INDIC_SHAPER.create_data(map, None) {
         Ok(hb_script_plan_data_t::Indic(_)) => true,
         _ => false,
-    };
-    let thai = match THAI_SHAPER.create_data(map, None) {
+    }
+}
+
+fn makes_no_thai_data(map: &hb_ot_map_t) -> bool {
+    match THAI_SHAPER.create_data(map, None) {
         Ok(hb_script_plan_data_t::None) => true,
         _ => false,
-    };
-    arabic && indic && thai
+    }
+}
+
+fn makes_data(map: &hb_ot_map_t) -> bool {
+    makes_arabic_data(map) && makes_indic_data(map) && makes_no_thai_data(map)
 }
 
 /// A planner has its shaper's choices of marks, and its plan the planner's.

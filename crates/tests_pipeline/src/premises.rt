@@ -1,31 +1,23 @@
 //! Texts that are regular, and those of which one condition fails.
+use crate::data::face_of;
 use buffer_unicode_tables::UnicodeTables;
-use layout_face::Face;
-use serde_json::Value;
 use shape_premises::{are_equivalent, has_full_expansion, has_short_runs, is_regular};
-use shell_face_json::read_face;
-use shell_tables_json::read_tables;
+use shell_readers::tables::{TextTables, tables_in};
 use std::alloc::Global;
 use std::test::Fail;
 
 // U+1026 is U+1025 with U+102E, and U+1B06 is U+1B05 with U+1B34; U+0301 is a mark above.
-const TABLES: &str =
+static TABLES: &str =
     "{\"splits\":[[4134,4133,4142],[6918,6917,6964]],\"classes\":[[769,230],[6964,7],[6980,9]]}";
 
 // The characters of the decompositions, without the composites.
-const FONT: &str = "{\"cmap\":[[4133,1],[4142,2],[4150,3],[6917,4],[6964,5],[6980,6]]}";
+static FONT: &str = "{\"cmap\":[[4133,1],[4142,2],[4150,3],[6917,4],[6964,5],[6980,6]]}";
 
 // A composite, without the first half of its decomposition.
-const POOR_FONT: &str = "{\"cmap\":[[4134,1],[4142,2],[4150,3]]}";
+static POOR_FONT: &str = "{\"cmap\":[[4134,1],[4142,2],[4150,3]]}";
 
-fn face_of(alloc: Global, text: &str) -> Result<Face, Fail> {
-    let value = Value::from_str(alloc, text)?;
-    Ok(read_face(alloc, &value)?)
-}
-
-fn tables_of(alloc: Global, text: &str) -> Result<UnicodeTables, Fail> {
-    let value = Value::from_str(alloc, text)?;
-    Ok(read_tables(alloc, &value)?)
+fn read_tables(alloc: Global) -> Result<TextTables, Fail> {
+    Ok(tables_in(alloc, TABLES.as_bytes())?)
 }
 
 fn passes_with(alloc: Global, tables: &UnicodeTables, text: &str) -> Result<bool, Fail> {
@@ -34,12 +26,12 @@ fn passes_with(alloc: Global, tables: &UnicodeTables, text: &str) -> Result<bool
 }
 
 fn passes(alloc: Global, text: &str) -> Result<bool, Fail> {
-    let tables = tables_of(alloc, TABLES)?;
-    passes_with(alloc, &tables, text)
+    let tables = read_tables(alloc)?;
+    passes_with(alloc, &tables.characters, text)
 }
 
 // The first two are equivalent, and so are the last two.
-const REGULAR: &str =
+static REGULAR: &str =
     "\u{1026}\u{1036}\n\u{1025}\u{102E}\u{1036}\n\u{1B05}\u{1B34}\u{1B44}\n\u{1B05}\u{1B44}\u{1B34}";
 
 #[test]
@@ -52,7 +44,7 @@ fn regular_texts(rt: HostRuntime) -> Result<(), Fail> {
 }
 
 // A mark at first, no mark after the first character, a variation selector, and a character that the font lacks.
-const IRREGULAR: &str =
+static IRREGULAR: &str =
     "\u{1036}\u{1025}\u{102E}\n\u{1026}\n\u{1025}\u{102E}\u{FE00}\n\u{1025}\u{102E}\u{1037}";
 
 #[test]
@@ -70,8 +62,8 @@ fn has_halves_with(alloc: Global, tables: &UnicodeTables, text: &str) -> Result<
 }
 
 fn has_halves(alloc: Global, text: &str) -> Result<bool, Fail> {
-    let tables = tables_of(alloc, TABLES)?;
-    has_halves_with(alloc, &tables, text)
+    let tables = read_tables(alloc)?;
+    has_halves_with(alloc, &tables.characters, text)
 }
 
 #[test]
@@ -91,9 +83,9 @@ fn with_marks(alloc: Global, count: usize) -> Result<String, Fail> {
 }
 
 fn is_short(alloc: Global, count: usize) -> Result<bool, Fail> {
-    let tables = tables_of(alloc, TABLES)?;
+    let tables = read_tables(alloc)?;
     let text = with_marks(alloc, count)?;
-    Ok(has_short_runs(&tables, &text))
+    Ok(has_short_runs(&tables.characters, &text))
 }
 
 #[test]
@@ -119,8 +111,8 @@ fn agree_with(
 }
 
 fn agree(alloc: Global, first: &str, second: &str) -> Result<Option<bool>, Fail> {
-    let tables = tables_of(alloc, TABLES)?;
-    agree_with(alloc, &tables, first, second)
+    let tables = read_tables(alloc)?;
+    agree_with(alloc, &tables.characters, first, second)
 }
 
 // A decomposition, and marks of two classes in another order.

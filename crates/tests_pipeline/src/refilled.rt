@@ -16,7 +16,7 @@ use std::test::Fail;
 const NUMBERS: SerializeFlags = SerializeFlags(4);
 
 // f and i become a ligature. b becomes 12 times 12 times 12 times 12 glyphs, more than one character may become.
-const FONT: &str =
+static FONT: &str =
     r#"{"upem":1000,"cmap":[[97,1],[98,2],[102,3],[105,4]],"h":[[1,500],[2,600],[3,300],[4,250],[7,520]],"gsub":{"scripts":[["DFLT",{"features":[0,1]},[]]],"features":[["liga",[0]],["ccmp",[1,2,3,4]]],"lookups":[{"type":"ligature","subtables":[[[3,[[[4],7]]]]]},{"type":"multiple","subtables":[[[2,[2,2,2,2,2,2,2,2,2,2,2,2]]]]},{"type":"multiple","subtables":[[[2,[2,2,2,2,2,2,2,2,2,2,2,2]]]]},{"type":"multiple","subtables":[[[2,[2,2,2,2,2,2,2,2,2,2,2,2]]]]},{"type":"multiple","subtables":[[[2,[2,2,2,2,2,2,2,2,2,2,2,2]]]]}]}}"#;
 
 /// A text with settings that a new buffer has not.
@@ -74,17 +74,26 @@ fn line_after(
     }
 }
 
-fn lines_follow(rt: &impl Abort, alloc: Global, tables: Tables<'_>) -> Result<(), Fail> {
-    let face = face_of(alloc, FONT)?;
+fn lines_follow(
+    rt: &impl Abort,
+    alloc: Global,
+    face: &Face,
+    tables: Tables<'_>,
+) -> Result<(), Fail> {
     for first in ["b", "afi"] {
-        let line = line_after(alloc, &face, tables, first)?;
+        let line = line_after(alloc, face, tables, first)?;
         assert!(rt; line.as_str() == "1=0+500|7=1+520", "{first}");
     }
     Ok(())
 }
 
+fn lines_follow_in_font(rt: &impl Abort, alloc: Global, tables: Tables<'_>) -> Result<(), Fail> {
+    let face = face_of(alloc, FONT)?;
+    lines_follow(rt, alloc, &face, tables)
+}
+
 #[test]
 fn refused_buffers_are_filled_again(rt: HostRuntime) -> Result<(), Fail> {
     let tables = ReadTables::from_text(rt.alloc(), TABLES)?;
-    lines_follow(&rt, rt.alloc(), tables.borrowed())
+    lines_follow_in_font(&rt, rt.alloc(), tables.borrowed())
 }

@@ -23,7 +23,7 @@ use std::test::Fail;
 // and at level Characters. A mark composes with its letter, also across a mark of a lesser class; with a shaper
 // that prefers decomposed characters marks are only sorted by class. One character may become at most 16,384 glyphs,
 // and the text's buffer is returned empty.
-const ROWS: &str =
+static ROWS: &str =
     r#"graphemes;;97,0 102,1 105,2;{"upem":1000,"cmap":[[97,1],[102,3],[105,4]],"h":[[1,500],[3,300],[4,250],[7,520]],"gsub":{"scripts":[["DFLT",{"features":[0]},[]]],"features":[["liga",[0]]],"lookups":[{"type":"ligature","subtables":[[[3,[[[4],7]]]]]}]}};1=0+500|7=1+520
 characters;;102,10 105,40;{"upem":1000,"cmap":[[97,1],[102,3],[105,4]],"h":[[1,500],[3,300],[4,250],[7,520]],"gsub":{"scripts":[["DFLT",{"features":[0]},[]]],"features":[["liga",[0]]],"lookups":[{"type":"ligature","subtables":[[[3,[[[4],7]]]]]}]}};7=10+520
 monotone;;;{};
@@ -210,14 +210,18 @@ fn rows_agree(rt: &impl Abort, alloc: Global, tables: Tables<'_>) -> Result<(), 
 }
 
 // A context whose rule applies one lookup to the last of its two glyphs.
-const NESTING: &str =
+static NESTING: &str =
     r#"{"cmap":[[97,1],[98,2]],"gsub":{"scripts":[["DFLT",{"features":[0]},[]]],"features":[["calt",[0]]],"lookups":[{"type":"chain","subtables":[{"format":"glyphs","rules":[[[2],[1],[],[[0,1]]]]}]},{"type":"single","subtables":[[[1,3]]]}]}}"#;
 
-/// What is left of the budget of a row's nested lookups.
+/// What is left of the budget of a row's nested lookups, in a font.
+fn left_in_font(alloc: Global, face: &Face, tables: Tables<'_>, row: &str) -> Result<i32, Fail> {
+    let text = text_of(alloc, row)?;
+    Ok(nested_lookups_left(alloc, face, tables.data(), &[], text)?)
+}
+
 fn left_of_row(alloc: Global, tables: Tables<'_>, row: &str) -> Result<i32, Fail> {
     let face = face_of(alloc, NESTING)?;
-    let text = text_of(alloc, row)?;
-    Ok(nested_lookups_left(alloc, &face, tables.data(), &[], text)?)
+    left_in_font(alloc, &face, tables, row)
 }
 
 // The budget of a short text is 16,384.
