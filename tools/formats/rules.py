@@ -176,7 +176,8 @@ def pairs(where: str, subtable: Any, count: int) -> Faults:
     records = subtable.get("records", [])
     if not list_of(word)(subtable.get("first", [])):
         yield f"{where}: first"
-    shortest = min((len(row) for row in records), default=0)
+    # Without records no second class is past its list, as no class of a mark is without anchors.
+    shortest = min((len(row) for row in records), default=0x10000)
     yield from rows(f"{where} class1", subtable.get("class1", []), row_of(word, below(len(records))), first)
     yield from rows(f"{where} class2", subtable.get("class2", []), row_of(word, below(shortest)), first)
     yield from rows(f"{where} records", records, list_of(row_of(value_record, or_null(value_record))), None)

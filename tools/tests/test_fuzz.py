@@ -52,6 +52,14 @@ class Drawn(unittest.TestCase):
             for table in (system, {"lookups": wrong}, {"lookups": [{"type": "single", "subtables": wrong}]}):
                 self.assertEqual(len(list(font_faults({"gsub": table}))), 1, table)
 
+    def test_a_second_class_without_records_is_in_range(self) -> None:
+        """Where there is no list of records a second class is past none; a first class is past the empty list."""
+        pairs = {"first": [1], "class1": [], "class2": [[1, 1]], "records": []}
+        for subtable, count in ((pairs, 0), ({**pairs, "class1": [[1, 0]]}, 1), ({**pairs, "records": [[]]}, 1)):
+            lookup = {"type": "pair", "flags": 0, "subtables": [subtable]}
+            table = {"scripts": [], "features": [], "lookups": [lookup]}
+            self.assertEqual(len(list(font_faults({"gpos": table}))), count, subtable)
+
     def test_every_kind_of_lookup_is_drawn(self) -> None:
         """Among a few fonts there is each type of each table."""
         kinds = set()
