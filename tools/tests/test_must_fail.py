@@ -80,5 +80,21 @@ class MustFail(unittest.TestCase):
             cli.main(["high"])
 
 
+class Standing(unittest.TestCase):
+    """The edits of this repository that the gate leaves out."""
+
+    def test_can_be_applied(self) -> None:
+        """What an edit changes stands once in its file. (Of the gate's own edits rt says so.)"""
+        for edits in cli.chosen_edits([]).values():
+            for edit in edits:
+                text = ""
+                for line in edit.read_text(encoding="utf-8").splitlines():
+                    key, _, what = line.partition(": ")
+                    if key == "file":
+                        text = (cli.ROOT / "crates" / edit.parent.name / what).read_text(encoding="utf-8")
+                    elif key == "old":
+                        self.assertEqual(text.count(what), 1, f"{edit.name}: {what}")
+
+
 if __name__ == "__main__":
     unittest.main()
