@@ -35,12 +35,12 @@ pub struct hb_glyph_info_t {
     pub cluster: u32,
     /// The glyph of the font that a character is mapped to.
     pub glyph_index: u32,
-    pub unicode_props: UnicodeProps,
-    /// The modified combining class of a combining mark, or the fallback type of a space.
-    pub modified_combining_class: u8,
-    pub glyph_props: GlyphPropsFlags,
     /// The ligature word: the ligature that the glyph is or belongs to, and its component.
     pub lig_props: u32,
+    pub unicode_props: UnicodeProps,
+    pub glyph_props: GlyphPropsFlags,
+    /// The modified combining class of a combining mark, or the fallback type of a space.
+    pub modified_combining_class: u8,
     pub syllable: u8,
     pub category: u8,
     pub auxiliary: u8,
