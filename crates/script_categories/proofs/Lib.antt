@@ -1,4 +1,5 @@
 pub mod Tables
 pub mod Texts
 pub mod Rising
+pub mod Guesses
 pub mod Walks

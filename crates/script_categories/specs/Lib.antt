@@ -7,6 +7,7 @@ pub mod Shapers
 pub mod Thai
 pub mod Universal
 pub mod Fronts
+pub mod Gaps
 pub mod Inside
 pub mod Machines
 pub mod Sound

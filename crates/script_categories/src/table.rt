@@ -10,7 +10,8 @@ use crate::hb_ot_script_shaper_t::{
     self, INDIC_SHAPER, KHMER_SHAPER, MYANMAR_SHAPER, UNIVERSAL_SHAPER,
 };
 use crate::machine::SyllableMachines;
-use crate::scan::{Front, longest_front};
+use crate::row_guesses::RowGuesses;
+use crate::scan::{Front, longest_front_near};
 use crate::spans::SyllableSpans;
 use buffer_unicode::TablesFault;
 use std::marker::Model;
@@ -19,6 +20,28 @@ use std::marker::Model;
 #[derive(Drop)]
 pub struct SyllableTable {
     machines: SyllableMachines,
+    /// Where the rows of each machine stand; of no meaning for what is found.
+    guesses: MachineGuesses,
+}
+
+/// Where the rows of the machines stand.
+#[derive(Clone, Copy)]
+struct MachineGuesses {
+    indic: RowGuesses,
+    khmer: RowGuesses,
+    myanmar: RowGuesses,
+    universal: RowGuesses,
+}
+
+impl MachineGuesses {
+    fn of_machines(machines: &SyllableMachines) -> MachineGuesses {
+        MachineGuesses {
+            indic: RowGuesses::of_machine(&machines.indic),
+            khmer: RowGuesses::of_machine(&machines.khmer),
+            myanmar: RowGuesses::of_machine(&machines.myanmar),
+            universal: RowGuesses::of_machine(&machines.universal),
+        }
+    }
 }
 
 impl Model for SyllableTable {
@@ -43,7 +66,10 @@ impl SyllableTable {
         ensures refused { IfErr result (λ e. machines_fault (machines_in machines) ≡ Some e) }
     {
         match machines_fault(&machines) {
-            None => Ok(SyllableTable { machines }),
+            None => Ok(SyllableTable {
+                guesses: MachineGuesses::of_machines(&machines),
+                machines,
+            }),
             Some(fault) => Err(fault),
         }
     }
@@ -53,7 +79,10 @@ impl SyllableTable {
         requires { AreRising (machines_in machines) }
         ensures { result ≡ machines_in machines }
     {
-        SyllableTable { machines }
+        SyllableTable {
+            guesses: MachineGuesses::of_machines(&machines),
+            machines,
+        }
     }
 
     fn front(&self, shaper: hb_ot_script_shaper_t, categories: &[u8]) -> Option<Front>
@@ -61,10 +90,26 @@ impl SyllableTable {
         ensures within { IfSome result (λ f. (0 < f.length) × (f.length ≤ length categories.now)) }
     {
         match shaper {
-            INDIC_SHAPER => longest_front(&self.machines.indic, categories),
-            KHMER_SHAPER => longest_front(&self.machines.khmer, categories),
-            MYANMAR_SHAPER => longest_front(&self.machines.myanmar, categories),
-            UNIVERSAL_SHAPER => longest_front(&self.machines.universal, categories),
+            INDIC_SHAPER => longest_front_near(
+                &self.machines.indic,
+                &self.guesses.indic,
+                categories,
+            ),
+            KHMER_SHAPER => longest_front_near(
+                &self.machines.khmer,
+                &self.guesses.khmer,
+                categories,
+            ),
+            MYANMAR_SHAPER => longest_front_near(
+                &self.machines.myanmar,
+                &self.guesses.myanmar,
+                categories,
+            ),
+            UNIVERSAL_SHAPER => longest_front_near(
+                &self.machines.universal,
+                &self.guesses.universal,
+                categories,
+            ),
             _ => None,
         }
     }

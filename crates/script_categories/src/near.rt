@@ -1,0 +1,56 @@
+//! The search for a row by its key, from a guess of its index.
+ghost use Rattle.std.specs.Prelude.{◌≡◌, None, true, find, slice_get};
+ghost use Rattle.buffer_unicode.specs.Keys.{is_at, is_rising};
+ghost use Rattle.script_categories.specs.Gaps.{is_ahead, is_passed};
+
+use buffer_unicode::{Keyed, find_row};
+
+/// The row with a key: at once where it stands at the guessed index, or would stand there, else by a binary search.
+#[tactic(auto, using(crate::proofs::Guesses::found_there))]
+pub(crate) fn find_row_near<R: Keyed>(rows: &[R], high: u32, low: u32, guess: usize) -> Option<R>
+    requires { is_rising R.high R.low rows.now ≡ true }
+    ensures { result ≡ find (is_at R.high R.low high low) rows.now }
+{
+    if let Some(row) = rows.get(guess)
+        && row.high() == high
+        && row.low() == low
+    {
+        return Some(*row);
+    }
+    if is_gap(rows, high, low, guess) {
+        return None;
+    }
+    find_row(rows, high, low)
+}
+
+/// Whether a key is between the row before an index and the row at it, so that no row has it.
+#[tactic(auto, using(crate::proofs::Guesses::none_ahead, crate::proofs::Guesses::none_between))]
+fn is_gap<R: Keyed>(rows: &[R], high: u32, low: u32, index: usize) -> bool
+    requires { is_rising R.high R.low rows.now ≡ true }
+    ensures { result ≡ true → find (is_at R.high R.low high low) rows.now ≡ None }
+{
+    if index == 0 {
+        return is_ahead(rows, high, low, 0);
+    }
+    is_passed(rows, high, low, index - 1) && is_ahead(rows, high, low, index)
+}
+
+/// Whether the row at an index is after a key, or no row stands there.
+fn is_ahead<R: Keyed>(rows: &[R], high: u32, low: u32, index: usize) -> bool
+    ensures { result ≡ is_ahead R.high R.low high low (slice_get rows.now index) }
+{
+    match rows.get(index) {
+        Some(row) => high < row.high() || (high == row.high() && low < row.low()),
+        None => true,
+    }
+}
+
+/// Whether the row at an index is before a key.
+fn is_passed<R: Keyed>(rows: &[R], high: u32, low: u32, index: usize) -> bool
+    ensures { result ≡ is_passed R.high R.low high low (slice_get rows.now index) }
+{
+    match rows.get(index) {
+        Some(row) => row.high() < high || (row.high() == high && row.low() < low),
+        None => false,
+    }
+}
