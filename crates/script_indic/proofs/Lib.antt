@@ -2,3 +2,4 @@ mod Composed
 mod Flagless
 pub mod Keeping
 pub mod Splits
+pub mod Missing

@@ -47,9 +47,13 @@ impl<'a> FontForms<'a> {
     }
 
     /// Whether a feature would form two glyphs.
+    #[tactic(auto, using(crate::proofs::Missing::forms_nothing))]
     fn forms_two(&self, feature: &IndicWouldSubstituteFeature, first: u32, second: u32) -> bool
         ensures { result ≡ is_formed feature.now self.now.map.now self.now.face.now (first ∷ second ∷ []) }
     {
+        if feature.is_missing() {
+            return false;
+        }
         let (Ok(first), Ok(second)) = (u16::try_from(first), u16::try_from(second)) else {
             return false;
         };

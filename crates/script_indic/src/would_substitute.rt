@@ -1,5 +1,6 @@
 //! Whether a feature would form glyphs (rustybuzz: hb/ot_shaper_indic.rs, `IndicWouldSubstituteFeature`).
 ghost use Rattle.std.specs.Prelude.{◌≡◌};
+ghost use Rattle.std.specs.Option.{is_none};
 ghost use Rattle.script_indic.specs.WouldSubstitute.{any_would, font_lookup_would, substitute_feature, would_substitute};
 
 use buffer_common::tag::Tag;
@@ -27,6 +28,16 @@ impl IndicWouldSubstituteFeature {
         IndicWouldSubstituteFeature {
             stage: map.get_feature_stage(TableIndex::GSUB, tag),
             zero_context,
+        }
+    }
+
+    /// Whether the map has no such feature, which then forms nothing.
+    pub(crate) fn is_missing(&self) -> bool
+        ensures { result ≡ is_none self.now.stage }
+    {
+        match self.stage {
+            Some(_) => false,
+            None => true,
         }
     }
 
