@@ -16,6 +16,7 @@ use layout_map::map::hb_ot_map_t;
 /// linear time and no memory.
 pub fn record_stch(map: &hb_ot_map_t, buffer: &mut hb_buffer_t) -> Result<bool, ShapeCause>
     requires ready { IsReady buffer.old }
+    ensures answers { result ≡ Ok false }
     ensures ok { OnOk result (IsDone (tiles_recorded (has_mask (codes "stch") map.now)) buffer.old buffer.new) }
     ensures inserts_none { IfOk result (λ inserted. inserted ≡ false) }
     ensures brings_none { result ≡ Ok false → BringsNoGlyph (items_of buffer.old) (items_of buffer.new) }

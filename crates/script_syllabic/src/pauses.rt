@@ -39,6 +39,7 @@ pub fn setup_syllables<S: SyllableSpans>(
 /// Sets the syllable byte of each glyph to 0 (`hb_syllabic_clear_var`). Returns false. It takes linear time and no memory.
 pub fn clear_syllables(buffer: &mut hb_buffer_t) -> Result<bool, ShapeCause>
     requires ready { IsReady buffer.old }
+    ensures answers { result ≡ Ok false }
     ensures ok { OnOk result (IsDone syllables_cleared buffer.old buffer.new) }
     ensures inserts_none { IfOk result (λ inserted. inserted ≡ false) }
     ensures brings_none { result ≡ Ok false → BringsNoGlyph (items_of buffer.old) (items_of buffer.new) }
@@ -52,6 +53,7 @@ pub fn clear_syllables(buffer: &mut hb_buffer_t) -> Result<bool, ShapeCause>
 /// memory.
 pub fn clear_substitution_flags(buffer: &mut hb_buffer_t) -> Result<bool, ShapeCause>
     requires ready { IsReady buffer.old }
+    ensures answers { result ≡ Ok false }
     ensures ok { OnOk result (IsDone substitutions_cleared buffer.old buffer.new) }
     ensures inserts_none { IfOk result (λ inserted. inserted ≡ false) }
     ensures brings_none { result ≡ Ok false → BringsNoGlyph (items_of buffer.old) (items_of buffer.new) }
