@@ -17,7 +17,8 @@ use layout_match::{hb_ot_apply_context_t, match_t, skipping_iterator_t};
 
 /// The parameters of applying one lookup, with glyphs of class MARK skipped instead of its flag.
 pub fn without_marks<'a>(ctx: &hb_ot_apply_context_t<'a>) -> hb_ot_apply_context_t<'a>
-    ensures { apply_context_of result ≡ without_marks (apply_context_of ctx.now) }
+    ensures applied { apply_context_of result ≡ without_marks (apply_context_of ctx.now) }
+    ensures state { result.random_state ≡ ctx.now.random_state }
 {
     let mut other = *ctx;
     other.lookup_props = u32::from(IGNORE_MARKS);
@@ -26,7 +27,8 @@ pub fn without_marks<'a>(ctx: &hb_ot_apply_context_t<'a>) -> hb_ot_apply_context
 
 /// The parameters of applying one lookup, with no class skipped.
 pub fn among_marks<'a>(ctx: &hb_ot_apply_context_t<'a>) -> hb_ot_apply_context_t<'a>
-    ensures { apply_context_of result ≡ among_marks (apply_context_of ctx.now) }
+    ensures applied { apply_context_of result ≡ among_marks (apply_context_of ctx.now) }
+    ensures state { result.random_state ≡ ctx.now.random_state }
 {
     let mut other = *ctx;
     other.lookup_props -= other.lookup_props & u32::from(IGNORE_FLAGS);

@@ -9,5 +9,5 @@ pub returns-clause-found : goal.returns-clause-found
 returns-clause-found c =
     let s = c.args.buffer.now in
     went_on c.args.sought (apply_context_of c.args.ctx.now) (search_of c.own_search-search.result) c.args.last (c.out_len.result - c.args.last.before) c.loop-at.at c.farther.result s c.requires.since c.requires.kept
-    (ap (λ (n : ℕ). n - c.args.last.before) c.out_len.ensures) (omega (arith, c.loop-at-test.false)) (omega (arith, c.loop-at.auto.at-end)) (c.own_search-search.ensures ∙ ap (λ (k : ApplyContext). own_search k (strip s.ahead)) c.without_marks.ensures)
+    (ap (λ (n : ℕ). n - c.args.last.before) c.out_len.ensures) (omega (arith, c.loop-at-test.false)) (omega (arith, c.loop-at.auto.at-end)) (c.own_search-search.ensures ∙ ap (λ (k : ApplyContext). own_search k (strip s.ahead)) c.without_marks.ensures.applied)
     c.loop-at.invariant c.farther.ensures
