@@ -1,5 +1,5 @@
 -- Characters at the front of a text that get their glyphs before the walk over the others.
-use Rattle.std.proofs.Common.{ℕ, ◌≡◌, ◌≢◌, ◌≤◌, ◌<◌, ◌+◌, ◌-◌, ◌&&◌, ◌||◌, Bool, false, true, List, [], ◌∷◌, ◌++◌, Option, Some, None, length, map, take, drop, refl, sym, ap, ap₂, subst, ◌∙◌, append_assoc, arith}
+use Rattle.std.proofs.Common.{ℕ, ◌≡◌, ◌≢◌, ◌≤◌, ◌<◌, ◌+◌, ◌-◌, ◌&&◌, ◌||◌, Bool, false, true, List, [], ◌∷◌, ◌++◌, Option, Some, None, get_or, length, map, take, drop, refl, sym, ap, ap₂, subst, ◌∙◌, append_assoc, arith}
 use Rattle.std.specs.Prelude.{slice_set, suc, unwrap_or, is_some, is_none, if◌then◌else◌}
 use Rattle.std.specs.List.{list_all, list_any, prefix_len}
 use Rattle.std.proofs.lemmas.Bool.{and_parts, cond-true, cond-false}
@@ -27,7 +27,7 @@ use Rattle.buffer_stages.specs.Appending.{AppendsArrangement, RefusesRoomFor, fr
 use Rattle.buffer_stages.specs.Ready.{IsReady}
 use Rattle.buffer_stages.specs.Stages.{Becomes}
 use Rattle.buffer_stages.specs.Lemmas.Written.{written_all, written_becomes}
-use Rattle.shape_normalize.specs.Fronts.{StaysWhole, TakesFront, TakesGlyphs, expansion_after, glyph_with_own, is_undecomposed, is_whole}
+use Rattle.shape_normalize.specs.Fronts.{StaysWhole, TakesFront, TakesGlyphs, expansion_after, glyph_with_index, glyph_with_own, is_undecomposed, is_whole, is_whole_character}
 use Rattle.shape_normalize.specs.Rounds.{IsArranged}
 use Rattle.shape_normalize.proofs.Joined.{list_overfills}
 use Rattle.shape_normalize.proofs.Lemmas.Chain.{beside_assoc, brought_then, in_turn_both, none_beside, overfills_behind}
@@ -157,26 +157,24 @@ given_group c k hs g gs given e count stays is =
 
 -- ---- a character without marks
 
-pub no_glyph : (c : Normalizer) (g : hb_glyph_info_t) → c.glyph_of g.glyph_id ≡ None → None ≡ (if is_whole c (reach_alone c.mode) (item_of g) then Some (glyph_with_own c g) else None)
-no_glyph c g none = sym (cond-false _ _ _ (ap (λ o. is_some o && is_undecomposed (reach_alone c.mode) (c.splits g.glyph_id)) none))
+pub no_glyph : (c : Normalizer) (u : ℕ) → c.glyph_of u ≡ None → None ≡ (if is_whole_character c (reach_alone c.mode) u then c.glyph_of u else None)
+no_glyph c u none = sym (cond-false _ _ _ (ap (λ o. is_some o && is_undecomposed (reach_alone c.mode) (c.splits u)) none))
 
-pub split_glyph : (c : Normalizer) (n : ℕ) (g : hb_glyph_info_t) → c.glyph_of g.glyph_id ≡ Some n → is_undecomposed (reach_alone c.mode) (c.splits g.glyph_id) ≡ false
-    → None ≡ (if is_whole c (reach_alone c.mode) (item_of g) then Some (glyph_with_own c g) else None)
-split_glyph c n g found splits = sym (cond-false _ _ _ (ap₂ (λ o b. is_some o && b) found splits))
+pub split_glyph : (c : Normalizer) (n u : ℕ) → c.glyph_of u ≡ Some n → is_undecomposed (reach_alone c.mode) (c.splits u) ≡ false → None ≡ (if is_whole_character c (reach_alone c.mode) u then c.glyph_of u else None)
+split_glyph c n u found splits = sym (cond-false _ _ _ (ap₂ (λ o b. is_some o && b) found splits))
 
-pub own_glyph : (c : Normalizer) (n : ℕ) (g : hb_glyph_info_t) → c.glyph_of g.glyph_id ≡ Some n → is_undecomposed (reach_alone c.mode) (c.splits g.glyph_id) ≡ true
-    → Some (record g { glyph_index = n }) ≡ (if is_whole c (reach_alone c.mode) (item_of g) then Some (glyph_with_own c g) else None)
-own_glyph c n g found stays = ap (λ o. Some (record g { glyph_index = unwrap_or o 0 })) (sym found) ∙ sym (cond-true _ _ _ (ap₂ (λ o b. is_some o && b) found stays))
+pub own_glyph : (c : Normalizer) (n u : ℕ) → c.glyph_of u ≡ Some n → is_undecomposed (reach_alone c.mode) (c.splits u) ≡ true → Some n ≡ (if is_whole_character c (reach_alone c.mode) u then c.glyph_of u else None)
+own_glyph c n u found stays = sym found ∙ sym (cond-true _ _ _ (ap₂ (λ o b. is_some o && b) found stays))
 
-pub lone_taken : (c : Normalizer) (k : ℕ) (hs : List hb_glyph_info_t) (g h : hb_glyph_info_t) (gs : List hb_glyph_info_t) → hs ≡ g ∷ gs → k ≡ prefix_len (λ (g : hb_glyph_info_t). is_mark (item_of g)) gs → k + 1 ≡ 1
-    → Some h ≡ (if is_whole c (reach_alone c.mode) (item_of g) then Some (glyph_with_own c g) else None) → TakesGlyphs c 1 hs (slice_set hs 0 h)
-lone_taken c k hs g h gs e count one found = by_case (is_whole c (reach_alone c.mode) (item_of g)) refl
+pub lone_taken : (c : Normalizer) (k n : ℕ) (hs : List hb_glyph_info_t) (g h d : hb_glyph_info_t) (gs : List hb_glyph_info_t) → hs ≡ g ∷ gs → k ≡ prefix_len (λ (g : hb_glyph_info_t). is_mark (item_of g)) gs → k + 1 ≡ 1
+    → Some n ≡ (if is_whole_character c (reach_alone c.mode) g.glyph_id then c.glyph_of g.glyph_id else None) → h ≡ glyph_with_index n (get_or hs 0 d) → TakesGlyphs c 1 hs (slice_set hs 0 h)
+lone_taken c k n hs g h d gs e count one found given = by_case (is_whole_character c (reach_alone c.mode) g.glyph_id) refl
   where
-    by_case : (t : Bool) → is_whole c (reach_alone c.mode) (item_of g) ≡ t → TakesGlyphs c 1 hs (slice_set hs 0 h)
-    by_case false w = absurd (let bad : Some h ≡ None = found ∙ cond-false _ _ _ w in cc)
+    by_case : (t : Bool) → is_whole_character c (reach_alone c.mode) g.glyph_id ≡ t → TakesGlyphs c 1 hs (slice_set hs 0 h)
+    by_case false w = absurd (let bad : Some n ≡ None = found ∙ cond-false _ _ _ w in cc)
     by_case true w =
-        let is : Some h ≡ Some (glyph_with_own c g) = found ∙ cond-true _ _ _ w in
-        let same : h ≡ glyph_with_own c g = cc in
+        let is : Some n ≡ c.glyph_of g.glyph_id = found ∙ cond-true _ _ _ w in
+        let same : h ≡ glyph_with_own c g = given ∙ ap (λ (ws : List hb_glyph_info_t). glyph_with_index n (get_or ws 0 d)) e ∙ ap (λ o. record g { glyph_index = unwrap_or o 0 }) is in
         let none : 0 ≡ prefix_len (λ (g : hb_glyph_info_t). is_mark (item_of g)) gs = omega (arith, count, one) in
         subst (λ ws. TakesGlyphs c 1 ws (slice_set ws 0 h)) (sym e)
         (subst (λ x. TakesGlyphs c 1 (g ∷ gs) (x ∷ gs)) (sym same)

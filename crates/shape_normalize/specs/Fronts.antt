@@ -24,6 +24,10 @@ is_undecomposed Greatest o = is_none o
 abbrev pub is_whole : Normalizer → Reach → Item → Bool
 is_whole c reach x = is_some (c.glyph_of x.number) && is_undecomposed reach (c.splits x.number)
 
+-- whether a character stays whole: the font has it, and it isn't decomposed
+abbrev pub is_whole_character : Normalizer → Reach → ℕ → Bool
+is_whole_character c reach u = is_some (c.glyph_of u) && is_undecomposed reach (c.splits u)
+
 -- an item with the combining marks after it expands to these items with the font's glyphs
 abbrev pub StaysWhole : Normalizer → List hb_glyph_info_t → Type 0
 StaysWhole c gs = (x : Item) (marks : List Item) → strip gs ≡ x ∷ marks → in_turn (expanded_group c x marks) ≡ eventless_arrangement (map (with_own_glyph c) (x ∷ marks))
@@ -31,6 +35,10 @@ StaysWhole c gs = (x : Item) (marks : List Item) → strip gs ≡ x ∷ marks �
 -- a glyph record with the font's glyph of its character
 abbrev pub glyph_with_own : Normalizer → hb_glyph_info_t → hb_glyph_info_t
 glyph_with_own c g = record g { glyph_index = unwrap_or (c.glyph_of g.glyph_id) 0 }
+
+-- a glyph record with a glyph
+abbrev pub glyph_with_index : ℕ → hb_glyph_info_t → hb_glyph_info_t
+glyph_with_index n g = record g { glyph_index = n }
 
 -- so many items got the font's glyphs of their characters; nothing else changed, and they are what they expand to
 pub record TakesGlyphs (c : Normalizer) (n : ℕ) (old new : List hb_glyph_info_t) : Type 0 where

@@ -9,7 +9,7 @@ ghost use Rattle.buffer_properties.specs.Normalizer.{reach_alone};
 ghost use Rattle.buffer_stages.specs.Appending.{AppendsArrangement, RefusesRoomFor};
 ghost use Rattle.buffer_stages.specs.Ready.{IsReady};
 ghost use Rattle.shape_normalize.specs.Composed.{HasRoom};
-ghost use Rattle.shape_normalize.specs.Fronts.{StaysWhole, TakesFront, TakesGlyphs, expansion_after, glyph_with_own, is_undecomposed, is_whole};
+ghost use Rattle.shape_normalize.specs.Fronts.{StaysWhole, TakesFront, TakesGlyphs, expansion_after, glyph_with_index, glyph_with_own, is_undecomposed, is_whole, is_whole_character};
 
 use crate::characters::is_selector;
 use crate::composing::pass_glyphs;
@@ -47,20 +47,24 @@ fn is_whole<N: Normalizing>(by: &N, reach: Reach, glyph: &hb_glyph_info_t) -> bo
     by.glyph(glyph.glyph_id).is_some() && is_undecomposed(by, reach, glyph.glyph_id)
 }
 
-/// A character without marks that stays whole, with the font's glyph.
+/// The font's glyph of a character without marks that stays whole.
 #[tactic(auto, using(crate::proofs::Taken::no_glyph, crate::proofs::Taken::split_glyph, crate::proofs::Taken::own_glyph))]
-fn whole_alone<N: Normalizing>(by: &N, glyph: hb_glyph_info_t) -> Option<hb_glyph_info_t>
-    ensures { result ≡ (if is_whole (N.normalizer by.now) (reach_alone (N.normalizer by.now).mode) (item_of glyph)
-        then Some (glyph_with_own (N.normalizer by.now) glyph) else None) }
+fn whole_alone<N: Normalizing>(by: &N, u: u32) -> Option<u32>
+    ensures { result ≡ (if is_whole_character (N.normalizer by.now) (reach_alone (N.normalizer by.now).mode) u
+        then (N.normalizer by.now).glyph_of u else None) }
 {
-    let glyph_index = by.glyph(glyph.glyph_id)?;
-    if !is_undecomposed(by, reach_alone(by.mode()), glyph.glyph_id) {
+    let glyph_index = by.glyph(u)?;
+    if !is_undecomposed(by, reach_alone(by.mode()), u) {
         return None;
     }
-    Some(hb_glyph_info_t {
-        glyph_index,
-        ..glyph
-    })
+    Some(glyph_index)
+}
+
+/// Gives a character a glyph. No other part of the record is written, which takes less than to copy it.
+fn set_glyph(glyph_index: u32, glyph: &mut hb_glyph_info_t)
+    ensures { glyph.new ≡ glyph_with_index glyph_index glyph.old }
+{
+    glyph.glyph_index = glyph_index;
 }
 
 fn are_whole<N: Normalizing>(by: &N, reach: Reach, glyphs: &[hb_glyph_info_t]) -> bool
@@ -86,13 +90,10 @@ fn stays_whole<N: Normalizing>(by: &N, group: &[hb_glyph_info_t]) -> bool
     !has_selector(group) && are_whole(by, reach_with_marks(by.mode()), group)
 }
 
-fn with_glyph<N: Normalizing>(by: &N, glyph: hb_glyph_info_t) -> hb_glyph_info_t
-    ensures { result ≡ glyph_with_own (N.normalizer by.now) glyph }
+fn give_glyph<N: Normalizing>(by: &N, glyph: &mut hb_glyph_info_t)
+    ensures { glyph.new ≡ glyph_with_own (N.normalizer by.now) glyph.old }
 {
-    hb_glyph_info_t {
-        glyph_index: by.glyph(glyph.glyph_id).unwrap_or(0),
-        ..glyph
-    }
+    glyph.glyph_index = by.glyph(glyph.glyph_id).unwrap_or(0);
 }
 
 #[tactic(auto, using(buffer_glyphs::specs::Lists::map_step))]
@@ -100,7 +101,7 @@ fn give_glyphs<N: Normalizing>(by: &N, glyphs: &mut [hb_glyph_info_t])
     ensures { glyphs.new ≡ map (glyph_with_own (N.normalizer by.now)) glyphs.old }
 {
     for glyph in glyphs.iter_mut() {
-        *glyph = with_glyph(by, *glyph);
+        give_glyph(by, glyph);
     }
 }
 
@@ -115,10 +116,10 @@ fn take_group<N: Normalizing>(by: &N, glyphs: &mut [hb_glyph_info_t]) -> usize
     let count = count_marks(rest) + 1;
     // Most characters have no mark, and then one look-up is enough.
     if count == 1 {
-        let Some(info) = whole_alone(by, *first) else {
+        let Some(glyph_index) = whole_alone(by, first.glyph_id) else {
             return 0;
         };
-        glyphs[0] = info;
+        set_glyph(glyph_index, &mut glyphs[0]);
         return 1;
     }
     if !stays_whole(by, &glyphs[..count]) {

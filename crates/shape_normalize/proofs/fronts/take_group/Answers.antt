@@ -12,8 +12,8 @@ returns g c =
 
 pub returns-then-count-eq1 : goal.returns-then-count-eq1
 returns-then-count-eq1 g c =
-    lone_taken (g.N.Normalizing.normalizer c.args.by.now) c.count_marks-count.result c.args.glyphs.now c.in-Some.first.now c.in-Some-whole_alone.info c.in-Some.rest.now c.in-Some.ensures.cases.0 c.count_marks-count.ensures.front
-    c.if-count-eq1.true (sym c.in-Some-whole_alone.is ∙ c.whole_alone.ensures)
+    lone_taken (g.N.Normalizing.normalizer c.args.by.now) c.count_marks-count.result c.in-Some-whole_alone.glyph_index c.args.glyphs.now c.in-Some.first.now c.set_glyph.new.glyph _ c.in-Some.rest.now c.in-Some.ensures.cases.0
+    c.count_marks-count.ensures.front c.if-count-eq1.true (sym c.in-Some-whole_alone.is ∙ c.whole_alone.ensures) c.set_glyph.ensures
 
 pub returns-in_default-whole_alone : goal.returns-in_default-whole_alone
 returns-in_default-whole_alone g c = nothing_taken (g.N.Normalizing.normalizer c.args.by.now) c.args.glyphs.now
