@@ -5,7 +5,7 @@ use Rattle.std.proofs.lemmas.Bool.{and_parts, cond-true, cond-false}
 use Rattle.std.proofs.lemmas.Bool.Decides.{nat_tests}
 use Rattle.buffer_unicode.specs.Keys.{is_at, is_below, is_rising, precedes, rises_after}
 use Rattle.buffer_unicode.proofs.Searches.{first_rises, forget_first}
-use Rattle.script_categories.specs.Gaps.{is_ahead, is_passed}
+use Rattle.script_categories.specs.Gaps.{stands_after, stands_before}
 
 below_trans : (a b c d e f : ℕ) → is_below a b c d ≡ true → is_below c d e f ≡ true → is_below a b e f ≡ true
 below_trans a b c d e f p q = grind (arith, nat_tests)
@@ -27,13 +27,13 @@ module _ {R : Type 0} (high low : R → ℕ) (h l : ℕ) where
       cond-false _ _ _ (apart_above (high x) (low x) h l above) ∙ none_above x xs parts.1 above
 
   -- where the first row is after a key, no row has it
-  pub none_ahead : (rows : List R) → is_rising high low rows ≡ true → is_ahead high low h l (slice_get rows 0) ≡ true → find (is_at high low h l) rows ≡ None
-  none_ahead [] r p = refl
-  none_ahead (x ∷ xs) r p =
+  pub none_after : (rows : List R) → is_rising high low rows ≡ true → stands_after high low h l (slice_get rows 0) ≡ true → find (is_at high low h l) rows ≡ None
+  none_after [] r p = refl
+  none_after (x ∷ xs) r p =
       cond-false _ _ _ (apart_above (high x) (low x) h l p) ∙ none_above x xs (first_rises high low None x xs r) p
 
   -- what is before a row that is before a key is before it
-  passed_first : (before : R) (rows : List R) (i : ℕ) → rises_after high low (Some before) rows ≡ true → is_passed high low h l (slice_get rows i) ≡ true
+  passed_first : (before : R) (rows : List R) (i : ℕ) → rises_after high low (Some before) rows ≡ true → stands_before high low h l (slice_get rows i) ≡ true
       → is_below (high before) (low before) h l ≡ true
   passed_first before [] i r p = cc
   passed_first before (x ∷ xs) zero r p =
@@ -43,20 +43,20 @@ module _ {R : Type 0} (high low : R → ℕ) (h l : ℕ) where
       let parts = and_parts (precedes high low before x) (rises_after high low (Some x) xs) r in
       below_trans (high before) (low before) (high x) (low x) h l parts.0 (passed_first x xs i parts.1 p)
 
-  between : (rows : List R) (i : ℕ) → is_rising high low rows ≡ true → is_passed high low h l (slice_get rows i) ≡ true
-      → is_ahead high low h l (slice_get rows (suc i)) ≡ true → find (is_at high low h l) rows ≡ None
+  between : (rows : List R) (i : ℕ) → is_rising high low rows ≡ true → stands_before high low h l (slice_get rows i) ≡ true
+      → stands_after high low h l (slice_get rows (suc i)) ≡ true → find (is_at high low h l) rows ≡ None
   between [] i r p q = refl
   between (x ∷ xs) zero r p q =
       let rest = first_rises high low None x xs r in
-      cond-false _ _ _ (apart_below (high x) (low x) h l p) ∙ none_ahead xs (forget_first high low (Some x) xs rest) q
+      cond-false _ _ _ (apart_below (high x) (low x) h l p) ∙ none_after xs (forget_first high low (Some x) xs rest) q
   between (x ∷ xs) (suc i) r p q =
       let rest = first_rises high low None x xs r in
       cond-false _ _ _ (apart_below (high x) (low x) h l (passed_first x xs i rest p))
       ∙ between xs i (forget_first high low (Some x) xs rest) p q
 
   -- where the row before an index is before a key, and the row at the index after it, no row has the key
-  pub none_between : (rows : List R) (i : ℕ) → i ≢ 0 → is_rising high low rows ≡ true → is_passed high low h l (slice_get rows (i - 1)) ≡ true
-      → is_ahead high low h l (slice_get rows i) ≡ true → find (is_at high low h l) rows ≡ None
+  pub none_between : (rows : List R) (i : ℕ) → i ≢ 0 → is_rising high low rows ≡ true → stands_before high low h l (slice_get rows (i - 1)) ≡ true
+      → stands_after high low h l (slice_get rows i) ≡ true → find (is_at high low h l) rows ≡ None
   none_between rows zero nonzero r p q = absurd (nonzero refl)
   none_between rows (suc i) nonzero r p q = let same : suc i - 1 ≡ i = omega arith in between rows i r (rw same at p) q
 

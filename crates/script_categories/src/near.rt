@@ -1,7 +1,7 @@
 //! The search for a row by its key, from a guess of its index.
 ghost use Rattle.std.specs.Prelude.{◌≡◌, None, true, find, slice_get};
 ghost use Rattle.buffer_unicode.specs.Keys.{is_at, is_rising};
-ghost use Rattle.script_categories.specs.Gaps.{is_ahead, is_passed};
+ghost use Rattle.script_categories.specs.Gaps.{stands_after, stands_before};
 
 use buffer_unicode::{Keyed, find_row};
 
@@ -24,20 +24,20 @@ pub(crate) fn find_row_near<R: Keyed>(rows: &[R], high: u32, low: u32, guess: us
 }
 
 /// Whether a key is between the row before an index and the row at it, so that no row has it.
-#[tactic(auto, using(crate::proofs::Guesses::none_ahead, crate::proofs::Guesses::none_between))]
+#[tactic(auto, using(crate::proofs::Guesses::none_after, crate::proofs::Guesses::none_between))]
 fn is_gap<R: Keyed>(rows: &[R], high: u32, low: u32, index: usize) -> bool
     requires { is_rising R.high R.low rows.now ≡ true }
     ensures { result ≡ true → find (is_at R.high R.low high low) rows.now ≡ None }
 {
     if index == 0 {
-        return is_ahead(rows, high, low, 0);
+        return stands_after(rows, high, low, 0);
     }
-    is_passed(rows, high, low, index - 1) && is_ahead(rows, high, low, index)
+    stands_before(rows, high, low, index - 1) && stands_after(rows, high, low, index)
 }
 
 /// Whether the row at an index is after a key, or no row stands there.
-fn is_ahead<R: Keyed>(rows: &[R], high: u32, low: u32, index: usize) -> bool
-    ensures { result ≡ is_ahead R.high R.low high low (slice_get rows.now index) }
+fn stands_after<R: Keyed>(rows: &[R], high: u32, low: u32, index: usize) -> bool
+    ensures { result ≡ stands_after R.high R.low high low (slice_get rows.now index) }
 {
     match rows.get(index) {
         Some(row) => high < row.high() || (high == row.high() && low < row.low()),
@@ -46,8 +46,8 @@ fn is_ahead<R: Keyed>(rows: &[R], high: u32, low: u32, index: usize) -> bool
 }
 
 /// Whether the row at an index is before a key.
-fn is_passed<R: Keyed>(rows: &[R], high: u32, low: u32, index: usize) -> bool
-    ensures { result ≡ is_passed R.high R.low high low (slice_get rows.now index) }
+fn stands_before<R: Keyed>(rows: &[R], high: u32, low: u32, index: usize) -> bool
+    ensures { result ≡ stands_before R.high R.low high low (slice_get rows.now index) }
 {
     match rows.get(index) {
         Some(row) => row.high() < high || (row.high() == high && row.low() < low),
