@@ -47,11 +47,14 @@ pub trait TextDigest {
 }
 
 /// The digest of a text's glyphs, and the feature bits of their masks. Both are collected in one pass, when a lookup is
-/// first tested after they were forgotten.
+/// first tested after they were forgotten, and the lookup before it acted nowhere.
 #[derive(Debug, Drop)]
 pub struct TextGlyphs {
     glyphs: Option<hb_set_digest_t>,
     features: Option<u32>,
+    /// Whether they are worth a pass: no lookup was applied yet, or the last one acted nowhere. A lookup that acts is
+    /// often followed by another, to which they were of no use.
+    is_due: bool,
 }
 
 /// The feature bits of a glyph's mask.
@@ -106,17 +109,18 @@ impl TextGlyphs {
         TextGlyphs {
             glyphs: None,
             features: None,
+            is_due: true,
         }
     }
 
-    /// Collects what isn't known of the text in a buffer.
+    /// Collects what isn't known of the text in a buffer, where that is due.
     fn collect(&mut self, buffer: &hb_buffer_t)
         requires closed { buffer.now.is_open ≡ false }
         requires numbers { are_glyphs (items_of buffer.now) ≡ true }
         requires held { HoldsText (⟦<TextGlyphs as TextDigest>⟧.sets self.old) (items_of buffer.now) }
         ensures { HoldsText (⟦<TextGlyphs as TextDigest>⟧.sets self.new) (items_of buffer.now) }
     {
-        if self.glyphs.is_some() {
+        if !self.is_due || self.glyphs.is_some() {
             return;
         }
         let mut digest = hb_set_digest_t::new();
@@ -146,6 +150,7 @@ impl TextDigest for TextGlyphs {
     }
 
     fn after_lookup(&mut self, acted: bool) {
+        self.is_due = !acted;
         if acted {
             self.glyphs = None;
             self.features = None;
