@@ -1,9 +1,9 @@
 -- A GSUB lookup that can act at none of a buffer's glyphs is left out.
-use Rattle.std.proofs.Common.{ℕ, suc, zero, ◌≡◌, ◌≤◌, ◌<◌, Bool, true, false, nat_le, ◌&&◌, List, [], ◌∷◌, length, drop, Ok, Option, Some, refl, sym, ap, subst, ◌∙◌, if◌then◌else◌, arith}
+use Rattle.std.proofs.Common.{ℕ, suc, zero, ◌≡◌, ◌≤◌, ◌<◌, Bool, true, false, nat_le, ◌&&◌, List, [], ◌∷◌, ◌++◌, length, take, drop, Ok, Option, Some, refl, sym, ap, subst, ◌∙◌, if◌then◌else◌, arith}
 use Rattle.std.proofs.lemmas.Bool.Decides.{nat_tests}
-use Rattle.std.proofs.lemmas.List.{length-map, length-replicate, take-append-drop}
+use Rattle.std.proofs.lemmas.List.{length-map, length-replicate, take-append-drop, take_all}
 use Rattle.std.specs.List.{list_any}
-use Rattle.buffer_glyphs.specs.Items.{Item, item_of, zero_position}
+use Rattle.buffer_glyphs.specs.Items.{Item, item_of, strip, zero_position}
 use Rattle.buffer_core.specs.Readings.{View, Reading, Stage, Follows, then_reading, with_events}
 use Rattle.buffer_core.specs.Steps.{follows_same}
 use Rattle.buffer_core.specs.Sides.{Sides, after_sync, all_glyphs, items_of, with_cleared_positions, zero_positions}
@@ -15,10 +15,12 @@ use Rattle.layout_face.specs.declared.substitution.SubstLookup.{SubstLookup}
 use Rattle.layout_map_features.specs.declared.lookup.lookup_map_t.{lookup_map_t}
 use Rattle.buffer_stages.specs.Masks.{shares_mask}
 use Rattle.layout_match.specs.Skipping.{HoldsText, PassesAll, PassesAt, TextSets}
-use Rattle.layout_match.specs.Trying.{after_outcome, forward_pass, with_zero_positions}
+use Rattle.layout_match.specs.Applied.{ApplyContext}
+use Rattle.layout_match.specs.Trying.{after_outcome, forward_pass, meets, with_zero_positions}
 use Rattle.layout_match.proofs.Lemmas.Held.{passes_uncovered}
+use Rattle.layout_match.proofs.Lemmas.Idle.{idle_all}
 use Rattle.layout_match.proofs.Lemmas.Untouched.{idle_passes, left_alone}
-use Rattle.layout_substitution.specs.Lookups.{backward_pass, backward_trials, cut_at_index, first_reverse, first_subtable, lookup_action, lookup_context, lookup_stage, nested_actions, reverse_action}
+use Rattle.layout_substitution.specs.Lookups.{backward_pass, backward_trials, cut_at_index, first_reverse, first_subtable, lookup_action, lookup_applied, lookup_context, lookup_stage, nested_actions, reverse_action}
 use Rattle.layout_substitution.specs.Steps.{HasZeroPositions}
 use Rattle.layout_substitution.proofs.Uncovered.{first_reverse_uncovered, first_uncovered}
 
@@ -87,8 +89,27 @@ skipped_done font table o lookup m r old new there ready within none left cleare
     (λ x off. idle_passes a (first_subtable nest a lookup.subtables) (substitution_covers lookup.subtables x.number) x (first_uncovered nest a lookup.subtables x) off)) in
     subst P there (by_way (is_reverse lookup.subtables) (backward_pass (reverse_action a lookup)) (forward_pass (lookup_action table a lookup)) r old new left cleared back forth)
 
+-- a lookup that is to be tried at none of the glyphs
+pub idle_done : (table : List SubstLookup) (a : ApplyContext) (lookup : SubstLookup) (r : ℕ) (old new : Sides) → IsReady old → length (all_glyphs old) ≤ old.max_len
+    → list_any (λ (x : Item). meets a x && substitution_covers lookup.subtables x.number) (items_of old) ≡ false → (is_reverse lookup.subtables ≡ true → new ≡ old) → (is_reverse lookup.subtables ≡ false → new ≡ with_cleared_positions old)
+    → IsDoneFrom r r (lookup_applied table a lookup) old new
+idle_done table a lookup r old new ready within none left cleared =
+    let nest = nested_actions table 64 a in
+    let covers = substitution_covers lookup.subtables in
+    let back = skipped_back (reverse_action a lookup) r old ready (idle_all a (first_reverse a lookup.subtables) covers (items_of old) (λ x out. first_reverse_uncovered a lookup.subtables x out) none) in
+    let forth = skipped_forth (lookup_action table a lookup) r old ready within (idle_all a (first_subtable nest a lookup.subtables) covers (items_of old) (λ x out. first_uncovered nest a lookup.subtables x out) none) in
+    by_way (is_reverse lookup.subtables) (backward_pass (reverse_action a lookup)) (forward_pass (lookup_action table a lookup)) r old new left cleared back forth
+
+-- what none of the glyphs ahead passes, none of the text does where the cursor is at its front
+pub none_in_text : (test : Item → Bool) (s : Sides) (k : ℕ) → s.behind ≡ [] → k ≡ length (all_glyphs s) → list_any test (take k (strip s.ahead)) ≡ false → list_any test (items_of s) ≡ false
+none_in_text test s k front all none =
+    let same : all_glyphs s ≡ s.ahead = ap (λ gs. gs ++ s.ahead) front in
+    let long : length (strip s.ahead) ≡ length s.ahead = length-map s.ahead item_of in
+    let count : length (all_glyphs s) ≡ length s.ahead = ap length same in
+    ap (λ gs. list_any test (strip gs)) same ∙ ap (list_any test) (sym (take_all k (strip s.ahead) (omega (arith, long, count, all)))) ∙ none
+
 -- the glyphs stay
-skipped_items : (b : Bool) (old new : Sides) → (b ≡ true → new ≡ old) → (b ≡ false → new ≡ with_cleared_positions old) → items_of new ≡ items_of old
+pub skipped_items : (b : Bool) (old new : Sides) → (b ≡ true → new ≡ old) → (b ≡ false → new ≡ with_cleared_positions old) → items_of new ≡ items_of old
 skipped_items true old new left cleared = ap items_of (left refl)
 skipped_items false old new left cleared = ap items_of (cleared refl)
 

@@ -1,10 +1,13 @@
 //! Applies lookups to a whole buffer (rustybuzz: hb/ot_layout.rs, `apply_string`, `apply_layout_table`).
-ghost use Rattle.std.specs.Prelude.{◌≡◌, Ok, OnOk, true, false, slice_get};
+ghost use Rattle.std.specs.Prelude.{◌≡◌, ◌&&◌, Ok, OnOk, true, false, slice_get};
+ghost use Rattle.std.specs.List.{list_any};
+ghost use Rattle.buffer_glyphs.specs.Items.{Item};
 ghost use Rattle.buffer_core.specs.Sides.{items_of, with_cleared_positions};
-ghost use Rattle.layout_face.specs.Lookups.{is_reverse};
+ghost use Rattle.layout_face.specs.Lookups.{is_reverse, substitution_covers};
 ghost use Rattle.layout_map_features.specs.declared.per_table.TableIndex.TheVariants.{GSUB};
 ghost use Rattle.layout_match.specs.Applied.{apply_context_of};
 ghost use Rattle.layout_match.specs.Skipping.{HoldsText};
+ghost use Rattle.layout_match.specs.Trying.{meets};
 ghost use Rattle.buffer_stages.specs.Buffers.{are_glyphs};
 ghost use Rattle.buffer_stages.specs.Ready.{DoesGlyphStageFrom, IsReady};
 ghost use Rattle.layout_substitution.specs.Steps.{HasZeroPositions};
@@ -16,43 +19,8 @@ use buffer_core::buffer::hb_buffer_t;
 use buffer_glyphs::cause::ShapeCause;
 use layout_face::substitution::{SubstLookup, SubstitutionTable};
 use layout_map_features::lookup::lookup_map_t;
+use layout_match::lookup::idle_run;
 use layout_match::{TextDigest, hb_ot_apply_context_t};
-
-/// Tries a lookup at each glyph: one of reverse chaining from the right, in place, any other from the left. It answers
-/// whether it acted anywhere.
-fn apply_everywhere(
-    table: &SubstitutionTable,
-    lookup: &SubstLookup,
-    ctx: &mut hb_ot_apply_context_t,
-    buffer: &mut hb_buffer_t,
-) -> Result<bool, ShapeCause>
-    requires ready { IsReady buffer.old }
-    requires numbers { are_glyphs (items_of buffer.old) ≡ true }
-    ensures stage { DoesGlyphStageFrom ctx.old.random_state ctx.new.random_state (lookup_applied table.now.lookups
-        (apply_context_of ctx.old) lookup.now) result buffer.old buffer.new }
-    ensures context { apply_context_of ctx.new ≡ apply_context_of ctx.old }
-    ensures unchanged { result ≡ Ok false → items_of buffer.new ≡ items_of buffer.old }
-    ensures cleared { is_reverse lookup.now.subtables ≡ false → OnOk result (HasZeroPositions buffer.new) }
-{
-    if lookup.is_reverse() {
-        return Ok(apply_backward(lookup, ctx, buffer));
-    }
-    apply_forward(table, lookup, ctx, buffer)
-}
-
-/// Sets the lookup to apply from now on: its own flag, and the parameters that the map gives it.
-fn set_lookup(ctx: &mut hb_ot_apply_context_t, lookup: &SubstLookup, lookup_map: &lookup_map_t)
-    requires { ctx.old.table_index ≡ GSUB }
-    ensures applied { apply_context_of ctx.new ≡ lookup_context ctx.old.face.now lookup.now lookup_map.now }
-    ensures state { ctx.new.random_state ≡ ctx.old.random_state }
-{
-    ctx.set_lookup_mask(lookup_map.mask);
-    ctx.auto_zwnj = lookup_map.auto_zwnj;
-    ctx.auto_zwj = lookup_map.auto_zwj;
-    ctx.random = lookup_map.random;
-    ctx.per_syllable = lookup_map.per_syllable;
-    ctx.lookup_props = lookup.props();
-}
 
 /// Leaves out a lookup that can act nowhere: from the left it clears all positions, as wherever it is applied, unless
 /// they are known to be zero. It answers whether they are known to be zero now.
@@ -71,6 +39,62 @@ fn skip_lookup(lookup: &SubstLookup, cleared: bool, buffer: &mut hb_buffer_t) ->
     }
     buffer.clear_positions();
     true
+}
+
+/// Whether a lookup is to be tried at no glyph of a text: then no output has to be opened for it.
+#[tactic(auto, using(crate::proofs::Skipped::none_in_text))]
+fn is_idle(lookup: &SubstLookup, ctx: &hb_ot_apply_context_t, buffer: &hb_buffer_t) -> bool
+    requires ready { IsReady buffer.now }
+    requires numbers { are_glyphs (items_of buffer.now) ≡ true }
+    ensures idle { result ≡ true → list_any (λ (x : Item). meets (apply_context_of ctx.now) x
+        && substitution_covers lookup.now.subtables x.number) (items_of buffer.now) ≡ false }
+{
+    let count = buffer.len();
+    idle_run(ctx, &lookup.subtables, buffer) == count
+}
+
+/// Tries a lookup at each glyph: one of reverse chaining from the right, in place, any other from the left. One that is
+/// to be tried at no glyph is left out. It answers whether it acted anywhere. `cleared` says that all positions are zero.
+#[tactic(auto, using(crate::proofs::Skipped::cleared_now))]
+fn apply_everywhere(
+    table: &SubstitutionTable,
+    lookup: &SubstLookup,
+    cleared: bool,
+    ctx: &mut hb_ot_apply_context_t,
+    buffer: &mut hb_buffer_t,
+) -> Result<bool, ShapeCause>
+    requires ready { IsReady buffer.old }
+    requires numbers { are_glyphs (items_of buffer.old) ≡ true }
+    requires cleared { cleared ≡ true → HasZeroPositions buffer.old }
+    ensures stage { DoesGlyphStageFrom ctx.old.random_state ctx.new.random_state (lookup_applied table.now.lookups
+        (apply_context_of ctx.old) lookup.now) result buffer.old buffer.new }
+    ensures context { apply_context_of ctx.new ≡ apply_context_of ctx.old }
+    ensures unchanged { result ≡ Ok false → items_of buffer.new ≡ items_of buffer.old }
+    ensures cleared { is_reverse lookup.now.subtables ≡ false → OnOk result (HasZeroPositions buffer.new) }
+{
+    let _count = buffer.len();
+    if is_idle(lookup, ctx, buffer) {
+        let _ = skip_lookup(lookup, cleared, buffer);
+        return Ok(false);
+    }
+    if lookup.is_reverse() {
+        return Ok(apply_backward(lookup, ctx, buffer));
+    }
+    apply_forward(table, lookup, ctx, buffer)
+}
+
+/// Sets the lookup to apply from now on: its own flag, and the parameters that the map gives it.
+fn set_lookup(ctx: &mut hb_ot_apply_context_t, lookup: &SubstLookup, lookup_map: &lookup_map_t)
+    requires { ctx.old.table_index ≡ GSUB }
+    ensures applied { apply_context_of ctx.new ≡ lookup_context ctx.old.face.now lookup.now lookup_map.now }
+    ensures state { ctx.new.random_state ≡ ctx.old.random_state }
+{
+    ctx.set_lookup_mask(lookup_map.mask);
+    ctx.auto_zwnj = lookup_map.auto_zwnj;
+    ctx.auto_zwj = lookup_map.auto_zwj;
+    ctx.random = lookup_map.random;
+    ctx.per_syllable = lookup_map.per_syllable;
+    ctx.lookup_props = lookup.props();
 }
 
 /// Applies the lookup at an index of the table, unless it can act at no glyph of the text; an index without one does
@@ -105,7 +129,7 @@ fn apply_mapped<T: TextDigest>(
         return Ok(skip_lookup(lookup, cleared, buffer));
     }
     set_lookup(ctx, lookup, lookup_map);
-    let acted = apply_everywhere(table, lookup, ctx, buffer)?;
+    let acted = apply_everywhere(table, lookup, cleared, ctx, buffer)?;
     text.after_lookup(acted);
     Ok(!lookup.is_reverse())
 }
