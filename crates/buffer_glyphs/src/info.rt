@@ -25,6 +25,7 @@ pub const SAFE_TO_INSERT_TATWEEL: hb_mask_t = 4;
 pub const DEFINED: hb_mask_t = 7;
 
 /// A character, later a glyph, with the properties that shaping keeps of it.
+// (in this order the fields leave no gap: 28 bytes)
 #[derive(Clone, Copy, PartialEq, Eq, Debug, Default)]
 pub struct hb_glyph_info_t {
     /// A character's code; a glyph's number once the text is mapped to glyphs.

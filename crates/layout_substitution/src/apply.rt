@@ -72,6 +72,7 @@ fn apply_everywhere(
     ensures unchanged { result ≡ Ok false → items_of buffer.new ≡ items_of buffer.old }
     ensures cleared { is_reverse lookup.now.subtables ≡ false → OnOk result (HasZeroPositions buffer.new) }
 {
+    // (carries to the proof that the buffer's length is a usize)
     let _count = buffer.len();
     if is_idle(lookup, ctx, buffer) {
         let _ = skip_lookup(lookup, cleared, buffer);
