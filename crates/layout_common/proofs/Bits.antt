@@ -15,7 +15,7 @@ use Rattle.layout_common.specs.Coverage.{is_covered}
 
 -- ---- tests
 
-equal : (a b : ℕ) → (a == b) ≡ true → a ≡ b
+pub equal : (a b : ℕ) → (a == b) ≡ true → a ≡ b
 equal a b e = grind (arith, nat_tests, e)
 
 other : (a b : ℕ) → (a == b) ≡ false → a ≢ b
@@ -24,7 +24,7 @@ other a b e = grind (arith, nat_tests, e)
 same_number : (n : ℕ) → (n == n) ≡ true
 same_number n = grind (arith, nat_tests)
 
-same_as : (a b : ℕ) → a ≡ b → (a == b) ≡ true
+pub same_as : (a b : ℕ) → a ≡ b → (a == b) ≡ true
 same_as a b e = grind (arith, nat_tests, e)
 
 two : (n : ℕ) → n < 2 → (max n 1 == 1) ≡ true
@@ -34,7 +34,7 @@ pub or_true : (a : Bool) → (a || true) ≡ true
 or_true true = refl
 or_true false = refl
 
-or_false : (a : Bool) → (a || false) ≡ a
+pub or_false : (a : Bool) → (a || false) ≡ a
 or_false true = refl
 or_false false = refl
 
@@ -44,7 +44,7 @@ or_first a b e = rw e refl
 pub or_second : (a b : Bool) → b ≡ true → (a || b) ≡ true
 or_second a b e = rw e (or_true a)
 
-or_assoc : (a b c : Bool) → ((a || b) || c) ≡ (a || (b || c))
+pub or_assoc : (a b c : Bool) → ((a || b) || c) ≡ (a || (b || c))
 or_assoc true b c = refl
 or_assoc false b c = refl
 

@@ -3,3 +3,4 @@ pub mod CoverageSearch
 pub mod Covering
 pub mod Bits
 pub mod Words
+pub mod LowBits

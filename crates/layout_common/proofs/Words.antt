@@ -1,12 +1,12 @@
 -- Words of 64 bits, a bit for each glyph.
-use Rattle.std.proofs.Common.{ℕ, zero, suc, ◌≡◌, ◌≢◌, ◌==◌, ◌||◌, ◌&&◌, ◌<◌, ◌≤◌, ◌%◌, ◌/◌, ◌+◌, ◌-◌, Bool, true, false, if◌then◌else◌, List, [], ◌∷◌, ◌++◌, length, set, take, get_or, slice_get, Option, Some, None, refl, sym, ap, ◌∙◌, nat_lt, arith}
+use Rattle.std.proofs.Common.{ℕ, zero, suc, ◌≡◌, ◌==◌, ◌||◌, ◌&&◌, ◌<◌, ◌≤◌, ◌%◌, ◌/◌, ◌-◌, Bool, true, false, if◌then◌else◌, List, [], ◌∷◌, ◌++◌, length, set, take, get_or, slice_get, Some, None, refl, sym, ap, ◌∙◌, nat_lt, arith}
 use Rattle.std.specs.List.{list_any}
 use Rattle.std.specs.Ordering.{nat_cmp}
 use Rattle.std.specs.List.Sorted.{IsSorted}
 use Rattle.std.proofs.lemmas.Bool.Decides.{nat_tests}
 use Rattle.std.proofs.lemmas.List.Sorted.{IsNonDecreasingBy-from_sort}
 use Rattle.std.proofs.lemmas.Option.{get_or_from_slice_get}
-use Rattle.layout_common.specs.Bits.{AreBits, has_bit, word_has}
+use Rattle.layout_common.specs.Bits.{has_bit, word_has}
 use Rattle.layout_common.specs.Buckets.{has_bucket}
 use Rattle.layout_common.specs.Coverage.{is_covered}
 use Rattle.layout_common.proofs.Bits.{empty_mask}
@@ -77,7 +77,7 @@ bit_added_to start glyph g v i k w d old ws le at bit lt word h same =
 
 -- ---- bits of glyphs
 
-take-all : (n : ℕ) (xs : List ℕ) → length xs ≤ n → take n xs ≡ xs
+pub take-all : (n : ℕ) (xs : List ℕ) → length xs ≤ n → take n xs ≡ xs
 take-all zero [] le = refl
 take-all zero (x ∷ xs) le = absurd (omega (arith, le))
 take-all (suc n) [] le = refl

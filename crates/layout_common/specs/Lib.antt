@@ -4,3 +4,4 @@ pub mod Rows
 pub mod Buckets
 pub mod Lemmas
 pub mod Bits
+pub mod LowBits

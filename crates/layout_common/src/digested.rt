@@ -3,6 +3,7 @@ ghost use Rattle.std.specs.Prelude.{ℕ, ◌≡◌, ◌==◌, Bool, true, false}
 ghost use Rattle.std.specs.List.{list_any};
 
 use crate::digest::{hb_set_digest_ext, hb_set_digest_t};
+use crate::low_bits::LowBits;
 use std::marker::Model;
 
 /// What can act at some glyphs alone: a row, a rule, a subtable, the subtables of a lookup.
@@ -34,11 +35,13 @@ pub fn collect_each<S: Covers, D: hb_set_digest_ext>(items: &[S], digest: &mut D
     }
 }
 
-/// Such a thing, with a set that has each glyph at which it can act. It is seen as the thing itself.
+/// Such a thing, with sets that have each glyph at which it can act: one to hold against a text's, and one to ask for a
+/// glyph. It is seen as the thing itself.
 #[derive(Debug, Drop)]
 pub struct Digested<S: Covers> {
     inner: S,
     digest: hb_set_digest_t,
+    low_bits: LowBits,
 }
 
 impl<S: Covers> Model for Digested<S> {
@@ -48,8 +51,9 @@ impl<S: Covers> Model for Digested<S> {
 
     ghost view = { λ d. d.inner };
 
-    ghost invariant = { λ d. (g : ℕ) → S.covers d.inner g ≡ true
-        → ⟦<hb_set_digest_t as hb_set_digest_ext>⟧.may_have d.digest g ≡ true };
+    ghost invariant = { λ d. ((g : ℕ) → S.covers d.inner g ≡ true
+        → ⟦<hb_set_digest_t as hb_set_digest_ext>⟧.may_have d.digest g ≡ true)
+        × ((g : ℕ) → S.covers d.inner g ≡ true → ⟦<LowBits as hb_set_digest_ext>⟧.may_have d.low_bits g ≡ true) };
 }
 
 impl<S: Covers> Digested<S> {
@@ -59,7 +63,13 @@ impl<S: Covers> Digested<S> {
     {
         let mut digest = hb_set_digest_t::new();
         inner.collect(&mut digest);
-        Digested { inner, digest }
+        let mut low_bits = LowBits::new();
+        inner.collect(&mut low_bits);
+        Digested {
+            inner,
+            digest,
+            low_bits,
+        }
     }
 
     /// The thing itself.
@@ -73,7 +83,7 @@ impl<S: Covers> Digested<S> {
     pub fn may_have_glyph(&self, glyph: u16) -> bool
         ensures { result ≡ false → S.covers self.now glyph ≡ false }
     {
-        self.digest.may_have_glyph(glyph)
+        self.low_bits.may_have_glyph(glyph)
     }
 
     /// The set, which has each glyph at which it can act.

@@ -10,3 +10,4 @@ pub mod flags;
 pub mod glyph_bits;
 pub mod glyph_row;
 pub mod laws;
+pub mod low_bits;

@@ -1,0 +1,8 @@
+use Rattle.std.proofs.Common.{arith}
+use Rattle.layout_common.proofs.LowBits.{apart_step}
+use Rattle.layout_common.proofs.low_bits.LowBitshb_set_digest_ext.may_have.Goals as goal
+
+pub loop-i-preserved : goal.loop-i-preserved
+loop-i-preserved c =
+    apart_step c.loop-i.i _ _ c.args.self.now.words c.args.other.now.words (omega (arith, c.loop-i-test.true, c.type_inv.self)) (omega (arith, c.loop-i-test.true, c.type_inv.other))
+    c.if-self-i-ne0.false c.loop-i.invariant
