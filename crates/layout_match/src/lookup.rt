@@ -14,7 +14,6 @@ use crate::hb_ot_apply_context_t;
 use buffer_core::buffer::hb_buffer_t;
 use buffer_glyphs::info::hb_glyph_info_t;
 use buffer_stages::mask::shares_mask;
-use layout_common::digest::{hb_set_digest_ext, hb_set_digest_t};
 use layout_common::digested::{Covers, Digested};
 
 /// Whether a lookup applies to a glyph: it has a bit of the lookup's mask, and the lookup flag admits it.
@@ -47,13 +46,18 @@ pub fn is_tried<S: Covers>(
     meets(ctx, info)
 }
 
-/// Whether a lookup is to be tried at a glyph: the digest of its subtables has the glyph, and the lookup applies to it.
-fn may_act_at(ctx: &hb_ot_apply_context_t, digest: &hb_set_digest_t, info: &hb_glyph_info_t) -> bool
+/// Whether a lookup is to be tried at a glyph: its subtables may cover the glyph, and the lookup applies to it.
+#[tactic(auto, using(crate::proofs::Lemmas::Idle::uncovered_there, crate::proofs::Lemmas::Idle::unmet_there))]
+fn may_act_at<S: Covers>(
+    ctx: &hb_ot_apply_context_t,
+    subtables: &Digested<S>,
+    info: &hb_glyph_info_t,
+) -> bool
     requires { info.now.glyph_id ≤ 65535 }
-    ensures { result ≡ (⟦<hb_set_digest_t as hb_set_digest_ext>⟧.may_have digest.now info.now.glyph_id
-        && meets (apply_context_of ctx.now) (item_of info.now)) }
+    ensures { result ≡ false → (meets (apply_context_of ctx.now) (item_of info.now)
+        && S.covers subtables.now info.now.glyph_id) ≡ false }
 {
-    digest.may_have_glyph(info.as_glyph().0) && meets(ctx, info)
+    subtables.may_have_glyph(info.as_glyph().0) && meets(ctx, info)
 }
 
 /// How many glyphs from the cursor on a lookup is not to be tried at: each is one that it doesn't apply to, or that its
@@ -70,10 +74,8 @@ pub fn idle_run<S: Covers>(
         (take result (strip buffer.now.ahead)) ≡ false }
 {
     let count = buffer.lookahead_len();
-    // A copy of the digest, so that it need not be read again at each glyph.
-    let digest = subtables.digest();
     for at in 0..count {
-        if may_act_at(ctx, &digest, buffer.cur(at)) {
+        if may_act_at(ctx, subtables, buffer.cur(at)) {
             return at;
         }
     }

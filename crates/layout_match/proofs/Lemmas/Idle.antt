@@ -58,15 +58,15 @@ none_next test (h ∷ gs) (suc k) g at none off =
     let more = none_next test gs k g at (rest_none (test (item_of h)) (list_any test (take k (strip gs))) none) off in
     ap (λ n. list_any test (take n (strip (h ∷ gs)))) e ∙ or_none (test (item_of h)) (list_any test (take (k + 1) (strip gs))) here more
 
--- where a set that has what is covered misses, or a lookup doesn't meet, it need not be tried
-pub not_tried_there : (covered has met tried : Bool) → (covered ≡ true → has ≡ true) → tried ≡ (has && met) → tried ≡ false → (met && covered) ≡ false
-not_tried_there covered has met tried holds is none = by_cover covered has met holds (sym is ∙ none)
-  where
-    by_cover : (c h m : Bool) → (c ≡ true → h ≡ true) → (h && m) ≡ false → (m && c) ≡ false
-    by_cover false h false f e = refl
-    by_cover false h true f e = refl
-    by_cover true h false f e = refl
-    by_cover true h true f e = let there : h ≡ true = f refl in cc
+-- a glyph that isn't covered need not be tried
+pub uncovered_there : (met covered : Bool) → covered ≡ false → (met && covered) ≡ false
+uncovered_there false covered e = refl
+uncovered_there true covered e = e
+
+-- nor one that a lookup doesn't meet
+pub unmet_there : (met covered : Bool) → met ≡ false → (met && covered) ≡ false
+unmet_there false covered e = refl
+unmet_there true covered e = cc
 
 -- ---- a lookup passes at each glyph that it isn't tried at
 

@@ -2,7 +2,7 @@ use Rattle.std.proofs.Common.{◌&&◌}
 use Rattle.buffer_glyphs.specs.Items.{Item, item_of, strip}
 use Rattle.layout_match.specs.Applied.{apply_context_of}
 use Rattle.layout_match.specs.Trying.{meets}
-use Rattle.layout_match.proofs.Lemmas.Idle.{none_first, none_next, not_tried_there}
+use Rattle.layout_match.proofs.Lemmas.Idle.{none_first, none_next}
 use Rattle.layout_match.proofs.lookup.idle_run.Goals as goal
 
 pub loop-at-init : goal.loop-at-init
@@ -13,5 +13,4 @@ loop-at-preserved g c =
     let a = apply_context_of c.args.ctx.now in
     let covers = g.S.Covers.covers c.args.subtables.now in
     let info = c.cur.result.now in
-    none_next (λ (x : Item). meets a x && covers x.number) c.args.buffer.now.ahead c.loop-at.at info c.cur.ensures c.loop-at.invariant
-    (not_tried_there (covers info.glyph_id) _ (meets a (item_of info)) c.may_act_at.result (c.digest-digest.ensures info.glyph_id) c.may_act_at.ensures c.if-may_act_at.false)
+    none_next (λ (x : Item). meets a x && covers x.number) c.args.buffer.now.ahead c.loop-at.at info c.cur.ensures c.loop-at.invariant (c.may_act_at.ensures c.if-may_act_at.false)
