@@ -10,7 +10,7 @@ use script_syllabic::syllables::setup_syllables;
 use std::alloc::{AllocError, Global};
 use std::test::Fail;
 
-fn steps(alloc: Global, numbers: &mut Numbers) -> Result<Vec<Step>, AllocError> {
+fn steps(alloc: Global, numbers: &mut Numbers<'_>) -> Result<Vec<Step>, AllocError> {
     let mut steps = Vec::new(alloc);
     let count = numbers.next();
     for _ in 0..count {
@@ -23,7 +23,7 @@ fn steps(alloc: Global, numbers: &mut Numbers) -> Result<Vec<Step>, AllocError> 
     Ok(steps)
 }
 
-fn accepting(alloc: Global, numbers: &mut Numbers) -> Result<Vec<Accept>, AllocError> {
+fn accepting(alloc: Global, numbers: &mut Numbers<'_>) -> Result<Vec<Accept>, AllocError> {
     let mut accepting = Vec::new(alloc);
     let count = numbers.next();
     for _ in 0..count {
@@ -35,7 +35,7 @@ fn accepting(alloc: Global, numbers: &mut Numbers) -> Result<Vec<Accept>, AllocE
     Ok(accepting)
 }
 
-fn machine(alloc: Global, numbers: &mut Numbers) -> Result<SyllableMachine, AllocError> {
+fn machine(alloc: Global, numbers: &mut Numbers<'_>) -> Result<SyllableMachine, AllocError> {
     Ok(SyllableMachine {
         states: numbers.next(),
         next: steps(alloc, numbers)?,
@@ -44,8 +44,12 @@ fn machine(alloc: Global, numbers: &mut Numbers) -> Result<SyllableMachine, Allo
 }
 
 fn machine_of(alloc: Global, row: &str) -> Result<SyllableMachine, Fail> {
-    let mut numbers = Numbers::of(alloc, row)?;
-    Ok(machine(alloc, &mut numbers)?)
+    let mut numbers = Numbers::of(row);
+    let machine = machine(alloc, &mut numbers)?;
+    if !numbers.are_there() {
+        return Err("no number".into());
+    }
+    Ok(machine)
 }
 
 fn table(alloc: Global, row: &str) -> Result<SyllableTable, Fail> {
@@ -69,15 +73,15 @@ fn check(alloc: Global, line: &str) -> Result<bool, Fail> {
 }
 
 fn check_with(alloc: Global, table: &SyllableTable, row: &str) -> Result<bool, Fail> {
-    let mut numbers = Numbers::of(alloc, row)?;
+    let mut numbers = Numbers::of(row);
     let max_len = numbers.count();
     numbers.six();
     let mut buffer = numbers.glyphs(alloc, max_len)?;
     find_syllables(alloc, table, &mut buffer)?;
-    Ok(are_wanted(buffer.info_slice(), &mut numbers))
+    Ok(are_wanted(buffer.info_slice(), &mut numbers) && numbers.are_there())
 }
 
-fn are_wanted(glyphs: &[hb_glyph_info_t], numbers: &mut Numbers) -> bool {
+fn are_wanted(glyphs: &[hb_glyph_info_t], numbers: &mut Numbers<'_>) -> bool {
     numbers.next();
     numbers.next();
     for glyph in glyphs {
@@ -98,7 +102,7 @@ fn numbers_syllables(rt: HostRuntime) -> Result<(), Fail> {
 
 /// Whether a kind that the shaper doesn't have is refused as such.
 fn is_unknown_kind(alloc: Global, kind: u8) -> Result<bool, Fail> {
-    let mut buffer = Numbers::of(alloc, "0 1 97 0 7 0 0")?.buffer(alloc)?;
+    let mut buffer = Numbers::of("0 1 97 0 7 0 0").buffer(alloc)?;
     let spans = SingleGlyphs { kind };
     match setup_syllables(alloc, &spans, UNIVERSAL_SHAPER, &mut buffer) {
         Ok(()) => Ok(false),
@@ -113,7 +117,7 @@ fn refuses_an_unknown_kind(rt: HostRuntime) -> Result<(), Fail> {
     Ok(())
 }
 
-const ROWS: &str = "\
+static ROWS: &str = "\
 2 5 0 0 1 0 4 1 0 11 1 1 0 0 1 2 1 0|16384 0 0 0 0 0 0 0 1 0 1 0 7 0 0 2 0 0 0 0 0 1 1 0 0 0 25 2 0 0 0
 2 2 0 4 1 0 28 1 0|16384 0 0 0 0 0 0 0 2 0 1 1 0 108 0 0 4 0 0 2 0 108 0 0 4 0 0 0 0 0 0 0 2 1 0 0 0 0 4 0 0 0 2 1 0 0 0 4 0 0 0
 3 6 0 4 1 1 28 2 2 4 1 2 8 1 2 11 1 2 28 1 0|16384 0 0 0 0 0 0 0 1 0 1 0 108 0 0 4 0 0 0 0 0 1 1 0 0 0 0 4 0 0 0

@@ -7,7 +7,7 @@ use script_joining::setup_masks_inner;
 use std::alloc::{AllocError, Global};
 use std::test::Fail;
 
-fn joining(alloc: Global, numbers: &mut Numbers) -> Result<Vec<[u32; 2]>, AllocError> {
+fn joining(alloc: Global, numbers: &mut Numbers<'_>) -> Result<Vec<[u32; 2]>, AllocError> {
     let mut rows = Vec::new(alloc);
     let count = numbers.next();
     for _ in 0..count {
@@ -22,22 +22,26 @@ fn tables(alloc: Global, joining: Vec<[u32; 2]>) -> Result<UnicodeTables, Fail> 
     Ok(UnicodeTables::new(alloc, &rows)?)
 }
 
-fn next_tables(alloc: Global, numbers: &mut Numbers) -> Result<UnicodeTables, Fail> {
+fn next_tables(alloc: Global, numbers: &mut Numbers<'_>) -> Result<UnicodeTables, Fail> {
     let joining = joining(alloc, numbers)?;
     tables(alloc, joining)
 }
 
-fn check_row(alloc: Global, numbers: &mut Numbers) -> Result<bool, Fail> {
+fn check_row(alloc: Global, numbers: &mut Numbers<'_>) -> Result<bool, Fail> {
     let tables = next_tables(alloc, numbers)?;
     check_with(alloc, &tables, numbers)
 }
 
 fn check(alloc: Global, row: &str) -> Result<bool, Fail> {
-    let mut numbers = Numbers::of(alloc, row)?;
-    check_row(alloc, &mut numbers)
+    let mut numbers = Numbers::of(row);
+    Ok(check_row(alloc, &mut numbers)? && numbers.are_there())
 }
 
-fn check_with(alloc: Global, tables: &UnicodeTables, numbers: &mut Numbers) -> Result<bool, Fail> {
+fn check_with(
+    alloc: Global,
+    tables: &UnicodeTables,
+    numbers: &mut Numbers<'_>,
+) -> Result<bool, Fail> {
     let script = if numbers.next() == 1 {
         MONGOLIAN
     } else {
@@ -61,7 +65,7 @@ fn check_with(alloc: Global, tables: &UnicodeTables, numbers: &mut Numbers) -> R
     Ok(are_wanted(buffer.info_slice(), numbers))
 }
 
-fn are_wanted(glyphs: &[hb_glyph_info_t], numbers: &mut Numbers) -> bool {
+fn are_wanted(glyphs: &[hb_glyph_info_t], numbers: &mut Numbers<'_>) -> bool {
     for glyph in glyphs {
         let wanted = (numbers.next(), numbers.next());
         if (u32::from(glyph.auxiliary), glyph.mask & !7) != wanted {
@@ -79,7 +83,7 @@ fn joins(rt: HostRuntime) -> Result<(), Fail> {
     Ok(())
 }
 
-const ROWS: &str = "\
+static ROWS: &str = "\
 0 0 16 32 64 0 128 0 256 0 0 0 1 1575 0 7 0 2147483648 7 2147483648
 1 1576 3 0 2147483648 16 32 64 128 256 512 0 0 0 1 1576 0 7 0 2147483648 0 2147483648
 2 6176 4 6178 3 1 16 32 64 128 256 512 1024 0 0 0 1 6176 0 7 0 2147483648 0 2147483664

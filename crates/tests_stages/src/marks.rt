@@ -4,8 +4,7 @@ use buffer_glyphs::info::hb_glyph_info_t;
 use std::alloc::Global;
 use std::test::Fail;
 
-fn check(alloc: Global, row: &str, is_hebrew: bool) -> Result<bool, Fail> {
-    let mut numbers = Numbers::of(alloc, row)?;
+fn check_numbers(alloc: Global, numbers: &mut Numbers<'_>, is_hebrew: bool) -> Result<bool, Fail> {
     let mut buffer = numbers.buffer(alloc)?;
     let start = numbers.count();
     let end = numbers.count();
@@ -14,13 +13,18 @@ fn check(alloc: Global, row: &str, is_hebrew: bool) -> Result<bool, Fail> {
     }
     if is_hebrew {
         script_hebrew::hebrew::reorder_marks(&mut buffer, start, end);
-        return Ok(are_wanted(buffer.info_slice(), &mut numbers));
+        return Ok(are_wanted(buffer.info_slice(), numbers));
     }
     script_arabic::marks::reorder_marks(&mut buffer, start, end);
-    Ok(are_wanted(buffer.info_slice(), &mut numbers))
+    Ok(are_wanted(buffer.info_slice(), numbers))
 }
 
-fn are_wanted(glyphs: &[hb_glyph_info_t], numbers: &mut Numbers) -> bool {
+fn check(alloc: Global, row: &str, is_hebrew: bool) -> Result<bool, Fail> {
+    let mut numbers = Numbers::of(row);
+    Ok(check_numbers(alloc, &mut numbers, is_hebrew)? && numbers.are_there())
+}
+
+fn are_wanted(glyphs: &[hb_glyph_info_t], numbers: &mut Numbers<'_>) -> bool {
     for glyph in glyphs {
         let wanted = (numbers.next(), numbers.next(), numbers.class());
         if (
@@ -46,7 +50,7 @@ fn orders(rt: HostRuntime) -> Result<(), Fail> {
     Ok(())
 }
 
-const ARABIC: &str = "\
+static ARABIC: &str = "\
 0 1 769 0 12 234 0 0 1 769 0 234
 0 1 2259 0 12 220 0 0 1 2259 0 25
 1 2 2253 1 1577 0 12 220 0 7 0 0 0 1 2253 1 25 1577 0 0
@@ -74,7 +78,7 @@ const ARABIC: &str = "\
 0 7 1576 0 2252 3 2255 4 769 5 2259 6 2250 9 2252 10 7 0 0 12 27 0 12 220 0 12 230 0 12 230 0 12 234 0 12 234 0 1 7 1576 0 0 2255 3 25 2252 3 27 769 5 230 2259 6 230 2250 9 234 2252 10 234
 0 7 1576 2 2255 2 1621 1 1756 1 2250 1 1768 0 1614 0 7 0 0 12 220 0 12 220 0 12 230 0 12 230 0 12 230 0 12 234 0 1 7 1576 0 0 2255 0 25 1621 0 25 1756 0 26 2250 0 26 1768 0 26 1614 0 234";
 
-const HEBREW: &str = "\
+static HEBREW: &str = "\
 0 1 1474 0 12 25 0 0 1 1474 0 25
 1 3 1469 0 1474 2 1460 4 12 21 0 12 22 0 12 25 0 0 3 1469 0 21 1460 2 25 1474 2 22
 1 3 1463 2 1463 1 1469 0 12 20 0 12 23 0 12 25 0 0 3 1463 2 20 1469 0 25 1463 0 23

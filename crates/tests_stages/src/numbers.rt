@@ -12,25 +12,40 @@ use buffer_glyphs::position::GlyphPosition;
 use std::alloc::Global;
 use std::test::Fail;
 
-/// The numbers of a row that are left, the next of them last.
+/// What is left of a row of numbers, and whether one was missing.
 #[derive(Drop)]
-pub struct Numbers {
-    left: Vec<u32>,
+pub struct Numbers<'a> {
+    left: &'a str,
+    lacks_one: bool,
 }
 
-impl Numbers {
-    pub fn of(alloc: Global, text: &str) -> Result<Numbers, Fail> {
-        let mut left = Vec::new(alloc);
-        for word in text.split(' ') {
-            left.push(word.parse::<u32>()?)?;
+impl<'a> Numbers<'a> {
+    pub fn of(row: &'a str) -> Numbers<'a> {
+        Numbers {
+            left: row,
+            lacks_one: false,
         }
-        left.reverse();
-        Ok(Numbers { left })
     }
 
-    /// The next number; past the end 0.
+    /// Whether each number that was read stands in the row.
+    pub fn are_there(&self) -> bool {
+        !self.lacks_one
+    }
+
+    /// The next number; past the end 0, and then `are_there` is false.
     pub fn next(&mut self) -> u32 {
-        self.left.pop().unwrap_or(0)
+        let (word, left) = match self.left.split_once(' ') {
+            Some((word, left)) => (word, left),
+            None => (self.left, ""),
+        };
+        self.left = left;
+        match word.parse::<u32>() {
+            Ok(number) => number,
+            Err(_) => {
+                self.lacks_one = true;
+                0
+            }
+        }
     }
 
     pub fn small(&mut self) -> u16 {

@@ -7,7 +7,7 @@ use std::alloc::{AllocError, Global};
 use std::test::Fail;
 
 // Each run: its direction; then of each position both advances, both offsets, link and kind, and both offsets after.
-const RUNS: &str = "ttb;0,0,10,7,0,0,10,7;0,0,10,7,-1,2,20,7;-20,0,-30,0,0,0,-30,0
+static RUNS: &str = "ttb;0,0,10,7,0,0,10,7;0,0,10,7,-1,2,20,7;-20,0,-30,0,0,0,-30,0
 rtl;100,0,10,0,1,2,10,0;0,-900,0,0,0,0,0,0;0,0,0,200,0,0,0,200
 rtl;500,0,10,7,0,0,10,7;100,0,10,7,0,0,10,7;-20,0,0,7,-1,1,-10,14
 ltr;100,0,-30,7,0,0,-30,7;0,0,10,0,-1,1,-120,7;0,0,10,200,-2,1,-120,207

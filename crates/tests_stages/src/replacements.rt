@@ -16,12 +16,12 @@ use std::alloc::Global;
 use std::test::Fail;
 
 /// A font whose one lookup of substitution gives glyph 8 for glyph 7.
-pub(crate) const FONT: &str =
+pub(crate) static FONT: &str =
     r#"{"gsub":{"lookups":[{"type":"single","subtables":[[[7,8]]]}]},"gpos":{"lookups":[
 {"type":"single","subtables":[[[7,[1,0,0,0]]]]}]}}"#;
 
 /// Two glyphs.
-pub(crate) const TEXT: &str = ";ltr;;;0;;7,0 9,1";
+pub(crate) static TEXT: &str = ";ltr;;;0;;7,0 9,1";
 
 fn replace(face: &Face, kind: &str, buffer: &mut hb_buffer_t) -> Result<bool, ShapeCause>
     requires { IsReady buffer.old }

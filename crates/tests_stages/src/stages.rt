@@ -12,7 +12,6 @@ use buffer_stages::glyphs::are_glyphs;
 use buffer_stages::layout_stages::_hb_ot_layout_reverse_graphemes;
 use buffer_unicode_tables::UnicodeTables;
 use layout_face::Face;
-use serde_json::Value;
 use shape_fallback::classes::_hb_ot_shape_fallback_mark_position_recategorize_marks;
 use shape_fallback::marks::{components_direction, position_marks};
 use shape_fallback::spaces::_hb_ot_shape_fallback_spaces;
@@ -21,14 +20,14 @@ use shape_text::clusters::form_clusters;
 use shape_text::direction::ensure_native_direction;
 use shape_text::fractions::{FractionMasks, setup_masks_fraction};
 use shape_text::properties::set_unicode_props;
-use shell_face_json::read_face;
-use shell_tables_json::read_tables;
+use shell_face_json::read_face_text;
+use shell_readers::tables::tables_in;
 use std::alloc::Global;
 use std::test::Fail;
 
 // Each row has the stage, the direction, the requested one, the script and the level; the stage's other arguments; the
 // glyphs before and after it, of which only the given numbers are compared; tables and a font.
-const ROWS: &str = r#"fraction-masks;ltr;;;0;16,32,0;49,,0,13;49,,0;{};{}
+static ROWS: &str = r#"fraction-masks;ltr;;;0;16,32,0;49,,0,13;49,,0;{};{}
 fraction-masks;rtl;;;0;16,32,64;49,,2147483648,13 8260,,2147483648,25 49,,0,13;49,,2147483728 8260,,2147483664 49,,48;{};{}
 fraction-masks;ttb;;;0;16,32,64;8260,,0,25 50,,2147483648,13 8260,,0,25 49,,2147483648,13;8260,,0 50,,2147483696 8260,,16 49,,2147483728;{};{}
 fraction-masks;ttb;;;0;16,32,64;49,,2147483648,13 8260,,2147483648,25 50,,2147483648,13 49,,2147483648,13;49,,2147483696 8260,,2147483664 50,,2147483728 49,,2147483728;{};{}
@@ -199,14 +198,8 @@ fn stage_agrees(
     Ok(is_as_said(row, &buffer))
 }
 
-fn tables_of(alloc: Global, text: &str) -> Result<UnicodeTables, Fail> {
-    let value = Value::from_str(alloc, text)?;
-    Ok(read_tables(alloc, &value)?)
-}
-
 pub(crate) fn face_of(alloc: Global, text: &str) -> Result<Face, Fail> {
-    let value = Value::from_str(alloc, text)?;
-    Ok(read_face(alloc, &value)?)
+    Ok(read_face_text(alloc, text)?)
 }
 
 fn agrees_with_tables(alloc: Global, row: &str, tables: &UnicodeTables) -> Result<bool, Fail> {
@@ -215,8 +208,8 @@ fn agrees_with_tables(alloc: Global, row: &str, tables: &UnicodeTables) -> Resul
 }
 
 fn row_agrees(alloc: Global, row: &str) -> Result<bool, Fail> {
-    let tables = tables_of(alloc, part(row, 8))?;
-    agrees_with_tables(alloc, row, &tables)
+    let tables = tables_in(alloc, part(row, 8).as_bytes())?;
+    agrees_with_tables(alloc, row, &tables.characters)
 }
 
 #[test]

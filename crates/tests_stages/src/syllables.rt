@@ -23,11 +23,12 @@ type Given = [u32; 6];
 
 fn check(alloc: Global, line: &str) -> Result<bool, Fail> {
     let (rule, row) = line.split_once('|').ok_or("no rule")?;
-    let mut numbers = Numbers::of(alloc, row)?;
+    let mut numbers = Numbers::of(row);
     let max_len = numbers.count();
     let given = numbers.six();
     let mut buffer = numbers.glyphs(alloc, max_len)?;
-    Ok(stand_after(alloc, rule, &given, &mut buffer, &mut numbers)?)
+    let stand = stand_after(alloc, rule, &given, &mut buffer, &mut numbers)?;
+    Ok(stand && numbers.are_there())
 }
 
 fn stand_after(
@@ -35,7 +36,7 @@ fn stand_after(
     rule: &str,
     given: &Given,
     buffer: &mut hb_buffer_t,
-    numbers: &mut Numbers,
+    numbers: &mut Numbers<'_>,
 ) -> Result<bool, ShapeCause>
     requires { IsReady buffer.old }
 {
@@ -143,7 +144,7 @@ fn record(given: &Given, buffer: &mut hb_buffer_t) -> Result<(), ShapeCause>
     Ok(())
 }
 
-fn stand(buffer: &hb_buffer_t, numbers: &mut Numbers) -> bool
+fn stand(buffer: &hb_buffer_t, numbers: &mut Numbers<'_>) -> bool
     requires { IsReady buffer.now }
 {
     if buffer.len() != numbers.count() {
@@ -157,7 +158,7 @@ fn stand(buffer: &hb_buffer_t, numbers: &mut Numbers) -> bool
     true
 }
 
-fn stands(glyph: &hb_glyph_info_t, position: GlyphPosition, numbers: &mut Numbers) -> bool {
+fn stands(glyph: &hb_glyph_info_t, position: GlyphPosition, numbers: &mut Numbers<'_>) -> bool {
     let found = (glyph.glyph_id, glyph.cluster, glyph.mask);
     let wanted = (numbers.next(), numbers.next(), numbers.next());
     let properties = numbers.small();
@@ -176,7 +177,7 @@ fn follows_the_rules(rt: HostRuntime) -> Result<(), Fail> {
     Ok(())
 }
 
-const ROWS: &str = "\
+static ROWS: &str = "\
 khmer|16384 0 0 0 0 0 0 1 3 0 3 6 97 0 0 0 16 1 0 0 98 0 0 0 16 4 0 0 99 0 0 0 16 16 0 0 0 0 0 0 0 0 0 3 98 0 0 0 16 4 0 0 0 99 0 0 0 16 16 0 0 0 97 0 0 0 16 1 0 0 0
 khmer|16384 0 0 0 0 0 0 1 3 0 3 6 97 0 0 0 18 1 0 0 98 0 0 0 18 4 0 0 99 0 0 0 18 16 0 0 0 0 0 0 0 0 0 3 97 0 0 0 18 1 0 0 0 98 3 0 0 18 4 0 0 0 99 6 0 0 18 16 0 0 0
 khmer|16384 16 0 32 0 0 0 0 1 0 1 2147483648 0 0 17 2 0 0 0 0 0 1 1 0 2147483648 0 17 2 0 0 0

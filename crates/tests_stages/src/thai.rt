@@ -8,14 +8,14 @@ use std::alloc::Global;
 use std::test::Fail;
 
 fn check(alloc: Global, row: &str) -> Result<bool, Fail> {
-    let mut numbers = Numbers::of(alloc, row)?;
+    let mut numbers = Numbers::of(row);
     let mut buffer = numbers.buffer(alloc)?;
     preprocess_text(&mut buffer)?;
-    Ok(are_wanted(&buffer, &mut numbers))
+    Ok(are_wanted(&buffer, &mut numbers) && numbers.are_there())
 }
 
 /// Whether a text has that many characters, with these numbers, clusters and properties without the continuation bit.
-fn are_wanted(buffer: &hb_buffer_t, numbers: &mut Numbers) -> bool
+fn are_wanted(buffer: &hb_buffer_t, numbers: &mut Numbers<'_>) -> bool
     requires { buffer.now.is_open ≡ false }
 {
     if buffer.len() != numbers.count() {
@@ -38,7 +38,7 @@ fn splits(rt: HostRuntime) -> Result<(), Fail> {
     Ok(())
 }
 
-const ROWS: &str = "\
+static ROWS: &str = "\
 1 1 3763 0 7 0 0 2 3789 0 12 3762 0 7
 1 1 3784 0 12 0 0 1 3784 0 12
 1 1 3635 0 7 0 0 2 3661 0 12 3634 0 7

@@ -17,8 +17,7 @@ use script_indic::masks::indic_masks;
 use script_indic::reordering::{final_reordering, initial_reordering};
 use script_indic::requests::collect_features;
 use script_indic_reordering::script::IndicMasks;
-use serde_json::Value;
-use shell_face_json::read_face;
+use shell_face_json::read_face_text;
 use std::alloc::{AllocError, Global};
 use std::test::Fail;
 
@@ -117,14 +116,9 @@ fn check_in_font(alloc: Global, face: &Face, line: &str) -> Result<bool, Fail> {
     Ok(has_masks(&map, script, &masks) && orders(alloc, &map, script, face, line)?)
 }
 
-fn check_with(alloc: Global, font: &Value, line: &str) -> Result<bool, Fail> {
-    let face = read_face(alloc, font)?;
-    check_in_font(alloc, &face, line)
-}
-
 fn check(alloc: Global, line: &str) -> Result<bool, Fail> {
-    let font = Value::from_str(alloc, field(line, 3))?;
-    check_with(alloc, &font, line)
+    let face = read_face_text(alloc, field(line, 3))?;
+    check_in_font(alloc, &face, line)
 }
 
 #[test]

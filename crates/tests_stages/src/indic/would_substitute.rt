@@ -5,20 +5,19 @@ use buffer_common::tag::Tag;
 use layout_face::Face;
 use layout_map::map::hb_ot_map_t;
 use script_indic::would_substitute::IndicWouldSubstituteFeature;
-use serde_json::Value;
-use shell_face_json::read_face;
+use shell_face_json::read_face_text;
 use std::alloc::Global;
 use std::process::Abort;
 use std::test::Fail;
 
 // The feature half forms 2 4, rphf 1 4 and 1 4 10; blwf forms 4 3, after a glyph 7 alone.
-const FONT: &str =
+static FONT: &str =
     r#"{"gsub":{"scripts":[["dev2",{"features":[0,1,2]},[]]],"features":[["blwf",[2]],["half",[0]],["rphf",[1]]],"lookups":[{"type":"ligature","subtables":[[[2,[[[4],20]]]]]},{"type":"ligature","subtables":[[[1,[[[4],21],[[4,10],21]]]]]},{"type":"chain","subtables":[{"format":"glyphs","rules":[[[7],[4,3],[],[]]]}]}]}}"#;
 
 /// A feature, whether only rules without context count, glyphs, and whether they would form.
 type Case = (&'static [u8; 4], bool, &'static [u16], bool);
 
-const CASES: [Case; 12] = [
+static CASES: &[Case] = &[
     (b"rphf", true, &[1, 4], true),
     (b"rphf", false, &[1, 4], true),
     (b"rphf", true, &[1, 4, 10], true),
@@ -41,7 +40,7 @@ fn would(map: &hb_ot_map_t, face: &Face, case: &Case) -> bool {
 
 fn hold(rt: &impl Abort, map: &hb_ot_map_t, face: &Face) {
     for case in CASES {
-        assert!(rt; would(map, face, &case) == case.3);
+        assert!(rt; would(map, face, case) == case.3);
     }
 }
 
@@ -53,7 +52,6 @@ fn hold_in_font(rt: &impl Abort, alloc: Global, face: &Face) -> Result<(), Fail>
 
 #[test]
 fn features_would_substitute(rt: HostRuntime) -> Result<(), Fail> {
-    let font = Value::from_str(rt.alloc(), FONT)?;
-    let face = read_face(rt.alloc(), &font)?;
+    let face = read_face_text(rt.alloc(), FONT)?;
     hold_in_font(&rt, rt.alloc(), &face)
 }

@@ -6,9 +6,8 @@ use buffer_glyphs::cause::ShapeCause;
 use buffer_glyphs::level::BufferClusterLevel;
 use buffer_properties::NormalizationMode;
 use buffer_unicode_tables::UnicodeTables;
-use serde_json::Value;
 use shape_normalize::expanding::expand_list;
-use shell_tables_json::read_tables;
+use shell_readers::tables::{TextTables, tables_in};
 use std::alloc::Global;
 use std::test::Fail;
 
@@ -69,8 +68,8 @@ fn font(tables: &UnicodeTables) -> RowNormalizer<'_> {
 }
 
 fn no_tables(alloc: Global) -> Result<UnicodeTables, Fail> {
-    let value = Value::from_str(alloc, "{}")?;
-    Ok(read_tables(alloc, &value)?)
+    let TextTables { characters, .. } = tables_in(alloc, b"{}")?;
+    Ok(characters)
 }
 
 /// Whether the output of the first round is in place at its end.
@@ -87,22 +86,28 @@ fn expands_in_place(
     Ok(buffer.output_in_place())
 }
 
+/// Whether each text's output stays in place where it is to.
+fn stays(alloc: Global, tables: &UnicodeTables) -> Result<bool, ShapeCause> {
+    let by = font(tables);
+    let mut is_right = expands_in_place(alloc, &by, LETTERS)?;
+    for (text, stays) in TEXTS {
+        is_right &= expands_in_place(alloc, &by, text)? == *stays;
+    }
+    Ok(is_right)
+}
+
 #[test]
 fn stays_in_place(rt: HostRuntime) -> Result<(), Fail> {
     let tables = no_tables(rt.alloc())?;
-    let by = font(&tables);
-    assert!(rt; expands_in_place(rt.alloc(), &by, LETTERS)?);
-    for (text, stays) in TEXTS {
-        let is_in_place = expands_in_place(rt.alloc(), &by, text)?;
-        assert!(rt; is_in_place == *stays);
-    }
+    let is_right = stays(rt.alloc(), &tables)?;
+    assert!(rt; is_right);
     Ok(())
 }
 
 /// How many glyphs of the normalized letters are the font's glyphs of them, in order.
-fn letters_with_glyphs(alloc: Global, by: &RowNormalizer<'_>) -> Result<usize, ShapeCause> {
+fn letters_with_glyphs(alloc: Global, tables: &UnicodeTables) -> Result<usize, ShapeCause> {
     let level = BufferClusterLevel::MonotoneCharacters;
-    let buffer = normalized(alloc, by, level, LETTERS)?;
+    let buffer = normalized(alloc, &font(tables), level, LETTERS)?;
     let glyphs = buffer.info_slice().iter().zip(GLYPHS);
     Ok(glyphs.filter(|pair| pair.0.glyph_index == pair.1.1).count())
 }
@@ -110,7 +115,7 @@ fn letters_with_glyphs(alloc: Global, by: &RowNormalizer<'_>) -> Result<usize, S
 #[test]
 fn normalizes_ten_letters(rt: HostRuntime) -> Result<(), Fail> {
     let tables = no_tables(rt.alloc())?;
-    let by = font(&tables);
-    assert!(rt; letters_with_glyphs(rt.alloc(), &by)? == 10);
+    let count = letters_with_glyphs(rt.alloc(), &tables)?;
+    assert!(rt; count == 10);
     Ok(())
 }
