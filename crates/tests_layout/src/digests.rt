@@ -31,9 +31,10 @@ fn ranges_and_glyphs(rt: HostRuntime) -> Result<(), Fail> {
 fn one_glyph(rt: HostRuntime) -> Result<(), Fail> {
     let mut set = hb_set_digest_t::new();
     set.add(3);
-    for (glyph, expected) in [(3, true), (32771, true), (67, false), (4099, false)] {
-        assert!(rt; set.may_have_glyph(glyph) == expected);
-    }
+    assert!(rt; set.may_have_glyph(3));
+    assert!(rt; set.may_have_glyph(32771));
+    assert!(rt; !set.may_have_glyph(67));
+    assert!(rt; !set.may_have_glyph(4099));
     Ok(())
 }
 

@@ -5,7 +5,7 @@ use std::alloc::{AllocError, Global};
 use std::test::Fail;
 
 // Fonts of one fault, by the keys of the format, and fonts of several, each after its first fault.
-const FAULTS: &str = r#"J1 NotJson: {"upem":"x","h":[[1,2]]
+static FAULTS: &str = r#"J1 NotJson: {"upem":"x","h":[[1,2]]
 J1 NotJson: {"upem":"x"} 1
 J2 WrongShape: []
 J2 WrongShape: {"upem":"x"}

@@ -7,14 +7,15 @@ use shell_face_json::read_by_parts;
 use std::alloc::{AllocError, Global};
 use std::test::Fail;
 
-const FONT: &str = r#"{"upem":1000,"ascender":-800,"cmap":[[97,1],[98,2]],"variants":[[97,65024,7]],
+static FONT: &str =
+    r#"{"upem":1000,"ascender":-800,"cmap":[[97,1],[98,2]],"variants":[[97,65024,7]],
 "h":[[1,501]],"v":[[1,900]],"origins":[[1,880]],"extents":[[1,10,700,480,-710]],"names":[[1,"alpha"]],"kern":1.5,
 "gdef":{"classes":[[1,1],[5,300],[7,0],[9,3]],"attach":[[9,2]],"sets":[[9,3,65535,3,0],[4],[]]}}"#;
 
 /// For a character and a selector: the glyph, whether it has one, and the glyph with the selector. For lengths: the
 /// units per em, the advances and the origin of a glyph. For classes: the class of a glyph and its attachment class.
 /// For sets: whether a glyph is in the sets 0 to 3, of which the third is empty and the last is none of the font's.
-const ANSWERS: &str = r#"character 97 65024: (Some(1), true, Some(7))
+static ANSWERS: &str = r#"character 97 65024: (Some(1), true, Some(7))
 character 97 65025: (Some(1), true, None)
 character 98 65024: (Some(2), true, None)
 character 99 65024: (None, false, None)
@@ -163,7 +164,7 @@ fn tables_of_a_font(rt: HostRuntime) -> Result<(), Fail> {
 }
 
 // A font with each key of the format and some others.
-const ALL_KEYS: &str =
+static ALL_KEYS: &str =
     r#"{"names":[[1,"\u0061lpha"],[2,"beta"]],"kern":[{"a":[null,true,[]]},"b"],"upem":1000,"h":[[1,501]],
 "v":[[1,900]],"origins":[[1,-880]],"extents":[[1,10,700,480,-710]],"cmap":[[97,1]],"variants":[[97,65024,7]],"ascender":-8,
 "gsub":{"lookups":[{"set":1,"flags":16,"type":"single","subtables":[[[1,2]]]}],"features":[["liga",[0]],["kern",[]]],

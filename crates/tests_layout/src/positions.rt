@@ -9,7 +9,7 @@ use layout_tables::value::{Anchor, ValueRecord};
 use std::alloc::{AllocError, Global};
 use std::test::Fail;
 
-pub(crate) const FONT: &str = r#"{"gpos":{"lookups":[
+pub(crate) static FONT: &str = r#"{"gpos":{"lookups":[
 {"type":"single","subtables":[[[1,[1,2,-30,4]],[4,[0,0,9,0]]]]},
 {"type":"pair","subtables":[[[1,2,[0,0,-40,0],null],[1,9,[0,0,7,0],[0,0,0,0]],[2,1,[0,0,3,0],null]],
 {"first":[3,1],"class1":[[3,1]],"class2":[[7,1]],
@@ -22,7 +22,7 @@ pub(crate) const FONT: &str = r#"{"gpos":{"lookups":[
 {"type":"chain","subtables":[]}]}}"#;
 
 /// For pairs, by the subtable and two glyphs: the advance of the first, and whether the second has a value record.
-const ANSWERS: &str = "\
+static ANSWERS: &str = "\
 gpos single 1: Some(ValueRecord { x_placement: 1, y_placement: 2, x_advance: -30, y_advance: 4 })
 gpos single 2: None
 gpos cursive 1: Some(EntryExit { entry: None, exit: Some(Anchor { x: 450, y: 100 }) })

@@ -17,7 +17,7 @@ type Asked = (usize, &'static [u8; 4], u32, u32, usize);
 type Kept = (usize, &'static [u8; 4], u32, u32, u32, usize);
 
 /// The mask of all glyphs, by case.
-const GLOBAL_MASKS: [u32; 12] = [
+static GLOBAL_MASKS: &[u32] = &[
     0x80000000, 0x80000020, 0x80000010, 0x80001ff0, 0x80000070, 0x80000030, 0x80000ff0, 0x80000ff0,
     0x80000060, 0x80001010, 0x80000050, 0x83fffff0,
 ];

@@ -185,7 +185,7 @@ fn tables_are_asked(rt: HostRuntime) -> Result<(), Fail> {
 }
 
 /// Scripts of a table, requested scripts, and the script that is selected, with whether it was requested.
-const SCRIPT_CHOICES: &str = "DFLT,dev2,deva,latn dev3,dev2,deva wanted:dev2
+static SCRIPT_CHOICES: &str = "DFLT,dev2,deva,latn dev3,dev2,deva wanted:dev2
 DFLT,dev2,dev3 dev3,dev2 wanted:dev3
 deva dev3,dev2,deva wanted:deva
 DFLT,latn latn wanted:latn
@@ -228,7 +228,7 @@ fn scripts_are_selected(rt: HostRuntime) -> Result<(), Fail> {
 
 /// Requested languages, and the first feature of the selected language system: with the default systems of both kinds,
 /// with the untagged one alone, and with neither.
-const LANGUAGE_CHOICES: [(&str, [Option<u16>; 3]); 5] = [
+static LANGUAGE_CHOICES: &[(&str, [Option<u16>; 3])] = &[
     ("DEU", [Some(1), Some(1), Some(1)]),
     ("XXX,TRK", [Some(2), Some(2), Some(2)]),
     ("TRK,DEU", [Some(2), Some(2), Some(2)]),
@@ -270,7 +270,7 @@ fn first_feature(table: &LayoutTable, script: &ScriptRecord, wanted: &[Tag]) -> 
 /// The first features of the systems that the script selects for each line of languages.
 fn selects(alloc: Global, script: &ScriptRecord, column: usize) -> Result<bool, AllocError> {
     let table = LayoutTable::new(Vec::new(alloc), Vec::new(alloc));
-    for (wanted, features) in &LANGUAGE_CHOICES {
+    for (wanted, features) in LANGUAGE_CHOICES {
         let wanted = tags_of(alloc, wanted)?;
         if features.get(column).copied() != Some(first_feature(&table, script, &wanted)) {
             return Ok(false);

@@ -6,7 +6,7 @@ use layout_tables::context::ContextSubtable;
 use std::alloc::{AllocError, Global};
 use std::test::Fail;
 
-pub(crate) const FONT: &str = r#"{"gdef":{"sets":[[9],[4]]},"gsub":{"lookups":[
+pub(crate) static FONT: &str = r#"{"gdef":{"sets":[[9],[4]]},"gsub":{"lookups":[
 {"flags":16,"set":1,"type":"single","subtables":[[[1,3],[4,0]]]},
 {"type":"multiple","subtables":[[[2,[3,4]],[7,[]]]]},
 {"type":"alternate","subtables":[[[2,[3,4]]]]},
@@ -17,7 +17,7 @@ pub(crate) const FONT: &str = r#"{"gdef":{"sets":[[9],[4]]},"gsub":{"lookups":[
 {"format":"coverage","rules":[[[[7,5]],[[3,1]],[],[]]]}]},
 {"type":"reverse","subtables":[[[[2]],[],[[1,8]]]]}]}}"#;
 
-const ANSWERS: &str = "\
+static ANSWERS: &str = "\
 gsub substitute 0 1: Some(3)
 gsub substitute 0 3: None
 gsub substitute 0 4: Some(0)

@@ -25,7 +25,7 @@ type Row = (
     bool,
 );
 
-const BY_GLYPHS: [Row; 8] = [
+static BY_GLYPHS: &[Row] = &[
     (&[], &[1, 2], &[], &[1, 2], true, true),
     (&[], &[1, 2], &[], &[1], true, false),
     (&[], &[1, 2], &[], &[1, 2, 3], true, false),
@@ -37,7 +37,7 @@ const BY_GLYPHS: [Row; 8] = [
 ];
 
 // The first glyph must be 1 or 2 beside its class.
-const BY_CLASSES: [Row; 5] = [
+static BY_CLASSES: &[Row] = &[
     (&[], &[1, 0], &[], &[1, 4], true, true),
     (&[], &[1, 0], &[], &[1, 3], true, false),
     (&[], &[1, 0], &[], &[3, 4], true, false),
