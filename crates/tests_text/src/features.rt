@@ -7,7 +7,7 @@ use std::ops::Bound;
 const NO_END: u32 = u32::MAX;
 
 // Texts of feature requests, with their tags, values, starts and ends.
-const REQUESTS: &str = r#"kern|kern|1|0|4294967295
+static REQUESTS: &str = r#"kern|kern|1|0|4294967295
 -kern|kern|0|0|4294967295
  + kern |kern|1|0|4294967295
 kern[3;5]=2|kern|2|3|5
@@ -57,7 +57,7 @@ fn requests(rt: HostRuntime) {
 }
 
 // The first is empty, and the second a space.
-const REFUSED: &str = "
+static REFUSED: &str = "
 \u{20}
 -
 kern1

@@ -22,9 +22,12 @@ fn record(word: u16, class: u8) -> hb_glyph_info_t {
     }
 }
 
-// Property words and classes with what they say: mark and its class, space and its type, joiner, non-joiner,
-// continuation, variation selector. The categories are 5 Ll, 1 Cf, 12 Mn, 29 Zs.
-const WORDS: [(u16, u8, bool, u8, bool, u8, [bool; 4]); 8] = [
+// A property word and a class with what they say: mark and its class, space and its type, joiner, non-joiner,
+// continuation, variation selector.
+type Word = (u16, u8, bool, u8, bool, u8, [bool; 4]);
+
+// The categories are 5 Ll, 1 Cf, 12 Mn, 29 Zs.
+static WORDS: &[Word] = &[
     (0x05, 7, false, 0, false, 0, [false, false, false, false]),
     (0x8C, 230, true, 230, false, 0, [false, false, true, false]),
     (0x1D, 18, false, 0, true, 18, [false, false, false, false]),
@@ -36,27 +39,30 @@ const WORDS: [(u16, u8, bool, u8, bool, u8, [bool; 4]); 8] = [
     (0x72C, 9, true, 9, false, 0, [false, false, false, false]),
 ];
 
+/// What a record says of bits: joiner, non-joiner, continuation, variation selector.
+fn bits_of(info: &hb_glyph_info_t) -> [bool; 4] {
+    [
+        _hb_glyph_info_is_zwj(info),
+        _hb_glyph_info_is_zwnj(info),
+        _hb_glyph_info_is_continuation(info),
+        _hb_glyph_info_is_variation_selector(info),
+    ]
+}
+
+fn is_read(row: &Word) -> bool {
+    let (word, class, mark, mark_class, space, space_type, bits) = *row;
+    let info = record(word, class);
+    _hb_glyph_info_is_unicode_mark(&info) == mark
+        && _hb_glyph_info_get_modified_combining_class(&info) == mark_class
+        && _hb_glyph_info_is_unicode_space(&info) == space
+        && _hb_glyph_info_get_unicode_space_fallback_type(&info) == space_type
+        && bits_of(&info) == bits
+}
+
 #[test]
 fn words_are_read(rt: HostRuntime) {
-    for (word, class, mark, mark_class, space, space_type, bits) in WORDS {
-        let info = record(word, class);
-        assert!(rt; _hb_glyph_info_is_unicode_mark(&info) == mark, "{word}");
-        assert!(rt;
-            _hb_glyph_info_get_modified_combining_class(&info) == mark_class,
-            "{word}"
-        );
-        assert!(rt; _hb_glyph_info_is_unicode_space(&info) == space, "{word}");
-        assert!(rt;
-            _hb_glyph_info_get_unicode_space_fallback_type(&info) == space_type,
-            "{word}"
-        );
-        assert!(rt; _hb_glyph_info_is_zwj(&info) == bits[0], "{word}");
-        assert!(rt; _hb_glyph_info_is_zwnj(&info) == bits[1], "{word}");
-        assert!(rt; _hb_glyph_info_is_continuation(&info) == bits[2], "{word}");
-        assert!(rt;
-            _hb_glyph_info_is_variation_selector(&info) == bits[3],
-            "{word}"
-        );
+    for row in WORDS {
+        assert!(rt; is_read(row), "{}", row.0);
     }
 }
 

@@ -161,7 +161,7 @@ fn longest_matches(rt: HostRuntime) -> Result<(), Fail> {
 }
 
 // Machines with their faults.
-const REFUSED: &str = "khmer|2|0 C 2||OutOfRange
+static REFUSED: &str = "khmer|2|0 C 2||OutOfRange
 khmer|2|2 C 0||OutOfRange
 khmer|2|0 H 1 0 C 1||OutOfOrder
 khmer|2|0 C 1 0 C 1||OutOfOrder

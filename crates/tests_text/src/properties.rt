@@ -21,7 +21,7 @@ const JOINER: u32 = IGNORABLE | HB_BUFFER_SCRATCH_FLAG_HAS_CGJ;
 // Characters with their property words before and after continuation bits are cleared, their classes and scratch flags:
 // the categories are those of UnicodeData.txt, as numbers in the order Cc Cf Cn Co Cs Ll Lm Lo Lt Lu Mc Me Mn and so
 // on.
-const PROPERTIES: [(char, u16, u16, u8, u32); 17] = [
+static PROPERTIES: &[(char, u16, u16, u8, u32)] = &[
     ('a', 5, 5, 0, ASCII),
     ('\u{7F}', 0, 0, 0, ASCII),
     ('\u{80}', 0, 0, 0, PLAIN),
@@ -78,7 +78,7 @@ fn standing_for(u: char) -> hb_glyph_info_t
 
 pub(crate) fn characters_have_words(rt: &impl Abort, tables: &UnicodeTables) {
     for (u, props, kept, class, flags) in PROPERTIES {
-        let want = (props, kept, class, 0x1000000 | flags, u32::from(u), 7);
-        assert_eq!(rt; words_of(tables, u), want, "{u:?}");
+        let want = (*props, *kept, *class, 0x1000000 | *flags, u32::from(*u), 7);
+        assert!(rt; words_of(tables, *u) == want, "{u:?}");
     }
 }

@@ -9,7 +9,7 @@ use shell_tables_json::{read_languages, read_syllables};
 use std::alloc::Global;
 use std::test::Fail;
 
-const MACHINE: &str = r#"{"syllables":{"khmer":{"states":3,
+static MACHINE: &str = r#"{"syllables":{"khmer":{"states":3,
     "next":[[0,"C",1],[1,"H",2],[2,"C",1]],"accept":[[1,"consonant"]]}}}"#;
 
 fn syllables(alloc: Global, text: &str) -> Result<SyllableTable, Fail> {

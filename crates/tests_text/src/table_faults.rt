@@ -12,7 +12,7 @@ use std::test::Fail;
 // and these are in the order of their kinds. Last, chains of decompositions: each character decomposes to the one
 // before, eight decompositions in a chain are allowed, nine are too many, and a syllable with a trailing consonant
 // decomposes twice before its leading consonant does.
-const TABLES: &str = r#"none: {}
+static TABLES: &str = r#"none: {}
 none: {"unicode":"15.0","languages":3}
 J2 WrongShape: []
 J2 WrongShape: {"splits":{}}
@@ -71,7 +71,7 @@ U3 SplitDepth: {"splits":[[4097,4096,768],[4098,4097,768],[4099,4098,768],[4100,
 
 // The value of `syllables`; in the last two, states come before steps, steps before accepting states, and Indic before
 // Khmer.
-const SYLLABLES: &str = r#"J2 WrongShape: []
+static SYLLABLES: &str = r#"J2 WrongShape: []
 none: {"splits":3}
 J2 WrongShape: {"syllables":[]}
 none: {"syllables":{"thai":3}}
@@ -91,7 +91,7 @@ J2 WrongShape: {"syllables":{"indic":{"accept":3,"next":[[0]]},"khmer":{"states"
 J4 UnknownName: {"syllables":{"khmer":{"accept":3,"next":[[0,"QQ",9]]}}}"#;
 
 // The value of `languages`.
-const LANGUAGES: &str = r#"J2 WrongShape: 3
+static LANGUAGES: &str = r#"J2 WrongShape: 3
 none: {"syllables":3}
 J2 WrongShape: {"languages":{}}
 J2 WrongShape: {"languages":[["en",["ENG"],3]]}
@@ -105,7 +105,7 @@ U1 OutOfOrder: {"languages":[["en",[]],["de",[]]]}
 U1 OutOfOrder: {"languages":[["en",[]],["en",[]],["fr",3]]}"#;
 
 // Tables that are not lawful. U+1EA1 U+0301 is U+00E1 U+0323 in another order, as long as their classes differ.
-const LAWS: &str = r#"ClassOnNonMark: {"classes":[[97,230]]}
+static LAWS: &str = r#"ClassOnNonMark: {"classes":[[97,230]]}
 none: {"splits":[[225,97,769]],"classes":[[769,230]]}
 SplitLosesClass: {"splits":[[836,776,769]],"classes":[[769,230],[836,230]]}
 SecondPartSplits: {"splits":[[836,776,769],[901,168,836]]}

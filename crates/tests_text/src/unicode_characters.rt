@@ -9,7 +9,7 @@ use std::alloc::Global;
 use std::process::Abort;
 use std::test::Fail;
 
-const TABLES: &str = r#"{"splits":[[225,97,769],[6918,6917,6965],[8491,197,0]],
+static TABLES: &str = r#"{"splits":[[225,97,769],[6918,6917,6965],[8491,197,0]],
     "pairs":[[97,769,225],[6917,6965,6918]],
     "classes":[[769,230],[803,220],[847,0]],
     "mirrored":[[40,41],[41,40]],

@@ -12,7 +12,7 @@ use std::test::Fail;
 // What is read of a value, the answer, and the value, separated by semicolons: a character followed by a number of 16
 // bits, of two faults the one that is first by its kind; a byte, a number below 70000 and a tag; a row of two, of three
 // and of four; and the number of items in `k`, none where that is no list.
-const ANSWERS: &str = r#"pair;read;[97,-2]
+static ANSWERS: &str = r#"pair;read;[97,-2]
 pair;U2 OutOfRange;[97,-32769]
 pair;U2 OutOfRange;[55296,0]
 pair;J2 WrongShape;[55296,"x"]

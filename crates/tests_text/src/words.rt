@@ -11,7 +11,7 @@ use std::alloc::{AllocError, Global};
 use std::test::Fail;
 
 // Command-line words that are refused, separated by bars.
-const REFUSED: &str = "hb_shape|--language=|a|b|c
+static REFUSED: &str = "hb_shape|--language=|a|b|c
 hb_shape|--language=en|--language=en|a|b|c
 hb_shape|--cluster-level=4|a|b|c
 hb_shape|--cluster-level=0|--cluster-level=0|a|b|c
@@ -83,7 +83,7 @@ fn other_words_are_refused(rt: HostRuntime) -> Result<(), Fail> {
 // Command-line words and what they set, separated by semicolons: direction, script, serialize flags, language, and the
 // name of the text's file. A language is any text but the empty one, in lower case; names may be anywhere among the
 // options.
-const TAKEN: &str = "hb_shape|--no-clusters|a|b|c;;;1;;c
+static TAKEN: &str = "hb_shape|--no-clusters|a|b|c;;;1;;c
 hb_shape|--no-positions|a|b|c;;;2;;c
 hb_shape|--show-extents|a|b|c;;;8;;c
 hb_shape|--show-flags|a|b|c;;;16;;c

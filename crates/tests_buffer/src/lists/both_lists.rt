@@ -24,7 +24,7 @@ pub fn puts(alloc: Global, row: &str) -> Result<bool, AllocError> {
 const LEVEL: BufferClusterLevel = BufferClusterLevel::MonotoneGraphemes;
 
 // Each glyph has all three flags and another mask bit.
-const LONG: &str =
+static LONG: &str =
     "0,6,15 0,8,15 0,3,15 0,12,15 0,5,15 0,30,15 0,9,15 0,3,15 0,21,15 0,7,15 0,15,15 0,6,15 0,40,15 0,5,15";
 
 /// The row has the end of the range, the output after the merge, and the input from 1 on. The input's range from 2 up

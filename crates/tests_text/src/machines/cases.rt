@@ -1,6 +1,6 @@
 //! Machines, texts and their syllables, in fields separated by |: shaper, number of states, steps (state, category,
 //! next state), accepting states with their kinds, categories of a text, and where each syllable ends with its kind.
-const CASES: &str = "khmer|0|||M|1 non
+static CASES: &str = "khmer|0|||M|1 non
 khmer|0|||MW|1 non
 indic|2|||Ra|1 non
 khmer|2||1 non|DOTTEDCIRCLE|1 non
