@@ -3,6 +3,7 @@ use layout_common::array::Array;
 use layout_common::coverage::{Coverage, CoverageExt};
 use layout_common::digest::{hb_set_digest_bits_pattern_t, hb_set_digest_ext, hb_set_digest_t};
 use layout_common::digested::Digested;
+use layout_common::low_bits::LowBits;
 use layout_face::layout::LayoutLookup;
 use layout_face::substitution::{SubstLookup, SubstitutionSubtables};
 use layout_tables::context::{ContextSubtable, SequenceRule};
@@ -47,6 +48,33 @@ fn long_ranges(rt: HostRuntime) -> Result<(), Fail> {
     assert!(rt; set.may_have_glyph(1000 + 61 * 512));
     assert!(rt; !set.add_range(1000, 1000 + 63 * 512));
     assert!(rt; set.may_have_glyph(999 - 512));
+    Ok(())
+}
+
+// Buckets of 64 glyphs each, whose numbers have the same ten low bits: a range of 1024 glyphs has all of them.
+#[test]
+fn low_bits(rt: HostRuntime) -> Result<(), Fail> {
+    let mut set = LowBits::new();
+    assert!(rt; set.add_range(1000, 1100));
+    for (glyph, expected) in [
+        (999, false),
+        (1000, true),
+        (1100, true),
+        (1101, false),
+        (2124, true),
+        (77, false),
+    ] {
+        assert!(rt; set.may_have_glyph(glyph) == expected);
+    }
+    let mut other = LowBits::new();
+    other.add_array(&[999, 77]);
+    assert!(rt; !set.may_have(&other));
+    other.add(76);
+    assert!(rt; set.may_have(&other));
+    assert!(rt; set.add_range(5000, 5000 + 1022));
+    assert!(rt; !set.may_have_glyph(4999));
+    assert!(rt; !set.add_range(5000, 5000 + 1023));
+    assert!(rt; set.may_have_glyph(4999));
     Ok(())
 }
 
