@@ -83,7 +83,8 @@ impl<S: Covers> Digested<S> {
     pub fn may_have_glyph(&self, glyph: u16) -> bool
         ensures { result ≡ false → S.covers self.now glyph ≡ false }
     {
-        self.low_bits.may_have_glyph(glyph)
+        // Low bits are exact in small fonts; in large ones the digest misses many glyphs that they have.
+        self.low_bits.may_have_glyph(glyph) && self.digest.may_have_glyph(glyph)
     }
 
     /// The set, which has each glyph at which it can act.
