@@ -35,8 +35,8 @@ pub fn collect_each<S: Covers, D: hb_set_digest_ext>(items: &[S], digest: &mut D
     }
 }
 
-/// Such a thing, with sets that have each glyph at which it can act: one to hold against a text's, and one to ask for a
-/// glyph. It is seen as the thing itself.
+/// Such a thing, with two sets that have each glyph at which it can act: both are asked for a glyph, and the digest is
+/// held against a text's. It is seen as the thing itself.
 #[derive(Debug, Drop)]
 pub struct Digested<S: Covers> {
     inner: S,

@@ -1,4 +1,4 @@
-//! Sets of glyphs by the low bits of their numbers.
+//! Sets of glyphs by the low bits of their numbers; rustybuzz has none.
 ghost use Rattle.std.specs.Prelude.{ℕ, List, [], ◌∷◌, ◌++◌, ◌≡◌, ◌==◌, ◌||◌, ◌%◌, ◌+◌, ◌-◌, ◌≤◌, ◌<◌, true, false};
 ghost use Rattle.layout_common.specs.Buckets.{numbers_from};
 ghost use Rattle.layout_common.specs.Coverage.{is_covered};
