@@ -21,6 +21,15 @@ pub followed_none : (draw : Drawing) (at : ℕ) (ps : List Position) → with_li
 unfolding with_link_followed
 followed_none draw at ps = refl
 
+-- a glyph without a link is drawn already
+pub linkless_followed : (draw : Drawing) (at : ℕ) (ps : List Position) → at < length ps → (position_at at ps).attach_chain ≡ pos 0 → ps ≡ with_link_followed draw (length ps) at ps
+linkless_followed draw at ps lt e =
+    let fuel : length ps ≡ suc (length ps - 1) = omega (arith, lt) in
+    let alone : parent at ps ≡ None = ap (λ (d : ℤ). link_target (length ps) at d) e in
+    let same : without_link (position_at at ps) ≡ position_at at ps = ap (λ (d : ℤ). record (position_at at ps) { attach_chain = d }) (sym e) in
+    let stays : with_link_cleared at ps ≡ ps = ap (set ps at) same ∙ set-get_or ps at zero_position in
+    sym (followed_step draw (length ps) (length ps - 1) at ps fuel ∙ ap (λ (o : Option ℕ). with_parent_drawn draw (with_link_followed draw (length ps - 1)) at o ps) alone ∙ stays)
+
 -- ---- where a link leads
 
 -- a link that leads somewhere isn't 0

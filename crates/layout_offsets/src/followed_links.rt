@@ -246,13 +246,26 @@ fn follow(positions: &mut [GlyphPosition], start: usize, direction: Direction)
     }
 }
 
+/// Draws a glyph with all glyphs that it is attached to. Most are attached to none, and need no walk.
+#[tactic(auto, using(crate::proofs::Going::linkless_followed))]
+fn draw_linked(positions: &mut [GlyphPosition], at: usize, direction: Direction)
+    requires here { at < length positions.old }
+    requires shut { are_shut positions.old }
+    ensures drawn { positions.new ≡ with_link_followed (drawn_by_sums direction) (length positions.old) at positions.old }
+    ensures shut { are_shut positions.new }
+{
+    if positions[at].attach_chain != 0 {
+        follow(positions, at, direction);
+    }
+}
+
 /// Draws all glyphs, where advances are sums.
 fn follow_all(positions: &mut [GlyphPosition], direction: Direction)
     requires shut { are_shut positions.old }
     ensures { positions.new ≡ with_links_followed (drawn_by_sums direction) positions.old }
 {
     for i in 0..positions.len() {
-        follow(positions, i, direction);
+        draw_linked(positions, i, direction);
     }
 }
 
