@@ -22,6 +22,7 @@ use Rattle.buffer_core.specs.Grouping.{with_deleted}
 use Rattle.buffer_core.specs.Merging.{index_in_all, with_has_glyph_flags, with_merged, with_output_glyph, with_output_info, with_replaced, with_replaced_glyph}
 use Rattle.buffer_core.specs.Moving.{after_move_to}
 use Rattle.buffer_core.specs.Sides.{after_next_glyphs, after_sync, zero_positions}
+use Rattle.buffer_core.proofs.Kept.{take_on}
 use Rattle.buffer_core.proofs.Merged.{merged_sides, same_marks}
 
 cluster_of : hb_glyph_info_t → ℕ
@@ -85,6 +86,34 @@ order_passed o gs new front idx k out in_ h =
     let rest : drop (idx + k) new ≡ drop k (drop idx gs) = in_ ∙ sym (drop-drop k idx gs) in
     order_same o (take front gs) (drop idx gs) (take (front + k) new) (drop (idx + k) new)
     (ap (λ xs. xs ++ drop (idx + k) new) out ∙ ap (λ xs. (take front gs ++ take k (drop idx gs)) ++ xs) rest ∙ append_assoc (take front gs) (take k (drop idx gs)) (drop k (drop idx gs)) ∙ ap (λ xs. take front gs ++ xs) (take-append-drop k (drop idx gs))) h
+
+-- the same where the output has as many glyphs as were read
+pub along_view : (b : Inside) (k : ℕ) → b.have_output ≡ true → b.is_apart ≡ false → b.front ≡ b.idx
+    → sides_of (record b { front = b.front + k; idx = b.idx + k }) ≡ after_next_glyphs k (sides_of b)
+along_view b k h a e =
+    passed_view b b.info b.order k h a (take_on b.info.items b.front k ∙ ap (λ n. take b.front b.info.items ++ take k (drop n b.info.items)) e) refl
+
+cut_on : (ns : List ℕ) (m n k : ℕ) → m ≡ n → take (m + k) ns ++ drop (n + k) ns ≡ take m ns ++ drop n ns
+cut_on ns m n k e =
+    ap (λ j. take (j + k) ns ++ drop (n + k) ns) e ∙ take-append-drop (n + k) ns ∙ sym (take-append-drop n ns) ∙ ap (λ j. take j ns ++ drop n ns) (sym e)
+
+pub sound_along : (b : Inside) (k : ℕ) → IsSound b → b.have_output ≡ true → b.is_apart ≡ false → b.front ≡ b.idx → b.idx + k ≤ length b.info.items
+    → IsSound (record b { front = b.front + k; idx = b.idx + k })
+sound_along b k s h a e within =
+    let ns : List ℕ = known_input_clusters b.order.lent (clusters b.info.items) in
+    let before : HasOrder b.order.known (take b.front ns ++ drop b.idx ns) = rw (h, a) at s.ordered in
+    record {
+      cursor = within;
+      input_within = s.input_within;
+      output_within = s.output_within;
+      closed = s.closed;
+      placed = s.placed;
+      together = s.together;
+      front = rw (h, a) (omega (arith, e));
+      emptied = s.emptied;
+      counted = s.counted;
+      ordered = rw (h, a) (subst (HasOrder b.order.known) (sym (cut_on ns b.front b.idx k e)) before);
+    }
 
 -- glyphs that went back
 pub backed_view : (b : Inside) (info : Vec hb_glyph_info_t) (order : ClusterOrder) (i at : ℕ) → b.have_output ≡ true → b.is_apart ≡ false → b.front ≤ b.idx → length (take b.front b.info.items) ≡ b.front → i ≤ b.front → at ≡ b.idx - (b.front - i)

@@ -48,7 +48,8 @@ no_take zero none e = sym e
 no_take (suc m) [] e = refl
 no_take (suc m) (x ∷ xs) e = cc
 
-take_on : (xs : List hb_glyph_info_t) (n k : ℕ) → take (n + k) xs ≡ take n xs ++ take k (drop n xs)
+-- a longer front is the front and what follows it
+pub take_on : (xs : List hb_glyph_info_t) (n k : ℕ) → take (n + k) xs ≡ take n xs ++ take k (drop n xs)
 take_on xs zero k = let same : 0 + k ≡ k = omega arith in ap (λ m. take m xs) same
 take_on [] (suc n) k =
     let more : suc n + k ≡ suc (n + k) = omega arith in

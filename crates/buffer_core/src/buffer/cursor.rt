@@ -185,6 +185,35 @@ impl hb_buffer_t {
         ensures moved { self.new ≡ after_next_glyphs count self.old }
         ensures room { has_output_room count self.old ≡ true }
     {
+        if self.front == self.idx {
+            self.pass_along(count);
+        } else {
+            self.pass_over(count);
+        }
+    }
+
+    /// The same where the output has as many glyphs as were read: each glyph is in its place already. Clusters stay as
+    /// they are, with that of a lent glyph.
+    fn pass_along(&mut self, count: usize)
+        requires open { self.old.is_open ≡ true }
+        requires in_place { self.old.is_apart ≡ false }
+        requires even { self.old.read ≡ length self.old.behind }
+        requires there { count ≤ length self.old.ahead }
+        ensures moved { self.new ≡ after_next_glyphs count self.old }
+        ensures room { has_output_room count self.old ≡ true }
+    {
+        self.front += count;
+        self.idx += count;
+    }
+
+    /// The same where the output may have fewer: the glyphs are copied to its end.
+    fn pass_over(&mut self, count: usize)
+        requires open { self.old.is_open ≡ true }
+        requires in_place { self.old.is_apart ≡ false }
+        requires there { count ≤ length self.old.ahead }
+        ensures moved { self.new ≡ after_next_glyphs count self.old }
+        ensures room { has_output_room count self.old ≡ true }
+    {
         self.order.settle(&self.out_info, &self.info);
         over::pass(&mut self.info, self.front, self.idx, count);
         self.front += count;

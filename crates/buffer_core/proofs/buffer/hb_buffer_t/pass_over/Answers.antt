@@ -5,7 +5,7 @@ use Rattle.buffer_core.proofs.Slices.{all_put}
 use Rattle.buffer_core.specs.Sides.{after_next_glyphs}
 use Rattle.buffer_core.proofs.InPlace.{front_before, order_passed, over_room, passed_view, settled_over, sound_over, front_long}
 use Rattle.buffer_core.proofs.Room.{more_ahead}
-use Rattle.buffer_core.proofs.buffer.hb_buffer_t.pass.Goals as goal
+use Rattle.buffer_core.proofs.buffer.hb_buffer_t.pass_over.Goals as goal
 
 pub returns-clause-moved : goal.returns-clause-moved
 returns-clause-moved c =
