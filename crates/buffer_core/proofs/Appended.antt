@@ -9,6 +9,7 @@ use Rattle.buffer_lists.specs.declared.order.ClusterOrder.{ClusterOrder}
 use Rattle.buffer_glyphs.specs.Items.{clusters}
 use Rattle.buffer_lists.specs.Known.{HasOrder}
 use Rattle.buffer_core.specs.Inside.{sides_of, IsSound}
+use Rattle.buffer_core.proofs.Cleared.{zero_added}
 use Rattle.buffer_core.specs.Sides.{with_added}
 use Rattle.buffer_core.specs.Appended.{IsAppended}
 
@@ -40,5 +41,6 @@ appended_sound b info positions order gs h s back o le a =
       front = rw h tt;
       emptied = rw h tt;
       counted = rw h tt;
+      cleared = zero_added b.is_placed b.pos.items positions.items (length gs) a.positions s.cleared;
       ordered = rw (h, none, a.glyphs, back, map-append cluster_of b.info.items gs) o;
     }

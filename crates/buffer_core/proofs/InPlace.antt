@@ -63,6 +63,7 @@ sound_over b info order front idx flags s h a long le within back o =
       front = rw (h, a) le;
       emptied = s.emptied;
       counted = rw (h, a) (count ∙ sym long);
+      cleared = s.cleared;
       ordered = rw (h, a, back) known;
     }
 
@@ -112,6 +113,7 @@ sound_along b k s h a e within =
       front = rw (h, a) (omega (arith, e));
       emptied = s.emptied;
       counted = s.counted;
+      cleared = s.cleared;
       ordered = rw (h, a) (subst (HasOrder b.order.known) (sym (cut_on ns b.front b.idx k e)) before);
     }
 

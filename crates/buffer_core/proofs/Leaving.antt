@@ -62,6 +62,7 @@ sound_refused b out order s h same back o = record {
   front = s.front;
   emptied = rw same s.emptied;
   counted = s.counted;
+  cleared = s.cleared;
   ordered = by_test b.is_apart refl;
 }
   where
@@ -88,6 +89,7 @@ sound_left b info out order idx flags s h long within few back o = record {
   front = rw h tt;
   emptied = rw h tt;
   counted = rw h tt;
+  cleared = s.cleared;
   ordered = rw (h, back) (known_back order.known out.items info.items idx idx refl o);
 }
 

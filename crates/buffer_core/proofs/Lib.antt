@@ -1,6 +1,7 @@
 pub mod Rooms
 pub mod Told
 pub mod Chars
+pub mod Cleared
 pub mod Context
 pub mod Counted
 pub mod Written

@@ -4,7 +4,7 @@ use Rattle.std.specs.Bool.{OnFalse, OnTrue}
 use Rattle.buffer_core.specs.declared.buffer.hb_buffer_t.TheInside.{Inside}
 use Rattle.buffer_glyphs.specs.Items.{clusters}
 use Rattle.buffer_lists.specs.Known.{HasOrder, known_input_clusters, known_output_clusters}
-use Rattle.buffer_core.specs.Sides.{Sides}
+use Rattle.buffer_core.specs.Sides.{Sides, zero_positions}
 use Rattle.buffer_core.specs.Settings.{number_set}
 
 -- the sides that clients see, of a buffer's fields
@@ -56,4 +56,6 @@ pub record IsSound (b : Inside) : Type 0 where
   pub front : OnTrue (in_place b) (b.front ≤ b.idx)
   pub emptied : OnTrue (in_place b) (b.out_info.items ≡ [])
   pub counted : OnTrue (in_place b) (length b.pos.items ≡ length b.info.items)
+  -- where no position may be other than zero, each is zero
+  pub cleared : OnFalse b.is_placed (b.pos.items ≡ zero_positions (length b.pos.items))
   pub ordered : HasOrder b.order.known (known_clusters b)

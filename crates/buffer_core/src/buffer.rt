@@ -50,6 +50,8 @@ pub struct hb_buffer_t {
     // the cursor have no meaning.
     info: Vec<hb_glyph_info_t>,
     pos: Vec<GlyphPosition>,
+    // Whether a position may be other than zero. While none is, they need not be cleared.
+    is_placed: bool,
     out_info: Vec<hb_glyph_info_t>,
     idx: usize,
     have_output: bool,
@@ -113,6 +115,7 @@ impl hb_buffer_t {
         hb_buffer_t {
             info: Vec::new(alloc),
             pos: Vec::new(alloc),
+            is_placed: false,
             out_info: Vec::new(alloc),
             idx: 0,
             have_output: false,
@@ -142,6 +145,7 @@ impl hb_buffer_t {
     {
         self.info.clear();
         self.pos.clear();
+        self.is_placed = false;
         self.out_info.clear();
         self.idx = 0;
         self.have_output = false;

@@ -1,5 +1,6 @@
 //! The buffer's cursor calls (rustybuzz: hb/buffer.rs).
 ghost use Rattle.std.specs.Prelude.{◌≡◌, ◌<◌, ◌≤◌, ◌+◌, ◌-◌, ◌^◌, ◌++◌, [], drop, length, vec_len, not, true, false, Some, OnOk, OnErr, IfOk, slice_get};
+ghost use Rattle.std.specs.Bool.{OnFalse};
 ghost use Rattle.std.specs.Borrow.{sem};
 ghost use Rattle.buffer_core.specs.Sides.{all_glyphs, has_output_room, with_output, after_next_glyphs, fits_next, fits_joined, after_sync, after_refusal, zero_positions};
 ghost use Rattle.buffer_core.specs.Lending.{LendsGlyph, LendsLast, LendsPosition};
@@ -146,6 +147,7 @@ impl hb_buffer_t {
         ensures value { slice_get self.old.positions self.old.read ≡ Some result.now }
         ensures* writes_back { sem 𝓛 (LendsPosition self.entry result) }
     {
+        self.is_placed = true;
         &mut self.pos[self.idx]
     }
 
@@ -273,7 +275,8 @@ impl hb_buffer_t {
     {
         self.order.settle(&self.out_info, &self.info);
         over::join(&mut self.info, self.front, self.idx);
-        reset_positions(&mut self.pos, self.info.len());
+        reset_positions(&mut self.pos, self.is_placed, self.info.len());
+        self.is_placed = false;
         self.have_output = false;
         self.idx = 0;
     }
@@ -286,7 +289,14 @@ impl hb_buffer_t {
         ensures err { OnErr result (self.new ≡ self.old) }
     {
         self.order.settle(&self.out_info, &self.info);
-        join_lists(&mut self.info, self.idx, &mut self.out_info, &mut self.pos)?;
+        join_lists(
+            &mut self.info,
+            self.idx,
+            &mut self.out_info,
+            &mut self.pos,
+            self.is_placed,
+        )?;
+        self.is_placed = false;
         self.have_output = false;
         self.is_apart = false;
         self.idx = 0;
@@ -294,13 +304,34 @@ impl hb_buffer_t {
     }
 }
 
-/// As many zero positions as there are glyphs.
-fn reset_positions(positions: &mut Vec<GlyphPosition>, count: usize)
-    requires { count ≤ vec_len positions.old }
+/// As many zero positions as there are glyphs. Only where some may be other than zero are they written.
+#[tactic(auto, using(crate::proofs::Cleared::zero_cut))]
+fn reset_positions(positions: &mut Vec<GlyphPosition>, is_placed: bool, count: usize)
+    requires there { count ≤ vec_len positions.old }
+    requires cleared { OnFalse is_placed (positions.old.items ≡ zero_positions (length positions.old.items)) }
     ensures { positions.new.items ≡ zero_positions count }
 {
     positions.truncate(count);
-    positions.fill(GlyphPosition::default());
+    if is_placed {
+        positions.fill(GlyphPosition::default());
+    }
+}
+
+/// So many zero positions in place of those that there are. Only where some may be other than zero are these written.
+#[tactic(auto, using(crate::proofs::Cleared::zero_of_length))]
+fn resize_positions(
+    positions: &mut Vec<GlyphPosition>,
+    is_placed: bool,
+    count: usize,
+) -> Result<(), AllocError>
+    requires { OnFalse is_placed (positions.old.items ≡ zero_positions (length positions.old.items)) }
+    ensures ok { OnOk result (positions.new.items ≡ zero_positions count) }
+    ensures err { OnErr result (positions.new.items ≡ zero_positions (length positions.new.items)) }
+{
+    if is_placed {
+        positions.clear();
+    }
+    positions.resize(count, GlyphPosition::default())
 }
 
 /// Appends the rest of the input, from an index on, to the output, which becomes the list, with zero positions.
@@ -309,21 +340,24 @@ fn join_lists(
     from: usize,
     output: &mut Vec<hb_glyph_info_t>,
     positions: &mut Vec<GlyphPosition>,
+    is_placed: bool,
 ) -> Result<(), AllocError>
     requires there { from ≤ vec_len info.old }
+    requires cleared { OnFalse is_placed (positions.old.items ≡ zero_positions (length positions.old.items)) }
     requires small { vec_len output.old + (vec_len info.old - from) < 2 ^ 64 }
     ensures joined { OnOk result (info.new.items ≡ output.old.items ++ drop from info.old.items) }
     ensures emptied { OnOk result (output.new.items ≡ []) }
     ensures placed { OnOk result
         (positions.new.items ≡ zero_positions (length output.old.items + (length info.old.items - from))) }
+    ensures cleared_err { OnErr result
+        (OnFalse is_placed (positions.new.items ≡ zero_positions (length positions.new.items))) }
     ensures input_err { OnErr result (info.new.items ≡ info.old.items) }
     ensures output_err { OnErr result (output.new.items ≡ output.old.items) }
 {
     let rest = info.len() - from;
     let count = output.len() + rest;
     output.reserve(rest)?;
-    positions.clear();
-    positions.resize(count, GlyphPosition::default())?;
+    resize_positions(positions, is_placed, count)?;
     output.extend_from_slice(&info[from..]).unwrap();
     mem::swap(info, output);
     output.clear();

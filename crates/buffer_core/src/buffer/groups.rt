@@ -93,6 +93,7 @@ impl hb_buffer_t {
             merge,
             group,
         );
+        self.is_placed = true;
         self.scratch_flags = add_has_glyph_flags(marked, self.scratch_flags);
     }
 
@@ -125,6 +126,7 @@ impl hb_buffer_t {
         );
         self.info.truncate(kept);
         self.pos.truncate(kept);
+        self.is_placed = true;
         self.idx = self.idx.min(self.info.len());
         self.scratch_flags = add_has_glyph_flags(marked, self.scratch_flags);
     }

@@ -59,6 +59,7 @@ impl hb_buffer_t {
         ensures value { result.now ≡ self.old.positions }
         ensures* writes_back { sem 𝓛 (LendsPositions self.entry result) }
     {
+        self.is_placed = true;
         &mut self.pos
     }
 }

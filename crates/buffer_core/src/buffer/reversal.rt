@@ -19,6 +19,7 @@ impl hb_buffer_t {
     {
         self.order.settle(&self.out_info, &self.info);
         self.order.known = self.order.known.reversed();
+        self.is_placed = true;
         self.info.reverse();
         self.pos.reverse();
     }
@@ -36,13 +37,18 @@ impl hb_buffer_t {
         self.order = ClusterOrder::of(KnownOrder::Unknown);
         turn_glyphs(&mut self.info, start, end);
         turn_positions(&mut self.pos, start, end);
+        self.is_placed = true;
     }
 
     /// Resets every position to zero.
     pub fn clear_positions(&mut self)
         ensures { self.new ≡ with_cleared_positions self.old }
     {
+        if !self.is_placed {
+            return;
+        }
         self.pos.fill(GlyphPosition::default());
+        self.is_placed = false;
     }
 }
 

@@ -111,6 +111,7 @@ impl hb_buffer_t {
             return Ok(false);
         }
         resize_lists(&mut self.info, &mut self.pos, n)?;
+        self.is_placed = true;
         self.idx = self.idx.min(n);
         self.order = ClusterOrder::of(KnownOrder::Unknown);
         Ok(true)

@@ -16,5 +16,6 @@ invariant_of-self c =
       front = omega arith;
       emptied = rw closed at c.self.invariant.closed;
       counted = rw closed at c.self.invariant.placed;
+      cleared = c.self.invariant.cleared;
       ordered = known_opened b closed (rw closed at c.self.invariant.closed) c.self.invariant.ordered;
     }

@@ -3,6 +3,7 @@ use Rattle.std.proofs.lemmas.Grind.{common_steps}
 use Rattle.std.proofs.lemmas.List.{length-replicate}
 use Rattle.buffer_glyphs.specs.Items.{zero_position}
 use Rattle.buffer_core.specs.Sides.{after_sync}
+use Rattle.buffer_core.proofs.Cleared.{cleared_as}
 use Rattle.buffer_core.proofs.InPlace.{closed_view, order_joined_over, settled_over}
 use Rattle.buffer_core.proofs.Room.{joined_within}
 use Rattle.buffer_core.proofs.buffer.hb_buffer_t.close_up.Goals as goal
@@ -34,5 +35,6 @@ invariant_of-self c =
       front = tt;
       emptied = tt;
       counted = tt;
+      cleared = cleared_as _ c.reset_positions.ensures;
       ordered = rw (none, c.settle.ensures.back) (order_joined_over c.settle.new.self.known b.info.items c.join.new.glyphs.items b.front b.idx c.join.ensures settled);
     }

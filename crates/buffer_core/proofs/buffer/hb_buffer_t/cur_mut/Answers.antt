@@ -28,5 +28,6 @@ invariant_of-self-lent c w =
       front = c.self.invariant.front;
       emptied = c.self.invariant.emptied;
       counted = long_kept b _ (length-set b.info.items (b.idx + c.args.i) w) c.self.invariant.counted;
+      cleared = c.self.invariant.cleared;
       ordered = rw c.index.ensures (rw back at known);
     }

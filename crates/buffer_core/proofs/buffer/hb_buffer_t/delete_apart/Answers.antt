@@ -67,5 +67,6 @@ invariant_of-self c =
       front = rw (open_now, apart) tt;
       emptied = rw (open_now, apart) tt;
       counted = rw (open_now, apart) tt;
+      cleared = c.self.invariant.cleared;
       ordered = rw (open_now, apart) (none_lent known c.settle.new.self.lent out.items info.items (b.idx + 1) c.settle.ensures.back (known_back known out.items info.items (b.idx + 1) (b.idx + 1) refl after));
     }

@@ -113,5 +113,6 @@ invariant_of-self c =
       front = rw (open_now c, apart c) tt;
       emptied = rw (open_now c, apart c) tt;
       counted = rw (open_now c, apart c) tt;
+      cleared = c.self.invariant.cleared;
       ordered = rw (open_now c, apart c, kept_info, kept_out) (rw (open_now c, apart c) at c.self.invariant.ordered);
     }

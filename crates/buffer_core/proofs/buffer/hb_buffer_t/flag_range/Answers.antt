@@ -43,5 +43,6 @@ invariant_of-self c =
       front = c.self.invariant.front;
       emptied = c.self.invariant.emptied;
       counted = long_kept b _ (ap length info ∙ flagged_length c.args.flags c.args.start c.args.end b.info.items c.requires.ordered) c.self.invariant.counted;
+      cleared = c.self.invariant.cleared;
       ordered = rw (info, clusters_flagged c.args.flags c.args.start c.args.end b.info.items c.requires.ordered) c.self.invariant.ordered;
     }

@@ -19,5 +19,6 @@ invariant_of-self-lent c w =
       front = rw closed tt;
       emptied = rw closed tt;
       counted = rw closed tt;
+      cleared = c.self.invariant.cleared;
       ordered = rw c.of-self-inside.ensures.known tt;
     }

@@ -1,5 +1,6 @@
 use Rattle.std.proofs.Common.{◌≡◌, ◌++◌, not, true, drop, refl, arith, ap, ◌∙◌}
 use Rattle.buffer_core.specs.Sides.{after_sync}
+use Rattle.buffer_core.proofs.Cleared.{cleared_as}
 use Rattle.buffer_core.proofs.Ordered.{none_lent, order_joined}
 use Rattle.buffer_core.proofs.Room.{joined_places, joined_view, joined_within}
 use Rattle.buffer_core.proofs.buffer.hb_buffer_t.join.Goals as goal
@@ -30,6 +31,7 @@ invariant_of-self c =
       front = rw (open_now, apart) tt;
       emptied = rw (open_now, apart) tt;
       counted = rw (open_now, apart) tt;
+      cleared = c.in_err-join_lists.ensures.cleared_err;
       ordered = rw (open_now, apart, input, output) (none_lent c.settle.new.self.known c.settle.new.self.lent b.out_info.items b.info.items b.idx c.settle.ensures.back known);
     }
 
@@ -52,5 +54,6 @@ invariant_of-self-2 c =
       front = tt;
       emptied = tt;
       counted = tt;
+      cleared = cleared_as _ c.in_ok-join_lists.ensures.placed;
       ordered = rw (c.in_ok-join_lists.ensures.emptied, c.settle.ensures.back) (order_joined c.settle.new.self.known b.out_info.items b.info.items c.join_lists.new.info.items b.idx input known);
     }

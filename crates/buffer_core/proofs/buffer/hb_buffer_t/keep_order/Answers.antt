@@ -17,5 +17,6 @@ invariant_of-self c =
       front = c.self.invariant.front;
       emptied = c.self.invariant.emptied;
       counted = c.self.invariant.counted;
+      cleared = c.self.invariant.cleared;
       ordered = none_lent_any b c.of-self-inside.result.known c.of-self-inside.result.lent b.out_info.items b.info.items c.of-self-inside.ensures.lent refl refl (rw c.of-self-inside.ensures.known known);
     }

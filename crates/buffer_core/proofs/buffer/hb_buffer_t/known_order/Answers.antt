@@ -23,5 +23,6 @@ invariant_of-self c =
       front = c.self.invariant.front;
       emptied = c.self.invariant.emptied;
       counted = c.self.invariant.counted;
+      cleared = c.self.invariant.cleared;
       ordered = none_lent_any b c.settle.new.self.known c.settle.new.self.lent b.out_info.items b.info.items c.settle.ensures.back refl refl known;
     }

@@ -55,6 +55,7 @@ invariant_of-self c =
       front = c.self.invariant.front;
       emptied = c.self.invariant.emptied;
       counted = long_kept b _ (ap length info ∙ marked_length c.args.flags c.args.start c.args.end b.info.items c.requires.ordered) c.self.invariant.counted;
+      cleared = c.self.invariant.cleared;
       ordered = none_lent_any b c.settle.new.self.known c.settle.new.self.lent b.out_info.items (with_items b.info c.mark_within-any.new.glyphs).items c.settle.ensures.back refl
           (ap clusters info ∙ clusters_marked c.args.flags c.args.start c.args.end b.info.items c.requires.ordered) known;
     }

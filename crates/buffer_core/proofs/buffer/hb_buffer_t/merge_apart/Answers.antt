@@ -84,5 +84,6 @@ invariant_of-self c =
       front = outside b _ (rw (← c.self.view_is) at c.requires.apart);
       emptied = outside b _ (rw (← c.self.view_is) at c.requires.apart);
       counted = outside b _ (rw (← c.self.view_is) at c.requires.apart);
+      cleared = c.self.invariant.cleared;
       ordered = known_inside b merged.result.1 _ _ (rw (← c.self.view_is) at c.requires.apart) (none_lent merged.result.1 c.settle.new.self.lent out.items info.items (start_of b) c.settle.ensures.back (known_back merged.result.1 out.items info.items from (start_of b) begins (rw (behind, ahead) merged.ensures.order)));
     }

@@ -71,5 +71,6 @@ invariant_of-self c =
       front = rw (open_now, apart) tt;
       emptied = rw (open_now, apart) tt;
       counted = rw (open_now, apart) tt;
+      cleared = c.self.invariant.cleared;
       ordered = rw (open_now, apart) (none_lent merged.result c.settle.new.self.lent out.items info.items b.idx c.settle.ensures.back (known_back merged.result out.items info.items b.idx b.idx refl (rw (behind, ahead) merged.ensures.order)));
     }

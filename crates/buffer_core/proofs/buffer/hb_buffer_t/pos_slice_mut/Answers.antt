@@ -19,5 +19,6 @@ invariant_of-self-lent c w =
       front = rw closed tt;
       emptied = rw closed tt;
       counted = rw closed tt;
+      cleared = tt;
       ordered = c.self.invariant.ordered;
     }

@@ -32,6 +32,7 @@ invariant_of-self-lent c w =
       front = c.self.invariant.front;
       emptied = c.self.invariant.emptied;
       counted = long_kept b _ (length-set b.info.items (b.idx - 1) w) c.self.invariant.counted;
+      cleared = c.self.invariant.cleared;
       ordered = rw c.index.ensures (rw back at known);
     }
 
@@ -70,6 +71,7 @@ invariant_of-self-lent-then-not-self-2 c w =
       front = c.self.invariant.front;
       emptied = c.self.invariant.emptied;
       counted = long_kept b _ even c.self.invariant.counted;
+      cleared = c.self.invariant.cleared;
       ordered = rw c.index-then-not-self-2.ensures (rw back at known);
     }
 
@@ -105,5 +107,6 @@ invariant_of-self-lent-2 c w =
       front = rw (open_now, apart) tt;
       emptied = rw (open_now, apart) tt;
       counted = rw (open_now, apart) tt;
+      cleared = c.self.invariant.cleared;
       ordered = rw (open_now, apart, c.index-2.ensures) (rw back at known);
     }

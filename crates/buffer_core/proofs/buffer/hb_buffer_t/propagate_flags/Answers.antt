@@ -61,5 +61,6 @@ invariant_of-self c =
       front = rw (closed c) tt;
       emptied = rw (closed c) tt;
       counted = rw (closed c) tt;
+      cleared = c.self.invariant.cleared;
       ordered = rw (closed c, info, same) (rw (closed c) at c.self.invariant.ordered);
     }

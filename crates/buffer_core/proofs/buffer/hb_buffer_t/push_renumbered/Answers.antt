@@ -32,6 +32,7 @@ invariant_of-self c =
       front = rw (open_now, apart) tt;
       emptied = rw (open_now, apart) tt;
       counted = rw (open_now, apart) tt;
+      cleared = c.self.invariant.cleared;
       ordered = rw (open_now, apart, same) (none_lent c.settle.new.self.known c.settle.new.self.lent b.out_info.items b.info.items b.idx c.settle.ensures.back known);
     }
 
@@ -54,5 +55,6 @@ invariant_of-self-2 c =
       front = rw (open_now, apart) tt;
       emptied = rw (open_now, apart) tt;
       counted = rw (open_now, apart) tt;
+      cleared = c.self.invariant.cleared;
       ordered = rw (open_now, apart) (none_lent _ _ _ _ _ c.settle.ensures.back (order_renumbered c.settle.new.self.known b.out_info.items b.info.items c.push.new.self.items b.idx _ _ there c.in_ok-push.ensures.items (ap (λ (g : hb_glyph_info_t). g.cluster) c.index.ensures) known));
     }

@@ -30,5 +30,6 @@ invariant_of-self c =
       front = rw closed tt;
       emptied = rw closed tt;
       counted = rw closed tt;
+      cleared = c.self.invariant.cleared;
       ordered = rw (closed, none, c.number_all.ensures.items, c.of-self-inside.ensures.known, c.of-self-inside.ensures.lent, clusters_counted 0 c.self.inside.info.items) (counted_rises 0 c.self.inside.info.items);
     }

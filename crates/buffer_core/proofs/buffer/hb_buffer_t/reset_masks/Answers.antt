@@ -48,5 +48,6 @@ invariant_of-self c =
       front = c.self.invariant.front;
       emptied = none_kept b _ (ap length out ∙ length-map b.out_info.items f) c.self.invariant.emptied;
       counted = long_kept b _ (ap length info ∙ length-map b.info.items f) c.self.invariant.counted;
+      cleared = c.self.invariant.cleared;
       ordered = rw (info, out, clusters_masked c.args.mask b.info.items, clusters_masked c.args.mask b.out_info.items) c.self.invariant.ordered;
     }

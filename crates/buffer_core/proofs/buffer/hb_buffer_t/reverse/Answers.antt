@@ -37,5 +37,6 @@ invariant_of-self c =
       front = rw closed tt;
       emptied = rw closed tt;
       counted = rw closed tt;
+      cleared = tt;
       ordered = rw (closed, none, c.reverse.ensures.items, c.settle.ensures.back, ← clusters_reversed c.self.inside.info.items) known;
     }

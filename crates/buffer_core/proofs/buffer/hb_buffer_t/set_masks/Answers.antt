@@ -48,5 +48,6 @@ invariant_of-self c =
       front = c.self.invariant.front;
       emptied = none_kept b _ (ap length out ∙ length-map b.out_info.items f) c.self.invariant.emptied;
       counted = long_kept b _ (ap length info ∙ length-map b.info.items f) c.self.invariant.counted;
+      cleared = c.self.invariant.cleared;
       ordered = rw (info, out, clusters_set c.args.value c.args.mask c.args.cluster_start c.args.cluster_end b.info.items, clusters_set c.args.value c.args.mask c.args.cluster_start c.args.cluster_end b.out_info.items) c.self.invariant.ordered;
     }

@@ -30,5 +30,6 @@ invariant_of-self c =
       front = front_skipped b c.self.invariant.front;
       emptied = c.self.invariant.emptied;
       counted = c.self.invariant.counted;
+      cleared = c.self.invariant.cleared;
       ordered = known_skipped b open_now c.self.invariant.ordered;
     }

@@ -52,5 +52,6 @@ invariant_of-self-2 g c =
       front = rw closed tt;
       emptied = rw closed tt;
       counted = rw closed tt;
+      cleared = c.self.invariant.cleared;
       ordered = rw (closed, none, c.of-self-inside.ensures.known, c.of-self-inside.ensures.lent, items) kept;
     }

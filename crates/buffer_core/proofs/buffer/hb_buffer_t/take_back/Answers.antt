@@ -39,5 +39,6 @@ invariant_of-self-2 c =
       front = rw (open_now, apart) tt;
       emptied = rw (open_now, apart) tt;
       counted = rw (open_now, apart) tt;
+      cleared = c.self.invariant.cleared;
       ordered = rw (open_now, apart) (none_lent _ _ _ _ _ c.settle.ensures.back (order_back c.settle.new.self.known b.out_info.items b.info.items c.truncate.new.self.items c.put_in_front.new.info.items b.idx c.in_ok-first.first c.args.i c.truncate.ensures.items input known));
     }

@@ -28,5 +28,6 @@ invariant_of-self c =
       front = c.self.invariant.front;
       emptied = c.self.invariant.emptied;
       counted = c.self.invariant.counted;
+      cleared = c.self.invariant.cleared;
       ordered = rw (closed, none, c.settle.ensures.back) walked;
     }
