@@ -1,6 +1,6 @@
 -- A merge in order, part by part.
 use Rattle.std.specs.Prelude.{slice_range}
-use Rattle.std.proofs.Common.{ℕ, zero, suc, ◌≡◌, ◌≤◌, ◌<◌, ◌+◌, ◌-◌, inl, inr, Bool, true, false, List, [], ◌∷◌, ◌++◌, Some, slice_get, length, map, take, drop, get_or, arith, refl, ap, sym, subst, ◌∙◌, append_assoc}
+use Rattle.std.proofs.Common.{ℕ, zero, suc, ◌≡◌, ◌≤◌, ◌<◌, ◌+◌, ◌-◌, inl, inr, Bool, true, false, List, [], ◌∷◌, ◌++◌, Some, slice_get, length, map, take, drop, get_or, min, arith, refl, ap, sym, subst, ◌∙◌, append_assoc}
 use Rattle.std.proofs.lemmas.List.{map-append, drop-drop, length-map}
 use Rattle.buffer_glyphs.specs.declared.info.hb_glyph_info_t.{hb_glyph_info_t}
 use Rattle.buffer_glyphs.specs.Items.{clusters}
@@ -12,7 +12,7 @@ use Rattle.buffer_glyphs.specs.Lemmas.Parts.{Stands, stands_self}
 use Rattle.buffer_glyphs.specs.Lemmas.Ends.{from_first, to_last}
 use Rattle.buffer_glyphs.specs.Lemmas.Glyphs.{cut_out, nothing_merged}
 use Rattle.buffer_glyphs.specs.Lemmas.Deletions.{last_is}
-use Rattle.buffer_glyphs.specs.Lemmas.Merges.{chain_left, chain_right, chain_across}
+use Rattle.buffer_glyphs.specs.Lemmas.Merges.{least_number_is, chain_left, chain_right, chain_across}
 use Rattle.buffer_glyphs.specs.Lemmas.Numbers.{Has, has_here, has_last_from}
 use Rattle.buffer_glyphs.proofs.Parts.{merged_parts}
 use Rattle.buffer_glyphs.proofs.Ends.{Turned, merged_end, stands_anti, turned_anti, by_order}
@@ -75,6 +75,39 @@ order_back gs i j first last le f l o =
     let whole = subst (IsChain (Stands falls)) ((cut_at gs i j le).whole ∙ ap (λ ns. clusters (take i gs) ++ (ns ++ clusters (drop j gs))) is) chain in
     let rest = last_back (Stands falls) first xs (clusters (drop j gs)) (chain_right (Stands falls) (clusters (take i gs)) ((first ∷ xs) ++ clusters (drop j gs)) whole) in
     ordered_from falls (last ∷ clusters (drop j gs)) (subst (λ (n : ℕ). IsChain (Stands falls) (n ∷ clusters (drop j gs))) (sym end) rest))))
+
+-- a range of a list in order is in order
+pub order_range : (gs : List hb_glyph_info_t) (i j : ℕ) → i ≤ j → IsOrdered (clusters gs) → IsOrdered (clusters (slice_range gs i j))
+order_range gs i j le o = by_order (clusters gs) o (λ falls chain.
+    let range = clusters (slice_range gs i j) in
+    let back = clusters (drop j gs) in
+    let whole = subst (IsChain (Stands falls)) (cut_at gs i j le).whole chain in
+    ordered_from falls range (chain_left (Stands falls) range back (chain_right (Stands falls) (clusters (take i gs)) (range ++ back) whole)))
+
+-- in order, the least is at one of the ends
+least_of_ends : (falls : Bool) (x : ℕ) (xs : List ℕ) → IsChain (Stands falls) (x ∷ xs) → min x (last_from x xs) ≡ least_number (x ∷ xs)
+least_of_ends falls x xs chain = by_case falls chain
+  where
+    low : ℕ
+    low = least_number (x ∷ xs)
+
+    under_first : low ≤ x
+    under_first = (least_number_is x xs).below x (has_here x xs)
+
+    under_last : low ≤ last_from x xs
+    under_last = (least_number_is x xs).below (last_from x xs) (has_last_from x xs)
+
+    by_case : (f : Bool) → IsChain (Stands f) (x ∷ xs) → min x (last_from x xs) ≡ least_number (x ∷ xs)
+    by_case false h = let over : x ≤ low = from_first (Stands false) (stands_self false) x low xs h.0 (least_number_is x xs).among in omega (arith, over, under_first, under_last)
+    by_case true h = let over : last_from x xs ≤ low = to_last (Stands true) (stands_self true) x low xs h (least_number_is x xs).among in omega (arith, over, under_first, under_last)
+
+pub least_at_ends : (ns : List ℕ) (first last : ℕ) → first_of ns ≡ Some first → last_of ns ≡ Some last → IsOrdered ns → min first last ≡ least_number ns
+least_at_ends ns first last f l o = by_range ns first last f l (λ xs is end. by_order ns o (λ falls chain.
+    let ends : min first (last_from first xs) ≡ least_number (first ∷ xs) = least_of_ends falls first xs (subst (IsChain (Stands falls)) is chain) in
+    ap (min first) end ∙ ends ∙ ap least_number (sym is)))
+
+pub order_second : (ms ns : List ℕ) → IsOrdered (ms ++ ns) → IsOrdered ns
+order_second ms ns o = by_order (ms ++ ns) o (λ falls chain. ordered_from falls ns (chain_right (Stands falls) ms ns chain))
 
 by_first : {P : Type 0} (range : List ℕ) (first : ℕ) → first_of range ≡ Some first → ((xs : List ℕ) → range ≡ first ∷ xs → P) → P
 by_first [] first f k = cc
@@ -144,3 +177,7 @@ none_merged i j gs e = let none : j - i ≡ 0 = omega arith in rw none (sym (not
 pub nothing_beside : (range gs : List hb_glyph_info_t) → length range ≡ 0 → gs ≡ glyphs_merged (clusters range) gs
 nothing_beside [] gs e = sym (nothing_merged gs)
 nothing_beside (g ∷ range) gs e = cc
+
+pub nothing_before : (range gs : List hb_glyph_info_t) → length gs ≡ 0 → gs ≡ glyphs_merged (clusters range) gs
+nothing_before range [] e = refl
+nothing_before range (g ∷ gs) e = cc

@@ -29,16 +29,25 @@ pub fn mark_within(
     if in_order && are_ends_alike(&glyphs[start..end]) {
         return false;
     }
-    let range = &mut glyphs[start..end];
-    let low = least_cluster(range);
-    let any = has_other_cluster(range, low);
-    mark_outside(range, low, flags);
+    mark_apart(&mut glyphs[start..end], flags)
+}
+
+/// Sets flags on the glyphs outside their least cluster; answers whether there are such. Most ranges are of one cluster.
+fn mark_apart(glyphs: &mut [hb_glyph_info_t], flags: hb_mask_t) -> bool
+    ensures marked { glyphs.new ≡ map (marked_outside flags (least_number (clusters glyphs.old))) glyphs.old }
+    ensures any { result ≡ has_several_numbers (clusters glyphs.old) }
+{
+    let low = least_cluster(glyphs);
+    let any = has_other_cluster(glyphs, low);
+    if any {
+        mark_outside(glyphs, low, flags);
+    }
     any
 }
 
 /// Whether the first and the last glyph are of one cluster, or there are none; on clusters in order, all glyphs between
 /// are too.
-fn are_ends_alike(glyphs: &[hb_glyph_info_t]) -> bool
+pub(crate) fn are_ends_alike(glyphs: &[hb_glyph_info_t]) -> bool
     ensures { IsOrdered (clusters glyphs.now) → result ≡ true → has_several_numbers (clusters glyphs.now) ≡ false }
 {
     if glyphs.is_empty() {

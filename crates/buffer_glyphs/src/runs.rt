@@ -3,9 +3,11 @@ ghost use Rattle.std.specs.Prelude.{◌≡◌, ◌≤◌, ◌<◌, ◌++◌, ◌
 ghost use Rattle.buffer_glyphs.specs.Items.{clusters};
 ghost use Rattle.buffer_glyphs.specs.Parts.{first_of, last_of, range_of};
 ghost use Rattle.buffer_glyphs.specs.Order.{IsOrdered};
+ghost use Rattle.buffer_glyphs.specs.Merges.{least_number};
 ghost use Rattle.buffer_glyphs.specs.Glyphs.{glyphs_merged, glyphs_renumbered};
 
 use crate::info::hb_glyph_info_t;
+use crate::marks::are_ends_alike;
 use crate::merges::{least_cluster, set_clusters, spread, spread_within};
 
 /// Renumbers the clusters that occur from `start` up to before `end` to the least of them, wherever they are. Where all
@@ -19,16 +21,17 @@ pub fn merge_within(glyphs: &mut [hb_glyph_info_t], start: usize, end: usize, in
     if start == end {
         return;
     }
-    if in_order {
-        merge_in_order(glyphs, start, end);
-    } else {
-        spread_within(glyphs, start, end);
+    if !in_order {
+        return spread_within(glyphs, start, end);
     }
+    if are_ends_alike(&glyphs[start..end]) {
+        return;
+    }
+    merge_in_order(glyphs, start, end);
 }
 
 /// Renumbers the clusters that occur in `range` to the least of them, wherever they are among the glyphs. Where the
 /// glyphs and the range after them are known to be in order it costs the range and the last run of the glyphs.
-#[tactic(auto, using(crate::proofs::Joined::order_beside))]
 pub fn merge_beside(glyphs: &mut [hb_glyph_info_t], range: &[hb_glyph_info_t], in_order: bool)
     requires { in_order ≡ true → IsOrdered (clusters glyphs.old ++ clusters range.now) }
     ensures { glyphs.new ≡ glyphs_merged (clusters range.now) glyphs.old }
@@ -36,12 +39,25 @@ pub fn merge_beside(glyphs: &mut [hb_glyph_info_t], range: &[hb_glyph_info_t], i
     if range.is_empty() {
         return;
     }
-    let low = least_cluster(range);
-    if in_order {
-        rename_back(glyphs, first_cluster(range), low);
-    } else {
-        spread(glyphs, range, low);
+    // Most merges are of the input alone, with no glyph before it.
+    if glyphs.is_empty() {
+        return;
     }
+    if in_order {
+        rename_before(glyphs, range);
+    } else {
+        spread(glyphs, range, least_cluster(range));
+    }
+}
+
+/// Renumbers the last glyphs, where they are of the cluster that begins the range.
+#[tactic(auto, using(crate::proofs::Joined::order_beside, crate::proofs::Joined::order_second))]
+fn rename_before(glyphs: &mut [hb_glyph_info_t], range: &[hb_glyph_info_t])
+    requires some { 0 < length range.now }
+    requires known { IsOrdered (clusters glyphs.old ++ clusters range.now) }
+    ensures { glyphs.new ≡ glyphs_merged (clusters range.now) glyphs.old }
+{
+    rename_back(glyphs, first_cluster(range), least_in_order(range));
 }
 
 /// Renumbers the clusters that occur in `range` to the least of them, wherever they are among the glyphs. Where the
@@ -61,7 +77,7 @@ pub fn merge_after(glyphs: &mut [hb_glyph_info_t], range: &[hb_glyph_info_t], in
     rename_front(glyphs, last_cluster(range), low);
 }
 
-#[tactic(auto, using(crate::proofs::Joined::joined_parts, crate::proofs::Joined::order_front, crate::proofs::Joined::order_back))]
+#[tactic(auto, using(crate::proofs::Joined::joined_parts, crate::proofs::Joined::order_front, crate::proofs::Joined::order_range, crate::proofs::Joined::order_back))]
 fn merge_in_order(glyphs: &mut [hb_glyph_info_t], start: usize, end: usize)
     requires some { start < end }
     requires within { end ≤ length glyphs.old }
@@ -70,12 +86,22 @@ fn merge_in_order(glyphs: &mut [hb_glyph_info_t], start: usize, end: usize)
 {
     let (front, rest) = glyphs.split_at_mut(start);
     let (range, back) = rest.split_at_mut(end - start);
-    let low = least_cluster(range);
+    let low = least_in_order(range);
     let first = first_cluster(range);
     let last = last_cluster(range);
     rename_back(front, first, low);
     rename_front(back, last, low);
     set_clusters(range, low);
+}
+
+/// The least cluster of glyphs whose clusters are in order: it is at one of their ends.
+#[tactic(auto, using(crate::proofs::Joined::least_at_ends))]
+pub(crate) fn least_in_order(glyphs: &[hb_glyph_info_t]) -> u32
+    requires some { 0 < length glyphs.now }
+    requires known { IsOrdered (clusters glyphs.now) }
+    ensures { result ≡ least_number (clusters glyphs.now) }
+{
+    first_cluster(glyphs).min(last_cluster(glyphs))
 }
 
 #[tactic(auto, using(crate::proofs::Joined::first_cluster_is))]
