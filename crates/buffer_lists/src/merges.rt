@@ -14,7 +14,7 @@ use buffer_glyphs::ranges::merge_range;
 use buffer_glyphs::runs::{merge_after, merge_beside, merge_within};
 
 /// Merges a range of the input on both lists; answers whether a glyph was flagged, and what is known of the order after
-/// it. Where clusters are in no order each glyph is compared with the range.
+/// it. Where the order is not known, a walk finds it before; where there is none, each glyph is compared with the range.
 #[tactic(auto, using(buffer_glyphs::specs::Lemmas::Glyphs::range_clusters, crate::proofs::Ranges::range_known, crate::proofs::Ranges::ahead_known, crate::proofs::Ordered::known_ordered, crate::proofs::Ordered::order_merged))]
 pub fn merge_input(
     output: &mut [hb_glyph_info_t],
@@ -32,6 +32,7 @@ pub fn merge_input(
     ensures any { result.0 ≡ is_marked_at level start end (clusters input.old) }
     ensures order { HasOrder result.1 (clusters output.new ++ clusters input.new) }
 {
+    let known = known.merged(level, output, input);
     let in_order = known.is_known();
     merge_beside_range(output, &input[start..end], level, in_order);
     let marked = merge_range(input, level, start, end, in_order);

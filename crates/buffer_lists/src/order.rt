@@ -199,7 +199,7 @@ impl KnownOrder {
         }
     }
 
-    /// What is known once a range of two lists has been merged. At a level that keeps no order the
+    /// What is known where a range of two lists is merged, before it or after it. At a level that keeps no order the
     /// lists are not walked.
     pub fn merged(
         self,
