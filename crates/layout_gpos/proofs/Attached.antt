@@ -1,11 +1,12 @@
 -- Marks attached at the cursor.
 use Rattle.std.proofs.Common.{ℕ, ◌≡◌, ◌<◌, ◌≤◌, ◌+◌, ◌-◌, ◌⊎◌, inl, inr, Bool, true, false, if◌then◌else◌, List, [], ◌∷◌, Option, Some, None, Result, Ok, length, reverse, arith, refl, sym, ap, subst, ◌∙◌, slice_get}
+use Rattle.std.specs.Prelude.{option_and_then}
 use Rattle.buffer_glyphs.specs.declared.info.hb_glyph_info_t.{hb_glyph_info_t}
 use Rattle.buffer_glyphs.specs.Items.{Position, item_of}
 use Rattle.buffer_glyphs.specs.Events.{Break}
 use Rattle.buffer_core.specs.Sides.{Sides, after_next_glyphs, stage_flags}
 use Rattle.buffer_rows.specs.Keys.{row_of}
-use Rattle.layout_tables.specs.Marks.{base_anchor}
+use Rattle.layout_tables.specs.Marks.{anchor_at, base_anchor}
 use Rattle.layout_tables.specs.declared.value.Anchor.{Anchor}
 use Rattle.layout_tables.specs.declared.mark.BaseRow.{BaseRow}
 use Rattle.layout_common.specs.Rows.{value_of}
@@ -63,13 +64,24 @@ on_base_is : (r n back : ℕ) (b : Bool) (bases : List BaseRow) (m : MarkRecord)
     → on_base bases m back (Some (item_of g)) (cut_with r s) ≡ by_base back bases m (cut_with r s) n b
 on_base_is r n back b bases m s g is e = ap (λ (k : ℕ). by_base back bases m (cut_with r s) k (is_there (row_of (λ (b : BaseRow). b.glyph) k bases))) (sym is) ∙ ap (by_base back bases m (cut_with r s) n) e
 
-pub on_a_base : (r n back : ℕ) (bases : List BaseRow) (m : MarkRecord) (acted : Bool) (s new : Sides) (g : hb_glyph_info_t) → slice_get (reverse s.behind) back ≡ Some g → n ≡ g.glyph_id → is_there (row_of (λ (b : BaseRow). b.glyph) n bases) ≡ true
+on_a_base : (r n back : ℕ) (bases : List BaseRow) (m : MarkRecord) (acted : Bool) (s new : Sides) (g : hb_glyph_info_t) → slice_get (reverse s.behind) back ≡ Some g → n ≡ g.glyph_id → is_there (row_of (λ (b : BaseRow). b.glyph) n bases) ≡ true
     → IsPerformed (attach_if (base_anchor n m.class bases) m.anchor back (cut_with r s)) acted r r s new → IsPerformed (with_found (on_base bases m) (Ok back) (cut_with r s)) acted r r s new
 on_a_base r n back bases m acted s new g at is e done = subst (λ (o : Outcome). IsPerformed o acted r r s new) (sym (found_is r back (on_base bases m) s g at ∙ on_base_is r n back true bases m s g is e)) done
 
-pub on_no_base : (r n back : ℕ) (bases : List BaseRow) (m : MarkRecord) (s new : Sides) (g : hb_glyph_info_t) → slice_get (reverse s.behind) back ≡ Some g → n ≡ g.glyph_id → is_there (row_of (λ (b : BaseRow). b.glyph) n bases) ≡ false
+on_no_base : (r n back : ℕ) (bases : List BaseRow) (m : MarkRecord) (s new : Sides) (g : hb_glyph_info_t) → slice_get (reverse s.behind) back ≡ Some g → n ≡ g.glyph_id → is_there (row_of (λ (b : BaseRow). b.glyph) n bases) ≡ false
     → IsPerformed (attempt_around (back + 1) 1 (cut_with r s)) false r r s new → IsPerformed (with_found (on_base bases m) (Ok back) (cut_with r s)) false r r s new
 on_no_base r n back bases m s new g at is e done = subst (λ (o : Outcome). IsPerformed o false r r s new) (sym (found_is r back (on_base bases m) s g at ∙ on_base_is r n back false bases m s g is e)) done
+
+-- the same by the row of the item
+pub on_its_row : (r n back : ℕ) (bases : List BaseRow) (row : BaseRow) (m : MarkRecord) (acted : Bool) (s new : Sides) (g : hb_glyph_info_t) → slice_get (reverse s.behind) back ≡ Some g → n ≡ g.glyph_id → row_of (λ (b : BaseRow). b.glyph) n bases ≡ Some row
+    → IsPerformed (attach_if (anchor_at row.anchors m.class) m.anchor back (cut_with r s)) acted r r s new → IsPerformed (with_found (on_base bases m) (Ok back) (cut_with r s)) acted r r s new
+on_its_row r n back bases row m acted s new g at is e done =
+    let anchor : base_anchor n m.class bases ≡ anchor_at row.anchors m.class = ap (option_and_then (λ (b : BaseRow). anchor_at b.anchors m.class)) e in
+    on_a_base r n back bases m acted s new g at is (ap is_there e) (subst (λ (o : Option Anchor). IsPerformed (attach_if o m.anchor back (cut_with r s)) acted r r s new) (sym anchor) done)
+
+pub on_no_row : (r n back : ℕ) (bases : List BaseRow) (m : MarkRecord) (s new : Sides) (g : hb_glyph_info_t) → slice_get (reverse s.behind) back ≡ Some g → n ≡ g.glyph_id → row_of (λ (b : BaseRow). b.glyph) n bases ≡ None
+    → IsPerformed (attempt_around (back + 1) 1 (cut_with r s)) false r r s new → IsPerformed (with_found (on_base bases m) (Ok back) (cut_with r s)) false r r s new
+on_no_row r n back bases m s new g at is e done = on_no_base r n back bases m s new g at is (ap is_there e) done
 
 -- ---- mark to base
 

@@ -1,7 +1,9 @@
 //! Mark to base attachment (OpenType, GPOS lookup type 4).
 ghost use Rattle.std.specs.Prelude.{ℕ, ◌≡◌, ◌<◌, ◌≤◌, IfErr, IfOk, false, true, Ok, length};
 ghost use Rattle.buffer_core.specs.Sides.{all_glyphs, items_of};
+ghost use Rattle.std.specs.Option.{option_copied};
 ghost use Rattle.buffer_rows.specs.Keys.{row_of};
+ghost use Rattle.layout_tables.specs.Marks.{anchor_at};
 ghost use Rattle.layout_match.specs.Applied.{apply_context_of};
 ghost use Rattle.buffer_stages.specs.Buffers.{are_glyphs};
 ghost use Rattle.buffer_stages.specs.Performing.{IsPerformed, cut_with};
@@ -9,7 +11,7 @@ ghost use Rattle.layout_gpos.specs.Anchors.{with_mark_attached, with_attachment_
 ghost use Rattle.layout_offsets.specs.Links.{is_near};
 ghost use Rattle.layout_gpos.specs.Bases.{IsKept, any_sought};
 ghost use Rattle.layout_gpos.specs.declared.bases.Sought.TheVariants.{Base};
-ghost use Rattle.layout_gpos.specs.Marks.{attach, attach_if, is_there, mark_to_base, on_base, with_found};
+ghost use Rattle.layout_gpos.specs.Marks.{attach, attach_if, mark_to_base, on_base, with_found};
 
 use crate::anchor::attach_mark;
 use crate::apply::Apply;
@@ -21,7 +23,7 @@ use buffer_core::buffer::hb_buffer_t;
 use layout_match::hb_ot_apply_context_t;
 use layout_match::marking::{mark_attempt, mark_match};
 use layout_offsets::links::is_near;
-use layout_tables::mark::{MarkBasePos, MarkRecord};
+use layout_tables::mark::{BaseRow, MarkBasePos, MarkRecord};
 use layout_tables::value::Anchor;
 
 #[tactic(auto, using(crate::proofs::Lemmas::Placed::hung_back))]
@@ -95,18 +97,26 @@ pub fn attach_if(
     true
 }
 
+/// The row of a base, found by one search.
 #[tactic(auto, using(buffer_rows::proofs::Searched::row_of_number))]
-fn is_base(subtable: &MarkBasePos, glyph: u16) -> bool
-    ensures { result ≡ is_there (row_of (λ r. r.glyph) glyph subtable.now.bases) }
+fn base_row(subtable: &MarkBasePos, glyph: u16) -> Option<&BaseRow>
+    ensures { option_copied result ≡ row_of (λ r. r.glyph) glyph subtable.now.bases }
 {
-    match subtable.bases.get(glyph) {
-        Some(_) => true,
-        None => false,
+    subtable.bases.get(glyph)
+}
+
+/// The anchor of a base for marks of a class, if it has one.
+fn anchor_in(row: &BaseRow, class: u16) -> Option<Anchor>
+    ensures { result ≡ anchor_at row.now.anchors class }
+{
+    match row.anchors.as_slice().get(usize::from(class)) {
+        Some(anchor) => *anchor,
+        None => None,
     }
 }
 
 /// Attaches the mark at the cursor to a base before it.
-#[tactic(auto, using(crate::proofs::Lemmas::Nearest::number_back, crate::proofs::Attached::on_a_base, crate::proofs::Attached::on_no_base, crate::proofs::Lemmas::Performed::attempt_performed))]
+#[tactic(auto, using(crate::proofs::Lemmas::Nearest::number_back, crate::proofs::Attached::on_its_row, crate::proofs::Attached::on_no_row, crate::proofs::Lemmas::Performed::attempt_performed))]
 pub fn attach_to_base(
     subtable: &MarkBasePos,
     mark: MarkRecord,
@@ -123,16 +133,11 @@ pub fn attach_to_base(
 {
     let _end = buffer.out_len();
     let glyph = glyph_before(buffer, back).as_glyph().0;
-    if !is_base(subtable, glyph) {
+    let Some(row) = base_row(subtable, glyph) else {
         mark_attempt(back + 1, 1, buffer);
         return false;
-    }
-    attach_if(
-        subtable.base_anchor(glyph, mark.class),
-        mark.anchor,
-        back,
-        buffer,
-    )
+    };
+    attach_if(anchor_in(row, mark.class), mark.anchor, back, buffer)
 }
 
 /// Mark to base attachment (OpenType, GPOS lookup type 4): where the subtable covers the mark at the cursor, it is
