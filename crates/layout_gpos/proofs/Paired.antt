@@ -68,13 +68,46 @@ subtable_is : (r n : ℕ) (d : Direction) (a : ApplyContext) (t : PairPos) (s : 
 subtable_is r n d a t s g at is = ap (λ q. at_first (pair_from d a t) q (cut_with r s)) (first_item s.ahead g at)
     ∙ ap (λ (m : ℕ). if covers_first_of_pair t m then pair_second d (λ y. pair_values t m y.number) (next_item a (strip s.ahead)) (cut_with r s) else Passes []) (sym is)
 
-pub pair_begun : (r n : ℕ) (d : Direction) (a : ApplyContext) (t : PairPos) (acted : Bool) (s new : Sides) (g : hb_glyph_info_t) → slice_get s.ahead 0 ≡ Some g → n ≡ g.glyph_id → covers_first_of_pair t n ≡ true
-    → IsPerformed (pair_second d (λ y. pair_values t n y.number) (next_item a (strip s.ahead)) (cut_with r s)) acted r r s new → IsPerformed (pair_subtable d a t (cut_with r s)) acted r r s new
-pair_begun r n d a t acted s new g at is e done =
-    let same = subtable_is r n d a t s g at is ∙ ap (λ (b : Bool). if b then pair_second d (λ y. pair_values t n y.number) (next_item a (strip s.ahead)) (cut_with r s) else Passes []) e in
-    subst (λ (o : Outcome). IsPerformed o acted r r s new) (sym same) done
+-- what a pair adjustment does, by the first glyph
+abbrev pub by_first : Direction → ApplyContext → PairPos → ℕ → Cut → Sides → Outcome
+by_first d a t n c s = if covers_first_of_pair t n then pair_second d (λ y. pair_values t n y.number) (next_item a (strip s.ahead)) c else Passes []
+
+pub pair_begun : (r n : ℕ) (d : Direction) (a : ApplyContext) (t : PairPos) (acted : Bool) (s new : Sides) (g : hb_glyph_info_t) → slice_get s.ahead 0 ≡ Some g → n ≡ g.glyph_id
+    → IsPerformed (by_first d a t n (cut_with r s) s) acted r r s new → IsPerformed (pair_subtable d a t (cut_with r s)) acted r r s new
+pair_begun r n d a t acted s new g at is done = subst (λ (o : Outcome). IsPerformed o acted r r s new) (sym (subtable_is r n d a t s g at is)) done
+
+where_begun : (r n : ℕ) (d : Direction) (a : ApplyContext) (t : PairPos) (acted : Bool) (s new : Sides) → covers_first_of_pair t n ≡ true
+    → IsPerformed (pair_second d (λ y. pair_values t n y.number) (next_item a (strip s.ahead)) (cut_with r s)) acted r r s new → IsPerformed (by_first d a t n (cut_with r s) s) acted r r s new
+where_begun r n d a t acted s new e done = subst (λ (b : Bool). IsPerformed (if b then pair_second d (λ y. pair_values t n y.number) (next_item a (strip s.ahead)) (cut_with r s) else Passes []) acted r r s new) (sym e) done
+
+pub where_not_begun : (r n : ℕ) (d : Direction) (a : ApplyContext) (t : PairPos) (s : Sides) → covers_first_of_pair t n ≡ false → IsPerformed (by_first d a t n (cut_with r s) s) false r r s s
+where_not_begun r n d a t s e = passes_nothing r s (by_first d a t n (cut_with r s) s) (ap (λ (b : Bool). if b then pair_second d (λ y. pair_values t n y.number) (next_item a (strip s.ahead)) (cut_with r s) else Passes []) e)
+
+-- what was sought tells whether the first glyph begins pairs
+sought : (b : Bool) (o p : Option PairValues) → (if b then Some p else None) ≡ Some o → (b ≡ true) × (o ≡ p)
+sought true o p e = (refl, sym (some_is e))
+  where
+    some_is : {x y : Option PairValues} → Some x ≡ Some y → x ≡ y
+    some_is e = cc
+sought false o p e = cc
+
+sought_none : (b : Bool) (p : Option PairValues) → (if b then Some p else None) ≡ None → b ≡ false
+sought_none true p e = cc
+sought_none false p e = refl
+
+pub pair_sought : (r n m apart : ℕ) (d : Direction) (a : ApplyContext) (t : PairPos) (o : Option PairValues) (sought_is : Option (Option PairValues)) (acted : Bool) (s new : Sides) (g : hb_glyph_info_t) → Ok apart ≡ next_item a (strip s.ahead) → slice_get s.ahead apart ≡ Some g → m ≡ g.glyph_id
+    → sought_is ≡ (if covers_first_of_pair t n then Some (pair_values t n m) else None) → sought_is ≡ Some o → IsPerformed (pair_of d apart o (cut_with r s)) acted r r s new → IsPerformed (by_first d a t n (cut_with r s) s) acted r r s new
+pair_sought r n m apart d a t o sought_is acted s new g found at is e some done =
+    let both = sought (covers_first_of_pair t n) o (pair_values t n m) (sym e ∙ some) in
+    let values : o ≡ pair_values t n g.glyph_id = both.1 ∙ ap (λ (k : ℕ). pair_values t n k) is in
+    where_begun r n d a t acted s new both.0 (second_found r apart d (λ y. pair_values t n y.number) o (next_item a (strip s.ahead)) acted s new g at values (sym found) done)
+
+pub none_sought : (r n m : ℕ) (d : Direction) (a : ApplyContext) (t : PairPos) (sought_is : Option (Option PairValues)) (s : Sides) → sought_is ≡ (if covers_first_of_pair t n then Some (pair_values t n m) else None) → sought_is ≡ None → IsPerformed (by_first d a t n (cut_with r s) s) false r r s s
+none_sought r n m d a t sought_is s e none = where_not_begun r n d a t s (sought_none (covers_first_of_pair t n) (pair_values t n m) (sym e ∙ none))
+
+pub none_after : (r n end : ℕ) (d : Direction) (a : ApplyContext) (t : PairPos) (s new : Sides) → Err end ≡ next_item a (strip s.ahead) → covers_first_of_pair t n ≡ true → IsPerformed (attempt_around 0 end (cut_with r s)) false r r s new → IsPerformed (by_first d a t n (cut_with r s) s) false r r s new
+none_after r n end d a t s new found e done = where_begun r n d a t false s new e (second_failed r end d (λ y. pair_values t n y.number) (next_item a (strip s.ahead)) s new (sym found) done)
 
 pub pair_not_begun : (r n : ℕ) (d : Direction) (a : ApplyContext) (t : PairPos) (s : Sides) (g : hb_glyph_info_t) → slice_get s.ahead 0 ≡ Some g → n ≡ g.glyph_id → covers_first_of_pair t n ≡ false
     → IsPerformed (pair_subtable d a t (cut_with r s)) false r r s s
-pair_not_begun r n d a t s g at is e =
-    passes_nothing r s (pair_subtable d a t (cut_with r s)) (subtable_is r n d a t s g at is ∙ ap (λ (b : Bool). if b then pair_second d (λ y. pair_values t n y.number) (next_item a (strip s.ahead)) (cut_with r s) else Passes []) e)
+pair_not_begun r n d a t s g at is e = pair_begun r n d a t false s s g at is (where_not_begun r n d a t s e)

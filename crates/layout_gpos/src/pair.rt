@@ -1,6 +1,9 @@
 //! Pair adjustment (OpenType, GPOS lookup type 2).
-ghost use Rattle.std.specs.Prelude.{ℕ, ◌≡◌, ◌<◌, ◌≤◌, ◌+◌, ◌==◌, ◌&&◌, IfErr, IfOk, false, true, length, option_and_then, slice_get};
+ghost use Rattle.std.specs.Prelude.{ℕ, ◌≡◌, ◌<◌, ◌≤◌, ◌+◌, ◌==◌, ◌&&◌, ◌||◌, ◌-◌, IfErr, IfOk, None, Some, [], false, true, if◌then◌else◌, length, slice_get};
 ghost use Rattle.std.specs.List.{list_any};
+ghost use Rattle.std.specs.Option.{option_copied};
+ghost use Rattle.buffer_stages.specs.Actions.{Passes};
+ghost use Rattle.layout_tables.specs.Pairs.{glyph_pair_values};
 ghost use Rattle.buffer_core.specs.Sides.{all_glyphs, items_of};
 ghost use Rattle.buffer_glyphs.specs.Items.{strip};
 ghost use Rattle.layout_match.specs.Applied.{apply_context_of};
@@ -8,14 +11,14 @@ ghost use Rattle.buffer_stages.specs.Buffers.{IsPassed, are_glyphs, cut_of};
 ghost use Rattle.buffer_stages.specs.Performing.{IsPerformed, cut_with};
 ghost use Rattle.layout_gpos.specs.Values.{is_zero};
 ghost use Rattle.layout_tables.specs.Covers.{covers_first_of_pair};
-ghost use Rattle.layout_gpos.specs.Pairs.{has_no_effect, next_item, pair_adjusted, pair_events, pair_length, pair_of, pair_second, pair_subtable, pair_values};
+ghost use Rattle.layout_gpos.specs.Pairs.{begins, has_no_effect, next_item, pair_adjusted, pair_events, pair_length, pair_of, pair_second, pair_subtable, pair_values};
 
 use crate::apply::Apply;
 use crate::bases::LastSearches;
 use crate::placing::{adjust_glyph, pass};
 use crate::value::is_zero;
 use buffer_core::buffer::hb_buffer_t;
-use buffer_rows::SortedRows;
+use buffer_rows::{Keyed, SortedRows};
 use layout_match::marking::{mark_attempt, mark_match};
 use layout_match::{hb_ot_apply_context_t, skipping_iterator_t};
 use layout_tables::pair::{PairPos, PairRow, PairValues};
@@ -40,12 +43,66 @@ fn covers_first_of_pair(subtable: &PairPos, first: u16) -> bool
     }
 }
 
-fn pair_values(subtable: &PairPos, first: u16, second: u16) -> Option<PairValues>
-    ensures { result ≡ pair_values subtable.now first second }
+/// Whether a glyph may be the first one of pairs. Among pairs of glyphs the search for the pair tells it.
+fn may_begin(subtable: &PairPos, first: u16) -> bool
+    ensures { result ≡ false → covers_first_of_pair subtable.now first ≡ false }
 {
     match subtable {
-        PairPos::Glyphs(pairs) => pairs.values(first, second),
-        PairPos::Classes(pairs) => pairs.values(first, second),
+        PairPos::Glyphs(_) => true,
+        PairPos::Classes(pairs) => pairs.coverage.contains(first),
+    }
+}
+
+/// Whether there is a row, and its pair begins with the glyph.
+fn begins(row: Option<&PairRow>, first: u16) -> bool
+    ensures { result ≡ begins first (option_copied row.entry) }
+{
+    match row {
+        Some(row) => row.first == first,
+        None => false,
+    }
+}
+
+/// Whether the row at an index, or the one before it, is of a pair that begins with the glyph.
+fn begins_beside(rows: &[PairRow], at: usize, first: u16) -> bool
+    ensures { result ≡ (begins first (slice_get rows.now at) || begins first (slice_get rows.now (at - 1))) }
+{
+    begins(rows.get(at), first) || begins(rows.get(at.saturating_sub(1)), first)
+}
+
+/// The adjustments of two glyphs, none where no pair begins with the first, by one search in logarithmic time: where the
+/// pair isn't found, others with its first glyph are beside its place.
+fn sought_glyphs(pairs: &SortedRows<PairRow>, first: u16, second: u16) -> Option<Option<PairValues>>
+    ensures { result ≡ (if list_any (λ r. r.first == first) pairs.now then Some (glyph_pair_values first second pairs.now)
+        else None) }
+{
+    let rows = pairs.rising_rows();
+    match rows.binary_search_by_key(&(first, second), |row| row.key()) {
+        Ok(at) => Some(Some(rows[at].values)),
+        Err(at) => {
+            if begins_beside(rows, at, first) {
+                Some(None)
+            } else {
+                None
+            }
+        }
+    }
+}
+
+/// The adjustments of two glyphs, none where the first begins no pairs.
+fn sought_pair(subtable: &PairPos, first: u16, second: u16) -> Option<Option<PairValues>>
+    ensures { result ≡ (if covers_first_of_pair subtable.now first then Some (pair_values subtable.now first second)
+        else None) }
+{
+    match subtable {
+        PairPos::Glyphs(pairs) => sought_glyphs(&pairs.rows, first, second),
+        PairPos::Classes(pairs) => {
+            if pairs.coverage.contains(first) {
+                Some(pairs.values(first, second))
+            } else {
+                None
+            }
+        }
     }
 }
 
@@ -157,15 +214,15 @@ impl Apply for PairAdjustment {
         buffer: &mut hb_buffer_t,
     ) -> bool {
         let first = buffer.cur(0).as_glyph().0;
-        covers_first_of_pair(subtable, first) && apply_from(subtable, first, ctx, buffer)
+        may_begin(subtable, first) && apply_from(subtable, first, ctx, buffer)
     }
 
     ghost uncovered = { λ s d a. pair_uncovered d a s };
 }
 
-/// Pair adjustment (OpenType, GPOS lookup type 2) of the glyph at the cursor, which begins pairs, and the nearest one
+/// Pair adjustment (OpenType, GPOS lookup type 2) of the glyph at the cursor, where it begins pairs, and the nearest one
 /// after it.
-#[tactic(auto, using(crate::proofs::Lemmas::Read::number_beyond, crate::proofs::Lemmas::Read::found_ahead, crate::proofs::Lemmas::Performed::attempt_performed, crate::proofs::Paired::second_found, crate::proofs::Paired::second_failed))]
+#[tactic(auto, using(crate::proofs::Lemmas::Read::number_beyond, crate::proofs::Lemmas::Read::found_ahead))]
 fn apply_from(
     subtable: &PairPos,
     first: u16,
@@ -176,18 +233,23 @@ fn apply_from(
     requires there { 0 < length buffer.old.ahead }
     requires placed { length buffer.old.positions ≡ length (all_glyphs buffer.old) }
     requires number { are_glyphs (items_of buffer.old) ≡ true }
-    ensures { (random : ℕ) → IsPerformed (pair_second buffer.old.direction
-        (λ y. pair_values subtable.now first y.number) (next_item (apply_context_of ctx.now) (strip buffer.old.ahead))
-        (cut_with
-        random buffer.old)) result random random buffer.old buffer.new }
+    ensures { (random : ℕ) → IsPerformed (if covers_first_of_pair subtable.now first
+        then pair_second buffer.old.direction (λ y. pair_values subtable.now first y.number)
+        (next_item (apply_context_of ctx.now) (strip buffer.old.ahead)) (cut_with random buffer.old)
+        else Passes []) result random random buffer.old buffer.new }
 {
     match next_glyph(ctx, buffer) {
         Ok(apart) => {
             let second = buffer.cur(apart).as_glyph().0;
-            apply_values(pair_values(subtable, first, second), apart, buffer)
+            match sought_pair(subtable, first, second) {
+                Some(values) => apply_values(values, apart, buffer),
+                None => false,
+            }
         }
         Err(end) => {
-            mark_attempt(0, end, buffer);
+            if covers_first_of_pair(subtable, first) {
+                mark_attempt(0, end, buffer);
+            }
             false
         }
     }
