@@ -87,6 +87,13 @@ impl<S: Covers> Digested<S> {
         self.low_bits.may_have_glyph(glyph) && self.digest.may_have_glyph(glyph)
     }
 
+    /// The set by low bits, which has each glyph at which it can act.
+    pub fn low_bits(&self) -> &LowBits
+        ensures { (g : ℕ) → S.covers self.now g ≡ true → ⟦<LowBits as hb_set_digest_ext>⟧.may_have result.now g ≡ true }
+    {
+        &self.low_bits
+    }
+
     /// The set, which has each glyph at which it can act.
     pub fn digest(&self) -> hb_set_digest_t
         ensures { (g : ℕ) → S.covers self.now g ≡ true
