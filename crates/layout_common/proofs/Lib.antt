@@ -4,3 +4,4 @@ pub mod Covering
 pub mod Bits
 pub mod Words
 pub mod LowBits
+pub mod Indexed

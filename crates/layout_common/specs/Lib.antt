@@ -5,3 +5,4 @@ pub mod Buckets
 pub mod Lemmas
 pub mod Bits
 pub mod LowBits
+pub mod Subtables

@@ -11,3 +11,4 @@ pub mod glyph_bits;
 pub mod glyph_row;
 pub mod laws;
 pub mod low_bits;
+pub mod subtables;
