@@ -1,4 +1,4 @@
-//! The glyphs of a text as a digest, by which a lookup that can act at none of them is skipped (rustybuzz: hb/buffer.rs,
+//! The glyphs of a text as a set, by which a lookup that can act at none of them is skipped (rustybuzz: hb/buffer.rs,
 //! `digest`; hb/ot_layout.rs, `apply_layout_table`).
 ghost use Rattle.std.specs.Prelude.{ℕ, ◌≡◌, ◌&&◌, Bool, List, true, false};
 ghost use Rattle.std.specs.List.{list_any};
@@ -12,8 +12,9 @@ ghost use Rattle.layout_match.specs.Skipping.{HoldsGlyphs, HoldsMasks, HoldsText
 
 use buffer_core::buffer::hb_buffer_t;
 use buffer_glyphs::info::{DEFINED, hb_glyph_info_t};
-use layout_common::digest::{hb_set_digest_ext, hb_set_digest_t};
+use layout_common::digest::hb_set_digest_ext;
 use layout_common::digested::{Covers, Digested};
+use layout_common::low_bits::LowBits;
 
 /// What is known of the glyphs of a text while lookups are applied to it: it misses none of them.
 pub trait TextDigest {
@@ -46,11 +47,11 @@ pub trait TextDigest {
             → HoldsText (sets self.new) new };
 }
 
-/// The digest of a text's glyphs, and the feature bits of their masks. Both are collected in one pass, when a lookup is
-/// first tested after they were forgotten, and the lookup before it acted nowhere.
+/// A text's glyphs by the low bits of their numbers, and the feature bits of their masks. Both are collected in one pass,
+/// when a lookup is first tested after they were forgotten, and the lookup before it acted nowhere.
 #[derive(Debug, Drop)]
 pub struct TextGlyphs {
-    glyphs: Option<hb_set_digest_t>,
+    glyphs: Option<LowBits>,
     features: Option<u32>,
     /// Whether they are worth a pass: no lookup was applied yet, or the last one acted nowhere. A lookup that acts is
     /// often followed by another, to which they were of no use.
@@ -64,7 +65,7 @@ fn features_of(info: &hb_glyph_info_t) -> u32
     info.mask - (info.mask & DEFINED)
 }
 
-/// Adds the numbers of glyphs to a digest, and answers the feature bits of their masks.
+/// Adds the numbers of glyphs to a set, and answers the feature bits of their masks.
 #[tactic(auto, using(crate::proofs::Lemmas::Held::held_none, crate::proofs::Lemmas::Held::masks_none))]
 fn collect_glyphs<D: hb_set_digest_ext>(glyphs: &[hb_glyph_info_t], digest: &mut D) -> u32
     requires { are_glyphs (strip glyphs.now) ≡ true }
@@ -90,13 +91,13 @@ fn may_share(features: Option<u32>, mask: u32) -> bool
 }
 
 /// Whether a text may have a glyph of a set, by the glyphs that are known. Where it may not, it has none.
-fn may_have(glyphs: Option<hb_set_digest_t>, digest: &hb_set_digest_t) -> bool
+fn may_have(glyphs: &Option<LowBits>, set: &LowBits) -> bool
     ensures { result ≡ false → (n : ℕ)
-        → option_map_or (λ d. ⟦<hb_set_digest_t as hb_set_digest_ext>⟧.may_have d n) glyphs true ≡ true
-        → ⟦<hb_set_digest_t as hb_set_digest_ext>⟧.may_have digest.now n ≡ false }
+        → option_map_or (λ d. ⟦<LowBits as hb_set_digest_ext>⟧.may_have d n) glyphs.now true ≡ true
+        → ⟦<LowBits as hb_set_digest_ext>⟧.may_have set.now n ≡ false }
 {
     match glyphs {
-        Some(glyphs) => glyphs.may_have(digest),
+        Some(glyphs) => glyphs.may_have(set),
         None => true,
     }
 }
@@ -123,16 +124,16 @@ impl TextGlyphs {
         if !self.is_due || self.glyphs.is_some() {
             return;
         }
-        let mut digest = hb_set_digest_t::new();
-        let features = collect_glyphs(buffer.info_slice(), &mut digest);
-        self.glyphs = Some(digest);
+        let mut glyphs = LowBits::new();
+        let features = collect_glyphs(buffer.info_slice(), &mut glyphs);
+        self.glyphs = Some(glyphs);
         self.features = Some(features);
     }
 }
 
 impl TextDigest for TextGlyphs {
     ghost sets = { λ t. record {
-      has = λ n. option_map_or (λ d. ⟦<hb_set_digest_t as hb_set_digest_ext>⟧.may_have d n) t.glyphs true;
+      has = λ n. option_map_or (λ d. ⟦<LowBits as hb_set_digest_ext>⟧.may_have d n) t.glyphs true;
       shares = λ mask. option_map_or (λ m. shares_mask mask m) t.features true;
     } };
 
@@ -146,7 +147,7 @@ impl TextDigest for TextGlyphs {
         if !may_share(self.features, mask) {
             return true;
         }
-        !may_have(self.glyphs, &subtables.digest())
+        !may_have(&self.glyphs, subtables.low_bits())
     }
 
     fn after_lookup(&mut self, acted: bool) {
