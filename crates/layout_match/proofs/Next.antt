@@ -1,8 +1,11 @@
 -- What a search finds next, whatever its item's test is.
-use Rattle.std.proofs.Common.{ℕ, ◌≡◌, ◌+◌, Bool, true, false, List, length, slice_get, Some, None, refl, sym, ap, ◌∙◌}
+use Rattle.std.proofs.Common.{ℕ, ◌≡◌, ◌+◌, Bool, true, false, List, length, slice_get, Some, None, refl, sym, subst, ap, ◌∙◌}
 use Rattle.std.specs.Prelude.{◌&&◌}
 use Rattle.buffer_glyphs.specs.declared.info.hb_glyph_info_t.{hb_glyph_info_t}
 use Rattle.buffer_glyphs.specs.Items.{Item, item_of, strip}
+use Rattle.buffer_glyphs.specs.PropertyWords.{is_default_ignorable}
+use Rattle.buffer_stages.specs.Masks.{shares_mask}
+use Rattle.layout_match.specs.Applied.{ApplyContext, context_search, own_search, own_syllable}
 use Rattle.layout_match.specs.declared.search.match_t.TheVariants.{NOT_MATCH, SKIP}
 use Rattle.layout_match.specs.declared.next_glyph.NextGlyph.{NextGlyph}
 use Rattle.layout_match.specs.declared.next_glyph.NextGlyph.TheVariants.{Missing, Found, Unknown}
@@ -37,6 +40,42 @@ pub decides_missing : (s : Search) (x : Item) → is_skippable s x ≡ false →
 decides_missing s x shown lacks test e admitted =
     let other : is_wanted s test x ≡ false = lacking (has_mask s.mask x) (is_in_syllable s.syllable x) (test x) lacks in
     not_matched s test x admitted other shown
+
+-- ---- the searches at the cursor, for an item that is visible
+
+visible_shown : (s : Search) (x : Item) → is_default_ignorable x ≡ false → is_skippable s x ≡ false
+visible_shown s x seen = rw seen refl
+
+lacks_first : (p q : Bool) → p ≡ false → (p && q) ≡ false
+lacks_first p q e = rw e refl
+
+lacks_second : (p q : Bool) → q ≡ false → (p && q) ≡ false
+lacks_second true q e = e
+lacks_second false q e = refl
+
+-- what a search tells, by its parameters
+pub input_unseen : (next : NextGlyph) (s own : Search) (x : Item) → s ≡ own → Decides next s x → Decides next own x
+input_unseen next s own x is decides = subst (λ t. Decides next t x) is decides
+
+pub lookahead_unseen : (next : NextGlyph) (s context : Search) (x : Item) → s ≡ context → Decides next s x → Decides next context x
+lookahead_unseen next s context x is decides = subst (λ t. Decides next t x) is decides
+
+pub input_visible : (a : ApplyContext) (rest : List Item) (info : hb_glyph_info_t) → is_default_ignorable (item_of info) ≡ false → Decides (Found info) (own_search a rest) (item_of info)
+input_visible a rest info seen = decides_found (own_search a rest) info (visible_shown (own_search a rest) (item_of info) seen)
+
+pub lookahead_visible : (a : ApplyContext) (rest : List Item) (info : hb_glyph_info_t) → is_default_ignorable (item_of info) ≡ false → Decides (Found info) (context_search a rest) (item_of info)
+lookahead_visible a rest info seen = decides_found (context_search a rest) info (visible_shown (context_search a rest) (item_of info) seen)
+
+-- an item of another syllable
+pub input_elsewhere : (a : ApplyContext) (rest : List Item) (x : Item) → is_default_ignorable x ≡ false → is_in_syllable (own_syllable a rest) x ≡ false → Decides Missing (own_search a rest) x
+input_elsewhere a rest x seen out = decides_missing (own_search a rest) x (visible_shown (own_search a rest) x seen) (lacks_second (has_mask (Some a.mask) x) (is_in_syllable (own_syllable a rest) x) out)
+
+pub lookahead_elsewhere : (a : ApplyContext) (rest : List Item) (x : Item) → is_default_ignorable x ≡ false → is_in_syllable (own_syllable a rest) x ≡ false → Decides Missing (context_search a rest) x
+lookahead_elsewhere a rest x seen out = decides_missing (context_search a rest) x (visible_shown (context_search a rest) x seen) out
+
+-- an item without a bit of the lookup's mask
+pub input_unmasked : (a : ApplyContext) (rest : List Item) (x : Item) → is_default_ignorable x ≡ false → shares_mask a.mask x.mask ≡ false → Decides Missing (own_search a rest) x
+input_unmasked a rest x seen none = decides_missing (own_search a rest) x (visible_shown (own_search a rest) x seen) (lacks_first (has_mask (Some a.mask) x) (is_in_syllable (own_syllable a rest) x) none)
 
 -- ---- the first item that the lookup flag admits
 

@@ -4,10 +4,10 @@ ghost use Rattle.std.specs.Prelude.{◌≡◌, ◌<◌, true, length};
 ghost use Rattle.std.specs.Option.{option_copied};
 ghost use Rattle.buffer_glyphs.specs.Items.{item_of, strip};
 ghost use Rattle.buffer_core.specs.Sides.{flag_requests_of};
-ghost use Rattle.layout_match.specs.Applied.{apply_context_of, context_search, own_search};
+ghost use Rattle.layout_match.specs.Applied.{apply_context_of, context_search, own_search, own_syllable};
 ghost use Rattle.layout_match.specs.declared.next_glyph.NextGlyph.TheVariants.{Unknown};
 ghost use Rattle.layout_match.specs.Next.{Decides, IsAdmitted, IsNext, may_find};
-ghost use Rattle.layout_match.specs.Searches.{is_left_out, search_of};
+ghost use Rattle.layout_match.specs.Searches.{is_in_syllable, is_left_out, search_of};
 ghost use Rattle.layout_match.specs.Sequences.{test_at, tests_of};
 
 use crate::apply_context::hb_ot_apply_context_t;
@@ -17,6 +17,8 @@ use bitflags::Flags;
 use buffer_common::constants::BufferFlags;
 use buffer_core::buffer::hb_buffer_t;
 use buffer_glyphs::info::hb_glyph_info_t;
+use buffer_glyphs::property_words::_hb_glyph_info_is_default_ignorable;
+use buffer_stages::mask::shares_mask;
 use layout_face::Face;
 
 /// What a search finds next, whatever its item's test is.
@@ -67,6 +69,79 @@ impl<'a> GlyphSearch<'a> {
     }
 }
 
+/// Whether a glyph is of the syllable of the one at the cursor, or a match may leave that.
+fn is_in_own_syllable(
+    ctx: &hb_ot_apply_context_t,
+    info: &hb_glyph_info_t,
+    buffer: &hb_buffer_t,
+) -> bool
+    requires { 0 < length buffer.now.ahead }
+    ensures { result ≡ is_in_syllable (own_syllable (apply_context_of ctx.now) (strip buffer.now.ahead)) (item_of info.now) }
+{
+    !ctx.per_syllable || info.syllable == buffer.cur(0).syllable
+}
+
+/// What the search for a rule's input finds where its next glyph is one that the lookup flag admits. A visible glyph is
+/// never skipped, so that no search has to be made for it.
+#[tactic(auto, using(crate::proofs::Next::input_unseen, crate::proofs::Next::input_visible, crate::proofs::Next::input_elsewhere, crate::proofs::Next::input_unmasked))]
+fn input_admitted(
+    ctx: &hb_ot_apply_context_t,
+    info: &hb_glyph_info_t,
+    buffer: &hb_buffer_t,
+) -> NextGlyph
+    requires { 0 < length buffer.now.ahead }
+    ensures { Decides result (own_search (apply_context_of ctx.now) (strip buffer.now.ahead)) (item_of info.now) }
+{
+    if _hb_glyph_info_is_default_ignorable(info) {
+        return ctx.own_search(buffer).next_at(info);
+    }
+    if !is_in_own_syllable(ctx, info, buffer) {
+        return NextGlyph::Missing;
+    }
+    if !shares_mask(ctx.lookup_mask(), info) {
+        return NextGlyph::Missing;
+    }
+    NextGlyph::Found(*info)
+}
+
+/// What the searches for a rule's input and for its lookahead find where the next glyph is one that the lookup flag
+/// admits. A visible glyph is never skipped, so that no search has to be made for it.
+#[tactic(auto, using(crate::proofs::Next::input_unseen, crate::proofs::Next::input_visible, crate::proofs::Next::input_elsewhere, crate::proofs::Next::input_unmasked, crate::proofs::Next::lookahead_unseen, crate::proofs::Next::lookahead_visible, crate::proofs::Next::lookahead_elsewhere))]
+fn next_admitted(
+    ctx: &hb_ot_apply_context_t,
+    info: &hb_glyph_info_t,
+    buffer: &hb_buffer_t,
+) -> NextGlyphs
+    requires { 0 < length buffer.now.ahead }
+    ensures input { Decides result.input (own_search (apply_context_of ctx.now) (strip buffer.now.ahead)) (item_of
+        info.now) }
+    ensures lookahead { Decides result.lookahead (context_search (apply_context_of ctx.now) (strip buffer.now.ahead))
+        (item_of info.now) }
+{
+    if _hb_glyph_info_is_default_ignorable(info) {
+        return NextGlyphs {
+            input: ctx.own_search(buffer).next_at(info),
+            lookahead: ctx.context_search(buffer).next_at(info),
+        };
+    }
+    if !is_in_own_syllable(ctx, info, buffer) {
+        return NextGlyphs {
+            input: NextGlyph::Missing,
+            lookahead: NextGlyph::Missing,
+        };
+    }
+    if !shares_mask(ctx.lookup_mask(), info) {
+        return NextGlyphs {
+            input: NextGlyph::Missing,
+            lookahead: NextGlyph::Found(*info),
+        };
+    }
+    NextGlyphs {
+        input: NextGlyph::Found(*info),
+        lookahead: NextGlyph::Found(*info),
+    }
+}
+
 /// The first glyph after the one at the cursor that a lookup flag admits.
 #[tactic(auto, using(crate::proofs::Next::goes_on, crate::proofs::Next::goes_past, crate::proofs::Next::admitted_there, crate::proofs::Next::none_admitted))]
 fn first_admitted<'a>(
@@ -114,13 +189,28 @@ pub fn next_glyphs(ctx: &hb_ot_apply_context_t, buffer: &hb_buffer_t) -> NextGly
         };
     }
     match first_admitted(ctx.face, ctx.lookup_props, buffer) {
-        Some(info) => NextGlyphs {
-            input: ctx.own_search(buffer).next_at(info),
-            lookahead: ctx.context_search(buffer).next_at(info),
-        },
+        Some(info) => next_admitted(ctx, info, buffer),
         None => NextGlyphs {
             input: NextGlyph::Missing,
             lookahead: NextGlyph::Missing,
         },
+    }
+}
+
+/// What the search for a rule's input finds next after the glyph at the cursor. Where failed matches are flagged, nothing
+/// is known.
+#[tactic(auto, using(crate::proofs::Next::nothing_told, crate::proofs::Next::found_told, crate::proofs::Next::missing_told))]
+pub fn next_input(ctx: &hb_ot_apply_context_t, buffer: &hb_buffer_t) -> NextGlyph
+    requires { 0 < length buffer.now.ahead }
+    ensures input { IsNext result (own_search (apply_context_of ctx.now) (strip buffer.now.ahead)) 1
+        (strip buffer.now.ahead) }
+    ensures unflagged { (flag_requests_of buffer.now).concat ≡ true → result ≡ Unknown }
+{
+    if flags_failures(buffer) {
+        return NextGlyph::Unknown;
+    }
+    match first_admitted(ctx.face, ctx.lookup_props, buffer) {
+        Some(info) => input_admitted(ctx, info, buffer),
+        None => NextGlyph::Missing,
     }
 }

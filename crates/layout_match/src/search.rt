@@ -36,6 +36,8 @@ pub struct GlyphSearch<'a> {
     pub syllable: Option<u8>,
 }
 
+// (Not inlined, so that the test of a glyph that is no mark is.)
+#[inline(never)]
 fn is_other_mark(face: &Face, lookup_props: u32, info: &hb_glyph_info_t) -> bool
     ensures { result ≡ is_other_mark lookup_props face.now.gdef.sets (item_of info.now) }
 {
