@@ -18,7 +18,7 @@ use buffer_glyphs::cause::ShapeCause;
 use layout_match::marking::mark_attempt;
 use layout_match::{
     MAX_CONTEXT_LENGTH, MatchPositions, MatchSequence, NextGlyph, hb_ot_apply_context_t, input_end,
-    match_input, next_glyphs,
+    match_input, next_input,
 };
 use layout_tables::ligature::{Ligature, LigatureSubst};
 
@@ -100,7 +100,7 @@ fn apply_ligatures(
         buffer.new }
     ensures context { apply_context_of ctx.new ≡ apply_context_of ctx.old }
 {
-    let next = next_glyphs(ctx, buffer).input;
+    let next = next_input(ctx, buffer);
     for ligature in ligatures {
         if !may_follow(ligature, &next) {
             continue;

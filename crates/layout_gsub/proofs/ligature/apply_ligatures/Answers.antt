@@ -33,8 +33,8 @@ loop-ligature-preserved-then-not-may_follow c =
     let i = c.loop-ligature.invariant in
     record {
       passed =
-          passed_over (apply_context_of c.args.ctx.now) c.args.ligatures.now c.ligature-item.result c.next_glyphs-next.result.input c.loop-ligature.ligature-index c.args.ctx.now.random_state c.args.buffer.now c.loop-ligature.buffer c.loop-ligature-test.true c.ligature-item.is
-          (sym c.may_follow.ensures ∙ c.if-not-may_follow.true) c.next_glyphs-next.ensures.input (λ asked. (c.next_glyphs-next.ensures.unflagged asked).0) i.passed;
+          passed_over (apply_context_of c.args.ctx.now) c.args.ligatures.now c.ligature-item.result c.next_input-next.result c.loop-ligature.ligature-index c.args.ctx.now.random_state c.args.buffer.now c.loop-ligature.buffer c.loop-ligature-test.true c.ligature-item.is
+          (sym c.may_follow.ensures ∙ c.if-not-may_follow.true) c.next_input-next.ensures.input c.next_input-next.ensures.unflagged i.passed;
       context = i.context;
       random = i.random;
     }
