@@ -18,3 +18,7 @@ pub mod Runs
 pub mod Shown
 pub mod Whole
 pub mod Taken
+pub mod Own
+pub mod Given
+pub mod Kept
+pub mod Advance

@@ -49,7 +49,7 @@ undecomposed c Greatest u has stays = by_case (c.splits u) refl stays
     by_case (Some p) e t = absurd (let bad = t in cc)
 
 -- a character that stays whole
-one_whole : (c : Normalizer) (reach : Reach) (x : Item) → is_whole c reach x ≡ true → item_expansion c reach x ≡ eventless_arrangement (with_own_glyph c x ∷ [])
+pub one_whole : (c : Normalizer) (reach : Reach) (x : Item) → is_whole c reach x ≡ true → item_expansion c reach x ≡ eventless_arrangement (with_own_glyph c x ∷ [])
 unfolding expanded_item
 one_whole c reach x whole =
     let both = and_parts (is_some (c.glyph_of x.number)) (is_undecomposed reach (c.splits x.number)) whole in
@@ -79,11 +79,11 @@ marked_stays c gs many none all x (m ∷ ms) e =
     ap in_turn (cond-false _ _ _ (ap (list_any is_selector) (sym e) ∙ any_selector gs ∙ none))
     ∙ subst (λ xs. in_turn (map (item_expansion c (reach_with_marks c.mode)) xs) ≡ eventless_arrangement (map (with_own_glyph c) xs)) e (all_whole c (reach_with_marks c.mode) gs all)
 
-abbrev groups_of : Normalizer → List Item → List Arrangement
+abbrev pub groups_of : Normalizer → List Item → List Arrangement
 groups_of c [] = []
 groups_of c (y ∷ ys) = expanded_groups c y [] ys
 
-groups_list : (c : Normalizer) (xs : List Item) → in_turn (groups_of c xs) ≡ expanded_list c xs
+pub groups_list : (c : Normalizer) (xs : List Item) → in_turn (groups_of c xs) ≡ expanded_list c xs
 groups_list c [] = refl
 groups_list c (x ∷ xs) = refl
 
@@ -91,7 +91,7 @@ one_more : (n : ℕ) → 1 + n ≡ suc n
 one_more n = omega arith
 
 -- a character with the marks after it, and the rest
-groups_over : (c : Normalizer) (x : Item) (ms ys : List Item) → expanded_groups c x ms ys ≡ expanded_group c x (ms ++ take (prefix_len is_mark ys) ys) ++ groups_of c (drop (prefix_len is_mark ys) ys)
+pub groups_over : (c : Normalizer) (x : Item) (ms ys : List Item) → expanded_groups c x ms ys ≡ expanded_group c x (ms ++ take (prefix_len is_mark ys) ys) ++ groups_of c (drop (prefix_len is_mark ys) ys)
 groups_over c x ms [] = ap (expanded_group c x) (sym (append-nil ms)) ∙ sym (append-nil (expanded_group c x (ms ++ [])))
 groups_over c x ms (y ∷ ys) = by_mark (is_mark y) refl (groups_over c x (ms ++ y ∷ []) ys)
   where
@@ -111,11 +111,11 @@ prefix_seen : (gs : List hb_glyph_info_t) → prefix_len is_mark (strip gs) ≡ 
 prefix_seen [] = refl
 prefix_seen (g ∷ gs) = ap (λ n. if is_mark (item_of g) then 1 + n else 0) (prefix_seen gs)
 
-glyphs_given : (c : Normalizer) (gs : List hb_glyph_info_t) → strip (map (glyph_with_own c) gs) ≡ map (with_own_glyph c) (strip gs)
+pub glyphs_given : (c : Normalizer) (gs : List hb_glyph_info_t) → strip (map (glyph_with_own c) gs) ≡ map (with_own_glyph c) (strip gs)
 glyphs_given c [] = refl
 glyphs_given c (g ∷ gs) = ap (λ xs. with_own_glyph c (item_of g) ∷ xs) (glyphs_given c gs)
 
-origins_given : (c : Normalizer) (gs : List hb_glyph_info_t) → origins (map (glyph_with_own c) gs) ≡ origins gs
+pub origins_given : (c : Normalizer) (gs : List hb_glyph_info_t) → origins (map (glyph_with_own c) gs) ≡ origins gs
 origins_given c [] = refl
 origins_given c (g ∷ gs) = ap (λ os. origin_of g ∷ os) (origins_given c gs)
 

@@ -1,11 +1,11 @@
--- The walk over groups of a character and its marks.
-use Rattle.std.specs.Prelude.{ℕ, ◌≡◌, ◌+◌, ◌++◌, Bool, true, false, List, [], ◌∷◌, length, Option, Some, None, is_some, if◌then◌else◌, take, drop}
+-- Groups of a character and its marks.
+use Rattle.std.specs.Prelude.{ℕ, ◌≡◌, ◌++◌, Bool, List, [], ◌∷◌, length, Option, Some, None, is_some, if◌then◌else◌, take, drop}
 use Rattle.buffer_glyphs.specs.declared.cause.ShapeCause.{ShapeCause}
 use Rattle.buffer_glyphs.specs.Items.{Item, strip}
 use Rattle.buffer_core.specs.Sides.{Sides}
 use Rattle.buffer_glyphs.specs.Rewriting.{Arrangement, in_turn}
-use Rattle.buffer_properties.specs.Characters.{is_mark, is_selector}
-use Rattle.buffer_properties.specs.Expanding.{expanded_group, expanded_groups, meets_selector, pending_item, selections_after}
+use Rattle.buffer_properties.specs.Characters.{is_selector}
+use Rattle.buffer_properties.specs.Expanding.{expanded_group, meets_selector, pending_item, selections_after}
 use Rattle.buffer_properties.specs.Normalizer.{Normalizer}
 use Rattle.buffer_stages.specs.Appending.{AppendsArrangement, RefusesRoomFor}
 
@@ -55,25 +55,3 @@ Groups c k old new = (x : Item) (marks ys : List Item) → strip old.ahead ≡ x
 -- a character and that many marks were not output: the output would be too long
 abbrev pub GroupsTooMany : Normalizer → ℕ → ShapeCause → Sides → Type 0
 GroupsTooMany c k e old = (x : Item) (marks ys : List Item) → strip old.ahead ≡ x ∷ (marks ++ ys) → length marks ≡ k → RefusesRoomFor (length (in_turn (expanded_group c x marks)).items) e old
-
--- the group was extended by one item, or ended
-abbrev pub ContinuesGroup : Normalizer → Bool → Item → List Item → List Item → ℕ → Sides → Sides → Type 0
-ContinuesGroup c true x marks ys n old new = (n ≡ length marks + 1) × (new ≡ old)
-ContinuesGroup c false x marks ys n old new = (n ≡ 0) × AppendsArrangement (in_turn (expanded_group c x marks)) ys old new
-
--- the walk handled that many items
-abbrev pub Walks : Normalizer → ℕ → ℕ → Sides → Sides → Type 0
-Walks c k n old new = (x : Item) (marks : List Item) (y : Item) (ys : List Item) → strip old.ahead ≡ x ∷ (marks ++ y ∷ ys) → length marks ≡ k → ContinuesGroup c (is_mark y) x marks (y ∷ ys) n old new
-
--- the walk failed: its output would be too long
-abbrev pub WalksTooMany : Normalizer → ℕ → ShapeCause → Sides → Type 0
-WalksTooMany c k e old = (x : Item) (marks : List Item) (y : Item) (ys : List Item) → strip old.ahead ≡ x ∷ (marks ++ y ∷ ys) → length marks ≡ k
-    → (is_mark y ≡ false) × RefusesRoomFor (length (in_turn (expanded_group c x marks)).items) e old
-
--- the whole input was output
-abbrev pub IsExpanded : Normalizer → Sides → Sides → Type 0
-IsExpanded c old new = (x : Item) (xs : List Item) → strip old.ahead ≡ x ∷ xs → AppendsArrangement (in_turn (expanded_groups c x [] xs)) [] old new
-
--- the round failed: its output would be too long
-abbrev pub ExpandsTooMany : Normalizer → ShapeCause → Sides → Type 0
-ExpandsTooMany c e old = (x : Item) (xs : List Item) → strip old.ahead ≡ x ∷ xs → RefusesRoomFor (length (in_turn (expanded_groups c x [] xs)).items) e old

@@ -9,16 +9,17 @@ ghost use Rattle.buffer_properties.specs.Expanding.{item_expansion, expanded_ite
 ghost use Rattle.buffer_properties.specs.Normalizer.{has_character, reach_alone, reach_with_marks};
 ghost use Rattle.buffer_properties.specs.SupportedExpansion.{alone, by_supported, supported_expansion, expansion};
 ghost use Rattle.buffer_stages.specs.Appending.{AppendsArrangement, RefusesRoomFor};
-ghost use Rattle.shape_normalize.specs.Walking.{Groups, GroupsTooMany, Walks, WalksTooMany, IsExpanded, ExpandsTooMany};
+ghost use Rattle.shape_normalize.specs.Stretches.{Advances, HasOwn};
+ghost use Rattle.shape_normalize.specs.Walking.{Groups, GroupsTooMany};
 ghost use Rattle.shape_normalize.specs.Glyphs.{HasHalvesOutput, Puts, count_of};
 
 use crate::characters::{is_selector, part_of, whole_of};
 use crate::normalizing::Normalizing;
 use crate::outputting::output_replacement;
 use crate::selecting::expand_selected;
+use crate::stretches::{count_marks, give_ahead, kept_stretch};
 use buffer_core::buffer::hb_buffer_t;
 use buffer_glyphs::cause::ShapeCause;
-use buffer_properties::categories::is_mark;
 use buffer_properties::{NormalizationMode, Reach};
 
 /// Appends a character to the output, with the font's glyph for it; the last one that replaces the current character is
@@ -277,43 +278,44 @@ fn has_selector(count: usize, buffer: &hb_buffer_t) -> bool
     false
 }
 
-/// Handles the next character: a mark extends the group at the cursor, which has that many marks; any other character
-/// ends it.
-fn expand_next<N: Normalizing>(
-    by: &N,
-    marks: usize,
-    buffer: &mut hb_buffer_t,
-) -> Result<usize, ShapeCause>
+/// Outputs the characters at the cursor that stay whole, or else replaces the first, and the marks after it, by their
+/// decompositions.
+#[tactic(auto, using(crate::proofs::Advance::stretch_too_many))]
+fn expand_next<N: Normalizing>(by: &N, buffer: &mut hb_buffer_t) -> Result<(), ShapeCause>
     requires open { buffer.old.is_open ≡ true }
-    requires there { marks + 1 < length buffer.old.ahead }
-    ensures ok { IfOk result (λ n. Walks (N.normalizer by.now) marks n buffer.old buffer.new) }
-    ensures err { IfErr result (λ e. WalksTooMany (N.normalizer by.now) marks e buffer.old) }
+    requires there { 0 < length buffer.old.ahead }
+    requires given { HasOwn (N.normalizer by.now) (strip buffer.old.ahead) }
+    ensures ok { OnOk result (Advances (N.normalizer by.now) buffer.old buffer.new) }
+    ensures err { IfErr result (λ e. RefusesRoomFor (length (expanded_list (N.normalizer by.now)
+        (strip buffer.old.ahead)).items) e buffer.old) }
 {
-    let _end = buffer.len();
-    if is_mark(buffer.cur(marks + 1)) {
-        return Ok(marks + 1);
+    let count = kept_stretch(by, buffer);
+    if count == 0 {
+        let marks = count_marks(1, buffer);
+        expand_group(by, marks, buffer)?;
+        return Ok(());
     }
-    expand_group(by, marks, buffer)?;
-    Ok(0)
+    if !buffer.next_glyphs(count)? {
+        return Err(ShapeCause::TooLong);
+    }
+    Ok(())
 }
 
-/// Replaces all input characters by their decompositions.
-fn expand_all<N: Normalizing>(
+/// The first round over characters that have the font's glyphs already.
+pub(crate) fn expand_given<N: Normalizing>(
     by: &N,
-    count: usize,
     buffer: &mut hb_buffer_t,
 ) -> Result<(), ShapeCause>
     requires open { buffer.old.is_open ≡ true }
-    requires counted { count ≡ length buffer.old.ahead }
-    requires some { 0 < count }
-    ensures ok { OnOk result (IsExpanded (N.normalizer by.now) buffer.old buffer.new) }
-    ensures err { IfErr result (λ e. ExpandsTooMany (N.normalizer by.now) e buffer.old) }
+    requires given { HasOwn (N.normalizer by.now) (strip buffer.old.ahead) }
+    ensures ok { OnOk result (AppendsArrangement (expanded_list (N.normalizer by.now) (strip buffer.old.ahead)) []
+        buffer.old buffer.new) }
+    ensures err { IfErr result (λ e. RefusesRoomFor (length (expanded_list (N.normalizer by.now)
+        (strip buffer.old.ahead)).items) e buffer.old) }
 {
-    let mut marks = 0;
-    for _ in 1..count {
-        marks = expand_next(by, marks, buffer)?;
+    while 0 < buffer.lookahead_len() {
+        expand_next(by, buffer)?;
     }
-    expand_group(by, marks, buffer)?;
     Ok(())
 }
 
@@ -324,6 +326,7 @@ fn expand_all<N: Normalizing>(
 /// # Errors
 ///
 /// `TooLong` where the output would have more glyphs than the buffer may hold, or lack of memory.
+#[tactic(auto, using(crate::proofs::Given::given_own, crate::proofs::Given::given_brought))]
 pub fn expand_list<N: Normalizing>(by: &N, buffer: &mut hb_buffer_t) -> Result<(), ShapeCause>
     requires open { buffer.old.is_open ≡ true }
     ensures ok { OnOk result (AppendsArrangement (expanded_list (N.normalizer by.now) (strip buffer.old.ahead)) []
@@ -331,10 +334,7 @@ pub fn expand_list<N: Normalizing>(by: &N, buffer: &mut hb_buffer_t) -> Result<(
     ensures err { IfErr result (λ e. RefusesRoomFor (length (expanded_list (N.normalizer by.now)
         (strip buffer.old.ahead)).items) e buffer.old) }
 {
-    let count = buffer.lookahead_len();
-    if count == 0 {
-        return Ok(());
-    }
-    expand_all(by, count, buffer)?;
+    give_ahead(by, buffer);
+    expand_given(by, buffer)?;
     Ok(())
 }

@@ -31,7 +31,7 @@ fn count_marks(glyphs: &[hb_glyph_info_t]) -> usize
 }
 
 /// Whether a decomposition is not looked for, or there is none.
-fn is_undecomposed<N: Normalizing>(by: &N, reach: Reach, u: u32) -> bool
+pub(crate) fn is_undecomposed<N: Normalizing>(by: &N, reach: Reach, u: u32) -> bool
     ensures { result ≡ is_undecomposed reach ((N.normalizer by.now).splits u) }
 {
     match reach {
@@ -90,7 +90,8 @@ fn stays_whole<N: Normalizing>(by: &N, group: &[hb_glyph_info_t]) -> bool
     !has_selector(group) && are_whole(by, reach_with_marks(by.mode()), group)
 }
 
-fn give_glyph<N: Normalizing>(by: &N, glyph: &mut hb_glyph_info_t)
+/// Gives a character the font's glyph, or glyph 0.
+pub(crate) fn give_glyph<N: Normalizing>(by: &N, glyph: &mut hb_glyph_info_t)
     ensures { glyph.new ≡ glyph_with_own (N.normalizer by.now) glyph.old }
 {
     glyph.glyph_index = by.glyph(glyph.glyph_id).unwrap_or(0);

@@ -15,3 +15,4 @@ pub mod rounds;
 mod searching;
 mod selecting;
 pub mod starters;
+mod stretches;

@@ -1,0 +1,10 @@
+use Rattle.buffer_glyphs.specs.Items.{strip}
+use Rattle.shape_normalize.proofs.Kept.{keeps_more, none_kept}
+use Rattle.shape_normalize.proofs.stretches.kept_stretch.Goals as goal
+
+pub loop-at-init : goal.loop-at-init
+loop-at-init g c = none_kept (g.N.Normalizing.normalizer c.args.by.now) (strip c.args.buffer.now.ahead)
+
+pub loop-at-preserved : goal.loop-at-preserved
+loop-at-preserved g c =
+    keeps_more (g.N.Normalizing.normalizer c.args.by.now) c.loop-at.at c.kept_group-count.result (strip c.args.buffer.now.ahead) c.loop-at.invariant c.kept_group-count.ensures

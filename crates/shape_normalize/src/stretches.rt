@@ -1,0 +1,126 @@
+//! The first round's stretches of characters that stay whole, which are passed at once (rustybuzz:
+//! hb/ot_shape_normalize.rs).
+ghost use Rattle.std.specs.Prelude.{◌≡◌, ◌<◌, ◌≤◌, ◌+◌, true, length, map, take, drop, slice_get, if◌then◌else◌, Some};
+ghost use Rattle.std.specs.List.{list_all, prefix_len};
+ghost use Rattle.buffer_core.specs.Lending.{with_glyph_ahead};
+ghost use Rattle.buffer_glyphs.specs.Items.{item_of, strip};
+ghost use Rattle.buffer_glyphs.specs.declared.info.hb_glyph_info_t.{hb_glyph_info_t as Glyph};
+ghost use Rattle.buffer_properties.specs.Characters.{is_mark};
+ghost use Rattle.shape_normalize.specs.Fronts.{glyph_with_own};
+ghost use Rattle.shape_normalize.specs.Stretches.{group_reach, is_kept, IsGiven, Keeps};
+
+use crate::characters::is_selector;
+use crate::expanding::{reach_alone, reach_with_marks};
+use crate::fronts::{give_glyph, is_undecomposed};
+use crate::normalizing::Normalizing;
+use buffer_core::buffer::hb_buffer_t;
+use buffer_glyphs::info::hb_glyph_info_t;
+use buffer_properties::Reach;
+use buffer_properties::categories::is_mark;
+
+/// Gives a character ahead the font's glyph, or glyph 0.
+#[tactic(auto, using(crate::proofs::Given::given_at))]
+fn give_at<N: Normalizing>(by: &N, i: usize, buffer: &mut hb_buffer_t)
+    requires { i < length buffer.old.ahead }
+    ensures { (g : Glyph) → slice_get buffer.old.ahead i ≡ Some g
+        → buffer.new ≡ with_glyph_ahead i (glyph_with_own (N.normalizer by.now) g) buffer.old }
+{
+    give_glyph(by, buffer.cur_mut(i));
+}
+
+/// Gives each character ahead the font's glyph, or glyph 0.
+pub(crate) fn give_ahead<N: Normalizing>(by: &N, buffer: &mut hb_buffer_t)
+    ensures { IsGiven (N.normalizer by.now) buffer.old buffer.new }
+{
+    let count = buffer.lookahead_len();
+    for i in 0..count {
+        give_at(by, i, buffer);
+    }
+}
+
+/// How many marks follow from an index on.
+pub(crate) fn count_marks(from: usize, buffer: &hb_buffer_t) -> usize
+    requires { from ≤ length buffer.now.ahead }
+    ensures marks { result ≡ prefix_len is_mark (drop from (strip buffer.now.ahead)) }
+    ensures within { from + result ≤ length buffer.now.ahead }
+{
+    let end = buffer.lookahead_len();
+    for i in from..end {
+        if !is_mark(buffer.cur(i)) {
+            return i - from;
+        }
+    }
+    end - from
+}
+
+/// Whether a character with the font's glyph, or glyph 0, stays whole; one that the font lacks, or has as glyph 0, is
+/// left to be looked at alone, as are selectors.
+fn is_kept<N: Normalizing>(by: &N, reach: Reach, glyph: &hb_glyph_info_t) -> bool
+    ensures { result ≡ is_kept (N.normalizer by.now) reach (item_of glyph.now) }
+{
+    glyph.glyph_index != 0 && !is_selector(glyph) && is_undecomposed(by, reach, glyph.glyph_id)
+}
+
+/// Whether that many characters from an index on stay whole.
+#[tactic(auto, using(crate::proofs::Kept::kept_all))]
+fn are_kept<N: Normalizing>(
+    by: &N,
+    reach: Reach,
+    from: usize,
+    count: usize,
+    buffer: &hb_buffer_t,
+) -> bool
+    requires { from + count ≤ length buffer.now.ahead }
+    ensures { result ≡ list_all (is_kept (N.normalizer by.now) reach) (take count (drop from (strip buffer.now.ahead))) }
+{
+    // The length bounds the indices.
+    let _end = buffer.lookahead_len();
+    for i in 0..count {
+        if !is_kept(by, reach, buffer.cur(from + i)) {
+            return false;
+        }
+    }
+    true
+}
+
+/// How far the characters of a group of that many are decomposed.
+fn group_reach<N: Normalizing>(by: &N, count: usize) -> Reach
+    ensures { result ≡ group_reach (N.normalizer by.now) count }
+{
+    if count == 1 {
+        reach_alone(by.mode())
+    } else {
+        reach_with_marks(by.mode())
+    }
+}
+
+/// How many characters the group at an index has, a character and the marks after it, if all stay whole, or 0.
+fn kept_group<N: Normalizing>(by: &N, at: usize, buffer: &hb_buffer_t) -> usize
+    requires { at < length buffer.now.ahead }
+    ensures { Keeps (N.normalizer by.now) result (drop at (strip buffer.now.ahead)) }
+{
+    // The length bounds the indices.
+    let _end = buffer.lookahead_len();
+    let count = count_marks(at + 1, buffer) + 1;
+    let reach = group_reach(by, count);
+    if !are_kept(by, reach, at, count, buffer) {
+        return 0;
+    }
+    count
+}
+
+/// How many characters there are before the next group that may not stay whole.
+pub(crate) fn kept_stretch<N: Normalizing>(by: &N, buffer: &hb_buffer_t) -> usize
+    ensures { Keeps (N.normalizer by.now) result (strip buffer.now.ahead) }
+{
+    let end = buffer.lookahead_len();
+    let mut at = 0;
+    while at < end {
+        let count = kept_group(by, at, buffer);
+        if count == 0 {
+            return at;
+        }
+        at += count;
+    }
+    at
+}
