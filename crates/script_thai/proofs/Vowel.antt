@@ -2,14 +2,13 @@
 use Rattle.std.proofs.Common.{ℕ, ◌≡◌, ◌≤◌, ◌+◌, ◌-◌, ◌==◌, Bool, true, false, if◌then◌else◌, List, [], ◌∷◌, ◌++◌, Some, length, take, drop, arith, refl, ap, sym, subst, ◌∙◌, append_assoc}
 use Rattle.std.specs.Prelude.{slice_get}
 use Rattle.std.proofs.lemmas.List.{append-nil, drop-drop, length-append, length-drop, length-map, length-take-le, take-append-drop, take-append-le, drop-append-le}
-use Rattle.buffer_glyphs.specs.declared.cause.ShapeCause.{ShapeCause}
 use Rattle.buffer_glyphs.specs.declared.info.hb_glyph_info_t.{hb_glyph_info_t}
 use Rattle.buffer_glyphs.specs.Items.{Item, item_of, strip}
 use Rattle.buffer_glyphs.specs.Events.{Move, Replace}
 use Rattle.buffer_glyphs.specs.Levels.{InOutput}
 use Rattle.buffer_core.specs.Sides.{Sides}
 use Rattle.buffer_stages.specs.Moves.{with_range_moved, order_of_move}
-use Rattle.buffer_stages.specs.Walks.{RefusesLength, HasWalked}
+use Rattle.buffer_stages.specs.Walks.{HasWalked}
 use Rattle.buffer_stages.proofs.Lemmas.Walked.{both_walked}
 use Rattle.script_thai.specs.ThaiVowel.{count_above, is_sara_am, nikhahit, sara_aa, with_vowel, with_character, events_of_vowel, events_of_character, move_of_vowel}
 
@@ -100,14 +99,6 @@ vowel_is g x xs s new there seen e w =
     let first = item_ahead g s.ahead x xs there seen in
     character_is true x xs s new (ap is_sara_am first ∙ e) (subst (λ m. HasWalked (with_vowel (strip s.behind) x) xs (events_of_vowel m (count_above (strip s.behind))) s new) (sym (length-map s.behind item_of)) w)
 
-pub other_is : (g : hb_glyph_info_t) (x : Item) (xs : List Item) (s new : Sides) → slice_get s.ahead 0 ≡ Some g → strip s.ahead ≡ x ∷ xs → is_sara_am (item_of g) ≡ false
-    → HasWalked (strip s.behind ++ take 1 (strip s.ahead)) (drop 1 (strip s.ahead)) [] s new
-    → HasWalked (with_character (strip s.behind) x) xs (events_of_character (strip s.behind) x) s new
-other_is g x xs s new there seen e w =
-    let first = item_ahead g s.ahead x xs there seen in
-    character_is false x xs s new (ap is_sara_am first ∙ e)
-    (record { behind = w.behind ∙ ap (λ ys. strip s.behind ++ take 1 ys) seen; ahead = w.ahead ∙ ap (drop 1) seen; happened = w.happened; view = w.view; settings = w.settings; opened = w.opened; unrefused = w.unrefused })
-
 -- no marks are before the parts
 pub joined_placed : (at marks : ℕ) (s new : Sides) → marks ≡ 0 → HasWalked (strip s.behind) (strip s.ahead) (move_of_vowel at 0) s new
     → HasWalked (with_range_moved (at - marks) marks 1 (strip s.behind)) (strip s.ahead) (move_of_vowel at marks) s new
@@ -123,17 +114,3 @@ moved_placed at marks n k s new e f some w =
     let P : ℕ → ℕ → Type 0 = λ m j. HasWalked (with_range_moved (at - marks) m j (strip s.behind)) (strip s.ahead) (Move InOutput (at - marks) (order_of_move m j) ∷ []) s new in
     let w' = subst (λ j. P marks j) f (subst (λ m. P m k) e w) in
     rw some w'
-
-pub vowel_exceeds : (g : hb_glyph_info_t) (x : Item) (xs : List Item) (e : ShapeCause) (s : Sides) → slice_get s.ahead 0 ≡ Some g → strip s.ahead ≡ x ∷ xs → is_sara_am (item_of g) ≡ true → RefusesLength (length s.behind + 2) e s → RefusesLength (length (with_character (strip s.behind) x)) e s
-vowel_exceeds g x xs e s there seen is over =
-    let first = item_ahead g s.ahead x xs there seen in
-    let t : is_sara_am x ≡ true = ap is_sara_am first ∙ is in
-    let n : length (with_character (strip s.behind) x) ≡ length s.behind + 2 = ap (λ b. length (if b then with_vowel (strip s.behind) x else strip s.behind ++ x ∷ [])) t ∙ vowel_long (strip s.behind) x ∙ ap (λ m. m + 2) (length-map s.behind item_of) in
-    subst (λ m. RefusesLength m e s) (sym n) over
-
-pub other_exceeds : (g : hb_glyph_info_t) (x : Item) (xs : List Item) (e : ShapeCause) (s : Sides) → slice_get s.ahead 0 ≡ Some g → strip s.ahead ≡ x ∷ xs → is_sara_am (item_of g) ≡ false → RefusesLength (length s.behind + 1) e s → RefusesLength (length (with_character (strip s.behind) x)) e s
-other_exceeds g x xs e s there seen is over =
-    let first = item_ahead g s.ahead x xs there seen in
-    let t : is_sara_am x ≡ false = ap is_sara_am first ∙ is in
-    let n : length (with_character (strip s.behind) x) ≡ length s.behind + 1 = ap (λ b. length (if b then with_vowel (strip s.behind) x else strip s.behind ++ x ∷ [])) t ∙ length-append (strip s.behind) (x ∷ []) ∙ ap (λ m. m + 1) (length-map s.behind item_of) in
-    subst (λ m. RefusesLength m e s) (sym n) over

@@ -1,10 +1,11 @@
 //! Decomposes Thai SARA AM and Lao AM (rustybuzz: hb/ot_shaper_thai.rs).
-ghost use Rattle.std.specs.Prelude.{◌≡◌, ◌<◌, ◌≤◌, ◌+◌, ◌-◌, ◌∷◌, List, Some, true, length, slice_get, OnOk, IfErr};
+ghost use Rattle.std.specs.Prelude.{◌≡◌, ◌<◌, ◌≤◌, ◌+◌, ◌-◌, ◌++◌, ◌∷◌, [], List, Some, true, not, length, take, drop, slice_get, OnOk, IfOk, IfErr};
+ghost use Rattle.std.specs.List.{list_all};
 ghost use Rattle.buffer_glyphs.specs.Items.{Item, item_of, strip};
 ghost use Rattle.buffer_glyphs.specs.Origins.{origin_of};
 ghost use Rattle.buffer_core.specs.Readings.{always};
 ghost use Rattle.buffer_stages.specs.Ready.{IsReady};
-ghost use Rattle.script_thai.specs.ThaiVowel.{count_above, events_of_character, events_of_vowel, is_mark_above, is_sara_am, nikhahit, nonspacing, move_of_vowel, sara_aa, thai_or_lao, vowel_rule, vowels_decomposed, vowels_split, with_character, with_vowel};
+ghost use Rattle.script_thai.specs.ThaiVowel.{count_above, events_of_vowel, is_mark_above, is_sara_am, nikhahit, nonspacing, move_of_vowel, sara_aa, split_events, text_with_splits, thai_or_lao, vowel_rule, vowels_decomposed, vowels_split, with_vowel};
 ghost use Rattle.script_syllabic.specs.Graphemes.{with_graphemes_merged};
 ghost use Rattle.buffer_stages.specs.Moves.{with_range_moved};
 ghost use Rattle.buffer_stages.specs.Walks.{RefusesLength, HasWalked};
@@ -14,7 +15,7 @@ use buffer_core::buffer::hb_buffer_t;
 use buffer_glyphs::cause::ShapeCause;
 use buffer_glyphs::flags::UnicodeProps;
 use buffer_glyphs::info::hb_glyph_info_t;
-use buffer_stages::walks::{advance, finish, move_behind, replace_current};
+use buffer_stages::walks::{finish, move_behind, replace_current};
 use buffer_unicode::category::GeneralCategoryExt;
 use script_syllabic::graphemes::merge_grapheme;
 use unicode::properties::GeneralCategory;
@@ -78,31 +79,66 @@ fn split_vowels(buffer: &mut hb_buffer_t) -> Result<(), ShapeCause>
     requires ready { IsReady buffer.old }
     ensures { DoesStage vowels_split result buffer.old buffer.new }
 {
-    let count = buffer.len();
+    let mut left = buffer.len();
     buffer.clear_output()?;
-    for _ in 0..count {
-        pass(buffer)?;
+    while left > 0 {
+        left -= pass(buffer)?;
     }
     finish(buffer)?;
     Ok(())
 }
 
-/// Outputs the current character, as two halves where it is such a vowel.
-fn pass(buffer: &mut hb_buffer_t) -> Result<(), ShapeCause>
+/// Outputs the current character as two halves where it is such a vowel, else all characters before the next one.
+/// Answers how many were read.
+fn pass(buffer: &mut hb_buffer_t) -> Result<usize, ShapeCause>
     requires open { buffer.old.is_open ≡ true }
     requires there { 0 < length buffer.old.ahead }
-    ensures ok { OnOk result ((x : Item) (xs : List Item) → strip buffer.old.ahead ≡ x ∷ xs
-        → HasWalked (with_character (strip buffer.old.behind) x) xs
-        (events_of_character (strip buffer.old.behind) x) buffer.old buffer.new) }
-    ensures err { IfErr result (λ e. (x : Item) (xs : List Item) → strip buffer.old.ahead ≡ x ∷ xs
-        → RefusesLength (length (with_character (strip buffer.old.behind) x)) e buffer.old) }
+    ensures some { IfOk result (λ n. 0 < n) }
+    ensures within { IfOk result (λ n. n ≤ length buffer.old.ahead) }
+    ensures ok { IfOk result (λ n. HasWalked
+        (text_with_splits (strip buffer.old.behind) (take n (strip buffer.old.ahead))) (drop n (strip buffer.old.ahead))
+        (split_events (strip buffer.old.behind) (take n (strip buffer.old.ahead))) buffer.old buffer.new) }
+    ensures err { IfErr result (λ e. RefusesLength
+        (length (text_with_splits (strip buffer.old.behind) (strip buffer.old.ahead))) e buffer.old) }
 {
     let glyph = *buffer.cur(0);
     if is_sara_am(&glyph) {
         split(&glyph, buffer)?;
-        return Ok(());
+        return Ok(1);
     }
-    advance(buffer)?;
+    let others = count_others(buffer);
+    advance_over(others, buffer)?;
+    Ok(others)
+}
+
+/// The number of characters before the next such vowel, where the current character is none.
+fn count_others(buffer: &hb_buffer_t) -> usize
+    requires there { 0 < length buffer.now.ahead }
+    requires first { list_all (λ x. not (is_sara_am x)) (take 1 (strip buffer.now.ahead)) ≡ true }
+    ensures others { list_all (λ x. not (is_sara_am x)) (take result (strip buffer.now.ahead)) ≡ true }
+    ensures some { 0 < result }
+    ensures within { result ≤ length buffer.now.ahead }
+{
+    let count = buffer.lookahead_len();
+    for i in 1..count {
+        if is_sara_am(buffer.cur(i)) {
+            return i;
+        }
+    }
+    count
+}
+
+/// Outputs so many characters as they are.
+fn advance_over(count: usize, buffer: &mut hb_buffer_t) -> Result<(), ShapeCause>
+    requires open { buffer.old.is_open ≡ true }
+    requires there { count ≤ length buffer.old.ahead }
+    ensures ok { OnOk result (HasWalked (strip buffer.old.behind ++ take count (strip buffer.old.ahead))
+        (drop count (strip buffer.old.ahead)) [] buffer.old buffer.new) }
+    ensures err { IfErr result (λ e. RefusesLength (length buffer.old.behind + count) e buffer.old) }
+{
+    if !buffer.next_glyphs(count)? {
+        return Err(ShapeCause::TooLong);
+    }
     Ok(())
 }
 
