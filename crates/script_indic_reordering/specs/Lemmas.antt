@@ -13,3 +13,5 @@ pub mod LeftPut
 pub mod FinalSteps
 pub mod Words
 pub mod FinalPermuted
+pub mod KnownForms
+pub mod Zwnj

@@ -8,3 +8,4 @@ pub mod Final
 pub mod Left
 pub mod Sought
 pub mod Orders
+pub mod KnownForms

@@ -1,56 +1,136 @@
 //! The syllabic positions of consonants, by the forms that a font has for them (rustybuzz: hb/ot_shaper_indic.rs,
 //! `update_consonant_positions`).
-ghost use Rattle.std.specs.Prelude.{◌≡◌};
+ghost use Rattle.std.specs.Prelude.{◌≡◌, true};
 ghost use Rattle.buffer_glyphs.specs.Items.{item_of};
 ghost use Rattle.buffer_glyphs.specs.Origins.{origin_of};
 ghost use Rattle.buffer_core.specs.Readings.{always};
+ghost use Rattle.script_indic_reordering.specs.Glyphs.{is_consonant};
 ghost use Rattle.buffer_stages.specs.Ready.{IsReady};
-ghost use Rattle.buffer_stages.specs.Stages.{IsFollowed, with_items_mapped};
-ghost use Rattle.script_indic_reordering.specs.Base.{Forms};
-ghost use Rattle.script_indic_reordering.specs.Orders.{consonant_with_position, consonant_position};
+ghost use Rattle.buffer_stages.specs.Stages.{AreMapped, IsFollowed, with_items_mapped};
+ghost use Rattle.script_indic_reordering.specs.Orders.{consonant_with_position};
+ghost use Rattle.script_indic_reordering.specs.KnownForms.{AreKnown, formed_position};
 
 use crate::forms::IndicForms;
 use crate::glyphs::{is_consonant, with_position};
 use buffer_core::buffer::hb_buffer_t;
 use buffer_glyphs::info::hb_glyph_info_t;
-use buffer_stages::glyphs::map_glyphs;
 use script_categories::ot_position_t::{POS_BELOW_C, POS_POST_C, Position};
+
+/// How many consonants are remembered at once: a script has fewer, and fonts number most of them one after another.
+const ROWS: usize = 64;
+
+/// The form of a consonant with a virama, as a font answered.
+#[derive(Clone, Copy)]
+pub(crate) struct KnownForm {
+    /// The glyph of the consonant that the font was asked for, if it was asked.
+    pub glyph: Option<u32>,
+    /// The position of its form, if it has one.
+    pub position: Option<Position>,
+}
 
 /// Gives each consonant the position below the base or after it where the font has such a form of the consonant with a
 /// virama before or after it. It takes linear time, but for the font's answers.
+#[tactic(auto, using(buffer_stages::specs::Lemmas::Written::mapped_followed, crate::specs::Lemmas::KnownForms::none_known))]
 pub fn update_consonant_positions<F: IndicForms>(forms: &F, virama: u32, buffer: &mut hb_buffer_t)
     requires ready { IsReady buffer.old }
     ensures { IsFollowed (always (with_items_mapped (consonant_with_position (F.forms_of forms.now) virama))) buffer.old buffer.new }
 {
-    map_glyphs(
-        buffer,
-        |glyph| consonant_with_position(forms, virama, glyph),
-    );
+    let mut known = [KnownForm {
+        glyph: None,
+        position: None,
+    }; ROWS];
+    update_each(forms, virama, &mut known, buffer.info_slice_mut());
 }
 
-fn consonant_with_position<F: IndicForms>(
+/// Updates the glyphs. Few consonants make up a text, so most answers of the font are remembered.
+fn update_each<F: IndicForms>(
     forms: &F,
     virama: u32,
-    glyph: &hb_glyph_info_t,
-) -> hb_glyph_info_t
-    ensures item { item_of result ≡ consonant_with_position (F.forms_of forms.now) virama (item_of glyph.now) }
-    ensures origin { origin_of result ≡ origin_of glyph.now }
+    known: &mut [KnownForm; ROWS],
+    glyphs: &mut [hb_glyph_info_t],
+)
+    requires { AreKnown (F.forms_of forms.now) virama known.old }
+    ensures { AreMapped (consonant_with_position (F.forms_of forms.now) virama) glyphs.old glyphs.new }
 {
-    if !is_consonant(glyph) {
-        return *glyph;
+    for glyph in glyphs.iter_mut() {
+        *glyph = updated_glyph(forms, virama, known, *glyph);
     }
-    with_position(consonant_position(forms, virama, glyph), *glyph)
 }
 
-fn consonant_position<F: IndicForms>(forms: &F, virama: u32, glyph: &hb_glyph_info_t) -> Position
-    ensures { result ≡ consonant_position (F.forms_of forms.now) virama (item_of glyph.now) }
+/// A glyph that has the position of its forms where it is a consonant.
+#[tactic(auto, using(crate::specs::Lemmas::KnownForms::other_item))]
+fn updated_glyph<F: IndicForms>(
+    forms: &F,
+    virama: u32,
+    known: &mut [KnownForm; ROWS],
+    glyph: hb_glyph_info_t,
+) -> hb_glyph_info_t
+    requires { AreKnown (F.forms_of forms.now) virama known.old }
+    ensures item { item_of result ≡ consonant_with_position (F.forms_of forms.now) virama (item_of glyph) }
+    ensures origin { origin_of result ≡ origin_of glyph }
+    ensures known { AreKnown (F.forms_of forms.now) virama known.new }
 {
-    let consonant = glyph.glyph_id;
+    if !is_consonant(&glyph) {
+        return glyph;
+    }
+    formed_glyph(forms, virama, known, glyph)
+}
+
+/// A consonant with the position of its forms.
+#[tactic(auto, using(crate::specs::Lemmas::KnownForms::formed_item, crate::specs::Lemmas::KnownForms::unformed_item))]
+fn formed_glyph<F: IndicForms>(
+    forms: &F,
+    virama: u32,
+    known: &mut [KnownForm; ROWS],
+    glyph: hb_glyph_info_t,
+) -> hb_glyph_info_t
+    requires known { AreKnown (F.forms_of forms.now) virama known.old }
+    requires consonant { is_consonant (item_of glyph) ≡ true }
+    ensures item { item_of result ≡ consonant_with_position (F.forms_of forms.now) virama (item_of glyph) }
+    ensures origin { origin_of result ≡ origin_of glyph }
+    ensures remembered { AreKnown (F.forms_of forms.now) virama known.new }
+{
+    match known_position(forms, virama, known, glyph.glyph_id) {
+        Some(position) => with_position(position, glyph),
+        None => glyph,
+    }
+}
+
+/// The position of the forms of a consonant, remembered or asked for.
+#[tactic(auto, using(crate::specs::Lemmas::KnownForms::row_known, crate::specs::Lemmas::KnownForms::row_made))]
+fn known_position<F: IndicForms>(
+    forms: &F,
+    virama: u32,
+    known: &mut [KnownForm; ROWS],
+    consonant: u32,
+) -> Option<Position>
+    requires known { AreKnown (F.forms_of forms.now) virama known.old }
+    ensures position { result ≡ formed_position (F.forms_of forms.now) virama consonant }
+    ensures remembered { AreKnown (F.forms_of forms.now) virama known.new }
+{
+    let at = consonant as usize % ROWS;
+    let row = known[at];
+    if let Some(glyph) = row.glyph
+        && glyph == consonant
+    {
+        return row.position;
+    }
+    let position = formed_position(forms, virama, consonant);
+    known[at] = KnownForm {
+        glyph: Some(consonant),
+        position,
+    };
+    position
+}
+
+fn formed_position<F: IndicForms>(forms: &F, virama: u32, consonant: u32) -> Option<Position>
+    ensures { result ≡ formed_position (F.forms_of forms.now) virama consonant }
+{
     if forms.forms_below(virama, consonant) || forms.forms_below(consonant, virama) {
-        return POS_BELOW_C;
+        return Some(POS_BELOW_C);
     }
     if forms.forms_post(virama, consonant) || forms.forms_post(consonant, virama) {
-        return POS_POST_C;
+        return Some(POS_POST_C);
     }
-    glyph.auxiliary
+    None
 }

@@ -1,8 +1,10 @@
 //! The features that the glyphs of a syllable get by their positions (rustybuzz: hb/ot_shaper_indic.rs).
 ghost use Rattle.std.specs.Prelude.{◌≡◌, ◌≤◌, ◌<◌, ◌+◌, bit_and, drop, length, true, IfSome};
+ghost use Rattle.std.specs.List.{list_any};
 ghost use Rattle.buffer_glyphs.specs.Items.{item_of, strip};
 ghost use Rattle.buffer_glyphs.specs.Origins.{origin_of};
 ghost use Rattle.buffer_stages.specs.Ordering.{AreMade};
+ghost use Rattle.script_indic_reordering.specs.Glyphs.{is_zwnj};
 ghost use Rattle.script_indic_reordering.specs.Masks.{after_masked, own_bits, pair_masked, part_masked, without_bits};
 ghost use Rattle.script_indic_reordering.specs.Initial.{base_in, cleared_before_zwnj, without_bits_if, continues, form_pref, forms_pref, masked_by_position, masks_set, pref_masked, pref_pair, reph_in};
 
@@ -154,12 +156,15 @@ fn own_bits(mask: hb_mask_t) -> hb_mask_t
 }
 
 /// Clears the bits of a mask on the glyphs before a ZWNJ, back to the nearest consonant. It takes linear time, since it
-/// walks from the end and keeps whether a ZWNJ follows.
-#[tactic(auto, using(crate::specs::Lemmas::Walks::clearing_begun, crate::specs::Lemmas::Walks::clearing_next, crate::specs::Lemmas::Walks::clearing_done))]
+/// walks from the end and keeps whether a ZWNJ follows; hardly any syllable has one.
+#[tactic(auto, using(crate::specs::Lemmas::Zwnj::none_cleared, crate::specs::Lemmas::Walks::clearing_begun, crate::specs::Lemmas::Walks::clearing_next, crate::specs::Lemmas::Walks::clearing_done))]
 fn clear_before_zwnj(bits: hb_mask_t, glyphs: &mut [hb_glyph_info_t])
     requires { bit_and bits 7 ≡ 0 }
     ensures { AreMade (cleared_before_zwnj bits (strip glyphs.old)) glyphs.old glyphs.new }
 {
+    if !has_zwnj(glyphs) {
+        return;
+    }
     let mut is_before = false;
     let mut i = glyphs.len();
     while i > 0 {
@@ -168,6 +173,12 @@ fn clear_before_zwnj(bits: hb_mask_t, glyphs: &mut [hb_glyph_info_t])
         glyphs[i] = without_bits_if(is_before, bits, glyph);
         is_before = continues(&glyph, is_before);
     }
+}
+
+fn has_zwnj(glyphs: &[hb_glyph_info_t]) -> bool
+    ensures { result ≡ list_any (λ g. is_zwnj (item_of g)) glyphs.now }
+{
+    glyphs.iter().any(|glyph| is_zwnj(glyph))
 }
 
 /// Whether a ZWNJ follows what stands before a glyph, with no consonant between, by whether one so follows the glyph.

@@ -18,12 +18,16 @@ use buffer_stages::parts::with_mask;
 use buffer_stages::rewriting::{PartRule, rewrite_part};
 use script_categories::hb_ot_script_shaper_t::INDIC_SHAPER;
 
-/// Left matras that begin a syllable and a word get the features of a mask.
+/// Left matras that begin a syllable and a word get the features of a mask, which is 0 where the font lacks them.
+#[tactic(auto, using(crate::specs::Lemmas::Words::no_words))]
 pub(crate) fn mask_words(mask: hb_mask_t, buffer: &mut hb_buffer_t)
     requires ready { IsReady buffer.old }
     ensures { IsRewritten (eventless_arrangement (words_begun (is_reordered INDIC_SHAPER) mask None (items_of buffer.old))) 0
         (length (all_glyphs buffer.old)) buffer.old buffer.new }
 {
+    if mask == 0 {
+        return;
+    }
     let count = buffer.len();
     rewrite_part(&Words { mask }, buffer, 0, count);
 }
