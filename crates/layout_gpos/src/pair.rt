@@ -43,7 +43,7 @@ fn covers_first_of_pair(subtable: &PairPos, first: u16) -> bool
     }
 }
 
-/// Whether a glyph may be the first one of pairs. Among pairs of glyphs the search for the pair tells it.
+/// Whether a glyph may be the first one of pairs. Among pairs of glyphs only the search for the pair shows it.
 fn may_begin(subtable: &PairPos, first: u16) -> bool
     ensures { result ≡ false → covers_first_of_pair subtable.now first ≡ false }
 {
@@ -71,7 +71,7 @@ fn begins_beside(rows: &[PairRow], at: usize, first: u16) -> bool
 }
 
 /// The adjustments of two glyphs, none where no pair begins with the first, by one search in logarithmic time: where the
-/// pair isn't found, others with its first glyph are beside its place.
+/// pair isn't found, others with its first glyph stand beside the index at which it would stand.
 fn sought_glyphs(pairs: &SortedRows<PairRow>, first: u16, second: u16) -> Option<Option<PairValues>>
     ensures { result ≡ (if list_any (λ r. r.first == first) pairs.now then Some (glyph_pair_values first second pairs.now)
         else None) }

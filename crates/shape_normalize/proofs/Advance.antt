@@ -1,4 +1,4 @@
--- The walk over stretches and groups.
+-- The walk over kept runs and groups.
 use Rattle.std.proofs.Common.{ℕ, suc, ◌≡◌, ◌≢◌, ◌<◌, ◌≤◌, ◌+◌, true, List, [], ◌∷◌, ◌++◌, length, take, drop, refl, sym, ap, subst, ◌∙◌, arith}
 use Rattle.std.specs.List.{prefix_len}
 use Rattle.std.proofs.lemmas.List.{length-append, length-drop, length-map, length-take-le, take-append-drop}
@@ -11,16 +11,16 @@ use Rattle.buffer_properties.specs.Characters.{is_mark}
 use Rattle.buffer_properties.specs.Expanding.{expanded_group, expanded_list}
 use Rattle.buffer_properties.specs.Normalizer.{Normalizer}
 use Rattle.buffer_stages.specs.Appending.{AppendsArrangement, RefusesRoomFor}
-use Rattle.shape_normalize.specs.Stretches.{Advances, HasOwn, Keeps}
+use Rattle.shape_normalize.specs.KeptRuns.{Advances, HasOwn, Keeps}
 use Rattle.shape_normalize.specs.Walking.{Groups, GroupsTooMany}
 use Rattle.shape_normalize.proofs.Kept.{own_dropped}
 use Rattle.shape_normalize.proofs.Lemmas.Chain.{beside_assoc, brought_none, brought_then, in_turn_both, none_behind, none_beside, overfills_behind, overfills_more}
 use Rattle.shape_normalize.proofs.Taken.{front_brought, groups_list, groups_of, groups_over}
 
--- ---- a stretch
+-- ---- a kept run
 
-pub stretch_passed : (c : Normalizer) (n : ℕ) (s t : Sides) → Keeps c n (strip s.ahead) → HasOwn c (strip s.ahead) → n ≢ 0 → t ≡ after_next_glyphs n s → all_glyphs t ≡ all_glyphs s → Advances c s t
-stretch_passed c n s t keeps own some is kept = record {
+pub run_passed : (c : Normalizer) (n : ℕ) (s t : Sides) → Keeps c n (strip s.ahead) → HasOwn c (strip s.ahead) → n ≢ 0 → t ≡ after_next_glyphs n s → all_glyphs t ≡ all_glyphs s → Advances c s t
+run_passed c n s t keeps own some is kept = record {
   count = n;
   done = eventless_arrangement (take n (strip s.ahead));
   some = omega (arith, some);
@@ -28,8 +28,8 @@ stretch_passed c n s t keeps own some is kept = record {
   whole = keeps.expanded own;
 }
 
-pub stretch_too_many : (c : Normalizer) (n : ℕ) (e : ShapeCause) (s : Sides) → Keeps c n (strip s.ahead) → HasOwn c (strip s.ahead) → RefusesRoomFor n e s → RefusesRoomFor (length (expanded_list c (strip s.ahead)).items) e s
-stretch_too_many c n e s keeps own over =
+pub run_too_many : (c : Normalizer) (n : ℕ) (e : ShapeCause) (s : Sides) → Keeps c n (strip s.ahead) → HasOwn c (strip s.ahead) → RefusesRoomFor n e s → RefusesRoomFor (length (expanded_list c (strip s.ahead)).items) e s
+run_too_many c n e s keeps own over =
     let xs = strip s.ahead in
     let le = keeps.within in
     let all = ap (λ (a : Arrangement). length a.items) (keeps.expanded own) in

@@ -17,7 +17,7 @@ use Rattle.buffer_properties.specs.Expanding.{expanded_list, with_own_glyph}
 use Rattle.buffer_properties.specs.Normalizer.{Normalizer}
 use Rattle.buffer_stages.specs.Appending.{AppendsArrangement, RefusesRoomFor}
 use Rattle.shape_normalize.specs.Fronts.{glyph_with_own}
-use Rattle.shape_normalize.specs.Stretches.{HasOwn, IsGiven}
+use Rattle.shape_normalize.specs.KeptRuns.{HasOwn, IsGiven}
 use Rattle.shape_normalize.proofs.Own.{own_expands}
 use Rattle.shape_normalize.proofs.Taken.{glyphs_given, origins_given}
 

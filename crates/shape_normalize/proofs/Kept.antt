@@ -15,7 +15,7 @@ use Rattle.buffer_properties.specs.Expanding.{expanded_group, expanded_list, ite
 use Rattle.buffer_properties.specs.Normalizer.{Normalizer, reach_alone, reach_with_marks}
 use Rattle.buffer_properties.specs.declared.normal_mode.Reach.{Reach}
 use Rattle.shape_normalize.specs.Fronts.{expansion_after, is_undecomposed, is_whole}
-use Rattle.shape_normalize.specs.Stretches.{group_reach, is_kept, HasOwn, Keeps}
+use Rattle.shape_normalize.specs.KeptRuns.{group_reach, is_kept, HasOwn, Keeps}
 use Rattle.shape_normalize.proofs.Lemmas.Chain.{beside_assoc, in_turn_both, none_beside}
 use Rattle.shape_normalize.proofs.Taken.{groups_list, groups_of, groups_over, one_whole}
 

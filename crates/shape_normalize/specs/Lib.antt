@@ -5,4 +5,4 @@ pub mod Composed
 pub mod Starters
 pub mod Runs
 pub mod Fronts
-pub mod Stretches
+pub mod KeptRuns

@@ -9,15 +9,15 @@ ghost use Rattle.buffer_properties.specs.Expanding.{item_expansion, expanded_ite
 ghost use Rattle.buffer_properties.specs.Normalizer.{has_character, reach_alone, reach_with_marks};
 ghost use Rattle.buffer_properties.specs.SupportedExpansion.{alone, by_supported, supported_expansion, expansion};
 ghost use Rattle.buffer_stages.specs.Appending.{AppendsArrangement, RefusesRoomFor};
-ghost use Rattle.shape_normalize.specs.Stretches.{Advances, HasOwn};
+ghost use Rattle.shape_normalize.specs.KeptRuns.{Advances, HasOwn};
 ghost use Rattle.shape_normalize.specs.Walking.{Groups, GroupsTooMany};
 ghost use Rattle.shape_normalize.specs.Glyphs.{HasHalvesOutput, Puts, count_of};
 
 use crate::characters::{is_selector, part_of, whole_of};
+use crate::kept_runs::{count_marks, give_ahead, kept_run};
 use crate::normalizing::Normalizing;
 use crate::outputting::output_replacement;
 use crate::selecting::expand_selected;
-use crate::stretches::{count_marks, give_ahead, kept_stretch};
 use buffer_core::buffer::hb_buffer_t;
 use buffer_glyphs::cause::ShapeCause;
 use buffer_properties::{NormalizationMode, Reach};
@@ -280,7 +280,7 @@ fn has_selector(count: usize, buffer: &hb_buffer_t) -> bool
 
 /// Outputs the characters at the cursor that stay whole, or else replaces the first, and the marks after it, by their
 /// decompositions.
-#[tactic(auto, using(crate::proofs::Advance::stretch_too_many))]
+#[tactic(auto, using(crate::proofs::Advance::run_too_many))]
 fn expand_next<N: Normalizing>(by: &N, buffer: &mut hb_buffer_t) -> Result<(), ShapeCause>
     requires open { buffer.old.is_open ≡ true }
     requires there { 0 < length buffer.old.ahead }
@@ -289,7 +289,7 @@ fn expand_next<N: Normalizing>(by: &N, buffer: &mut hb_buffer_t) -> Result<(), S
     ensures err { IfErr result (λ e. RefusesRoomFor (length (expanded_list (N.normalizer by.now)
         (strip buffer.old.ahead)).items) e buffer.old) }
 {
-    let count = kept_stretch(by, buffer);
+    let count = kept_run(by, buffer);
     if count == 0 {
         let marks = count_marks(1, buffer);
         expand_group(by, marks, buffer)?;

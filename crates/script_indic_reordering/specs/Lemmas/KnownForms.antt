@@ -38,15 +38,15 @@ row_made forms virama i consonant at rows h e =
 abbrev or_own : Bool → Bool → ℕ → ℕ
 or_own below post own = if below then position.POS_BELOW_C else if post then position.POS_POST_C else own
 
-abbrev formed_of : Bool → Bool → Option ℕ
-formed_of below post = if below then Some position.POS_BELOW_C else if post then Some position.POS_POST_C else None
+abbrev known_form : Bool → Bool → Option ℕ
+known_form below post = if below then Some position.POS_BELOW_C else if post then Some position.POS_POST_C else None
 
-is_formed : (below post : Bool) (own at : ℕ) → Some at ≡ formed_of below post → or_own below post own ≡ at
+is_formed : (below post : Bool) (own at : ℕ) → Some at ≡ known_form below post → or_own below post own ≡ at
 is_formed true post own at e = let f : at ≡ position.POS_BELOW_C = cc in sym f
 is_formed false true own at e = let f : at ≡ position.POS_POST_C = cc in sym f
 is_formed false false own at e = absurd (let bad = e in cc)
 
-is_unformed : (below post : Bool) (own : ℕ) → None ≡ formed_of below post → or_own below post own ≡ own
+is_unformed : (below post : Bool) (own : ℕ) → None ≡ known_form below post → or_own below post own ≡ own
 is_unformed true post own e = absurd (let bad = e in cc)
 is_unformed false true own e = absurd (let bad = e in cc)
 is_unformed false false own e = refl

@@ -1,4 +1,4 @@
--- Stretches of characters that the first round passes as they are.
+-- Runs of characters that the first round passes as they are.
 use Rattle.std.specs.Prelude.{ℕ, Bool, ◌≡◌, ◌<◌, ◌≤◌, ◌==◌, ◌&&◌, List, length, map, drop, not, if◌then◌else◌}
 use Rattle.buffer_core.specs.Sides.{Sides}
 use Rattle.buffer_glyphs.specs.Items.{Item, strip}

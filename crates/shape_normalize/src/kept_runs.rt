@@ -1,4 +1,4 @@
-//! The first round's stretches of characters that stay whole, which are passed at once (rustybuzz:
+//! The first round's runs of characters that stay whole, which are passed at once (rustybuzz:
 //! hb/ot_shape_normalize.rs).
 ghost use Rattle.std.specs.Prelude.{◌≡◌, ◌<◌, ◌≤◌, ◌+◌, true, length, map, take, drop, slice_get, if◌then◌else◌, Some};
 ghost use Rattle.std.specs.List.{list_all, prefix_len};
@@ -7,7 +7,7 @@ ghost use Rattle.buffer_glyphs.specs.Items.{item_of, strip};
 ghost use Rattle.buffer_glyphs.specs.declared.info.hb_glyph_info_t.{hb_glyph_info_t as Glyph};
 ghost use Rattle.buffer_properties.specs.Characters.{is_mark};
 ghost use Rattle.shape_normalize.specs.Fronts.{glyph_with_own};
-ghost use Rattle.shape_normalize.specs.Stretches.{group_reach, is_kept, IsGiven, Keeps};
+ghost use Rattle.shape_normalize.specs.KeptRuns.{group_reach, is_kept, IsGiven, Keeps};
 
 use crate::characters::is_selector;
 use crate::expanding::{reach_alone, reach_with_marks};
@@ -110,7 +110,7 @@ fn kept_group<N: Normalizing>(by: &N, at: usize, buffer: &hb_buffer_t) -> usize
 }
 
 /// How many characters there are before the next group that may not stay whole.
-pub(crate) fn kept_stretch<N: Normalizing>(by: &N, buffer: &hb_buffer_t) -> usize
+pub(crate) fn kept_run<N: Normalizing>(by: &N, buffer: &hb_buffer_t) -> usize
     ensures { Keeps (N.normalizer by.now) result (strip buffer.now.ahead) }
 {
     let end = buffer.lookahead_len();

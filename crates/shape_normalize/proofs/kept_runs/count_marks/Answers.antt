@@ -1,6 +1,6 @@
 use Rattle.std.proofs.Common.{arith, sym, ◌∙◌}
 use Rattle.shape_normalize.proofs.Kept.{counting_more, counting_stopped}
-use Rattle.shape_normalize.proofs.stretches.count_marks.Goals as goal
+use Rattle.shape_normalize.proofs.kept_runs.count_marks.Goals as goal
 
 pub returns-then-not-is_mark-clause-marks : goal.returns-then-not-is_mark-clause-marks
 returns-then-not-is_mark-clause-marks c =

@@ -1,6 +1,6 @@
 use Rattle.std.proofs.Common.{arith}
 use Rattle.shape_normalize.proofs.Given.{given_more}
-use Rattle.shape_normalize.proofs.stretches.give_ahead.Goals as goal
+use Rattle.shape_normalize.proofs.kept_runs.give_ahead.Goals as goal
 
 pub loop-i-preserved : goal.loop-i-preserved
 loop-i-preserved g c =

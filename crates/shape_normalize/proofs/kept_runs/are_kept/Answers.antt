@@ -1,7 +1,7 @@
 use Rattle.std.proofs.Common.{sym, ◌∙◌}
-use Rattle.shape_normalize.specs.Stretches.{is_kept}
+use Rattle.shape_normalize.specs.KeptRuns.{is_kept}
 use Rattle.shape_normalize.proofs.Kept.{kept_here, kept_none}
-use Rattle.shape_normalize.proofs.stretches.are_kept.Goals as goal
+use Rattle.shape_normalize.proofs.kept_runs.are_kept.Goals as goal
 
 pub returns-then-not-is_kept : goal.returns-then-not-is_kept
 returns-then-not-is_kept g c =

@@ -1,8 +1,8 @@
 use Rattle.std.proofs.Common.{◌≡◌, take, drop}
 use Rattle.std.specs.List.{list_all}
 use Rattle.buffer_glyphs.specs.Items.{strip}
-use Rattle.shape_normalize.specs.Stretches.{is_kept}
-use Rattle.shape_normalize.proofs.stretches.are_kept.Given as goal
+use Rattle.shape_normalize.specs.KeptRuns.{is_kept}
+use Rattle.shape_normalize.proofs.kept_runs.are_kept.Given as goal
 
 abbrev pub invariant-loop-i : goal.invariant-loop-i
 invariant-loop-i g l =

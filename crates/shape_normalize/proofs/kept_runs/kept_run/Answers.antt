@@ -1,6 +1,6 @@
 use Rattle.buffer_glyphs.specs.Items.{strip}
 use Rattle.shape_normalize.proofs.Kept.{keeps_more, none_kept}
-use Rattle.shape_normalize.proofs.stretches.kept_stretch.Goals as goal
+use Rattle.shape_normalize.proofs.kept_runs.kept_run.Goals as goal
 
 pub loop-at-init : goal.loop-at-init
 loop-at-init g c = none_kept (g.N.Normalizing.normalizer c.args.by.now) (strip c.args.buffer.now.ahead)

@@ -1,9 +1,9 @@
 use Rattle.std.proofs.Common.{◌+◌, ap, take, drop, sym, ◌∙◌}
 use Rattle.std.specs.List.{list_all}
 use Rattle.buffer_glyphs.specs.Items.{strip}
-use Rattle.shape_normalize.specs.Stretches.{is_kept}
+use Rattle.shape_normalize.specs.KeptRuns.{is_kept}
 use Rattle.shape_normalize.proofs.Kept.{group_keeps, none_kept}
-use Rattle.shape_normalize.proofs.stretches.kept_group.Goals as goal
+use Rattle.shape_normalize.proofs.kept_runs.kept_group.Goals as goal
 
 pub returns-then-not-are_kept : goal.returns-then-not-are_kept
 returns-then-not-are_kept g c = none_kept (g.N.Normalizing.normalizer c.args.by.now) (drop c.args.at (strip c.args.buffer.now.ahead))
