@@ -7,6 +7,7 @@ use crate::substitution::lookup_props;
 use layout_common::array::Array;
 use layout_common::digest::{hb_set_digest_ext, hb_set_digest_t};
 use layout_common::digested::{Covers, Digested, collect_each};
+use layout_common::subtables::Subtables;
 use layout_tables::context::ContextSubtable;
 use layout_tables::cursive::CursivePos;
 use layout_tables::mark::{MarkBasePos, MarkLigPos};
@@ -18,14 +19,14 @@ use layout_tables::table::LayoutTable;
 /// set of the glyphs at which it can act.
 #[derive(Debug, Drop)]
 pub enum PositioningSubtables {
-    Single(Array<Digested<SinglePos>>),
-    Pair(Array<Digested<PairPos>>),
-    Cursive(Array<Digested<CursivePos>>),
-    MarkToBase(Array<Digested<MarkBasePos>>),
-    MarkToLigature(Array<Digested<MarkLigPos>>),
-    MarkToMark(Array<Digested<MarkBasePos>>),
-    Context(Array<Digested<ContextSubtable>>),
-    ChainContext(Array<Digested<ContextSubtable>>),
+    Single(Subtables<SinglePos>),
+    Pair(Subtables<PairPos>),
+    Cursive(Subtables<CursivePos>),
+    MarkToBase(Subtables<MarkBasePos>),
+    MarkToLigature(Subtables<MarkLigPos>),
+    MarkToMark(Subtables<MarkBasePos>),
+    Context(Subtables<ContextSubtable>),
+    ChainContext(Subtables<ContextSubtable>),
 }
 
 impl Covers for PositioningSubtables {

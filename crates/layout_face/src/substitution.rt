@@ -8,6 +8,7 @@ use layout_common::array::Array;
 use layout_common::digest::{hb_set_digest_ext, hb_set_digest_t};
 use layout_common::digested::{Covers, Digested, collect_each};
 use layout_common::flags::USE_MARK_FILTERING_SET;
+use layout_common::subtables::Subtables;
 use layout_tables::context::ContextSubtable;
 use layout_tables::ligature::LigatureSubst;
 use layout_tables::reverse::ReverseChainSubst;
@@ -19,13 +20,13 @@ use layout_tables::table::LayoutTable;
 /// set of the glyphs at which it can act.
 #[derive(Debug, Drop)]
 pub enum SubstitutionSubtables {
-    Single(Array<Digested<SingleSubst>>),
-    Multiple(Array<Digested<MultipleSubst>>),
-    Alternate(Array<Digested<AlternateSubst>>),
-    Ligature(Array<Digested<LigatureSubst>>),
-    Context(Array<Digested<ContextSubtable>>),
-    ChainContext(Array<Digested<ContextSubtable>>),
-    ReverseChainSingle(Array<Digested<ReverseChainSubst>>),
+    Single(Subtables<SingleSubst>),
+    Multiple(Subtables<MultipleSubst>),
+    Alternate(Subtables<AlternateSubst>),
+    Ligature(Subtables<LigatureSubst>),
+    Context(Subtables<ContextSubtable>),
+    ChainContext(Subtables<ContextSubtable>),
+    ReverseChainSingle(Subtables<ReverseChainSubst>),
 }
 
 impl Covers for SubstitutionSubtables {

@@ -10,3 +10,4 @@ pub mod Merged
 pub mod Multiplied
 pub mod Around
 pub mod Following
+pub mod Lemmas

@@ -8,3 +8,4 @@ pub mod Ligating
 pub mod LigatureReplacement
 pub mod Uniting
 pub mod Lemmas
+pub mod Passing

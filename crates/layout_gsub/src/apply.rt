@@ -1,7 +1,8 @@
 //! The trait of substitution subtables, and the first of several that matches.
-ghost use Rattle.std.specs.Prelude.{◌≡◌, ◌<◌, true, [], length};
+ghost use Rattle.std.specs.Prelude.{ℕ, ◌≡◌, ◌<◌, ◌≤◌, true, [], length};
 ghost use Rattle.buffer_core.specs.Sides.{items_of};
 ghost use Rattle.layout_match.specs.Applied.{ApplyContext, apply_context_of};
+ghost use Rattle.layout_gsub.specs.Passing.{ArePassing};
 ghost use Rattle.buffer_stages.specs.Actions.{Action, first_rule};
 ghost use Rattle.buffer_stages.specs.Buffers.{are_glyphs};
 ghost use Rattle.buffer_stages.specs.Performing.{Performs, cut_with};
@@ -9,6 +10,7 @@ ghost use Rattle.buffer_stages.specs.Performing.{Performs, cut_with};
 use buffer_core::buffer::hb_buffer_t;
 use buffer_glyphs::cause::ShapeCause;
 use layout_common::digested::{Covers, Digested};
+use layout_common::subtables::Subtables;
 use layout_match::hb_ot_apply_context_t;
 
 /// A subtable of a substitution lookup, applied at the cursor of a buffer.
@@ -58,10 +60,34 @@ impl<S: Skippable> Apply for Digested<S> {
     }
 }
 
-/// Applies the first matching subtable at the cursor.
+/// The index of a subtable, from one on, that may act at the cursor: those before it pass there. Past the last one where
+/// none may.
+#[tactic(auto, using(buffer_stages::proofs::Lemmas::Glyphs::number_ahead))]
+fn next_at_cursor<S: Skippable>(
+    subtables: &Subtables<S>,
+    from: usize,
+    buffer: &hb_buffer_t,
+) -> usize
+    requires there { 0 < length buffer.now.ahead }
+    requires number { are_glyphs (items_of buffer.now) ≡ true }
+    ensures on { from ≤ result }
+    ensures passed { (a : ApplyContext) (r : ℕ) → ArePassing (λ s. S.action s a) subtables.now from result
+        (cut_with r buffer.now) }
+{
+    subtables.next_at(buffer.cur(0).as_glyph().0, from)
+}
+
+/// How many subtables there are.
+fn count<S: Covers>(subtables: &Subtables<S>) -> usize
+    ensures { result ≡ length subtables.now }
+{
+    subtables.as_slice().len()
+}
+
+/// Applies the first matching subtable at the cursor. Those that can't act at the glyph there aren't tried.
 #[tactic(auto, using(buffer_stages::proofs::Lemmas::Performed::passed_first, buffer_stages::proofs::Lemmas::Performed::passed_open, buffer_stages::proofs::Lemmas::Performed::passed_numbers, buffer_stages::proofs::Lemmas::Performed::passed_all))]
-pub fn apply_first<S: Apply>(
-    subtables: &[S],
+pub fn apply_first<S: Skippable>(
+    subtables: &Subtables<S>,
     ctx: &mut hb_ot_apply_context_t,
     buffer: &mut hb_buffer_t,
 ) -> Result<bool, ShapeCause>
@@ -73,12 +99,19 @@ pub fn apply_first<S: Apply>(
         buffer.new }
     ensures context { apply_context_of ctx.new ≡ apply_context_of ctx.old }
 {
-    for subtable in subtables {
+    let count = count(subtables);
+    let mut k = 0;
+    while k < count {
+        let next = next_at_cursor(subtables, k, buffer);
+        let Some(subtable) = subtables.get(next) else {
+            return Ok(false);
+        };
         match subtable.apply(ctx, buffer) {
             Ok(false) => {}
             Ok(true) => return Ok(true),
             Err(cause) => return Err(cause),
         }
+        k = next + 1;
     }
     Ok(false)
 }

@@ -5,7 +5,7 @@
 //! a record) is written for each of the two tables, here and in `layout_positioning`, and the two repeat each other.
 //! Within this file too functions repeat clauses: each one of the cycle calls the next, so each requires what the next
 //! requires and refuses as the next refuses.
-ghost use Rattle.std.specs.Prelude.{◌≡◌, ◌≢◌, ◌≤◌, ◌<◌, ◌+◌, true, false, length, slice_get, IfOk, Some, None};
+ghost use Rattle.std.specs.Prelude.{ℕ, ◌≡◌, ◌≢◌, ◌≤◌, ◌<◌, ◌+◌, true, false, length, slice_get, IfOk, Option, Some, None};
 ghost use Rattle.buffer_core.specs.Sides.{items_of};
 ghost use Rattle.layout_contexts.specs.Chains.{chain_rule, context_subtable};
 ghost use Rattle.layout_contexts.specs.Fitting.{chain_of};
@@ -14,8 +14,9 @@ ghost use Rattle.layout_contexts.specs.Nested.{each_nested, one_record};
 ghost use Rattle.layout_contexts.specs.Nesting.{Walking};
 ghost use Rattle.layout_contexts.specs.MatchIndices.{AreRising};
 ghost use Rattle.layout_contexts.specs.Rules.{chains_of};
-ghost use Rattle.layout_match.specs.Applied.{apply_context_of};
-ghost use Rattle.buffer_stages.specs.Actions.{first_rule, whole};
+ghost use Rattle.layout_gsub.specs.Passing.{ArePassing};
+ghost use Rattle.layout_match.specs.Applied.{ApplyContext, apply_context_of};
+ghost use Rattle.buffer_stages.specs.Actions.{Action, first_rule, whole};
 ghost use Rattle.buffer_stages.specs.Buffers.{are_glyphs, cut_of};
 ghost use Rattle.buffer_stages.specs.Performing.{Performs, cut_with};
 ghost use Rattle.layout_substitution.specs.Lookups.{first_subtable, nested_actions, nested_act, nested_lookup};
@@ -23,6 +24,7 @@ ghost use Rattle.layout_substitution.specs.Lookups.{first_subtable, nested_actio
 use buffer_core::buffer::hb_buffer_t;
 use buffer_glyphs::cause::ShapeCause;
 use layout_common::digested::Digested;
+use layout_common::subtables::Subtables;
 use layout_contexts::{
     ChainRule, begin_record, first_matches, glyph_count, is_tried_at, match_chain, may_follow,
     move_to_match_end, rule_at, rules_at, settle_match,
@@ -81,33 +83,45 @@ pub(crate) fn apply_subtables(
     ensures context { apply_context_of ctx.new ≡ apply_context_of ctx.old }
 {
     match subtables {
-        SubstitutionSubtables::Single(subtables) => {
-            apply_first(subtables.as_slice(), ctx, buffer)
-        }
-        SubstitutionSubtables::Multiple(subtables) => {
-            apply_first(subtables.as_slice(), ctx, buffer)
-        }
-        SubstitutionSubtables::Alternate(subtables) => {
-            apply_first(subtables.as_slice(), ctx, buffer)
-        }
-        SubstitutionSubtables::Ligature(subtables) => {
-            apply_first(subtables.as_slice(), ctx, buffer)
-        }
+        SubstitutionSubtables::Single(subtables) => apply_first(subtables, ctx, buffer),
+        SubstitutionSubtables::Multiple(subtables) => apply_first(subtables, ctx, buffer),
+        SubstitutionSubtables::Alternate(subtables) => apply_first(subtables, ctx, buffer),
+        SubstitutionSubtables::Ligature(subtables) => apply_first(subtables, ctx, buffer),
         SubstitutionSubtables::Context(subtables)
         | SubstitutionSubtables::ChainContext(subtables) => {
-            apply_contexts(table, depth, subtables.as_slice(), ctx, buffer)
+            apply_contexts(table, depth, subtables, ctx, buffer)
         }
         SubstitutionSubtables::ReverseChainSingle(_) => Ok(false),
     }
 }
 
-/// Applies the first matching context at the cursor.
+/// The index of a context, from one on, that may act at the cursor: those before it pass there. Past the last one where
+/// none may.
+#[tactic(auto, using(buffer_stages::proofs::Lemmas::Glyphs::number_ahead))]
+fn next_context(subtables: &Subtables<ContextSubtable>, from: usize, buffer: &hb_buffer_t) -> usize
+    requires there { 0 < length buffer.now.ahead }
+    requires number { are_glyphs (items_of buffer.now) ≡ true }
+    ensures on { from ≤ result }
+    ensures passed { (nest : Option (ℕ → Action)) (a : ApplyContext) (r : ℕ)
+        → ArePassing (context_subtable nest a) subtables.now from result (cut_with r buffer.now) }
+{
+    subtables.next_at(buffer.cur(0).as_glyph().0, from)
+}
+
+/// How many contexts there are.
+fn context_count(subtables: &Subtables<ContextSubtable>) -> usize
+    ensures { result ≡ length subtables.now }
+{
+    subtables.as_slice().len()
+}
+
+/// Applies the first matching context at the cursor. Those that can't act at the glyph there aren't tried.
 #[cycle(nested)]
 #[tactic(auto, using(buffer_stages::proofs::Lemmas::Performed::passed_first, buffer_stages::proofs::Lemmas::Performed::passed_open, buffer_stages::proofs::Lemmas::Performed::passed_unrefused, buffer_stages::proofs::Lemmas::Performed::passed_numbers))]
 fn apply_contexts(
     table: &SubstitutionTable,
     depth: u32,
-    subtables: &[Digested<ContextSubtable>],
+    subtables: &Subtables<ContextSubtable>,
     ctx: &mut hb_ot_apply_context_t,
     buffer: &mut hb_buffer_t,
 ) -> Result<bool, ShapeCause>
@@ -120,12 +134,19 @@ fn apply_contexts(
         result ctx.old.random_state ctx.new.random_state buffer.old buffer.new }
     ensures context { apply_context_of ctx.new ≡ apply_context_of ctx.old }
 {
-    for subtable in subtables {
+    let count = context_count(subtables);
+    let mut k = 0;
+    while k < count {
+        let next = next_context(subtables, k, buffer);
+        let Some(subtable) = subtables.get(next) else {
+            return Ok(false);
+        };
         match apply_context(table, depth, subtable, ctx, buffer) {
             Ok(false) => {}
             Ok(true) => return Ok(true),
             Err(cause) => return Err(cause),
         }
+        k = next + 1;
     }
     Ok(false)
 }

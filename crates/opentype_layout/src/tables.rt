@@ -6,6 +6,7 @@ pub use layout_common::class_definition::ClassDefinition;
 pub use layout_common::coverage::Coverage;
 pub use layout_common::digested::{Covers, Digested};
 pub use layout_common::glyph_row::GlyphRow;
+pub use layout_common::subtables::Subtables;
 pub use layout_face::parts::{CharacterRow, GlyphDefinition, NameRow, VariationRow};
 pub use layout_face::positioning::{PositioningLookup, PositioningSubtables, PositioningTable};
 pub use layout_face::substitution::{SubstLookup, SubstitutionSubtables, SubstitutionTable};

@@ -13,6 +13,8 @@ use crate::rising::read_by_key;
 use crate::value::Part;
 use buffer_rows::{Keyed, SortedRows};
 use layout_common::array::Array;
+use layout_common::digested::Covers;
+use layout_common::subtables::Subtables;
 use serde_json::Value;
 use shell_json::fault::JsonFault;
 use shell_json::parts::list_at;
@@ -107,10 +109,11 @@ pub fn count_at(value: &Value, key: &str) -> usize
 }
 
 /// Reads the subtables of a lookup, whose glyph numbers have 16 bits.
-pub fn subtables<P: Part>(alloc: Global, value: &Value) -> Result<Array<P>, JsonFault>
-    ensures ok { IfOk result (λ v. subtables_of (P.part glyph_limit) (view value.now) ≡ Ok v) }
+pub fn subtables<S: Part + Covers>(alloc: Global, value: &Value) -> Result<Subtables<S>, JsonFault>
+    ensures ok { IfOk result (λ v. subtables_of (S.part glyph_limit) (view value.now) ≡ Ok v) }
     ensures refused { IfErr result (λ e. e ≢ JsonFault.OutOfMemory
-        → subtables_of (P.part glyph_limit) (view value.now) ≡ Err e) }
+        → subtables_of (S.part glyph_limit) (view value.now) ≡ Err e) }
 {
-    read_in_turn_at(alloc, value, "subtables", GLYPH_LIMIT)
+    let items = read_in_turn_at(alloc, value, "subtables", GLYPH_LIMIT)?;
+    Ok(Subtables::new(alloc, items)?)
 }

@@ -4,6 +4,7 @@ use layout_common::coverage::{Coverage, CoverageExt};
 use layout_common::digest::{hb_set_digest_bits_pattern_t, hb_set_digest_ext, hb_set_digest_t};
 use layout_common::digested::Digested;
 use layout_common::low_bits::LowBits;
+use layout_common::subtables::Subtables;
 use layout_face::layout::LayoutLookup;
 use layout_face::substitution::{SubstLookup, SubstitutionSubtables};
 use layout_tables::context::{ContextSubtable, SequenceRule};
@@ -123,7 +124,7 @@ fn first_inputs_of_contexts(rt: HostRuntime) -> Result<(), Fail> {
     for (glyph, expected) in [(1, true), (2, true), (70, false), (100, false)] {
         assert!(rt; subtables[0].may_have_glyph(glyph) == expected);
     }
-    let subtables = SubstitutionSubtables::Context(Array::new(subtables));
+    let subtables = SubstitutionSubtables::Context(Subtables::new(alloc, Array::new(subtables))?);
     let lookup = SubstLookup::parse(0, None, subtables);
     let digest = LayoutLookup::digest(&lookup);
     for (glyph, expected) in [(1, true), (2, true), (70, true), (100, false), (200, false)] {

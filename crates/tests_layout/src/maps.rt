@@ -2,6 +2,7 @@
 use Asked::{Feature, Pause};
 use buffer_common::tag::Tag;
 use layout_common::array::Array;
+use layout_common::subtables::Subtables;
 use layout_face::positioning::{PositioningLookup, PositioningSubtables, PositioningTable};
 use layout_face::substitution::{SubstLookup, SubstitutionSubtables, SubstitutionTable};
 use layout_map::builder::hb_ot_map_builder_t;
@@ -419,7 +420,10 @@ fn layout_table(alloc: Global, table: &Table) -> Result<LayoutTable, AllocError>
 fn substitution_lookups(alloc: Global, count: usize) -> Result<Vec<SubstLookup>, AllocError> {
     let mut lookups = Vec::new(alloc);
     for _ in 0..count {
-        let subtables = SubstitutionSubtables::Single(Array::new(Vec::new(alloc)));
+        let subtables = SubstitutionSubtables::Single(Subtables::new(
+            alloc,
+            Array::new(Vec::new(alloc)),
+        )?);
         lookups.push(SubstLookup::parse(0, None, subtables))?;
     }
     Ok(lookups)
@@ -443,7 +447,10 @@ fn substitution_table(
 fn positioning_lookups(alloc: Global, count: usize) -> Result<Vec<PositioningLookup>, AllocError> {
     let mut lookups = Vec::new(alloc);
     for _ in 0..count {
-        let subtables = PositioningSubtables::Single(Array::new(Vec::new(alloc)));
+        let subtables = PositioningSubtables::Single(Subtables::new(
+            alloc,
+            Array::new(Vec::new(alloc)),
+        )?);
         lookups.push(PositioningLookup::parse(0, None, subtables))?;
     }
     Ok(lookups)

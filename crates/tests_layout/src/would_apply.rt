@@ -5,6 +5,7 @@ use layout_common::class_definition::ClassDefinition;
 use layout_common::coverage::Coverage;
 use layout_common::digested::Digested;
 use layout_common::glyph_row::GlyphRow;
+use layout_common::subtables::Subtables;
 use layout_face::substitution::{SubstLookup, SubstitutionSubtables};
 use layout_tables::context::{ClassRules, ContextSubtable, SequenceRule};
 use layout_tables::rules::SequenceRules;
@@ -135,7 +136,7 @@ fn set_rules(alloc: Global) -> Result<ContextSubtable, Fail> {
 fn lookup(alloc: Global) -> Result<SubstLookup, Fail> {
     let mut subtables = Vec::new(alloc);
     subtables.push(Digested::new(set_rules(alloc)?))?;
-    let subtables = SubstitutionSubtables::Context(Array::new(subtables));
+    let subtables = SubstitutionSubtables::Context(Subtables::new(alloc, Array::new(subtables))?);
     Ok(SubstLookup::parse(0, None, subtables))
 }
 

@@ -6,6 +6,7 @@ use Rattle.buffer_stages.specs.Actions.{Action, first_rule}
 use Rattle.buffer_stages.specs.Performing.{IsPerformed, Performs, cut_with}
 use Rattle.buffer_stages.proofs.Lemmas.Performed.{passed_all}
 use Rattle.buffer_stages.proofs.Lemmas.Firsts.{first_acts, first_refuses, first_passes}
+use Rattle.layout_gsub.proofs.Lemmas.Jumped.{is_there, jumped, jumped_all}
 use Rattle.layout_contexts.specs.Chains.{Chain, chain_rule, context_subtable}
 use Rattle.layout_contexts.specs.Fitting.{IsMatched, chain_of}
 use Rattle.layout_contexts.specs.Rules.{chains_of, is_tried_at}
@@ -49,32 +50,69 @@ apply_context-returns-clause-performs t c =
     let P : ContextSubtable → Type 0 = λ s. Performs (first_rule (chain_rule nest a) (chains_of s) (cut_with r c.args.buffer.now)) c.apply_rules.result r after c.args.buffer.now c.apply_rules.new.buffer in
     tried_there nest a c.args.subtable.now c.is_tried_at.result r after c.apply_rules.result c.args.buffer.now c.apply_rules.new.buffer c.cur-info.result.now c.cur-info.ensures tried c.if-not-is_tried_at.false (subst P c.inner-2.ensures c.apply_rules.ensures.performs)
 
+pub apply_contexts-returns-in_default-clause-performs : goal.apply_contexts-returns-in_default-clause-performs
+apply_contexts-returns-in_default-clause-performs t c =
+    let i = c.loop-k.invariant in
+    let a = apply_context_of c.args.ctx.now in
+    let q = c.args.ctx.now.random_state in
+    let n = c.next_context-next.result in
+    let nest = nested_actions c.args.table.now.lookups c.args.depth a in
+    jumped_all (context_subtable nest a) c.args.subtables.now c.loop-k.ctx.random_state q c.loop-k.k n c.args.buffer.now c.loop-k.buffer (c.next_context-next.ensures.passed nest a q) c.next_context-next.ensures.on i.passed c.in_default.ensures i.random
+
 pub apply_contexts-returns-in-Ok-true-clause-performs : goal.apply_contexts-returns-in-Ok-true-clause-performs
 apply_contexts-returns-in-Ok-true-clause-performs t c =
-    let i = c.loop-subtable.invariant in
-    let act : ContextSubtable → ApplyContext → Action = λ x a. context_subtable (nested_actions c.args.table.now.lookups c.args.depth a) a x in
-    first_acts act c.args.subtables.now c.loop-subtable.subtable-index c.subtable-item.result (apply_context_of c.loop-subtable.ctx) (apply_context_of c.args.ctx.now) c.loop-subtable.ctx.random_state c.args.ctx.now.random_state c.apply_context.new.ctx.random_state c.in-Ok-true.field-0 c.args.buffer.now c.loop-subtable.buffer c.apply_context.new.buffer c.loop-subtable-test.true c.subtable-item.is i.passed i.context i.random c.in-Ok-true.field-0-test c.in-Ok-true.ensures.performs
+    let i = c.loop-k.invariant in
+    let a = apply_context_of c.args.ctx.now in
+    let q = c.args.ctx.now.random_state in
+    let n = c.next_context-next.result in
+    let nest = nested_actions c.args.table.now.lookups c.args.depth a in
+    let act : ContextSubtable → ApplyContext → Action = λ x b. context_subtable (nested_actions c.args.table.now.lookups c.args.depth b) b x in
+    let there = is_there c.args.subtables.now n c.in-Some.subtable.now (sym c.in-Some.ensures) in
+    let passed = jumped (context_subtable nest a) c.args.subtables.now q c.loop-k.k n c.args.buffer.now c.loop-k.buffer (c.next_context-next.ensures.passed nest a q) c.next_context-next.ensures.on i.passed in
+    first_acts act c.args.subtables.now n c.in-Some.subtable.now (apply_context_of c.loop-k.ctx) a c.loop-k.ctx.random_state q c.apply_context.new.ctx.random_state c.in-Ok-true.field-0 c.args.buffer.now c.loop-k.buffer c.apply_context.new.buffer there.0 there.1 passed i.context i.random c.in-Ok-true.field-0-test c.in-Ok-true.ensures.performs
 
 pub apply_contexts-returns-in-Err-clause-performs : goal.apply_contexts-returns-in-Err-clause-performs
 apply_contexts-returns-in-Err-clause-performs t c =
-    let i = c.loop-subtable.invariant in
-    let act : ContextSubtable → ApplyContext → Action = λ x a. context_subtable (nested_actions c.args.table.now.lookups c.args.depth a) a x in
-    first_refuses act c.args.subtables.now c.loop-subtable.subtable-index c.subtable-item.result (apply_context_of c.loop-subtable.ctx) (apply_context_of c.args.ctx.now) c.loop-subtable.ctx.random_state c.args.ctx.now.random_state c.apply_context.new.ctx.random_state c.in-Err.cause c.args.buffer.now c.loop-subtable.buffer c.apply_context.new.buffer c.loop-subtable-test.true c.subtable-item.is i.passed i.context i.random c.in-Err.ensures.performs
+    let i = c.loop-k.invariant in
+    let a = apply_context_of c.args.ctx.now in
+    let q = c.args.ctx.now.random_state in
+    let n = c.next_context-next.result in
+    let nest = nested_actions c.args.table.now.lookups c.args.depth a in
+    let act : ContextSubtable → ApplyContext → Action = λ x b. context_subtable (nested_actions c.args.table.now.lookups c.args.depth b) b x in
+    let there = is_there c.args.subtables.now n c.in-Some.subtable.now (sym c.in-Some.ensures) in
+    let passed = jumped (context_subtable nest a) c.args.subtables.now q c.loop-k.k n c.args.buffer.now c.loop-k.buffer (c.next_context-next.ensures.passed nest a q) c.next_context-next.ensures.on i.passed in
+    first_refuses act c.args.subtables.now n c.in-Some.subtable.now (apply_context_of c.loop-k.ctx) a c.loop-k.ctx.random_state q c.apply_context.new.ctx.random_state c.in-Err.cause c.args.buffer.now c.loop-k.buffer c.apply_context.new.buffer there.0 there.1 passed i.context i.random c.in-Err.ensures.performs
 
-pub apply_contexts-loop-subtable-preserved : goal.apply_contexts-loop-subtable-preserved
-apply_contexts-loop-subtable-preserved t c =
-    let i = c.loop-subtable.invariant in
-    let act : ContextSubtable → ApplyContext → Action = λ x a. context_subtable (nested_actions c.args.table.now.lookups c.args.depth a) a x in
-    let p = first_passes act c.args.subtables.now c.loop-subtable.subtable-index c.subtable-item.result (apply_context_of c.loop-subtable.ctx) (apply_context_of c.args.ctx.now) c.loop-subtable.ctx.random_state c.args.ctx.now.random_state c.apply_context.new.ctx.random_state c.in-Ok-false.field-0 c.args.buffer.now c.loop-subtable.buffer c.apply_context.new.buffer c.loop-subtable-test.true c.subtable-item.is i.passed i.context i.random c.in-Ok-false.field-0-test c.in-Ok-false.ensures.performs in
+pub apply_contexts-overflow_add-k : goal.apply_contexts-overflow_add-k
+apply_contexts-overflow_add-k t c =
+    let there = is_there c.args.subtables.now c.next_context-next.result c.in-Some.subtable.now (sym c.in-Some.ensures) in
+    let less = there.0 in
+    let count = c.context_count-count.ensures in
+    let fits = c.context_count-count.auto in
+    omega (arith, less, count, fits)
+
+pub apply_contexts-loop-k-preserved : goal.apply_contexts-loop-k-preserved
+apply_contexts-loop-k-preserved t c =
+    let i = c.loop-k.invariant in
+    let a = apply_context_of c.args.ctx.now in
+    let q = c.args.ctx.now.random_state in
+    let n = c.next_context-next.result in
+    let nest = nested_actions c.args.table.now.lookups c.args.depth a in
+    let act : ContextSubtable → ApplyContext → Action = λ x b. context_subtable (nested_actions c.args.table.now.lookups c.args.depth b) b x in
+    let there = is_there c.args.subtables.now n c.in-Some.subtable.now (sym c.in-Some.ensures) in
+    let passed = jumped (context_subtable nest a) c.args.subtables.now q c.loop-k.k n c.args.buffer.now c.loop-k.buffer (c.next_context-next.ensures.passed nest a q) c.next_context-next.ensures.on i.passed in
+    let p = first_passes act c.args.subtables.now n c.in-Some.subtable.now (apply_context_of c.loop-k.ctx) a c.loop-k.ctx.random_state q c.apply_context.new.ctx.random_state c.in-Ok-false.field-0 c.args.buffer.now c.loop-k.buffer c.apply_context.new.buffer there.0 there.1 passed i.context i.random c.in-Ok-false.field-0-test c.in-Ok-false.ensures.performs in
     record { passed = p.0; context = c.apply_context.ensures.context ∙ i.context; random = p.1 }
 
 pub apply_contexts-returns-clause-performs : goal.apply_contexts-returns-clause-performs
 apply_contexts-returns-clause-performs t c =
-    let i = c.loop-subtable.invariant in
+    let i = c.loop-k.invariant in
     let a = apply_context_of c.args.ctx.now in
     let act = context_subtable (nested_actions c.args.table.now.lookups c.args.depth a) a in
-    let all = passed_all act c.args.subtables.now c.loop-subtable.subtable-index c.args.ctx.now.random_state c.args.buffer.now c.loop-subtable.buffer c.loop-subtable-test.false i.passed in
-    let P : ℕ → Type 0 = λ n. IsPerformed (first_rule act c.args.subtables.now (cut_with c.args.ctx.now.random_state c.args.buffer.now)) false c.args.ctx.now.random_state n c.args.buffer.now c.loop-subtable.buffer in
+    let count = c.context_count-count.ensures in
+    let past = c.loop-k-test.false in
+    let all = passed_all act c.args.subtables.now c.loop-k.k c.args.ctx.now.random_state c.args.buffer.now c.loop-k.buffer (omega (arith, count, past)) i.passed in
+    let P : ℕ → Type 0 = λ n. IsPerformed (first_rule act c.args.subtables.now (cut_with c.args.ctx.now.random_state c.args.buffer.now)) false c.args.ctx.now.random_state n c.args.buffer.now c.loop-k.buffer in
     subst P (sym i.random) all
 
 pub apply_rules-loop-i-init : goal.apply_rules-loop-i-init

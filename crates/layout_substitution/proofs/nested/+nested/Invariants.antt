@@ -35,12 +35,15 @@ abbrev pub decreases-apply_records : goal.decreases-apply_records
 decreases-apply_records l = 8 * l.depth
 
 -- none so far acted
-abbrev pub invariant-apply_contexts-loop-subtable : goal.invariant-apply_contexts-loop-subtable
-invariant-apply_contexts-loop-subtable l = record {
-  passed : ArePassed (context_subtable (nested_actions l.table.lookups l.depth (apply_context_of l.fn.ctx)) (apply_context_of l.fn.ctx)) l.subtables (drop l.subtable-index l.subtables) l.fn.ctx.random_state l.fn.buffer l.buffer;
+abbrev pub invariant-apply_contexts-loop-k : goal.invariant-apply_contexts-loop-k
+invariant-apply_contexts-loop-k l = record {
+  passed : ArePassed (context_subtable (nested_actions l.table.lookups l.depth (apply_context_of l.fn.ctx)) (apply_context_of l.fn.ctx)) l.subtables (drop l.k l.subtables) l.fn.ctx.random_state l.fn.buffer l.buffer;
   context : apply_context_of l.ctx ≡ apply_context_of l.fn.ctx;
   random : l.ctx.random_state ≡ l.fn.ctx.random_state;
 }
+
+abbrev pub decreases-apply_contexts-loop-k : goal.decreases-apply_contexts-loop-k
+decreases-apply_contexts-loop-k l = length l.subtables - l.k
 
 abbrev pub invariant-apply_rules-loop-i : goal.invariant-apply_rules-loop-i
 invariant-apply_rules-loop-i l = record {
