@@ -35,7 +35,7 @@ pub fn collect_each<S: Covers, D: hb_set_digest_ext>(items: &[S], digest: &mut D
     }
 }
 
-/// Such a thing, with two sets that have each glyph at which it can act: both are asked for a glyph, and the digest is
+/// Such a thing, with two sets that have each glyph at which it can act: both are asked for a glyph, and the low bits are
 /// held against a text's. It is seen as the thing itself.
 #[derive(Debug, Drop)]
 pub struct Digested<S: Covers> {
