@@ -1,9 +1,10 @@
 -- A loop that writes each glyph.
-use Rattle.std.proofs.Common.{ℕ, suc, zero, ◌≡◌, ◌<◌, ◌+◌, List, [], ◌∷◌, ◌++◌, length, map, take, drop, get_or, set, arith, refl, ap, ◌∙◌, ◌≤◌, Some, slice_get}
+use Rattle.std.proofs.Common.{ℕ, suc, zero, ◌≡◌, ◌<◌, ◌+◌, List, [], ◌∷◌, ◌++◌, length, map, take, drop, get_or, set, arith, refl, ap, ◌∙◌, ◌≤◌, ◌==◌, ◌&&◌, Bool, true, Some, slice_get}
+use Rattle.std.proofs.lemmas.Bool.{and_parts, eqb-true}
 use Rattle.std.proofs.lemmas.List.{length-map}
 use Rattle.buffer_stages.specs.Stages.{AreMapped}
 use Rattle.buffer_glyphs.specs.declared.info.hb_glyph_info_t.{hb_glyph_info_t}
-use Rattle.buffer_glyphs.specs.Items.{Item, item_of, strip}
+use Rattle.buffer_glyphs.specs.Items.{Item, item_of, strip, clusters}
 use Rattle.buffer_glyphs.specs.Origins.{origin_of, origins}
 use Rattle.buffer_glyphs.specs.Lists.{seen_step}
 
@@ -16,6 +17,19 @@ origins_kept : (xs : List hb_glyph_info_t) (i : ℕ) (d x : hb_glyph_info_t) →
 origins_kept [] i d x e = refl
 origins_kept (y ∷ xs) zero d x e = ap (λ o. o ∷ origins xs) e
 origins_kept (y ∷ xs) (suc i) d x e = ap (λ os. origin_of y ∷ os) (origins_kept xs i d x e)
+
+-- a glyph that keeps its cluster is written
+pub clusters_kept : (xs : List hb_glyph_info_t) (i : ℕ) (d x : hb_glyph_info_t) → x.cluster ≡ (get_or xs i d).cluster → clusters (set xs i x) ≡ clusters xs
+clusters_kept [] i d x e = refl
+clusters_kept (y ∷ xs) zero d x e = ap (λ n. n ∷ clusters xs) e
+clusters_kept (y ∷ xs) (suc i) d x e = ap (λ ns. y.cluster ∷ ns) (clusters_kept xs i d x e)
+
+-- the next glyph is written, and whether all kept their clusters so far
+pub next_kept : (old xs : List hb_glyph_info_t) (i : ℕ) (d x : hb_glyph_info_t) (kept : Bool) → (kept ≡ true → clusters xs ≡ clusters old)
+    → (kept && (x.cluster == (get_or xs i d).cluster)) ≡ true → clusters (set xs i x) ≡ clusters old
+next_kept old xs i d x kept w e =
+    let both = and_parts kept (x.cluster == (get_or xs i d).cluster) e in
+    clusters_kept xs i d x (eqb-true x.cluster (get_or xs i d).cluster both.1) ∙ w both.0
 
 whole : (k : Item → Item) (ys : List Item) (i : ℕ) → length ys ≤ i → map k (take i ys) ++ drop i ys ≡ map k ys
 whole k [] zero le = refl

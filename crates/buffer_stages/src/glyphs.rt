@@ -1,7 +1,7 @@
 //! Loops over a buffer's glyphs.
-ghost use Rattle.std.specs.Prelude.{◌≡◌, nat_le};
+ghost use Rattle.std.specs.Prelude.{◌≡◌, nat_le, true};
 ghost use Rattle.std.specs.List.{list_all};
-ghost use Rattle.buffer_glyphs.specs.Items.{Item};
+ghost use Rattle.buffer_glyphs.specs.Items.{Item, clusters};
 ghost use Rattle.buffer_core.specs.Readings.{always};
 ghost use Rattle.buffer_core.specs.Sides.{items_of};
 ghost use Rattle.buffer_stages.specs.Buffers.{are_glyphs};
@@ -19,16 +19,27 @@ pub fn map_glyphs<F: Fn(&hb_glyph_info_t) -> hb_glyph_info_t>(buffer: &mut hb_bu
     requires ready { IsReady buffer.old }
     ensures { (k : Item → Item) → Makes F.Fn make k → IsFollowed (always (with_items_mapped k)) buffer.old buffer.new }
 {
-    map_each(buffer.info_slice_mut(), make);
+    let known = buffer.known_order();
+    let kept = map_each(buffer.info_slice_mut(), make);
+    buffer.keep_order(known.if_kept(kept));
 }
 
-fn map_each<F: Fn(&hb_glyph_info_t) -> hb_glyph_info_t>(glyphs: &mut [hb_glyph_info_t], make: F)
+/// Replaces each glyph by what `make` makes of it; answers whether all keep their clusters.
+fn map_each<F: Fn(&hb_glyph_info_t) -> hb_glyph_info_t>(
+    glyphs: &mut [hb_glyph_info_t],
+    make: F,
+) -> bool
     requires callable { F.IsAlwaysCallable make }
-    ensures { (k : Item → Item) → Makes F.Fn make k → AreMapped k glyphs.old glyphs.new }
+    ensures mapped { (k : Item → Item) → Makes F.Fn make k → AreMapped k glyphs.old glyphs.new }
+    ensures kept { result ≡ true → clusters glyphs.new ≡ clusters glyphs.old }
 {
+    let mut kept = true;
     for glyph in glyphs.iter_mut() {
-        *glyph = make(glyph);
+        let made = make(glyph);
+        kept &= made.cluster == glyph.cluster;
+        *glyph = made;
     }
+    kept
 }
 
 /// Whether each number is one that a glyph can have: at most 65,535.

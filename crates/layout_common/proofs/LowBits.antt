@@ -2,6 +2,7 @@
 use mathlib.Core.Bool.{false≢true}
 use Rattle.std.proofs.Common.{ℕ, zero, suc, ◌≡◌, ◌==◌, ◌||◌, ◌<◌, ◌≤◌, ◌^◌, ◌%◌, ◌/◌, ◌+◌, ◌-◌, Bool, true, false, List, [], ◌∷◌, ◌++◌, length, take, get_or, slice_get, replicate, set, Some, bit_and, inl, inr, refl, sym, ap, ◌∙◌, arith, add-one}
 use Rattle.std.proofs.lemmas.Bool.{cases_lt}
+use Rattle.std.proofs.lemmas.List.{set-get_or}
 use Rattle.std.proofs.lemmas.List.Folds.{list_any-append}
 use Rattle.std.proofs.lemmas.Option.{slice_get-get_or}
 use Rattle.layout_common.specs.Buckets.{has_bucket, numbers_from}
@@ -9,6 +10,10 @@ use Rattle.layout_common.specs.Coverage.{is_covered}
 use Rattle.layout_common.specs.LowBits.{IsLowBitsOf, has_low_bits, shares_low_bits}
 use Rattle.layout_common.proofs.Bits.{below_64, buckets_apart, equal, full_mask, number_there, or_assoc, or_false, or_first, or_second, same_as}
 use Rattle.layout_common.proofs.Words.{bit_added_to, bit_in_word, take-all}
+
+-- a word that is set to what it is
+pub word_stays : (ws : List ℕ) (i w d : ℕ) → get_or ws i d ≡ w → ws ≡ set ws i w
+word_stays ws i w d e = sym (set-get_or ws i d) ∙ ap (λ (n : ℕ). set ws i n) e
 
 -- words became others by the addition of glyphs
 abbrev pub AddsLow : (ℕ → Bool) → List ℕ → List ℕ → Type 0

@@ -31,9 +31,20 @@ impl<V: Copy> Numbered for GlyphRow<V> {
     }
 }
 
+/// Whether a glyph's row stands at the glyph's number, as where every glyph has one.
+fn is_at_number<V>(rows: &[GlyphRow<V>], glyph: u16) -> bool {
+    match rows.get(usize::from(glyph)) {
+        Some(row) => row.glyph == glyph,
+        None => false,
+    }
+}
+
 /// A guess at the index of a glyph's row. Since glyphs rise, the row is at its distance from the first glyph or before it;
 /// the guess is right where no glyph between the row there and the glyph's own lacks a row.
 fn likely_index<V>(rows: &[GlyphRow<V>], glyph: u16) -> usize {
+    if is_at_number(rows, glyph) {
+        return usize::from(glyph);
+    }
     let (Some(first), Some(last)) = (rows.first(), rows.last()) else {
         return 0;
     };

@@ -1,5 +1,5 @@
 //! Sets of glyphs by the low bits of their numbers; rustybuzz has none.
-ghost use Rattle.std.specs.Prelude.{ℕ, List, [], ◌∷◌, ◌++◌, ◌≡◌, ◌==◌, ◌||◌, ◌%◌, ◌+◌, ◌-◌, ◌≤◌, ◌<◌, true, false};
+ghost use Rattle.std.specs.Prelude.{ℕ, List, [], ◌∷◌, ◌++◌, ◌≡◌, ◌==◌, ◌||◌, ◌%◌, ◌+◌, ◌-◌, ◌≤◌, ◌<◌, true, false, set};
 ghost use Rattle.layout_common.specs.Buckets.{numbers_from};
 ghost use Rattle.layout_common.specs.Coverage.{is_covered};
 ghost use Rattle.layout_common.specs.LowBits.{IsLowBitsOf, has_low_bits, shares_low_bits};
@@ -18,6 +18,17 @@ const BUCKETS: u16 = 1024;
 #[derive(Clone, Copy, Debug, Drop)]
 pub struct LowBits {
     words: [u64; WORDS],
+}
+
+/// Sets a word where it is another one: a text has few glyphs many times, so most words stay, and aren't written.
+#[tactic(auto, using(crate::proofs::LowBits::word_stays))]
+fn put_word(words: &mut [u64; WORDS], index: usize, word: u64)
+    requires { index < 16 }
+    ensures { words.new ≡ set words.old index word }
+{
+    if words[index] != word {
+        words[index] = word;
+    }
 }
 
 impl hb_set_digest_ext for LowBits {
@@ -49,7 +60,8 @@ impl hb_set_digest_ext for LowBits {
     {
         let low = glyph % BUCKETS;
         let index = usize::from(low / WORD);
-        self.words[index] = with_bucket(self.words[index], u32::from(low % WORD));
+        let word = with_bucket(self.words[index], u32::from(low % WORD));
+        put_word(&mut self.words, index, word);
     }
 
     fn add_array(&mut self, glyphs: &[u16])

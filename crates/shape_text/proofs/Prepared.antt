@@ -2,7 +2,7 @@
 use Rattle.std.proofs.Common.{ℕ, zero, suc, ◌≡◌, ◌<◌, ◌≤◌, ◌+◌, ◌==◌, Bool, nat_le, true, false, List, [], ◌∷◌, ◌++◌, Option, Some, None, length, take, drop, set, get_or, arith, add-one, refl, sym, ap, ◌∙◌}
 use Rattle.std.specs.Prelude.{bit_and, bit_or}
 use Rattle.buffer_glyphs.specs.declared.info.hb_glyph_info_t.{hb_glyph_info_t}
-use Rattle.buffer_glyphs.specs.Items.{item_of, strip}
+use Rattle.buffer_glyphs.specs.Items.{clusters, item_of, strip}
 use Rattle.buffer_glyphs.specs.Origins.{origins}
 use Rattle.std.proofs.lemmas.List.{at_drop_more, drop-set-lt, drop_all, take_all, append-nil}
 use Rattle.std.proofs.lemmas.Bool.{and_parts}
@@ -38,6 +38,10 @@ prepared_items t before (g ∷ gs) = rw (prepared_items t (Some (next_before t b
 pub prepared_origins : (t : Tables) (before : Option Before) (gs : List hb_glyph_info_t) → origins (glyphs_prepared t before gs) ≡ origins gs
 prepared_origins t before [] = refl
 prepared_origins t before (g ∷ gs) = rw (prepared_origins t (Some (next_before t before g.glyph_id)) gs) refl
+
+pub prepared_clusters : (t : Tables) (before : Option Before) (gs : List hb_glyph_info_t) → clusters (glyphs_prepared t before gs) ≡ clusters gs
+prepared_clusters t before [] = refl
+prepared_clusters t before (g ∷ gs) = rw (prepared_clusters t (Some (next_before t before g.glyph_id)) gs) refl
 
 pub prepared_length : (t : Tables) (before : Option Before) (gs : List hb_glyph_info_t) → length (glyphs_prepared t before gs) ≡ length gs
 prepared_length t before [] = refl

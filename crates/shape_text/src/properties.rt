@@ -34,7 +34,9 @@ pub fn set_unicode_props(tables: &UnicodeTables, buffer: &mut hb_buffer_t)
     ensures { IsFollowed (always (with_properties tables.now)) buffer.old buffer.new }
 {
     let mut scratch_flags = buffer.scratch_flags();
+    let known = buffer.known_order();
     prepare(tables, buffer.info_slice_mut(), &mut scratch_flags);
+    buffer.keep_order(known);
     buffer.set_scratch_flags(scratch_flags);
 }
 
