@@ -318,7 +318,7 @@ finished_by_sums d ps qs rs ts fit e f g =
 kind_is_small : (t : ℕ) → (t == 1 || t == 2) ≡ true → nat_le 128 t ≡ false
 kind_is_small t e = grind (arith, nat_tests, e)
 
-tested_closed : (p : Position) → is_open (kind_tested p) ≡ false
+pub tested_closed : (p : Position) → is_open (kind_tested p) ≡ false
 tested_closed p = by_kind (has_kind p) refl
   where
     by_kind : (b : Bool) → has_kind p ≡ b → is_open (if b then p else without_link p) ≡ false

@@ -21,7 +21,7 @@ fold_only : (f : Position → Position → Position) → ((p r : Position) → f
 fold_only f same p [] = refl
 fold_only f same p (r ∷ rs) = fold_only f same (f p (only_advances r)) rs ∙ ap (λ (q : Position). fold f q rs) (same p r)
 
-range_same : (f : Position → Position → Position) → ((p r : Position) → f p (only_advances r) ≡ f p r) → (p : Position) (from to : ℕ) (ps qs : List Position) → map only_advances ps ≡ map only_advances qs → fold f p (slice_range ps from to) ≡ fold f p (slice_range qs from to)
+pub range_same : (f : Position → Position → Position) → ((p r : Position) → f p (only_advances r) ≡ f p r) → (p : Position) (from to : ℕ) (ps qs : List Position) → map only_advances ps ≡ map only_advances qs → fold f p (slice_range ps from to) ≡ fold f p (slice_range qs from to)
 range_same f same p from to ps qs e =
     sym (fold_only f same p (slice_range ps from to)) ∙ ap (fold f p) (slice_seen only_advances from to ps ∙ ap (λ (xs : List Position). slice_range xs from to) e ∙ sym (slice_seen only_advances from to qs)) ∙ fold_only f same p (slice_range qs from to)
 
@@ -45,7 +45,7 @@ fold_keeps : {V : Type 0} (v : Position → V) (f : Position → Position → Po
 fold_keeps v f same p [] = refl
 fold_keeps v f same p (r ∷ rs) = fold_keeps v f same (f p r) rs ∙ same p r
 
-mark_keeps : {V : Type 0} (v : Position → V) → ((p q : Position) → v (offset_by q p) ≡ v p) → ((p r : Position) → v (back_over p r) ≡ v p) → ((p r : Position) → v (on_over p r) ≡ v p)
+pub mark_keeps : {V : Type 0} (v : Position → V) → ((p q : Position) → v (offset_by q p) ≡ v p) → ((p r : Position) → v (back_over p r) ≡ v p) → ((p r : Position) → v (on_over p r) ≡ v p)
     → (forward : Bool) (i j : ℕ) (ps : List Position) → v (mark_drawn forward i j ps) ≡ v (position_at i ps)
 mark_keeps v first back on true i j ps = fold_keeps v back_over back (offset_by (position_at j ps) (position_at i ps)) (slice_range ps j i) ∙ first (position_at i ps) (position_at j ps)
 mark_keeps v first back on false i j ps = fold_keeps v on_over on (offset_by (position_at j ps) (position_at i ps)) (slice_range ps (j + 1) (i + 1)) ∙ first (position_at i ps) (position_at j ps)

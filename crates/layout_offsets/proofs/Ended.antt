@@ -1,7 +1,7 @@
 -- The ends of positioning are stages.
 use Rattle.std.proofs.Common.{ℕ, ◌≡◌, ◌<◌, ◌+◌, ◌++◌, arith, set, take, ◌==◌, Bool, true, false, not, List, [], Ok, length, map, drop, refl, sym, ap, subst, ◌∙◌}
-use Rattle.std.specs.Prelude.{bit_and}
-use Rattle.std.proofs.lemmas.List.{take_at, length-map, length-set}
+use Rattle.std.specs.Prelude.{ℤ, pos, bit_and}
+use Rattle.std.proofs.lemmas.List.{take_at, length-map, length-set, set-get_or}
 use Rattle.std.proofs.lemmas.Nat.{and_assoc}
 use Rattle.buffer_glyphs.specs.Items.{Position, zero_position}
 use Rattle.buffer_glyphs.specs.Lists.{map_step}
@@ -62,8 +62,17 @@ unattached_done s e ready = stage_is false s s (ap not e) record { follows = ref
 
 -- ---- links cleared, one after another
 
-pub cleared_next : (old ps : List Position) (i : ℕ) (z : Position) → (ps ≡ map unattached_position (take i old) ++ drop i old) × (length ps ≡ length old) → i < length ps → z ≡ unattached_position (position_at i ps)
-    → (set ps i z ≡ map unattached_position (take (i + 1) old) ++ drop (i + 1) old) × (length (set ps i z) ≡ length old)
-cleared_next old ps i z before lt e =
+-- a position without a link stays
+pub unattached_stays : (at : ℕ) (ps : List Position) → (position_at at ps).attach_chain ≡ pos 0 → (position_at at ps).attach_type ≡ 0 → ps ≡ set ps at (unattached_position (position_at at ps))
+unattached_stays at ps e f =
+    let p = position_at at ps in
+    let same : unattached_position p ≡ p = ap (λ (z : ℤ). record p { attach_chain = z; attach_type = 0 }) (sym e) ∙ ap (λ (t : ℕ). record p { attach_type = t }) (sym f) in
+    sym (ap (set ps at) same ∙ set-get_or ps at zero_position)
+
+pub cleared_next : (old ps qs : List Position) (i : ℕ) → (ps ≡ map unattached_position (take i old) ++ drop i old) × (length ps ≡ length old) → i < length ps → qs ≡ set ps i (unattached_position (position_at i ps))
+    → (qs ≡ map unattached_position (take (i + 1) old) ++ drop (i + 1) old) × (length qs ≡ length old)
+cleared_next old ps qs i before lt e =
     let len = before.1 in
-    (map_step unattached_position old ps i zero_position z (omega (arith, lt, len)) len before.0 e, length-set ps i z ∙ len)
+    let z = unattached_position (position_at i ps) in
+    subst (λ (xs : List Position). (xs ≡ map unattached_position (take (i + 1) old) ++ drop (i + 1) old) × (length xs ≡ length old)) (sym e)
+    (map_step unattached_position old ps i zero_position z (omega (arith, lt, len)) len before.0 refl, length-set ps i z ∙ len)

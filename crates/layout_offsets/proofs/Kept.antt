@@ -94,7 +94,7 @@ all_tested_advances : (ps : List Position) → map only_advances (kinds_tested p
 all_tested_advances [] = refl
 all_tested_advances (p ∷ ps) = ap (λ (q : Position). q ∷ map only_advances (kinds_tested ps)) (tested_advances p) ∙ ap (λ qs. only_advances p ∷ qs) (all_tested_advances ps)
 
-tested_linkless : (p : Position) → p.attach_chain ≡ pos 0 → kind_tested p ≡ p
+pub tested_linkless : (p : Position) → p.attach_chain ≡ pos 0 → kind_tested p ≡ p
 tested_linkless p e = elim (has_kind p) as (λ b. (if b then p else without_link p) ≡ p) [ true ↦ refl | false ↦ ap (λ z. record p { attach_chain = z }) (sym e) ]
 
 pub links_are_cleared : LinksAreCleared

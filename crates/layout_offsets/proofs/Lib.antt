@@ -3,7 +3,11 @@ pub mod Summing
 pub mod Shut
 pub mod Going
 pub mod Drawn
+pub mod Drawings
+pub mod Near
+pub mod Between
 pub mod Totals
 pub mod Kept
 pub mod BySums
+pub mod Tested
 pub mod Ended

@@ -7,7 +7,7 @@ use Rattle.buffer_glyphs.specs.Items.{Position, zero_position}
 use Rattle.buffer_glyphs.specs.Lists.{get_or_mapped}
 use Rattle.buffer_common.specs.declared.direction.Direction.{Direction}
 use Rattle.buffer_common.specs.Direction.{is_forward, is_horizontal}
-use Rattle.layout_offsets.specs.FollowedLinks.{with_link_cleared, offset_by, child_drawn, with_child_drawn}
+use Rattle.layout_offsets.specs.FollowedLinks.{Drawing, with_link_cleared, offset_by, child_drawn, with_child_drawn}
 use Rattle.layout_offsets.specs.Links.{position_at, link_target, parent, without_link}
 use Rattle.layout_offsets.specs.AdvanceSums.{pen_down, pen_of, pen_way, pen_before, back_by, on_by, after_parent, mark_by_sums, drawn_by_sums}
 use Rattle.layout_offsets.specs.declared.advance_sums.Pen.{Pen}
@@ -72,11 +72,11 @@ pen_shut p = elim (is_open p) as (λ b. pen_of (closed_link_if b p) ≡ pen_of p
 offset_by_shut : (p q : Position) → offset_by (closed_link q) p ≡ offset_by q p
 offset_by_shut p q = elim (is_open q) as (λ b. offset_by (closed_link_if b q) p ≡ offset_by q p) [ true ↦ refl | false ↦ refl ]
 
-child_drawn_shut : (across : Bool) (p q : Position) → child_drawn across (closed_link q) p ≡ child_drawn across q p
+pub child_drawn_shut : (across : Bool) (p q : Position) → child_drawn across (closed_link q) p ≡ child_drawn across q p
 child_drawn_shut true p q = ap (λ (y : ℤ). child_drawn true (record q { y_offset = y }) p) (y_offset_shut q)
 child_drawn_shut false p q = ap (λ (x : ℤ). child_drawn false (record q { x_offset = x }) p) (x_offset_shut q)
 
-both_shut : (i j : ℕ) (ps : List Position) → is_open (position_at i ps) ≡ false → offset_by (position_at j (closed_links ps)) (position_at i (closed_links ps)) ≡ offset_by (position_at j ps) (position_at i ps)
+pub both_shut : (i j : ℕ) (ps : List Position) → is_open (position_at i ps) ≡ false → offset_by (position_at j (closed_links ps)) (position_at i (closed_links ps)) ≡ offset_by (position_at j ps) (position_at i ps)
 both_shut i j ps e =
     ap (λ (q : Position). offset_by q (position_at i (closed_links ps))) (shut_at j ps) ∙ offset_by_shut (position_at i (closed_links ps)) (position_at j ps) ∙ ap (offset_by (position_at j ps)) (shut_at i ps ∙ shut_closed (position_at i ps) e)
 
@@ -115,7 +115,7 @@ drawn_shut d i j ps e = ap (λ (p : Position). by_kind d i j (closed_links ps) (
 -- ---- a drawn glyph keeps its kind and link
 
 -- what tells whether a walk came through
-abbrev hold_of : Position → ℕ × ℤ
+abbrev pub hold_of : Position → ℕ × ℤ
 hold_of p = (p.attach_type, p.attach_chain)
 
 after_hold : (forward : Bool) (i j : ℕ) (ps : List Position) → hold_of (after_parent forward i j ps) ≡ hold_of (position_at i ps)
@@ -125,7 +125,7 @@ after_hold false i j ps = refl
 mark_hold : (forward : Bool) (i j : ℕ) (ps : List Position) → hold_of (mark_by_sums forward i j ps) ≡ hold_of (position_at i ps)
 mark_hold forward i j ps = elim (nat_lt j i) as (λ b. hold_of (if b then after_parent forward i j ps else offset_by (position_at j ps) (position_at i ps)) ≡ hold_of (position_at i ps)) [ true ↦ after_hold forward i j ps | false ↦ refl ]
 
-child_hold : (across : Bool) (q p : Position) → hold_of (child_drawn across q p) ≡ hold_of p
+pub child_hold : (across : Bool) (q p : Position) → hold_of (child_drawn across q p) ≡ hold_of p
 child_hold true q p = refl
 child_hold false q p = refl
 
@@ -133,9 +133,19 @@ hold_by : (d : Direction) (i j : ℕ) (ps : List Position) (cursive : Bool) → 
 hold_by d i j ps true = child_hold (is_horizontal d) (position_at j ps) (position_at i ps)
 hold_by d i j ps false = mark_hold (is_forward d) i j ps
 
-pub drawn_hold : (d : Direction) (i j : ℕ) (ps : List Position) → is_open (drawn_by_sums d i j ps) ≡ is_open (position_at i ps)
+drawn_hold : (d : Direction) (i j : ℕ) (ps : List Position) → is_open (drawn_by_sums d i j ps) ≡ is_open (position_at i ps)
 drawn_hold d i j ps = ap (λ (h : ℕ × ℤ). nat_le 128 h.0 && is_link h.1) (hold_by d i j ps ((position_at i ps).attach_type == 2))
 
-pub hung_shut : (d : Direction) (i j : ℕ) (ps : List Position) → is_open (position_at i ps) ≡ false → closed_links (with_child_drawn (drawn_by_sums d) i j ps) ≡ with_child_drawn (drawn_by_sums d) i j (closed_links ps)
-hung_shut d i j ps e =
-    map-set closed_link ps i (drawn_by_sums d i j ps) ∙ ap (λ (p : Position). set (closed_links ps) i p) (shut_closed (drawn_by_sums d i j ps) (drawn_hold d i j ps ∙ e) ∙ sym (drawn_shut d i j ps e))
+-- ---- a way to draw that leaves links alone
+
+-- a drawn glyph is open as it was, and a glyph that is not open is drawn alike once the others are shut
+pub record IsDrawing (draw : Drawing) : Type 0 where
+  pub hold : (i j : ℕ) (ps : List Position) → is_open (draw i j ps) ≡ is_open (position_at i ps)
+  pub shut : (i j : ℕ) (ps : List Position) → is_open (position_at i ps) ≡ false → draw i j (closed_links ps) ≡ draw i j ps
+
+pub hung_shut : (draw : Drawing) → IsDrawing draw → (i j : ℕ) (ps : List Position) → is_open (position_at i ps) ≡ false → closed_links (with_child_drawn draw i j ps) ≡ with_child_drawn draw i j (closed_links ps)
+hung_shut draw is i j ps e =
+    map-set closed_link ps i (draw i j ps) ∙ ap (λ (p : Position). set (closed_links ps) i p) (shut_closed (draw i j ps) (is.hold i j ps ∙ e) ∙ sym (is.shut i j ps e))
+
+pub sums_drawing : (d : Direction) → IsDrawing (drawn_by_sums d)
+sums_drawing d = record { hold = drawn_hold d; shut = drawn_shut d }

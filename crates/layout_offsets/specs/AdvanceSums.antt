@@ -5,7 +5,7 @@ use Rattle.buffer_glyphs.specs.Items.{Position}
 use Rattle.buffer_common.specs.declared.direction.Direction.{Direction}
 use Rattle.buffer_common.specs.Direction.{is_forward, is_horizontal}
 use Rattle.layout_offsets.specs.declared.advance_sums.Pen.{Pen}
-use Rattle.layout_offsets.specs.FollowedLinks.{plus, minus, offset_by, child_drawn}
+use Rattle.layout_offsets.specs.FollowedLinks.{plus, minus, offset_by, child_drawn, drawn_position, Drawing}
 use Rattle.layout_offsets.specs.Links.{position_at}
 
 -- the pen at the beginning
@@ -71,6 +71,11 @@ mark_by_sums forward i j ps = if nat_lt j i then after_parent forward i j ps els
 -- a glyph drawn, among sums
 abbrev pub drawn_by_sums : Direction → ℕ → ℕ → List Position → Position
 drawn_by_sums d i j ps = if (position_at i ps).attach_type == 2 then child_drawn (is_horizontal d) (position_at j ps) (position_at i ps) else mark_by_sums (is_forward d) i j ps
+
+-- how glyphs are drawn: among sums, or among advances
+abbrev pub drawing : Bool → Direction → Drawing
+drawing true d = drawn_by_sums d
+drawing false d = drawn_position d
 
 -- advances that fit in 32 bits
 abbrev pub Fits : Position → Type 0

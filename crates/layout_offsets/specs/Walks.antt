@@ -2,10 +2,8 @@
 -- it, with 128 added to its kind.
 use Rattle.std.specs.Prelude.{ℕ, ℤ, pos, ◌+ℤ◌, ◌+◌, ◌-◌, ◌<◌, ◌≡◌, ◌≢◌, Bool, true, false, nat_le, nat_abs, not, ◌&&◌, ◌==◌, ◌⊎◌, List, [], ◌∷◌, map, set, length, Some, None}
 use Rattle.buffer_glyphs.specs.Items.{Position}
-use Rattle.buffer_common.specs.declared.direction.Direction.{Direction}
-use Rattle.layout_offsets.specs.FollowedLinks.{with_link_cleared, with_child_drawn, with_link_followed}
+use Rattle.layout_offsets.specs.FollowedLinks.{Drawing, with_link_cleared, with_child_drawn, with_link_followed}
 use Rattle.layout_offsets.specs.Links.{position_at, parent}
-use Rattle.layout_offsets.specs.AdvanceSums.{drawn_by_sums}
 
 -- whether a position has a link
 abbrev pub is_link : ℤ → Bool
@@ -47,9 +45,9 @@ Trail ps at by [] = Unit {0}
 Trail ps at by (c ∷ rest) = (c < length ps) × (is_open (position_at c ps) ≡ true) × (pos at ≡ pos c +ℤ by) × Apart c rest × Trail ps c (position_at c ps).attach_chain rest
 
 -- the glyphs of a trail drawn, where the last of them is attached to `at`
-abbrev pub trail_drawn : Direction → ℕ → List ℕ → List Position → List Position
-trail_drawn d at [] ps = ps
-trail_drawn d at (c ∷ rest) ps = trail_drawn d c rest (with_child_drawn (drawn_by_sums d) c at ps)
+abbrev pub trail_drawn : Drawing → ℕ → List ℕ → List Position → List Position
+trail_drawn draw at [] ps = ps
+trail_drawn draw at (c ∷ rest) ps = trail_drawn draw c rest (with_child_drawn draw c at ps)
 
 -- a walk is at a glyph, which it reached by a link, after so many glyphs
 pub record IsWalk (count at : ℕ) (by : ℤ) (depth : ℕ) (ps : List Position) : Type 0 where
@@ -61,15 +59,15 @@ pub record IsWalk (count at : ℕ) (by : ℤ) (depth : ℕ) (ps : List Position)
   pub only : (k : ℕ) → is_open (position_at k ps) ≡ true → Apart k stack → ⊥
 
 -- the rest of the way along the links, and then of the way back, leads to a list
-pub record IsGoing (d : Direction) (goal : List Position) (count fuel at : ℕ) (by : ℤ) (depth : ℕ) (ps : List Position) : Type 0 where
+pub record IsGoing (draw : Drawing) (goal : List Position) (count fuel at : ℕ) (by : ℤ) (depth : ℕ) (ps : List Position) : Type 0 where
   pub walk : IsWalk count at by depth ps
   pub moves : is_link by ≡ true
-  pub leads : trail_drawn d at walk.stack (with_link_followed (drawn_by_sums d) fuel at (closed_links ps)) ≡ goal
+  pub leads : trail_drawn draw at walk.stack (with_link_followed draw fuel at (closed_links ps)) ≡ goal
 
 -- the rest of the way back leads to a list
-pub record IsComing (d : Direction) (goal : List Position) (count at : ℕ) (by : ℤ) (depth : ℕ) (ps : List Position) : Type 0 where
+pub record IsComing (draw : Drawing) (goal : List Position) (count at : ℕ) (by : ℤ) (depth : ℕ) (ps : List Position) : Type 0 where
   pub walk : IsWalk count at by depth ps
-  pub leads : trail_drawn d at walk.stack (closed_links ps) ≡ goal
+  pub leads : trail_drawn draw at walk.stack (closed_links ps) ≡ goal
 
 -- a walk stops at a glyph: one that it came through, or one whose link leads nowhere and is cleared
 abbrev pub WalkStops : ℕ → List Position → List Position → Type 0
@@ -84,5 +82,9 @@ abbrev pub HasReturn : ℕ → ℤ → List Position → Type 0
 HasReturn at by ps = (c : ℕ) × (c < length ps) × (pos at ≡ pos c +ℤ by) × (is_open (position_at c ps) ≡ true)
 
 -- a walk returns to that glyph, which is drawn
-abbrev pub StepsBack : Direction → ℕ → ℤ → ℕ → ℤ → List Position → List Position → Type 0
-StepsBack d to link at by old new = (pos at ≡ pos to +ℤ by) × (link ≡ (position_at to old).attach_chain) × (is_open (closed_link (position_at to old)) ≡ false) × (new ≡ with_child_drawn (drawn_by_sums d) to at (set old to (closed_link (position_at to old))))
+abbrev pub StepsBack : Drawing → ℕ → ℤ → ℕ → ℤ → List Position → List Position → Type 0
+StepsBack draw to link at by old new = (pos at ≡ pos to +ℤ by) × (link ≡ (position_at to old).attach_chain) × (is_open (closed_link (position_at to old)) ≡ false) × (new ≡ with_child_drawn draw to at (set old to (closed_link (position_at to old))))
+
+-- a glyph is attached to one that has no link
+abbrev pub HasLinklessParent : ℕ → ℕ → List Position → Type 0
+HasLinklessParent i j ps = (j < length ps) × (parent i ps ≡ Some j) × ((position_at j ps).attach_chain ≡ pos 0)

@@ -53,7 +53,7 @@ fn with_pen(pen: Pen, position: GlyphPosition) -> GlyphPosition
     }
 }
 
-fn has_kind(position: GlyphPosition) -> bool
+pub(crate) fn has_kind(position: GlyphPosition) -> bool
     ensures { result ≡ has_kind position }
 {
     position.attach_type == MARK || position.attach_type == CURSIVE

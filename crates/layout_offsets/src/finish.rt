@@ -1,9 +1,10 @@
 //! The start and the end of positioning, on the buffer (rustybuzz: hb/ot_layout_gpos_table.rs, `position_start`,
 //! `position_finish_advances`, `position_finish_offsets`).
-ghost use Rattle.std.specs.Prelude.{◌≡◌, map};
+ghost use Rattle.std.specs.Prelude.{◌≡◌, ◌<◌, length, map, set};
 ghost use Rattle.buffer_core.specs.Readings.{always};
 ghost use Rattle.buffer_stages.specs.Ready.{IsDone, IsReady};
 ghost use Rattle.layout_offsets.specs.Finishing.{all_drawn, links_followed};
+ghost use Rattle.layout_offsets.specs.Links.{position_at};
 ghost use Rattle.layout_offsets.specs.Starting.{links_cleared, unattached_position};
 
 use crate::followed_links::finish_offsets;
@@ -25,7 +26,18 @@ fn clear_links(positions: &mut [GlyphPosition])
     ensures { positions.new ≡ map unattached_position positions.old }
 {
     for i in 0..positions.len() {
-        positions[i] = unattached_position(positions[i]);
+        clear_link(positions, i);
+    }
+}
+
+/// Clears a glyph's link. Most have none, and aren't written.
+#[tactic(auto, using(crate::proofs::Ended::unattached_stays))]
+fn clear_link(positions: &mut [GlyphPosition], at: usize)
+    requires here { at < length positions.old }
+    ensures { positions.new ≡ set positions.old at (unattached_position (position_at at positions.old)) }
+{
+    if positions[at].attach_chain != 0 || positions[at].attach_type != 0 {
+        positions[at] = unattached_position(positions[at]);
     }
 }
 
