@@ -12,7 +12,7 @@ from beside.differences import Difference, difference
 from beside.pages import text_of
 from beside.programs import THEIRS, Files, build_driver, build_own_driver, printed_by, used_by
 from beside.sets import PACKAGES, SETS, Set
-from beside.table import Pair, Row, head, row_line, slope, summary
+from beside.table import Pair, Row, each, head, row_line, slope, summary
 from building.library import archive
 from common.faults import FILES, WORDS, ToolFault
 from common.notes import Notes, Progress
@@ -34,10 +34,11 @@ on real fonts of Debian's packages, and prints one table in Markdown, in nanosec
 character.
 
 A set's text is made of a list of words in bench/beside/words. Each program shapes a text of a page
-({PAGE:,} characters) and one of --pages pages, several times in turn; the least time of each counts, and the slope
-between the two is what a character takes. What both texts take alike cancels in it: reading font and tables, and the
-plan. In the columns of the programs both print all of a glyph but its name. In those of the libraries a driver of each
-opens the font once and shapes a text again and again; it prints nothing.
+({PAGE:,} characters) and one of --pages pages, several times in turn; the least time of each counts. The programs print
+all of a glyph but its name, and what they take for a character is the slope between the two texts: what both take alike
+cancels in it, reading font and tables, and the plan. Of each library a driver opens the font once and shapes a text
+again and again; it prints nothing. What it takes for a character of a page stands beside the slope, which is what it
+takes for each that the longer text has more.
 
 Before a set is measured both texts are shaped once by all four, and their glyphs, clusters, offsets and advances are
 compared. Below the table stand the rows above 1.0, and where glyphs differ."""
@@ -174,14 +175,15 @@ def measure(files: Files, options: argparse.Namespace, folder: Path) -> Row:
     written = [written_text(folder, files.chosen, length) for length in lengths]
     texts, characters = [text for text, _ in written], (written[0][1], written[1][1])
     unlike = differences(files, texts)
-    whole = kept = Pair(0, 0)
+    whole = page = more = Pair(0, 0)
     memory = None
     if not options.glyphs:
         theirs, own, theirs_kept, own_kept = times(files, texts, options.runs)
         whole = Pair(slope(characters, theirs), slope(characters, own))
-        kept = Pair(slope(characters, theirs_kept), slope(characters, own_kept))
+        page = Pair(each(characters[0], theirs_kept[0]), each(characters[0], own_kept[0]))
+        more = Pair(slope(characters, theirs_kept), slope(characters, own_kept))
         memory = peaks(files, folder) if options.memory else None
-    return Row(files.chosen.name, files.chosen.font_name, whole, kept, unlike, memory)
+    return Row(files.chosen.name, files.chosen.font_name, whole, page, more, unlike, memory)
 
 
 def written_text(folder: Path, chosen: Set, characters: int) -> tuple[Path, int]:

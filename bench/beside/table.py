@@ -6,8 +6,10 @@ from beside.differences import Difference
 
 MIB = 1 << 20
 WHOLE_HEAD = ("hb-shape", "program", "ratio")
-KEPT_HEAD = ("libharfbuzz, plan kept", "libkuspveli, plan kept", "ratio")
-HEAD = ("Set", "Font", *WHOLE_HEAD, *KEPT_HEAD, "glyphs")
+# With a plan that is kept: of a page, and of each page after it.
+PAGE_HEAD = ("libharfbuzz, a page", "libkuspveli, a page", "ratio")
+MORE_HEAD = ("libharfbuzz, more", "libkuspveli, more", "ratio")
+HEAD = ("Set", "Font", *WHOLE_HEAD, *PAGE_HEAD, *MORE_HEAD, "glyphs")
 MEMORY_HEAD = ("hb-shape, MiB", "program, MiB", "ratio")
 # The ratio above which a row is named, of time and of memory.
 TIME_BOUND = 1.0
@@ -29,12 +31,14 @@ class Pair:
 
 @dataclass(frozen=True)
 class Row:
-    """A set: nanoseconds a character of the programs and of the libraries, where glyphs differ, peaks in bytes."""
+    """A set: nanoseconds a character of the programs, and of the libraries with a plan that is kept, for a page and for
+    what a longer text has more; where glyphs differ; peaks in bytes."""
 
     name: str
     font: str
     whole: Pair
-    kept: Pair
+    page: Pair
+    more: Pair
     difference: Difference | None
     memory: Pair | None = None
 
@@ -48,6 +52,11 @@ def slope(lengths: tuple[int, int], seconds: tuple[float, float]) -> float:
     return (seconds[1] - seconds[0]) * 1e9 / (lengths[1] - lengths[0])
 
 
+def each(characters: int, seconds: float) -> float:
+    """Nanoseconds for each character of a text."""
+    return seconds * 1e9 / characters
+
+
 def head(with_memory: bool) -> str:
     """The first two lines of the table."""
     names = HEAD + MEMORY_HEAD if with_memory else HEAD
@@ -56,7 +65,8 @@ def head(with_memory: bool) -> str:
 
 def row_line(row: Row) -> str:
     """A row's line of the table."""
-    cells = [row.name, row.font, *of_time(row.whole), *of_time(row.kept), of_glyphs(row.difference)]
+    times = *of_time(row.whole), *of_time(row.page), *of_time(row.more)
+    cells = [row.name, row.font, *times, of_glyphs(row.difference)]
     if row.memory is not None:
         cells += [f"{row.memory.theirs / MIB:.0f}", f"{row.memory.own / MIB:.0f}", shown(row.memory.ratio)]
     return line(cells)
@@ -84,7 +94,8 @@ def summary(rows: list[Row]) -> list[str]:
     """The rows above a bound, by what was measured, and the rows whose glyphs differ."""
     lines = [
         above("beside hb-shape", TIME_BOUND, [(row, row.whole) for row in rows]),
-        above("beside libharfbuzz, plan kept", TIME_BOUND, [(row, row.kept) for row in rows]),
+        above("beside libharfbuzz for a page", TIME_BOUND, [(row, row.page) for row in rows]),
+        above("beside libharfbuzz for more", TIME_BOUND, [(row, row.more) for row in rows]),
     ]
     measured = [(row, row.memory) for row in rows if row.memory is not None]
     if measured:

@@ -16,7 +16,7 @@ from beside.differences import Difference, difference
 from beside.pages import WORDS, chances, read_words, text_from, text_of, words_of
 from beside.programs import Files, build_driver, build_own_driver, printed_by, used_by
 from beside.sets import PACKAGES, SETS
-from beside.table import MIB, Pair, Row, head, row_line, slope, summary
+from beside.table import MIB, Pair, Row, each, head, row_line, slope, summary
 from building.library import archive
 from common.faults import ToolFault
 from shaping.cache import cache_folder
@@ -29,13 +29,18 @@ HEADER = Path("/usr/include/harfbuzz/hb.h")
 CAN_DRIVE = HEADER.exists() and Path(DEJAVU).exists() and shutil.which("gcc") and shutil.which("hb-shape")
 
 
+# Nanoseconds of a row, and what a summary names rows by.
+TIMES = "420 | 315 | 0.75 | 840 | 630 | 0.75 | 1260 | 945 | 0.75"
+BESIDE = ("beside hb-shape", "beside libharfbuzz for a page", "beside libharfbuzz for more")
+
 UNLIKE = Difference("1 of 2 glyphs differ", in_clusters_alone=False)
 CLUSTERS = Difference("1 of 2 glyphs differ in clusters alone", in_clusters_alone=True)
 
 
 def row(theirs: float, own: float, unlike: Difference | None = None, memory: Pair | None = None) -> Row:
-    """A row of Thai that takes twice as much with the plan kept as the whole programs take."""
-    return Row("Thai", "Loma", Pair(theirs, own), Pair(2 * theirs, 2 * own), unlike, memory)
+    """A row of Thai: of a page the libraries take twice, and of more three times what the programs take."""
+    times = Pair(theirs, own), Pair(2 * theirs, 2 * own), Pair(3 * theirs, 3 * own)
+    return Row("Thai", "Loma", *times, unlike, memory)
 
 
 class Texts(unittest.TestCase):
@@ -86,6 +91,10 @@ class Numbers(unittest.TestCase):
         self.assertAlmostEqual(slope((10_000, 1_010_000), (0.1, 0.5)), 400)
         self.assertAlmostEqual(slope((10_000, 1_010_000), (7.1, 7.5)), 400)
 
+    def test_each(self) -> None:
+        """4 ms for 10,000 characters are 400 ns each."""
+        self.assertAlmostEqual(each(10_000, 0.004), 400)
+
     def test_ratio(self) -> None:
         self.assertEqual(Pair(400, 300).ratio, 0.75)
         for lost in (Pair(0, 300), Pair(-5, 300), Pair(400, -1)):
@@ -94,8 +103,8 @@ class Numbers(unittest.TestCase):
     def test_table(self) -> None:
         """Each line has as many cells as the head, with the peaks of memory and without them."""
         plain, large = row(420, 315), row(420, 315, UNLIKE, Pair(100 * MIB, 130 * MIB))
-        self.assertEqual(row_line(plain), "| Thai | Loma | 420 | 315 | 0.75 | 840 | 630 | 0.75 | same |")
-        want = "| Thai | Loma | 420 | 315 | 0.75 | 840 | 630 | 0.75 | differ | 100 | 130 | 1.30 |"
+        self.assertEqual(row_line(plain), f"| Thai | Loma | {TIMES} | same |")
+        want = f"| Thai | Loma | {TIMES} | differ | 100 | 130 | 1.30 |"
         self.assertEqual(row_line(large), want)
         self.assertIn("| clusters differ |", row_line(row(420, 315, CLUSTERS)))
         for with_memory, measured in ((False, plain), (True, large)):
@@ -106,15 +115,12 @@ class Numbers(unittest.TestCase):
         """Rows above the bound are named, and so are those without a ratio; one that shows 1.00 is not."""
         rows = [row(400, 401), row(400, 600), row(0, 5)]
         told = "Thai, Loma (1.50), Thai, Loma (?) (2 of 3)."
-        self.assertEqual(
-            summary(rows), [f"Above 1.0 beside hb-shape: {told}", f"Above 1.0 beside libharfbuzz, plan kept: {told}"]
-        )
+        self.assertEqual(summary(rows), [f"Above 1.0 {beside}: {told}" for beside in BESIDE])
         none = "none (0 of 1)."
         self.assertEqual(
             summary([row(4, 3, UNLIKE, Pair(100, 121))]),
             [
-                f"Above 1.0 beside hb-shape: {none}",
-                f"Above 1.0 beside libharfbuzz, plan kept: {none}",
+                *(f"Above 1.0 {beside}: {none}" for beside in BESIDE),
                 "Above 1.2 in memory: Thai, Loma (1.21) (1 of 1).",
                 "Thai, Loma: 1 of 2 glyphs differ",
             ],
