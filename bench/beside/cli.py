@@ -5,8 +5,8 @@ import contextlib
 import os
 import shutil
 import tempfile
+from dataclasses import dataclass, field
 from pathlib import Path
-from typing import Any
 
 from beside.differences import Difference, difference
 from beside.pages import text_of
@@ -29,6 +29,11 @@ LARGE = 1_000_000
 PROGRAMS = ((THEIRS, "libharfbuzz-bin"), ("gcc", "gcc"))
 # Rounds of a driver in one run of it.
 ROUNDS = 5
+# What is timed: the programs, and the libraries with a plan that is kept.
+WHOLE = "hb-shape", "program"
+KEPT = "libharfbuzz", "libkuspveli"
+
+Times = tuple[float, float]
 ABOUT = f"""Measures the program beside hb-shape, and the library for C beside libharfbuzz, with a plan that both keep,
 on real fonts of Debian's packages, and prints one table in Markdown, in nanoseconds of processor time for each
 character.
@@ -131,24 +136,24 @@ def need(sets: list[Set], program: Path, library: Path) -> None:
 
 
 def measure_all(sets: list[Set], options: argparse.Namespace, made: Path, kept: Path) -> int:
-    """Prints each row as soon as it is measured, and the summary."""
+    """Compares the glyphs of all sets, measures them, and prints the table and the summary."""
     drivers = build_driver(made), build_own_driver(made, options.library)
     tables, progress = tables_file(kept), Progress(NAME)
-    rows: list[Row] = []
-    if not options.glyphs:
-        print(f"{what_is_measured(options)}\n\n{head(options.memory)}", flush=True)
+    measures: list[Measure] = []
     for at, chosen in enumerate(sets):
         progress.step(chosen.title, at + 1, len(sets))
         files = Files(chosen, options.program, tables, font_file(kept, chosen.font), *drivers)
-        row = measure(files, options, made)
-        rows.append(row)
-        progress.end()
-        unlike = row.difference
-        print(f"{row.title}: {unlike.told if unlike else 'same'}" if options.glyphs else row_line(row), flush=True)
+        measures.append(compared(files, options.pages, made / str(at)))
+        if options.glyphs:
+            unlike = measures[-1].difference
+            print(f"{chosen.title}: {unlike.told if unlike else 'same'}", flush=True)
     if not options.glyphs:
-        print("\n" + "\n".join(summary(rows)))
-    pairs = zip(sets, rows, strict=True)
-    return 1 if any(is_fault(chosen, row.difference) for chosen, row in pairs) else 0
+        take_times(measures, options.runs, progress)
+        rows = [row_of(measure, options.memory, made) for measure in measures]
+        lines = what_is_measured(options), "", head(options.memory), *map(row_line, rows), "", *summary(rows)
+        print("\n".join(lines))
+    progress.end()
+    return 1 if any(is_fault(measure.files.chosen, measure.difference) for measure in measures) else 0
 
 
 def is_fault(chosen: Set, unlike: Difference | None) -> bool:
@@ -169,21 +174,39 @@ def font_file(folder: Path, path: Path) -> Path:
     return cached(folder / font_name(path, 0), stamp, lambda: read_font(str(path), 0, FONT_READ, Notes()))
 
 
-def measure(files: Files, options: argparse.Namespace, folder: Path) -> Row:
-    """Compares the glyphs of a set's two texts, and measures it."""
-    lengths = [PAGE, PAGE * options.pages]
-    written = [written_text(folder, files.chosen, length) for length in lengths]
-    texts, characters = [text for text, _ in written], (written[0][1], written[1][1])
-    unlike = differences(files, texts)
-    whole = page = more = Pair(0, 0)
-    memory = None
-    if not options.glyphs:
-        theirs, own, theirs_kept, own_kept = times(files, texts, options.runs)
-        whole = Pair(slope(characters, theirs), slope(characters, own))
-        page = Pair(each(characters[0], theirs_kept[0]), each(characters[0], own_kept[0]))
-        more = Pair(slope(characters, theirs_kept), slope(characters, own_kept))
-        memory = peaks(files, folder) if options.memory else None
-    return Row(files.chosen.name, files.chosen.font_name, whole, page, more, unlike, memory)
+@dataclass
+class Measure:
+    """A set with its two texts, how many characters they have, where glyphs differ, and the least times so far."""
+
+    files: Files
+    texts: list[Path]
+    characters: tuple[int, int]
+    difference: Difference | None
+    least: dict[tuple[str, int], float] = field(default_factory=dict)
+
+    def note(self, name: str, at: int, seconds: float) -> None:
+        self.least[name, at] = min(self.least.get((name, at), seconds), seconds)
+
+    def pair(self, name: str) -> Times:
+        """The least times of the two texts."""
+        return self.least[name, 0], self.least[name, 1]
+
+
+def compared(files: Files, pages: int, folder: Path) -> Measure:
+    """A set whose texts are written, and whose glyphs are compared."""
+    folder.mkdir()
+    written = [written_text(folder, files.chosen, length) for length in (PAGE, PAGE * pages)]
+    texts = [text for text, _ in written]
+    return Measure(files, texts, (written[0][1], written[1][1]), differences(files, texts))
+
+
+def row_of(measure: Measure, with_memory: bool, folder: Path) -> Row:
+    chosen, characters = measure.files.chosen, measure.characters
+    whole = Pair(*(slope(characters, measure.pair(name)) for name in WHOLE))
+    page = Pair(*(each(characters[0], measure.pair(name)[0]) for name in KEPT))
+    more = Pair(*(slope(characters, measure.pair(name)) for name in KEPT))
+    memory = peaks(measure.files, folder) if with_memory else None
+    return Row(chosen.name, chosen.font_name, whole, page, more, measure.difference, memory)
 
 
 def written_text(folder: Path, chosen: Set, characters: int) -> tuple[Path, int]:
@@ -205,27 +228,24 @@ def differences(files: Files, texts: list[Path]) -> Difference | None:
     return None
 
 
-Times = tuple[float, float]
+def take_times(measures: list[Measure], runs: int, progress: Progress) -> None:
+    """Takes the times of all sets, so many runs. A run goes through all sets, and in each through all programs, so that
+    what else the machine does for some seconds meets few runs of a set, and all programs alike."""
+    for run in range(runs):
+        for at, measure in enumerate(measures):
+            progress.step(f"run {run + 1}, {measure.files.chosen.title}", at + 1, len(measures))
+            take_time(measure)
 
 
-def times(files: Files, texts: list[Path], runs: int) -> tuple[Times, Times, Times, Times]:
-    """The least time for each of two texts: hb-shape, the program, libharfbuzz and libkuspveli. They run in turn, so
-    that what else the machine does meets all of them."""
-    least: dict[Any, float] = {}
-
-    def note(key: Any, seconds: float) -> None:
-        least[key] = min(least.get(key, seconds), seconds)
-
-    rounds = {"their rounds": files.their_rounds(ROUNDS, texts), "own rounds": files.own_rounds(ROUNDS, texts)}
-    for _ in range(runs):
-        for at, text in enumerate(texts):
-            note(("theirs", at), used_by(files.theirs(text)).seconds)
-            note(("own", at), used_by(files.own(text)).seconds)
-        for name, words in rounds.items():
-            for at, taken in enumerate(printed_by(words)):
-                note((name, at), int(taken) / 1e9)
-    found = [(least[name, 0], least[name, 1]) for name in ("theirs", "own", "their rounds", "own rounds")]
-    return found[0], found[1], found[2], found[3]
+def take_time(measure: Measure) -> None:
+    files = measure.files
+    for at, text in enumerate(measure.texts):
+        for name, words in zip(WHOLE, (files.theirs(text), files.own(text)), strict=True):
+            measure.note(name, at, used_by(words).seconds)
+    drivers = files.their_rounds(ROUNDS, measure.texts), files.own_rounds(ROUNDS, measure.texts)
+    for name, words in zip(KEPT, drivers, strict=True):
+        for at, taken in enumerate(printed_by(words)):
+            measure.note(name, at, int(taken) / 1e9)
 
 
 def peaks(files: Files, folder: Path) -> Pair:
