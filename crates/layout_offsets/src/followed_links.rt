@@ -444,7 +444,7 @@ fn follow_all(positions: &mut [GlyphPosition], direction: Direction, by_sums: bo
 /// leads further back, all glyphs are drawn by sums, so that it takes linear time.
 const NEAR: i16 = 16;
 
-/// Clears a glyph's link of neither kind. Whether the glyph is attached to one far before it.
+/// Clears a glyph's link of neither kind, and answers whether the glyph is attached to one far before it.
 #[tactic(auto, using(crate::proofs::Tested::linkless_tested, crate::proofs::Tested::other_tested, crate::proofs::Tested::kind_stays))]
 fn test_kind(positions: &mut [GlyphPosition], at: usize) -> bool
     requires here { at < length positions.old }
@@ -461,7 +461,7 @@ fn test_kind(positions: &mut [GlyphPosition], at: usize) -> bool
     position.attach_chain < -NEAR
 }
 
-/// Clears links of neither kind. Whether a glyph is attached to one far before it.
+/// Clears links of neither kind, and answers whether a glyph is attached to one far before it.
 fn test_kinds(positions: &mut [GlyphPosition]) -> bool
     ensures { positions.new ≡ kinds_tested positions.old }
 {
