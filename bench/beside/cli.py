@@ -38,15 +38,15 @@ ABOUT = f"""Measures the program beside hb-shape, and the library for C beside l
 on real fonts of Debian's packages, and prints one table in Markdown, in nanoseconds of processor time for each
 character.
 
-A set's text is made of a list of words in bench/beside/words. Each program shapes a text of a page
-({PAGE:,} characters) and one of --pages pages, several times in turn; the least time of each counts. The programs print
-all of a glyph but its name, and what they take for a character is the slope between the two texts: what both take alike
-cancels in it, reading font and tables, and the plan. Of each library a driver opens the font once and shapes a text
-again and again; it prints nothing. What it takes for a character of a page stands beside the slope, which is what it
-takes for each that the longer text has more.
+A set's text is made of a list of words in bench/beside/words. Each program shapes a text of a page ({PAGE:,}
+characters) and one of --pages pages in each run, and a run goes through all sets; the least time of each text counts.
+The programs print all of a glyph but its name, and what they take for a character is the slope between the two texts:
+what both take alike cancels in it, reading font and tables, and the plan. Of each library a driver opens the font once
+and shapes a text again and again; it prints nothing. What it takes for a character of a page stands beside the slope,
+which is what it takes for each that the longer text has more.
 
-Before a set is measured both texts are shaped once by all four, and their glyphs, clusters, offsets and advances are
-compared. Below the table stand the rows above 1.0, and where glyphs differ."""
+Before the first run both texts of each set are shaped once by all four, and their glyphs, clusters, offsets and
+advances are compared. Below the table stand the rows above 1.0, and where glyphs differ."""
 AFTER = f"""Needs {THEIRS} (libharfbuzz-bin), gcc and libharfbuzz-dev, python3-fonttools, unicode-data, and the fonts
 ({', '.join(PACKAGES)}).
 The status is 1 where glyphs differ otherwise than docs/DIFFERENCES.md says.
@@ -145,14 +145,15 @@ def measure_all(sets: list[Set], options: argparse.Namespace, made: Path, kept: 
         files = Files(chosen, options.program, tables, font_file(kept, chosen.font), *drivers)
         measures.append(compared(files, options.pages, made / str(at)))
         if options.glyphs:
+            progress.end()
             unlike = measures[-1].difference
             print(f"{chosen.title}: {unlike.told if unlike else 'same'}", flush=True)
     if not options.glyphs:
         take_times(measures, options.runs, progress)
         rows = [row_of(measure, options.memory, made) for measure in measures]
         lines = what_is_measured(options), "", head(options.memory), *map(row_line, rows), "", *summary(rows)
+        progress.end()
         print("\n".join(lines))
-    progress.end()
     return 1 if any(is_fault(measure.files.chosen, measure.difference) for measure in measures) else 0
 
 

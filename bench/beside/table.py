@@ -8,7 +8,7 @@ MIB = 1 << 20
 WHOLE_HEAD = ("hb-shape", "program", "ratio")
 # With a plan that is kept: of a page, and of each page after it.
 PAGE_HEAD = ("libharfbuzz, a page", "libkuspveli, a page", "ratio")
-MORE_HEAD = ("libharfbuzz, more", "libkuspveli, more", "ratio")
+MORE_HEAD = ("libharfbuzz, each page more", "libkuspveli, each page more", "ratio")
 HEAD = ("Set", "Font", *WHOLE_HEAD, *PAGE_HEAD, *MORE_HEAD, "glyphs")
 MEMORY_HEAD = ("hb-shape, MiB", "program, MiB", "ratio")
 # The ratio above which a row is named, of time and of memory.
@@ -94,8 +94,8 @@ def summary(rows: list[Row]) -> list[str]:
     """The rows above a bound, by what was measured, and the rows whose glyphs differ."""
     lines = [
         above("beside hb-shape", TIME_BOUND, [(row, row.whole) for row in rows]),
-        above("beside libharfbuzz for a page", TIME_BOUND, [(row, row.page) for row in rows]),
-        above("beside libharfbuzz for more", TIME_BOUND, [(row, row.more) for row in rows]),
+        above("beside libharfbuzz, a page", TIME_BOUND, [(row, row.page) for row in rows]),
+        above("beside libharfbuzz, each page more", TIME_BOUND, [(row, row.more) for row in rows]),
     ]
     measured = [(row, row.memory) for row in rows if row.memory is not None]
     if measured:

@@ -31,7 +31,7 @@ CAN_DRIVE = HEADER.exists() and Path(DEJAVU).exists() and shutil.which("gcc") an
 
 # Nanoseconds of a row, and what a summary names rows by.
 TIMES = "420 | 315 | 0.75 | 840 | 630 | 0.75 | 1260 | 945 | 0.75"
-BESIDE = ("beside hb-shape", "beside libharfbuzz for a page", "beside libharfbuzz for more")
+BESIDE = ("beside hb-shape", "beside libharfbuzz, a page", "beside libharfbuzz, each page more")
 
 UNLIKE = Difference("1 of 2 glyphs differ", in_clusters_alone=False)
 CLUSTERS = Difference("1 of 2 glyphs differ in clusters alone", in_clusters_alone=True)
@@ -125,6 +125,17 @@ class Numbers(unittest.TestCase):
                 "Thai, Loma: 1 of 2 glyphs differ",
             ],
         )
+
+
+class Least(unittest.TestCase):
+    def test_least(self) -> None:
+        """Of several runs the least time of each text counts, for each program by itself."""
+        (chosen,) = cli.chosen_sets(["Jamo"])
+        none = Path("/none")
+        measure = cli.Measure(Files(chosen, none, none, none, none, none), [], (10, 20), None)
+        for name, at, seconds in (("a", 0, 3.0), ("a", 1, 5.0), ("a", 0, 2.0), ("a", 1, 6.0), ("b", 0, 1.0), ("b", 1, 4.0)):
+            measure.note(name, at, seconds)
+        self.assertEqual((measure.pair("a"), measure.pair("b")), ((2.0, 5.0), (1.0, 4.0)))
 
 
 class Differences(unittest.TestCase):
