@@ -30,7 +30,7 @@ fn clear_links(positions: &mut [GlyphPosition])
     }
 }
 
-/// Clears a glyph's link. Most have none, and aren't written.
+/// Clears a glyph's link. Most glyphs have none, and their positions aren't written.
 #[tactic(auto, using(crate::proofs::Ended::unattached_stays))]
 fn clear_link(positions: &mut [GlyphPosition], at: usize)
     requires here { at < length positions.old }

@@ -3,9 +3,9 @@
 ghost use Rattle.std.specs.Prelude.{◌≡◌, ◌≤◌, ◌<◌, length, set, slice_range};
 ghost use Rattle.std.specs.List.{fold};
 ghost use Rattle.std.specs.Prelude.{IfSome, MatchOption, true, false, pos, ◌+ℤ◌};
-ghost use Rattle.layout_offsets.specs.FollowedLinks.{Drawing, with_child_drawn, with_link_cleared, finished_positions, with_link_followed, with_links_followed, offset_by, child_drawn, back_over, on_over, mark_drawn, drawn_position, kind_tested, kinds_tested};
+ghost use Rattle.layout_offsets.specs.FollowedLinks.{Drawing, with_child_drawn, with_link_cleared, finished_positions, with_link_followed, with_links_followed, offset_by, child_drawn, back_over, on_over, mark_drawn, kind_tested, kinds_tested};
 ghost use Rattle.layout_offsets.specs.Links.{link_target, position_at};
-ghost use Rattle.layout_offsets.specs.AdvanceSums.{drawing, drawn_by_sums, mark_by_sums, pen_before, back_by, on_by};
+ghost use Rattle.layout_offsets.specs.AdvanceSums.{drawing, mark_by_sums, pen_before, back_by, on_by};
 ghost use Rattle.layout_offsets.specs.Walks.{IsComing, WalkStops, StepsToParent, HasReturn, StepsBack, are_shut, is_open, opened_link, closed_link, HasLinklessParent};
 
 use crate::advance_sums::{PEN_DOWN, Pen, has_kind, pen_of, pen_way, sum_up, take_apart};
@@ -94,24 +94,6 @@ fn mark_by_sums(
     )
 }
 
-/// The position of a glyph among sums, once its parent is drawn.
-fn drawn_by_sums(
-    positions: &[GlyphPosition],
-    child: usize,
-    parent: usize,
-    direction: Direction,
-) -> GlyphPosition
-    requires child { child < length positions.now }
-    requires parent { parent < length positions.now }
-    ensures { result ≡ drawn_by_sums direction child parent positions.now }
-{
-    let position = positions[child];
-    if position.attach_type == CURSIVE {
-        return child_drawn(direction.is_horizontal(), positions[parent], position);
-    }
-    mark_by_sums(positions, child, parent, direction.is_forward())
-}
-
 fn back_over(position: GlyphPosition, over: GlyphPosition) -> GlyphPosition
     ensures { result ≡ back_over position over }
 {
@@ -184,24 +166,6 @@ fn mark_drawn(
     on_between(positions, parent + 1, child + 1, based)
 }
 
-/// The position of a glyph, once its parent is drawn.
-fn drawn_position(
-    positions: &[GlyphPosition],
-    child: usize,
-    parent: usize,
-    direction: Direction,
-) -> GlyphPosition
-    requires child { child < length positions.now }
-    requires parent { parent < length positions.now }
-    ensures { result ≡ drawn_position direction child parent positions.now }
-{
-    let position = positions[child];
-    if position.attach_type == CURSIVE {
-        return child_drawn(direction.is_horizontal(), positions[parent], position);
-    }
-    mark_drawn(positions, child, parent, direction.is_forward())
-}
-
 /// The position of a glyph, once its parent is drawn: among sums, or among advances.
 fn drawn(
     positions: &[GlyphPosition],
@@ -214,10 +178,15 @@ fn drawn(
     requires parent { parent < length positions.now }
     ensures { result ≡ drawing by_sums direction child parent positions.now }
 {
+    let position = positions[child];
+    if position.attach_type == CURSIVE {
+        return child_drawn(direction.is_horizontal(), positions[parent], position);
+    }
+    let is_forward = direction.is_forward();
     if by_sums {
-        drawn_by_sums(positions, child, parent, direction)
+        mark_by_sums(positions, child, parent, is_forward)
     } else {
-        drawn_position(positions, child, parent, direction)
+        mark_drawn(positions, child, parent, is_forward)
     }
 }
 
