@@ -1,8 +1,8 @@
 -- What happens to a range that begins in the output, over both sides.
 use Rattle.std.specs.Global.{Vec}
 use Rattle.std.specs.Prelude.{slice_range}
-use Rattle.std.proofs.Common.{ℕ, ◌≡◌, ◌≤◌, ◌+◌, ◌-◌, true, nat_lt, List, ◌++◌, length, map, take, drop, refl, arith, ap, sym, append_assoc, ◌∙◌, [], false}
-use Rattle.std.proofs.lemmas.List.{map-append, take-append-drop, take-append-le, drop-append-le, take_at, drop_at, drop-drop, length-map, length-append, length-drop}
+use Rattle.std.proofs.Common.{ℕ, ◌≡◌, ◌≤◌, ◌+◌, ◌-◌, true, nat_lt, List, ◌++◌, length, map, take, drop, refl, arith, ap, sym, append_assoc, ◌∙◌, []}
+use Rattle.std.proofs.lemmas.List.{map-append, take-append-drop, take-append-le, drop-append-le, take_at, drop_at, length-map, length-append, length-drop}
 use Rattle.std.proofs.Math.Seq.{take-append-add, drop-append-add}
 use Rattle.buffer_glyphs.specs.declared.info.hb_glyph_info_t.{hb_glyph_info_t}
 use Rattle.buffer_glyphs.specs.declared.level.BufferClusterLevel.TheVariants.{MonotoneGraphemes, MonotoneCharacters, Characters, Graphemes}
@@ -49,12 +49,6 @@ changed_length f xs start =
     let whole = ap length (take-append-drop start xs) in
     omega (arith, whole, length-append (take start xs) (drop start xs), length-append (take start xs) (map f (drop start xs)), length-map (drop start xs) f)
 
-pub drop_on : {X : Type 0} (gs : List X) (from end : ℕ) → from ≤ end → drop (end - from) (drop from gs) ≡ drop end gs
-drop_on gs from end le = let there : from + (end - from) ≡ end = omega arith in drop-drop (end - from) from gs ∙ ap (λ n. drop n gs) there
-
-ahead_is : (gs : List hb_glyph_info_t) (from end : ℕ) → from ≤ end → drop end gs ≡ drop (end - from) (drop from gs)
-ahead_is gs from end le = let there : from + (end - from) ≡ end = omega arith in sym (drop-drop (end - from) from gs ∙ ap (λ n. drop n gs) there)
-
 -- flags on a range that goes over the end of the output
 pub marked_across_sides : (s : Sides) (behind ahead : List hb_glyph_info_t) (bits start end flags : ℕ) → start ≤ length s.behind → s.read ≤ end
     → behind ≡ take start s.behind ++ map (marked_outside bits (least_number (clusters (drop start s.behind) ++ clusters (take (end - s.read) s.ahead)))) (drop start s.behind)
@@ -82,43 +76,24 @@ flagged_across_sides s behind ahead bits start end flags le begins o i f =
     let glyphs : glyphs_flagged bits start (length s.behind + n) (s.behind ++ s.ahead) ≡ behind ++ ahead = rw (o, i) (changed_across (glyph_flagged bits) s.behind s.ahead start n le) in
     both_sides s behind ahead flags (glyphs_flagged bits start (length s.behind + n) (s.behind ++ s.ahead)) long glyphs ∙ rw (place, f) refl
 
-pub marked_across_view : (b : Inside) (info out : Vec hb_glyph_info_t) (order : ClusterOrder) (bits start end flags : ℕ) → b.have_output ≡ true → b.is_apart ≡ true → start ≤ length b.out_info.items → b.idx ≤ end
-    → out.items ≡ take start b.out_info.items ++ map (marked_outside bits (least_number (clusters (drop start b.out_info.items) ++ clusters (slice_range b.info.items b.idx end)))) (drop start b.out_info.items)
-    → drop b.idx info.items ≡ map (marked_outside bits (least_number (clusters (drop start b.out_info.items) ++ clusters (slice_range b.info.items b.idx end)))) (slice_range b.info.items b.idx end) ++ drop end b.info.items
-    → flags ≡ with_has_glyph_flags (has_several_numbers (clusters (drop start b.out_info.items) ++ clusters (slice_range b.info.items b.idx end))) b.scratch_flags
-    → sides_of (record b { info = info; out_info = out; scratch_flags = flags; order = order }) ≡ with_flagged_apart bits start (index_in_all end (sides_of b)) (sides_of b)
-marked_across_view b info out order bits start end flags h a le begins o i f =
-    let rest = ahead_is b.info.items b.idx end begins in
-    rw (h, a) (marked_across_sides (record (sides_of b) { behind = b.out_info.items; positions = []; is_open = true; is_apart = true }) out.items (drop b.idx info.items) bits start end flags le begins o (rw rest at i) f)
-
-pub flagged_across_view : (b : Inside) (info out : Vec hb_glyph_info_t) (order : ClusterOrder) (bits start end flags : ℕ) → b.have_output ≡ true → b.is_apart ≡ true → start ≤ length b.out_info.items → b.idx ≤ end
-    → out.items ≡ take start b.out_info.items ++ map (glyph_flagged bits) (drop start b.out_info.items)
-    → drop b.idx info.items ≡ map (glyph_flagged bits) (slice_range b.info.items b.idx end) ++ drop end b.info.items
-    → flags ≡ with_has_glyph_flags (nat_lt start (length b.out_info.items + (end - b.idx))) b.scratch_flags
-    → sides_of (record b { info = info; out_info = out; scratch_flags = flags; order = order }) ≡ with_flagged bits start (index_in_all end (sides_of b)) (sides_of b)
-flagged_across_view b info out order bits start end flags h a le begins o i f =
-    let rest = ahead_is b.info.items b.idx end begins in
-    rw (h, a) (flagged_across_sides (record (sides_of b) { behind = b.out_info.items; positions = []; is_open = true; is_apart = true }) out.items (drop b.idx info.items) bits start end flags le begins o (rw rest at i) f)
-
--- the same with the output in place
-pub marked_over_view : (b : Inside) (info : Vec hb_glyph_info_t) (order : ClusterOrder) (bits start end flags : ℕ) → b.have_output ≡ true → b.is_apart ≡ false → start ≤ length (take b.front b.info.items) → b.idx ≤ end
-    → take b.front info.items ≡ take start (take b.front b.info.items) ++ map (marked_outside bits (least_number (clusters (drop start (take b.front b.info.items)) ++ clusters (take (end - b.idx) (drop b.idx b.info.items))))) (drop start (take b.front b.info.items))
-    → drop b.idx info.items ≡ map (marked_outside bits (least_number (clusters (drop start (take b.front b.info.items)) ++ clusters (take (end - b.idx) (drop b.idx b.info.items))))) (take (end - b.idx) (drop b.idx b.info.items)) ++ drop (end - b.idx) (drop b.idx b.info.items)
-    → flags ≡ with_has_glyph_flags (has_several_numbers (clusters (drop start (take b.front b.info.items)) ++ clusters (take (end - b.idx) (drop b.idx b.info.items)))) b.scratch_flags
+-- the view of a buffer whose glyphs were changed on both sides
+pub marked_across_view : (b : Inside) (info : Vec hb_glyph_info_t) (order : ClusterOrder) (bits start end flags : ℕ) → b.gap ≤ b.idx → b.have_output ≡ true → start ≤ length (take b.front b.info.items) → b.idx - b.gap ≤ end
+    → take b.front info.items ≡ take start (take b.front b.info.items) ++ map (marked_outside bits (least_number (clusters (drop start (take b.front b.info.items)) ++ clusters (take (end + b.gap - b.idx) (drop b.idx b.info.items))))) (drop start (take b.front b.info.items))
+    → drop b.idx info.items ≡ map (marked_outside bits (least_number (clusters (drop start (take b.front b.info.items)) ++ clusters (take (end + b.gap - b.idx) (drop b.idx b.info.items))))) (take (end + b.gap - b.idx) (drop b.idx b.info.items)) ++ drop (end + b.gap - b.idx) (drop b.idx b.info.items)
+    → flags ≡ with_has_glyph_flags (has_several_numbers (clusters (drop start (take b.front b.info.items)) ++ clusters (take (end + b.gap - b.idx) (drop b.idx b.info.items)))) b.scratch_flags
     → sides_of (record b { info = info; scratch_flags = flags; order = order }) ≡ with_flagged_apart bits start (index_in_all end (sides_of b)) (sides_of b)
-marked_over_view b info order bits start end flags h a le begins o i f =
-    rw (h, a) (marked_across_sides (record (sides_of b) { behind = take b.front b.info.items; positions = []; is_open = true; is_apart = false }) (take b.front info.items) (drop b.idx info.items) bits start end flags le begins o i f)
+marked_across_view b info order bits start end flags opened h le begins o i f =
+    let n : end + b.gap - b.idx ≡ end - (b.idx - b.gap) = omega (arith, opened) in
+    rw h (marked_across_sides (record (sides_of b) { behind = take b.front b.info.items; positions = []; is_open = true; read = b.idx - b.gap }) (take b.front info.items) (drop b.idx info.items) bits start end flags le begins (rw n at o) (rw n at i) (rw n at f))
 
-pub flagged_over_view : (b : Inside) (info : Vec hb_glyph_info_t) (order : ClusterOrder) (bits start end flags : ℕ) → b.have_output ≡ true → b.is_apart ≡ false → start ≤ length (take b.front b.info.items) → b.idx ≤ end
+pub flagged_across_view : (b : Inside) (info : Vec hb_glyph_info_t) (order : ClusterOrder) (bits start end flags : ℕ) → b.gap ≤ b.idx → b.have_output ≡ true → start ≤ length (take b.front b.info.items) → b.idx - b.gap ≤ end
     → take b.front info.items ≡ take start (take b.front b.info.items) ++ map (glyph_flagged bits) (drop start (take b.front b.info.items))
-    → drop b.idx info.items ≡ map (glyph_flagged bits) (take (end - b.idx) (drop b.idx b.info.items)) ++ drop (end - b.idx) (drop b.idx b.info.items)
-    → flags ≡ with_has_glyph_flags (nat_lt start (length (take b.front b.info.items) + (end - b.idx))) b.scratch_flags
+    → drop b.idx info.items ≡ map (glyph_flagged bits) (take (end + b.gap - b.idx) (drop b.idx b.info.items)) ++ drop (end + b.gap - b.idx) (drop b.idx b.info.items)
+    → flags ≡ with_has_glyph_flags (nat_lt start (length (take b.front b.info.items) + (end + b.gap - b.idx))) b.scratch_flags
     → sides_of (record b { info = info; scratch_flags = flags; order = order }) ≡ with_flagged bits start (index_in_all end (sides_of b)) (sides_of b)
-flagged_over_view b info order bits start end flags h a le begins o i f =
-    rw (h, a) (flagged_across_sides (record (sides_of b) { behind = take b.front b.info.items; positions = []; is_open = true; is_apart = false }) (take b.front info.items) (drop b.idx info.items) bits start end flags le begins o i f)
-
-pub place_within : (start end : ℕ) (s : Sides) → start ≤ length s.behind → s.read ≤ end → start ≤ index_in_all end s
-place_within start end s le begins = omega arith
+flagged_across_view b info order bits start end flags opened h le begins o i f =
+    let n : end + b.gap - b.idx ≡ end - (b.idx - b.gap) = omega (arith, opened) in
+    rw h (flagged_across_sides (record (sides_of b) { behind = take b.front b.info.items; positions = []; is_open = true; read = b.idx - b.gap }) (take b.front info.items) (drop b.idx info.items) bits start end flags le begins o (rw n at i) (rw n at f))
 
 -- a range within the first of two lists
 stretch_first : (xs ys : List hb_glyph_info_t) (start end : ℕ) → start ≤ end → end ≤ length xs → range_of start end (clusters (xs ++ ys)) ≡ range_of start end (clusters xs)
@@ -148,12 +123,6 @@ length_output_merged MonotoneCharacters start end gs = length-map gs _
 length_output_merged Characters start end gs = refl
 length_output_merged Graphemes start end gs = refl
 
-pub length_beside_output : (level : BufferClusterLevel) (range : List ℕ) (gs : List hb_glyph_info_t) → length (beside_merged_as (manner InOutput level) range gs) ≡ length gs
-length_beside_output MonotoneGraphemes range gs = length-map gs _
-length_beside_output MonotoneCharacters range gs = length-map gs _
-length_beside_output Characters range gs = refl
-length_beside_output Graphemes range gs = refl
-
 -- a merge of a range of the output
 output_merged_sides : (s : Sides) (behind ahead : List hb_glyph_info_t) (start end : ℕ) → start ≤ end → end ≤ length s.behind
     → behind ≡ output_merged_at s.level start end s.behind → ahead ≡ beside_merged_as (manner InOutput s.level) (range_of start end (clusters s.behind)) s.ahead
@@ -164,18 +133,11 @@ output_merged_sides s behind ahead start end le within o i =
     let glyphs : gs ≡ behind ++ ahead = rw (o, i) (both_merged s.level s.behind s.ahead start end le within) in
     both_sides s behind ahead s.scratch_flags gs long glyphs
 
-pub output_merged_view : (b : Inside) (info out : Vec hb_glyph_info_t) (order : ClusterOrder) (start end : ℕ) → b.have_output ≡ true → b.is_apart ≡ true → start ≤ end → end ≤ length b.out_info.items
-    → out.items ≡ output_merged_at b.cluster_level start end b.out_info.items → drop b.idx info.items ≡ beside_merged_as (manner InOutput b.cluster_level) (range_of start end (clusters b.out_info.items)) (drop b.idx b.info.items)
-    → sides_of (record b { info = info; out_info = out; order = order }) ≡ with_output_merged start end (sides_of b)
-output_merged_view b info out order start end h a le within o i =
-    rw (h, a) (output_merged_sides (record (sides_of b) { behind = b.out_info.items; positions = []; is_open = true; is_apart = true }) out.items (drop b.idx info.items) start end le within o i)
-
--- the same with the output in place
-pub output_merged_over_view : (b : Inside) (info : Vec hb_glyph_info_t) (order : ClusterOrder) (start end : ℕ) → b.have_output ≡ true → b.is_apart ≡ false → start ≤ end → end ≤ length (take b.front b.info.items)
+pub output_merged_view : (b : Inside) (info : Vec hb_glyph_info_t) (order : ClusterOrder) (start end : ℕ) → b.have_output ≡ true → start ≤ end → end ≤ length (take b.front b.info.items)
     → take b.front info.items ≡ output_merged_at b.cluster_level start end (take b.front b.info.items) → drop b.idx info.items ≡ beside_merged_as (manner InOutput b.cluster_level) (range_of start end (clusters (take b.front b.info.items))) (drop b.idx b.info.items)
     → sides_of (record b { info = info; order = order }) ≡ with_output_merged start end (sides_of b)
-output_merged_over_view b info order start end h a le within o i =
-    rw (h, a) (output_merged_sides (record (sides_of b) { behind = take b.front b.info.items; positions = []; is_open = true; is_apart = false }) (take b.front info.items) (drop b.idx info.items) start end le within o i)
+output_merged_view b info order start end h le within o i =
+    rw h (output_merged_sides (record (sides_of b) { behind = take b.front b.info.items; positions = []; is_open = true; read = b.idx - b.gap }) (take b.front info.items) (drop b.idx info.items) start end le within o i)
 
 pub all_output_merged : (start end : ℕ) (s : Sides) → all_glyphs (with_output_merged start end s) ≡ output_merged_at s.level start end (all_glyphs s)
 all_output_merged start end s = take-append-drop (length s.behind) (output_merged_at s.level start end (all_glyphs s))

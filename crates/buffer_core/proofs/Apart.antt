@@ -1,18 +1,13 @@
 -- What calls on one glyph, and those that add some, do to items, clusters and flags.
-use Rattle.std.proofs.Common.{ℕ, ◌≡◌, ◌<◌, ◌+◌, ◌++◌, true, List, [], ◌∷◌, length, get_or, map, take, drop, refl, ap, sym, arith, ◌∙◌, append_assoc}
-use Rattle.std.proofs.lemmas.List.{map-append, drop-drop, drop-map}
+use Rattle.std.proofs.Common.{ℕ, ◌≡◌, ◌<◌, ◌+◌, ◌++◌, List, [], ◌∷◌, length, map, take, drop, refl, ap, sym, arith, ◌∙◌, append_assoc}
+use Rattle.std.proofs.lemmas.List.{map-append, drop-map}
 use Rattle.std.proofs.Math.Seq.{take-append_seam, drop-append_seam, drop-append-add}
-use Rattle.std.specs.Global.{Vec}
 use Rattle.std.specs.Char.{len_utf8}
 use Rattle.std.specs.Str.{chars}
 use Rattle.buffer_glyphs.specs.declared.info.hb_glyph_info_t.{hb_glyph_info_t}
 use Rattle.buffer_glyphs.specs.Items.{item_of, strip}
-use Rattle.buffer_glyphs.specs.Lists.{take_one}
 use Rattle.buffer_glyphs.specs.Replacements.{glyph_numbered, glyphs_replaced, items_replaced}
 use Rattle.buffer_glyphs.specs.Lemmas.Replacements.{strip_replaced}
-use Rattle.buffer_core.specs.declared.buffer.hb_buffer_t.TheInside.{Inside}
-use Rattle.buffer_lists.specs.declared.order.ClusterOrder.{ClusterOrder}
-use Rattle.buffer_core.specs.Inside.{sides_of}
 use Rattle.buffer_core.specs.Sides.{Sides, all_glyphs, items_of, with_added, origins_of}
 use Rattle.buffer_core.specs.Merging.{with_output_glyph, with_output_info, with_replaced_glyph, with_glyph_skipped}
 use Rattle.buffer_core.specs.Text.{added_glyph, added_text_from, added_text, offsets_from, text_items, unflagged_origin, text_origins}
@@ -27,10 +22,6 @@ copy_items n s = ap strip (all_copied 0 (n ∷ []) s) ∙ strip_replaced (length
 renumbered_all : (n : ℕ) (behind ahead : List hb_glyph_info_t) → 0 < length ahead → (behind ++ map (λ (g : hb_glyph_info_t). glyph_numbered g n) (take 1 ahead)) ++ drop 1 ahead ≡ glyphs_replaced (length behind) 1 (n ∷ []) (behind ++ ahead)
 renumbered_all n behind [] lt = absurd (omega (arith, lt))
 renumbered_all n behind (g ∷ gs) lt = rw (take-append_seam behind (g ∷ gs), drop-append_seam behind (g ∷ gs), drop-append-add behind (g ∷ gs) 1) refl
-
-pub renumbered_view : (b : Inside) (out : Vec hb_glyph_info_t) (order : ClusterOrder) (n : ℕ) (g d : hb_glyph_info_t) → b.have_output ≡ true → b.is_apart ≡ true → b.idx < length b.info.items → g ≡ get_or b.info.items b.idx d → out.items ≡ b.out_info.items ++ glyph_numbered g n ∷ []
-    → sides_of (record b { out_info = out; idx = b.idx + 1; order = order }) ≡ with_replaced_glyph n (sides_of b)
-renumbered_view b out order n g d h a lt is e = rw (h, a, e, ← drop-drop 1 b.idx b.info.items, take_one b.info.items b.idx d lt, is) refl
 
 pub renumbered_items : (n : ℕ) (s : Sides) → 0 < length s.ahead → items_of (with_replaced_glyph n s) ≡ items_replaced (length s.behind) 1 (n ∷ []) (items_of s)
 renumbered_items n s lt = ap strip (renumbered_all n s.behind s.ahead lt) ∙ strip_replaced (length s.behind) 1 (n ∷ []) (all_glyphs s)
@@ -48,9 +39,6 @@ put_items g s = put_seen item_of g s.behind s.ahead
 -- the glyph at the cursor gone
 skipped_seen : {Y : Type 0} (v : hb_glyph_info_t → Y) (behind ahead : List hb_glyph_info_t) → map v (behind ++ drop 1 ahead) ≡ map v behind ++ drop 1 (map v ahead)
 skipped_seen v behind ahead = map-append v behind (drop 1 ahead) ∙ ap (λ ys. map v behind ++ ys) (sym (drop-map v 1 ahead))
-
-pub skipped_view : (b : Inside) → b.have_output ≡ true → sides_of (record b { idx = b.idx + 1 }) ≡ with_glyph_skipped (sides_of b)
-skipped_view b h = rw (h, ← drop-drop 1 b.idx b.info.items) refl
 
 pub skipped_items : (s : Sides) → items_of (with_glyph_skipped s) ≡ strip s.behind ++ drop 1 (strip s.ahead)
 skipped_items s = skipped_seen item_of s.behind s.ahead

@@ -1,6 +1,6 @@
 -- What glyphs at the end of both vectors do to the sides.
 use Rattle.std.specs.Global.{Vec}
-use Rattle.std.proofs.Common.{ℕ, ◌≡◌, ◌≤◌, ◌+◌, ◌++◌, false, None, List, [], length, refl, arith, length-append}
+use Rattle.std.proofs.Common.{ℕ, ◌≡◌, ◌≤◌, ◌+◌, ◌++◌, false, None, List, length, refl, arith, length-append}
 use Rattle.std.proofs.lemmas.List.{take-append-le, drop-append-le, length-replicate, map-append}
 use Rattle.buffer_glyphs.specs.declared.info.hb_glyph_info_t.{hb_glyph_info_t}
 use Rattle.buffer_glyphs.specs.declared.position.GlyphPosition.{GlyphPosition}
@@ -29,18 +29,18 @@ appended_sound b info positions order gs h s back o le a =
     let even : length b.pos.items ≡ length b.info.items = rw h at s.placed in
     let grown : length info.items ≡ length b.info.items + length gs = rw a.glyphs (length-append b.info.items gs) in
     let placed : length positions.items ≡ length b.pos.items + length gs = rw (a.positions, length-append, length-replicate) refl in
-    let none : b.out_info.items ≡ [] = rw h at s.closed in
+    let apart : b.is_apart ≡ false = rw h at s.together in
     let cluster_of : hb_glyph_info_t → ℕ = λ g. g.cluster in
     record {
       cursor = omega (arith, s.cursor, grown);
+      opened = s.opened;
+      unopened = s.unopened;
       input_within = omega (arith, grown, le);
-      output_within = s.output_within;
-      closed = s.closed;
-      placed = rw h (omega (arith, even, grown, placed));
-      together = s.together;
+      output_within = rw h tt;
       front = rw h tt;
-      emptied = rw h tt;
-      counted = rw h tt;
+      together = s.together;
+      placed = rw h (omega (arith, even, grown, placed));
+      counted = rw apart (omega (arith, even, grown, placed));
       cleared = zero_added b.is_placed b.pos.items positions.items (length gs) a.positions s.cleared;
-      ordered = rw (h, none, a.glyphs, back, map-append cluster_of b.info.items gs) o;
+      ordered = rw (h, a.glyphs, back, map-append cluster_of b.info.items gs) o;
     }

@@ -54,6 +54,10 @@ pub clusters_counted : (n : ℕ) (gs : List hb_glyph_info_t) → clusters (glyph
 clusters_counted n [] = refl
 clusters_counted n (g ∷ gs) = ap (λ ns. min n most_cluster ∷ ns) (clusters_counted (n + 1) gs)
 
+pub length_counted : (n : ℕ) (gs : List hb_glyph_info_t) → length (glyphs_counted n gs) ≡ length gs
+length_counted n [] = refl
+length_counted n (g ∷ gs) = rw (length_counted (n + 1) gs) refl
+
 all_counted : (s : Sides) → all_glyphs (with_reset_clusters s) ≡ glyphs_counted 0 (all_glyphs s)
 all_counted s = take-append-drop (length s.behind) (glyphs_counted 0 (all_glyphs s))
 

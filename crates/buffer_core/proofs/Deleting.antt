@@ -1,9 +1,8 @@
 -- The glyph at the cursor was deleted.
 use Rattle.std.specs.Global.{Vec}
-use Rattle.std.proofs.Common.{ℕ, ◌≡◌, ◌+◌, Bool, true, List, ◌∷◌, ◌++◌, drop, refl, ap, sym, subst, ◌∙◌, get_or, arith, ◌<◌, [], length}
-use Rattle.std.proofs.lemmas.List.{map-append}
+use Rattle.std.proofs.Common.{ℕ, ◌≡◌, ◌≤◌, ◌+◌, ◌-◌, Bool, true, List, ◌∷◌, ◌++◌, take, drop, refl, ap, sym, ◌∙◌, get_or, arith, ◌<◌, [], length}
+use Rattle.std.proofs.lemmas.List.{drop-drop, map-append}
 use Rattle.buffer_glyphs.specs.declared.info.hb_glyph_info_t.{hb_glyph_info_t as Glyph}
-use Rattle.buffer_glyphs.specs.declared.level.BufferClusterLevel.{BufferClusterLevel as Level}
 use Rattle.buffer_glyphs.specs.Items.{item_of, strip}
 use Rattle.buffer_glyphs.specs.Deleted.{items_deleted}
 use Rattle.buffer_glyphs.specs.Deleting.{glyphs_deleted, Deletes}
@@ -11,22 +10,24 @@ use Rattle.buffer_core.specs.declared.buffer.hb_buffer_t.TheInside.{Inside}
 use Rattle.buffer_lists.specs.declared.order.ClusterOrder.{ClusterOrder}
 use Rattle.buffer_core.specs.Grouping.{with_deleted}
 use Rattle.buffer_core.specs.Inside.{sides_of}
-use Rattle.buffer_core.specs.Merging.{with_has_glyph_flags}
+use Rattle.buffer_core.specs.Merging.{with_glyph_skipped, with_has_glyph_flags}
 use Rattle.buffer_core.specs.Sides.{Sides, items_of}
 use Rattle.buffer_core.specs.Moving.{zero_glyph}
 
--- what a deletion leaves, under other names
-pub deletes_same : (level : Level) (front ahead out new_out back new_back : List Glyph) (m : Bool) → out ≡ new_out → back ≡ new_back → Deletes level front ahead out back m → Deletes level front ahead new_out new_back m
-deletes_same level front ahead out new_out back new_back m e f gone = subst (λ (hs : List Glyph). Deletes level front ahead new_out hs m) f (subst (λ (hs : List Glyph). Deletes level front ahead hs back m) e gone)
+pub skipped_view : (b : Inside) → b.gap ≤ b.idx → b.have_output ≡ true → sides_of (record b { idx = b.idx + 1 }) ≡ with_glyph_skipped (sides_of b)
+skipped_view b le h =
+    let read : b.idx + 1 - b.gap ≡ b.idx - b.gap + 1 = omega (arith, le) in
+    rw (h, ← drop-drop 1 b.idx b.info.items, read) refl
 
-pub deleted_view : (b : Inside) (info out : Vec Glyph) (order : ClusterOrder) (flags : ℕ) (m : Bool) (g : Glyph) (back : List Glyph) → b.have_output ≡ true → b.is_apart ≡ true → drop b.idx b.info.items ≡ g ∷ back
-    → Deletes b.cluster_level b.out_info.items (drop b.idx b.info.items) out.items (drop (b.idx + 1) info.items) m → flags ≡ with_has_glyph_flags m b.scratch_flags
-    → sides_of (record b { info = info; out_info = out; idx = b.idx + 1; scratch_flags = flags; order = order }) ≡ with_deleted g back (sides_of b)
-deleted_view b info out order flags m g back h a e gone f =
+pub deleted_view : (b : Inside) (info : Vec Glyph) (order : ClusterOrder) (flags : ℕ) (m : Bool) (g : Glyph) (back : List Glyph) → b.gap ≤ b.idx → b.have_output ≡ true → drop b.idx b.info.items ≡ g ∷ back
+    → Deletes b.cluster_level (take b.front b.info.items) (drop b.idx b.info.items) (take b.front info.items) (drop (b.idx + 1) info.items) m → flags ≡ with_has_glyph_flags m b.scratch_flags
+    → sides_of (record b { info = info; idx = b.idx + 1; scratch_flags = flags; order = order }) ≡ with_deleted g back (sides_of b)
+deleted_view b info order flags m g back le h e gone f =
+    let read : b.idx + 1 - b.gap ≡ b.idx - b.gap + 1 = omega (arith, le) in
     let one = gone.front_is g back e in
     let two = gone.back_is g back e in
     let three = gone.marked_is g back e in
-    rw (h, a, one, two, f, three) refl
+    rw (h, one, two, f, three, read) refl
 
 pub left_items : (g : Glyph) (back : List Glyph) (s : Sides) → s.ahead ≡ g ∷ back → items_of (with_deleted g back s) ≡ strip s.behind ++ drop 1 (strip s.ahead)
 left_items g back s e =

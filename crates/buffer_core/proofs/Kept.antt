@@ -1,5 +1,5 @@
 -- Glyphs that only change positions.
-use Rattle.std.proofs.Common.{ℕ, zero, suc, ◌≡◌, ◌+◌, ◌++◌, arith, true, false, List, [], ◌∷◌, map, take, drop, reverse, refl, ap, sym, ◌∙◌, append_assoc}
+use Rattle.std.proofs.Common.{ℕ, zero, suc, ◌≡◌, ◌+◌, ◌++◌, arith, false, List, [], ◌∷◌, map, take, drop, reverse, refl, ap, sym, ◌∙◌, append_assoc}
 use Rattle.std.proofs.lemmas.Grind.{reverse_onto}
 use Rattle.std.proofs.lemmas.List.{map-append, take-append-drop, drop-drop}
 use Rattle.buffer_glyphs.specs.declared.info.hb_glyph_info_t.{hb_glyph_info_t}
@@ -9,7 +9,6 @@ use Rattle.buffer_glyphs.specs.declared.position.GlyphPosition.{GlyphPosition}
 use Rattle.buffer_core.specs.declared.buffer.hb_buffer_t.TheInside.{Inside}
 use Rattle.buffer_glyphs.specs.Replacements.{glyph_numbered}
 use Rattle.buffer_core.specs.Merging.{with_replaced_glyph}
-use Rattle.buffer_lists.specs.declared.order.ClusterOrder.{ClusterOrder}
 use Rattle.buffer_core.specs.Inside.{sides_of}
 use Rattle.buffer_core.specs.Sides.{Sides, all_glyphs, items_of, after_next_glyphs, after_reverse, origins_of}
 use Rattle.buffer_glyphs.specs.Origins.{origin_of}
@@ -57,10 +56,6 @@ take_on [] (suc n) k =
     ap (λ m. take m []) more ∙ sym rest
 take_on (x ∷ xs) (suc n) k = let more : suc n + k ≡ suc (n + k) = omega arith in ap (λ m. take m (x ∷ xs)) more ∙ ap (λ gs. x ∷ gs) (take_on xs n k)
 
--- the cursor moves on, with no output open and with one
+-- the cursor moves on with no output open
 pub moved_closed : (b : Inside) (k : ℕ) → b.have_output ≡ false → sides_of (record b { idx = b.idx + k }) ≡ after_next_glyphs k (sides_of b)
 moved_closed b k h = rw (h, take_on b.info.items b.idx k, ← drop-drop k b.idx b.info.items) refl
-
-pub moved_open : (b : Inside) (out : Vec hb_glyph_info_t) (order : ClusterOrder) (k : ℕ) → b.have_output ≡ true → b.is_apart ≡ true → out.items ≡ b.out_info.items ++ take k (drop b.idx b.info.items)
-    → sides_of (record b { out_info = out; idx = b.idx + k; order = order }) ≡ after_next_glyphs k (sides_of b)
-moved_open b out order k h a e = rw (h, a, e, ← drop-drop k b.idx b.info.items) refl

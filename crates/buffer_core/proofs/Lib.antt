@@ -28,6 +28,8 @@ pub mod MarkedOrigins
 pub mod DeletedOrigins
 pub mod Spread
 pub mod Room
+pub mod Open
+pub mod Stays
+pub mod Changed
+pub mod Rotated
 pub mod Lent
-pub mod InPlace
-pub mod Leaving

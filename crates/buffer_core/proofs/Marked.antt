@@ -1,6 +1,6 @@
 -- What flags set on a range of the input do to the sides.
 use Rattle.std.specs.Global.{Vec}
-use Rattle.std.proofs.Common.{ℕ, ◌≡◌, ◌≤◌, ◌<◌, ◌+◌, ◌-◌, Bool, true, false, nat_lt, List, ◌++◌, length, take, drop, if◌then◌else◌, refl, arith, ap, sym, ◌∙◌, append_assoc}
+use Rattle.std.proofs.Common.{ℕ, ◌≡◌, ◌≤◌, ◌<◌, ◌+◌, ◌-◌, Bool, true, false, nat_lt, List, ◌++◌, length, take, drop, refl, arith, ap, sym, ◌∙◌, append_assoc}
 use Rattle.std.proofs.lemmas.Bool.Decides.{nat_tests}
 use Rattle.std.proofs.lemmas.Grind.{common_steps}
 use Rattle.std.proofs.lemmas.List.{take-append-drop, take-append-le, take-take, length-take-le, length-map, drop_at}
@@ -12,76 +12,11 @@ use Rattle.buffer_glyphs.specs.Glyphs.{glyphs_marked, glyphs_flagged, has_severa
 use Rattle.buffer_glyphs.specs.Lemmas.Glyphs.{marked_beyond, flagged_beyond, range_beyond, strip_marked, strip_flagged, clusters_marked, clusters_flagged}
 use Rattle.buffer_core.specs.declared.buffer.hb_buffer_t.TheInside.{Inside}
 use Rattle.buffer_lists.specs.declared.order.ClusterOrder.{ClusterOrder}
-use Rattle.buffer_core.specs.Inside.{sides_of, start_of}
+use Rattle.buffer_core.specs.Inside.{sides_of, IsSound}
 use Rattle.buffer_core.specs.Sides.{Sides, all_glyphs, items_of}
 use Rattle.buffer_core.specs.Merging.{index_in_all, with_has_glyph_flags}
+use Rattle.buffer_core.proofs.Changed.{closed_gap, front_before}
 use Rattle.buffer_core.specs.Marking.{with_flagged_apart, with_flagged}
-
-same_side : (t : Bool) (out xs ys : List hb_glyph_info_t) → (t ≡ false → xs ≡ ys) → (if t then out else xs) ≡ (if t then out else ys)
-same_side true out xs ys e = refl
-same_side false out xs ys e = e refl
-
-pub marked_view : (b : Inside) (info : Vec hb_glyph_info_t) (order : ClusterOrder) (bits from start end flags : ℕ) → b.idx ≤ length b.info.items → start ≤ end → (b.have_output ≡ true → b.idx ≤ start)
-    → (b.have_output ≡ true → b.is_apart ≡ false → take b.front info.items ≡ take b.front b.info.items) → from ≡ start_of b
-    → drop from info.items ≡ glyphs_marked bits (start - from) (end - from) (drop from b.info.items)
-    → flags ≡ with_has_glyph_flags (has_several_numbers (range_of (start - from) (end - from) (clusters (drop from b.info.items)))) b.scratch_flags
-    → sides_of (record b { info = info; scratch_flags = flags; order = order }) ≡ with_flagged_apart bits (index_in_all start (sides_of b)) (index_in_all end (sides_of b)) (sides_of b)
-marked_view b info order bits from start end flags le before unread stays begins i f = by_test b.have_output refl
-  where
-    by_test : (t : Bool) → b.have_output ≡ t → sides_of (record b { info = info; scratch_flags = flags; order = order }) ≡ with_flagged_apart bits (index_in_all start (sides_of b)) (index_in_all end (sides_of b)) (sides_of b)
-    by_test true e =
-        let here : from ≡ b.idx = rw e at begins in
-        let first = unread e in
-        let out = if b.is_apart then b.out_info.items else take b.front b.info.items in
-        let kept = same_side b.is_apart b.out_info.items (take b.front info.items) (take b.front b.info.items) (stays e) in
-        let ahead = drop b.idx b.info.items in
-        let at : length out + start - b.idx ≡ length out + (start - b.idx) = omega arith in
-        let to : length out + end - b.idx ≡ length out + (end - b.idx) = omega arith in
-        let input = rw here at i in
-        let marks = rw here at f in
-        rw (e, kept, input, marks, at, to, marked_beyond bits out ahead (start - b.idx) (end - b.idx), range_beyond out ahead (start - b.idx) (end - b.idx), take-append_seam out (glyphs_marked bits (start - b.idx) (end - b.idx) ahead), drop-append_seam out (glyphs_marked bits (start - b.idx) (end - b.idx) ahead)) refl
-    by_test false e =
-        let here : from ≡ 0 = rw e at begins in
-        let long : length (take b.idx b.info.items) ≡ b.idx = length-take-le b.idx b.info.items le in
-        let one : start - 0 ≡ start = omega arith in
-        let two : end - 0 ≡ end = omega arith in
-        let at : b.idx + start - b.idx ≡ start = omega arith in
-        let to : b.idx + end - b.idx ≡ end = omega arith in
-        let input : info.items ≡ glyphs_marked bits start end b.info.items = rw (here, one, two) at i in
-        let marks = rw (here, one, two) at f in
-        rw (e, input, long, at, to, take-append-drop b.idx b.info.items, marks) refl
-
-same_lengths : (p q i j : ℕ) → p ≤ q → i ≤ j → q - p ≡ j - i → nat_lt i j ≡ nat_lt p q
-same_lengths p q i j le lt e = grind (arith, nat_tests, common_steps, e)
-
-pub flagged_view : (b : Inside) (info : Vec hb_glyph_info_t) (order : ClusterOrder) (bits from start end flags : ℕ) → b.idx ≤ length b.info.items → start ≤ end → (b.have_output ≡ true → b.idx ≤ start)
-    → (b.have_output ≡ true → b.is_apart ≡ false → take b.front info.items ≡ take b.front b.info.items) → from ≡ start_of b
-    → drop from info.items ≡ glyphs_flagged bits (start - from) (end - from) (drop from b.info.items)
-    → flags ≡ with_has_glyph_flags (nat_lt start end) b.scratch_flags
-    → sides_of (record b { info = info; scratch_flags = flags; order = order }) ≡ with_flagged bits (index_in_all start (sides_of b)) (index_in_all end (sides_of b)) (sides_of b)
-flagged_view b info order bits from start end flags le before unread stays begins i f = by_test b.have_output refl
-  where
-    by_test : (t : Bool) → b.have_output ≡ t → sides_of (record b { info = info; scratch_flags = flags; order = order }) ≡ with_flagged bits (index_in_all start (sides_of b)) (index_in_all end (sides_of b)) (sides_of b)
-    by_test true e =
-        let here : from ≡ b.idx = rw e at begins in
-        let first = unread e in
-        let out = if b.is_apart then b.out_info.items else take b.front b.info.items in
-        let kept = same_side b.is_apart b.out_info.items (take b.front info.items) (take b.front b.info.items) (stays e) in
-        let ahead = drop b.idx b.info.items in
-        let at : length out + start - b.idx ≡ length out + (start - b.idx) = omega arith in
-        let to : length out + end - b.idx ≡ length out + (end - b.idx) = omega arith in
-        let input = rw here at i in
-        let less : nat_lt start end ≡ nat_lt (length out + (start - b.idx)) (length out + (end - b.idx)) = same_lengths (length out + (start - b.idx)) (length out + (end - b.idx)) start end (omega arith) before (omega arith) in
-        rw (e, kept, input, f, at, to, flagged_beyond bits out ahead (start - b.idx) (end - b.idx), less, take-append_seam out (glyphs_flagged bits (start - b.idx) (end - b.idx) ahead), drop-append_seam out (glyphs_flagged bits (start - b.idx) (end - b.idx) ahead)) refl
-    by_test false e =
-        let here : from ≡ 0 = rw e at begins in
-        let long : length (take b.idx b.info.items) ≡ b.idx = length-take-le b.idx b.info.items le in
-        let one : start - 0 ≡ start = omega arith in
-        let two : end - 0 ≡ end = omega arith in
-        let at : b.idx + start - b.idx ≡ start = omega arith in
-        let to : b.idx + end - b.idx ≡ end = omega arith in
-        let input : info.items ≡ glyphs_flagged bits start end b.info.items = rw (here, one, two) at i in
-        rw (e, input, long, at, to, take-append-drop b.idx b.info.items, f) refl
 
 -- with no output open as many glyphs are behind the cursor as it has passed, and indices are those of the list
 pub closed_behind : (b : Inside) → b.have_output ≡ false → b.idx ≤ length b.info.items → length (sides_of b).behind ≡ (sides_of b).read
@@ -89,17 +24,6 @@ closed_behind b h le = rw h (length-take-le b.idx b.info.items le)
 
 pub closed_index : (i : ℕ) (b : Inside) → b.have_output ≡ false → b.idx ≤ length b.info.items → index_in_all i (sides_of b) ≡ i
 closed_index i b h le = let long = closed_behind b h le in omega (arith, long)
-
--- where the glyphs ahead, or with no output open all glyphs, begin
-pub start_within : (b : Inside) → b.idx ≤ length b.info.items → start_of b ≤ length b.info.items
-start_within b le = elim b.have_output as (λ t. (if t then b.idx else 0) ≤ length b.info.items) [ true ↦ le | false ↦ omega arith ]
-
-pub start_before : (b : Inside) (start : ℕ) → (b.have_output ≡ true → b.idx ≤ start) → start_of b ≤ start
-start_before b start unread = by_test b.have_output refl
-  where
-    by_test : (t : Bool) → b.have_output ≡ t → (if t then b.idx else 0) ≤ start
-    by_test true e = unread e
-    by_test false e = omega arith
 
 -- what a range of a list is in those from an index on
 pub stretch_rest : (start end n : ℕ) (gs : List hb_glyph_info_t) → n ≤ length gs → n ≤ start → start ≤ end → range_of start end (clusters gs) ≡ range_of (start - n) (end - n) (clusters (drop n gs))
@@ -160,3 +84,73 @@ marked_front bits start end m gs le within = let long = length-take-le start gs 
 
 pub flagged_front : (bits start end m : ℕ) (gs : List hb_glyph_info_t) → m ≤ start → start ≤ length gs → take m (glyphs_flagged bits start end gs) ≡ take m gs
 flagged_front bits start end m gs le within = let long = length-take-le start gs within in front_of (take start gs) _ _ m (omega (arith, long, le)) ∙ take-take m start gs le
+
+-- the view of a buffer of whose input a range was marked
+pub marked_view : (b : Inside) (info : Vec hb_glyph_info_t) (order : ClusterOrder) (bits start end flags : ℕ) → IsSound b → start ≤ end → start + b.gap ≤ length b.info.items → ((sides_of b).is_open ≡ true → (sides_of b).read ≤ start)
+    → info.items ≡ glyphs_marked bits (start + b.gap) (end + b.gap) b.info.items
+    → flags ≡ with_has_glyph_flags (has_several_numbers (range_of (start + b.gap) (end + b.gap) (clusters b.info.items))) b.scratch_flags
+    → sides_of (record b { info = info; scratch_flags = flags; order = order }) ≡ with_flagged_apart bits (index_in_all start (sides_of b)) (index_in_all end (sides_of b)) (sides_of b)
+marked_view b info order bits start end flags s before within unread i f = by_test b.have_output refl
+  where
+    by_test : (t : Bool) → b.have_output ≡ t → sides_of (record b { info = info; scratch_flags = flags; order = order }) ≡ with_flagged_apart bits (index_in_all start (sides_of b)) (index_in_all end (sides_of b)) (sides_of b)
+    by_test true h =
+        let first : b.idx - b.gap ≤ start = (rw h at unread) refl in
+        let begins : b.idx ≤ start + b.gap = omega (arith, first, s.opened) in
+        let low = front_before b s h in
+        let ordered : start + b.gap ≤ end + b.gap = omega (arith, before) in
+        let out = take b.front b.info.items in
+        let ahead = drop b.idx b.info.items in
+        let from = start + b.gap - b.idx in
+        let to = end + b.gap - b.idx in
+        let kept : take b.front info.items ≡ out = ap (take b.front) i ∙ marked_front bits (start + b.gap) (end + b.gap) b.front b.info.items (omega (arith, low, begins)) within in
+        let input : drop b.idx info.items ≡ glyphs_marked bits from to ahead = ap (drop b.idx) i ∙ marked_rest bits (start + b.gap) (end + b.gap) b.idx b.info.items s.cursor begins ordered in
+        let marks = f ∙ ap (λ ns. with_has_glyph_flags (has_several_numbers ns) b.scratch_flags) (stretch_rest (start + b.gap) (end + b.gap) b.idx b.info.items s.cursor begins ordered) in
+        let at : length out + start - (b.idx - b.gap) ≡ length out + from = omega (arith, first, s.opened) in
+        let past : length out + end - (b.idx - b.gap) ≡ length out + to = omega (arith, first, s.opened, before) in
+        rw (h, kept, input, marks, at, past, marked_beyond bits out ahead from to, range_beyond out ahead from to, take-append_seam out (glyphs_marked bits from to ahead), drop-append_seam out (glyphs_marked bits from to ahead)) refl
+    by_test false h =
+        let none = closed_gap b s h in
+        let long : length (take b.idx b.info.items) ≡ b.idx = length-take-le b.idx b.info.items s.cursor in
+        let one : start + b.gap ≡ start = omega (arith, none) in
+        let two : end + b.gap ≡ end = omega (arith, none) in
+        let at : b.idx + start - b.idx ≡ start = omega arith in
+        let past : b.idx + end - b.idx ≡ end = omega arith in
+        let input : info.items ≡ glyphs_marked bits start end b.info.items = rw (one, two) at i in
+        let marks = rw (one, two) at f in
+        rw (h, input, long, at, past, take-append-drop b.idx b.info.items, marks) refl
+
+same_lengths : (p q i j : ℕ) → p ≤ q → i ≤ j → q - p ≡ j - i → nat_lt i j ≡ nat_lt p q
+same_lengths p q i j le lt e = grind (arith, nat_tests, common_steps, e)
+
+-- the view of a buffer of whose input a range was flagged
+pub flagged_view : (b : Inside) (info : Vec hb_glyph_info_t) (order : ClusterOrder) (bits start end flags : ℕ) → IsSound b → start ≤ end → start + b.gap ≤ length b.info.items → ((sides_of b).is_open ≡ true → (sides_of b).read ≤ start)
+    → info.items ≡ glyphs_flagged bits (start + b.gap) (end + b.gap) b.info.items
+    → flags ≡ with_has_glyph_flags (nat_lt start end) b.scratch_flags
+    → sides_of (record b { info = info; scratch_flags = flags; order = order }) ≡ with_flagged bits (index_in_all start (sides_of b)) (index_in_all end (sides_of b)) (sides_of b)
+flagged_view b info order bits start end flags s before within unread i f = by_test b.have_output refl
+  where
+    by_test : (t : Bool) → b.have_output ≡ t → sides_of (record b { info = info; scratch_flags = flags; order = order }) ≡ with_flagged bits (index_in_all start (sides_of b)) (index_in_all end (sides_of b)) (sides_of b)
+    by_test true h =
+        let first : b.idx - b.gap ≤ start = (rw h at unread) refl in
+        let begins : b.idx ≤ start + b.gap = omega (arith, first, s.opened) in
+        let low = front_before b s h in
+        let ordered : start + b.gap ≤ end + b.gap = omega (arith, before) in
+        let out = take b.front b.info.items in
+        let ahead = drop b.idx b.info.items in
+        let from = start + b.gap - b.idx in
+        let to = end + b.gap - b.idx in
+        let kept : take b.front info.items ≡ out = ap (take b.front) i ∙ flagged_front bits (start + b.gap) (end + b.gap) b.front b.info.items (omega (arith, low, begins)) within in
+        let input : drop b.idx info.items ≡ glyphs_flagged bits from to ahead = ap (drop b.idx) i ∙ flagged_rest bits (start + b.gap) (end + b.gap) b.idx b.info.items s.cursor begins ordered in
+        let less : nat_lt start end ≡ nat_lt (length out + from) (length out + to) = same_lengths (length out + from) (length out + to) start end (omega (arith, before)) before (omega (arith, first, s.opened, before)) in
+        let at : length out + start - (b.idx - b.gap) ≡ length out + from = omega (arith, first, s.opened) in
+        let past : length out + end - (b.idx - b.gap) ≡ length out + to = omega (arith, first, s.opened, before) in
+        rw (h, kept, input, f, at, past, flagged_beyond bits out ahead from to, less, take-append_seam out (glyphs_flagged bits from to ahead), drop-append_seam out (glyphs_flagged bits from to ahead)) refl
+    by_test false h =
+        let none = closed_gap b s h in
+        let long : length (take b.idx b.info.items) ≡ b.idx = length-take-le b.idx b.info.items s.cursor in
+        let one : start + b.gap ≡ start = omega (arith, none) in
+        let two : end + b.gap ≡ end = omega (arith, none) in
+        let at : b.idx + start - b.idx ≡ start = omega arith in
+        let past : b.idx + end - b.idx ≡ end = omega arith in
+        let input : info.items ≡ glyphs_flagged bits start end b.info.items = rw (one, two) at i in
+        rw (h, input, long, at, past, take-append-drop b.idx b.info.items, f) refl

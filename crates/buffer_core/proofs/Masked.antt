@@ -18,11 +18,10 @@ use Rattle.buffer_glyphs.specs.Origins.{Origin, origin_of, origins}
 use Rattle.buffer_glyphs.specs.Events.{Reset}
 
 -- the side behind the cursor, whether or not an output is open
-behind_mapped : (f : hb_glyph_info_t → hb_glyph_info_t) (is_open is_apart : Bool) (m n : ℕ) (out info : List hb_glyph_info_t)
-    → (if is_open then (if is_apart then map f out else take m (map f info)) else take n (map f info)) ≡ map f (if is_open then (if is_apart then out else take m info) else take n info)
-behind_mapped f true true m n out info = refl
-behind_mapped f true false m n out info = take-map f m info
-behind_mapped f false is_apart m n out info = take-map f n info
+behind_mapped : (f : hb_glyph_info_t → hb_glyph_info_t) (is_open : Bool) (m n : ℕ) (info : List hb_glyph_info_t)
+    → (if is_open then take m (map f info) else take n (map f info)) ≡ map f (if is_open then take m info else take n info)
+behind_mapped f true m n info = take-map f m info
+behind_mapped f false m n info = take-map f n info
 
 both_mapped : (f : hb_glyph_info_t → hb_glyph_info_t) (s : Sides) → with_glyphs (map f (all_glyphs s)) s ≡ record s { behind = map f s.behind; ahead = map f s.ahead }
 both_mapped f s =
@@ -31,13 +30,8 @@ both_mapped f s =
     rw (whole, take_at (map f s.behind) (map f s.ahead) (length s.behind) long, drop_at (map f s.behind) (map f s.ahead) (length s.behind) long) refl
 
 -- each glyph was changed alike
-pub mapped_view : (f : hb_glyph_info_t → hb_glyph_info_t) (b : Inside) (info out : Vec hb_glyph_info_t) → info.items ≡ map f b.info.items → out.items ≡ map f b.out_info.items
-    → sides_of (record b { info = info; out_info = out }) ≡ with_glyphs (map f (all_glyphs (sides_of b))) (sides_of b)
-mapped_view f b info out i o = rw (i, o, behind_mapped f b.have_output b.is_apart b.front b.idx b.out_info.items b.info.items, drop-map f b.idx b.info.items) (sym (both_mapped f (sides_of b)))
-
-pub masked_view : (b : Inside) (info out : Vec hb_glyph_info_t) (m : ℕ) → info.items ≡ map (glyph_masked m) b.info.items → out.items ≡ map (glyph_masked m) b.out_info.items
-    → sides_of (record b { info = info; out_info = out }) ≡ with_masks m (sides_of b)
-masked_view b info out m i o = mapped_view (glyph_masked m) b info out i o
+pub mapped_view : (f : hb_glyph_info_t → hb_glyph_info_t) (b : Inside) (info : Vec hb_glyph_info_t) → info.items ≡ map f b.info.items → sides_of (record b { info = info }) ≡ with_glyphs (map f (all_glyphs (sides_of b))) (sides_of b)
+mapped_view f b info i = rw (i, behind_mapped f b.have_output b.front b.idx b.info.items, drop-map f b.idx b.info.items) (sym (both_mapped f (sides_of b)))
 
 all_masked : (m : ℕ) (s : Sides) → all_glyphs (with_masks m s) ≡ map (glyph_masked m) (all_glyphs s)
 all_masked m s = take-append-drop (length s.behind) (map (glyph_masked m) (all_glyphs s))

@@ -11,8 +11,9 @@ use Rattle.buffer_glyphs.specs.Glyphs.{glyphs_merged_at, beside_merged, is_marke
 use Rattle.buffer_glyphs.specs.Lemmas.Glyphs.{merged_at_beyond, length_beside, range_beyond, strip_merged_at}
 use Rattle.buffer_core.specs.declared.buffer.hb_buffer_t.TheInside.{Inside}
 use Rattle.buffer_lists.specs.declared.order.ClusterOrder.{ClusterOrder}
-use Rattle.buffer_core.specs.Inside.{sides_of, start_of}
+use Rattle.buffer_core.specs.Inside.{sides_of, IsSound}
 use Rattle.buffer_core.specs.Sides.{Sides, all_glyphs, items_of}
+use Rattle.buffer_core.proofs.Changed.{closed_gap, ends_of}
 use Rattle.buffer_core.specs.Merging.{index_in_all, with_has_glyph_flags, with_merged}
 
 -- the glyphs of both sides, and the range that was merged
@@ -40,34 +41,37 @@ same_marks MonotoneCharacters a b c d ms ns e = refl
 same_marks Characters a b c d ms ns e = ap has_several_numbers e
 same_marks Graphemes a b c d ms ns e = ap has_several_numbers e
 
-pub merged_view : (b : Inside) (info out : Vec hb_glyph_info_t) (order : ClusterOrder) (from start end flags : ℕ) → b.idx ≤ length b.info.items → start ≤ end → (b.have_output ≡ true → b.idx ≤ start)
-    → (b.have_output ≡ true → b.is_apart ≡ true) → from ≡ start_of b
-    → drop from info.items ≡ glyphs_merged_at b.cluster_level (start - from) (end - from) (drop from b.info.items)
-    → out.items ≡ beside_merged b.cluster_level (range_of (start - from) (end - from) (clusters (drop from b.info.items))) b.out_info.items
-    → flags ≡ with_has_glyph_flags (is_marked_at b.cluster_level (start - from) (end - from) (clusters (drop from b.info.items))) b.scratch_flags
-    → sides_of (record b { info = info; out_info = out; scratch_flags = flags; order = order }) ≡ with_merged (index_in_all start (sides_of b)) (index_in_all end (sides_of b)) (sides_of b)
-merged_view b info out order from start end flags le before unread left begins i o f = by_test b.have_output refl
+-- the view of a buffer whose input was merged; the ends are those of the output and of what lies before the input
+pub merged_view : (b : Inside) (info : Vec hb_glyph_info_t) (order : ClusterOrder) (p : ℕ × ℕ) (start end flags : ℕ) → IsSound b → p ≡ ends_of b → start ≤ end → ((sides_of b).is_open ≡ true → (sides_of b).read ≤ start)
+    → drop p.1 info.items ≡ glyphs_merged_at b.cluster_level (start + b.gap - p.1) (end + b.gap - p.1) (drop p.1 b.info.items)
+    → take p.0 info.items ≡ beside_merged b.cluster_level (range_of (start + b.gap - p.1) (end + b.gap - p.1) (clusters (drop p.1 b.info.items))) (take p.0 b.info.items)
+    → flags ≡ with_has_glyph_flags (is_marked_at b.cluster_level (start + b.gap - p.1) (end + b.gap - p.1) (clusters (drop p.1 b.info.items))) b.scratch_flags
+    → sides_of (record b { info = info; scratch_flags = flags; order = order }) ≡ with_merged (index_in_all start (sides_of b)) (index_in_all end (sides_of b)) (sides_of b)
+merged_view b info order p start end flags s ends before unread i o f = by_test b.have_output refl
   where
-    by_test : (t : Bool) → b.have_output ≡ t → sides_of (record b { info = info; out_info = out; scratch_flags = flags; order = order }) ≡ with_merged (index_in_all start (sides_of b)) (index_in_all end (sides_of b)) (sides_of b)
-    by_test true e =
-        let here : from ≡ b.idx = rw e at begins in
-        let first = unread e in
-        let m = merged_sides b.cluster_level (start - b.idx) (end - b.idx) (length b.out_info.items + start - b.idx) (length b.out_info.items + end - b.idx) b.out_info.items (drop b.idx b.info.items) (omega arith) (omega arith) in
-        let input = rw here at i in
-        let output = rw here at o in
-        let marks = rw here at f ∙ ap (λ any. with_has_glyph_flags any b.scratch_flags) (same_marks b.cluster_level (start - b.idx) (end - b.idx) (length b.out_info.items + start - b.idx) (length b.out_info.items + end - b.idx) (clusters (drop b.idx b.info.items)) (clusters (b.out_info.items ++ drop b.idx b.info.items)) m.range_is) in
-        let a = left e in
-        rw (e, a, output, input, m.behind_is, m.ahead_is, marks) refl
-    by_test false e =
-        let here : from ≡ 0 = rw e at begins in
-        let long : length (take b.idx b.info.items) ≡ b.idx = length-take-le b.idx b.info.items le in
-        let one : start - 0 ≡ start = omega arith in
-        let two : end - 0 ≡ end = omega arith in
-        let at : b.idx + start - b.idx ≡ start = omega arith in
+    by_test : (t : Bool) → b.have_output ≡ t → sides_of (record b { info = info; scratch_flags = flags; order = order }) ≡ with_merged (index_in_all start (sides_of b)) (index_in_all end (sides_of b)) (sides_of b)
+    by_test true h =
+        let at : p ≡ (b.front, b.idx) = rw h at ends in
+        let first : b.idx - b.gap ≤ start = (rw h at unread) refl in
+        let out = take b.front b.info.items in
+        let from = start + b.gap - b.idx in
+        let to = end + b.gap - b.idx in
+        let m = merged_sides b.cluster_level from to (length out + start - (b.idx - b.gap)) (length out + end - (b.idx - b.gap)) out (drop b.idx b.info.items) (omega (arith, s.opened, first)) (omega (arith, s.opened, first, before)) in
+        let input = rw at at i in
+        let output = rw at at o in
+        let marks = rw at at f ∙ ap (λ any. with_has_glyph_flags any b.scratch_flags) (same_marks b.cluster_level from to (length out + start - (b.idx - b.gap)) (length out + end - (b.idx - b.gap)) (clusters (drop b.idx b.info.items)) (clusters (out ++ drop b.idx b.info.items)) m.range_is) in
+        rw (h, output, input, m.behind_is, m.ahead_is, marks) refl
+    by_test false h =
+        let at : p ≡ (0, 0) = rw h at ends in
+        let none = closed_gap b s h in
+        let long : length (take b.idx b.info.items) ≡ b.idx = length-take-le b.idx b.info.items s.cursor in
+        let one : start + b.gap - 0 ≡ start = omega (arith, none) in
+        let two : end + b.gap - 0 ≡ end = omega (arith, none) in
+        let from : b.idx + start - b.idx ≡ start = omega arith in
         let to : b.idx + end - b.idx ≡ end = omega arith in
-        let input : info.items ≡ glyphs_merged_at b.cluster_level start end b.info.items = rw (here, one, two) at i in
-        let marks = rw (here, one, two) at f in
-        rw (e, input, long, at, to, take-append-drop b.idx b.info.items, marks) refl
+        let input : info.items ≡ glyphs_merged_at b.cluster_level start end b.info.items = rw (at, one, two) at i in
+        let marks = rw (at, one, two) at f in
+        rw (h, input, long, from, to, take-append-drop b.idx b.info.items, marks) refl
 
 pub all_merged : (from to : ℕ) (s : Sides) → all_glyphs (with_merged from to s) ≡ glyphs_merged_at s.level from to (all_glyphs s)
 all_merged from to s = take-append-drop (length s.behind) (glyphs_merged_at s.level from to (all_glyphs s))

@@ -1,16 +1,10 @@
 -- Glyphs that an output or a list still holds.
 use Rattle.std.specs.Bool.{OnFalse}
-use Rattle.std.specs.Global.{Vec}
 use Rattle.std.proofs.Common.{ℕ, ◌≡◌, ◌≤◌, ◌<◌, ◌+◌, ◌-◌, ◌&&◌, Bool, true, false, nat_le, List, [], ◌∷◌, ◌++◌, length, take, drop, get_or, refl, arith, ap, sym, ◌∙◌}
 use Rattle.std.proofs.lemmas.Bool.Decides.{nat_tests}
-use Rattle.std.proofs.lemmas.List.{length-append, length-drop, length-replicate}
+use Rattle.std.proofs.lemmas.List.{length-append, length-drop}
 use Rattle.buffer_glyphs.specs.declared.info.hb_glyph_info_t.{hb_glyph_info_t}
-use Rattle.buffer_glyphs.specs.declared.position.GlyphPosition.{GlyphPosition}
 use Rattle.buffer_glyphs.specs.Lists.{take_one}
-use Rattle.buffer_lists.specs.declared.order.ClusterOrder.{ClusterOrder}
-use Rattle.buffer_core.specs.declared.buffer.hb_buffer_t.TheInside.{Inside}
-use Rattle.buffer_core.specs.Inside.{sides_of}
-use Rattle.buffer_core.specs.Sides.{after_sync, zero_positions}
 
 -- an element is there
 pub some_ahead : (xs : List hb_glyph_info_t) (n : ℕ) → 0 < length (drop n xs) → n < length xs
@@ -40,17 +34,6 @@ joined_within false out ahead m e = cc
 
 joined_length : (out info : List hb_glyph_info_t) (n : ℕ) → length (out ++ drop n info) ≡ length out + (length info - n)
 joined_length out info n = length-append out (drop n info) ∙ ap (λ k. length out + k) (length-drop n info)
-
--- so many positions as there are glyphs
-pub joined_places : (out info new : List hb_glyph_info_t) (n : ℕ) (positions : List GlyphPosition) → new ≡ out ++ drop n info → positions ≡ zero_positions (length out + (length info - n)) → length positions ≡ length new
-joined_places out info new n positions e p = rw (p, e, length-replicate) (sym (joined_length out info n))
-
-pub joined_view : (b : Inside) (info out : Vec hb_glyph_info_t) (positions : Vec GlyphPosition) (order : ClusterOrder) → b.have_output ≡ true → b.is_apart ≡ true → info.items ≡ b.out_info.items ++ drop b.idx b.info.items
-    → positions.items ≡ zero_positions (length b.out_info.items + (length b.info.items - b.idx))
-    → sides_of (record b { info = info; pos = positions; out_info = out; idx = 0; have_output = false; is_apart = false; order = order }) ≡ after_sync (sides_of b)
-joined_view b info out positions order h a i p =
-    let long = joined_length b.out_info.items b.info.items b.idx in
-    rw (h, a, i, p, ← long) refl
 
 -- a list that stays empty while no output is open
 pub empty_kept : (t : Bool) (xs ys : List hb_glyph_info_t) → length ys ≡ length xs → OnFalse t (xs ≡ []) → OnFalse t (ys ≡ [])

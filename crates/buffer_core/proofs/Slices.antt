@@ -41,12 +41,6 @@ pub rest_is : (v : Vec hb_glyph_info_t) (r new : List hb_glyph_info_t) (at : ℕ
     → drop at (with_items v (put_mid at (length r - at) r new)).items ≡ new
 rest_is v r new at counted is within long = ap (drop at) (rest_put v r new at counted is within long) ∙ drop_at (take at v.items) new at (length-take-le at v.items within)
 
-pub rest_long : (v : Vec hb_glyph_info_t) (r new : List hb_glyph_info_t) (at : ℕ) → v.len ≡ length v.items → r ≡ v.items → at ≤ length v.items → length new ≡ length r - at
-    → length (with_items v (put_mid at (length r - at) r new)).items ≡ length v.items
-rest_long v r new at counted is within long =
-    let count : length r ≡ length v.items = ap length is in
-    omega (arith, ap length (rest_put v r new at counted is within long), length-append (take at v.items) new, length-take-le at v.items within, long, count, within)
-
 -- what keeps the cluster of each glyph keeps those of a list of which a part was written by it
 seen_kept : (f : hb_glyph_info_t → hb_glyph_info_t) → ((g : hb_glyph_info_t) → (f g).cluster ≡ g.cluster) → (gs : List hb_glyph_info_t) → clusters (map f gs) ≡ clusters gs
 seen_kept f same [] = refl

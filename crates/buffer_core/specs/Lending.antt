@@ -30,10 +30,10 @@ refilled_list new old = take (length old) (new ++ drop (length new) old)
 abbrev pub with_refilled : List hb_glyph_info_t → Sides → Sides
 with_refilled gs s = with_glyphs (refilled_list gs (all_glyphs s)) s
 
--- the output replaced by the glyphs that come back; where it is in the place of what was read, those that are more than
--- were read replace glyphs ahead
+-- the output replaced by the glyphs that come back; those that are more than were read, and more than it had, replace
+-- glyphs ahead
 abbrev pub with_open_output_refilled : List hb_glyph_info_t → Sides → Sides
-with_open_output_refilled gs s = record s { behind = refilled_list gs s.behind; ahead = if s.is_apart then s.ahead else refilled_list (drop (max s.read (length s.behind)) gs) s.ahead }
+with_open_output_refilled gs s = record s { behind = refilled_list gs s.behind; ahead = refilled_list (drop (max s.read (length s.behind)) gs) s.ahead }
 
 -- the glyphs behind the cursor replaced by those that come back; with no output open, they are the first of all glyphs
 abbrev pub with_output_refilled : List hb_glyph_info_t → Sides → Sides

@@ -15,3 +15,4 @@ pub mod Laws
 pub mod Graphemes
 pub mod Readings
 pub mod Steps
+pub mod RangeMoves

@@ -38,3 +38,11 @@ zero_glyph = added_glyph 0 0
 -- n glyphs and positions, with the cursor at most after the last
 abbrev pub with_len : ℕ → Sides → Sides
 with_len n s = with_list (of_length n zero_glyph (all_glyphs s)) (of_length n zero_position s.positions) (record s { read = min s.read n })
+
+-- the n elements from an index on moved after the k that followed them
+abbrev pub with_range_moved : {X : Type 0} → ℕ → ℕ → ℕ → List X → List X
+with_range_moved start n k xs = take start xs ++ (take k (drop (start + n) xs) ++ take n (drop start xs)) ++ drop (start + (n + k)) xs
+
+-- such a move of glyphs behind the cursor (`rotate_output`)
+abbrev pub with_output_moved : ℕ → ℕ → ℕ → Sides → Sides
+with_output_moved start n k s = record s { behind = with_range_moved start n k s.behind }

@@ -1,11 +1,8 @@
 -- Readings of one pipeline stage after another.
-use Rattle.std.proofs.Common.{◌≡◌, List, [], ◌++◌, Ok, Err, refl, sym, ap, subst, ◌∙◌, append_assoc}
+use Rattle.std.proofs.Common.{◌≡◌, List, [], Ok, Err, refl, sym, ap, subst, ◌∙◌, append_assoc}
 use Rattle.std.proofs.lemmas.List.{append-nil}
-use Rattle.std.proofs.lemmas.List.Sums.{fold-append}
 use Rattle.buffer_glyphs.specs.declared.cause.ShapeCause.{ShapeCause}
-use Rattle.buffer_glyphs.specs.declared.level.BufferClusterLevel.{BufferClusterLevel}
-use Rattle.buffer_glyphs.specs.Origins.{Origin, Asks}
-use Rattle.buffer_glyphs.specs.Events.{Event, origins_after_event, origins_after}
+use Rattle.buffer_glyphs.specs.Events.{Event, origins_after}
 use Rattle.buffer_core.specs.Readings.{View, Read, Reading, Stage, then_read, then_reading, and_then, with_events, as_it_is, always, BufferState, state_after, Follows, reading_of}
 use Rattle.buffer_glyphs.specs.Lemmas.Origins.{origins_after_both}
 

@@ -22,6 +22,7 @@ mod output;
 mod replacement;
 mod reversal;
 mod room;
+mod rotation;
 pub mod segment;
 mod settings;
 mod sorting;
@@ -42,22 +43,23 @@ use buffer_lists::order::{ClusterOrder, KnownOrder};
 use std::alloc::Global;
 use std::marker::Model;
 
-/// A buffer of characters, later of glyphs: one list with a cursor, or while an output is open two lists: calls take
-/// glyphs from the input and append others to the output.
+/// A buffer of characters, later of glyphs: one list with a cursor, or while an output is open an output and an input:
+/// calls take glyphs from the input and append others to the output.
 #[derive(Drop)]
 pub struct hb_buffer_t {
-    // The list, or the input. While the output is in place it is the first `front` glyphs here, and those between it and
-    // the cursor have no meaning.
+    // All glyphs. While an output is open it is the first `front` glyphs here, the input begins at the cursor, and what
+    // is between them has no meaning.
     info: Vec<hb_glyph_info_t>,
     pos: Vec<GlyphPosition>,
     // Whether a position may be other than zero. While none is, they need not be cleared.
     is_placed: bool,
-    out_info: Vec<hb_glyph_info_t>,
     idx: usize,
     have_output: bool,
     front: usize,
-    // Whether the output has a list of its own, `out_info`.
+    // Whether the output has had more glyphs than were read, so that the input has moved on.
     is_apart: bool,
+    // How far the input has moved on: so many elements before the cursor were not read.
+    gap: usize,
     successful: bool,
     max_len: usize,
     max_ops: i32,
@@ -116,11 +118,11 @@ impl hb_buffer_t {
             info: Vec::new(alloc),
             pos: Vec::new(alloc),
             is_placed: false,
-            out_info: Vec::new(alloc),
             idx: 0,
             have_output: false,
             front: 0,
             is_apart: false,
+            gap: 0,
             successful: true,
             max_len: Self::MAX_LEN_DEFAULT,
             max_ops: Self::MAX_OPS_DEFAULT,
@@ -146,11 +148,11 @@ impl hb_buffer_t {
         self.info.clear();
         self.pos.clear();
         self.is_placed = false;
-        self.out_info.clear();
         self.idx = 0;
         self.have_output = false;
         self.front = 0;
         self.is_apart = false;
+        self.gap = 0;
         self.successful = true;
         self.max_len = Self::MAX_LEN_DEFAULT;
         self.max_ops = Self::MAX_OPS_DEFAULT;

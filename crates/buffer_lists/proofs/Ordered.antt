@@ -1,5 +1,5 @@
 -- What is known of the order of clusters, after merges, copies and a deletion.
-use Rattle.std.proofs.Common.{ℕ, ◌≡◌, ◌≤◌, ◌<◌, ◌+◌, inl, inr, Bool, true, false, List, [], ◌∷◌, ◌++◌, length, map, take, drop, arith, refl, ap, sym, subst, ◌∙◌}
+use Rattle.std.proofs.Common.{ℕ, ◌≡◌, ◌≤◌, ◌<◌, ◌+◌, inl, inr, Bool, true, false, List, [], ◌∷◌, ◌++◌, length, drop, arith, refl, ap, sym, subst, ◌∙◌}
 use Rattle.std.proofs.lemmas.List.{map-append, take-append-le, drop-append-le, length-drop}
 use Rattle.std.specs.Prelude.{◌-◌, slice_range}
 use Rattle.std.proofs.Math.Seq.{take-append_seam, drop-append_seam, drop-append-add}
@@ -15,7 +15,7 @@ use Rattle.buffer_glyphs.specs.Replacements.{glyphs_replaced}
 use Rattle.buffer_glyphs.specs.Deletions.{number_deleted}
 use Rattle.buffer_glyphs.specs.Deleting.{Deletes}
 use Rattle.buffer_glyphs.proofs.OneDeleted.{left_clusters, order_deleted}
-use Rattle.buffer_glyphs.specs.Lemmas.Drawn.{IsDrawn, drawn_replaced}
+use Rattle.buffer_glyphs.specs.Lemmas.Drawn.{drawn_replaced}
 use Rattle.buffer_glyphs.specs.Lemmas.Parts.{event_keeps_order, order_drawn}
 use Rattle.buffer_glyphs.specs.Lemmas.Glyphs.{merged_at_beyond, clusters_merged, clusters_merged_at, range_clusters}
 use Rattle.buffer_glyphs.specs.Lemmas.Merges.{merge_joins}

@@ -1,5 +1,5 @@
 -- What is known of the order of clusters.
-use Rattle.std.specs.Prelude.{ℕ, ◌≡◌, ◌∷◌, Bool, true, false, if◌then◌else◌, List, Option, Some, None, slice_set}
+use Rattle.std.specs.Prelude.{ℕ, ◌≡◌, ◌∷◌, Bool, true, false, List, Option, Some, None, slice_set}
 use Rattle.buffer_glyphs.specs.Parts.{last_from}
 use Rattle.buffer_glyphs.specs.Order.{IsInOrder, IsFalling, IsRising}
 use Rattle.buffer_lists.specs.declared.order.KnownOrder.{KnownOrder}
@@ -18,15 +18,10 @@ is_known Unknown = false
 is_known Rising = true
 is_known Falling = true
 
--- the clusters of the output, with that of a lent glyph as it was
-abbrev pub known_output_clusters : Option Lent → List ℕ → List ℕ
-known_output_clusters None ns = ns
-known_output_clusters (Some l) ns = if l.in_output then slice_set ns l.at l.cluster else ns
-
--- the clusters of the input, with that of a lent glyph as it was
-abbrev pub known_input_clusters : Option Lent → List ℕ → List ℕ
-known_input_clusters None ns = ns
-known_input_clusters (Some l) ns = if l.in_output then ns else slice_set ns l.at l.cluster
+-- the clusters of a list, with that of a lent glyph as it was
+abbrev pub known_clusters : Option Lent → List ℕ → List ℕ
+known_clusters None ns = ns
+known_clusters (Some l) ns = slice_set ns l.at l.cluster
 
 -- a number and those after it never decrease, and n is the last of them
 pub record IsRisingTo (start : ℕ) (ns : List ℕ) (n : ℕ) : Type 0 where

@@ -10,7 +10,6 @@ pub mod groups;
 pub mod laws;
 pub mod masks;
 pub mod merges;
-pub mod moves;
 pub mod order;
 pub mod over;
 pub mod replacement;

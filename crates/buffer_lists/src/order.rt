@@ -2,7 +2,7 @@
 ghost use Rattle.std.specs.Prelude.{◌≡◌, ◌++◌, ◌∷◌, [], ℕ, Bool, List, None, Some, true, slice_set, reverse, take, drop, IfSome};
 ghost use Rattle.buffer_glyphs.specs.Items.{clusters};
 ghost use Rattle.buffer_glyphs.specs.Order.{IsFalling, IsInOrder, IsRising};
-ghost use Rattle.buffer_lists.specs.Known.{HasOrder, IsFallingTo, IsRisingTo, is_known, known_input_clusters, known_output_clusters};
+ghost use Rattle.buffer_lists.specs.Known.{HasOrder, IsFallingTo, IsRisingTo, is_known, known_clusters};
 
 use buffer_glyphs::info::hb_glyph_info_t;
 use buffer_glyphs::level::BufferClusterLevel;
@@ -20,9 +20,7 @@ pub enum KnownOrder {
 /// A glyph that was lent to be written.
 #[derive(Clone, Copy)]
 pub struct Lent {
-    /// Whether it is in the output; else it is in the input.
-    pub in_output: bool,
-    /// Its index there.
+    /// Its index in the list.
     pub at: usize,
     /// The cluster that it had.
     pub cluster: u32,
@@ -45,35 +43,25 @@ impl ClusterOrder {
     }
 
     /// Settles what is known once a lent glyph is back: where it is in another cluster, nothing is known.
-    pub fn settle(&mut self, output: &[hb_glyph_info_t], input: &[hb_glyph_info_t])
-        ensures order { (n : ℕ) →
+    pub fn settle(&mut self, glyphs: &[hb_glyph_info_t])
+        ensures order { (m n : ℕ) →
             HasOrder self.old.known
-            (known_output_clusters self.old.lent (clusters output.now)
-            ++ drop n (known_input_clusters self.old.lent (clusters input.now))) →
-            HasOrder self.new.known (clusters output.now ++ drop n (clusters input.now)) }
-        ensures in_place { (m n : ℕ) →
-            HasOrder self.old.known
-            (take m (known_input_clusters self.old.lent (clusters input.now))
-            ++ drop n (known_input_clusters self.old.lent (clusters input.now))) →
-            HasOrder self.new.known (take m (clusters input.now) ++ drop n (clusters input.now)) }
+            (take m (known_clusters self.old.lent (clusters glyphs.now))
+            ++ drop n (known_clusters self.old.lent (clusters glyphs.now))) →
+            HasOrder self.new.known (take m (clusters glyphs.now) ++ drop n (clusters glyphs.now)) }
         ensures back { self.new.lent ≡ None }
     {
-        let known = self.known.after_loan(self.lent, output, input);
+        let known = self.known.after_loan(self.lent, glyphs);
         *self = ClusterOrder::of(known);
     }
 }
 
 impl Lent {
     /// Whether the glyph is of the cluster that it had.
-    fn is_as_it_was(self, output: &[hb_glyph_info_t], input: &[hb_glyph_info_t]) -> bool
-        ensures output { result ≡ true → known_output_clusters (Some self) (clusters output.now) ≡ clusters output.now }
-        ensures input { result ≡ true → known_input_clusters (Some self) (clusters input.now) ≡ clusters input.now }
+    fn is_as_it_was(self, glyphs: &[hb_glyph_info_t]) -> bool
+        ensures { result ≡ true → known_clusters (Some self) (clusters glyphs.now) ≡ clusters glyphs.now }
     {
-        if self.in_output {
-            has_cluster(output, self.at, self.cluster)
-        } else {
-            has_cluster(input, self.at, self.cluster)
-        }
+        has_cluster(glyphs, self.at, self.cluster)
     }
 }
 
@@ -96,21 +84,13 @@ impl KnownOrder {
         }
     }
 
-    fn after_loan(
-        self,
-        lent: Option<Lent>,
-        output: &[hb_glyph_info_t],
-        input: &[hb_glyph_info_t],
-    ) -> KnownOrder
-        ensures order { (n : ℕ) → HasOrder self
-            (known_output_clusters lent (clusters output.now) ++ drop n (known_input_clusters lent (clusters input.now))) →
-            HasOrder result (clusters output.now ++ drop n (clusters input.now)) }
-        ensures in_place { (m n : ℕ) → HasOrder self
-            (take m (known_input_clusters lent (clusters input.now)) ++ drop n (known_input_clusters lent (clusters input.now))) →
-            HasOrder result (take m (clusters input.now) ++ drop n (clusters input.now)) }
+    fn after_loan(self, lent: Option<Lent>, glyphs: &[hb_glyph_info_t]) -> KnownOrder
+        ensures { (m n : ℕ) → HasOrder self
+            (take m (known_clusters lent (clusters glyphs.now)) ++ drop n (known_clusters lent (clusters glyphs.now))) →
+            HasOrder result (take m (clusters glyphs.now) ++ drop n (clusters glyphs.now)) }
     {
         match lent {
-            Some(lent) if !lent.is_as_it_was(output, input) => KnownOrder::Unknown,
+            Some(lent) if !lent.is_as_it_was(glyphs) => KnownOrder::Unknown,
             _ => self,
         }
     }

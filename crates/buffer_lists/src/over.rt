@@ -1,19 +1,15 @@
 //! One list that holds two: its first `front` glyphs, the output, and those from an index on, the input (rustybuzz:
-//! hb/buffer.rs, `out_info` in the room of `info`). What stands between was read, and has no meaning.
-ghost use Rattle.std.specs.Prelude.{◌≡◌, ◌≤◌, ◌<◌, ◌+◌, ◌-◌, ◌^◌, ◌++◌, ◌∷◌, [], ℕ, length, map, take, drop, slice_range, vec_len, vec_capacity, OnOk, OnErr};
+//! hb/buffer.rs, `out_info` in the room of `info`, and `shift_forward`). What stands between has no meaning.
+ghost use Rattle.std.specs.Prelude.{◌≡◌, ◌≤◌, ◌<◌, ◌+◌, ◌-◌, ◌++◌, ◌∷◌, [], ℕ, length, map, take, drop, slice_range, vec_len, OnOk, OnErr};
 ghost use Rattle.buffer_glyphs.specs.Items.{clusters};
-ghost use Rattle.buffer_glyphs.specs.Parts.{first_of, last_of, or, range_of};
+ghost use Rattle.buffer_glyphs.specs.Parts.{range_of};
 ghost use Rattle.buffer_glyphs.specs.Levels.{InOutput, manner};
 ghost use Rattle.buffer_glyphs.specs.Merges.{least_number};
 ghost use Rattle.buffer_glyphs.specs.Glyphs.{beside_merged, beside_merged_as, glyph_flagged, glyphs_merged_as, glyphs_merged_at, has_several_numbers, is_marked_at, marked_outside};
 ghost use Rattle.buffer_glyphs.specs.Deleting.{Deletes};
-ghost use Rattle.buffer_glyphs.specs.Replacements.{glyph_numbered};
-ghost use Rattle.buffer_lists.specs.declared.order.KnownOrder.{KnownOrder as Order};
-ghost use Rattle.buffer_lists.specs.Copies.{with_copies};
 ghost use Rattle.buffer_lists.specs.Known.{HasOrder};
 
 use crate::order::KnownOrder;
-use crate::replacement::model_of;
 use crate::{deletion, merges};
 use buffer_glyphs::info::{hb_glyph_info_t, hb_mask_t};
 use buffer_glyphs::level::BufferClusterLevel;
@@ -72,23 +68,26 @@ pub fn join(glyphs: &mut Vec<hb_glyph_info_t>, front: usize, from: usize)
     }
 }
 
-/// Copies the output to a list of its own, which then has room for so many more glyphs.
-pub fn move_apart(
-    glyphs: &[hb_glyph_info_t],
+/// Opens a gap of so many elements between the output and the input, whose glyphs move on.
+pub fn open_gap(
+    glyphs: &mut Vec<hb_glyph_info_t>,
     front: usize,
-    output: &mut Vec<hb_glyph_info_t>,
-    more: usize,
+    from: usize,
+    count: usize,
 ) -> Result<(), AllocError>
-    requires there { front ≤ length glyphs.now }
-    requires small { front + more < 2 ^ 64 }
-    ensures moved { OnOk result (output.new.items ≡ take front glyphs.now) }
-    ensures len { OnOk result (vec_len output.new ≡ front) }
-    ensures room { OnOk result (front + more ≤ vec_capacity output.new) }
-    ensures err { OnErr result (output.new.items ≡ []) }
+    requires ordered { front ≤ from }
+    requires within { from ≤ vec_len glyphs.old }
+    ensures output { OnOk result (take front glyphs.new.items ≡ take front glyphs.old.items) }
+    ensures input { OnOk result (drop (from + count) glyphs.new.items ≡ drop from glyphs.old.items) }
+    ensures len { OnOk result (vec_len glyphs.new ≡ vec_len glyphs.old + count) }
+    ensures err { OnErr result (glyphs.new.items ≡ glyphs.old.items) }
 {
-    output.clear();
-    output.reserve(front + more)?;
-    output.extend_from_slice(&glyphs[..front]).unwrap();
+    let end = glyphs.len();
+    if usize::MAX - end < count {
+        return Err(AllocError);
+    }
+    glyphs.resize(end + count, hb_glyph_info_t::default())?;
+    glyphs.copy_within(from..end, from + count);
     Ok(())
 }
 
@@ -160,98 +159,6 @@ pub fn delete_first(
 {
     let (before, rest) = glyphs.split_at_mut(from);
     deletion::delete_first(&mut before[..front], rest, level, known)
-}
-
-/// Appends a copy of the first input glyph (of the last output glyph where the input is empty) to the output for each
-/// number, over what was read before `until`; answers where the output ends then. The copies keep the order of clusters,
-/// also where input glyphs are deleted then.
-pub fn put_copies(
-    glyphs: &mut [hb_glyph_info_t],
-    front: usize,
-    from: usize,
-    until: usize,
-    numbers: &[u32],
-) -> usize
-    requires apart { front ≤ from }
-    requires there { from ≤ length glyphs.old }
-    requires room { front + length numbers.now ≤ until }
-    requires within { until ≤ length glyphs.old }
-    ensures output { take result glyphs.new ≡ with_copies numbers.now (drop from glyphs.old) (take front glyphs.old) }
-    ensures input { drop until glyphs.new ≡ drop until glyphs.old }
-    ensures end { result ≤ until }
-    ensures len { length glyphs.new ≡ length glyphs.old }
-{
-    if let Some(model) = model_over(glyphs, front, from) {
-        put_numbered(glyphs, front, model, numbers);
-        return front + numbers.len();
-    }
-    front
-}
-
-fn model_over(glyphs: &[hb_glyph_info_t], front: usize, from: usize) -> Option<hb_glyph_info_t>
-    requires apart { front ≤ from }
-    requires there { from ≤ length glyphs.now }
-    ensures { result ≡ or (first_of (drop from glyphs.now)) (last_of (take front glyphs.now)) }
-{
-    model_of(&glyphs[from..], &glyphs[..front])
-}
-
-fn put_numbered(
-    glyphs: &mut [hb_glyph_info_t],
-    front: usize,
-    model: hb_glyph_info_t,
-    numbers: &[u32],
-)
-    requires within { front + length numbers.now ≤ length glyphs.old }
-    ensures output { take (front + length numbers.now) glyphs.new
-        ≡ take front glyphs.old ++ map (glyph_numbered model) numbers.now }
-    ensures input { (until : ℕ) → front + length numbers.now ≤ until → drop until glyphs.new ≡ drop until glyphs.old }
-    ensures len { length glyphs.new ≡ length glyphs.old }
-{
-    write_numbered(&mut glyphs[front..front + numbers.len()], model, numbers);
-}
-
-fn write_numbered(glyphs: &mut [hb_glyph_info_t], model: hb_glyph_info_t, numbers: &[u32])
-    requires { length glyphs.old ≡ length numbers.now }
-    ensures { glyphs.new ≡ map (glyph_numbered model) numbers.now }
-{
-    for index in 0..numbers.len() {
-        glyphs[index] = hb_glyph_info_t {
-            glyph_id: numbers[index],
-            ..model
-        };
-    }
-}
-
-/// Merges the first `count` input glyphs on both lists, and appends a copy of the first input glyph to the output for
-/// each number, over what was read and the `count` glyphs; answers whether a glyph was flagged, what is known of the
-/// order once the `count` glyphs are deleted, and where the output ends then.
-pub fn replace_first(
-    glyphs: &mut [hb_glyph_info_t],
-    front: usize,
-    from: usize,
-    count: usize,
-    numbers: &[u32],
-    level: BufferClusterLevel,
-    known: KnownOrder,
-) -> (bool, KnownOrder, usize)
-    requires apart { front ≤ from }
-    requires within { from + count ≤ length glyphs.old }
-    requires room { front + length numbers.now ≤ from + count }
-    requires known { HasOrder known (clusters (take front glyphs.old) ++ clusters (drop from glyphs.old)) }
-    ensures input { drop (from + count) glyphs.new ≡ drop count (glyphs_merged_at level 0 count (drop from glyphs.old)) }
-    ensures output { take result.2 glyphs.new ≡ with_copies numbers.now
-        (glyphs_merged_at level 0 count (drop from glyphs.old))
-        (beside_merged level (range_of 0 count (clusters (drop from glyphs.old))) (take front glyphs.old)) }
-    ensures any { result.0 ≡ is_marked_at level 0 count (clusters (drop from glyphs.old)) }
-    ensures order { HasOrder result.1
-        (clusters (take result.2 glyphs.new) ++ clusters (drop (from + count) glyphs.new)) }
-    ensures end { result.2 ≤ from + count }
-    ensures len { length glyphs.new ≡ length glyphs.old }
-{
-    let (marked, known) = merge_input(glyphs, front, from, 0, count, level, known);
-    let end = put_copies(glyphs, front, from, from + count, numbers);
-    (marked, known, end)
 }
 
 /// Sets flags on the output's glyphs from `start` on and the input's first `count`, outside the least cluster among them;

@@ -1,61 +1,53 @@
-//! Replaces input glyphs by copies in the output (rustybuzz: hb/buffer.rs, `replace_glyphs`).
-ghost use Rattle.std.specs.Prelude.{◌≡◌, ◌+◌, ◌≤◌, ◌++◌, ℕ, length, map, drop, vec_len, vec_capacity};
+//! Replaces input glyphs by copies in the output, in one list that holds both (rustybuzz: hb/buffer.rs,
+//! `replace_glyphs`).
+ghost use Rattle.std.specs.Prelude.{◌≡◌, ◌≤◌, ◌+◌, ◌++◌, ℕ, length, map, take, drop};
 ghost use Rattle.buffer_glyphs.specs.Items.{clusters};
 ghost use Rattle.buffer_glyphs.specs.Parts.{first_of, last_of, or, range_of};
 ghost use Rattle.buffer_glyphs.specs.Glyphs.{beside_merged, glyphs_merged_at, is_marked_at};
 ghost use Rattle.buffer_glyphs.specs.Replacements.{glyph_numbered};
-ghost use Rattle.buffer_lists.specs.declared.order.KnownOrder.{KnownOrder as Order};
 ghost use Rattle.buffer_lists.specs.Copies.{with_copies};
 ghost use Rattle.buffer_lists.specs.Known.{HasOrder};
 
-use crate::merges::merge_input;
 use crate::order::KnownOrder;
+use crate::over::merge_input;
 use buffer_glyphs::info::hb_glyph_info_t;
 use buffer_glyphs::level::BufferClusterLevel;
 
-/// Merges the first `count` input glyphs on both lists, and appends a copy of the first input glyph to the output for
-/// each of the numbers; answers whether a glyph was flagged, and what is known of the order once the `count` glyphs are
-/// deleted.
-pub fn replace_first(
-    output: &mut Vec<hb_glyph_info_t>,
-    input: &mut [hb_glyph_info_t],
-    count: usize,
+/// Appends a copy of the first input glyph (of the last output glyph where the input is empty) to the output for each
+/// number, over what was read before `until`; answers where the output ends then. The copies keep the order of clusters,
+/// also where input glyphs are deleted then.
+pub fn put_copies(
+    glyphs: &mut [hb_glyph_info_t],
+    front: usize,
+    from: usize,
+    until: usize,
     numbers: &[u32],
-    level: BufferClusterLevel,
-    known: KnownOrder,
-) -> (bool, KnownOrder)
-    requires within { count ≤ length input.old }
-    requires room { vec_len output.old + length numbers.now ≤ vec_capacity output.old }
-    requires known { HasOrder known (clusters output.old.items ++ clusters input.old) }
-    ensures input { input.new ≡ glyphs_merged_at level 0 count input.old }
-    ensures output { output.new.items ≡ with_copies numbers.now input.new
-        (beside_merged level (range_of 0 count (clusters input.old)) output.old.items) }
-    ensures any { result.0 ≡ is_marked_at level 0 count (clusters input.old) }
-    ensures order { HasOrder result.1 (clusters output.new.items ++ clusters (drop count input.new)) }
+) -> usize
+    requires apart { front ≤ from }
+    requires there { from ≤ length glyphs.old }
+    requires room { front + length numbers.now ≤ until }
+    requires within { until ≤ length glyphs.old }
+    ensures output { take result glyphs.new ≡ with_copies numbers.now (drop from glyphs.old) (take front glyphs.old) }
+    ensures input { drop until glyphs.new ≡ drop until glyphs.old }
+    ensures end { result ≤ until }
+    ensures len { length glyphs.new ≡ length glyphs.old }
 {
-    let (marked, known) = merge_input(output, input, 0, count, level, known);
-    push_copies(output, input, numbers);
-    (marked, known)
-}
-
-/// Appends a copy of the first input glyph (of the last output glyph where the input is empty) for each number. The
-/// copies keep the order of clusters, also where input glyphs are deleted then.
-#[tactic(auto, using(crate::proofs::Ordered::order_copied))]
-pub fn push_copies(output: &mut Vec<hb_glyph_info_t>, input: &[hb_glyph_info_t], numbers: &[u32])
-    requires { vec_len output.old + length numbers.now ≤ vec_capacity output.old }
-    ensures copied { output.new.items ≡ with_copies numbers.now input.now output.old.items }
-    ensures order { (known : Order) (taken : ℕ) → HasOrder known (clusters output.old.items ++ clusters input.now) →
-        HasOrder known (clusters output.new.items ++ clusters (drop taken input.now)) }
-{
-    if let Some(model) = model_of(input, output) {
-        push_numbered(output, model, numbers);
+    if let Some(model) = model_over(glyphs, front, from) {
+        put_numbered(glyphs, front, model, numbers);
+        return front + numbers.len();
     }
+    front
 }
 
-pub(crate) fn model_of(
-    input: &[hb_glyph_info_t],
-    output: &[hb_glyph_info_t],
-) -> Option<hb_glyph_info_t>
+fn model_over(glyphs: &[hb_glyph_info_t], front: usize, from: usize) -> Option<hb_glyph_info_t>
+    requires apart { front ≤ from }
+    requires there { from ≤ length glyphs.now }
+    ensures { result ≡ or (first_of (drop from glyphs.now)) (last_of (take front glyphs.now)) }
+{
+    model_of(&glyphs[from..], &glyphs[..front])
+}
+
+fn model_of(input: &[hb_glyph_info_t], output: &[hb_glyph_info_t]) -> Option<hb_glyph_info_t>
     ensures { result ≡ or (first_of input.now) (last_of output.now) }
 {
     match input {
@@ -64,16 +56,60 @@ pub(crate) fn model_of(
     }
 }
 
-fn push_numbered(glyphs: &mut Vec<hb_glyph_info_t>, model: hb_glyph_info_t, numbers: &[u32])
-    requires { vec_len glyphs.old + length numbers.now ≤ vec_capacity glyphs.old }
-    ensures { glyphs.new.items ≡ glyphs.old.items ++ map (glyph_numbered model) numbers.now }
+fn put_numbered(
+    glyphs: &mut [hb_glyph_info_t],
+    front: usize,
+    model: hb_glyph_info_t,
+    numbers: &[u32],
+)
+    requires within { front + length numbers.now ≤ length glyphs.old }
+    ensures output { take (front + length numbers.now) glyphs.new
+        ≡ take front glyphs.old ++ map (glyph_numbered model) numbers.now }
+    ensures input { (until : ℕ) → front + length numbers.now ≤ until → drop until glyphs.new ≡ drop until glyphs.old }
+    ensures len { length glyphs.new ≡ length glyphs.old }
 {
-    for number in numbers {
-        glyphs
-            .push(hb_glyph_info_t {
-                glyph_id: *number,
-                ..model
-            })
-            .unwrap();
+    write_numbered(&mut glyphs[front..front + numbers.len()], model, numbers);
+}
+
+fn write_numbered(glyphs: &mut [hb_glyph_info_t], model: hb_glyph_info_t, numbers: &[u32])
+    requires { length glyphs.old ≡ length numbers.now }
+    ensures { glyphs.new ≡ map (glyph_numbered model) numbers.now }
+{
+    for index in 0..numbers.len() {
+        glyphs[index] = hb_glyph_info_t {
+            glyph_id: numbers[index],
+            ..model
+        };
     }
+}
+
+/// Merges the first `count` input glyphs on both lists, and appends a copy of the first input glyph to the output for
+/// each number, over what was read and the `count` glyphs; answers whether a glyph was flagged, what is known of the
+/// order once the `count` glyphs are deleted, and where the output ends then.
+pub fn replace_first(
+    glyphs: &mut [hb_glyph_info_t],
+    front: usize,
+    from: usize,
+    count: usize,
+    numbers: &[u32],
+    level: BufferClusterLevel,
+    known: KnownOrder,
+) -> (bool, KnownOrder, usize)
+    requires apart { front ≤ from }
+    requires within { from + count ≤ length glyphs.old }
+    requires room { front + length numbers.now ≤ from + count }
+    requires known { HasOrder known (clusters (take front glyphs.old) ++ clusters (drop from glyphs.old)) }
+    ensures input { drop (from + count) glyphs.new ≡ drop count (glyphs_merged_at level 0 count (drop from glyphs.old)) }
+    ensures output { take result.2 glyphs.new ≡ with_copies numbers.now
+        (glyphs_merged_at level 0 count (drop from glyphs.old))
+        (beside_merged level (range_of 0 count (clusters (drop from glyphs.old))) (take front glyphs.old)) }
+    ensures any { result.0 ≡ is_marked_at level 0 count (clusters (drop from glyphs.old)) }
+    ensures order { HasOrder result.1
+        (clusters (take result.2 glyphs.new) ++ clusters (drop (from + count) glyphs.new)) }
+    ensures end { result.2 ≤ from + count }
+    ensures len { length glyphs.new ≡ length glyphs.old }
+{
+    let (marked, known) = merge_input(glyphs, front, from, 0, count, level, known);
+    let end = put_copies(glyphs, front, from, from + count, numbers);
+    (marked, known, end)
 }

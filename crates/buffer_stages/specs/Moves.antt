@@ -1,21 +1,18 @@
 -- Glyphs that are moved before others, and merged with them.
-use Rattle.std.specs.Prelude.{ℕ, ◌≡◌, ◌≤◌, ◌+◌, ◌==◌, Bool, true, List, [], ◌∷◌, ◌++◌, length, take, drop}
+use Rattle.std.specs.Prelude.{ℕ, ◌≡◌, ◌≤◌, ◌+◌, ◌==◌, Bool, true, List, [], ◌∷◌, ◌++◌, length}
 use Rattle.std.specs.List.{list_all, range_with_len}
 use Rattle.buffer_glyphs.specs.declared.info.hb_glyph_info_t.{hb_glyph_info_t}
 use Rattle.buffer_glyphs.specs.declared.level.BufferClusterLevel.{BufferClusterLevel}
 use Rattle.buffer_glyphs.specs.Levels.{InList, manner}
 use Rattle.buffer_glyphs.specs.Origins.{Asks, Origin, origins_merged_as}
 use Rattle.buffer_glyphs.specs.Events.{Event, Move, origins_after}
+pub use Rattle.buffer_core.specs.Moving.{with_range_moved}
 use Rattle.buffer_core.specs.Readings.{View, Read, with_events}
 
 -- whether glyphs are of one cluster
 abbrev pub are_one_cluster : List hb_glyph_info_t → Bool
 are_one_cluster [] = true
 are_one_cluster (g ∷ gs) = list_all (λ h. h.cluster == g.cluster) gs
-
--- the n elements from an index on moved after the k that followed them
-abbrev pub with_range_moved : {X : Type 0} → ℕ → ℕ → ℕ → List X → List X
-with_range_moved start n k xs = take start xs ++ (take k (drop (start + n) xs) ++ take n (drop start xs)) ++ drop (start + (n + k)) xs
 
 -- the order of the elements after such a move
 abbrev pub order_of_move : ℕ → ℕ → List ℕ

@@ -10,7 +10,7 @@ ghost use Rattle.buffer_core.specs.Sides.{fits_joined, after_sync};
 ghost use Rattle.buffer_stages.specs.Moves.{with_range_moved, order_of_move};
 ghost use Rattle.buffer_stages.specs.Walks.{RefusesLength, HasWalked, renumbered_first};
 
-use crate::moves::{are_one_cluster, rotate};
+use crate::moves::are_one_cluster;
 use buffer_core::buffer::hb_buffer_t;
 use buffer_glyphs::cause::ShapeCause;
 use buffer_glyphs::info::hb_glyph_info_t;
@@ -103,7 +103,7 @@ pub fn move_behind(start: usize, middle: usize, end: usize, buffer: &mut hb_buff
 {
     merge_behind(start, end, buffer);
     let known = order_kept_behind(buffer, start, end);
-    rotate(buffer.out_info_mut(), start, middle, end);
+    buffer.rotate_output(start, middle, end);
     buffer.keep_order(known);
 }
 

@@ -47,6 +47,8 @@ pub enum Call {
     /// Reverses groups of glyphs with one number, merged before.
     ReverseMerged,
     ReverseRange(usize, usize),
+    /// Moves glyphs of the output after those that follow them.
+    Rotate(usize, usize, usize),
     SetLen(usize),
     SetMasks(u32, u32, u32, u32),
     Skip,
@@ -74,7 +76,7 @@ pub fn make(buffer: &mut hb_buffer_t, alloc: Global, call: &Call) -> Result<bool
             Ok(true)
         }
         Limit(n) => Ok(limit(buffer, n)),
-        WriteCluster(..) | WriteCurrent(_) | WriteFirst(_) | WriteLast(_) => {
+        WriteCluster(..) | WriteCurrent(_) | WriteFirst(_) | WriteLast(_) | Rotate(..) => {
             Ok(write(buffer, call))
         }
         Next | NextMany(_) | MoveTo(_) => walk(buffer, call),
@@ -106,13 +108,15 @@ fn limit(buffer: &mut hb_buffer_t, n: usize) -> bool {
     fits
 }
 
-/// Calls that lend glyphs of the output or the input.
+/// Calls that write glyphs of the output or the input.
 fn write(buffer: &mut hb_buffer_t, call: &Call) -> bool {
     let left = buffer.len() - buffer.idx();
     match *call {
         WriteCluster(i, cluster) if i < left => buffer.cur_mut(i).cluster = cluster,
         WriteCurrent(number) if left > 0 => buffer.cur_mut(0).glyph_id = number,
         WriteFirst(number) => number_first(buffer.out_info_mut(), number),
+        Rotate(start, middle, end) if start <= middle && middle <= end && end <= buffer.out_len() =>
+            { buffer.rotate_output(start, middle, end) }
         WriteLast(mask) if buffer.out_len() > 0 => buffer.prev_mut().mask = mask,
         _ => return false,
     }

@@ -27,10 +27,6 @@ spread;false;false;1,0,257 2,0,2 3,3,2 4,0,1;1,0,1 2,0,1 3,3,0 4,0,1
 spread;true;false;1,0,257 2,0,2 3,3,2 4,0,1;1,0,3 2,0,3 3,3,2 4,0,1
 spread;false;true;1,0,4 2,0,32 3,2,5 4,2,0;1,0,5 2,0,5 3,2,1 4,2,1
 spread;true;true;1,0,4 2,0,32 3,2,5 4,2,0;1,0,7 2,0,7 3,2,1 4,2,1
-put;2;7;7 3 4
-put;2;7 8;7 8 3 4
-put;1;7 8 9;7 8 9 2 3 4
-put;0;;1 2 3 4
 input;12;0,3,8 0,4,15 0,50,15 0,3,8 0,3,8;0,8,15 0,3,15 0,3,8 0,3,8 0,3,8 0,3,8 0,3,15 0,3,8 0,3,8 0,3,8 0,3,8 0,40,15 0,3,8
 input;5;0,30,15 0,4,15 0,50,15 0,3,8 0,7,15;0,8,15 0,3,15 0,3,8 0,3,8 0,30,15 0,9,15 0,3,15 0,21,15 0,7,15 0,15,15 0,6,15 0,40,15 0,3,8
 output;12;0,3,8 0,8,15 0,3,15 0,3,8 0,3,8 0,3,8 0,3,8 0,3,15 0,3,8 0,3,8 0,3,8 0,3,8 0,40,15 0,3,8;0,3,8 0,4,15 0,50,15 0,3,8 0,3,8
@@ -46,7 +42,6 @@ fn holds(alloc: Global, row: &str, has_known_order: bool) -> Result<bool, AllocE
         "turn" => slices::turns(alloc, row, has_known_order),
         "delete" => slices::deletes(alloc, row, has_known_order),
         "spread" => slices::spreads(alloc, row),
-        "put" => both_lists::puts(alloc, row),
         "input" => both_lists::merges(alloc, row),
         "output" => both_lists::merges_output(alloc, row),
         "range" => clusters::merges(alloc, row, has_known_order),

@@ -9,8 +9,6 @@ ghost use Rattle.buffer_glyphs.specs.Events.{Merge, Break, Concat};
 use super::hb_buffer_t;
 use super::merges::add_has_glyph_flags;
 use buffer_glyphs::info::{UNSAFE_TO_BREAK, UNSAFE_TO_CONCAT, hb_mask_t};
-use buffer_glyphs::marks::{flag_all, mark_across};
-use buffer_lists::merges::merge_output;
 use buffer_lists::over;
 
 // Ranges that begin in the output.
@@ -25,43 +23,11 @@ impl hb_buffer_t {
         ensures items { items_of self.new ≡ items_of self.old }
         ensures origins { origins_of self.new ≡ origins_by (Merge InOutput start end ∷ []) self.old }
     {
-        if self.is_apart {
-            self.merge_out_apart(start, end);
-        } else {
-            self.merge_out_over(start, end);
-        }
-    }
-
-    fn merge_out_over(&mut self, start: usize, end: usize)
-        requires open { self.old.is_open ≡ true }
-        requires in_place { self.old.is_apart ≡ false }
-        requires ordered { start ≤ end }
-        requires within { end ≤ length self.old.behind }
-        ensures merged { self.new ≡ with_output_merged start end self.old }
-    {
-        self.order.settle(&self.out_info, &self.info);
+        self.order.settle(&self.info);
         self.order.known = over::merge_output(
             &mut self.info,
             self.front,
             self.idx,
-            start,
-            end,
-            self.cluster_level,
-            self.order.known,
-        );
-    }
-
-    fn merge_out_apart(&mut self, start: usize, end: usize)
-        requires open { self.old.is_open ≡ true }
-        requires apart { self.old.is_apart ≡ true }
-        requires ordered { start ≤ end }
-        requires within { end ≤ length self.old.behind }
-        ensures merged { self.new ≡ with_output_merged start end self.old }
-    {
-        self.order.settle(&self.out_info, &self.info);
-        self.order.known = merge_output(
-            &mut self.out_info,
-            &mut self.info[self.idx..],
             start,
             end,
             self.cluster_level,
@@ -84,7 +50,7 @@ impl hb_buffer_t {
         if !self.have_output {
             return self.unsafe_to_break(start, end);
         }
-        let count = self.info.len();
+        let count = self.len();
         self.mark_output(
             start.unwrap_or(0),
             end.unwrap_or(count),
@@ -107,7 +73,7 @@ impl hb_buffer_t {
             return self.unsafe_to_concat(start, end);
         }
         if self.asks_concat() {
-            let count = self.info.len();
+            let count = self.len();
             self.flag_output(start.unwrap_or(0), end.unwrap_or(count), UNSAFE_TO_CONCAT);
         }
     }
@@ -120,39 +86,10 @@ impl hb_buffer_t {
         requires within { end ≤ self.old.read + length self.old.ahead }
         ensures marked { self.new ≡ with_flagged_apart flags start (index_in_all end self.old) self.old }
     {
-        if self.is_apart {
-            self.mark_both(start, end, flags);
-        } else {
-            self.mark_over(start, end, flags);
-        }
-    }
-
-    fn mark_over(&mut self, start: usize, end: usize, flags: hb_mask_t)
-        requires open { self.old.is_open ≡ true }
-        requires in_place { self.old.is_apart ≡ false }
-        requires glyph_flags { flags < 8 }
-        requires begins { start ≤ length self.old.behind }
-        requires unread { self.old.read ≤ end }
-        requires within { end ≤ self.old.read + length self.old.ahead }
-        ensures marked { self.new ≡ with_flagged_apart flags start (index_in_all end self.old) self.old }
-    {
-        self.order.settle(&self.out_info, &self.info);
+        self.order.settle(&self.info);
         let (front, from) = (self.front, self.idx);
-        let any = over::mark_across(&mut self.info, front, from, start, end - from, flags);
-        self.scratch_flags = add_has_glyph_flags(any, self.scratch_flags);
-    }
-
-    fn mark_both(&mut self, start: usize, end: usize, flags: hb_mask_t)
-        requires open { self.old.is_open ≡ true }
-        requires apart { self.old.is_apart ≡ true }
-        requires glyph_flags { flags < 8 }
-        requires begins { start ≤ length self.old.behind }
-        requires unread { self.old.read ≤ end }
-        requires within { end ≤ self.old.read + length self.old.ahead }
-        ensures marked { self.new ≡ with_flagged_apart flags start (index_in_all end self.old) self.old }
-    {
-        let input = &mut self.info[self.idx..end];
-        let any = mark_across(&mut self.out_info[start..], input, flags);
+        let count = end + self.gap - from;
+        let any = over::mark_across(&mut self.info, front, from, start, count, flags);
         self.scratch_flags = add_has_glyph_flags(any, self.scratch_flags);
     }
 
@@ -164,50 +101,19 @@ impl hb_buffer_t {
         requires within { end ≤ self.old.read + length self.old.ahead }
         ensures marked { self.new ≡ with_flagged flags start (index_in_all end self.old) self.old }
     {
-        if self.is_apart {
-            self.flag_both(start, end, flags);
-        } else {
-            self.flag_over(start, end, flags);
-        }
-    }
-
-    fn flag_over(&mut self, start: usize, end: usize, flags: hb_mask_t)
-        requires open { self.old.is_open ≡ true }
-        requires in_place { self.old.is_apart ≡ false }
-        requires glyph_flags { flags < 8 }
-        requires begins { start ≤ length self.old.behind }
-        requires unread { self.old.read ≤ end }
-        requires within { end ≤ self.old.read + length self.old.ahead }
-        ensures marked { self.new ≡ with_flagged flags start (index_in_all end self.old) self.old }
-    {
-        self.order.settle(&self.out_info, &self.info);
+        self.order.settle(&self.info);
         let (front, from) = (self.front, self.idx);
-        over::flag_both(&mut self.info, front, from, start, end - from, flags);
-        let any = any_within(start, front, from, end);
-        self.scratch_flags = add_has_glyph_flags(any, self.scratch_flags);
-    }
-
-    fn flag_both(&mut self, start: usize, end: usize, flags: hb_mask_t)
-        requires open { self.old.is_open ≡ true }
-        requires apart { self.old.is_apart ≡ true }
-        requires glyph_flags { flags < 8 }
-        requires begins { start ≤ length self.old.behind }
-        requires unread { self.old.read ≤ end }
-        requires within { end ≤ self.old.read + length self.old.ahead }
-        ensures marked { self.new ≡ with_flagged flags start (index_in_all end self.old) self.old }
-    {
-        flag_all(&mut self.out_info[start..], flags);
-        flag_all(&mut self.info[self.idx..end], flags);
-        let any = any_within(start, self.out_info.len(), self.idx, end);
+        let count = end + self.gap - from;
+        over::flag_both(&mut self.info, front, from, start, count, flags);
+        let any = any_within(start, front, count);
         self.scratch_flags = add_has_glyph_flags(any, self.scratch_flags);
     }
 }
 
-/// Whether there are elements from `start` up to before `count`, or from `from` up to before `end`.
-fn any_within(start: usize, count: usize, from: usize, end: usize) -> bool
-    requires begins { start ≤ count }
-    requires ordered { from ≤ end }
-    ensures { result ≡ nat_lt start (count + (end - from)) }
+/// Whether there are elements from `start` up to before `end`, or others.
+fn any_within(start: usize, end: usize, others: usize) -> bool
+    requires { start ≤ end }
+    ensures { result ≡ nat_lt start (end + others) }
 {
-    start < count || from < end
+    start < end || others > 0
 }

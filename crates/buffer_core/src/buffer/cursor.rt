@@ -1,5 +1,5 @@
 //! The buffer's cursor calls (rustybuzz: hb/buffer.rs).
-ghost use Rattle.std.specs.Prelude.{◌≡◌, ◌<◌, ◌≤◌, ◌+◌, ◌-◌, ◌^◌, ◌++◌, [], drop, length, vec_len, not, true, false, Some, OnOk, OnErr, IfOk, slice_get};
+ghost use Rattle.std.specs.Prelude.{◌≡◌, ◌<◌, ◌≤◌, ◌+◌, ◌-◌, ◌^◌, ◌++◌, [], drop, length, vec_len, not, true, false, Some, IsOk, OnOk, OnErr, IfOk, slice_get};
 ghost use Rattle.std.specs.Bool.{OnFalse};
 ghost use Rattle.std.specs.Borrow.{sem};
 ghost use Rattle.buffer_core.specs.Sides.{all_glyphs, has_output_room, with_output, after_next_glyphs, fits_next, fits_joined, after_sync, after_refusal, zero_positions};
@@ -11,7 +11,6 @@ use buffer_glyphs::position::GlyphPosition;
 use buffer_lists::order::Lent;
 use buffer_lists::over;
 use std::alloc::AllocError;
-use std::mem;
 
 impl hb_buffer_t {
     /// Opens an empty output, with the cursor before all glyphs. It takes no memory.
@@ -22,7 +21,6 @@ impl hb_buffer_t {
         ensures kept { all_glyphs self.new ≡ all_glyphs self.old }
     {
         self.have_output = true;
-        self.is_apart = false;
         self.front = 0;
         self.idx = 0;
         Ok(true)
@@ -42,12 +40,10 @@ impl hb_buffer_t {
     pub fn out_len(&self) -> usize
         ensures { result ≡ length self.now.behind }
     {
-        if !self.have_output {
-            self.idx
-        } else if self.is_apart {
-            self.out_info.len()
-        } else {
+        if self.have_output {
             self.front
+        } else {
+            self.idx
         }
     }
 
@@ -74,45 +70,20 @@ impl hb_buffer_t {
         ensures value { slice_get self.old.behind (length self.old.behind - 1) ≡ Some result.now }
         ensures* writes_back { sem 𝓛 (LendsLast self.entry result) }
     {
-        self.order.settle(&self.out_info, &self.info);
-        if !self.have_output {
-            let last = self.idx - 1;
-            self.order.lent = Some(Lent {
-                in_output: false,
-                at: last,
-                cluster: self.info[last].cluster,
-            });
-            return &mut self.info[last];
-        }
-        if !self.is_apart {
-            let last = self.front - 1;
-            self.order.lent = Some(Lent {
-                in_output: false,
-                at: last,
-                cluster: self.info[last].cluster,
-            });
-            return &mut self.info[last];
-        }
-        let last = self.out_info.len() - 1;
+        self.order.settle(&self.info);
+        let last = self.out_len() - 1;
         self.order.lent = Some(Lent {
-            in_output: true,
             at: last,
-            cluster: self.out_info[last].cluster,
+            cluster: self.info[last].cluster,
         });
-        &mut self.out_info[last]
+        &mut self.info[last]
     }
 
     /// The glyphs behind the cursor: those of the output while one is open.
     pub fn out_info(&self) -> &[hb_glyph_info_t]
         ensures { result.now ≡ self.now.behind }
     {
-        if !self.have_output {
-            return &self.info[..self.idx];
-        }
-        if !self.is_apart {
-            return &self.info[..self.front];
-        }
-        &self.out_info
+        &self.info[..self.out_len()]
     }
 
     /// The i-th glyph from the cursor on; `cur(0)` is the current one.
@@ -131,9 +102,8 @@ impl hb_buffer_t {
         ensures* writes_back { sem 𝓛 (LendsGlyph i self.entry result) }
     {
         let at = self.idx + i;
-        self.order.settle(&self.out_info, &self.info);
+        self.order.settle(&self.info);
         self.order.lent = Some(Lent {
-            in_output: false,
             at,
             cluster: self.info[at].cluster,
         });
@@ -168,72 +138,30 @@ impl hb_buffer_t {
             self.idx += 1;
             return Ok(true);
         }
-        if !self.is_apart {
-            self.pass(1);
-            return Ok(true);
-        }
         if !self.has_output_room(1) {
             return Ok(self.refuse());
         }
-        self.push_current()?;
+        self.pass(1);
         Ok(true)
     }
 
-    /// Moves the cursor over glyphs while the output is in place.
+    /// Moves glyphs from the input to the end of the output.
     pub(super) fn pass(&mut self, count: usize)
         requires open { self.old.is_open ≡ true }
-        requires in_place { self.old.is_apart ≡ false }
         requires there { count ≤ length self.old.ahead }
-        ensures moved { self.new ≡ after_next_glyphs count self.old }
-        ensures room { has_output_room count self.old ≡ true }
+        requires room { has_output_room count self.old ≡ true }
+        ensures { self.new ≡ after_next_glyphs count self.old }
     {
+        // In their place already, they keep their clusters, with that of a lent glyph.
         if self.front == self.idx {
-            self.pass_along(count);
-        } else {
-            self.pass_over(count);
+            self.front += count;
+            self.idx += count;
+            return;
         }
-    }
-
-    /// The same where the output has as many glyphs as were read: each glyph is in its place already. Clusters stay as
-    /// they are, with that of a lent glyph.
-    fn pass_along(&mut self, count: usize)
-        requires open { self.old.is_open ≡ true }
-        requires in_place { self.old.is_apart ≡ false }
-        requires even { self.old.read ≡ length self.old.behind }
-        requires there { count ≤ length self.old.ahead }
-        ensures moved { self.new ≡ after_next_glyphs count self.old }
-        ensures room { has_output_room count self.old ≡ true }
-    {
-        self.front += count;
-        self.idx += count;
-    }
-
-    /// The same where the output may have fewer: the glyphs are copied to its end.
-    fn pass_over(&mut self, count: usize)
-        requires open { self.old.is_open ≡ true }
-        requires in_place { self.old.is_apart ≡ false }
-        requires there { count ≤ length self.old.ahead }
-        ensures moved { self.new ≡ after_next_glyphs count self.old }
-        ensures room { has_output_room count self.old ≡ true }
-    {
-        self.order.settle(&self.out_info, &self.info);
+        self.order.settle(&self.info);
         over::pass(&mut self.info, self.front, self.idx, count);
         self.front += count;
         self.idx += count;
-    }
-
-    fn push_current(&mut self) -> Result<(), AllocError>
-        requires open { self.old.is_open ≡ true }
-        requires apart { self.old.is_apart ≡ true }
-        requires there { 0 < length self.old.ahead }
-        requires room { has_output_room 1 self.old ≡ true }
-        ensures moved { OnOk result (self.new ≡ after_next_glyphs 1 self.old) }
-        ensures err { OnErr result (self.new ≡ self.old) }
-    {
-        self.order.settle(&self.out_info, &self.info);
-        self.out_info.push(self.info[self.idx])?;
-        self.idx += 1;
-        Ok(())
     }
 
     /// Appends the rest of the input to the output, which becomes the list, with zero positions and the cursor at its
@@ -251,10 +179,6 @@ impl hb_buffer_t {
         if !self.fits_joined() {
             return Ok(self.refuse());
         }
-        if !self.is_apart {
-            self.close_up();
-            return Ok(true);
-        }
         self.join()?;
         Ok(true)
     }
@@ -266,47 +190,52 @@ impl hb_buffer_t {
         self.successful && self.info.len() - self.idx <= self.max_len - self.out_len()
     }
 
-    /// Makes one list of an output in place and the rest of the input.
-    fn close_up(&mut self)
-        requires open { self.old.is_open ≡ true }
-        requires in_place { self.old.is_apart ≡ false }
-        requires fits { fits_joined self.old ≡ true }
-        ensures { self.new ≡ after_sync self.old }
-    {
-        self.order.settle(&self.out_info, &self.info);
-        over::join(&mut self.info, self.front, self.idx);
-        reset_positions(&mut self.pos, self.is_placed, self.info.len());
-        self.is_placed = false;
-        self.have_output = false;
-        self.idx = 0;
-    }
-
+    /// Makes one list of the output and the rest of the input.
     fn join(&mut self) -> Result<(), AllocError>
         requires open { self.old.is_open ≡ true }
-        requires apart { self.old.is_apart ≡ true }
         requires fits { fits_joined self.old ≡ true }
         ensures joined { OnOk result (self.new ≡ after_sync self.old) }
         ensures err { OnErr result (self.new ≡ self.old) }
+        ensures stays { self.old.is_apart ≡ false → IsOk result }
     {
-        self.order.settle(&self.out_info, &self.info);
-        join_lists(
-            &mut self.info,
-            self.idx,
-            &mut self.out_info,
-            &mut self.pos,
-            self.is_placed,
-        )?;
+        self.order.settle(&self.info);
+        let count = self.front + (self.info.len() - self.idx);
+        resize_positions(&mut self.pos, self.is_placed, count)?;
+        over::join(&mut self.info, self.front, self.idx);
         self.is_placed = false;
         self.have_output = false;
         self.is_apart = false;
+        self.gap = 0;
         self.idx = 0;
         Ok(())
     }
 }
 
-/// As many zero positions as there are glyphs. Only where some may be other than zero are they written.
+/// So many zero positions in place of those that there are. Only where some may be other than zero are these written.
+#[tactic(auto, using(crate::proofs::Cleared::zero_cut, crate::proofs::Cleared::zero_of_length))]
+fn resize_positions(
+    positions: &mut Vec<GlyphPosition>,
+    is_placed: bool,
+    count: usize,
+) -> Result<(), AllocError>
+    requires { OnFalse is_placed (positions.old.items ≡ zero_positions (length positions.old.items)) }
+    ensures ok { OnOk result (positions.new.items ≡ zero_positions count) }
+    ensures err { OnErr result (OnFalse is_placed (positions.new.items ≡ zero_positions (length positions.new.items))) }
+    ensures stays { count ≤ vec_len positions.old → IsOk result }
+{
+    if count <= positions.len() {
+        cut_positions(positions, is_placed, count);
+        return Ok(());
+    }
+    if is_placed {
+        positions.clear();
+    }
+    positions.resize(count, GlyphPosition::default())
+}
+
+/// The first positions, each of them zero.
 #[tactic(auto, using(crate::proofs::Cleared::zero_cut))]
-fn reset_positions(positions: &mut Vec<GlyphPosition>, is_placed: bool, count: usize)
+fn cut_positions(positions: &mut Vec<GlyphPosition>, is_placed: bool, count: usize)
     requires there { count ≤ vec_len positions.old }
     requires cleared { OnFalse is_placed (positions.old.items ≡ zero_positions (length positions.old.items)) }
     ensures { positions.new.items ≡ zero_positions count }
@@ -315,51 +244,4 @@ fn reset_positions(positions: &mut Vec<GlyphPosition>, is_placed: bool, count: u
     if is_placed {
         positions.fill(GlyphPosition::default());
     }
-}
-
-/// So many zero positions in place of those that there are. Only where some may be other than zero are these written.
-#[tactic(auto, using(crate::proofs::Cleared::zero_of_length))]
-fn resize_positions(
-    positions: &mut Vec<GlyphPosition>,
-    is_placed: bool,
-    count: usize,
-) -> Result<(), AllocError>
-    requires { OnFalse is_placed (positions.old.items ≡ zero_positions (length positions.old.items)) }
-    ensures ok { OnOk result (positions.new.items ≡ zero_positions count) }
-    ensures err { OnErr result (positions.new.items ≡ zero_positions (length positions.new.items)) }
-{
-    if is_placed {
-        positions.clear();
-    }
-    positions.resize(count, GlyphPosition::default())
-}
-
-/// Appends the rest of the input, from an index on, to the output, which becomes the list, with zero positions.
-fn join_lists(
-    info: &mut Vec<hb_glyph_info_t>,
-    from: usize,
-    output: &mut Vec<hb_glyph_info_t>,
-    positions: &mut Vec<GlyphPosition>,
-    is_placed: bool,
-) -> Result<(), AllocError>
-    requires there { from ≤ vec_len info.old }
-    requires cleared { OnFalse is_placed (positions.old.items ≡ zero_positions (length positions.old.items)) }
-    requires small { vec_len output.old + (vec_len info.old - from) < 2 ^ 64 }
-    ensures joined { OnOk result (info.new.items ≡ output.old.items ++ drop from info.old.items) }
-    ensures emptied { OnOk result (output.new.items ≡ []) }
-    ensures placed { OnOk result
-        (positions.new.items ≡ zero_positions (length output.old.items + (length info.old.items - from))) }
-    ensures cleared_err { OnErr result
-        (OnFalse is_placed (positions.new.items ≡ zero_positions (length positions.new.items))) }
-    ensures input_err { OnErr result (info.new.items ≡ info.old.items) }
-    ensures output_err { OnErr result (output.new.items ≡ output.old.items) }
-{
-    let rest = info.len() - from;
-    let count = output.len() + rest;
-    output.reserve(rest)?;
-    resize_positions(positions, is_placed, count)?;
-    output.extend_from_slice(&info[from..]).unwrap();
-    mem::swap(info, output);
-    output.clear();
-    Ok(())
 }

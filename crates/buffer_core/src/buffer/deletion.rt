@@ -9,7 +9,6 @@ ghost use Rattle.buffer_glyphs.specs.Events.{Delete};
 
 use super::hb_buffer_t;
 use super::merges::add_has_glyph_flags;
-use buffer_lists::deletion::delete_first;
 use buffer_lists::over;
 
 impl hb_buffer_t {
@@ -28,44 +27,7 @@ impl hb_buffer_t {
         ensures items { items_of self.new ≡ strip self.old.behind ++ drop 1 (strip self.old.ahead) }
         ensures origins { origins_of self.new ≡ origins_by (Delete (length self.old.behind) ∷ []) self.old }
     {
-        if self.is_apart {
-            self.delete_apart();
-        } else {
-            self.delete_over();
-        }
-    }
-
-    fn delete_apart(&mut self)
-        requires open { self.old.is_open ≡ true }
-        requires apart { self.old.is_apart ≡ true }
-        requires there { 0 < length self.old.ahead }
-        ensures deleted { (g : Glyph) (back : List Glyph) → self.old.ahead ≡ g ∷ back →
-            self.new ≡ with_deleted g back self.old }
-        ensures open { self.new.is_open ≡ true }
-        ensures read { self.new.read ≡ self.old.read + 1 }
-        ensures behind { length self.new.behind ≡ length self.old.behind }
-        ensures ahead { length self.new.ahead + 1 ≡ length self.old.ahead }
-    {
-        self.order.settle(&self.out_info, &self.info);
-        let known = self.order.known;
-        let input = &mut self.info[self.idx..];
-        let marked = delete_first(&mut self.out_info, input, self.cluster_level, known);
-        self.idx += 1;
-        self.scratch_flags = add_has_glyph_flags(marked, self.scratch_flags);
-    }
-
-    fn delete_over(&mut self)
-        requires open { self.old.is_open ≡ true }
-        requires in_place { self.old.is_apart ≡ false }
-        requires there { 0 < length self.old.ahead }
-        ensures deleted { (g : Glyph) (back : List Glyph) → self.old.ahead ≡ g ∷ back →
-            self.new ≡ with_deleted g back self.old }
-        ensures open { self.new.is_open ≡ true }
-        ensures read { self.new.read ≡ self.old.read + 1 }
-        ensures behind { length self.new.behind ≡ length self.old.behind }
-        ensures ahead { length self.new.ahead + 1 ≡ length self.old.ahead }
-    {
-        self.order.settle(&self.out_info, &self.info);
+        self.order.settle(&self.info);
         let (level, known) = (self.cluster_level, self.order.known);
         let marked = over::delete_first(&mut self.info, self.front, self.idx, level, known);
         self.idx += 1;

@@ -15,8 +15,8 @@ impl hb_buffer_t {
         ensures same { self.new ≡ self.old }
         ensures order { HasOrder result (clusters (all_glyphs self.old)) }
     {
-        self.order.settle(&self.out_info, &self.info);
-        let known = self.order.known.walked(&self.out_info, &self.info);
+        self.order.settle(&self.info);
+        let known = self.order.known.walked(&[], &self.info);
         self.order.known = known;
         known
     }
@@ -50,7 +50,7 @@ impl hb_buffer_t {
         ensures same { self.new ≡ self.old }
         ensures order { HasOrder result (clusters (all_glyphs self.old)) }
     {
-        self.order.settle(&self.out_info, &self.info);
+        self.order.settle(&self.info);
         self.order.known
     }
 

@@ -1,6 +1,6 @@
 //! Whole lists of a buffer, lent to be written (rustybuzz: hb/buffer.rs, `info_slice_mut`, `out_info_mut`,
 //! `pos_slice_mut`).
-ghost use Rattle.std.specs.Prelude.{◌≡◌, false, true};
+ghost use Rattle.std.specs.Prelude.{◌≡◌, false};
 ghost use Rattle.std.specs.Borrow.{sem};
 ghost use Rattle.buffer_core.specs.Sides.{all_glyphs};
 ghost use Rattle.buffer_core.specs.Lending.{LendsGlyphs, LendsOutput, LendsPositions};
@@ -9,6 +9,7 @@ use super::hb_buffer_t;
 use buffer_glyphs::info::hb_glyph_info_t;
 use buffer_glyphs::position::GlyphPosition;
 use buffer_lists::order::{ClusterOrder, KnownOrder};
+use buffer_lists::over;
 
 // Whole lists, lent to be written. As many glyphs come back as were lent.
 impl hb_buffer_t {
@@ -22,33 +23,17 @@ impl hb_buffer_t {
         &mut self.info
     }
 
-    /// The glyphs behind the cursor, to be written: those of the output while one is open.
+    /// The glyphs behind the cursor, to be written: those of the output while one is open. Where the output has had more
+    /// glyphs than were read, the input moves up to it first, in linear time; `rotate_output` needs no such move.
     pub fn out_info_mut(&mut self) -> &mut [hb_glyph_info_t]
         ensures value { result.now ≡ self.old.behind }
         ensures* writes_back { sem 𝓛 (LendsOutput self.entry result) }
     {
-        if self.is_apart {
-            return self.output_mut();
-        }
-        self.passed_mut()
-    }
-
-    fn output_mut(&mut self) -> &mut [hb_glyph_info_t]
-        requires { self.old.is_apart ≡ true }
-        ensures value { result.now ≡ self.old.behind }
-        ensures* writes_back { sem 𝓛 (LendsOutput self.entry result) }
-    {
-        self.order = ClusterOrder::of(KnownOrder::Unknown);
-        &mut self.out_info
-    }
-
-    /// The glyphs that the cursor has passed, or the output in the place of these.
-    fn passed_mut(&mut self) -> &mut [hb_glyph_info_t]
-        requires { self.old.is_apart ≡ false }
-        ensures value { result.now ≡ self.old.behind }
-        ensures* writes_back { sem 𝓛 (LendsOutput self.entry result) }
-    {
         let end = self.out_len();
+        let at = end.max(self.idx - self.gap);
+        over::join(&mut self.info, at, self.idx);
+        self.gap -= self.idx - at;
+        self.idx = at;
         self.order = ClusterOrder::of(KnownOrder::Unknown);
         self.info.slice_mut(..end)
     }

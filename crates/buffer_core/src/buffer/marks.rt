@@ -25,7 +25,7 @@ impl hb_buffer_t {
         ensures origins { origins_of self.new
             ≡ origins_by (Break (start_in_all start self.old) (end_in_all end self.old) ∷ []) self.old }
     {
-        let count = self.info.len();
+        let count = self.len();
         self.mark_range(
             start.unwrap_or(0),
             end.unwrap_or(count),
@@ -44,7 +44,7 @@ impl hb_buffer_t {
             ≡ origins_by (Concat (start_in_all start self.old) (end_in_all end self.old) ∷ []) self.old }
     {
         if self.asks_concat() {
-            let count = self.info.len();
+            let count = self.len();
             self.flag_range(start.unwrap_or(0), end.unwrap_or(count), UNSAFE_TO_CONCAT);
         }
     }
@@ -64,7 +64,7 @@ impl hb_buffer_t {
             .flags
             .contains(BufferFlags::PRODUCE_SAFE_TO_INSERT_TATWEEL)
         {
-            let count = self.info.len();
+            let count = self.len();
             self.mark_range(
                 start.unwrap_or(0),
                 end.unwrap_or(count),
@@ -89,9 +89,10 @@ impl hb_buffer_t {
         ensures marked { self.new
             ≡ with_flagged_apart flags (index_in_all start self.old) (index_in_all end self.old) self.old }
     {
-        self.order.settle(&self.out_info, &self.info);
+        self.order.settle(&self.info);
         let in_order = self.order.known.is_known();
-        let any = mark_within(&mut self.info, start, end, flags, in_order);
+        let (first, past) = (start + self.gap, end + self.gap);
+        let any = mark_within(&mut self.info, first, past, flags, in_order);
         self.scratch_flags = add_has_glyph_flags(any, self.scratch_flags);
     }
 
@@ -103,7 +104,7 @@ impl hb_buffer_t {
         ensures marked { self.new
             ≡ with_flagged flags (index_in_all start self.old) (index_in_all end self.old) self.old }
     {
-        flag_within(&mut self.info, start, end, flags);
+        flag_within(&mut self.info, start + self.gap, end + self.gap, flags);
         self.scratch_flags = add_has_glyph_flags(start < end, self.scratch_flags);
     }
 }

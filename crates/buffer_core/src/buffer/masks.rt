@@ -20,7 +20,6 @@ impl hb_buffer_t {
         ensures event { bit_and mask DEFINED ≡ 0 → origins_of self.new ≡ origins_by (Reset ∷ []) self.old }
     {
         reset_masks(&mut self.info, mask);
-        reset_masks(&mut self.out_info, mask);
     }
 
     /// Sets the bits under `mask` to those of the value on each glyph whose cluster is from `cluster_start` up to
@@ -40,6 +39,5 @@ impl hb_buffer_t {
         ensures above { bit_and mask DEFINED ≡ 0 → origins_of self.new ≡ origins_of self.old }
     {
         set_masks(&mut self.info, value, mask, cluster_start, cluster_end);
-        set_masks(&mut self.out_info, value, mask, cluster_start, cluster_end);
     }
 }

@@ -10,7 +10,6 @@ use super::hb_buffer_t;
 use buffer_common::constants::{HB_BUFFER_SCRATCH_FLAG_HAS_GLYPH_FLAGS, hb_buffer_scratch_flags_t};
 use buffer_glyphs::deletion::set_cluster;
 use buffer_glyphs::info::{hb_glyph_info_t, hb_mask_t};
-use buffer_lists::merges::merge_input;
 use buffer_lists::over;
 
 impl hb_buffer_t {
@@ -28,49 +27,18 @@ impl hb_buffer_t {
         ensures origins { origins_of self.new
             ≡ origins_by (Merge InList (index_in_all start self.old) (index_in_all end self.old) ∷ []) self.old }
     {
-        if self.have_output && !self.is_apart {
-            self.merge_over(start, end);
+        let (front, from) = if self.have_output {
+            (self.front, self.idx)
         } else {
-            self.merge_apart(start, end);
-        }
-    }
-
-    fn merge_over(&mut self, start: usize, end: usize)
-        requires open { self.old.is_open ≡ true }
-        requires in_place { self.old.is_apart ≡ false }
-        requires ordered { start ≤ end }
-        requires within { end ≤ self.old.read + length self.old.ahead }
-        requires unread { self.old.read ≤ start }
-        ensures merged { self.new ≡ with_merged (index_in_all start self.old) (index_in_all end self.old) self.old }
-    {
-        self.order.settle(&self.out_info, &self.info);
+            (0, 0)
+        };
+        self.order.settle(&self.info);
         let (marked, known) = over::merge_input(
             &mut self.info,
-            self.front,
-            self.idx,
-            start - self.idx,
-            end - self.idx,
-            self.cluster_level,
-            self.order.known,
-        );
-        self.order.known = known;
-        self.scratch_flags = add_has_glyph_flags(marked, self.scratch_flags);
-    }
-
-    fn merge_apart(&mut self, start: usize, end: usize)
-        requires apart { self.old.is_open ≡ true → self.old.is_apart ≡ true }
-        requires ordered { start ≤ end }
-        requires within { end ≤ self.old.read + length self.old.ahead }
-        requires unread { self.old.is_open ≡ true → self.old.read ≤ start }
-        ensures merged { self.new ≡ with_merged (index_in_all start self.old) (index_in_all end self.old) self.old }
-    {
-        let from = self.first_of_input();
-        self.order.settle(&self.out_info, &self.info);
-        let (marked, known) = merge_input(
-            &mut self.out_info,
-            &mut self.info[from..],
-            start - from,
-            end - from,
+            front,
+            from,
+            start + self.gap - from,
+            end + self.gap - from,
             self.cluster_level,
             self.order.known,
         );
@@ -83,13 +51,6 @@ impl hb_buffer_t {
         ensures { info.new ≡ recast cluster mask info.old }
     {
         set_cluster(info, cluster, mask);
-    }
-
-    /// The index in the input of the first glyph ahead; with no output open, 0.
-    pub(super) fn first_of_input(&self) -> usize
-        ensures { result ≡ (if self.now.is_open then self.now.read else 0) }
-    {
-        if self.have_output { self.idx } else { 0 }
     }
 }
 

@@ -7,7 +7,6 @@ ghost use Rattle.buffer_core.specs.Moving.{fits_moved, has_room_back, after_move
 ghost use Rattle.buffer_glyphs.specs.Events.{Replace};
 
 use super::hb_buffer_t;
-use buffer_lists::moves::put_in_front;
 use buffer_lists::over;
 use std::alloc::AllocError;
 
@@ -29,30 +28,11 @@ impl hb_buffer_t {
             self.idx += count;
             return Ok(true);
         }
-        if !self.is_apart {
-            self.pass(count);
-            return Ok(true);
-        }
         if !self.has_output_room(count) {
             return Ok(self.refuse());
         }
-        self.push_next(count)?;
+        self.pass(count);
         Ok(true)
-    }
-
-    fn push_next(&mut self, count: usize) -> Result<(), AllocError>
-        requires open { self.old.is_open ≡ true }
-        requires apart { self.old.is_apart ≡ true }
-        requires there { count ≤ length self.old.ahead }
-        requires room { has_output_room count self.old ≡ true }
-        ensures moved { OnOk result (self.new ≡ after_next_glyphs count self.old) }
-        ensures err { OnErr result (self.new ≡ self.old) }
-    {
-        self.order.settle(&self.out_info, &self.info);
-        self.out_info
-            .extend_from_slice(&self.info[self.idx..self.idx + count])?;
-        self.idx += count;
-        Ok(())
     }
 
     /// Deletes the glyph at the cursor, with no merge of clusters. It takes no memory.
@@ -107,28 +87,23 @@ impl hb_buffer_t {
         ensures err { OnErr result (self.new ≡ self.old) }
         ensures stays { self.old.is_apart ≡ false → result ≡ Ok true }
     {
-        if !self.is_apart {
-            self.pass_back(i);
-            return Ok(true);
-        }
         if !self.has_room_back(i) {
             return Ok(self.refuse());
         }
-        self.take_back(i)?;
+        self.pass_back(i);
         Ok(true)
     }
 
-    /// The same with the output in place.
     fn pass_back(&mut self, i: usize)
         requires open { self.old.is_open ≡ true }
-        requires in_place { self.old.is_apart ≡ false }
         requires there { i ≤ length self.old.behind }
-        ensures moved { self.new ≡ after_move_to i self.old }
-        ensures room { has_room_back i self.old ≡ true }
+        requires room { has_room_back i self.old ≡ true }
+        ensures { self.new ≡ after_move_to i self.old }
     {
-        self.order.settle(&self.out_info, &self.info);
+        self.order.settle(&self.info);
         over::pass_back(&mut self.info, self.front, self.idx, i);
         self.idx -= self.front - i;
+        self.gap = self.gap.min(self.idx);
         self.front = i;
     }
 
@@ -136,24 +111,10 @@ impl hb_buffer_t {
     fn has_room_back(&self, i: usize) -> bool
         requires open { self.now.is_open ≡ true }
         requires there { i ≤ length self.now.behind }
-        ensures { result ≡ has_room_back i self.now }
+        ensures room { result ≡ has_room_back i self.now }
+        ensures stays { self.now.is_apart ≡ false → result ≡ true }
     {
         let rest = self.info.len() - self.idx;
         self.out_len() - i <= self.max_len - rest
-    }
-
-    fn take_back(&mut self, i: usize) -> Result<(), AllocError>
-        requires open { self.old.is_open ≡ true }
-        requires apart { self.old.is_apart ≡ true }
-        requires there { i ≤ length self.old.behind }
-        requires room { has_room_back i self.old ≡ true }
-        ensures moved { OnOk result (self.new ≡ after_move_to i self.old) }
-        ensures err { OnErr result (self.new ≡ self.old) }
-    {
-        self.order.settle(&self.out_info, &self.info);
-        let first = put_in_front(&mut self.info, self.idx, &self.out_info[i..])?;
-        self.idx = first;
-        self.out_info.truncate(i);
-        Ok(())
     }
 }

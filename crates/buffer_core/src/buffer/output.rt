@@ -1,5 +1,5 @@
 //! Single glyphs appended to the output (rustybuzz: hb/buffer.rs, `output_glyph`, `output_info`, `replace_glyph`).
-ghost use Rattle.std.specs.Prelude.{◌≡◌, ◌≢◌, ◌<◌, ◌≤◌, ◌+◌, ◌++◌, ◌∷◌, [], take, drop, length, true, false, Ok, OnOk, OnErr, IfOk};
+ghost use Rattle.std.specs.Prelude.{◌≡◌, ◌≢◌, ◌<◌, ◌≤◌, ◌+◌, ◌++◌, ◌∷◌, [], take, drop, length, true, false, Ok, IsOk, OnOk, OnErr, IfOk};
 ghost use Rattle.buffer_glyphs.specs.Items.{clusters, item_of, strip};
 ghost use Rattle.buffer_lists.specs.Known.{HasOrder};
 ghost use Rattle.buffer_glyphs.specs.Parts.{numbers_replaced};
@@ -10,11 +10,11 @@ ghost use Rattle.buffer_glyphs.specs.Origins.{origin_of, origins};
 ghost use Rattle.buffer_glyphs.specs.Events.{Replace};
 
 use super::hb_buffer_t;
-use super::room::reserve_output;
+use super::room::{has_left, make_room};
 use buffer_glyphs::info::hb_glyph_info_t;
 use buffer_lists::order::KnownOrder;
 use buffer_lists::over;
-use buffer_lists::replacement::push_copies;
+use buffer_lists::replacement::put_copies;
 use std::alloc::AllocError;
 
 impl hb_buffer_t {
@@ -36,46 +36,33 @@ impl hb_buffer_t {
         if self.is_empty() {
             return Ok(true);
         }
-        if !self.is_apart && self.front < self.idx {
-            self.put_copy(glyph_index);
-            return Ok(true);
-        }
         if !self.has_output_room(1) {
             return Ok(self.refuse());
         }
-        self.push_copy(glyph_index)?;
+        self.put_copy(glyph_index)?;
         Ok(true)
     }
 
-    fn put_copy(&mut self, glyph_index: u32)
+    fn put_copy(&mut self, glyph_index: u32) -> Result<(), AllocError>
         requires open { self.old.is_open ≡ true }
-        requires in_place { self.old.is_apart ≡ false }
-        requires within { length self.old.behind < self.old.read }
-        ensures put { self.new ≡ with_output_glyph glyph_index self.old }
-        ensures room { has_output_room 1 self.old ≡ true }
+        requires some { length (all_glyphs self.old) ≢ 0 }
+        requires room { has_output_room 1 self.old ≡ true }
+        ensures put { OnOk result (self.new ≡ with_output_glyph glyph_index self.old) }
+        ensures err { OnErr result (self.new ≡ self.old) }
+        ensures stays { length self.old.behind < self.old.read → IsOk result }
     {
-        self.order.settle(&self.out_info, &self.info);
-        self.front = over::put_copies(
+        self.order.settle(&self.info);
+        let moved = make_room(&mut self.info, self.front, self.idx, self.gap, 1)?;
+        self.idx += moved;
+        self.gap += moved;
+        self.is_apart = has_left(self.is_apart, moved);
+        self.front = put_copies(
             &mut self.info,
             self.front,
             self.idx,
             self.idx,
             &[glyph_index],
         );
-    }
-
-    fn push_copy(&mut self, glyph_index: u32) -> Result<(), AllocError>
-        requires open { self.old.is_open ≡ true }
-        requires some { length (all_glyphs self.old) ≢ 0 }
-        requires room { has_output_room 1 self.old ≡ true }
-        requires leaves { self.old.is_apart ≡ false → self.old.read ≤ length self.old.behind }
-        ensures put { OnOk result (self.new ≡ with_output_glyph glyph_index self.old) }
-        ensures err { OnErr result (self.new ≡ self.old) }
-    {
-        self.order.settle(&self.out_info, &self.info);
-        reserve_output(self.is_apart, &self.info, self.front, &mut self.out_info, 1)?;
-        push_copies(&mut self.out_info, &self.info[self.idx..], &[glyph_index]);
-        self.is_apart = true;
         Ok(())
     }
 
@@ -93,46 +80,30 @@ impl hb_buffer_t {
         ensures err { OnErr result (self.new ≡ self.old) }
         ensures stays { (with_output_info glyph_info self.old).is_apart ≡ false → result ≡ Ok true }
     {
-        if !self.is_apart && self.front < self.idx {
-            self.put_info(glyph_info);
-            return Ok(true);
-        }
         if !self.has_output_room(1) {
             return Ok(self.refuse());
         }
-        self.push_info(glyph_info)?;
+        self.put_info(glyph_info)?;
         Ok(true)
     }
 
-    fn put_info(&mut self, glyph_info: hb_glyph_info_t)
+    fn put_info(&mut self, glyph_info: hb_glyph_info_t) -> Result<(), AllocError>
         requires open { self.old.is_open ≡ true }
-        requires in_place { self.old.is_apart ≡ false }
-        requires within { length self.old.behind < self.old.read }
-        ensures put { self.new ≡ with_output_info glyph_info self.old }
-        ensures room { has_output_room 1 self.old ≡ true }
+        requires room { has_output_room 1 self.old ≡ true }
+        ensures put { OnOk result (self.new ≡ with_output_info glyph_info self.old) }
+        ensures err { OnErr result (self.new ≡ self.old) }
+        ensures stays { length self.old.behind < self.old.read → IsOk result }
     {
-        self.order.settle(&self.out_info, &self.info);
+        self.order.settle(&self.info);
+        let moved = make_room(&mut self.info, self.front, self.idx, self.gap, 1)?;
+        self.idx += moved;
+        self.gap += moved;
+        self.is_apart = has_left(self.is_apart, moved);
         let known = self.order.known;
         let (front, from) = (self.front, self.idx);
         self.order.known = with_between(known, &self.info, front, glyph_info.cluster, from);
         over::put(&mut self.info, front, from, glyph_info);
         self.front += 1;
-    }
-
-    fn push_info(&mut self, glyph_info: hb_glyph_info_t) -> Result<(), AllocError>
-        requires open { self.old.is_open ≡ true }
-        requires room { has_output_room 1 self.old ≡ true }
-        requires leaves { self.old.is_apart ≡ false → self.old.read ≤ length self.old.behind }
-        ensures put { OnOk result (self.new ≡ with_output_info glyph_info self.old) }
-        ensures err { OnErr result (self.new ≡ self.old) }
-    {
-        self.order.settle(&self.out_info, &self.info);
-        reserve_output(self.is_apart, &self.info, self.front, &mut self.out_info, 1)?;
-        let known = self.order.known;
-        let rest = &self.info[self.idx..];
-        self.order.known = known.with_between(&self.out_info, glyph_info.cluster, rest);
-        self.out_info.push(glyph_info).unwrap();
-        self.is_apart = true;
         Ok(())
     }
 
@@ -151,25 +122,20 @@ impl hb_buffer_t {
         ensures err { OnErr result (self.new ≡ self.old) }
         ensures stays { self.old.is_apart ≡ false → result ≡ Ok true }
     {
-        if !self.is_apart {
-            self.pass_renumbered(glyph_index);
-            return Ok(true);
-        }
         if !self.has_output_room(1) {
             return Ok(self.refuse());
         }
-        self.push_renumbered(glyph_index)?;
+        self.pass_renumbered(glyph_index);
         Ok(true)
     }
 
     fn pass_renumbered(&mut self, glyph_index: u32)
         requires open { self.old.is_open ≡ true }
-        requires in_place { self.old.is_apart ≡ false }
         requires there { 0 < length self.old.ahead }
+        requires room { has_output_room 1 self.old ≡ true }
         ensures replaced { self.new ≡ with_replaced_glyph glyph_index self.old }
-        ensures room { has_output_room 1 self.old ≡ true }
     {
-        self.order.settle(&self.out_info, &self.info);
+        self.order.settle(&self.info);
         let glyph = hb_glyph_info_t {
             glyph_id: glyph_index,
             ..self.info[self.idx]
@@ -178,26 +144,9 @@ impl hb_buffer_t {
         self.front += 1;
         self.idx += 1;
     }
-
-    fn push_renumbered(&mut self, glyph_index: u32) -> Result<(), AllocError>
-        requires open { self.old.is_open ≡ true }
-        requires apart { self.old.is_apart ≡ true }
-        requires there { 0 < length self.old.ahead }
-        requires room { has_output_room 1 self.old ≡ true }
-        ensures replaced { OnOk result (self.new ≡ with_replaced_glyph glyph_index self.old) }
-        ensures err { OnErr result (self.new ≡ self.old) }
-    {
-        self.order.settle(&self.out_info, &self.info);
-        self.out_info.push(hb_glyph_info_t {
-            glyph_id: glyph_index,
-            ..self.info[self.idx]
-        })?;
-        self.idx += 1;
-        Ok(())
-    }
 }
 
-/// What is known of the order of an output in place and the rest of the input with a glyph of the cluster between.
+/// What is known of the order of the output and the input with a glyph of the cluster between.
 fn with_between(
     known: KnownOrder,
     glyphs: &[hb_glyph_info_t],

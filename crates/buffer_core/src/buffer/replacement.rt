@@ -1,5 +1,5 @@
 //! Some glyphs replaced by others (rustybuzz: hb/buffer.rs, `replace_glyphs`).
-ghost use Rattle.std.specs.Prelude.{◌≡◌, ◌≢◌, ◌<◌, ◌+◌, ◌≤◌, length, true, false, Ok, OnOk, OnErr, IfOk, ◌∷◌, []};
+ghost use Rattle.std.specs.Prelude.{◌≡◌, ◌≢◌, ◌<◌, ◌+◌, ◌≤◌, length, true, false, Ok, IsOk, OnOk, OnErr, IfOk, ◌∷◌, []};
 ghost use Rattle.buffer_glyphs.specs.Parts.{numbers_replaced};
 ghost use Rattle.buffer_glyphs.specs.Replacements.{items_replaced};
 ghost use Rattle.buffer_core.specs.Sides.{all_glyphs, has_output_room, items_of, after_refusal, origins_of, origins_by};
@@ -8,8 +8,7 @@ ghost use Rattle.buffer_glyphs.specs.Events.{Replace};
 
 use super::hb_buffer_t;
 use super::merges::add_has_glyph_flags;
-use super::room::reserve_output;
-use buffer_lists::over;
+use super::room::{has_left, make_room};
 use buffer_lists::replacement::replace_first;
 use std::alloc::AllocError;
 
@@ -40,10 +39,6 @@ impl hb_buffer_t {
         if self.is_empty() {
             return Ok(true);
         }
-        if !self.is_apart && self.front + num_out <= self.idx + num_in {
-            self.replace_over(num_in, glyph_data);
-            return Ok(true);
-        }
         if !self.has_output_room(num_out) {
             return Ok(self.refuse());
         }
@@ -51,16 +46,22 @@ impl hb_buffer_t {
         Ok(true)
     }
 
-    fn replace_over(&mut self, num_in: usize, glyph_data: &[u32])
+    fn replace_taken(&mut self, num_in: usize, glyph_data: &[u32]) -> Result<(), AllocError>
         requires open { self.old.is_open ≡ true }
-        requires in_place { self.old.is_apart ≡ false }
+        requires some { length (all_glyphs self.old) ≢ 0 }
         requires taken { num_in ≤ length self.old.ahead }
-        requires within { length self.old.behind + length glyph_data.now ≤ self.old.read + num_in }
-        ensures replaced { self.new ≡ with_replaced num_in glyph_data.now self.old }
-        ensures room { has_output_room (length glyph_data.now) self.old ≡ true }
+        requires room { has_output_room (length glyph_data.now) self.old ≡ true }
+        ensures replaced { OnOk result (self.new ≡ with_replaced num_in glyph_data.now self.old) }
+        ensures err { OnErr result (self.new ≡ self.old) }
+        ensures stays { length self.old.behind + length glyph_data.now ≤ self.old.read + num_in → IsOk result }
     {
-        self.order.settle(&self.out_info, &self.info);
-        let (marked, known, front) = over::replace_first(
+        self.order.settle(&self.info);
+        let more = glyph_data.len().saturating_sub(num_in);
+        let moved = make_room(&mut self.info, self.front, self.idx, self.gap, more)?;
+        self.idx += moved;
+        self.gap += moved;
+        self.is_apart = has_left(self.is_apart, moved);
+        let (marked, known, front) = replace_first(
             &mut self.info,
             self.front,
             self.idx,
@@ -72,39 +73,6 @@ impl hb_buffer_t {
         self.front = front;
         self.idx += num_in;
         self.order.known = known;
-        self.scratch_flags = add_has_glyph_flags(marked, self.scratch_flags);
-    }
-
-    fn replace_taken(&mut self, num_in: usize, glyph_data: &[u32]) -> Result<(), AllocError>
-        requires open { self.old.is_open ≡ true }
-        requires some { length (all_glyphs self.old) ≢ 0 }
-        requires taken { num_in ≤ length self.old.ahead }
-        requires room { has_output_room (length glyph_data.now) self.old ≡ true }
-        requires leaves { self.old.is_apart ≡ false →
-            self.old.read + num_in < length self.old.behind + length glyph_data.now }
-        ensures replaced { OnOk result (self.new ≡ with_replaced num_in glyph_data.now self.old) }
-        ensures err { OnErr result (self.new ≡ self.old) }
-    {
-        self.order.settle(&self.out_info, &self.info);
-        let more = glyph_data.len();
-        reserve_output(
-            self.is_apart,
-            &self.info,
-            self.front,
-            &mut self.out_info,
-            more,
-        )?;
-        let (marked, known) = replace_first(
-            &mut self.out_info,
-            &mut self.info[self.idx..],
-            num_in,
-            glyph_data,
-            self.cluster_level,
-            self.order.known,
-        );
-        self.idx += num_in;
-        self.order.known = known;
-        self.is_apart = true;
         self.scratch_flags = add_has_glyph_flags(marked, self.scratch_flags);
         Ok(())
     }

@@ -17,7 +17,7 @@ impl hb_buffer_t {
         ensures items { items_of self.new ≡ reverse (items_of self.old) }
         ensures origins { origins_of self.new ≡ origins_by (Reverse ∷ []) self.old }
     {
-        self.order.settle(&self.out_info, &self.info);
+        self.order.settle(&self.info);
         self.order.known = self.order.known.reversed();
         self.is_placed = true;
         self.info.reverse();

@@ -1,5 +1,5 @@
 //! Whether a list may grow, and refusals for length (rustybuzz: hb/buffer.rs, `ensure`, `successful`).
-ghost use Rattle.std.specs.Prelude.{◌≡◌, ◌≤◌, ◌<◌, ◌+◌, ◌^◌, [], if◌then◌else◌, take, length, vec_len, vec_capacity, false, true, OnOk, OnErr};
+ghost use Rattle.std.specs.Prelude.{◌≡◌, ◌≤◌, ◌+◌, ◌||◌, nat_lt, take, drop, length, vec_len, false, true, Ok, IfOk, OnOk, OnErr};
 ghost use Rattle.buffer_core.specs.Sides.{has_output_room, after_refusal};
 
 use super::hb_buffer_t;
@@ -11,7 +11,9 @@ impl hb_buffer_t {
     /// Whether the output may have so many more glyphs.
     pub(super) fn has_output_room(&self, count: usize) -> bool
         requires { self.now.is_open ≡ true }
-        ensures { result ≡ has_output_room count self.now }
+        ensures room { result ≡ has_output_room count self.now }
+        ensures in_place { self.now.is_apart ≡ false → length self.now.behind ≤ self.now.read }
+        ensures within { self.now.is_apart ≡ false → self.now.read + length self.now.ahead ≤ self.now.max_len }
     {
         count <= self.max_len - self.out_len()
     }
@@ -26,23 +28,38 @@ impl hb_buffer_t {
     }
 }
 
-/// Makes room for so many more glyphs in an output that is apart, or copies one that is in place there.
-pub(super) fn reserve_output(
-    is_apart: bool,
-    glyphs: &[hb_glyph_info_t],
+/// Makes room for so many more glyphs behind the output, and moves the input on where there is too little; answers how
+/// far. Where it moves, it moves by a sixteenth of its length at least, and as far as it has moved before, so that it
+/// moves few times.
+pub(super) fn make_room(
+    glyphs: &mut Vec<hb_glyph_info_t>,
     front: usize,
-    output: &mut Vec<hb_glyph_info_t>,
+    from: usize,
+    opened: usize,
     more: usize,
-) -> Result<(), AllocError>
-    requires there { is_apart ≡ false → front ≤ length glyphs.now }
-    requires emptied { is_apart ≡ false → output.old.items ≡ [] }
-    requires small { is_apart ≡ false → front + more < 2 ^ 64 }
-    ensures moved { OnOk result (output.new.items ≡ (if is_apart then output.old.items else take front glyphs.now)) }
-    ensures room { OnOk result (vec_len output.new + more ≤ vec_capacity output.new) }
-    ensures err { OnErr result (output.new.items ≡ output.old.items) }
+) -> Result<usize, AllocError>
+    requires ordered { front ≤ from }
+    requires within { from ≤ vec_len glyphs.old }
+    ensures output { OnOk result (take front glyphs.new.items ≡ take front glyphs.old.items) }
+    ensures input { IfOk result (λ n. drop (from + n) glyphs.new.items ≡ drop from glyphs.old.items) }
+    ensures len { IfOk result (λ n. vec_len glyphs.new ≡ vec_len glyphs.old + n) }
+    ensures room { IfOk result (λ n. front + more ≤ from + n) }
+    ensures moved { IfOk result (λ n. nat_lt 0 n ≡ nat_lt from (front + more)) }
+    ensures stays { front + more ≤ from → result ≡ Ok 0 }
+    ensures err { OnErr result (glyphs.new.items ≡ glyphs.old.items) }
 {
-    if is_apart {
-        return output.reserve(more);
+    let room = from - front;
+    if more <= room {
+        return Ok(0);
     }
-    over::move_apart(glyphs, front, output, more)
+    let wanted = (more - room).max(opened).max((glyphs.len() - from) / 16);
+    over::open_gap(glyphs, front, from, wanted)?;
+    Ok(wanted)
+}
+
+/// Whether the output has had more glyphs than were read, once the input has moved on so far.
+pub(super) fn has_left(is_apart: bool, moved: usize) -> bool
+    ensures { result ≡ (is_apart || nat_lt 0 moved) }
+{
+    is_apart || moved > 0
 }

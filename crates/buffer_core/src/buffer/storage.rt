@@ -22,7 +22,7 @@ impl hb_buffer_t {
         ensures count { self.now.is_open ≡ false → result ≡ length (all_glyphs self.now) }
         ensures within { self.now.is_open ≡ false → result ≤ self.now.max_len }
     {
-        self.info.len()
+        self.info.len() - self.gap
     }
 
     /// Whether `len` is 0.
@@ -50,7 +50,7 @@ impl hb_buffer_t {
     pub fn idx(&self) -> usize
         ensures { result ≡ self.now.read }
     {
-        self.idx
+        self.idx - self.gap
     }
 
     /// All glyphs while no output is open.
@@ -88,10 +88,18 @@ impl hb_buffer_t {
         }
         self.info.reserve(1)?;
         self.pos.push(GlyphPosition::default())?;
-        self.order.settle(&self.out_info, &self.info);
+        self.order.settle(&self.info);
         self.order.known = self.order.known.with_last(&self.info, cluster);
         self.info.push(added(codepoint, cluster)).unwrap();
         Ok(true)
+    }
+
+    /// Gives back memory that the lists have beyond their glyphs and positions. It changes nothing that is seen.
+    pub fn shrink_to_fit(&mut self)
+        ensures { self.new ≡ self.old }
+    {
+        self.info.shrink_to_fit();
+        self.pos.shrink_to_fit();
     }
 
     /// Truncates the list to n glyphs, or fills it up with zero glyphs and positions; the cursor is at most at its end.

@@ -13,8 +13,6 @@ use Rattle.buffer_core.specs.Readings.{View, Stage, Follows}
 use Rattle.buffer_glyphs.specs.Lemmas.Origins.{origins_after_both}
 use Rattle.buffer_core.specs.Sides.{Sides, Settings, all_glyphs, flag_requests_of, items_of, origins_of, origins_by, settings_of, view_of, state_of, with_output, after_sync, after_next_glyphs, zero_positions}
 use Rattle.buffer_core.specs.Merging.{with_output_merged, output_merged_at}
-use Rattle.buffer_core.proofs.Lent.{output_comes_back}
-use Rattle.buffer_core.specs.Lending.{with_output_refilled}
 use Rattle.buffer_stages.specs.Ready.{IsReady}
 use Rattle.buffer_stages.specs.Stages.{IsFollowed}
 use Rattle.buffer_stages.specs.Moves.{with_range_moved, order_of_move}
@@ -101,10 +99,6 @@ move_walked start n k end gs s mid new at le h e is =
       unrefused = h.unrefused;
     } in
     subst P (sym is) settled
-
--- as many glyphs of the output come back as were lent
-pub output_written : (gs : List hb_glyph_info_t) (s : Sides) → s.is_open ≡ true → length gs ≡ length s.behind → with_output_refilled gs s ≡ record s { behind = gs }
-output_written gs s opened long = output_comes_back s gs long
 
 -- a text that went through the output whole
 pub walked_followed : (stage : Stage) (out : List Item) (es : List Event) (events : BufferClusterLevel → List Event) (s t new : Sides) → IsReady s → HasWalked out [] es (with_output s) t → new ≡ after_sync t

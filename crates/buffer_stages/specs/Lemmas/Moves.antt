@@ -1,11 +1,11 @@
 -- A range that moved.
-use Rattle.std.proofs.Common.{ℕ, zero, suc, ◌≡◌, ◌≤◌, ◌+◌, ◌-◌, List, [], ◌∷◌, ◌++◌, Some, slice_get, length, map, take, drop, arith, refl, ap, sym, subst, ◌∙◌, append_assoc}
+use Rattle.std.proofs.Common.{ℕ, ◌≡◌, ◌≤◌, ◌+◌, ◌-◌, List, [], ◌∷◌, ◌++◌, Some, slice_get, length, map, take, drop, arith, refl, ap, sym, subst, ◌∙◌, append_assoc}
 use Rattle.std.specs.List.{range_with_len}
-use borrow.Rule.Slice.PartMut.{put_mid}
-use Rattle.std.proofs.lemmas.List.{drop-drop, drop-append-le, take-append-le, length-append, length-drop, length-take-le, take-map, drop-map, map-append}
+use Rattle.std.proofs.lemmas.List.{drop-drop, length-append, length-drop, length-take-le, take-map, drop-map, map-append}
 use Rattle.std.proofs.lemmas.List.FromFn.{length-range_with_len}
 use Rattle.buffer_glyphs.specs.Origins.{with_range_arranged}
 use Rattle.buffer_lists.specs.Lemmas.Picked.{AreAt, are_all, arranged_as}
+pub use Rattle.buffer_core.specs.RangeMoves.{take_both, take_front, drop_front, part_moved, moved_length, moved_front}
 use Rattle.buffer_stages.specs.Moves.{with_range_moved, order_of_move}
 
 pub are_both : {X : Type 0} (all : List X) (is : List ℕ) (zs : List X) (js : List ℕ) (ws : List X) → AreAt all is zs → AreAt all js ws → AreAt all (is ++ js) (zs ++ ws)
@@ -26,16 +26,6 @@ are_among front (x ∷ xs) back =
     let long : length (front ++ x ∷ []) ≡ length front + 1 = length-append front (x ∷ []) in
     let at : AreAt ((front ++ x ∷ []) ++ (xs ++ back)) (range_with_len (length front + 1) (length xs)) xs = subst (λ n. AreAt ((front ++ x ∷ []) ++ (xs ++ back)) (range_with_len n (length xs)) xs) long rest in
     (got_among front x (xs ++ back), subst (λ ys. AreAt ys (range_with_len (length front + 1) (length xs)) xs) (append_assoc front (x ∷ []) (xs ++ back)) at)
-
-nothing : {X : Type 0} (k : ℕ) (none : List X) → none ≡ [] → take k none ≡ []
-nothing zero none e = refl
-nothing (suc k) [] e = refl
-nothing (suc k) (x ∷ xs) e = cc
-
-pub take_both : {X : Type 0} (n k : ℕ) (xs : List X) → take (n + k) xs ≡ take n xs ++ take k (drop n xs)
-take_both zero k xs = ap (λ m. take m xs) (let e : zero + k ≡ k = omega arith in e)
-take_both (suc n) k [] = rw (let e : suc n + k ≡ suc (n + k) = omega arith in e) (sym (nothing k (drop (suc n) []) refl))
-take_both (suc n) k (x ∷ xs) = rw (let e : suc n + k ≡ suc (n + k) = omega arith in e) (ap (λ ys. x ∷ ys) (take_both n k xs))
 
 pub order_long : (n k : ℕ) → length (order_of_move n k) ≡ n + k
 order_long n k = (let a = length-range_with_len n k in let b = length-range_with_len 0 n in omega (arith, a, b, length-append (range_with_len n k) (range_with_len 0 n)))
@@ -60,50 +50,5 @@ arranged_moved start n k xs le =
     ∙ ap (λ m. take start xs ++ (take k (drop n ys) ++ take n ys) ++ drop (start + m) xs) (order_long n k)
     ∙ ap (λ zs. take start xs ++ (take k zs ++ take n ys) ++ drop (start + (n + k)) xs) (drop-drop n start xs)
 
-pub take_front : {X : Type 0} (xs ys : List X) → take (length xs) (xs ++ ys) ≡ xs
-take_front [] ys = refl
-take_front (x ∷ xs) ys = ap (λ zs. x ∷ zs) (take_front xs ys)
-
-pub drop_front : {X : Type 0} (xs ys : List X) → drop (length xs) (xs ++ ys) ≡ ys
-drop_front [] ys = refl
-drop_front (x ∷ xs) ys = drop_front xs ys
-
--- a part of a list that was turned
-pub part_moved : {X : Type 0} (start n k m : ℕ) (xs ys : List X) → m ≡ n + k → start + (n + k) ≤ length xs → ys ≡ drop n (take m (drop start xs)) ++ take n (take m (drop start xs)) → put_mid start m xs ys ≡ with_range_moved start n k xs
-part_moved start n k m xs ys at le e =
-    let zs = drop start xs in
-    let a : length (take n zs) ≡ n = length-take-le n zs (omega (arith, length-drop start xs, le)) in
-    let cut : take m zs ≡ take n zs ++ take k (drop n zs) = ap (λ j. take j zs) at ∙ take_both n k zs in
-    let back : drop n (take m zs) ≡ take k (drop (start + n) xs) =
-    ap (drop n) cut ∙ ap (λ j. drop j (take n zs ++ take k (drop n zs))) (sym a) ∙ drop_front (take n zs) (take k (drop n zs)) ∙ ap (take k) (drop-drop n start xs) in
-    let front : take n (take m zs) ≡ take n zs = ap (take n) cut ∙ ap (λ j. take j (take n zs ++ take k (drop n zs))) (sym a) ∙ take_front (take n zs) (take k (drop n zs)) in
-    ap (λ ws. put_mid start m xs ws) (e ∙ ap (λ ws. ws ++ take n (take m zs)) back ∙ ap (λ ws. take k (drop (start + n) xs) ++ ws) front)
-    ∙ ap (λ ws. take start xs ++ ((take k (drop (start + n) xs) ++ take n zs) ++ ws)) (drop-drop m start xs ∙ ap (λ j. drop (start + j) xs) at)
-    ∙ sym (append_assoc (take start xs) (take k (drop (start + n) xs) ++ take n zs) (drop (start + (n + k)) xs))
-
 pub moved_seen : {X Y : Type 0} (f : X → Y) (start n k : ℕ) (xs : List X) → map f (with_range_moved start n k xs) ≡ with_range_moved start n k (map f xs)
 moved_seen f start n k xs = simp (map-append, take-map, drop-map)
-
-pub moved_length : {X : Type 0} (start n k : ℕ) (xs : List X) → start + (n + k) ≤ length xs → length (with_range_moved start n k xs) ≡ length xs
-moved_length start n k xs le =
-    let b = length-take-le start xs (omega (arith, le)) in
-    let c = length-take-le k (drop (start + n) xs) (omega (arith, le, length-drop (start + n) xs)) in
-    let d = length-take-le n (drop start xs) (omega (arith, le, length-drop start xs)) in
-    let f = length-drop (start + (n + k)) xs in
-    let g = length-append (take k (drop (start + n) xs)) (take n (drop start xs)) in
-    let h = length-append (take start xs) (take k (drop (start + n) xs) ++ take n (drop start xs)) in
-    let i = length-append (take start xs ++ (take k (drop (start + n) xs) ++ take n (drop start xs))) (drop (start + (n + k)) xs) in
-    omega (arith, b, c, d, f, g, h, i, le)
-
--- what is after a range that moves stays
-pub moved_front : {X : Type 0} (start n k : ℕ) (xs ys : List X) → start + (n + k) ≤ length xs → with_range_moved start n k (xs ++ ys) ≡ with_range_moved start n k xs ++ ys
-moved_front start n k xs ys le =
-    rw (
-      take-append-le start xs ys (omega (arith, le)),
-      drop-append-le (start + n) xs ys (omega (arith, le)),
-      drop-append-le start xs ys (omega (arith, le)),
-      drop-append-le (start + (n + k)) xs ys le,
-      take-append-le k (drop (start + n) xs) ys (omega (arith, le, length-drop (start + n) xs)),
-      take-append-le n (drop start xs) ys (omega (arith, le, length-drop start xs)),
-    )
-    (sym (append_assoc (take start xs ++ (take k (drop (start + n) xs) ++ take n (drop start xs))) (drop (start + (n + k)) xs) ys))

@@ -4,22 +4,8 @@ use super::rows::{are, glyphs_of, size};
 use crate::parts::part;
 use buffer_glyphs::level::BufferClusterLevel;
 use buffer_lists::merges::{merge_input, merge_output};
-use buffer_lists::moves::put_in_front;
 use buffer_lists::order::KnownOrder;
 use std::alloc::{AllocError, Global};
-
-/// The row has the index where the rest of four glyphs begins, the inserted glyphs, and those from the returned index
-/// on.
-pub fn puts(alloc: Global, row: &str) -> Result<bool, AllocError> {
-    let mut info = glyphs_of(alloc, "1 2 3 4")?;
-    let glyphs = glyphs_of(alloc, part(row, 1))?;
-    let at = size(row, 0);
-    if info.len() < at {
-        return Ok(false);
-    }
-    let first = put_in_front(&mut info, at, &glyphs)?;
-    Ok(are(&info[first..], part(row, 2)))
-}
 
 const LEVEL: BufferClusterLevel = BufferClusterLevel::MonotoneGraphemes;
 

@@ -107,6 +107,13 @@ pub static ROWS: &[Row] = &[
         want: &[(9, 0, 0), (2, 1, 0), (3, 2, 0)],
     },
     Row {
+        name: "moves glyphs that the cursor has passed",
+        start: &[0, 1, 2],
+        calls: &[NextMany(2), Rotate(0, 1, 2)],
+        refused: 0,
+        want: &[(2, 1, 0), (1, 0, 0), (3, 2, 0)],
+    },
+    Row {
         name: "keeps its place while the last glyph is deleted in place",
         start: &[0, 1, 2, 3],
         calls: &[NextMany(2), DeleteInPlace(4), WriteCurrent(7)],

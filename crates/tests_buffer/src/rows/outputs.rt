@@ -82,4 +82,18 @@ pub static ROWS: &[Row] = &[
         refused: 0,
         want: &[(9, 0, 0), (2, 1, 0)],
     },
+    Row {
+        name: "lends the glyphs of an output that has had more than were read, and takes more",
+        start: &[0, 1],
+        calls: &[Open, Output(9), Next, WriteFirst(8), Output(7), Next, Sync],
+        refused: 0,
+        want: &[(8, 0, 0), (1, 0, 0), (7, 1, 0), (2, 1, 0)],
+    },
+    Row {
+        name: "moves glyphs of an output that is apart",
+        start: &[0, 1],
+        calls: &[Open, Output(9), NextMany(2), Rotate(0, 1, 2), Sync],
+        refused: 0,
+        want: &[(1, 0, 0), (9, 0, 0), (2, 1, 0)],
+    },
 ];

@@ -1,4 +1,5 @@
-use Rattle.std.proofs.Common.{◌≡◌, false, arith}
+use Rattle.std.proofs.Common.{◌≡◌, false, rules, arith}
+use Rattle.std.proofs.lemmas.Grind.{common_steps}
 use Rattle.buffer_core.proofs.Ordered.{known_opened}
 use Rattle.buffer_core.proofs.buffer.hb_buffer_t.clear_output.Goals as goal
 
@@ -8,14 +9,14 @@ invariant_of-self c =
     let closed : b.have_output ≡ false = rw (← c.self.view_is) at c.requires in
     record {
       cursor = omega arith;
-      input_within = c.self.invariant.input_within;
-      output_within = c.self.invariant.output_within;
-      closed = tt;
-      placed = tt;
-      together = tt;
+      opened = first_of (search rules, grind (arith, common_steps));
+      unopened = first_of (search rules, grind (arith, common_steps));
+      input_within = first_of (search rules, grind (arith, common_steps));
+      output_within = omega arith;
       front = omega arith;
-      emptied = rw closed at c.self.invariant.closed;
-      counted = rw closed at c.self.invariant.placed;
+      together = tt;
+      placed = tt;
+      counted = c.self.invariant.counted;
       cleared = c.self.invariant.cleared;
-      ordered = known_opened b closed (rw closed at c.self.invariant.closed) c.self.invariant.ordered;
+      ordered = known_opened b closed c.self.invariant.ordered;
     }

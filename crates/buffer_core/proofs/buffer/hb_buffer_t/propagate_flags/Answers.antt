@@ -2,12 +2,13 @@ use Rattle.std.specs.Vec.{with_items}
 use Rattle.std.specs.Prelude.{bit_and}
 use Rattle.std.proofs.Common.{◌≡◌, ◌==◌, false, length, map, refl, rules, arith, ap, ◌∙◌}
 use Rattle.std.proofs.lemmas.Grind.{common_steps}
-use Rattle.buffer_glyphs.specs.Items.{item_masked, strip}
+use Rattle.buffer_glyphs.specs.Items.{clusters, item_masked, strip}
 use Rattle.buffer_glyphs.specs.Origins.{Asks, origins, origins_spread}
 use Rattle.buffer_core.specs.Sides.{Sides}
 use Rattle.buffer_core.specs.Inside.{sides_of}
 use Rattle.buffer_core.specs.Merging.{with_glyphs}
 use Rattle.buffer_core.specs.Sides.{all_glyphs}
+use Rattle.buffer_core.proofs.Ordered.{sound_same}
 use Rattle.buffer_core.proofs.Slices.{all_put}
 use Rattle.buffer_core.proofs.Spread.{asks_are, clusters_spread, glyphs_same, glyphs_view, spread_items, spread_origins}
 use Rattle.buffer_core.proofs.buffer.hb_buffer_t.propagate_flags.Goals as goal
@@ -47,20 +48,4 @@ returns-clause-origins c =
     spread_origins b (with_items b.info c.propagate_flags.new.glyphs) c.args.self.now (asks c) c.self.view_is (closed c) (asks_are c.args.self.now c.asks_concat.result c.contains.result c.asks_concat.ensures tatweel) (spread c)
 
 pub invariant_of-self : goal.invariant_of-self
-invariant_of-self c =
-    let b = c.self.inside in
-    let info = put c in
-    let same = clusters_spread (asks c) b.info.items c.propagate_flags.new.glyphs (rw c.deref_mut.ensures.value at c.propagate_flags.ensures.origins) in
-    record {
-      cursor = first_of (search rules, grind (arith, common_steps));
-      input_within = first_of (search rules, grind (arith, common_steps));
-      output_within = first_of (search rules, grind (arith, common_steps));
-      closed = first_of (search rules, grind (arith, common_steps));
-      placed = first_of (search rules, grind (arith, common_steps));
-      together = c.self.invariant.together;
-      front = rw (closed c) tt;
-      emptied = rw (closed c) tt;
-      counted = rw (closed c) tt;
-      cleared = c.self.invariant.cleared;
-      ordered = rw (closed c, info, same) (rw (closed c) at c.self.invariant.ordered);
-    }
+invariant_of-self c = sound_same c.self.inside _ c.self.invariant (ap clusters (put c) ∙ clusters_spread (asks c) c.self.inside.info.items c.propagate_flags.new.glyphs (rw c.deref_mut.ensures.value at c.propagate_flags.ensures.origins))

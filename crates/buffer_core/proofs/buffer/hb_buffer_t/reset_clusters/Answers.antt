@@ -1,8 +1,10 @@
-use Rattle.std.proofs.Common.{[], ◌≡◌, false, rules, arith, ap, ◌∙◌}
-use Rattle.std.proofs.lemmas.Grind.{common_steps}
+use Rattle.std.proofs.Common.{◌≡◌, false, length, ap, ◌∙◌}
+use Rattle.buffer_glyphs.specs.Items.{clusters}
+use Rattle.buffer_lists.specs.Known.{HasOrder}
 use Rattle.buffer_core.specs.Sides.{items_of, origins_of}
 use Rattle.buffer_core.specs.Settings.{with_reset_clusters}
-use Rattle.buffer_core.proofs.Counted.{clusters_counted, counted_view, counted_items, counted_rises, counted_origins}
+use Rattle.buffer_core.proofs.Counted.{clusters_counted, counted_view, counted_items, counted_rises, counted_origins, length_counted}
+use Rattle.buffer_core.proofs.Ordered.{sound_as_many}
 use Rattle.buffer_core.proofs.buffer.hb_buffer_t.reset_clusters.Goals as goal
 
 pub returns-clause-counted : goal.returns-clause-counted
@@ -19,17 +21,6 @@ returns-clause-origins c = ap origins_of (returns-clause-counted c) ∙ counted_
 pub invariant_of-self : goal.invariant_of-self
 invariant_of-self c =
     let closed : c.self.inside.have_output ≡ false = rw (← c.self.view_is) at c.requires in
-    let none : c.self.inside.out_info.items ≡ [] = rw closed at c.self.invariant.closed in
-    record {
-      cursor = first_of (search rules, grind (arith, common_steps));
-      input_within = first_of (search rules, grind (arith, common_steps));
-      output_within = first_of (search rules, grind (arith, common_steps));
-      closed = first_of (search rules, grind (arith, common_steps));
-      placed = first_of (search rules, grind (arith, common_steps));
-      together = c.self.invariant.together;
-      front = rw closed tt;
-      emptied = rw closed tt;
-      counted = rw closed tt;
-      cleared = c.self.invariant.cleared;
-      ordered = rw (closed, none, c.number_all.ensures.items, c.of-self-inside.ensures.known, c.of-self-inside.ensures.lent, clusters_counted 0 c.self.inside.info.items) (counted_rises 0 c.self.inside.info.items);
-    }
+    let rises : HasOrder c.of-self-inside.result.known (clusters c.number_all.new.glyphs.items) = rw (c.number_all.ensures.items, c.of-self-inside.ensures.known, clusters_counted 0 c.self.inside.info.items) (counted_rises 0 c.self.inside.info.items) in
+    let long = ap length c.number_all.ensures.items ∙ length_counted 0 c.self.inside.info.items in
+    sound_as_many c.self.inside c.number_all.new.glyphs c.of-self-inside.result c.self.inside.scratch_flags c.self.invariant long (rw (closed, c.of-self-inside.ensures.lent) rises)

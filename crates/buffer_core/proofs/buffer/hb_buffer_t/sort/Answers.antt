@@ -1,5 +1,5 @@
 use Rattle.std.specs.Vec.{with_items}
-use Rattle.std.proofs.Common.{[], ◌≡◌, false, length, refl, rules, arith, ap, sym, ◌∙◌}
+use Rattle.std.proofs.Common.{◌≡◌, false, length, refl, rules, arith, ap, sym, ◌∙◌}
 use Rattle.std.proofs.lemmas.Grind.{common_steps}
 use Rattle.std.proofs.lemmas.List.{take-append-drop}
 use Rattle.buffer_glyphs.specs.Items.{clusters, item_of}
@@ -8,6 +8,7 @@ use Rattle.buffer_core.specs.Merging.{with_has_glyph_flags}
 use Rattle.buffer_core.specs.Sides.{items_of, origins_of}
 use Rattle.buffer_core.specs.Sorting.{with_range_sorted}
 use Rattle.buffer_core.proofs.Grouped.{sorted_items, sorted_origins, sorted_view}
+use Rattle.buffer_core.proofs.Ordered.{sound_as_many}
 use Rattle.buffer_core.proofs.Slices.{all_put}
 use Rattle.buffer_core.proofs.buffer.hb_buffer_t.sort.Goals as goal
 
@@ -35,23 +36,10 @@ invariant_of-self-2 g c =
     let b = c.self.inside in
     let same : sides_of b ≡ c.args.self.now = c.self.view_is ∙ c.order_before_merges-known.ensures.same in
     let closed : b.have_output ≡ false = rw (← same) at c.requires.closed in
-    let none : b.out_info.items ≡ [] = rw closed at c.self.invariant.closed in
     let in_info : b.info.len ≡ length b.info.items = first_of (search rules, grind (arith, common_steps)) in
     let wide : length c.sort.new.glyphs ≡ length b.info.items = first_of (search rules, grind (arith, common_steps)) in
     let items = all_put b.info c.sort.new.glyphs c.sort.new.glyphs in_info refl wide in
     let long : length (with_items b.info c.sort.new.glyphs).items ≡ length b.info.items = ap length items ∙ wide in
     let walked = rw (← same, closed, take-append-drop b.idx b.info.items) at c.order_before_merges-known.ensures.order in
     let kept = c.if_kept-order.ensures (clusters b.info.items) (clusters c.sort.new.glyphs) (λ falls kept o. c.in_ok-sorted.ensures.order falls kept (rw c.deref_mut.ensures.value o)) walked in
-    record {
-      cursor = rw long c.self.invariant.cursor;
-      input_within = rw long c.self.invariant.input_within;
-      output_within = c.self.invariant.output_within;
-      closed = c.self.invariant.closed;
-      placed = rw long c.self.invariant.placed;
-      together = c.self.invariant.together;
-      front = rw closed tt;
-      emptied = rw closed tt;
-      counted = rw closed tt;
-      cleared = c.self.invariant.cleared;
-      ordered = rw (closed, none, c.of-self-inside.ensures.known, c.of-self-inside.ensures.lent, items) kept;
-    }
+    sound_as_many b (with_items b.info c.sort.new.glyphs) c.of-self-inside.result _ c.self.invariant long (rw (closed, c.of-self-inside.ensures.known, c.of-self-inside.ensures.lent, items) kept)
