@@ -4,4 +4,4 @@ pub mod Attached
 pub mod MarkMark
 pub mod MarkLig
 pub mod Kept
-pub mod Begun
+pub mod Sought

@@ -1,5 +1,5 @@
 -- Pair adjustment (OpenType, GPOS lookup type 2).
-use Rattle.std.specs.Prelude.{ℕ, ◌+◌, ◌==◌, ◌&&◌, Bool, true, false, not, if◌then◌else◌, List, [], length, Option, Some, None, Result, Ok, Err, slice_get, option_and_then}
+use Rattle.std.specs.Prelude.{ℕ, ◌+◌, ◌&&◌, Bool, true, not, if◌then◌else◌, List, [], length, Option, Some, None, Result, Ok, Err, slice_get, option_and_then}
 use Rattle.buffer_common.specs.declared.direction.Direction.{Direction}
 use Rattle.buffer_glyphs.specs.Items.{Item, Position}
 use Rattle.buffer_glyphs.specs.Events.{Event}
@@ -8,7 +8,6 @@ use Rattle.layout_tables.specs.Covers.{covers_first_of_pair}
 use Rattle.layout_tables.specs.Pairs.{glyph_pair_values, class_pair_values}
 use Rattle.layout_tables.specs.declared.value.ValueRecord.{ValueRecord}
 use Rattle.layout_tables.specs.declared.pair.PairValues.{PairValues}
-use Rattle.layout_tables.specs.declared.pair.PairRow.{PairRow}
 use Rattle.layout_tables.specs.declared.pair.PairPos.{PairPos}
 use Rattle.layout_tables.specs.declared.pair.PairPos.TheVariants.{Glyphs, Classes}
 use Rattle.layout_match.specs.Applied.{ApplyContext, own_search}
@@ -61,11 +60,6 @@ next_item a rest = nearest_from (answer (own_search a rest) (λ x. not (is_skipp
 abbrev pub pair_values : PairPos → ℕ → ℕ → Option PairValues
 pair_values (Glyphs p) first second = glyph_pair_values first second p.rows
 pair_values (Classes p) first second = class_pair_values first second p
-
--- whether there is a row, and its pair begins with a glyph
-abbrev pub begins : ℕ → Option PairRow → Bool
-begins first None = false
-begins first (Some r) = r.first == first
 
 -- pair adjustment of an item that is the first glyph of pairs
 abbrev pub pair_from : Direction → ApplyContext → PairPos → Item → Action

@@ -1,7 +1,6 @@
 //! Pair adjustment (OpenType, GPOS lookup type 2).
-ghost use Rattle.std.specs.Prelude.{ℕ, ◌≡◌, ◌<◌, ◌≤◌, ◌+◌, ◌==◌, ◌&&◌, ◌||◌, ◌-◌, IfErr, IfOk, None, Some, [], false, true, if◌then◌else◌, length, slice_get};
+ghost use Rattle.std.specs.Prelude.{ℕ, ◌≡◌, ◌<◌, ◌≤◌, ◌+◌, ◌==◌, ◌&&◌, IfErr, IfOk, None, Some, [], false, true, if◌then◌else◌, length};
 ghost use Rattle.std.specs.List.{list_any};
-ghost use Rattle.std.specs.Option.{option_copied};
 ghost use Rattle.buffer_stages.specs.Actions.{Passes};
 ghost use Rattle.layout_tables.specs.Pairs.{glyph_pair_values};
 ghost use Rattle.buffer_core.specs.Sides.{all_glyphs, items_of};
@@ -11,26 +10,24 @@ ghost use Rattle.buffer_stages.specs.Buffers.{IsPassed, are_glyphs, cut_of};
 ghost use Rattle.buffer_stages.specs.Performing.{IsPerformed, cut_with};
 ghost use Rattle.layout_gpos.specs.Values.{is_zero};
 ghost use Rattle.layout_tables.specs.Covers.{covers_first_of_pair};
-ghost use Rattle.layout_gpos.specs.Pairs.{begins, has_no_effect, next_item, pair_adjusted, pair_events, pair_length, pair_of, pair_second, pair_subtable, pair_values};
+ghost use Rattle.layout_gpos.specs.Pairs.{has_no_effect, next_item, pair_adjusted, pair_events, pair_length, pair_of, pair_second, pair_subtable, pair_values};
 
 use crate::apply::Apply;
 use crate::bases::LastSearches;
 use crate::placing::{adjust_glyph, pass};
 use crate::value::is_zero;
 use buffer_core::buffer::hb_buffer_t;
-use buffer_rows::{Keyed, SortedRows};
 use layout_match::marking::{mark_attempt, mark_match};
 use layout_match::{hb_ot_apply_context_t, skipping_iterator_t};
-use layout_tables::pair::{PairPos, PairRow, PairValues};
+use layout_tables::pair::{PairPos, PairValues};
+use layout_tables::pair_rows::{PairRows, second_values};
 use layout_tables::value::ValueRecord;
 
-/// Whether there are pairs of a first glyph, in logarithmic time: the first row whose first glyph is not below it.
-fn has_first(pairs: &SortedRows<PairRow>, first: u16) -> bool
+/// Whether there are pairs of a first glyph.
+fn has_first(pairs: &PairRows, first: u16) -> bool
     ensures { result ≡ list_any (λ r. r.first == first) pairs.now }
 {
-    let rows = pairs.rising_rows();
-    let index = rows.partition_point(|row| row.first < first);
-    index < rows.len() && rows[index].first == first
+    !pairs.rows_of(first).is_empty()
 }
 
 /// Whether a glyph is the first one of pairs.
@@ -43,7 +40,7 @@ fn covers_first_of_pair(subtable: &PairPos, first: u16) -> bool
     }
 }
 
-/// Whether a glyph may be the first one of pairs. Among pairs of glyphs only the search for the pair shows it.
+/// Whether a glyph may be the first one of pairs. Rows of glyphs are looked up later and once, with the second glyph.
 fn may_begin(subtable: &PairPos, first: u16) -> bool
     ensures { result ≡ false → covers_first_of_pair subtable.now first ≡ false }
 {
@@ -53,40 +50,16 @@ fn may_begin(subtable: &PairPos, first: u16) -> bool
     }
 }
 
-/// Whether there is a row, and its pair begins with the glyph.
-fn begins(row: Option<&PairRow>, first: u16) -> bool
-    ensures { result ≡ begins first (option_copied row.entry) }
-{
-    match row {
-        Some(row) => row.first == first,
-        None => false,
-    }
-}
-
-/// Whether the row at an index, or the one before it, is of a pair that begins with the glyph.
-fn begins_beside(rows: &[PairRow], at: usize, first: u16) -> bool
-    ensures { result ≡ (begins first (slice_get rows.now at) || begins first (slice_get rows.now (at - 1))) }
-{
-    begins(rows.get(at), first) || begins(rows.get(at.saturating_sub(1)), first)
-}
-
-/// The adjustments of two glyphs, none where no pair begins with the first, by one search in logarithmic time: where the
-/// pair isn't found, others with its first glyph stand beside the index at which it would stand.
-fn sought_glyphs(pairs: &SortedRows<PairRow>, first: u16, second: u16) -> Option<Option<PairValues>>
+/// The adjustments of two glyphs, none where no pair begins with the first.
+fn sought_glyphs(pairs: &PairRows, first: u16, second: u16) -> Option<Option<PairValues>>
     ensures { result ≡ (if list_any (λ r. r.first == first) pairs.now then Some (glyph_pair_values first second pairs.now)
         else None) }
 {
-    let rows = pairs.rising_rows();
-    match rows.binary_search_by_key(&(first, second), |row| row.key()) {
-        Ok(at) => Some(Some(rows[at].values)),
-        Err(at) => {
-            if begins_beside(rows, at, first) {
-                Some(None)
-            } else {
-                None
-            }
-        }
+    let rows = pairs.rows_of(first);
+    if rows.is_empty() {
+        return None;
     }
+    Some(second_values(rows, second))
 }
 
 /// The adjustments of two glyphs, none where the first begins no pairs.

@@ -1,4 +1,4 @@
-pub mod PairSearch
+pub mod PairRuns
 pub mod Covering
 mod CoveredRows
 mod Begins

@@ -2,6 +2,7 @@ pub mod Substitutions
 pub mod Fits
 pub mod Marks
 pub mod Pairs
+pub mod PairRows
 pub mod Keyed
 pub mod Layout
 pub mod Choice

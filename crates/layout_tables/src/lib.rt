@@ -13,6 +13,7 @@ mod keyed;
 pub mod ligature;
 pub mod mark;
 pub mod pair;
+pub mod pair_rows;
 pub mod reverse;
 pub mod rules;
 pub mod script;

@@ -1,9 +1,10 @@
 //! Pair adjustment (OpenType, GPOS lookup type 2).
 ghost use Rattle.std.specs.Prelude.{◌≡◌};
-ghost use Rattle.layout_tables.specs.Pairs.{glyph_pair_values, class_pair_values, record_at};
+ghost use Rattle.layout_tables.specs.Pairs.{class_pair_values, record_at};
 
+use crate::pair_rows::PairRows;
 use crate::value::ValueRecord;
-use buffer_rows::{Keyed, SortedRows};
+use buffer_rows::Keyed;
 use layout_common::array::Array;
 use layout_common::class_definition::ClassDefinition;
 use layout_common::coverage::Coverage;
@@ -37,20 +38,7 @@ impl Keyed for PairRow {
 #[derive(Debug, Drop)]
 pub struct GlyphPairs {
     /// The pairs, by first and then second glyph.
-    pub rows: SortedRows<PairRow>,
-}
-
-impl GlyphPairs {
-    /// The adjustments of two glyphs, none where there is no such pair.
-    #[tactic(auto, using(crate::proofs::PairSearch::row_of_pair))]
-    pub fn values(&self, first: u16, second: u16) -> Option<PairValues>
-        ensures { result ≡ glyph_pair_values first second self.now.rows }
-    {
-        match self.rows.get((first, second)) {
-            Some(row) => Some(row.values),
-            None => None,
-        }
-    }
+    pub rows: PairRows,
 }
 
 /// The adjustments of a first glyph's class, by the class of the second glyph, from class 0 on.

@@ -17,6 +17,7 @@ pub use layout_tables::mark::{
     BaseRow, ComponentRecord, LigatureRow, MarkBasePos, MarkLigPos, MarkRecord,
 };
 pub use layout_tables::pair::{ClassPairs, GlyphPairs, PairPos, PairRow, PairValues};
+pub use layout_tables::pair_rows::PairRows;
 pub use layout_tables::reverse::ReverseChainSubst;
 pub use layout_tables::script::{LangSys, LangSysRecord, ScriptRecord};
 pub use layout_tables::sequence::{AlternateSubst, MultipleSubst, SequenceRow};

@@ -13,6 +13,7 @@ use crate::rows::{Parts, read_only, read_row};
 use crate::value::Part;
 use layout_tables::cursive::{CursivePos, EntryExit};
 use layout_tables::pair::{Class1Record, ClassPairs, GlyphPairs, PairPos, PairRow, PairValues};
+use layout_tables::pair_rows::PairRows;
 use layout_tables::single_pos::SinglePos;
 use layout_tables::value::{Anchor, ValueRecord};
 use serde_json::Value;
@@ -104,7 +105,7 @@ impl Part for PairPos {
         if value.is_object() {
             return Ok(PairPos::Classes(read_class_pairs(alloc, value, limit)?));
         }
-        let rows = read_by_key(alloc, list(value)?, limit)?;
+        let rows = PairRows::new(alloc, read_by_key(alloc, list(value)?, limit)?)?;
         Ok(PairPos::Glyphs(GlyphPairs { rows }))
     }
 }

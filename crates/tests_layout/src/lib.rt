@@ -13,6 +13,8 @@ mod fonts;
 #[cfg(test)]
 mod maps;
 #[cfg(test)]
+mod pair_rows;
+#[cfg(test)]
 mod positions;
 #[cfg(test)]
 mod requests;

@@ -5,6 +5,7 @@ use layout_face::positioning::{PositioningSubtables, PositioningTable};
 use layout_tables::cursive::EntryExit;
 use layout_tables::mark::{MarkLigPos, MarkRecord};
 use layout_tables::pair::{PairPos, PairValues};
+use layout_tables::pair_rows::second_values;
 use layout_tables::value::{Anchor, ValueRecord};
 use std::alloc::{AllocError, Global};
 use std::test::Fail;
@@ -13,7 +14,8 @@ pub(crate) static FONT: &str = r#"{"gpos":{"lookups":[
 {"type":"single","subtables":[[[1,[1,2,-30,4]],[4,[0,0,9,0]]]]},
 {"type":"pair","subtables":[[[1,2,[0,0,-40,0],null],[1,9,[0,0,7,0],[0,0,0,0]],[2,1,[0,0,3,0],null]],
 {"first":[3,1],"class1":[[3,1]],"class2":[[7,1]],
-"records":[[[[0,0,0,0],null],[[0,0,5,0],null]],[[[0,0,6,0],null],[[0,0,8,0],null]]]}]},
+"records":[[[[0,0,0,0],null],[[0,0,5,0],null]],[[[0,0,6,0],null],[[0,0,8,0],null]]]},
+[[10,2,[0,0,-1,0],null],[900,2,[0,0,-2,0],null],[900,5,[0,0,-3,0],null]]]},
 {"type":"cursive","subtables":[[[1,null,[450,100]]]]},
 {"type":"markbase","subtables":[{"marks":[[9,1,[5,-5]]],"bases":[[2,[null,[100,700]]]]}]},
 {"type":"marklig","subtables":[{"marks":[[9,1,null]],"bases":[[4,[[null,null],[null,[100,700]]]]]}]},
@@ -39,6 +41,14 @@ gpos pair 0 3 7: None
 gpos pair 1 3 7: Some((8, false))
 gpos pair 0 3 4: None
 gpos pair 1 3 4: Some((6, false))
+gpos pair 0 0 1: None
+gpos pair 0 2 1: Some((3, false))
+gpos pair 2 9 2: None
+gpos pair 2 10 2: Some((-1, false))
+gpos pair 2 500 2: None
+gpos pair 2 900 3: None
+gpos pair 2 900 5: Some((-3, false))
+gpos pair 2 901 2: None
 gpos mark 3: Some(MarkRecord { class: 1, anchor: Some(Anchor { x: 5, y: -5 }) })
 gpos mark 4: Some(MarkRecord { class: 1, anchor: None })
 gpos mark 5: Some(MarkRecord { class: 0, anchor: Some(Anchor { x: 0, y: 0 }) })
@@ -85,7 +95,7 @@ fn pair_values(
         return None;
     };
     match subtables.get(subtable)?.inner() {
-        PairPos::Glyphs(pairs) => pairs.values(first, second),
+        PairPos::Glyphs(pairs) => second_values(pairs.rows.rows_of(first), second),
         PairPos::Classes(pairs) => pairs.values(first, second),
     }
 }
