@@ -60,6 +60,13 @@ impl GlyphBuffer {
         self.buffer.pos_slice()
     }
 
+    /// Gives back memory that is not needed for the glyphs, as a long text of which many characters were joined leaves it.
+    pub fn shrink_to_fit(&mut self)
+        ensures { self.new ≡ self.old }
+    {
+        self.buffer.shrink_to_fit();
+    }
+
     /// An empty text in the same storage, as `new` makes it.
     pub fn clear(self) -> UnicodeBuffer
         ensures { result ≡ empty_buffer }

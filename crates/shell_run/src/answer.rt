@@ -130,7 +130,9 @@ fn lines(
     ensures kind { IfErr result IsOfRun }
 {
     let buffer = text_buffer(alloc, &mut options, text)?;
-    let glyphs = shape(alloc, tables, face, &options.features, buffer)?;
+    let mut glyphs = shape(alloc, tables, face, &options.features, buffer)?;
+    // Of a long text of which many characters were joined, the printed line takes the memory.
+    glyphs.shrink_to_fit();
     let lines = print(alloc, face, options.flags, options.slices, &glyphs, text)?;
     Ok(lines)
 }
@@ -157,16 +159,19 @@ fn lines_in(
 pub(crate) fn answer(
     alloc: Global,
     options: Options,
-    tables: &[u8],
-    font: &[u8],
+    tables: Vec<u8>,
+    font: Vec<u8>,
     text: &[u8],
 ) -> Result<String, RunFault>
     ensures ok { IfOk result (λ lines.
-        IsAnswer options tables.now font.now text.now (Ok (string_bytes lines))) }
+        IsAnswer options tables.items font.items text.now (Ok (string_bytes lines))) }
     ensures refused { IfErr result (λ e. e ≢ RunFault.OutOfMemory
-        → IsAnswer options tables.now font.now text.now (Err e)) }
+        → IsAnswer options tables.items font.items text.now (Err e)) }
     ensures kind { IfErr result IsOfRun }
 {
-    let input = read_input(alloc, tables, font)?;
+    let input = read_input(alloc, &tables, &font)?;
+    // What was read of them takes no part in shaping, and a long text's glyphs take its memory.
+    drop(tables);
+    drop(font);
     lines_in(alloc, options, &input.tables, &input.face, text)
 }

@@ -59,6 +59,6 @@ pub fn run<T: Read, F: Read, X: Read, W: Write>(
     let tables = read_all(alloc, tables)?;
     let font = read_all(alloc, font)?;
     let text = read_all(alloc, text)?;
-    let lines = answer(alloc, options, &tables, &font, &text)?;
+    let lines = answer(alloc, options, tables, font, &text)?;
     write_lines(out, lines.as_bytes())
 }

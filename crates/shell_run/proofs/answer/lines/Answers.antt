@@ -26,7 +26,7 @@ returns-clause-ok c =
     let F : List Feature → Sides → Type 0 = λ fs x. Follows (text_reading (shaping t face fs x) (state_of x)) (state_of x) (state_of glyphs) in
     let follows = subst (F options.features.items) same (subst (λ (fs : List Feature). F fs (after_guess_segment_properties s)) (c.deref.ensures.value ∙ c.in_ok-buffer.ensures.features) c.in_ok-glyphs.ensures.ok) in
     let P : SerializeFlags → Bool → Type 0 = λ flags slices. string_bytes c.in_ok-lines.lines ≡ printed_line face flags (all_glyphs glyphs) glyphs.positions ++ requested_lines slices (clusters (all_glyphs glyphs)) c.args.text.now in
-    let printed = subst (P options.flags) c.in_ok-buffer.ensures.slices (subst (λ (flags : SerializeFlags). P flags c.text_buffer.new.options.slices) c.in_ok-buffer.ensures.flags c.in_ok-lines.ensures) in
+    let printed = subst (P options.flags) c.in_ok-buffer.ensures.slices (subst (λ (flags : SerializeFlags). P flags c.text_buffer.new.options.slices) c.in_ok-buffer.ensures.flags (rw c.shrink_to_fit.ensures at c.in_ok-lines.ensures)) in
     lines_shaped options t face c.args.text.now s glyphs _ c.in_ok-buffer.ensures.text c.in_ok-buffer.ensures.fits follows printed
 
 pub returns-in_err-glyphs-clause-refused : goal.returns-in_err-glyphs-clause-refused
