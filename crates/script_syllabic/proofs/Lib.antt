@@ -5,6 +5,7 @@ pub mod Marking
 pub mod Glyphs
 pub mod Longer
 pub mod Recorded
+pub mod AllCounted
 pub mod Counting
 pub mod Forming
 pub mod GraphemesMerged

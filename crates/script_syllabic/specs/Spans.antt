@@ -1,6 +1,8 @@
 -- The items that the syllables of the universal shaper count (OpenType specification, Universal Shaping Engine: joiners
 -- inside a syllable).
-use Rattle.std.specs.Prelude.{ℕ, ◌+◌, ◌==◌, ◌&&◌, ◌||◌, not, Bool, false, if◌then◌else◌, List, [], ◌∷◌, ◌++◌, Option, Some, None, find, length, slice_get, unwrap_or}
+use Rattle.std.specs.Prelude.{ℕ, ◌+◌, ◌==◌, ◌&&◌, ◌||◌, not, Bool, true, false, if◌then◌else◌, List, [], ◌∷◌, ◌++◌, Option, Some, None, find, length, slice_get, unwrap_or, Vec}
+use Rattle.std.specs.List.{range_with_len}
+use Rattle.std.specs.declared.alloc.Global.{Global}
 use Rattle.script_categories.specs.declared.category.TheConstants as category
 use Rattle.script_categories.specs.declared.shaper.hb_ot_script_shaper_t.{hb_ot_script_shaper_t}
 use Rattle.script_categories.specs.declared.shaper.hb_ot_script_shaper_t.TheVariants.{UNIVERSAL_SHAPER}
@@ -27,6 +29,11 @@ precedes_mark behind = mark_or_none (find (λ x. not (is_grapheme_joiner x)) beh
 abbrev pub is_counted : Item → List Item → Bool
 is_counted x behind = not (is_grapheme_joiner x || (x.category == category.ZWNJ && precedes_mark behind))
 
+-- each item counts for syllables
+abbrev pub are_all_counted : List Item → Bool
+are_all_counted [] = true
+are_all_counted (x ∷ xs) = is_counted x xs && are_all_counted xs
+
 -- an entry for an item, put before others if the item counts
 abbrev pub if_counted : {X : Type 0} → Item → List Item → X → List X
 if_counted x behind y = if is_counted x behind then y ∷ [] else []
@@ -40,6 +47,11 @@ categories_counted (x ∷ xs) = if_counted x xs x.category ++ categories_counted
 abbrev pub counted_indices_from : ℕ → List Item → List ℕ
 counted_indices_from at [] = []
 counted_indices_from at (x ∷ xs) = if_counted x xs at ++ counted_indices_from (at + 1) xs
+
+-- the listed indices; where none are listed, all those of a text of some length
+abbrev pub indices_or_all : Option (Vec ℕ Global) → ℕ → List ℕ
+indices_or_all None end = range_with_len 0 end
+indices_or_all (Some indices) end = indices.items
 
 -- the i-th of some indices; after the last, the length of the text
 abbrev pub index_or_end : List ℕ → ℕ → ℕ → ℕ

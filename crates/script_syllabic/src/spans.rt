@@ -4,9 +4,9 @@ ghost use Rattle.std.specs.Prelude.{◌≡◌, ◌++◌, length, not, unwrap_or,
 ghost use Rattle.buffer_glyphs.specs.Items.{item_of, strip};
 ghost use Rattle.buffer_stages.specs.Ready.{IsReady};
 ghost use Rattle.buffer_stages.specs.Stages.{DoesStage};
-ghost use Rattle.script_syllabic.specs.Spans.{categories_counted, if_counted, is_counted, is_grapheme_joiner, counted_indices_from, precedes_mark, universal_set};
+ghost use Rattle.script_syllabic.specs.Spans.{are_all_counted, categories_counted, if_counted, is_counted, is_grapheme_joiner, counted_indices_from, indices_or_all, precedes_mark, universal_set};
 
-use crate::syllables::{SyllableIndices, set_bytes};
+use crate::syllables::{SyllableIndices, categories_of, set_bytes};
 use buffer_core::buffer::hb_buffer_t;
 use buffer_glyphs::cause::ShapeCause;
 use buffer_glyphs::info::hb_glyph_info_t;
@@ -23,26 +23,31 @@ pub(crate) struct Counted {
     buffer_indices: CountedIndices,
 }
 
-/// The indices of the counted glyphs.
+/// The indices of the counted glyphs, listed only where a glyph is skipped: in most texts each index is itself.
 #[derive(Drop)]
 pub(crate) struct CountedIndices {
-    indices: Vec<usize>,
+    indices: Option<Vec<usize>>,
     end: usize,
 }
 
 impl SyllableIndices for CountedIndices {
-    ghost use Rattle.script_syllabic.specs.Spans.{index_or_end};
+    ghost use Rattle.script_syllabic.specs.Spans.{index_or_end, indices_or_all};
 
-    ghost index_of = { λ p. index_or_end p.indices.items p.end };
+    ghost index_of = { λ p. index_or_end (indices_or_all p.indices p.end) p.end };
 
+    #[tactic(auto, using(crate::proofs::AllCounted::index_itself))]
     fn buffer_index(&self, index: usize) -> usize {
-        self.indices.get(index).copied().unwrap_or(self.end)
+        match &self.indices {
+            None => index.min(self.end),
+            Some(indices) => indices.get(index).copied().unwrap_or(self.end),
+        }
     }
 }
 
 /// Sets the syllable byte of each glyph, and flags each syllable as unsafe to break. The machine skips grapheme
 /// joiners, and each zero-width non-joiner before a mark; a skipped glyph gets the byte of the syllable before it, and
-/// keeps its own where there is none. It takes the time of the spans, and memory for the counted glyphs.
+/// keeps its own where there is none. It takes the time of the spans, and memory for the categories of the counted
+/// glyphs, and for their indices where a glyph is skipped.
 ///
 /// # Errors
 ///
@@ -65,9 +70,45 @@ pub fn find_syllables<S: SyllableSpans>(
     )
 }
 
+#[tactic(auto, using(crate::proofs::AllCounted::all_categories, crate::proofs::AllCounted::all_indices))]
 fn count_glyphs(alloc: Global, glyphs: &[hb_glyph_info_t]) -> Result<Counted, ShapeCause>
     ensures categories { IfOk result (λ c. c.categories.items ≡ categories_counted (strip glyphs.now)) }
-    ensures indices { IfOk result (λ c. c.buffer_indices.indices.items ≡ counted_indices_from 0 (strip glyphs.now)) }
+    ensures indices { IfOk result (λ c. indices_or_all c.buffer_indices.indices c.buffer_indices.end
+        ≡ counted_indices_from 0 (strip glyphs.now)) }
+    ensures end { IfOk result (λ c. c.buffer_indices.end ≡ length glyphs.now) }
+    ensures err { IfErr result (λ e. e ≡ ShapeCause.OutOfMemory) }
+{
+    if !are_all_counted(glyphs) {
+        return list_counted(alloc, glyphs);
+    }
+    let categories = categories_of(alloc, glyphs)?;
+    let buffer_indices = CountedIndices {
+        indices: None,
+        end: glyphs.len(),
+    };
+    Ok(Counted {
+        categories,
+        buffer_indices,
+    })
+}
+
+#[tactic(auto, using(crate::proofs::AllCounted::is_passed, crate::proofs::AllCounted::is_skipped, crate::proofs::AllCounted::none_skipped))]
+fn are_all_counted(glyphs: &[hb_glyph_info_t]) -> bool
+    ensures { result ≡ are_all_counted (strip glyphs.now) }
+{
+    for at in 0..glyphs.len() {
+        if !is_counted(&glyphs[at], &glyphs[at + 1..]) {
+            return false;
+        }
+    }
+    true
+}
+
+/// Lists the categories and the indices of the counted glyphs.
+fn list_counted(alloc: Global, glyphs: &[hb_glyph_info_t]) -> Result<Counted, ShapeCause>
+    ensures categories { IfOk result (λ c. c.categories.items ≡ categories_counted (strip glyphs.now)) }
+    ensures indices { IfOk result (λ c. indices_or_all c.buffer_indices.indices c.buffer_indices.end
+        ≡ counted_indices_from 0 (strip glyphs.now)) }
     ensures end { IfOk result (λ c. c.buffer_indices.end ≡ length glyphs.now) }
     ensures err { IfErr result (λ e. e ≡ ShapeCause.OutOfMemory) }
 {
@@ -83,7 +124,7 @@ fn count_glyphs(alloc: Global, glyphs: &[hb_glyph_info_t]) -> Result<Counted, Sh
         )?;
     }
     let buffer_indices = CountedIndices {
-        indices,
+        indices: Some(indices),
         end: glyphs.len(),
     };
     Ok(Counted {

@@ -60,7 +60,11 @@ pub fn setup_syllables<S: SyllableSpans>(
     set_bytes(spans, shaper, &categories, &Each, buffer)
 }
 
-fn categories_of(alloc: Global, glyphs: &[hb_glyph_info_t]) -> Result<Vec<u8>, AllocFailed<u8>>
+/// The categories of all glyphs.
+pub(crate) fn categories_of(
+    alloc: Global,
+    glyphs: &[hb_glyph_info_t],
+) -> Result<Vec<u8>, AllocFailed<u8>>
     ensures { IfOk result (λ cs. cs.items ≡ map (λ g. g.category) glyphs.now) }
 {
     let mut categories = Vec::new(alloc);

@@ -1,5 +1,5 @@
 use Rattle.script_syllabic.proofs.Counting.{AreCounted}
-use Rattle.script_syllabic.proofs.spans.count_glyphs.Given as goal
+use Rattle.script_syllabic.proofs.spans.list_counted.Given as goal
 
 -- the glyphs before `at` were counted
 abbrev pub invariant-loop-at : goal.invariant-loop-at
