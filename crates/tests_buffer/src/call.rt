@@ -51,6 +51,8 @@ pub enum Call {
     Rotate(usize, usize, usize),
     SetLen(usize),
     SetMasks(u32, u32, u32, u32),
+    /// Gives back memory that is not needed.
+    Shrink,
     Skip,
     /// Sorts a range by number.
     Sort(usize, usize),
@@ -71,7 +73,7 @@ pub enum Call {
 /// Makes a call, and returns its answer: true where it has none, and false where the call is not permitted.
 pub fn make(buffer: &mut hb_buffer_t, alloc: Global, call: &Call) -> Result<bool, AllocError> {
     match *call {
-        Ask(_) | KeepApart | Level(_) | Clear | ResetMasks(_) | SetMasks(..) => {
+        Ask(_) | KeepApart | Level(_) | Clear | ResetMasks(_) | SetMasks(..) | Shrink => {
             set(buffer, call);
             Ok(true)
         }
@@ -96,6 +98,7 @@ fn set(buffer: &mut hb_buffer_t, call: &Call) {
         Level(level) => buffer.set_cluster_level(level),
         ResetMasks(mask) => buffer.reset_masks(mask),
         SetMasks(value, mask, start, end) => buffer.set_masks(value, mask, start, end),
+        Shrink => buffer.shrink_to_fit(),
         _ => buffer.clear(),
     }
 }

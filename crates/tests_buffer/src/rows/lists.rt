@@ -100,6 +100,13 @@ pub static ROWS: &[Row] = &[
         want: &[(1, 4, 1), (2, 1, 0)],
     },
     Row {
+        name: "gives memory back, and takes more",
+        start: &[0, 1, 2],
+        calls: &[SetLen(2), Shrink, SetLen(3)],
+        refused: 0,
+        want: &[(1, 0, 0), (2, 1, 0), (0, 0, 0)],
+    },
+    Row {
         name: "lends the glyphs that the cursor has passed",
         start: &[0, 1, 2],
         calls: &[WriteFirst(8), NextMany(2), WriteFirst(9)],
