@@ -57,7 +57,7 @@ refilled_rest [] ws (suc n) le = absurd (omega (arith, le))
 refilled_rest (x ∷ xs) [] (suc n) le = ap (drop n) (take_all (length xs) xs (omega arith)) ∙ sym (take_all (length (drop n xs)) (drop n xs) (omega arith))
 refilled_rest (x ∷ xs) (w ∷ ws) (suc n) le = refilled_rest xs ws n (omega (arith, le))
 
--- the output, with the input right behind what was read and what it has
+-- the output, with the input next after what was read and after the output's end
 pub front_back : (b : Inside) (order : ClusterOrder) (ws : List hb_glyph_info_t) → b.have_output ≡ true → max (b.idx - b.gap) b.front ≡ b.idx → b.front ≤ b.idx → b.idx ≤ length b.info.items
     → b.info.len ≡ length b.info.items → sides_of (record b { info = with_items_from b.info 0 ws; order = order }) ≡ with_output_refilled ws (sides_of b)
 front_back b order ws h least ordered le counted =
@@ -106,8 +106,8 @@ behind_back b info order at end s e most i counted = by_open b.have_output refl
     same : (gap idx at : ℕ) → at ≡ max idx (idx - gap) → at ≡ idx
     same gap idx at e = grind (arith, nat_tests, common_steps, e)
 
-    right_behind : (front gap idx at : ℕ) → at ≡ max front (idx - gap) → gap ≤ idx → front ≤ idx → max (at - (gap - (idx - at))) front ≡ at
-    right_behind front gap idx at e le within = grind (arith, nat_tests, common_steps, e, le, within)
+    at_is_most : (front gap idx at : ℕ) → at ≡ max front (idx - gap) → gap ≤ idx → front ≤ idx → max (at - (gap - (idx - at))) front ≡ at
+    at_is_most front gap idx at e le within = grind (arith, nat_tests, common_steps, e, le, within)
 
     by_open : (t : Bool) → b.have_output ≡ t → ((ws : List hb_glyph_info_t) → sides_of (record (moved_up b info at) { info = with_items_from info 0 ws; order = order }) ≡ with_output_refilled ws (sides_of b)) × (take (end - 0) info.items ≡ (sides_of b).behind)
     by_open true h =
@@ -118,7 +118,7 @@ behind_back b info order at end s e most i counted = by_open b.have_output refl
         let after : b.front ≤ at = grind (arith, nat_tests, common_steps, least) in
         let long : length info.items ≡ at + (length b.info.items - b.idx) = ap length i ∙ length-append (take at b.info.items) (drop b.idx b.info.items) ∙ ap (λ k. k + length (drop b.idx b.info.items)) (length-take-le at b.info.items (omega (arith, within, s.cursor))) ∙ ap (λ k. at + k) (length-drop b.idx b.info.items) in
         let view = moved_up_view b info at s h least i in (
-          λ ws. front_back (moved_up b info at) order ws h (right_behind b.front b.gap b.idx at least s.opened front) after (omega (arith, long)) counted ∙ ap (with_output_refilled ws) view,
+          λ ws. front_back (moved_up b info at) order ws h (at_is_most b.front b.gap b.idx at least s.opened front) after (omega (arith, long)) counted ∙ ap (with_output_refilled ws) view,
           rw (h, whole end, end_is) (rw h at (ap (λ (t : Sides). t.behind) view)),
         )
     by_open false h =

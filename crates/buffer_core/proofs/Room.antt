@@ -1,6 +1,5 @@
 -- Glyphs that an output or a list still holds.
-use Rattle.std.specs.Bool.{OnFalse}
-use Rattle.std.proofs.Common.{ℕ, ◌≡◌, ◌≤◌, ◌<◌, ◌+◌, ◌-◌, ◌&&◌, Bool, true, false, nat_le, List, [], ◌∷◌, ◌++◌, length, take, drop, get_or, refl, arith, ap, sym, ◌∙◌}
+use Rattle.std.proofs.Common.{ℕ, ◌≡◌, ◌≤◌, ◌<◌, ◌+◌, ◌&&◌, Bool, true, false, nat_le, List, [], ◌∷◌, ◌++◌, length, take, drop, get_or, arith, ap, sym, ◌∙◌}
 use Rattle.std.proofs.lemmas.Bool.Decides.{nat_tests}
 use Rattle.std.proofs.lemmas.List.{length-append, length-drop}
 use Rattle.buffer_glyphs.specs.declared.info.hb_glyph_info_t.{hb_glyph_info_t}
@@ -31,12 +30,3 @@ within n m e = grind (arith, nat_tests, e)
 pub joined_within : (s : Bool) (out ahead : List hb_glyph_info_t) (m : ℕ) → (s && nat_le (length (out ++ ahead) + 0) m) ≡ true → length (out ++ ahead) ≤ m
 joined_within true out ahead m e = let le = within (length (out ++ ahead) + 0) m e in omega (arith, le)
 joined_within false out ahead m e = cc
-
-joined_length : (out info : List hb_glyph_info_t) (n : ℕ) → length (out ++ drop n info) ≡ length out + (length info - n)
-joined_length out info n = length-append out (drop n info) ∙ ap (λ k. length out + k) (length-drop n info)
-
--- a list that stays empty while no output is open
-pub empty_kept : (t : Bool) (xs ys : List hb_glyph_info_t) → length ys ≡ length xs → OnFalse t (xs ≡ []) → OnFalse t (ys ≡ [])
-empty_kept true xs ys e none = tt
-empty_kept false xs [] e none = refl
-empty_kept false xs (y ∷ ys) e none = let zero : length xs ≡ 0 = ap length none in absurd (omega (arith, zero, e))

@@ -60,7 +60,7 @@ impl GlyphBuffer {
         self.buffer.pos_slice()
     }
 
-    /// Gives back memory that is not needed for the glyphs, as a long text of which many characters were joined leaves it.
+    /// Frees memory that the glyphs don't need, as where ligatures made a long text's list shorter.
     pub fn shrink_to_fit(&mut self)
         ensures { self.new ≡ self.old }
     {

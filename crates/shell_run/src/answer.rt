@@ -131,7 +131,7 @@ fn lines(
 {
     let buffer = text_buffer(alloc, &mut options, text)?;
     let mut glyphs = shape(alloc, tables, face, &options.features, buffer)?;
-    // Of a long text of which many characters were joined, the printed line takes the memory.
+    // Where many characters became one glyph the lists are too large, and a long line needs the memory.
     glyphs.shrink_to_fit();
     let lines = print(alloc, face, options.flags, options.slices, &glyphs, text)?;
     Ok(lines)
@@ -170,7 +170,7 @@ pub(crate) fn answer(
     ensures kind { IfErr result IsOfRun }
 {
     let input = read_input(alloc, &tables, &font)?;
-    // What was read of them takes no part in shaping, and a long text's glyphs take its memory.
+    // Their bytes are no longer needed, and a long text's glyphs need the memory.
     drop(tables);
     drop(font);
     lines_in(alloc, options, &input.tables, &input.face, text)

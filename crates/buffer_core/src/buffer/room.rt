@@ -28,7 +28,7 @@ impl hb_buffer_t {
     }
 }
 
-/// Makes room for so many more glyphs behind the output, and moves the input on where there is too little; answers how
+/// Makes room for so many more glyphs after the output, and moves the input on where there is too little; answers how
 /// far. Where it moves, it moves by a sixteenth of its length at least, and as far as it has moved before, so that it
 /// moves few times.
 pub(super) fn make_room(

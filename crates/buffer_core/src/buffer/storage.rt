@@ -94,7 +94,7 @@ impl hb_buffer_t {
         Ok(true)
     }
 
-    /// Gives back memory that the lists have beyond their glyphs and positions. It changes nothing that is seen.
+    /// Frees memory that the lists have beyond their glyphs and positions. It changes nothing that is seen.
     pub fn shrink_to_fit(&mut self)
         ensures { self.new ≡ self.old }
     {
