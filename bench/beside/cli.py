@@ -13,14 +13,13 @@ from beside.pages import text_of
 from beside.programs import THEIRS, Files, build_driver, build_own_driver, printed_by, used_by
 from beside.sets import PACKAGES, SETS, Set
 from beside.table import Pair, Row, each, head, row_line, slope, summary
-from building.library import archive
+from building.places import LIBRARY, PROGRAM, Place
 from common.faults import FILES, WORDS, ToolFault
 from common.notes import Notes, Progress
 from common.parsing import Words
 from fontjson.cli import read_font
 from shaping.cache import cache_folder, cached, fingerprint, font_name
 from shaping.cli import FONT_READ, tables_file
-from shaping.program import PROGRAM
 
 NAME = "real"
 PAGE = 10_000
@@ -85,8 +84,8 @@ def read_options(words: list[str]) -> argparse.Namespace:
     parser.add_argument("--memory", action="store_true", help=f"also the peak of memory for {LARGE:,} characters")
     parser.add_argument("--glyphs", action="store_true", help="compare glyphs, and measure nothing")
     parser.add_argument("--texts", type=Path, metavar="FOLDER", help="write the texts of a page, and measure nothing")
-    parser.add_argument("--program", type=Path, default=PROGRAM, metavar="FILE", help="the program to measure")
-    parser.add_argument("--library", type=Path, default=archive(), metavar="FILE", help="the archive to measure")
+    parser.add_argument("--program", type=Path, default=Place(PROGRAM).file, metavar="FILE", help="the program to measure")
+    parser.add_argument("--library", type=Path, default=Place(LIBRARY).file, metavar="FILE", help="the archive to measure")
     options = parser.parse_args(words)
     if options.pages < 2:
         raise ToolFault(WORDS, "--pages: a slope needs two lengths, so 2 pages or more")

@@ -6,7 +6,7 @@ import os
 from pathlib import Path
 from typing import Iterable, NamedTuple
 
-USUAL = Path(__file__).resolve().parent.parent.parent / "crates" / "kuspveli_c" / "out" / "libkuspveli.so"
+USUAL = Path(__file__).resolve().parent.parent.parent / "out" / "libkuspveli.so"
 NAMES = {
     1: "OutOfMemory", 2: "J1 NotJson", 3: "J2 WrongShape", 4: "J3 FloatNumber", 5: "J4 UnknownName",
     6: "U1 OutOfOrder", 7: "U2 OutOfRange", 8: "U3 SplitDepth", 9: "Unlawful", 10: "NotUtf8", 12: "S2 TooLong",

@@ -2,7 +2,6 @@
 
 import argparse
 import multiprocessing
-import os
 import tempfile
 from dataclasses import dataclass
 from pathlib import Path
@@ -12,11 +11,12 @@ from attacks.attack import Attack, Files
 from attacks.fonts import FONTS
 from attacks.texts import TEXTS
 from attacks.values import VALUES
-from common.faults import FILES as FILES_STATUS
+from building.places import PROGRAM, standing
+from building.ready import usable
 from common.faults import WORDS, ToolFault
 from common.parsing import Words
 from fuzzing.cases import FILES
-from fuzzing.cli import MEMORY, PROGRAM
+from fuzzing.cli import MEMORY
 from fuzzing.running import Answer, Limits, Runner, is_line, under
 
 NAME = "hostile"
@@ -59,7 +59,7 @@ def parser() -> argparse.ArgumentParser:
     words.add_argument("--list", action="store_true", help="print the names and the first sizes")
     words.add_argument("--write", type=Path, metavar="FOLDER", help="write the files, and run nothing")
     words.add_argument("--times", type=int, default=1, metavar="N", help="of N runs the fastest is told (1)")
-    words.add_argument("--program", type=Path, default=PROGRAM, metavar="FILE", help="another program")
+    words.add_argument("--program", type=Path, default=standing(PROGRAM).file, metavar="FILE", help="another program")
     words.add_argument("--limit", type=float, default=120, metavar="S", help="processor seconds for a run (120)")
     words.add_argument("--memory", type=int, default=4096, metavar="MB", help="memory for a run (4096)")
     words.add_argument("--stack", type=int, default=192, metavar="KB", help="stack for a run (192)")
@@ -79,8 +79,7 @@ def main(given: list[str]) -> int:
     if options.write is not None:
         write_all(options.write, attacks)
         return 0
-    if not os.access(options.program, os.X_OK):
-        raise ToolFault(FILES_STATUS, f"{options.program} is not there: tools/build builds it")
+    usable(NAME, options.program)
     limits = Limits(options.limit, options.memory << 20, options.stack << 10)
     with tempfile.TemporaryDirectory(prefix="hostile-", dir=MEMORY if MEMORY.is_dir() else None) as folder:
         with Server(Runner(options.program, Path(folder), limits)) as server:

@@ -3,11 +3,11 @@
 import os
 import re
 import subprocess
-import sys
-import time
 from dataclasses import dataclass, field
 from pathlib import Path
 from typing import TextIO
+
+from building.progress import Teller
 
 # What the gate prints of a crate begins with its name, and ends with how it ended.
 SECTION = "== "
@@ -34,6 +34,19 @@ class Failure:
         return "".join(self.lines[-TAIL:]).rstrip("\n")
 
 
+def run_gate(
+    root: Path, tree: Path, lines: dict[str, str], log: Path, held: int, jobs: int | None, teller: Teller
+) -> Failure | None:
+    """Proves, builds and runs all crates of the tree; once more with one check at a time where one was killed."""
+    gate = Gate(root, tree, len(lines), log, held, teller)
+    teller.line(f"{len(lines)} crates to prove")
+    failure = gate.run(jobs)
+    if failure is not None and failure.was_killed() and jobs != 1:
+        teller.line(f"{failure.name} was killed, most likely for memory: once more, one check at a time")
+        failure = gate.run(1)
+    return failure
+
+
 @dataclass
 class Gate:
     """A run: where, with how many crates, and an open file whose lock is held until rt ends."""
@@ -43,10 +56,8 @@ class Gate:
     count: int
     log: Path
     held: int
-    out: TextIO = field(default_factory=lambda: sys.stderr)
-    started: float = field(default_factory=time.monotonic)
+    teller: Teller
     passed: set[str] = field(default_factory=set)
-    tool: str = "build"
 
     def run(self, jobs: int | None) -> Failure | None:
         """Proves, builds and runs all that is not kept. With the first crate that fails rt is ended."""
@@ -87,14 +98,7 @@ class Gate:
                 return Failure(failed[1], section)
             if passed := PASSED.match(line):
                 self.passed.add(passed[1])
-                self.tell(f"[{len(self.passed)}/{self.count}] {self.clock()} {passed[1]} {passed[2] or passed[3]}")
+                self.teller.line(f"[{len(self.passed)}/{self.count}] {self.teller.clock()} {passed[1]} {passed[2] or passed[3]}")
             elif told := TOLD.match(line):
-                self.tell(told[1])
+                self.teller.line(told[1])
         return Failure("", section) if ran.wait() else None
-
-    def tell(self, what: str) -> None:
-        print(f"{self.tool}: {what}", file=self.out, flush=True)
-
-    def clock(self) -> str:
-        seconds = int(time.monotonic() - self.started)
-        return f"{seconds // 60}:{seconds % 60:02}"

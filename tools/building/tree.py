@@ -4,9 +4,11 @@ It is a repository of its own, without the other crates and without must-fail ed
 a file changes its time, by which rt knows files that were changed while it worked. The gate refuses a crates.txt below
 the top of a repository, so the tree stands among the temporary files."""
 
+import contextlib
 import hashlib
 import os
 import shutil
+import stat
 import tempfile
 from pathlib import Path
 from typing import Iterable
@@ -19,7 +21,7 @@ LIST = "crates.txt"
 HANDLES = "HANDLES"
 
 
-def tree_of(root: Path, crate: str = "hb_shape") -> Path:
+def tree_of(root: Path, crate: str) -> Path:
     """The place of the tree, one for each copy of the repository and each crate that is built."""
     own = hashlib.sha256(os.fsencode(root)).hexdigest()[:16]
     return Path(tempfile.gettempdir()).resolve() / f"{crate}-build-{own}"
@@ -52,8 +54,21 @@ def files_of(root: Path, names: Iterable[str]) -> list[Path]:
 
 
 def last_change(root: Path, names: Iterable[str]) -> int:
-    """When a file of these crates was last written, added or removed, in nanoseconds."""
-    return max(path.stat().st_mtime_ns for path in [root / LIST, *paths_of(root, names)])
+    """When a file of these crates was last written, added or removed, in nanoseconds. It is asked before each run of the
+    program, so it looks at folders by os.scandir, which takes a tenth of the time."""
+    newest, left = 0, [root / LIST, root / HANDLES, *(root / "crates" / name / part for name in names for part in READ)]
+    folders = []
+    for path in left:
+        with contextlib.suppress(FileNotFoundError):
+            found = path.stat()
+            newest = max(newest, found.st_mtime_ns)
+            folders += [str(path)] * stat.S_ISDIR(found.st_mode)
+    for folder in folders:
+        with os.scandir(folder) as entries:
+            for entry in entries:
+                newest = max(newest, entry.stat().st_mtime_ns)
+                folders += [entry.path] * entry.is_dir()
+    return newest
 
 
 def stamp_of(root: Path, lines: dict[str, str], kit: str) -> str:

@@ -2,7 +2,6 @@
 
 import argparse
 import multiprocessing
-import os
 import queue
 import tempfile
 import time
@@ -10,6 +9,8 @@ from itertools import count
 from pathlib import Path
 from typing import Any, Iterator
 
+from building.places import PROGRAM, standing
+from building.ready import usable
 from common.faults import FILES as FILES_STATUS
 from common.faults import WORDS, ToolFault
 from common.notes import Progress
@@ -21,7 +22,6 @@ from fuzzing.running import Answer, Limits, Runner, under
 from sources.crates import ROOT
 
 NAME = "fuzz"
-PROGRAM = ROOT / "crates" / "hb_shape" / "out" / "hb_shape"
 ABOUT = """Runs the program on random fonts, tables, texts and options, some of them damaged, under limits of time,
 memory and stack. Of each kind of answer that is not right (a signal, no end, output before a refusal, a message that
 is not documented, a refusal of what follows the format, a shape of what breaks it) the smallest case is kept. The
@@ -48,7 +48,7 @@ def parser() -> argparse.ArgumentParser:
     words.add_argument("--seed", type=int, default=1, metavar="N", help="which cases are drawn (1)")
     words.add_argument("--first", type=int, default=0, metavar="N", help="the number of the first case (0)")
     words.add_argument("--case", type=int, metavar="N", help="run one case, and write its files to --keep")
-    words.add_argument("--program", type=Path, default=PROGRAM, metavar="FILE", help="another program")
+    words.add_argument("--program", type=Path, default=standing(PROGRAM).file, metavar="FILE", help="another program")
     words.add_argument("--against", type=Path, metavar="FILE", help="a program that has to answer the same")
     words.add_argument("--limit", type=float, default=10, metavar="S", help="processor seconds for a run (10)")
     words.add_argument("--memory", type=int, default=1024, metavar="MB", help="memory for a run (1024)")
@@ -61,8 +61,7 @@ def main(given: list[str]) -> int:
     """Runs the cases; its status is 1 where one has an answer that is not right."""
     options = parser().parse_args(given)
     for program in filter(None, (options.program, options.against)):
-        if not os.access(program, os.X_OK):
-            raise ToolFault(FILES_STATUS, f"{program} is not there: tools/build builds it")
+        usable(NAME, program)
     if min(options.jobs, options.stack, options.memory) < 1 or options.first < 0:
         raise ToolFault(WORDS, "--jobs, --stack and --memory are numbers from 1 on, --first from 0 on")
     # Read once here, and not in each process.

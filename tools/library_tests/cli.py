@@ -6,15 +6,17 @@ import sys
 import tempfile
 import time
 from concurrent.futures import ThreadPoolExecutor
+from dataclasses import dataclass
 from pathlib import Path
 
+from building.places import LIBRARY, PROGRAM, Place
 from common.faults import FILES, ToolFault
 from common.parsing import Words
 from library_tests import drivers
 from library_tests.cases import SETTINGS, Case, Script, scripts
 from shaping.cache import cache_folder
 from shaping.cli import font_value, tables_file
-from shaping.program import PROGRAM, run_one
+from shaping.program import run_one
 from shaping.texts import Text
 from sources.crates import ROOT
 
@@ -22,7 +24,8 @@ NAME = "test_library"
 ABOUT = """Tests the library for C: its header as C99, C11 and C++ beside HarfBuzz's numbers and structs; the same texts from
 C, Rust (where cargo is there) and Python as from the program; each allocation freed, by valgrind and by counts over
 many calls on four threads; each allocation of a call refused in turn; and the processor time of a word of each script
-by the kept plan beside HarfBuzz's. The program and the library are built first, where they are not."""
+by the kept plan beside HarfBuzz's. The program and the library are built first, where they are not, and
+proved unless --unproved is given."""
 BUILDS = ("build", "build_library")
 # The room for the first call of each text: small, so that some texts are read again.
 ROOM = 8
@@ -37,27 +40,41 @@ def main(words: list[str]) -> int:
     """Tests; its status is 1 where something is not as it is to be."""
     parser = Words(prog=NAME, description=ABOUT)
     parser.add_argument("--calls", type=int, default=CALLS, metavar="N", help=f"calls of one run ({CALLS:,})")
+    parser.add_argument("--unproved", action="store_true", help="test what is compiled without proofs (out/unproved)")
     parser.add_argument("--no-times", action="store_true", help="don't compare times")
     options = parser.parse_args(words)
     for command in ("gcc", "g++", "pkg-config", "valgrind"):
         if shutil.which(command) is None:
             raise ToolFault(FILES, f"the command {command} is not on the path (docs/TOOLS.md names the packages)")
+    kinds = ["--unproved"] if options.unproved else []
     for tool in BUILDS:
-        if subprocess.run([ROOT / "tools" / tool], stdout=subprocess.DEVNULL, check=False).returncode:
+        if subprocess.run([ROOT / "tools" / tool, *kinds], stdout=subprocess.DEVNULL, check=False).returncode:
             raise ToolFault(FILES, f"tools/{tool} failed")
+    program, library = (Place(target, not options.unproved) for target in (PROGRAM, LIBRARY))
     with cache_folder() as values, tempfile.TemporaryDirectory() as work:
-        return run(Path(values), Path(work), options.calls, not options.no_times)
+        return run(Tested(program.file, library, Path(values), Path(work)), options.calls, not options.no_times)
 
 
-def run(values: Path, work: Path, calls: int, timed: bool) -> int:
+@dataclass(frozen=True)
+class Tested:
+    """The program and the library, the folder of the fonts' values, and one for what is made."""
+
+    program: Path
+    library: Place
+    values: Path
+    work: Path
+
+
+def run(tested: Tested, calls: int, timed: bool) -> int:
     """Runs each test; tells which passed."""
+    values, work, library = tested.values, tested.work, tested.library
     drivers.check_header(work)
     tell("header", "C99, C11 and C++, HarfBuzz's numbers and layouts")
     tables, all_scripts = tables_file(values), scripts()
     fonts = {script.font: font_value(values, script.font, 0) for script in all_scripts}
-    expected = {script.name: lines_of_program(tables, fonts[script.font], script.cases) for script in all_scripts}
+    expected = {script.name: lines_of_program(tested.program, tables, fonts[script.font], script.cases) for script in all_scripts}
     wrong = 0
-    for driver in drivers.build(work):
+    for driver in drivers.build(work, library):
         found = 0
         for script in all_scripts:
             lines = driver.lines(tables, fonts[script.font], ROOM, script.cases)
@@ -66,18 +83,18 @@ def run(values: Path, work: Path, calls: int, timed: bool) -> int:
         tell(driver.name, f"{found} texts in {len(all_scripts)} scripts")
     latin, *_ = all_scripts
     some = [case.text for case in latin.cases if case.settings == SETTINGS[0] and case.text][:4]
-    tell("memory", drivers.count_calls(work, tables, fonts[latin.font], calls, some))
+    tell("memory", drivers.count_calls(work, library, (tables, fonts[latin.font]), calls, some))
     if timed:
-        wrong += tell_times(work, tables, fonts, all_scripts)
+        wrong += tell_times(tested, tables, fonts, all_scripts)
     print(f"{NAME}: {f'{wrong} wrong' if wrong else 'passed'}")
     return 1 if wrong else 0
 
 
-def lines_of_program(tables: Path, font: Path, cases: list[Case]) -> list[str]:
+def lines_of_program(program: Path, tables: Path, font: Path, cases: list[Case]) -> list[str]:
     """The program's line for each case."""
 
     def line(case: Case) -> str:
-        made = run_one(PROGRAM, tables, font, Text(case.text.encode(), case.text), [*SHOWN, *case.settings.words])
+        made = run_one(program, tables, font, Text(case.text.encode(), case.text), [*SHOWN, *case.settings.words])
         return made.fault if made.status else made.glyphs.rstrip("\n")
 
     with ThreadPoolExecutor() as pool:
@@ -94,12 +111,14 @@ def tell_differences(driver: str, script: Script, expected: list[str], found: li
     return len(differ)
 
 
-def tell_times(work: Path, tables: Path, fonts: dict[Path, Path], all_scripts: list[Script]) -> int:
+def tell_times(tested: Tested, tables: Path, fonts: dict[Path, Path], all_scripts: list[Script]) -> int:
     """Tells the times of a word of each script beside HarfBuzz's; how many cost too much."""
     least: dict[str, drivers.Times] = {}
     # Each run is of all words, so that what else the machine does does not meet one of them alone.
     for script in all_scripts * RUNS:
-        found = drivers.times(work, tables, fonts[script.font], script.font, script.cases[0].text)
+        found = drivers.times(
+            tested.work, tested.library, (tables, fonts[script.font]), script.font, script.cases[0].text
+        )
         least[script.name] = found.least(least.get(script.name, found))
     for script in all_scripts:
         tell("time", f"{script.name} {script.cases[0].text}: {told_times(least[script.name])}")

@@ -7,7 +7,7 @@ import sys
 from dataclasses import dataclass, field
 from pathlib import Path
 
-from building.library import archive, out_folder, shared
+from building.places import Place
 from common.faults import DATA, ToolFault
 from library_tests.cases import Case
 from sources.crates import ROOT
@@ -62,14 +62,15 @@ def harfbuzz(what: str) -> list[str]:
     return call(["pkg-config", what, "harfbuzz"]).split()
 
 
-def build(work: Path) -> list[Driver]:
+def build(work: Path, library: Place) -> list[Driver]:
     """The drivers of each language: C by the archive, under valgrind, and by the shared library."""
+    archive, shared = library.files
     made = [
-        Driver("C, under valgrind", [*VALGRIND, compiled(work, "lines", [archive()])]),
-        Driver("C, shared", [compiled(work, "lines", [shared()])], {"LD_LIBRARY_PATH": str(out_folder())}),
-        Driver("Python", [sys.executable, SOURCES.parent / "lines.py"]),
+        Driver("C, under valgrind", [*VALGRIND, compiled(work, "lines", [archive])]),
+        Driver("C, shared", [compiled(work, "lines", [shared])], {"LD_LIBRARY_PATH": str(library.folder)}),
+        Driver("Python", [sys.executable, SOURCES.parent / "lines.py"], {"KUSPVELI_LIBRARY": str(shared)}),
     ]
-    return made if shutil.which("cargo") is None else [*made, rust_driver(work)]
+    return made if shutil.which("cargo") is None else [*made, rust_driver(work, library)]
 
 
 def compiled(work: Path, name: str, given: list[str | Path]) -> Path:
@@ -79,18 +80,19 @@ def compiled(work: Path, name: str, given: list[str | Path]) -> Path:
     return program
 
 
-def rust_driver(work: Path) -> Driver:
+def rust_driver(work: Path, library: Place) -> Driver:
     """The driver over the wrapper, which is built without any registry."""
     words = ["cargo", "build", "--quiet", "--offline", "--release", "--examples", "--target-dir", work / "rust"]
-    call([*words, "--manifest-path", BINDINGS / "rust" / "Cargo.toml"])
+    given = {"KUSPVELI_OUT": str(library.folder)}
+    call([*words, "--manifest-path", BINDINGS / "rust" / "Cargo.toml"], environment=given)
     return Driver("Rust", [work / "rust" / "release" / "examples" / "lines"])
 
 
-def count_calls(work: Path, tables: Path, font: Path, calls: int, words: list[str]) -> str:
+def count_calls(work: Path, library: Place, files: tuple[Path, Path], calls: int, words: list[str]) -> str:
     """Calls on four threads, with the allocations counted."""
     wraps = [f"-Wl,--wrap={name}" for name in WRAPPED]
-    program = compiled(work, "many", [archive(), "-pthread", *wraps])
-    return call([program, tables, font, str(calls), *words]).strip()
+    program = compiled(work, "many", [library.file, "-pthread", *wraps])
+    return call([program, *files, str(calls), *words]).strip()
 
 
 @dataclass(frozen=True)
@@ -109,11 +111,11 @@ class Times:
         return Times(min(self.own, other.own), min(self.theirs, other.theirs), self.is_same and other.is_same)
 
 
-def times(work: Path, tables: Path, font: Path, file: Path, word: str) -> Times:
+def times(work: Path, library: Place, files: tuple[Path, Path], file: Path, word: str) -> Times:
     """What a word takes in one run."""
     program = work / "beside"
     if not program.exists():
-        flags = [*harfbuzz("--cflags"), SOURCES / "beside.c", archive(), *harfbuzz("--libs")]
+        flags = [*harfbuzz("--cflags"), SOURCES / "beside.c", library.file, *harfbuzz("--libs")]
         call(["gcc", "-std=gnu11", "-O2", *WARNINGS, f"-I{INCLUDE}", "-o", program, *flags])
-    own, theirs, glyphs = call([program, tables, font, file, word]).split()
+    own, theirs, glyphs = call([program, *files, file, word]).split()
     return Times(float(own), float(theirs), glyphs == "same")

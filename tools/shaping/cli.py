@@ -5,6 +5,7 @@ import sys
 from pathlib import Path
 from typing import Any
 
+from building.ready import ready_program
 from common.faults import DATA, WORDS, ToolFault, one_line
 from common.notes import Notes, Progress
 from fontjson.cli import read_font
@@ -12,7 +13,7 @@ from fontjson.keep import Kept
 from shaping.cache import cache_folder, cached, fingerprint, font_name, part_of
 from shaping.glyphs import as_json, read_line
 from shaping.options import NAME, Given, read_words, usage
-from shaping.program import PROGRAM, Line, make_ready, run_all, told
+from shaping.program import Line, run_all, told
 from shaping.texts import lack_notes, read_texts
 from unicodejson.cli import DEBIAN, MAKERS, make_tables
 
@@ -34,16 +35,16 @@ def main(words: list[str]) -> int:
     texts = read_texts(given)
     with cache_folder() as folder:
         font = font_file(folder, given)
-        make_ready(PROGRAM)
+        program = ready_program(NAME)
         tables = tables_file(folder)
         characters = {row[0] for row in key_of(font, "cmap", [])}
         for text in texts:
             for note in lack_notes(text, characters):
                 tell(note)
         options = [*given.program, NUMBERS] if needs_numbers(given) and NUMBERS not in given.program else given.program
-        lines = run_all(PROGRAM, tables, font, texts, options)
+        lines = run_all(program, tables, font, texts, options)
         if any(line.status == DATA for line in lines) and heal(folder, given, tables, font):
-            lines = run_all(PROGRAM, tables, font, texts, options)
+            lines = run_all(program, tables, font, texts, options)
         return show(lines, given, tables, font)
 
 

@@ -26,8 +26,9 @@ examples:
 
 """
 AFTER = """
-The program is built first where it is not there (tools/build). The font is converted once, and kept with the tables in
-$XDG_CACHE_HOME/kuspveli (~/.cache/kuspveli). Needs fontTools: Debian's python3-fonttools, under /usr/bin/python3.
+Where no proved program is built (tools/build), one is made without proofs, in minutes, and that is told. The font is
+converted once, and kept with the tables in $XDG_CACHE_HOME/kuspveli (~/.cache/kuspveli). Needs fontTools: Debian's
+python3-fonttools, under /usr/bin/python3.
 Marks, splits and mirror images are known where Debian's unicode-data is there. docs/TOOLS.md says more.
 
 A fault is one line on standard error that says where it is, and a status: 2 the words, 3 the font or the tables, 4 the

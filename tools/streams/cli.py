@@ -9,11 +9,10 @@ from itertools import count
 from pathlib import Path
 from typing import Callable, Iterator
 
-from common.faults import FILES as FILES_STATUS
-from common.faults import ToolFault
+from building.places import PROGRAM, standing
+from building.ready import usable
 from common.parsing import Words
 from fuzzing.cases import FILES
-from fuzzing.cli import PROGRAM
 from streams import system
 from streams.rows import Row, long_row, row, rows
 from streams.shim import Shim, compiler
@@ -66,7 +65,7 @@ class Trial:
 
 def parser() -> argparse.ArgumentParser:
     words = Words(prog=NAME, description=ABOUT)
-    words.add_argument("--program", type=Path, default=PROGRAM, metavar="FILE", help="another program")
+    words.add_argument("--program", type=Path, default=standing(PROGRAM).file, metavar="FILE", help="another program")
     words.add_argument("--only", choices=GROUPS, help="one group of trials alone")
     return words
 
@@ -74,8 +73,7 @@ def parser() -> argparse.ArgumentParser:
 def main(given: list[str]) -> int:
     """Tries each place; its status is 1 where an answer is not right."""
     options = parser().parse_args(given)
-    if not os.access(options.program, os.X_OK):
-        raise ToolFault(FILES_STATUS, f"{options.program} is not there: tools/build builds it")
+    usable(NAME, options.program)
     with tempfile.TemporaryDirectory() as folder:
         trial = Trial(options.program.resolve(), Path(folder))
         for name, group in GROUPS.items():

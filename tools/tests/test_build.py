@@ -17,6 +17,7 @@ from unittest import mock
 from support import TOOLS, write_files
 
 from building import cli
+from building.places import PROGRAM, Place
 from building.tree import files_of, needed_lines, tree_of
 from common.faults import ToolFault
 from sources.crates import ROOT, read_crates
@@ -32,6 +33,7 @@ beside: low
 # Notes the tree and the jobs that it was called with. Proves crates in the order of crates.txt, and the program last.
 STAND_IN = """#!/bin/bash
 [ "$1" = version ] && { echo kit 1; exit 0; }
+[ "$1" = doc ] && { echo "$BUILD_TEST/kit/START-HERE.md"; exit 0; }
 echo "$* jobs=$RT_JOBS" >> "$BUILD_TEST/called"
 find . | sort > "$BUILD_TEST/tree"
 cat crates.txt > "$BUILD_TEST/list"
@@ -66,7 +68,7 @@ class Built(unittest.TestCase):
         self.addCleanup(folder.cleanup)
         self.notes = Path(folder.name)
         self.root = self.notes / "work"
-        self.out = self.root / "crates" / "hb_shape" / "out"
+        self.place = Place(PROGRAM, True, self.root)
         for crate in ("low", "left", "right", "hb_shape", "beside"):
             self.write(crate, "fn f() {}\n")
         write_files(self.root, {"crates.txt": CRATES, "HANDLES": "Handles allowed: none.\n"})
@@ -74,7 +76,6 @@ class Built(unittest.TestCase):
         (self.notes / "bin/rt").chmod(0o755)
         path = f"{self.notes}/bin:{os.environ['PATH']}"
         for patch in (
-            mock.patch.object(cli, "ROOT", self.root),
             mock.patch.object(tempfile, "tempdir", folder.name),
             mock.patch.dict(os.environ, {"BUILD_TEST": folder.name, "TMPDIR": folder.name, "PATH": path}),
         ):
@@ -87,8 +88,8 @@ class Built(unittest.TestCase):
     def build(self, *words: str) -> tuple[int, str]:
         """The status, and what was told, with 0:00 for each time. No tree is left."""
         with contextlib.redirect_stderr(io.StringIO()) as told, contextlib.redirect_stdout(io.StringIO()) as shown:
-            status = cli.main([*words])
-        self.assertFalse(tree_of(self.root).exists())
+            status = cli.main([*words], self.root)
+        self.assertFalse(tree_of(self.root, "hb_shape").exists())
         return status, re.sub(r"\d+:\d\d", "0:00", told.getvalue() + shown.getvalue())
 
     def called(self) -> list[str]:
@@ -118,57 +119,67 @@ class Built(unittest.TestCase):
         self.write("hb_shape", "note\n")
         status, told = self.build()
         self.assertEqual(status, 0, told)
-        begin = "build: 4 crates to prove and build\nbuild: [1/4] 0:00 low proved\nbuild: [2/4] 0:00 left kept\n"
+        begin = "build: 4 crates to prove\nbuild: [1/4] 0:00 low proved\nbuild: [2/4] 0:00 left kept\n"
         self.assertTrue(told.startswith(begin), told)
         self.assertIn("build: [4/4] 0:00 hb_shape proved\nbuild: note: the disk has 7 MB left\n", told)
-        self.assertTrue(told.endswith("built crates/hb_shape/out/hb_shape\n"), told)
-        self.assertTrue(os.access(self.out / "hb_shape", os.X_OK))
-        self.assertIn("fn low::f: proved\n", (self.out / "build.log").read_text())
+        self.assertTrue(told.endswith("built out/hb_shape\n"), told)
+        self.assertTrue(os.access(self.place.file, os.X_OK))
+        self.assertIn("fn low::f: proved\n", self.place.log.read_text())
 
     def test_again(self) -> None:
         """What is built of the same sources stays; an edit, another kit and another program build it anew."""
         self.build()
         self.called()
-        os.utime(self.out / "hb_shape", (1, 1))
+        os.utime(self.place.file, (1, 1))
         self.assertEqual(self.build()[0], 0)
         self.assertEqual(self.called(), [])
-        self.assertGreater((self.out / "hb_shape").stat().st_mtime, 1)
+        self.assertGreater(self.place.file.stat().st_mtime, 1)
         self.write("beside", "fn g() {}\n")
         self.build()
         self.assertEqual(self.called(), [])
         changes = (
             lambda: self.write("left", "fn g() {}\n"),
             lambda: (self.notes / "bin/rt").write_text(STAND_IN.replace("kit 1", "kit 2")),
-            lambda: (self.out / "hb_shape").write_text("#!/bin/sh\necho another\n"),
-            lambda: (self.out / "hb_shape").unlink(),
+            lambda: self.place.file.write_text("#!/bin/sh\necho another\n"),
+            lambda: self.place.file.unlink(),
         )
         for number, change in enumerate(changes):
             change()
             self.assertEqual(self.build()[0], 0)
             self.assertEqual(len(self.called()), 1, number)
 
-    def test_gate_built(self) -> None:
-        """A program without a stamp, as the clone's gate leaves it, is built where it is newer than all its sources."""
+    def test_copied(self) -> None:
+        """A program that was copied in, without a stamp or over another's, is not said to be built."""
         self.build()
         self.called()
-        (self.out / "built_by").unlink()
-        self.assertEqual(self.build(), (0, "built crates/hb_shape/out/hb_shape\n"))
-        self.write("beside", "fn g() {}\n")
-        self.build()
-        self.assertEqual(self.called(), [])
-        changes = (
-            lambda: self.write("low", "fn f() {}\n"),
-            lambda: (self.root / "crates/low/src/gone.rt").unlink(),
-            lambda: (self.root / "crates.txt").write_text(CRATES),
-        )
-        for number, change in enumerate(changes):
-            write_files(self.root / "crates/low/src", {"gone.rt": ""})
-            self.build()
-            (self.out / "built_by").unlink(missing_ok=True)
-            self.called()
-            change()
+        stamp = self.place.stamp_file.read_text()
+        for number, text in enumerate(("", "{}", "[]", stamp.replace('"made"', '"other"'), stamp.replace("hb_shape", "x"))):
+            self.place.stamp_file.write_text(text)
+            self.assertIsNone(self.place.stamp())
             self.build()
             self.assertEqual(len(self.called()), 1, number)
+        self.place.stamp_file.unlink()
+        self.assertFalse(self.place.is_current())
+        self.build()
+        self.assertEqual(len(self.called()), 1)
+
+    def test_current(self) -> None:
+        """Before a run what stands there is looked at by its time, and its sources are read where one is newer."""
+        self.assertFalse(self.place.is_current())
+        self.build()
+        self.assertTrue(self.place.is_current())
+        self.write("low", "fn f() {}\n")
+        self.assertTrue(self.place.is_current())
+        changes = (
+            lambda: self.write("low", "fn g() {}\n"),
+            lambda: self.write("low", "fn f() {}\n"),
+            lambda: (self.root / "crates/low/src/lib.rt").unlink(),
+        )
+        found = []
+        for change in changes:
+            change()
+            found.append(self.place.is_current())
+        self.assertEqual(found, [False, True, False])
 
     def test_fault(self) -> None:
         """A crate that is not proved is told with what rt said of it, and at once; the program that was there stays."""
@@ -179,8 +190,8 @@ class Built(unittest.TestCase):
         self.assertEqual(status, 1)
         where = f"{self.root}/crates/left/src/lib.rt:1: error"
         said = f"low proved\n== left\nfn left::f: proved\n{where}\nrt: left NOT PROVED\nbuild: left did not pass"
-        self.assertIn(f"{said}, so the program was not built: see crates/hb_shape/out/build.log\n", told)
-        self.assertTrue((self.out / "hb_shape").exists())
+        self.assertIn(f"{said}, so nothing was built: see out/hb_shape.log\n", told)
+        self.assertTrue(self.place.file.exists())
         self.assertEqual(self.called(), ["ci jobs="])
         self.write("left", "fn f() {}\n")
         self.assertEqual(self.build()[0], 0)
@@ -195,7 +206,7 @@ class Built(unittest.TestCase):
         self.assertIn(said, told)
         self.write("hb_shape", "lost\n")
         self.assertRaisesRegex(ToolFault, "rt ci passed and built no hb_shape", self.build)
-        self.assertFalse((self.out / "hb_shape").exists())
+        self.assertFalse(self.place.file.exists())
 
     def test_memory(self) -> None:
         """Where a check was killed, the rest is tried once more with one check at a time."""
@@ -214,13 +225,13 @@ class Built(unittest.TestCase):
         self.write("hb_shape", "edited\n")
         self.build()
         self.called()
-        self.assertLess((self.out / "hb_shape").stat().st_mtime, (self.root / "crates/low/src/lib.rt").stat().st_mtime)
+        self.assertLess(self.place.file.stat().st_mtime, (self.root / "crates/low/src/lib.rt").stat().st_mtime)
         self.build()
         self.assertEqual(len(self.called()), 1)
 
     def test_killed(self) -> None:
         """The tree that a killed build left is replaced."""
-        write_files(tree_of(self.root), {"crates/left/src/old.rt": ""})
+        write_files(tree_of(self.root, "hb_shape"), {"crates/left/src/old.rt": ""})
         self.assertEqual(self.build()[0], 0)
         self.assertNotIn("old.rt", (self.notes / "tree").read_text())
 
@@ -236,47 +247,30 @@ class Built(unittest.TestCase):
             while not (self.notes / "list").exists():
                 self.assertIsNone(run.poll())
                 time.sleep(0.05)
-            self.assertTrue(tree_of(self.root).exists())
+            self.assertTrue(tree_of(self.root, "hb_shape").exists())
             run.terminate()
             self.assertEqual(run.wait(20), 143)
-        self.assertFalse(tree_of(self.root).exists())
+        self.assertFalse(tree_of(self.root, "hb_shape").exists())
 
     def test_beside(self) -> None:
-        """A build waits for rt and for other builds of the repository, by the lock on the program's crate."""
-        held = os.open(self.out.parent, os.O_RDONLY)
+        """A build waits for other builds of the same, and not for rt, which clears crates/hb_shape/out."""
+        with self.place.alone("other"):
+            held = os.open(self.place.folder / ".hb_shape.lock", os.O_RDONLY)
+            self.assertRaises(BlockingIOError, fcntl.flock, held, fcntl.LOCK_EX | fcntl.LOCK_NB)
         fcntl.flock(held, fcntl.LOCK_EX)
         threading.Timer(0.3, os.close, [held]).start()
         status, told = self.build()
         self.assertEqual(status, 0)
-        self.assertIn(f"build: waiting for another build or for rt to finish in {self.out.parent}\n", told)
-
-    def test_program(self) -> None:
-        """hb_shape runs the program also where sources are newer, with a warning, and builds where there is none."""
-        (self.root / "tools").mkdir()
-        shutil.copy(TOOLS / "hb_shape", self.root / "tools")
-        (self.root / "tools/build").write_text("#!/bin/sh\necho building; exit 1\n")
-        (self.root / "tools/build").chmod(0o755)
-        command = [self.root / "tools/hb_shape", "a"]
-        missing = subprocess.run(command, capture_output=True, text=True, check=False)
-        self.assertEqual((missing.returncode, missing.stdout), (1, ""))
-        self.assertTrue(missing.stderr.endswith("tools/build proves and builds it first\nbuilding\n"), missing.stderr)
-        program = self.out / "hb_shape"
-        program.parent.mkdir()
-        program.write_text('#!/bin/sh\necho "shaped $1"\n')
-        program.chmod(0o755)
-        self.assertEqual(subprocess.run(command, capture_output=True, text=True, check=True).stderr, "")
-        os.utime(program, (1, 1))
-        older = subprocess.run(command, capture_output=True, text=True, check=True)
-        self.assertEqual(older.stdout, "shaped a\n")
-        self.assertIn("sources are newer than the program", older.stderr)
+        self.assertIn("build: waiting for another build of hb_shape\n", told)
 
     def test_refused(self) -> None:
         """Before any proof: no rt, wrong words, a folder that can't be made."""
         with mock.patch.dict(os.environ, {"PATH": "/nowhere"}):
             self.assertRaisesRegex(ToolFault, "rt is not on the path", self.build)
         self.assertRaisesRegex(ToolFault, "no number above 0: '0'", self.build, "--jobs", "0")
-        self.out.write_text("")
+        (self.root / "out").write_text("")
         self.assertRaises(OSError, self.build)
+        self.assertRaisesRegex(ToolFault, "nothing is proved with --unproved", self.build, "--unproved", "--jobs=2")
         self.assertEqual(self.called(), [])
 
     def test_list(self) -> None:

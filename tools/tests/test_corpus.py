@@ -10,7 +10,8 @@ from pathlib import Path
 
 from support import NOTO, TOOLS
 
-PROGRAM = TOOLS.parent / "crates" / "hb_shape" / "out" / "hb_shape"
+from building.places import PROGRAM, standing
+
 CORPUS = Path(__file__).parent / "corpus.txt"
 DEJAVU = "/usr/share/fonts/truetype/dejavu/"
 # Words that the program shapes otherwise than hb-shape, with the reason; anything else that differs is a fault.
@@ -65,7 +66,7 @@ class Corpus(unittest.TestCase):
             for word, line in zip(words, lines, strict=True):
                 self.assertIsNone(re.search(r"(^|\|)0=", line), (font, word, line))
 
-    @unittest.skipUnless(PROGRAM.exists(), "needs the program (tools/build)")
+    @unittest.skipUnless(standing(PROGRAM).is_current(), "needs the program (tools/build)")
     def test_lines(self) -> None:
         unexplained = []
         for font, words in corpus().items():

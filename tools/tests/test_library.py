@@ -3,6 +3,7 @@
 import contextlib
 import io
 import os
+import re
 import shutil
 import subprocess
 import tempfile
@@ -13,7 +14,9 @@ from unittest import mock
 from support import write_files
 
 from building import library
-from building.libraries import FORMAT, STOPPED, library_of
+from building.kit import Kit
+from building.linking import link_library
+from building.places import LIBRARY, Place
 from building.tree import tree_of
 from library_tests import cli, drivers
 from library_tests.cases import SETTINGS, WORDS, scripts
@@ -27,30 +30,24 @@ kuspveli_c staticlib: left right core
 beside: low
 """
 BELOW = ("low", "left", "right")
-# Notes its calls. Its gate leaves the libraries in the tree; the archive is what lies ready.
+# Notes its calls.
 RT = """#!/bin/sh
 case "$1" in
     version) echo kit 1; exit ;;
     doc) echo "$LIBRARY_TEST/kit/START-HERE.md"; exit ;;
-    help) cat "$LIBRARY_TEST/help" >&2; exit 2 ;;
 esac
 echo "rt $*" >> "$LIBRARY_TEST/called"
-[ "$1" = lib ] && exec cp "$LIBRARY_TEST/made.a" out/libkuspveli_c.a
 for name in low left right; do
-    mkdir -p "crates/$name/out/rlib/$name.rlib"
-    touch "crates/$name/out/rlib/$name.rlib/format"
     echo "rt: $name proved"
 done
-mkdir crates/kuspveli_c/out
 echo "rt: kuspveli_c proved"
 """
-# Its last word is the archive's name. It prints and ends with what lies ready, and edits a file where that is asked.
+# Its last word is the archive's name. It prints and ends with what lies ready.
 RATTLE = """#!/bin/sh
 echo "rattle $*" >> "$LIBRARY_TEST/called"
-[ -e "$LIBRARY_TEST/edits" ] && echo edited >> "$LIBRARY_TEST/work/crates/low/src/lib.rt"
 [ -e "$LIBRARY_TEST/status" ] && { echo refused; exit "$(cat "$LIBRARY_TEST/status")"; }
 for last; do :; done
-cp "$LIBRARY_TEST/made.a" "$last"
+echo "an archive" > "$last"
 """
 # What rattle makes, and the kit's calls of the heap.
 MADE = """#include <stdlib.h>
@@ -96,7 +93,7 @@ class Timed(unittest.TestCase):
             return drivers.Times(own * busy, theirs, is_same=len(asked) != 6)
 
         with mock.patch.object(drivers, "times", times), contextlib.redirect_stdout(io.StringIO()) as shown:
-            slow = cli.tell_times(Path(), Path(), {script.font: Path() for script in some}, some)
+            slow = cli.tell_times(cli.Tested(*[Path()] * 4), Path(), {script.font: Path() for script in some}, some)
         self.assertEqual(slow, 1)
         self.assertEqual(asked, [script.cases[0].text for script in some] * cli.RUNS)
         ends = ["1.99 µs, HarfBuzz 1.00 µs (1.99)", "4.00 µs, HarfBuzz 2.00 µs (2.00), too much"]
@@ -113,41 +110,32 @@ class Built(unittest.TestCase):
         self.addCleanup(folder.cleanup)
         self.notes = Path(folder.name)
         self.root = self.notes / "work"
+        self.place = Place(LIBRARY, True, self.root)
         for crate in (*BELOW, "kuspveli_c", "beside"):
             write_files(self.root, {f"crates/{crate}/src/lib.rt": "fn f() {}\n"})
         write_files(self.root, {"crates.txt": CRATES, "HANDLES": "Handles allowed: none.\n"})
-        write_files(self.notes, {"bin/rt": RT, "kit/bin/rattle": RATTLE, "help": "rt ci", "made.a": "an archive"})
+        write_files(self.notes, {"bin/rt": RT, "kit/bin/rattle": RATTLE})
         for name in ("bin/rt", "kit/bin/rattle"):
             (self.notes / name).chmod(0o755)
         path = f"{self.notes}/bin:{os.environ['PATH']}"
         for patch in (
-            mock.patch.object(library, "ROOT", self.root),
-            mock.patch.object(library, "link", self.link),
+            mock.patch.object(library, "link_library", self.link),
+            mock.patch.object(library, "need_commands"),
             mock.patch.object(tempfile, "tempdir", folder.name),
             mock.patch.dict(os.environ, {"LIBRARY_TEST": folder.name, "PATH": path}),
         ):
             patch.start()
             self.addCleanup(patch.stop)
 
-    def link(self, made: Path) -> None:
-        for path in (library.archive(), library.shared()):
-            shutil.copy(made, path)
+    def link(self, kit: Kit, made: Path, room: Path) -> list[Path]:
+        return [shutil.copy(made, room / name) for name in LIBRARY.files]
 
     def build(self) -> tuple[int, str]:
         """The status, and what was told. No tree is left."""
         with contextlib.redirect_stderr(io.StringIO()) as told, contextlib.redirect_stdout(io.StringIO()) as shown:
-            status = library.build(None)
-        self.assertFalse(tree_of(self.root, library.CRATE).exists())
-        return status, told.getvalue() + shown.getvalue()
-
-    def leave_libraries(self) -> None:
-        """As a gate leaves them: each newer than its sources and than the libraries below it."""
-        for path in self.root.rglob("*"):
-            os.utime(path, (1, 1))
-        for time, name in enumerate(BELOW, 2):
-            made = library_of(self.root, name) / FORMAT
-            write_files(made.parent, {FORMAT: "rattle rlib\n"})
-            os.utime(made, (time, time))
+            status = library.main([], self.root)
+        self.assertFalse(tree_of(self.root, LIBRARY.crate).exists())
+        return status, re.sub(r"\d+:\d\d", "0:00", told.getvalue()) + shown.getvalue()
 
     def called(self) -> list[str]:
         """With what rt and rattle were called since the last question."""
@@ -156,78 +144,51 @@ class Built(unittest.TestCase):
         path.unlink(missing_ok=True)
         return calls
 
-    def commands(self) -> list[str]:
-        return [" ".join(call.split()[:2]) for call in self.called()]
-
-    def test_over_libraries(self) -> None:
-        """Where the clone's libraries are newer than their sources, one crate is proved over them, and no gate runs."""
-        self.leave_libraries()
+    def test_built(self) -> None:
+        """All crates are proved by the gate, and the archive is built over the libraries that it left."""
         status, told = self.build()
         self.assertEqual(status, 0, told)
-        self.assertIn("the libraries below kuspveli_c are built: 1 crate to prove\n", told)
-        (call,) = self.called()
-        kit, crates = self.notes / "kit", self.root / "crates"
+        gate, call = self.called()
+        self.assertEqual(gate, "rt ci")
+        kit, crates = self.notes / "kit", tree_of(self.root, LIBRARY.crate) / "crates"
         own = [f"--extern {name}={crates / name}/out/rlib/{name}.rlib" for name in ("left", "right")]
         wanted = [f"--extern {name}={kit}/rlibs/{name}.rlib" for name in ("std", "core")] + own
         wanted += [f"-L dependency={folder}" for folder in (kit / "rlibs", *(crates / it / "out/rlib" for it in BELOW))]
         for words in (*wanted, f"--logic-built {kit}/logic_built", "--crate-type staticlib"):
             self.assertIn(f" {words} ", call)
-        self.assertEqual(library.archive().read_text(), "an archive")
+        self.assertEqual([path.read_text() for path in self.place.files], ["an archive\n"] * 2)
+        self.assertTrue(told.endswith("built out/libkuspveli.a\nbuilt out/libkuspveli.so\n"), told)
+        self.assertTrue(self.place.is_current())
         self.assertEqual(self.build()[0], 0)
         self.assertEqual(self.called(), [])
 
-    def test_older_libraries(self) -> None:
-        """A library that is missing, older than a source of its crate or of one below, or than one below: the gate."""
+    def test_again(self) -> None:
+        """A changed source, a file that is gone and one that was copied in are built anew."""
+        self.build()
+        self.called()
         changes = (
-            lambda: shutil.rmtree(library_of(self.root, "right")),
-            lambda: os.utime(library_of(self.root, "left") / FORMAT, (1, 1)),
-            lambda: (self.root / "crates/low/src/lib.rt").touch(),
-            lambda: (library_of(self.root, "low") / FORMAT).touch(),
-            lambda: (self.root / "crates.txt").touch(),
+            lambda: write_files(self.root, {"crates/low/src/lib.rt": "fn g() {}\n"}),
+            lambda: self.place.files[1].unlink(),
+            lambda: self.place.files[0].write_text("another\n"),
         )
         for number, change in enumerate(changes):
-            write_files(self.root, {"crates/low/src/lib.rt": f"fn f{number}() {{}}\n"})
-            self.leave_libraries()
             change()
             self.assertEqual(self.build()[0], 0)
-            self.assertEqual(self.commands(), ["rt ci", "rattle build"], number)
-
-    def test_without_libraries(self) -> None:
-        """After the gate the archive is built over the libraries that it left, or by rt lib where it keeps proofs."""
-        status, told = self.build()
-        self.assertEqual(status, 0, told)
-        self.assertIn("build_library: 4 crates to prove\n", told)
-        gate, call = self.called()
-        self.assertEqual(gate, "rt ci")
-        self.assertIn(f"--extern left={tree_of(self.root, library.CRATE)}/crates/left/out/rlib/left.rlib ", call)
-        (self.notes / "help").write_text("rt ci [--anew]")
-        library.archive().unlink()
-        self.assertEqual(self.build()[0], 0)
-        self.assertEqual(self.called(), ["rt ci", "rt lib"])
+            self.assertEqual(len(self.called()), 2, number)
 
     def test_refused(self) -> None:
-        """A crate that isn't proved is told with what rattle printed; where it judged nothing the gate proves all."""
-        self.leave_libraries()
+        """A crate that isn't proved is told with what rattle printed; what was there stays."""
+        self.build()
+        self.called()
         (self.notes / "status").write_text("1")
+        write_files(self.root, {"crates/kuspveli_c/src/lib.rt": "fn g() {}\n"})
         status, told = self.build()
         self.assertEqual(status, 1)
-        said = "refused\nbuild_library: kuspveli_c did not pass: see crates/kuspveli_c/out/build.log\n"
+        said = "refused\nbuild_library: kuspveli_c did not pass, so nothing was built: see out/libkuspveli.log\n"
         self.assertTrue(told.endswith(said), told)
-        self.assertEqual(self.commands(), ["rattle build"])
-        (self.notes / "status").write_text(str(STOPPED))
-        self.assertEqual(self.build()[0], 1)
-        self.assertEqual(self.commands(), ["rattle build", "rt ci", "rattle build"])
-        self.assertFalse(library.archive().exists())
-
-    def test_edited(self) -> None:
-        """What is edited while it is built is built by the next build."""
-        self.leave_libraries()
-        (self.notes / "edits").touch()
-        self.assertEqual(self.build()[0], 0)
-        (self.notes / "edits").unlink()
-        self.called()
-        self.assertEqual(self.build()[0], 0)
-        self.assertEqual(len(self.called()), 2)
+        self.assertEqual([call.split()[0] for call in self.called()], ["rt", "rattle"])
+        self.assertTrue(self.place.file.exists())
+        self.assertFalse(self.place.is_current())
 
 
 @unittest.skipUnless(all(map(shutil.which, COMMANDS)), "needs gcc and binutils")
@@ -235,16 +196,13 @@ class Linked(unittest.TestCase):
     def test_symbols(self) -> None:
         """Of both files only the library's calls can be seen."""
         with tempfile.TemporaryDirectory() as name:
-            root, kit = Path(name) / "work", Path(name) / "kit"
-            (root / "crates" / library.CRATE / "out").mkdir(parents=True)
-            made = archive(root, "made", MADE)
-            (kit / library.HEAP).parent.mkdir(parents=True)
-            shutil.copy(archive(root, "heap", HEAP), kit / library.HEAP)
-            with mock.patch.object(library, "ROOT", root), mock.patch.object(library, "kit_folder", lambda: kit):
-                library.link(made)
-                self.assertEqual(seen(library.archive()), {"kus_shape"})
-                self.assertEqual(seen(library.shared(), "-D"), {"kus_shape"})
-                self.assertFalse((library.out_folder() / "whole.o").exists())
+            room, kit = Path(name), Kit(Path(name) / "kit", "kit 1")
+            made = archive(room, "made", MADE)
+            kit.heap.parent.mkdir(parents=True)
+            shutil.copy(archive(room, "heap", HEAP), kit.heap)
+            built, shared = link_library(kit, made, room)
+            self.assertEqual(seen(built), {"kus_shape"})
+            self.assertEqual(seen(shared, "-D"), {"kus_shape"})
 
     def test_header(self) -> None:
         """The header is C99 by itself."""

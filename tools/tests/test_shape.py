@@ -13,8 +13,9 @@ import xml.etree.ElementTree as tree
 from pathlib import Path
 from unittest import mock
 
-from support import DEJAVU, NASKH, TOOLS, run
+from support import DEJAVU, NASKH, run
 
+from building.places import PROGRAM, standing
 from common.faults import ToolFault
 from formats.rules import font_faults
 from formats.where import font_fault, tables_fault
@@ -22,10 +23,8 @@ from shaping import cli
 from shaping.glyphs import Glyph, as_json, read_line
 from shaping.options import OPTIONS, Given, read_words, usage
 from shaping.picture import clusters_of, picture, placed
-from shaping.program import is_old, make_ready
 from shaping.texts import Text, lack_notes, lacking
 
-PROGRAM = TOOLS.parent / "crates" / "hb_shape" / "out" / "hb_shape"
 # Writes down its words, keeps the text, and ends with a status and a fault of its own for texts that begin with 3 or 5.
 STAND_IN = """#!/bin/sh
 for text; do :; done
@@ -57,7 +56,8 @@ class Commands(unittest.TestCase):
         shutil.copy(DEJAVU, self.font)
         self.cache = self.folder / "cache" / "kuspveli"
         places = {"SHAPE_TEST": folder.name, "XDG_CACHE_HOME": str(self.folder / "cache")}
-        patches = [mock.patch.object(cli, "PROGRAM", stand_in), mock.patch.object(cli, "TABLES_READ", ["thai"])]
+        ready = mock.patch.object(cli, "ready_program", lambda name: stand_in)
+        patches = [ready, mock.patch.object(cli, "TABLES_READ", ["thai"])]
         for patch in (*patches, mock.patch.dict(os.environ, places)):
             patch.start()
             self.addCleanup(patch.stop)
@@ -209,28 +209,6 @@ class Commands(unittest.TestCase):
         self.assertTrue(all(f"--{option.name}" in usage() for option in OPTIONS))
         self.assertIn("examples:\n", usage())
 
-    def test_no_program(self) -> None:
-        """A program that is missing is built; where that fails it is told, and nothing is shaped."""
-        with mock.patch("subprocess.run", return_value=subprocess.CompletedProcess([], 1)):
-            with contextlib.redirect_stderr(io.StringIO()) as told:
-                self.assertRaisesRegex(ToolFault, "was not built", make_ready, self.folder / "missing")
-        self.assertIn("is not there: tools/build proves and builds it first", told.getvalue())
-
-    def test_old_program(self) -> None:
-        """The program that is there is used also where sources are newer, and that is told."""
-        program = self.folder / "crates" / "hb_shape" / "out" / "hb_shape"
-        source = self.folder / "crates" / "low" / "src" / "lib.rt"
-        for path in (program, source):
-            path.parent.mkdir(parents=True)
-            path.write_text("")
-        program.chmod(0o755)
-        os.utime(source, (1, 1))
-        self.assertFalse(is_old(program))
-        os.utime(program, (0, 0))
-        with contextlib.redirect_stderr(io.StringIO()) as told:
-            make_ready(program)
-        self.assertIn("sources are newer than the program", told.getvalue())
-
 
 class Parts(unittest.TestCase):
     """What the tool is made of."""
@@ -301,7 +279,7 @@ class Parts(unittest.TestCase):
             self.assertEqual(tables_fault(path), "unlawful: ClassOnNonMark at U+0041")
 
 
-@unittest.skipUnless(PROGRAM.exists(), "needs the program (tools/build)")
+@unittest.skipUnless(standing(PROGRAM).is_current(), "needs the program (tools/build)")
 @unittest.skipUnless(shutil.which("hb-shape"), "needs hb-shape")
 class Shaped(unittest.TestCase):
     def test_lines(self) -> None:
