@@ -39,7 +39,7 @@ def make_proved(place: Place, kit: Kit, jobs: int | None, teller: Teller, held: 
     tree = tree_of(root, place.target.crate)
     try:
         lay_tree(root, tree, lines)
-        failure = run_gate(root, tree, lines, place.log, held, jobs, teller)
+        failure = run_gate(root, tree, place.log, held, jobs, teller)
         if failure is None:
             made = tree / "crates" / place.target.crate / "out" / place.target.name
             if not made.is_file():

@@ -41,7 +41,7 @@ def make_proved(place: Place, kit: Kit, jobs: int | None, teller: Teller, held: 
     tree = tree_of(root, crate)
     try:
         lay_tree(root, tree, lines)
-        failure = run_gate(root, tree, lines, place.log, held, jobs, teller)
+        failure = run_gate(root, tree, place.log, held, jobs, teller)
         if failure is not None:
             return failure
         with tempfile.TemporaryDirectory(dir=tree) as name:

@@ -6,6 +6,7 @@ import io
 import os
 import re
 import shutil
+import signal
 import subprocess
 import tempfile
 import threading
@@ -33,6 +34,7 @@ beside: low
 # Notes the tree and the jobs that it was called with. Proves crates in the order of crates.txt, and the program last.
 STAND_IN = """#!/bin/bash
 [ "$1" = version ] && { echo kit 1; exit 0; }
+[ "$1" = help ] && { echo "rt ci [--anew]" >&2; exit 2; }
 [ "$1" = doc ] && { echo "$BUILD_TEST/kit/START-HERE.md"; exit 0; }
 echo "$* jobs=$RT_JOBS" >> "$BUILD_TEST/called"
 find . | sort > "$BUILD_TEST/tree"
@@ -119,8 +121,13 @@ class Built(unittest.TestCase):
         self.write("hb_shape", "note\n")
         status, told = self.build()
         self.assertEqual(status, 0, told)
-        begin = "build: 4 crates to prove\nbuild: [1/4] 0:00 low proved\nbuild: [2/4] 0:00 left kept\n"
-        self.assertTrue(told.startswith(begin), told)
+        begin = (
+            "4 crates to prove, about 1 minute where none is kept from an earlier run",
+            "it may be stopped at any time: what passed is kept, and the next run goes on from there",
+            "[1/4] 0:00 low proved",
+            "[2/4] 0:00 left is kept",
+        )
+        self.assertEqual(told.splitlines()[:4], [f"build: {line}" for line in begin])
         self.assertIn("build: [4/4] 0:00 hb_shape proved\nbuild: note: the disk has 7 MB left\n", told)
         self.assertTrue(told.endswith("built out/hb_shape\n"), told)
         self.assertTrue(os.access(self.place.file, os.X_OK))
@@ -236,21 +243,26 @@ class Built(unittest.TestCase):
         self.assertNotIn("old.rt", (self.notes / "tree").read_text())
 
     def test_ended(self) -> None:
-        """A build that is ended ends rt and removes its tree."""
+        """A build that is ended ends rt, tells how far it was, and removes its tree."""
         self.write("low", "slow\n")
         for part in ("build", "building", "common", "sources"):
             source = TOOLS / part
             copy = shutil.copytree if source.is_dir() else shutil.copy
             (self.root / "tools").mkdir(exist_ok=True)
             copy(source, self.root / "tools" / part)
-        with subprocess.Popen([self.root / "tools" / "build"], stderr=subprocess.DEVNULL) as run:
-            while not (self.notes / "list").exists():
-                self.assertIsNone(run.poll())
-                time.sleep(0.05)
-            self.assertTrue(tree_of(self.root, "hb_shape").exists())
-            run.terminate()
-            self.assertEqual(run.wait(20), 143)
-        self.assertFalse(tree_of(self.root, "hb_shape").exists())
+        for sent, status in ((signal.SIGTERM, 143), (signal.SIGINT, 130)):
+            (self.notes / "list").unlink(missing_ok=True)
+            with subprocess.Popen([self.root / "tools" / "build"], stderr=subprocess.PIPE, text=True) as run:
+                while not (self.notes / "list").exists():
+                    self.assertIsNone(run.poll())
+                    time.sleep(0.05)
+                self.assertTrue(tree_of(self.root, "hb_shape").exists())
+                run.send_signal(sent)
+                _, told = run.communicate(timeout=20)
+                self.assertEqual(run.returncode, status)
+            self.assertFalse(tree_of(self.root, "hb_shape").exists())
+            last = r"build: stopped after 0:\d\d: 0 of 4 crates passed, which are kept: the next run goes on from there\n$"
+            self.assertRegex(told, last)
 
     def test_beside(self) -> None:
         """A build waits for other builds of the same, and not for rt, which clears crates/hb_shape/out."""

@@ -35,6 +35,7 @@ RT = """#!/bin/sh
 case "$1" in
     version) echo kit 1; exit ;;
     doc) echo "$LIBRARY_TEST/kit/START-HERE.md"; exit ;;
+    help) echo "rt ci [--anew]"; exit ;;
 esac
 echo "rt $*" >> "$LIBRARY_TEST/called"
 for name in low left right; do
