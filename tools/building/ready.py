@@ -6,9 +6,13 @@ from pathlib import Path
 
 from building.places import BUILD, PROGRAM, UNPROVED, Place
 from building.progress import Teller
-from building.unproved import make_unproved
 from common.faults import FILES, ToolFault
 from sources.crates import ROOT
+
+
+def is_ready(root: Path = ROOT) -> bool:
+    """Whether a program of the sources that stand here is there."""
+    return any(Place(PROGRAM, is_proved, root).is_current() for is_proved in (True, False))
 
 
 def ready_program(name: str, root: Path = ROOT) -> Path:
@@ -18,6 +22,8 @@ def ready_program(name: str, root: Path = ROOT) -> Path:
     if proved.is_current():
         return proved.file
     if not unproved.is_current():
+        from building.unproved import make_unproved  # few runs need it
+
         teller = Teller(name)
         teller.line(f"{why_not(proved)}: making one without proofs, in some minutes ({BUILD} makes the proved one)")
         failure = make_unproved(unproved, teller)

@@ -1,20 +1,59 @@
-"""The command line of hb_shape: the program, there before it is run."""
+"""The command line of hb_shape: the program, there before it is run, and a line on its faults."""
 
 import os
 import signal
 import subprocess
+import sys
+from pathlib import Path
 
-from building.ready import ready_program
+from building.places import BUILD, PROGRAM, Place
+from building.ready import is_ready, ready_program
+from common.faults import WORDS, ToolFault, one_line
+from common.version import version
+from shaping.program_words import files_of, usage, word_fault
+from shaping.reasons import reason_of, swapped
 
 NAME = "hb_shape"
+HELP, VERSION = ("--help", "-h"), ("--version", "-V")
 
 
 def main(words: list[str]) -> int:
     """Runs the program; its status is the program's."""
-    program = ready_program(NAME)
-    given = [os.fsencode(word) for word in words]
-    with subprocess.Popen([program, *given]) as ran:
-        # The program has the same interrupt, and ends by it.
+    if any(word in HELP for word in words):
+        print(usage())
+        return 0
+    if any(word in VERSION for word in words):
+        print("\n".join(told_version()))
+        return 0
+    fault = word_fault(words)
+    if fault is not None and not is_ready():
+        # Wrong words are worth no build.
+        raise ToolFault(WORDS, fault)
+    status = run(ready_program(NAME), words)
+    for line in (reason_of(status, words), None if fault else swapped(files_of(words))):
+        if line is not None:
+            print(f"{NAME}: {one_line(line)}", file=sys.stderr)
+    return status
+
+
+def run(program: Path, words: list[str]) -> int:
+    """Runs the program with the streams of this process."""
+    with subprocess.Popen([program, *map(os.fsencode, words)]) as ran:
+        # An interrupt from the terminal ends the program, and it tells by its status.
         signal.signal(signal.SIGINT, signal.SIG_IGN)
         status = ran.wait()
     return status if status >= 0 else 128 - status
+
+
+def told_version() -> list[str]:
+    """The version, and which program is built, of which sources, by which kit."""
+    lines = [f"Kuspveli {version()}"]
+    for place in (Place(PROGRAM, True), Place(PROGRAM, False)):
+        stamp = place.stamp()
+        if stamp is not None:
+            how = f"proved by {stamp.kit}" if place.is_proved else f"unproved, compiled by {stamp.kit}"
+            other = "" if place.is_current() else ", of other sources than stand here now"
+            lines.append(f"{place.file.relative_to(place.root)}: {how}{other}")
+        elif place.is_proved:
+            lines.append(f"no proved program is built ({BUILD} builds it)")
+    return lines

@@ -1,0 +1,128 @@
+"""Why the program refused its files: its own lines are fixed, and name neither a file nor a place in it."""
+
+import json
+import mmap
+import os
+import stat
+from pathlib import Path
+from typing import BinaryIO, Callable
+
+from common.faults import DATA, FILES, TEXT, WORDS
+from shaping.program_words import FILES as ROLES
+from shaping.program_words import USAGE, files_of, word_fault
+
+STANDARD_INPUT = "-"
+# The key of a font's units, which each font has, and no tables.
+UNITS = "upem"
+# The key of TABLES that has no rows.
+SYLLABLES = "syllables"
+# Files of JSON above this are not read for a reason, in bytes.
+MOST = 256 << 20
+PIECE = 1 << 20
+
+
+def reason_of(status: int, words: list[str]) -> str | None:
+    """What the program's status is about: the word, or the file and where in it; None where none is found."""
+    if status == WORDS:
+        return word_fault(words) or f"these words are refused: {USAGE} (tools/hb_shape --help)"
+    find = {DATA: data_reason, TEXT: text_reason, FILES: reading_reason}.get(status)
+    try:
+        return find(files_of(words)) if find else None
+    except (OSError, ValueError):
+        return None
+
+
+def reading_reason(files: list[str]) -> str | None:
+    """The first file that can't be read."""
+    for role, name in zip(ROLES, files):
+        if name != STANDARD_INPUT:
+            try:
+                # A pipe is not waited for.
+                with open(os.open(name, os.O_RDONLY | os.O_NONBLOCK), "rb") as file:
+                    file.read(1)
+            except OSError as error:
+                return f"{role}: {name}: {error.strerror}"
+    return None
+
+
+def data_reason(files: list[str]) -> str | None:
+    """Where tables or font break their format; the program reads the tables first."""
+    from formats.where import font_fault, tables_fault  # it takes a while to read in, and few runs need it
+
+    finders: tuple[Callable[[Path], str | None], ...] = (tables_fault, font_fault)
+    for role, name, find in zip(ROLES, files, finders):
+        if os.stat(name).st_size == 0:
+            return f"{role}: {name}: nothing can be read from it"
+        if is_looked_into(name) and (found := find(Path(name))):
+            return f"{role}: {name}: {found}"
+    return None
+
+
+def text_reason(files: list[str]) -> str | None:
+    """The byte at which the text is no UTF-8."""
+    *_, name = files
+    if not stat.S_ISREG(os.stat(name).st_mode):
+        return None
+    with open(name, "rb") as file:
+        at = first_other(file)
+    return None if at is None else f"{ROLES[-1]}: {name}: no UTF-8 at byte {at}"
+
+
+def first_other(file: BinaryIO) -> int | None:
+    """The index of the first byte that is no UTF-8; the file is read in pieces."""
+    before, rest, piece = 0, b"", b"-"
+    while piece:
+        piece = file.read(PIECE)
+        rest += piece
+        try:
+            rest.decode("utf-8")
+            before, rest = before + len(rest), b""
+        except UnicodeDecodeError as error:
+            if not piece or error.reason != "unexpected end of data":
+                return before + error.start
+            before, rest = before + error.start, rest[error.start :]
+    return None
+
+
+def swapped(files: list[str]) -> str | None:
+    """Whether font and tables seem to stand for each other: the program skips keys that it doesn't know, so it may give
+    a line all the same."""
+    tables, font, _ = files
+    try:
+        if all(map(is_looked_into, (tables, font))) and (has_key(tables, UNITS) or not has_key(font, UNITS)):
+            return told_swap(tables, font)
+    except (OSError, RecursionError, ValueError):
+        # The program says what is wrong with them.
+        pass
+    return None
+
+
+def told_swap(tables: str, font: str) -> str | None:
+    from formats.rules import TABLE_ROWS
+
+    known = {SYLLABLES, *(key for key, *_ in TABLE_ROWS)}
+    of_font, of_tables = keys_of(font), keys_of(tables)
+    if UNITS not in of_font and of_font & known:
+        what = f"FONT ({font}) has no {UNITS} and has {min(of_font & known)}, a key of TABLES"
+    elif UNITS in of_tables and not of_tables & known:
+        what = f"TABLES ({tables}) has {UNITS}, a key of FONT, and none of TABLES"
+    else:
+        return None
+    return f"{what}: are the two swapped? {USAGE}"
+
+
+def keys_of(name: str) -> set[str]:
+    value = json.loads(Path(name).read_bytes())
+    return set(value) if isinstance(value, dict) else set()
+
+
+def has_key(name: str, key: str) -> bool:
+    """Whether a file has a key somewhere in it, found without reading it as JSON."""
+    with open(name, "rb") as file, mmap.mmap(file.fileno(), 0, access=mmap.ACCESS_READ) as content:
+        return content.find(json.dumps(key).encode()) >= 0
+
+
+def is_looked_into(name: str) -> bool:
+    """Whether a file is one that is read for a reason: no pipe, not empty, and not very large."""
+    found = os.stat(name)
+    return stat.S_ISREG(found.st_mode) and 0 < found.st_size <= MOST
