@@ -15,10 +15,10 @@ from common.faults import FILES, ToolFault
 from sources.crates import ROOT
 
 NAME = "build"
-ABOUT = """Proves and builds the program, out/hb_shape, and all that it is built on, by rt ci over a copy of these crates
-alone. It may be stopped at any time: each crate that passed is kept by the kit, and the next build, or rt ci, goes on
-from there. A program that is built of the same sources is left as it is; one that is there stays until the new one is
-built. With --unproved the same sources are compiled in minutes without any proof, to out/unproved/hb_shape."""
+ABOUT = """Proves and builds the program, out/hb_shape, and all that it is built on, by rt ci over a copy of these
+crates alone. It may be stopped at any time: each crate that passed is kept by the kit, and the next build, or rt ci,
+goes on from there. A program that is built of the same sources is left as it is; one that is there stays until the new
+one is built. With --unproved the same sources are compiled in minutes without any proof, to out/unproved/hb_shape."""
 EXAMPLES = """examples:
   tools/build                 all that is not built yet
   tools/build --unproved      a program without its proofs, in minutes

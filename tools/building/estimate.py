@@ -7,7 +7,7 @@ from sources.crates import own_needs, read_crates
 
 # A check of a crate takes about as long as so many lines of code take to prove.
 START = 150
-# Seconds for a line, as one processor took them on the machine of the README, and how many lines of a run outweigh them.
+# Seconds of a processor for a line, as the machine of the README took them, and how many lines of a run weigh as much.
 USUAL, WEIGHT = 0.1, 2000
 TEST = b"#[test]"
 

@@ -44,7 +44,9 @@ class Failure:
 def run_gate(root: Path, tree: Path, log: Path, held: int, jobs: int | None, teller: Teller) -> Failure | None:
     """Proves, builds and runs all crates of the tree; once more with one check at a time where one was killed."""
     gate = Gate(root, tree, log, held, teller)
-    teller.line(f"{len(gate.work.needs)} crates to prove, {in_words(gate.left(jobs))} where none is kept from an earlier run")
+    teller.line(
+        f"{len(gate.work.needs)} crates to prove, {in_words(gate.left(jobs))} where none is kept from an earlier run"
+    )
     if keeps_proofs():
         teller.line("it may be stopped at any time: what passed is kept, and the next run goes on from there")
     failure = gate.run(jobs)
@@ -156,7 +158,9 @@ class Gate:
 
     def state(self, running: dict[Check, float], jobs: int | None) -> str:
         """How far all is, in a line."""
-        doing = ", ".join(f"{check} {clock(seconds)}" for check, seconds in running.items()) or "files, programs and tests"
+        doing = (
+            ", ".join(f"{check} {clock(seconds)}" for check, seconds in running.items()) or "files, programs and tests"
+        )
         far = f"{len(self.passed)} of {len(self.work.needs)} crates, {self.teller.clock()} so far"
         return f"{far}, {in_words(self.left(jobs, running))} left; now {doing}"
 

@@ -1,7 +1,7 @@
 """The archive of the library for C, built over the libraries that the gate leaves in its folder.
 
-rt lib would prove all crates once more: it takes a library by a stamp beside it, which the gate doesn't write. So rattle
-is called as rt lib calls it over libraries that are built."""
+rt lib would prove all crates once more: it takes a library by a stamp beside it, which the gate doesn't write. So
+rattle is called as rt lib calls it over libraries that are built."""
 
 import subprocess
 from pathlib import Path
@@ -31,7 +31,9 @@ def archive_words(kit: Kit, tree: Path, name: str, made: Path, jobs: int) -> lis
     return [*words, "-o", made]
 
 
-def build_archive(kit: Kit, tree: Path, root: Path, name: str, made: Path, log: Path, jobs: int | None) -> Failure | None:
+def build_archive(
+    kit: Kit, tree: Path, root: Path, name: str, made: Path, log: Path, jobs: int | None
+) -> Failure | None:
     """Proves the crate over the libraries of the tree, and builds its archive."""
     ran = subprocess.run(
         archive_words(kit, tree, name, made, jobs or 1),

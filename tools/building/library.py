@@ -16,10 +16,10 @@ from sources.crates import ROOT
 
 NAME = "build_library"
 ABOUT = """Proves and builds the library for C, out/libkuspveli.a and out/libkuspveli.so, which include/kuspveli.h
-declares: all crates by rt ci, as tools/build does, then the archive over the libraries that the gate has left. It may be
-stopped at any time, and goes on where it was. Both files have the calls of the header alone as their symbols, and need
-nothing but the C library. What is built of the same sources is left as it is. With --unproved the same sources are
-compiled in minutes without any proof, to out/unproved."""
+declares: all crates by rt ci, as tools/build does, then the archive over the libraries that the gate has left. It may
+be stopped at any time, and goes on where it was. Both files have the calls of the header alone as their symbols, and
+need nothing but the C library. What is built of the same sources is left as it is. With --unproved the same sources
+are compiled in minutes without any proof, to out/unproved."""
 EXAMPLES = """examples:
   tools/build_library              all that is not built yet
   tools/build_library --unproved   a library without its proofs, in minutes"""

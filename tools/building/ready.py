@@ -47,5 +47,7 @@ def usable(name: str, program: Path) -> Path:
     if not os.access(program, os.X_OK):
         raise ToolFault(FILES, f"{program} is not there: {BUILD} builds it")
     if program.parent.name == UNPROVED:
-        print(f"{name}: {program.name} is unproved: no proof was checked ({BUILD} proves it)", file=sys.stderr, flush=True)
+        print(
+            f"{name}: {program.name} is unproved: no proof was checked ({BUILD} proves it)", file=sys.stderr, flush=True
+        )
     return program

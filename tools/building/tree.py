@@ -54,8 +54,8 @@ def files_of(root: Path, names: Iterable[str]) -> list[Path]:
 
 
 def last_change(root: Path, names: Iterable[str]) -> int:
-    """When a file of these crates was last written, added or removed, in nanoseconds. It is asked before each run of the
-    program, so it looks at folders by os.scandir, which takes a tenth of the time."""
+    """When a file of these crates was last written, added or removed, in nanoseconds. It is asked before each run of
+    the program, so it looks at folders by os.scandir, which takes a tenth of the time."""
     newest, left = 0, [root / LIST, root / HANDLES, *(root / "crates" / name / part for name in names for part in READ)]
     folders = []
     for path in left:

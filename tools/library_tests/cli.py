@@ -72,7 +72,10 @@ def run(tested: Tested, calls: int, timed: bool) -> int:
     tell("header", "C99, C11 and C++, HarfBuzz's numbers and layouts")
     tables, all_scripts = tables_file(values), scripts()
     fonts = {script.font: font_value(values, script.font, 0) for script in all_scripts}
-    expected = {script.name: lines_of_program(tested.program, tables, fonts[script.font], script.cases) for script in all_scripts}
+    expected = {
+        script.name: lines_of_program(tested.program, tables, fonts[script.font], script.cases)
+        for script in all_scripts
+    }
     wrong = 0
     for driver in drivers.build(work, library):
         found = 0

@@ -20,12 +20,16 @@ EXAMPLES = """examples:
 
 def usage() -> str:
     """The help: what the words are, and each option."""
-    rows = [(f"--{option.name}={option.value}" if option.value else f"--{option.name}", option) for option in PROGRAM_OPTIONS]
+    rows = [
+        (f"--{option.name}={option.value}" if option.value else f"--{option.name}", option)
+        for option in PROGRAM_OPTIONS
+    ]
     listed = "".join(f"  {shown:<31}{option.about}\n" for shown, option in rows)
     return f"""usage: {USAGE}
 
 Shapes a text, and prints its glyphs as hb-shape does: glyph=cluster@x,y+advance, with | between them. TABLES and FONT
-are JSON files, as unicode_to_json and font_to_json write them; TEXT is a file in UTF-8, whose last line feed is dropped.
+are JSON files, as unicode_to_json and font_to_json write them; TEXT is a file in UTF-8, of which one line feed at the
+end is dropped.
 
 {EXAMPLES}
 

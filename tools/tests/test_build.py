@@ -160,7 +160,9 @@ class Built(unittest.TestCase):
         self.build()
         self.called()
         stamp = self.place.stamp_file.read_text()
-        for number, text in enumerate(("", "{}", "[]", stamp.replace('"made"', '"other"'), stamp.replace("hb_shape", "x"))):
+        for number, text in enumerate(
+            ("", "{}", "[]", stamp.replace('"made"', '"other"'), stamp.replace("hb_shape", "x"))
+        ):
             self.place.stamp_file.write_text(text)
             self.assertIsNone(self.place.stamp())
             self.build()
@@ -261,7 +263,9 @@ class Built(unittest.TestCase):
                 _, told = run.communicate(timeout=20)
                 self.assertEqual(run.returncode, status)
             self.assertFalse(tree_of(self.root, "hb_shape").exists())
-            last = r"build: stopped after 0:\d\d: 0 of 4 crates passed, which are kept: the next run goes on from there\n$"
+            last = (
+                r"build: stopped after 0:\d\d: 0 of 4 crates passed, which are kept: the next run goes on from there\n$"
+            )
             self.assertRegex(told, last)
 
     def test_beside(self) -> None:

@@ -209,7 +209,9 @@ class Linked(unittest.TestCase):
         """The header is C99 by itself."""
         words = ["gcc", "-std=c99", "-pedantic-errors", "-Wall", "-Werror", "-fsyntax-only", "-x", "c", "-"]
         given = '#include "kuspveli.h"\n'
-        ran = subprocess.run([*words, f"-I{ROOT / 'include'}"], input=given, capture_output=True, text=True, check=False)
+        ran = subprocess.run(
+            [*words, f"-I{ROOT / 'include'}"], input=given, capture_output=True, text=True, check=False
+        )
         self.assertEqual((ran.returncode, ran.stderr), (0, ""))
 
 

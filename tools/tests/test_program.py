@@ -57,7 +57,10 @@ class Words(unittest.TestCase):
     @unittest.skipUnless(standing(PROGRAM).is_current(), "needs the program (tools/build)")
     def test_program(self) -> None:
         """The program itself takes and refuses the same words."""
-        given = {name: str(ROOT / "examples" / file) for name, file in zip("abc", ("tables.json", "ligature_font.json", "ligature_text.txt"))}
+        given = {
+            name: str(ROOT / "examples" / file)
+            for name, file in zip("abc", ("tables.json", "ligature_font.json", "ligature_text.txt"))
+        }
         program = standing(PROGRAM).file
         for words in (*REFUSED, *TAKEN[:2], TAKEN[3]):
             line = [os.fsencode(given.get(word, word)) for word in words.split()]
@@ -94,7 +97,9 @@ class Commands(unittest.TestCase):
 
     def test_words(self) -> None:
         """After the program's own line one names the word."""
-        self.assertEqual(self.told(WORDS, "--bot", "tables"), "hb_shape: FONT is missing: hb_shape [options] TABLES FONT TEXT\n")
+        self.assertEqual(
+            self.told(WORDS, "--bot", "tables"), "hb_shape: FONT is missing: hb_shape [options] TABLES FONT TEXT\n"
+        )
         line = "hb_shape: these words are refused: hb_shape [options] TABLES FONT TEXT (tools/hb_shape --help)\n"
         self.assertEqual(self.told(WORDS, "tables", "font", "text"), line)
 
@@ -112,7 +117,9 @@ class Commands(unittest.TestCase):
 
     def test_values(self) -> None:
         """Where tables or font break their format."""
-        write_files(self.folder, {"cut": '{"h":[[1,2],', "order": '{"upem":1,"h":[[2,1],[1,1]]}', "empty": "", "list": "[]"})
+        write_files(
+            self.folder, {"cut": '{"h":[[1,2],', "order": '{"upem":1,"h":[[2,1],[1,1]]}', "empty": "", "list": "[]"}
+        )
         rows = (
             (("tables", "cut", "text"), "FONT: cut: no JSON at line 1, column 13 (byte 12)"),
             (("tables", "order", "text"), "FONT: order: h[1]: 1 is not above 2: [1, 1]"),
@@ -129,7 +136,9 @@ class Commands(unittest.TestCase):
         with mock.patch("shaping.reasons.PIECE", 3):
             for content, at in (("aaäbbä".encode() + b"\xff", 8), ("aaä".encode()[:-1], 2), (b"\xf0\x9f\x98", 0)):
                 (self.folder / "text").write_bytes(content)
-                self.assertEqual(self.told(4, "tables", "font", "text"), f"hb_shape: TEXT: text: no UTF-8 at byte {at}\n")
+                self.assertEqual(
+                    self.told(4, "tables", "font", "text"), f"hb_shape: TEXT: text: no UTF-8 at byte {at}\n"
+                )
             (self.folder / "text").write_bytes("ä😀".encode() * 3)
             self.assertEqual(self.told(4, "tables", "font", "text"), "")
 
@@ -140,13 +149,24 @@ class Commands(unittest.TestCase):
         self.assertIn(f"hb_shape: {line}", self.told(0, "font", "tables", "text"))
         line = "TABLES (font) has upem, a key of FONT, and none of TABLES: are the two swapped?"
         self.assertIn(f"hb_shape: {line}", self.told(0, "font", "none", "text"))
-        for words in (("tables", "font"), ("none", "font"), ("none", "none"), ("odd", "font"), ("tables", "pipe"), ("no", "font")):
+        for words in (
+            ("tables", "font"),
+            ("none", "font"),
+            ("none", "none"),
+            ("odd", "font"),
+            ("tables", "pipe"),
+            ("no", "font"),
+        ):
             self.assertEqual(self.told(0, *words, "text"), "", words)
 
     def test_own_words(self) -> None:
         """Help and version are answered without a program."""
         with mock.patch.object(command, "ready_program", None):
-            for word, begin in (("--help", "usage: hb_shape"), ("-h", "usage: "), ("--version", f"Kuspveli {version()}\n")):
+            for word, begin in (
+                ("--help", "usage: hb_shape"),
+                ("-h", "usage: "),
+                ("--version", f"Kuspveli {version()}\n"),
+            ):
                 with contextlib.redirect_stdout(io.StringIO()) as shown:
                     self.assertEqual(command.main(["a", word]), 0)
                 self.assertTrue(shown.getvalue().startswith(begin), shown.getvalue())
@@ -167,11 +187,19 @@ class Versions(unittest.TestCase):
         """Each program that is built, by which kit, and whether its sources still stand here."""
         with tempfile.TemporaryDirectory() as name:
             root = Path(name)
-            files = {"crates.txt": "hb_shape:\n", "crates/hb_shape/src/main.rt": "", "out/hb_shape": "", "out/unproved/hb_shape": ""}
+            files = {
+                "crates.txt": "hb_shape:\n",
+                "crates/hb_shape/src/main.rt": "",
+                "out/hb_shape": "",
+                "out/unproved/hb_shape": "",
+            }
             write_files(root, files)
             places = [Place(PROGRAM, is_proved, root) for is_proved in (True, False)]
             with mock.patch.object(command, "Place", lambda target, is_proved: Place(target, is_proved, root)):
-                self.assertEqual(command.told_version(), [f"Kuspveli {version()}", "no proved program is built (tools/build builds it)"])
+                self.assertEqual(
+                    command.told_version(),
+                    [f"Kuspveli {version()}", "no proved program is built (tools/build builds it)"],
+                )
                 for place, sources in zip(places, ("another", "sources")):
                     with mock.patch("building.places.stamp_of", lambda *_: "sources"):
                         place.write_stamp(sources, "kit 1")
