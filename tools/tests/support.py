@@ -4,6 +4,7 @@ import contextlib
 import io
 import json
 import os
+import shutil
 import subprocess
 import sys
 import tempfile
@@ -41,6 +42,14 @@ def write_files(root: Path, files: dict[str, str]) -> None:
         path = root / name
         path.parent.mkdir(parents=True, exist_ok=True)
         path.write_text(text, encoding="utf-8")
+
+
+def copy_tools(root: Path) -> None:
+    """Copies the tool build, with what it is made of, into another repository."""
+    (root / "tools").mkdir()
+    for part in ("build", "building", "common", "sources"):
+        source = TOOLS / part
+        (shutil.copytree if source.is_dir() else shutil.copy)(source, root / "tools" / part)
 
 
 def write_stand_in(path: Path, body: str) -> str:

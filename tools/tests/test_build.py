@@ -15,7 +15,7 @@ import unittest
 from pathlib import Path
 from unittest import mock
 
-from support import TOOLS, write_files
+from support import TOOLS, copy_tools, write_files
 
 from building import cli
 from building.places import PROGRAM, Place
@@ -247,11 +247,7 @@ class Built(unittest.TestCase):
     def test_ended(self) -> None:
         """A build that is ended ends rt, tells how far it was, and removes its tree."""
         self.write("low", "slow\n")
-        for part in ("build", "building", "common", "sources"):
-            source = TOOLS / part
-            copy = shutil.copytree if source.is_dir() else shutil.copy
-            (self.root / "tools").mkdir(exist_ok=True)
-            copy(source, self.root / "tools" / part)
+        copy_tools(self.root)
         for sent, status in ((signal.SIGTERM, 143), (signal.SIGINT, 130)):
             (self.notes / "list").unlink(missing_ok=True)
             with subprocess.Popen([self.root / "tools" / "build"], stderr=subprocess.PIPE, text=True) as run:
@@ -294,6 +290,60 @@ class Built(unittest.TestCase):
         self.assertEqual(status, 0)
         self.assertTrue(told.endswith("right: low std_thing\nhb_shape: left right\n4 crates\n"), told)
         self.assertEqual(self.called(), [])
+
+
+SEVEN = """//! A number.
+#![tactic(auto)]
+
+ghost use Rattle.std.specs.Prelude.{◌≡◌};
+
+/// The number.
+pub fn seven() -> u32
+    ensures { result ≡ 7 }
+{
+    7
+}
+"""
+PRINTED = """//! Prints the number.
+#![tactic(auto)]
+
+use low::seven;
+use std::io;
+
+fn main(rt: HostRuntime) -> io::Result<()> {
+    let number = seven();
+    println!(rt; "{number}")?;
+    Ok(())
+}
+"""
+
+
+@unittest.skipUnless(os.environ.get("KUSPVELI_LONG"), "takes minutes (KUSPVELI_LONG=1)")
+@unittest.skipUnless(shutil.which("rt"), "needs the kit")
+class Stopped(unittest.TestCase):
+    def test_goes_on(self) -> None:
+        """By the kit itself: a build that is stopped once a crate passed takes that crate over the next time."""
+        with tempfile.TemporaryDirectory() as name:
+            root = Path(name)
+            files = {"low/src/lib.rt": SEVEN, "hb_shape/src/main.rt": PRINTED, "hb_shape/stdout": "7\n"}
+            write_files(root, {f"crates/{path}": text for path, text in files.items()})
+            write_files(root, {"crates.txt": "low:\nhb_shape: low\n", "HANDLES": "Handles allowed: none.\n"})
+            # No earlier run of this test has kept it.
+            write_files(root, {"crates/low/specs/Lib.antt": f"-- {os.urandom(8).hex()}\n"})
+            copy_tools(root)
+            with subprocess.Popen([root / "tools" / "build"], stderr=subprocess.PIPE, text=True) as run:
+                for line in run.stderr or ():
+                    if "[1/2]" in line:
+                        run.send_signal(signal.SIGINT)
+                        break
+                self.assertIn("build: stopped after ", "".join(run.stderr or ()))
+                self.assertEqual(run.wait(), 130)
+            ran = subprocess.run([root / "tools" / "build"], capture_output=True, text=True, check=True)
+            self.assertRegex(ran.stderr, r"\[1/2\] \d+:\d\d low is kept\n")
+            self.assertRegex(ran.stderr, r"\[2/2\] \d+:\d\d hb_shape proved")
+            self.assertEqual(ran.stdout, "built out/hb_shape\n")
+            printed = subprocess.run([root / "out" / "hb_shape"], capture_output=True, text=True, check=True)
+            self.assertEqual(printed.stdout, "7\n")
 
 
 class Whole(unittest.TestCase):
