@@ -1,14 +1,13 @@
 """What build and build_library share: their words, and building where it is not done yet."""
 
 import argparse
-import signal
 import sys
 from typing import Any, Callable
 
 from building.gate import Failure
 from building.kit import Kit, find_kit
 from building.places import Place
-from building.progress import Teller
+from building.progress import Teller, end_by_exit
 from building.unproved import make_unproved
 from common.parsing import Words
 
@@ -55,8 +54,7 @@ def build(name: str, place: Place, jobs: int | None, make: Make) -> int:
     """Builds where what stands there is of other sources; its status is 1 where a crate did not pass."""
     kit, teller = find_kit(), Teller(name)
     if not place.is_built(kit.line):
-        # Each block that is left this way ends what it started, and removes what it made.
-        signal.signal(signal.SIGTERM, lambda *_: sys.exit(143))
+        end_by_exit()
         failure = make_new(place, kit, jobs, teller, make) if place.is_proved else make_unproved(place, teller)
         if failure is not None:
             return tell_failure(name, place, failure)

@@ -2,6 +2,7 @@
 
 import contextlib
 import shutil
+import signal
 import sys
 import threading
 import time
@@ -75,6 +76,11 @@ class Teller:
         with self.ticking(lambda: self.renew(f"{what} {clock(time.monotonic() - begun)}")):
             yield
         self.line(f"{what}: {clock(time.monotonic() - begun)}")
+
+
+def end_by_exit() -> None:
+    """Has a signal that ends this process leave each block first, which ends what it started and removes what it made."""
+    signal.signal(signal.SIGTERM, lambda *_: sys.exit(143))
 
 
 def clock(seconds: float) -> str:

@@ -7,6 +7,7 @@ import sys
 from pathlib import Path
 
 from building.places import BUILD, PROGRAM, Place
+from building.progress import end_by_exit
 from building.ready import is_ready, ready_program
 from common.faults import WORDS, ToolFault, one_line
 from common.version import version
@@ -38,10 +39,15 @@ def main(words: list[str]) -> int:
 
 def run(program: Path, words: list[str]) -> int:
     """Runs the program with the streams of this process."""
+    end_by_exit()
     with subprocess.Popen([program, *map(os.fsencode, words)]) as ran:
-        # An interrupt from the terminal ends the program, and it tells by its status.
+        # An interrupt from the terminal is the program's too, and it tells by its status.
         signal.signal(signal.SIGINT, signal.SIG_IGN)
-        status = ran.wait()
+        try:
+            status = ran.wait()
+        except SystemExit:
+            ran.terminate()
+            raise
     return status if status >= 0 else 128 - status
 
 

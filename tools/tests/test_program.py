@@ -4,6 +4,7 @@ import contextlib
 import io
 import os
 import subprocess
+import sys
 import tempfile
 import unittest
 from pathlib import Path
@@ -180,6 +181,20 @@ class Commands(unittest.TestCase):
         """A program that a signal ends gives the status that a shell gives."""
         write_stand_in(self.program, "kill -9 $$")
         self.assertEqual(command.main(["tables", "font", "text"]), 137)
+
+    def test_terminated(self) -> None:
+        """A signal to the command ends the program too."""
+        write_stand_in(self.program, "echo begun; exec sleep 60")
+        run = (
+            f"from shaping.command import run; from pathlib import Path; sys.exit(run(Path({str(self.program)!r}), []))"
+        )
+        words = [sys.executable, "-c", f"import sys; sys.path.insert(0, {str(TOOLS)!r}); {run}"]
+        with subprocess.Popen(words, stdout=subprocess.PIPE) as ran:
+            # The program ends its output as it ends.
+            self.assertEqual((ran.stdout or io.BytesIO()).readline(), b"begun\n")
+            ran.terminate()
+            self.assertEqual((ran.stdout or io.BytesIO()).read(), b"")
+            self.assertEqual(ran.wait(), 143)
 
 
 class Versions(unittest.TestCase):
