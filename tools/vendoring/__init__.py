@@ -1,0 +1,1 @@
+"""The crates of the library for Rattle, copied into another repository."""
