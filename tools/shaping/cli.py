@@ -10,7 +10,7 @@ from common.faults import DATA, WORDS, ToolFault, one_line
 from common.notes import Notes, Progress
 from fontjson.cli import read_font
 from fontjson.keep import Kept
-from shaping.cache import cache_folder, cached, fingerprint, font_name, part_of
+from shaping.cache import TOOLS, cache_folder, cached, fingerprint, font_name, part_of
 from shaping.glyphs import as_json, read_line
 from shaping.options import NAME, Given, read_words, usage
 from shaping.program import Line, run_all, told
@@ -19,7 +19,9 @@ from unicodejson.cli import DEBIAN, MAKERS, make_tables
 
 # What is made of a font and, where Debian's unicode-data is there, of the Unicode Character Database.
 FONT_READ = Kept()
-TABLES_READ = list(MAKERS) if DEBIAN.is_dir() else []
+TABLES_READ = list(MAKERS) if (DEBIAN / "UnicodeData.txt").is_file() else []
+# The tables that come with the tools, for machines without that package.
+SHIPPED = TOOLS.parent / "data" / "tables.json"
 JSON_FONT = ".json"
 NUMBERS = "--no-glyph-names"
 
@@ -37,6 +39,8 @@ def main(words: list[str]) -> int:
         font = font_file(folder, given)
         program = ready_program(NAME)
         tables = tables_file(folder)
+        if "verbose" in given.own:
+            tell(which_tables(tables))
         characters = {row[0] for row in key_of(font, "cmap", [])}
         for text in texts:
             for note in lack_notes(text, characters):
@@ -138,8 +142,17 @@ def key_of(font: Path, key: str, usual: Any) -> Any:
 
 
 def tables_file(folder: Path) -> Path:
-    """The tables as a file."""
+    """The tables as a file: of Debian's unicode-data where that is there, else those that come with the tools."""
+    if not TABLES_READ:
+        SHIPPED.stat()
+        return SHIPPED
     return cached(folder / "tables.json", fingerprint(TABLES_READ), make_read_tables)
+
+
+def which_tables(tables: Path) -> str:
+    version = part_of(tables, "unicode", {}).get("version", "?")
+    whence = "which come with the tools: Debian's unicode-data is not there" if tables == SHIPPED else f"made of {DEBIAN}"
+    return f"tables: {tables}, of Unicode {version}, {whence}"
 
 
 def make_read_tables() -> dict[str, Any]:

@@ -29,7 +29,7 @@ AFTER = """
 Where no proved program is built (tools/build), one is made without proofs, in minutes, and that is told. The font is
 converted once, and kept with the tables in $XDG_CACHE_HOME/kuspveli (~/.cache/kuspveli). Needs fontTools: Debian's
 python3-fonttools, under /usr/bin/python3.
-Marks, splits and mirror images are known where Debian's unicode-data is there. docs/TOOLS.md says more.
+Tables are made of Debian's unicode-data, or come with the tools where that is not there. docs/TOOLS.md says more.
 
 A fault is one line on standard error that says where it is, and a status: 2 the words, 3 the font or the tables, 4 the
 text, 5 what can't be shaped, 6 files. Characters that the font lacks are named there too, and are no fault."""
@@ -95,6 +95,7 @@ OPTIONS = (
     Option("font-index", "the font of a collection, from 0 on (--face-index, --index)", "N", index, True),
     Option("json", "print JSON, as hb-shape --output-format=json does", is_own=True),
     Option("svg", "draw the glyphs and their clusters into a file", "FILE", any_text, True),
+    Option("verbose", "say on standard error which tables are used", is_own=True),
     Option("direction", "ltr, rtl, ttb or btt; guessed from the text", "D", direction),
     Option("script", "an ISO 15924 tag; guessed from the text", "S", script),
     Option("language", "a BCP 47 tag, as ro or de-CH", "L", language),
