@@ -8,7 +8,9 @@ import tempfile
 from dataclasses import dataclass, field
 from pathlib import Path
 
+from beside.chart import chart
 from beside.differences import Difference, difference
+from beside.kept import Kept, narrow_table, read_kept, write_kept
 from beside.pages import text_of
 from beside.programs import THEIRS, Files, build_driver, build_own_driver, printed_by, used_by
 from beside.sets import PACKAGES, SETS, Set
@@ -55,12 +57,16 @@ examples:
   bench/real --only Arabic --only Urdu  these alone
   bench/real --memory                   also the peak of memory for {LARGE:,} characters
   bench/real --glyphs                   compares glyphs, and measures nothing
-  bench/real --texts FOLDER             writes the texts of a page, and measures nothing"""
+  bench/real --texts FOLDER             writes the texts of a page, and measures nothing
+  bench/real --keep docs/speed.json     keeps the numbers, which the next line shows and draws again
+  bench/real --from docs/speed.json --chart docs/pictures/speed.svg"""
 
 
 def main(words: list[str]) -> int:
     """Measures; its status is 1 where glyphs differ otherwise than docs/DIFFERENCES.md says."""
     options = read_options(words)
+    if options.kept is not None:
+        return show_kept(read_kept(options.kept), options.chart)
     sets = chosen_sets(options.only)
     if options.texts is not None:
         write_texts(options.texts, sets)
@@ -86,10 +92,25 @@ def read_options(words: list[str]) -> argparse.Namespace:
     parser.add_argument("--texts", type=Path, metavar="FOLDER", help="write the texts of a page, and measure nothing")
     parser.add_argument("--program", type=Path, default=Place(PROGRAM).file, metavar="FILE", help="the program to measure")
     parser.add_argument("--library", type=Path, default=Place(LIBRARY).file, metavar="FILE", help="the archive to measure")
+    parser.add_argument("--keep", type=Path, metavar="FILE", help="keep the numbers in a file")
+    shown = "measure nothing, and show the numbers of such a file in a narrow table"
+    parser.add_argument("--from", type=Path, dest="kept", metavar="FILE", help=shown)
+    drawn = "draw the numbers that --from or --keep names into a file (SVG)"
+    parser.add_argument("--chart", type=Path, metavar="FILE", help=drawn)
     options = parser.parse_args(words)
+    if options.chart is not None and options.kept is None and options.keep is None:
+        raise ToolFault(WORDS, "--chart: it draws the numbers that --from or --keep names, and neither is given")
     if options.pages < 2:
         raise ToolFault(WORDS, "--pages: a slope needs two lengths, so 2 pages or more")
     return options
+
+
+def show_kept(kept: Kept, drawn: Path | None) -> int:
+    """Prints what was measured with its table, and draws it where that is asked."""
+    if drawn is not None:
+        drawn.write_text(chart(kept), encoding="utf-8")
+    print("\n".join([kept.told(), "", *narrow_table(kept)]))
+    return 0
 
 
 def number(text: str) -> int:
@@ -153,12 +174,22 @@ def measure_all(sets: list[Set], options: argparse.Namespace, made: Path, kept: 
         lines = what_is_measured(options), "", head(options.memory), *map(row_line, rows), "", *summary(rows)
         progress.end()
         print("\n".join(lines))
+        if options.keep is not None:
+            write_kept(options.keep, command_of(options), rows)
+        if options.chart is not None:
+            options.chart.write_text(chart(read_kept(options.keep)), encoding="utf-8")
     return 1 if any(is_fault(measure.files.chosen, measure.difference) for measure in measures) else 0
 
 
 def is_fault(chosen: Set, unlike: Difference | None) -> bool:
     """Whether glyphs differ otherwise than the set's are known to."""
     return unlike is not None and not (chosen.has_own_clusters and unlike.in_clusters_alone)
+
+
+def command_of(options: argparse.Namespace) -> str:
+    """The command that takes such numbers again."""
+    only = "".join(f" --only {word}" for word in options.only or [])
+    return f"bench/real --runs {options.runs} --pages {options.pages}{only}"
 
 
 def what_is_measured(options: argparse.Namespace) -> str:
