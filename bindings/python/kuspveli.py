@@ -1,12 +1,12 @@
-"""Shapes texts by libkuspveli, by ctypes alone. KUSPVELI_LIBRARY names the shared library, else that is used which
-tools/build_library leaves in the repository."""
+"""Shapes texts by libkuspveli, by ctypes alone. kuspveli_library says where the shared library is sought."""
 
 import ctypes
 import os
-from pathlib import Path
 from typing import Iterable, NamedTuple
 
-USUAL = Path(__file__).resolve().parent.parent.parent / "out" / "libkuspveli.so"
+import kuspveli_library
+
+__version__ = kuspveli_library.version()
 NAMES = {
     1: "OutOfMemory", 2: "J1 NotJson", 3: "J2 WrongShape", 4: "J3 FloatNumber", 5: "J4 UnknownName",
     6: "U1 OutOfOrder", 7: "U2 OutOfRange", 8: "U3 SplitDepth", 9: "Unlawful", 10: "NotUtf8", 12: "S2 TooLong",
@@ -65,7 +65,7 @@ def load(path: str | os.PathLike[str]) -> ctypes.CDLL:
     return found
 
 
-LIBRARY = load(os.environ.get("KUSPVELI_LIBRARY", USUAL))
+LIBRARY = load(kuspveli_library.find())
 
 
 class Fault(Exception):

@@ -1,0 +1,79 @@
+"""Where the shared library is: the one that KUSPVELI_LIBRARY names, else that beside this file, that of the clone, or an
+installed one."""
+
+import os
+import sys
+from pathlib import Path
+from typing import Iterator, Optional
+
+HERE = Path(__file__).resolve().parent
+# Beside this file where pip put it: the library, and a file with the path of the clone that it was made of.
+FOLDER, CLONE = "kuspveli.libs", "clone.txt"
+LIBRARY, UNPROVED = "libkuspveli.so", "unproved"
+VARIABLE = "KUSPVELI_LIBRARY"
+# Where tools/install mostly puts it, besides the folder of this Python.
+SYSTEM = ("/usr/local", "/usr")
+BUILT_BY = "tools/build_library proves and builds it, tools/build_library --unproved builds it without proofs in minutes"
+
+
+def find() -> str:
+    """The library's path; where there is none the fault says where it was sought, and what builds it."""
+    named = os.environ.get(VARIABLE)
+    if named:
+        if not Path(named).is_file():
+            raise ImportError(f"{VARIABLE} names {named}, and no such file is there: {BUILT_BY}")
+        return named
+    for path in places():
+        if path.is_file():
+            if is_unproved(path):
+                print(f"kuspveli: unproved: {path}; tools/build_library proves and builds it", file=sys.stderr)
+            return str(path)
+    sought = ", ".join(dict.fromkeys(str(path.parent) for path in places()))
+    raise ImportError(f"{LIBRARY} is not there: {BUILT_BY}, and {VARIABLE} names another file (sought in {sought})")
+
+
+def places() -> Iterator[Path]:
+    """Where the library may be, the first ones first."""
+    yield HERE / FOLDER / LIBRARY
+    yield HERE / FOLDER / UNPROVED / LIBRARY
+    root = clone()
+    if root is not None:
+        yield from built_places(root)
+    for folder in os.environ.get("LD_LIBRARY_PATH", "").split(":"):
+        if folder:
+            yield Path(folder) / LIBRARY
+    for prefix in (sys.prefix, *SYSTEM):
+        yield Path(prefix) / "lib" / LIBRARY
+
+
+def clone() -> Optional[Path]:
+    """The clone that this file stands in, or that pip made it of."""
+    root = HERE.parent.parent
+    if (root / "tools" / "build_library").is_file():
+        return root
+    noted = HERE / FOLDER / CLONE
+    return Path(os.fsdecode(noted.read_bytes().rstrip(b"\n"))) if noted.is_file() else None
+
+
+def built_places(root: Path) -> list[Path]:
+    return [root / "out" / LIBRARY, root / "out" / UNPROVED / LIBRARY]
+
+
+def built_in(root: Path) -> Optional[Path]:
+    """The library that is built in a clone, a proved one before an unproved one."""
+    return next((path for path in built_places(root) if path.is_file()), None)
+
+
+def is_unproved(path: Path) -> bool:
+    """Whether it was built without proofs: by the folder where such a one is kept, or by what tools/install noted."""
+    return path.parent.name == UNPROVED or (path.parent / "kuspveli" / "out" / UNPROVED).is_dir()
+
+
+def version() -> str:
+    """That of the clone, or of what pip installed."""
+    noted = HERE.parent.parent / "VERSION"
+    if noted.is_file() and (HERE.parent.parent / "tools" / "build_library").is_file():
+        return noted.read_text(encoding="utf-8").strip()
+    from importlib.metadata import version as installed
+
+    return installed("kuspveli")
