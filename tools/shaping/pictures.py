@@ -12,7 +12,7 @@ FONTS = Path("/usr/share/fonts/truetype")
 # A file, its font with the package of it, and its text.
 PICTURES = (
     ("office.svg", FONTS / "dejavu" / "DejaVuSans.ttf", "fonts-dejavu-core", "office"),
-    ("hindi.svg", FONTS / "noto" / "NotoSansDevanagari-Regular.ttf", "fonts-noto-core", "हिन्दी"),
+    ("shakti.svg", FONTS / "noto" / "NotoSansDevanagari-Regular.ttf", "fonts-noto-core", "शक्ति"),
 )
 
 

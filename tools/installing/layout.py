@@ -1,0 +1,130 @@
+"""What is installed: each file by its path below the prefix."""
+
+import ast
+import os
+import stat
+import subprocess
+import tempfile
+from dataclasses import dataclass
+from pathlib import Path
+from typing import Iterator
+
+from building.places import Place
+from common.faults import FILES, ToolFault
+
+# The repository's own folders, as its tools know them, with what they need of them.
+OWN = "lib/kuspveli"
+# Each command with the tool that it is.
+COMMANDS = {
+    "kuspveli-shape": "shape",
+    "kuspveli-hb-shape": "hb_shape",
+    "kuspveli-font-to-json": "font_to_json",
+    "kuspveli-unicode-to-json": "unicode_to_json",
+}
+DATA = ("VERSION", "LICENSE", "data/tables.json", "data/LICENSE.txt")
+# A folder of tools that no tool imports.
+GRAMMARS = "machines"
+
+
+@dataclass(frozen=True)
+class Entry:
+    """A file, or a link to another path."""
+
+    text: bytes = b""
+    mode: int = 0o644
+    link: str = ""
+
+
+def layout(root: Path, prefix: Path, program: Place, library: Place) -> dict[str, Entry]:
+    """All entries by their paths below the prefix."""
+    version = (root / "VERSION").read_text(encoding="utf-8").strip()
+    entries = {f"bin/{name}": Entry(link=f"../{OWN}/tools/{tool}") for name, tool in COMMANDS.items()}
+    entries["include/kuspveli.h"] = entry_of(root / "include" / "kuspveli.h")
+    entries |= library_entries(library, version)
+    entries["lib/pkgconfig/kuspveli.pc"] = Entry(pkg_config(prefix, version, library.is_proved).encode())
+    for path in (*tool_files(root / "tools"), *(root / name for name in DATA), program.file, program.stamp_file):
+        entries[f"{OWN}/{path.relative_to(root)}"] = entry_of(path)
+    return entries
+
+
+def entry_of(path: Path) -> Entry:
+    return Entry(path.read_bytes(), 0o755 if path.stat().st_mode & stat.S_IXUSR else 0o644)
+
+
+# ---- the library
+
+
+def library_entries(library: Place, version: str) -> dict[str, Entry]:
+    """The archive, the shared library under its whole version, and the links by which it is linked and loaded."""
+    archive = library.folder / "libkuspveli.a"
+    whole, loaded = f"libkuspveli.so.{version}", soname(version)
+    return {
+        "lib/libkuspveli.a": entry_of(archive),
+        f"lib/{whole}": Entry(shared_library(archive, version), 0o755),
+        f"lib/{loaded}": Entry(link=whole),
+        "lib/libkuspveli.so": Entry(link=loaded),
+    }
+
+
+def interface(version: str) -> str:
+    """What versions with the same calls have in common: the first number, before 1.0 the first two."""
+    first, second, _ = version.split(".")
+    return f"{first}.{second}" if first == "0" else first
+
+
+def soname(version: str) -> str:
+    return f"libkuspveli.so.{interface(version)}"
+
+
+def shared_library(archive: Path, version: str) -> bytes:
+    """The archive's object linked as a shared library with a version, by which a loader knows a library of other
+    calls."""
+    with tempfile.TemporaryDirectory() as folder:
+        symbols, made = Path(folder) / "symbols", Path(folder) / "made.so"
+        symbols.write_text(f"KUSPVELI_{interface(version)} {{ global: kus_*; local: *; }};\n", encoding="utf-8")
+        whole = ("-Wl,--whole-archive", archive, "-Wl,--no-whole-archive")
+        named = (f"-Wl,-soname,{soname(version)}", f"-Wl,--version-script={symbols}")
+        words = ["gcc", "-shared", "-Wl,-z,defs", *named, "-s", "-o", made, *whole]
+        ran = subprocess.run(words, capture_output=True, text=True, errors="replace", check=False)
+        if ran.returncode:
+            raise ToolFault(FILES, f"the shared library was not linked: {ran.stderr[-500:]}")
+        return made.read_bytes()
+
+
+def pkg_config(prefix: Path, version: str, is_proved: bool) -> str:
+    about = "A text shaper that is proved right" + ("" if is_proved else "; this one was built without its proofs")
+    return (
+        f"prefix={str(prefix).replace(' ', chr(92) + ' ')}\nlibdir=${{prefix}}/lib\nincludedir=${{prefix}}/include\n\n"
+        f"Name: kuspveli\nDescription: {about}\nVersion: {version}\n"
+        "Libs: -L${libdir} -lkuspveli\nCflags: -I${includedir}\n"
+    )
+
+
+# ---- the tools
+
+
+def tool_files(tools: Path) -> list[Path]:
+    """The tools that are commands, and the packages that they import, directly or by another."""
+    found = [tools / tool for tool in COMMANDS.values()]
+    met: set[str] = set()
+    waiting = list(found)
+    while waiting:
+        for package in imported(waiting.pop()):
+            if package not in met and (tools / package).is_dir():
+                met.add(package)
+                waiting += (tools / package).rglob("*.py")
+    for package in sorted({*met, GRAMMARS}):
+        found += [path for path in sorted((tools / package).rglob("*")) if path.is_file() and path.suffix != ".pyc"]
+    return found
+
+
+def imported(path: Path) -> Iterator[str]:
+    """The packages that a file names; none where it is no Python."""
+    text = path.read_text(encoding="utf-8")
+    if path.suffix != ".py" and "python" not in text.partition("\n")[0]:
+        return
+    for node in ast.walk(ast.parse(text)):
+        if isinstance(node, ast.Import):
+            yield from (name.name.split(".")[0] for name in node.names)
+        elif isinstance(node, ast.ImportFrom) and node.module:
+            yield node.module.split(os.extsep)[0]
