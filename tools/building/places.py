@@ -13,7 +13,7 @@ from dataclasses import dataclass
 from pathlib import Path
 from typing import Iterator
 
-from building.tree import last_change, needed_lines, stamp_of
+from building.tree import LIST, last_change, needed_lines, stamp_of
 from sources.crates import ROOT
 
 UNPROVED = "unproved"
@@ -101,6 +101,9 @@ class Place:
         stamp = self.stamp()
         if stamp is None:
             return False
+        # Below the folder where it is installed there are no sources that could be newer.
+        if not (self.root / LIST).is_file():
+            return True
         if min(path.stat().st_mtime_ns for path in self.files) > last_change(self.root, self.lines()):
             return True
         return self.is_of_sources(stamp)

@@ -10,9 +10,9 @@ from unittest import mock
 
 from support import TOOLS
 
+from building.places import PROGRAM, standing
 from common.faults import ToolFault
 from shaping import pictures
-from shaping.program import PROGRAM
 
 README = (TOOLS.parent / "README.md").read_text(encoding="utf-8")
 TITLE = "{http://www.w3.org/2000/svg}title"
@@ -34,7 +34,7 @@ class Pictures(unittest.TestCase):
         with mock.patch.object(pictures, "PICTURES", none):
             self.assertRaisesRegex(ToolFault, "apt-get install fonts-none: /none.ttf", pictures.main, [])
 
-    @unittest.skipUnless(PROGRAM.exists(), "needs the program (tools/build)")
+    @unittest.skipUnless(standing(PROGRAM).file.is_file(), "needs the program (tools/build)")
     @unittest.skipUnless(all(font.is_file() for _, font, _, _ in pictures.PICTURES), "needs the fonts")
     def test_anew(self) -> None:
         with tempfile.TemporaryDirectory() as folder, contextlib.redirect_stdout(io.StringIO()) as shown:

@@ -59,7 +59,7 @@ class Without(unittest.TestCase):
         stand_in = write_stand_in(self.folder / "hb_shape", body.replace("\n", "\\n"))
         (self.folder / "font.json").write_text(FONT)
         for patch in (
-            mock.patch.object(cli, "PROGRAM", Path(stand_in)),
+            mock.patch.object(cli, "ready_program", lambda name: Path(stand_in)),
             mock.patch.object(cli, "TABLES_READ", []),
             mock.patch.dict(os.environ, {"XDG_CACHE_HOME": folder.name}),
         ):
