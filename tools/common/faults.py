@@ -1,14 +1,17 @@
 """Faults that a tool tells in one line, with the exit status of its kind."""
 
-import os
 import sys
 from typing import Callable
 
-# The statuses are those of hb_shape: words, data, text, files.
+from common.printing import clean, emit, flush_streams, open_streams, tell
+
+# The statuses are those of hb_shape: words, data, text, what can't be shaped, files.
 WORDS = 2
 DATA = 3
 TEXT = 4
+SHAPING = 5
 FILES = 6
+INTERRUPTED = 130
 
 
 class ToolFault(Exception):
@@ -21,21 +24,31 @@ class ToolFault(Exception):
 
 def run_tool(name: str, main: Callable[[list[str]], int]) -> None:
     """Runs a tool on the command line's words, and ends the process with its status."""
+    open_streams()
     try:
-        status = main(sys.argv[1:])
-        sys.stdout.flush()
+        status = ended(main)
+        emit("")
     except ToolFault as fault:
-        print(f"{name}: {one_line(str(fault))}", file=sys.stderr)
+        tell(name, str(fault))
         status = fault.status
-    except BrokenPipeError:
-        os.dup2(os.open(os.devnull, os.O_WRONLY), sys.stdout.fileno())
-        status = FILES
     except OSError as error:
-        print(f"{name}: {one_line(file_message(error))}", file=sys.stderr)
+        tell(name, file_message(error))
         status = FILES
+    except MemoryError:
+        tell(name, "out of memory")
+        status = SHAPING
     except KeyboardInterrupt:
-        status = 130
+        status = INTERRUPTED
+    flush_streams()
     sys.exit(status)
+
+
+def ended(main: Callable[[list[str]], int]) -> int:
+    """The status of a tool, also where it ends early, as by --help."""
+    try:
+        return main(sys.argv[1:])
+    except SystemExit as end:
+        return end.code if isinstance(end.code, int) else 0
 
 
 def file_message(error: OSError) -> str:
@@ -45,6 +58,5 @@ def file_message(error: OSError) -> str:
 
 
 def one_line(text: str) -> str:
-    """The text with its line breaks and other controls as spaces, and bytes that are no UTF-8 shown as such."""
-    shown = text.encode("utf-8", "backslashreplace").decode("utf-8")
-    return " ".join("".join(c if c.isprintable() else " " for c in shown).split())
+    """The text as one line of printable characters."""
+    return clean(text.strip())

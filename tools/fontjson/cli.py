@@ -1,14 +1,14 @@
 """The command line of font_to_json."""
 
 import argparse
-import sys
 from typing import Any
 
-from common.faults import DATA, ToolFault
 from common.notes import Notes, Progress
-from common.writing import write_object
 from common.parsing import Words
+from common.printing import emit, tell
+from common.writing import object_text
 from fontjson.keep import KEYS, Kept, kept_keys, listed
+from fontjson.limits import reading
 
 NAME = "font_to_json"
 ABOUT = """Writes a TrueType or OpenType font as the JSON value that hb_shape reads as FONT, on standard output. What
@@ -26,6 +26,7 @@ def parser() -> argparse.ArgumentParser:
         "--plain-lookups", metavar="TYPES", help="of gsub and gpos lookups of these types without flags alone"
     )
     words.add_argument("--quiet", action="store_true", help="don't tell what was left out")
+    words.add_argument("--no-limits", action="store_true", help="lift the limits of memory and of processor time")
     return words
 
 
@@ -34,28 +35,22 @@ def main(words: list[str]) -> int:
     options = parser().parse_args(words)
     kept = Kept(kept_keys(options.only), listed(options.features), listed(options.plain_lookups))
     notes = Notes()
-    value = read_font(options.font, options.index, kept, notes)
-    write_object(value, sys.stdout)
-    if not options.quiet:
-        for line in notes.lines():
-            print(f"{NAME}: {options.font}: {line}", file=sys.stderr)
+    emit(object_text(read_font(options.font, options.index, kept, notes, not options.no_limits)))
+    for line in notes.lines() if not options.quiet else []:
+        tell(NAME, f"{options.font}: {line}")
     return 0
 
 
-def read_font(path: str, index: int, kept: Kept, notes: Notes) -> dict[str, Any]:
+def read_font(path: str, index: int, kept: Kept, notes: Notes, is_limited: bool = True) -> dict[str, Any]:
     """The value of a font file. A font whose tables can't be read is told as such, whatever fontTools raises."""
     from fontjson.source import open_font  # first: it says where fontTools is missing
     from fontjson.convert import convert
 
     progress = Progress(NAME)
     try:
-        source = open_font(path, index, notes, progress)
-        with source.font:
-            return convert(source, kept)
-    except (ToolFault, OSError):
-        raise
-    except Exception as error:
-        what = f"{type(error).__name__}: {error}"
-        raise ToolFault(DATA, f"{path}: the font is damaged: {what}") from error
+        with reading(path, is_limited):
+            source = open_font(path, index, notes, progress)
+            with source.font:
+                return convert(source, kept)
     finally:
         progress.end()

@@ -7,6 +7,8 @@ from typing import Any
 
 from fontTools.pens.boundsPen import ControlBoundsPen
 
+from fontjson.drawing import drawn_glyphs
+from fontjson.limits import begin_worker
 from fontjson.numbers import Row, batches, is_value, rising
 from fontjson.source import Source
 
@@ -169,10 +171,10 @@ def cff_boxes(source: Source) -> dict[int, Box]:
     """The boxes of the outlines' points, those off the curves among them, as HarfBuzz has them."""
     names = source.font.getGlyphOrder()
     if len(names) < MANY_OUTLINES:
-        return dict(enumerate(draw_boxes(source.font, names)))
+        return dict(enumerate(draw_boxes(drawn_glyphs(source.font), names)))
     found: list[Box] = []
     parts = [(source.path, source.index, part) for part in batches(names, BATCH)]
-    with ProcessPoolExecutor(os.cpu_count()) as pool:
+    with ProcessPoolExecutor(os.cpu_count(), initializer=begin_worker) as pool:
         for part in pool.map(draw_part, parts):
             found.extend(part)
             source.progress.step("outlines", len(found), len(names))
@@ -188,12 +190,11 @@ def draw_part(part: tuple[str, int, list[str]]) -> list[Box]:
 
     path, index, names = part
     if (path, index) not in _opened:
-        _opened[path, index] = TTFont(path, fontNumber=index, lazy=True)
+        _opened[path, index] = drawn_glyphs(TTFont(path, fontNumber=index, lazy=True))
     return draw_boxes(_opened[path, index], names)
 
 
-def draw_boxes(font: Any, names: list[str]) -> list[Box]:
-    glyphs = font.getGlyphSet()
+def draw_boxes(glyphs: Any, names: list[str]) -> list[Box]:
     return [draw_box(glyphs, name) for name in names]
 
 

@@ -4,9 +4,11 @@ import logging
 import os
 import struct
 from dataclasses import dataclass
+from pathlib import Path
 from typing import Any
 
 from common.faults import DATA, FILES, ToolFault
+from common.files import check_regular
 from common.notes import Notes, Progress
 
 try:
@@ -47,11 +49,16 @@ class Source:
 
 def open_font(path: str, index: int, notes: Notes, progress: Progress) -> Source:
     """Opens the font of a file, or the font at an index of a collection."""
+    from fontjson.check import check_names, check_packed, check_sizes
+
     logging.getLogger("fontTools").setLevel(logging.CRITICAL)
     check_file(path, index)
+    check_packed(path)
     try:
         font = TTFont(path, fontNumber=index, lazy=True)
         check_tables(path, font)
+        check_sizes(font)
+        check_names(font)
         return Source(path, index, font, notes, progress)
     except TTLibError as error:
         raise ToolFault(DATA, f"{path}: no font that can be read: {error}") from error
@@ -61,8 +68,7 @@ def open_font(path: str, index: int, notes: Notes, progress: Progress) -> Source
 
 def check_file(path: str, index: int) -> None:
     """Refuses a folder, an empty file, and an index that a collection has no font for."""
-    if os.path.isdir(path):
-        raise ToolFault(FILES, f"{path}: a folder, not a font file")
+    check_regular(Path(path), "font")
     with open(path, "rb") as file:
         head = file.read(12)
     if not head:

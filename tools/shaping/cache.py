@@ -4,11 +4,13 @@ import contextlib
 import hashlib
 import json
 import os
+import stat
 import tempfile
 from pathlib import Path
 from typing import Any, Callable, Iterator
 
-from common.writing import write_object
+from common.faults import FILES, ToolFault
+from common.writing import object_text
 
 TOOLS = Path(__file__).parent.parent
 SOURCES = ("common", "fontjson", "unicodejson", "syllables", "machines")
@@ -19,7 +21,7 @@ STAMP, END = "cache", "end"
 
 @contextlib.contextmanager
 def cache_folder() -> Iterator[Path]:
-    """The folder where values are kept: the user's, or one for this run alone where that can't be written."""
+    """The folder where values are kept: the user's, or one for this run alone where that isn't fit for it."""
     kept = user_folder()
     if kept is not None:
         yield kept
@@ -29,13 +31,19 @@ def cache_folder() -> Iterator[Path]:
 
 
 def user_folder() -> Path | None:
-    """The user's cache folder for this project, made where it is missing; None where it can't be."""
+    """The user's cache folder for this project, made where it is missing.
+
+    None where it can't be made or written, or belongs to somebody else, who could change what is kept there.
+    """
     base = os.environ.get("XDG_CACHE_HOME") or os.path.expanduser("~/.cache")
     if not os.path.isabs(base):
         return None
     folder = Path(base) / "kuspveli"
     try:
         folder.mkdir(parents=True, exist_ok=True)
+        if folder.stat().st_uid != os.geteuid():
+            return None
+        folder.chmod(0o700)
         with tempfile.TemporaryFile(dir=folder):
             return folder
     except OSError:
@@ -59,16 +67,21 @@ def fingerprint(*parts: object) -> str:
 
 
 def cached(path: Path, stamp: str, make: Callable[[], dict[str, Any]]) -> Path:
-    """The file with the value of that stamp, made where it is not there, has another stamp, or was cut."""
+    """The file with the value of that stamp, made where it is not there, is another, or was cut."""
     if not has_stamp(path, stamp):
         write_whole(path, {STAMP: stamp, **make(), END: stamp})
     return path
 
 
 def has_stamp(path: Path, stamp: str) -> bool:
+    """Whether the user's own file is there with that stamp at both ends. A pipe is not waited for, a link not followed."""
     first, last = f"{{\n{json.dumps(STAMP)}:{json.dumps(stamp)}", f"{json.dumps(END)}:{json.dumps(stamp)}\n}}\n"
     try:
-        with open(path, "rb") as file:
+        number = os.open(path, os.O_RDONLY | os.O_NOFOLLOW | os.O_NONBLOCK)
+        with open(number, "rb") as file:
+            status = os.fstat(number)
+            if not stat.S_ISREG(status.st_mode) or status.st_uid != os.geteuid():
+                return False
             head = file.read(len(first))
             file.seek(-len(last), os.SEEK_END)
             return head == first.encode() and file.read() == last.encode()
@@ -77,10 +90,17 @@ def has_stamp(path: Path, stamp: str) -> bool:
 
 
 def write_whole(path: Path, value: dict[str, Any]) -> None:
-    """Writes a file under another name first, so that no half of it is ever read, whoever else writes it."""
+    """Writes a file under another name first, so that no half of it is ever read, whoever else writes it.
+
+    What has the name already is replaced, but for a folder with files in it.
+    """
+    if path.is_dir() and not path.is_symlink():
+        if any(path.iterdir()):
+            raise ToolFault(FILES, f"{path}: a folder where a value is to be kept: remove it")
+        path.rmdir()
     with tempfile.NamedTemporaryFile("w", dir=path.parent, suffix=ENDING, delete=False, encoding="utf-8") as file:
         try:
-            write_object(value, file)
+            file.write(object_text(value))
             file.close()
             os.replace(file.name, path)
         except BaseException:

@@ -1,10 +1,11 @@
 """The glyphs of a printed line, and the same as JSON."""
 
-import json
 import re
 from dataclasses import dataclass
 
 from common.faults import DATA, ToolFault
+from common.printing import clean_name
+from common.writing import json_text
 from shaping.options import Given
 
 GLYPH = re.compile(
@@ -40,9 +41,18 @@ def read_line(line: str) -> list[Glyph]:
     return found
 
 
+def with_names(line: str, names: dict[int, str]) -> str:
+    """A line of glyph numbers with the font's names in their place, each of which stays one field."""
+    parts = []
+    for part in line.rstrip("\n").split("|") if line.strip() else []:
+        number = part[: len(part) - len(part.lstrip("0123456789"))]
+        parts.append(clean_name(names.get(int(number), f"gid{number}")) + part[len(number) :])
+    return "|".join(parts) + "\n"
+
+
 def as_json(glyphs: list[Glyph], names: dict[int, str], given: Given) -> str:
     """A line of JSON as hb-shape prints it: glyph, cluster, offsets, advances, and flags and boxes where asked for."""
-    return "[" + ",".join(json.dumps(entry(glyph, names, given), separators=(",", ":")) for glyph in glyphs) + "]"
+    return json_text([entry(glyph, names, given) for glyph in glyphs])
 
 
 def entry(glyph: Glyph, names: dict[int, str], given: Given) -> dict[str, int | str]:

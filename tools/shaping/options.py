@@ -95,7 +95,7 @@ OPTIONS = (
     Option("font-index", "the font of a collection, from 0 on (--face-index, --index)", "N", index, True),
     Option("json", "print JSON, as hb-shape --output-format=json does", is_own=True),
     Option("svg", "draw the glyphs and their clusters into a file", "FILE", any_text, True),
-    Option("verbose", "say on standard error which tables are used", is_own=True),
+    Option("no-limits", "lift the limits of memory and time on reading the font", is_own=True),
     Option("direction", "ltr, rtl, ttb or btt; guessed from the text", "D", direction),
     Option("script", "an ISO 15924 tag; guessed from the text", "S", script),
     Option("language", "a BCP 47 tag, as ro or de-CH", "L", language),

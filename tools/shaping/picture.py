@@ -6,6 +6,8 @@ from typing import Any
 from xml.sax.saxutils import escape
 
 from common.notes import Notes, Progress
+from common.printing import clean
+from fontjson.limits import reading
 from shaping.glyphs import Glyph
 from shaping.texts import name_of
 
@@ -45,9 +47,10 @@ class Outlines:
 
     def __init__(self, path: Path, index: int) -> None:
         from fontjson.source import open_font  # first: it says where fontTools is missing
+        from fontjson.drawing import drawn_glyphs
 
         self.source = open_font(str(path), index, Notes(), Progress("shape"))
-        self.glyphs = self.source.font.getGlyphSet()
+        self.glyphs = drawn_glyphs(self.source.font)
         self.upem = self.source.font["head"].unitsPerEm
 
     def path(self, glyph: int) -> str:
@@ -93,18 +96,23 @@ def clusters_of(text: str, glyphs: list[Glyph]) -> dict[int, str]:
     return {start: whole[start:end].decode("utf-8", "replace") for start, end in zip(starts, ends)}
 
 
-def picture(font: Path, index: int, drawn: list[tuple[str, list[Glyph]]]) -> str:
+def picture(font: Path, index: int, drawn: list[tuple[str, list[Glyph]]], is_limited: bool = True) -> str:
     """The SVG of all texts, one below the other."""
-    outlines = Outlines(font, index)
-    with outlines.source.font:
-        upem = outlines.upem
-        rows, width, height = [], 0.0, MARGIN * upem
-        for text, glyphs in drawn:
-            row, box = row_of(text, placed(glyphs), outlines)
-            corner = f"{MARGIN * upem - box.left:.0f} {height + box.top:.0f}"
-            rows.append(f'<g transform="translate({corner})">\n{row}</g>\n')
-            width = max(width, box.right - box.left)
-            height += box.top - box.bottom + GAP * upem
+    with reading(str(font), is_limited):
+        outlines = Outlines(font, index)
+        with outlines.source.font:
+            return picture_of(outlines, drawn)
+
+
+def picture_of(outlines: Outlines, drawn: list[tuple[str, list[Glyph]]]) -> str:
+    upem = outlines.upem
+    rows, width, height = [], 0.0, MARGIN * upem
+    for text, glyphs in drawn:
+        row, box = row_of(text, placed(glyphs), outlines)
+        corner = f"{MARGIN * upem - box.left:.0f} {height + box.top:.0f}"
+        rows.append(f'<g transform="translate({corner})">\n{row}</g>\n')
+        width = max(width, box.right - box.left)
+        height += box.top - box.bottom + GAP * upem
     width, height = width + 2 * MARGIN * upem, max(height - GAP * upem + MARGIN * upem, 2 * MARGIN * upem)
     scale = PIXELS / upem
     return (
@@ -167,7 +175,7 @@ def pen_mark(each: Placed, upem: int) -> str:
 def outline(each: Placed, outlines: Outlines, colour: str) -> str:
     """A glyph's outline, whose name, position and cluster are shown where one points at it."""
     glyph = each.glyph
-    said = f"{outlines.name(glyph.number)} ({glyph.number}), cluster {glyph.cluster}"
+    said = f"{clean(outlines.name(glyph.number))} ({glyph.number}), cluster {glyph.cluster}"
     said += f", advance {glyph.x_advance},{glyph.y_advance}"
     if glyph.x_offset or glyph.y_offset:
         said += f", offset {glyph.x_offset},{glyph.y_offset}"

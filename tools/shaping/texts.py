@@ -4,10 +4,10 @@ import os
 import sys
 import unicodedata
 from dataclasses import dataclass
-from pathlib import Path
 from typing import Iterator
 
-from common.faults import TEXT, ToolFault
+from common.faults import FILES, TEXT, ToolFault
+from common.printing import INPUT, naming
 from shaping.options import Given
 
 # Characters without a glyph of their own are hidden, as HarfBuzz has them.
@@ -19,6 +19,8 @@ SPACES = {0xA0, *range(0x2000, 0x200B), 0x202F, 0x205F, 0x3000}
 # The hyphen stands for the one that does not break.
 OTHERS = {0x2011: 0x2010}
 SHOWN = 5
+# Bytes of a file of texts.
+MOST_TEXT = 1 << 26
 
 
 @dataclass(frozen=True)
@@ -38,11 +40,23 @@ def read_texts(given: Given) -> list[Text]:
     if given.text is not None:
         return [checked(os.fsencode(given.text), "the text")]
     name = given.own["text-file"]
-    whole = sys.stdin.buffer.read() if name == "-" else Path(name).read_bytes()
-    lines = whole.split(b"\n")
+    lines = read_whole(name).split(b"\n")
     if not lines[-1]:
         lines.pop()
     return [checked(line, f"{name}: line {number}") for number, line in enumerate(lines, 1)]
+
+
+def read_whole(name: str) -> bytes:
+    """The bytes of a file of texts, or of standard input."""
+    with naming(INPUT if name == "-" else name):
+        if name == "-":
+            whole = sys.stdin.buffer.read(MOST_TEXT + 1)
+        else:
+            with open(name, "rb") as file:
+                whole = file.read(MOST_TEXT + 1)
+    if len(whole) > MOST_TEXT:
+        raise ToolFault(FILES, f"{name}: more than {MOST_TEXT:,} bytes of text")
+    return whole
 
 
 def checked(given: bytes, where: str) -> Text:

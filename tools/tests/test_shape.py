@@ -39,6 +39,8 @@ esac
 echo "82=0+1253|5044=1@-3,4+1980,7#1<1,2,3,-4>"
 """
 LINE = "82=0+1253|5044=1@-3,4+1980,7#1<1,2,3,-4>\n"
+# The same with the names of DejaVu Sans, which the tool puts there.
+NAMED = "o=0+1253|uniFB03=1@-3,4+1980,7#1<1,2,3,-4>\n"
 
 
 class Commands(unittest.TestCase):
@@ -78,9 +80,10 @@ class Commands(unittest.TestCase):
 
     def test_words(self) -> None:
         status, shown, _ = self.shape("-x\n", "--direction=r", "--index=0", "--features", "-liga", "--features=kern")
-        self.assertEqual((status, shown), (0, LINE))
-        self.assertEqual(self.words()[:3], ["--direction=r", "--features=-liga", "--features=kern"])
-        self.assertEqual(self.words()[3:5], [str(self.cache / "tables.json"), str(self.kept())])
+        self.assertEqual((status, shown), (0, NAMED))
+        numbers = "--no-glyph-names"
+        self.assertEqual(self.words()[:4], ["--direction=r", "--features=-liga", "--features=kern", numbers])
+        self.assertEqual(self.words()[4:6], [str(self.cache / "tables.json"), str(self.kept())])
         self.assertEqual((self.folder / "text").read_bytes(), b"-x\n\n")
         self.shape("--language", "ur_PK.UTF-8", "--text=--bot")
         self.assertEqual(self.words()[0], "--language=ur-PK")
@@ -101,7 +104,7 @@ class Commands(unittest.TestCase):
         texts = self.folder / "texts"
         texts.write_bytes("a\n\n5long\nü".encode())
         status, shown, told = self.shape(f"--text-file={texts}")
-        self.assertEqual((status, shown), (5, LINE * 3))
+        self.assertEqual((status, shown), (5, NAMED * 3))
         self.assertEqual(told.splitlines()[-1], f"shape: {texts}: line 3: S2 TooLong")
 
     def test_cache(self) -> None:
@@ -133,7 +136,7 @@ class Commands(unittest.TestCase):
                 each.start()
             for each in runs:
                 each.join()
-        self.assertEqual(shown.getvalue(), LINE * 3)
+        self.assertEqual(shown.getvalue(), NAMED * 3)
         self.assertEqual(len(list(self.cache.iterdir())), 2)
         json.loads(self.kept().read_text())
 
@@ -141,10 +144,10 @@ class Commands(unittest.TestCase):
         """Without a folder that can be written, or a home, values are made for the run alone."""
         for place in ("/proc/nothing", str(self.font), "relative"):
             with mock.patch.dict(os.environ, {"XDG_CACHE_HOME": place}):
-                self.assertEqual(self.shape("a")[:2], (0, LINE))
+                self.assertEqual(self.shape("a")[:2], (0, NAMED))
         with mock.patch.dict(os.environ), mock.patch("os.path.expanduser", side_effect=lambda path: path):
             del os.environ["XDG_CACHE_HOME"]
-            self.assertEqual(self.shape("a")[:2], (0, LINE))
+            self.assertEqual(self.shape("a")[:2], (0, NAMED))
         self.assertFalse(self.cache.exists())
 
     def test_json(self) -> None:
@@ -157,14 +160,14 @@ class Commands(unittest.TestCase):
     def test_svg(self) -> None:
         path = self.folder / "of.svg"
         status, shown, _ = self.shape("of", f"--svg={path}")
-        self.assertEqual((status, shown), (0, "o=0+1253|uniFB03=1@-3,4+1980,7#1<1,2,3,-4>\n"))
+        self.assertEqual((status, shown), (0, NAMED))
         titles = [each.text for each in tree.parse(path).iter("{http://www.w3.org/2000/svg}title")]
         self.assertEqual(titles[0], "o (82), cluster 0, advance 1253,0")
         self.assertIn("U+006F LATIN SMALL LETTER O", titles)
 
     def test_lacking(self) -> None:
         status, shown, told = self.shape("aक")
-        self.assertEqual((status, shown), (0, LINE))
+        self.assertEqual((status, shown), (0, NAMED))
         self.assertIn("the text: the font lacks U+0915 DEVANAGARI LETTER KA (byte 1, character 2)\n", told)
 
     def test_json_font(self) -> None:

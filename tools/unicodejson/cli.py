@@ -1,14 +1,14 @@
 """The command line of unicode_to_json."""
 
 import argparse
-import sys
 from pathlib import Path
 from typing import Any, Callable
 
 from common.faults import DATA, WORDS, ToolFault
 from common.notes import Progress
-from common.writing import write_object
 from common.parsing import Words
+from common.printing import emit, tell
+from common.writing import object_text
 from unicodejson import forms, indic, lists, normal, universal
 from unicodejson.lawful import law_fault
 from unicodejson.ucd import Ucd, version_of
@@ -54,10 +54,9 @@ def main(words: list[str]) -> int:
         value = make_tables(options.ucd, kept_keys(options.only), progress)
     finally:
         progress.end()
-    write_object(value, sys.stdout)
-    if not options.quiet:
-        for line in value["unicode"]["lost"]:
-            print(f"{NAME}: {line}", file=sys.stderr)
+    emit(object_text(value))
+    for line in value["unicode"]["lost"] if not options.quiet else []:
+        tell(NAME, line)
     return 0
 
 

@@ -1,0 +1,79 @@
+"""What tools print: text without characters that act on a terminal, and the three standard streams."""
+
+import contextlib
+import os
+import sys
+from typing import Iterator
+
+OUTPUT, INPUT = "standard output", "standard input"
+# What separates the fields of a printed line of glyphs, and the glyphs, and what escapes it here.
+LINE_MARKS = frozenset("|=@+#<>[],\\")
+
+
+def clean(text: str) -> str:
+    """The text with what is not printable as escapes: controls, line breaks, controls of direction, lone bytes."""
+    return "".join(each if each.isprintable() else escape(each) for each in text)
+
+
+def clean_name(name: str) -> str:
+    """A glyph's name that stands in a line of glyphs as one field, whatever it is made of."""
+    return "".join(each if each.isprintable() and each not in LINE_MARKS else escape(each) for each in name)
+
+
+def escape(character: str) -> str:
+    """A character by its number; a byte of a file's name that is no UTF-8 by its own."""
+    code = ord(character)
+    if 0xDC80 <= code <= 0xDCFF:
+        return f"\\x{code - 0xDC00:02x}"
+    if code < 0x80:
+        return f"\\x{code:02x}"
+    return f"\\u{code:04x}" if code <= 0xFFFF else f"\\U{code:08x}"
+
+
+def tell(tool: str, what: str) -> None:
+    """One line on standard error. Where it can't be written nobody is told, and nothing else changes."""
+    with contextlib.suppress(OSError):
+        print(f"{tool}: {clean(what.strip())}", file=sys.stderr, flush=True)
+
+
+def emit(text: str) -> None:
+    """Writes to standard output at once."""
+    with naming(OUTPUT):
+        sys.stdout.write(text)
+        sys.stdout.flush()
+
+
+@contextlib.contextmanager
+def naming(name: str) -> Iterator[None]:
+    """Gives a fault of the system the name of the file or stream, where it has none."""
+    try:
+        yield
+    except OSError as error:
+        error.filename = error.filename or name
+        raise
+
+
+def open_streams() -> None:
+    """Opens the standard streams that are closed, so that no other file gets their numbers.
+
+    Input can't be read and output can't be written; what is written to standard error is lost. Output is UTF-8.
+    """
+    for number, mode in enumerate((os.O_WRONLY, os.O_RDONLY, os.O_WRONLY)):
+        try:
+            os.fstat(number)
+        except OSError:
+            os.open(os.devnull, mode)
+    sys.stdin = sys.stdin or open(0, encoding="utf-8", closefd=False)
+    sys.stdout = sys.stdout or open(1, "w", encoding="utf-8", closefd=False)
+    sys.stderr = sys.stderr or open(2, "w", encoding="utf-8", closefd=False)
+    sys.stdout.reconfigure(encoding="utf-8", errors="backslashreplace")
+    sys.stderr.reconfigure(encoding="utf-8", errors="backslashreplace")
+
+
+def flush_streams() -> None:
+    """Flushes both outputs; where one can't be written, the rest of it is dropped, so that the end adds no fault."""
+    for stream in (sys.stdout, sys.stderr):
+        try:
+            stream.flush()
+        except OSError:
+            os.dup2(os.open(os.devnull, os.O_WRONLY), stream.fileno())
