@@ -10,15 +10,24 @@ class Notes:
 
     def __init__(self) -> None:
         self.counts: Counter[str] = Counter()
+        self.told: list[str] = []
 
     def left_out(self, what: str, times: int = 1) -> None:
         """Counts something that the format has no word for."""
         if times > 0:
             self.counts[what] += times
 
+    def changed(self, what: str, times: int = 1) -> None:
+        """Counts something that is left out though it changes glyphs or positions, so that each run tells it."""
+        self.left_out(what, times)
+        if times > 0 and what not in self.told:
+            self.told.append(what)
+
     def lines(self) -> list[str]:
-        """One line a kind, with how often it was left out."""
-        return [f"left out: {what} ({times})" for what, times in self.counts.items()]
+        """One line a kind, with how often it was left out; first those that change glyphs or positions."""
+        first = [f"left out, and it changes glyphs or positions: {what} ({self.counts[what]})" for what in self.told]
+        others = [f"left out: {what} ({times})" for what, times in self.counts.items() if what not in self.told]
+        return first + others
 
 
 class Progress:

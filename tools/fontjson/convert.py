@@ -6,16 +6,16 @@ from typing import Any
 from fontjson import metrics
 from fontjson.gdef import gdef_of
 from fontjson.keep import Kept, keep_layout
+from fontjson.kern import with_kerning
 from fontjson.layout import layout_of
 from fontjson.source import Source
 
-# Tables that could move or change glyphs in other shapers, and for which the format has no word.
+# Tables that the format has no word for: first those by which other shapers change or move glyphs.
+TABLES_THAT_CHANGE = ("kerx", "mort", "morx", "trak", "Silf")
 TABLES_LEFT_OUT = (
-    "BASE", "JSTF", "MATH", "kern",
-    "ankr", "bsln", "feat", "just", "kerx", "lcar", "ltag", "mort", "morx", "opbd", "prop", "trak",
-    "avar", "cvar", "fvar", "gvar", "HVAR", "MVAR", "VVAR",
+    "BASE", "JSTF", "MATH",
+    "ankr", "bsln", "feat", "just", "lcar", "ltag", "opbd", "prop",
     "CBDT", "COLR", "EBDT", "SVG ", "sbix",
-    "Silf",
 )  # fmt: skip
 
 
@@ -32,9 +32,11 @@ def convert(source: Source, kept: Kept) -> dict[str, Any]:
     set_count = len((gdef or {}).get("sets", []))
     for key in ("gsub", "gpos"):
         table = layout_of(source, key.upper(), set_count) if key in wanted else None
+        if key == "gpos" and key in wanted:
+            table = with_kerning(source, table)
         if table is not None:
             value[key] = keep_layout(table, kept, source.notes)
-    value["source"]["left_out"] = dict(source.notes.counts)
+    value["source"] |= {"left_out": dict(source.notes.counts), "told": source.notes.told}
     return value
 
 
@@ -68,6 +70,9 @@ def metric_keys(source: Source, wanted: set[str]) -> dict[str, Any]:
 
 
 def note_tables(source: Source) -> None:
+    for tag in TABLES_THAT_CHANGE:
+        if source.has(tag):
+            source.notes.changed(f"table {tag}")
     for tag in TABLES_LEFT_OUT:
         if source.has(tag):
             source.notes.left_out(f"table {tag.strip()}")

@@ -4,6 +4,7 @@ import logging
 import os
 import struct
 from dataclasses import dataclass
+from functools import cached_property
 from pathlib import Path
 from typing import Any
 
@@ -45,6 +46,11 @@ class Source:
 
     def has(self, table: str) -> bool:
         return table in self.font
+
+    @cached_property
+    def characters(self) -> frozenset[int]:
+        """The characters of the best Unicode subtable."""
+        return frozenset((self.font["cmap"].getBestCmap() or {}) if self.has("cmap") else ())
 
 
 def open_font(path: str, index: int, notes: Notes, progress: Progress) -> Source:
