@@ -3,12 +3,14 @@
 import argparse
 from typing import Any
 
+from common.faults import WORDS, ToolFault
 from common.notes import Notes, Progress
 from common.parsing import Words
 from common.printing import emit, tell
 from common.writing import object_text
 from fontjson.keep import KEYS, Kept, kept_keys, listed
 from fontjson.limits import reading
+from fontjson.variations import Place, Wanted, place_of, read_variations
 
 NAME = "font_to_json"
 ABOUT = """Writes a TrueType or OpenType font as the JSON value that hb_shape reads as FONT, on standard output. What
@@ -20,6 +22,8 @@ def parser() -> argparse.ArgumentParser:
     words = Words(prog=NAME, description=ABOUT)
     words.add_argument("font", metavar="FONT", help="a .ttf, .otf, .ttc, .otc, .woff or .woff2 file")
     words.add_argument("--index", type=int, default=0, metavar="N", help="the font of a collection, from 0 on")
+    words.add_argument("--variations", metavar="LIST", help="of a variable font, as wght=700,wdth=80")
+    words.add_argument("--named-instance", metavar="NAME", help="an instance of a variable font, or its number from 0 on")
     words.add_argument("--only", metavar="KEYS", help=f"these keys alone, with commas: {','.join(KEYS)}")
     words.add_argument("--features", metavar="TAGS", help="of gsub and gpos these features alone, with commas")
     words.add_argument(
@@ -34,15 +38,39 @@ def main(words: list[str]) -> int:
     """Converts a font; its status is 0."""
     options = parser().parse_args(words)
     kept = Kept(kept_keys(options.only), listed(options.features), listed(options.plain_lookups))
-    notes = Notes()
-    emit(object_text(read_font(options.font, options.index, kept, notes, not options.no_limits)))
-    for line in notes.lines() if not options.quiet else []:
+    notes, is_limited = Notes(), not options.no_limits
+    wanted = Wanted(options.named_instance, coordinates(options.variations))
+    place, outside = instance_of(options.font, options.index, wanted, is_limited)
+    emit(object_text(read_font(options.font, options.index, kept, notes, is_limited, place)))
+    for line in outside + notes.lines() if not options.quiet else []:
         tell(NAME, f"{options.font}: {line}")
     return 0
 
 
-def read_font(path: str, index: int, kept: Kept, notes: Notes, is_limited: bool = True) -> dict[str, Any]:
-    """The value of a font file. A font whose tables can't be read is told as such, whatever fontTools raises."""
+def coordinates(text: str | None) -> tuple[tuple[str, float], ...]:
+    try:
+        return () if text is None else read_variations(text)
+    except ValueError as error:
+        raise ToolFault(WORDS, f"--variations: {error}") from error
+
+
+def instance_of(path: str, index: int, wanted: Wanted, is_limited: bool = True) -> tuple[Place | None, list[str]]:
+    """Where the wanted instance is, None where none is wanted, and what is told of its coordinates."""
+    if not wanted:
+        return None, []
+    from fontjson.source import open_font  # first: it says where fontTools is missing
+
+    with reading(path, is_limited), open_font(path, index, Notes(), Progress(NAME)).font as font:
+        return place_of(path, font, wanted)
+
+
+def read_font(
+    path: str, index: int, kept: Kept, notes: Notes, is_limited: bool = True, place: Place | None = None
+) -> dict[str, Any]:
+    """The value of a font file, of a variable font at a place.
+
+    A font whose tables can't be read is told as such, whatever fontTools raises.
+    """
     from fontjson.source import open_font  # first: it says where fontTools is missing
     from fontjson.convert import convert
 
@@ -51,6 +79,8 @@ def read_font(path: str, index: int, kept: Kept, notes: Notes, is_limited: bool 
         with reading(path, is_limited):
             source = open_font(path, index, notes, progress)
             with source.font:
+                if place is not None:
+                    source.take_instance(place)
                 return convert(source, kept)
     finally:
         progress.end()

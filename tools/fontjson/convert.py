@@ -42,7 +42,10 @@ def convert(source: Source, kept: Kept) -> dict[str, Any]:
 
 def origin_of(source: Source) -> dict[str, Any]:
     """Where the value comes from; readers of the format pass this key over."""
-    return {"file": os.path.basename(source.path), "index": source.index}
+    origin: dict[str, Any] = {"file": os.path.basename(source.path), "index": source.index}
+    if source.place is not None:
+        origin["variations"] = source.place
+    return origin
 
 
 def metric_keys(source: Source, wanted: set[str]) -> dict[str, Any]:
@@ -76,3 +79,5 @@ def note_tables(source: Source) -> None:
     for tag in TABLES_LEFT_OUT:
         if source.has(tag):
             source.notes.left_out(f"table {tag.strip()}")
+    if source.has("fvar"):
+        source.notes.left_out("axes of variations, at their default", len(source.font["fvar"].axes))

@@ -28,15 +28,18 @@ def value(source: Source, record: Any) -> Row:
 
 def note_device(source: Source, device: Any) -> None:
     if device is not None:
-        varies = device.DeltaFormat == DELTA_FORMAT_VARIATION
-        source.notes.left_out("GPOS: variations of values" if varies else "GPOS: device tables")
+        if device.DeltaFormat == DELTA_FORMAT_VARIATION:
+            # They move nothing at the default instance.
+            source.notes.left_out("GPOS: variations of values")
+        else:
+            source.notes.changed("GPOS: device tables, at sizes in pixels")
 
 
 def anchor(source: Source, record: Any) -> Row | None:
     if record is None:
         return None
     if record.Format == 2:
-        source.notes.left_out("GPOS: contour points of anchors")
+        source.notes.changed("GPOS: contour points of anchors, at sizes in pixels")
     if record.Format == 3:
         note_device(source, record.XDeviceTable)
         note_device(source, record.YDeviceTable)
@@ -79,7 +82,7 @@ def pair_classes(source: Source, subtable: Any) -> dict[str, Any]:
     first = sorted(set(source.glyphs(subtable.Coverage.glyphs)) - lost)
     second_count = min((len(row.Class2Record) for row in subtable.Class1Record), default=0)
     kept = [row for row in class2 if row[1] < second_count]
-    source.notes.left_out("GPOS: second glyphs of pairs whose class has no records", len(class2) - len(kept))
+    source.notes.changed("GPOS: second glyphs of pairs whose class has no records", len(class2) - len(kept))
     records = [
         [both_values(source, subtable, record) for record in row.Class2Record] for row in subtable.Class1Record
     ]

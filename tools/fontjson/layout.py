@@ -32,16 +32,34 @@ def layout_of(source: Source, tag: str, set_count: int) -> Value | None:
     lookups = table.LookupList.Lookup if table.LookupList else []
     records = table.FeatureList.FeatureRecord if table.FeatureList else []
     about = Table(tag, len(lookups), set_count)
-    if getattr(table, "FeatureVariations", None) is not None:
-        source.notes.left_out(f"{tag}: feature variations", len(table.FeatureVariations.FeatureVariationRecord))
+    substitutes = substitutes_at_default(table)
     kept = [number for number, record in enumerate(records) if is_tag(record.FeatureTag)]
     source.notes.left_out(f"{tag}: features whose tag is not printable", len(records) - len(kept))
     places = {number: place for place, number in enumerate(kept)}
     return {
         "scripts": script_rows(source, table, about, places),
-        "features": [feature_row(source, records[number], about) for number in kept],
+        "features": [
+            feature_row(source, records[number], substitutes.get(number, records[number].Feature), about)
+            for number in kept
+        ],
         "lookups": [read_lookup(source, lookup, number, about) for number, lookup in enumerate(lookups)],
     }
+
+
+def substitutes_at_default(table: Any) -> dict[int, Any]:
+    """Features, by their index, in whose place others stand at the default instance: by the first record that fits."""
+    variations = getattr(table, "FeatureVariations", None)
+    for record in variations.FeatureVariationRecord if variations else []:
+        conditions = record.ConditionSet.ConditionTable if record.ConditionSet else []
+        if all(fits_default(condition) for condition in conditions):
+            substitution = record.FeatureTableSubstitution
+            return {each.FeatureIndex: each.Feature for each in (substitution.SubstitutionRecord if substitution else [])}
+    return {}
+
+
+def fits_default(condition: Any) -> bool:
+    """Whether a condition holds at 0, the default of each axis."""
+    return condition.Format == 1 and condition.FilterRangeMinValue <= 0 <= condition.FilterRangeMaxValue
 
 
 def is_tag(tag: str) -> bool:
@@ -90,11 +108,11 @@ def system_of(source: Source, system: Any, about: Table, places: dict[int, int])
     return value
 
 
-def feature_row(source: Source, record: Any, about: Table) -> Row:
-    indices = record.Feature.LookupListIndex
+def feature_row(source: Source, record: Any, feature: Any, about: Table) -> Row:
+    indices = feature.LookupListIndex
     kept = [index for index in indices if index < about.lookup_count]
     source.notes.left_out(f"{about.tag}: indices of lookups that are not there", len(indices) - len(kept))
-    if record.Feature.FeatureParams is not None:
+    if feature.FeatureParams is not None:
         source.notes.left_out(f"{about.tag}: parameters of features")
     return [record.FeatureTag, kept]
 

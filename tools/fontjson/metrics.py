@@ -170,7 +170,8 @@ def glyf_boxes(source: Source) -> dict[int, Box]:
 def cff_boxes(source: Source) -> dict[int, Box]:
     """The boxes of the outlines' points, those off the curves among them, as HarfBuzz has them."""
     names = source.font.getGlyphOrder()
-    if len(names) < MANY_OUTLINES:
+    # A process that opens the file would draw the default instance.
+    if len(names) < MANY_OUTLINES or source.place is not None:
         return dict(enumerate(draw_boxes(drawn_glyphs(source.font), names)))
     found: list[Box] = []
     parts = [(source.path, source.index, part) for part in batches(names, BATCH)]

@@ -11,6 +11,7 @@ from typing import Any
 from common.faults import DATA, FILES, ToolFault
 from common.files import check_regular
 from common.notes import Notes, Progress
+from fontjson.variations import Place, instantiate
 
 try:
     from fontTools.ttLib import TTFont, TTLibError
@@ -32,6 +33,7 @@ class Source:
     font: Any
     notes: Notes
     progress: Progress
+    place: Place | None = None
 
     def __post_init__(self) -> None:
         self._numbers = self.font.getReverseGlyphMap()
@@ -46,6 +48,12 @@ class Source:
 
     def has(self, table: str) -> bool:
         return table in self.font
+
+    def take_instance(self, place: Place) -> None:
+        """Makes a variable font its instance at a place."""
+        self.progress.step("variations")
+        instantiate(self.font, place)
+        self.place = place
 
     @cached_property
     def characters(self) -> frozenset[int]:
