@@ -10,7 +10,7 @@ import unicodedata
 import unittest
 from pathlib import Path
 
-from support import NOTO, TOOLS, json_of
+from support import DEJAVU, NOTO, TOOLS, json_of
 
 from fontTools.ttLib import TTFont
 from syllables.grammar import Category, Choice, Expression, GrammarFault, Repeat, read_grammar
@@ -152,6 +152,16 @@ class Words(unittest.TestCase):
                 categories = self.categories("universal", "".join(map(chr, split)))
                 broken = sum(kind == "broken" for _, kind in syllables("universal", categories))
                 self.assertEqual(circles, broken, (script, [hex(ord(c)) for c in text]))
+
+    @unittest.skipUnless(shutil.which("hb-shape"), "needs hb-shape (libharfbuzz-bin)")
+    def test_circles_of_tifinagh(self) -> None:
+        """The consonant joiner stands after a letter, and alone has a circle."""
+        draw = random.Random("tfng")
+        letters = [*range(0x2D30, 0x2D68), *[0x2D7F] * 20]
+        texts = ["".join(chr(draw.choice(letters)) for _ in range(draw.randint(1, 5))) for _ in range(500)]
+        for text, circles in zip(texts, circles_of(DEJAVU, "tfng", texts), strict=True):
+            broken = sum(kind == "broken" for _, kind in syllables("universal", self.categories("universal", text)))
+            self.assertEqual(circles, broken, [hex(ord(c)) for c in text])
 
     @unittest.skipUnless(shutil.which("hb-shape"), "needs hb-shape (libharfbuzz-bin)")
     def test_circles(self) -> None:

@@ -52,6 +52,10 @@ KNOWN_ROWS = [
     ("universal", [0x1B3E, "VPre"]),
     ("universal", [0x1B03, "FAbv"]),
     ("universal", [0x11F02, "R"]),
+    ("universal", [0x2D7F, "H"]),
+    ("universal", [0x111DA, "B"]),
+    ("universal", [0x13430, "J"]),
+    ("universal", [0x13431, "J"]),
     ("thai", [0xE48, "SD", 0xF70A, 0xF88B]),
     ("languages", ["en", ["ENG "]]),
 ]
