@@ -26,8 +26,11 @@ class Notes:
     def lines(self) -> list[str]:
         """One line a kind, with how often it was left out; first those that change glyphs or positions."""
         first = [f"left out, and it changes glyphs or positions: {what} ({self.counts[what]})" for what in self.told]
-        others = [f"left out: {what} ({times})" for what, times in self.counts.items() if what not in self.told]
-        return first + others
+        return first + self.others()
+
+    def others(self) -> list[str]:
+        """The lines of what changes neither glyphs nor positions."""
+        return [f"left out: {what} ({times})" for what, times in self.counts.items() if what not in self.told]
 
 
 class Progress:

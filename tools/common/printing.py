@@ -43,6 +43,14 @@ def emit(text: str) -> None:
         sys.stdout.flush()
 
 
+def emit_bytes(content: bytes) -> None:
+    """The same of bytes."""
+    with naming(OUTPUT):
+        sys.stdout.flush()
+        sys.stdout.buffer.write(content)
+        sys.stdout.buffer.flush()
+
+
 @contextlib.contextmanager
 def naming(name: str) -> Iterator[None]:
     """Gives a fault of the system the name of the file or stream, where it has none."""

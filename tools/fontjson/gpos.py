@@ -39,7 +39,7 @@ def anchor(source: Source, record: Any) -> Row | None:
     if record is None:
         return None
     if record.Format == 2:
-        source.notes.changed("GPOS: contour points of anchors, at sizes in pixels")
+        source.notes.left_out("GPOS: contour points of anchors")
     if record.Format == 3:
         note_device(source, record.XDeviceTable)
         note_device(source, record.YDeviceTable)

@@ -4,7 +4,7 @@ import struct
 from dataclasses import dataclass
 from typing import Any
 
-from common.faults import DATA, ToolFault
+from fontjson.limits import refuse
 from fontjson.source import GLYPH_LIMIT, Source
 
 APPLE = 1.0
@@ -52,7 +52,7 @@ def read(source: Source) -> list[Kerning]:
         kerning = by_pairs(source, subtable) if subtable.format == 0 else by_classes(source, subtable, is_apple)
         cells += len(set(kerning.left.values())) * len(set(kerning.right.values()))
         if cells > MOST_CELLS:
-            raise ToolFault(DATA, f"{source.path}: table kern has more than {MOST_CELLS} distances by classes")
+            raise refuse(f"table kern: more than {MOST_CELLS:,} distances by classes")
         if kerning.distances:
             found.append(kerning)
     return found
@@ -117,12 +117,12 @@ def by_classes(source: Source, subtable: Any, is_apple: bool) -> Kerning:
         _, left_at, right_at, array_at = struct.unpack_from(">4H", data, at)
         left, right = class_list(data, left_at), class_list(data, right_at)
     except struct.error as error:
-        raise ToolFault(DATA, f"{source.path}: table kern is cut short") from error
+        raise refuse("table kern: a subtable is cut short") from error
     # A glyph that the list lacks is in column 0.
     right = {**dict.fromkeys(range(len(source.font.getGlyphOrder())), 0), **right}
     rows, columns = numbered(left), numbered(right)
     if len(rows) * len(columns) > MOST_CELLS:
-        raise ToolFault(DATA, f"{source.path}: table kern has more than {MOST_CELLS} distances by classes")
+        raise refuse(f"table kern: more than {MOST_CELLS:,} distances by classes")
     distances = {}
     for row, first in rows.items():
         for column, second in columns.items():

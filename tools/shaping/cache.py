@@ -11,6 +11,7 @@ from typing import Any, Callable, Iterator
 
 from common.faults import FILES, ToolFault
 from common.writing import object_text
+from fontjson.variations import Place
 
 TOOLS = Path(__file__).parent.parent
 SOURCES = ("common", "fontjson", "unicodejson", "syllables", "machines")
@@ -50,10 +51,11 @@ def user_folder() -> Path | None:
         return None
 
 
-def font_name(font: Path, index: int) -> str:
-    """The name under which a font's value is kept: that of its file, with a sum of where it is."""
+def font_name(font: Path, index: int, place: Place | None = None) -> str:
+    """The name under which a font's value is kept: that of its file, with a sum of where it is, and its coordinates."""
     where = hashlib.sha256(os.fsencode(font.resolve())).hexdigest()[:16]
-    return f"{where}-{font.name}.{index}{ENDING}"
+    instance = "".join(f".{tag.strip()}={value:g}" for tag, value in (place or {}).items())
+    return f"{where}-{font.name}.{index}{instance}{ENDING}"
 
 
 def fingerprint(*parts: object) -> str:

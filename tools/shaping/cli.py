@@ -1,21 +1,25 @@
 """The command line of shape."""
 
 import json
+import sys
+from dataclasses import replace
 from pathlib import Path
 from typing import Any
 
-from common.faults import DATA, WORDS, ToolFault
+from common.faults import DATA, SHAPING, WORDS, ToolFault
 from common.files import check_regular
 from common.notes import Notes, Progress
-from common.printing import emit, naming, tell
-from fontjson.cli import read_font
+from common.printing import emit, emit_bytes, naming, tell
+from fontjson.cli import instance_of, read_font
 from fontjson.keep import Kept
+from fontjson.variations import Place
 from formats.where import font_fault, tables_fault
 from shaping.cache import cache_folder, cached, fingerprint, font_name, part_of
 from shaping.glyphs import as_json, read_line, with_names
+from shaping.locales import locale_language
 from shaping.options import NAME, Given, read_words, usage
-from shaping.program import Line, run_all, told
-from shaping.texts import lack_notes, read_texts
+from shaping.program import PROGRAM, Line, make_ready, run_all, told
+from shaping.texts import Text, lack_notes, read_texts
 from unicodejson.cli import DEBIAN, MAKERS, make_tables
 
 # What is made of a font and, where Debian's unicode-data is there, of the Unicode Character Database.
@@ -25,6 +29,10 @@ TABLES_READ = list(MAKERS) if (DEBIAN / "UnicodeData.txt").is_file() else []
 SHIPPED = TOOLS.parent / "data" / "tables.json"
 JSON_FONT = ".json"
 NUMBERS = "--no-glyph-names"
+PICTURES = ("svg", "png")
+CONTEXT = ("text-before", "text-after")
+# What hides fields that a picture needs.
+HIDING = ("--no-clusters", "--no-positions", "--no-advances")
 STANDARD_OUTPUT = "-"
 
 
@@ -34,64 +42,140 @@ def main(words: list[str]) -> int:
         emit(usage() + "\n")
         return 0
     given = read_words(words)
-    check_picture(given)
+    check_words(given)
+    take_locale(given)
     texts = read_texts(given)
     with cache_folder() as folder:
-        font = font_file(folder, given)
-        program = ready_program(NAME)
+        place = tell_place(given)
+        font = font_file(folder, given, place)
+        make_ready(PROGRAM)
         tables = tables_file(folder)
-        options = [*given.program, NUMBERS] if NUMBERS not in given.program else given.program
-        lines = run_all(PROGRAM, tables, font, texts, options)
-        if any(line.status == DATA for line in lines) and heal(folder, given, tables, font):
-            lines = run_all(program, tables, font, texts, options)
+        lines = shape(tables, font, texts, given)
+        if any(line.status == DATA for line in lines) and heal(folder, given, place, tables, font):
+            lines = shape(tables, font, texts, given)
+        if "verify" in given.own:
+            verify(lines, given, tables, font)
+        if pictures_of(given):
+            draw(whole_lines(lines, given, tables, font), given, place)
         return show(lines, given, tables, font)
 
 
-def check_picture(given: Given) -> None:
-    """Refuses a picture without outlines, and one that would be mixed with JSON."""
-    if "svg" in given.own and is_json(given.font):
-        raise ToolFault(WORDS, f"--svg: {given.font} has no outlines: a picture is drawn from a font file")
-    if given.own.get("svg") == STANDARD_OUTPUT and "json" in given.own:
-        raise ToolFault(WORDS, "--svg=-: standard output has the JSON already")
+def check_words(given: Given) -> None:
+    """Refuses pictures without outlines or mixed with lines, and instances of what is none; tells of a terminal."""
+    for option in (*PICTURES, "variations", "named-instance"):
+        if option in given.own and is_json(given.font):
+            raise ToolFault(WORDS, f"--{option}: {given.font} has no outlines and no variations: it takes a font file")
+    if pictures_of(given).count(STANDARD_OUTPUT) + given.is_json > 1 and STANDARD_OUTPUT in pictures_of(given):
+        raise ToolFault(WORDS, "standard output takes one of a picture and JSON")
+    if given.own.get("text-file") == "-" and sys.stdin.isatty():
+        tell(NAME, "reading texts from standard input, one a line")
+
+
+def take_locale(given: Given) -> None:
+    """Takes the locale's language where none is given."""
+    language = locale_language()
+    if given.value("language") is None and language is not None:
+        given.program.append(f"--language={language}")
+
+
+def tell_place(given: Given) -> Place | None:
+    """Where the wanted instance of a variable font is; tells which coordinates are outside their axis."""
+    place, outside = instance_of(str(given.font), font_index(given), given.instance, not given.has("no-limits"))
+    for line in outside:
+        tell(NAME, f"{given.font}: {line}")
+    return place
+
+
+def shape(tables: Path, font: Path, texts: list[Text], given: Given) -> list[Line]:
+    """The lines of all texts, with glyphs by their numbers."""
+    if any(option in given.own for option in CONTEXT):
+        from shaping.context import shape_in_context
+
+        boxes = {glyph: tuple(box) for glyph, *box in rows_of(font, "extents")} if given.has("show-extents") else {}
+        return shape_in_context(tables, font, texts, given, boxes)
+    options = [*given.program, NUMBERS] if NUMBERS not in given.program else given.program
+    return run_all(PROGRAM, tables, font, texts, options)
+
+
+def verify(lines: list[Line], given: Given, tables: Path, font: Path) -> None:
+    """Tests the promises on each text that was shaped; the first that is broken is a fault."""
+    from shaping.verify import Promises
+
+    for line in lines:
+        if not line.status:
+            for broken in Promises(PROGRAM, tables, font, line.text, given).broken():
+                raise ToolFault(SHAPING, f"{line.text.where}: a promise is broken: {broken}")
 
 
 def show(lines: list[Line], given: Given, tables: Path, font: Path) -> int:
-    """Draws the picture, then prints each text's line or its fault; the status of the first fault, else 0."""
-    shaped = [line for line in lines if not line.status]
-    if "svg" in given.own and shaped:
-        draw(shaped, given)
-    characters = {row[0] for row in key_of(font, "cmap", [])}
-    names = {} if given.has("no-glyph-names") and "json" not in given.own else dict(key_of(font, "names", []))
+    """Prints each text's line, or its fault; the status of the first fault, else 0."""
+    for what in told_of(font):
+        tell(NAME, f"{given.font}: left out, and it changes glyphs or positions: {what}")
+    characters = {row[0] for row in rows_of(font, "cmap")}
+    names = {} if given.has("no-glyph-names") and not given.is_json else dict(rows_of(font, "names"))
     for line in lines:
         if line.status:
             tell(NAME, told(line, tables, font))
         else:
             for note in lack_notes(line.text, characters):
                 tell(NAME, note)
-            emit(printed(line.glyphs, names, given))
+            if STANDARD_OUTPUT not in pictures_of(given):
+                emit(printed(line, names, given))
     return next((line.status for line in lines if line.status), 0)
 
 
-def printed(line: str, names: dict[int, str], given: Given) -> str:
-    """What standard output has of a text: nothing where it has the picture."""
-    if given.own.get("svg") == STANDARD_OUTPUT:
-        return ""
-    if "json" in given.own:
-        return as_json(read_line(line), names, given) + "\n"
-    return line if given.has("no-glyph-names") else with_names(line, names)
+def printed(line: Line, names: dict[int, str], given: Given) -> str:
+    """What standard output has of a text."""
+    before = f"({line.text.characters})\n" if "show-text" in given.own else ""
+    if given.is_json:
+        return before + as_json(read_line(line.glyphs), names, given) + "\n"
+    return before + (line.glyphs if given.has("no-glyph-names") else with_names(line.glyphs, names))
 
 
-def draw(lines: list[Line], given: Given) -> None:
+# ---- pictures
+
+
+def pictures_of(given: Given) -> list[str]:
+    """The files of the pictures."""
+    return [given.own[kind] for kind in PICTURES if kind in given.own]
+
+
+def whole_lines(lines: list[Line], given: Given, tables: Path, font: Path) -> list[Line]:
+    """The texts' lines with all that a picture needs, whatever is printed."""
+    shaped = [line for line in lines if not line.status]
+    if not any(word in HIDING for word in given.program):
+        return shaped
+    whole = replace(given, program=[word for word in given.program if word not in HIDING])
+    return shape(tables, font, [line.text for line in shaped], whole)
+
+
+def draw(lines: list[Line], given: Given, place: Place | None) -> None:
+    """Writes the pictures of the texts that were shaped."""
     from shaping.picture import picture  # it needs fontTools
+    from shaping.png import png
+    from shaping.svg import svg
 
-    drawn = [(line.text.characters, read_line(line.glyphs)) for line in lines]
-    made = picture(given.font, font_index(given), drawn, not given.has("no-limits"))
-    path = given.own["svg"]
+    if not lines:
+        return
+    texts = [(line.text.characters, read_line(line.glyphs)) for line in lines]
+    is_vertical = (given.value("direction") or "l")[0].lower() in "tb"
+    drawn = picture(given.font, font_index(given), texts, is_vertical, place, not given.has("no-limits"))
+    if "svg" in given.own:
+        write(given.own["svg"], svg(drawn).encode())
+    if "png" in given.own:
+        write(given.own["png"], png(drawn))
+
+
+def write(path: str, content: bytes) -> None:
+    """Writes a picture into a file, or to standard output."""
     if path == STANDARD_OUTPUT:
-        emit(made)
+        emit_bytes(content)
         return
     with naming(path):
-        Path(path).write_text(made, encoding="utf-8")
+        Path(path).write_bytes(content)
+
+
+# ---- fonts and tables
 
 
 def is_json(font: Path) -> bool:
@@ -102,38 +186,49 @@ def font_index(given: Given) -> int:
     return int(given.own.get("font-index", "0"))
 
 
-def font_file(folder: Path, given: Given) -> Path:
+def font_file(folder: Path, given: Given, place: Place | None = None) -> Path:
     """The font's value as a file: the file itself where it is one."""
     check_regular(given.font, "font")
     if is_json(given.font):
         return given.font
-    return font_value(folder, given.font, font_index(given), not given.has("no-limits"))
+    return font_value(folder, given.font, font_index(given), not given.has("no-limits"), place)
 
 
-def font_value(folder: Path, path: Path, index: int, is_limited: bool = True) -> Path:
-    """A font file's value as a file."""
+def font_value(
+    folder: Path, path: Path, index: int, is_limited: bool = True, place: Place | None = None
+) -> Path:
+    """A font file's value as a file, of a variable font at a place."""
     status = path.stat()
-    stamp = fingerprint(str(path.resolve()), status.st_size, status.st_mtime_ns, index, FONT_READ)
-    return cached(folder / font_name(path, index), stamp, lambda: convert(path, index, is_limited))
+    stamp = fingerprint(str(path.resolve()), status.st_size, status.st_mtime_ns, index, FONT_READ, place)
+    return cached(folder / font_name(path, index, place), stamp, lambda: convert(path, index, is_limited, place))
 
 
-def convert(path: Path, index: int, is_limited: bool) -> dict[str, Any]:
+def convert(path: Path, index: int, is_limited: bool, place: Place | None) -> dict[str, Any]:
+    """The value of a font; what it leaves out is told, but for what each run tells."""
     notes = Notes()
-    value = read_font(str(path), index, FONT_READ, notes, is_limited)
-    for line in notes.lines():
+    value = read_font(str(path), index, FONT_READ, notes, is_limited, place)
+    for line in notes.others():
         tell(NAME, f"{path}: {line}")
     return value
 
 
+def rows_of(font: Path, key: str) -> list[Any]:
+    """The rows of a key; none where the file, which the program refuses, has something else there."""
+    rows = key_of(font, key, [])
+    return rows if isinstance(rows, list) and all(isinstance(row, list) and len(row) >= 2 for row in rows) else []
+
+
+def told_of(font: Path) -> list[str]:
+    """What was left out of a font though it changes glyphs or positions."""
+    origin = key_of(font, "source", {})
+    told_lines = origin.get("told", []) if isinstance(origin, dict) else []
+    return [line for line in told_lines if isinstance(line, str)] if isinstance(told_lines, list) else []
+
+
 def key_of(font: Path, key: str, usual: Any) -> Any:
-    """A key of a font's file; what is usual where the file, which the program refuses, has none of that shape."""
+    """A key of a font's file; what is usual where it has none, or can't be read."""
     try:
-        if is_json(font):
-            value = json.loads(font.read_bytes())
-            found = value.get(key, usual)
-        else:
-            found = part_of(font, key, usual)
-        return found if all(isinstance(row, list) and len(row) >= 2 for row in found) else usual
+        return json.loads(font.read_bytes()).get(key, usual) if is_json(font) else part_of(font, key, usual)
     except (AttributeError, RecursionError, TypeError, ValueError):
         return usual
 
@@ -160,7 +255,7 @@ def make_read_tables() -> dict[str, Any]:
         progress.end()
 
 
-def heal(folder: Path, given: Given, tables: Path, font: Path) -> bool:
+def heal(folder: Path, given: Given, place: Place | None, tables: Path, font: Path) -> bool:
     """Makes kept files anew that the program refuses, as by a fault of the disk; whether there were such."""
     finders = ((tables, tables_fault), (font, font_fault))
     refused = [path for path, find in finders if find(path) is not None] or [tables, font]
@@ -169,5 +264,5 @@ def heal(folder: Path, given: Given, tables: Path, font: Path) -> bool:
         path.unlink(missing_ok=True)
     if kept:
         tables_file(folder)
-        font_file(folder, given)
+        font_file(folder, given, place)
     return bool(kept)

@@ -50,6 +50,36 @@ def with_names(line: str, names: dict[int, str]) -> str:
     return "|".join(parts) + "\n"
 
 
+def text_of(glyphs: list[Glyph], given: Given) -> str:
+    """A line of glyphs by their numbers as the program prints it, with the fields that are asked for."""
+    parts = []
+    x = y = 0
+    for glyph in glyphs:
+        parts.append(field_of(glyph, x, y, given))
+        # Without advances each offset is from the line's start on.
+        if given.has("no-advances"):
+            x, y = x + glyph.x_advance, y + glyph.y_advance
+    return "|".join(parts) + "\n"
+
+
+def field_of(glyph: Glyph, x: int, y: int, given: Given) -> str:
+    """A glyph's fields, its offset from a point on."""
+    said = str(glyph.number)
+    if not given.has("no-clusters"):
+        said += f"={glyph.cluster}"
+    if not given.has("no-positions"):
+        x, y = x + glyph.x_offset, y + glyph.y_offset
+        if x or y:
+            said += f"@{x},{y}"
+        if not given.has("no-advances"):
+            said += f"+{glyph.x_advance}" + (f",{glyph.y_advance}" if glyph.y_advance else "")
+    if given.has("show-flags") and glyph.flags:
+        said += f"#{glyph.flags:x}"
+    if given.has("show-extents") and glyph.box is not None:
+        said += f"<{','.join(map(str, glyph.box))}>"
+    return said
+
+
 def as_json(glyphs: list[Glyph], names: dict[int, str], given: Given) -> str:
     """A line of JSON as hb-shape prints it: glyph, cluster, offsets, advances, and flags and boxes where asked for."""
     return json_text([entry(glyph, names, given) for glyph in glyphs])

@@ -1,20 +1,30 @@
-"""A picture of shaped texts: each glyph's outline in its position, and below it which characters it stands for."""
+"""A picture of shaped texts: each glyph's outline in its position, and below it which characters it stands for.
 
-from dataclasses import dataclass
+It is made of lines, outlines and labels, in units of the font with y upwards; `svg` and `png` write it.
+"""
+
+import unicodedata
+from dataclasses import dataclass, field
 from pathlib import Path
-from typing import Any
-from xml.sax.saxutils import escape
+from typing import Any, Callable
 
 from common.notes import Notes, Progress
 from common.printing import clean
 from fontjson.limits import reading
+from fontjson.variations import Place
 from shaping.glyphs import Glyph
 from shaping.texts import name_of
 
 # Sizes in parts of an em.
 MARGIN, LABEL, GAP = 0.3, 0.16, 0.5
 COLOURS = ("#1b4f72", "#a04000", "#196f3d", "#6c3483", "#7b7d7d", "#922b21")
-PIXELS = 96
+PEN, BASELINE = "#e06060", "#c0c0c0"
+# Widths of a label's characters in parts of its size, as of usual fonts without serifs.
+NARROW, USUAL, WIDE = 0.33, 0.62, 1.0
+
+Point = tuple[float, float]
+# What a pen was asked to draw, by the names of fontTools' pens.
+Drawn = list[tuple[str, Any]]
 
 
 @dataclass(frozen=True)
@@ -42,23 +52,73 @@ class Box:
         )  # fmt: skip
 
 
-class Outlines:
-    """The outlines of a font file's glyphs, as paths of SVG, with their boxes."""
+@dataclass(frozen=True)
+class Line:
+    start: Point
+    end: Point
+    colour: str
+    width: float
 
-    def __init__(self, path: Path, index: int) -> None:
+
+@dataclass(frozen=True)
+class Outline:
+    at: Point
+    drawn: Drawn
+    colour: str
+    title: str
+
+
+@dataclass(frozen=True)
+class Label:
+    """A label from its left lower corner on: its ASCII words, the characters after them, and what a pointer shows."""
+
+    at: Point
+    words: str
+    characters: str
+    colour: str
+    title: str
+
+    @property
+    def whole(self) -> str:
+        return f"{self.words} {self.characters}"
+
+
+@dataclass
+class Picture:
+    """What is drawn of all texts; the left upper corner is (0, 0), so y is at most 0."""
+
+    upem: int
+    width: float = 0
+    height: float = 0
+    lines: list[Line] = field(default_factory=list)
+    outlines: list[Outline] = field(default_factory=list)
+    labels: list[Label] = field(default_factory=list)
+
+    @property
+    def label_size(self) -> float:
+        return LABEL * self.upem
+
+
+class Outlines:
+    """The outlines of a font file's glyphs, of a variable font at a place, with their boxes."""
+
+    def __init__(self, path: Path, index: int, place: Place | None) -> None:
         from fontjson.source import open_font  # first: it says where fontTools is missing
         from fontjson.drawing import drawn_glyphs
 
         self.source = open_font(str(path), index, Notes(), Progress("shape"))
+        if place is not None:
+            self.source.take_instance(place)
         self.glyphs = drawn_glyphs(self.source.font)
+        self.names = self.source.font.getGlyphOrder()
         self.upem = self.source.font["head"].unitsPerEm
 
-    def path(self, glyph: int) -> str:
-        from fontTools.pens.svgPathPen import SVGPathPen
+    def drawn(self, glyph: int) -> Drawn:
+        from fontTools.pens.recordingPen import DecomposingRecordingPen
 
-        pen = SVGPathPen(self.glyphs)
+        pen = DecomposingRecordingPen(self.glyphs)
         self.draw(glyph, pen)
-        return pen.getCommands()
+        return pen.value
 
     def box(self, glyph: int) -> Box | None:
         from fontTools.pens.boundsPen import BoundsPen
@@ -69,13 +129,11 @@ class Outlines:
 
     def draw(self, glyph: int, pen: Any) -> None:
         """Draws nothing for a number that the font has no glyph for."""
-        names = self.source.font.getGlyphOrder()
-        if glyph < len(names):
-            self.glyphs[names[glyph]].draw(pen)
+        if glyph < len(self.names):
+            self.glyphs[self.names[glyph]].draw(pen)
 
     def name(self, glyph: int) -> str:
-        names = self.source.font.getGlyphOrder()
-        return names[glyph] if glyph < len(names) else f"gid{glyph}"
+        return self.names[glyph] if glyph < len(self.names) else f"gid{glyph}"
 
 
 def placed(glyphs: list[Glyph]) -> list[Placed]:
@@ -96,53 +154,63 @@ def clusters_of(text: str, glyphs: list[Glyph]) -> dict[int, str]:
     return {start: whole[start:end].decode("utf-8", "replace") for start, end in zip(starts, ends)}
 
 
-def picture(font: Path, index: int, drawn: list[tuple[str, list[Glyph]]], is_limited: bool = True) -> str:
-    """The SVG of all texts, one below the other."""
+def picture(
+    font: Path,
+    index: int,
+    texts: list[tuple[str, list[Glyph]]],
+    is_vertical: bool = False,
+    place: Place | None = None,
+    is_limited: bool = True,
+) -> Picture:
+    """The picture of all texts, one below the other."""
     with reading(str(font), is_limited):
-        outlines = Outlines(font, index)
+        outlines = Outlines(font, index, place)
         with outlines.source.font:
-            return picture_of(outlines, drawn)
+            return picture_of(outlines, texts, is_vertical)
 
 
-def picture_of(outlines: Outlines, drawn: list[tuple[str, list[Glyph]]]) -> str:
+def picture_of(outlines: Outlines, texts: list[tuple[str, list[Glyph]]], is_vertical: bool) -> Picture:
     upem = outlines.upem
-    rows, width, height = [], 0.0, MARGIN * upem
-    for text, glyphs in drawn:
-        row, box = row_of(text, placed(glyphs), outlines)
-        corner = f"{MARGIN * upem - box.left:.0f} {height + box.top:.0f}"
-        rows.append(f'<g transform="translate({corner})">\n{row}</g>\n')
+    whole, margin = Picture(upem), MARGIN * upem
+    width, height = 0.0, margin
+    for text, glyphs in texts:
+        row, box = row_of(text, placed(glyphs), outlines, is_vertical)
+        add(whole, row, margin - box.left, -height - box.top)
         width = max(width, box.right - box.left)
         height += box.top - box.bottom + GAP * upem
-    width, height = width + 2 * MARGIN * upem, max(height - GAP * upem + MARGIN * upem, 2 * MARGIN * upem)
-    scale = PIXELS / upem
-    return (
-        f'<svg xmlns="http://www.w3.org/2000/svg" width="{width * scale:.0f}" height="{height * scale:.0f}" '
-        f'viewBox="0 0 {width:.0f} {height:.0f}" font-family="sans-serif" font-size="{LABEL * upem:.0f}">\n'
-        f'<rect width="100%" height="100%" fill="white"/>\n{"".join(rows)}</svg>\n'
-    )
+    whole.width, whole.height = width + 2 * margin, max(height - GAP * upem + margin, 2 * margin)
+    return whole
 
 
-def row_of(text: str, glyphs: list[Placed], outlines: Outlines) -> tuple[str, Box]:
-    """A text's glyphs and its clusters below them, drawn around the line's start, with their box."""
+def add(whole: Picture, row: Picture, x: float, y: float) -> None:
+    """Adds a row, moved from the line's start to where it is in the picture."""
+
+    def moved(point: Point) -> Point:
+        return point[0] + x, point[1] + y
+
+    whole.lines += [Line(moved(each.start), moved(each.end), each.colour, each.width) for each in row.lines]
+    whole.outlines += [Outline(moved(each.at), each.drawn, each.colour, each.title) for each in row.outlines]
+    whole.labels += [
+        Label(moved(each.at), each.words, each.characters, each.colour, each.title) for each in row.labels
+    ]
+
+
+def row_of(text: str, glyphs: list[Placed], outlines: Outlines, is_vertical: bool) -> tuple[Picture, Box]:
+    """A text's glyphs and its clusters beside them, drawn around the line's start, with their box."""
     upem = outlines.upem
-    whole = Box(0, -0.25 * upem, 0.2 * upem, 0.8 * upem)
-    parts = []
+    row, whole = Picture(upem), Box(0, -0.25 * upem, 0.2 * upem, 0.8 * upem)
     clusters = clusters_of(text, [each.glyph for each in glyphs])
     colours = {cluster: COLOURS[at % len(COLOURS)] for at, cluster in enumerate(clusters)}
     for each in glyphs:
-        parts.append(pen_mark(each, upem))
-        parts.append(outline(each, outlines, colours[each.glyph.cluster]))
         whole = whole.joined(room_of(each, outlines))
-    if not is_vertical(glyphs):
-        labels, lowest = labels_below(glyphs, clusters, colours, whole.bottom, upem)
-    else:
-        labels, lowest = labels_beside(glyphs, clusters, colours, whole, upem), whole
-        lowest = Box(whole.left, whole.bottom, whole.right + 3 * upem, whole.top)
-    return baseline(glyphs, whole, upem) + "".join(parts) + labels, whole.joined(lowest)
-
-
-def is_vertical(glyphs: list[Placed]) -> bool:
-    return any(each.glyph.y_advance for each in glyphs) and not any(each.glyph.x_advance for each in glyphs)
+    ends = ((0, whole.bottom), (0, whole.top)) if is_vertical else ((whole.left, 0), (whole.right, 0))
+    row.lines.append(Line(*ends, BASELINE, upem / 200))
+    for each in glyphs:
+        row.lines += pen_marks(each, upem)
+        drawn = outlines.drawn(each.glyph.number)
+        row.outlines.append(Outline((each.x, each.y), drawn, colours[each.glyph.cluster], title_of(each, outlines)))
+    label = labels_beside if is_vertical else labels_below
+    return row, whole.joined(label(row, glyphs, clusters, colours, whole))
 
 
 def room_of(each: Placed, outlines: Outlines) -> Box:
@@ -156,70 +224,64 @@ def room_of(each: Placed, outlines: Outlines) -> Box:
     return room.joined(Box(each.x + box.left, each.y + box.bottom, each.x + box.right, each.y + box.top))
 
 
-def baseline(glyphs: list[Placed], whole: Box, upem: int) -> str:
-    line = f'x1="0" y1="{-whole.bottom:.0f}" x2="0" y2="{-whole.top:.0f}"'
-    if not is_vertical(glyphs):
-        line = f'x1="{whole.left:.0f}" y1="0" x2="{whole.right:.0f}" y2="0"'
-    return f'<line {line} stroke="#c0c0c0" stroke-width="{upem / 200:.1f}"/>\n'
-
-
-def pen_mark(each: Placed, upem: int) -> str:
+def pen_marks(each: Placed, upem: int) -> list[Line]:
     """A tick where the pen stands, and from there a line to a glyph that has an offset."""
-    x, y, size = each.pen_x, -each.pen_y, upem / 40
-    tick = f"M{x:.0f} {y - size:.0f}V{y + size:.0f}"
+    x, y, size = each.pen_x, each.pen_y, upem / 40
+    marks = [Line((x, y - size), (x, y + size), PEN, upem / 250)]
     if each.glyph.x_offset or each.glyph.y_offset:
-        tick += f"M{x} {y}L{each.x} {-each.y}"
-    return f'<path d="{tick}" stroke="#e06060" stroke-width="{upem / 250:.1f}" fill="none"/>\n'
+        marks.append(Line((x, y), (each.x, each.y), PEN, upem / 250))
+    return marks
 
 
-def outline(each: Placed, outlines: Outlines, colour: str) -> str:
-    """A glyph's outline, whose name, position and cluster are shown where one points at it."""
+def title_of(each: Placed, outlines: Outlines) -> str:
+    """A glyph's name, position and cluster."""
     glyph = each.glyph
     said = f"{clean(outlines.name(glyph.number))} ({glyph.number}), cluster {glyph.cluster}"
     said += f", advance {glyph.x_advance},{glyph.y_advance}"
     if glyph.x_offset or glyph.y_offset:
         said += f", offset {glyph.x_offset},{glyph.y_offset}"
-    moved = f'transform="translate({each.x} {-each.y}) scale(1 -1)"'
-    path = outlines.path(glyph.number)
-    return f'<g {moved}><title>{escape(said)}</title><path d="{path}" fill="{colour}" fill-opacity="0.8"/></g>\n'
+    return said
+
+
+# ---- labels
+
+
+Labels = Callable[[Picture, list[Placed], dict[int, str], dict[int, str], Box], Box]
 
 
 def labels_below(
-    glyphs: list[Placed], clusters: dict[int, str], colours: dict[int, str], bottom: float, upem: int
-) -> tuple[str, Box]:
-    """Under the advances of each cluster a bar with its number and its characters."""
-    size, parts = LABEL * upem, []
-    lowest = Box(0, bottom, 0, bottom)
+    row: Picture, glyphs: list[Placed], clusters: dict[int, str], colours: dict[int, str], whole: Box
+) -> Box:
+    """Under the advances of each cluster a bar with its number and its characters; the box of all."""
+    size, lowest = row.label_size, whole
     free: list[float] = []
     for cluster, characters in sorted(clusters.items(), key=lambda pair: span(glyphs, pair[0])[0]):
         left, right = span(glyphs, cluster)
-        label = label_of(cluster, characters)
         # A label that would touch the one before it stands a row lower.
-        row = next((at for at, end in enumerate(free) if end <= left), len(free))
-        free[row : row + 1] = [left + 0.62 * size * len(label) + size]
-        y = bottom - size * (0.8 + 1.4 * row)
-        bar, colour = f"M{left:.0f} {-y:.0f}H{max(right, left + size / 4):.0f}", colours[cluster]
-        parts.append(
-            f'<path d="{bar}" stroke="{colour}" stroke-width="{size / 5:.0f}"/>\n'
-            f'<text x="{left:.0f}" y="{-y + size * 1.05:.0f}" fill="{colour}">'
-            f"<title>{escape(names(characters))}</title>{escape(visible(label))}</text>\n"
-        )
-        lowest = lowest.joined(Box(left, y - 1.4 * size, free[row], y))
-    return "".join(parts), lowest
+        level = next((at for at, end in enumerate(free) if end <= left), len(free))
+        y = whole.bottom - size * (0.8 + 1.4 * level)
+        label = label_of((left, y - size * 1.05), cluster, characters, colours[cluster])
+        row.lines.append(Line((left, y), (max(right, left + size / 4), y), colours[cluster], size / 5))
+        row.labels.append(label)
+        end = left + width_of(label.whole) * size
+        free[level : level + 1] = [end + size]
+        lowest = lowest.joined(Box(left, y - 1.4 * size, end, y))
+    return lowest
 
 
 def labels_beside(
-    glyphs: list[Placed], clusters: dict[int, str], colours: dict[int, str], whole: Box, upem: int
-) -> str:
+    row: Picture, glyphs: list[Placed], clusters: dict[int, str], colours: dict[int, str], whole: Box
+) -> Box:
     """To the right of a vertical line each cluster's number and characters, where its first glyph stands."""
-    parts = []
-    for cluster, characters in clusters.items():
-        y = max(each.pen_y for each in glyphs if each.glyph.cluster == cluster)
-        at = f'x="{whole.right + LABEL * upem:.0f}" y="{-y + LABEL * upem:.0f}"'
-        title = f"<title>{escape(names(characters))}</title>"
-        label = escape(visible(label_of(cluster, characters)))
-        parts.append(f'<text {at} fill="{colours[cluster]}">{title}{label}</text>\n')
-    return "".join(parts)
+    size, widest, lowest = row.label_size, whole, whole.top
+    tops = {cluster: max(each.pen_y for each in glyphs if each.glyph.cluster == cluster) for cluster in clusters}
+    for cluster, top in sorted(tops.items(), key=lambda pair: (-pair[1], pair[0])):
+        # Glyphs without advances stand in one place, and their labels below each other.
+        lowest = min(top, lowest) - 1.2 * size
+        label = label_of((whole.right + size, lowest), cluster, clusters[cluster], colours[cluster])
+        row.labels.append(label)
+        widest = widest.joined(Box(label.at[0], lowest, label.at[0] + width_of(label.whole) * size, lowest + size))
+    return widest
 
 
 def span(glyphs: list[Placed], cluster: int) -> tuple[float, float]:
@@ -229,15 +291,25 @@ def span(glyphs: list[Placed], cluster: int) -> tuple[float, float]:
     return min(ends), max(ends)
 
 
-def label_of(cluster: int, characters: str) -> str:
+def label_of(at: Point, cluster: int, characters: str, colour: str) -> Label:
     """A cluster's number and characters; these last, since what runs backward would turn numbers after it round."""
-    return f"{cluster}: {' '.join(f'{ord(each):04X}' for each in characters)} {characters}"
+    words = f"{cluster}: {' '.join(f'{ord(each):04X}' for each in characters)}"
+    return Label(at, words, visible(characters), colour, ", ".join(map(name_of, characters)))
 
 
-def names(characters: str) -> str:
-    return ", ".join(map(name_of, characters))
+def width_of(label: str) -> float:
+    """How wide a label is, in parts of its size."""
+    return sum(map(width_of_character, label))
 
 
-def visible(label: str) -> str:
-    """A label without controls, which SVG may not have."""
-    return "".join(each if each.isprintable() else "\N{REPLACEMENT CHARACTER}" for each in label)
+def width_of_character(character: str) -> float:
+    if unicodedata.category(character) in ("Mn", "Me", "Cf"):
+        return 0
+    if unicodedata.east_asian_width(character) in ("W", "F"):
+        return WIDE
+    return NARROW if character in " :" else USUAL
+
+
+def visible(characters: str) -> str:
+    """Characters without controls, which a picture can't have."""
+    return "".join(each if each.isprintable() else "\N{REPLACEMENT CHARACTER}" for each in characters)

@@ -75,6 +75,14 @@ def name_of(character: str) -> str:
     return f"U+{ord(character):04X} {unicodedata.name(character, '')}".strip()
 
 
+def script_of(text: str) -> str:
+    """The first script of a text, as a shaper guesses it; Zyyy where it has none of its own."""
+    from fontTools import unicodedata as scripts
+
+    found = (scripts.script(character) for character in text)
+    return next((script for script in found if script not in ("Zyyy", "Zinh", "Zzzz")), "Zyyy")
+
+
 def lacking(text: str, has: set[int]) -> Iterator[tuple[int, str]]:
     """Each character, with its index, for which the font has nothing to show."""
     for at, character in enumerate(text):
