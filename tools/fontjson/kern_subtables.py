@@ -41,6 +41,13 @@ def members(classes: dict[int, int]) -> dict[int, list[int]]:
 
 def read(source: Source) -> list[Kerning]:
     """The subtables that kern lines from left to right or back; tells of those that are left out."""
+    try:
+        return read_subtables(source)
+    except struct.error as error:
+        raise refuse("table kern: a subtable is cut short") from error
+
+
+def read_subtables(source: Source) -> list[Kerning]:
     table = source.font["kern"]
     found, cells = [], 0
     for subtable in table.kernTables:
@@ -78,7 +85,7 @@ def coverage_of(subtable: Any, is_apple: bool) -> int:
     """Bits that fontTools keeps for format 0 alone: the header is length, coverage, format or version, length, both."""
     if subtable.format == 0:
         return subtable.coverage
-    return subtable.data[4] if is_apple else subtable.data[5]
+    return struct.unpack_from("B", subtable.data, 4 if is_apple else 5)[0]
 
 
 # ---- format 0
@@ -112,12 +119,8 @@ def by_pairs(source: Source, subtable: Any) -> Kerning:
 def by_classes(source: Source, subtable: Any, is_apple: bool) -> Kerning:
     """Two lists of classes: a left class is where its row begins, a right class where its column is in a row."""
     data = subtable.data
-    at = 8 if is_apple else 6
-    try:
-        _, left_at, right_at, array_at = struct.unpack_from(">4H", data, at)
-        left, right = class_list(data, left_at), class_list(data, right_at)
-    except struct.error as error:
-        raise refuse("table kern: a subtable is cut short") from error
+    _, left_at, right_at, array_at = struct.unpack_from(">4H", data, 8 if is_apple else 6)
+    left, right = class_list(data, left_at), class_list(data, right_at)
     # A glyph that the list lacks is in column 0.
     right = {**dict.fromkeys(range(len(source.font.getGlyphOrder())), 0), **right}
     rows, columns = numbered(left), numbered(right)

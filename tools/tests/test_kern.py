@@ -1,0 +1,192 @@
+"""The table `kern` as lookups of GPOS: rows worked out by hand, and lines beside hb-shape where the program is built."""
+
+import os
+import shutil
+import struct
+import subprocess
+import tempfile
+import unittest
+from pathlib import Path
+from typing import Any
+
+from support import DEJAVU, json_of, run
+
+from fontTools.feaLib.builder import addOpenTypeFeaturesFromString
+from fontTools.fontBuilder import FontBuilder
+from fontTools.pens.ttGlyphPen import TTGlyphPen
+from fontTools.ttLib import newTable
+from fontTools.ttLib.tables._k_e_r_n import KernTable_format_0, KernTable_format_unkown
+from formats.rules import font_faults
+from shaping.program import PROGRAM
+
+CHARACTERS = "AVT.\u0301\u0632\u0627\u05d0\u05d1\u0391"
+NAMES = [".notdef", *(f"g{ord(character):04X}" for character in CHARACTERS)]
+A, V, T, STOP, ACUTE, ZAIN, ALEF = range(1, 8)
+HORIZONTAL, MINIMUM, CROSS_STREAM = 1, 2, 4
+# Odd distances have unlike halves; A stands before itself.
+PAIRS = {(A, V): -75, (V, A): -75, (A, A): 21, (T, STOP): -101, (ZAIN, ALEF): -33, (ALEF, ZAIN): 10, (ACUTE, V): 7}
+
+
+def pairs(coverage: int = HORIZONTAL, given: dict[tuple[int, int], int] | None = None) -> Any:
+    table = KernTable_format_0()
+    table.coverage = coverage
+    table.kernTable = {(NAMES[a], NAMES[b]): value for (a, b), value in (given or PAIRS).items()}
+    return table
+
+
+def classes(is_apple: bool = False, coverage: int = HORIZONTAL) -> Any:
+    """Left A and T, right V and stop: A before V -50, before others 0; T before V 4, before stop -60."""
+    head = 8 if is_apple else 6
+    left_at, width = head + 8, 6
+    right_at = left_at + 4 + 2 * 3
+    array_at = right_at + 4 + 2 * 3
+    # Glyphs 1 to 3 at the left, of which V has the row of zeros; 2 to 4 at the right, of which T is in column 0.
+    left = struct.pack(">5H", A, 3, array_at + width, array_at, array_at + 2 * width)
+    right = struct.pack(">5H", V, 3, 2, 0, 4)
+    array = struct.pack(">9h", 0, 0, 0, 0, -50, 0, 0, 4, -60)
+    body = struct.pack(">4H", width, left_at, right_at, array_at) + left + right + array
+    table = KernTable_format_unkown(2)
+    length = head + len(body)
+    header = struct.pack(">LBBH", length, coverage, 2, 0) if is_apple else struct.pack(">HHBB", 0, length, 2, coverage)
+    table.data = header + body
+    return table
+
+
+def write_font(path: Path, subtables: list[Any], features: str = "", version: float = 0) -> str:
+    font = FontBuilder(1000, isTTF=True)
+    font.setupGlyphOrder(NAMES)
+    font.setupCharacterMap({ord(character): name for character, name in zip(CHARACTERS, NAMES[1:])})
+    font.setupGlyf({name: TTGlyphPen(None).glyph() for name in NAMES})
+    font.setupHorizontalMetrics({name: (500, 0) for name in NAMES})
+    font.setupHorizontalHeader(ascent=800, descent=-200)
+    font.setupOS2()
+    font.setupNameTable({"familyName": "Kerned"})
+    font.setupPost()
+    if features:
+        addOpenTypeFeaturesFromString(font.font, features)
+    kern = newTable("kern")
+    kern.version, kern.kernTables = version, subtables
+    font.font["kern"] = kern
+    font.save(path)
+    return str(path)
+
+
+class Rows(unittest.TestCase):
+    def setUp(self) -> None:
+        folder = tempfile.TemporaryDirectory()
+        self.addCleanup(folder.cleanup)
+        self.path = Path(folder.name) / "kerned.ttf"
+
+    def gpos(self, *subtables: Any, features: str = "", version: float = 0) -> dict[str, Any]:
+        value = json_of("font_to_json", write_font(self.path, list(subtables), features, version))
+        self.assertEqual(list(font_faults(value)), [])
+        self.told = value["source"]["told"]
+        return value.get("gpos", {})
+
+    def test_pairs(self) -> None:
+        """The half that is rounded down is the left glyph's, and the rest moves the right glyph."""
+        gpos = self.gpos(pairs(given={(A, V): -75, (T, STOP): -101}))
+        first, second = (gpos["lookups"][index] for index in gpos["features"][0][1])
+        rows = [[A, V, [0, 0, -38, 0], None], [T, STOP, [0, 0, -51, 0], None]]
+        self.assertEqual(first, {"flags": 8, "type": "pair", "subtables": [rows]})
+        self.assertEqual((second["type"], second["flags"]), ("chain", 8))
+        called = {rule[1][0]: rule[3][0][1] for rule in second["subtables"][0]["rules"]}
+        numbers = dict(second["subtables"][0]["classes"][1])
+        moved = gpos["lookups"][called[numbers[V]]]
+        self.assertEqual(moved, {"type": "single", "subtables": [[[V, [-37, 0, -37, 0]]]]})
+
+    def test_classes(self) -> None:
+        for is_apple, version in ((False, 0), (True, 1.0)):
+            gpos = self.gpos(classes(is_apple, 0 if is_apple else HORIZONTAL), version=version)
+            rows = gpos["lookups"][gpos["features"][0][1][0]]["subtables"][0]
+            expected = [[A, V, -25], [T, V, 2], [T, STOP, -30]]
+            self.assertEqual([[a, b, record[2]] for a, b, record, _ in rows], sorted(expected))
+
+    def test_systems(self) -> None:
+        """The feature is added where a system lacks it; right-to-left scripts have their own, Hebrew has none."""
+        features = """
+            languagesystem DFLT dflt; languagesystem grek dflt; languagesystem latn dflt; languagesystem latn TRK;
+            feature kern { script latn; language TRK exclude_dflt; pos g0041 g0056 -5; } kern;
+            feature mark { pos g0041 1; } mark;
+        """
+        gpos = self.gpos(pairs(), features=features)
+        tags = [tag for tag, _ in gpos["features"]]
+        scripts = {tag: (default, dict(systems)) for tag, default, systems in gpos["scripts"]}
+        self.assertEqual(list(scripts), ["DFLT", "arab", "grek", "latn"])
+        for tag in ("DFLT", "grek", "latn"):
+            self.assertEqual([tags[index] for index in scripts[tag][0]["features"]], ["mark", "kern"])
+        forward, backward = scripts["latn"][0]["features"][-1], scripts["arab"][0]["features"][-1]
+        self.assertNotEqual(forward, backward)
+        self.assertNotIn(forward, scripts["latn"][1]["TRK "]["features"])
+        self.assertEqual(self.told, ["`kern` for Hebrew, which GPOS lacks"])
+        pair = gpos["lookups"][gpos["features"][backward][1][0]]["subtables"][0]
+        self.assertIn([ALEF, ZAIN, [-16, 0, -16, 0], None], pair)
+
+    def test_beside_gpos(self) -> None:
+        """Where each system has the feature nothing is added, and nothing is told."""
+        features = "feature kern { pos g0041 g0056 -5; } kern;"
+        gpos = self.gpos(pairs(), features=features)
+        self.assertEqual(len(gpos["lookups"]), 1)
+        self.assertEqual(self.told, [])
+        self.assertNotIn(b"kern", run("font_to_json", "--only", "gpos", DEJAVU).stderr)
+
+    def test_left_out(self) -> None:
+        """What is left out is told: lines downwards, across the line, least distances, other formats, marks' boxes."""
+        other = KernTable_format_unkown(3)
+        other.data = struct.pack(">HHBB", 0, 6, 3, HORIZONTAL)
+        crossing, least = pairs(HORIZONTAL | CROSS_STREAM), pairs(HORIZONTAL | MINIMUM)
+        gpos = self.gpos(pairs(0), crossing, least, other)
+        self.assertEqual(gpos, {})
+        self.assertEqual(
+            self.told,
+            [
+                "`kern`: subtables for lines downwards", "`kern`: subtables that move across the line",
+                "`kern`: subtables of least distances", "`kern`: subtables of format 3",
+            ],
+        )  # fmt: skip
+        self.gpos(pairs(), crossing)
+        self.assertIn("no GPOS but `kern`: marks are not positioned by their boxes", self.told)
+
+    def test_damaged(self) -> None:
+        """A subtable that is cut, or has more distances than the limit, is refused in one line."""
+        cut = classes()
+        cut.data = cut.data[:20]
+        wide = KernTable_format_unkown(2)
+        numbers = struct.pack(">1500H", *range(60, 60 + 1500))
+        wide.data = struct.pack(">HHBB4H2H", 0, 18 + 3000, 2, HORIZONTAL, 2, 14, 14, 14, 0, 1500) + numbers
+        for table, says in ((cut, b"table kern: a subtable is cut short"), (wide, b"more than 1,048,576 distances")):
+            ran = run("font_to_json", write_font(self.path, [table]))
+            self.assertEqual((ran.returncode, ran.stdout), (3, b""))
+            self.assertIn(says, ran.stderr)
+            self.assertEqual(ran.stderr.count(b"\n"), 1)
+
+
+@unittest.skipUnless(os.access(PROGRAM, os.X_OK), "needs the program (tools/build)")
+@unittest.skipUnless(shutil.which("hb-shape"), "needs hb-shape (libharfbuzz-bin)")
+class BesideHarfBuzz(unittest.TestCase):
+    def test_lines(self) -> None:
+        """Pairs and classes, one after the other, with marks between, backwards, and with the feature off."""
+        texts = ["AVAVA", "AAAA", "T.TV.", "\u0632\u0627\u0632", "\u0391A", "\u05d0A", "VA.AV"]
+        fonts = {"pairs": [pairs()], "classes": [classes()], "both": [pairs(), classes()]}
+        with tempfile.TemporaryDirectory() as folder:
+            for name, subtables in fonts.items():
+                path = write_font(Path(folder) / f"{name}.ttf", subtables)
+                for words in ([], ["--features=-kern"]):
+                    self.assert_alike(path, texts, words)
+            marked = write_font(Path(folder) / "marked.ttf", [pairs()], "feature ss01 { pos g0041 1; } ss01;")
+            self.assert_alike(marked, ["A\u0301VA", "AA\u0301\u0301A"], [])
+            apple = write_font(Path(folder) / "apple.ttf", [classes(True, 0)], version=1.0)
+            self.assert_alike(apple, texts, [])
+
+    def assert_alike(self, path: str, texts: list[str], words: list[str]) -> None:
+        listed = Path(path).with_suffix(".txt")
+        listed.write_text("".join(f"{text}\n" for text in texts))
+        options = ["--utf8-clusters", "--no-glyph-names", f"--text-file={listed}", *words, path]
+        theirs = subprocess.run(["hb-shape", *options], capture_output=True, text=True, check=True).stdout.splitlines()
+        own = run("shape", *options).stdout.decode().splitlines()
+        for text, mine, line in zip(texts, own, theirs, strict=True):
+            self.assertEqual(mine, line.strip("[]"), (path, text, words))
+
+
+if __name__ == "__main__":
+    unittest.main()
