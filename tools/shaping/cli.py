@@ -33,7 +33,7 @@ PICTURES = ("svg", "png")
 CONTEXT = ("text-before", "text-after")
 # What hides fields that a picture needs.
 HIDING = ("--no-clusters", "--no-positions", "--no-advances")
-STANDARD_OUTPUT = "-"
+STANDARD_INPUT = STANDARD_OUTPUT = "-"
 
 
 def main(words: list[str]) -> int:
@@ -43,7 +43,10 @@ def main(words: list[str]) -> int:
         return 0
     given = read_words(words)
     check_words(given)
+    check_regular(given.font, "font")
     take_locale(given)
+    if given.own.get("text-file") == STANDARD_INPUT and sys.stdin.isatty():
+        tell(NAME, "reading texts from standard input, one a line")
     texts = read_texts(given)
     with cache_folder() as folder:
         place = tell_place(given)
@@ -61,14 +64,12 @@ def main(words: list[str]) -> int:
 
 
 def check_words(given: Given) -> None:
-    """Refuses pictures without outlines or mixed with lines, and instances of what is none; tells of a terminal."""
+    """Refuses pictures without outlines, two things on one output, and instances of a font that is JSON."""
     for option in (*PICTURES, "variations", "named-instance"):
         if option in given.own and is_json(given.font):
             raise ToolFault(WORDS, f"--{option}: {given.font} has no outlines and no variations: it takes a font file")
     if pictures_of(given).count(STANDARD_OUTPUT) + given.is_json > 1 and STANDARD_OUTPUT in pictures_of(given):
         raise ToolFault(WORDS, "standard output takes one of a picture and JSON")
-    if given.own.get("text-file") == "-" and sys.stdin.isatty():
-        tell(NAME, "reading texts from standard input, one a line")
 
 
 def take_locale(given: Given) -> None:
@@ -188,7 +189,6 @@ def font_index(given: Given) -> int:
 
 def font_file(folder: Path, given: Given, place: Place | None = None) -> Path:
     """The font's value as a file: the file itself where it is one."""
-    check_regular(given.font, "font")
     if is_json(given.font):
         return given.font
     return font_value(folder, given.font, font_index(given), not given.has("no-limits"), place)

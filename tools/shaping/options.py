@@ -10,6 +10,7 @@ from common.faults import WORDS, ToolFault
 from fontjson.variations import Wanted, read_variations
 
 NAME = "shape"
+HEXADECIMAL = r"(?<![0-9A-Fa-f])0[xX]"
 UNICODE_SEPARATORS = r"[<+>{},;&#\\xXuUnNiI\n\t\v\f\r ]+"
 HELP = """usage: shape FONT TEXT [options]
        shape FONT --text-file FILE [options]
@@ -91,7 +92,7 @@ def variations(text: str) -> str:
 
 def unicodes(text: str) -> str:
     """The text of a list of hexadecimal numbers; between them may stand what hb-shape takes there."""
-    numbers = [number for number in re.split(UNICODE_SEPARATORS, text) if number]
+    numbers = [number for number in re.split(UNICODE_SEPARATORS, re.sub(HEXADECIMAL, " ", text)) if number]
     try:
         return "".join(map(character, numbers))
     except ValueError as error:

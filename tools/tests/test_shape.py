@@ -1,6 +1,7 @@
 """From a font file to a line: words, what the program is given, the cache, faults, and where it is built its lines."""
 
 import contextlib
+import importlib.util
 import io
 import json
 import os
@@ -11,19 +12,26 @@ import threading
 import unittest
 import xml.etree.ElementTree as tree
 from pathlib import Path
+from typing import Callable
 from unittest import mock
 
 from support import DEJAVU, NASKH, run
 
 from building.places import PROGRAM, standing
 from common.faults import ToolFault
+from fontTools.ttLib import TTFont, newTable
 from formats.rules import font_faults
 from formats.where import font_fault, tables_fault
 from shaping import cli
-from shaping.glyphs import Glyph, as_json, read_line
+from shaping.glyphs import Glyph, as_json, read_line, text_of
+from shaping.locales import language_of
 from shaping.options import OPTIONS, Given, read_words, usage
-from shaping.picture import clusters_of, picture, placed
+from shaping.picture import BASELINE, MARGIN, clusters_of, picture, placed, width_of
+from shaping.png import PIXELS, png
+from shaping.program import is_old, make_ready
+from shaping.svg import svg
 from shaping.texts import Text, lack_notes, lacking
+from shaping.verify import Promises
 
 # Writes down its words, keeps the text, and ends with a status and a fault of its own for texts that begin with 3 or 5.
 STAND_IN = """#!/bin/sh
@@ -179,11 +187,44 @@ class Commands(unittest.TestCase):
         self.assertIn(f"shape: {font}: U1 OutOfOrder: h[1]: 1 is not above 1: [1, 600]\n", told.getvalue())
         self.assertRaisesRegex(ToolFault, "no outlines", cli.main, [str(font), "a", "--svg=x"])
 
+    def test_input(self) -> None:
+        """Without a text the lines of standard input are shaped; --show-text prints each before its glyphs."""
+        given = io.TextIOWrapper(io.BytesIO("a\nü\n".encode()))
+        with mock.patch("sys.stdin", given):
+            self.assertEqual(self.shape("--show-text")[:2], (0, f"(a)\n{NAMED}(ü)\n{NAMED}"))
+        missing = self.folder / "missing.ttf"
+        with mock.patch("sys.stdin", given), self.assertRaises(FileNotFoundError):
+            cli.main([str(missing)])
+
+    def test_told(self) -> None:
+        """What changes glyphs and is left out is told at each run; the rest when the font is converted."""
+        font = TTFont(DEJAVU)
+        font["morx"] = newTable("morx")
+        font["morx"].decompile = lambda data, font: None
+        font["morx"].compile = lambda font: b"\0" * 8
+        font.save(self.font)
+        says = f"shape: {self.font}: left out, and it changes glyphs or positions: table morx\n"
+        texts = self.folder / "texts"
+        texts.write_text("a\nb\n")
+        first, second = self.shape("a")[2], self.shape(f"--text-file={texts}")[2]
+        self.assertIn("left out: table MATH (1)\n", first)
+        self.assertEqual((first.count(says), second), (1, says))
+
+    def test_whole_picture(self) -> None:
+        """A picture has all fields, whatever is printed of them."""
+        path = self.folder / "of.svg"
+        self.shape("of", f"--svg={path}", "--no-advances", "--no-clusters")
+        self.assertNotIn("--no-advances", self.words())
+        self.assertIn("advance 1253,0", path.read_text())
+
+    def test_verified(self) -> None:
+        """A broken promise is a fault: this program prints no slices."""
+        self.assertRaisesRegex(ToolFault, "a promise is broken: at cluster level 0 the slices don't join", self.shape, "of", "--verify")
+
     def test_refused(self) -> None:
         """Words are read before anything is made; each fault names its word."""
         cases = {
             (): "the font is missing",
-            ("font",): "no text is given",
             ("font", "a", "b"): "more than one text is given: 'a', 'b'",
             ("font", "a", "--text-file=b"): "more than one text",
             ("font", "a", "--foo"): "--foo: no such option",
@@ -198,6 +239,16 @@ class Commands(unittest.TestCase):
             ("font", "a", "--index=-1"): "an index is a number",
             ("font", "a", "--bot", "--bot"): "--bot: given twice",
             ("font", "a", "--script=Latn", "--script=Arab"): "--script: given twice",
+            ("font", "-u", "61", "b"): "more than one text is given: 'b', 'a'",
+            ("font", "-u61,110000"): "a list of characters is hexadecimal numbers",
+            ("font", "-u", "D800"): "a list of characters is hexadecimal numbers",
+            ("font", "a", "-O", "xml"): "a format is text or json: 'xml'",
+            ("font", "a", "--variations=wght"): "--variations: no variation: 'wght'",
+            ("font", "a", "--font-size=12"): "--font-size: glyphs are placed in units of the em",
+            ("font", "a", "--font-ppem=12"): "--font-ppem: no sizes in pixels",
+            ("font", "a", "--shapers=ot"): "--shapers: there is one shaper",
+            ("font", "a", "-O", "json", "--svg=-"): "standard output takes one of a picture and JSON",
+            ("font.json", "a", "--png=x"): "--png: font.json has no outlines",
         }
         for words, says in cases.items():
             with self.subTest(words=words):
@@ -211,6 +262,42 @@ class Commands(unittest.TestCase):
             self.assertEqual(shown.getvalue(), usage() + "\n")
         self.assertTrue(all(f"--{option.name}" in usage() for option in OPTIONS))
         self.assertIn("examples:\n", usage())
+
+
+class Verified(unittest.TestCase):
+    """Each promise is seen to be broken by a program that breaks it."""
+
+    def broken(self, change: Callable[[str, list[str], list[str]], list[str]], text: str = "oé") -> list[str]:
+        """What is told of a text that is a glyph for each character, whose lines are changed by level and options."""
+        lines = ["1=0+5|2=1+6", "0 1", "1 3"]
+
+        def run_level(_: Promises, level: str, more: list[str]) -> list[str]:
+            return change(level, more, lines if "--slices" in more else lines[:1])
+
+        with mock.patch.object(Promises, "run", run_level):
+            given = Given(Path("f"), text)
+            return list(Promises(Path(), Path(), Path(), Text(text.encode(), "the text"), given).broken())
+
+    def test_kept(self) -> None:
+        self.assertEqual(self.broken(lambda level, more, lines: lines), [])
+
+    def test_broken(self) -> None:
+        cases: dict[str, Callable[[str, list[str], list[str]], list[str]]] = {
+            "cluster level 2 gives other glyphs": lambda level, more, lines: ["1=0+5"] if level == "2" else lines,
+            "flags that are asked for change": lambda level, more, lines: ["1=0+5"] if len(more) == 2 else lines,
+            "cluster 2 is no byte": lambda level, more, lines: ["1=0+5|2=2+6", *lines[1:]],
+            "glyphs of cluster 0 have different flags": lambda level, more, lines: ["1=0+5|2=0+6#1", *lines[1:]],
+            "at cluster level 1 the slices don't join": lambda level, more, lines: lines[: 2 if level == "1" else 3],
+        }
+        for says, change in cases.items():
+            with self.subTest(says=says):
+                found = self.broken(change)
+                self.assertTrue(any(says in line for line in found), found)
+
+    def test_not_promised(self) -> None:
+        """Slices of Indic texts need not join."""
+        self.assertEqual(self.broken(lambda level, more, lines: ["1=0+5"], "क"), [])
+        self.assertEqual(len(self.broken(lambda level, more, lines: ["1=0+5"], "o")), 2)
 
 
 class Parts(unittest.TestCase):
@@ -254,12 +341,61 @@ class Parts(unittest.TestCase):
         self.assertEqual(clusters_of("aéb", glyphs), {0: "aé", 3: "b"})
 
     def test_pictures(self) -> None:
-        """Every picture is well-formed, forward, backward and downward, without glyphs and with unknown numbers."""
+        """Every SVG is well-formed, forward, backward and downward, without glyphs and with unknown numbers."""
         lines = ["82=0+1253|5044=1+1980", "3=2+5|4=0+6", "82=0@-626,-1751+0,-2384", "", "65535=0+100"]
         for line in lines:
-            drawn = tree.fromstring(picture(Path(DEJAVU), 0, [("o\u0001<", read_line(line))]))
+            drawn = tree.fromstring(svg(picture(Path(DEJAVU), 0, [("o\u0001<", read_line(line))], line in lines[2:])))
             self.assertEqual(drawn.tag, "{http://www.w3.org/2000/svg}svg")
-        self.assertTrue(picture(Path(NASKH), 0, [("سل", read_line("5=2+300|6=0+200"))]).startswith("<svg"))
+        self.assertTrue(svg(picture(Path(NASKH), 0, [("سل", read_line("5=2+300|6=0+200"))])).startswith("<svg"))
+
+    def test_vertical(self) -> None:
+        """A vertical text without advances has its labels to the right of its glyphs, below each other."""
+        drawn = picture(Path(DEJAVU), 0, [("of", read_line("82=0+0|73=1+0"))], is_vertical=True)
+        (first, second), [baseline] = drawn.labels, [line for line in drawn.lines if line.colour == BASELINE]
+        self.assertEqual(baseline.start[0], baseline.end[0])
+        self.assertEqual((first.words, second.words), ("0: 006F", "1: 0066"))
+        self.assertGreater(first.at[0], baseline.start[0])
+        self.assertGreaterEqual(first.at[1] - second.at[1], drawn.label_size)
+
+    def test_width(self) -> None:
+        """A picture is as wide as its glyphs or its labels, with a margin on both sides."""
+        margin = MARGIN * 2048
+        wide = picture(Path(DEJAVU), 0, [("o" * 9, read_line("|".join(f"82={at}+1253" for at in range(9))))])
+        end = max(label.at[0] + width_of(label.whole) * wide.label_size for label in wide.labels)
+        self.assertAlmostEqual(wide.width, max(9 * 1253 + margin, end) + margin)
+        self.assertEqual(width_of("0: 骨\u0301"), 0.62 + 0.33 * 2 + 1)
+
+    @unittest.skipUnless(importlib.util.find_spec("cairo"), "needs python3-cairo")
+    def test_png(self) -> None:
+        """A PNG of the picture's size, white at its corner and not everywhere."""
+        import cairo
+
+        drawn = picture(Path(DEJAVU), 0, [("o", read_line("82=0+1253"))])
+        surface = cairo.ImageSurface.create_from_png(io.BytesIO(png(drawn)))
+        scale = PIXELS / 2048
+        self.assertEqual((surface.get_width(), surface.get_height()), (round(drawn.width * scale), round(drawn.height * scale)))
+        pixels = bytes(surface.get_data())
+        self.assertEqual(pixels[:3], b"\xff\xff\xff")
+        self.assertNotEqual(set(pixels[at : at + 3] for at in range(0, len(pixels), 4)), {b"\xff\xff\xff"})
+
+    def test_locale(self) -> None:
+        for name, tag in (("tr_TR.UTF-8", "tr-TR"), ("de_DE@euro", "de-DE"), ("C.UTF-8", None), ("POSIX", None)):
+            self.assertEqual(language_of(name), tag)
+
+    def test_unicodes(self) -> None:
+        for text in ("U+0061,U+301", "61 0301", "\\u0061\\u0301", "<U+0061><U+0301>", "0x61,0x301"):
+            self.assertEqual(read_words(["f", "-u", text]).text, "a\u0301", text)
+        self.assertEqual(read_words(["f", "-u61"]).text, "a")
+        self.assertTrue(read_words(["f", "a", "-Ojson"]).is_json)
+
+    def test_printed(self) -> None:
+        """A line is written as the program writes it, with the fields that are asked for."""
+        line = "3=0@1,-2+5|4=7+0,-9#3<1,2,3,4>\n"
+        given = Given(Path("f"), "t", {}, ["--show-flags", "--show-extents"])
+        self.assertEqual(text_of(read_line(line), given), line)
+        self.assertEqual(text_of(read_line(line), Given(Path("f"), "t")), "3=0@1,-2+5|4=7+0,-9\n")
+        bare = Given(Path("f"), "t", {}, ["--no-clusters", "--no-advances"])
+        self.assertEqual(text_of(read_line("3=0@1,-2+5|4=7+0,-9|5+1"), bare), "3@1,-2|4@5,0|5@5,-9\n")
 
     def test_faults(self) -> None:
         """A file's first fault with its key, row and value."""
