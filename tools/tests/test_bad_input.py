@@ -68,7 +68,6 @@ class BadInput(unittest.TestCase):
         self.assert_refused(DATA, "no collection", "font_to_json", "--index", "1", NASKH)
         self.assert_refused(WORDS, "no key 'class'", "unicode_to_json", "--only", "class")
         self.assert_refused(FILES, "missing", "unicode_to_json", "--ucd", str(self.folder))
-        self.assert_refused(WORDS, "no text is given", "shape", NASKH)
         self.assert_refused(WORDS, "--index", "shape", NASKH, "text", "--index", "first")
 
     def test_text(self) -> None:

@@ -136,7 +136,7 @@ class Converted(unittest.TestCase):
         self.assertIn("fina", [tag for tag, _ in naskh["gsub"]["features"]])
         self.assertIn("rphf", [tag for tag, _ in devanagari["gsub"]["features"]])
         self.assertEqual([tag for tag, *_ in devanagari["gsub"]["scripts"]], ["dev2", "deva"])
-        self.assertEqual(dejavu["source"]["left_out"]["table kern"], 1)
+        self.assertEqual(dejavu["source"]["left_out"]["table MATH"], 1)
 
 
 def printed(path: str, letters: list[int]) -> list[dict[str, int]]:

@@ -209,8 +209,9 @@ class WrittenFont(unittest.TestCase):
     def test_left_out(self) -> None:
         """What has no word in the format is named."""
         errors = run("font_to_json", "/usr/share/fonts/truetype/dejavu/DejaVuSans.ttf").stderr.decode()
-        self.assertIn("left out: table kern (1)", errors)
-        devices = f"font_to_json: {self.path}: left out: GPOS: device tables (1)\n"
+        self.assertIn("left out: table MATH (1)", errors)
+        changed = "left out, and it changes glyphs or positions"
+        devices = f"font_to_json: {self.path}: {changed}: GPOS: device tables, at sizes in pixels (1)\n"
         self.assertEqual(run("font_to_json", self.path).stderr.decode(), devices)
 
 
