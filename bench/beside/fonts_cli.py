@@ -17,6 +17,8 @@ from common.notes import Notes, Progress
 from common.parsing import Words
 from shaping.cache import cache_folder, write_whole
 from shaping.cli import FONT_READ, tables_file
+from shaping.context import NAMED, shape_in_context
+from shaping.options import Given
 from shaping.program import PROGRAM, run_all
 from shaping.texts import Text, script_of
 from fontjson.cli import read_font
@@ -72,14 +74,19 @@ def parser() -> argparse.ArgumentParser:
     words.add_argument("--kern", action="store_true", help="only fonts that have a table kern")
     words.add_argument("--every", type=int, default=1, metavar="N", help="each Nth font alone (1)")
     words.add_argument("--list", action="store_true", help="print each difference, before the table")
+    words.add_argument("--library", type=Path, metavar="FILE", help="shape by the library for C, which is as the program")
     return words
 
 
 def main(words: list[str]) -> int:
     """Compares; its status is 0."""
     options = parser().parse_args(words)
-    if shutil.which(THEIRS) is None or not os.access(PROGRAM, os.X_OK):
-        raise ToolFault(FILES, f"{THEIRS} or {PROGRAM} is missing: apt-get install libharfbuzz-bin, tools/build")
+    if shutil.which(THEIRS) is None:
+        raise ToolFault(FILES, f"{THEIRS} is missing: apt-get install libharfbuzz-bin")
+    if options.library is not None:
+        os.environ[NAMED] = str(options.library)
+    elif not os.access(PROGRAM, os.X_OK):
+        raise ToolFault(FILES, f"{PROGRAM} is missing: tools/build")
     tally, progress = Tally(), Progress(NAME)
     with cache_folder() as kept, tempfile.TemporaryDirectory() as folder:
         tables = tables_file(kept)
@@ -87,7 +94,7 @@ def main(words: list[str]) -> int:
         for number, path in enumerate(paths):
             progress.step(path.name, number, len(paths))
             if not options.kern or has_kern(path):
-                for line in try_font(path, Path(folder) / "font.json", tables, tally):
+                for line in try_font(path, Path(folder) / "font.json", tables, tally, options.library is not None):
                     if options.list:
                         progress.end()
                         print(line, flush=True)
@@ -115,7 +122,7 @@ def has_kern(path: Path) -> bool:
         return any(file.read(16)[:4] == b"kern" for _ in range(count))
 
 
-def try_font(path: Path, value: Path, tables: Path, tally: Tally) -> Iterator[str]:
+def try_font(path: Path, value: Path, tables: Path, tally: Tally, by_library: bool) -> Iterator[str]:
     """The differences of a font's texts, in words; the tally is kept."""
     try:
         made = read_font(str(path), 0, FONT_READ, Notes())
@@ -130,7 +137,11 @@ def try_font(path: Path, value: Path, tables: Path, tally: Tally) -> Iterator[st
     told = made["source"]["told"]
     circle = dict(made["cmap"]).get(CIRCLE, 0)
     tally.fonts += 1
-    own = run_all(PROGRAM, tables, value, [Text(text.encode(), path.name) for text in texts], ["--no-glyph-names"])
+    given = [Text(text.encode(), path.name) for text in texts]
+    if by_library:
+        own = shape_in_context(tables, value, given, Given(value, None), {})
+    else:
+        own = run_all(PROGRAM, tables, value, given, ["--no-glyph-names"])
     for text, mine, theirs in zip(texts, own, lines_of(path, texts), strict=True):
         tally.lines += 1
         seen = mine.fault or difference(mine.glyphs, theirs)

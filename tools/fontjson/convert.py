@@ -79,5 +79,5 @@ def note_tables(source: Source) -> None:
     for tag in TABLES_LEFT_OUT:
         if source.has(tag):
             source.notes.left_out(f"table {tag.strip()}")
-    if source.has("fvar"):
+    if source.has("fvar") and source.place is None:
         source.notes.left_out("axes of variations, at their default", len(source.font["fvar"].axes))

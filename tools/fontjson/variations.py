@@ -79,7 +79,7 @@ def instantiate(font: Any, place: Place) -> None:
     if "CFF2" in font:
         from fontTools.varLib.mutator import instantiateVariableFont
 
-        instantiateVariableFont(font, place)
+        instantiateVariableFont(font, place, inplace=True)
     else:
         from fontTools.varLib.instancer import OverlapMode, instantiateVariableFont
 

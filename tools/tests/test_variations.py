@@ -14,7 +14,11 @@ from common.faults import ToolFault
 from fontTools.feaLib.builder import addOpenTypeFeaturesFromString
 from fontTools.fontBuilder import FontBuilder
 from fontTools.pens.ttGlyphPen import TTGlyphPen
+from fontTools.misc.psCharStrings import T2CharString
+from fontTools.ttLib import newTable
+from fontTools.ttLib.tables import otTables as ot
 from fontTools.ttLib.tables.TupleVariation import TupleVariation
+from fontTools.varLib.builder import buildVarData, buildVarRegionList, buildVarStore
 from fontTools.varLib.featureVars import addFeatureVariations
 from fontjson.variations import read_variations
 from shaping import cli
@@ -61,6 +65,31 @@ def box() -> Any:
     return pen.glyph()
 
 
+def write_cff_font(path: Path) -> str:
+    """The same axis and advances, with outlines of CFF2: a box that is 60 wider at 900."""
+    font = FontBuilder(1000, isTTF=False)
+    font.setupGlyphOrder([".notdef", "a"])
+    font.setupCharacterMap({ord("a"): "a"})
+    font.setupNameTable({"familyName": "Varied", "styleName": "Regular"})
+    font.setupFvar([("wght", 100, 400, 900, "Weight")], [])
+    right, left = ([sign * 100, sign * 60, 1, "blend", "hlineto"] for sign in (1, -1))
+    outlines = {".notdef": [0, 0, "rmoveto"], "a": [10, 0, "rmoveto", *right, 500, "vlineto", *left]}
+    heavier = [{"wght": (0, 1, 1)}]
+    font.setupCFF2({name: T2CharString(program=program) for name, program in outlines.items()}, regions=heavier)
+    font.setupHorizontalMetrics({name: (500, 10) for name in outlines})
+    font.setupHorizontalHeader(ascent=800, descent=-200)
+    font.setupOS2()
+    font.setupPost()
+    advances = ot.HVAR()
+    data = buildVarData([0], [[0], [80]], optimize=False)
+    advances.Version, advances.VarStore = 0x10000, buildVarStore(buildVarRegionList(heavier, ["wght"]), [data])
+    advances.AdvWidthMap = advances.LsbMap = advances.RsbMap = None
+    font.font["HVAR"] = newTable("HVAR")
+    font.font["HVAR"].table = advances
+    font.save(path)
+    return str(path)
+
+
 class Instances(unittest.TestCase):
     @classmethod
     def setUpClass(cls) -> None:
@@ -101,6 +130,12 @@ class Instances(unittest.TestCase):
             rows = [row for index in reached for row in font["gsub"]["lookups"][index]["subtables"][0]]
             self.assertEqual([new for _, new in rows], [GLYPHS.index(substitute)] if substitute else [], weight)
             self.assertEqual(font["source"]["told"], [])
+
+    def test_cff(self) -> None:
+        path = write_cff_font(self.folder / "varied.otf")
+        for words, advance, width in (([], 500, 100), (["--variations=wght=650"], 540, 130)):
+            font = json_of("font_to_json", *words, path)
+            self.assertEqual((dict(font["h"])[1], font["extents"][1]), (advance, [1, 10, 500, width, -500]))
 
     def test_instances(self) -> None:
         """By name or number; coordinates beside it change it."""
