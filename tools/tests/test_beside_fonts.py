@@ -1,0 +1,86 @@
+"""bench/fonts: its texts, what it takes for a cause, its table, and one font beside hb-shape."""
+
+import contextlib
+import io
+import os
+import shutil
+import tempfile
+import unittest
+from pathlib import Path
+
+from support import BENCH, DEJAVU, DEVANAGARI, NASKH  # noqa: F401  (it puts the tools and bench/ on the path)
+
+from beside.fonts_cli import AAT, BOXES, CIRCLES, REST, SORT, Tally, cause_of, fonts_of, has_kern, main
+from beside.fonts_texts import SCRIPTS, TEXTS, scripts_of, texts_of
+from fontTools import unicodedata
+from fontTools.ttLib import TTFont
+from shaping.program import PROGRAM
+
+
+class Texts(unittest.TestCase):
+    def test_texts(self) -> None:
+        """As many as are wanted, of the font's characters, in its scripts, the same ones each time; some are words."""
+        for path, script in ((DEVANAGARI, "Deva"), (NASKH, "Arab"), (DEJAVU, "Latn")):
+            characters = frozenset(TTFont(path).getBestCmap())
+            texts = texts_of(characters, "seed")
+            self.assertEqual(len(texts), TEXTS)
+            self.assertEqual(texts, texts_of(characters, "seed"))
+            self.assertNotEqual(texts, texts_of(characters, "another"))
+            self.assertTrue(all(characters.issuperset(map(ord, text)) for text in texts))
+            scripts = [name for name, _ in scripts_of(characters)]
+            self.assertIn(script, scripts)
+            self.assertLessEqual(len(scripts), SCRIPTS)
+            of_script = [text for text in texts if unicodedata.script(text[0]) == script]
+            self.assertGreaterEqual(len(of_script), TEXTS // len(scripts))
+
+    def test_symbols(self) -> None:
+        """A font of symbols has texts of these, and one of nothing but spaces none."""
+        self.assertEqual(len(texts_of(frozenset(map(ord, "★☆ ")), "seed")), TEXTS)
+        self.assertEqual(texts_of(frozenset({0x20}), "seed"), [])
+
+
+class Causes(unittest.TestCase):
+    def test_causes(self) -> None:
+        cases = [
+            (AAT, "a", "1=0+5", "2=0+5", ["table morx"]),
+            (BOXES, "a", "1=0+5", "2=0+5", ["no GPOS but `kern`: marks are not positioned by their boxes"]),
+            (SORT, "क", "1=0+5", "1=3+5", []),
+            (CIRCLES, "a", "1=0+5", "9=0+5|1=0+5", []),
+            (REST, "a", "1=0+5", "1=3+5", []),
+            (REST, "क", "1=0+5", "1=0+6", []),
+        ]
+        for cause, text, own, theirs, told in cases:
+            self.assertEqual(cause_of(text, own, theirs, told, 9), cause)
+
+    def test_table(self) -> None:
+        tally = Tally(fonts=3, lines=60)
+        for name in ("a.ttf", "a.ttf", "b.ttf"):
+            tally.note(SORT, Path(name))
+        self.assertEqual(
+            list(tally.table())[2:], ["| tried | 60 | 3 |", "| alike | 57 | 1 in all lines |", f"| {SORT} | 3 | 2 |"]
+        )
+
+    def test_fonts(self) -> None:
+        """Each file once, and only font files; whether one has a table kern."""
+        with tempfile.TemporaryDirectory() as name:
+            folder = Path(name)
+            (folder / "inner").mkdir()
+            for path in ("a.ttf", "inner/b.OTF", "text.txt"):
+                (folder / path).write_bytes(b"")
+            (folder / "again.ttf").symlink_to(folder / "a.ttf")
+            self.assertEqual([path.name for path in fonts_of([folder])], ["a.ttf", "b.OTF"])
+        self.assertTrue(has_kern(Path(DEJAVU)))
+        self.assertFalse(has_kern(Path(DEVANAGARI)))
+
+
+@unittest.skipUnless(os.access(PROGRAM, os.X_OK), "needs the program (tools/build)")
+@unittest.skipUnless(shutil.which("hb-shape"), "needs hb-shape (libharfbuzz-bin)")
+class Whole(unittest.TestCase):
+    def test_font(self) -> None:
+        with contextlib.redirect_stdout(io.StringIO()) as shown:
+            self.assertEqual(main([DEJAVU]), 0)
+        self.assertEqual(shown.getvalue().splitlines()[2:], ["| tried | 20 | 1 |", "| alike | 20 | 1 in all lines |"])
+
+
+if __name__ == "__main__":
+    unittest.main()
