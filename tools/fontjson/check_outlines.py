@@ -20,12 +20,8 @@ class Drawn(NamedTuple):
 def check_glyf(font: Any) -> tuple[Drawn, int]:
     """The most of all glyphs, and all points in the file; refuses what is beyond the limits.
 
-    Outlines of glyphs don't overlap in the file, since each begins where the one before it ends.
+    Outlines don't overlap in the file: each begins where the one before it ends, or fontTools refuses the font.
     """
-    places = font["loca"]
-    for glyph in range(len(places) - 1):
-        if places[glyph + 1] < places[glyph]:
-            raise refuse(f"table loca: the outline of glyph {glyph} ends before it begins")
     glyphs = font["glyf"].glyphs
     points = sum(own_points(glyph) for glyph in glyphs.values())
     if points > MOST_POINTS:
@@ -47,13 +43,15 @@ def own_points(glyph: Any) -> int:
 
 def of_glyph(glyf: Any, name: str, known: dict[str, Drawn], above: int) -> Drawn:
     """A glyph with the parts that it is made of; `above` is how deep it is nested itself."""
-    if above > MOST_DEPTH:
-        raise refuse(f"table glyf: composites nested more than {MOST_DEPTH} deep")
     if name not in known:
+        if above > MOST_DEPTH:
+            raise refuse(f"table glyf: composites nested more than {MOST_DEPTH} deep")
         points, parts, depth = own_points(glyf.glyphs[name]), 0, 0
         for part in glyf.glyphs[name].getComponentNames(glyf):
             of_part = of_glyph(glyf, part, known, above + 1) if part in glyf.glyphs else Drawn()
             points, parts, depth = points + of_part.points, parts + 1 + of_part.parts, max(depth, of_part.depth + 1)
+        if depth > MOST_DEPTH:
+            raise refuse(f"table glyf: composites nested more than {MOST_DEPTH} deep")
         if parts > MOST_PARTS:
             raise refuse(f"table glyf: a composite of more than {MOST_PARTS:,} parts")
         if points > MOST_GLYPH_POINTS:

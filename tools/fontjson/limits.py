@@ -22,7 +22,7 @@ MOST_ROWS = 1 << 22
 MOST_SUBTABLES = 1 << 16
 MOST_RECORDS = 1 << 18
 # Of glyf: points of all outlines; points, parts and levels of a glyph with its parts.
-MOST_POINTS = 1 << 24
+MOST_POINTS = 1 << 26
 MOST_GLYPH_POINTS = 1 << 17
 MOST_PARTS = 1 << 10
 MOST_DEPTH = 16
@@ -34,7 +34,7 @@ MOST_SUBROUTINES = 1 << 20
 MOST_RUN = 1 << 20
 MOST_RUN_FOR_BYTE = 16
 # What reading a font may take of memory and of processor time, in each process.
-MOST_MEMORY = 4 << 30
+MOST_MEMORY = 2 << 30
 MOST_SECONDS = 300
 # How much of fontTools' message is told.
 SHOWN = 200

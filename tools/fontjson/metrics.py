@@ -2,6 +2,7 @@
 
 import math
 import os
+import struct
 from concurrent.futures import ProcessPoolExecutor
 from typing import Any
 
@@ -158,13 +159,23 @@ def glyf_boxes(source: Source) -> dict[int, Box]:
     for number, name in enumerate(names):
         if number % BATCH == 0:
             source.progress.step("outlines", number, len(names))
-        glyph = table[name]
-        if glyph.numberOfContours == 0:
+        contours, *box = header_of(table.glyphs[name])
+        if contours == 0:
             found[number] = EMPTY
         else:
-            left = bearings[name][1] if name in bearings else glyph.xMin
-            found[number] = (left, glyph.yMin, left + glyph.xMax - glyph.xMin, glyph.yMax)
+            left = bearings[name][1] if name in bearings else box[0]
+            found[number] = (left, box[1], left + box[2] - box[0], box[3])
     return found
+
+
+def header_of(glyph: Any) -> tuple[int, ...]:
+    """The number of contours and the box of an outline. Its points are not read, since a font may have many."""
+    data = getattr(glyph, "data", None)
+    if data:
+        return struct.unpack(">5h", data[:10])
+    if glyph.numberOfContours == 0:
+        return (0, *EMPTY)
+    return glyph.numberOfContours, glyph.xMin, glyph.yMin, glyph.xMax, glyph.yMax
 
 
 def cff_boxes(source: Source) -> dict[int, Box]:
