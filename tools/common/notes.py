@@ -36,10 +36,10 @@ class Notes:
 class Progress:
     """A line on a terminal that is written over; on anything else nothing."""
 
-    def __init__(self, name: str, stream: TextIO = sys.stderr) -> None:
+    def __init__(self, name: str, stream: TextIO | None = None) -> None:
         self.name = name
-        self.stream = stream
-        self.shown = stream.isatty()
+        self.stream = stream or sys.stderr
+        self.shown = self.stream.isatty()
 
     def step(self, what: str, done: int = 0, of: int = 0) -> None:
         """Tells what is done now, and how much of it."""

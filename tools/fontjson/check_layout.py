@@ -33,7 +33,7 @@ State = tuple[tuple[str, int], ...]
 
 
 class Size(NamedTuple):
-    """Rows (records, numbers of arrays, glyphs of coverages and classes) and subtables of lookups."""
+    """Rows (records, numbers of arrays, glyphs of coverages and classes), and subtables of lookups."""
 
     rows: int
     subtables: int
@@ -45,9 +45,13 @@ class Size(NamedTuple):
 NOTHING = Size(0, 0)
 
 
-def check_layout(tag: str, data: bytes) -> Size:
-    """The size of GDEF, GSUB or GPOS; refuses what is beyond the limits, and ranges that overlap."""
-    return Walk(tag, data).table(getattr(otTables, tag), 0, {})
+def check_layout(tag: str, data: bytes) -> tuple[Size, int]:
+    """The size of GDEF, GSUB or GPOS, and its records that are walked one by one.
+
+    Refuses what is beyond the limits, and ranges that overlap.
+    """
+    walk = Walk(tag, data)
+    return walk.table(getattr(otTables, tag), 0, {}), walk.steps
 
 
 class Walk:
@@ -83,25 +87,29 @@ class Walk:
         if known is None:
             size, _ = Record(self, kind, at, at, dict(state)).walk()
             if kind is otTables.Coverage:
-                size = size.plus(self.ranges(at, "coverage"))
+                size = size.plus(Size(self.ranges(at, "coverage"), 0))
             elif kind is otTables.ClassDef:
-                size = size.plus(self.ranges(at, "classes"))
+                size = size.plus(Size(self.ranges(at, "classes"), 0))
             known = self.known[key] = self.within(size)
         return known
 
-    def ranges(self, at: int, what: str) -> Size:
+    def ranges(self, at: int, what: str) -> int:
         """The glyphs of ranges, which don't overlap; in fonts in use the last glyph of one may be the next one's first."""
         if self.number(at) != 2:
-            return NOTHING
-        count = min(self.number(at + 2), (len(self.data) - at - 4) // 6)
-        values = struct.unpack(f">{3 * max(count, 0)}H", self.data[at + 4 : at + 4 + 6 * max(count, 0)])
+            return 0
+        count = max(min(self.number(at + 2), (len(self.data) - at - 4) // 6), 0)
+        values = struct.unpack(f">{3 * count}H", self.data[at + 4 : at + 4 + 6 * count])
         total, last = 0, 0
         for start, end in sorted(zip(values[::3], values[1::3])):
             if start < last:
                 raise refuse(f"table {self.tag}: ranges of {what} overlap at glyph {start}")
             total += max(end - start + 1, 0)
             last = max(end, last)
-        return Size(total, 0)
+        return total
+
+    def covered(self, at: int) -> int:
+        """The glyphs of a coverage; one of an unknown format has none."""
+        return self.number(at + 2) if self.number(at) == 1 else self.ranges(at, "coverage")
 
 
 class Record:
@@ -114,6 +122,7 @@ class Record:
         self.at = at
         self.state = state
         self.values: dict[str, int] = {}
+        self.covered = 0
 
     def walk(self) -> tuple[Size, int]:
         """The record's size with all below it, and where it ends."""
@@ -154,6 +163,8 @@ class Record:
     def single(self, field: Any) -> Size:
         """A field that is there once."""
         if isinstance(field, Table):
+            if field.name == "Coverage":
+                self.covered = self.whole.covered(self.start + self.whole.number(self.at))
             return self.array(field, 1)
         if isinstance(field, ValueRecord):
             return self.value_records(field, 1)
@@ -195,7 +206,9 @@ class Record:
         """Tables by offsets, each of which may be named often."""
         width = field.staticSize
         count = self.fitting(count, width)
-        places = Counter(self.whole.number(self.at + n * width, width) for n in range(count))
+        # Sets of pairs without a glyph are not read, and in fonts in use they may be of any bytes.
+        read = min(count, self.covered) if field.name == "PairSet" else count
+        places = Counter(self.whole.number(self.at + n * width, width) for n in range(read))
         self.at += count * width
         subtables = count if isinstance(field, SubTable) and not isinstance(field, ExtSubTable) else 0
         size = Size(count, subtables)

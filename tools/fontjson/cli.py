@@ -30,6 +30,7 @@ def parser() -> argparse.ArgumentParser:
         "--plain-lookups", metavar="TYPES", help="of gsub and gpos lookups of these types without flags alone"
     )
     words.add_argument("--quiet", action="store_true", help="don't tell what was left out")
+    words.add_argument("--sizes", action="store_true", help="print how far the font is below each limit, and no value")
     words.add_argument("--no-limits", action="store_true", help="lift the limits of memory and of processor time")
     return words
 
@@ -37,6 +38,9 @@ def parser() -> argparse.ArgumentParser:
 def main(words: list[str]) -> int:
     """Converts a font; its status is 0."""
     options = parser().parse_args(words)
+    if options.sizes:
+        emit(sizes_of(options.font, options.index, not options.no_limits))
+        return 0
     kept = Kept(kept_keys(options.only), listed(options.features), listed(options.plain_lookups))
     notes, is_limited = Notes(), not options.no_limits
     wanted = Wanted(options.named_instance, coordinates(options.variations))
@@ -45,6 +49,17 @@ def main(words: list[str]) -> int:
     for line in outside + notes.lines() if not options.quiet else []:
         tell(NAME, f"{options.font}: {line}")
     return 0
+
+
+def sizes_of(path: str, index: int, is_limited: bool) -> str:
+    """A line for each thing that is limited: what it is, how much of it the font has, and the limit."""
+    from fontjson.source import open_font  # first: it says where fontTools is missing
+    from fontjson.drawing import bytes_run
+
+    with reading(path, is_limited):
+        source = open_font(path, index, Notes(), Progress(NAME))
+        sizes = source.sizes | bytes_run(source.font)
+    return "".join(f"{what}\t{found}\t{most}\n" for what, (found, most) in sizes.items())
 
 
 def coordinates(text: str | None) -> tuple[tuple[str, float], ...]:

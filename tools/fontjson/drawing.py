@@ -4,6 +4,7 @@ from functools import partial
 from typing import Any
 
 from fontTools.misc.psCharStrings import T2OutlineExtractor
+from fontTools.pens.basePen import NullPen
 
 from fontjson.limits import (
     MOST_CALLS,
@@ -24,6 +25,16 @@ def drawn_glyphs(font: Any) -> Any:
     return font.getGlyphSet()
 
 
+def bytes_run(font: Any) -> dict[str, tuple[int, int]]:
+    """How many bytes of charstrings run where all glyphs of CFF are drawn, with the limit; nothing for other fonts."""
+    glyphs = drawn_glyphs(font)
+    if not isinstance(glyphs, CffGlyphs):
+        return {}
+    for name in font.getGlyphOrder():
+        glyphs[name].draw(NullPen())
+    return {"CFF: bytes that run": (glyphs.run, glyphs.most), "CFF: levels of subroutines": (glyphs.levels, MOST_CALLS)}
+
+
 class CffGlyphs:
     """The glyphs of CFF by their names. What runs to draw them all grows with the table like a straight line."""
 
@@ -33,6 +44,7 @@ class CffGlyphs:
         self.glyphs = font.getGlyphSet()
         self.most = MOST_RUN + MOST_RUN_FOR_BYTE * length
         self.run = 0
+        self.levels = 0
         self.depth = 0
 
     def __contains__(self, name: str) -> bool:
@@ -75,6 +87,7 @@ class Counted(T2OutlineExtractor):
         self.whole = whole
 
     def execute(self, charString: Any) -> None:
+        self.whole.levels = max(self.whole.levels, len(self.callingStack))
         if len(self.callingStack) > MOST_CALLS:
             raise refuse(f"table CFF: subroutines nested more than {MOST_CALLS} deep")
         self.whole.count(1 + len(charString.bytecode or charString.program))

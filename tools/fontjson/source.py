@@ -11,6 +11,7 @@ from typing import Any
 from common.faults import DATA, FILES, ToolFault
 from common.files import check_regular
 from common.notes import Notes, Progress
+from fontjson.limits import MOST_BYTES
 from fontjson.variations import Place, instantiate
 
 try:
@@ -33,6 +34,8 @@ class Source:
     font: Any
     notes: Notes
     progress: Progress
+    # What the font has of what is limited, each with its limit.
+    sizes: dict[str, tuple[int, int]]
     place: Place | None = None
 
     def __post_init__(self) -> None:
@@ -63,7 +66,9 @@ class Source:
 
 def open_font(path: str, index: int, notes: Notes, progress: Progress) -> Source:
     """Opens the font of a file, or the font at an index of a collection."""
-    from fontjson.check import check_names, check_packed, check_sizes
+    # These need fontTools, and here it is known to be there.
+    from fontjson.check import check_sizes
+    from fontjson.check_packed import check_packed
 
     logging.getLogger("fontTools").setLevel(logging.CRITICAL)
     check_file(path, index)
@@ -71,9 +76,8 @@ def open_font(path: str, index: int, notes: Notes, progress: Progress) -> Source
     try:
         font = TTFont(path, fontNumber=index, lazy=True)
         check_tables(path, font)
-        check_sizes(font)
-        check_names(font)
-        return Source(path, index, font, notes, progress)
+        sizes = {"bytes": (os.path.getsize(path), MOST_BYTES), **check_sizes(font)}
+        return Source(path, index, font, notes, progress, sizes)
     except TTLibError as error:
         raise ToolFault(DATA, f"{path}: no font that can be read: {error}") from error
     except struct.error as error:

@@ -13,7 +13,6 @@ from fontTools.pens.ttGlyphPen import TTGlyphPen
 from fontTools.ttLib import TTFont
 from fontTools.ttLib.tables.DefaultTable import DefaultTable
 
-GLYPHS = [".notdef", "a", "b"]
 ALL = (0, 0xFFFF)
 EMPTY = struct.pack(">HHH", 1, 0, 0)
 MIB = 1 << 20
@@ -31,13 +30,14 @@ def longs(*numbers: int) -> bytes:
     return struct.pack(f">{len(numbers)}L", *numbers)
 
 
-def plain() -> TTFont:
-    """A font of three glyphs."""
+def plain(first: str = "a") -> TTFont:
+    """A font of three glyphs, of which the one of the letter a has a name."""
     made = FontBuilder(1000, isTTF=True)
-    made.setupGlyphOrder(GLYPHS)
-    made.setupCharacterMap({ord("a"): "a", ord("b"): "b"})
-    made.setupGlyf({name: TTGlyphPen(None).glyph() for name in GLYPHS})
-    made.setupHorizontalMetrics({name: (500, 0) for name in GLYPHS})
+    names = [".notdef", first, "b"]
+    made.setupGlyphOrder(names)
+    made.setupCharacterMap({ord("a"): first, ord("b"): "b"})
+    made.setupGlyf({name: TTGlyphPen(None).glyph() for name in names})
+    made.setupHorizontalMetrics({name: (500, 0) for name in names})
     made.setupHorizontalHeader(ascent=800, descent=-200)
     made.setupPost()
     return made.font

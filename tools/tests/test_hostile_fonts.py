@@ -9,11 +9,20 @@ from pathlib import Path
 
 from support import TOOLS, run
 
-from hostile_fonts import dots, glyf, kinds
+from hostile_fonts import cmap, dots, glyf, groups, kinds, nested_calls
 
 DATA = 3
 SECONDS, MEMORY = 10, 1_000_000_000
-FEW = 5000
+# The tool with other limits of its processes, and none of what CFF runs.
+LIMITED = """
+import sys
+sys.path.insert(0, sys.argv.pop(1))
+from common.faults import run_tool
+from fontjson import cli, drawing, limits, metrics
+limits.MOST_MEMORY, limits.MOST_SECONDS = int(sys.argv.pop(1)), int(sys.argv.pop(1))
+drawing.MOST_RUN, metrics.MANY_OUTLINES = 1 << 60, 0
+run_tool(cli.NAME, cli.main)
+"""
 
 
 def confine() -> None:
@@ -52,7 +61,21 @@ class HostileFonts(unittest.TestCase):
         self.assertIn("more than 134,217,728 bytes", self.refused("font_to_json", path))
 
     def test_limits_of_the_process(self) -> None:
-        """Where less memory or time is left than a font takes, that is the one line."""
+        """A font that takes more memory or time than is allowed has one line, and none where the limits are lifted."""
+        path = self.folder / "font.ttf"
+        path.write_bytes(cmap(groups(13, (0, 0x10FFFF))))
+        self.assertIn("GiB of memory", self.limited(path, memory=150 << 20, seconds=60))
+        self.assertIn("of processor time", self.limited(path, memory=4 << 30, seconds=0))
+        self.assertEqual(self.limited(path, "--no-limits", memory=150 << 20, seconds=0), "")
+        path.write_bytes(nested_calls(9, 20))
+        self.assertIn("of processor time", self.limited(path, memory=4 << 30, seconds=0))
+
+    def limited(self, path: Path, *words: str, memory: int, seconds: int) -> str:
+        """What is told of a font where it has so much memory and time; its outlines are drawn by processes."""
+        command = ["/usr/bin/python3", "-c", LIMITED, str(TOOLS), str(memory), str(seconds), path, "--quiet", *words]
+        ran = subprocess.run(command, stdout=subprocess.DEVNULL, stderr=subprocess.PIPE, check=False, text=True)
+        self.assertEqual((ran.returncode, ran.stderr.count("\n")), (DATA, 1) if ran.stderr else (0, 0), ran.stderr)
+        return ran.stderr
 
     def test_plain(self) -> None:
         """What the fonts are made of is no fault."""
