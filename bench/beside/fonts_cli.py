@@ -31,8 +31,9 @@ CIRCLE = 0x25CC
 INDIC = {"Beng", "Deva", "Gujr", "Guru", "Knda", "Mlym", "Orya", "Taml", "Telu"}
 # The causes of differences, by what is seen of the font, the text and the two lines.
 AAT = "a font with `morx` or `mort`, which HarfBuzz takes for GSUB"
-BOXES = "marks in a font with `kern` and without GPOS"
+BOXES = "a font with `kern` and marks, and without GPOS"
 SORT = "clusters of Indic syllables, by the sort"
+BASELESS = "Indic syllables without a base, in a font without a dotted circle"
 CIRCLES = "other dotted circles"
 REST = "other"
 ABOUT = f"""Shapes texts in each font of some folders by the program and by {THEIRS}, and prints a table in Markdown: fonts
@@ -173,9 +174,11 @@ def cause_of(text: str, own: str, theirs: str, told: list[str], circle: int) -> 
         return AAT
     if any("boxes" in line for line in told):
         return BOXES
-    found = difference(own, theirs)
-    if found is not None and found.in_clusters_alone and script_of(text) in INDIC:
+    found, is_indic = difference(own, theirs), script_of(text) in INDIC
+    if found is not None and found.in_clusters_alone and is_indic:
         return SORT
+    if is_indic and not circle:
+        return BASELESS
     if circles(own, circle) != circles(theirs, circle):
         return CIRCLES
     return REST

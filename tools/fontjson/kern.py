@@ -18,6 +18,12 @@ USUAL_SCRIPTS = ("DFLT", "dflt", "latn")
 HEBREW = "hebr"
 # Texts of these run to either side, by themselves from left to right.
 BOTH_SIDES = {"Hung"}
+# Combining diacritical marks with their supplements, those of Cyrillic, for symbols, and halves.
+MARK_BLOCKS = (
+    range(0x300, 0x370), range(0x483, 0x48A), range(0x1AB0, 0x1B00), range(0x1DC0, 0x1E00), range(0x20D0, 0x2100),
+    range(0xFE20, 0xFE30),
+)  # fmt: skip
+SELECTORS = {*range(0xFE00, 0xFE10), *range(0xE0100, 0xE01F0)}
 
 
 def with_kerning(source: Source, gpos: Value | None) -> Value | None:
@@ -32,9 +38,10 @@ def with_kerning(source: Source, gpos: Value | None) -> Value | None:
     rows = rows_of(source, table)
     lacking = {backward(row[0]) for row in rows if lacks(table, row)}
     subtables = read(source) if lacking else []
-    if not subtables:
+    if not subtables or loses_marks(source, gpos):
         return gpos
-    note_others(source, gpos, rows)
+    if "Hebr" in scripts_of(source) and all(row[0] != HEBREW for row in rows):
+        source.notes.changed("`kern` for Hebrew, which GPOS lacks")
     features, lookups = list(table["features"]), list(table["lookups"])
     places = {}
     for is_backward in sorted(lacking):
@@ -44,12 +51,21 @@ def with_kerning(source: Source, gpos: Value | None) -> Value | None:
     return {"scripts": scripts, "features": features, "lookups": lookups}
 
 
-def note_others(source: Source, gpos: Value | None, rows: list[Row]) -> None:
-    """Tells what HarfBuzz does beside kerning in fonts of this kind, and GPOS made of kerning can't."""
-    if gpos is None and any(unicodedata.category(chr(character)) == "Mn" for character in source.characters):
-        source.notes.changed("no GPOS but `kern`: marks are not positioned by their boxes")
-    if "Hebr" in scripts_of(source) and all(row[0] != HEBREW for row in rows):
-        source.notes.changed("`kern` for Hebrew, which GPOS lacks")
+def loses_marks(source: Source, gpos: Value | None) -> bool:
+    """Whether a table made of kerning would cost more than it gives.
+
+    In a font without GPOS a shaper positions marks by their boxes. Marks of blocks that are for marks alone mostly
+    compose with their letters; where the font has others, as Arabic vowels, its marks are kept and it isn't kerned.
+    """
+    if gpos is not None:
+        return False
+    marks = {character for character in source.characters if unicodedata.category(chr(character)) == "Mn"} - SELECTORS
+    if any(all(character not in block for block in MARK_BLOCKS) for character in marks):
+        source.notes.changed("`kern`, as there is no GPOS and marks are positioned by their boxes")
+        return True
+    if marks:
+        source.notes.changed("positions of marks by their boxes, as there is no GPOS but `kern`")
+    return False
 
 
 # ---- scripts

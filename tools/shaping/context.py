@@ -7,7 +7,7 @@ import sys
 from pathlib import Path
 from typing import Any
 
-from common.faults import FILES, SHAPING, WORDS, ToolFault
+from common.faults import DATA, FILES, SHAPING, WORDS, ToolFault
 from shaping.glyphs import Glyph, text_of
 from shaping.options import Given
 from shaping.program import Line
@@ -34,7 +34,7 @@ def shape_in_context(tables: Path, font: Path, texts: list[Text], given: Given, 
     try:
         opened = bindings.Font(tables.read_bytes(), font.read_bytes())
     except bindings.Fault as fault:
-        raise ToolFault(FILES, f"{tables} or {font}: {fault}") from fault
+        return [Line(text, "", DATA, str(fault)) for text in texts]
     wanted = settings(bindings, given)
     return [line_of(bindings, opened, text, wanted, given, boxes) for text in texts]
 

@@ -10,7 +10,7 @@ from pathlib import Path
 
 from support import BENCH, DEJAVU, DEVANAGARI, NASKH  # noqa: F401  (it puts the tools and bench/ on the path)
 
-from beside.fonts_cli import AAT, BOXES, CIRCLES, REST, SORT, Tally, cause_of, fonts_of, has_kern, main
+from beside.fonts_cli import AAT, BASELESS, BOXES, CIRCLES, REST, SORT, Tally, cause_of, fonts_of, has_kern, main
 from beside.fonts_texts import SCRIPTS, TEXTS, scripts_of, texts_of
 from fontTools import unicodedata
 from fontTools.ttLib import TTFont
@@ -43,7 +43,7 @@ class Causes(unittest.TestCase):
     def test_causes(self) -> None:
         cases = [
             (AAT, "a", "1=0+5", "2=0+5", ["table morx"]),
-            (BOXES, "a", "1=0+5", "2=0+5", ["no GPOS but `kern`: marks are not positioned by their boxes"]),
+            (BOXES, "a", "1=0+5", "2=0+5", ["positions of marks by their boxes, as there is no GPOS but `kern`"]),
             (SORT, "क", "1=0+5", "1=3+5", []),
             (CIRCLES, "a", "1=0+5", "9=0+5|1=0+5", []),
             (REST, "a", "1=0+5", "1=3+5", []),
@@ -51,6 +51,7 @@ class Causes(unittest.TestCase):
         ]
         for cause, text, own, theirs, told in cases:
             self.assertEqual(cause_of(text, own, theirs, told, 9), cause)
+        self.assertEqual(cause_of("क", "1=0+5|2=0+5", "2=0+5|1=0+5", [], 0), BASELESS)
 
     def test_table(self) -> None:
         tally = Tally(fonts=3, lines=60)

@@ -14,7 +14,7 @@ from support import DEJAVU, json_of, run
 from fontTools.feaLib.builder import addOpenTypeFeaturesFromString
 from fontTools.fontBuilder import FontBuilder
 from fontTools.pens.ttGlyphPen import TTGlyphPen
-from fontTools.ttLib import newTable
+from fontTools.ttLib import TTFont, newTable
 from fontTools.ttLib.tables._k_e_r_n import KernTable_format_0, KernTable_format_unkown
 from formats.rules import font_faults
 from shaping.program import PROGRAM
@@ -145,7 +145,18 @@ class Rows(unittest.TestCase):
             ],
         )  # fmt: skip
         self.gpos(pairs(), crossing)
-        self.assertIn("no GPOS but `kern`: marks are not positioned by their boxes", self.told)
+        self.assertIn("positions of marks by their boxes, as there is no GPOS but `kern`", self.told)
+
+    def test_marks(self) -> None:
+        """A font without GPOS that has Arabic vowels keeps the positions of its marks, and isn't kerned."""
+        path = write_font(self.path, [pairs()])
+        font = TTFont(path)
+        for table in font["cmap"].tables:
+            table.cmap[0x64E] = NAMES[ACUTE]
+        font.save(path)
+        value = json_of("font_to_json", path)
+        self.assertNotIn("gpos", value)
+        self.assertEqual(value["source"]["told"], ["`kern`, as there is no GPOS and marks are positioned by their boxes"])
 
     def test_damaged(self) -> None:
         """A subtable that is cut, or has more distances than the limit, is refused in one line."""

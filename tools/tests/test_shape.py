@@ -12,6 +12,7 @@ import threading
 import unittest
 import xml.etree.ElementTree as tree
 from pathlib import Path
+from types import SimpleNamespace
 from typing import Callable
 from unittest import mock
 
@@ -23,6 +24,7 @@ from fontTools.ttLib import TTFont, newTable
 from formats.rules import font_faults
 from formats.where import font_fault, tables_fault
 from shaping import cli
+from shaping.context import LIBRARIES, NAMED as LIBRARY, feature, load
 from shaping.glyphs import Glyph, as_json, read_line, text_of
 from shaping.locales import language_of
 from shaping.options import OPTIONS, Given, read_words, usage
@@ -262,6 +264,52 @@ class Commands(unittest.TestCase):
             self.assertEqual(shown.getvalue(), usage() + "\n")
         self.assertTrue(all(f"--{option.name}" in usage() for option in OPTIONS))
         self.assertIn("examples:\n", usage())
+
+
+@unittest.skipUnless(LIBRARY in os.environ or any(path.exists() for path in LIBRARIES), "needs tools/build_library")
+@unittest.skipUnless(shutil.which("hb-shape"), "needs hb-shape")
+class Context(unittest.TestCase):
+    """Texts with something before and after them, by the library, as hb-shape prints them."""
+
+    def test_lines(self) -> None:
+        cases = [
+            ("\u0628", "--text-before=\u0633", "--text-after=\u0633"),
+            ("\u0628\u0628", "--text-after=\u0633", "--show-extents", "--show-flags"),
+            ("\u0628\u0644\u0627", "--text-before=\u0627", "--features=-rlig,liga[1:2]=0", "--no-advances"),
+            ("\u0628\u0628", "--text-before=\u0633", "--direction=l", "--script=arab", "--language=ur", "--bot"),
+        ]
+        for text, *words in cases:
+            command = ["hb-shape", "--utf8-clusters", "--no-glyph-names", *words, NASKH, text]
+            theirs = subprocess.run(command, capture_output=True, text=True, check=True).stdout
+            own = run("shape", "--no-glyph-names", *words, NASKH, text).stdout.decode()
+            self.assertEqual(own.strip(), theirs.strip().strip("[]"), words)
+
+    def test_faults(self) -> None:
+        """A font that the library refuses is a fault of data with its place."""
+        with tempfile.NamedTemporaryFile(suffix=".json") as file:
+            file.write(b'{"h":[[1,500],[1,600]]}')
+            file.flush()
+            ran = run("shape", file.name, "a", "--text-before=b")
+        self.assertEqual((ran.returncode, ran.stdout), (3, b""))
+        self.assertIn(b"U1 OutOfOrder: h[1]: 1 is not above 1", ran.stderr)
+
+
+class Settings(unittest.TestCase):
+    def test_features(self) -> None:
+        """Requests as the library takes them."""
+        bindings = SimpleNamespace(Feature=lambda *given: given, GLOBAL_END=99)
+        cases = {
+            "kern": ("kern", 1, 0, 99), "-liga": ("liga", 0, 0, 99), "'ss01' = 2": ("ss01", 2, 0, 99),
+            "kern[3]": ("kern", 1, 3, 4), "kern[3:5]=0": ("kern", 0, 3, 5), "+kern[:5]": ("kern", 1, 0, 5),
+            "kern[3;]=on": ("kern", 1, 3, 99), "kern[]=off": ("kern", 0, 0, 99),
+        }  # fmt: skip
+        for text, expected in cases.items():
+            self.assertEqual(feature(bindings, text), expected)
+
+    def test_no_library(self) -> None:
+        with mock.patch.dict(os.environ), mock.patch("shaping.context.LIBRARIES", ()):
+            os.environ.pop(LIBRARY, None)
+            self.assertRaisesRegex(ToolFault, "need the library, which tools/build_library builds", load)
 
 
 class Verified(unittest.TestCase):
