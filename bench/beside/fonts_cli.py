@@ -10,21 +10,25 @@ from dataclasses import dataclass, field
 from pathlib import Path
 from typing import Iterator
 
+from fontTools import unicodedata
+
 from beside.differences import difference
 from beside.fonts_texts import texts_of
+from building.ready import ready_program
 from common.faults import FILES, ToolFault
 from common.notes import Notes, Progress
 from common.parsing import Words
 from shaping.cache import cache_folder, write_whole
 from shaping.cli import FONT_READ, tables_file
-from shaping.context import NAMED, shape_in_context
+from shaping.context import shape_in_context
 from shaping.options import Given
-from shaping.program import PROGRAM, run_all
+from shaping.program import run_all
 from shaping.texts import Text, script_of
 from fontjson.cli import read_font
 
 NAME = "fonts"
 THEIRS = "hb-shape"
+LIBRARY = "KUSPVELI_LIBRARY"
 USUAL = Path("/usr/share/fonts")
 ENDINGS = (".ttf", ".otf", ".ttc", ".otc")
 CIRCLE = 0x25CC
@@ -34,6 +38,7 @@ AAT = "a font with `morx` or `mort`, which HarfBuzz takes for GSUB"
 BOXES = "a font with `kern` and marks, and without GPOS"
 SORT = "clusters of Indic syllables, by the sort"
 BASELESS = "Indic syllables without a base, in a font without a dotted circle"
+OLD = "Indic texts in a font of the old specification"
 CIRCLES = "other dotted circles"
 REST = "other"
 ABOUT = f"""Shapes texts in each font of some folders by the program and by {THEIRS}, and prints a table in Markdown: fonts
@@ -85,9 +90,8 @@ def main(words: list[str]) -> int:
     if shutil.which(THEIRS) is None:
         raise ToolFault(FILES, f"{THEIRS} is missing: apt-get install libharfbuzz-bin")
     if options.library is not None:
-        os.environ[NAMED] = str(options.library)
-    elif not os.access(PROGRAM, os.X_OK):
-        raise ToolFault(FILES, f"{PROGRAM} is missing: tools/build")
+        os.environ[LIBRARY] = str(options.library)
+    program = None if options.library is not None else ready_program(NAME)
     tally, progress = Tally(), Progress(NAME)
     with cache_folder() as kept, tempfile.TemporaryDirectory() as folder:
         tables = tables_file(kept)
@@ -95,7 +99,7 @@ def main(words: list[str]) -> int:
         for number, path in enumerate(paths):
             progress.step(path.name, number, len(paths))
             if not options.kern or has_kern(path):
-                for line in try_font(path, Path(folder) / "font.json", tables, tally, options.library is not None):
+                for line in try_font(path, Path(folder) / "font.json", tables, tally, program):
                     if options.list:
                         progress.end()
                         print(line, flush=True)
@@ -123,8 +127,8 @@ def has_kern(path: Path) -> bool:
         return any(file.read(16)[:4] == b"kern" for _ in range(count))
 
 
-def try_font(path: Path, value: Path, tables: Path, tally: Tally, by_library: bool) -> Iterator[str]:
-    """The differences of a font's texts, in words; the tally is kept."""
+def try_font(path: Path, value: Path, tables: Path, tally: Tally, program: Path | None) -> Iterator[str]:
+    """The differences of a font's texts, in words, by a program or by the library; the tally is kept."""
     try:
         made = read_font(str(path), 0, FONT_READ, Notes())
     except ToolFault as fault:
@@ -135,19 +139,19 @@ def try_font(path: Path, value: Path, tables: Path, tally: Tally, by_library: bo
     texts = texts_of(characters, path.name)
     if not texts:
         return
-    told = made["source"]["told"]
+    told, scripts = made["source"]["told"], {row[0] for row in made.get("gsub", {}).get("scripts", [])}
     circle = dict(made["cmap"]).get(CIRCLE, 0)
     tally.fonts += 1
     given = [Text(text.encode(), path.name) for text in texts]
-    if by_library:
+    if program is None:
         own = shape_in_context(tables, value, given, Given(value, None), {})
     else:
-        own = run_all(PROGRAM, tables, value, given, ["--no-glyph-names"])
+        own = run_all(program, tables, value, given, ["--no-glyph-names"])
     for text, mine, theirs in zip(texts, own, lines_of(path, texts), strict=True):
         tally.lines += 1
         seen = mine.fault or difference(mine.glyphs, theirs)
         if seen is not None:
-            cause = cause_of(text, mine.glyphs, theirs, told, circle) if not mine.fault else REST
+            cause = cause_of(text, mine.glyphs, theirs, told, scripts, circle) if not mine.fault else REST
             tally.note(cause, path)
             numbers = " ".join(f"{ord(character):04X}" for character in text)
             yield f"{path}: {cause}: {numbers}: {mine.fault or mine.glyphs.strip()} where {THEIRS} has {theirs.strip()}"
@@ -168,8 +172,9 @@ def environment() -> dict[str, str]:
     return {**os.environ, "LC_ALL": "C.UTF-8"}
 
 
-def cause_of(text: str, own: str, theirs: str, told: list[str], circle: int) -> str:
-    """What a difference comes from, as far as it can be seen."""
+def cause_of(text: str, own: str, theirs: str, told: list[str], scripts: set[str], circle: int) -> str:
+    """What a difference comes from, as far as it can be seen; by the two lines, and what was left out of the font, the
+    scripts of its GSUB and its dotted circle."""
     if any(line in ("table morx", "table mort") for line in told):
         return AAT
     if any("boxes" in line for line in told):
@@ -177,6 +182,8 @@ def cause_of(text: str, own: str, theirs: str, told: list[str], circle: int) -> 
     found, is_indic = difference(own, theirs), script_of(text) in INDIC
     if found is not None and found.in_clusters_alone and is_indic:
         return SORT
+    if is_indic and not scripts.intersection(unicodedata.ot_tags_from_script(script_of(text))[:-1]):
+        return OLD
     if is_indic and not circle:
         return BASELESS
     if circles(own, circle) != circles(theirs, circle):

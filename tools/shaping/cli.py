@@ -6,6 +6,7 @@ from dataclasses import replace
 from pathlib import Path
 from typing import Any
 
+from building.ready import ready_program
 from common.faults import DATA, SHAPING, WORDS, ToolFault
 from common.files import check_regular
 from common.notes import Notes, Progress
@@ -14,11 +15,11 @@ from fontjson.cli import instance_of, read_font
 from fontjson.keep import Kept
 from fontjson.variations import Place
 from formats.where import font_fault, tables_fault
-from shaping.cache import cache_folder, cached, fingerprint, font_name, part_of
+from shaping.cache import TOOLS, cache_folder, cached, fingerprint, font_name, part_of
 from shaping.glyphs import as_json, read_line, with_names
 from shaping.locales import locale_language
 from shaping.options import NAME, Given, read_words, usage
-from shaping.program import PROGRAM, Line, make_ready, run_all, told
+from shaping.program import Line, run_all, told
 from shaping.texts import Text, lack_notes, read_texts
 from unicodejson.cli import DEBIAN, MAKERS, make_tables
 
@@ -51,15 +52,17 @@ def main(words: list[str]) -> int:
     with cache_folder() as folder:
         place = tell_place(given)
         font = font_file(folder, given, place)
-        make_ready(PROGRAM)
+        program = ready_program(NAME)
         tables = tables_file(folder)
-        lines = shape(tables, font, texts, given)
+        if "verbose" in given.own:
+            tell(NAME, which_tables(tables))
+        lines = shape(program, tables, font, texts, given)
         if any(line.status == DATA for line in lines) and heal(folder, given, place, tables, font):
-            lines = shape(tables, font, texts, given)
+            lines = shape(program, tables, font, texts, given)
         if "verify" in given.own:
-            verify(lines, given, tables, font)
+            verify(program, lines, given, tables, font)
         if pictures_of(given):
-            draw(whole_lines(lines, given, tables, font), given, place)
+            draw(whole_lines(program, lines, given, tables, font), given, place)
         return show(lines, given, tables, font)
 
 
@@ -68,8 +71,9 @@ def check_words(given: Given) -> None:
     for option in (*PICTURES, "variations", "named-instance"):
         if option in given.own and is_json(given.font):
             raise ToolFault(WORDS, f"--{option}: {given.font} has no outlines and no variations: it takes a font file")
-    if pictures_of(given).count(STANDARD_OUTPUT) + given.is_json > 1 and STANDARD_OUTPUT in pictures_of(given):
-        raise ToolFault(WORDS, "standard output takes one of a picture and JSON")
+    shown = [f"--{kind}=-" for kind in PICTURES if given.own.get(kind) == STANDARD_OUTPUT]
+    if shown and (given.is_json or len(shown) > 1):
+        raise ToolFault(WORDS, f"{' and '.join(shown)}: standard output takes one picture, or JSON")
 
 
 def take_locale(given: Given) -> None:
@@ -87,7 +91,7 @@ def tell_place(given: Given) -> Place | None:
     return place
 
 
-def shape(tables: Path, font: Path, texts: list[Text], given: Given) -> list[Line]:
+def shape(program: Path, tables: Path, font: Path, texts: list[Text], given: Given) -> list[Line]:
     """The lines of all texts, with glyphs by their numbers."""
     if any(option in given.own for option in CONTEXT):
         from shaping.context import shape_in_context
@@ -95,16 +99,16 @@ def shape(tables: Path, font: Path, texts: list[Text], given: Given) -> list[Lin
         boxes = {glyph: tuple(box) for glyph, *box in rows_of(font, "extents")} if given.has("show-extents") else {}
         return shape_in_context(tables, font, texts, given, boxes)
     options = [*given.program, NUMBERS] if NUMBERS not in given.program else given.program
-    return run_all(PROGRAM, tables, font, texts, options)
+    return run_all(program, tables, font, texts, options)
 
 
-def verify(lines: list[Line], given: Given, tables: Path, font: Path) -> None:
+def verify(program: Path, lines: list[Line], given: Given, tables: Path, font: Path) -> None:
     """Tests the promises on each text that was shaped; the first that is broken is a fault."""
     from shaping.verify import Promises
 
     for line in lines:
         if not line.status:
-            for broken in Promises(PROGRAM, tables, font, line.text, given).broken():
+            for broken in Promises(program, tables, font, line.text, given).broken():
                 raise ToolFault(SHAPING, f"{line.text.where}: a promise is broken: {broken}")
 
 
@@ -141,13 +145,13 @@ def pictures_of(given: Given) -> list[str]:
     return [given.own[kind] for kind in PICTURES if kind in given.own]
 
 
-def whole_lines(lines: list[Line], given: Given, tables: Path, font: Path) -> list[Line]:
+def whole_lines(program: Path, lines: list[Line], given: Given, tables: Path, font: Path) -> list[Line]:
     """The texts' lines with all that a picture needs, whatever is printed."""
     shaped = [line for line in lines if not line.status]
     if not any(word in HIDING for word in given.program):
         return shaped
     whole = replace(given, program=[word for word in given.program if word not in HIDING])
-    return shape(tables, font, [line.text for line in shaped], whole)
+    return shape(program, tables, font, [line.text for line in shaped], whole)
 
 
 def draw(lines: list[Line], given: Given, place: Place | None) -> None:

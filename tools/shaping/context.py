@@ -1,7 +1,6 @@
 """Texts with what stands before and after them, shaped by the library for C, since the program has no words for it."""
 
 import importlib
-import os
 import re
 import sys
 from pathlib import Path
@@ -13,9 +12,7 @@ from shaping.options import Given
 from shaping.program import Line
 from shaping.texts import Text
 
-ROOT = Path(__file__).parent.parent.parent
-NAMED = "KUSPVELI_LIBRARY"
-LIBRARIES = (ROOT / "out" / "libkuspveli.so", ROOT / "out" / "unproved" / "libkuspveli.so")
+BINDINGS = Path(__file__).parent.parent.parent / "bindings" / "python"
 DIRECTIONS = {"l": "ltr", "r": "rtl", "t": "ttb", "b": "btt"}
 FLAGS = {
     "bot": 1, "eot": 2, "preserve-default-ignorables": 4, "remove-default-ignorables": 8, "no-dotted-circle": 16,
@@ -40,14 +37,12 @@ def shape_in_context(tables: Path, font: Path, texts: list[Text], given: Given, 
 
 
 def load() -> Any:
-    """The bindings for Python over the library that is named or built."""
-    if NAMED not in os.environ:
-        built = next((path for path in LIBRARIES if path.exists()), None)
-        if built is None:
-            raise ToolFault(FILES, "--text-before and --text-after need the library, which tools/build_library builds")
-        os.environ[NAMED] = str(built)
-    sys.path.append(str(ROOT / "bindings" / "python"))
-    return importlib.import_module("kuspveli")
+    """The bindings for Python over the library that is built, installed or named by KUSPVELI_LIBRARY."""
+    sys.path.append(str(BINDINGS))
+    try:
+        return importlib.import_module("kuspveli")
+    except ImportError as missing:
+        raise ToolFault(FILES, f"--text-before and --text-after take the library: {missing}") from missing
 
 
 def line_of(bindings: Any, font: Any, text: Text, wanted: dict[str, Any], given: Given, boxes: dict[int, Any]) -> Line:

@@ -145,6 +145,7 @@ OPTIONS = (
     Option("svg", "draw the glyphs and their clusters into a file", "FILE", any_text, True),
     Option("png", "the same as pixels (needs python3-cairo)", "FILE", any_text, True),
     Option("no-limits", "lift the limits of memory and time on reading the font", is_own=True),
+    Option("verbose", "say on standard error which tables are used", is_own=True),
     Option("direction", "ltr, rtl, ttb or btt; guessed from the text", "D", direction),
     Option("script", "an ISO 15924 tag; guessed from the text", "S", script),
     Option("language", "a BCP 47 tag, as ro or de-CH; else that of the locale", "L", language),

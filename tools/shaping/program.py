@@ -7,8 +7,7 @@ from concurrent.futures import ThreadPoolExecutor
 from dataclasses import dataclass
 from pathlib import Path
 
-from common.faults import DATA, FILES, ToolFault, one_line
-from common.printing import tell
+from common.faults import DATA, one_line
 from formats.where import font_fault, tables_fault
 from shaping.texts import Text
 
@@ -23,25 +22,6 @@ class Line:
     glyphs: str
     status: int
     fault: str
-
-
-def make_ready(program: Path) -> None:
-    """Builds the program where it is not there; tells where sources are newer than it."""
-    if not os.access(program, os.X_OK):
-        tell("shape", f"{program} is not there: tools/build proves and builds it first")
-        if subprocess.run([BUILD], stdout=sys.stderr, check=False).returncode != 0:
-            raise ToolFault(FILES, "the program was not built, so nothing is shaped (tools/build says why)")
-    elif is_old(program):
-        tell("shape", "sources are newer than the program: tools/build builds it anew")
-
-
-def is_old(program: Path) -> bool:
-    """Whether a source is newer than the program, where it stands in a folder with crates."""
-    crates = program.parent.parent.parent
-    if crates.name != "crates":
-        return False
-    made = program.stat().st_mtime
-    return any(path.stat().st_mtime > made for path in crates.glob("*/src/**/*.rt"))
 
 
 def run_all(program: Path, tables: Path, font: Path, texts: list[Text], options: list[str]) -> list[Line]:

@@ -2,7 +2,6 @@
 
 import contextlib
 import io
-import os
 import shutil
 import tempfile
 import unittest
@@ -10,11 +9,11 @@ from pathlib import Path
 
 from support import BENCH, DEJAVU, DEVANAGARI, NASKH  # noqa: F401  (it puts the tools and bench/ on the path)
 
-from beside.fonts_cli import AAT, BASELESS, BOXES, CIRCLES, REST, SORT, Tally, cause_of, fonts_of, has_kern, main
+from beside.fonts_cli import AAT, BASELESS, BOXES, CIRCLES, OLD, REST, SORT, Tally, cause_of, fonts_of, has_kern, main
 from beside.fonts_texts import SCRIPTS, TEXTS, scripts_of, texts_of
+from building.places import PROGRAM, standing
 from fontTools import unicodedata
 from fontTools.ttLib import TTFont
-from shaping.program import PROGRAM
 
 
 class Texts(unittest.TestCase):
@@ -50,8 +49,9 @@ class Causes(unittest.TestCase):
             (REST, "क", "1=0+5", "1=0+6", []),
         ]
         for cause, text, own, theirs, told in cases:
-            self.assertEqual(cause_of(text, own, theirs, told, 9), cause)
-        self.assertEqual(cause_of("क", "1=0+5|2=0+5", "2=0+5|1=0+5", [], 0), BASELESS)
+            self.assertEqual(cause_of(text, own, theirs, told, {"dev2"}, 9), cause)
+        self.assertEqual(cause_of("क", "1=0+5|2=0+5", "2=0+5|1=0+5", [], {"dev2"}, 0), BASELESS)
+        self.assertEqual(cause_of("क", "1=0+5|2=0+5", "2=0+5|1=0+5", [], {"deva"}, 9), OLD)
 
     def test_table(self) -> None:
         tally = Tally(fonts=3, lines=60)
@@ -74,7 +74,7 @@ class Causes(unittest.TestCase):
         self.assertFalse(has_kern(Path(DEVANAGARI)))
 
 
-@unittest.skipUnless(os.access(PROGRAM, os.X_OK), "needs the program (tools/build)")
+@unittest.skipUnless(standing(PROGRAM).is_current(), "needs the program (tools/build)")
 @unittest.skipUnless(shutil.which("hb-shape"), "needs hb-shape (libharfbuzz-bin)")
 class Whole(unittest.TestCase):
     def test_font(self) -> None:

@@ -1,6 +1,5 @@
 """The table `kern` as lookups of GPOS: rows worked out by hand, and lines beside hb-shape where the program is built."""
 
-import os
 import shutil
 import struct
 import subprocess
@@ -11,13 +10,13 @@ from typing import Any
 
 from support import DEJAVU, json_of, run
 
+from building.places import PROGRAM, standing
 from fontTools.feaLib.builder import addOpenTypeFeaturesFromString
 from fontTools.fontBuilder import FontBuilder
 from fontTools.pens.ttGlyphPen import TTGlyphPen
 from fontTools.ttLib import TTFont, newTable
 from fontTools.ttLib.tables._k_e_r_n import KernTable_format_0, KernTable_format_unkown
 from formats.rules import font_faults
-from shaping.program import PROGRAM
 
 CHARACTERS = "AVT.\u0301\u0632\u0627\u05d0\u05d1\u0391"
 NAMES = [".notdef", *(f"g{ord(character):04X}" for character in CHARACTERS)]
@@ -172,7 +171,7 @@ class Rows(unittest.TestCase):
             self.assertEqual(ran.stderr.count(b"\n"), 1)
 
 
-@unittest.skipUnless(os.access(PROGRAM, os.X_OK), "needs the program (tools/build)")
+@unittest.skipUnless(standing(PROGRAM).is_current(), "needs the program (tools/build)")
 @unittest.skipUnless(shutil.which("hb-shape"), "needs hb-shape (libharfbuzz-bin)")
 class BesideHarfBuzz(unittest.TestCase):
     def test_lines(self) -> None:

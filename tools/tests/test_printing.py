@@ -36,7 +36,8 @@ from pathlib import Path
 sys.path.insert(0, sys.argv.pop(1))
 from common.faults import run_tool
 from shaping import cli
-cli.PROGRAM, cli.TABLES_READ = Path(sys.argv.pop(1)), []
+program = Path(sys.argv.pop(1))
+cli.ready_program, cli.TABLES_READ = lambda name: program, ["thai"]
 run_tool("shape", cli.main)
 """
 
@@ -130,11 +131,11 @@ class Streams(Printed):
 
     def test_errors(self) -> None:
         """Where standard error is full or closed a fault keeps its status, and no fault has none."""
-        for words, status, line in (((self.font, "ab"), 0, f"{SHOWN}=0+500|b=1+500\n"), ((self.font,), WORDS, "")):
+        for words, status, line in (((self.font, "ab"), 0, f"{SHOWN}=0+500|b=1+500\n"), ((self.font, "a", "b"), WORDS, "")):
             for end in (">&-", "</dev/null", ">/dev/full"):
                 ran = self.ran(["/bin/sh", "-c", f'exec "$@" 2{end}', "sh", *self.command(*words)])
                 self.assertEqual((ran.returncode, ran.stdout, ran.stderr), (status, line, ""), end)
-        ran = self.ran(["/bin/sh", "-c", 'exec "$@" <&- >&- 2>&-', "sh", *self.command(self.font)])
+        ran = self.ran(["/bin/sh", "-c", 'exec "$@" <&- >&- 2>&-', "sh", *self.command(self.font, "a", "b")])
         self.assertEqual(ran.returncode, WORDS)
 
     def test_texts(self) -> None:
@@ -207,8 +208,8 @@ class Kept(Printed):
         super().setUp()
         write_stand_in(Path(self.program), REFUSING)
         patches = [
-            mock.patch.object(cli, "PROGRAM", Path(self.program)),
-            mock.patch.object(cli, "TABLES_READ", []),
+            mock.patch.object(cli, "ready_program", lambda name: Path(self.program)),
+            mock.patch.object(cli, "TABLES_READ", ["thai"]),
             mock.patch.dict(os.environ, self.environment),
         ]
         for patch in patches:

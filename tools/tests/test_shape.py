@@ -7,6 +7,7 @@ import json
 import os
 import shutil
 import subprocess
+import sys
 import tempfile
 import threading
 import unittest
@@ -24,13 +25,12 @@ from fontTools.ttLib import TTFont, newTable
 from formats.rules import font_faults
 from formats.where import font_fault, tables_fault
 from shaping import cli
-from shaping.context import LIBRARIES, NAMED as LIBRARY, feature, load
+from shaping.context import feature, load
 from shaping.glyphs import Glyph, as_json, read_line, text_of
 from shaping.locales import language_of
 from shaping.options import OPTIONS, Given, read_words, usage
 from shaping.picture import BASELINE, MARGIN, clusters_of, picture, placed, width_of
 from shaping.png import PIXELS, png
-from shaping.program import is_old, make_ready
 from shaping.svg import svg
 from shaping.texts import Text, lack_notes, lacking
 from shaping.verify import Promises
@@ -51,6 +51,13 @@ echo "82=0+1253|5044=1@-3,4+1980,7#1<1,2,3,-4>"
 LINE = "82=0+1253|5044=1@-3,4+1980,7#1<1,2,3,-4>\n"
 # The same with the names of DejaVu Sans, which the tool puts there.
 NAMED = "o=0+1253|uniFB03=1@-3,4+1980,7#1<1,2,3,-4>\n"
+
+
+def has_library() -> bool:
+    """Whether the library is there."""
+    with contextlib.redirect_stderr(io.StringIO()), contextlib.suppress(ToolFault):
+        return bool(load())
+    return False
 
 
 class Commands(unittest.TestCase):
@@ -249,7 +256,7 @@ class Commands(unittest.TestCase):
             ("font", "a", "--font-size=12"): "--font-size: glyphs are placed in units of the em",
             ("font", "a", "--font-ppem=12"): "--font-ppem: no sizes in pixels",
             ("font", "a", "--shapers=ot"): "--shapers: there is one shaper",
-            ("font", "a", "-O", "json", "--svg=-"): "standard output takes one of a picture and JSON",
+            ("font", "a", "-O", "json", "--svg=-"): "--svg=-: standard output takes one picture, or JSON",
             ("font.json", "a", "--png=x"): "--png: font.json has no outlines",
         }
         for words, says in cases.items():
@@ -266,7 +273,7 @@ class Commands(unittest.TestCase):
         self.assertIn("examples:\n", usage())
 
 
-@unittest.skipUnless(LIBRARY in os.environ or any(path.exists() for path in LIBRARIES), "needs tools/build_library")
+@unittest.skipUnless(has_library(), "needs the library (tools/build_library)")
 @unittest.skipUnless(shutil.which("hb-shape"), "needs hb-shape")
 class Context(unittest.TestCase):
     """Texts with something before and after them, by the library, as hb-shape prints them."""
@@ -307,9 +314,10 @@ class Settings(unittest.TestCase):
             self.assertEqual(feature(bindings, text), expected)
 
     def test_no_library(self) -> None:
-        with mock.patch.dict(os.environ), mock.patch("shaping.context.LIBRARIES", ()):
-            os.environ.pop(LIBRARY, None)
-            self.assertRaisesRegex(ToolFault, "need the library, which tools/build_library builds", load)
+        missing = {"KUSPVELI_LIBRARY": "/nowhere/libkuspveli.so"}
+        with mock.patch.dict(os.environ, missing), mock.patch.dict(sys.modules):
+            sys.modules.pop("kuspveli", None)
+            self.assertRaisesRegex(ToolFault, "no such file is there: tools/build_library proves and builds it", load)
 
 
 class Verified(unittest.TestCase):

@@ -1,6 +1,5 @@
 """Instances of a variable font that is written for the test: words, faults, rows, and lines beside hb-shape."""
 
-import os
 import shutil
 import subprocess
 import tempfile
@@ -10,6 +9,7 @@ from typing import Any
 
 from support import DEJAVU, json_of, run
 
+from building.places import PROGRAM, standing
 from common.faults import ToolFault
 from fontTools.feaLib.builder import addOpenTypeFeaturesFromString
 from fontTools.fontBuilder import FontBuilder
@@ -22,7 +22,6 @@ from fontTools.varLib.builder import buildVarData, buildVarRegionList, buildVarS
 from fontTools.varLib.featureVars import addFeatureVariations
 from fontjson.variations import read_variations
 from shaping import cli
-from shaping.program import PROGRAM
 
 GLYPHS = [".notdef", "a", "b", "heavy", "usual"]
 # The pair's distance is -10 at 100, -50 at 400 and -110 at 900.
@@ -177,7 +176,7 @@ class Instances(unittest.TestCase):
         self.assertEqual(cli.font_value(self.folder, Path(self.path), 0, True, place).stat().st_ino, made)
         self.assertNotEqual(cli.font_value(self.folder, Path(self.path), 0), first)
 
-    @unittest.skipUnless(os.access(PROGRAM, os.X_OK), "needs the program (tools/build)")
+    @unittest.skipUnless(standing(PROGRAM).is_current(), "needs the program (tools/build)")
     @unittest.skipUnless(shutil.which("hb-shape"), "needs hb-shape (libharfbuzz-bin)")
     def test_lines(self) -> None:
         for weight in (100, 250, 400, 433, 700, 900, 2000):
