@@ -6,8 +6,10 @@ import sys
 from typing import Iterator
 
 OUTPUT, INPUT = "standard output", "standard input"
-# What separates the fields of a printed line of glyphs, and the glyphs, and what escapes it here.
-LINE_MARKS = frozenset("|=@+#<>[],\\")
+# What separates glyphs in a printed line, ends a name there, or escapes that here. Where a name has no cluster after it,
+# these end it too; else they stand in names of fonts in use, as A+slashtall and acute#1.
+LINE_MARKS = frozenset("|=[]\\")
+FIELD_MARKS = LINE_MARKS | frozenset("@+#<")
 
 
 def clean(text: str) -> str:
@@ -15,9 +17,10 @@ def clean(text: str) -> str:
     return "".join(each if each.isprintable() else escape(each) for each in text)
 
 
-def clean_name(name: str) -> str:
+def clean_name(name: str, has_cluster: bool = True) -> str:
     """A glyph's name that stands in a line of glyphs as one field, whatever it is made of."""
-    return "".join(each if each.isprintable() and each not in LINE_MARKS else escape(each) for each in name)
+    marks = LINE_MARKS if has_cluster else FIELD_MARKS
+    return "".join(each if each.isprintable() and each not in marks else escape(each) for each in name)
 
 
 def escape(character: str) -> str:

@@ -134,7 +134,9 @@ def printed(line: Line, names: dict[int, str], given: Given) -> str:
     before = f"({line.text.characters})\n" if "show-text" in given.own else ""
     if given.is_json:
         return before + as_json(read_line(line.glyphs), names, given) + "\n"
-    return before + (line.glyphs if given.has("no-glyph-names") else with_names(line.glyphs, names))
+    if given.has("no-glyph-names"):
+        return before + line.glyphs
+    return before + with_names(line.glyphs, names, not given.has("no-clusters"))
 
 
 # ---- pictures

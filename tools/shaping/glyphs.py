@@ -41,12 +41,12 @@ def read_line(line: str) -> list[Glyph]:
     return found
 
 
-def with_names(line: str, names: dict[int, str]) -> str:
+def with_names(line: str, names: dict[int, str], has_clusters: bool = True) -> str:
     """A line of glyph numbers with the font's names in their place, each of which stays one field."""
     parts = []
     for part in line.rstrip("\n").split("|") if line.strip() else []:
         number = part[: len(part) - len(part.lstrip("0123456789"))]
-        parts.append(clean_name(names.get(int(number), f"gid{number}")) + part[len(number) :])
+        parts.append(clean_name(names.get(int(number), f"gid{number}"), has_clusters) + part[len(number) :])
     return "|".join(parts) + "\n"
 
 

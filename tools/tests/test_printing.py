@@ -24,7 +24,7 @@ from shaping import cli
 WORDS, DATA, TEXT, FILES, INTERRUPTED = 2, 3, 4, 6, 130
 # A colour, a second glyph and a second line, C1, DEL, and the marks of a line, as a font's bytes can have them.
 NAME = "\x1b[31mx=0+1|y]\r\n\x9b\x7f\\@#<>,"
-SHOWN = r"\x1b\x5b31mx\x3d0\x2b1\x7cy\x5d\x0d\x0a\u009b\x7f\x5c\x40\x23\x3c\x3e\x2c"
+SHOWN = r"\x1b\x5b31mx\x3d0+1\x7cy\x5d\x0d\x0a\u009b\x7f\x5c@#<>,"
 PRINTABLE = re.compile("[ -~\n]*")
 # The characters that XML 1.0 may hold.
 XML = re.compile("[\t\n\r -\ud7ff\ue000-\ufffd\U00010000-\U0010ffff]*")
@@ -72,6 +72,7 @@ class Printed(unittest.TestCase):
 class Names(Printed):
     def test_clean(self) -> None:
         self.assertEqual(clean_name(NAME), SHOWN)
+        self.assertEqual(clean_name("a+1@2,3#4<5", False), r"a\x2b1\x402,3\x234\x3c5")
         self.assertEqual(clean("a b\n\x1b\u202e\u2066\x85\ufffe\U000e0001"), r"a b\x0a\x1b\u202e\u2066\u0085\ufffe\U000e0001")
         self.assertEqual(clean(os.fsdecode(b"\xffa")), r"\xffa")
         self.assertEqual(clean_name("uni0061.alt-é"), "uni0061.alt-é")
@@ -83,6 +84,9 @@ class Names(Printed):
         for font in (self.font, value):
             ran = self.shape(font, "ab")
             self.assertEqual((ran.returncode, ran.stdout), (0, f"{SHOWN}=0+500|b=1+500\n"), ran.stderr)
+        write_stand_in(Path(self.program), "echo '1+500|2+500'")
+        ran = self.shape(self.font, "ab", "--no-clusters")
+        self.assertEqual(ran.stdout, f"{clean_name(NAME, False)}+500|b+500\n")
 
     def test_json(self) -> None:
         """JSON has the name as it is, in printable characters."""
