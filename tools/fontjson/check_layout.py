@@ -129,6 +129,7 @@ class Record:
         self.whole.walked()
         size = Size(1, 0)
         for field in self.fields():
+            # Whether a field is there is an expression in fontTools' list.
             if not field.repeat and field.aux and not eval(field.aux, None, self.values):
                 continue
             field = self.resolved(field)
@@ -163,9 +164,11 @@ class Record:
     def single(self, field: Any) -> Size:
         """A field that is there once."""
         if isinstance(field, Table):
+            offset = self.whole.number(self.at, field.staticSize)
+            self.at += field.staticSize
             if field.name == "Coverage":
-                self.covered = self.whole.covered(self.start + self.whole.number(self.at))
-            return self.array(field, 1)
+                self.covered = self.whole.covered(self.start + offset)
+            return self.whole.table(field.tableClass, self.start + offset, self.state) if offset else NOTHING
         if isinstance(field, ValueRecord):
             return self.value_records(field, 1)
         if isinstance(field, Struct):
@@ -214,7 +217,8 @@ class Record:
         size = Size(count, subtables)
         for offset, times in places.items():
             if offset:
-                size = size.plus(self.whole.table(field.tableClass, self.start + offset, self.state), times)
+                named = self.whole.table(field.tableClass, self.start + offset, self.state)
+                size = self.whole.within(size.plus(named, times))
         return self.whole.within(size)
 
     def structs(self, field: Any, count: int) -> Size:

@@ -63,17 +63,20 @@ def reading(path: str, is_limited: bool = True) -> Iterator[None]:
     except Refused as fault:
         raise ToolFault(DATA, f"{path}: {fault}") from fault
     except (MemoryError, OutOfTime, BrokenProcessPool) as fault:
-        raise ToolFault(DATA, f"{path}: {beyond(fault)}") from None
+        lifted = " (--no-limits lifts the limit)" if is_limited else ""
+        raise ToolFault(DATA, f"{path}: {beyond(fault, is_limited)}{lifted}") from None
     except Exception as error:
         what = f"{type(error).__name__}: {error}"
         raise ToolFault(DATA, f"{path}: the font is damaged: {what[:SHOWN]}") from error
 
 
-def beyond(fault: BaseException) -> str:
-    """Which limit was met. A process beside this one ends where it is out of time."""
-    if isinstance(fault, MemoryError):
-        return f"reading it takes more than {MOST_MEMORY >> 30} GiB of memory (--no-limits lifts the limit)"
-    return f"reading it takes more than {MOST_SECONDS} seconds of processor time (--no-limits lifts the limit)"
+def beyond(fault: BaseException, is_limited: bool) -> str:
+    """Which limit was met."""
+    if isinstance(fault, OutOfTime):
+        return f"reading it takes more than {MOST_SECONDS} seconds of processor time"
+    if isinstance(fault, BrokenProcessPool):
+        return "a process that draws outlines was ended, out of processor time or of memory"
+    return f"reading it takes more than {MOST_MEMORY >> 30} GiB of memory" if is_limited else "out of memory"
 
 
 @contextlib.contextmanager
@@ -106,7 +109,10 @@ def out_of_time(*_: Any) -> None:
 
 
 def begin_worker() -> None:
-    """What a process that draws some glyphs begins with: it ends without a word where it is interrupted or out of time."""
-    signal.signal(signal.SIGINT, signal.SIG_DFL)
+    """What a process that draws some glyphs begins with: it ends without a word where it is out of time.
+
+    It is not interrupted: the process that made it is, and ends it.
+    """
+    signal.signal(signal.SIGINT, signal.SIG_IGN)
     signal.signal(signal.SIGXCPU, signal.SIG_DFL)
     resource.setrlimit(resource.RLIMIT_CORE, (0, 0))
