@@ -4,6 +4,7 @@ import zlib
 from pathlib import Path
 from typing import BinaryIO
 
+from common.faults import FILES, ToolFault
 from fontjson.limits import MOST_BYTES, refuse
 
 WOFF, WOFF2 = b"wOFF", b"wOF2"
@@ -61,7 +62,10 @@ def check_woff2(file: BinaryIO) -> None:
 
 def unbrotli(packed: bytes, whole: int) -> None:
     """Unpacks a stream by small bites, and stops where it has more than it should."""
-    import brotli
+    try:
+        import brotli
+    except ImportError as missing:
+        raise ToolFault(FILES, "brotli is missing for WOFF2: apt-get install python3-brotli") from missing
 
     stream, found = brotli.Decompressor(), 0
     for start in range(0, len(packed), BITE):

@@ -16,20 +16,24 @@ from fontjson.limits import (
     refuse,
 )
 
+CFF = ("CFF ", "CFF2")
+
 
 def drawn_glyphs(font: Any) -> Any:
     """A glyph set of fontTools, or one like it."""
-    for tag in ("CFF ", "CFF2"):
-        if tag in font and "glyf" not in font:
+    if "glyf" in font:
+        return font.getGlyphSet()
+    for tag in CFF:
+        if tag in font:
             return CffGlyphs(font, tag)
-    return font.getGlyphSet()
+    raise refuse("the font has no outlines")
 
 
 def bytes_run(font: Any) -> dict[str, tuple[int, int]]:
     """How many bytes of charstrings run where all glyphs of CFF are drawn, with the limit; nothing for other fonts."""
-    glyphs = drawn_glyphs(font)
-    if not isinstance(glyphs, CffGlyphs):
+    if "glyf" in font or not any(tag in font for tag in CFF):
         return {}
+    glyphs = drawn_glyphs(font)
     for name in font.getGlyphOrder():
         glyphs[name].draw(NullPen())
     return {"CFF: bytes that run": (glyphs.run, glyphs.most), "CFF: levels of subroutines": (glyphs.levels, MOST_CALLS)}

@@ -41,8 +41,10 @@ def fault_of(path: Path, rules: Rules) -> str | None:
     except json.JSONDecodeError as error:
         byte = len(error.doc[: error.pos].encode())
         return f"no JSON at line {error.lineno}, column {error.colno} (byte {byte}): {error.msg}"
-    except (ValueError, RecursionError) as error:
+    except ValueError as error:
         return f"no JSON: {error}"
+    except RecursionError:
+        return "no JSON: nested too deep"
     if not isinstance(value, dict):
         return "no object at the top"
     wrong = next(floats(value, ""), None)
