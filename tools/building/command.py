@@ -58,6 +58,7 @@ def build(name: str, place: Place, jobs: int | None, make: Make) -> int:
         failure = make_new(place, kit, jobs, teller, make) if place.is_proved else make_unproved(place, teller)
         if failure is not None:
             return tell_failure(name, place, failure)
+        teller.line(f"done in {teller.clock()}")
     for path in place.files:
         print(f"built {path.relative_to(place.root)}")
     if not place.is_proved:

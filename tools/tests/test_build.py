@@ -128,7 +128,9 @@ class Built(unittest.TestCase):
             "[2/4] 0:00 left is kept",
         )
         self.assertEqual(told.splitlines()[:4], [f"build: {line}" for line in begin])
-        self.assertIn("build: [4/4] 0:00 hb_shape proved\nbuild: note: the disk has 7 MB left\n", told)
+        self.assertIn(
+            "build: [4/4] 0:00 hb_shape proved\nbuild: note: the disk has 7 MB left\nbuild: done in 0:00\n", told
+        )
         self.assertTrue(told.endswith("built out/hb_shape\n"), told)
         self.assertTrue(os.access(self.place.file, os.X_OK))
         self.assertIn("fn low::f: proved\n", self.place.log.read_text())
