@@ -11,6 +11,7 @@ from typing import Iterator
 
 from building.places import Place
 from common.faults import FILES, ToolFault
+from common.version import version
 
 # The repository's own folders, as its tools know them, with what they need of them.
 OWN = "lib/kuspveli"
@@ -37,11 +38,11 @@ class Entry:
 
 def layout(root: Path, prefix: Path, program: Place, library: Place) -> dict[str, Entry]:
     """All entries by their paths below the prefix."""
-    version = (root / "VERSION").read_text(encoding="utf-8").strip()
+    number = version()
     entries = {f"bin/{name}": Entry(link=f"../{OWN}/tools/{tool}") for name, tool in COMMANDS.items()}
     entries["include/kuspveli.h"] = entry_of(root / "include" / "kuspveli.h")
-    entries |= library_entries(library, version)
-    entries["lib/pkgconfig/kuspveli.pc"] = Entry(pkg_config(prefix, version, library.is_proved).encode())
+    entries |= library_entries(library, number)
+    entries["lib/pkgconfig/kuspveli.pc"] = Entry(pkg_config(prefix, number, library.is_proved).encode())
     for path in (*tool_files(root / "tools"), *(root / name for name in DATA), program.file, program.stamp_file):
         entries[f"{OWN}/{path.relative_to(root)}"] = entry_of(path)
     return entries
@@ -54,36 +55,36 @@ def entry_of(path: Path) -> Entry:
 # ---- the library
 
 
-def library_entries(library: Place, version: str) -> dict[str, Entry]:
+def library_entries(library: Place, number: str) -> dict[str, Entry]:
     """The archive, the shared library under its whole version, and the links by which it is linked and loaded."""
     archive = library.folder / "libkuspveli.a"
-    whole, loaded = f"libkuspveli.so.{version}", soname(version)
+    whole, loaded = f"libkuspveli.so.{number}", soname(number)
     return {
         "lib/libkuspveli.a": entry_of(archive),
-        f"lib/{whole}": Entry(shared_library(archive, version), 0o755),
+        f"lib/{whole}": Entry(shared_library(archive, number), 0o755),
         f"lib/{loaded}": Entry(link=whole),
         "lib/libkuspveli.so": Entry(link=loaded),
     }
 
 
-def interface(version: str) -> str:
+def interface(number: str) -> str:
     """What versions with the same calls have in common: the first number, before 1.0 the first two."""
-    first, second, _ = version.split(".")
+    first, second, _ = number.split(".")
     return f"{first}.{second}" if first == "0" else first
 
 
-def soname(version: str) -> str:
-    return f"libkuspveli.so.{interface(version)}"
+def soname(number: str) -> str:
+    return f"libkuspveli.so.{interface(number)}"
 
 
-def shared_library(archive: Path, version: str) -> bytes:
+def shared_library(archive: Path, number: str) -> bytes:
     """The archive's object linked as a shared library with a version, by which a loader knows a library of other
     calls."""
     with tempfile.TemporaryDirectory() as folder:
         symbols, made = Path(folder) / "symbols", Path(folder) / "made.so"
-        symbols.write_text(f"KUSPVELI_{interface(version)} {{ global: kus_*; local: *; }};\n", encoding="utf-8")
+        symbols.write_text(f"KUSPVELI_{interface(number)} {{ global: kus_*; local: *; }};\n", encoding="utf-8")
         whole = ("-Wl,--whole-archive", archive, "-Wl,--no-whole-archive")
-        named = (f"-Wl,-soname,{soname(version)}", f"-Wl,--version-script={symbols}")
+        named = (f"-Wl,-soname,{soname(number)}", f"-Wl,--version-script={symbols}")
         words = ["gcc", "-shared", "-Wl,-z,defs", *named, "-s", "-o", made, *whole]
         ran = subprocess.run(words, capture_output=True, text=True, errors="replace", check=False)
         if ran.returncode:
@@ -91,11 +92,11 @@ def shared_library(archive: Path, version: str) -> bytes:
         return made.read_bytes()
 
 
-def pkg_config(prefix: Path, version: str, is_proved: bool) -> str:
+def pkg_config(prefix: Path, number: str, is_proved: bool) -> str:
     about = "A text shaper that is proved right" + ("" if is_proved else "; this one was built without its proofs")
     return (
         f"prefix={str(prefix).replace(' ', chr(92) + ' ')}\nlibdir=${{prefix}}/lib\nincludedir=${{prefix}}/include\n\n"
-        f"Name: kuspveli\nDescription: {about}\nVersion: {version}\n"
+        f"Name: kuspveli\nDescription: {about}\nVersion: {number}\n"
         "Libs: -L${libdir} -lkuspveli\nCflags: -I${includedir}\n"
     )
 

@@ -14,11 +14,12 @@ from support import DEJAVU, write_files
 
 from building.places import LIBRARY, PROGRAM, Place, standing
 from common.faults import ToolFault
+from common.version import version
 from installing import cli, layout, placing
 from installing.layout import COMMANDS, Entry, interface, pkg_config
 from sources.crates import ROOT
 
-VERSION = (ROOT / "VERSION").read_text(encoding="utf-8").strip()
+VERSION = version()
 SHORT = interface(VERSION)
 NEEDED = ("gcc", "pkg-config")
 # Shapes one letter of a font without rules.

@@ -43,7 +43,7 @@ class Vendored(unittest.TestCase):
         folder = tempfile.TemporaryDirectory()
         self.addCleanup(folder.cleanup)
         self.root, self.other = Path(folder.name) / "from", Path(folder.name) / "to"
-        write_files(self.root, {"crates.txt": CRATES, "VERSION": "0.1.0\n", "LICENSE": "MIT\n"})
+        write_files(self.root, {"crates.txt": CRATES, "LICENSE": "MIT\n"})
         for crate in ("low", "left", "kuspveli", "beside"):
             files = ("src/lib.rt", "src/part/deep.rt", "specs/Lib.antt", "proofs/Lib.antt", "must-fail/a.edit", "out/log")
             write_files(self.root / "crates" / crate, {file: f"{crate} {file}\n" for file in files})

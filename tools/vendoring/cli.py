@@ -7,6 +7,7 @@ from building.tree import needed_lines
 from common.faults import FILES, ToolFault
 from common.parsing import Words
 from common.sums import read_sums
+from common.version import version
 from sources.crates import ROOT
 from vendoring.copies import SUMS, find_strangers, sources_of, write_copies
 from vendoring.lines import LIST, with_lines
@@ -44,7 +45,3 @@ def check_folder(target: Path) -> None:
         raise ToolFault(FILES, f"{target}: this is the repository that is copied from")
     if not (target / LIST).is_file():
         raise ToolFault(FILES, f"{target}: no {LIST} is there, so it is not the top of a Rattle repository")
-
-
-def version() -> str:
-    return (ROOT / "VERSION").read_text(encoding="utf-8").strip()
