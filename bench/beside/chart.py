@@ -43,7 +43,9 @@ def legend(kept: Kept) -> str:
     parts = [f'<text x="12" y="20" font-size="14" font-weight="bold">{escape(title)}</text>\n']
     for at, (_, colour, about) in enumerate(BARS):
         x = NAMES + 210 * at
-        parts.append(f'<rect x="{x}" y="31" width="12" height="12" fill="{colour}"/><text x="{x + 18}" y="41">{about}</text>\n')
+        parts.append(
+            f'<rect x="{x}" y="31" width="12" height="12" fill="{colour}"/><text x="{x + 18}" y="41">{about}</text>\n'
+        )
     return "".join(parts)
 
 

@@ -101,8 +101,8 @@ def read_kept(path: Path) -> Kept:
 
 
 def ratios_of(value: dict[str, Any]) -> Ratios:
-    ratios = [None if value[key]["ratio"] is None else float(value[key]["ratio"]) for key in WHAT]
-    return Ratios(f"{value['set']}, {value['font']}", *ratios, str(value["glyphs"]))
+    program, page, more = (None if value[key]["ratio"] is None else float(value[key]["ratio"]) for key in WHAT)
+    return Ratios(f"{value['set']}, {value['font']}", program, page, more, str(value["glyphs"]))
 
 
 # ---- the narrow table
@@ -111,4 +111,6 @@ def ratios_of(value: dict[str, Any]) -> Ratios:
 def narrow_table(kept: Kept) -> list[str]:
     """The ratios alone, in lines of Markdown."""
     lines = ["| Set | program | page | more |", "|---|---|---|---|"]
-    return lines + [f"| {row.title} | {shown(row.program)} | {shown(row.page)} | {shown(row.more)} |" for row in kept.rows]
+    return lines + [
+        f"| {row.title} | {shown(row.program)} | {shown(row.page)} | {shown(row.more)} |" for row in kept.rows
+    ]

@@ -1,5 +1,5 @@
-"""Where the shared library is: the one that KUSPVELI_LIBRARY names, else that beside this file, that of the clone, or an
-installed one."""
+"""Where the shared library is: the one that KUSPVELI_LIBRARY names, else that beside this file, that of the clone, or
+an installed one."""
 
 import os
 import sys
@@ -13,7 +13,9 @@ LIBRARY, UNPROVED = "libkuspveli.so", "unproved"
 VARIABLE = "KUSPVELI_LIBRARY"
 # Where tools/install mostly puts it, besides the folder of this Python.
 SYSTEM = ("/usr/local", "/usr")
-BUILT_BY = "tools/build_library proves and builds it, tools/build_library --unproved builds it without proofs in minutes"
+BUILT_BY = (
+    "tools/build_library proves and builds it, tools/build_library --unproved builds it without proofs in minutes"
+)
 
 
 def find() -> str:

@@ -50,7 +50,9 @@ def check_built(place: Place) -> None:
         unproved = " (install --unproved takes one without proofs)" if place.is_proved else ""
         raise ToolFault(FILES, f"{place.target.name} is not built: {place.target.tool}{word} builds it{unproved}")
     if not place.is_current():
-        raise ToolFault(FILES, f"{place.target.name} is built of older sources: {place.target.tool}{word} builds it anew")
+        raise ToolFault(
+            FILES, f"{place.target.name} is built of older sources: {place.target.tool}{word} builds it anew"
+        )
 
 
 def uninstall(prefix: Path) -> int:

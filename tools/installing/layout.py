@@ -85,7 +85,7 @@ def shared_library(archive: Path, number: str) -> bytes:
         symbols.write_text(f"KUSPVELI_{interface(number)} {{ global: kus_*; local: *; }};\n", encoding="utf-8")
         whole = ("-Wl,--whole-archive", archive, "-Wl,--no-whole-archive")
         named = (f"-Wl,-soname,{soname(number)}", f"-Wl,--version-script={symbols}")
-        words = ["gcc", "-shared", "-Wl,-z,defs", *named, "-s", "-o", made, *whole]
+        words: list[str | Path] = ["gcc", "-shared", "-Wl,-z,defs", *named, "-s", "-o", made, *whole]
         ran = subprocess.run(words, capture_output=True, text=True, errors="replace", check=False)
         if ran.returncode:
             raise ToolFault(FILES, f"the shared library was not linked: {ran.stderr[-500:]}")

@@ -1,4 +1,4 @@
-"""Numbers of bench/real that are kept: what is written and read again, the narrow table, the chart, and the documents."""
+"""Numbers of bench/real that are kept: what is written and read again, the narrow table, the chart, the documents."""
 
 import contextlib
 import io
@@ -20,7 +20,14 @@ from common.faults import ToolFault
 
 DOCS = TOOLS.parent / "docs"
 NUMBERS = DOCS / "speed.json"
-RUN = {"command": "bench/real", "harfbuzz": "hb-shape (HarfBuzz) 6.0.0", "kit": "k", "host": "h", "date": "d", "commit": "c"}
+RUN = {
+    "command": "bench/real",
+    "harfbuzz": "hb-shape (HarfBuzz) 6.0.0",
+    "kit": "k",
+    "host": "h",
+    "date": "d",
+    "commit": "c",
+}
 SVG = "{http://www.w3.org/2000/svg}"
 
 
@@ -40,7 +47,9 @@ class Numbers(unittest.TestCase):
 
     def test_chart(self) -> None:
         """Two bars a set, as long as their ratios, and the line where a ratio of 1 ends; none without a ratio."""
-        drawn = tree.fromstring(chart(Kept(RUN, [Ratios("A<B", 0.5, 1.5, 1, "same"), Ratios("C", None, 0.75, 1, "same")])))
+        drawn = tree.fromstring(
+            chart(Kept(RUN, [Ratios("A<B", 0.5, 1.5, 1, "same"), Ratios("C", None, 0.75, 1, "same")]))
+        )
         bars = [bar for bar in drawn.iter(f"{SVG}rect") if bar.find(f"{SVG}title") is not None]
         widths = [float(bar.attrib["width"]) for bar in bars]
         self.assertEqual(len(bars), 3)

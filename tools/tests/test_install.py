@@ -89,7 +89,9 @@ class Placing(unittest.TestCase):
         changed = self.prefix / "lib/kuspveli/tools/part/deep.py"
         changed.write_text("x = 2\n")
         newer = {**self.entries, "lib/kuspveli/tools/part/deep.py": Entry(b"x = 3\n")}
-        self.assertRaisesRegex(ToolFault, "deep.py was changed since it was installed", placing.place_all, self.prefix, newer)
+        self.assertRaisesRegex(
+            ToolFault, "deep.py was changed since it was installed", placing.place_all, self.prefix, newer
+        )
         self.assertEqual(placing.remove_all(self.prefix), (2, [changed]))
         self.assertEqual(files_below(self.prefix), self.before | {"lib/kuspveli/tools/part/deep.py"})
 
@@ -150,7 +152,9 @@ class Words(unittest.TestCase):
 
 
 @unittest.skipUnless(all(map(shutil.which, NEEDED)), "needs gcc and pkg-config")
-@unittest.skipUnless(all(standing(target).stamp() for target in (PROGRAM, LIBRARY)), "needs tools/build and tools/build_library")
+@unittest.skipUnless(
+    all(standing(target).stamp() for target in (PROGRAM, LIBRARY)), "needs tools/build and tools/build_library"
+)
 class Installed(unittest.TestCase):
     """What is built here, proved or not, below a prefix, used from another folder."""
 
@@ -195,7 +199,11 @@ class Installed(unittest.TestCase):
     def test_away(self) -> None:
         """No installed tool names the clone: the folder may go."""
         program = self.prefix / "lib" / "kuspveli"
-        words = ["/usr/bin/python3", "-c", f"import sys; sys.path.insert(0, '{program}/tools'); from sources import crates; print(crates.ROOT)"]
+        words = [
+            "/usr/bin/python3",
+            "-c",
+            f"import sys; sys.path.insert(0, '{program}/tools'); from sources import crates; print(crates.ROOT)",
+        ]
         self.assertEqual(call(words).strip(), str(program))
 
     def test_again(self) -> None:

@@ -1,4 +1,4 @@
-"""The bindings as packages: one version, where each finds the library, what a missing one says, and pip without network."""
+"""The bindings as packages: one version, where each finds the library, what a missing one says, pip without network."""
 
 import contextlib
 import io
@@ -13,7 +13,7 @@ import unittest
 from pathlib import Path
 from unittest import mock
 
-from support import TOOLS, write_files
+from support import write_files
 
 from sources.crates import ROOT
 

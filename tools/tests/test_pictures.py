@@ -1,4 +1,4 @@
-"""The README's pictures: well-formed, with the glyphs of the lines beside them, and the same when they are drawn anew."""
+"""The README's pictures: with the glyphs of the lines beside them, and the same when they are drawn anew."""
 
 import contextlib
 import io
@@ -25,7 +25,11 @@ class Pictures(unittest.TestCase):
             titles = [each.text or "" for each in tree.parse(pictures.FOLDER / file).iter(TITLE)]
             names = [title.split(" (")[0] for title in titles if ", cluster " in title]
             self.assertIn(f"docs/pictures/{file}", README)
-            lines = [line for line in README.splitlines() if "|" in line and [part.split("=")[0].strip() for part in line.split("|")] == names]
+            lines = [
+                line
+                for line in README.splitlines()
+                if "|" in line and [part.split("=")[0].strip() for part in line.split("|")] == names
+            ]
             self.assertEqual(len(lines), 1, names)
 
     def test_missing(self) -> None:

@@ -91,7 +91,10 @@ class Programs(unittest.TestCase):
     def test_python(self) -> None:
         source = self.folder / "own.py"
         source.write_text(program("python"), encoding="utf-8")
-        found = {"PYTHONPATH": str(ROOT / "bindings" / "python"), "KUSPVELI_LIBRARY": str(self.built / "libkuspveli.so")}
+        found = {
+            "PYTHONPATH": str(ROOT / "bindings" / "python"),
+            "KUSPVELI_LIBRARY": str(self.built / "libkuspveli.so"),
+        }
         self.assertEqual(printed(["/usr/bin/python3", source], EXAMPLES, **found), SHAPED)
 
     @unittest.skipUnless(shutil.which("cargo"), "needs cargo")

@@ -74,7 +74,9 @@ class Without(unittest.TestCase):
     def test_tables(self) -> None:
         """The program is given the tables that come with the tools, which --verbose says."""
         self.assertEqual(self.shape("--no-glyph-names"), (0, LINE, ""))
-        self.assertEqual((self.folder / "words").read_text().splitlines()[1:3], [str(TABLES), str(self.folder / "font.json")])
+        self.assertEqual(
+            (self.folder / "words").read_text().splitlines()[1:3], [str(TABLES), str(self.folder / "font.json")]
+        )
         told = self.shape("--verbose")[2]
         self.assertIn(f"shape: tables: {TABLES}, of Unicode 15.0.0, which come with the tools", told)
 

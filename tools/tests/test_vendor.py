@@ -45,7 +45,14 @@ class Vendored(unittest.TestCase):
         self.root, self.other = Path(folder.name) / "from", Path(folder.name) / "to"
         write_files(self.root, {"crates.txt": CRATES, "LICENSE": "MIT\n"})
         for crate in ("low", "left", "kuspveli", "beside"):
-            files = ("src/lib.rt", "src/part/deep.rt", "specs/Lib.antt", "proofs/Lib.antt", "must-fail/a.edit", "out/log")
+            files = (
+                "src/lib.rt",
+                "src/part/deep.rt",
+                "specs/Lib.antt",
+                "proofs/Lib.antt",
+                "must-fail/a.edit",
+                "out/log",
+            )
             write_files(self.root / "crates" / crate, {file: f"{crate} {file}\n" for file in files})
         write_files(self.other, {"crates.txt": OTHER, "crates/own/src/lib.rt": "own\n"})
         patch = mock.patch.object(cli, "ROOT", self.root)
@@ -80,7 +87,9 @@ class Vendored(unittest.TestCase):
         self.assertEqual(lines[:2], OTHER.splitlines())
         self.assertEqual(lines[4:-1], ["low: std_thing", "left: low # beside right", "kuspveli: left low"])
         self.assertEqual(all_needs("own", read_crates(self.other)), ["low", "left", "kuspveli", "own"])
-        self.assertTrue(subprocess.run(["sha256sum", "-c", "--quiet", SUMS], cwd=self.other, check=False).returncode == 0)
+        self.assertTrue(
+            subprocess.run(["sha256sum", "-c", "--quiet", SUMS], cwd=self.other, check=False).returncode == 0
+        )
 
     def test_again(self) -> None:
         """What is the same is not written again; what changed is, what went away is removed; own lines stay."""
@@ -170,7 +179,9 @@ class Whole(unittest.TestCase):
             for crate in crates:
                 self.assertTrue((Path(folder) / "crates" / crate / "src" / "lib.rt").is_file(), crate)
 
-    @unittest.skipUnless(os.environ.get("KUSPVELI_LONG") and shutil.which("rt"), "an hour's proof: KUSPVELI_LONG=1 runs it")
+    @unittest.skipUnless(
+        os.environ.get("KUSPVELI_LONG") and shutil.which("rt"), "an hour's proof: KUSPVELI_LONG=1 runs it"
+    )
     def test_client(self) -> None:
         """rt check proves a crate over what is laid."""
         with tempfile.TemporaryDirectory() as folder:
@@ -180,7 +191,9 @@ class Whole(unittest.TestCase):
             (Path(folder) / ".git").mkdir()
             with contextlib.redirect_stdout(io.StringIO()):
                 cli.main([folder])
-            ran = subprocess.run(["rt", "check"], cwd=Path(folder) / "crates" / "client", capture_output=True, check=False)
+            ran = subprocess.run(
+                ["rt", "check"], cwd=Path(folder) / "crates" / "client", capture_output=True, check=False
+            )
             self.assertEqual(ran.returncode, 0, ran.stdout[-2000:])
 
 

@@ -26,8 +26,8 @@ def sources_of(root: Path, names: list[str]) -> dict[str, Path]:
 
 
 def find_strangers(target: Path, listed: dict[str, str], sources: dict[str, Path]) -> None:
-    """Refuses where a crate's folder has what vendor didn't write: what it wrote has the sum of its list, or is the same
-    as what it would write now, as where it was ended while it wrote."""
+    """Refuses where a crate's folder has what vendor didn't write. What it wrote has the sum of its list, or is
+    the same as what it would write now, as where it was ended while it wrote."""
     vendored = {Path(name).parts[1] for name in listed}
     for crate in sorted({Path(name).parts[1] for name in sources} | vendored):
         folder = target / "crates" / crate

@@ -6,7 +6,9 @@ from pathlib import Path
 from common.faults import DATA, ToolFault
 
 LIST = "crates.txt"
-BEGIN = re.compile(r"# Kuspveli \S+, written by tools/vendor: these lines are written anew by it, up to the next such line\.")
+BEGIN = re.compile(
+    r"# Kuspveli \S+, written by tools/vendor: these lines are written anew by it, up to the next such line\."
+)
 END = "# Kuspveli ends."
 
 
@@ -16,11 +18,15 @@ def with_lines(path: Path, version: str, lines: dict[str, str], listed: dict[str
     vendored = {Path(name).parts[1] for name in listed}
     for line in old:
         if name_of(line) not in {"", *vendored}:
-            raise ToolFault(DATA, f"{path}: {name_of(line)} stands among the lines that vendor wrote, and is none of them")
+            raise ToolFault(
+                DATA, f"{path}: {name_of(line)} stands among the lines that vendor wrote, and is none of them"
+            )
     for line in (*before, *after):
         if name_of(line) in lines:
             raise ToolFault(DATA, f"{path}: {name_of(line)} is there already, and vendor did not write it")
-    begin = f"# Kuspveli {version}, written by tools/vendor: these lines are written anew by it, up to the next such line."
+    begin = (
+        f"# Kuspveli {version}, written by tools/vendor: these lines are written anew by it, up to the next such line."
+    )
     gap = [""] if before and before[-1] and not old else []
     return "".join(f"{line}\n" for line in [*before, *gap, begin, *lines.values(), END, *after])
 
