@@ -23,6 +23,7 @@ kuspveli: left low
 beside: low
 """
 OTHER = "# Mine.\nown: kuspveli\n"
+LONG = os.environ.get("KUSPVELI_LONG")
 # A crate over the library, whose check proves that library too: an hour and more where nothing is kept.
 CLIENT = """//! Names the library.
 #![tactic(auto)]
@@ -179,11 +180,9 @@ class Whole(unittest.TestCase):
             for crate in crates:
                 self.assertTrue((Path(folder) / "crates" / crate / "src" / "lib.rt").is_file(), crate)
 
-    @unittest.skipUnless(
-        os.environ.get("KUSPVELI_LONG") and shutil.which("rt"), "an hour's proof: KUSPVELI_LONG=1 runs it"
-    )
+    @unittest.skipUnless(LONG and shutil.which("rt"), "an hour's proof: KUSPVELI_LONG=1 runs it")
     def test_client(self) -> None:
-        """rt check proves a crate over what is laid."""
+        """rt ci proves a crate over what is laid, and what no gate here has kept of that."""
         with tempfile.TemporaryDirectory() as folder:
             client = {"src/lib.rt": CLIENT, "specs/Lib.antt": ""}
             write_files(Path(folder) / "crates" / "client", client)
@@ -191,10 +190,9 @@ class Whole(unittest.TestCase):
             (Path(folder) / ".git").mkdir()
             with contextlib.redirect_stdout(io.StringIO()):
                 cli.main([folder])
-            ran = subprocess.run(
-                ["rt", "check"], cwd=Path(folder) / "crates" / "client", capture_output=True, check=False
-            )
+            ran = subprocess.run(["rt", "ci", "client"], cwd=folder, capture_output=True, text=True, check=False)
             self.assertEqual(ran.returncode, 0, ran.stdout[-2000:])
+            self.assertIn("rt: client proved", ran.stdout)
 
 
 if __name__ == "__main__":
