@@ -13,7 +13,7 @@ from pathlib import Path
 from support import write_files
 
 from building.places import LIBRARY, PROGRAM, standing
-from sources.crates import ROOT
+from sources.crates import ROOT, read_crates
 from vendoring import cli as vendor
 
 TEXT = (ROOT / "README.md").read_text(encoding="utf-8")
@@ -60,6 +60,21 @@ class Page(unittest.TestCase):
         """Each file that is linked is there, and so is each tool that is named."""
         named = re.findall(r"\]\(([^)#:]+)\)", TEXT) + re.findall(r"\b(?:tools|bench)/\w+", TEXT)
         self.assertEqual([name for name in named if not (ROOT / name).exists()], [])
+
+    def test_functions(self) -> None:
+        """Each function, module, trait or crate that the tables of clauses name is there."""
+        code = "".join(path.read_text(encoding="utf-8") for path in (ROOT / "crates").glob("*/src/**/*.rt"))
+        declared = set(re.findall(r"\b(?:fn|mod|trait|struct) (\w+)", code)) | set(read_crates())
+        for document, column in (("README.md", 3), ("docs/THEOREM.md", 2)):
+            rows = re.findall(r"^\| .*`.* \|$", (ROOT / document).read_text(encoding="utf-8"), re.MULTILINE)
+            names = {
+                part
+                for row in rows
+                for path in re.findall(r"`([\w:]+)`", row.split("|")[column])
+                for part in path.split("::")
+            }
+            self.assertGreater(len(names), 8, document)
+            self.assertEqual(names - declared, set(), document)
 
     @unittest.skipUnless(standing(PROGRAM).file.is_file(), "needs the program (tools/build)")
     def test_command(self) -> None:
