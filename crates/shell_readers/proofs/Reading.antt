@@ -12,10 +12,10 @@ use Rattle.buffer_unicode_tables.specs.Expansion.{EndWithin}
 use Rattle.buffer_unicode_tables.specs.Lawful.{IsLawful}
 use Rattle.buffer_unicode_tables.specs.Tables.{Tables, split_of}
 use Rattle.layout_face.specs.declared.parts.FaceParts.{FaceParts}
-use Rattle.shell_readers.specs.Input.{IsInput, RunParts, font_in, with_font}
-use Rattle.shell_readers.specs.Tables.{AreTables, IfLawful, IfShallow, IsRunValueOf, IsValueOf, RunTables, with_rest}
-use Rattle.shell_readers.specs.Values.{json_of, of_json, then_answers}
-use Rattle.shell_readers.specs.Laws.{InputsAreOne}
+use Rattle.shell_readers.specs.Input.{IsInput, font_in, with_font}
+use Rattle.shell_readers.specs.Tables.{AreLawfulTables, AreTables, IfLawful, IfShallow, IsRunValueOf, IsValueOf, RunTables, with_rest}
+use Rattle.shell_readers.specs.Values.{json_of, of_json, then_answers, then_run}
+use Rattle.shell_readers.specs.Laws.{FontsJoinTables, InputsAreOne}
 
 -- ---- values
 
@@ -61,33 +61,42 @@ pub tables_refused : (bytes : List ℕ) (e : RunFault) → json_of bytes ≡ Err
 unfolding AreTables
 tables_refused bytes e json = rw json refl
 
+-- ---- lawful tables
+
+module _ (bytes : List ℕ) where
+  lawful_then : (t : RunTables) (r : Result RunTables RunFault) → AreTables bytes (Ok t) → IfLawful t r → AreLawfulTables bytes r
+  unfolding AreLawfulTables
+  lawful_then t r read answers = (Ok t, read, answers)
+
+  pub lawful_read : (t : RunTables) → AreTables bytes (Ok t) → IsLawful t.characters → AreLawfulTables bytes (Ok t)
+  lawful_read t read lawful = lawful_then t (Ok t) read (inl (lawful, refl))
+
+  pub laws_refused : (t : RunTables) (e : RunFault) → AreTables bytes (Ok t) → e ≡ Unlawful → ¬ IsLawful t.characters → AreLawfulTables bytes (Err e)
+  laws_refused t e read same not_lawful = lawful_then t (Err e) read (inr (not_lawful, ap Err same))
+
+  pub refused : (e : RunFault) → AreTables bytes (Err e) → AreLawfulTables bytes (Err e)
+  unfolding AreLawfulTables
+  refused e read = (Err e, read, refl)
+
 -- ---- tables and a font
 
--- the font of lawful tables
-pub font_answers : (t : RunTables) (font r : Result FaceParts RunFault) → IsLawful t.characters → font ≡ r → IfLawful (λ _. font) t r
-font_answers t font r lawful same = inl (lawful, sym same)
-
-pub laws_refuse : (t : RunTables) (font : Result FaceParts RunFault) → ¬ IsLawful t.characters → IfLawful (λ _. font) t (Err Unlawful)
-laws_refuse t font not_lawful = inr (not_lawful, refl)
-
-both_then : (t : RunTables) (font r : Result FaceParts RunFault) → IfLawful (λ _. font) t r → IfLawful (with_font font) t (with_font r t)
-both_then t font r (inl p) = inl (p.0, ap (λ x. with_font x t) p.1)
-both_then t font r (inr p) = inr (p.0, ap (λ x. with_font x t) p.1)
-
 module _ (tables font : List ℕ) where
-  read_then : (t : RunTables) (r : Result FaceParts RunFault) → AreTables tables (Ok t) → IfLawful (λ _. font_in font) t r → IsInput tables font (with_font r t)
+  pub joined : (t : RunTables) (r : Result FaceParts RunFault) → AreLawfulTables tables (Ok t) → font_in font ≡ r → IsInput tables font (with_font r t)
   unfolding IsInput
-  read_then t r read answers = (Ok t, read, both_then t (font_in font) r answers)
+  joined t r read is = (Ok t, read, ap (λ (f : Result FaceParts RunFault). with_font f t) (sym is))
 
-  pub both_read : (t : RunTables) (face : FaceParts) → AreTables tables (Ok t) → IfLawful (λ _. font_in font) t (Ok face) → IsInput tables font (Ok (record { tables = t; font = face }))
-  both_read t face read answers = read_then t (Ok face) read answers
+  pub both_read : (t : RunTables) (face : FaceParts) → AreLawfulTables tables (Ok t) → font_in font ≡ Ok face → IsInput tables font (Ok (record { tables = t; font = face }))
+  both_read t face read is = joined t (Ok face) read is
 
-  pub font_refused : (t : RunTables) (e : RunFault) → AreTables tables (Ok t) → IfLawful (λ _. font_in font) t (Err e) → IsInput tables font (Err e)
-  font_refused t e read answers = read_then t (Err e) read answers
+  pub font_refused : (t : RunTables) (e : RunFault) → AreLawfulTables tables (Ok t) → font_in font ≡ Err e → IsInput tables font (Err e)
+  font_refused t e read is = joined t (Err e) read is
 
-  pub refused : (e : RunFault) → AreTables tables (Err e) → IsInput tables font (Err e)
+  pub tables_faulty : (e : RunFault) → AreLawfulTables tables (Err e) → IsInput tables font (Err e)
   unfolding IsInput
-  refused e read = (Err e, read, refl)
+  tables_faulty e read = (Err e, read, refl)
+
+pub fonts_join_tables : FontsJoinTables
+fonts_join_tables tables font t read = joined tables font t (font_in font) read refl
 
 -- ---- there is one way
 
@@ -97,11 +106,11 @@ shallow_once t whole r s (inl p) (inr q) = let is : true ≡ false = sym (p.0 q.
 shallow_once t whole r s (inr p) (inl q) = let is : true ≡ false = sym (q.0 p.0.0) ∙ p.0.1 in cc
 shallow_once t whole r s (inr p) (inr q) = p.1 ∙ sym q.1
 
-lawful_once : {B : Type 0} (next : RunTables → Result B RunFault) (t : RunTables) (r s : Result B RunFault) → IfLawful next t r → IfLawful next t s → r ≡ s
-lawful_once next t r s (inl p) (inl q) = p.1 ∙ sym q.1
-lawful_once next t r s (inl p) (inr q) = absurd (q.0 p.0)
-lawful_once next t r s (inr p) (inl q) = absurd (p.0 q.0)
-lawful_once next t r s (inr p) (inr q) = p.1 ∙ sym q.1
+lawful_once : (t : RunTables) (r s : Result RunTables RunFault) → IfLawful t r → IfLawful t s → r ≡ s
+lawful_once t r s (inl p) (inl q) = p.1 ∙ sym q.1
+lawful_once t r s (inl p) (inr q) = absurd (q.0 p.0)
+lawful_once t r s (inr p) (inl q) = absurd (p.0 q.0)
+lawful_once t r s (inr p) (inr q) = p.1 ∙ sym q.1
 
 then_once : {A B E : Type 0} (first : Result A E) (Answers : A → Result B E → Type 0) → ((a : A) (r s : Result B E) → Answers a r → Answers a s → r ≡ s)
     → (r s : Result B E) → then_answers first Answers r → then_answers first Answers s → r ≡ s
@@ -119,9 +128,13 @@ tables_once : (bytes : List ℕ) (r s : Result RunTables RunFault) → AreTables
 unfolding AreTables
 tables_once bytes r s p q = then_once (json_of bytes) IsRunValueOf run_value_once r s p q
 
+lawful_tables_once : (bytes : List ℕ) (r s : Result RunTables RunFault) → AreLawfulTables bytes r → AreLawfulTables bytes s → r ≡ s
+unfolding AreLawfulTables
+lawful_tables_once bytes r s p q =
+    let same : p.0 ≡ q.0 = tables_once bytes p.0 q.0 p.1 q.1 in
+    then_once q.0 IfLawful lawful_once r s (subst (λ (read : Result RunTables RunFault). then_answers read IfLawful r) same p.2) q.2
+
 pub inputs_are_one : InputsAreOne
 unfolding IsInput
 inputs_are_one tables font r s p q =
-    let same : p.0 ≡ q.0 = tables_once tables p.0 q.0 p.1 q.1 in
-    let next : RunTables → Result RunParts RunFault = with_font (font_in font) in
-    then_once q.0 (IfLawful next) (lawful_once next) r s (subst (λ (read : Result RunTables RunFault). then_answers read (IfLawful next) r) same p.2) q.2
+    p.2 ∙ ap (λ (read : Result RunTables RunFault). then_run read (with_font (font_in font))) (lawful_tables_once tables p.0 q.0 p.1 q.1) ∙ sym q.2

@@ -1,11 +1,11 @@
 -- The values of the bytes of tables and of a font.
-use Rattle.std.specs.Prelude.{ℕ, List, Result, Ok}
+use Rattle.std.specs.Prelude.{ℕ, ◌≡◌, List, Result, Ok}
 use Rattle.layout_face.specs.declared.parts.FaceParts.{FaceParts}
 use Rattle.shell_face_json.specs.Face.{face_of}
 use Rattle.shell_readers.specs.declared.fault.RunFault.{RunFault}
 use Rattle.shell_readers.specs.declared.input.RunInput.{RunInput}
-use Rattle.shell_readers.specs.Tables.{AreTables, IfLawful, RunTables, tables_value}
-use Rattle.shell_readers.specs.Values.{json_of, of_json, then_answers, then_run}
+use Rattle.shell_readers.specs.Tables.{AreLawfulTables, RunTables, tables_value}
+use Rattle.shell_readers.specs.Values.{json_of, of_json, then_run}
 
 -- the tables and the font of a run
 pub record RunParts : Type 0 where
@@ -26,5 +26,4 @@ with_font font t = then_run font (λ face. Ok (record { tables = t; font = face 
 
 -- the result of reading tables and a font: tables with a fault, or unlawful ones, are refused before the font is read
 unfoldable pub IsInput : List ℕ → List ℕ → Result RunParts RunFault → Type 0
-IsInput tables font r =
-    (read : Result RunTables RunFault) × AreTables tables read × then_answers read (IfLawful (with_font (font_in font))) r
+IsInput tables font r = (read : Result RunTables RunFault) × AreLawfulTables tables read × (r ≡ then_run read (with_font (font_in font)))

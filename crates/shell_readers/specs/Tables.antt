@@ -55,9 +55,13 @@ IsRunValueOf d r = (read : Result RunTables JsonFault) × IsValueOf d read × (r
 unfoldable pub AreTables : List ℕ → Result RunTables RunFault → Type 0
 AreTables bytes r = then_answers (json_of bytes) IsRunValueOf r
 
--- the answer by a file's tables: a refusal where they are unlawful, else what follows for them
-abbrev pub IfLawful : {B : Type 0} → (RunTables → Result B RunFault) → RunTables → Result B RunFault → Type 0
-IfLawful next t answer = (IsLawful t.characters × (answer ≡ next t)) ⊎ ((¬ IsLawful t.characters) × (answer ≡ Err Unlawful))
+-- tables that are lawful are kept, others refused
+abbrev pub IfLawful : RunTables → Result RunTables RunFault → Type 0
+IfLawful t r = (IsLawful t.characters × (r ≡ Ok t)) ⊎ ((¬ IsLawful t.characters) × (r ≡ Err Unlawful))
+
+-- the lawful tables of bytes: a fault of their format, or unlawful ones, are refused
+unfoldable pub AreLawfulTables : List ℕ → Result RunTables RunFault → Type 0
+AreLawfulTables bytes r = (read : Result RunTables RunFault) × AreTables bytes read × then_answers read IfLawful r
 
 -- ---- languages
 

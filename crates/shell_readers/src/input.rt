@@ -2,10 +2,9 @@
 ghost use Rattle.std.specs.Prelude.{◌≡◌, ◌≢◌, Ok, Err, IfOk, IfErr};
 ghost use Rattle.shell_readers.specs.Faults.{IsOfRun};
 ghost use Rattle.shell_readers.specs.Input.{IsInput, font_in, input_value};
-ghost use Rattle.shell_readers.specs.Tables.{IfLawful, tables_value};
 
 use crate::fault::RunFault;
-use crate::tables::{TextTables, check_laws, tables_in};
+use crate::tables::{TextTables, read_lawful_tables};
 use crate::values::utf8;
 use layout_face::Face;
 use shell_face_json::read_face_text;
@@ -21,8 +20,13 @@ pub struct RunInput {
     pub face: Face,
 }
 
+/// The font of bytes.
+///
+/// # Errors
+///
+/// The first fault of its format, or lack of memory.
 #[tactic(auto, using(crate::proofs::Fonts::font_of_text, crate::proofs::Fonts::no_font), unfolding(crate::specs::Input::font_in))]
-fn font_in(alloc: Global, bytes: &[u8]) -> Result<Face, RunFault>
+pub fn read_font(alloc: Global, bytes: &[u8]) -> Result<Face, RunFault>
     ensures ok { IfOk result (λ face. font_in bytes.now ≡ Ok face) }
     ensures refused { IfErr result (λ e. e ≢ RunFault.OutOfMemory → font_in bytes.now ≡ Err e) }
     ensures kind { IfErr result IsOfRun }
@@ -34,17 +38,6 @@ fn font_in(alloc: Global, bytes: &[u8]) -> Result<Face, RunFault>
     Ok(face)
 }
 
-/// The font of bytes, which are read after the tables were found lawful.
-fn lawful_font(alloc: Global, tables: &TextTables, font: &[u8]) -> Result<Face, RunFault>
-    ensures ok { IfOk result (λ face. IfLawful (λ _. font_in font.now) (tables_value tables.now) (Ok face)) }
-    ensures refused { IfErr result (λ e. e ≢ RunFault.OutOfMemory
-        → IfLawful (λ _. font_in font.now) (tables_value tables.now) (Err e)) }
-    ensures kind { IfErr result IsOfRun }
-{
-    check_laws(&tables.characters)?;
-    font_in(alloc, font)
-}
-
 /// Reads tables and a font. The tables must be lawful before the font is read; the first fault is returned: one of the
 /// tables' format, `Unlawful`, or one of the font's format.
 pub fn read_input(alloc: Global, tables: &[u8], font: &[u8]) -> Result<RunInput, RunFault>
@@ -52,7 +45,7 @@ pub fn read_input(alloc: Global, tables: &[u8], font: &[u8]) -> Result<RunInput,
     ensures refused { IfErr result (λ e. e ≢ RunFault.OutOfMemory → IsInput tables.now font.now (Err e)) }
     ensures kind { IfErr result IsOfRun }
 {
-    let tables = tables_in(alloc, tables)?;
-    let face = lawful_font(alloc, &tables, font)?;
+    let tables = read_lawful_tables(alloc, tables)?;
+    let face = read_font(alloc, font)?;
     Ok(RunInput { tables, face })
 }

@@ -5,7 +5,7 @@ ghost use Rattle.shell_tables_json.specs.Languages.{languages_in};
 ghost use Rattle.buffer_unicode_tables.specs.Lawful.{IsLawful};
 ghost use Rattle.buffer_unicode_tables.specs.Tables.{Tables};
 ghost use Rattle.shell_readers.specs.Faults.{IsOfRun};
-ghost use Rattle.shell_readers.specs.Tables.{AreTables, IsValueOf, tables_value, with_rest};
+ghost use Rattle.shell_readers.specs.Tables.{AreLawfulTables, AreTables, IsValueOf, tables_value, with_rest};
 
 use crate::fault::RunFault;
 use crate::values::read_json;
@@ -77,7 +77,7 @@ pub fn tables_in(alloc: Global, bytes: &[u8]) -> Result<TextTables, RunFault>
 }
 
 /// Refuses tables with which equivalent texts would be shaped differently.
-pub fn check_laws(tables: &UnicodeTables) -> Result<(), RunFault>
+fn check_laws(tables: &UnicodeTables) -> Result<(), RunFault>
     ensures lawful { OnOk result (IsLawful tables.now) }
     ensures unlawful { IfErr result (λ e. (e ≡ RunFault.Unlawful) × (¬ IsLawful tables.now)) }
 {
@@ -85,4 +85,19 @@ pub fn check_laws(tables: &UnicodeTables) -> Result<(), RunFault>
         None => Ok(()),
         Some(_) => Err(RunFault::Unlawful),
     }
+}
+
+/// The tables of bytes, which must be lawful.
+///
+/// # Errors
+///
+/// The first fault of their format, then `Unlawful`; or lack of memory.
+pub fn read_lawful_tables(alloc: Global, bytes: &[u8]) -> Result<TextTables, RunFault>
+    ensures ok { IfOk result (λ t. AreLawfulTables bytes.now (Ok (tables_value t))) }
+    ensures refused { IfErr result (λ e. e ≢ RunFault.OutOfMemory → AreLawfulTables bytes.now (Err e)) }
+    ensures kind { IfErr result IsOfRun }
+{
+    let tables = tables_in(alloc, bytes)?;
+    check_laws(&tables.characters)?;
+    Ok(tables)
 }
