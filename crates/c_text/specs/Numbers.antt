@@ -3,6 +3,7 @@ use Rattle.std.specs.Prelude.{ℕ, ◌==◌, if◌then◌else◌, Option, Some, 
 use Rattle.buffer_common.specs.declared.direction.Direction.{Direction}
 use Rattle.buffer_common.specs.declared.direction.Direction.TheVariants.{Invalid, LeftToRight, RightToLeft, TopToBottom, BottomToTop}
 use Rattle.buffer_common.specs.declared.script.Script.{Script}
+use Rattle.buffer_common.specs.Script.{script_of_tag}
 use Rattle.buffer_glyphs.specs.declared.level.BufferClusterLevel.{BufferClusterLevel}
 use Rattle.buffer_glyphs.specs.declared.level.BufferClusterLevel.TheVariants.{MonotoneGraphemes, MonotoneCharacters, Characters, Graphemes}
 use Rattle.buffer_glyphs.specs.declared.cause.ShapeCause.TheVariants as cause
@@ -15,9 +16,22 @@ abbrev pub direction_numbered : ℕ → Direction
 direction_numbered n =
     if n == 4 then LeftToRight else if n == 5 then RightToLeft else if n == 6 then TopToBottom else if n == 7 then BottomToTop else Invalid
 
--- the script of a number (`hb_script_t`), which is its ISO 15924 tag; 0 sets none
+-- the script of a number (`hb_script_t`), which is an ISO 15924 tag in any case; 0 sets none
 abbrev pub script_numbered : ℕ → Option Script
-script_numbered n = if n == 0 then None else Some (record { 0 = record { 0 = n } })
+script_numbered n = script_of_tag (record { 0 = n })
+
+-- the number of a direction (`hb_direction_t`), 0 where there is none
+abbrev pub direction_number : Direction → ℕ
+direction_number Invalid = 0
+direction_number LeftToRight = 4
+direction_number RightToLeft = 5
+direction_number TopToBottom = 6
+direction_number BottomToTop = 7
+
+-- the number of a script (`hb_script_t`), 0 where there is none
+abbrev pub script_number : Option Script → ℕ
+script_number None = 0
+script_number (Some s) = s.0.0
 
 -- the cluster level of a number (`hb_buffer_cluster_level_t`); a number above 3 is the default's
 abbrev pub level_numbered : ℕ → BufferClusterLevel

@@ -1,6 +1,6 @@
 //! C's numbers of settings and of faults.
 ghost use Rattle.std.specs.Prelude.{◌≡◌, ◌<◌};
-ghost use Rattle.c_text.specs.Numbers.{direction_numbered, fault_number, level_numbered, script_numbered};
+ghost use Rattle.c_text.specs.Numbers.{direction_number, direction_numbered, fault_number, level_numbered, script_number, script_numbered};
 
 use buffer_common::direction::Direction;
 use buffer_common::script::Script;
@@ -23,13 +23,33 @@ pub fn direction_numbered(number: u32) -> Direction
     }
 }
 
-/// The script of a number, which is its ISO 15924 tag; none for 0.
+/// The script of a number, which is an ISO 15924 tag in any case; none for 0.
 pub fn script_numbered(number: u32) -> Option<Script>
     ensures { result ≡ script_numbered number }
 {
-    match number {
-        0 => None,
-        _ => Some(Script(Tag(number))),
+    Script::from_iso15924_tag(Tag(number))
+}
+
+/// The number of a direction, 0 for `Invalid`.
+pub fn direction_number(direction: Direction) -> u32
+    ensures { result ≡ direction_number direction }
+{
+    match direction {
+        Direction::Invalid => 0,
+        Direction::LeftToRight => 4,
+        Direction::RightToLeft => 5,
+        Direction::TopToBottom => 6,
+        Direction::BottomToTop => 7,
+    }
+}
+
+/// The number of a script, which is its ISO 15924 tag; 0 for none.
+pub fn script_number(script: Option<Script>) -> u32
+    ensures { result ≡ script_number script }
+{
+    match script {
+        Some(script) => script.tag().0,
+        None => 0,
     }
 }
 

@@ -1,7 +1,9 @@
-//! With ample memory a text of C becomes its buffer, and its features become requests.
+//! With ample memory a text of C becomes its buffer, and its features become requests; and some tags of scripts.
+use crate::numbers::{script_number, script_numbered};
 use crate::texts::{features_of, text_buffer};
 use crate::types::{kus_feature_t, kus_text_t};
 use buffer_common::direction::Direction;
+use buffer_common::script::{ARABIC, DEVANAGARI, Script, UNKNOWN};
 use buffer_common::tag::Tag;
 use buffer_wrappers::unicode_buffer::UnicodeBuffer;
 use shell_readers::fault::RunFault;
@@ -57,5 +59,22 @@ fn features_become_requests(rt: HostRuntime) -> Result<(), Fail> {
     let features = features_of(rt.alloc(), &text_of(b"", &[KERN]))?;
     assert_eq!(rt; features.len(), 1);
     assert!(rt; features[0].tag == Tag::from_bytes(b"kern"));
+    Ok(())
+}
+
+#[test]
+fn scripts_have_the_tags_of_iso_15924(rt: HostRuntime) -> Result<(), Fail> {
+    // Aran is Arab in the Nastaliq form; small letters name the same script; four characters that are no letters name none.
+    let rows: [(u32, Option<Script>, u32); 5] = [
+        (0x4172616E, Some(ARABIC), 0x41726162),
+        (0x64657661, Some(DEVANAGARI), 0x44657661),
+        (0x44657661, Some(DEVANAGARI), 0x44657661),
+        (0x31323334, Some(UNKNOWN), 0x5A7A7A7A),
+        (0, None, 0),
+    ];
+    for (number, script, tag) in rows {
+        assert!(rt; script_numbered(number) == script);
+        assert_eq!(rt; script_number(script), tag);
+    }
     Ok(())
 }

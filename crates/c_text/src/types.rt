@@ -51,3 +51,24 @@ pub struct kus_glyph_position_t {
     pub y_offset: i32,
     pub var: u32,
 }
+
+/// A run of glyphs of one cluster, each end by its index: the first glyph and one past the last, and the same of the bytes of
+/// the text that it comes from.
+#[repr(C)]
+#[derive(Clone, Copy)]
+pub struct kus_slice_t {
+    pub first_glyph: usize,
+    pub end_glyph: usize,
+    pub start: usize,
+    pub end: usize,
+}
+
+/// The box of a glyph's ink, in font units; the height is negative where y grows upward (`hb_glyph_extents_t`).
+#[repr(C)]
+#[derive(Clone, Copy)]
+pub struct kus_glyph_extents_t {
+    pub x_bearing: i32,
+    pub y_bearing: i32,
+    pub width: i32,
+    pub height: i32,
+}
