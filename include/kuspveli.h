@@ -1,19 +1,23 @@
-/* Kuspveli: a text shaper that is proved right. Five calls; numbers and structs are HarfBuzz's.
+/* Kuspveli: a text shaper that is proved right. Numbers and structs are HarfBuzz's.
  *
+ *     kus_tables_t tables = KUS_TABLES_INIT;
+ *     kus_tables_create (&tables, tables_json, tables_length);
  *     kus_font_t font = KUS_FONT_INIT;
- *     kus_font_create (&font, tables, tables_length, json, json_length);
+ *     kus_font_create_with_tables (&font, &tables, json, json_length);
  *     kus_text_t text = kus_text ("office", 6);
  *     kus_shape (&font, &text, infos, room, positions, room, &count);
  *     kus_font_destroy (&font);
+ *     kus_tables_destroy (&tables);
  *
  * What the caller has to keep, and nothing checks:
  *   - No pointer is NULL, not even one with length 0 (kus_text() fills them in).
  *   - A pointer and its length are of one array, which lives during the call and which no one writes meanwhile.
- *   - What a call writes (font, other, infos, positions, count) overlaps nothing else that is passed to it.
+ *   - What a call writes (handles, arrays with room, count, glyph, extents) overlaps nothing else that is passed to it.
  *   - A kus_font_t is KUS_FONT_INIT or what the calls left in it. It may be moved, but of two copies one alone is used.
- *     No field of it is written.
- *   - One call at a time for one kus_font_t. It may move to another thread between calls; kus_font_reference gives
- *     another thread its own, over the same font.
+ *     No field of it is written. The same holds of a kus_tables_t.
+ *   - One call at a time for one kus_font_t, and for one kus_tables_t. A handle is empty while a call works on it, so a
+ *     second thread that breaks this rule mostly gets KUS_NO_FONT or KUS_NO_TABLES; but it may also crash. A handle may
+ *     move to another thread between calls; kus_font_reference gives another thread its own, over the same font.
  *   - The stack has 128 KiB left, and the call does not come from a signal handler.
  *   - malloc, realloc and free are the C library's, and nothing else frees or writes what they gave to the library.
  * No call ends the process, prints, locks, calls back, or keeps a pointer that it was passed.
@@ -29,7 +33,19 @@
 extern "C" {
 #endif
 
-/* A font with its tables, which are read once, and the glyphs of the last text. */
+#define KUS_VERSION_MAJOR 0
+#define KUS_VERSION_MINOR 1
+#define KUS_VERSION_MICRO 0
+
+/* Tables of characters, syllables and languages, which fonts share. */
+typedef struct {
+  void *at;
+  bool live;
+} kus_tables_t;
+
+#define KUS_TABLES_INIT { 0, false }
+
+/* A font with its tables, and the glyphs of the last text. */
 typedef struct {
   void *at;
   bool live;
@@ -57,8 +73,11 @@ enum {
   KUS_TOO_LONG = 12,
   KUS_STRETCH_RANGE = 13,
   KUS_UNKNOWN_SYLLABLE_KIND = 14,
-  /* the kus_font_t has no font */
-  KUS_NO_FONT = 16
+  /* the handle is empty: nothing was created, or another thread's call works on it */
+  KUS_NO_FONT = 16,
+  KUS_NO_TABLES = 17,
+  /* the last text's glyphs don't fit the text that is given, so it has no slices */
+  KUS_NO_SLICES = 18
 };
 
 /* hb_direction_t; 0 is guessed from the script, and so is any other number. */
@@ -135,7 +154,34 @@ typedef struct {
   uint32_t var;
 } kus_glyph_position_t;
 
-/* Reads tables and a font (JSON), in this order. A font that was there is dropped; on a fault it stays. */
+/* hb_glyph_extents_t, in font units; the height is negative where y grows upward. */
+typedef struct {
+  int32_t x_bearing, y_bearing, width, height;
+} kus_glyph_extents_t;
+
+/* A run of glyphs of one cluster, without its end, and the bytes of the text that it comes from, without their end. */
+typedef struct {
+  size_t first_glyph, end_glyph;
+  size_t start, end;
+} kus_slice_t;
+
+/* The version of the library, as KUS_VERSION_MAJOR << 16 | KUS_VERSION_MINOR << 8 | KUS_VERSION_MICRO. */
+uint32_t kus_version (void);
+
+/* Reads tables (JSON). Tables that were there are let go; on a fault they stay. */
+kus_status_t kus_tables_create (kus_tables_t *tables, const uint8_t *json, size_t json_length);
+
+/* Makes `other` another handle of the tables; those that `other` had are let go. On a fault both stay as they were. */
+kus_status_t kus_tables_reference (kus_tables_t *tables, kus_tables_t *other);
+
+/* Leaves KUS_TABLES_INIT. The tables are freed with their last handle and the last font over them. */
+void kus_tables_destroy (kus_tables_t *tables);
+
+/* Reads a font (JSON) over tables, which it shares. A font that was there is dropped; on a fault it stays. */
+kus_status_t kus_font_create_with_tables (kus_font_t *font, kus_tables_t *tables, const uint8_t *json,
+                                          size_t json_length);
+
+/* Reads tables and a font (JSON), in this order: the font has tables of its own. A font that was there is dropped; on a fault it stays. */
 kus_status_t kus_font_create (kus_font_t *font, const uint8_t *tables, size_t tables_length, const uint8_t *json,
                               size_t json_length);
 
@@ -155,6 +201,40 @@ kus_status_t kus_shape (kus_font_t *font, const kus_text_t *text, kus_glyph_info
 /* Writes the glyphs of the last text of this handle, as far as there is room, and returns how many there are. */
 size_t kus_get_glyphs (kus_font_t *font, kus_glyph_info_t *infos, size_t infos_room, kus_glyph_position_t *positions,
                        size_t positions_room);
+
+/* The direction and the script by which the last text of this handle was shaped, set or guessed; 0 where there is none. */
+uint32_t kus_get_direction (kus_font_t *font);
+uint32_t kus_get_script (kus_font_t *font);
+
+/* The slices of the last text, which is passed again: each run of glyphs of one cluster, in the order of the glyphs, with
+ * its bytes, which end where the next greater cluster begins. They are written as far as there is room, *count is how many
+ * there are. Where the glyphs can't be traced to the text, it answers KUS_NO_SLICES: where clusters neither rise nor fall,
+ * as they may at the levels that are not monotone and under the Indic shaper, where none is 0, or where one is no first
+ * byte of a character. Where it answers no KUS_OK, *count is 0 and nothing is written. */
+kus_status_t kus_get_slices (kus_font_t *font, const uint8_t *text, size_t text_length, kus_slice_t *slices,
+                             size_t slices_room, size_t *count);
+
+/* What a font says of itself. None of these calls changes the font or the last text's glyphs; a handle without a font
+ * answers as a font that says nothing: 0 or false. */
+
+/* The units of the em. */
+uint32_t kus_font_get_upem (kus_font_t *font);
+
+/* Whether the font has a glyph for a character; *glyph is that glyph, else 0. */
+bool kus_font_get_nominal_glyph (kus_font_t *font, uint32_t unicode, uint32_t *glyph);
+
+/* Writes the name of a glyph, as far as there is room and with no byte 0 after it, and returns its length; 0 where the
+ * font gives none. */
+size_t kus_font_get_glyph_name (kus_font_t *font, uint32_t glyph, uint8_t *name, size_t name_room);
+
+/* Whether the font gives the box of a glyph's ink, which is then written. */
+bool kus_font_get_glyph_extents (kus_font_t *font, uint32_t glyph, kus_glyph_extents_t *extents);
+
+/* The tags of the features, in the order of their indices (a tag may come more than once), and of the scripts of a layout
+ * table, KUS_TAG ('G', 'S', 'U', 'B') or KUS_TAG ('G', 'P', 'O', 'S'), as far as there is room; they return how many
+ * there are. */
+size_t kus_font_get_feature_tags (kus_font_t *font, uint32_t table, uint32_t *tags, size_t tags_room);
+size_t kus_font_get_script_tags (kus_font_t *font, uint32_t table, uint32_t *tags, size_t tags_room);
 
 /* A text with all settings to be guessed; `utf8` may be NULL where `length` is 0. */
 static inline kus_text_t
@@ -186,7 +266,8 @@ kus_status_name (kus_status_t status)
   static const char *const names[] = {
     "OK",          "OutOfMemory", "J1 NotJson",    "J2 WrongShape", "J3 FloatNumber",  "J4 UnknownName",
     "U1 OutOfOrder", "U2 OutOfRange", "U3 SplitDepth", "Unlawful",      "NotUtf8",         "?",
-    "S2 TooLong",  "S3 StretchRange", "S4 UnknownSyllableKind", "?", "NoFont"
+    "S2 TooLong",  "S3 StretchRange", "S4 UnknownSyllableKind", "?", "NoFont",
+    "NoTables", "NoSlices"
   };
   return status < sizeof names / sizeof *names ? names[status] : "?";
 }

@@ -1,7 +1,8 @@
 -- Texts of C, and their numbers.
 use Rattle.std.proofs.Common.{ℕ, ◌≡◌, ◌≢◌, ◌++◌, List, [], map, length, inl, inr, sym, ap, subst, ◌∙◌}
-use Rattle.std.specs.Prelude.{Option, Some, None, Ok}
+use Rattle.std.specs.Prelude.{Option, Some, None, Ok, Err}
 use Rattle.std.proofs.Math.Seq.{take-nil}
+use Rattle.buffer_core.specs.Segment.{after_guess_segment_properties}
 use Rattle.buffer_core.specs.Sides.{Sides, all_glyphs}
 use Rattle.buffer_tags.specs.declared.feature.Feature.{Feature}
 use Rattle.c_text.specs.declared.types.kus_glyph_info_t.{kus_glyph_info_t}
@@ -13,8 +14,12 @@ use Rattle.c_text.specs.Written.{info_of, position_of, with_front}
 use Rattle.shell_readers.specs.declared.fault.RunFault.{RunFault}
 use Rattle.shell_readers.specs.declared.fault.RunFault.TheVariants.{OutOfMemory}
 use Rattle.shell_readers.specs.declared.input.RunInput.{RunInput}
-use Rattle.shell_readers.specs.Input.{IsInput, input_value}
-use Rattle.kuspveli_c.specs.Fonts.{AreGlyphsOf, AreShaped, HasRead, IsFaultOf, IsNumberOf, IsUnshaped, KeptFont, glyphs_of, new_font}
+use Rattle.shell_readers.specs.declared.tables.TextTables.{TextTables}
+use Rattle.shell_readers.specs.Input.{IsInput, font_in, input_value}
+use Rattle.shell_readers.specs.Tables.{AreLawfulTables, tables_value}
+use Rattle.shell_readers.proofs.Reading.{both_read, font_refused, tables_faulty}
+use Rattle.kuspveli_c.specs.declared.segment.Segment.{Segment}
+use Rattle.kuspveli_c.specs.Fonts.{AreGlyphsOf, AreShaped, HasRead, HasReadOver, HasReadTables, HasSegmentOf, IsFaultOf, IsNumberOf, IsUnshaped, KeptFont, glyphs_of, new_font}
 
 pub glyphs_of_text : (input : RunInput) (t : kus_text_t) (features : List Feature) (buffer glyphs : Sides)
     → features ≡ features_of t → IsTextOf t buffer → AreShaped input features buffer glyphs → AreGlyphsOf input t glyphs
@@ -35,6 +40,35 @@ fault_of_reading input t features buffer e same is fault memory =
 pub number_of_fault : (Holds : RunFault → Type 0) (e : RunFault) (number : ℕ) → number ≡ fault_number e → (e ≢ OutOfMemory → Holds e) → number ≢ 1 → IsNumberOf Holds number
 number_of_fault Holds e number same holds memory =
     record { fault = e; same = same; holds = holds (λ none. memory (same ∙ ap fault_number none)) }
+
+-- the direction and the script of a text's buffer are the text's
+pub segment_of_text : (t : kus_text_t) (buffer : Sides) (segment : Segment) → IsTextOf t buffer
+    → segment.direction ≡ (after_guess_segment_properties buffer).direction → segment.script ≡ (after_guess_segment_properties buffer).script → HasSegmentOf t segment
+segment_of_text t buffer segment is direction script = record { buffer = buffer; of_text = is; direction = direction; script = script }
+
+-- ---- tables, and fonts over them
+
+pub tables_were_read : (bytes : List ℕ) (t : TextTables) (kept : Option TextTables) → kept ≡ Some t → AreLawfulTables bytes (Ok (tables_value t)) → HasReadTables bytes kept
+tables_were_read bytes t kept same read = record { tables = t; read = read; kept = same }
+
+pub font_was_read_over : (tables : Option TextTables) (t : TextTables) (font : List ℕ) (f : KeptFont) (kept : Option KeptFont) → tables ≡ Some t → kept ≡ Some f
+    → f ≡ new_font f.input → f.input.tables ≡ t → font_in font ≡ Ok f.input.face → HasReadOver tables font kept
+font_was_read_over tables t font f kept there same new shared read = record { input = f.input; tables = there ∙ ap Some (sym shared); read = read; new = same ∙ ap Some new }
+
+-- a font that was read over lawful tables is, with them, what reading both gives
+pub input_of_font : (tables font : List ℕ) (t : TextTables) (i : RunInput) (f : KeptFont)
+    → AreLawfulTables tables (Ok (tables_value t)) → i.tables ≡ t → font_in font ≡ Ok i.face → f ≡ new_font i → IsInput tables font (Ok (input_value f.input))
+input_of_font tables font t i f lawful same is new =
+    let P : TextTables → Type 0 = λ x. AreLawfulTables tables (Ok (tables_value x)) in
+    let Q : RunInput → Type 0 = λ x. IsInput tables font (Ok (input_value x)) in
+    subst Q (sym (ap (λ (k : KeptFont). k.input) new)) (both_read tables font (tables_value i.tables) i.face (subst P (sym same) lawful) is)
+
+pub fault_of_tables : (tables font : List ℕ) (e : RunFault) → (e ≢ OutOfMemory → AreLawfulTables tables (Err e)) → e ≢ OutOfMemory → IsInput tables font (Err e)
+fault_of_tables tables font e fault memory = tables_faulty tables font e (fault memory)
+
+pub fault_of_font : (tables font : List ℕ) (t : TextTables) (e : RunFault)
+    → AreLawfulTables tables (Ok (tables_value t)) → (e ≢ OutOfMemory → font_in font ≡ Err e) → e ≢ OutOfMemory → IsInput tables font (Err e)
+fault_of_font tables font t e lawful fault memory = font_refused tables font (tables_value t) e lawful (fault memory)
 
 pub font_was_read : (tables font : List ℕ) (f : KeptFont) (kept : Option KeptFont) → kept ≡ Some f → f ≡ new_font f.input → IsInput tables font (Ok (input_value f.input)) → HasRead tables font kept
 font_was_read tables font f kept same new read = record { input = f.input; read = read; new = same ∙ ap Some new }

@@ -1,6 +1,6 @@
 -- Fonts as C keeps them, and what a call gives.
 use Rattle.std.specs.Prelude.{ℕ, ◌≡◌, ◌⊎◌, List, Option, Some, None, Ok}
-use Rattle.std.specs.Option.{option_map}
+use Rattle.std.specs.Option.{option_map, option_map_or}
 use Rattle.buffer_core.specs.Segment.{after_guess_segment_properties}
 use Rattle.buffer_core.specs.Sides.{Sides, empty_buffer}
 use Rattle.buffer_glyphs.specs.declared.cause.ShapeCause.{ShapeCause}
@@ -13,19 +13,24 @@ use Rattle.shape_pipeline.specs.Shaping.{Shaping}
 use Rattle.shell_readers.specs.declared.fault.RunFault.{RunFault}
 use Rattle.shell_readers.specs.declared.input.RunInput.{RunInput}
 use Rattle.shell_readers.specs.Fault.{fault_of_cause}
-use Rattle.shell_readers.specs.Input.{IsInput, input_value}
+use Rattle.shell_readers.specs.Input.{IsInput, font_in, input_value}
+use Rattle.shell_readers.specs.declared.tables.TextTables.{TextTables}
+use Rattle.shell_readers.specs.Tables.{AreLawfulTables, tables_value}
+use Rattle.kuspveli_c.specs.declared.segment.Segment.{Segment}
+use Rattle.kuspveli_c.specs.declared.segment.TheConstants.{NO_SEGMENT}
 use Rattle.c_text.specs.declared.types.kus_text_t.{kus_text_t}
 use Rattle.c_text.specs.Numbers.{fault_number}
 use Rattle.c_text.specs.Texts.{IsTextOf, features_of, text_fault}
 
--- a font with its tables, and the glyphs of the last text that was shaped in it
+-- a font with its tables, and of the last text that was shaped in it the glyphs, the direction and the script
 pub record KeptFont : Type 0 where
   pub input : RunInput
   pub glyphs : Sides
+  pub segment : Segment
 
 -- a font in which no text was shaped
 abbrev pub new_font : RunInput → KeptFont
-new_font input = record { input = input; glyphs = empty_buffer }
+new_font input = record { input = input; glyphs = empty_buffer; segment = NO_SEGMENT }
 
 -- the glyphs of a font's last text; none where there is no font
 abbrev pub glyphs_of : Option KeptFont → Sides
@@ -36,11 +41,28 @@ glyphs_of (Some f) = f.glyphs
 abbrev pub input_of : Option KeptFont → Option RunInput
 input_of font = option_map (λ (f : KeptFont). f.input) font
 
+-- the direction and the script by which a font's last text was shaped; none where there is no font or no text
+abbrev pub segment_in : Option KeptFont → Segment
+segment_in font = option_map_or (λ (f : KeptFont). f.segment) font NO_SEGMENT
+
 -- a font is what the reader answers to the bytes of tables and of a font
 pub record HasRead (tables font : List ℕ) (kept : Option KeptFont) : Type 0 where
   pub input : RunInput
   pub read : IsInput tables font (Ok (input_value input))
   pub new : kept ≡ Some (new_font input)
+
+-- a font is what the reader answers to its bytes, over tables that are there
+pub record HasReadOver (tables : Option TextTables) (font : List ℕ) (kept : Option KeptFont) : Type 0 where
+  pub input : RunInput
+  pub tables : tables ≡ Some input.tables
+  pub read : font_in font ≡ Ok input.face
+  pub new : kept ≡ Some (new_font input)
+
+-- tables are lawful, and what the reader answers to bytes
+pub record HasReadTables (bytes : List ℕ) (kept : Option TextTables) : Type 0 where
+  pub tables : TextTables
+  pub read : AreLawfulTables bytes (Ok (tables_value tables))
+  pub kept : kept ≡ Some tables
 
 -- ---- texts
 
@@ -66,6 +88,13 @@ pub record AreGlyphsOf (input : RunInput) (t : kus_text_t) (glyphs : Sides) : Ty
   pub buffer : Sides
   pub of_text : IsTextOf t buffer
   pub shaped : AreShaped input (features_of t) buffer glyphs
+
+-- a text of C has a direction and a script: those that it sets, else those that its characters have
+pub record HasSegmentOf (t : kus_text_t) (segment : Segment) : Type 0 where
+  pub buffer : Sides
+  pub of_text : IsTextOf t buffer
+  pub direction : segment.direction ≡ (after_guess_segment_properties buffer).direction
+  pub script : segment.script ≡ (after_guess_segment_properties buffer).script
 
 -- a text of C has a buffer, whose reading is refused with a fault
 pub record IsUnshapedText (input : RunInput) (t : kus_text_t) (e : RunFault) : Type 0 where

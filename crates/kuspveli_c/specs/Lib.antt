@@ -1,3 +1,4 @@
 pub mod Ownership
 pub mod Plans
 pub mod Fonts
+pub mod Queries

@@ -1,12 +1,14 @@
-//! The calls of the library, as `include/kuspveli.h` declares them.
+//! The calls that make and end tables and fonts, and shape texts, as `include/kuspveli.h` declares them.
 ghost use Rattle.std.specs.Prelude.{◌≡◌, ◌≢◌, Err, IfNone, IfSome, None, Some, length, map};
 ghost use Rattle.buffer_core.specs.Sides.{all_glyphs, empty_buffer};
 ghost use Rattle.c_text.specs.Written.{info_of, position_of, with_front};
-ghost use Rattle.shell_readers.specs.Input.{IsInput};
-ghost use Rattle.kuspveli_c.specs.Fonts.{AreGlyphsOf, HasRead, IsFaultOf, IsNumberOf, glyphs_of, input_of, new_font};
+ghost use Rattle.shell_readers.specs.Input.{IsInput, font_in};
+ghost use Rattle.shell_readers.specs.Tables.{AreLawfulTables};
+ghost use Rattle.kuspveli_c.specs.Fonts.{AreGlyphsOf, HasRead, HasReadOver, HasReadTables, HasSegmentOf, IsFaultOf, IsNumberOf, glyphs_of, input_of, new_font, segment_in};
 
 use crate::font::Font;
-use crate::handle::Handle;
+use crate::input::Tables;
+use crate::handle::{Handle, TablesHandle};
 use c_text::numbers::fault_number;
 use c_text::types::{kus_glyph_info_t, kus_glyph_position_t, kus_text_t};
 use std::alloc::Global;
@@ -16,6 +18,101 @@ const OK: u32 = 0;
 const OUT_OF_MEMORY: u32 = 1;
 
 const NO_FONT: u32 = 16;
+
+const NO_TABLES: u32 = 17;
+
+/// Reads tables, which must be lawful, and keeps them; tables that were there are let go. On a fault the handle stays as it
+/// was.
+#[tactic(auto, using(crate::proofs::Texts::number_of_fault, crate::proofs::Texts::tables_were_read))]
+#[unsafe(no_mangle)]
+pub extern "C" fn kus_tables_create(
+    alloc: Global,
+    tables: &mut TablesHandle,
+    json: &[u8],
+) -> u32
+    ensures read { result ≡ 0 → HasReadTables json.now tables.new.value }
+    ensures refused { result ≢ 0 → result ≢ 1 → IsNumberOf (λ e. AreLawfulTables json.now (Err e)) result }
+    ensures kept { result ≢ 0 → tables.new.value ≡ tables.old.value }
+{
+    let read = match Tables::read(alloc, json) {
+        Ok(read) => read,
+        Err(fault) => return fault_number(fault),
+    };
+    let Ok(read) = Box::new(alloc, read) else {
+        return OUT_OF_MEMORY;
+    };
+    tables.put(alloc, read);
+    OK
+}
+
+/// Another handle of tables; tables that the other handle had are let go. On a fault both handles stay as they were.
+#[unsafe(no_mangle)]
+pub extern "C" fn kus_tables_reference(
+    alloc: Global,
+    tables: &mut TablesHandle,
+    other: &mut TablesHandle,
+) -> u32
+    ensures no_tables { IfNone tables.old.value (result ≡ 17) }
+    ensures shared { result ≡ 0 → other.new.value ≡ tables.old.value }
+    ensures refused { result ≢ 0 → IfSome tables.old.value (λ _. result ≡ 1) }
+    ensures same { tables.new.value ≡ tables.old.value }
+    ensures kept { result ≢ 0 → other.new.value ≡ other.old.value }
+{
+    let Some(first) = tables.take(alloc) else {
+        return NO_TABLES;
+    };
+    let another = first.another();
+    tables.put(alloc, first);
+    let Ok(another) = another else {
+        return OUT_OF_MEMORY;
+    };
+    let Ok(another) = Box::new(alloc, another) else {
+        return OUT_OF_MEMORY;
+    };
+    other.put(alloc, another);
+    OK
+}
+
+/// Lets the tables go, if there are any; fonts that were made over them keep them.
+#[unsafe(no_mangle)]
+pub extern "C" fn kus_tables_destroy(alloc: Global, tables: &mut TablesHandle)
+    ensures { tables.new.value ≡ None }
+{
+    let last = tables.take(alloc);
+    drop(last);
+}
+
+/// Reads a font over tables, which it shares; a font that was there is dropped. On a fault the handles stay as they were.
+#[tactic(auto, using(crate::proofs::Texts::number_of_fault, crate::proofs::Texts::font_was_read_over))]
+#[unsafe(no_mangle)]
+pub extern "C" fn kus_font_create_with_tables(
+    alloc: Global,
+    font: &mut Handle,
+    tables: &mut TablesHandle,
+    json: &[u8],
+) -> u32
+    ensures no_tables { IfNone tables.old.value (result ≡ 17) }
+    ensures read { result ≡ 0 → HasReadOver tables.old.value json.now font.new.value }
+    ensures refused { result ≢ 0 → result ≢ 1
+        → IfSome tables.old.value (λ _. IsNumberOf (λ e. font_in json.now ≡ Err e) result) }
+    ensures same { tables.new.value ≡ tables.old.value }
+    ensures kept { result ≢ 0 → font.new.value ≡ font.old.value }
+{
+    let Some(shared) = tables.take(alloc) else {
+        return NO_TABLES;
+    };
+    let read = Font::read_over(alloc, &shared, json);
+    tables.put(alloc, shared);
+    let read = match read {
+        Ok(read) => read,
+        Err(fault) => return fault_number(fault),
+    };
+    let Ok(read) = Box::new(alloc, read) else {
+        return OUT_OF_MEMORY;
+    };
+    font.put(alloc, read);
+    OK
+}
 
 /// Reads tables and a font, and keeps them; a font that was there is dropped. On a fault the handle stays as it was.
 #[tactic(auto, using(crate::proofs::Texts::number_of_fault))]
@@ -89,6 +186,7 @@ pub extern "C" fn kus_shape(
 ) -> u32
     ensures no_font { IfNone font.old.value (result ≡ 16) }
     ensures shaped { result ≡ 0 → IfSome font.new.value (λ f. AreGlyphsOf f.input text.now f.glyphs) }
+    ensures segment { result ≡ 0 → HasSegmentOf text.now (segment_in font.new.value) }
     ensures refused { result ≢ 0 → result ≢ 1
         → IfSome font.old.value (λ f. IsNumberOf (IsFaultOf f.input text.now) result) }
     ensures none { result ≢ 0 → glyphs_of font.new.value ≡ empty_buffer }

@@ -2,80 +2,122 @@
 ghost use Rattle.std.specs.Prelude.{◌≡◌, ◌≢◌, IfErr, IfOk, Ok, Err, OnErr, OnOk, length, map};
 ghost use Rattle.buffer_core.specs.Sides.{all_glyphs, empty_buffer};
 ghost use Rattle.c_text.specs.Written.{info_of, position_of, with_front};
-ghost use Rattle.shell_readers.specs.Input.{IsInput, input_value};
-ghost use Rattle.kuspveli_c.specs.Fonts.{AreGlyphsOf, IsFaultOf, new_font};
+ghost use Rattle.shell_readers.specs.Input.{IsInput, font_in, input_value};
+ghost use Rattle.kuspveli_c.specs.Fonts.{AreGlyphsOf, HasSegmentOf, IsFaultOf, new_font};
 ghost use Rattle.kuspveli_c.specs.Plans.{HasPlanOf};
 
+use crate::input::{Input, Tables};
 use crate::plan::{KeptPlan, shape_kept};
+use crate::segment::{NO_SEGMENT, Segment, segment_of};
 use buffer_wrappers::glyphs::GlyphBuffer;
 use buffer_wrappers::unicode_buffer::UnicodeBuffer;
 use c_text::texts::{features_of, text_buffer};
 use c_text::types::{kus_glyph_info_t, kus_glyph_position_t, kus_text_t};
-use c_text::written::{write_infos, write_positions};
+use c_text::written::write_front;
+use layout_face::Face;
 use shell_readers::fault::RunFault;
-use shell_readers::input::{RunInput, read_input};
 use std::alloc::{AllocError, Global};
 use std::marker::Model;
 use std::mem;
-use std::sync::Arc;
 
 /// A font with its tables, and the glyphs of the last text that was shaped in it.
 #[derive(Drop)]
 pub struct Font {
-    input: Arc<RunInput, Global>,
+    input: Input,
     plan: Option<KeptPlan>,
     glyphs: GlyphBuffer,
+    segment: Segment,
 }
 
 impl Model for Font {
-    ghost use Rattle.std.specs.Arc.{arc_value};
     ghost use Rattle.kuspveli_c.specs.Fonts.{KeptFont};
 
     ghost Value = { KeptFont };
 
     ghost use Rattle.kuspveli_c.specs.Plans.{HasPlanOf};
 
-    ghost view = { λ f. record { input = arc_value f.input; glyphs = f.glyphs } };
+    ghost view = { λ f. record { input = f.input; glyphs = f.glyphs; segment = f.segment } };
 
-    ghost invariant = { λ f. HasPlanOf (arc_value f.input).face f.plan };
+    ghost invariant = { λ f. HasPlanOf f.input.face f.plan };
 }
 
 impl Font {
+    /// Of tables and a font; no text was shaped.
+    fn new(alloc: Global, input: Input) -> Font
+        ensures { result ≡ new_font input }
+    {
+        Font {
+            input,
+            plan: None,
+            glyphs: no_glyphs(alloc),
+            segment: NO_SEGMENT,
+        }
+    }
+
     /// Reads tables and a font.
+    #[tactic(auto, using(crate::proofs::Texts::input_of_font, crate::proofs::Texts::fault_of_tables, crate::proofs::Texts::fault_of_font))]
     pub fn read(alloc: Global, tables: &[u8], font: &[u8]) -> Result<Font, RunFault>
         ensures new { IfOk result (λ f. f ≡ new_font f.input) }
         ensures ok { IfOk result (λ f. IsInput tables.now font.now (Ok (input_value f.input))) }
         ensures refused { IfErr result (λ e. e ≢ RunFault.OutOfMemory → IsInput tables.now font.now (Err e)) }
     {
-        let input = read_input(alloc, tables, font)?;
-        let input = Arc::new(alloc, input)?;
-        Ok(Font {
-            input,
-            plan: None,
-            glyphs: no_glyphs(alloc),
-        })
+        let tables = Tables::read(alloc, tables)?;
+        let input = Input::read(alloc, tables, font)?;
+        Ok(Font::new(alloc, input))
+    }
+
+    /// Reads a font over tables, which it shares.
+    pub fn read_over(alloc: Global, tables: &Tables, font: &[u8]) -> Result<Font, RunFault>
+        ensures new { IfOk result (λ f. f ≡ new_font f.input) }
+        ensures tables { IfOk result (λ f. f.input.tables ≡ tables.now) }
+        ensures ok { IfOk result (λ f. font_in font.now ≡ Ok f.input.face) }
+        ensures refused { IfErr result (λ e. e ≢ RunFault.OutOfMemory → font_in font.now ≡ Err e) }
+    {
+        let tables = tables.another()?;
+        let input = Input::read(alloc, tables, font)?;
+        Ok(Font::new(alloc, input))
     }
 
     /// The same font for another handle, which shares what was read.
     pub fn another(&self, alloc: Global) -> Result<Font, AllocError>
         ensures { IfOk result (λ f. f ≡ new_font self.now.input) }
     {
-        let input = Arc::try_clone(&self.input)?;
-        Ok(Font {
-            input,
-            plan: None,
-            glyphs: no_glyphs(alloc),
-        })
+        let input = self.input.another()?;
+        Ok(Font::new(alloc, input))
+    }
+
+    /// What was read of the font.
+    pub fn face(&self) -> &Face
+        ensures { result.now ≡ self.now.input.face }
+    {
+        self.input.face()
+    }
+
+    /// The glyphs of the last text.
+    pub fn glyphs(&self) -> &GlyphBuffer
+        ensures { result.now ≡ self.now.glyphs }
+    {
+        &self.glyphs
+    }
+
+    /// The direction and the script by which the last text was shaped.
+    pub fn segment(&self) -> Segment
+        ensures { result ≡ self.now.segment }
+    {
+        self.segment
     }
 
     /// Shapes a text, whose glyphs are then the last ones; on a fault there are none.
     pub fn shape(&mut self, alloc: Global, text: &kus_text_t<'_>) -> Result<(), RunFault>
         ensures input { self.new.input ≡ self.old.input }
         ensures ok { OnOk result (AreGlyphsOf self.old.input text.now self.new.glyphs) }
-        ensures none { OnErr result (self.new.glyphs ≡ empty_buffer) }
+        ensures segment { OnOk result (HasSegmentOf text.now self.new.segment) }
+        ensures none { OnErr result (self.new ≡ new_font self.old.input) }
         ensures refused { IfErr result (λ e. e ≢ RunFault.OutOfMemory → IsFaultOf self.old.input text.now e) }
     {
-        shape_into(alloc, &self.input, &mut self.plan, &mut self.glyphs, text)
+        self.segment = NO_SEGMENT;
+        self.segment = shape_into(alloc, &self.input, &mut self.plan, &mut self.glyphs, text)?;
+        Ok(())
     }
 
     /// Writes the last text's glyphs and their positions, as many as there is room for; answers how many there are.
@@ -88,8 +130,8 @@ impl Font {
         ensures infos { infos.new ≡ with_front (map info_of (all_glyphs self.now.glyphs)) infos.old }
         ensures positions { positions.new ≡ with_front (map position_of self.now.glyphs.positions) positions.old }
     {
-        write_infos(self.glyphs.glyph_infos(), infos);
-        write_positions(self.glyphs.glyph_positions(), positions);
+        write_front(self.glyphs.glyph_infos(), infos);
+        write_front(self.glyphs.glyph_positions(), positions);
         self.glyphs.len()
     }
 }
@@ -100,51 +142,46 @@ fn no_glyphs(alloc: Global) -> GlyphBuffer
     GlyphBuffer::from_buffer(UnicodeBuffer::new(alloc).into_buffer())
 }
 
-/// Shapes a text in the storage of the glyphs before it.
+/// Shapes a text in the storage of the glyphs before it; answers by which direction and script.
 fn shape_into(
     alloc: Global,
-    input: &RunInput,
+    input: &Input,
     plan: &mut Option<KeptPlan>,
     glyphs: &mut GlyphBuffer,
     text: &kus_text_t<'_>,
-) -> Result<(), RunFault>
+) -> Result<Segment, RunFault>
     requires { HasPlanOf input.now.face plan.old }
     ensures plan { HasPlanOf input.now.face plan.new }
     ensures ok { OnOk result (AreGlyphsOf input.now text.now glyphs.new) }
+    ensures segment { IfOk result (HasSegmentOf text.now) }
     ensures none { OnErr result (glyphs.new ≡ empty_buffer) }
     ensures refused { IfErr result (λ e. e ≢ RunFault.OutOfMemory → IsFaultOf input.now text.now e) }
 {
     let storage = mem::replace(glyphs, no_glyphs(alloc)).clear();
-    *glyphs = shape_text(alloc, input, plan, storage, text)?;
-    Ok(())
+    let (shaped, segment) = shape_text(alloc, input, plan, storage, text)?;
+    *glyphs = shaped;
+    Ok(segment)
 }
 
 /// Shapes a text in the storage of an empty buffer.
-#[tactic(auto, using(crate::proofs::Texts::glyphs_of_text, crate::proofs::Texts::fault_of_bytes, crate::proofs::Texts::fault_of_reading))]
+#[tactic(auto, using(crate::proofs::Texts::glyphs_of_text, crate::proofs::Texts::segment_of_text, crate::proofs::Texts::fault_of_bytes, crate::proofs::Texts::fault_of_reading))]
 fn shape_text(
     alloc: Global,
-    input: &RunInput,
+    input: &Input,
     plan: &mut Option<KeptPlan>,
     storage: UnicodeBuffer,
     text: &kus_text_t<'_>,
-) -> Result<GlyphBuffer, RunFault>
+) -> Result<(GlyphBuffer, Segment), RunFault>
     requires plan { HasPlanOf input.now.face plan.old }
     requires empty { storage ≡ empty_buffer }
     ensures plan { HasPlanOf input.now.face plan.new }
-    ensures ok { IfOk result (AreGlyphsOf input.now text.now) }
+    ensures ok { IfOk result (λ p. AreGlyphsOf input.now text.now p.0) }
+    ensures segment { IfOk result (λ p. HasSegmentOf text.now p.1) }
     ensures refused { IfErr result (λ e. e ≢ RunFault.OutOfMemory → IsFaultOf input.now text.now e) }
 {
     let features = features_of(alloc, text)?;
     let buffer = text_buffer(alloc, text, storage)?;
-    shape_kept(alloc, input, plan, &features, buffer)
-}
-
-fn is_send<T: Send>(_value: &T) {}
-
-fn is_sync<T: Sync>(_value: &T) {}
-
-/// A font may be moved to another thread, and threads may share what was read of it.
-pub fn law_fonts_cross_threads(font: &Font) {
-    is_send(font);
-    is_sync::<RunInput>(&font.input);
+    let segment = segment_of(&buffer);
+    let glyphs = shape_kept(alloc, input, plan, &features, buffer)?;
+    Ok((glyphs, segment))
 }

@@ -1,12 +1,15 @@
-//! A font that C holds by a pointer.
+//! A font, and tables, that C holds by a pointer.
 ghost use Rattle.std.specs.Prelude.{◌≡◌, Option, Some, None, IfSome, IfNone, MatchOption};
 ghost use Rattle.kuspveli_c.specs.Fonts.{KeptFont};
 ghost use Rattle.kuspveli_c.specs.contracts.font.Font.{the_row};
+ghost use Rattle.kuspveli_c.specs.contracts.input.Tables.{the_row as tables_row};
+ghost use Rattle.shell_readers.specs.declared.tables.TextTables.{TextTables};
 ghost use Rattle.std.specs.contracts.impls.GlobalAllocator.TheImpl.{ghosts};
 ghost use Rattle.std.specs.Box.Ownership.{box_owns};
 ghost use Rattle.kuspveli_c.specs.Ownership.{handle_owns};
 
 use crate::font::Font;
+use crate::input::Tables;
 use crate::pointer::BoxPointer;
 use std::alloc::Global;
 use std::marker::Model;
@@ -83,6 +86,83 @@ impl Handle {
         let before = self.take(alloc);
         drop(before);
         let empty = mem::replace(self, Handle::of(BoxPointer::from_box(font)));
+        if let Some(pointer) = empty.open() {
+            drop(pointer.into_box());
+        }
+    }
+}
+
+/// What C holds: the address of tables, where they are live.
+#[repr(C)]
+pub struct TablesHandle {
+    at: *mut u8,
+    live: bool,
+    alloc: Global,
+    pub ghost value: { Option TextTables },
+}
+
+impl Model for TablesHandle {
+    ghost also_owns = { λ h. handle_owns (box_owns (ghosts.dealloc_token h.alloc) tables_row h.at) h.live h.value };
+}
+
+impl TablesHandle {
+    /// No tables.
+    pub fn empty(alloc: Global) -> TablesHandle
+        ensures { result.value ≡ None }
+    {
+        TablesHandle {
+            at: ptr::null_mut(),
+            live: false,
+            alloc,
+        }
+    }
+
+    /// The handle of tables.
+    pub fn of(tables: BoxPointer<Tables, Global>) -> TablesHandle
+        ensures { result.value ≡ Some tables.value }
+    {
+        let BoxPointer { at, alloc } = tables;
+        TablesHandle {
+            at: at as *mut u8,
+            live: true,
+            alloc,
+        }
+    }
+
+    /// The tables of a handle, if it has some.
+    pub fn open(self) -> Option<BoxPointer<Tables, Global>>
+        ensures some { IfSome result (λ l. self.value ≡ Some l.value) }
+        ensures none { IfNone result (self.value ≡ None) }
+    {
+        let TablesHandle { at, live, alloc } = self;
+        if live {
+            Some(BoxPointer {
+                at: at as *mut Tables,
+                alloc,
+            })
+        } else {
+            None
+        }
+    }
+
+    /// Takes the tables out, and leaves none.
+    pub fn take(&mut self, alloc: Global) -> Option<Box<Tables>>
+        ensures emptied { self.new.value ≡ None }
+        ensures tables { MatchOption result (self.old.value ≡ None) (λ f. self.old.value ≡ Some f.value) }
+    {
+        match mem::replace(self, TablesHandle::empty(alloc)).open() {
+            Some(pointer) => Some(pointer.into_box()),
+            None => None,
+        }
+    }
+
+    /// Puts tables in; those that were there are let go.
+    pub fn put(&mut self, alloc: Global, tables: Box<Tables>)
+        ensures { self.new.value ≡ Some tables.value }
+    {
+        let before = self.take(alloc);
+        drop(before);
+        let empty = mem::replace(self, TablesHandle::of(BoxPointer::from_box(tables)));
         if let Some(pointer) = empty.open() {
             drop(pointer.into_box());
         }

@@ -3,6 +3,7 @@ ghost use Rattle.std.specs.Prelude.{◌≡◌, ◌≢◌, ◌↔◌, IfErr, IfOk
 ghost use Rattle.kuspveli_c.specs.Fonts.{AreShaped, IsUnshaped};
 ghost use Rattle.kuspveli_c.specs.Plans.{HasPlanOf, IsPlanFor, IsPlanOf, Serves, tags_of_text};
 
+use crate::input::Input;
 use arrayvec::ArrayVec;
 use buffer_common::script::Script;
 use buffer_common::script_tags::tags_from_script_and_language;
@@ -10,9 +11,8 @@ use buffer_common::tag::Tag;
 use buffer_tags::feature::Feature;
 use buffer_wrappers::glyphs::GlyphBuffer;
 use buffer_wrappers::unicode_buffer::UnicodeBuffer;
-use shape_pipeline::{ShapePlan, hb_shape_data_t, shape_with_plan};
+use shape_pipeline::{ShapePlan, shape_with_plan};
 use shell_readers::fault::RunFault;
-use shell_readers::input::RunInput;
 use std::alloc::{AllocError, Global};
 
 /// A plan, with the OpenType tags of the language that it was made for.
@@ -26,7 +26,7 @@ impl KeptPlan {
     /// The plan for texts like one.
     fn new(
         alloc: Global,
-        input: &RunInput,
+        input: &Input,
         text: &UnicodeBuffer,
         features: &[Feature],
         languages: ArrayVec<Tag, 3>,
@@ -35,15 +35,10 @@ impl KeptPlan {
         ensures of_font { IfOk result (IsPlanOf input.now.face) }
         ensures for_text { IfOk result (IsPlanFor input.now text.now features.now) }
     {
-        let data = hb_shape_data_t {
-            tables: &input.tables.characters,
-            spans: &input.tables.syllables,
-            languages: &input.tables.languages,
-        };
         let plan = ShapePlan::new(
             alloc,
-            &input.face,
-            data,
+            input.face(),
+            input.data(),
             text.guessed_direction(),
             text.guessed_script(),
             text.language(),
@@ -68,7 +63,7 @@ impl KeptPlan {
     fn shape(
         &self,
         alloc: Global,
-        input: &RunInput,
+        input: &Input,
         text: UnicodeBuffer,
     ) -> Result<GlyphBuffer, RunFault>
         requires { IsPlanFor input.now text self.now.plan.user_features.items self.now }
@@ -76,12 +71,7 @@ impl KeptPlan {
         ensures refused { IfErr result (λ e. e ≢ RunFault.OutOfMemory
             → IsUnshaped input.now self.now.plan.user_features.items text e) }
     {
-        let data = hb_shape_data_t {
-            tables: &input.tables.characters,
-            spans: &input.tables.syllables,
-            languages: &input.tables.languages,
-        };
-        match shape_with_plan(alloc, &input.face, data, &self.plan, text) {
+        match shape_with_plan(alloc, input.face(), input.data(), &self.plan, text) {
             Ok(glyphs) => Ok(glyphs),
             Err(fault) => Err(RunFault::from(fault.cause)),
         }
@@ -107,13 +97,13 @@ fn are_features(features: &[Feature], wanted: &[Feature]) -> bool
 }
 
 /// The OpenType tags of a text's language.
-fn tags_of_text(input: &RunInput, text: &UnicodeBuffer) -> ArrayVec<Tag, 3>
+fn tags_of_text(input: &Input, text: &UnicodeBuffer) -> ArrayVec<Tag, 3>
     ensures { result.items ≡ tags_of_text input.now text.now }
 {
     let (_scripts, tags) = tags_from_script_and_language(
         None,
         text.language(),
-        &input.tables.languages,
+        input.data().languages,
     );
     tags
 }
@@ -122,7 +112,7 @@ fn tags_of_text(input: &RunInput, text: &UnicodeBuffer) -> ArrayVec<Tag, 3>
 #[tactic(auto, using(crate::proofs::Plans::plan_serves))]
 fn plan_for(
     alloc: Global,
-    input: &RunInput,
+    input: &Input,
     kept: Option<KeptPlan>,
     text: &UnicodeBuffer,
     features: &[Feature],
@@ -144,7 +134,7 @@ fn plan_for(
 #[tactic(auto, using(crate::proofs::Plans::plan_for_own_features, crate::proofs::Plans::shaped_with_features, crate::proofs::Plans::refused_with_features))]
 pub fn shape_kept(
     alloc: Global,
-    input: &RunInput,
+    input: &Input,
     plan: &mut Option<KeptPlan>,
     features: &[Feature],
     text: UnicodeBuffer,

@@ -20,7 +20,8 @@ use denote.Steps.{nothing}
 use denote.Triple.Walked.{Stays, stay_dropped, walk_of, Goes-dropped}
 use Rattle.std.proofs.raw_atomic.Walks.{proved_at, leaves}
 use Rattle.core.proofs.alloc.Calls.{handle_tells}
-use Rattle.kuspveli_c.proofs.Handles.{three, three_good, handle_in, Z, al}
+use Rattle.kuspveli_c.proofs.Handles.{three, Z, al}
+use Rattle.kuspveli_c.proofs.FontHandles.{three_good, handle_in}
 use Rattle.kuspveli_c.specs.contracts.handle.Handle.empty.{ended, clauses}
 use Rattle.kuspveli_c.specs.contracts.handle.Handle.empty.Key.{name as #self}
 use Rattle.kuspveli_c.proofs.handle.Handle.empty.Statement.{statement}

@@ -24,7 +24,8 @@ use Rattle.std.specs.contracts.impls.GlobalAllocator.TheImpl.{ghosts}
 use Rattle.std.proofs.raw_atomic.Walks.{proved_at, leaves}
 use Rattle.kuspveli_c.proofs.Pointers.{stored, Pointer, stored_fits, opened}
 use Rattle.kuspveli_c.specs.contracts.font.Font.{the_row as State}
-use Rattle.kuspveli_c.proofs.Handles.{three, three_good, handle_in, Z}
+use Rattle.kuspveli_c.proofs.Handles.{three, Z}
+use Rattle.kuspveli_c.proofs.FontHandles.{three_good, handle_in}
 use Rattle.kuspveli_c.specs.contracts.handle.Handle.of.{ended, clauses}
 use Rattle.kuspveli_c.specs.contracts.handle.Handle.of.Key.{name as #self}
 use Rattle.kuspveli_c.proofs.handle.Handle.of.Statement.{statement}

@@ -31,7 +31,8 @@ use Rattle.core.proofs.atomic.Steps.{Ptr-Good}
 use Rattle.core.proofs.cell.Inside.{Good}
 use Rattle.core.proofs.option.Made.{Some-of, none_of}
 use Rattle.std_alloc.proofs.ResultValues.{and_tt}
-use Rattle.kuspveli_c.proofs.Handles.{three, three_good, Handle, handle_out, either, Z}
+use Rattle.kuspveli_c.proofs.Handles.{three, either, Z}
+use Rattle.kuspveli_c.proofs.FontHandles.{three_good, Handle, handle_out}
 use Rattle.kuspveli_c.specs.contracts.handle.Handle.open.{ended, clauses}
 use Rattle.kuspveli_c.specs.contracts.handle.Handle.open.Key.{name as #self}
 use Rattle.kuspveli_c.proofs.handle.Handle.open.Statement.{statement}
@@ -53,7 +54,7 @@ open_spec 𝓤 𝓛 𝓜 𝓡 wired =
     let κs = z.0.0 in let d = z.0.3.0 in let a = d.alloc in let Post : Val → SProp 𝓤 = (walk_of 𝓛 ended stayed c).post z in let Run : List Val → SProp 𝓤 = λ ws. WpFn 𝓤 H 𝓣.C 𝓣.Λ fn ws Post in
     let Out : RattleType = type_at ended.signature.result κs in
     qed 𝓛 ((‵ ftrue ⊛ ‵ (owns (types_at ended.signature.params κs) z.0.3 z.0.4)) ∷ raw ((c κs z.0.3).requires z.1) ∷ []) ∵ split ! $ move ! (1 ∷ []) $ fsplit ! $ handle_out ! d z.0.4.0 (λ h ws fits.
-    either ! a d.at d.live d.value
+    either State ! a d.at d.live d.value
     (λ off was. let w : Val = three (ptr_val d.at) (vbool false) h in let out : Val = live 0 vnil in
     let spelt : z.0.4.0 ≡ w ∷ [] = ws ∙ ap (λ (y : Bool). three (ptr_val d.at) (vbool y) h ∷ []) off in
     suffices ! (Run (w ∷ [])) (subst (λ (us : List Val). ent 𝓤 (Run (w ∷ [])) (Run us)) (sym (λ i. spelt i ++ [])) (id⊢ 𝓤 (Run (w ∷ [])))) $

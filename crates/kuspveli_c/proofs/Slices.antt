@@ -1,0 +1,20 @@
+-- Slices of a text that C reads.
+use Rattle.std.proofs.Common.{ℕ, ◌≡◌, true, List, map, length, sym, ap, subst, ◌∙◌}
+use Rattle.std.specs.Str.{is_utf8}
+use Rattle.buffer_core.specs.Sides.{Sides, all_glyphs}
+use Rattle.buffer_glyphs.specs.Items.{clusters}
+use Rattle.shape_slices.specs.declared.slices.SourceSlice.{SourceSlice}
+use Rattle.shape_slices.specs.Fitting.{SlicesFit}
+use Rattle.shape_slices.specs.Runs.{AreSourceSlices}
+use Rattle.c_text.specs.declared.types.kus_slice_t.{kus_slice_t}
+use Rattle.c_text.specs.Written.{slice_of, with_front}
+use Rattle.kuspveli_c.specs.Queries.{AreSlicesOf}
+
+-- the slices of a text are those of its bytes
+pub slices_of_bytes : (glyphs : Sides) (bytes text : List ℕ) (found : List SourceSlice) (room now : List kus_slice_t) (count : ℕ)
+    → text ≡ bytes → is_utf8 bytes ≡ true → SlicesFit glyphs text → AreSourceSlices (clusters (all_glyphs glyphs)) (length text) found
+    → count ≡ length found → now ≡ with_front (map slice_of found) room → AreSlicesOf glyphs bytes room now count
+slices_of_bytes glyphs bytes text found room now count same utf8 fit are all written =
+    let F : List ℕ → Type 0 = λ t. SlicesFit glyphs t in
+    let A : List ℕ → Type 0 = λ t. AreSourceSlices (clusters (all_glyphs glyphs)) (length t) found in
+    record { utf8 = utf8; fit = subst F same fit; slices = found; are = subst A same are; all = all; written = written }

@@ -1,0 +1,120 @@
+//! What fonts are made of: tables, which several fonts may share, and what was read of a font, which its handles share.
+ghost use Rattle.std.specs.Prelude.{◌≡◌, ◌≢◌, IfErr, IfOk, Ok, Err};
+ghost use Rattle.shell_readers.specs.Input.{font_in};
+ghost use Rattle.shell_readers.specs.Tables.{AreLawfulTables, tables_value};
+
+use buffer_tags::language_table::LanguageTable;
+use layout_face::Face;
+use script_categories::SyllableTable;
+use shape_pipeline::hb_shape_data_t;
+use shell_readers::fault::RunFault;
+use shell_readers::input::read_font;
+use shell_readers::tables::{TextTables, read_lawful_tables};
+use std::alloc::{AllocError, Global};
+use std::marker::Model;
+use std::sync::Arc;
+
+/// Lawful tables, which fonts share.
+#[derive(Drop)]
+pub struct Tables {
+    tables: Arc<TextTables, Global>,
+}
+
+impl Model for Tables {
+    ghost use Rattle.std.specs.Arc.{arc_value};
+    ghost use Rattle.shell_readers.specs.declared.tables.TextTables.{TextTables};
+
+    ghost Value = { TextTables };
+
+    ghost view = { λ t. arc_value t.tables };
+}
+
+impl Tables {
+    /// Reads tables, which must be lawful.
+    pub fn read(alloc: Global, bytes: &[u8]) -> Result<Tables, RunFault>
+        ensures ok { IfOk result (λ t. AreLawfulTables bytes.now (Ok (tables_value t))) }
+        ensures refused { IfErr result (λ e. e ≢ RunFault.OutOfMemory → AreLawfulTables bytes.now (Err e)) }
+    {
+        let tables = read_lawful_tables(alloc, bytes)?;
+        let tables = Arc::new(alloc, tables)?;
+        Ok(Tables { tables })
+    }
+
+    /// The same tables once more.
+    pub fn another(&self) -> Result<Tables, AllocError>
+        ensures { IfOk result (λ t. t ≡ self.now) }
+    {
+        let tables = Arc::try_clone(&self.tables)?;
+        Ok(Tables { tables })
+    }
+}
+
+/// Tables and a font.
+#[derive(Drop)]
+pub struct Input {
+    tables: Tables,
+    face: Arc<Face, Global>,
+}
+
+impl Model for Input {
+    ghost use Rattle.std.specs.Arc.{arc_value};
+    ghost use Rattle.shell_readers.specs.declared.input.RunInput.{RunInput};
+
+    ghost Value = { RunInput };
+
+    ghost view = { λ i. record { tables = i.tables; face = arc_value i.face } };
+}
+
+impl Input {
+    /// Reads a font over tables.
+    pub fn read(alloc: Global, tables: Tables, font: &[u8]) -> Result<Input, RunFault>
+        ensures tables { IfOk result (λ i. i.tables ≡ tables) }
+        ensures ok { IfOk result (λ i. font_in font.now ≡ Ok i.face) }
+        ensures refused { IfErr result (λ e. e ≢ RunFault.OutOfMemory → font_in font.now ≡ Err e) }
+    {
+        let face = read_font(alloc, font)?;
+        let face = Arc::new(alloc, face)?;
+        Ok(Input { tables, face })
+    }
+
+    /// The same tables and font once more.
+    pub fn another(&self) -> Result<Input, AllocError>
+        ensures { IfOk result (λ i. i ≡ self.now) }
+    {
+        let tables = self.tables.another()?;
+        let face = Arc::try_clone(&self.face)?;
+        Ok(Input { tables, face })
+    }
+
+    /// The font.
+    pub fn face(&self) -> &Face
+        ensures { result.now ≡ self.now.face }
+    {
+        &self.face
+    }
+
+    /// The tables by which texts are shaped.
+    pub fn data(&self) -> hb_shape_data_t<'_, SyllableTable, LanguageTable>
+        ensures tables { result.tables.now ≡ self.now.tables.characters }
+        ensures spans { result.spans.now ≡ self.now.tables.syllables }
+        ensures languages { result.languages.now ≡ self.now.tables.languages }
+    {
+        let tables: &TextTables = &self.tables.tables;
+        hb_shape_data_t {
+            tables: &tables.characters,
+            spans: &tables.syllables,
+            languages: &tables.languages,
+        }
+    }
+}
+
+fn is_send<T: Send>(_value: &T) {}
+
+fn is_sync<T: Sync>() {}
+
+/// Tables and fonts may be moved to another thread, and threads may share what was read.
+pub fn law_inputs_cross_threads(input: &Input) {
+    is_send(input);
+    is_sync::<TextTables>();
+    is_sync::<Face>();
+}
