@@ -1,8 +1,13 @@
 """Shapes texts by libkuspveli, by ctypes alone. kuspveli_library says where the shared library is sought."""
 
 import ctypes
+import enum
 import os
-from typing import Iterable, NamedTuple
+import re
+import threading
+from array import array
+from itertools import accumulate
+from typing import Any, Callable, Iterable, Mapping, NamedTuple, Optional, Union
 
 import kuspveli_library
 
@@ -10,10 +15,18 @@ __version__ = kuspveli_library.version()
 NAMES = {
     1: "OutOfMemory", 2: "J1 NotJson", 3: "J2 WrongShape", 4: "J3 FloatNumber", 5: "J4 UnknownName",
     6: "U1 OutOfOrder", 7: "U2 OutOfRange", 8: "U3 SplitDepth", 9: "Unlawful", 10: "NotUtf8", 12: "S2 TooLong",
-    13: "S3 StretchRange", 14: "S4 UnknownSyllableKind", 16: "NoFont",
+    13: "S3 StretchRange", 14: "S4 UnknownSyllableKind", 16: "NoFont", 17: "NoTables", 18: "NoSlices",
 }
 DIRECTIONS = {"": 0, "ltr": 4, "rtl": 5, "ttb": 6, "btt": 7}
 GLOBAL_END = 0xFFFF_FFFF
+# What a tag is made of: printed ASCII characters (OpenType).
+TAG = re.compile(r"[\x20-\x7e]{1,4}")
+# A feature as text: -liga, +kern, kern=1, ccmp[0:3]=0, aalt[2]=3.
+FEATURE = re.compile(r"(?P<sign>[+-]?)(?P<tag>[^\s\[\]=+,-]+)(?P<range>\[(\d*)(:?)(\d*)\])?(?:=(?P<value>\d+))?")
+Text = Union[str, bytes, bytearray, memoryview]
+
+
+# ---- the library
 
 
 class Handle(ctypes.Structure):
@@ -48,32 +61,95 @@ class RawPosition(ctypes.Structure):
     ]
 
 
-def load(path: str | os.PathLike[str]) -> ctypes.CDLL:
+class RawSlice(ctypes.Structure):
+    _fields_ = [(name, ctypes.c_size_t) for name in ("first_glyph", "end_glyph", "start", "end")]
+
+
+class RawExtents(ctypes.Structure):
+    _fields_ = [(name, ctypes.c_int32) for name in ("x_bearing", "y_bearing", "width", "height")]
+
+
+def load(path: Union[str, "os.PathLike[str]"]) -> ctypes.CDLL:
     """The library, with its calls declared."""
     found = ctypes.CDLL(os.fspath(path))
-    handle, size = ctypes.POINTER(Handle), ctypes.c_size_t
+    handle, size, u32 = ctypes.POINTER(Handle), ctypes.c_size_t, ctypes.c_uint32
+    numbers, bytes_ = ctypes.POINTER(u32), ctypes.c_char_p
     rooms = [ctypes.POINTER(RawInfo), size, ctypes.POINTER(RawPosition), size]
-    found.kus_font_create.argtypes = [handle, ctypes.c_char_p, size, ctypes.c_char_p, size]
-    found.kus_font_reference.argtypes = [handle, handle]
-    found.kus_font_destroy.argtypes = [handle]
-    found.kus_font_destroy.restype = None
-    found.kus_shape.argtypes = [handle, ctypes.POINTER(RawText), *rooms, ctypes.POINTER(size)]
-    found.kus_get_glyphs.argtypes = [handle, *rooms]
-    found.kus_get_glyphs.restype = size
-    for call in (found.kus_font_create, found.kus_font_reference, found.kus_shape):
-        call.restype = ctypes.c_uint32
+    declare(found, "kus_version", u32)
+    declare(found, "kus_tables_create", u32, handle, bytes_, size)
+    declare(found, "kus_tables_reference", u32, handle, handle)
+    declare(found, "kus_tables_destroy", None, handle)
+    declare(found, "kus_font_create", u32, handle, bytes_, size, bytes_, size)
+    declare(found, "kus_font_create_with_tables", u32, handle, handle, bytes_, size)
+    declare(found, "kus_font_reference", u32, handle, handle)
+    declare(found, "kus_font_destroy", None, handle)
+    declare(found, "kus_shape", u32, handle, ctypes.POINTER(RawText), *rooms, ctypes.POINTER(size))
+    declare(found, "kus_get_glyphs", size, handle, *rooms)
+    declare(found, "kus_get_direction", u32, handle)
+    declare(found, "kus_get_script", u32, handle)
+    declare(found, "kus_get_slices", u32, handle, bytes_, size, ctypes.POINTER(RawSlice), size, ctypes.POINTER(size))
+    declare(found, "kus_font_get_upem", u32, handle)
+    declare(found, "kus_font_get_nominal_glyph", ctypes.c_bool, handle, u32, numbers)
+    declare(found, "kus_font_get_glyph_name", size, handle, u32, ctypes.c_char_p, size)
+    declare(found, "kus_font_get_glyph_extents", ctypes.c_bool, handle, u32, ctypes.POINTER(RawExtents))
+    declare(found, "kus_font_get_feature_tags", size, handle, u32, numbers, size)
+    declare(found, "kus_font_get_script_tags", size, handle, u32, numbers, size)
     return found
+
+
+def declare(library: ctypes.CDLL, name: str, result: Any, *arguments: Any) -> None:
+    call = getattr(library, name)
+    call.restype, call.argtypes = result, list(arguments)
 
 
 LIBRARY = load(kuspveli_library.find())
 
 
+def version() -> tuple[int, int, int]:
+    """The version of the library that was loaded."""
+    number = LIBRARY.kus_version()
+    return number >> 16, number >> 8 & 0xFF, number & 0xFF
+
+
 class Fault(Exception):
-    """Why a call was refused."""
+    """Why the library refused a call."""
 
     def __init__(self, status: int) -> None:
         super().__init__(NAMES.get(status, f"status {status}"))
         self.status = status
+
+
+def check(status: int) -> None:
+    if status:
+        raise Fault(status)
+
+
+# ---- what is passed and what is answered
+
+
+class Flags(enum.IntFlag):
+    """The requests for a text (hb_buffer_flags_t)."""
+
+    DEFAULT = 0
+    BOT = 1
+    EOT = 2
+    PRESERVE_DEFAULT_IGNORABLES = 4
+    REMOVE_DEFAULT_IGNORABLES = 8
+    DO_NOT_INSERT_DOTTED_CIRCLE = 16
+    PRODUCE_UNSAFE_TO_CONCAT = 64
+    PRODUCE_SAFE_TO_INSERT_TATWEEL = 128
+
+
+ALL_FLAGS = 0xDF
+
+
+class ClusterLevel(enum.IntEnum):
+    """Which characters share a cluster, and whether clusters may merge (hb_buffer_cluster_level_t)."""
+
+    MONOTONE_GRAPHEMES = 0
+    MONOTONE_CHARACTERS = 1
+    CHARACTERS = 2
+    GRAPHEMES = 3
 
 
 class Feature(NamedTuple):
@@ -86,7 +162,8 @@ class Feature(NamedTuple):
 
 
 class Glyph(NamedTuple):
-    """A glyph with its position in font units; `cluster` is the index of a byte of the text in UTF-8."""
+    """A glyph with its position in font units; `cluster` is the index of a byte of the text in UTF-8, and `character` that
+    of the same character in the text as a str."""
 
     number: int
     cluster: int
@@ -95,77 +172,350 @@ class Glyph(NamedTuple):
     y_advance: int
     x_offset: int
     y_offset: int
+    character: int
 
 
-def tag(text: str) -> int:
+class Arrays(NamedTuple):
+    """The glyphs of a text as arrays, with an item for each glyph."""
+
+    numbers: "array[int]"
+    clusters: "array[int]"
+    flags: "array[int]"
+    x_advances: "array[int]"
+    y_advances: "array[int]"
+    x_offsets: "array[int]"
+    y_offsets: "array[int]"
+    characters: "array[int]"
+
+
+class Slice(NamedTuple):
+    """A run of glyphs of one cluster, and the part of the text that it comes from: bytes, and characters, each without its
+    end."""
+
+    glyphs: list[Glyph]
+    start: int
+    end: int
+    first_character: int
+    end_character: int
+
+
+class Extents(NamedTuple):
+    """The box of a glyph's ink in font units; the height is negative where y grows upward."""
+
+    x_bearing: int
+    y_bearing: int
+    width: int
+    height: int
+
+
+Features = Union[str, Mapping[str, int], Iterable[Union[Feature, str]]]
+
+
+def tag(text: str, what: str = "tag") -> int:
     """The number of a tag of up to four letters; 0 for none."""
-    return int.from_bytes(text.encode("ascii").ljust(4), "big") if text else 0
+    if not isinstance(text, str):
+        raise TypeError(f"{what}: {text!r} is no str")
+    if not text:
+        return 0
+    if not TAG.fullmatch(text):
+        raise ValueError(f"{what}: {text!r} is no tag of one to four printed ASCII characters")
+    return int.from_bytes(text.encode("ascii").ljust(4), "big")
 
 
-class Font:
-    """A font with its tables (JSON). A thread uses it alone; `another` gives a further thread its own."""
+def tag_text(number: int) -> str:
+    """The letters of a tag's number; none for 0."""
+    return number.to_bytes(4, "big").decode("latin-1").rstrip(" ") if number else ""
 
-    def __init__(self, tables: bytes, json: bytes) -> None:
-        self._begin()
-        check(LIBRARY.kus_font_create(self._handle, tables, len(tables), json, len(json)))
 
-    def _begin(self) -> None:
+def features_of(given: Features) -> list[Feature]:
+    """Features of text, as "liga=0,kern,-calt,ccmp[0:3]=0", of a dict of values, or of features and such texts."""
+    if isinstance(given, str):
+        return [feature_of(part.strip()) for part in given.split(",") if part.strip()]
+    if isinstance(given, Mapping):
+        return [checked(Feature(name, number(value, f"feature {name!r}"))) for name, value in given.items()]
+    return [feature_of(one) if isinstance(one, str) else checked(Feature(*one)) for one in given]
+
+
+def feature_of(text: str) -> Feature:
+    """The feature of a text, by the rules of hb_feature_from_string for numbers and ranges."""
+    found = FEATURE.fullmatch(text)
+    if not found or (found["sign"] == "-" and found["value"]):
+        raise ValueError(f"feature: {text!r} is not of the form liga, -liga, liga=0 or liga[0:3]=0")
+    value = int(found["value"]) if found["value"] else int(found["sign"] != "-")
+    start, end = 0, GLOBAL_END
+    if found["range"]:
+        first, colon, last = found[4], found[5], found[6]
+        start = int(first or 0)
+        end = int(last) if last else GLOBAL_END if colon or not first else start + 1
+    return checked(Feature(found["tag"], value, start, end))
+
+
+def checked(feature: Feature) -> Feature:
+    if not tag(feature.tag, "feature"):
+        raise ValueError("feature: a tag is empty")
+    for name, value in zip(feature._fields[1:], feature[1:]):
+        number(value, f"feature {feature.tag!r}: {name}")
+    return feature
+
+
+def number(value: int, what: str, most: int = 0xFFFF_FFFF) -> int:
+    """A number from 0 to `most`."""
+    if not isinstance(value, int):
+        raise TypeError(f"{what}: {value!r} is no number")
+    if not 0 <= value <= most:
+        raise ValueError(f"{what}: {value} is not from 0 to {most}")
+    return int(value)
+
+
+def utf8(text: Text, what: str) -> bytes:
+    """The bytes of a text: a str is encoded, and other bytes are taken as they are."""
+    if isinstance(text, bytes):
+        return text
+    if isinstance(text, str):
+        try:
+            return text.encode()
+        except UnicodeEncodeError as error:
+            raise ValueError(f"{what}: the surrogate at {error.start} is no character") from None
+    if isinstance(text, (bytearray, memoryview)):
+        return bytes(text)
+    raise TypeError(f"{what}: {type(text).__name__} is no str, bytes, bytearray or memoryview")
+
+
+def direction_number(direction: str) -> int:
+    try:
+        return DIRECTIONS[direction]
+    except (KeyError, TypeError):
+        raise ValueError(f"direction: {direction!r} is none of ltr, rtl, ttb, btt") from None
+
+
+def flags_number(flags: int) -> int:
+    if number(flags, "flags") & ~ALL_FLAGS:
+        raise ValueError(f"flags: {int(flags):#x} has a bit that no flag has")
+    return int(flags)
+
+
+def character_indices(text: bytes) -> Optional["array[int]"]:
+    """For each byte of a text the index of the character that it is a part of; none where all characters are bytes."""
+    if text.isascii():
+        return None
+    return array("I", accumulate((byte & 0xC0 != 0x80 for byte in text[1:]), initial=0))
+
+
+# ---- tables and fonts
+
+
+class Held:
+    """A handle of the library, which one thread at a time uses; a copy is another handle of the same data."""
+
+    _destroy: Callable[..., None]
+    _reference: Callable[..., int]
+
+    def __init__(self) -> None:
         self._handle = Handle()
-        self._make_room(64)
+        self._lock = threading.RLock()
 
-    def _make_room(self, room: int) -> None:
-        self._room, self._infos, self._positions = room, (RawInfo * room)(), (RawPosition * room)()
-
-    def another(self) -> "Font":
-        """The same font for another thread. Both share what was read."""
-        other = Font.__new__(Font)
-        other._begin()
-        check(LIBRARY.kus_font_reference(self._handle, other._handle))
+    def another(self) -> "Held":
+        """The same for another thread, which shares what was read."""
+        other = type(self).__new__(type(self))
+        Held.__init__(other)
+        with self._lock:
+            check(self._reference(self._handle, other._handle))
         return other
 
-    def shape(
-        self,
-        text: str | bytes,
-        *,
-        features: Iterable[Feature] = (),
-        direction: str = "",
-        script: str = "",
-        language: str = "",
-        before: str = "",
-        after: str = "",
-        flags: int = 0,
-        cluster_level: int = 0,
-    ) -> list[Glyph]:
-        """The glyphs of a text, in the order in which they are drawn. What is not set is guessed."""
-        raw = RawText(direction=DIRECTIONS[direction], script=tag(script), flags=flags, cluster_level=cluster_level)
-        for name, value in (("text", text), ("before", before), ("after", after), ("language", language)):
-            value = value.encode() if isinstance(value, str) else value
-            setattr(raw, name, value)
-            setattr(raw, f"{name}_length", len(value))
-        asked = [RawFeature(tag(f.tag), f.value, f.start, f.end) for f in features]
-        raw.features, raw.num_features = (RawFeature * max(len(asked), 1))(*asked), len(asked)
-        count = ctypes.c_size_t()
-        check(
-            LIBRARY.kus_shape(self._handle, raw, self._infos, self._room, self._positions, self._room, count)
-        )
-        if count.value > self._room:
-            self._make_room(count.value)
-            LIBRARY.kus_get_glyphs(self._handle, self._infos, self._room, self._positions, self._room)
-        return [glyph_of(self._infos[k], self._positions[k]) for k in range(count.value)]
-
     def close(self) -> None:
-        """Frees the font; later calls are refused with NoFont."""
-        LIBRARY.kus_font_destroy(self._handle)
+        """Frees it; later calls are refused."""
+        with self._lock:
+            self._destroy(self._handle)
+
+    def __enter__(self) -> Any:
+        return self
+
+    def __exit__(self, *_: object) -> None:
+        self.close()
+
+    def __copy__(self) -> "Held":
+        return self.another()
+
+    def __deepcopy__(self, _: object) -> "Held":
+        return self.another()
+
+    def __reduce_ex__(self, _: object) -> Any:
+        raise TypeError(f"{type(self).__name__} is a handle of this process, and can't be pickled")
 
     def __del__(self) -> None:
-        if hasattr(self, "_handle"):
+        if hasattr(self, "_lock"):
             self.close()
 
 
-def glyph_of(info: RawInfo, at: RawPosition) -> Glyph:
-    return Glyph(info.codepoint, info.cluster, info.mask, at.x_advance, at.y_advance, at.x_offset, at.y_offset)
+class Tables(Held):
+    """Tables of characters, syllables and languages (JSON), which fonts share."""
+
+    _destroy = staticmethod(LIBRARY.kus_tables_destroy)
+    _reference = staticmethod(LIBRARY.kus_tables_reference)
+
+    def __init__(self, json: Text) -> None:
+        super().__init__()
+        read = utf8(json, "tables")
+        check(LIBRARY.kus_tables_create(self._handle, read, len(read)))
 
 
-def check(status: int) -> None:
-    if status:
-        raise Fault(status)
+class Font(Held):
+    """A font (JSON) over tables. Threads may share it: a call waits while another one works on it. `another` gives a thread
+    its own, so that none waits."""
+
+    _destroy = staticmethod(LIBRARY.kus_font_destroy)
+    _reference = staticmethod(LIBRARY.kus_font_reference)
+
+    def __init__(self, tables: Union[Tables, Text], json: Text) -> None:
+        super().__init__()
+        read = utf8(json, "font")
+        if isinstance(tables, Tables):
+            with tables._lock:
+                check(LIBRARY.kus_font_create_with_tables(self._handle, tables._handle, read, len(read)))
+        else:
+            both = utf8(tables, "tables")
+            check(LIBRARY.kus_font_create(self._handle, both, len(both), read, len(read)))
+
+    # -- texts
+
+    def shape(self, text: Text, **settings: Any) -> list[Glyph]:
+        """The glyphs of a text, in the order in which they are drawn. What is not set is guessed.
+
+        features: "liga=0,kern", {"liga": 0} or features; direction: "ltr", "rtl", "ttb" or "btt"; script: a tag of ISO
+        15924; language: a tag of BCP 47; before, after: the text around it; flags: Flags; cluster_level: ClusterLevel."""
+        return list(map(Glyph, *self.shape_arrays(text, **settings)))
+
+    def shape_arrays(self, text: Text, **settings: Any) -> Arrays:
+        """The glyphs of a text as `shape` gives them, as arrays."""
+        raw, own = raw_text(text, **settings)
+        with self._lock:
+            return self._shaped(raw, own)
+
+    def shape_slices(self, text: Text, **settings: Any) -> list[Slice]:
+        """The glyphs of a text as `shape` gives them, by runs of one cluster with its part of the text; Fault where they
+        can't be traced to the text."""
+        raw, own = raw_text(text, **settings)
+        with self._lock:
+            arrays = self._shaped(raw, own)
+            runs = self._runs(own, len(arrays.numbers))
+        glyphs = list(map(Glyph, *arrays))
+        indices = character_indices(own) or range(len(own))
+        count = indices[-1] + 1 if own else 0
+        ends = [*indices, count]
+        return [
+            Slice(glyphs[run.first_glyph : run.end_glyph], run.start, run.end, ends[run.start], ends[run.end])
+            for run in runs
+        ]
+
+    def direction(self) -> str:
+        """The direction by which the last text was shaped, empty where there was none."""
+        with self._lock:
+            found = LIBRARY.kus_get_direction(self._handle)
+        return next(name for name, value in DIRECTIONS.items() if value == found)
+
+    def script(self) -> str:
+        """The script by which the last text was shaped, empty where there was none."""
+        with self._lock:
+            return tag_text(LIBRARY.kus_get_script(self._handle))
+
+    def _shaped(self, raw: RawText, own: bytes) -> Arrays:
+        room = max(64, len(own))
+        infos, positions, count = (RawInfo * room)(), (RawPosition * room)(), ctypes.c_size_t()
+        check(LIBRARY.kus_shape(self._handle, raw, infos, room, positions, room, count))
+        if count.value > room:
+            room = count.value
+            infos, positions = (RawInfo * room)(), (RawPosition * room)()
+            LIBRARY.kus_get_glyphs(self._handle, infos, room, positions, room)
+        return arrays_of(infos, positions, count.value, character_indices(own))
+
+    def _runs(self, own: bytes, most: int) -> list[RawSlice]:
+        slices, count = (RawSlice * max(most, 1))(), ctypes.c_size_t()
+        if most:
+            check(LIBRARY.kus_get_slices(self._handle, own, len(own), slices, most, count))
+        return slices[: count.value]
+
+    # -- what the font says of itself
+
+    def upem(self) -> int:
+        """The units of the em."""
+        with self._lock:
+            return LIBRARY.kus_font_get_upem(self._handle)
+
+    def nominal_glyph(self, character: str) -> Optional[int]:
+        """The glyph that the font has for a character, if it has one."""
+        found = ctypes.c_uint32()
+        with self._lock:
+            has = LIBRARY.kus_font_get_nominal_glyph(self._handle, ord(character), found)
+        return found.value if has else None
+
+    def glyph_name(self, glyph: int) -> Optional[str]:
+        """The name of a glyph, if the font gives one. What a font names a glyph may hold any character."""
+        number(glyph, "glyph")
+        with self._lock:
+            room = LIBRARY.kus_font_get_glyph_name(self._handle, glyph, b"", 0)
+            name = ctypes.create_string_buffer(room + 1)
+            LIBRARY.kus_font_get_glyph_name(self._handle, glyph, name, room)
+        return name.raw[:room].decode() if room else None
+
+    def glyph_extents(self, glyph: int) -> Optional[Extents]:
+        """The box of a glyph's ink, if the font gives one."""
+        box = RawExtents()
+        with self._lock:
+            has = LIBRARY.kus_font_get_glyph_extents(self._handle, number(glyph, "glyph"), box)
+        return Extents(box.x_bearing, box.y_bearing, box.width, box.height) if has else None
+
+    def feature_tags(self, table: str) -> list[str]:
+        """The tags of the features of a table, "GSUB" or "GPOS", in the order of their indices."""
+        return self._tags(LIBRARY.kus_font_get_feature_tags, table)
+
+    def script_tags(self, table: str) -> list[str]:
+        """The tags of the scripts of a table, "GSUB" or "GPOS"."""
+        return self._tags(LIBRARY.kus_font_get_script_tags, table)
+
+    def _tags(self, call: Callable[..., int], table: str) -> list[str]:
+        if table not in ("GSUB", "GPOS"):
+            raise ValueError(f"table: {table!r} is neither GSUB nor GPOS")
+        with self._lock:
+            room = call(self._handle, tag(table), (ctypes.c_uint32 * 1)(), 0)
+            tags = (ctypes.c_uint32 * max(room, 1))()
+            call(self._handle, tag(table), tags, room)
+        return list(map(tag_text, tags[:room]))
+
+
+def raw_text(
+    text: Text,
+    *,
+    features: Features = (),
+    direction: str = "",
+    script: str = "",
+    language: str = "",
+    before: Text = "",
+    after: Text = "",
+    flags: int = 0,
+    cluster_level: int = 0,
+) -> tuple[RawText, bytes]:
+    """A text with its settings as the library takes it, and its bytes."""
+    raw = RawText(
+        direction=direction_number(direction),
+        script=tag(script, "script"),
+        flags=flags_number(flags),
+        cluster_level=number(cluster_level, "cluster_level", most=3),
+    )
+    own = utf8(text, "text")
+    around = {"before": utf8(before, "before"), "after": utf8(after, "after"), "language": utf8(language, "language")}
+    for name, value in {"text": own, **around}.items():
+        setattr(raw, name, value)
+        setattr(raw, f"{name}_length", len(value))
+    asked = [RawFeature(tag(f.tag), f.value, f.start, f.end) for f in features_of(features)]
+    raw.features, raw.num_features = (RawFeature * max(len(asked), 1))(*asked), len(asked)
+    return raw, own
+
+
+def arrays_of(infos: Any, positions: Any, count: int, indices: Optional["array[int]"]) -> Arrays:
+    """The glyphs of the library's structs, each of five numbers of 32 bits."""
+    unsigned, signed = array("I"), array("i")
+    unsigned.frombytes(memoryview(infos).cast("B")[: count * ctypes.sizeof(RawInfo)])
+    signed.frombytes(memoryview(positions).cast("B")[: count * ctypes.sizeof(RawPosition)])
+    numbers, flags, clusters = unsigned[0::5], unsigned[1::5], unsigned[2::5]
+    characters = clusters if indices is None else array("I", (indices[cluster] for cluster in clusters))
+    return Arrays(numbers, clusters, flags, *(signed[k::5] for k in range(4)), characters)

@@ -1,6 +1,6 @@
 //! lines TABLES FONT ROOM < cases: the line of each case, as tools/test_library reads it. The room is the wrapper's own.
 
-use kuspveli::{ClusterLevel, Direction, Feature, Font, Glyphs, Text};
+use kuspveli::{ClusterLevel, Direction, Feature, Flags, Font, Glyphs, Tag, Tables, Text};
 use std::fmt::Write;
 use std::{env, error::Error, fs, io};
 
@@ -34,7 +34,12 @@ fn features(word: &str) -> Result<Vec<Feature>, Box<dyn Error>> {
         let [tag, value, start, end] = numbers[..] else {
             return Err(format!("no feature: {part}").into());
         };
-        found.push(Feature { tag, value, start, end });
+        found.push(Feature {
+            tag: Tag::from_number(tag),
+            value,
+            start,
+            end,
+        });
     }
     Ok(found)
 }
@@ -67,17 +72,22 @@ fn line(glyphs: Glyphs<'_>) -> Result<String, Box<dyn Error>> {
 
 fn main() -> Result<(), Box<dyn Error>> {
     let words: Vec<String> = env::args().collect();
-    let mut first = Font::new(&fs::read(&words[1])?, &fs::read(&words[2])?)?;
+    let mut tables = Tables::new(&fs::read(&words[1])?)?;
+    let mut first = Font::with_tables(&mut tables, &fs::read(&words[2])?)?;
     let mut font = first.another()?;
     drop(first);
+    drop(tables);
     for case in io::stdin().lines() {
         let case = case?;
         let parts: Vec<&str> = case.split(' ').collect();
         let own = text(parts[6])?;
         let text = Text {
             direction: direction(parts[0]),
-            script: number(parts[1])?,
-            flags: number(parts[2])?,
+            script: match number(parts[1])? {
+                0 => None,
+                number => Some(Tag::from_number(number)),
+            },
+            flags: Flags::from_number(number(parts[2])?).ok_or("no flags")?,
             cluster_level: cluster_level(parts[3]),
             language: if parts[4] == "-" { "" } else { parts[4] },
             features: &features(parts[5])?,

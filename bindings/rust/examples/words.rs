@@ -1,6 +1,6 @@
 //! words TABLES LATIN ARABIC DEVANAGARI: shapes a word in each of three fonts (JSON), and prints its glyphs.
 
-use kuspveli::{Font, Text};
+use kuspveli::{Font, Tables, Text};
 use std::{env, error::Error, fs};
 
 fn main() -> Result<(), Box<dyn Error>> {
@@ -8,9 +8,9 @@ fn main() -> Result<(), Box<dyn Error>> {
     let [tables, fonts @ ..] = files.as_slice() else {
         return Err("words TABLES LATIN ARABIC DEVANAGARI".into());
     };
-    let tables = fs::read(tables)?;
+    let mut tables = Tables::new(&fs::read(tables)?)?;
     for (file, word) in fonts.iter().zip(["office", "السلام", "हिन्दी"]) {
-        let mut font = Font::new(&tables, &fs::read(file)?)?;
+        let mut font = Font::with_tables(&mut tables, &fs::read(file)?)?;
         let glyphs = font.shape(&Text::new(word))?;
         for (info, position) in glyphs.infos.iter().zip(glyphs.positions) {
             print!("{}={}+{} ", info.codepoint, info.cluster, position.x_advance);

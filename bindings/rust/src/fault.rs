@@ -1,0 +1,78 @@
+//! Why a call was refused.
+
+use std::fmt;
+
+/// Why a call was refused. Its text is the name that the program `hb_shape` prints.
+#[derive(Clone, Copy, PartialEq, Eq, Debug)]
+pub enum Fault {
+    OutOfMemory,
+    NotJson,
+    WrongShape,
+    FloatNumber,
+    UnknownName,
+    OutOfOrder,
+    OutOfRange,
+    SplitDepth,
+    Unlawful,
+    NotUtf8,
+    TooLong,
+    StretchRange,
+    UnknownSyllableKind,
+    /// The last text's glyphs can't be traced to the text that was given.
+    NoSlices,
+    /// A status that the header does not name.
+    Other(u32),
+}
+
+impl Fault {
+    fn of(status: u32) -> Fault {
+        match status {
+            1 => Fault::OutOfMemory,
+            2 => Fault::NotJson,
+            3 => Fault::WrongShape,
+            4 => Fault::FloatNumber,
+            5 => Fault::UnknownName,
+            6 => Fault::OutOfOrder,
+            7 => Fault::OutOfRange,
+            8 => Fault::SplitDepth,
+            9 => Fault::Unlawful,
+            10 => Fault::NotUtf8,
+            12 => Fault::TooLong,
+            13 => Fault::StretchRange,
+            14 => Fault::UnknownSyllableKind,
+            18 => Fault::NoSlices,
+            other => Fault::Other(other),
+        }
+    }
+
+    pub(crate) fn check(status: u32) -> Result<(), Fault> {
+        match status {
+            0 => Ok(()),
+            other => Err(Fault::of(other)),
+        }
+    }
+}
+
+impl fmt::Display for Fault {
+    fn fmt(&self, f: &mut fmt::Formatter<'_>) -> fmt::Result {
+        f.write_str(match self {
+            Fault::OutOfMemory => "OutOfMemory",
+            Fault::NotJson => "J1 NotJson",
+            Fault::WrongShape => "J2 WrongShape",
+            Fault::FloatNumber => "J3 FloatNumber",
+            Fault::UnknownName => "J4 UnknownName",
+            Fault::OutOfOrder => "U1 OutOfOrder",
+            Fault::OutOfRange => "U2 OutOfRange",
+            Fault::SplitDepth => "U3 SplitDepth",
+            Fault::Unlawful => "Unlawful",
+            Fault::NotUtf8 => "NotUtf8",
+            Fault::TooLong => "S2 TooLong",
+            Fault::StretchRange => "S3 StretchRange",
+            Fault::UnknownSyllableKind => "S4 UnknownSyllableKind",
+            Fault::NoSlices => "NoSlices",
+            Fault::Other(status) => return write!(f, "status {status}"),
+        })
+    }
+}
+
+impl std::error::Error for Fault {}

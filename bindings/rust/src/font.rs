@@ -1,0 +1,216 @@
+//! A font, and the glyphs of the last text that was shaped in it.
+
+use crate::fault::Fault;
+use crate::raw::*;
+use crate::settings::{Direction, Tag, Text};
+use crate::tables::Tables;
+use std::ptr;
+
+/// The glyphs of a text, each with its position, in the order in which they are drawn.
+#[derive(Clone, Copy, Debug)]
+pub struct Glyphs<'a> {
+    pub infos: &'a [GlyphInfo],
+    pub positions: &'a [GlyphPosition],
+}
+
+/// A layout table of a font.
+#[derive(Clone, Copy, PartialEq, Eq, Debug)]
+pub enum Table {
+    Gsub,
+    Gpos,
+}
+
+impl Table {
+    const fn tag(self) -> Tag {
+        match self {
+            Table::Gsub => Tag::new(b"GSUB"),
+            Table::Gpos => Tag::new(b"GPOS"),
+        }
+    }
+}
+
+/// A font with its tables, and the glyphs of the last text. It may be moved to another thread; `another` gives a thread its
+/// own.
+pub struct Font {
+    handle: Handle,
+    infos: Vec<GlyphInfo>,
+    positions: Vec<GlyphPosition>,
+    /// How many glyphs the last text has; there may be room for more.
+    count: usize,
+}
+
+// What is behind a handle may be moved between threads; each call has its handle alone, by `&mut`.
+unsafe impl Send for Font {}
+
+impl Font {
+    fn empty() -> Font {
+        Font {
+            handle: Handle::EMPTY,
+            infos: vec![GlyphInfo::default(); 64],
+            positions: vec![GlyphPosition::default(); 64],
+            count: 0,
+        }
+    }
+
+    /// Reads tables and a font (JSON): the font has tables of its own.
+    pub fn new(tables: &[u8], json: &[u8]) -> Result<Font, Fault> {
+        let mut font = Font::empty();
+        Fault::check(unsafe {
+            kus_font_create(&mut font.handle, tables.as_ptr(), tables.len(), json.as_ptr(), json.len())
+        })?;
+        Ok(font)
+    }
+
+    /// Reads a font (JSON) over tables, which it shares.
+    pub fn with_tables(tables: &mut Tables, json: &[u8]) -> Result<Font, Fault> {
+        let mut font = Font::empty();
+        Fault::check(unsafe {
+            kus_font_create_with_tables(&mut font.handle, &mut tables.handle, json.as_ptr(), json.len())
+        })?;
+        Ok(font)
+    }
+
+    /// The same font for another thread. Both share what was read.
+    pub fn another(&mut self) -> Result<Font, Fault> {
+        let mut font = Font::empty();
+        Fault::check(unsafe { kus_font_reference(&mut self.handle, &mut font.handle) })?;
+        Ok(font)
+    }
+
+    /// Shapes a text. On a fault there are no glyphs.
+    pub fn shape(&mut self, text: &Text<'_>) -> Result<Glyphs<'_>, Fault> {
+        self.count = 0;
+        let mut count = 0;
+        let room = self.infos.len();
+        Fault::check(unsafe {
+            kus_shape(
+                &mut self.handle,
+                &text.raw(),
+                self.infos.as_mut_ptr(),
+                room,
+                self.positions.as_mut_ptr(),
+                room,
+                &mut count,
+            )
+        })?;
+        if count > room {
+            self.read_again(count);
+        }
+        self.count = count;
+        Ok(self.glyphs())
+    }
+
+    /// Reads the glyphs of the last text again, with room for all of them.
+    fn read_again(&mut self, count: usize) {
+        self.infos.resize(count, GlyphInfo::default());
+        self.positions.resize(count, GlyphPosition::default());
+        unsafe {
+            kus_get_glyphs(
+                &mut self.handle,
+                self.infos.as_mut_ptr(),
+                count,
+                self.positions.as_mut_ptr(),
+                count,
+            )
+        };
+    }
+
+    /// The glyphs of the last text.
+    pub fn glyphs(&self) -> Glyphs<'_> {
+        Glyphs {
+            infos: &self.infos[..self.count],
+            positions: &self.positions[..self.count],
+        }
+    }
+
+    /// The slices of the last text, which is passed again: each run of glyphs of one cluster, in the order of the glyphs,
+    /// with its bytes. The text without characters has none.
+    pub fn slices(&mut self, text: &str) -> Result<Vec<Slice>, Fault> {
+        if text.is_empty() && self.count == 0 {
+            return Ok(Vec::new());
+        }
+        let mut slices = vec![Slice::default(); self.count];
+        let mut count = 0;
+        Fault::check(unsafe {
+            kus_get_slices(
+                &mut self.handle,
+                text.as_ptr(),
+                text.len(),
+                slices.as_mut_ptr(),
+                slices.len(),
+                &mut count,
+            )
+        })?;
+        slices.truncate(count);
+        Ok(slices)
+    }
+
+    /// The direction by which the last text was shaped, `Guess` where there was none.
+    pub fn direction(&mut self) -> Direction {
+        match unsafe { kus_get_direction(&mut self.handle) } {
+            4 => Direction::LeftToRight,
+            5 => Direction::RightToLeft,
+            6 => Direction::TopToBottom,
+            7 => Direction::BottomToTop,
+            _ => Direction::Guess,
+        }
+    }
+
+    /// The script by which the last text was shaped, if there was one.
+    pub fn script(&mut self) -> Option<Tag> {
+        match unsafe { kus_get_script(&mut self.handle) } {
+            0 => None,
+            number => Some(Tag::from_number(number)),
+        }
+    }
+
+    /// The units of the em.
+    pub fn upem(&mut self) -> u32 {
+        unsafe { kus_font_get_upem(&mut self.handle) }
+    }
+
+    /// The glyph that the font has for a character, if it has one.
+    pub fn nominal_glyph(&mut self, character: char) -> Option<u32> {
+        let mut glyph = 0;
+        unsafe { kus_font_get_nominal_glyph(&mut self.handle, character as u32, &mut glyph) }.then_some(glyph)
+    }
+
+    /// The name of a glyph, if the font gives one. What a font names a glyph may hold any character.
+    pub fn glyph_name(&mut self, glyph: u32) -> Option<String> {
+        let mut name: Vec<u8> = Vec::new();
+        let room = unsafe { kus_font_get_glyph_name(&mut self.handle, glyph, ptr::NonNull::dangling().as_ptr(), 0) };
+        name.resize(room, 0);
+        unsafe { kus_font_get_glyph_name(&mut self.handle, glyph, name.as_mut_ptr(), room) };
+        if room == 0 { None } else { String::from_utf8(name).ok() }
+    }
+
+    /// The box of a glyph's ink, if the font gives one.
+    pub fn glyph_extents(&mut self, glyph: u32) -> Option<GlyphExtents> {
+        let mut extents = GlyphExtents::default();
+        unsafe { kus_font_get_glyph_extents(&mut self.handle, glyph, &mut extents) }.then_some(extents)
+    }
+
+    /// The tags of the features of a table, in the order of their indices; a tag may come more than once.
+    pub fn feature_tags(&mut self, table: Table) -> Vec<Tag> {
+        self.tags(kus_font_get_feature_tags, table)
+    }
+
+    /// The tags of the scripts of a table.
+    pub fn script_tags(&mut self, table: Table) -> Vec<Tag> {
+        self.tags(kus_font_get_script_tags, table)
+    }
+
+    fn tags(&mut self, call: unsafe extern "C" fn(*mut Handle, u32, *mut u32, usize) -> usize, table: Table) -> Vec<Tag> {
+        let table = table.tag().number();
+        let room = unsafe { call(&mut self.handle, table, ptr::NonNull::dangling().as_ptr(), 0) };
+        let mut tags = vec![0; room];
+        unsafe { call(&mut self.handle, table, tags.as_mut_ptr(), room) };
+        tags.into_iter().map(Tag::from_number).collect()
+    }
+}
+
+impl Drop for Font {
+    fn drop(&mut self) {
+        unsafe { kus_font_destroy(&mut self.handle) }
+    }
+}

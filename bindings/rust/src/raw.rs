@@ -1,0 +1,133 @@
+//! The structs and calls of `include/kuspveli.h`.
+
+use crate::settings::Feature;
+use std::ffi::c_void;
+use std::ptr;
+
+/// `kus_font_t` and `kus_tables_t`.
+#[repr(C)]
+pub(crate) struct Handle {
+    at: *mut c_void,
+    live: bool,
+}
+
+impl Handle {
+    pub(crate) const EMPTY: Handle = Handle {
+        at: ptr::null_mut(),
+        live: false,
+    };
+}
+
+/// A glyph: `codepoint` is its number, `mask` has its glyph flags, `cluster` is the index of a byte of the text.
+#[repr(C)]
+#[derive(Clone, Copy, PartialEq, Eq, Debug, Default)]
+pub struct GlyphInfo {
+    pub codepoint: u32,
+    pub mask: u32,
+    pub cluster: u32,
+    var1: u32,
+    var2: u32,
+}
+
+/// The position of a glyph, in font units.
+#[repr(C)]
+#[derive(Clone, Copy, PartialEq, Eq, Debug, Default)]
+pub struct GlyphPosition {
+    pub x_advance: i32,
+    pub y_advance: i32,
+    pub x_offset: i32,
+    pub y_offset: i32,
+    var: u32,
+}
+
+/// The box of a glyph's ink, in font units; the height is negative where y grows upward.
+#[repr(C)]
+#[derive(Clone, Copy, PartialEq, Eq, Debug, Default)]
+pub struct GlyphExtents {
+    pub x_bearing: i32,
+    pub y_bearing: i32,
+    pub width: i32,
+    pub height: i32,
+}
+
+/// A run of glyphs of one cluster, without its end, and the bytes of the text that it comes from, without their end.
+#[repr(C)]
+#[derive(Clone, Copy, PartialEq, Eq, Debug, Default)]
+pub struct Slice {
+    pub first_glyph: usize,
+    pub end_glyph: usize,
+    pub start: usize,
+    pub end: usize,
+}
+
+#[repr(C)]
+pub(crate) struct RawText {
+    pub text: *const u8,
+    pub text_length: usize,
+    pub before: *const u8,
+    pub before_length: usize,
+    pub after: *const u8,
+    pub after_length: usize,
+    pub language: *const u8,
+    pub language_length: usize,
+    pub features: *const Feature,
+    pub num_features: usize,
+    pub direction: u32,
+    pub script: u32,
+    pub flags: u32,
+    pub cluster_level: u32,
+}
+
+extern "C" {
+    pub(crate) fn kus_version() -> u32;
+    pub(crate) fn kus_tables_create(tables: *mut Handle, json: *const u8, json_length: usize) -> u32;
+    pub(crate) fn kus_tables_reference(tables: *mut Handle, other: *mut Handle) -> u32;
+    pub(crate) fn kus_tables_destroy(tables: *mut Handle);
+    pub(crate) fn kus_font_create(
+        font: *mut Handle,
+        tables: *const u8,
+        tables_length: usize,
+        json: *const u8,
+        json_length: usize,
+    ) -> u32;
+    pub(crate) fn kus_font_create_with_tables(
+        font: *mut Handle,
+        tables: *mut Handle,
+        json: *const u8,
+        json_length: usize,
+    ) -> u32;
+    pub(crate) fn kus_font_reference(font: *mut Handle, other: *mut Handle) -> u32;
+    pub(crate) fn kus_font_destroy(font: *mut Handle);
+    pub(crate) fn kus_shape(
+        font: *mut Handle,
+        text: *const RawText,
+        infos: *mut GlyphInfo,
+        infos_room: usize,
+        positions: *mut GlyphPosition,
+        positions_room: usize,
+        count: *mut usize,
+    ) -> u32;
+    pub(crate) fn kus_get_glyphs(
+        font: *mut Handle,
+        infos: *mut GlyphInfo,
+        infos_room: usize,
+        positions: *mut GlyphPosition,
+        positions_room: usize,
+    ) -> usize;
+    pub(crate) fn kus_get_direction(font: *mut Handle) -> u32;
+    pub(crate) fn kus_get_script(font: *mut Handle) -> u32;
+    pub(crate) fn kus_get_slices(
+        font: *mut Handle,
+        text: *const u8,
+        text_length: usize,
+        slices: *mut Slice,
+        slices_room: usize,
+        count: *mut usize,
+    ) -> u32;
+    pub(crate) fn kus_font_get_upem(font: *mut Handle) -> u32;
+    pub(crate) fn kus_font_get_nominal_glyph(font: *mut Handle, unicode: u32, glyph: *mut u32) -> bool;
+    pub(crate) fn kus_font_get_glyph_name(font: *mut Handle, glyph: u32, name: *mut u8, name_room: usize) -> usize;
+    pub(crate) fn kus_font_get_glyph_extents(font: *mut Handle, glyph: u32, extents: *mut GlyphExtents) -> bool;
+    pub(crate) fn kus_font_get_feature_tags(font: *mut Handle, table: u32, tags: *mut u32, tags_room: usize) -> usize;
+    pub(crate) fn kus_font_get_script_tags(font: *mut Handle, table: u32, tags: *mut u32, tags_room: usize) -> usize;
+}
