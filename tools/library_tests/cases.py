@@ -9,6 +9,17 @@ from common.faults import FILES, ToolFault
 WORDS = Path(__file__).parent / "data" / "words.txt"
 FOLDERS = (Path("/usr/share/fonts/truetype"), Path("/usr/share/fonts/opentype"))
 SETTINGS_OF_A_WORD = 3
+# What an editor asks for: single words by a kept plan, and texts of several scripts in turn.
+TURNS = (
+    ("words of Latin", "dejavu/DejaVuSans", "office waffle between reading Kerning letters numbers AVATAR"),
+    ("words of Hebrew", "noto/NotoSansHebrew-Regular", "שלום, ירושלים בראשית תורתנו ספרים מילים אנשים עברית"),
+    ("words of Arabic", "noto/NotoNaskhArabic-Regular", "السلام العربية مدرسة كتابنا الجديد نستعين المستقيم عليكم"),
+    ("words of Tamil", "noto/NotoSansTamil-Regular", "தமிழ்நாடு வணக்கம் எழுத்து மொழிகள் புத்தகம் இலக்கணம்"),
+    ("Latin and numerals", "dejavu/DejaVuSans", "office 1984 reading 12.5 letters 7"),
+    ("Latin, Arabic and numerals", "dejavu/DejaVuSans", "office السلام 1984 reading كتابنا 12"),
+    ("Latin, Greek, Arabic and numerals", "dejavu/DejaVuSans", "office λόγος السلام 1984 reading Ελλάδα كتابنا 12"),
+    ("Arabic, Latin and numerals, Amiri", "fonts-hosny-amiri/Amiri-Regular", "السلام office 1984 العربية reading 12"),
+)
 GLOBAL_END = 0xFFFF_FFFF
 NO = "-"
 
@@ -56,6 +67,15 @@ class Case:
 
 
 @dataclass(frozen=True)
+class Words:
+    """Words that are shaped one after another in one font, again and again."""
+
+    name: str
+    font: Path
+    words: list[str]
+
+
+@dataclass(frozen=True)
 class Script:
     """A script's cases, in a font."""
 
@@ -78,6 +98,11 @@ def scripts() -> list[Script]:
             cases = [Case(word, next(settings)) for word in words.split(" ") for _ in range(SETTINGS_OF_A_WORD)]
             found.append(Script(name, font_file(font), [*cases, Case("", SETTINGS[0]), Case(words, SETTINGS[0])]))
     return found
+
+
+def turns() -> list[Words]:
+    """Words of five to eight characters of each of four scripts, and texts of two and three scripts in turn with numerals."""
+    return [Words(name, font_file(font), words.split(" ")) for name, font, words in TURNS]
 
 
 def font_file(name: str) -> Path:

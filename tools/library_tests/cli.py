@@ -1,5 +1,6 @@
 """The command line of test_library."""
 
+import json
 import shutil
 import subprocess
 import sys
@@ -9,11 +10,12 @@ from concurrent.futures import ThreadPoolExecutor
 from dataclasses import dataclass
 from pathlib import Path
 
+from attacks import fonts as attacks
 from building.places import LIBRARY, PROGRAM, Place
 from common.faults import FILES, ToolFault
-from common.parsing import Words
+from common import parsing
 from library_tests import drivers
-from library_tests.cases import SETTINGS, Case, Script, scripts
+from library_tests.cases import SETTINGS, Case, Script, Words, scripts, turns
 from shaping.cache import cache_folder
 from shaping.cli import font_value, tables_file
 from shaping.program import run_one
@@ -22,23 +24,26 @@ from sources.crates import ROOT
 
 NAME = "test_library"
 ABOUT = """Tests the library for C: its header as C99, C11 and C++ beside HarfBuzz's numbers and structs; the same texts from
-C, Rust (where cargo is there) and Python as from the program; each allocation freed, by valgrind and by counts over
-many calls on four threads; each allocation of a call refused in turn; and the processor time of a word of each script
-by the kept plan beside HarfBuzz's. The program and the library are built first, where they are not, and
-proved unless --unproved is given."""
+C, Rust (where cargo is there) and Python as from the program, with their slices; each allocation freed, by valgrind and
+by counts over many calls on four threads; each allocation of a call refused in turn; the stack that the header asks for;
+and the processor time of a word of each script by the kept plan, of words of four scripts and of texts of several
+scripts in turn, beside HarfBuzz's. The program and the library are built first, where they are not, and proved unless
+--unproved is given."""
 BUILDS = ("build", "build_library")
 # The room for the first call of each text: small, so that some texts are read again.
 ROOM = 8
-SHOWN = ("--no-glyph-names", "--show-flags")
+SHOWN = ("--no-glyph-names", "--show-flags", "--slices")
 CALLS = 1_000_000
 # A word by the kept plan is to cost less than so many of HarfBuzz's, each the least of several runs.
 TIMES = 2.0
 RUNS = 3
+# How deep arrays and objects may nest in a file.
+DEEPEST = 127
 
 
 def main(words: list[str]) -> int:
     """Tests; its status is 1 where something is not as it is to be."""
-    parser = Words(prog=NAME, description=ABOUT)
+    parser = parsing.Words(prog=NAME, description=ABOUT)
     parser.add_argument("--calls", type=int, default=CALLS, metavar="N", help=f"calls of one run ({CALLS:,})")
     parser.add_argument("--unproved", action="store_true", help="test what is compiled without proofs (out/unproved)")
     parser.add_argument("--no-times", action="store_true", help="don't compare times")
@@ -87,8 +92,9 @@ def run(tested: Tested, calls: int, timed: bool) -> int:
     latin, *_ = all_scripts
     some = [case.text for case in latin.cases if case.settings == SETTINGS[0] and case.text][:4]
     tell("memory", drivers.count_calls(work, library, (tables, fonts[latin.font]), calls, some))
+    wrong += tell_stacks(tested, tables, fonts[latin.font])
     if timed:
-        wrong += tell_times(tested, tables, fonts, all_scripts)
+        wrong += tell_times(tested, tables, all_scripts)
     print(f"{NAME}: {f'{wrong} wrong' if wrong else 'passed'}")
     return 1 if wrong else 0
 
@@ -98,7 +104,8 @@ def lines_of_program(program: Path, tables: Path, font: Path, cases: list[Case])
 
     def line(case: Case) -> str:
         made = run_one(program, tables, font, Text(case.text.encode(), case.text), [*SHOWN, *case.settings.words])
-        return made.fault if made.status else made.glyphs.rstrip("\n")
+        glyphs, *slices = made.glyphs.rstrip("\n").split("\n")
+        return made.fault if made.status else f"{glyphs};{','.join(slices)}"
 
     with ThreadPoolExecutor() as pool:
         return list(pool.map(line, cases))
@@ -114,17 +121,44 @@ def tell_differences(driver: str, script: Script, expected: list[str], found: li
     return len(differ)
 
 
-def tell_times(tested: Tested, tables: Path, fonts: dict[Path, Path], all_scripts: list[Script]) -> int:
-    """Tells the times of a word of each script beside HarfBuzz's; how many cost too much."""
+def tell_stacks(tested: Tested, tables: Path, font: Path) -> int:
+    """Tells what the calls take of the stack, with files whose values nest as deep as they may, and deeper, and a font whose
+    lookups call each other as deep as they may; how many calls answered another status."""
+    nested = {depth: '{"x":' + '{"a":' * depth + "1" + "}" * depth + "}" for depth in (DEEPEST - 1, DEEPEST)}
+    called = attacks.chain_of_calls(50)
+    files = {
+        "plain": (tables.read_text(), font.read_text(), "office"),
+        "deep": (nested[DEEPEST - 1], nested[DEEPEST - 1], "office"),
+        "too deep": ("{}", nested[DEEPEST], "office"),
+        "deep calls": ("{}", json.dumps(called.font), called.text),
+    }
+    read, refused = ["OK"] * 5, ["OK", "J1 NotJson", "J1 NotJson", "NoFont", "NoFont"]
+    wrong, most = 0, [0, 0]
+    for name, texts in files.items():
+        paths = [tested.work / f"stack.{at}" for at in range(len(texts))]
+        for path, text in zip(paths, texts, strict=True):
+            path.write_text(text, encoding="utf-8")
+        statuses, *taken = drivers.stack_taken(tested.work, tested.library, *paths)
+        most = [max(pair) for pair in zip(most, taken, strict=True)]
+        if statuses != (refused if name == "too deep" else read):
+            print(f"stack: {name}: {', '.join(statuses)}")
+            wrong += 1
+    tell("stack", f"at most {most[0]:,} bytes where tables or a font are read, {most[1]:,} elsewhere")
+    return wrong
+
+
+def tell_times(tested: Tested, tables: Path, all_scripts: list[Script]) -> int:
+    """Tells the times of a word of each script, and of words in turn, beside HarfBuzz's; how many cost too much."""
+    rows = [Words(f"{script.name} {script.cases[0].text}", script.font, [script.cases[0].text]) for script in all_scripts]
+    rows += turns()
     least: dict[str, drivers.Times] = {}
     # Each run is of all words, so that what else the machine does does not meet one of them alone.
-    for script in all_scripts * RUNS:
-        found = drivers.times(
-            tested.work, tested.library, (tables, fonts[script.font]), script.font, script.cases[0].text
-        )
-        least[script.name] = found.least(least.get(script.name, found))
-    for script in all_scripts:
-        tell("time", f"{script.name} {script.cases[0].text}: {told_times(least[script.name])}")
+    for row in rows * RUNS:
+        files = (tables, font_value(tested.values, row.font, 0))
+        found = drivers.times(tested.work, tested.library, files, row.font, row.words)
+        least[row.name] = found.least(least.get(row.name, found))
+    for row in rows:
+        tell("time", f"{row.name}: {told_times(least[row.name])}")
     return sum(map(is_slow, least.values()))
 
 

@@ -95,6 +95,17 @@ def count_calls(work: Path, library: Place, files: tuple[Path, Path], calls: int
     return call([program, *files, str(calls), *words]).strip()
 
 
+def stack_taken(work: Path, library: Place, tables: Path, font: Path, text: Path) -> tuple[list[str], int, int]:
+    """The statuses of the calls on threads with stacks as small as the header says, and what calls that read and others
+    took of them, in bytes."""
+    program = work / "stack"
+    if not program.exists():
+        call(["gcc", "-std=gnu11", "-O2", *WARNINGS, f"-I{INCLUDE}", "-o", program, SOURCES / "stack.c", library.file, "-pthread"])
+    *statuses, bytes_ = call([program, tables, font, text]).strip().split(", ")
+    reading, other = map(int, bytes_.split())
+    return statuses, reading, other
+
+
 @dataclass(frozen=True)
 class Times:
     """The microseconds of a call and of HarfBuzz's for a word, and whether the glyphs are the same."""
@@ -111,11 +122,11 @@ class Times:
         return Times(min(self.own, other.own), min(self.theirs, other.theirs), self.is_same and other.is_same)
 
 
-def times(work: Path, library: Place, files: tuple[Path, Path], file: Path, word: str) -> Times:
-    """What a word takes in one run."""
+def times(work: Path, library: Place, files: tuple[Path, Path], file: Path, words: list[str]) -> Times:
+    """What a call takes in one run, whose words come in turn."""
     program = work / "beside"
     if not program.exists():
         flags = [*harfbuzz("--cflags"), SOURCES / "beside.c", library.file, *harfbuzz("--libs")]
         call(["gcc", "-std=gnu11", "-O2", *WARNINGS, f"-I{INCLUDE}", "-o", program, *flags])
-    own, theirs, glyphs = call([program, *files, file, word]).split()
+    own, theirs, glyphs = call([program, *files, file, *words]).split()
     return Times(float(own), float(theirs), glyphs == "same")

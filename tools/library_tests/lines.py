@@ -2,30 +2,40 @@
 
 import sys
 from pathlib import Path
+from typing import Any
 
 sys.path.insert(0, str(Path(__file__).parent.parent.parent / "bindings" / "python"))
 
 import kuspveli  # noqa: E402
 
 DIRECTIONS = {number: name for name, number in kuspveli.DIRECTIONS.items()}
-NO = "-"
+NO, NO_SLICES = "-", "NoSlices"
 
 
 def main() -> None:
     tables, json = (Path(name).read_bytes() for name in sys.argv[1:3])
-    font = kuspveli.Font(tables, json)
-    for line in sys.stdin:
-        try:
-            print(line_of(shaped(font, line.split())))
-        except kuspveli.Fault as fault:
-            print(fault)
-    font.close()
+    with kuspveli.Tables(tables) as shared, kuspveli.Font(shared, json) as font:
+        for line in sys.stdin:
+            text, settings = case_of(line.split())
+            try:
+                print(f"{line_of(font.shape(text, **settings))};{slices_of(font, text, settings)}")
+            except kuspveli.Fault as fault:
+                print(fault)
 
 
-def shaped(font: kuspveli.Font, words: list[str]) -> list[kuspveli.Glyph]:
+def slices_of(font: kuspveli.Font, text: bytes, settings: dict[str, Any]) -> str:
+    try:
+        slices = font.shape_slices(text, **settings)
+    except kuspveli.Fault as fault:
+        if str(fault) != NO_SLICES:
+            raise
+        return "no slices"
+    return ",".join(f"{found.start} {found.end}" for found in slices) or "no slices"
+
+
+def case_of(words: list[str]) -> tuple[bytes, dict[str, Any]]:
     direction, script, flags, level, language, features, text = words
-    return font.shape(
-        b"" if text == NO else bytes.fromhex(text),
+    return b"" if text == NO else bytes.fromhex(text), dict(
         features=[feature_of(part) for part in features.split(",") if part != NO],
         direction=DIRECTIONS[int(direction)],
         script=tag_text(int(script)),

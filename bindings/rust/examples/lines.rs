@@ -1,6 +1,6 @@
 //! lines TABLES FONT ROOM < cases: the line of each case, as tools/test_library reads it. The room is the wrapper's own.
 
-use kuspveli::{ClusterLevel, Direction, Feature, Flags, Font, Glyphs, Tag, Tables, Text};
+use kuspveli::{ClusterLevel, Direction, Fault, Feature, Flags, Font, Glyphs, Slice, Tables, Tag, Text};
 use std::fmt::Write;
 use std::{env, error::Error, fs, io};
 
@@ -70,6 +70,17 @@ fn line(glyphs: Glyphs<'_>) -> Result<String, Box<dyn Error>> {
     Ok(line)
 }
 
+fn slices_line(slices: Result<Vec<Slice>, Fault>) -> String {
+    match slices {
+        Ok(slices) if !slices.is_empty() => {
+            let ends: Vec<String> = slices.iter().map(|slice| format!("{} {}", slice.start, slice.end)).collect();
+            ends.join(",")
+        }
+        Ok(_) | Err(Fault::NoSlices) => "no slices".to_owned(),
+        Err(fault) => fault.to_string(),
+    }
+}
+
 fn main() -> Result<(), Box<dyn Error>> {
     let words: Vec<String> = env::args().collect();
     let mut tables = Tables::new(&fs::read(&words[1])?)?;
@@ -94,9 +105,13 @@ fn main() -> Result<(), Box<dyn Error>> {
             ..Text::new(&own)
         };
         match font.shape(&text) {
-            Ok(glyphs) => println!("{}", line(glyphs)?),
-            Err(fault) => println!("{fault}"),
+            Ok(glyphs) => print!("{};", line(glyphs)?),
+            Err(fault) => {
+                println!("{fault}");
+                continue;
+            }
         }
+        println!("{}", slices_line(font.slices(&own)));
     }
     Ok(())
 }

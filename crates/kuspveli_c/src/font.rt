@@ -185,3 +185,10 @@ fn shape_text(
     let glyphs = shape_kept(alloc, input, plan, &features, buffer)?;
     Ok((glyphs, segment))
 }
+
+fn is_send<T: Send>(_value: &T) {}
+
+/// A font may be moved to another thread.
+pub fn law_fonts_cross_threads(font: &Font) {
+    is_send(font);
+}

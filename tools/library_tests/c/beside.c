@@ -1,6 +1,6 @@
-/* beside TABLES FONT FILE WORD: the microseconds of processor time of a call by the kept plan, and of hb_shape, which
- * keeps its plan with the face; the least of many rounds, in turn. A round is shorter than the time that a busy machine
- * leaves a process alone. */
+/* beside TABLES FONT FILE WORD..: the microseconds of processor time of a call by a kept plan, and of hb_shape, which keeps
+ * its plans with the face; the least of many rounds, in turn. The words of a round come one after another, again and
+ * again. A round is shorter than the time that a busy machine leaves a process alone. */
 #include <hb-ot.h>
 #include <hb.h>
 #include "clock.h"
@@ -8,41 +8,56 @@
 
 #define MOST 512
 #define ROUNDS 400
-#define TURNS 50
+/* The calls of a round. */
+#define CALLS 60
+#define WORDS 32
 
 /* The OpenType shaper alone: some fonts have rules for others. */
 static const char *const shapers[] = { "ot", NULL };
 
-/* The microseconds of a turn since a time. */
+/* The microseconds of a call since a time. */
 static double
 each_since (long long start)
 {
-  return (double) (processor_time () - start) / 1e3 / TURNS;
+  return (double) (processor_time () - start) / 1e3 / CALLS;
 }
 
 static kus_glyph_info_t infos[MOST];
 static kus_glyph_position_t positions[MOST];
 
-static double
-own (kus_font_t *font, const char *word, size_t *made)
+static char **words;
+static int num_words;
+
+static void
+shape_own (kus_font_t *font, const char *word, size_t *made)
 {
   kus_text_t text = kus_text (word, strlen (word));
+  if (kus_shape (font, &text, infos, MOST, positions, MOST, made) != KUS_OK) fail ("not shaped", word);
+}
+
+static void
+shape_other (hb_font_t *font, hb_buffer_t *buffer, const char *word)
+{
+  hb_buffer_reset (buffer);
+  hb_buffer_add_utf8 (buffer, word, -1, 0, -1);
+  hb_buffer_guess_segment_properties (buffer);
+  hb_shape_full (font, buffer, NULL, 0, shapers);
+}
+
+static double
+own (kus_font_t *font)
+{
+  size_t made;
   long long start = processor_time ();
-  for (int k = 0; k < TURNS; k++)
-    if (kus_shape (font, &text, infos, MOST, positions, MOST, made) != KUS_OK) fail ("not shaped", word);
+  for (int k = 0; k < CALLS; k++) shape_own (font, words[k % num_words], &made);
   return each_since (start);
 }
 
 static double
-other (hb_font_t *font, hb_buffer_t *buffer, const char *word)
+other (hb_font_t *font, hb_buffer_t *buffer)
 {
   long long start = processor_time ();
-  for (int k = 0; k < TURNS; k++) {
-    hb_buffer_reset (buffer);
-    hb_buffer_add_utf8 (buffer, word, -1, 0, -1);
-    hb_buffer_guess_segment_properties (buffer);
-    hb_shape_full (font, buffer, NULL, 0, shapers);
-  }
+  for (int k = 0; k < CALLS; k++) shape_other (font, buffer, words[k % num_words]);
   return each_since (start);
 }
 
@@ -59,22 +74,30 @@ same (hb_buffer_t *buffer, size_t made)
 }
 
 int
-main (int count, char **words)
+main (int count, char **arguments)
 {
-  if (count != 5) fail ("beside", "TABLES FONT FILE WORD");
-  kus_font_t font = open_font (words[1], words[2]);
-  hb_blob_t *blob = hb_blob_create_from_file (words[3]);
+  if (count < 5 || count > 4 + WORDS) fail ("beside", "TABLES FONT FILE WORD..");
+  words = arguments + 4;
+  num_words = count - 4;
+  kus_font_t font = open_font (arguments[1], arguments[2]);
+  hb_blob_t *blob = hb_blob_create_from_file (arguments[3]);
   hb_face_t *face = hb_face_create (blob, 0);
   hb_font_t *their_font = hb_font_create (face);
   hb_buffer_t *buffer = hb_buffer_create ();
   double mine = 1e9, theirs = 1e9;
-  size_t made = 0;
   for (int k = 0; k < ROUNDS; k++) {
-    double a = own (&font, words[4], &made), b = other (their_font, buffer, words[4]);
+    double a = own (&font), b = other (their_font, buffer);
     mine = a < mine ? a : mine;
     theirs = b < theirs ? b : theirs;
   }
-  printf ("%.3f %.3f %s\n", mine, theirs, same (buffer, made) ? "same" : "differ");
+  int all_same = 1;
+  for (int k = 0; k < num_words; k++) {
+    size_t made;
+    shape_own (&font, words[k], &made);
+    shape_other (their_font, buffer, words[k]);
+    all_same &= same (buffer, made);
+  }
+  printf ("%.3f %.3f %s\n", mine, theirs, all_same ? "same" : "differ");
   hb_buffer_destroy (buffer);
   hb_font_destroy (their_font);
   hb_face_destroy (face);

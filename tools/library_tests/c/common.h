@@ -32,19 +32,24 @@ read_file (const char *name)
   return read;
 }
 
+/* A font over tables, which are let go as soon as the font has them. */
 static inline kus_font_t
 open_font (const char *tables, const char *json)
 {
+  kus_tables_t shared = KUS_TABLES_INIT;
   kus_font_t font = KUS_FONT_INIT;
   bytes_t t = read_file (tables), j = read_file (json);
-  kus_status_t status = kus_font_create (&font, t.bytes, t.length, j.bytes, j.length);
+  kus_status_t status = kus_tables_create (&shared, t.bytes, t.length);
+  if (status != KUS_OK) fail (tables, kus_status_name (status));
+  status = kus_font_create_with_tables (&font, &shared, j.bytes, j.length);
   if (status != KUS_OK) fail (json, kus_status_name (status));
+  kus_tables_destroy (&shared);
   free (t.bytes);
   free (j.bytes);
   return font;
 }
 
-/* The line that hb_shape prints with --no-glyph-names --show-flags. */
+/* The line that hb_shape prints with --no-glyph-names --show-flags, but for its end. */
 static inline void
 print_line (const kus_glyph_info_t *infos, const kus_glyph_position_t *positions, size_t count)
 {
@@ -55,6 +60,15 @@ print_line (const kus_glyph_info_t *infos, const kus_glyph_position_t *positions
     if (positions[k].y_advance) printf (",%d", positions[k].y_advance);
     if (infos[k].mask) printf ("#%x", infos[k].mask);
   }
+}
+
+/* The lines that hb_shape prints with --slices, with commas between, after a semicolon. */
+static inline void
+print_slices (kus_status_t status, const kus_slice_t *slices, size_t count)
+{
+  for (size_t k = 0; k < count; k++) printf ("%c%zu %zu", k ? ',' : ';', slices[k].start, slices[k].end);
+  if (status == KUS_NO_SLICES) printf (";no slices");
+  else if (status != KUS_OK) printf (";%s", kus_status_name (status));
   putchar ('\n');
 }
 

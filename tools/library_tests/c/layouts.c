@@ -27,6 +27,12 @@ SAME_FIELD (kus_glyph_position_t, x_offset, hb_glyph_position_t, x_offset);
 SAME_FIELD (kus_glyph_position_t, y_offset, hb_glyph_position_t, y_offset);
 SAME_FIELD (kus_glyph_position_t, var, hb_glyph_position_t, var);
 
+SAME (sizeof (kus_glyph_extents_t), sizeof (hb_glyph_extents_t));
+SAME_FIELD (kus_glyph_extents_t, x_bearing, hb_glyph_extents_t, x_bearing);
+SAME_FIELD (kus_glyph_extents_t, y_bearing, hb_glyph_extents_t, y_bearing);
+SAME_FIELD (kus_glyph_extents_t, width, hb_glyph_extents_t, width);
+SAME_FIELD (kus_glyph_extents_t, height, hb_glyph_extents_t, height);
+
 SAME (KUS_DIRECTION_GUESS, HB_DIRECTION_INVALID);
 SAME (KUS_DIRECTION_LTR, HB_DIRECTION_LTR);
 SAME (KUS_DIRECTION_RTL, HB_DIRECTION_RTL);
@@ -35,6 +41,7 @@ SAME (KUS_DIRECTION_BTT, HB_DIRECTION_BTT);
 
 SAME (KUS_TAG ('D', 'e', 'v', 'a'), HB_SCRIPT_DEVANAGARI);
 SAME (0, HB_SCRIPT_INVALID);
+SAME (KUS_TAG ('G', 'S', 'U', 'B'), HB_TAG ('G', 'S', 'U', 'B'));
 
 SAME (KUS_FLAG_DEFAULT, HB_BUFFER_FLAG_DEFAULT);
 SAME (KUS_FLAG_BOT, HB_BUFFER_FLAG_BOT);

@@ -34,18 +34,25 @@ main (int count, char **words)
   size_t room = strtoul (words[3], NULL, 10), made = 0;
   kus_glyph_info_t *infos = malloc (MOST * sizeof *infos);
   kus_glyph_position_t *positions = malloc (MOST * sizeof *positions);
+  kus_slice_t *slices = malloc (MOST * sizeof *slices);
   kus_font_t font = open_font (words[1], words[2]);
   while (fgets (line, sizeof line, stdin)) {
     kus_text_t text = kus_text ("", 0);
     if (!read_case (line, &text, features, bytes)) fail ("no case", line);
     kus_status_t status = kus_shape (&font, &text, infos, room, positions, room, &made);
     if (made > room && kus_get_glyphs (&font, infos, MOST, positions, MOST) != made) fail ("another count", line);
-    if (status == KUS_OK) print_line (infos, positions, made);
-    else printf ("%s\n", made ? "glyphs of a fault" : kus_status_name (status));
+    if (status != KUS_OK) {
+      printf ("%s\n", made ? "glyphs of a fault" : kus_status_name (status));
+      continue;
+    }
+    print_line (infos, positions, made);
+    status = kus_get_slices (&font, text.text, text.text_length, slices, MOST, &made);
+    print_slices (status, slices, made);
   }
   kus_font_destroy (&font);
   if (font.live || font.at) fail ("destroy", "left a font");
   free (infos);
   free (positions);
+  free (slices);
   return 0;
 }
