@@ -1,8 +1,8 @@
-use Rattle.std.proofs.Common.{rules}
+use Rattle.std.proofs.Common.{ap, rules, ◌∙◌}
 use Rattle.c_text.proofs.Writing.{written_next}
 use Rattle.c_text.proofs.written.write_front.Goals as goal
 
 pub loop-k-preserved : goal.loop-k-preserved
 loop-k-preserved g c =
     let s = c.loop-k in
-    written_next g.T.Written.form_of c.args.items.now c.args.room.now s.room s.k _ c.form.result s.invariant (search rules) (search rules) c.form.ensures
+    written_next g.T.Written.form_of c.args.items.now c.args.room.now s.room s.k c.index-items-k.result c.form.result s.invariant (search rules) (search rules) (c.form.ensures ∙ ap g.T.Written.form_of c.index-items-k.is)

@@ -1,0 +1,215 @@
+"""The binding for Python: words that are refused before a call, and, where a library is built, its answers."""
+
+import copy
+import importlib.util
+import os
+import pickle
+import sys
+import threading
+import unittest
+from array import array
+from pathlib import Path
+from types import ModuleType
+from unittest import mock
+
+import support  # noqa: F401
+
+from building.places import LIBRARY, Place
+from sources.crates import ROOT
+
+FOLDER = ROOT / "bindings" / "python"
+TABLES = b"{}"
+# The letters f and i are a ligature; b is named, and a has a box.
+FONT = b"""{"upem":1000,"ascender":800,"cmap":[[97,1],[98,2],[102,3],[105,4],[233,5],[1575,6]],
+"h":[[1,500],[2,600],[3,300],[4,250],[5,510],[6,400],[7,520]],"extents":[[1,10,20,30,-40]],"names":[[2,"bee"]],
+"gsub":{"scripts":[["DFLT",{"features":[0]},[]]],"features":[["liga",[0]]],
+"lookups":[{"type":"ligature","subtables":[[[3,[[[4],7]]]]]}]}}"""
+
+
+def module(library: Path | None) -> ModuleType:
+    """The binding over a library, or over none that answers."""
+    spec = importlib.util.spec_from_file_location("kuspveli_tested", FOLDER / "kuspveli.py")
+    assert spec and spec.loader
+    found = importlib.util.module_from_spec(spec)
+    with mock.patch.object(sys, "path", [str(FOLDER), *sys.path]):
+        if library is None:
+            environment, loaded = {"KUSPVELI_LIBRARY": __file__}, mock.patch("ctypes.CDLL")
+        else:
+            environment, loaded = {"KUSPVELI_LIBRARY": str(library)}, mock.patch.object(found, "unused", None, create=True)
+        with mock.patch.dict(os.environ, environment), loaded:
+            spec.loader.exec_module(found)
+    return found
+
+
+def built() -> Path | None:
+    places = (Place(LIBRARY, is_proved) for is_proved in (True, False))
+    return next((place.folder / "libkuspveli.so" for place in places if (place.folder / "libkuspveli.so").is_file()), None)
+
+
+class Checked(unittest.TestCase):
+    """What is refused before a call. Features are read as hb_feature_from_string reads them."""
+
+    def setUp(self) -> None:
+        self.binding = module(None)
+
+    def test_features(self) -> None:
+        """Text, a dict, features and texts; numbers and ranges as HarfBuzz has them."""
+        feature = self.binding.Feature
+        end = 0xFFFF_FFFF
+        rows = {
+            "kern": [("kern", 1, 0, end)],
+            "+kern": [("kern", 1, 0, end)],
+            "-kern, liga=0": [("kern", 0, 0, end), ("liga", 0, 0, end)],
+            "kern[]": [("kern", 1, 0, end)],
+            "kern[5:]": [("kern", 1, 5, end)],
+            "kern[:5]": [("kern", 1, 0, 5)],
+            "aalt[3:5]=2": [("aalt", 2, 3, 5)],
+            "kern[3]": [("kern", 1, 3, 4)],
+            "": [],
+        }
+        for text, wanted in rows.items():
+            self.assertEqual(self.binding.features_of(text), wanted, text)
+        self.assertEqual(self.binding.features_of({"liga": 0, "aalt": 2}), [("liga", 0, 0, end), ("aalt", 2, 0, end)])
+        self.assertEqual(self.binding.features_of([feature("liga", 0), "kern=0"]), [("liga", 0, 0, end), ("kern", 0, 0, end)])
+
+    def test_refused(self) -> None:
+        """One error that names the word, whatever it is of."""
+        rows = (
+            ({"direction": "RTL"}, "direction: 'RTL' is none of ltr, rtl, ttb, btt"),
+            ({"script": "abcdefghi"}, "script: 'abcdefghi' is no tag of one to four printed ASCII characters"),
+            ({"script": "Aräb"}, "script: 'Aräb' is no tag of one to four printed ASCII characters"),
+            ({"flags": 1 << 40}, "flags: 1099511627776 is not from 0 to 4294967295"),
+            ({"flags": 32}, "flags: 0x20 has a bit that no flag has"),
+            ({"flags": -1}, "flags: -1 is not from 0 to 4294967295"),
+            ({"cluster_level": 4}, "cluster_level: 4 is not from 0 to 3"),
+            ({"features": "ligature"}, "feature: 'ligature' is no tag of one to four printed ASCII characters"),
+            ({"features": "liga=x"}, "feature: 'liga=x' is not of the form liga, -liga, liga=0 or liga[0:3]=0"),
+            ({"features": "-liga=1"}, "feature: '-liga=1' is not of the form liga, -liga, liga=0 or liga[0:3]=0"),
+            ({"features": {"liga": 1 << 32}}, "feature 'liga': 4294967296 is not from 0 to 4294967295"),
+            ({"features": {"": 1}}, "feature: a tag is empty"),
+            ({"before": "\ud800"}, "before: the surrogate at 0 is no character"),
+        )
+        for settings, wanted in rows:
+            with self.assertRaises(ValueError) as caught:
+                self.binding.raw_text("a", **settings)
+            self.assertEqual(str(caught.exception), wanted)
+        for settings in ({"features": {"liga": "x"}}, {"script": 3}, {"language": 3}, {"flags": "BOT"}):
+            with self.assertRaises(TypeError):
+                self.binding.raw_text("a", **settings)
+
+    def test_characters(self) -> None:
+        """Of each byte the character that it is a part of."""
+        self.assertEqual(self.binding.character_indices("aé€😀b".encode()), array("I", [0, 1, 1, 2, 2, 2, 3, 3, 3, 3, 4]))
+        self.assertIsNone(self.binding.character_indices(b"ab"))
+
+    def test_texts(self) -> None:
+        for text in ("é", "é".encode(), bytearray("é".encode()), memoryview("é".encode())):
+            self.assertEqual(self.binding.utf8(text, "text"), b"\xc3\xa9")
+
+
+@unittest.skipUnless(built(), "no library is built: tools/build_library, or tools/build_library --unproved")
+class Answered(unittest.TestCase):
+    def setUp(self) -> None:
+        library = built()
+        assert library
+        self.binding = module(library)
+        self.font = self.binding.Font(self.binding.Tables(TABLES), FONT)
+        self.addCleanup(self.font.close)
+
+    def test_glyphs(self) -> None:
+        """Numbers, clusters by bytes and by characters, and advances; a feature turns the ligature off."""
+
+        def rows(**settings: object) -> list[tuple[int, int, int, int]]:
+            found = self.font.shape("éfi", **settings)
+            return [(glyph.number, glyph.cluster, glyph.character, glyph.x_advance) for glyph in found]
+
+        self.assertEqual(rows(), [(5, 0, 0, 510), (7, 2, 1, 520)])
+        for features in ("liga=0", {"liga": 0}, [self.binding.Feature("liga", 0)]):
+            self.assertEqual(rows(features=features), [(5, 0, 0, 510), (3, 2, 1, 300), (4, 3, 2, 250)])
+        arrays = self.font.shape_arrays("éfi")
+        self.assertEqual((arrays.numbers, arrays.clusters, arrays.characters), (array("I", [5, 7]), array("I", [0, 2]), array("I", [0, 1])))
+        self.assertEqual(self.font.shape(""), [])
+        self.assertEqual(len(self.font.shape("ab" * 5000)), 10000)
+
+    def test_slices(self) -> None:
+        slices = self.font.shape_slices("éfib")
+        rows = [(len(one.glyphs), one.start, one.end, one.first_character, one.end_character) for one in slices]
+        self.assertEqual(rows, [(1, 0, 2, 0, 1), (1, 2, 4, 1, 3), (1, 4, 5, 3, 4)])
+        backwards = self.font.shape_slices("ab", direction="rtl")
+        self.assertEqual([(one.start, one.end) for one in backwards], [(1, 2), (0, 1)])
+        self.assertEqual(self.font.shape_slices(""), [])
+
+    def test_segment(self) -> None:
+        self.assertEqual((self.font.direction(), self.font.script()), ("", ""))
+        self.font.shape("ا")
+        self.assertEqual((self.font.direction(), self.font.script()), ("rtl", "Arab"))
+        self.font.shape("ab", direction="ttb", script="latn")
+        self.assertEqual((self.font.direction(), self.font.script()), ("ttb", "Latn"))
+
+    def test_queries(self) -> None:
+        self.assertEqual(self.font.upem(), 1000)
+        self.assertEqual((self.font.nominal_glyph("b"), self.font.nominal_glyph("c")), (2, None))
+        self.assertEqual((self.font.glyph_name(2), self.font.glyph_name(1), self.font.glyph_name(1 << 20)), ("bee", None, None))
+        self.assertEqual((self.font.glyph_extents(1), self.font.glyph_extents(2)), ((10, 20, 30, -40), None))
+        self.assertEqual((self.font.feature_tags("GSUB"), self.font.script_tags("GSUB")), (["liga"], ["DFLT"]))
+        self.assertEqual(self.font.feature_tags("GPOS"), [])
+        with self.assertRaises(ValueError):
+            self.font.feature_tags("GDEF")
+
+    def test_version(self) -> None:
+        """The library's, the header's and that of VERSION are one."""
+        numbers = tuple(map(int, (ROOT / "VERSION").read_text(encoding="utf-8").strip().split(".")))
+        self.assertEqual(self.binding.version(), numbers)
+        header = (ROOT / "include" / "kuspveli.h").read_text(encoding="utf-8")
+        for name, number in zip(("MAJOR", "MINOR", "MICRO"), numbers, strict=True):
+            self.assertIn(f"#define KUS_VERSION_{name} {number}\n", header)
+
+    def test_handles(self) -> None:
+        """A copy is another handle; closed ones are refused; none is pickled."""
+        with self.binding.Font(TABLES, FONT) as font:
+            others = (copy.copy(font), copy.deepcopy(font), font.another())
+            with self.assertRaises(TypeError):
+                pickle.dumps(font)
+        with self.assertRaises(self.binding.Fault) as caught:
+            font.shape("a")
+        self.assertEqual(str(caught.exception), "NoFont")
+        for other in others:
+            self.assertEqual(len(other.shape("ab")), 2)
+        with self.binding.Tables(TABLES) as tables:
+            pass
+        with self.assertRaises(self.binding.Fault) as caught:
+            self.binding.Font(tables, FONT)
+        self.assertEqual(str(caught.exception), "NoTables")
+
+    def test_faults(self) -> None:
+        rows = ((TABLES, b"{", "J1 NotJson"), (b'{"splits":[[97,97,98]]}', FONT, "U3 SplitDepth"), (TABLES, b'{"upem":1.5}', "J3 FloatNumber"))
+        for tables, font, wanted in rows:
+            with self.assertRaises(self.binding.Fault) as caught:
+                self.binding.Font(tables, font)
+            self.assertEqual(str(caught.exception), wanted)
+        with self.assertRaises(self.binding.Fault) as caught:
+            self.font.shape(b"\xc3(")
+        self.assertEqual(str(caught.exception), "NotUtf8")
+
+    def test_threads(self) -> None:
+        """Four threads share one font, and each gets the glyphs of its own text."""
+        wrong: list[object] = []
+
+        def shape(count: int) -> None:
+            for _ in range(500):
+                try:
+                    found = self.font.shape("a" * count)
+                    wrong.extend([found] if len(found) != count else [])
+                except self.binding.Fault as fault:
+                    wrong.append(fault)
+
+        threads = [threading.Thread(target=shape, args=(count,)) for count in range(1, 5)]
+        for thread in threads:
+            thread.start()
+        for thread in threads:
+            thread.join()
+        self.assertEqual(wrong, [])
+
+
+if __name__ == "__main__":
+    unittest.main()
