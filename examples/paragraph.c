@@ -39,12 +39,13 @@ typedef struct {
   const part_t *part;
   size_t first, end;
   double width;
+  bool is_space;
 } piece_t;
 
 static part_t parts[PARTS] = {
   { .font = 0, .text = "Kuspveli sets the words of an office, " },
-  { .font = 1, .text = "السلام عليكم ورحمة الله وبركاته، " },
-  { .font = 0, .text = "and between them " },
+  { .font = 1, .text = "السلام عليكم ورحمة الله وبركاته،" },
+  { .font = 0, .text = " and between them " },
   { .font = 2, .text = "हिन्दी में नमस्ते और स्त्री शक्ति, " },
   { .font = 0, .text = "in lines that end where a break is safe." },
 };
@@ -113,7 +114,7 @@ add_pieces (const part_t *part)
     bool is_space = part->text[part->slices[s].start] == ' ';
     if (!is_last && !(is_space && !(part->infos[part->slices[s + 1].first_glyph].mask & KUS_GLYPH_FLAG_UNSAFE_TO_BREAK)))
       continue;
-    pieces[num_pieces++] = (piece_t) { part, first, s + 1, width_of (part, first, s + 1) };
+    pieces[num_pieces++] = (piece_t) { part, first, s + 1, width_of (part, first, s + 1), is_space && first == s };
     first = s + 1;
   }
 }
@@ -148,13 +149,14 @@ draw_line (cairo_t *cr, size_t first, size_t end, double y)
   }
 }
 
-/* The index of the piece that begins the next line. */
+/* The index of the piece that begins the next line, which is no space. */
 static size_t
-end_of_line (size_t first)
+next_line (size_t first)
 {
   double width = 0;
   size_t end = first;
   while (end < num_pieces && (end == first || width + pieces[end].width <= WIDTH - 2 * MARGIN)) width += pieces[end++].width;
+  while (end < num_pieces && pieces[end].is_space) end++;
   return end;
 }
 
@@ -181,7 +183,7 @@ main (int count, char **words)
     add_pieces (&parts[k]);
   }
   int lines = 0;
-  for (size_t first = 0; first < num_pieces; first = end_of_line (first)) lines++;
+  for (size_t first = 0; first < num_pieces; first = next_line (first)) lines++;
   cairo_surface_t *surface = cairo_image_surface_create (CAIRO_FORMAT_RGB24, WIDTH, MARGIN + LEADING * lines);
   cairo_t *cr = cairo_create (surface);
   cairo_set_source_rgb (cr, 1, 1, 1);
@@ -189,7 +191,7 @@ main (int count, char **words)
   cairo_set_source_rgb (cr, 0, 0, 0);
   cairo_set_font_size (cr, SIZE);
   double y = LEADING - 8;
-  for (size_t first = 0; first < num_pieces; first = end_of_line (first), y += LEADING) draw_line (cr, first, end_of_line (first), y);
+  for (size_t first = 0; first < num_pieces; first = next_line (first), y += LEADING) draw_line (cr, first, next_line (first), y);
   cairo_status_t status = cairo_surface_write_to_png (surface, words[5]);
   if (status != CAIRO_STATUS_SUCCESS) fprintf (stderr, "paragraph: %s: %s\n", words[5], cairo_status_to_string (status));
   cairo_destroy (cr);

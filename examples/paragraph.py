@@ -20,8 +20,8 @@ FAMILIES = ("DejaVu Sans", "Noto Naskh Arabic", "Noto Sans Devanagari")
 # Each part of the paragraph is of one script: its font's number, and its text.
 PARTS = (
     (0, "Kuspveli sets the words of an office, "),
-    (1, "السلام عليكم ورحمة الله وبركاته، "),
-    (0, "and between them "),
+    (1, "السلام عليكم ورحمة الله وبركاته،"),
+    (0, " and between them "),
     (2, "हिन्दी में नमस्ते और स्त्री शक्ति, "),
     (0, "in lines that end where a break is safe."),
 )
@@ -34,6 +34,7 @@ class Piece(NamedTuple):
     slices: list[Slice]
     width: float
     is_backwards: bool
+    is_space: bool
 
 
 def pieces_of(number: int, text: str, font: Font) -> list[Piece]:
@@ -47,18 +48,20 @@ def pieces_of(number: int, text: str, font: Font) -> list[Piece]:
         after = slices[at + 1] if at + 1 < len(slices) else None
         if after is None or (is_space and not after.glyphs[0].flags & UNSAFE_TO_BREAK):
             width = sum(glyph.x_advance for one in open_slices for glyph in one.glyphs) * SIZE / font.upem()
-            pieces.append(Piece(number, open_slices[::-1] if is_backwards else open_slices, width, is_backwards))
+            placed = open_slices[::-1] if is_backwards else open_slices
+            pieces.append(Piece(number, placed, width, is_backwards, is_space and len(placed) == 1))
             open_slices = []
     return pieces
 
 
 def lines_of(pieces: list[Piece]) -> list[list[Piece]]:
-    """The pieces in lines, each as full as it may be."""
+    """The pieces in lines, each as full as it may be; none begins with a space."""
     lines: list[list[Piece]] = [[]]
     for piece in pieces:
         if lines[-1] and sum(one.width for one in lines[-1]) + piece.width > WIDTH - 2 * MARGIN:
             lines.append([])
-        lines[-1].append(piece)
+        if lines[-1] or not piece.is_space:
+            lines[-1].append(piece)
     return lines
 
 

@@ -19,8 +19,8 @@ const LEADING: f64 = 54.0;
 /// Each part of the paragraph is of one script: its font's number, and its text.
 const PARTS: [(usize, &str); 5] = [
     (0, "Kuspveli sets the words of an office, "),
-    (1, "السلام عليكم ورحمة الله وبركاته، "),
-    (0, "and between them "),
+    (1, "السلام عليكم ورحمة الله وبركاته،"),
+    (0, " and between them "),
     (2, "हिन्दी में नमस्ते और स्त्री शक्ति, "),
     (0, "in lines that end where a break is safe."),
 ];
@@ -41,6 +41,7 @@ struct Piece {
     first: usize,
     end: usize,
     width: f64,
+    is_space: bool,
 }
 
 fn shape(font: &mut Font, number: usize, text: &str) -> Result<Part, Box<dyn Error>> {
@@ -64,11 +65,10 @@ fn pieces_of(number: usize, part: &Part, text: &str) -> Vec<Piece> {
     let (mut first, mut units) = (0, 0);
     for (at, slice) in part.slices.iter().enumerate() {
         units += (slice.first_glyph..slice.end_glyph).map(|glyph| part.positions[glyph].x_advance).sum::<i32>();
+        let is_space = &text[slice.start..slice.end] == " ";
         let may_end = match part.slices.get(at + 1) {
             None => true,
-            Some(next) => {
-                &text[slice.start..slice.end] == " " && part.infos[next.first_glyph].mask & UNSAFE_TO_BREAK == 0
-            }
+            Some(next) => is_space && part.infos[next.first_glyph].mask & UNSAFE_TO_BREAK == 0,
         };
         if may_end {
             pieces.push(Piece {
@@ -76,6 +76,7 @@ fn pieces_of(number: usize, part: &Part, text: &str) -> Vec<Piece> {
                 first,
                 end: at + 1,
                 width: f64::from(units) * part.scale,
+                is_space: is_space && first == at,
             });
             (first, units) = (at + 1, 0);
         }
@@ -83,7 +84,7 @@ fn pieces_of(number: usize, part: &Part, text: &str) -> Vec<Piece> {
     pieces
 }
 
-/// The pieces in lines, each as full as it may be.
+/// The pieces in lines, each as full as it may be; none begins with a space.
 fn lines_of(pieces: Vec<Piece>) -> Vec<Vec<Piece>> {
     let mut lines: Vec<Vec<Piece>> = vec![Vec::new()];
     let mut width = 0.0;
@@ -91,6 +92,9 @@ fn lines_of(pieces: Vec<Piece>) -> Vec<Vec<Piece>> {
         if width > 0.0 && width + piece.width > WIDTH - 2.0 * MARGIN {
             lines.push(Vec::new());
             width = 0.0;
+        }
+        if width == 0.0 && piece.is_space {
+            continue;
         }
         width += piece.width;
         lines.last_mut().expect("there is a line").push(piece);

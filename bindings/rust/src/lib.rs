@@ -2,9 +2,14 @@
 //! here: slices are never null and live during the call, a call has its handle alone (`&mut self`), and what it writes is
 //! borrowed by no one else.
 //!
-//!     let mut tables = Tables::new(&std::fs::read("tables.json")?)?;
-//!     let mut font = Font::with_tables(&mut tables, &std::fs::read("font.json")?)?;
-//!     let glyphs = font.shape(&Text::new("office"))?;
+//! ```no_run
+//! use kuspveli::{Font, Tables, Text};
+//!
+//! let mut tables = Tables::new(&std::fs::read("tables.json")?)?;
+//! let mut font = Font::with_tables(&mut tables, &std::fs::read("font.json")?)?;
+//! let glyphs = font.shape(&Text::new("office"))?;
+//! # Ok::<(), Box<dyn std::error::Error>>(())
+//! ```
 
 mod fault;
 mod font;
