@@ -18,7 +18,8 @@
  *   - One call at a time for one kus_font_t, and for one kus_tables_t. A handle is empty while a call works on it, so a
  *     second thread that breaks this rule mostly gets KUS_NO_FONT or KUS_NO_TABLES; but it may also crash. A handle may
  *     move to another thread between calls; kus_font_reference gives another thread its own, over the same font.
- *   - The stack has 128 KiB left, and the call does not come from a signal handler.
+ *   - The stack has 384 KiB left for a call that reads tables or a font, 128 KiB for any other, and the call does not come
+ *     from a signal handler. What a file nests 127 deep is read so, and what nests deeper is refused.
  *   - malloc, realloc and free are the C library's, and nothing else frees or writes what they gave to the library.
  * No call ends the process, prints, locks, calls back, or keeps a pointer that it was passed.
  */

@@ -19,7 +19,7 @@ from building.linking import link_library
 from building.places import LIBRARY, Place
 from building.tree import tree_of
 from library_tests import cli, drivers
-from library_tests.cases import SETTINGS, WORDS, scripts
+from library_tests.cases import SETTINGS, WORDS, scripts, turns
 from sources.crates import ROOT
 
 COMMANDS = ("gcc", "ld", "objcopy", "ar", "nm")
@@ -82,7 +82,7 @@ class Cases(unittest.TestCase):
 class Timed(unittest.TestCase):
     def test_judged(self) -> None:
         """Of each word the least of three runs counts, of both sides; each that costs twice as much is a fault."""
-        some = scripts()[:3]
+        some, several = scripts()[:2], turns()[:1]
         # Just below twice as much, exactly twice, and twice by one run alone.
         taken = {0: (1.99, 1.0), 1: (4.0, 2.0), 2: (1.0, 1.0)}
         asked = []
@@ -93,14 +93,30 @@ class Timed(unittest.TestCase):
             busy = 5 if len(asked) <= 3 else 1
             return drivers.Times(own * busy, theirs, is_same=len(asked) != 6)
 
-        with mock.patch.object(drivers, "times", times), contextlib.redirect_stdout(io.StringIO()) as shown:
-            slow = cli.tell_times(cli.Tested(*[Path()] * 4), Path(), {script.font: Path() for script in some}, some)
+        patches = (
+            mock.patch.object(drivers, "times", times),
+            mock.patch.object(cli, "turns", lambda: several),
+            mock.patch.object(cli, "font_value", lambda *_: Path()),
+            contextlib.redirect_stdout(io.StringIO()),
+        )
+        with contextlib.ExitStack() as stack:
+            *_, shown = map(stack.enter_context, patches)
+            slow = cli.tell_times(cli.Tested(*[Path()] * 4), Path(), some)
         self.assertEqual(slow, 1)
-        self.assertEqual(asked, [script.cases[0].text for script in some] * cli.RUNS)
+        self.assertEqual(asked, [*([script.cases[0].text] for script in some), several[0].words] * cli.RUNS)
         ends = ["1.99 µs, HarfBuzz 1.00 µs (1.99)", "4.00 µs, HarfBuzz 2.00 µs (2.00), too much"]
         ends += ["1.00 µs, HarfBuzz 1.00 µs (1.00), other glyphs"]
         for line, end in zip(shown.getvalue().splitlines(), ends, strict=True):
             self.assertTrue(line.endswith(f": {end}"), line)
+
+    def test_turns(self) -> None:
+        """Words of five to nine characters of four scripts; and texts of one, two and three scripts, each with numerals."""
+        words, texts = turns()[:4], turns()[4:]
+        for row in words:
+            self.assertTrue(all(5 <= len(word) <= 9 for word in row.words), row.name)
+        for row in texts:
+            self.assertTrue(any(word.isnumeric() for word in row.words), row.name)
+        self.assertEqual(len({row.name for row in turns()}), 8)
 
 
 class Built(unittest.TestCase):

@@ -49,7 +49,7 @@ segment_of_text t buffer segment is direction script = record { buffer = buffer;
 -- ---- tables, and fonts over them
 
 pub tables_were_read : (bytes : List ℕ) (t : TextTables) (kept : Option TextTables) → kept ≡ Some t → AreLawfulTables bytes (Ok (tables_value t)) → HasReadTables bytes kept
-tables_were_read bytes t kept same read = record { tables = t; read = read; kept = same }
+tables_were_read bytes t kept same read = record { tables = t; read = read; same = same }
 
 pub font_was_read_over : (tables : Option TextTables) (t : TextTables) (font : List ℕ) (f : KeptFont) (kept : Option KeptFont) → tables ≡ Some t → kept ≡ Some f
     → f ≡ new_font f.input → f.input.tables ≡ t → font_in font ≡ Ok f.input.face → HasReadOver tables font kept

@@ -52,9 +52,9 @@ pub record HasRead (tables font : List ℕ) (kept : Option KeptFont) : Type 0 wh
   pub new : kept ≡ Some (new_font input)
 
 -- a font is what the reader answers to its bytes, over tables that are there
-pub record HasReadOver (tables : Option TextTables) (font : List ℕ) (kept : Option KeptFont) : Type 0 where
+pub record HasReadOver (shared : Option TextTables) (font : List ℕ) (kept : Option KeptFont) : Type 0 where
   pub input : RunInput
-  pub tables : tables ≡ Some input.tables
+  pub tables : shared ≡ Some input.tables
   pub read : font_in font ≡ Ok input.face
   pub new : kept ≡ Some (new_font input)
 
@@ -62,7 +62,7 @@ pub record HasReadOver (tables : Option TextTables) (font : List ℕ) (kept : Op
 pub record HasReadTables (bytes : List ℕ) (kept : Option TextTables) : Type 0 where
   pub tables : TextTables
   pub read : AreLawfulTables bytes (Ok (tables_value tables))
-  pub kept : kept ≡ Some tables
+  pub same : kept ≡ Some tables
 
 -- ---- texts
 
