@@ -18,8 +18,8 @@
  *   - One call at a time for one kus_font_t, and for one kus_tables_t. A handle is empty while a call works on it, so a
  *     second thread that breaks this rule mostly gets KUS_NO_FONT or KUS_NO_TABLES; but it may also crash. A handle may
  *     move to another thread between calls; kus_font_reference gives another thread its own, over the same font.
- *   - The stack has 384 KiB left for a call that reads tables or a font, 128 KiB for any other, and the call does not come
- *     from a signal handler. What a file nests 127 deep is read so, and what nests deeper is refused.
+ *   - The stack has 384 KiB left for a call that reads tables or a font, whatever they nest, 128 KiB for any other.
+ *   - No call comes from a signal handler.
  *   - malloc, realloc and free are the C library's, and nothing else frees or writes what they gave to the library.
  * No call ends the process, prints, locks, calls back, or keeps a pointer that it was passed.
  */
@@ -182,7 +182,8 @@ void kus_tables_destroy (kus_tables_t *tables);
 kus_status_t kus_font_create_with_tables (kus_font_t *font, kus_tables_t *tables, const uint8_t *json,
                                           size_t json_length);
 
-/* Reads tables and a font (JSON), in this order: the font has tables of its own. A font that was there is dropped; on a fault it stays. */
+/* Reads tables and a font (JSON), in this order: the font has tables of its own. A font that was there is dropped; on
+ * a fault it stays. */
 kus_status_t kus_font_create (kus_font_t *font, const uint8_t *tables, size_t tables_length, const uint8_t *json,
                               size_t json_length);
 
@@ -203,15 +204,16 @@ kus_status_t kus_shape (kus_font_t *font, const kus_text_t *text, kus_glyph_info
 size_t kus_get_glyphs (kus_font_t *font, kus_glyph_info_t *infos, size_t infos_room, kus_glyph_position_t *positions,
                        size_t positions_room);
 
-/* The direction and the script by which the last text of this handle was shaped, set or guessed; 0 where there is none. */
+/* The direction and the script by which the last text of this handle was shaped, set or guessed; 0 where there is
+ * none. */
 uint32_t kus_get_direction (kus_font_t *font);
 uint32_t kus_get_script (kus_font_t *font);
 
-/* The slices of the last text, which is passed again: each run of glyphs of one cluster, in the order of the glyphs, with
- * its bytes, which end where the next greater cluster begins. They are written as far as there is room, *count is how many
- * there are. Where the glyphs can't be traced to the text, it answers KUS_NO_SLICES: where clusters neither rise nor fall,
- * as they may at the levels that are not monotone and under the Indic shaper, where none is 0, or where one is no first
- * byte of a character. Where it answers no KUS_OK, *count is 0 and nothing is written. */
+/* The slices of the last text, which is passed again: each run of glyphs of one cluster, in the order of the glyphs,
+ * with its bytes, which end where the next greater cluster begins. They are written as far as there is room, *count is
+ * how many there are. Where the glyphs can't be traced to the text, it answers KUS_NO_SLICES: where clusters neither
+ * rise nor fall, as they may at the levels that are not monotone and under the Indic shaper, where none is 0, or where
+ * one is no first byte of a character. Where it answers no KUS_OK, *count is 0 and nothing is written. */
 kus_status_t kus_get_slices (kus_font_t *font, const uint8_t *text, size_t text_length, kus_slice_t *slices,
                              size_t slices_room, size_t *count);
 
@@ -231,9 +233,9 @@ size_t kus_font_get_glyph_name (kus_font_t *font, uint32_t glyph, uint8_t *name,
 /* Whether the font gives the box of a glyph's ink, which is then written. */
 bool kus_font_get_glyph_extents (kus_font_t *font, uint32_t glyph, kus_glyph_extents_t *extents);
 
-/* The tags of the features, in the order of their indices (a tag may come more than once), and of the scripts of a layout
- * table, KUS_TAG ('G', 'S', 'U', 'B') or KUS_TAG ('G', 'P', 'O', 'S'), as far as there is room; they return how many
- * there are. */
+/* The tags of the features, in the order of their indices (a tag may come more than once), and of the scripts of a
+ * layout table, KUS_TAG ('G', 'S', 'U', 'B') or KUS_TAG ('G', 'P', 'O', 'S'), as far as there is room; they return how
+ * many there are. */
 size_t kus_font_get_feature_tags (kus_font_t *font, uint32_t table, uint32_t *tags, size_t tags_room);
 size_t kus_font_get_script_tags (kus_font_t *font, uint32_t table, uint32_t *tags, size_t tags_room);
 

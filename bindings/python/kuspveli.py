@@ -162,8 +162,8 @@ class Feature(NamedTuple):
 
 
 class Glyph(NamedTuple):
-    """A glyph with its position in font units; `cluster` is the index of a byte of the text in UTF-8, and `character` that
-    of the same character in the text as a str."""
+    """A glyph with its position in font units; `cluster` is the index of a byte of the text in UTF-8, and `character`
+    that of the same character in the text as a str."""
 
     number: int
     cluster: int
@@ -189,8 +189,8 @@ class Arrays(NamedTuple):
 
 
 class Slice(NamedTuple):
-    """A run of glyphs of one cluster, and the part of the text that it comes from: bytes, and characters, each without its
-    end."""
+    """A run of glyphs of one cluster, and the part of the text that it comes from: bytes, and characters, each without
+    its end."""
 
     glyphs: list[Glyph]
     start: int
@@ -360,8 +360,8 @@ class Tables(Held):
 
 
 class Font(Held):
-    """A font (JSON) over tables. Threads may share it: a call waits while another one works on it. `another` gives a thread
-    its own, so that none waits."""
+    """A font (JSON) over tables. Threads may share it: a call waits while another one works on it. `another` gives a
+    thread its own, so that none waits."""
 
     _destroy = staticmethod(LIBRARY.kus_font_destroy)
     _reference = staticmethod(LIBRARY.kus_font_reference)
@@ -382,7 +382,8 @@ class Font(Held):
         """The glyphs of a text, in the order in which they are drawn. What is not set is guessed.
 
         features: "liga=0,kern", {"liga": 0} or features; direction: "ltr", "rtl", "ttb" or "btt"; script: a tag of ISO
-        15924; language: a tag of BCP 47; before, after: the text around it; flags: Flags; cluster_level: ClusterLevel."""
+        15924; language: a tag of BCP 47; before, after: the text around it; flags: Flags; cluster_level:
+        ClusterLevel."""
         return list(map(Glyph, *self.shape_arrays(text, **settings)))
 
     def shape_arrays(self, text: Text, **settings: Any) -> Arrays:
@@ -392,8 +393,8 @@ class Font(Held):
             return self._shaped(raw, own)
 
     def shape_slices(self, text: Text, **settings: Any) -> list[Slice]:
-        """The glyphs of a text as `shape` gives them, by runs of one cluster with its part of the text; Fault where they
-        can't be traced to the text."""
+        """The glyphs of a text as `shape` gives them, by runs of one cluster with its part of the text; Fault where
+        they can't be traced to the text."""
         raw, own = raw_text(text, **settings)
         with self._lock:
             arrays = self._shaped(raw, own)

@@ -29,8 +29,8 @@ impl Table {
     }
 }
 
-/// A font with its tables, and the glyphs of the last text. It may be moved to another thread; `another` gives a thread its
-/// own.
+/// A font with its tables, and the glyphs of the last text. It may be moved to another thread; `another` gives a thread
+/// its own.
 pub struct Font {
     handle: Handle,
     infos: Vec<GlyphInfo>,
@@ -123,8 +123,8 @@ impl Font {
         }
     }
 
-    /// The slices of the last text, which is passed again: each run of glyphs of one cluster, in the order of the glyphs,
-    /// with its bytes. The text without characters has none.
+    /// The slices of the last text, which is passed again: each run of glyphs of one cluster, in the order of the
+    /// glyphs, with its bytes. The text without characters has none.
     pub fn slices(&mut self, text: &str) -> Result<Vec<Slice>, Fault> {
         if text.is_empty() && self.count == 0 {
             return Ok(Vec::new());
@@ -200,7 +200,7 @@ impl Font {
         self.tags(kus_font_get_script_tags, table)
     }
 
-    fn tags(&mut self, call: unsafe extern "C" fn(*mut Handle, u32, *mut u32, usize) -> usize, table: Table) -> Vec<Tag> {
+    fn tags(&mut self, call: TagsCall, table: Table) -> Vec<Tag> {
         let table = table.tag().number();
         let room = unsafe { call(&mut self.handle, table, ptr::NonNull::dangling().as_ptr(), 0) };
         let mut tags = vec![0; room];
@@ -208,6 +208,9 @@ impl Font {
         tags.into_iter().map(Tag::from_number).collect()
     }
 }
+
+/// A call that writes tags of a table.
+type TagsCall = unsafe extern "C" fn(*mut Handle, u32, *mut u32, usize) -> usize;
 
 impl Drop for Font {
     fn drop(&mut self) {
