@@ -7,7 +7,8 @@ from fontjson.check_cmap import check_cmap
 from fontjson.check_layout import check_layout
 from fontjson.check_outlines import check_glyf
 
-LAYOUT = ("GDEF", "GSUB", "GPOS")
+# Tables of OpenType Layout's kind of fields; the last ones are read for instances of variable fonts.
+LAYOUT = ("GDEF", "GSUB", "GPOS", "HVAR", "VVAR", "MVAR", "STAT")
 
 
 def check_sizes(font: Any) -> dict[str, tuple[int, int]]:
@@ -30,8 +31,19 @@ def check_sizes(font: Any) -> dict[str, tuple[int, int]]:
         found["glyf: points of a glyph"] = most.points, limits.MOST_GLYPH_POINTS
         found["glyf: parts of a glyph"] = most.parts, limits.MOST_PARTS
         found["glyf: levels of parts"] = most.depth, limits.MOST_DEPTH
-    found["names: bytes"] = check_names(font), limits.MOST_NAME_BYTES
+    if "name" in font:
+        found["name: bytes"] = check_name(font.reader["name"]), limits.MOST_NAME_BYTES
+    found["names of glyphs: bytes"] = check_names(font), limits.MOST_NAME_BYTES
     return found
+
+
+def check_name(data: bytes) -> int:
+    """The bytes of all records of the table name, which may share them; a record's length is at its byte 8."""
+    count = min(int.from_bytes(data[2:4], "big"), max(len(data) - 6, 0) // 12)
+    size = sum(int.from_bytes(data[14 + 12 * record : 16 + 12 * record], "big") for record in range(count))
+    if size > limits.MOST_NAME_BYTES:
+        raise limits.refuse(f"table name: more than {limits.MOST_NAME_BYTES:,} bytes in all records")
+    return size
 
 
 def check_names(font: Any) -> int:

@@ -213,6 +213,22 @@ def mark_sets() -> bytes:
     return with_tables({"GDEF": longs(0x00010002) + words(0, 0, 0, 0, 14) + sets})
 
 
+def many_names() -> bytes:
+    """Records of the table name, which share one text."""
+    count, length = 2000, 60000
+    records = words(3, 1, 0x409, 256, length, 0) * count
+    return with_tables({"name": words(0, count, 6 + len(records)) + records + bytes(length)})
+
+
+def varied_widths() -> bytes:
+    """HVAR, whose lists of deltas share one list."""
+    count = 3000
+    deltas = words(count, 0, 0)
+    store = words(1) + longs(8 + 4 * count + len(deltas)) + words(count) + longs(8 + 4 * count) * count + deltas
+    regions = words(1, 0)
+    return with_tables({"HVAR": longs(0x00010000, 20, 0, 0, 0) + store + regions})
+
+
 def gdef_classes(*ranges: tuple[int, int]) -> bytes:
     return with_tables({"GDEF": longs(0x00010000) + words(12, 0, 0, 0) + classes(*ranges)})
 
@@ -393,6 +409,8 @@ def kinds() -> Iterator[Kind]:
         ("an extension of an extension", lambda: one_lookup("GSUB", 7, extension(7)), "extension of an extension"),
         ("attachment points that are shared", attachments, "rows"),
         ("sets of marks that are shared", mark_sets, "rows"),
+        ("deltas that are shared", varied_widths, "rows"),
+        ("texts of the table name that are shared", many_names, "in all records"),
     )
     yield from (
         ("composites that are nested", lambda: glyf([b"", *(composite(n) for n in range(30))]), "deep"),
