@@ -18,7 +18,9 @@ def check_sizes(font: Any) -> dict[str, tuple[int, int]]:
     """
     found = {}
     if "cmap" in font:
-        found["cmap: characters and variants"] = check_cmap(font.reader["cmap"]), limits.MOST_CHARACTERS
+        subtables, characters = check_cmap(font.reader["cmap"])
+        found["cmap: subtables"] = subtables, limits.MOST_SUBTABLES_OF_CMAP
+        found["cmap: characters and variants"] = characters, limits.MOST_CHARACTERS
     for tag in LAYOUT:
         if tag in font:
             size, records = check_layout(tag, font.reader[tag])

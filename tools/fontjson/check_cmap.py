@@ -10,13 +10,13 @@ Range = tuple[int, int]
 LONG_LENGTHS = (8, 10, 12, 13)
 
 
-def check_cmap(data: bytes) -> int:
-    """The rows of all subtables; refuses what is beyond the limits, and ranges that overlap."""
+def check_cmap(data: bytes) -> tuple[int, int]:
+    """The number of subtables, and the rows of all; refuses what is beyond the limits, and ranges that overlap."""
     count = number(data, 2)
     if count > MOST_SUBTABLES_OF_CMAP:
         raise refuse(f"table cmap: more than {MOST_SUBTABLES_OF_CMAP} subtables")
     offsets = {number(data, 8 + 8 * record, 4) for record in range(count)}
-    return within(sum(subtable(data, offset) for offset in offsets))
+    return count, within(sum(subtable(data, offset) for offset in offsets))
 
 
 def subtable(data: bytes, at: int) -> int:

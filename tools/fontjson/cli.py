@@ -54,11 +54,11 @@ def main(words: list[str]) -> int:
 def sizes_of(path: str, index: int, is_limited: bool) -> str:
     """A line for each thing that is limited: what it is, how much of it the font has, and the limit."""
     from fontjson.source import open_font  # first: it says where fontTools is missing
-    from fontjson.drawing import bytes_run
+    from fontjson.drawing import sizes_of_cff
 
     with reading(path, is_limited):
         source = open_font(path, index, Notes(), Progress(NAME))
-        sizes = source.sizes | bytes_run(source.font)
+        sizes = source.sizes | sizes_of_cff(source.font)
     return "".join(f"{what}\t{found}\t{most}\n" for what, (found, most) in sizes.items())
 
 

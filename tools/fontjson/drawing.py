@@ -29,14 +29,20 @@ def drawn_glyphs(font: Any) -> Any:
     raise refuse("the font has no outlines")
 
 
-def bytes_run(font: Any) -> dict[str, tuple[int, int]]:
-    """How many bytes of charstrings run where all glyphs of CFF are drawn, with the limit; nothing for other fonts."""
+def sizes_of_cff(font: Any) -> dict[str, tuple[int, int]]:
+    """What CFF has of what is limited, also where all glyphs are drawn, each with its limit; nothing for other fonts."""
     if "glyf" in font or not any(tag in font for tag in CFF):
         return {}
     glyphs = drawn_glyphs(font)
     for name in font.getGlyphOrder():
         glyphs[name].draw(NullPen())
-    return {"CFF: bytes that run": (glyphs.run, glyphs.most), "CFF: levels of subroutines": (glyphs.levels, MOST_CALLS)}
+    dicts, subroutines = glyphs.shared
+    return {
+        "CFF: font DICTs": (dicts, MOST_FONT_DICTS),
+        "CFF: subroutines": (subroutines, MOST_SUBROUTINES),
+        "CFF: levels of subroutines": (glyphs.levels, MOST_CALLS),
+        "CFF: bytes that run": (glyphs.run, glyphs.most),
+    }
 
 
 class CffGlyphs:
@@ -44,7 +50,7 @@ class CffGlyphs:
 
     def __init__(self, font: Any, tag: str) -> None:
         length = len(font.reader[tag])
-        check_subroutines(font[tag].cff.topDictIndex[0], length)
+        self.shared = check_subroutines(font[tag].cff.topDictIndex[0], length)
         self.glyphs = font.getGlyphSet()
         self.most = MOST_RUN + MOST_RUN_FOR_BYTE * length
         self.run = 0
@@ -98,8 +104,11 @@ class Counted(T2OutlineExtractor):
         super().execute(charString)
 
 
-def check_subroutines(top: Any, length: int) -> None:
-    """Refuses font DICTs that share much: each reads its private DICT and the list of its subroutines anew."""
+def check_subroutines(top: Any, length: int) -> tuple[int, int]:
+    """The number of font DICTs, and that of their subroutines.
+
+    Refuses font DICTs that share much, since each reads its private DICT and the list of its subroutines anew.
+    """
     dicts = top.FDArray if "FDArray" in top.rawDict else [top]
     if len(dicts) > MOST_FONT_DICTS:
         raise refuse(f"table CFF: more than {MOST_FONT_DICTS} font DICTs")
@@ -109,6 +118,7 @@ def check_subroutines(top: Any, length: int) -> None:
     subroutines = sum(subroutine_count(each.Private) for each, size in zip(dicts, sizes) if size)
     if subroutines > MOST_SUBROUTINES:
         raise refuse(f"table CFF: more than {MOST_SUBROUTINES:,} subroutines")
+    return len(dicts), subroutines
 
 
 def subroutine_count(private: Any) -> int:

@@ -1,15 +1,19 @@
 """Fonts that are made to take much: one line and status 3, within 10 seconds and 1 GB."""
 
+import io
 import os
 import resource
 import subprocess
 import tempfile
 import unittest
 from pathlib import Path
+from types import SimpleNamespace
 
 from support import TOOLS, run
 
-from hostile_fonts import cmap, dots, glyf, groups, kinds, nested_calls
+from fontjson.drawing import check_subroutines
+from fontjson.limits import Refused
+from hostile_fonts import cmap, composite, coverage, dots, glyf, groups, kinds, nested_calls, one_lookup, single
 
 DATA = 3
 SECONDS, MEMORY = 10, 1_000_000_000
@@ -77,11 +81,36 @@ class HostileFonts(unittest.TestCase):
         self.assertEqual((ran.returncode, ran.stderr.count("\n")), (DATA, 1) if ran.stderr else (0, 0), ran.stderr)
         return ran.stderr
 
-    def test_plain(self) -> None:
-        """What the fonts are made of is no fault."""
+    def test_shared_subroutines(self) -> None:
+        """Font DICTs that share what they read: each has 65,535 subroutines, and a private DICT of ten bytes."""
+        private = SimpleNamespace(rawDict={"Subrs": 0}, file=io.BytesIO(b"\xff\xff"), offset=0, _isCFF2=False)
+        one = SimpleNamespace(rawDict={"Private": (10, 0)}, Private=private)
+        for count, length, says in ((257, 9999, "font DICTs"), (17, 9999, "subroutines"), (16, 159, "overlap")):
+            top = SimpleNamespace(rawDict={"FDArray": 0}, FDArray=[one] * count)
+            self.assertRaisesRegex(Refused, says, check_subroutines, top, length)
+        top = SimpleNamespace(rawDict={"FDArray": 0}, FDArray=[one] * 16)
+        self.assertEqual(check_subroutines(top, 160), (16, 16 * 65535))
+
+    def test_sizes(self) -> None:
+        """What the fonts are made of is no fault, and is counted as it was written."""
         path = self.folder / "font.ttf"
-        path.write_bytes(glyf([b"", dots()]))
+        path.write_bytes(glyf([dots(), composite(0), composite(1, 1)]))
         self.assertEqual(run("font_to_json", str(path)).returncode, 0)
+        told = run("font_to_json", "--sizes", str(path)).stdout.decode()
+        sizes = {what: int(found) for what, found, _ in (line.split("\t") for line in told.splitlines())}
+        wanted = {
+            "bytes": path.stat().st_size,
+            "cmap: characters and variants": 1,
+            "glyf: points": 65535,
+            "glyf: points of a glyph": 2 * 65535,
+            "glyf: parts of a glyph": 4,
+            "glyf: levels of parts": 2,
+        }
+        self.assertEqual({what: sizes.get(what) for what in wanted}, wanted)
+        # A lookup that names one subtable three times has three.
+        path.write_bytes(one_lookup("GSUB", 1, single(coverage((1, 10))), 3))
+        told = run("font_to_json", "--sizes", str(path)).stdout.decode()
+        self.assertIn("GSUB: subtables\t3\t65536\n", told)
 
 
 if __name__ == "__main__":
