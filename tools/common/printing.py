@@ -1,13 +1,14 @@
 """What tools print: text without characters that act on a terminal, and the three standard streams."""
 
 import contextlib
+import io
 import os
 import sys
 from typing import Iterator
 
 OUTPUT, INPUT = "standard output", "standard input"
-# What separates glyphs in a printed line, ends a name there, or escapes that here. Where a name has no cluster after it,
-# these end it too; else they stand in names of fonts in use, as A+slashtall and acute#1.
+# What separates glyphs in a printed line or ends a name there, and what escapes it here. Where a name has no cluster
+# after it the others end it too; else they may stand in it, as in fonts in use (A+slashtall, acute#1).
 LINE_MARKS = frozenset("|=[]\\")
 FIELD_MARKS = LINE_MARKS | frozenset("@+#<")
 
@@ -77,8 +78,9 @@ def open_streams() -> None:
     sys.stdin = sys.stdin or open(0, encoding="utf-8", closefd=False)
     sys.stdout = sys.stdout or open(1, "w", encoding="utf-8", closefd=False)
     sys.stderr = sys.stderr or open(2, "w", encoding="utf-8", closefd=False)
-    sys.stdout.reconfigure(encoding="utf-8", errors="backslashreplace")
-    sys.stderr.reconfigure(encoding="utf-8", errors="backslashreplace")
+    for stream in (sys.stdout, sys.stderr):
+        if isinstance(stream, io.TextIOWrapper):
+            stream.reconfigure(encoding="utf-8", errors="backslashreplace")
 
 
 def flush_streams() -> None:

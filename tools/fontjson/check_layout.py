@@ -29,7 +29,7 @@ from fontjson.limits import MOST_RECORDS, MOST_ROWS, MOST_SUBTABLES, refuse
 DEVICES = 0xF0
 EXTENSIONS = {"GSUB": 7, "GPOS": 9}
 # What tables say to those below them: counts, formats of value records, a feature's tag.
-State = tuple[tuple[str, int], ...]
+State = tuple[tuple[str, Any], ...]
 
 
 class Size(NamedTuple):
@@ -80,7 +80,7 @@ class Walk:
             raise refuse(f"table {self.tag}: more than {MOST_SUBTABLES:,} subtables")
         return size
 
-    def table(self, kind: Any, at: int, state: dict[str, int]) -> Size:
+    def table(self, kind: Any, at: int, state: dict[str, Any]) -> Size:
         """The size of what an offset names."""
         key = (kind, at, tuple(state.items()))
         known = self.known.get(key)
@@ -94,7 +94,7 @@ class Walk:
         return known
 
     def ranges(self, at: int, what: str) -> int:
-        """The glyphs of ranges, which don't overlap; in fonts in use the last glyph of one may be the next one's first."""
+        """The glyphs of ranges, which don't overlap; the last glyph of one may be the next one's first, as in Inter."""
         if self.number(at) != 2:
             return 0
         count = max(min(self.number(at + 2), (len(self.data) - at - 4) // 6), 0)
@@ -115,13 +115,13 @@ class Walk:
 class Record:
     """The fields of one table or record, from `at` on; its offsets count from `start`."""
 
-    def __init__(self, walk: Walk, kind: Any, start: int, at: int, state: dict[str, int]) -> None:
+    def __init__(self, walk: Walk, kind: Any, start: int, at: int, state: dict[str, Any]) -> None:
         self.whole = walk
         self.kind = kind
         self.start = start
         self.at = at
         self.state = state
-        self.values: dict[str, int] = {}
+        self.values: dict[str, Any] = {}
         self.covered = 0
 
     def walk(self) -> tuple[Size, int]:
@@ -182,7 +182,7 @@ class Record:
 
     def read(self, field: Any) -> None:
         """A number or a tag, which other fields may need."""
-        value = self.whole.number(self.at, field.staticSize)
+        value: Any = self.whole.number(self.at, field.staticSize)
         if field.name == "FeatureTag":
             value = self.whole.data[self.at : self.at + 4].decode("latin-1")
         self.values[field.name] = value
@@ -279,7 +279,7 @@ def flat(kind: Any, state: State) -> Flat | None:
     return Flat(width, rows)
 
 
-def flat_field(field: Any, state: State, values: dict[str, int]) -> Flat | None:
+def flat_field(field: Any, state: State, values: dict[str, Any]) -> Flat | None:
     if isinstance(field, ValueRecord):
         form = values.get(field.which, 0)
         return None if form & DEVICES else Flat(2 * form.bit_count(), 1 + form.bit_count())

@@ -28,7 +28,8 @@ def check_glyf(font: Any) -> tuple[Drawn, int]:
         raise refuse(f"table glyf: more than {MOST_POINTS:,} points")
     known: dict[str, Drawn] = {}
     drawn = [of_glyph(font["glyf"], name, known, 0) for name in glyphs]
-    return Drawn(*map(max, zip(Drawn(), *drawn))), points
+    most = [max(sizes) for sizes in zip(Drawn(), *drawn)]
+    return Drawn(*most), points
 
 
 def own_points(glyph: Any) -> int:

@@ -30,7 +30,7 @@ def drawn_glyphs(font: Any) -> Any:
 
 
 def sizes_of_cff(font: Any) -> dict[str, tuple[int, int]]:
-    """What CFF has of what is limited, also where all glyphs are drawn, each with its limit; nothing for other fonts."""
+    """What CFF has of what is limited where all glyphs are drawn, each with its limit; nothing for other fonts."""
     if "glyf" in font or not any(tag in font for tag in CFF):
         return {}
     glyphs = drawn_glyphs(font)

@@ -1,4 +1,7 @@
-"""What a font may be at most, and what reading one may take. Debian's fonts are far below; docs/TOOLS.md says how far."""
+"""What a font may be at most, and what reading one may take.
+
+Debian's fonts are far below; docs/TOOLS.md says how far.
+"""
 
 import contextlib
 import resource

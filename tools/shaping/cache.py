@@ -76,7 +76,10 @@ def cached(path: Path, stamp: str, make: Callable[[], dict[str, Any]]) -> Path:
 
 
 def has_stamp(path: Path, stamp: str) -> bool:
-    """Whether the user's own file is there with that stamp at both ends. A pipe is not waited for, a link not followed."""
+    """Whether the user's own file is there with that stamp at both ends.
+
+    A pipe is not waited for, and a link not followed.
+    """
     first, last = f"{{\n{json.dumps(STAMP)}:{json.dumps(stamp)}", f"{json.dumps(END)}:{json.dumps(stamp)}\n}}\n"
     try:
         number = os.open(path, os.O_RDONLY | os.O_NOFOLLOW | os.O_NONBLOCK)

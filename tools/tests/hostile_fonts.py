@@ -164,13 +164,20 @@ def rules_of_rules() -> bytes:
     """A context whose sets share one set, whose rules share one rule."""
     count = 3000
     rule = words(2, 0, 1)
-    return words(1, 6 + 2 * count, count) + words(6 + 2 * count + 10) * count + coverage((0, 0)) + shared(count, b"", rule)
+    return (
+        words(1, 6 + 2 * count, count) + words(6 + 2 * count + 10) * count + coverage((0, 0)) + shared(count, b"", rule)
+    )
 
 
 def sets_of_ligatures() -> bytes:
     count = 3000
     ligature = words(1, 2, 2)
-    return words(1, 6 + 2 * count, count) + words(6 + 2 * count + 10) * count + coverage((0, 0)) + shared(count, b"", ligature)
+    return (
+        words(1, 6 + 2 * count, count)
+        + words(6 + 2 * count + 10) * count
+        + coverage((0, 0))
+        + shared(count, b"", ligature)
+    )
 
 
 def pairs_of_nothing() -> bytes:
@@ -380,7 +387,11 @@ def kinds() -> Iterator[Kind]:
         ("cmap 13, groups that overlap", lambda: cmap(groups(13, *[(0, 0x10FFFF)] * 200)), "overlap"),
         ("cmap 12, a group past Unicode", lambda: cmap(groups(12, (0, 0xFFFFFFFF))), "more than 1,310,720 characters"),
         ("cmap 4, segments that overlap", lambda: cmap(segments(*[(0, 0xFFFE)] * 2000), encoding=1), "overlap"),
-        ("cmap 14, ranges that overlap", lambda: cmap(selectors(1, *[(0, 255)] * 9), platform=0, encoding=5), "overlap"),
+        (
+            "cmap 14, ranges that overlap",
+            lambda: cmap(selectors(1, *[(0, 255)] * 9), platform=0, encoding=5),
+            "overlap",
+        ),
         (
             "cmap 14, selectors that share ranges",
             lambda: cmap(selectors(3000, *((256 * n, 255) for n in range(4000))), platform=0, encoding=5),
@@ -399,7 +410,11 @@ def kinds() -> Iterator[Kind]:
             lambda: layout("GSUB", lookups=shared(20000, b"", lookup(1, single(coverage((1, 1))), again=9000))),
             "rows",
         ),
-        ("subtables without rows", lambda: layout("GSUB", lookups=shared(300, b"", shared(300, words(1, 0), b""))), "subtables"),
+        (
+            "subtables without rows",
+            lambda: layout("GSUB", lookups=shared(300, b"", shared(300, words(1, 0), b""))),
+            "subtables",
+        ),
         ("a coverage that is shared", lambda: one_lookup("GSUB", 5, contexts()), "rows"),
         ("rules that are shared", lambda: one_lookup("GSUB", 5, rules_of_rules()), "rows"),
         ("ligatures that are shared", lambda: one_lookup("GSUB", 4, sets_of_ligatures()), "rows"),

@@ -73,7 +73,9 @@ class Names(Printed):
     def test_clean(self) -> None:
         self.assertEqual(clean_name(NAME), SHOWN)
         self.assertEqual(clean_name("a+1@2,3#4<5", False), r"a\x2b1\x402,3\x234\x3c5")
-        self.assertEqual(clean("a b\n\x1b\u202e\u2066\x85\ufffe\U000e0001"), r"a b\x0a\x1b\u202e\u2066\u0085\ufffe\U000e0001")
+        self.assertEqual(
+            clean("a b\n\x1b\u202e\u2066\x85\ufffe\U000e0001"), r"a b\x0a\x1b\u202e\u2066\u0085\ufffe\U000e0001"
+        )
         self.assertEqual(clean(os.fsdecode(b"\xffa")), r"\xffa")
         self.assertEqual(clean_name("uni0061.alt-é"), "uni0061.alt-é")
 
@@ -135,7 +137,10 @@ class Streams(Printed):
 
     def test_errors(self) -> None:
         """Where standard error is full or closed a fault keeps its status, and no fault has none."""
-        for words, status, line in (((self.font, "ab"), 0, f"{SHOWN}=0+500|b=1+500\n"), ((self.font, "a", "b"), WORDS, "")):
+        for words, status, line in (
+            ((self.font, "ab"), 0, f"{SHOWN}=0+500|b=1+500\n"),
+            ((self.font, "a", "b"), WORDS, ""),
+        ):
             for end in (">&-", "</dev/null", ">/dev/full"):
                 ran = self.ran(["/bin/sh", "-c", f'exec "$@" 2{end}', "sh", *self.command(*words)])
                 self.assertEqual((ran.returncode, ran.stdout, ran.stderr), (status, line, ""), end)
