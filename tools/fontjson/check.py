@@ -7,8 +7,9 @@ from fontjson.check_cmap import check_cmap
 from fontjson.check_layout import check_layout
 from fontjson.check_outlines import check_glyf
 
-# Tables of OpenType Layout's kind of fields; the last ones are read for instances of variable fonts.
-LAYOUT = ("GDEF", "GSUB", "GPOS", "HVAR", "VVAR", "MVAR", "STAT")
+LAYOUT = ("GDEF", "GSUB", "GPOS")
+# Tables with the same kind of fields, which are read for instances of variable fonts.
+VARIATIONS = ("HVAR", "VVAR", "MVAR", "STAT")
 
 
 def check_sizes(font: Any) -> dict[str, tuple[int, int]]:
@@ -21,7 +22,7 @@ def check_sizes(font: Any) -> dict[str, tuple[int, int]]:
         subtables, characters = check_cmap(font.reader["cmap"])
         found["cmap: subtables"] = subtables, limits.MOST_SUBTABLES_OF_CMAP
         found["cmap: characters and variants"] = characters, limits.MOST_CHARACTERS
-    for tag in LAYOUT:
+    for tag in LAYOUT + (VARIATIONS if "fvar" in font else ()):
         if tag in font:
             size, records = check_layout(tag, font.reader[tag])
             found[f"{tag}: rows"] = size.rows, limits.MOST_ROWS

@@ -166,9 +166,11 @@ class Record:
         if isinstance(field, Table):
             offset = self.whole.number(self.at, field.staticSize)
             self.at += field.staticSize
+            if not offset:
+                return NOTHING
             if field.name == "Coverage":
                 self.covered = self.whole.covered(self.start + offset)
-            return self.whole.table(field.tableClass, self.start + offset, self.state) if offset else NOTHING
+            return self.whole.table(field.tableClass, self.start + offset, self.state)
         if isinstance(field, ValueRecord):
             return self.value_records(field, 1)
         if isinstance(field, Struct):

@@ -233,7 +233,7 @@ def varied_widths() -> bytes:
     deltas = words(count, 0, 0)
     store = words(1) + longs(8 + 4 * count + len(deltas)) + words(count) + longs(8 + 4 * count) * count + deltas
     regions = words(1, 0)
-    return with_tables({"HVAR": longs(0x00010000, 20, 0, 0, 0) + store + regions})
+    return with_tables({"fvar": b"", "HVAR": longs(0x00010000, 20, 0, 0, 0) + store + regions})
 
 
 def gdef_classes(*ranges: tuple[int, int]) -> bytes:
