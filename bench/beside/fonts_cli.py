@@ -80,7 +80,9 @@ def parser() -> argparse.ArgumentParser:
     words.add_argument("--kern", action="store_true", help="only fonts that have a table kern")
     words.add_argument("--every", type=int, default=1, metavar="N", help="each Nth font alone (1)")
     words.add_argument("--list", action="store_true", help="print each difference, before the table")
-    words.add_argument("--library", type=Path, metavar="FILE", help="shape by the library for C, which is as the program")
+    words.add_argument(
+        "--library", type=Path, metavar="FILE", help="shape by the library for C, which is as the program"
+    )
     return words
 
 

@@ -23,7 +23,9 @@ def parser() -> argparse.ArgumentParser:
     words.add_argument("font", metavar="FONT", help="a .ttf, .otf, .ttc, .otc, .woff or .woff2 file")
     words.add_argument("--index", type=int, default=0, metavar="N", help="the font of a collection, from 0 on")
     words.add_argument("--variations", metavar="LIST", help="of a variable font, as wght=700,wdth=80")
-    words.add_argument("--named-instance", metavar="NAME", help="an instance of a variable font, or its number from 0 on")
+    words.add_argument(
+        "--named-instance", metavar="NAME", help="an instance of a variable font, or its number from 0 on"
+    )
     words.add_argument("--only", metavar="KEYS", help=f"these keys alone, with commas: {','.join(KEYS)}")
     words.add_argument("--features", metavar="TAGS", help="of gsub and gpos these features alone, with commas")
     words.add_argument(

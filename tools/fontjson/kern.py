@@ -94,7 +94,7 @@ def backward(tag: str) -> bool:
     script = unicodedata.ot_tag_to_script(tag)
     if script is None or script in BOTH_SIDES:
         return False
-    return unicodedata.script_horizontal_direction(script, "LTR") == "RTL"
+    return bool(unicodedata.script_horizontal_direction(script, "LTR") == "RTL")
 
 
 def lacks(table: Value, row: Row) -> bool:
@@ -112,9 +112,9 @@ def kerned(table: Value, row: Row, places: dict[bool, int]) -> Row:
     tag, default, systems = row
 
     def added(system: Value | None) -> Value:
-        if has_feature(table, system):
-            return system
         given = system or {"features": []}
+        if has_feature(table, given):
+            return given
         return {**given, "features": [*given["features"], places[backward(tag)]]}
 
     return [tag, added(default), [[language, added(system)] for language, system in systems]]
@@ -164,8 +164,8 @@ def pairs(kerning: Kerning, records: Records) -> Row | Value:
             rows[a][b][0] = records[distance][0]
         return {
             "first": sorted(kerning.left),
-            "class1": sorted(map(list, kerning.left.items())),
-            "class2": sorted(map(list, kerning.right.items())),
+            "class1": class_rows(kerning.left),
+            "class2": class_rows(kerning.right),
             "records": rows,
         }
     return sorted(
@@ -174,6 +174,10 @@ def pairs(kerning: Kerning, records: Records) -> Row | Value:
         for one in first[a]
         for two in second[b]
     )
+
+
+def class_rows(classes: dict[int, int]) -> list[Row]:
+    return [[glyph, number] for glyph, number in sorted(classes.items())]
 
 
 def append_called(lookups: list[Value], kerning: Kerning, records: Records) -> Iterator[tuple[tuple[int, ...], int]]:
@@ -192,7 +196,7 @@ def chain(kerning: Kerning, records: Records, called: dict[tuple[int, ...], int]
     """The second glyphs' lookups by the glyph before them."""
     return {
         "format": "classes",
-        "classes": [sorted(map(list, kerning.left.items())), sorted(map(list, kerning.right.items())), []],
+        "classes": [class_rows(kerning.left), class_rows(kerning.right), []],
         "first": sorted(kerning.right),
         "rules": [
             [[first], [second], [], [[0, called[tuple(records[distance][1])]]]]

@@ -84,8 +84,9 @@ def reason(subtable: Any, is_apple: bool) -> str:
 def coverage_of(subtable: Any, is_apple: bool) -> int:
     """Bits that fontTools keeps for format 0 alone: the header is length, coverage, format or version, length, both."""
     if subtable.format == 0:
-        return subtable.coverage
-    return struct.unpack_from("B", subtable.data, 4 if is_apple else 5)[0]
+        return int(subtable.coverage)
+    (coverage,) = struct.unpack_from("B", subtable.data, 4 if is_apple else 5)
+    return int(coverage)
 
 
 # ---- format 0
@@ -156,4 +157,4 @@ def distance_at(data: bytes, offset: int, array_at: int) -> int:
     if offset < array_at:
         return 0
     at = array_at + (offset - array_at) // 2 * 2
-    return struct.unpack_from(">h", data, at)[0] if at + 2 <= len(data) else 0
+    return int.from_bytes(data[at : at + 2], "big", signed=True) if at + 2 <= len(data) else 0

@@ -53,7 +53,9 @@ def substitutes_at_default(table: Any) -> dict[int, Any]:
         conditions = record.ConditionSet.ConditionTable if record.ConditionSet else []
         if all(fits_default(condition) for condition in conditions):
             substitution = record.FeatureTableSubstitution
-            return {each.FeatureIndex: each.Feature for each in (substitution.SubstitutionRecord if substitution else [])}
+            return {
+                each.FeatureIndex: each.Feature for each in (substitution.SubstitutionRecord if substitution else [])
+            }
     return {}
 
 

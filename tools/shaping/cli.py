@@ -200,9 +200,7 @@ def font_file(folder: Path, given: Given, place: Place | None = None) -> Path:
     return font_value(folder, given.font, font_index(given), not given.has("no-limits"), place)
 
 
-def font_value(
-    folder: Path, path: Path, index: int, is_limited: bool = True, place: Place | None = None
-) -> Path:
+def font_value(folder: Path, path: Path, index: int, is_limited: bool = True, place: Place | None = None) -> Path:
     """A font file's value as a file, of a variable font at a place."""
     status = path.stat()
     stamp = fingerprint(str(path.resolve()), status.st_size, status.st_mtime_ns, index, FONT_READ, place)
@@ -249,7 +247,9 @@ def tables_file(folder: Path) -> Path:
 
 def which_tables(tables: Path) -> str:
     version = part_of(tables, "unicode", {}).get("version", "?")
-    whence = "which come with the tools: Debian's unicode-data is not there" if tables == SHIPPED else f"made of {DEBIAN}"
+    whence = (
+        "which come with the tools: Debian's unicode-data is not there" if tables == SHIPPED else f"made of {DEBIAN}"
+    )
     return f"tables: {tables}, of Unicode {version}, {whence}"
 
 

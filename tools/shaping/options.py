@@ -137,7 +137,9 @@ OPTIONS = (
     Option("text-after", "what stands after it (both need tools/build_library)", "TEXT", any_text, True),
     Option("font-index", "the font of a collection, from 0 on (--face-index, --index)", "N", index, True),
     Option("variations", "of a variable font, as wght=700,wdth=80", "V", variations, True),
-    Option("named-instance", "an instance of a variable font by its name, or its number from 0 on", "NAME", any_text, True),
+    Option(
+        "named-instance", "an instance of a variable font by its name, or its number from 0 on", "NAME", any_text, True
+    ),
     Option("json", "print JSON, as hb-shape --output-format=json does", is_own=True),
     Option("output-format", "text or json (-O)", "FORMAT", output_format, True),
     Option("show-text", "print each text in brackets before its glyphs", is_own=True),
@@ -150,7 +152,12 @@ OPTIONS = (
     Option("script", "an ISO 15924 tag; guessed from the text", "S", script),
     Option("language", "a BCP 47 tag, as ro or de-CH; else that of the locale", "L", language),
     Option("features", "features with commas, as -liga,kern=2; may be given again", "F", features),
-    Option("cluster-level", "0: graphemes share a cluster; 1: characters merge; 2: clusters never merge; 3: graphemes alone", "N", level),
+    Option(
+        "cluster-level",
+        "0: graphemes share a cluster; 1: characters merge; 2: clusters never merge; 3: graphemes alone",
+        "N",
+        level,
+    ),
     Option("bot", "the text begins a paragraph"),
     Option("eot", "the text ends a paragraph"),
     Option("preserve-default-ignorables", "show characters that are to be invisible"),

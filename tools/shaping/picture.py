@@ -118,7 +118,8 @@ class Outlines:
 
         pen = DecomposingRecordingPen(self.glyphs)
         self.draw(glyph, pen)
-        return pen.value
+        drawn: Drawn = pen.value
+        return drawn
 
     def box(self, glyph: int) -> Box | None:
         from fontTools.pens.boundsPen import BoundsPen
@@ -133,7 +134,7 @@ class Outlines:
             self.glyphs[self.names[glyph]].draw(pen)
 
     def name(self, glyph: int) -> str:
-        return self.names[glyph] if glyph < len(self.names) else f"gid{glyph}"
+        return str(self.names[glyph]) if glyph < len(self.names) else f"gid{glyph}"
 
 
 def placed(glyphs: list[Glyph]) -> list[Placed]:
@@ -190,9 +191,7 @@ def add(whole: Picture, row: Picture, x: float, y: float) -> None:
 
     whole.lines += [Line(moved(each.start), moved(each.end), each.colour, each.width) for each in row.lines]
     whole.outlines += [Outline(moved(each.at), each.drawn, each.colour, each.title) for each in row.outlines]
-    whole.labels += [
-        Label(moved(each.at), each.words, each.characters, each.colour, each.title) for each in row.labels
-    ]
+    whole.labels += [Label(moved(each.at), each.words, each.characters, each.colour, each.title) for each in row.labels]
 
 
 def row_of(text: str, glyphs: list[Placed], outlines: Outlines, is_vertical: bool) -> tuple[Picture, Box]:

@@ -40,7 +40,7 @@ def path_of(drawn: Drawn) -> str:
     record, pen = RecordingPen(), SVGPathPen(None)
     record.value = drawn
     record.replay(pen)
-    return pen.getCommands()
+    return str(pen.getCommands())
 
 
 def label(drawn: Label) -> str:

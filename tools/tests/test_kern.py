@@ -155,7 +155,9 @@ class Rows(unittest.TestCase):
         font.save(path)
         value = json_of("font_to_json", path)
         self.assertNotIn("gpos", value)
-        self.assertEqual(value["source"]["told"], ["`kern`, as there is no GPOS and marks are positioned by their boxes"])
+        self.assertEqual(
+            value["source"]["told"], ["`kern`, as there is no GPOS and marks are positioned by their boxes"]
+        )
 
     def test_damaged(self) -> None:
         """A subtable that is cut, or has more distances than the limit, is refused in one line."""

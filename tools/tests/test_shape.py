@@ -228,7 +228,9 @@ class Commands(unittest.TestCase):
 
     def test_verified(self) -> None:
         """A broken promise is a fault: this program prints no slices."""
-        self.assertRaisesRegex(ToolFault, "a promise is broken: at cluster level 0 the slices don't join", self.shape, "of", "--verify")
+        self.assertRaisesRegex(
+            ToolFault, "a promise is broken: at cluster level 0 the slices don't join", self.shape, "of", "--verify"
+        )
 
     def test_refused(self) -> None:
         """Words are read before anything is made; each fault names its word."""
@@ -429,7 +431,9 @@ class Parts(unittest.TestCase):
         drawn = picture(Path(DEJAVU), 0, [("o", read_line("82=0+1253"))])
         surface = cairo.ImageSurface.create_from_png(io.BytesIO(png(drawn)))
         scale = PIXELS / 2048
-        self.assertEqual((surface.get_width(), surface.get_height()), (round(drawn.width * scale), round(drawn.height * scale)))
+        self.assertEqual(
+            (surface.get_width(), surface.get_height()), (round(drawn.width * scale), round(drawn.height * scale))
+        )
         pixels = bytes(surface.get_data())
         self.assertEqual(pixels[:3], b"\xff\xff\xff")
         self.assertNotEqual(set(pixels[at : at + 3] for at in range(0, len(pixels), 4)), {b"\xff\xff\xff"})

@@ -180,8 +180,14 @@ class Instances(unittest.TestCase):
     @unittest.skipUnless(shutil.which("hb-shape"), "needs hb-shape (libharfbuzz-bin)")
     def test_lines(self) -> None:
         for weight in (100, 250, 400, 433, 700, 900, 2000):
-            options = ["--no-glyph-names", "--show-extents", *([f"--variations=wght={weight}"] if weight != 400 else [])]
-            theirs = subprocess.run(["hb-shape", *options, self.path, "ababb"], capture_output=True, text=True, check=True)
+            options = [
+                "--no-glyph-names",
+                "--show-extents",
+                *([f"--variations=wght={weight}"] if weight != 400 else []),
+            ]
+            theirs = subprocess.run(
+                ["hb-shape", *options, self.path, "ababb"], capture_output=True, text=True, check=True
+            )
             own = run("shape", *options, self.path, "ababb").stdout.decode()
             self.assertEqual(own.strip(), theirs.stdout.strip().strip("[]"), weight)
 
