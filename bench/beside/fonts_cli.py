@@ -1,6 +1,8 @@
 """The command line of fonts."""
 
 import argparse
+import contextlib
+import hashlib
 import os
 import shutil
 import subprocess
@@ -44,7 +46,8 @@ REST = "other"
 ABOUT = f"""Shapes texts in each font of some folders by the program and by {THEIRS}, and prints a table in Markdown: fonts
 that were tried, lines, lines alike, and differences by their causes. The texts are 20 a font in its own scripts: words of
 bench/beside/words that it has all characters of, and strings of its letters and marks, the same ones at each run.
-{THEIRS} shapes by OpenType's rules, also where a font has those of Graphite."""
+{THEIRS} shapes by OpenType's rules, also where a font has those of Graphite. A run that is interrupted prints the table of
+the fonts that it came to, a sample of all."""
 
 
 @dataclass
@@ -94,31 +97,37 @@ def main(words: list[str]) -> int:
     if options.library is not None:
         os.environ[LIBRARY] = str(options.library)
     program = None if options.library is not None else ready_program(NAME)
-    tally, progress = Tally(), Progress(NAME)
-    with cache_folder() as kept, tempfile.TemporaryDirectory() as folder:
-        tables = tables_file(kept)
-        paths = [path for path in fonts_of(options.folders)][:: options.every]
-        for number, path in enumerate(paths):
-            progress.step(path.name, number, len(paths))
-            if not options.kern or has_kern(path):
-                for line in try_font(path, Path(folder) / "font.json", tables, tally, program):
-                    if options.list:
-                        progress.end()
-                        print(line, flush=True)
-    progress.end()
+    tally, paths = Tally(), list(fonts_of(options.folders))[:: options.every]
+    with contextlib.suppress(KeyboardInterrupt):
+        for line in differences(paths, program, options.kern, tally):
+            if options.list:
+                print(line, flush=True)
     for line in [*(f"refused: {line}" for line in tally.refused), *tally.table()]:
         print(line)
     return 0
 
 
+def differences(paths: list[Path], program: Path | None, only_kern: bool, tally: Tally) -> Iterator[str]:
+    """The differences of some fonts, in words; the tally is kept."""
+    progress = Progress(NAME)
+    with cache_folder() as kept, tempfile.TemporaryDirectory() as folder:
+        tables = tables_file(kept)
+        for number, path in enumerate(paths):
+            progress.step(path.name, number, len(paths))
+            if not only_kern or has_kern(path):
+                yield from try_font(path, Path(folder) / "font.json", tables, tally, program)
+    progress.end()
+
+
 def fonts_of(folders: list[Path]) -> Iterator[Path]:
-    """The font files of some folders, each once: other names of a file are left out."""
-    met = set()
+    """The font files of some folders, each once, in an order that is the same each time and looks like chance: those
+    that were tried when a run is ended are a sample of all."""
+    met: dict[Path, Path] = {}
     for folder in folders:
         for path in sorted(folder.rglob("*")) if folder.is_dir() else [folder]:
-            if path.suffix.lower() in ENDINGS and path.resolve() not in met:
-                met.add(path.resolve())
-                yield path
+            if path.suffix.lower() in ENDINGS:
+                met.setdefault(path.resolve(), path)
+    yield from sorted(met.values(), key=lambda path: hashlib.sha256(os.fsencode(path)).digest())
 
 
 def has_kern(path: Path) -> bool:

@@ -1,15 +1,32 @@
 """bench/fonts: its texts, what it takes for a cause, its table, and one font beside hb-shape."""
 
 import contextlib
+import hashlib
 import io
 import shutil
 import tempfile
 import unittest
 from pathlib import Path
+from typing import Any, Iterator
+from unittest import mock
 
 from support import BENCH, DEJAVU, DEVANAGARI, NASKH  # noqa: F401  (it puts the tools and bench/ on the path)
 
-from beside.fonts_cli import AAT, BASELESS, BOXES, CIRCLES, OLD, REST, SORT, Tally, cause_of, fonts_of, has_kern, main
+from beside.fonts_cli import (
+    AAT,
+    BASELESS,
+    BOXES,
+    CIRCLES,
+    OLD,
+    REST,
+    SORT,
+    Tally,
+    cause_of,
+    fonts_of,
+    has_kern,
+    main,
+    try_font,
+)
 from beside.fonts_texts import SCRIPTS, TEXTS, scripts_of, texts_of
 from building.places import PROGRAM, standing
 from fontTools import unicodedata
@@ -69,7 +86,8 @@ class Causes(unittest.TestCase):
             for path in ("a.ttf", "inner/b.OTF", "text.txt"):
                 (folder / path).write_bytes(b"")
             (folder / "again.ttf").symlink_to(folder / "a.ttf")
-            self.assertEqual([path.name for path in fonts_of([folder])], ["a.ttf", "b.OTF"])
+            self.assertEqual(sorted(path.name for path in fonts_of([folder])), ["a.ttf", "b.OTF"])
+            self.assertEqual(list(fonts_of([folder])), list(fonts_of([folder])))
         self.assertTrue(has_kern(Path(DEJAVU)))
         self.assertFalse(has_kern(Path(DEVANAGARI)))
 
@@ -81,6 +99,19 @@ class Whole(unittest.TestCase):
         with contextlib.redirect_stdout(io.StringIO()) as shown:
             self.assertEqual(main([DEJAVU]), 0)
         self.assertEqual(shown.getvalue().splitlines()[2:], ["| tried | 20 | 1 |", "| alike | 20 | 1 in all lines |"])
+
+    def test_interrupted(self) -> None:
+        """A run that is interrupted prints the table of what was tried."""
+
+        def interrupted(path: Path, *given: Any) -> Iterator[str]:
+            if path == Path(NASKH):
+                raise KeyboardInterrupt
+            yield from try_font(path, *given)
+
+        fonts = sorted((DEJAVU, NASKH), key=lambda path: hashlib.sha256(path.encode()).digest())
+        with mock.patch("beside.fonts_cli.try_font", interrupted), contextlib.redirect_stdout(io.StringIO()) as shown:
+            self.assertEqual(main([DEJAVU, NASKH]), 0)
+        self.assertIn(f"| {fonts.index(NASKH)} |", shown.getvalue().splitlines()[2])
 
 
 if __name__ == "__main__":
