@@ -41,7 +41,7 @@ def load() -> Any:
     sys.path.append(str(BINDINGS))
     try:
         return importlib.import_module("kuspveli")
-    except ImportError as missing:
+    except (AttributeError, ImportError) as missing:
         raise ToolFault(FILES, f"--text-before and --text-after take the library: {missing}") from missing
 
 

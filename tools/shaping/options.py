@@ -36,7 +36,8 @@ AFTER = """
 Where no proved program is built (tools/build), one is made without proofs, in minutes, and that is told. The font is
 converted once, and kept with the tables in $XDG_CACHE_HOME/kuspveli (~/.cache/kuspveli). Needs fontTools: Debian's
 python3-fonttools, under /usr/bin/python3.
-Tables are made of Debian's unicode-data, or come with the tools where that is not there. docs/TOOLS.md says more.
+Tables are made of Debian's unicode-data, or come with the tools where that is not there. Without --language that of the
+locale is taken. docs/TOOLS.md says more.
 
 --verify shapes the text again with other options, and tells which promise is broken (status 5): the four cluster levels
 give the same glyphs at the same positions; flags that are asked for change nothing else; each cluster is a byte at
@@ -150,7 +151,7 @@ OPTIONS = (
     Option("verbose", "say on standard error which tables are used", is_own=True),
     Option("direction", "ltr, rtl, ttb or btt; guessed from the text", "D", direction),
     Option("script", "an ISO 15924 tag; guessed from the text", "S", script),
-    Option("language", "a BCP 47 tag, as ro or de-CH; else that of the locale", "L", language),
+    Option("language", "a BCP 47 tag, as ro or de-CH", "L", language),
     Option("features", "features with commas, as -liga,kern=2; may be given again", "F", features),
     Option(
         "cluster-level",
