@@ -9,6 +9,8 @@ from sources.crates import own_needs, read_crates
 START = 150
 # Seconds of a processor for a line, as the machine of the README took them, and how many lines of a run weigh as much.
 USUAL, WEIGHT = 0.1, 2000
+# A check that takes longer than it was to is taken to end once it took a part more of what it took, one of so many.
+LATE = 4
 TEST = b"#[test]"
 
 
@@ -40,11 +42,17 @@ class Work:
 
     def seconds_left(self, at_once: int, running: dict[Check, float]) -> float:
         """The longer of two: all that is left, shared by so many checks at once, and the longest chain of it."""
-        speed = self.seconds / self.lines
+        speed = self.speed(running)
         left = {check: size * speed for check, size in self.sizes.items() if check not in self.done}
         for check, seconds in running.items():
-            left[check] = max(left.get(check, 0) - seconds, 0)
+            left[check] = max(left.get(check, 0) - seconds, seconds / LATE)
         return max(sum(left.values()) / at_once, self.longest(left))
+
+    def speed(self, running: dict[Check, float]) -> float:
+        """Seconds for a line, as what has ended took them, and what runs and took longer than it was to."""
+        usual = self.seconds / self.lines
+        late = {check: took for check, took in running.items() if took > usual * self.sizes.get(check, 0)}
+        return (self.seconds + sum(late.values())) / (self.lines + sum(self.sizes.get(check, 0) for check in late))
 
     def longest(self, left: dict[Check, float]) -> float:
         """The longest chain of checks that wait for one another."""

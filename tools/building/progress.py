@@ -79,8 +79,10 @@ class Teller:
 
 
 def end_by_exit() -> None:
-    """Has a signal that ends this process leave each block first, which ends what it started and removes what it made."""
-    signal.signal(signal.SIGTERM, lambda *_: sys.exit(143))
+    """Has a signal that ends this process, also by its terminal, leave each block first, which ends what it started and
+    removes what it made."""
+    for number in (signal.SIGTERM, signal.SIGHUP):
+        signal.signal(number, lambda given, _: sys.exit(128 + given))
 
 
 def clock(seconds: float) -> str:

@@ -250,7 +250,7 @@ class Built(unittest.TestCase):
         """A build that is ended ends rt, tells how far it was, and removes its tree."""
         self.write("low", "slow\n")
         copy_tools(self.root)
-        for sent, status in ((signal.SIGTERM, 143), (signal.SIGINT, 130)):
+        for sent, status in ((signal.SIGTERM, 143), (signal.SIGHUP, 129), (signal.SIGINT, 130)):
             (self.notes / "list").unlink(missing_ok=True)
             with subprocess.Popen([self.root / "tools" / "build"], stderr=subprocess.PIPE, text=True) as run:
                 while not (self.notes / "list").exists():
