@@ -153,7 +153,7 @@ class Words(unittest.TestCase):
 
 @unittest.skipUnless(all(map(shutil.which, NEEDED)), "needs gcc and pkg-config")
 @unittest.skipUnless(
-    all(standing(target).stamp() for target in (PROGRAM, LIBRARY)), "needs tools/build and tools/build_library"
+    all(standing(target).is_current() for target in (PROGRAM, LIBRARY)), "needs tools/build and tools/build_library"
 )
 class Installed(unittest.TestCase):
     """What is built here, proved or not, below a prefix, used from another folder."""

@@ -38,7 +38,7 @@ class Pictures(unittest.TestCase):
         with mock.patch.object(pictures, "PICTURES", none):
             self.assertRaisesRegex(ToolFault, "apt-get install fonts-none: /none.ttf", pictures.main, [])
 
-    @unittest.skipUnless(standing(PROGRAM).file.is_file(), "needs the program (tools/build)")
+    @unittest.skipUnless(standing(PROGRAM).is_current(), "needs the program (tools/build)")
     @unittest.skipUnless(all(font.is_file() for _, font, _, _ in pictures.PICTURES), "needs the fonts")
     def test_anew(self) -> None:
         with tempfile.TemporaryDirectory() as folder, contextlib.redirect_stdout(io.StringIO()) as shown:

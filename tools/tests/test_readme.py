@@ -28,7 +28,7 @@ SENTENCE = (
 # Of "afi": the glyphs of a, f and i in examples/font.json, with their advances.
 SHAPED = "1+500\n3+300\n4+250\n"
 LONG = os.environ.get("KUSPVELI_LONG")
-HAS_LIBRARY = all(path.is_file() for path in standing(LIBRARY).files)
+HAS_LIBRARY = standing(LIBRARY).is_current()
 
 
 def program(language: str) -> str:
@@ -76,7 +76,7 @@ class Page(unittest.TestCase):
             self.assertGreater(len(names), 8, document)
             self.assertEqual(names - declared, set(), document)
 
-    @unittest.skipUnless(standing(PROGRAM).file.is_file(), "needs the program (tools/build)")
+    @unittest.skipUnless(standing(PROGRAM).is_current(), "needs the program (tools/build)")
     def test_command(self) -> None:
         """The first command prints what the README says."""
         found = re.search(r"^    (tools/hb_shape .*?\\\n.*?)\n\nprints `(.*?)`", TEXT, re.MULTILINE | re.DOTALL)
