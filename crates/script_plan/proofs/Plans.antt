@@ -49,13 +49,14 @@ module _ {S D : Type 0} (kind : ShaperKind S D) (font : FaceParts) (languages : 
   pub plan_made : (plan : hb_ot_shape_plan_t S D) (shaper : S) (m : MapRequests)
       → shaper ≡ kind.shaper_of s d (gsub_script font s languages) → m ≡ with_requests (kind.asking shaper) d s asked (nothing_asked font s languages)
       → plan.shaper ≡ shaper → plan.script_plan.direction ≡ d → plan.script_plan.script ≡ s → plan.script_plan.map ≡ compiled_map m → plan.script_plan.has_gpos_mark ≡ has_mask (codes "mark") (compiled_map m) → plan.script_plan.choices ≡ choices (kind.traits shaper) font (compiled_map m)
-      → plan.script_plan.plan_data ≡ kind.data_of shaper (compiled_map m) s → plan.user_features.items ≡ asked → IsPlanned kind font languages d s asked plan
-  plan_made plan shaper m by requests same direction script map marked chosen kept features =
+      → plan.script_plan.plan_data ≡ kind.data_of shaper (compiled_map m) s → plan.user_features.items ≡ asked → plan.language_tags.items ≡ languages → IsPlanned kind font languages d s asked plan
+  plan_made plan shaper m by requests same direction script map marked chosen kept features tags =
       let of_script = shaper_is shaper by in
       record {
         shaper = same ∙ of_script;
         script_plan = parts_are shaper (compiled_map m) plan.script_plan of_script (map_is shaper m of_script requests) direction script map marked chosen kept;
         features = features;
+        tags = tags;
       }
 
 -- a planner that has the shaper's choices of marks, of one shaper and one font

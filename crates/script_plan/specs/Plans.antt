@@ -94,8 +94,14 @@ text_plan kind font languages direction script features = record {
   plan_data = kind.data_of (planned_shaper kind font languages direction script) (text_map kind font languages direction script features) script;
 }
 
--- a plan is that of a text: its shaper, what the shaper reads of it, and the user's features
+-- a plan is that of a text: its shaper, what the shaper reads of it, the user's features, and the tags of the text's language
 pub record IsPlanned {S D : Type 0} (kind : ShaperKind S D) (font : FaceParts) (languages : List Tag) (d : Direction) (s : Option Script) (asked : List Feature) (plan : hb_ot_shape_plan_t S D) : Type 0 where
   pub shaper : plan.shaper ≡ planned_shaper kind font languages d s
   pub script_plan : plan.script_plan ≡ text_plan kind font languages d s asked
   pub features : plan.user_features.items ≡ asked
+  pub tags : plan.language_tags.items ≡ languages
+
+-- a plan is one of a font: the plan for the direction, the script, the language tags and the features that it keeps
+abbrev pub IsPlanOf : {S D : Type 0} → ShaperKind S D → FaceParts → hb_ot_shape_plan_t S D → Type 0
+IsPlanOf kind font plan =
+    IsPlanned kind font plan.language_tags.items plan.script_plan.direction plan.script_plan.script plan.user_features.items plan

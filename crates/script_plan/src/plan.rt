@@ -5,6 +5,7 @@ ghost use Rattle.layout_map.specs.Masks.{mask_at_one};
 ghost use Rattle.buffer_glyphs.specs.declared.info.TheConstants.{DEFINED};
 
 use crate::planned::PlannedShaper;
+use arrayvec::ArrayVec;
 use buffer_common::direction::Direction;
 use buffer_common::script::Script;
 use buffer_common::tag::Tag;
@@ -52,6 +53,8 @@ pub struct hb_ot_shape_plan_t<S: PlannedShaper> {
     pub shaper: S,
     pub script_plan: hb_script_plan_t<S::PlanData>,
     pub user_features: Vec<Feature>,
+    /// The OpenType tags of the language of the plan's texts, the first wanted first.
+    pub language_tags: ArrayVec<Tag, 3>,
 }
 
 impl<D> hb_script_plan_t<D> {

@@ -12,6 +12,7 @@ use crate::data::hb_shape_data_t;
 use crate::plan::{PlanChoices, hb_ot_shape_plan_t, hb_script_plan_t};
 use crate::planned::{CategorizedShaper, HB_OT_SHAPE_ZERO_WIDTH_MARKS_NONE, PlannedShaper};
 use crate::{common, user};
+use arrayvec::ArrayVec;
 use buffer_common::direction::Direction;
 use buffer_common::language::Language;
 use buffer_common::language_tags::LanguageTags;
@@ -39,22 +40,31 @@ pub struct hb_ot_shape_planner_t<'a, S: PlannedShaper> {
     /// choice.
     pub script_fallback_mark_positioning: bool,
     pub shaper: S,
+    /// The OpenType tags of the texts' language, the first wanted first.
+    pub language_tags: ArrayVec<Tag, 3>,
 }
 
-/// A builder for a font's tables, without requests.
+/// A builder for a font's tables, without requests, and the language's tags.
 fn new_builder<'a, L: LanguageTags>(
     alloc: Global,
     face: &'a Face,
     languages: &L,
     script: Option<Script>,
     language: Option<&Language>,
-) -> hb_ot_map_builder_t<'a>
-    ensures { result
+) -> (hb_ot_map_builder_t<'a>, ArrayVec<Tag, 3>)
+    ensures builder { result.0
         ≡ nothing_asked face.now script
         (wanted_language_tags (L.tags_of languages.now) (option_copied language.entry)) }
+    ensures tags { result.1.items ≡ wanted_language_tags (L.tags_of languages.now) (option_copied language.entry) }
 {
     let (scripts, languages) = tags_from_script_and_language(script, language, languages);
-    hb_ot_map_builder_t::new(alloc, face, scripts.as_slice(), languages.as_slice())
+    let builder = hb_ot_map_builder_t::new(
+        alloc,
+        face,
+        scripts.as_slice(),
+        languages.as_slice(),
+    );
+    (builder, languages)
 }
 
 impl<'a, S: CategorizedShaper> hb_ot_shape_planner_t<'a, S> {
@@ -77,8 +87,12 @@ impl<'a, S: CategorizedShaper> hb_ot_shape_planner_t<'a, S> {
         ensures requests { result.ot_map
             ≡ nothing_asked face.now script (wanted_language_tags (L.tags_of shape_data.entry.languages.now)
             (option_copied language.entry)) }
+        ensures languages { result.language_tags.items
+            ≡ wanted_language_tags (L.tags_of shape_data.entry.languages.now) (option_copied language.entry) }
     {
-        let ot_map = new_builder(alloc, face, shape_data.languages, script, language);
+        let (ot_map, language_tags) = new_builder(
+            alloc, face, shape_data.languages, script, language,
+        );
         let gsub_script = ot_map.chosen_script(TableIndex::GSUB);
         let shaper = S::categorize(script, direction, gsub_script);
         hb_ot_shape_planner_t {
@@ -89,6 +103,7 @@ impl<'a, S: CategorizedShaper> hb_ot_shape_planner_t<'a, S> {
             script_zero_marks: zeroes_marks(&shaper),
             script_fallback_mark_positioning: shaper.fallback_position(),
             shaper,
+            language_tags,
         }
     }
 }
@@ -113,8 +128,12 @@ impl<'a, S: PlannedShaper> hb_ot_shape_planner_t<'a, S> {
         ensures requests { result.ot_map
             ≡ nothing_asked face.now script (wanted_language_tags (L.tags_of shape_data.entry.languages.now)
             (option_copied language.entry)) }
+        ensures languages { result.language_tags.items
+            ≡ wanted_language_tags (L.tags_of shape_data.entry.languages.now) (option_copied language.entry) }
     {
-        let ot_map = new_builder(alloc, face, shape_data.languages, script, language);
+        let (ot_map, language_tags) = new_builder(
+            alloc, face, shape_data.languages, script, language,
+        );
         hb_ot_shape_planner_t {
             face,
             direction,
@@ -123,6 +142,7 @@ impl<'a, S: PlannedShaper> hb_ot_shape_planner_t<'a, S> {
             script_zero_marks: zeroes_marks(&shaper),
             script_fallback_mark_positioning: shaper.fallback_position(),
             shaper,
+            language_tags,
         }
     }
 
@@ -145,8 +165,8 @@ impl<'a, S: PlannedShaper> hb_ot_shape_planner_t<'a, S> {
         self.shaper.override_features(&mut self.ot_map, self.script)
     }
 
-    /// Compiles the requests into a plan, with the shaper's own data; the plan keeps the user's features. The planner's
-    /// two fields decide whether marks' advances are zeroed and whether marks are positioned by glyph extents.
+    /// Compiles the requests into a plan, with the shaper's own data; the plan keeps the user's features and the tags of
+    /// the language. The planner's two fields decide whether marks' advances are zeroed and whether marks are positioned by glyph extents.
     pub fn compile(
         self,
         alloc: Global,
@@ -164,6 +184,7 @@ impl<'a, S: PlannedShaper> hb_ot_shape_planner_t<'a, S> {
         ensures data { IfOk result (λ plan. plan.script_plan.plan_data
             ≡ S.data_of self.entry.shaper (compiled_map self.entry.ot_map) self.entry.script) }
         ensures features { IfOk result (λ plan. plan.user_features.items ≡ features.now) }
+        ensures languages { IfOk result (λ plan. plan.language_tags.items ≡ self.entry.language_tags.items) }
     {
         let map = self.ot_map.compile(alloc)?;
         let marks = MarkChoices {
@@ -186,6 +207,7 @@ impl<'a, S: PlannedShaper> hb_ot_shape_planner_t<'a, S> {
                 plan_data,
             },
             user_features,
+            language_tags: self.language_tags,
         })
     }
 }

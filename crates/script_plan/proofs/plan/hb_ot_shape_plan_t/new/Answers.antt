@@ -27,3 +27,4 @@ returns g c =
     (ap (λ p. p.script_zero_marks) asked ∙ first.zero_marks) (ap (λ p. p.script_fallback_mark_positioning) asked ∙ first.fallback) made.choices)
     (data_by kind _ _ (compiled_map c.collect_features.new.self.ot_map) _ _ _ (ap (λ p. p.shaper) asked) (ap (λ p. p.script) asked ∙ first.script) made.data)
     made.features
+    (made.languages ∙ ap (λ p. p.language_tags.items) asked ∙ first.languages)
