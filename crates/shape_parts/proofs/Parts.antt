@@ -1,5 +1,5 @@
 -- All pipeline stages keep the parts of a text.
-use Rattle.std.proofs.Common.{ℕ, ◌≡◌, ◌≢◌, ◌==◌, ◌⊎◌, inl, inr, Bool, true, false, if◌then◌else◌, List, [], ◌∷◌, length, reverse, Ok, Err, refl, sym, ap, ◌∙◌}
+use Rattle.std.proofs.Common.{ℕ, ◌≡◌, ◌≢◌, ◌==◌, ◌⊎◌, inl, inr, Bool, true, false, if◌then◌else◌, List, [], ◌∷◌, length, reverse, Ok, Err, Some, refl, sym, ap, ◌∙◌}
 use Rattle.std.proofs.lemmas.List.{length-map, length-reverse, nil_from_length}
 use Rattle.buffer_common.specs.Direction.{is_backward}
 use Rattle.buffer_glyphs.specs.declared.level.BufferClusterLevel.{BufferClusterLevel}
@@ -65,7 +65,7 @@ visual_keeps v r level e = at_read (λ q. AreKept level (q.events level) (length
     by_test false = nothing_keeps level (length v.items)
 
 pub positioned_stays : (p : Shaping) → StaysInLine (always (marks_positioned p))
-positioned_stays p = positioned_marks_stay p.font (components_direction p.direction p.script) (adjusts_marks p)
+positioned_stays p = positioned_marks_stay p.font (components_direction p.direction (Some p.script)) (adjusts_marks p)
 
 ended_keep : (p : Shaping) → KeepsParts (positions_ended p)
 unfolding positions_ended

@@ -10,5 +10,6 @@ mod Whole
 mod Budget
 mod Numbers
 pub mod Shaped
+mod Serving
 mod Texts
 mod Agreeing

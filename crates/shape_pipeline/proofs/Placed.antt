@@ -5,9 +5,10 @@ use Rattle.std.specs.List.{list_all}
 use Rattle.std.proofs.lemmas.Grind.{reverse_onto}
 use Rattle.std.proofs.lemmas.List.{map-append}
 use Rattle.std.proofs.lemmas.List.Folds.{list_all-append}
-use Rattle.std.specs.Prelude.{◌&&◌}
+use Rattle.std.specs.Prelude.{◌&&◌, Option, Some, None}
 use Rattle.buffer_common.specs.Direction.{is_backward}
 use Rattle.buffer_common.specs.declared.direction.Direction.{Direction}
+use Rattle.buffer_common.specs.declared.script.Script.{Script}
 use Rattle.buffer_glyphs.specs.Items.{item_of, strip, zero_position}
 use Rattle.buffer_glyphs.specs.Origins.{origin_of, origins}
 use Rattle.buffer_glyphs.specs.Events.{Reverse}
@@ -20,6 +21,7 @@ use Rattle.buffer_stages.specs.Settings.{text_flags}
 use Rattle.buffer_stages.specs.Stages.{IsFollowed}
 use Rattle.shape_fallback.specs.Zeroing.{with_marks_zeroed}
 use Rattle.shape_fallback.specs.Marks.{components_direction, with_positioned_marks}
+use Rattle.script_plan.specs.Fits.{script_or_unknown}
 use Rattle.shape_glyphs.specs.Widths.{ignorable_position, keeps_widths, zero_widths}
 use Rattle.buffer_stages.specs.PositionMaps.{with_positions_mapped}
 use Rattle.shape_pipeline.specs.Positioning.{adjusts_marks, visual_order, marks_positioned, marks_zeroed, with_zero_positions}
@@ -60,11 +62,17 @@ zeroed_done p b s new e d =
     let there = subst P e d in
     record { follows = there.follows; settings = there.settings; ready = there.ready; numbers = there.numbers }
 
-pub marks_done : (p : Shaping) (d : Direction) (b : Bool) (s new : Sides) → d ≡ components_direction p.direction p.script → b ≡ adjusts_marks p s.direction → IsDone (always (with_positioned_marks p.font d b)) s new → IsDone (always (marks_positioned p)) s new
-marks_done p d b s new components e done =
+-- no script counts as `UNKNOWN`, whose direction is from left to right
+components_of_script : (d : Direction) (script : Option Script) → components_direction d script ≡ components_direction d (Some (script_or_unknown script))
+components_of_script d None = refl
+components_of_script d (Some s) = refl
+
+pub marks_done : (p : Shaping) (script : Option Script) (d : Direction) (b : Bool) (s new : Sides) → p.script ≡ script_or_unknown script → d ≡ components_direction p.direction script → b ≡ adjusts_marks p s.direction → IsDone (always (with_positioned_marks p.font d b)) s new → IsDone (always (marks_positioned p)) s new
+marks_done p script d b s new known components e done =
     let P : Bool → Type 0 = λ c. IsDone (always (with_positioned_marks p.font d c)) s new in
     let Q : Direction → Type 0 = λ x. IsDone (always (with_positioned_marks p.font x (adjusts_marks p s.direction))) s new in
-    let there = subst Q components (subst P e done) in
+    let direction = components ∙ components_of_script p.direction script ∙ ap (λ x. components_direction p.direction (Some x)) (sym known) in
+    let there = subst Q direction (subst P e done) in
     record { follows = there.follows; settings = there.settings; ready = there.ready; numbers = there.numbers }
 
 -- ---- the order on the line

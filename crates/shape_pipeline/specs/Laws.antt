@@ -19,10 +19,29 @@ use Rattle.script_dispatch.specs.Requests.{any_kind}
 use Rattle.script_dispatch.specs.Rules.{rules_of}
 use Rattle.script_dispatch.specs.Shapers.{traits_of}
 use Rattle.shape_pipeline.specs.Limits.{unshaped_text}
+use Rattle.shape_pipeline.specs.Plans.{IsPlanFor, IsPlanOf, Serves}
 use Rattle.shape_pipeline.specs.ReadingLaws.{have_no_ranges}
 use Rattle.shape_pipeline.specs.Results.{AgreeOn, AreSameItems, IsShapedBy}
 use Rattle.shape_pipeline.specs.Shaping.{Shaping}
 use Rattle.shape_pipeline.specs.Shaped.{by_plan, by_text, language_tags, text_reading}
+
+-- law: what a text is shaped by with the plan for it is what it is shaped by without a plan
+abbrev pub PlansGiveTheTextsShaping : Type 0
+PlansGiveTheTextsShaping = (font : FaceParts) (tables : Tables) (tags : List ℕ → List Tag) (spans : Spans) (features : List Feature) (text : Sides) (plan : hb_ot_shape_plan_t hb_ot_any_shaper_t ⊤)
+    → IsPlanFor font tags features text plan
+    → by_plan (traits_of plan.shaper) (rules_of plan.shaper plan.script_plan) plan font tables spans (text_settings text) ≡ by_text font tables tags spans features text
+
+-- law: so it is with each plan of the font that serves the text
+abbrev pub ServingPlansGiveTheTextsShaping : Type 0
+ServingPlansGiveTheTextsShaping = (font : FaceParts) (tables : Tables) (tags : List ℕ → List Tag) (spans : Spans) (features : List Feature) (text : Sides) (plan : hb_ot_shape_plan_t hb_ot_any_shaper_t ⊤)
+    → IsPlanOf font plan → Serves tags features text plan
+    → by_plan (traits_of plan.shaper) (rules_of plan.shaper plan.script_plan) plan font tables spans (text_settings (after_guess_segment_properties text)) ≡ by_text font tables tags spans features (after_guess_segment_properties text)
+
+-- law: the plan for a text in a font is a plan of the font, and it serves the text
+abbrev pub PlansServeTheirTexts : Type 0
+PlansServeTheirTexts = (font : FaceParts) (tags : List ℕ → List Tag) (features : List Feature) (text : Sides) (plan : hb_ot_shape_plan_t hb_ot_any_shaper_t ⊤)
+    → IsPlanFor font tags features (after_guess_segment_properties text) plan
+    → IsPlanOf font plan × Serves tags features text plan
 
 -- a plan for a text's language and for its direction and script, guessed where they are not set, made of the same font and features, shapes the text to what no plan shapes it to
 abbrev pub PlansServeTexts : Type 0

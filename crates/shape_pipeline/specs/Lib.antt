@@ -1,4 +1,11 @@
+pub use Rattle.buffer_common.specs as buffer_common
+pub use Rattle.buffer_core.specs as buffer_core
+pub use Rattle.buffer_glyphs.specs as buffer_glyphs
 pub use Rattle.buffer_properties.specs as buffer_properties
+pub use Rattle.buffer_stages.specs as buffer_stages
+pub use Rattle.buffer_tags.specs as buffer_tags
+pub use Rattle.buffer_unicode_tables.specs as buffer_unicode_tables
+pub use Rattle.layout_face.specs as layout_face
 pub use Rattle.script_dispatch.specs as script_dispatch
 pub use Rattle.script_plan.specs as script_plan
 pub use Rattle.shape_fallback.specs as shape_fallback
@@ -15,6 +22,7 @@ pub mod Endings
 pub mod Reading
 pub mod ReadingLaws
 pub mod Shaped
+pub mod Plans
 pub mod Results
 pub mod Laws
 pub use Rattle.script_dispatch.specs.Dispatch

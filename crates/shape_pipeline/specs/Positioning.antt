@@ -1,5 +1,5 @@
 -- The pipeline stages that position glyphs.
-use Rattle.std.specs.Prelude.{ℕ, ◌==◌, ◌&&◌, Bool, if◌then◌else◌, [], ◌∷◌, length, reverse}
+use Rattle.std.specs.Prelude.{ℕ, ◌==◌, ◌&&◌, Bool, if◌then◌else◌, [], ◌∷◌, length, reverse, Some}
 use Rattle.buffer_common.specs.Direction.{is_backward, is_forward}
 use Rattle.buffer_common.specs.declared.direction.Direction.{Direction}
 use Rattle.buffer_glyphs.specs.Events.{Reverse}
@@ -57,7 +57,7 @@ positions_adjusted p = in_order (
 
 -- the view with marks positioned by fallback
 abbrev pub marks_positioned : Shaping → View → Read
-marks_positioned p v = with_positioned_marks p.font (components_direction p.direction p.script) (adjusts_marks p v.direction) v
+marks_positioned p v = with_positioned_marks p.font (components_direction p.direction (Some p.script)) (adjusts_marks p v.direction) v
 
 -- the view with its glyphs in visual order, from left to right
 abbrev pub visual_order : View → Read

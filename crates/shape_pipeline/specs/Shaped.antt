@@ -10,6 +10,7 @@ use Rattle.buffer_core.specs.Sides.{Sides}
 use Rattle.buffer_stages.specs.Settings.{TextSettings, text_settings}
 use Rattle.script_plan.specs.declared.plan.hb_ot_shape_plan_t.{hb_ot_shape_plan_t}
 use Rattle.script_plan.specs.declared.plan.hb_script_plan_t.{hb_script_plan_t}
+use Rattle.script_plan.specs.Fits.{script_or_unknown}
 use Rattle.script_plan.specs.Plans.{planned_shaper, text_plan}
 use Rattle.script_plan.specs.Traits.{ShaperTraits}
 use Rattle.script_plan.specs.Rules.{ShaperRules, Spans}
@@ -28,7 +29,7 @@ by_script_plan traits rules plan features font tables spans settings = record {
   tables = tables;
   settings = settings;
   direction = plan.direction;
-  script = plan.script;
+  script = script_or_unknown plan.script;
   map = plan.map;
   choices = plan.choices;
   features = features;

@@ -1,5 +1,5 @@
 -- What a text is shaped by.
-use Rattle.std.specs.Prelude.{List, Option}
+use Rattle.std.specs.Prelude.{List}
 use Rattle.buffer_common.specs.declared.direction.Direction.{Direction}
 use Rattle.buffer_common.specs.declared.script.Script.{Script}
 use Rattle.buffer_tags.specs.declared.feature.Feature.{Feature}
@@ -19,9 +19,9 @@ pub record Shaping : Type 0 where
   pub tables : Tables
   -- the settings of the text
   pub settings : TextSettings
-  -- the plan: its direction and script, its map, and its choices
+  -- the plan: its direction, its script, `UNKNOWN` where it has none, its map, and its choices
   pub direction : Direction
-  pub script : Option Script
+  pub script : Script
   pub map : OtMapValue
   pub choices : PlanChoices
   -- the requested features

@@ -1,10 +1,36 @@
 //! Laws of all texts that are shaped.
-ghost use Rattle.shape_pipeline.specs.Laws.{EmptyTextsStay, GuessedTextsAreAlike, PlansServeTexts, ResultsAreOne, TextsAreEven, TextsHaveNoConcat, TextsKeepNumbers, TextsLookAlike, TextsReadAlike};
+//!
+//! What a caller can test of their premises:
+//! - A plan is one of a font: `hb_ot_shape_plan_t::new` made it for the font (`law_plans_serve_their_texts`).
+//! - A plan serves a text: `fits` is true, and its fields `language_tags` and `user_features` are the tags of the text's
+//!   language (`LanguageTags::tags` of `UnicodeBuffer::language`) and the features.
+//! - No feature has a range: `Feature::is_global` of each.
+//! - Two texts differ in clusters, level and requests for glyph flags alone: the readers of `UnicodeBuffer`.
+//! - UNSAFE_TO_CONCAT was not requested: `UnicodeBuffer::flags`.
+ghost use Rattle.shape_pipeline.specs.Laws.{EmptyTextsStay, GuessedTextsAreAlike, PlansGiveTheTextsShaping, PlansServeTexts, PlansServeTheirTexts, ResultsAreOne, ServingPlansGiveTheTextsShaping, TextsAreEven, TextsHaveNoConcat, TextsKeepNumbers, TextsLookAlike, TextsReadAlike};
 
 use crate::reading_laws::{
     law_reading_keeps_numbers, law_results_are_even, law_results_have_no_concat,
     law_runs_read_alike,
 };
+
+/// What a text is shaped by with the plan for it (`hb_ot_shape_plan_t::new`) is what it is shaped by without a plan, so
+/// each law of `shape` holds of `shape_with_plan` too.
+#[tactic(auto, using(crate::proofs::Shaped::planned_for))]
+pub fn law_plans_give_the_texts_shaping()
+    ensures { PlansGiveTheTextsShaping }
+{}
+
+/// So it is with each plan of the font that serves the text: one that `fits` the text and keeps the tags of its language
+/// (`language_tags`) and the same features (`user_features`).
+pub fn law_serving_plans_give_the_texts_shaping()
+    ensures { ServingPlansGiveTheTextsShaping }
+{}
+
+/// The plan for a text in a font (`hb_ot_shape_plan_t::new`) is a plan of the font, and it serves the text.
+pub fn law_plans_serve_their_texts()
+    ensures { PlansServeTheirTexts }
+{}
 
 /// A plan that was made for a text's language, and for its direction and script, guessed where they are not set, of the same
 /// font and features, serves the text: however often it was used, `shape_with_plan` gives what `shape` gives, clusters and

@@ -19,7 +19,15 @@ mod shape_stages;
 pub mod shaping;
 mod stages;
 
+pub use buffer_common::language::Language;
+pub use buffer_common::language_tags::LanguageTags;
+pub use buffer_common::tag::Tag;
 pub use buffer_glyphs::cause::ShapeCause;
+pub use buffer_tags::feature::Feature;
+pub use buffer_wrappers::glyphs::GlyphBuffer;
+pub use buffer_wrappers::unicode_buffer::UnicodeBuffer;
+pub use layout_face::Face;
+pub use script_categories::SyllableSpans;
 pub use script_dispatch::{
     DEFAULT_SHAPER, DUMBER_SHAPER, hb_ot_any_shaper_t, hb_ot_shape_complex_categorize,
 };

@@ -1,4 +1,6 @@
 //! Laws of every reading of a text.
+//!
+//! What a caller can test of their premises is what `laws` lists: they are the same, of states in place of buffers.
 ghost use Rattle.shape_pipeline.specs.ReadingLaws.{ReadingKeepsNumbers, ResultsAreEven, ResultsHaveNoConcat, RunsReadAlike, SettingsReadAlike};
 
 /// Where no feature is requested for a range of the text, two runs that differ only in their clusters, their cluster

@@ -27,13 +27,14 @@ pub(crate) trait Shaped {
 
 impl<S: hb_ot_shaper_t, P: SyllableSpans> Shaped for ShapeStages<'_, S, P> {
     ghost use Rattle.buffer_stages.specs.Settings.{text_settings};
+    ghost use Rattle.script_plan.specs.Fits.{script_or_unknown};
 
     ghost shaping = { λ c text. record {
       font = c.face.now;
       tables = c.tables.now;
       settings = text_settings text;
       direction = c.plan.now.script_plan.direction;
-      script = c.plan.now.script_plan.script;
+      script = script_or_unknown c.plan.now.script_plan.script;
       map = c.plan.now.script_plan.map;
       choices = c.plan.now.script_plan.choices;
       features = c.plan.now.user_features.items;

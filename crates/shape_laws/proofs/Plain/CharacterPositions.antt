@@ -1,6 +1,6 @@
 -- The positions of a plain text's glyphs.
 use Rattle.std.proofs.Common.{ℕ, ◌≡◌, ◌&&◌, ◌==◌, Bool, true, false, not, if◌then◌else◌, nat_le, List, [], ◌∷◌, map, length, reverse, refl, sym, ap, subst, ◌∙◌}
-use Rattle.std.specs.Prelude.{bit_and}
+use Rattle.std.specs.Prelude.{bit_and, Some}
 use Rattle.std.proofs.lemmas.List.{length-map, length-replicate}
 use Rattle.std.specs.List.{list_any}
 use Rattle.buffer_common.specs.declared.direction.Direction.{Direction}
@@ -164,7 +164,7 @@ around_stand : (p : Shaping) (us : List ℕ) (v : View) → AtPositions p.font u
 around_stand p us v a =
     let many : length v.positions ≡ length v.items = ap length a.positions ∙ length-map us (position_of_character p.font) ∙ sym (are_many (Based p.font) us v.items a.stands.items) in
     let ps = (marks_positioned p v).view.positions in
-    moved p.font us v ps (unmarked_stay p.font (components_direction p.direction p.script) (adjusts_marks p v.direction) v (none_marked p.font us v.items a.stands.items) many ∙ a.positions) a
+    moved p.font us v ps (unmarked_stay p.font (components_direction p.direction (Some p.script)) (adjusts_marks p v.direction) v (none_marked p.font us v.items a.stands.items) many ∙ a.positions) a
 
 drawn_stand : (font : FaceParts) (us : List ℕ) (v : View) → AtPositions font us v → AtPositions font us (visual_order v).view
 drawn_stand font us v a =
