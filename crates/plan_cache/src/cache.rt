@@ -1,0 +1,186 @@
+//! Plans for texts in turn.
+ghost use Rattle.std.specs.Prelude.{◌≡◌, ◌≢◌, ◌≤◌, ◌<◌, ◌⊎◌, Err, IfErr, IfOk, MatchOption, Ok, OnErr, OnOk, [], length};
+ghost use Rattle.std.specs.List.{All};
+ghost use Rattle.shape_pipeline.specs.buffer_core.Readings.{Follows};
+ghost use Rattle.shape_pipeline.specs.buffer_core.Segment.{after_guess_segment_properties};
+ghost use Rattle.shape_pipeline.specs.buffer_core.Settings.{after_leave};
+ghost use Rattle.shape_pipeline.specs.buffer_core.Sides.{all_glyphs, empty_buffer, state_of};
+ghost use Rattle.shape_pipeline.specs.Results.{IsResultOf};
+ghost use Rattle.shape_pipeline.specs.Shaped.{by_text, text_reading};
+ghost use Rattle.plan_cache.specs.Cache.{EndsServing, IsAfter, IsCacheOf, IsServing, ServeNot, with_plan_used, with_plan_added};
+ghost use Rattle.plan_cache.specs.Cached.{HasTagsOf};
+
+use crate::cached::CachedPlan;
+use shape_pipeline::laws::law_serving_plans_give_the_texts_shaping;
+use shape_pipeline::{
+    Face, Feature, GlyphBuffer, LanguageTags, ShapeCause, ShapeFault, SyllableSpans, UnicodeBuffer,
+    hb_shape_data_t, shape, shape_with_plan,
+};
+use std::alloc::{AllocError, Global};
+use std::marker::Model;
+
+/// Plans of one font and one table of languages, the least recently used first, at most as many as its bound.
+#[derive(Drop)]
+pub struct PlanCache {
+    plans: Vec<CachedPlan>,
+    bound: usize,
+}
+
+impl Model for PlanCache {
+    ghost use Rattle.std.specs.Prelude.{◌≤◌, ◌<◌, length};
+    ghost use Rattle.plan_cache.specs.Cache.{Cache};
+
+    ghost Value = { Cache };
+
+    ghost view = { λ c. record { plans = c.plans.items; bound = c.bound } };
+
+    ghost invariant = { λ c. (0 < c.bound) × (length c.plans.items ≤ c.bound) };
+}
+
+impl PlanCache {
+    /// A cache that keeps up to `bound` plans. It takes no memory yet.
+    pub fn new(alloc: Global, bound: usize) -> PlanCache
+        requires { 0 < bound }
+        ensures { result ≡ record { plans = []; bound = bound } }
+    {
+        PlanCache {
+            plans: Vec::new(alloc),
+            bound,
+        }
+    }
+
+    /// The plans, the least recently used first.
+    pub fn plans(&self) -> &[CachedPlan]
+        ensures plans { result.now ≡ self.now.plans }
+        ensures within { length result.now ≤ self.now.bound }
+    {
+        self.plans.as_slice()
+    }
+
+    /// How many plans are kept at most.
+    pub fn bound(&self) -> usize
+        ensures { result ≡ self.now.bound }
+    {
+        self.bound
+    }
+
+    /// Shapes a text in a font to what `shape` gives, by a plan of the cache where one serves the text, else by a new one,
+    /// which the cache then keeps. Where a plan of the cache serves the text, and where the text has no characters, it takes
+    /// no memory beside that of the text's glyphs.
+    pub fn shape<P: SyllableSpans, L: LanguageTags>(
+        &mut self,
+        alloc: Global,
+        face: &Face,
+        shape_data: hb_shape_data_t<'_, P, L>,
+        features: &[Feature],
+        buffer: UnicodeBuffer,
+    ) -> Result<GlyphBuffer, ShapeFault>
+        requires { IsCacheOf face.now (L.tags_of shape_data.entry.languages.now) self.old }
+        ensures cache { IsCacheOf face.now (L.tags_of shape_data.entry.languages.now) self.new }
+        ensures unused { all_glyphs buffer ≡ [] → self.new ≡ self.old }
+        ensures used { all_glyphs buffer ≢ []
+            → IsAfter (L.tags_of shape_data.entry.languages.now) features.now buffer self.old self.new
+            ⊎ (self.new ≡ self.old) × IfErr result (λ e. e.cause ≡ ShapeCause.OutOfMemory) }
+        ensures ok { IfOk result (λ glyphs. Follows
+            (text_reading (by_text face.now shape_data.entry.tables.now (L.tags_of shape_data.entry.languages.now)
+            (P.span_of shape_data.entry.spans.now) features.now
+            (after_guess_segment_properties buffer)) (state_of (after_guess_segment_properties buffer))) (state_of (after_guess_segment_properties buffer)) (state_of glyphs)) }
+        ensures refused { IfErr result (λ e. e.cause ≢ ShapeCause.OutOfMemory → text_reading
+            (by_text face.now shape_data.entry.tables.now (L.tags_of shape_data.entry.languages.now)
+            (P.span_of shape_data.entry.spans.now) features.now
+            (after_guess_segment_properties buffer)) (state_of (after_guess_segment_properties buffer)) ≡ Err e.cause) }
+        ensures cleared { IfErr result (λ e. e.buffer ≡ empty_buffer) }
+        ensures empty { all_glyphs buffer ≡ [] → result ≡ Ok (after_leave (after_guess_segment_properties buffer)) }
+        ensures handed_on { IfOk result (λ glyphs. IsResultOf (after_guess_segment_properties buffer) glyphs) }
+        ensures direction { IfOk result (λ glyphs. glyphs.direction ≡ (after_guess_segment_properties buffer).direction) }
+    {
+        if buffer.is_empty() {
+            return shape(alloc, face, shape_data, features, buffer);
+        }
+        let Ok(()) = self.use_plan(alloc, face, shape_data, features, &buffer) else {
+            return Err(out_of_memory(buffer));
+        };
+        law_serving_plans_give_the_texts_shaping();
+        let last = self.plans.len() - 1;
+        shape_with_plan(alloc, face, shape_data, &self.plans[last].plan, buffer)
+    }
+
+    /// Makes the plan that serves a text with features the last one: one of the cache, or a new one.
+    #[tactic(auto, using(crate::proofs::Order::after_hit, crate::proofs::Order::after_miss, crate::proofs::Order::ends_used, crate::proofs::Order::ends_with_plan_added))]
+    fn use_plan<P: SyllableSpans, L: LanguageTags>(
+        &mut self,
+        alloc: Global,
+        face: &Face,
+        shape_data: hb_shape_data_t<'_, P, L>,
+        features: &[Feature],
+        text: &UnicodeBuffer,
+    ) -> Result<(), AllocError>
+        requires { IsCacheOf face.now (L.tags_of shape_data.entry.languages.now) self.old }
+        ensures cache { IsCacheOf face.now (L.tags_of shape_data.entry.languages.now) self.new }
+        ensures used { OnOk result (IsAfter (L.tags_of shape_data.entry.languages.now) features.now text.now self.old self.new) }
+        ensures last { OnOk result (EndsServing (L.tags_of shape_data.entry.languages.now) features.now text.now self.new.plans) }
+        ensures err { OnErr result (self.new ≡ self.old) }
+    {
+        // That the bound is above 0 is known where the field is read.
+        let _bound = self.bound;
+        if let Some(i) = self.position(shape_data.languages, features, text) {
+            self.use_again(i);
+            return Ok(());
+        }
+        let cached = CachedPlan::new(alloc, face, shape_data, features, text)?;
+        self.add(cached)?;
+        Ok(())
+    }
+
+    /// The index of the most recently used plan that serves a text with features.
+    fn position<L: LanguageTags>(
+        &self,
+        languages: &L,
+        features: &[Feature],
+        text: &UnicodeBuffer,
+    ) -> Option<usize>
+        requires { All (HasTagsOf (L.tags_of languages.now)) self.now.plans }
+        ensures { MatchOption result (ServeNot (L.tags_of languages.now) features.now text.now self.now.plans)
+            (IsServing (L.tags_of languages.now) features.now text.now self.now.plans) }
+    {
+        for i in (0..self.plans.len()).rev() {
+            if self.plans[i].serves(languages, features, text) {
+                return Some(i);
+            }
+        }
+        None
+    }
+
+    /// Makes the plan at an index the last one.
+    fn use_again(&mut self, i: usize)
+        requires { i < length self.old.plans }
+        ensures { self.new ≡ with_plan_used i self.old }
+    {
+        let cached = self.plans.remove(i);
+        self.plans.push(cached).unwrap();
+    }
+
+    /// Adds a plan as the last one, and drops the first one where there are more than the bound.
+    fn add(&mut self, cached: CachedPlan) -> Result<(), AllocError>
+        ensures ok { OnOk result (self.new ≡ with_plan_added cached self.old) }
+        ensures err { OnErr result (self.new ≡ self.old) }
+    {
+        self.plans.push(cached)?;
+        if self.plans.len() > self.bound {
+            self.plans.remove(0);
+        }
+        Ok(())
+    }
+}
+
+/// The fault of a text for whose plan there is no memory.
+fn out_of_memory(mut buffer: UnicodeBuffer) -> ShapeFault
+    ensures cause { result.cause ≡ ShapeCause.OutOfMemory }
+    ensures cleared { result.buffer ≡ empty_buffer }
+{
+    buffer.clear();
+    ShapeFault {
+        cause: ShapeCause::OutOfMemory,
+        buffer,
+    }
+}

@@ -1,0 +1,123 @@
+//! A plan in a cache.
+ghost use Rattle.std.specs.Prelude.{◌≡◌, ◌↔◌, IfOk, IsTrue};
+ghost use Rattle.std.specs.Option.{option_copied, option_map};
+ghost use Rattle.std.specs.String.{string_bytes};
+ghost use Rattle.shape_pipeline.specs.Plans.{Serves};
+ghost use Rattle.shape_pipeline.specs.buffer_common.Language.{language_text};
+ghost use Rattle.shape_pipeline.specs.buffer_common.ScriptTags.{wanted_language_tags};
+ghost use Rattle.plan_cache.specs.Cached.{HasTagsOf, IsCachedFor};
+
+use shape_pipeline::laws::law_plans_serve_their_texts;
+use shape_pipeline::{
+    Face, Feature, Language, LanguageTags, ShapePlan, SyllableSpans, Tag, UnicodeBuffer,
+    hb_shape_data_t,
+};
+use std::alloc::{AllocError, Global};
+
+/// A plan, and the BCP 47 tag of the language for which it was made.
+#[derive(Drop)]
+pub struct CachedPlan {
+    pub plan: ShapePlan,
+    pub language: Option<String>,
+}
+
+impl CachedPlan {
+    /// The plan for a text with features.
+    pub(crate) fn new<P: SyllableSpans, L: LanguageTags>(
+        alloc: Global,
+        face: &Face,
+        shape_data: hb_shape_data_t<'_, P, L>,
+        features: &[Feature],
+        text: &UnicodeBuffer,
+    ) -> Result<CachedPlan, AllocError>
+        ensures cached { IfOk result (IsCachedFor face.now (L.tags_of shape_data.entry.languages.now)) }
+        ensures serves { IfOk result (λ k. Serves (L.tags_of shape_data.entry.languages.now) features.now text.now k.plan) }
+    {
+        law_plans_serve_their_texts();
+        let language = text.language();
+        let kept = owned_language(alloc, language)?;
+        let plan = ShapePlan::new(
+            alloc,
+            face,
+            shape_data,
+            text.guessed_direction(),
+            text.guessed_script(),
+            language,
+            features,
+        )?;
+        Ok(CachedPlan {
+            plan,
+            language: kept,
+        })
+    }
+
+    /// Whether the plan serves a text with features.
+    pub(crate) fn serves<L: LanguageTags>(
+        &self,
+        languages: &L,
+        features: &[Feature],
+        text: &UnicodeBuffer,
+    ) -> bool
+        requires { HasTagsOf (L.tags_of languages.now) self.now }
+        ensures { IsTrue result ↔ Serves (L.tags_of languages.now) features.now text.now self.now.plan }
+    {
+        self.plan.fits(text)
+            && are_features(self.plan.user_features.as_slice(), features)
+            && self.has_tags_of(languages, text.language())
+    }
+
+    /// Whether the plan has the tags of a language. The tags are looked up only for another language than the plan's.
+    #[tactic(auto, using(crate::proofs::Languages::tags_as_kept))]
+    fn has_tags_of<L: LanguageTags>(&self, languages: &L, language: Option<&Language>) -> bool
+        requires { HasTagsOf (L.tags_of languages.now) self.now }
+        ensures { IsTrue result ↔ self.now.plan.language_tags.items
+            ≡ wanted_language_tags (L.tags_of languages.now) (option_copied language.entry) }
+    {
+        is_language(&self.language, language)
+            || are_tags_of(self.plan.language_tags.as_slice(), languages, language)
+    }
+}
+
+/// The BCP 47 tag of a language, where a text has one.
+fn owned_language(
+    alloc: Global,
+    language: Option<&Language>,
+) -> Result<Option<String>, AllocError>
+    ensures { IfOk result (λ text. option_map string_bytes text ≡ option_map language_text (option_copied language.entry)) }
+{
+    match language {
+        Some(language) => Ok(Some(String::from_str(alloc, language.as_str())?)),
+        None => Ok(None),
+    }
+}
+
+fn is_language(text: &Option<String>, language: Option<&Language>) -> bool
+    ensures { IsTrue result ↔ option_map string_bytes text.now ≡ option_map language_text (option_copied language.entry) }
+{
+    match (text, language) {
+        (Some(text), Some(language)) => text.as_str() == language.as_str(),
+        (None, None) => true,
+        _ => false,
+    }
+}
+
+fn are_tags_of<L: LanguageTags>(tags: &[Tag], languages: &L, language: Option<&Language>) -> bool
+    ensures { IsTrue result ↔ tags.now ≡ wanted_language_tags (L.tags_of languages.now) (option_copied language.entry) }
+{
+    match language {
+        Some(language) => are_tags(tags, languages.tags(language.as_str()).as_slice()),
+        None => tags.is_empty(),
+    }
+}
+
+fn are_tags(tags: &[Tag], wanted: &[Tag]) -> bool
+    ensures { IsTrue result ↔ tags.now ≡ wanted.now }
+{
+    tags == wanted
+}
+
+fn are_features(features: &[Feature], wanted: &[Feature]) -> bool
+    ensures { IsTrue result ↔ features.now ≡ wanted.now }
+{
+    features == wanted
+}
