@@ -1,13 +1,13 @@
-//! A font as handles keep it: what was read, which they share; a plan for texts like the last one; the last text's glyphs.
+//! A font as handles keep it: what was read, which they share; plans for texts like the last ones; the last text's glyphs.
 ghost use Rattle.std.specs.Prelude.{◌≡◌, ◌≢◌, IfErr, IfOk, Ok, Err, OnErr, OnOk, length, map};
 ghost use Rattle.buffer_core.specs.Sides.{all_glyphs, empty_buffer};
 ghost use Rattle.c_text.specs.Written.{info_of, position_of, with_front};
 ghost use Rattle.shell_readers.specs.Input.{IsInput, font_in, input_value};
 ghost use Rattle.kuspveli_c.specs.Fonts.{AreGlyphsOf, HasSegmentOf, IsFaultOf, new_font};
-ghost use Rattle.kuspveli_c.specs.Plans.{HasPlanOf};
+ghost use Rattle.kuspveli_c.specs.Plans.{HasPlansOf};
 
 use crate::input::{Input, Tables};
-use crate::plan::{KeptPlan, shape_kept};
+use crate::plan::{KEPT_PLANS, shape_kept};
 use crate::segment::{NO_SEGMENT, Segment, segment_of};
 use buffer_wrappers::glyphs::GlyphBuffer;
 use buffer_wrappers::unicode_buffer::UnicodeBuffer;
@@ -15,6 +15,7 @@ use c_text::texts::{features_of, text_buffer};
 use c_text::types::{kus_glyph_info_t, kus_glyph_position_t, kus_text_t};
 use c_text::written::write_front;
 use layout_face::Face;
+use plan_cache::PlanCache;
 use shell_readers::fault::RunFault;
 use std::alloc::{AllocError, Global};
 use std::marker::Model;
@@ -24,7 +25,7 @@ use std::mem;
 #[derive(Drop)]
 pub struct Font {
     input: Input,
-    plan: Option<KeptPlan>,
+    plans: PlanCache,
     glyphs: GlyphBuffer,
     segment: Segment,
 }
@@ -34,11 +35,11 @@ impl Model for Font {
 
     ghost Value = { KeptFont };
 
-    ghost use Rattle.kuspveli_c.specs.Plans.{HasPlanOf};
+    ghost use Rattle.kuspveli_c.specs.Plans.{HasPlansOf};
 
     ghost view = { λ f. record { input = f.input; glyphs = f.glyphs; segment = f.segment } };
 
-    ghost invariant = { λ f. HasPlanOf f.input.face f.plan };
+    ghost invariant = { λ f. HasPlansOf f.input f.plans };
 }
 
 impl Font {
@@ -48,7 +49,7 @@ impl Font {
     {
         Font {
             input,
-            plan: None,
+            plans: PlanCache::new(alloc, KEPT_PLANS),
             glyphs: no_glyphs(alloc),
             segment: NO_SEGMENT,
         }
@@ -116,7 +117,7 @@ impl Font {
         ensures refused { IfErr result (λ e. e ≢ RunFault.OutOfMemory → IsFaultOf self.old.input text.now e) }
     {
         self.segment = NO_SEGMENT;
-        self.segment = shape_into(alloc, &self.input, &mut self.plan, &mut self.glyphs, text)?;
+        self.segment = shape_into(alloc, &self.input, &mut self.plans, &mut self.glyphs, text)?;
         Ok(())
     }
 
@@ -146,19 +147,19 @@ fn no_glyphs(alloc: Global) -> GlyphBuffer
 fn shape_into(
     alloc: Global,
     input: &Input,
-    plan: &mut Option<KeptPlan>,
+    plans: &mut PlanCache,
     glyphs: &mut GlyphBuffer,
     text: &kus_text_t<'_>,
 ) -> Result<Segment, RunFault>
-    requires { HasPlanOf input.now.face plan.old }
-    ensures plan { HasPlanOf input.now.face plan.new }
+    requires { HasPlansOf input.now plans.old }
+    ensures plans { HasPlansOf input.now plans.new }
     ensures ok { OnOk result (AreGlyphsOf input.now text.now glyphs.new) }
     ensures segment { IfOk result (HasSegmentOf text.now) }
     ensures none { OnErr result (glyphs.new ≡ empty_buffer) }
     ensures refused { IfErr result (λ e. e ≢ RunFault.OutOfMemory → IsFaultOf input.now text.now e) }
 {
     let storage = mem::replace(glyphs, no_glyphs(alloc)).clear();
-    let (shaped, segment) = shape_text(alloc, input, plan, storage, text)?;
+    let (shaped, segment) = shape_text(alloc, input, plans, storage, text)?;
     *glyphs = shaped;
     Ok(segment)
 }
@@ -168,13 +169,13 @@ fn shape_into(
 fn shape_text(
     alloc: Global,
     input: &Input,
-    plan: &mut Option<KeptPlan>,
+    plans: &mut PlanCache,
     storage: UnicodeBuffer,
     text: &kus_text_t<'_>,
 ) -> Result<(GlyphBuffer, Segment), RunFault>
-    requires plan { HasPlanOf input.now.face plan.old }
+    requires plans { HasPlansOf input.now plans.old }
     requires empty { storage ≡ empty_buffer }
-    ensures plan { HasPlanOf input.now.face plan.new }
+    ensures plans { HasPlansOf input.now plans.new }
     ensures ok { IfOk result (λ p. AreGlyphsOf input.now text.now p.0) }
     ensures segment { IfOk result (λ p. HasSegmentOf text.now p.1) }
     ensures refused { IfErr result (λ e. e ≢ RunFault.OutOfMemory → IsFaultOf input.now text.now e) }
@@ -182,7 +183,7 @@ fn shape_text(
     let features = features_of(alloc, text)?;
     let buffer = text_buffer(alloc, text, storage)?;
     let segment = segment_of(&buffer);
-    let glyphs = shape_kept(alloc, input, plan, &features, buffer)?;
+    let glyphs = shape_kept(alloc, input, plans, &features, buffer)?;
     Ok((glyphs, segment))
 }
 

@@ -1,4 +1,4 @@
-//! The library for C: fonts that C holds by handles, texts that are shaped by a plan that is kept, and the calls that
+//! The library for C: fonts that C holds by handles, texts that are shaped by plans that are kept, and the calls that
 //! `include/kuspveli.h` declares. rustybuzz has no interface for C.
 #![tactic(auto)]
 
