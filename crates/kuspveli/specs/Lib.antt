@@ -15,4 +15,8 @@ pub use Rattle.shell_json.specs as shell_json
 pub use Rattle.shell_readers.specs as shell_readers
 pub use Rattle.shell_tables_json.specs as shell_tables_json
 pub use Rattle.shell_words.specs as shell_words
+pub use Rattle.plan_cache.specs as plan_cache
+pub use Rattle.shape_laws.specs as shape_laws
+pub use Rattle.shape_parts.specs as shape_parts
+pub use Rattle.shape_premises.specs as shape_premises
 pub use Rattle.shape_slices.specs as shape_slices

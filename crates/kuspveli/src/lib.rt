@@ -1,9 +1,11 @@
 //! What a user of the library needs: a text and a parsed font become positioned glyphs. The names are rustybuzz's where
-//! it has them, at the root and, by its files, in `hb`; `hb_shape` has the calls of the program.
+//! it has them, at the root and, by its files, in `hb`; `hb_shape` has the calls of the program, and `laws` what holds of
+//! all results.
 #![tactic(auto)]
 
 pub mod hb;
 pub mod hb_shape;
+pub mod laws;
 
 pub use buffer_common::constants::BufferFlags;
 pub use buffer_common::direction::{Direction, InvalidDirection};
@@ -24,10 +26,14 @@ pub use buffer_unicode_tables::{LawFault, TablesFault, UnicodeTables};
 pub use buffer_wrappers::glyphs::GlyphBuffer;
 pub use buffer_wrappers::unicode_buffer::UnicodeBuffer;
 pub use layout_face::{Face, FaceParts};
+pub use plan_cache::{CachedPlan, PlanCache};
 pub use script_categories::{
     Accept, Step, SyllableMachine, SyllableMachines, SyllableSpans, SyllableTable,
 };
-pub use shape_pipeline::{ShapeFault, ShapePlan, hb_shape_data_t, shape, shape_with_plan};
+pub use shape_pipeline::{
+    ShapeFault, ShapePlan, hb_shape_data_t, nested_lookups_left, shape, shape_with_plan,
+};
+pub use shape_premises::{are_equivalent, has_full_expansion, has_short_runs, is_regular};
 pub use shell_face_json::read_face_text;
 pub use shell_json::fault::JsonFault;
 pub use shell_readers::fault::RunFault;

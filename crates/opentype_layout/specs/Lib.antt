@@ -8,6 +8,7 @@ pub use Rattle.layout_contexts.specs as layout_contexts
 pub use Rattle.layout_face.specs as layout_face
 pub use Rattle.layout_gpos.specs as layout_gpos
 pub use Rattle.layout_gsub.specs as layout_gsub
+pub use Rattle.layout_laws.specs as layout_laws
 pub use Rattle.layout_map.specs as layout_map
 pub use Rattle.layout_map_features.specs as layout_map_features
 pub use Rattle.layout_match.specs as layout_match

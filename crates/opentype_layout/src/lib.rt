@@ -2,6 +2,7 @@
 #![tactic(auto)]
 
 pub mod hb;
+pub mod laws;
 pub mod tables;
 
 pub use buffer_glyphs::cause::ShapeCause;

@@ -1,4 +1,8 @@
 //! Laws of source slices.
+//!
+//! What a caller can test of their premises: the clusters of glyphs fit the text, and are in order: `slices_fit`. The slices
+//! are those of the glyphs: `source_slices` makes them. Neighbours of one cluster have one set of flags in each result of
+//! `shape`, by `shape_pipeline`'s law `law_texts_are_even`.
 ghost use Rattle.shape_slices.specs.Laws.{RunsHaveOneFlagSet, SourceSlicesAreText, SourceSlicesJoin};
 
 /// Slices cover the whole text, in the order of the line.
