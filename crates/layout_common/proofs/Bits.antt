@@ -2,12 +2,12 @@
 use mathlib.Core.Bool.{false≢true}
 use Rattle.std.specs.Int.{bit_at}
 use Rattle.std.specs.List.{list_any}
-use Rattle.std.proofs.Common.{ℕ, zero, suc, ◌≡◌, ◌≢◌, ◌==◌, ◌||◌, ◌<◌, ◌≤◌, ◌^◌, ◌%◌, ◌/◌, ◌*◌, ◌+◌, ◌-◌, not, Bool, true, false, List, [], ◌∷◌, ◌++◌, length, take, get_or, inl, inr, bit_and, bit_or, max, min, refl, sym, ap, subst, ◌∙◌, arith, add-one}
+use Rattle.std.proofs.Common.{ℕ, zero, suc, ◌≡◌, ◌≢◌, ◌==◌, ◌||◌, ◌<◌, ◌≤◌, ◌^◌, ◌%◌, ◌/◌, ◌*◌, ◌+◌, ◌-◌, not, Bool, true, false, List, [], ◌∷◌, ◌++◌, length, take, get_or, inl, inr, bit_and, bit_or, max, min, refl, sym, ap, subst, ◌∙◌, arith, add-one, lit<}
 use Rattle.std.proofs.lemmas.Bool.Decides.{nat_tests}
-use Rattle.std.proofs.lemmas.Nat.Bits.{bit_at_or, bit_at_and, bit_at-pow_same, bit_at-pow_other, bit_at-zero, bit_at-lt, bit_at_ones}
+use Rattle.std.proofs.lemmas.Nat.Bits.{bit_at_or, bit_at_and, bit_at-pow_same, bit_at-pow_other, bit_at-zero, bit_at-lt, bit_at_ones, same_from_bits_below}
 use Rattle.std.proofs.lemmas.Bool.{cases_lt}
 use Rattle.std.proofs.lemmas.List.Folds.{list_any_more, list_any-append}
-use Rattle.std.proofs.lemmas.Nat.{and_mask, le-div, pow_below, pow_pos}
+use Rattle.std.proofs.lemmas.Nat.{and_le_l, and_mask, le-div, pow_below, pow_pos}
 use Rattle.std.proofs.Math.Nat.{div-eq_of_eq-mul_left, div-eq_of_lt, div-mul-le_self, lt-div-mul-add, mod-eq_of_lt, mul-le-mul_right}
 use Rattle.std.proofs.Math.Pow.{pow_mono}
 use Rattle.layout_common.specs.Buckets.{IsMaskOf, bucket, has_bucket, is_bucket_from, is_bucket_of, may_have_glyph, numbers_from}
@@ -308,6 +308,52 @@ range_buckets s a c b le =
     let high = g.2 in
     ap (is_bucket_from (a / d) n) (equal b (bucket s g.0) g.3) ∙ range_bucket s a c g.0 g.1 (omega (arith, high, le)))
 
-pub range_added : (s old new a c : ℕ) (others : List ℕ) → a ≤ c → Adds (is_bucket_from (a / 2 ^ s) (c / 2 ^ s + 1 - a / 2 ^ s)) old new → IsMaskOf s old others → IsMaskOf s new (others ++ numbers_from a (c + 1 - a))
-range_added s old new a c others le adds is =
-    more_added s old new others (numbers_from a (c + 1 - a)) (λ b. adds b ∙ ap (λ t. has_bucket old b || t) (range_buckets s a c b le)) is
+-- the bucket of each glyph of a range
+pub range_there : (s a c g : ℕ) → a ≤ g → g ≤ c → is_bucket_of s (numbers_from a (c + 1 - a)) (bucket s g) ≡ true
+range_there s a c g low high = number_there (λ h. bucket s g == bucket s h) a (c + 1 - a) g low (omega (arith, low, high)) (same_number (bucket s g))
+
+-- a range whose last glyph is before its first has no glyph
+pub empty_range : (s old a c : ℕ) → c < a → Adds (is_bucket_of s (numbers_from a (c + 1 - a))) old old
+empty_range s old a c less b =
+    let none : c + 1 - a ≡ 0 = omega (arith, less) in
+    sym (ap (λ n. has_bucket old b || is_bucket_of s (numbers_from a n) b) none ∙ or_false (has_bucket old b))
+
+-- ---- where a test is exact
+
+not_there : (m b : ℕ) → has_bucket m b ≡ false → bit_at m b ≡ 0
+not_there m b e =
+    let apart = other (bit_at m b) 1 e in
+    let small = bit_at-lt m b in
+    omega (arith, apart, small)
+
+-- a mask of 64 bits that has each bucket is that of all
+pub all_buckets : (m : ℕ) → m < 2 ^ 64 → ((b : ℕ) → b < 64 → has_bucket m b ≡ true) → m ≡ 2 ^ 64 - 1
+all_buckets m lt all = same_from_bits_below 64 m (2 ^ 64 - 1) lt (lit< tt) (λ b less. equal (bit_at m b) 1 (all b less) ∙ sym (bit_at_ones 64 b less))
+
+-- two masks of 64 bits without a common bucket have no common bit
+pub no_common_bit : (a c : ℕ) → a < 2 ^ 64 → ((b : ℕ) → b < 64 → has_bucket a b ≡ true → has_bucket c b ≡ false) → bit_and a c ≡ 0
+no_common_bit a c lt apart = same_from_bits_below 64 (bit_and a c) 0 (le_lt (bit_and a c) a (2 ^ 64) (and_le_l a c) lt) (lit< tt) (λ b less. bit_at_and a c b ∙ by b (has_bucket a b) refl (apart b less) ∙ sym (bit_at-zero b))
+  where
+    le_lt : (x y z : ℕ) → x ≤ y → y < z → x < z
+    le_lt x y z le lt = omega (arith, le, lt)
+    by : (b : ℕ) (t : Bool) → has_bucket a b ≡ t → (has_bucket a b ≡ true → has_bucket c b ≡ false) → min (bit_at a b) (bit_at c b) ≡ 0
+    by b true there apart =
+        let none = not_there c b (apart there) in
+        omega (arith, none)
+    by b false there apart =
+        let none = not_there a b there in
+        omega (arith, none)
+
+-- a glyph of each bucket
+glyph_of_bucket : (s b : ℕ) → b < 64 → bucket s (b * 2 ^ s) ≡ b
+glyph_of_bucket s b lt = ap (λ n. n % 64) (div-eq_of_eq-mul_left (pow_pos s) refl) ∙ mod-eq_of_lt lt
+
+-- a mask that may have each glyph is that of all buckets
+pub has_all : (m s : ℕ) → m < 2 ^ 64 → ((g : ℕ) → may_have_glyph s m g ≡ true) → not (m == 2 ^ 64 - 1) ≡ false
+has_all m s lt all = ap not (same_as m (2 ^ 64 - 1) (all_buckets m lt (λ b less. ap (has_bucket m) (sym (glyph_of_bucket s b less)) ∙ all (b * 2 ^ s))))
+
+-- two masks that may have no glyph in common have no common bit
+pub none_common : (a c s : ℕ) → a < 2 ^ 64 → ((g : ℕ) → may_have_glyph s a g ≡ true → may_have_glyph s c g ≡ false) → not (bit_and a c == 0) ≡ false
+none_common a c s lt apart = ap not (same_as (bit_and a c) 0 (no_common_bit a c lt (λ b less there.
+    let at = glyph_of_bucket s b less in
+    ap (has_bucket c) (sym at) ∙ apart (b * 2 ^ s) (ap (has_bucket a) at ∙ there))))

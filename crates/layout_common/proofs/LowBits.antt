@@ -1,6 +1,6 @@
 -- Sets of glyphs by the low bits of their numbers.
 use mathlib.Core.Bool.{false≢true}
-use Rattle.std.proofs.Common.{ℕ, zero, suc, ◌≡◌, ◌==◌, ◌||◌, ◌<◌, ◌≤◌, ◌^◌, ◌%◌, ◌/◌, ◌+◌, ◌-◌, Bool, true, false, List, [], ◌∷◌, ◌++◌, length, take, get_or, slice_get, replicate, set, Some, bit_and, inl, inr, refl, sym, ap, ◌∙◌, arith, add-one}
+use Rattle.std.proofs.Common.{ℕ, zero, suc, ◌≡◌, ◌==◌, ◌||◌, ◌<◌, ◌≤◌, ◌^◌, ◌%◌, ◌/◌, ◌*◌, ◌+◌, ◌-◌, Bool, true, false, List, [], ◌∷◌, ◌++◌, length, take, get_or, slice_get, replicate, set, Some, bit_and, inl, inr, refl, sym, ap, ◌∙◌, arith, add-one}
 use Rattle.std.proofs.lemmas.Bool.{cases_lt}
 use Rattle.std.proofs.lemmas.List.{set-get_or}
 use Rattle.std.proofs.lemmas.List.Folds.{list_any-append}
@@ -8,7 +8,7 @@ use Rattle.std.proofs.lemmas.Option.{slice_get-get_or}
 use Rattle.layout_common.specs.Buckets.{has_bucket, numbers_from}
 use Rattle.layout_common.specs.Coverage.{is_covered}
 use Rattle.layout_common.specs.LowBits.{IsLowBitsOf, has_low_bits, shares_low_bits}
-use Rattle.layout_common.proofs.Bits.{below_64, buckets_apart, equal, full_mask, number_there, or_assoc, or_false, or_first, or_second, same_as}
+use Rattle.layout_common.proofs.Bits.{all_buckets, below_64, buckets_apart, equal, full_mask, no_common_bit, number_there, or_assoc, or_false, or_first, or_second, same_as}
 use Rattle.layout_common.proofs.Words.{bit_added_to, bit_in_word, take-all}
 
 -- a word that is set to what it is
@@ -76,6 +76,12 @@ pub all_adds : (first last : ℕ) (old new : List ℕ) → 1023 ≤ last - first
 all_adds first last old new long all g =
     all g ∙ sym (or_second (has_low_bits old g) (shares_low_bits (numbers_from first (last + 1 - first)) g) (all_low first (last + 1 - first) g (omega (arith, long))))
 
+-- a range whose last glyph is before its first has no glyph
+pub none_low : (first last : ℕ) (old : List ℕ) → last < first → AddsLow (shares_low_bits (numbers_from first (last + 1 - first))) old old
+none_low first last old less g =
+    let none : last + 1 - first ≡ 0 = omega (arith, less) in
+    sym (ap (λ n. has_low_bits old g || shares_low_bits (numbers_from first n) g) none ∙ or_false (has_low_bits old g))
+
 -- ---- words
 
 word_of_all : (n j w : ℕ) → j < n → slice_get (replicate n w) j ≡ Some w
@@ -110,3 +116,37 @@ apart_step i d e ws vs in_first in_second none before g low there = elim (cases_
   | inr ge ↦ let at : g % 1024 / 64 ≡ i = omega (arith, low, ge) in
       low_in_word vs g e (rw at in_second) ∙ buckets_apart (get_or ws (g % 1024 / 64) d) (get_or vs (g % 1024 / 64) e) (g % 1024 % 64) (rw at none) (sym (low_in_word ws g d (rw at in_first)) ∙ there)
 ]
+
+-- ---- where a test is exact
+
+-- the glyph of a bit of a word
+word_bit : (ws : List ℕ) (i d b : ℕ) → i < 16 → i < length ws → b < 64 → has_low_bits ws (i * 64 + b) ≡ has_bucket (get_or ws i d) b
+word_bit ws i d b few lt less =
+    let g : ℕ = i * 64 + b in
+    let at : g % 1024 / 64 ≡ i = omega (arith, few, less) in
+    let bit : g % 1024 % 64 ≡ b = omega (arith, few, less) in
+    low_in_word ws g d (rw at lt) ∙ ap (λ k. has_bucket (get_or ws k d) (g % 1024 % 64)) at ∙ ap (has_bucket (get_or ws i d)) bit
+
+-- words that have no low bits in common have no common bit
+pub no_common_word : (i d e : ℕ) (ws vs : List ℕ) → i < 16 → i < length ws → i < length vs → get_or ws i d < 2 ^ 64 → ((g : ℕ) → has_low_bits ws g ≡ true → has_low_bits vs g ≡ false) → bit_and (get_or ws i d) (get_or vs i e) ≡ 0
+no_common_word i d e ws vs few in_first in_second fits apart =
+    no_common_bit (get_or ws i d) (get_or vs i e) fits (λ b less there. sym (word_bit vs i e b few in_second less) ∙ apart (i * 64 + b) (word_bit ws i d b few in_first less ∙ there))
+
+-- so many words have all their bits
+abbrev pub AreFullTo : ℕ → List ℕ → Type 0
+AreFullTo n ws = (g : ℕ) → g % 1024 / 64 < n → has_low_bits ws g ≡ true
+
+-- one more full word
+pub full_step : (i d : ℕ) (ws : List ℕ) → i < length ws → get_or ws i d ≡ 2 ^ 64 - 1 → AreFullTo i ws → AreFullTo (i + 1) ws
+full_step i d ws inside full before g low = elim (cases_lt (g % 1024 / 64) i) [
+  | inl lt ↦ before g lt
+  | inr ge ↦ let at : g % 1024 / 64 ≡ i = omega (arith, low, ge) in
+      low_in_word ws g d (rw at inside) ∙ ap (λ k. has_bucket (get_or ws k d) (g % 1024 % 64)) at ∙ ap (λ w. has_bucket w (g % 1024 % 64)) full ∙ full_mask (g % 1024 % 64) (below_64 (g % 1024))
+]
+
+pub all_full : (ws : List ℕ) (n : ℕ) → 16 ≤ n → AreFullTo n ws → (g : ℕ) → has_low_bits ws g ≡ true
+all_full ws n le full g = full g (omega (arith, le))
+
+-- words that have all low bits are full
+pub is_full : (i d : ℕ) (ws : List ℕ) → i < 16 → i < length ws → get_or ws i d < 2 ^ 64 → ((g : ℕ) → has_low_bits ws g ≡ true) → get_or ws i d ≡ 2 ^ 64 - 1
+is_full i d ws few lt fits all = all_buckets (get_or ws i d) fits (λ b less. sym (word_bit ws i d b few lt less) ∙ all (i * 64 + b))

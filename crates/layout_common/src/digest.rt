@@ -1,5 +1,5 @@
 //! Sets of glyphs that may have more than were added, and never fewer (rustybuzz: hb/set_digest.rs).
-ghost use Rattle.std.specs.Prelude.{ℕ, Bool, List, [], ◌∷◌, ◌++◌, ◌&&◌, ◌≡◌, ◌==◌, ◌||◌, ◌+◌, ◌-◌, ◌/◌, ◌^◌, ◌≤◌, ◌<◌, false, true, nat_lt};
+ghost use Rattle.std.specs.Prelude.{ℕ, Bool, List, [], ◌∷◌, ◌++◌, ◌&&◌, ◌≡◌, ◌==◌, ◌||◌, ◌+◌, ◌-◌, ◌/◌, ◌^◌, ◌≤◌, ◌<◌, ◌↔◌, false, true, nat_lt};
 ghost use Rattle.layout_common.specs.Buckets.{IsMaskOf, bucket, has_bucket, is_bucket_from, is_bucket_of, may_have_glyph, numbers_from, shares_bucket};
 ghost use Rattle.layout_common.specs.Coverage.{is_covered};
 
@@ -35,12 +35,12 @@ pub trait hb_set_digest_ext: Copy {
         ensures stays { (g : ℕ) → may_have self.old g ≡ true → may_have self.new g ≡ true }
         ensures exact { (others : List ℕ) → IsDigestOf self.old others → IsDigestOf self.new (others ++ glyphs.now) };
 
-    /// Adds the glyphs from one to another. What was there stays. It answers whether the set may still lack a glyph.
+    /// Adds the glyphs from one to another, none where the last is before the first. What was there stays. It answers
+    /// whether the set lacks a glyph.
     fn add_range(&mut self, first: u16, last: u16) -> bool
-        requires { first ≤ last }
         ensures added { (g : ℕ) → first ≤ g → g ≤ last → may_have self.new g ≡ true }
         ensures stays { (g : ℕ) → may_have self.old g ≡ true → may_have self.new g ≡ true }
-        ensures all { result ≡ false → (g : ℕ) → may_have self.new g ≡ true }
+        ensures all { result ≡ false ↔ ((g : ℕ) → may_have self.new g ≡ true) }
         ensures exact { (others : List ℕ) → IsDigestOf self.old others
             → IsDigestOf self.new (others ++ numbers_from first (last + 1 - first)) };
 
@@ -50,7 +50,7 @@ pub trait hb_set_digest_ext: Copy {
 
     /// Whether the sets may have a glyph in common. Where they may not, no glyph is in both.
     fn may_have(&self, other: &Self) -> bool
-        ensures { result ≡ false → (g : ℕ) → may_have self.now g ≡ true → may_have other.now g ≡ false };
+        ensures apart { result ≡ false → (g : ℕ) → may_have self.now g ≡ true → may_have other.now g ≡ false };
 
     // a set may have exactly the glyphs that share buckets with those that were added
     ghost exact: { (s : Self) (glyphs : List ℕ) (g : ℕ) → IsDigestOf s glyphs
@@ -187,10 +187,12 @@ fn with_groups(mask: u64, first: u32, count: u32) -> u64
 
 /// The mask with the buckets of the glyphs from one to another.
 fn with_range<const SHIFT: u8>(mask: u64, first: u16, last: u16) -> u64
-    requires { first ≤ last }
     ensures { (b : ℕ) → has_bucket result b
-        ≡ (has_bucket mask b || is_bucket_from (first / 2 ^ SHIFT) (last / 2 ^ SHIFT + 1 - first / 2 ^ SHIFT) b) }
+        ≡ (has_bucket mask b || is_bucket_of SHIFT (numbers_from first (last + 1 - first)) b) }
 {
+    if last < first {
+        return mask;
+    }
     let from = group::<SHIFT>(first);
     let past = group::<SHIFT>(last) - from;
     if past >= 63 {
@@ -239,14 +241,13 @@ impl<const SHIFT: u8> hb_set_digest_ext for hb_set_digest_bits_pattern_t<SHIFT> 
     }
 
     fn add_range(&mut self, first: u16, last: u16) -> bool
-        requires { first ≤ last }
         ensures added { (g : ℕ) → first ≤ g → g ≤ last → may_have_glyph SHIFT self.new.mask g ≡ true }
         ensures stays { (g : ℕ) → may_have_glyph SHIFT self.old.mask g ≡ true → may_have_glyph SHIFT self.new.mask g ≡ true }
-        ensures all { result ≡ false → (g : ℕ) → may_have_glyph SHIFT self.new.mask g ≡ true }
+        ensures all { result ≡ false ↔ ((g : ℕ) → may_have_glyph SHIFT self.new.mask g ≡ true) }
         ensures exact { (others : List ℕ) → IsMaskOf SHIFT self.old.mask others
             → IsMaskOf SHIFT self.new.mask (others ++ numbers_from first (last + 1 - first)) }
         ensures buckets { (b : ℕ) → has_bucket self.new.mask b
-            ≡ (has_bucket self.old.mask b || is_bucket_from (first / 2 ^ SHIFT) (last / 2 ^ SHIFT + 1 - first / 2 ^ SHIFT) b) }
+            ≡ (has_bucket self.old.mask b || is_bucket_of SHIFT (numbers_from first (last + 1 - first)) b) }
     {
         self.mask = with_range::<SHIFT>(self.mask, first, last);
         self.mask != u64::MAX
@@ -256,7 +257,12 @@ impl<const SHIFT: u8> hb_set_digest_ext for hb_set_digest_bits_pattern_t<SHIFT> 
         has_bucket(self.mask, bucket::<SHIFT>(glyph))
     }
 
-    fn may_have(&self, other: &Self) -> bool {
+    fn may_have(&self, other: &Self) -> bool
+        ensures apart { result ≡ false → (g : ℕ) → may_have_glyph SHIFT self.now.mask g ≡ true
+            → may_have_glyph SHIFT other.now.mask g ≡ false }
+        ensures exact { ((g : ℕ) → may_have_glyph SHIFT self.now.mask g ≡ true
+            → may_have_glyph SHIFT other.now.mask g ≡ false) → result ≡ false }
+    {
         self.mask & other.mask != 0
     }
 }

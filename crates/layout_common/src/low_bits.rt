@@ -1,5 +1,5 @@
 //! Sets of glyphs by the low bits of their numbers; rustybuzz has none.
-ghost use Rattle.std.specs.Prelude.{ℕ, List, [], ◌∷◌, ◌++◌, ◌≡◌, ◌==◌, ◌||◌, ◌%◌, ◌+◌, ◌-◌, ◌≤◌, ◌<◌, true, false, set};
+ghost use Rattle.std.specs.Prelude.{ℕ, List, [], ◌∷◌, ◌++◌, ◌≡◌, ◌==◌, ◌||◌, ◌%◌, ◌+◌, ◌-◌, ◌≤◌, ◌<◌, ◌↔◌, true, false, set};
 ghost use Rattle.layout_common.specs.Buckets.{numbers_from};
 ghost use Rattle.layout_common.specs.Coverage.{is_covered};
 ghost use Rattle.layout_common.specs.LowBits.{IsLowBitsOf, has_low_bits, shares_low_bits};
@@ -29,6 +29,18 @@ fn put_word(words: &mut [u64; WORDS], index: usize, word: u64)
     if words[index] != word {
         words[index] = word;
     }
+}
+
+/// Whether each bit of some words is set.
+fn are_full(words: &[u64; WORDS]) -> bool
+    ensures { result ≡ true ↔ ((g : ℕ) → has_low_bits words.now g ≡ true) }
+{
+    for i in 0..WORDS {
+        if words[i] != u64::MAX {
+            return false;
+        }
+    }
+    true
 }
 
 impl hb_set_digest_ext for LowBits {
@@ -78,15 +90,17 @@ impl hb_set_digest_ext for LowBits {
     }
 
     fn add_range(&mut self, first: u16, last: u16) -> bool
-        requires { first ≤ last }
         ensures added { (g : ℕ) → first ≤ g → g ≤ last → has_low_bits self.new.words g ≡ true }
         ensures stays { (g : ℕ) → has_low_bits self.old.words g ≡ true → has_low_bits self.new.words g ≡ true }
-        ensures all { result ≡ false → (g : ℕ) → has_low_bits self.new.words g ≡ true }
+        ensures all { result ≡ false ↔ ((g : ℕ) → has_low_bits self.new.words g ≡ true) }
         ensures exact { (others : List ℕ) → IsLowBitsOf self.old.words others
             → IsLowBitsOf self.new.words (others ++ numbers_from first (last + 1 - first)) }
         ensures buckets { (g : ℕ) → has_low_bits self.new.words g
             ≡ (has_low_bits self.old.words g || shares_low_bits (numbers_from first (last + 1 - first)) g) }
     {
+        if last < first {
+            return !are_full(&self.words);
+        }
         if last - first >= BUCKETS - 1 {
             *self = Self::full();
             return false;
@@ -94,7 +108,7 @@ impl hb_set_digest_ext for LowBits {
         for k in 0..last - first + 1 {
             self.add(first + k);
         }
-        true
+        !are_full(&self.words)
     }
 
     fn may_have_glyph(&self, glyph: u16) -> bool {
@@ -102,7 +116,12 @@ impl hb_set_digest_ext for LowBits {
         has_bucket(self.words[usize::from(low / WORD)], u32::from(low % WORD))
     }
 
-    fn may_have(&self, other: &Self) -> bool {
+    fn may_have(&self, other: &Self) -> bool
+        ensures apart { result ≡ false → (g : ℕ) → has_low_bits self.now.words g ≡ true
+            → has_low_bits other.now.words g ≡ false }
+        ensures exact { ((g : ℕ) → has_low_bits self.now.words g ≡ true
+            → has_low_bits other.now.words g ≡ false) → result ≡ false }
+    {
         for i in 0..WORDS {
             if self.words[i] & other.words[i] != 0 {
                 return true;

@@ -52,6 +52,22 @@ fn long_ranges(rt: HostRuntime) -> Result<(), Fail> {
     Ok(())
 }
 
+// Sets of one kind of buckets may have a glyph in common exactly where they have a bucket in common: glyphs 512 and 1023
+// are in one of 512 glyphs, 1024 is in the next.
+#[test]
+fn one_kind_of_buckets(rt: HostRuntime) -> Result<(), Fail> {
+    let mut set = hb_set_digest_bits_pattern_t::<9>::new();
+    assert!(rt; set.add_range(513, 512));
+    assert!(rt; !set.may_have_glyph(512) && !set.may_have_glyph(513));
+    set.add(512);
+    let mut other = hb_set_digest_bits_pattern_t::<9>::new();
+    other.add(1024);
+    assert!(rt; !set.may_have(&other));
+    other.add(1023);
+    assert!(rt; set.may_have(&other));
+    Ok(())
+}
+
 // Buckets of 64 glyphs each, whose numbers have the same ten low bits: a range of 1024 glyphs has all of them.
 #[test]
 fn low_bits(rt: HostRuntime) -> Result<(), Fail> {
@@ -74,8 +90,13 @@ fn low_bits(rt: HostRuntime) -> Result<(), Fail> {
     assert!(rt; set.may_have(&other));
     assert!(rt; set.add_range(5000, 5000 + 1022));
     assert!(rt; !set.may_have_glyph(4999));
-    assert!(rt; !set.add_range(5000, 5000 + 1023));
+    assert!(rt; set.add_range(5000, 4999));
+    assert!(rt; !set.may_have_glyph(4999));
+    assert!(rt; !set.add_range(4999, 4999));
     assert!(rt; set.may_have_glyph(4999));
+    let mut all = LowBits::new();
+    assert!(rt; !all.add_range(5000, 5000 + 1023));
+    assert!(rt; all.may_have_glyph(4999));
     Ok(())
 }
 
