@@ -25,7 +25,7 @@ simple_traits = record { normalization = mode.Auto; gpos_tag = None; zero_width_
 abbrev pub syllabic_traits : ℕ → ShaperTraits
 syllabic_traits zero_width = record { normalization = mode.ComposedDiacriticsNoShortCircuit; gpos_tag = None; zero_width_marks = zero_width; fallback_position = false }
 
--- the choices of the dumber shaper
+-- the choices of the Hangul shaper and of Zawgyi's
 abbrev pub hangul_traits : ShaperTraits
 hangul_traits = record { normalization = mode.None; gpos_tag = None; zero_width_marks = HB_OT_SHAPE_ZERO_WIDTH_MARKS_NONE; fallback_position = false }
 

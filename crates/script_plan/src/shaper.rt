@@ -11,7 +11,9 @@ use std::alloc::Global;
 
 /// What a shaper does to a text at the hooks of the pipeline. Each hook's rule is a function of the items and
 /// positions, the font, the tables, the plan and the text's settings; it doesn't depend on clusters, the cluster level
-/// or requests for glyph flags.
+/// or requests for glyph flags. A rule gives the new items and, beside them, the events for clusters and flags; no law
+/// ties the two to each other. A rule that reverses the characters and has no event meets the laws, and then what is
+/// said of the parts of a text says nothing of its characters.
 pub trait hb_ot_shaper_t: PlannedShaper {
     ghost use Rattle.std.specs.Prelude.{◌≡◌, ◌≤◌, Bool, true, false, List, Ok, length};
     ghost use Rattle.buffer_unicode_tables.specs.Expansion.{EndWithin};

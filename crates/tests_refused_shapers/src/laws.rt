@@ -1,4 +1,4 @@
-//! Laws: no shaper has rules that the laws of `shape_plan` refuse.
+//! Laws: no shaper has rules that the laws of `script_plan` refuse.
 ghost use Rattle.tests_refused_shapers.specs.Refused.{DroppingIsRefused, LimitsAreRefused, ReversingIsRefused};
 
 /// No shaper that reverses a text before it is normalised meets the law of its rules.
