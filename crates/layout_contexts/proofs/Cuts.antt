@@ -15,7 +15,7 @@ use Rattle.buffer_stages.specs.Buffers.{cut_of, are_glyphs}
 use Rattle.buffer_stages.specs.Performing.{cut_with}
 use Rattle.layout_contexts.proofs.Lemmas.Lengths.{whole_length}
 use Rattle.layout_contexts.specs.Nested.{cut_at, holds}
-use Rattle.layout_contexts.specs.Records.{IsMoved, IsMoveRefusal, IsSpent}
+use Rattle.layout_contexts.specs.Records.{after_spending, IsMoved, IsMoveRefusal, IsSpent}
 
 cut_moved : (p r : ℕ) (s : Sides) → cut_with r (after_move_to p s) ≡ cut_at p (cut_with r s)
 cut_moved p r s =
@@ -77,3 +77,6 @@ spent_left s left new e is =
     let Q : ℤ → Type 0 = λ z. IsSpent s (with_max_ops (z -ℤ pos 1) s) in
     let there : IsSpent s (with_max_ops (s.max_ops -ℤ pos 1) s) = λ r. record { cut_is = refl; happened = refl; still = refl; numbers = λ h. h } in
     subst P (sym is) (subst Q (sym e) there)
+
+pub spent_there : (s : Sides) (left : ℤ) (new : Sides) → left ≡ s.max_ops → new ≡ with_max_ops (left -ℤ pos 1) s → new ≡ after_spending s
+spent_there s left new e is = is ∙ ap (λ (z : ℤ). with_max_ops (z -ℤ pos 1) s) e

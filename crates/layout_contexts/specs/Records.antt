@@ -1,7 +1,8 @@
 -- One record of a rule, before its lookup is applied.
-use Rattle.std.specs.Prelude.{ℕ, ◌≡◌, ◌≢◌, ◌<◌, ◌⊎◌, false, List, [], length, Option, Some, None, Result, Ok, Err, slice_get}
+use Rattle.std.specs.Prelude.{ℕ, pos, ◌-ℤ◌, ◌≡◌, ◌≢◌, ◌<◌, ◌⊎◌, false, List, [], length, Option, Some, None, Result, Ok, Err, slice_get}
 use Rattle.buffer_glyphs.specs.declared.cause.ShapeCause.{ShapeCause}
 use Rattle.buffer_glyphs.specs.declared.cause.ShapeCause.TheVariants.{OutOfMemory, TooLong}
+use Rattle.buffer_core.specs.Settings.{with_max_ops}
 use Rattle.buffer_core.specs.Sides.{Sides}
 use Rattle.layout_tables.specs.declared.context.SequenceLookupRecord.{SequenceLookupRecord}
 use Rattle.buffer_stages.specs.Actions.{Cut, Action, whole}
@@ -17,6 +18,10 @@ IsMoved p old new = (random : ℕ) → IsLeft (cut_at p (cut_with random old)) [
 -- a refusal for want of memory, or since the side that grows would be too long
 abbrev pub IsMoveRefusal : ℕ → Cut → ShapeCause → Type 0
 IsMoveRefusal p c cause = (cause ≡ OutOfMemory) ⊎ ((cause ≡ TooLong) × (holds p c ≡ false))
+
+-- a buffer with one step of its budget fewer
+abbrev pub after_spending : Sides → Sides
+after_spending s = with_max_ops (s.max_ops -ℤ pos 1) s
 
 -- a step was taken, and nothing else changed
 abbrev pub IsSpent : Sides → Sides → Type 0

@@ -11,5 +11,5 @@ pub mod rules;
 pub use chain::{ChainRule, first_matches, match_chain, may_follow};
 pub use counts::glyph_count;
 pub use match_indices::settle_indices;
-pub use records::{MAX_NESTING_LEVEL, begin_record, move_to_match_end, settle_match};
+pub use records::{MAX_NESTING_LEVEL, begin_record, move_to_match_end, settle_match, spend};
 pub use rules::{class_rule, coverage_rule, glyph_rule, is_tried_at, rule_at, rules_at};

@@ -6,7 +6,7 @@ ghost use Rattle.buffer_stages.specs.Performing.{cut_with};
 ghost use Rattle.layout_contexts.specs.Nested.{Walks, cut_after_match, has_budget, holds};
 ghost use Rattle.layout_contexts.specs.Nesting.{Nests};
 ghost use Rattle.layout_contexts.specs.MatchIndices.{AreRising};
-ghost use Rattle.layout_contexts.specs.Records.{RecordBegins, IsMoved, IsMoveRefusal, IsSpent};
+ghost use Rattle.layout_contexts.specs.Records.{after_spending, RecordBegins, IsMoved, IsMoveRefusal, IsSpent};
 ghost use Rattle.layout_contexts.specs.Shifts.{moved_end, indices_after_resize};
 
 use crate::counts::glyph_count;
@@ -36,11 +36,13 @@ fn move_cursor_to(index: usize, buffer: &mut hb_buffer_t) -> Result<(), ShapeCau
     Ok(())
 }
 
-/// Takes one of the steps that are left (`max_ops`); answers whether one was left.
-#[tactic(auto, using(crate::proofs::Cuts::spent_left))]
-fn spend(buffer: &mut hb_buffer_t) -> bool
+/// Takes a step of the budget of nested lookups (`max_ops`), and answers whether one was left. Where none is, the buffer
+/// stays unchanged.
+#[tactic(auto, using(crate::proofs::Cuts::spent_left, crate::proofs::Cuts::spent_there))]
+pub fn spend(buffer: &mut hb_buffer_t) -> bool
     ensures left { result ≡ has_budget (cut_of buffer.old) }
     ensures taken { result ≡ true → IsSpent buffer.old buffer.new }
+    ensures spent { result ≡ true → buffer.new ≡ after_spending buffer.old }
     ensures none { result ≡ false → buffer.new ≡ buffer.old }
 {
     let left = buffer.max_ops();

@@ -1,8 +1,10 @@
 //! A nested GPOS lookup as a method of the apply context (rustybuzz: hb/ot_layout_gsubgpos.rs, `recurse`).
 ghost use Rattle.std.specs.Prelude.{ℕ, ◌≡◌, ◌≢◌, ◌<◌, true, false, length, slice_get, IfErr};
 ghost use Rattle.buffer_core.specs.Sides.{items_of};
-ghost use Rattle.buffer_stages.specs.Buffers.{are_glyphs};
+ghost use Rattle.buffer_stages.specs.Buffers.{are_glyphs, cut_of};
 ghost use Rattle.buffer_stages.specs.Performing.{Performs, cut_with};
+ghost use Rattle.layout_contexts.specs.Nested.{has_budget};
+ghost use Rattle.layout_contexts.specs.Records.{after_spending};
 ghost use Rattle.layout_match.specs.Applied.{ApplyContext, apply_context_of};
 ghost use Rattle.layout_positioning.specs.Lookups.{nested_actions, nested_lookup};
 ghost use Rattle.layout_positioning.specs.Positioning.{positioning_lookups};
@@ -10,7 +12,7 @@ ghost use Rattle.layout_positioning.specs.Positioning.{positioning_lookups};
 use crate::nested::recurse;
 use buffer_core::buffer::hb_buffer_t;
 use buffer_glyphs::cause::ShapeCause;
-use layout_contexts::MAX_NESTING_LEVEL;
+use layout_contexts::{MAX_NESTING_LEVEL, spend};
 use layout_gpos::bases::LastSearches;
 use layout_match::hb_ot_apply_context_t;
 
@@ -21,18 +23,21 @@ pub trait Nesting {
     ghost random: { Self → ℕ };
 
     /// Applies the GPOS lookup at an index at the cursor, nested in a lookup of the map: with its own flag, and without a
-    /// test whether it applies to the glyph there. Lookups may be nested in it 63 levels deep. It answers whether it
-    /// acted; an index without a lookup does nothing. It takes no memory, and refuses only where a list has more glyphs
-    /// than it may. The budget of nested lookups is counted where a rule's record is applied, not here.
+    /// test whether it applies to the glyph there. Lookups may be nested in it 63 levels deep. It takes a step of the
+    /// budget of nested lookups (`max_ops`), also where the lookup doesn't act or there is none; with no step left it
+    /// does nothing. It answers whether the lookup acted. It takes no memory, and refuses only where a list has more
+    /// glyphs than it may.
     fn recurse(&self, index: u16, buffer: &mut hb_buffer_t) -> Result<bool, ShapeCause>
         requires closed { buffer.old.is_open ≡ false }
         requires unrefused { buffer.old.has_refused ≡ false }
         requires there { 0 < length buffer.old.ahead }
         requires number { are_glyphs (items_of buffer.old) ≡ true }
-        ensures performs { Performs (nested_lookup (nested_actions (positioning_lookups (applied self.now).font) 63
-            buffer.old.direction) (slice_get (positioning_lookups (applied self.now).font) index) buffer.old.direction
-            (applied self.now) (cut_with (random self.now) buffer.old)) result (random self.now) (random self.now)
-            buffer.old buffer.new }
+        ensures performs { has_budget (cut_of buffer.old) ≡ true → Performs
+            (nested_lookup (nested_actions (positioning_lookups (applied self.now).font) 63 buffer.old.direction)
+            (slice_get (positioning_lookups (applied self.now).font) index) buffer.old.direction (applied self.now)
+            (cut_with (random self.now) (after_spending buffer.old))) result (random self.now) (random self.now)
+            (after_spending buffer.old) buffer.new }
+        ensures spent { has_budget (cut_of buffer.old) ≡ false → (result ≡ Ok false) × (buffer.new ≡ buffer.old) }
         ensures memory { IfErr result (λ e. e ≢ ShapeCause.OutOfMemory) };
 }
 
@@ -55,12 +60,17 @@ fn apply_nested(
     requires unrefused { buffer.old.has_refused ≡ false }
     requires there { 0 < length buffer.old.ahead }
     requires number { are_glyphs (items_of buffer.old) ≡ true }
-    ensures performs { Performs (nested_lookup (nested_actions (positioning_lookups ctx.now.face.now) 63 buffer.old.direction)
+    ensures performs { has_budget (cut_of buffer.old) ≡ true → Performs
+        (nested_lookup (nested_actions (positioning_lookups ctx.now.face.now) 63 buffer.old.direction)
         (slice_get (positioning_lookups ctx.now.face.now) index) buffer.old.direction (apply_context_of ctx.now)
-        (cut_with ctx.now.random_state buffer.old)) result ctx.now.random_state ctx.now.random_state buffer.old
-        buffer.new }
+        (cut_with ctx.now.random_state (after_spending buffer.old))) result ctx.now.random_state ctx.now.random_state
+        (after_spending buffer.old) buffer.new }
+    ensures spent { has_budget (cut_of buffer.old) ≡ false → (result ≡ Ok false) × (buffer.new ≡ buffer.old) }
     ensures memory { IfErr result (λ e. e ≢ ShapeCause.OutOfMemory) }
 {
+    if !spend(buffer) {
+        return Ok(false);
+    }
     match ctx.face.gpos() {
         Some(table) => {
             let mut last = LastSearches::new();

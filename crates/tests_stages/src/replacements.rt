@@ -70,17 +70,21 @@ fn nest(face: &Face, index: u16, buffer: &mut hb_buffer_t) -> Result<bool, Shape
     ctx.recurse(index, buffer)
 }
 
-/// Whether the lookup at an index acts at the first glyph.
-fn acts(alloc: Global, index: u16) -> Result<bool, Fail> {
+/// Whether the lookup at an index acts at the first glyph with so many steps of the budget, and how many are then left.
+fn acts(alloc: Global, index: u16, steps: i32) -> Result<(bool, i32), Fail> {
     let face = face_of(alloc, FONT)?;
     let mut buffer = buffer_of(alloc, TEXT)?;
-    Ok(nest(&face, index, &mut buffer)?)
+    buffer.set_max_ops(steps);
+    let acted = nest(&face, index, &mut buffer)?;
+    Ok((acted, buffer.max_ops()))
 }
 
+// A nested lookup takes one step, also where there is no lookup at the index; without a step it does nothing.
 #[test]
 fn substitutions_nest(rt: HostRuntime) -> Result<(), Fail> {
-    let first = acts(rt.alloc(), 0)?;
-    let missing = acts(rt.alloc(), 1)?;
-    assert!(rt; first && !missing);
+    let first = acts(rt.alloc(), 0, 1)?;
+    let missing = acts(rt.alloc(), 1, 2)?;
+    let spent = acts(rt.alloc(), 0, 0)?;
+    assert!(rt; first == (true, 0) && missing == (false, 1) && spent == (false, 0));
     Ok(())
 }
