@@ -1,7 +1,7 @@
 -- How a rule fits where it is tried.
 use Rattle.std.proofs.Common.{ℕ, ◌≡◌, ◌≤◌, ◌<◌, ◌+◌, ◌-◌, true, false, Bool, List, [], ◌∷◌, length, map, drop, Option, Some, Result, Ok, Err, if◌then◌else◌, refl, sym, ap, ◌∙◌, arith}
 use Rattle.std.specs.Prelude.{nat_le, ◌&&◌}
-use Rattle.std.proofs.lemmas.List.{drop-map}
+use Rattle.std.proofs.lemmas.List.{drop-map, length-drop}
 use Rattle.buffer_glyphs.specs.Items.{Item}
 use Rattle.buffer_glyphs.specs.Parts.{first_of}
 use Rattle.buffer_glyphs.specs.Events.{Break}
@@ -15,6 +15,12 @@ use Rattle.std.proofs.lemmas.Bool.{and_from, and_left, and_right}
 
 pub map_behind_first : {X Y : Type 0} (f : X → Y) (xs ys : List X) → ys ≡ drop 1 xs → map f ys ≡ drop 1 (map f xs)
 map_behind_first f xs ys e = ap (map f) e ∙ sym (drop-map f 1 xs)
+
+-- the items after the first of 64 at most
+pub few_behind : {X : Type 0} (xs ys : List X) (n : ℕ) → ys ≡ drop 1 xs → n ≡ length xs → n ≤ 64 → length ys < 64
+few_behind xs ys n e is le =
+    let same : length ys ≡ length xs - 1 = ap length e ∙ length-drop 1 xs in
+    omega (arith, same, is, le)
 
 at_item : (nest : Option (ℕ → Action)) (a : ApplyContext) (r : Chain) (x : Item) (c : Cut) → first_of c.rest ≡ Some x → chain_rule nest a r c ≡ chain_at nest a r x c
 at_item nest a r x c e = ap (λ (o : Option Item). at_first (chain_at nest a r) o c) e

@@ -1,6 +1,6 @@
 //! Matches of input, backtrack and lookahead sequences (rustybuzz: hb/ot_layout_gsubgpos.rs, `match_input`,
 //! `match_backtrack`, `match_lookahead`).
-ghost use Rattle.std.specs.Prelude.{◌≡◌, ◌<◌, ◌≤◌, ◌∷◌, Some, length, reverse, slice_get, IfOk, IfErr};
+ghost use Rattle.std.specs.Prelude.{◌≡◌, ◌<◌, ◌≤◌, ◌∷◌, [], Some, length, reverse, slice_get, IfOk, IfErr};
 ghost use Rattle.std.specs.List.{All};
 ghost use Rattle.buffer_glyphs.specs.Items.{strip};
 ghost use Rattle.layout_match.specs.Applied.{apply_context_of, context_search, own_search};
@@ -88,25 +88,30 @@ pub(crate) fn nearest_behind<'a>(
 /// Matches the input of a rule: its first glyph is the one at the cursor, and each further glyph the nearest after the
 /// one before it that matches the sequence, with only skipped glyphs between. It answers the index after the last
 /// glyph, or how far the failed search read: to after the glyph that ended it, or to the end of the text. The indices
-/// found are recorded, also before a failure.
+/// found are recorded, also before a failure. An input of more than `MAX_CONTEXT_LENGTH` glyphs is not searched for: it
+/// fails, and nothing is read or recorded.
 pub fn match_input(
     ctx: &hb_ot_apply_context_t,
     sequence: &MatchSequence,
     buffer: &hb_buffer_t,
     match_positions: &mut MatchPositions,
 ) -> Result<usize, usize>
-    requires there { 0 < length buffer.now.ahead }
-    requires fits { length (tests_of sequence.now) < 64 }
-    ensures end { result
+    requires { 0 < length buffer.now.ahead }
+    ensures end { length (tests_of sequence.now) < 64 → result
         ≡ input_end (own_search (apply_context_of ctx.now) (strip buffer.now.ahead)) (tests_of sequence.now)
         (strip buffer.now.ahead) }
     ensures inside { IfOk result (λ end. end ≤ length buffer.now.ahead) }
     ensures read { IfErr result (λ end. end ≤ length buffer.now.ahead) }
-    ensures positions { match_positions.new.items
+    ensures positions { length (tests_of sequence.now) < 64 → match_positions.new.items
         ≡ input_indices (own_search (apply_context_of ctx.now) (strip buffer.now.ahead)) (tests_of sequence.now)
         (strip buffer.now.ahead) }
+    ensures long { 64 ≤ length (tests_of sequence.now) → (result ≡ Err 0) × (match_positions.new.items ≡ []) }
     ensures ahead { All (λ q. q < length buffer.now.ahead) match_positions.new.items }
 {
+    if sequence.len() >= MAX_CONTEXT_LENGTH {
+        match_positions.clear();
+        return Err(0);
+    }
     let search = ctx.own_search(buffer);
     match_from_first(&search, sequence, buffer, match_positions)
 }
