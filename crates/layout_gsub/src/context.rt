@@ -1,5 +1,5 @@
 //! The replacements of the apply context, as its methods (rustybuzz: hb/ot_layout_gsubgpos.rs, `hb_ot_apply_context_t`).
-ghost use Rattle.std.specs.Prelude.{ℕ, ◌≡◌, ◌≢◌, ◌<◌, true, false, Some, [], length, slice_get, IfErr, OnOk};
+ghost use Rattle.std.specs.Prelude.{ℕ, ◌≡◌, ◌≢◌, ◌<◌, ◌||◌, nat_lt, true, false, Some, [], length, slice_get, IfErr, OnOk};
 ghost use Rattle.buffer_glyphs.specs.declared.info.hb_glyph_info_t.{hb_glyph_info_t as Glyph};
 ghost use Rattle.buffer_glyphs.specs.Items.{item_of};
 ghost use Rattle.buffer_glyphs.specs.Origins.{origin_of};
@@ -29,12 +29,13 @@ pub trait GlyphReplacement {
     ghost random: { Self → ℕ };
 
     /// Replaces the glyph at the cursor by another, and outputs it; its class is GDEF's, where GDEF has classes. It
-    /// answers true, as a rule that acted.
+    /// answers true, as a rule that acted. An output that is in place stays there.
     fn replace_glyph(&self, glyph: u16, buffer: &mut hb_buffer_t) -> Result<bool, ShapeCause>
         requires open { buffer.old.is_open ≡ true }
         requires there { 0 < length buffer.old.ahead }
-        ensures { Performs (single_substitution (definition self.now) (Some glyph)
-            (cut_with (random self.now) buffer.old)) result (random self.now) (random self.now) buffer.old buffer.new };
+        ensures performs { Performs (single_substitution (definition self.now) (Some glyph)
+            (cut_with (random self.now) buffer.old)) result (random self.now) (random self.now) buffer.old buffer.new }
+        ensures apart { OnOk result (buffer.new.is_apart ≡ buffer.old.is_apart) };
 
     /// Replaces the glyph at the cursor by another, in place; its class is GDEF's, where GDEF has classes.
     fn replace_glyph_inplace(&self, glyph: u16, buffer: &mut hb_buffer_t)
@@ -43,7 +44,8 @@ pub trait GlyphReplacement {
             (cut_of buffer.old)) []) true buffer.old buffer.new };
 
     /// Replaces the glyph at the cursor by a ligature, and outputs it; its class is GDEF's, where GDEF has classes, else
-    /// the guess, and with an empty guess it stays. It answers true, as a rule that acted.
+    /// the guess, and with an empty guess it stays. It answers true, as a rule that acted. An output that is in place
+    /// stays there.
     fn replace_glyph_with_ligature(
         &self,
         glyph: u16,
@@ -52,11 +54,13 @@ pub trait GlyphReplacement {
     ) -> Result<bool, ShapeCause>
         requires open { buffer.old.is_open ≡ true }
         requires there { 0 < length buffer.old.ahead }
-        ensures { Performs (ligature_replacement (definition self.now) glyph class_guess.0
-            (cut_with (random self.now) buffer.old)) result (random self.now) (random self.now) buffer.old buffer.new };
+        ensures performs { Performs (ligature_replacement (definition self.now) glyph class_guess.0
+            (cut_with (random self.now) buffer.old)) result (random self.now) (random self.now) buffer.old buffer.new }
+        ensures apart { OnOk result (buffer.new.is_apart ≡ buffer.old.is_apart) };
 
     /// Outputs a glyph as a component, counted from 0, of the glyph at the cursor, which stays there. It is multiplied;
-    /// its class is GDEF's, where GDEF has classes, else a ligature's component is a base.
+    /// its class is GDEF's, where GDEF has classes, else a ligature's component is a base. An output in place leaves it
+    /// where it then has more glyphs than were read.
     fn output_glyph_for_component(
         &self,
         glyph: u16,
@@ -67,6 +71,8 @@ pub trait GlyphReplacement {
         requires there { 0 < length buffer.old.ahead }
         ensures put { OnOk result ((g : Glyph) → slice_get buffer.old.ahead 0 ≡ Some g →
             IsPut (component_item (definition self.now) (item_of g) component glyph) (origin_of g) buffer.old buffer.new) }
+        ensures apart { OnOk result (buffer.new.is_apart
+            ≡ (buffer.old.is_apart || nat_lt buffer.old.read (length buffer.new.behind))) }
         ensures room { OnOk result (has_output_room 1 buffer.old ≡ true) }
         ensures cause { IfErr result (λ e. e ≢ ShapeCause.OutOfMemory → e ≡ ShapeCause.TooLong) }
         ensures full { IfErr result (λ e. e ≢ ShapeCause.OutOfMemory → has_output_room 1 buffer.old ≡ false) };
@@ -133,9 +139,10 @@ fn replace_with_ligature(
 ) -> Result<bool, ShapeCause>
     requires open { buffer.old.is_open ≡ true }
     requires there { 0 < length buffer.old.ahead }
-    ensures { Performs (ligature_replacement ctx.now.face.now.gdef glyph class_guess.0
+    ensures performs { Performs (ligature_replacement ctx.now.face.now.gdef glyph class_guess.0
         (cut_with ctx.now.random_state buffer.old)) result ctx.now.random_state ctx.now.random_state buffer.old
         buffer.new }
+    ensures apart { OnOk result (buffer.new.is_apart ≡ buffer.old.is_apart) }
 {
     let props = guessed_ligature_props(ctx.face, glyph, class_guess, buffer.cur(0).glyph_props);
     set_glyph_props(buffer, props);

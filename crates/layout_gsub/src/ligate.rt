@@ -293,6 +293,7 @@ fn merge_parts(parts: &LigatureParts, end: usize, buffer: &mut hb_buffer_t) -> u
     ensures number { result < 8 }
     ensures merged { IsMerged end (if parts.now.have_own_number then next_lig_id buffer.old.lig_id
         else buffer.old.lig_id) buffer.old buffer.new }
+    ensures apart { buffer.new.is_apart ≡ buffer.old.is_apart }
 {
     let _end = buffer.len();
     let start = buffer.idx();
@@ -304,7 +305,8 @@ fn merge_parts(parts: &LigatureParts, end: usize, buffer: &mut hb_buffer_t) -> u
 }
 
 /// Makes a ligature of the glyph at the cursor and the other components at some indices ahead, which rise, count from
-/// the cursor, and are fewer than 64; `end` is the index after the last of them, 1 where there is none.
+/// the cursor, and are fewer than 64; `end` is the index after the last of them, 1 where there is none. An output that is
+/// in place stays there.
 pub fn ligate_input(
     others: &[usize],
     end: usize,
@@ -321,6 +323,7 @@ pub fn ligate_input(
     requires within { end ≤ length buffer.old.ahead }
     ensures made { OnOk result ((r : ℕ) → IsPerformed (ligature_substitution face.now.gdef glyph (0 ∷ others.now) end
         (cut_with r buffer.old)) true r r buffer.old buffer.new) }
+    ensures apart { OnOk result (buffer.new.is_apart ≡ buffer.old.is_apart) }
     ensures refused { IfErr result (λ e. e ≢ ShapeCause.OutOfMemory → (r : ℕ) →
         ligature_substitution face.now.gdef glyph (0 ∷ others.now) end (cut_with r buffer.old) ≡ Refuses e) }
 {

@@ -1,5 +1,5 @@
 //! Multiple substitution (OpenType, GSUB lookup type 2).
-ghost use Rattle.std.specs.Prelude.{ℕ, ◌≡◌, ◌≢◌, ◌<◌, true, false, [], length, slice_get, Some, IfErr, OnOk};
+ghost use Rattle.std.specs.Prelude.{ℕ, ◌≡◌, ◌≢◌, ◌<◌, ◌||◌, nat_lt, true, false, [], length, slice_get, Some, IfErr, OnOk};
 ghost use Rattle.buffer_glyphs.specs.Items.{item_of};
 ghost use Rattle.buffer_glyphs.specs.Origins.{origin_of};
 ghost use Rattle.buffer_core.specs.Sides.{has_output_room};
@@ -54,7 +54,8 @@ fn component_info(face: &Face, info: &hb_glyph_info_t, i: usize, glyph: u16) -> 
     component
 }
 
-/// Outputs the i-th of several glyphs that replace a glyph.
+/// Outputs the i-th of several glyphs that replace a glyph. An output in place leaves it where it then has more glyphs
+/// than were read.
 pub fn output_glyph_for_component(
     face: &Face,
     info: &hb_glyph_info_t,
@@ -65,6 +66,8 @@ pub fn output_glyph_for_component(
     requires open { buffer.old.is_open ≡ true }
     ensures put { OnOk result
         (IsPut (component_item face.now.gdef (item_of info.now) i glyph) (origin_of info.now) buffer.old buffer.new) }
+    ensures apart { OnOk result (buffer.new.is_apart
+        ≡ (buffer.old.is_apart || nat_lt buffer.old.read (length buffer.new.behind))) }
     ensures room { OnOk result (has_output_room 1 buffer.old ≡ true) }
     ensures cause { IfErr result (λ e. e ≢ ShapeCause.OutOfMemory → e ≡ ShapeCause.TooLong) }
     ensures full { IfErr result (λ e. e ≢ ShapeCause.OutOfMemory → has_output_room 1 buffer.old ≡ false) }

@@ -51,12 +51,13 @@ pub(crate) fn set_glyph_props(buffer: &mut hb_buffer_t, props: GlyphPropsFlags)
     ensures behind { buffer.new.behind ≡ buffer.old.behind }
     ensures limit { buffer.new.max_len ≡ buffer.old.max_len }
     ensures count { length buffer.new.ahead ≡ length buffer.old.ahead }
+    ensures apart { buffer.new.is_apart ≡ buffer.old.is_apart }
 {
     buffer.cur_mut(0).glyph_props = props;
 }
 
 /// Replaces the glyph at the cursor by another, and outputs it; its class is GDEF's, where GDEF has classes. It answers
-/// true, as a rule that acted.
+/// true, as a rule that acted. An output that is in place stays there.
 pub fn replace_glyph(
     ctx: &hb_ot_apply_context_t,
     glyph: u16,
@@ -64,9 +65,10 @@ pub fn replace_glyph(
 ) -> Result<bool, ShapeCause>
     requires open { buffer.old.is_open ≡ true }
     requires there { 0 < length buffer.old.ahead }
-    ensures { Performs (single_substitution ctx.now.face.now.gdef (Some glyph)
+    ensures performs { Performs (single_substitution ctx.now.face.now.gdef (Some glyph)
         (cut_with ctx.now.random_state buffer.old)) result ctx.now.random_state ctx.now.random_state buffer.old
         buffer.new }
+    ensures apart { OnOk result (buffer.new.is_apart ≡ buffer.old.is_apart) }
 {
     let props = substituted_props(ctx.face, glyph, buffer.cur(0).glyph_props);
     set_glyph_props(buffer, props);

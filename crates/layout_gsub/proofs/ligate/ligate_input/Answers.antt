@@ -2,6 +2,7 @@ use Rattle.std.proofs.Common.{◌≡◌, ◌≤◌, ◌<◌, ◌-◌, ◌==◌, 
 use Rattle.std.proofs.lemmas.Option.{slice_get-get_or}
 use Rattle.buffer_glyphs.specs.Items.{item_of, strip}
 use Rattle.buffer_core.specs.Settings.{next_lig_id}
+use Rattle.buffer_core.specs.Sides.{Sides}
 use Rattle.buffer_stages.specs.Actions.{Cut}
 use Rattle.layout_gsub.specs.Ligating.{after_components, following_items, items_at, last_index, passed_items}
 use Rattle.layout_gsub.specs.Uniting.{IsMerged}
@@ -45,3 +46,7 @@ returns-clause-made c = λ r.
     let is-ahead = after_is p.are_marks p.last_lig_id p.last_components p.component_count id end others s h (strip b.ahead) ends at scratch_flags.marks scratch_flags.count tells.0 tells.1 ∙ ap (λ n. after_components ps n (slice_get (strip s.ahead) (last_index (0 ∷ others))) (strip b.ahead)) id-is in
     ligature_made gdef c.args.glyph end r others x passed behind s a b new g small ends within c.cur.ensures merged first is-passed c.in_ok-unite_parts.ensures.united is-ahead
     (λ k. after_small (p.are_marks || (p.last_lig_id == 0)) id p.last_lig_id p.component_count p.last_components (strip b.ahead) ∙ k) c.renumber_behind.ensures
+
+pub returns-clause-apart : goal.returns-clause-apart
+returns-clause-apart c =
+    ap (λ (t : Sides). t.is_apart) c.renumber_behind.ensures.others ∙ ap (λ (t : Sides). t.is_apart) c.in_ok-unite_parts.ensures.united.others ∙ c.merge_parts-lig_id.ensures.apart

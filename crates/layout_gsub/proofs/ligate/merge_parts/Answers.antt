@@ -1,5 +1,6 @@
 use Rattle.std.proofs.Common.{ℕ, Bool, if◌then◌else◌, sym, ap, subst, ◌∙◌}
 use Rattle.buffer_core.specs.Settings.{next_lig_id}
+use Rattle.buffer_core.specs.Sides.{Sides}
 use Rattle.layout_gsub.specs.Uniting.{IsMerged}
 use Rattle.layout_gsub.proofs.LigatureMade.{parts_merged, number_given, given_of}
 use Rattle.layout_gsub.proofs.ligate.merge_parts.Goals as goal
@@ -23,3 +24,9 @@ returns-clause-merged c =
     let Q : ℕ → Type 0 = λ n. IsMerged c.args.end n s new in
     let P : Bool → Type 0 = λ b. IsMerged c.args.end (if b then next_lig_id s.lig_id else s.lig_id) s new in
     subst P (sym c.if-not-parts.false) (subst Q same given)
+
+pub returns-then-not-parts-clause-apart : goal.returns-then-not-parts-clause-apart
+returns-then-not-parts-clause-apart c = ap (λ (t : Sides). t.is_apart) c.merge_clusters.ensures.merged
+
+pub returns-clause-apart : goal.returns-clause-apart
+returns-clause-apart c = ap (λ (t : Sides). t.is_apart) c.allocate_lig_id.ensures.kept ∙ ap (λ (t : Sides). t.is_apart) c.merge_clusters.ensures.merged

@@ -9,7 +9,7 @@ returns-in-Some-clause-performs c =
     let s = c.args.buffer.now in
     let ctx = c.args.ctx.now in
     let some : value_of c.as_glyph.result.0 c.args.self.now.rows ≡ Some c.in-Some.glyph = sym (rw c.in-Some.is at c.substitute.ensures) in
-    single_performs ctx.face.now.gdef c.args.self.now.rows ctx.random_state ctx.random_state s c.replace_glyph.new.buffer c.cur.result.now c.as_glyph.result.0 (Some c.in-Some.glyph) c.replace_glyph.result c.cur.ensures c.as_glyph.ensures some c.replace_glyph.ensures
+    single_performs ctx.face.now.gdef c.args.self.now.rows ctx.random_state ctx.random_state s c.replace_glyph.new.buffer c.cur.result.now c.as_glyph.result.0 (Some c.in-Some.glyph) c.replace_glyph.result c.cur.ensures c.as_glyph.ensures some c.replace_glyph.ensures.performs
 
 pub returns-in-None-clause-performs : goal.returns-in-None-clause-performs
 returns-in-None-clause-performs c =
