@@ -1,5 +1,5 @@
 -- Glyphs attached to others by links, and where they are drawn.
-use Rattle.std.specs.Prelude.{ℕ, zero, suc, ◌+◌, ◌==◌, Bool, true, false, ◌||◌, if◌then◌else◌, List, set, map, length, slice_range, Option, Some, None}
+use Rattle.std.specs.Prelude.{ℕ, zero, suc, negsuc, int_lt, ◌+◌, ◌==◌, Bool, true, false, ◌&&◌, ◌||◌, if◌then◌else◌, List, set, map, length, slice_range, Option, Some, None}
 use Rattle.std.specs.List.{fold}
 use Rattle.buffer_glyphs.specs.Items.{Position}
 use Rattle.buffer_common.specs.declared.direction.Direction.{Direction}
@@ -14,6 +14,10 @@ has_kind p = p.attach_type == 1 || p.attach_type == 2
 -- a position, without a link of any other kind
 abbrev pub kind_tested : Position → Position
 kind_tested p = if has_kind p then p else without_link p
+
+-- whether a glyph is attached, by a mark or in a cursive chain, to one more than 16 glyphs before it
+abbrev pub is_far_back : Position → Bool
+is_far_back p = has_kind p && int_lt p.attach_chain (negsuc 15)
 
 -- positions without links of any other kind
 abbrev pub kinds_tested : List Position → List Position

@@ -1,9 +1,9 @@
 //! Glyphs drawn from where their links lead, on a list of positions (rustybuzz: hb/ot_layout_gpos_table.rs,
 //! `propagate_attachment_offsets`).
 ghost use Rattle.std.specs.Prelude.{◌≡◌, ◌≤◌, ◌<◌, length, set, slice_range};
-ghost use Rattle.std.specs.List.{fold};
+ghost use Rattle.std.specs.List.{fold, list_any};
 ghost use Rattle.std.specs.Prelude.{IfSome, MatchOption, true, false, pos, ◌+ℤ◌};
-ghost use Rattle.layout_offsets.specs.FollowedLinks.{Drawing, with_child_drawn, with_link_cleared, finished_positions, with_link_followed, with_links_followed, offset_by, child_drawn, back_over, on_over, mark_drawn, kind_tested, kinds_tested};
+ghost use Rattle.layout_offsets.specs.FollowedLinks.{Drawing, with_child_drawn, with_link_cleared, finished_positions, with_link_followed, with_links_followed, offset_by, child_drawn, back_over, on_over, mark_drawn, is_far_back, kind_tested, kinds_tested};
 ghost use Rattle.layout_offsets.specs.Links.{link_target, position_at};
 ghost use Rattle.layout_offsets.specs.AdvanceSums.{drawing, mark_by_sums, pen_before, back_by, on_by};
 ghost use Rattle.layout_offsets.specs.Walks.{IsComing, WalkStops, StepsToParent, HasReturn, StepsBack, are_shut, is_open, opened_link, closed_link, HasLinklessParent};
@@ -414,10 +414,11 @@ fn follow_all(positions: &mut [GlyphPosition], direction: Direction, by_sums: bo
 const NEAR: i16 = 16;
 
 /// Clears a glyph's link of neither kind, and answers whether the glyph is attached to one far before it.
-#[tactic(auto, using(crate::proofs::Tested::linkless_tested, crate::proofs::Tested::other_tested, crate::proofs::Tested::kind_stays))]
+#[tactic(auto, using(crate::proofs::Tested::linkless_tested, crate::proofs::Tested::other_tested, crate::proofs::Tested::kind_stays, crate::proofs::Tested::linkless_near, crate::proofs::Tested::other_near, crate::proofs::Tested::kind_far))]
 fn test_kind(positions: &mut [GlyphPosition], at: usize) -> bool
     requires here { at < length positions.old }
-    ensures { positions.new ≡ set positions.old at (kind_tested (position_at at positions.old)) }
+    ensures tested { positions.new ≡ set positions.old at (kind_tested (position_at at positions.old)) }
+    ensures far { result ≡ is_far_back (position_at at positions.old) }
 {
     if positions[at].attach_chain == 0 {
         return false;
@@ -432,7 +433,8 @@ fn test_kind(positions: &mut [GlyphPosition], at: usize) -> bool
 
 /// Clears links of neither kind, and answers whether a glyph is attached to one far before it.
 fn test_kinds(positions: &mut [GlyphPosition]) -> bool
-    ensures { positions.new ≡ kinds_tested positions.old }
+    ensures tested { positions.new ≡ kinds_tested positions.old }
+    ensures far { result ≡ list_any is_far_back positions.old }
 {
     let mut is_far = false;
     for i in 0..positions.len() {
