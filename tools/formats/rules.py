@@ -209,8 +209,7 @@ def contexts(where: str, subtable: Any, count: int) -> Faults:
             yield f"{where}: first or classes"
         for each in classes:
             yield from rows(f"{where} classes", each, row_of(word, word), first)
-    # A lookup that is not there when its turn comes is passed over.
-    records = list_of(row_of(word, word))
+    records = list_of(row_of(word, below(count)))
     rule = row_of(list_of(items), list_of(items), list_of(items), records)
     yield from rows(f"{where} rules", subtable.get("rules", []), rule, None)
 

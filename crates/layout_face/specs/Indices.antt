@@ -9,8 +9,8 @@ use Rattle.layout_face.specs.declared.parts.FaceParts.{FaceParts}
 abbrev pub set_limit : ℕ
 set_limit = 65535
 
--- whether all features, lookups, mark glyph sets, records of pairs and anchors that are named in both layout tables
--- exist
+-- whether all features, lookups, nested ones too, mark glyph sets, records of pairs and anchors that are named in both
+-- layout tables exist
 abbrev pub indices_fit : FaceParts → Bool
 indices_fit font =
     nat_le (length font.gdef.sets) set_limit

@@ -1,12 +1,13 @@
 //! Whether the indices and classes of a table stay within their lists.
-ghost use Rattle.std.specs.Prelude.{◌≡◌};
+ghost use Rattle.std.specs.Prelude.{◌≡◌, length};
 ghost use Rattle.std.specs.List.{list_all};
 ghost use Rattle.layout_tables.specs.Fits.{marks_fit_bases, marks_fit_ligatures};
-ghost use Rattle.layout_face.specs.LookupIndices.{set_fits, substitution_fits, positioning_fits, positioning_classes_fit, positioning_lookup_fits, pair_classes_fit};
+ghost use Rattle.layout_face.specs.LookupIndices.{contexts_fit, set_fits, substitution_fits, substitution_lookup_fits, substitution_nested_fit, positioning_fits, positioning_classes_fit, positioning_lookup_fits, positioning_nested_fit, pair_classes_fit};
 
 use crate::positioning::{PositioningLookup, PositioningSubtables, PositioningTable};
-use crate::substitution::{SubstLookup, SubstitutionTable};
+use crate::substitution::{SubstLookup, SubstitutionSubtables, SubstitutionTable};
 use layout_common::digested::Digested;
+use layout_tables::context::ContextSubtable;
 use layout_tables::mark::{MarkBasePos, MarkLigPos};
 use layout_tables::pair::PairPos;
 
@@ -30,26 +31,83 @@ impl PositioningTable {
     }
 }
 
-fn substitution_lookups_fit(set_count: usize, lookups: &[SubstLookup]) -> bool
-    ensures { result ≡ list_all (λ l. set_fits set_count l.mark_filtering_set) lookups.now }
+impl SubstLookup {
+    /// Whether the lookups that its contexts name exist, in a table with so many lookups.
+    pub fn nested_fit(&self, lookup_count: usize) -> bool
+        ensures { result ≡ substitution_nested_fit lookup_count self.now.subtables }
+    {
+        match self.subtables.inner() {
+            SubstitutionSubtables::Context(subtables)
+            | SubstitutionSubtables::ChainContext(subtables) => {
+                contexts_fit(lookup_count, subtables.as_slice())
+            }
+            SubstitutionSubtables::Single(_)
+            | SubstitutionSubtables::Multiple(_)
+            | SubstitutionSubtables::Alternate(_)
+            | SubstitutionSubtables::Ligature(_)
+            | SubstitutionSubtables::ReverseChainSingle(_) => true,
+        }
+    }
+}
+
+impl PositioningLookup {
+    /// Whether the lookups that its contexts name exist, in a table with so many lookups.
+    pub fn nested_fit(&self, lookup_count: usize) -> bool
+        ensures { result ≡ positioning_nested_fit lookup_count self.now.subtables }
+    {
+        match self.subtables.inner() {
+            PositioningSubtables::Context(subtables)
+            | PositioningSubtables::ChainContext(subtables) => {
+                contexts_fit(lookup_count, subtables.as_slice())
+            }
+            PositioningSubtables::Single(_)
+            | PositioningSubtables::Pair(_)
+            | PositioningSubtables::Cursive(_)
+            | PositioningSubtables::MarkToBase(_)
+            | PositioningSubtables::MarkToLigature(_)
+            | PositioningSubtables::MarkToMark(_) => true,
+        }
+    }
+}
+
+fn contexts_fit(lookup_count: usize, subtables: &[Digested<ContextSubtable>]) -> bool
+    ensures { result ≡ contexts_fit lookup_count subtables.now }
 {
-    lookups
+    subtables
         .iter()
-        .all(|lookup| set_fits(set_count, lookup.mark_filtering_set))
+        .all(|subtable| subtable.inner().lookups_fit(lookup_count))
+}
+
+fn substitution_lookups_fit(set_count: usize, lookups: &[SubstLookup]) -> bool
+    ensures { result ≡ list_all (λ l. substitution_lookup_fits set_count (length lookups.now) l) lookups.now }
+{
+    let lookup_count = lookups.len();
+    lookups.iter().all(|lookup| substitution_lookup_fits(set_count, lookup_count, lookup))
+}
+
+fn substitution_lookup_fits(set_count: usize, lookup_count: usize, lookup: &SubstLookup) -> bool
+    ensures { result ≡ substitution_lookup_fits set_count lookup_count lookup.now }
+{
+    set_fits(set_count, lookup.mark_filtering_set) && lookup.nested_fit(lookup_count)
 }
 
 fn positioning_lookups_fit(set_count: usize, lookups: &[PositioningLookup]) -> bool
-    ensures { result ≡ list_all (λ l. positioning_lookup_fits set_count l) lookups.now }
+    ensures { result ≡ list_all (λ l. positioning_lookup_fits set_count (length lookups.now) l) lookups.now }
 {
-    lookups
-        .iter()
-        .all(|lookup| positioning_lookup_fits(set_count, lookup))
+    let lookup_count = lookups.len();
+    lookups.iter().all(|lookup| positioning_lookup_fits(set_count, lookup_count, lookup))
 }
 
-fn positioning_lookup_fits(set_count: usize, lookup: &PositioningLookup) -> bool
-    ensures { result ≡ positioning_lookup_fits set_count lookup.now }
+fn positioning_lookup_fits(
+    set_count: usize,
+    lookup_count: usize,
+    lookup: &PositioningLookup,
+) -> bool
+    ensures { result ≡ positioning_lookup_fits set_count lookup_count lookup.now }
 {
-    set_fits(set_count, lookup.mark_filtering_set) && classes_fit(lookup.subtables.inner())
+    set_fits(set_count, lookup.mark_filtering_set)
+        && classes_fit(lookup.subtables.inner())
+        && lookup.nested_fit(lookup_count)
 }
 
 fn set_fits(set_count: usize, set: Option<u16>) -> bool

@@ -134,8 +134,8 @@ pub struct FaceParts {
 }
 
 impl FaceParts {
-    /// Whether each index and each class is below the length of its list: features, lookups and mark glyph sets,
-    /// records of pairs and anchors; and whether there are at most 65,535 sets, since 65535 names none.
+    /// Whether each index and each class is below the length of its list: features, lookups, nested ones too, mark glyph
+    /// sets, records of pairs and anchors; and whether there are at most 65,535 sets, since 65535 names none.
     pub fn indices_fit(&self) -> bool
         ensures { result ≡ indices_fit self.now }
     {

@@ -2,6 +2,9 @@
 use Rattle.std.specs.Prelude.{ℕ, ◌&&◌, Bool, true, nat_lt, List, length}
 use Rattle.std.specs.List.{list_all}
 use Rattle.std.specs.Option.{option_map_or}
+use Rattle.layout_tables.specs.declared.context.ContextSubtable.{ContextSubtable}
+use Rattle.layout_tables.specs.declared.context.ContextSubtable.TheVariants.{Glyphs, Classes, Coverage}
+use Rattle.layout_tables.specs.declared.context.SequenceLookupRecord.{SequenceLookupRecord}
 use Rattle.layout_tables.specs.Layout.{LangSysTable, ScriptTable, LayoutLists}
 
 -- whether each index is below the length of its list
@@ -21,3 +24,15 @@ script_fits count script =
 abbrev pub indices_fit : ℕ → LayoutLists → Bool
 indices_fit lookup_count table =
     list_all (λ s. script_fits (length table.features) s) table.scripts && list_all (λ f. all_below lookup_count f.lookups) table.features
+
+-- ---- contexts
+
+-- whether the lookup of each record of a rule exists
+abbrev pub records_fit : ℕ → List SequenceLookupRecord → Bool
+records_fit lookup_count records = list_all (λ r. nat_lt r.lookup_index lookup_count) records
+
+-- whether the lookup of each record of a context's rules exists (OpenType, chapter 2, sequence lookup record)
+abbrev pub context_fits : ℕ → ContextSubtable → Bool
+context_fits lookup_count (Glyphs rules) = list_all (λ r. records_fit lookup_count r.records) rules
+context_fits lookup_count (Classes by_class) = list_all (λ r. records_fit lookup_count r.records) by_class.rules
+context_fits lookup_count (Coverage rules) = list_all (λ r. records_fit lookup_count r.records) rules

@@ -2,8 +2,9 @@
 ghost use Rattle.std.specs.Prelude.{◌≡◌, true, nat_lt};
 ghost use Rattle.std.specs.List.{list_all};
 ghost use Rattle.std.specs.Option.{option_copied, option_map_or};
-ghost use Rattle.layout_tables.specs.Indices.{all_below, system_fits, script_fits, indices_fit};
+ghost use Rattle.layout_tables.specs.Indices.{all_below, context_fits, records_fit, system_fits, script_fits, indices_fit};
 
+use crate::context::{ContextSubtable, SequenceLookupRecord, SequenceRule};
 use crate::script::{LangSys, LangSysRecord, ScriptRecord};
 use crate::table::{FeatureRecord, LayoutTable};
 
@@ -16,6 +17,35 @@ impl LayoutTable {
         scripts_fit(self.features().len(), self.scripts())
             && features_fit(lookup_count, self.features())
     }
+}
+
+impl ContextSubtable {
+    /// Whether the lookup of each record of the rules exists, in a table with so many lookups.
+    pub fn lookups_fit(&self, lookup_count: usize) -> bool
+        ensures { result ≡ context_fits lookup_count self.now }
+    {
+        match self {
+            ContextSubtable::Glyphs(rules) => rules_fit(lookup_count, rules.as_slice()),
+            ContextSubtable::Classes(rules) => rules_fit(lookup_count, rules.rules.as_slice()),
+            ContextSubtable::Coverage(rules) => rules_fit(lookup_count, rules.as_slice()),
+        }
+    }
+}
+
+fn rules_fit<I>(count: usize, rules: &[SequenceRule<I>]) -> bool
+    ensures { result ≡ list_all (λ r. records_fit count r.records) rules.now }
+{
+    rules
+        .iter()
+        .all(|rule| records_fit(count, rule.records.as_slice()))
+}
+
+fn records_fit(count: usize, records: &[SequenceLookupRecord]) -> bool
+    ensures { result ≡ records_fit count records.now }
+{
+    records
+        .iter()
+        .all(|record| usize::from(record.lookup_index) < count)
 }
 
 fn scripts_fit(count: usize, scripts: &[ScriptRecord]) -> bool

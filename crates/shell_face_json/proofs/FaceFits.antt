@@ -1,6 +1,6 @@
 -- The indices and classes of a font that was read stay within their lists.
 use Rattle.std.proofs.Common.{◌≡◌, ℕ, Bool, true, false, List, length, Option, Some, None, Result, Ok, Err, codes, pos, refl, subst}
-use Rattle.std.specs.Prelude.{⊤, nat_lt, nat_le}
+use Rattle.std.specs.Prelude.{⊤, ◌&&◌, nat_lt, nat_le}
 use Rattle.std.specs.List.{list_all}
 use Rattle.std.specs.Option.{option_map_or}
 use Rattle.serde_json.specs.Data.{Data}
@@ -10,7 +10,7 @@ use Rattle.shell_json.specs.declared.fault.JsonFault.TheVariants.{OutOfRange}
 use Rattle.shell_json.specs.Cell.{and_then, u16_value, i16_value}
 use Rattle.shell_json.specs.Objects.{read_or, optional_value}
 use Rattle.shell_json.specs.Parts.{list_at}
-use Rattle.shell_face_json.specs.Lists.{number_below, is_object, rows_at, rows_in_turn, count_at}
+use Rattle.shell_face_json.specs.Lists.{number_below, is_object, lookup_in_table, rows_at, rows_in_turn, count_at, within}
 use Rattle.shell_face_json.specs.Glyphs.{coverage, class_definition, classes_in, glyph_limit, subtables_of}
 use Rattle.shell_face_json.specs.Contexts.{context}
 use Rattle.shell_face_json.specs.Positions.{single_pos, pair_pos, cursive_pos}
@@ -34,7 +34,7 @@ use Rattle.layout_face.specs.declared.parts.GlyphDefinition.{GlyphDefinition}
 use Rattle.layout_face.specs.declared.parts.FaceParts.{FaceParts}
 use Rattle.layout_tables.specs.Fits.{marks_fit_bases, marks_fit_ligatures}
 use Rattle.layout_tables.specs.Indices as lists
-use Rattle.layout_face.specs.LookupIndices.{set_fits, pair_classes_fit, positioning_classes_fit, substitution_fits, positioning_lookup_fits, positioning_fits}
+use Rattle.layout_face.specs.LookupIndices.{set_fits, pair_classes_fit, positioning_classes_fit, substitution_fits, substitution_lookup_fits, substitution_nested_fit, positioning_lookup_fits, positioning_nested_fit, positioning_fits}
 use Rattle.layout_face.specs.Indices.{set_limit, indices_fit}
 
 -- ---- glyph definitions
@@ -99,6 +99,20 @@ classes_within ChainContext d s e =
     let same : Subtables.ChainContext step.0 ≡ s = cc in
     subst (λ x. positioning_classes_fit x ≡ true) same refl
 
+-- ---- lookups that name others
+
+is_within : {A : Type 0} (P Q : A → Bool) (b a : A) (t : Bool) → Q b ≡ t → P b ≡ true → within (Q b) b ≡ Ok a → (P a && Q a) ≡ true
+is_within P Q b a true t p e =
+    let found : within (Q b) b ≡ Ok b = rw t refl in
+    let same : b ≡ a = cc in
+    subst (λ x. (P x && Q x) ≡ true) same (rw (p, t) refl)
+is_within P Q b a false t p e = let found : within (Q b) b ≡ Err OutOfRange = rw t refl in absurd (cc)
+
+both_within : {A : Type 0} (read : Data → Result A JsonFault) (P Q : A → Bool) → ((d : Data) (a : A) → read d ≡ Ok a → P a ≡ true) → (d : Data) (a : A) → lookup_in_table Q read d ≡ Ok a → (P a && Q a) ≡ true
+both_within read P Q each d a e =
+    let step = through (read d) (λ x. within (Q x) x) a e in
+    is_within P Q step.0 a (Q step.0) refl (each d step.0 step.1) step.2
+
 module _ (sets : ℕ) where
   set_within : (o : Option Data) (set : Option ℕ) → optional_value (number_below sets) o ≡ Ok set → set_fits sets set ≡ true
   set_within o set e = of_optional (number_below sets) (λ i. nat_lt i sets) (below_limit sets) o set e
@@ -116,7 +130,7 @@ module _ (sets : ℕ) where
       let same : s.0 ≡ l.mark_filtering_set = cc in
       subst (λ i. set_fits sets i ≡ true) same (set_within (get (codes "set") d) s.0 s.1)
 
-  positioning_within : (d : Data) (l : PositioningLookup) → positioning_lookup sets d ≡ Ok l → positioning_lookup_fits sets l ≡ true
+  positioning_within : (d : Data) (l : PositioningLookup) → positioning_lookup sets d ≡ Ok l → (set_fits sets l.mark_filtering_set && positioning_classes_fit l.subtables) ≡ true
   positioning_within d l e =
       let flags = read_or 0 u16_value (get (codes "flags") d) in
       let named = optional_value (number_below sets) (get (codes "set") d) in
@@ -128,38 +142,42 @@ module _ (sets : ℕ) where
       let x = through (positionings t.0 d) _ l t.2 in
       let set = set_within (get (codes "set") d) s.0 s.1 in
       let classes = classes_within t.0 d x.0 x.1 in
-      let both_fit : positioning_lookup_fits sets (record { flags = f.0; mark_filtering_set = s.0; subtables = x.0 }) ≡ true = rw (set, classes) refl in
+      let both_fit : (set_fits sets s.0 && positioning_classes_fit x.0) ≡ true = rw (set, classes) refl in
       let same : ◌≡◌ {A = PositioningLookup} (record { flags = f.0; mark_filtering_set = s.0; subtables = x.0 }) l = cc in
-      subst (λ y. positioning_lookup_fits sets y ≡ true) same both_fit
+      subst (λ y. (set_fits sets y.mark_filtering_set && positioning_classes_fit y.subtables) ≡ true) same both_fit
 
   -- ---- tables
 
   gsub_within : (d : Data) (t : SubstitutionTable) → substitution_table sets d ≡ Ok t → substitution_fits sets t ≡ true
   gsub_within d t e =
-      let turn = rows_in_turn (substitution_lookup sets) in
-      let lookups = rows_at (codes "lookups") turn d in
+      let named = count_at (codes "lookups") d in
+      let read = lookup_in_table (λ x. substitution_nested_fit named x.subtables) (substitution_lookup sets) in
+      let lookups = rows_at (codes "lookups") (rows_in_turn read) d in
       let whole = through (is_object d) _ t e in
       let i = through (layout_of d) _ t whole.2 in
       let l = through lookups _ t i.2 in
-      let listed = through (list_at (codes "lookups") d) turn l.0 l.1 in
-      let count : count_at (codes "lookups") d ≡ length l.0 = list_length (substitution_lookup sets) (get (codes "lookups") d) l.0 l.1 in
+      let listed = through (list_at (codes "lookups") d) (rows_in_turn read) l.0 l.1 in
+      let count : named ≡ length l.0 = list_length read (get (codes "lookups") d) l.0 l.1 in
       let inner = subst (λ n. lists.indices_fit n i.0 ≡ true) count (layout_within d i.0 i.1) in
-      let all = all_in_turn (substitution_lookup sets) (λ x. set_fits sets x.mark_filtering_set) substitution_within listed.0 l.0 listed.2 in
+      let each = both_within (substitution_lookup sets) (λ x. set_fits sets x.mark_filtering_set) (λ x. substitution_nested_fit named x.subtables) substitution_within in
+      let all = subst (λ n. list_all (λ x. substitution_lookup_fits sets n x) l.0 ≡ true) count (all_in_turn read (λ x. substitution_lookup_fits sets named x) each listed.0 l.0 listed.2) in
       let both_fit : substitution_fits sets (record { inner = i.0; lookups = l.0 }) ≡ true = rw (inner, all) refl in
       let same : ◌≡◌ {A = SubstitutionTable} (record { inner = i.0; lookups = l.0 }) t = cc in
       subst (λ x. substitution_fits sets x ≡ true) same both_fit
 
   gpos_within : (d : Data) (t : PositioningTable) → positioning_table sets d ≡ Ok t → positioning_fits sets t ≡ true
   gpos_within d t e =
-      let turn = rows_in_turn (positioning_lookup sets) in
-      let lookups = rows_at (codes "lookups") turn d in
+      let named = count_at (codes "lookups") d in
+      let read = lookup_in_table (λ x. positioning_nested_fit named x.subtables) (positioning_lookup sets) in
+      let lookups = rows_at (codes "lookups") (rows_in_turn read) d in
       let whole = through (is_object d) _ t e in
       let i = through (layout_of d) _ t whole.2 in
       let l = through lookups _ t i.2 in
-      let listed = through (list_at (codes "lookups") d) turn l.0 l.1 in
-      let count : count_at (codes "lookups") d ≡ length l.0 = list_length (positioning_lookup sets) (get (codes "lookups") d) l.0 l.1 in
+      let listed = through (list_at (codes "lookups") d) (rows_in_turn read) l.0 l.1 in
+      let count : named ≡ length l.0 = list_length read (get (codes "lookups") d) l.0 l.1 in
       let inner = subst (λ n. lists.indices_fit n i.0 ≡ true) count (layout_within d i.0 i.1) in
-      let all = all_in_turn (positioning_lookup sets) (λ x. positioning_lookup_fits sets x) positioning_within listed.0 l.0 listed.2 in
+      let each = both_within (positioning_lookup sets) (λ x. set_fits sets x.mark_filtering_set && positioning_classes_fit x.subtables) (λ x. positioning_nested_fit named x.subtables) positioning_within in
+      let all = subst (λ n. list_all (λ x. positioning_lookup_fits sets n x) l.0 ≡ true) count (all_in_turn read (λ x. positioning_lookup_fits sets named x) each listed.0 l.0 listed.2) in
       let both_fit : positioning_fits sets (record { inner = i.0; lookups = l.0 }) ≡ true = rw (inner, all) refl in
       let same : ◌≡◌ {A = PositioningTable} (record { inner = i.0; lookups = l.0 }) t = cc in
       subst (λ x. positioning_fits sets x ≡ true) same both_fit

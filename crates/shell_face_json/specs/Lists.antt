@@ -1,5 +1,5 @@
 -- Lists of items inside a row, and lists of rows.
-use Rattle.std.specs.Prelude.{ℕ, suc, nat_lt, if◌then◌else◌, is_some, List, [], ◌∷◌, ◌++◌, Option, Some, None, Result, Ok, Err, ⊤}
+use Rattle.std.specs.Prelude.{ℕ, suc, nat_lt, Bool, codes, if◌then◌else◌, is_some, List, [], ◌∷◌, ◌++◌, Option, Some, None, Result, Ok, Err, ⊤}
 use Rattle.std.specs.Option.{option_map_or}
 use Rattle.serde_json.specs.Data.{Data, null, boolean, number, string, array, object, Items, no_items, item}
 use Rattle.serde_json.specs.Find.{get, as_array, as_object}
@@ -88,3 +88,17 @@ count_of (Some d) = option_map_or item_count (as_array d) 0
 -- the number of items of the list under a key, 0 where there is no list
 abbrev pub count_at : List ℕ → Data → ℕ
 count_at key d = count_of (get key d)
+
+-- ---- lookups
+
+-- a value of which a test on indices holds, else a fault of range
+abbrev pub within : {A : Type 0} → Bool → A → Result A JsonFault
+within fits a = if fits then Ok a else Err OutOfRange
+
+-- a lookup of a table: the lookups that it names exist, else a fault of range
+abbrev pub lookup_in_table : {A : Type 0} → (A → Bool) → (Data → Result A JsonFault) → Data → Result A JsonFault
+lookup_in_table fits read d = and_then (read d) (λ a. within (fits a) a)
+
+-- the lookups of a table under the key `lookups`, by a test of a lookup in a table with so many of them
+abbrev pub lookups_of : {A : Type 0} → (ℕ → A → Bool) → (Data → Result A JsonFault) → Data → Result (List A) JsonFault
+lookups_of fits read d = rows_at (codes "lookups") (rows_in_turn (lookup_in_table (fits (count_at (codes "lookups") d)) read)) d

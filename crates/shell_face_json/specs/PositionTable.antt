@@ -12,9 +12,10 @@ use Rattle.layout_face.specs.declared.positioning.PositioningSubtables.{Position
 use Rattle.layout_face.specs.declared.positioning.PositioningSubtables.TheVariants as Subtables
 use Rattle.layout_face.specs.declared.positioning.PositioningLookup.{PositioningLookup}
 use Rattle.layout_face.specs.declared.positioning.PositioningTable.{PositioningTable}
+use Rattle.layout_face.specs.LookupIndices.{positioning_nested_fit}
 use Rattle.shell_face_json.specs.declared.position_table.PositioningType.{PositioningType}
 use Rattle.shell_face_json.specs.declared.position_table.PositioningType.TheVariants.{Single, Pair, Cursive, MarkToBase, MarkToLigature, MarkToMark, Context, ChainContext}
-use Rattle.shell_face_json.specs.Lists.{number_below, is_object, rows_at, rows_in_turn}
+use Rattle.shell_face_json.specs.Lists.{is_object, lookups_of, number_below}
 use Rattle.shell_face_json.specs.Glyphs.{glyph_limit, subtables_of}
 use Rattle.shell_face_json.specs.Contexts.{context}
 use Rattle.shell_face_json.specs.Scripts.{layout_of}
@@ -65,5 +66,5 @@ abbrev pub positioning_table : ℕ → Data → Result PositioningTable JsonFaul
 positioning_table sets d =
     and_then (is_object d) (λ _.
     and_then (layout_of d) (λ inner.
-    and_then (rows_at (codes "lookups") (rows_in_turn (positioning_lookup sets)) d) (λ lookups.
+    and_then (lookups_of (λ count lookup. positioning_nested_fit count lookup.subtables) (positioning_lookup sets) d) (λ lookups.
     Ok (record { inner = inner; lookups = lookups }))))

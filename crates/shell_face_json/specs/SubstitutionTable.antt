@@ -12,9 +12,10 @@ use Rattle.layout_face.specs.declared.substitution.SubstitutionSubtables.{Substi
 use Rattle.layout_face.specs.declared.substitution.SubstitutionSubtables.TheVariants as Subtables
 use Rattle.layout_face.specs.declared.substitution.SubstLookup.{SubstLookup}
 use Rattle.layout_face.specs.declared.substitution.SubstitutionTable.{SubstitutionTable}
+use Rattle.layout_face.specs.LookupIndices.{substitution_nested_fit}
 use Rattle.shell_face_json.specs.declared.substitution_table.SubstitutionType.{SubstitutionType}
 use Rattle.shell_face_json.specs.declared.substitution_table.SubstitutionType.TheVariants.{Single, Multiple, Alternate, Ligature, Context, ChainContext, ReverseChainSingle}
-use Rattle.shell_face_json.specs.Lists.{number_below, is_object, rows_at, rows_in_turn}
+use Rattle.shell_face_json.specs.Lists.{is_object, lookups_of, number_below}
 use Rattle.shell_face_json.specs.Glyphs.{glyph_limit, subtables_of}
 use Rattle.shell_face_json.specs.Contexts.{context}
 use Rattle.shell_face_json.specs.Scripts.{layout_of}
@@ -62,5 +63,5 @@ abbrev pub substitution_table : ℕ → Data → Result SubstitutionTable JsonFa
 substitution_table sets d =
     and_then (is_object d) (λ _.
     and_then (layout_of d) (λ inner.
-    and_then (rows_at (codes "lookups") (rows_in_turn (substitution_lookup sets)) d) (λ lookups.
+    and_then (lookups_of (λ count lookup. substitution_nested_fit count lookup.subtables) (substitution_lookup sets) d) (λ lookups.
     Ok (record { inner = inner; lookups = lookups }))))

@@ -8,6 +8,7 @@ mod font_rows;
 pub mod glyphs;
 mod lengths;
 pub mod lists;
+mod lookups;
 mod marks;
 mod numbers;
 mod objects;

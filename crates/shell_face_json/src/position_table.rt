@@ -5,7 +5,8 @@ ghost use Rattle.serde_json.specs.View.{view};
 ghost use Rattle.shell_face_json.specs.PositionTable.{positioning_type_in, positioning_type_of, positionings, positioning_lookup, positioning_table};
 
 use crate::features::read_layout;
-use crate::objects::{object, read_in_turn_at, read_optional_at, subtables};
+use crate::lookups::read_lookups;
+use crate::objects::{object, read_optional_at, subtables};
 use crate::value::Part;
 use layout_face::positioning::{PositioningLookup, PositioningSubtables, PositioningTable};
 use serde_json::Value;
@@ -110,7 +111,7 @@ impl Part for PositioningTable {
     ) -> Result<PositioningTable, JsonFault> {
         object(value)?;
         let inner = read_layout(alloc, value)?;
-        let lookups = read_in_turn_at(alloc, value, "lookups", limit)?;
+        let lookups = read_lookups(alloc, value, limit)?;
         Ok(PositioningTable { inner, lookups })
     }
 }

@@ -6,7 +6,8 @@ ghost use Rattle.shell_face_json.specs.SubstitutionTable.{substitution_type_in, 
 
 use crate::features::read_layout;
 use crate::glyphs::GLYPH_LIMIT;
-use crate::objects::{object, read_in_turn_at, read_optional_at, subtables};
+use crate::lookups::read_lookups;
+use crate::objects::{object, read_optional_at, subtables};
 use crate::value::Part;
 use layout_face::substitution::{SubstLookup, SubstitutionSubtables, SubstitutionTable};
 use serde_json::Value;
@@ -102,7 +103,7 @@ impl Part for SubstitutionTable {
     ) -> Result<SubstitutionTable, JsonFault> {
         object(value)?;
         let inner = read_layout(alloc, value)?;
-        let lookups = read_in_turn_at(alloc, value, "lookups", limit)?;
+        let lookups = read_lookups(alloc, value, limit)?;
         Ok(SubstitutionTable { inner, lookups })
     }
 }

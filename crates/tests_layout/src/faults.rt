@@ -61,6 +61,11 @@ J4 UnknownName: {"gsub":{"lookups":[{"type":"chain","subtables":[{"format":"glyp
 J2 WrongShape: {"gsub":{"lookups":[{"type":"chain","subtables":[{"format":"glyphs","rules":[[[],[1],[]]]}]}]}}
 J2 WrongShape: {"gsub":{"lookups":[{"type":"chain","subtables":[{"format":"classes","classes":[[],[]]}]}]}}
 J2 WrongShape: {"gsub":{"lookups":[{"type":"chain","subtables":[{"format":"coverage","rules":[[[],[1],[],[]]]}]}]}}
+U2 OutOfRange: {"gsub":{"lookups":[{"type":"context","subtables":[{"format":"glyphs","rules":[[[],[1],[],[[9,0],[0,1]]]]}]}]}}
+U2 OutOfRange: {"gsub":{"lookups":[{"type":"chain","subtables":[{"format":"classes","rules":[[[],[1],[],[[0,1]]]]}]}]}}
+U2 OutOfRange: {"gpos":{"lookups":[{"type":"chain","subtables":[{"format":"coverage","rules":[[[],[[1]],[],[[0,2]]]]}]},{"type":"single"}]}}
+U2 OutOfRange: {"gsub":{"lookups":[{"type":"context","subtables":[{"format":"glyphs","rules":[[[],[1],[],[[0,2]]]]}]},{}]}}
+J2 WrongShape: {"gsub":{"lookups":[{"type":"context","subtables":[{"format":"glyphs","rules":[[[],[1],[],[[0,2]]]]},3]}]}}
 J2 WrongShape: {"gsub":{"lookups":[{"type":"reverse","subtables":[[[],[]]]}]}}
 U1 OutOfOrder: {"gsub":{"lookups":[{"type":"reverse","subtables":[[[],[],[[2,1],[1,1]]]]}]}}
 J2 WrongShape: {"gpos":{"lookups":[{"type":"single","subtables":[[[1,[0,0,0]]]]}]}}

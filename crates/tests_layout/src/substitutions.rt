@@ -11,7 +11,7 @@ pub(crate) static FONT: &str = r#"{"gdef":{"sets":[[9],[4]]},"gsub":{"lookups":[
 {"type":"multiple","subtables":[[[2,[3,4]],[7,[]]]]},
 {"type":"alternate","subtables":[[[2,[3,4]]]]},
 {"flags":16,"type":"ligature","subtables":[[[3,[[4],7]],[9,[[[5,6],8],[[5],59]]]]]},
-{"type":"context","subtables":[{"format":"glyphs","rules":[[[],[1,2],[],[[1,0],[9,77]]]]}]},
+{"type":"context","subtables":[{"format":"glyphs","rules":[[[],[1,2],[],[[1,0],[9,6]]]]}]},
 {"type":"chain","subtables":[
 {"format":"classes","classes":[[[5,1]],[[6,2]],[]],"first":[6,5],"rules":[[[1],[2,0],[],[]]]},
 {"format":"coverage","rules":[[[[7,5]],[[3,1]],[],[]]]}]},

@@ -1,20 +1,22 @@
 -- What was found of a table's keys is what the table has.
-use Rattle.std.proofs.Common.{◌≡◌, ℕ, List, [], ◌∷◌, length, codes, Option, Some, None, Result, Ok, option_map, refl, sym, ap, ◌∙◌, subst}
+use Rattle.std.proofs.Common.{◌≡◌, ℕ, Bool, true, false, ◌&&◌, List, [], ◌∷◌, length, codes, Option, Some, None, Result, Ok, option_map, refl, sym, ap, ◌∙◌, subst}
 use Rattle.std.specs.Prelude.{unwrap_or}
+use Rattle.std.specs.List.{list_all}
 use Rattle.std.specs.Option.{ok_or, option_map_or}
-use Rattle.serde_json.specs.Data.{Data, Items, no_items, Members, object}
-use Rattle.serde_json.specs.Find.{get_member, as_array}
+use Rattle.serde_json.specs.Data.{Data, Items, no_items, item, Members, object}
+use Rattle.serde_json.specs.Find.{get, get_member, as_array}
 use Rattle.serde_json.specs.View.{view, items_view}
 use Rattle.serde_json.specs.declared.value.Value.{Value}
 use Rattle.shell_json.specs.TextValues.{IsFound, HasMember}
 use Rattle.shell_json.specs.declared.fault.JsonFault.{JsonFault}
 use Rattle.shell_json.specs.declared.fault.JsonFault.TheVariants.{WrongShape}
 use Rattle.shell_json.specs.Cell.{and_then}
-use Rattle.shell_json.specs.Parts.{list_of, list_or_none}
-use Rattle.shell_face_json.specs.Lists.{item_count, count_of, is_object, rows_at, rows_in_turn}
+use Rattle.shell_json.specs.Parts.{list_at, list_of, list_or_none}
+use Rattle.shell_json.specs.Rows.{after, ok_cons}
+use Rattle.shell_face_json.specs.Lists.{item_count, count_at, count_of, is_object, lookup_in_table, lookups_of, rows_at, rows_in_turn, within}
 use Rattle.shell_face_json.specs.Sorted.{rows_by_key}
 use Rattle.shell_face_json.proofs.Split.{count_is_length}
-use Rattle.shell_face_json.proofs.Inverted.{list_length}
+use Rattle.shell_face_json.proofs.Inverted.{list_length, through}
 use Rattle.shell_face_json.specs.Scripts.{layout_of, script, feature}
 use Rattle.shell_face_json.specs.Text.Table.{layout_in}
 use Rattle.layout_tables.specs.Layout.{LayoutLists, ScriptTable, FeatureTable}
@@ -59,6 +61,37 @@ table_taken part limit limit' n0 n1 n2 d ms scripts features found lookups layou
     let k = subst (λ m. HasMember (λ x a. and_then (list_of x) (rows_in_turn (part m)) ≡ Ok a) (codes "lookups") ms found) l named in
     let got = table_found (part limit') ms scripts features found layout s f k (ap (λ x. layout_in (option_map view scripts) (option_map view features) (length x)) (sym r) ∙ read) in
     (ap is_object e, ap layout_of e ∙ got.0, ap (rows_at (codes "lookups") (rows_in_turn (part limit'))) e ∙ got.1 ∙ ap (λ xs. Ok xs) (sym r))
+
+-- ---- lookups that name others
+
+and_first : (a b : Bool) → (a && b) ≡ true → a ≡ true
+and_first true b e = refl
+and_first false b e = absurd (cc)
+
+and_second : (a b : Bool) → (a && b) ≡ true → b ≡ true
+and_second true b e = e
+and_second false b e = absurd (cc)
+
+module _ {L : Type 0} (read : Data → Result L JsonFault) where
+  -- lookups that were read, and of each of which a test holds
+  all_within : (fits : L → Bool) (ds : Items) (xs : List L) → rows_in_turn read ds ≡ Ok xs → list_all fits xs ≡ true → rows_in_turn (lookup_in_table fits read) ds ≡ Ok xs
+  all_within fits no_items xs e all = e
+  all_within fits (item d ds) xs e all =
+      let row = through (read d) _ xs e in
+      let next = rows_in_turn (lookup_in_table fits read) ds in
+      ok_cons row.0 (rows_in_turn read ds) xs (λ ys. list_all fits ys ≡ true → rows_in_turn (lookup_in_table fits read) (item d ds) ≡ Ok ys) row.2
+      (λ ys was fit.
+      ap (λ x. and_then (and_then x (λ a. within (fits a) a)) (λ r. after (r ∷ []) next)) row.1
+      ∙ ap (λ b. and_then (within b row.0) (λ r. after (r ∷ []) next)) (and_first (fits row.0) (list_all fits ys) fit)
+      ∙ ap (λ x. after (row.0 ∷ []) x) (all_within fits ds ys was (and_second (fits row.0) (list_all fits ys) fit))) all
+
+  pub nested_taken : (fits : ℕ → L → Bool) (d : Data) (xs : List L) → rows_at (codes "lookups") (rows_in_turn read) d ≡ Ok xs → list_all (λ l. fits (length xs) l) xs ≡ true → lookups_of fits read d ≡ Ok xs
+  nested_taken fits d xs e all =
+      let step = through (list_at (codes "lookups") d) (rows_in_turn read) xs e in
+      let count : count_at (codes "lookups") d ≡ length xs = list_length read (get (codes "lookups") d) xs e in
+      ap (λ r. and_then r (rows_in_turn (lookup_in_table (fits (count_at (codes "lookups") d)) read))) step.1
+      ∙ ap (λ n. rows_in_turn (lookup_in_table (fits n) read) step.0) count
+      ∙ all_within (fits (length xs)) step.0 xs step.2 all
 
 -- ---- scripts and features
 

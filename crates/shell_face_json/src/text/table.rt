@@ -3,11 +3,12 @@ ghost use Rattle.std.specs.Prelude.{◌≡◌, [], length, codes, unwrap_or, IfO
 ghost use Rattle.std.specs.Option.{option_map};
 ghost use Rattle.serde_json.specs.View.{view, items_view};
 ghost use Rattle.shell_json.specs.Parts.{list_or_none};
-ghost use Rattle.shell_face_json.specs.Lists.{is_object, rows_at, rows_in_turn};
+ghost use Rattle.shell_face_json.specs.Lists.{is_object, lookups_of};
 ghost use Rattle.shell_face_json.specs.Scripts.{layout_of};
 ghost use Rattle.shell_face_json.specs.Text.Table.{layout_in};
 
 use crate::lists::read_in_turn;
+use crate::lookups::{Lookup, all_fit};
 use crate::rising::read_rising;
 use crate::text::rows::ListTaker;
 use crate::value::Part;
@@ -30,7 +31,7 @@ pub struct TableTaker<L> {
     lookups: PhantomData<L>,
 }
 
-impl<L: Part> TableTaker<L> {
+impl<L: Lookup> TableTaker<L> {
     /// A reader of a table in a font with that many mark glyph sets.
     pub fn new(set_count: usize) -> TableTaker<L>
         ensures { result.set_count ≡ set_count }
@@ -42,11 +43,11 @@ impl<L: Part> TableTaker<L> {
     }
 }
 
-impl<L: Part> ValueTaker for TableTaker<L> {
+impl<L: Lookup> ValueTaker for TableTaker<L> {
     type Output = (LayoutTable, Array<L>);
 
     ghost means = { λ taker d table. (is_object d ≡ Ok tt) × (layout_of d ≡ Ok table.0)
-        × (rows_at (codes "lookups") (rows_in_turn (L.part taker.set_count)) d ≡ Ok table.1) };
+        × (lookups_of L.fits (L.part taker.set_count) d ≡ Ok table.1) };
 
     fn take_value(
         &self,
@@ -59,7 +60,11 @@ impl<L: Part> ValueTaker for TableTaker<L> {
         take_object(alloc, reader, depth, &keys, &mut found)?;
         let (scripts, (features, lookups)) = found;
         let lookups = parts_or_none(alloc, lookups);
-        match read_layout(alloc, &scripts, &features, lookups.len()) {
+        let lookup_count = lookups.len();
+        if !all_fit(lookups.as_slice(), lookup_count) {
+            return Err(Unread);
+        }
+        match read_layout(alloc, &scripts, &features, lookup_count) {
             Ok(layout) => Ok((layout, lookups)),
             Err(_) => Err(Unread),
         }
