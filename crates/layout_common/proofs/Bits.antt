@@ -336,6 +336,7 @@ no_common_bit a c lt apart = same_from_bits_below 64 (bit_and a c) 0 (le_lt (bit
   where
     le_lt : (x y z : ℕ) → x ≤ y → y < z → x < z
     le_lt x y z le lt = omega (arith, le, lt)
+
     by : (b : ℕ) (t : Bool) → has_bucket a b ≡ t → (has_bucket a b ≡ true → has_bucket c b ≡ false) → min (bit_at a b) (bit_at c b) ≡ 0
     by b true there apart =
         let none = not_there c b (apart there) in
