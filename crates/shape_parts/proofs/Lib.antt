@@ -18,3 +18,4 @@ pub mod Texts
 pub mod Shapers
 pub mod GraphemeNumbers
 pub mod GraphemeClusters
+pub mod Sources

@@ -5,3 +5,4 @@ pub mod Premises
 pub mod Laws
 pub mod TextLaws
 pub mod GraphemeLaws
+pub mod SourceTexts

@@ -20,4 +20,5 @@ pub mod grapheme_laws;
 pub mod line_laws;
 pub mod position_laws;
 pub mod reading_laws;
+pub mod source_laws;
 pub mod text_laws;

@@ -20,7 +20,7 @@ fits_least text ns f = record { among = f.zero_there; below = λ n h. omega arit
 fits_below : (text ns : List ℕ) → IsUtf8 text → FitsText (character_starts text) ns → (n : ℕ) → IsTrue (has_number ns n) → n < length text
 fits_below text ns u f n h = (boundary_from_start text n u (f.starting n h)).0
 
-in_text_order : (falls : Bool) (ss : List SourceSlice) (ranges : List (ℕ × ℕ)) → map byte_range ss ≡ along_glyphs falls ranges → along_glyphs falls (map byte_range ss) ≡ ranges
+pub in_text_order : (falls : Bool) (ss : List SourceSlice) (ranges : List (ℕ × ℕ)) → map byte_range ss ≡ along_glyphs falls ranges → along_glyphs falls (map byte_range ss) ≡ ranges
 in_text_order false ss ranges e = e
 in_text_order true ss ranges e = ap reverse e ∙ reverse-reverse ranges
 
