@@ -7,8 +7,8 @@ ghost use Rattle.shell_readers.specs.Tables.{AreLawfulTables};
 ghost use Rattle.kuspveli_c.specs.Fonts.{AreGlyphsOf, HasRead, HasReadOver, HasReadTables, HasSegmentOf, IsFaultOf, IsNumberOf, glyphs_of, input_of, new_font, segment_in};
 
 use crate::font::Font;
-use crate::input::Tables;
 use crate::handle::{Handle, TablesHandle};
+use crate::input::Tables;
 use c_text::numbers::fault_number;
 use c_text::types::{kus_glyph_info_t, kus_glyph_position_t, kus_text_t};
 use std::alloc::Global;
@@ -25,11 +25,7 @@ const NO_TABLES: u32 = 17;
 /// was.
 #[tactic(auto, using(crate::proofs::Texts::number_of_fault, crate::proofs::Texts::tables_were_read))]
 #[unsafe(no_mangle)]
-pub extern "C" fn kus_tables_create(
-    alloc: Global,
-    tables: &mut TablesHandle,
-    json: &[u8],
-) -> u32
+pub extern "C" fn kus_tables_create(alloc: Global, tables: &mut TablesHandle, json: &[u8]) -> u32
     ensures read { result ≡ 0 → HasReadTables json.now tables.new.value }
     ensures refused { result ≢ 0 → result ≢ 1 → IsNumberOf (λ e. AreLawfulTables json.now (Err e)) result }
     ensures kept { result ≢ 0 → tables.new.value ≡ tables.old.value }

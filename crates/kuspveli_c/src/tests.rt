@@ -255,7 +255,10 @@ fn texts_have_slices(rt: HostRuntime) -> Result<(), Fail> {
     let slices = sliced(alloc, &mut font, b"afib");
     let unfit = sliced(alloc, &mut font, b"a");
     let no_text = sliced(alloc, &mut font, b"\xC3(");
-    let segment = (kus_get_direction(alloc, &mut font), kus_get_script(alloc, &mut font));
+    let segment = (
+        kus_get_direction(alloc, &mut font),
+        kus_get_script(alloc, &mut font),
+    );
     close(font);
     assert!(rt; none == (16, 0, [UNWRITTEN_ROW; 3]));
     assert_eq!(rt; answered(status)?, 0);
@@ -273,7 +276,10 @@ fn texts_have_slices(rt: HostRuntime) -> Result<(), Fail> {
 fn fonts_tell_of_themselves(rt: HostRuntime) -> Result<(), Fail> {
     let alloc = rt.alloc();
     let mut font = Handle::empty(alloc);
-    let nothing = (kus_font_get_upem(alloc, &mut font), kus_get_direction(alloc, &mut font));
+    let nothing = (
+        kus_font_get_upem(alloc, &mut font),
+        kus_get_direction(alloc, &mut font),
+    );
     let status = kus_font_create(alloc, &mut font, b"{}", FONT.as_bytes());
     let upem = kus_font_get_upem(alloc, &mut font);
     let mut glyphs = [77; 3];
@@ -306,7 +312,14 @@ fn fonts_tell_of_themselves(rt: HostRuntime) -> Result<(), Fail> {
     assert!(rt; glyphs == [2, 0, 0]);
     assert!(rt; (length, name, unnamed) == (3, *b"be", 0));
     assert!(rt; (boxed, unboxed) == (true, false));
-    assert!(rt; (box_of.x_bearing, box_of.y_bearing, box_of.width, box_of.height) == (10, 20, 30, -40));
+    assert!(rt;
+        (
+            box_of.x_bearing,
+            box_of.y_bearing,
+            box_of.width,
+            box_of.height
+        ) == (10, 20, 30, -40)
+    );
     assert!(rt; (features, scripts, positions, others) == (1, 1, 0, 0));
     assert!(rt; tags == [0x6C696761, 0x44464C54]);
     assert_eq!(rt; kus_version(), 0x000100);

@@ -36,8 +36,9 @@ last_is_one : {X : Type 0} (P : X → Type 0) (xs : List X) (i j : ℕ) → i < 
 last_is_one P xs i j within here none within' here' none' =
     let d = some_of xs i within in
     elim (cases_order j i) as (λ x. j ≡ i) [
-      inl same ↦ same
-    | inr other ↦ elim other as (λ x. j ≡ i) [ inl less ↦ absurd (none' i d (omega arith) within (here d)) | inr more ↦ absurd (none j d (omega arith) within' (here' d)) ] ]
+      | inl same ↦ same
+      | inr other ↦ elim other as (λ x. j ≡ i) [ inl less ↦ absurd (none' i d (omega arith) within (here d)) | inr more ↦ absurd (none j d (omega arith) within' (here' d)) ]
+    ]
 
 pub after_hit : (tags : List ℕ → List Tag) (features : List Feature) (text : Sides) (old new : Cache) (i : ℕ) → IsServing tags features text old.plans i → new ≡ with_plan_used i old → IsAfter tags features text old new
 after_hit tags features text old new i is same = record {

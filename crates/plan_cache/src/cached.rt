@@ -79,10 +79,7 @@ impl CachedPlan {
 }
 
 /// The BCP 47 tag of a language, where a text has one.
-fn owned_language(
-    alloc: Global,
-    language: Option<&Language>,
-) -> Result<Option<String>, AllocError>
+fn owned_language(alloc: Global, language: Option<&Language>) -> Result<Option<String>, AllocError>
     ensures { IfOk result (λ text. option_map string_bytes text ≡ option_map language_text (option_copied language.entry)) }
 {
     match language {

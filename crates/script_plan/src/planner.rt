@@ -58,12 +58,7 @@ fn new_builder<'a, L: LanguageTags>(
     ensures tags { result.1.items ≡ wanted_language_tags (L.tags_of languages.now) (option_copied language.entry) }
 {
     let (scripts, languages) = tags_from_script_and_language(script, language, languages);
-    let builder = hb_ot_map_builder_t::new(
-        alloc,
-        face,
-        scripts.as_slice(),
-        languages.as_slice(),
-    );
+    let builder = hb_ot_map_builder_t::new(alloc, face, scripts.as_slice(), languages.as_slice());
     (builder, languages)
 }
 
@@ -91,7 +86,11 @@ impl<'a, S: CategorizedShaper> hb_ot_shape_planner_t<'a, S> {
             ≡ wanted_language_tags (L.tags_of shape_data.entry.languages.now) (option_copied language.entry) }
     {
         let (ot_map, language_tags) = new_builder(
-            alloc, face, shape_data.languages, script, language,
+            alloc,
+            face,
+            shape_data.languages,
+            script,
+            language,
         );
         let gsub_script = ot_map.chosen_script(TableIndex::GSUB);
         let shaper = S::categorize(script, direction, gsub_script);
@@ -132,7 +131,11 @@ impl<'a, S: PlannedShaper> hb_ot_shape_planner_t<'a, S> {
             ≡ wanted_language_tags (L.tags_of shape_data.entry.languages.now) (option_copied language.entry) }
     {
         let (ot_map, language_tags) = new_builder(
-            alloc, face, shape_data.languages, script, language,
+            alloc,
+            face,
+            shape_data.languages,
+            script,
+            language,
         );
         hb_ot_shape_planner_t {
             face,

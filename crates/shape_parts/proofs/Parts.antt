@@ -130,7 +130,7 @@ pub clusters_are_parts : ClustersAreParts
 clusters_are_parts p text r falls h o e = let k = texts_have_parts p text r falls h o e in (k.0.clusters, k.1)
 
 -- where an item is left, an origin is
-some_left : (text : BufferState) (r : Read) → length (state_after r text).origins ≡ length r.view.items → r.view.items ≢ [] → origins_after text.asks text.level (r.events text.level) text.origins ≢ []
+pub some_left : (text : BufferState) (r : Read) → length (state_after r text).origins ≡ length r.view.items → r.view.items ≢ [] → origins_after text.asks text.level (r.events text.level) text.origins ≢ []
 some_left text r many some none = some (nil_from_length r.view.items (sym many ∙ ap length none))
 
 pub least_cluster_stays : LeastClusterStays

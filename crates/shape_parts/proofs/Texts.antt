@@ -61,7 +61,7 @@ guessing_keeps_clusters s = refl
 
 -- ---- buffers as states
 
-ordered_state : (falls : Bool) (text : Sides) → IsMonotone text.level → IsInOrder falls (clusters (all_glyphs text)) → HasOrderedClusters falls (state_of text)
+pub ordered_state : (falls : Bool) (text : Sides) → IsMonotone text.level → IsInOrder falls (clusters (all_glyphs text)) → HasOrderedClusters falls (state_of text)
 ordered_state falls text mono o = record {
   level = mono;
   order = subst (IsInOrder falls) (sym (numbers_origins (all_glyphs text))) o;
@@ -78,7 +78,7 @@ pub left_by : (a : Reading) (text result : BufferState) → Follows a text resul
 left_by (Ok r) text result f = record { read = r; is_read = refl; left = f }
 left_by (Err c) text result f = absurd f
 
-left_by_this : (a : Reading) (text result : BufferState) (r : Read) → a ≡ Ok r → Follows a text result → result ≡ state_after r text
+pub left_by_this : (a : Reading) (text result : BufferState) (r : Read) → a ≡ Ok r → Follows a text result → result ≡ state_after r text
 left_by_this a text result r e f = subst (λ (b : Reading). Follows b text result) e f
 
 -- the clusters of glyphs are those of their state
@@ -90,7 +90,7 @@ no_items [] e = refl
 no_items (g ∷ gs) e = cc
 
 -- an item is left where a glyph is
-items_left : (result : Sides) (text : BufferState) (r : Read) → state_of result ≡ state_after r text → all_glyphs result ≢ [] → r.view.items ≢ []
+pub items_left : (result : Sides) (text : BufferState) (r : Read) → state_of result ≡ state_after r text → all_glyphs result ≢ [] → r.view.items ≢ []
 items_left result text r e some none = some (no_items (all_glyphs result) (ap (λ (s : BufferState). s.view.items) e ∙ none))
 
 -- ---- shaped texts

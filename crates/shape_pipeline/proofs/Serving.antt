@@ -56,9 +56,10 @@ plans_serve_their_texts font tags features text plan is =
     let t = after_guess_segment_properties text in
     let l = language_tags tags text in
     let direction = direction_of_plan font l t.direction t.script features plan is in
-    let script = script_of_plan font l t.direction t.script features plan is in
-    (planned_for_same font l plan.language_tags.items t.direction plan.script_plan.direction t.script plan.script_plan.script features plan.user_features.items plan (sym is.tags) (sym direction) (sym script) (sym is.features) is,
-    record { fits = record { direction = sym direction; script = ap script_or_unknown (sym script) }; languages = is.tags; features = is.features })
+    let script = script_of_plan font l t.direction t.script features plan is in (
+      planned_for_same font l plan.language_tags.items t.direction plan.script_plan.direction t.script plan.script_plan.script features plan.user_features.items plan (sym is.tags) (sym direction) (sym script) (sym is.features) is,
+      record { fits = record { direction = sym direction; script = ap script_or_unknown (sym script) }; languages = is.tags; features = is.features },
+    )
 
 -- ---- what a text is shaped by, by direction, script, language tags and features
 
@@ -81,7 +82,12 @@ module _ (font : FaceParts) (tables : Tables) (spans : Spans) (settings : TextSe
     unknown_shaper : planned_shaper any_kind font languages d (Some UNKNOWN) ≡ any.Default
     unfolding planned_shaper
     unknown_shaper = elim d as (λ x. planned_shaper any_kind font languages x (Some UNKNOWN) ≡ any.Default) [
-        Invalid ↦ refl | LeftToRight ↦ refl | RightToLeft ↦ refl | TopToBottom ↦ refl | BottomToTop ↦ refl ]
+      | Invalid ↦ refl
+      | LeftToRight ↦ refl
+      | RightToLeft ↦ refl
+      | TopToBottom ↦ refl
+      | BottomToTop ↦ refl
+    ]
 
     abbrev map_by : hb_ot_any_shaper_t → Option Script → OtMapValue
     map_by shaper s = planned_map (any_kind.asking shaper) font languages d s features
