@@ -3,7 +3,6 @@ use Rattle.std.proofs.Common.{ℕ, ◌≡◌, List, [], refl, sym, ap, subst, �
 use Rattle.std.specs.Prelude.{⊤, Option, Some, None}
 use Rattle.std.specs.Option.{option_map, option_map_or}
 use Rattle.std.specs.String.{string_bytes}
-use Rattle.std.specs.declared.string.String.{String}
 use Rattle.shape_pipeline.specs.buffer_common.declared.direction.Direction.{Direction}
 use Rattle.shape_pipeline.specs.buffer_common.declared.language.Language.{Language}
 use Rattle.shape_pipeline.specs.buffer_common.declared.script.Script.{Script}
@@ -23,9 +22,9 @@ use Rattle.shape_pipeline.specs.Plans.{IsPlanFor, Serves}
 use Rattle.plan_cache.specs.declared.cached.CachedPlan.{CachedPlan}
 use Rattle.plan_cache.specs.Cached.{HasTagsOf, IsCachedFor}
 
-tags_by_text : (tags : List ℕ → List Tag) (k : Option String) → option_map_or (λ (text : String). tags (string_bytes text)) k [] ≡ option_map_or tags (option_map string_bytes k) []
-tags_by_text tags None = refl
-tags_by_text tags (Some text) = refl
+tags_by_text : {X : Type 0} (bytes : X → List ℕ) (tags : List ℕ → List Tag) (k : Option X) → option_map_or (λ text. tags (bytes text)) k [] ≡ option_map_or tags (option_map bytes k) []
+tags_by_text bytes tags None = refl
+tags_by_text bytes tags (Some text) = refl
 
 tags_by_language : (tags : List ℕ → List Tag) (l : Option Language) → wanted_language_tags tags l ≡ option_map_or tags (option_map language_text l) []
 tags_by_language tags None = refl
@@ -34,7 +33,7 @@ tags_by_language tags (Some l) = refl
 -- the tags of the text that is kept of a language are those of the language
 pub tags_as_kept : (tags : List ℕ → List Tag) (cached : CachedPlan) (l : Option Language) → option_map string_bytes cached.language ≡ option_map language_text l → HasTagsOf tags cached → cached.plan.language_tags.items ≡ wanted_language_tags tags l
 tags_as_kept tags cached l same has =
-    has ∙ tags_by_text tags cached.language ∙ ap (λ text. option_map_or tags text []) same ∙ sym (tags_by_language tags l)
+    has ∙ tags_by_text string_bytes tags cached.language ∙ ap (λ text. option_map_or tags text []) same ∙ sym (tags_by_language tags l)
 
 -- a plan that was made for a text's language, and for its direction and script, set or guessed
 module _ (law : PlansServeTheirTexts) (font : FaceParts) (tags : List ℕ → List Tag) (features : List Feature) (text : Sides) (cached : CachedPlan) (l : Option Language) (d : Direction) (s : Option Script)
@@ -53,5 +52,5 @@ module _ (law : PlansServeTheirTexts) (font : FaceParts) (tags : List ℕ → Li
   pub new_is_cached : option_map string_bytes cached.language ≡ option_map language_text l → IsCachedFor font tags cached
   new_is_cached kept = record {
     plan = (law font tags features text cached.plan is_for).0;
-    tagged = is.tags ∙ tags_by_language tags l ∙ ap (λ x. option_map_or tags x []) (sym kept) ∙ sym (tags_by_text tags cached.language);
+    tagged = is.tags ∙ tags_by_language tags l ∙ ap (λ x. option_map_or tags x []) (sym kept) ∙ sym (tags_by_text string_bytes tags cached.language);
   }

@@ -1,5 +1,5 @@
 -- Texts that are shaped by the last plan of a cache.
-use Rattle.std.proofs.Common.{ℕ, ◌≡◌, ◌≢◌, ◌-◌, List, length, sym, subst}
+use Rattle.std.proofs.Common.{ℕ, ◌≡◌, ◌≢◌, ◌-◌, ◌<◌, List, length, sym, subst, arith}
 use Rattle.std.specs.Prelude.{Err, IfErr, IfOk, Result, slice_index_or}
 use Rattle.std.specs.List.{All}
 use Rattle.shape_pipeline.specs.buffer_common.declared.direction.Direction.{Direction}

@@ -75,7 +75,7 @@ impl PlanCache {
         features: &[Feature],
         buffer: UnicodeBuffer,
     ) -> Result<GlyphBuffer, ShapeFault>
-        requires { IsCacheOf face.now (L.tags_of shape_data.entry.languages.now) self.old }
+        requires { IsCacheOf face.now (L.tags_of shape_data.languages.now) self.old }
         ensures cache { IsCacheOf face.now (L.tags_of shape_data.entry.languages.now) self.new }
         ensures unused { all_glyphs buffer ≡ [] → self.new ≡ self.old }
         ensures used { all_glyphs buffer ≢ []
@@ -115,7 +115,7 @@ impl PlanCache {
         features: &[Feature],
         text: &UnicodeBuffer,
     ) -> Result<(), AllocError>
-        requires { IsCacheOf face.now (L.tags_of shape_data.entry.languages.now) self.old }
+        requires { IsCacheOf face.now (L.tags_of shape_data.languages.now) self.old }
         ensures cache { IsCacheOf face.now (L.tags_of shape_data.entry.languages.now) self.new }
         ensures used { OnOk result (IsAfter (L.tags_of shape_data.entry.languages.now) features.now text.now self.old self.new) }
         ensures last { OnOk result (EndsServing (L.tags_of shape_data.entry.languages.now) features.now text.now self.new.plans) }

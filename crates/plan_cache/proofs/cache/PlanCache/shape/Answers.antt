@@ -1,3 +1,4 @@
+use Rattle.std.proofs.Common.{rules}
 use Rattle.plan_cache.proofs.Shaped.{direction_of_last, refused_by_last, shaped_by_last}
 use Rattle.plan_cache.proofs.cache.PlanCache.shape.Goals as goal
 
