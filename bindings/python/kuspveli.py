@@ -98,7 +98,9 @@ def load(path: Union[str, "os.PathLike[str]"]) -> ctypes.CDLL:
 
 
 def declare(library: ctypes.CDLL, name: str, result: Any, *arguments: Any) -> None:
-    call = getattr(library, name)
+    call = getattr(library, name, None)
+    if call is None:
+        raise ImportError(f"the library has no {name}, so it is of another version: {kuspveli_library.BUILT_BY}")
     call.restype, call.argtypes = result, list(arguments)
 
 

@@ -6,6 +6,7 @@ import os
 import re
 import shutil
 import subprocess
+import sys
 import tempfile
 import unittest
 from pathlib import Path
@@ -220,6 +221,22 @@ class Linked(unittest.TestCase):
             built, shared = link_library(kit, made, room)
             self.assertEqual(seen(built), {"kus_shape"})
             self.assertEqual(seen(shared, "-D"), {"kus_shape"})
+
+    def test_other_version(self) -> None:
+        """The binding for Python says which tool builds a library that lacks a call."""
+        with tempfile.TemporaryDirectory() as name:
+            made = Path(name) / "libkuspveli.so"
+            words = ["gcc", "-shared", "-fPIC", "-x", "c", "-o", made, "-"]
+            subprocess.run(words, input="int kus_shape (void) { return 0; }", text=True, check=True)
+            ran = subprocess.run(
+                [sys.executable, "-c", "import kuspveli"],
+                capture_output=True,
+                text=True,
+                check=False,
+                env={**os.environ, "KUSPVELI_LIBRARY": str(made), "PYTHONPATH": str(ROOT / "bindings" / "python")},
+            )
+        self.assertEqual(ran.returncode, 1)
+        self.assertIn("it is of another version: tools/build_library proves and builds it", ran.stderr)
 
     def test_header(self) -> None:
         """The header is C99 by itself."""
