@@ -27,6 +27,8 @@ SENTENCE = (
 )
 # Of "afi": the glyphs of a, f and i in examples/font.json, with their advances.
 SHAPED = "1+500\n3+300\n4+250\n"
+# As a line, by names: the font has none.
+LINE = "gid1+500|gid3+300|gid4+250\n"
 LONG = os.environ.get("KUSPVELI_LONG")
 HAS_LIBRARY = standing(LIBRARY).is_current()
 
@@ -136,7 +138,7 @@ class Rattle(unittest.TestCase):
                 vendor.main([folder])
             write_files(root / "crates" / "own", {"src/main.rt": program("rattle"), "specs/Lib.antt": ""})
             shown = printed(["rt", "try", "--data", f"font.json={EXAMPLES / 'font.json'}"], root / "crates" / "own")
-        self.assertIn(SHAPED, shown)
+        self.assertIn(LINE, shown)
 
 
 if __name__ == "__main__":
