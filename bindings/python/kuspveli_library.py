@@ -11,6 +11,8 @@ HERE = Path(__file__).resolve().parent
 FOLDER, CLONE = "kuspveli.libs", "clone.txt"
 LIBRARY, UNPROVED = "libkuspveli.so", "unproved"
 VARIABLE = "KUSPVELI_LIBRARY"
+# What tools/install notes in lib/kuspveli, where it puts the tools and this file for them.
+INSTALLED = "installed.sha256"
 # Where tools/install mostly puts it, besides the folder of this Python.
 SYSTEM = ("/usr/local", "/usr")
 BUILT_BY = (
@@ -41,6 +43,8 @@ def places() -> Iterator[Path]:
     root = clone()
     if root is not None:
         yield from built_places(root)
+    if (HERE.parent.parent / INSTALLED).is_file():
+        yield HERE.parent.parent.parent / LIBRARY
     for folder in os.environ.get("LD_LIBRARY_PATH", "").split(":"):
         if folder:
             yield Path(folder) / LIBRARY
@@ -72,9 +76,9 @@ def is_unproved(path: Path) -> bool:
 
 
 def version() -> str:
-    """That of the clone, or of what pip installed."""
+    """That of the clone or of the installed tools that this file stands among, or of what pip installed."""
     noted = HERE.parent.parent / "VERSION"
-    if noted.is_file() and (HERE.parent.parent / "tools" / "build_library").is_file():
+    if noted.is_file() and (HERE.parent.parent / "tools").is_dir():
         return noted.read_text(encoding="utf-8").strip()
     from importlib.metadata import version as installed
 

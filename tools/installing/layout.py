@@ -23,6 +23,8 @@ COMMANDS = {
     "kuspveli-unicode-to-json": "unicode_to_json",
 }
 DATA = ("VERSION", "LICENSE", "data/tables.json", "data/LICENSE.txt")
+# By which tools/shape calls the library, for what the program has no word for.
+BINDING = ("bindings/python/kuspveli.py", "bindings/python/kuspveli_library.py")
 # A folder of tools that no tool imports.
 GRAMMARS = "machines"
 
@@ -43,7 +45,7 @@ def layout(root: Path, prefix: Path, program: Place, library: Place) -> dict[str
     entries["include/kuspveli.h"] = entry_of(root / "include" / "kuspveli.h")
     entries |= library_entries(library, number)
     entries["lib/pkgconfig/kuspveli.pc"] = Entry(pkg_config(prefix, number, library.is_proved).encode())
-    for path in (*tool_files(root / "tools"), *(root / name for name in DATA), program.file, program.stamp_file):
+    for path in (*tool_files(root / "tools"), *(root / name for name in (*DATA, *BINDING)), program.file, program.stamp_file):
         entries[f"{OWN}/{path.relative_to(root)}"] = entry_of(path)
     return entries
 

@@ -10,7 +10,7 @@ import unittest
 from pathlib import Path
 from unittest import mock
 
-from support import DEJAVU, write_files
+from support import DEJAVU, NASKH, write_files
 
 from building.places import LIBRARY, PROGRAM, Place, standing
 from common.faults import ToolFault
@@ -195,6 +195,14 @@ class Installed(unittest.TestCase):
         if Path(DEJAVU).is_file():
             shaped = call([self.prefix / "bin" / "kuspveli-shape", DEJAVU, "office"], **self.found)
             self.assertEqual(shaped, "o=0+1253|uniFB03=1+1980|c=4+1126|e=5+1260\n")
+
+    @unittest.skipUnless(Path(NASKH).is_file(), "needs fonts-noto-core")
+    def test_library(self) -> None:
+        """A letter before another one, which the program has no word for, is the second glyph of both in their line."""
+        shape = [self.prefix / "bin" / "kuspveli-shape", NASKH, "--no-glyph-names", "--no-clusters"]
+        both = call([*shape, "لل"], **self.found).rstrip()
+        initial = call([*shape, "ل", "--text-after=ل"], **self.found).rstrip()
+        self.assertEqual(both.split("|")[1:], [initial])
 
     def test_away(self) -> None:
         """No installed tool names the clone: the folder may go."""

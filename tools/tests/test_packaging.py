@@ -104,8 +104,10 @@ class Found(unittest.TestCase):
         self.assertEqual(self.found(), ("other/out/libkuspveli.so", ""))
 
     def test_installed(self) -> None:
-        """An installed library is unproved where tools/install noted so; LD_LIBRARY_PATH is sought too."""
-        self.put("prefix/lib/libkuspveli.so", "own/libkuspveli.so")
+        """The library below whose prefix the module is installed. It is unproved where tools/install noted so; LD_LIBRARY_PATH is sought too."""
+        self.put("prefix/lib/libkuspveli.so", "own/libkuspveli.so", "clone/installed.sha256", "libkuspveli.so")
+        self.assertEqual(self.found()[0], "libkuspveli.so")
+        (self.root / "clone/installed.sha256").unlink()
         self.assertEqual(self.found()[1], "")
         (self.root / "prefix/lib/kuspveli/out/unproved").mkdir(parents=True)
         self.assertIn("kuspveli: unproved: ", self.found()[1])
