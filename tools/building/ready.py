@@ -7,6 +7,7 @@ from pathlib import Path
 from building.places import BUILD, PROGRAM, UNPROVED, Place
 from building.progress import Teller
 from common.faults import FILES, ToolFault
+from common.printing import tell
 from sources.crates import ROOT
 
 
@@ -47,7 +48,5 @@ def usable(name: str, program: Path) -> Path:
     if not os.access(program, os.X_OK):
         raise ToolFault(FILES, f"{program} is not there: {BUILD} builds it")
     if program.parent.name == UNPROVED:
-        print(
-            f"{name}: {program.name} is unproved: no proof was checked ({BUILD} proves it)", file=sys.stderr, flush=True
-        )
+        tell(name, f"{program.name} is unproved: no proof was checked ({BUILD} proves it)")
     return program

@@ -3,13 +3,13 @@
 import os
 import signal
 import subprocess
-import sys
 from pathlib import Path
 
 from building.places import BUILD, PROGRAM, Place
 from building.progress import end_by_exit
 from building.ready import is_ready, ready_program
-from common.faults import WORDS, ToolFault, one_line
+from common.faults import WORDS, ToolFault
+from common.printing import tell
 from common.version import version
 from shaping.program_words import files_of, usage, word_fault
 from shaping.reasons import reason_of, swapped
@@ -33,7 +33,7 @@ def main(words: list[str]) -> int:
     status = run(ready_program(NAME), words)
     for line in (reason_of(status, words), None if fault else swapped(files_of(words))):
         if line is not None:
-            print(f"{NAME}: {one_line(line)}", file=sys.stderr)
+            tell(NAME, line)
     return status
 
 

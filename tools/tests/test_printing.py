@@ -42,6 +42,10 @@ run_tool("shape", cli.main)
 """
 
 
+def interruptible() -> None:
+    signal.signal(signal.SIGINT, signal.SIG_DFL)
+
+
 class Printed(unittest.TestCase):
     def setUp(self) -> None:
         self.folder = Path(self.enterContext(tempfile.TemporaryDirectory()))
@@ -166,7 +170,9 @@ class Streams(Printed):
         pipe = self.folder / "texts"
         os.mkfifo(pipe)
         streams = {"stdout": subprocess.PIPE, "stderr": subprocess.PIPE, "env": self.environment}
-        with subprocess.Popen(self.command(self.font, f"--text-file={pipe}"), **streams) as process:
+        command = self.command(self.font, f"--text-file={pipe}")
+        # Another test may have made this process ignore interrupts, which those that it makes would too.
+        with subprocess.Popen(command, preexec_fn=interruptible, **streams) as process:
             with open(pipe, "wb"):
                 # The pipe opens here when the tool reads it.
                 process.send_signal(signal.SIGINT)
