@@ -18,10 +18,10 @@ USUAL_SCRIPTS = ("DFLT", "dflt", "latn")
 HEBREW = "hebr"
 # Texts of these run to either side, by themselves from left to right.
 BOTH_SIDES = {"Hung"}
-# Combining diacritical marks with their supplements, those of Cyrillic, for symbols, and halves.
+# Combining diacritical marks with their supplements, those of Cyrillic, for symbols, and halves; the two of kana.
 MARK_BLOCKS = (
     range(0x300, 0x370), range(0x483, 0x48A), range(0x1AB0, 0x1B00), range(0x1DC0, 0x1E00), range(0x20D0, 0x2100),
-    range(0xFE20, 0xFE30),
+    range(0xFE20, 0xFE30), range(0x3099, 0x309B),
 )  # fmt: skip
 SELECTORS = {*range(0xFE00, 0xFE10), *range(0xE0100, 0xE01F0)}
 
