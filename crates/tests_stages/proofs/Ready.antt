@@ -1,10 +1,11 @@
 -- Buffers that stay ready.
 use Rattle.std.proofs.Common.{zero, suc, ℕ, ◌≡◌, ◌+◌, true, List, [], ◌∷◌, ◌++◌, length, set, refl, sym, ap, subst, ◌∙◌, arith}
-use Rattle.std.specs.Prelude.{slice_set}
+use Rattle.std.specs.Prelude.{ℤ, slice_set}
 use Rattle.std.proofs.lemmas.List.{length-append, length-set}
 use Rattle.buffer_glyphs.specs.declared.info.hb_glyph_info_t.{hb_glyph_info_t}
 use Rattle.buffer_glyphs.specs.Items.{Item, Position, zero_position}
 use Rattle.buffer_core.specs.Sides.{Sides, with_added, with_output}
+use Rattle.buffer_core.specs.Settings.{with_max_ops}
 use Rattle.buffer_core.specs.Lending.{with_glyph_ahead, with_positions_refilled}
 use Rattle.buffer_stages.specs.Ready.{IsReady}
 use Rattle.buffer_glyphs.specs.Rewriting.{Arrangement, eventless_arrangement}
@@ -57,6 +58,16 @@ placed_ready i p ps s t ready is e =
       placed = ap (λ (qs : List Position). length qs) whole ∙ length-set s.positions i p ∙ ready.placed;
       unrefused = ready.unrefused;
     }))
+
+pub budget_ready : (n : ℤ) (s t : Sides) → IsReady s → t ≡ with_max_ops n s → IsReady t
+budget_ready n s t ready is =
+    subst IsReady (sym is) (record {
+      closed = ready.closed;
+      front = ready.front;
+      unread = ready.unread;
+      placed = ready.placed;
+      unrefused = ready.unrefused;
+    })
 
 -- an output that was opened and appended to is open
 pub output_open : (a : Arrangement) (xs : List Item) (s t u : Sides) → t ≡ with_output s → AppendsArrangement a xs t u → u.is_open ≡ true

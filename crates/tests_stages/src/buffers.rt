@@ -54,6 +54,15 @@ fn add_glyph(glyph: &str, buffer: &mut hb_buffer_t) -> Result<(), ShapeCause>
     Ok(())
 }
 
+/// Sets how many nested lookups may still be applied.
+#[tactic(auto, using(crate::proofs::Ready::budget_ready))]
+pub fn set_budget(steps: i32, buffer: &mut hb_buffer_t)
+    requires { IsReady buffer.old }
+    ensures { IsReady buffer.new }
+{
+    buffer.set_max_ops(steps);
+}
+
 /// A buffer with the glyphs of a row.
 pub fn buffer_of(alloc: Global, row: &str) -> Result<hb_buffer_t, ShapeCause>
     ensures { IfOk result (λ b. IsReady b) }

@@ -1,7 +1,7 @@
 //! A nested positioning as a call of the apply context.
 ghost use Rattle.buffer_stages.specs.Ready.{IsReady};
 
-use crate::buffers::buffer_of;
+use crate::buffers::{buffer_of, set_budget};
 use crate::replacements::{FONT, TEXT};
 use crate::stages::face_of;
 use buffer_core::buffer::hb_buffer_t;
@@ -31,7 +31,7 @@ fn nest(face: &Face, index: u16, buffer: &mut hb_buffer_t) -> Result<bool, Shape
 fn acts(alloc: Global, index: u16, steps: i32) -> Result<(bool, i32), Fail> {
     let face = face_of(alloc, FONT)?;
     let mut buffer = buffer_of(alloc, TEXT)?;
-    buffer.set_max_ops(steps);
+    set_budget(steps, &mut buffer);
     let acted = nest(&face, index, &mut buffer)?;
     Ok((acted, buffer.max_ops()))
 }

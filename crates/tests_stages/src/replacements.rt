@@ -1,7 +1,7 @@
 //! What an apply context answers at the cursor: its replacements, and a nested substitution.
 ghost use Rattle.buffer_stages.specs.Ready.{IsReady};
 
-use crate::buffers::buffer_of;
+use crate::buffers::{buffer_of, set_budget};
 use crate::stages::face_of;
 use buffer_core::buffer::hb_buffer_t;
 use buffer_glyphs::cause::ShapeCause;
@@ -74,7 +74,7 @@ fn nest(face: &Face, index: u16, buffer: &mut hb_buffer_t) -> Result<bool, Shape
 fn acts(alloc: Global, index: u16, steps: i32) -> Result<(bool, i32), Fail> {
     let face = face_of(alloc, FONT)?;
     let mut buffer = buffer_of(alloc, TEXT)?;
-    buffer.set_max_ops(steps);
+    set_budget(steps, &mut buffer);
     let acted = nest(&face, index, &mut buffer)?;
     Ok((acted, buffer.max_ops()))
 }
