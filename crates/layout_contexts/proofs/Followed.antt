@@ -1,16 +1,16 @@
 -- Rules that cannot match by the glyph after the one where they are tried.
-use Rattle.std.proofs.Common.{ℕ, ◌≡◌, ◌≤◌, ◌<◌, ◌+◌, ◌-◌, true, false, Bool, List, [], ◌∷◌, length, drop, Option, Some, None, Result, Ok, Err, if◌then◌else◌, inl, inr, refl, sym, ap, ◌∙◌, arith}
+use Rattle.std.proofs.Common.{ℕ, ◌≡◌, ◌≤◌, ◌<◌, ◌+◌, ◌-◌, true, false, Bool, List, [], ◌∷◌, length, drop, Option, Some, None, Err, if◌then◌else◌, inl, inr, refl, ap, arith}
 use Rattle.std.specs.Prelude.{nat_le, ◌&&◌}
 use Rattle.buffer_glyphs.specs.Items.{Item}
 use Rattle.buffer_glyphs.specs.Parts.{first_of}
 use Rattle.layout_match.specs.declared.next_glyph.NextGlyphs.{NextGlyphs}
 use Rattle.layout_match.specs.Applied.{ApplyContext, own_search, context_search}
-use Rattle.layout_match.specs.Matches.{answers_of, input_end, lookahead_end, sequence_end, then_sequence_end}
+use Rattle.layout_match.specs.Matches.{answers_of, input_end, sequence_end, then_sequence_end}
 use Rattle.layout_match.specs.Next.{Fails, IsNext, may_find}
 use Rattle.layout_match.specs.Searches.{Search, answer}
 use Rattle.layout_match.specs.Sequences.{test_at}
 use Rattle.buffer_stages.specs.Actions.{Cut, Passes, Action, at_first, attempt_around}
-use Rattle.layout_contexts.specs.Chains.{Chain, begins, by_input, by_lookahead, chain_at, chain_rule}
+use Rattle.layout_contexts.specs.Chains.{Chain, begins, by_input, chain_at, chain_rule}
 use Rattle.layout_contexts.specs.Following.{OnlyTries, may_find_second, may_follow}
 
 -- ---- the test

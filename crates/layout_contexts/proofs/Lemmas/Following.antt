@@ -1,5 +1,5 @@
 -- Rules that cannot match by the next glyph need not be tried.
-use Rattle.std.proofs.Common.{ℕ, ◌≡◌, ◌<◌, ◌+◌, ◌⊎◌, Bool, true, false, inl, inr, List, [], ◌∷◌, drop, length, get_or, Option, Some, slice_get, refl, sym, ap, subst, ◌∙◌}
+use Rattle.std.proofs.Common.{ℕ, ◌≡◌, ◌+◌, Bool, true, false, inl, inr, List, [], ◌∷◌, drop, Option, Some, slice_get, refl, sym, ap, subst, ◌∙◌}
 use Rattle.std.proofs.lemmas.Option.{slice_get_within, get_or_from_slice_get}
 use Rattle.buffer_glyphs.specs.Items.{Item, strip}
 use Rattle.buffer_glyphs.specs.Origins.{Asks}
