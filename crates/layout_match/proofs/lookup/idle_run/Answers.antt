@@ -1,5 +1,5 @@
 use Rattle.std.proofs.Common.{◌&&◌}
-use Rattle.buffer_glyphs.specs.Items.{Item, item_of, strip}
+use Rattle.buffer_glyphs.specs.Items.{Item, strip}
 use Rattle.layout_match.specs.Applied.{apply_context_of}
 use Rattle.layout_match.specs.Trying.{meets}
 use Rattle.layout_match.proofs.Lemmas.Idle.{none_first, none_next}
