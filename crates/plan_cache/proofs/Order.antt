@@ -52,6 +52,22 @@ after_miss tags features text old new k none serves same = record {
   miss = λ again. record { plan = k; serves = serves; is = same };
 }
 
+-- ---- another plan
+
+-- a list that grows past its bound by one loses its first element
+pub first_dropped : (xs : List CachedPlan) (k : CachedPlan) (bound : ℕ) → length xs ≤ bound → bound < length (xs ++ k ∷ []) → drop 1 (xs ++ k ∷ []) ≡ drop (length xs + 1 - bound) (xs ++ k ∷ [])
+first_dropped xs k bound le lt =
+    let n : length (xs ++ k ∷ []) ≡ length xs + 1 = length-append xs (k ∷ []) in
+    let one : 1 ≡ length xs + 1 - bound = omega (arith, le, lt, n) in
+    ap (λ m. drop m (xs ++ k ∷ [])) one
+
+-- one that stays within it loses none
+pub all_kept : (xs : List CachedPlan) (k : CachedPlan) (bound : ℕ) → length (xs ++ k ∷ []) ≤ bound → xs ++ k ∷ [] ≡ drop (length xs + 1 - bound) (xs ++ k ∷ [])
+all_kept xs k bound le =
+    let n : length (xs ++ k ∷ []) ≡ length xs + 1 = length-append xs (k ∷ []) in
+    let none : 0 ≡ length xs + 1 - bound = omega (arith, le, n) in
+    ap (λ m. drop m (xs ++ k ∷ [])) none
+
 -- ---- the last plan
 
 one_at : {X : Type 0} (xs : List X) (i : ℕ) (d : X) → i < length xs → slice_range xs i (i + 1) ≡ slice_index_or xs i d ∷ []

@@ -1,5 +1,5 @@
 //! Plans for texts in turn.
-ghost use Rattle.std.specs.Prelude.{◌≡◌, ◌≢◌, ◌≤◌, ◌<◌, ◌⊎◌, Err, IfErr, IfOk, MatchOption, Ok, OnErr, OnOk, [], length};
+ghost use Rattle.std.specs.Prelude.{◌≡◌, ◌≢◌, ◌≤◌, ◌<◌, ◌-◌, ◌⊎◌, Err, IfErr, IfOk, MatchOption, Ok, OnErr, OnOk, [], drop, length, slice_index_or};
 ghost use Rattle.std.specs.List.{All};
 ghost use Rattle.shape_pipeline.specs.buffer_core.Readings.{Follows};
 ghost use Rattle.shape_pipeline.specs.buffer_core.Segment.{after_guess_segment_properties};
@@ -67,6 +67,7 @@ impl PlanCache {
     /// Shapes a text in a font to what `shape` gives, by a plan of the cache where one serves the text, else by a new one,
     /// which the cache then keeps. Where a plan of the cache serves the text, and where the text has no characters, it takes
     /// no memory beside that of the text's glyphs.
+    #[tactic(auto, using(crate::proofs::Order::some_last))]
     pub fn shape<P: SyllableSpans, L: LanguageTags>(
         &mut self,
         alloc: Global,
@@ -101,8 +102,17 @@ impl PlanCache {
             return Err(out_of_memory(buffer));
         };
         law_serving_plans_give_the_texts_shaping();
+        let cached = self.last_used();
+        shape_with_plan(alloc, face, shape_data, &cached.plan, buffer)
+    }
+
+    /// The plan that was used last.
+    fn last_used(&self) -> &CachedPlan
+        requires { 0 < length self.now.plans }
+        ensures { result.now ≡ slice_index_or self.now.plans (length self.now.plans - 1) result.now }
+    {
         let last = self.plans.len() - 1;
-        shape_with_plan(alloc, face, shape_data, &self.plans[last].plan, buffer)
+        &self.plans[last]
     }
 
     /// Makes the plan that serves a text with features the last one: one of the cache, or a new one.
@@ -161,16 +171,26 @@ impl PlanCache {
     }
 
     /// Adds a plan as the last one, and drops the first one where there are more than the bound.
+    #[tactic(auto, using(crate::proofs::Order::first_dropped, crate::proofs::Order::all_kept))]
     fn add(&mut self, cached: CachedPlan) -> Result<(), AllocError>
         ensures ok { OnOk result (self.new ≡ with_plan_added cached self.old) }
         ensures err { OnErr result (self.new ≡ self.old) }
     {
         self.plans.push(cached)?;
         if self.plans.len() > self.bound {
-            self.plans.remove(0);
+            drop_first(&mut self.plans);
         }
         Ok(())
     }
+}
+
+/// Drops the first plan.
+fn drop_first(plans: &mut Vec<CachedPlan>)
+    requires { 0 < length plans.old.items }
+    ensures { plans.new.items ≡ drop 1 plans.old.items }
+{
+    let first = plans.remove(0);
+    drop(first);
 }
 
 /// The fault of a text for whose plan there is no memory.
