@@ -258,7 +258,7 @@ class Built(unittest.TestCase):
                     time.sleep(0.05)
                 self.assertTrue(tree_of(self.root, "hb_shape").exists())
                 run.send_signal(sent)
-                _, told = run.communicate(timeout=20)
+                _, told = run.communicate(timeout=120)
                 self.assertEqual(run.returncode, status)
             self.assertFalse(tree_of(self.root, "hb_shape").exists())
             last = (
