@@ -26,10 +26,11 @@ slice_of s = record { first_glyph = s.first_glyph; end_glyph = s.end_glyph; star
 abbrev pub extents_of : hb_glyph_extents_t → kus_glyph_extents_t
 extents_of e = record { x_bearing = e.x_bearing; y_bearing = e.y_bearing; width = e.width; height = e.height }
 
--- the numbers of the tags of a feature and of a script
+-- the number of a feature's tag
 abbrev pub feature_tag : FeatureTable → ℕ
 feature_tag f = f.tag.0
 
+-- the number of a script's tag
 abbrev pub script_tag : ScriptTable → ℕ
 script_tag s = s.tag.0
 

@@ -53,10 +53,12 @@ feature_tags layout = option_map_or (λ (l : LayoutLists). map feature_tag l.fea
 abbrev pub script_tags : Option LayoutLists → List ℕ
 script_tags layout = option_map_or (λ (l : LayoutLists). map script_tag l.scripts) layout []
 
+-- the tags of the features of a font's layout table, none without a font
 abbrev pub feature_tags_in : Option KeptFont → ℕ → List ℕ
 feature_tags_in None table = []
 feature_tags_in (Some f) table = feature_tags (layout_in f.input.face table)
 
+-- the tags of the scripts of a font's layout table, none without a font
 abbrev pub script_tags_in : Option KeptFont → ℕ → List ℕ
 script_tags_in None table = []
 script_tags_in (Some f) table = script_tags (layout_in f.input.face table)

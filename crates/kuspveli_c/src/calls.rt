@@ -69,7 +69,7 @@ pub extern "C" fn kus_tables_reference(
     OK
 }
 
-/// Lets the tables go, if there are any; fonts that were made over them keep them.
+/// Drops the tables, if there are any; fonts that were made over them keep them.
 #[unsafe(no_mangle)]
 pub extern "C" fn kus_tables_destroy(alloc: Global, tables: &mut TablesHandle)
     ensures { tables.new.value ≡ None }

@@ -273,7 +273,7 @@ fn texts_have_slices(rt: HostRuntime) -> Result<(), Fail> {
 }
 
 #[test]
-fn fonts_tell_of_themselves(rt: HostRuntime) -> Result<(), Fail> {
+fn fonts_answer_questions(rt: HostRuntime) -> Result<(), Fail> {
     let alloc = rt.alloc();
     let mut font = Handle::empty(alloc);
     let nothing = (
