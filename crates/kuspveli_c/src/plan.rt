@@ -15,7 +15,6 @@ use std::alloc::Global;
 pub const KEPT_PLANS: usize = 8;
 
 /// Shapes a text by a plan that is kept where one serves it, else by a new one, which is then kept.
-#[tactic(auto, using(crate::proofs::Plans::refused_with_cause))]
 pub fn shape_kept(
     alloc: Global,
     input: &Input,
