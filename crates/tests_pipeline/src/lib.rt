@@ -6,8 +6,6 @@
 #![tactic(auto)]
 
 #[cfg(test)]
-mod cached_plans;
-#[cfg(test)]
 mod data;
 #[cfg(test)]
 mod decomposing;
