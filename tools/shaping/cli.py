@@ -19,8 +19,8 @@ from shaping.cache import TOOLS, cache_folder, cached, fingerprint, font_name, p
 from shaping.glyphs import as_json, read_line, with_names
 from shaping.locales import locale_language
 from shaping.options import NAME, Given, read_words, usage
-from shaping.program import Line, run_all, told
-from shaping.texts import Text, lack_notes, read_texts
+from shaping.program import Line, Shaped, shape_texts, told
+from shaping.texts import Text, Texts, lack_notes, read_texts, unshown
 from unicodejson.cli import DEBIAN, MAKERS, make_tables
 
 # What is made of a font and, where Debian's unicode-data is there, of the Unicode Character Database.
@@ -56,14 +56,14 @@ def main(words: list[str]) -> int:
         tables = tables_file(folder)
         if "verbose" in given.own:
             tell(NAME, which_tables(tables))
-        lines = shape(program, tables, font, texts, given)
-        if any(line.status == DATA for line in lines) and heal(folder, given, place, tables, font):
-            lines = shape(program, tables, font, texts, given)
+        shaped = shape(program, tables, font, texts, given)
+        if shaped.status == DATA and heal(folder, given, place, tables, font):
+            shaped = shape(program, tables, font, texts, given)
         if "verify" in given.own:
-            verify(program, lines, given, tables, font)
+            verify(program, shaped.lines, given, tables, font)
         if pictures_of(given):
-            draw(whole_lines(program, lines, given, tables, font), given, place)
-        return show(lines, given, tables, font)
+            draw(whole_lines(program, shaped, texts, given, tables, font), given, place)
+        return show(shaped, texts, given, tables, font)
 
 
 def check_words(given: Given) -> None:
@@ -91,15 +91,17 @@ def tell_place(given: Given) -> Place | None:
     return place
 
 
-def shape(program: Path, tables: Path, font: Path, texts: list[Text], given: Given) -> list[Line]:
+def shape(program: Path, tables: Path, font: Path, texts: Texts, given: Given) -> Shaped:
     """The lines of all texts, with glyphs by their numbers."""
     if any(option in given.own for option in CONTEXT):
         from shaping.context import shape_in_context
 
         boxes = {glyph: tuple(box) for glyph, *box in rows_of(font, "extents")} if given.has("show-extents") else {}
-        return shape_in_context(tables, font, texts, given, boxes)
+        lines = shape_in_context(tables, font, texts.each(), given, boxes)
+        status = next((line.status for line in lines if line.status), 0)
+        return Shaped("".join(line.glyphs for line in lines), status, lambda: lines)
     options = [*given.program, NUMBERS] if NUMBERS not in given.program else given.program
-    return run_all(program, tables, font, texts, options)
+    return shape_texts(program, tables, font, texts, options)
 
 
 def verify(program: Path, lines: list[Line], given: Given, tables: Path, font: Path) -> None:
@@ -112,31 +114,41 @@ def verify(program: Path, lines: list[Line], given: Given, tables: Path, font: P
                 raise ToolFault(SHAPING, f"{line.text.where}: a promise is broken: {broken}")
 
 
-def show(lines: list[Line], given: Given, tables: Path, font: Path) -> int:
-    """Prints each text's line, or its fault; the status of the first fault, else 0."""
+def show(shaped: Shaped, texts: Texts, given: Given, tables: Path, font: Path) -> int:
+    """Prints each text's line, or tells its fault; the status of the first fault, else 0."""
     for what in told_of(font):
         tell(NAME, f"{given.font}: left out, and it changes glyphs or positions: {what}")
     characters = {row[0] for row in rows_of(font, "cmap")}
+    hidden = unshown(texts.characters(), characters)
     names = {} if given.has("no-glyph-names") and not given.is_json else dict(rows_of(font, "names"))
-    for line in lines:
+    if not (shaped.status or hidden or "show-text" in given.own):
+        # Nothing is told or printed between the lines.
+        print_lines(shaped.printed, names, given)
+        return 0
+    for line in shaped.lines:
         if line.status:
             tell(NAME, told(line, tables, font))
-        else:
-            for note in lack_notes(line.text, characters):
-                tell(NAME, note)
-            if STANDARD_OUTPUT not in pictures_of(given):
-                emit(printed(line, names, given))
-    return next((line.status for line in lines if line.status), 0)
+            continue
+        for note in lack_notes(line.text, characters) if hidden else ():
+            tell(NAME, note)
+        print_lines(line.glyphs, names, given, line.text)
+    return shaped.status
 
 
-def printed(line: Line, names: dict[int, str], given: Given) -> str:
-    """What standard output has of a text."""
-    before = f"({line.text.characters})\n" if "show-text" in given.own else ""
+def print_lines(glyphs: str, names: dict[int, str], given: Given, text: Text | None = None) -> None:
+    """Prints what standard output has of lines of glyphs, or of one and its text, unless it has a picture."""
+    if STANDARD_OUTPUT not in pictures_of(given):
+        before = f"({text.characters})\n" if text is not None and "show-text" in given.own else ""
+        emit(before + printed(glyphs, names, given))
+
+
+def printed(glyphs: str, names: dict[int, str], given: Given) -> str:
+    """What standard output has of lines of glyphs."""
     if given.is_json:
-        return before + as_json(read_line(line.glyphs), names, given) + "\n"
+        return "".join(as_json(read_line(line), names, given) + "\n" for line in glyphs.splitlines())
     if given.has("no-glyph-names"):
-        return before + line.glyphs
-    return before + with_names(line.glyphs, names, not given.has("no-clusters"))
+        return glyphs
+    return with_names(glyphs, names, not given.has("no-clusters"))
 
 
 # ---- pictures
@@ -147,13 +159,12 @@ def pictures_of(given: Given) -> list[str]:
     return [given.own[kind] for kind in PICTURES if kind in given.own]
 
 
-def whole_lines(program: Path, lines: list[Line], given: Given, tables: Path, font: Path) -> list[Line]:
-    """The texts' lines with all that a picture needs, whatever is printed."""
-    shaped = [line for line in lines if not line.status]
-    if not any(word in HIDING for word in given.program):
-        return shaped
-    whole = replace(given, program=[word for word in given.program if word not in HIDING])
-    return shape(program, tables, font, [line.text for line in shaped], whole)
+def whole_lines(program: Path, shaped: Shaped, texts: Texts, given: Given, tables: Path, font: Path) -> list[Line]:
+    """The lines of the texts that were shaped with all that a picture needs, whatever is printed."""
+    if any(word in HIDING for word in given.program):
+        whole = replace(given, program=[word for word in given.program if word not in HIDING])
+        shaped = shape(program, tables, font, texts, whole)
+    return [line for line in shaped.lines if not line.status]
 
 
 def draw(lines: list[Line], given: Given, place: Place | None) -> None:

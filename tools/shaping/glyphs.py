@@ -12,6 +12,7 @@ GLYPH = re.compile(
     r"(?P<number>\d+)(?:=(?P<cluster>\d+))?(?:@(?P<dx>-?\d+),(?P<dy>-?\d+))?(?:\+(?P<ax>-?\d+)(?:,(?P<ay>-?\d+))?)?"
     r"(?:#(?P<flags>[0-9a-f]+))?(?:<(?P<box>-?\d+,-?\d+,-?\d+,-?\d+)>)?"
 )
+DIGITS = "0123456789"
 
 
 @dataclass(frozen=True)
@@ -41,13 +42,25 @@ def read_line(line: str) -> list[Glyph]:
     return found
 
 
-def with_names(line: str, names: dict[int, str], has_clusters: bool = True) -> str:
-    """A line of glyph numbers with the font's names in their place, each of which stays one field."""
-    parts = []
-    for part in line.rstrip("\n").split("|") if line.strip() else []:
-        number = part[: len(part) - len(part.lstrip("0123456789"))]
-        parts.append(clean_name(names.get(int(number), f"gid{number}"), has_clusters) + part[len(number) :])
-    return "|".join(parts) + "\n"
+def with_names(lines: str, names: dict[int, str], has_clusters: bool = True) -> str:
+    """Lines of glyph numbers with the font's names in their place, each of which stays one field."""
+    # A line feed is a field of its own here.
+    fields = lines.replace("\n", "|\n|").split("|")
+    return "|".join(map(Named(names, has_clusters).__getitem__, fields)).replace("|\n|", "\n")
+
+
+class Named(dict[str, str]):
+    """Fields of glyph numbers, with names in their place. Many lines have the same ones, so each is made once."""
+
+    def __init__(self, names: dict[int, str], has_clusters: bool) -> None:
+        self.names, self.has_clusters = names, has_clusters
+
+    def __missing__(self, field: str) -> str:
+        rest = field.lstrip(DIGITS)
+        number = field[: len(field) - len(rest)]
+        name = self.names.get(int(number), f"gid{number}") if number else ""
+        made = self[field] = clean_name(name, self.has_clusters) + rest
+        return made
 
 
 def text_of(glyphs: list[Glyph], given: Given) -> str:

@@ -1,17 +1,29 @@
 """Running the program, and its faults with their place."""
 
-import os
 import subprocess
 import tempfile
-from concurrent.futures import ThreadPoolExecutor
 from dataclasses import dataclass
+from functools import cached_property
 from pathlib import Path
+from typing import Callable
 
-from common.faults import DATA, one_line
+from common.faults import DATA, SHAPING, one_line
 from formats.where import font_fault, tables_fault
-from shaping.texts import Text
+from shaping.texts import Text, Texts
 
 OWN = "hb_shape: "
+# What stands before the name of a fault in a refused text's place.
+REFUSED = "! "
+BY_LINES = ("--lines", "--keep-going")
+
+
+@dataclass(frozen=True)
+class Ran:
+    """What a run printed, its status, and its fault."""
+
+    printed: str
+    status: int
+    fault: str
 
 
 @dataclass(frozen=True)
@@ -24,22 +36,67 @@ class Line:
     fault: str
 
 
+@dataclass(frozen=True)
+class Shaped:
+    """What the program made of texts: all that it printed, the status of the first fault, and a line for each text, which
+    is made when it is asked for."""
+
+    printed: str
+    status: int
+    make: Callable[[], list[Line]]
+
+    @cached_property
+    def lines(self) -> list[Line]:
+        return self.make()
+
+
+def shape_texts(program: Path, tables: Path, font: Path, texts: Texts, options: list[str]) -> Shaped:
+    """Shapes the text of the command line, or all lines of a file by one run of the program."""
+    if not texts.is_file:
+        [text] = texts.each()
+        line = run_one(program, tables, font, text, options)
+        return Shaped(line.glyphs, line.status, lambda: [line])
+    ran = run(program, tables, font, texts.bytes, [*options, *BY_LINES])
+    return Shaped(ran.printed, ran.status, lambda: lines_of(texts.each(), ran))
+
+
 def run_all(program: Path, tables: Path, font: Path, texts: list[Text], options: list[str]) -> list[Line]:
-    """The lines of all texts in their order, shaped side by side."""
-    with ThreadPoolExecutor(os.cpu_count()) as pool:
-        return list(pool.map(lambda text: run_one(program, tables, font, text, options), texts))
+    """The lines of texts without line feeds, in their order, by one run of the program."""
+    whole = b"".join(text.bytes + b"\n" for text in texts)
+    return lines_of(texts, run(program, tables, font, whole, [*options, *BY_LINES]))
 
 
 def run_one(program: Path, tables: Path, font: Path, text: Text, options: list[str]) -> Line:
-    """Runs the program on files. It drops one line feed at the text's end, so it is given one more."""
+    """The printed lines of one text. The program drops one line feed at the text's end, so it is given one more."""
+    ran = run(program, tables, font, text.bytes + b"\n", options)
+    return Line(text, ran.printed, ran.status, ran.fault)
+
+
+def lines_of(texts: list[Text], ran: Ran) -> list[Line]:
+    """The line of each text, of a run with --no-glyph-names: no line has a line feed in it or begins with a mark."""
+    printed = ran.printed.split("\n")[:-1]
+    lines = [line_of(text, shown) for text, shown in zip(texts, printed)]
+    # Texts that the run did not come to share its fault.
+    return lines + [Line(text, "", ran.status, ran.fault) for text in texts[len(printed) :]]
+
+
+def line_of(text: Text, shown: str) -> Line:
+    """The line of a text, or its fault, by name."""
+    if shown.startswith(REFUSED):
+        return Line(text, "", SHAPING, shown.removeprefix(REFUSED))
+    return Line(text, shown + "\n", 0, "")
+
+
+def run(program: Path, tables: Path, font: Path, text: bytes, options: list[str]) -> Ran:
+    """Runs the program on files."""
     with tempfile.NamedTemporaryFile() as file:
-        file.write(text.bytes + b"\n")
+        file.write(text)
         file.flush()
         words = [program, *options, tables, font, file.name]
         ran = subprocess.run(words, stdin=subprocess.DEVNULL, capture_output=True, check=False)
     fault = one_line(ran.stderr.decode("utf-8", "replace")).removeprefix(OWN)
     status = ran.returncode if ran.returncode >= 0 else 128 - ran.returncode
-    return Line(text, ran.stdout.decode("utf-8", "replace"), status, fault)
+    return Ran(ran.stdout.decode("utf-8", "replace"), status, fault)
 
 
 def told(line: Line, tables: Path, font: Path) -> str:

@@ -10,12 +10,15 @@ USAGE = "hb_shape [options] TABLES FONT TEXT"
 PROGRAM_OPTIONS = (
     *(option for option in OPTIONS if not option.is_own),
     Option("slices", "print also which bytes of the text each run of glyphs of one cluster comes from"),
+    Option("lines", "shape each line of TEXT by itself, and print a line for each"),
+    Option("keep-going", "with --lines: a line that is refused is named in its place, and the others are printed"),
 )
 BY_NAME = {option.name: option for option in PROGRAM_OPTIONS}
 EXAMPLES = """examples:
   tools/hb_shape tables.json font.json text.txt
   tools/hb_shape --features=-liga,kern=2 --no-glyph-names tables.json font.json text.txt
-  tools/hb_shape --direction=rtl --script=Arab --language=ur-PK tables.json font.json text.txt"""
+  tools/hb_shape --direction=rtl --script=Arab --language=ur-PK tables.json font.json text.txt
+  tools/hb_shape --lines --keep-going tables.json font.json - <words.txt"""
 
 
 def usage() -> str:
@@ -28,8 +31,8 @@ def usage() -> str:
     return f"""usage: {USAGE}
 
 Shapes a text, and prints its glyphs as hb-shape does: glyph=cluster@x,y+advance, with | between them. TABLES and FONT
-are JSON files, as unicode_to_json and font_to_json write them; TEXT is a file in UTF-8, of which one line feed at the
-end is dropped.
+are JSON files, as unicode_to_json and font_to_json write them; TEXT is a file in UTF-8, - for standard input, of which
+one line feed at the end is dropped.
 
 {EXAMPLES}
 
@@ -70,6 +73,10 @@ def files_of(words: list[str]) -> list[str]:
         raise ValueError(f"{FILES[len(files)]} is missing: {USAGE}")
     if len(files) > len(FILES):
         raise ValueError(f"{files[len(FILES)]!r}: a fourth file: {USAGE}")
+    if {"lines", "slices"} <= met:
+        raise ValueError("--slices: with --lines there are none")
+    if "keep-going" in met and "lines" not in met:
+        raise ValueError("--keep-going: it takes --lines too")
     return files
 
 

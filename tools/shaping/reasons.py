@@ -11,6 +11,7 @@ from common.faults import DATA, FILES, TEXT, WORDS
 from shaping.program_words import FILES as ROLES
 from shaping.program_words import USAGE, files_of, word_fault
 
+# The text of this name is standard input; tables and fonts are files.
 STANDARD_INPUT = "-"
 # The key of a font's units, which each font has, and no tables.
 UNITS = "upem"
@@ -34,14 +35,14 @@ def reason_of(status: int, words: list[str]) -> str | None:
 
 def reading_reason(files: list[str]) -> str | None:
     """The first file that can't be read."""
-    for role, name in zip(ROLES, files):
-        if name != STANDARD_INPUT:
-            try:
-                # A pipe is not waited for.
-                with open(os.open(name, os.O_RDONLY | os.O_NONBLOCK), "rb") as file:
-                    file.read(1)
-            except OSError as error:
-                return f"{role}: {name}: {error.strerror}"
+    *_, text = files
+    for role, name in zip(ROLES, files if text != STANDARD_INPUT else files[:-1]):
+        try:
+            # A pipe is not waited for.
+            with open(os.open(name, os.O_RDONLY | os.O_NONBLOCK), "rb") as file:
+                file.read(1)
+        except OSError as error:
+            return f"{role}: {name}: {error.strerror}"
     return None
 
 
@@ -61,7 +62,7 @@ def data_reason(files: list[str]) -> str | None:
 def text_reason(files: list[str]) -> str | None:
     """The byte at which the text is no UTF-8."""
     *_, name = files
-    if not stat.S_ISREG(os.stat(name).st_mode):
+    if name == STANDARD_INPUT or not stat.S_ISREG(os.stat(name).st_mode):
         return None
     with open(name, "rb") as file:
         at = first_other(file)

@@ -35,15 +35,41 @@ class Text:
         return self.bytes.decode("utf-8")
 
 
-def read_texts(given: Given) -> list[Text]:
+@dataclass(frozen=True)
+class Texts:
+    """The text of the command line, or the lines of a file, each made when it is asked for: there may be a million."""
+
+    bytes: bytes
+    where: str
+    is_file: bool
+
+    def each(self) -> list[Text]:
+        if not self.is_file:
+            return [Text(self.bytes, self.where)]
+        lines = self.bytes.split(b"\n")
+        if not lines[-1]:
+            lines.pop()
+        return [Text(line, f"{self.where}: line {number}") for number, line in enumerate(lines, 1)]
+
+    def characters(self) -> set[str]:
+        """The characters of all texts."""
+        met = set(self.bytes.decode("utf-8"))
+        return met - {"\n"} if self.is_file else met
+
+
+def read_texts(given: Given) -> Texts:
     """The text of the command line, or the lines of the file; each has to be UTF-8."""
     if given.text is not None:
-        return [checked(os.fsencode(given.text), "the text")]
-    name = given.own["text-file"]
-    lines = read_whole(name).split(b"\n")
-    if not lines[-1]:
-        lines.pop()
-    return [checked(line, f"{name}: line {number}") for number, line in enumerate(lines, 1)]
+        texts = Texts(os.fsencode(given.text), "the text", False)
+    else:
+        name = given.own["text-file"]
+        texts = Texts(read_whole(name), name, True)
+    try:
+        texts.bytes.decode("utf-8")
+    except UnicodeDecodeError:
+        for text in texts.each():
+            check_utf8(text)
+    return texts
 
 
 def read_whole(name: str) -> bytes:
@@ -59,16 +85,15 @@ def read_whole(name: str) -> bytes:
     return whole
 
 
-def checked(given: bytes, where: str) -> Text:
-    """A text; where it is no UTF-8 the fault says at which byte and after which character."""
+def check_utf8(text: Text) -> None:
+    """Refuses a text that is no UTF-8: the fault says at which byte, and after which character."""
     try:
-        given.decode("utf-8")
+        text.bytes.decode("utf-8")
     except UnicodeDecodeError as error:
-        before = given[: error.start].decode("utf-8")
+        before = text.bytes[: error.start].decode("utf-8")
         after = f", after {len(before)} characters, the last {name_of(before[-1])}" if before else ""
-        what = f"byte {error.start} (0x{given[error.start]:02X}){after}"
-        raise ToolFault(TEXT, f"{where} is no UTF-8 at {what}: {error.reason}") from error
-    return Text(given, where)
+        what = f"byte {error.start} (0x{text.bytes[error.start]:02X}){after}"
+        raise ToolFault(TEXT, f"{text.where} is no UTF-8 at {what}: {error.reason}") from error
 
 
 def name_of(character: str) -> str:
@@ -81,6 +106,11 @@ def script_of(text: str) -> str:
 
     found = (scripts.script(character) for character in text)
     return next((script for script in found if script not in ("Zyyy", "Zinh", "Zzzz")), "Zyyy")
+
+
+def unshown(characters: set[str], has: set[int]) -> set[str]:
+    """Those of some characters for which the font has nothing to show by themselves."""
+    return {character for character in characters if not is_shown(ord(character), has)}
 
 
 def lacking(text: str, has: set[int]) -> Iterator[tuple[int, str]]:

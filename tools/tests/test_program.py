@@ -33,10 +33,13 @@ REFUSED = {
     "--features -liga a b c": "--features: its value is missing: --features=F",
     "--direction=x a b c": "--direction: a direction begins with l, r, t or b (ltr, rtl, ttb, btt): 'x'",
     "--cluster-level=4 a b c": "--cluster-level: a cluster level is 0, 1, 2 or 3: '4'",
+    "--lines a b c --slices": "--slices: with --lines there are none",
+    "a --keep-going b c": "--keep-going: it takes --lines too",
     "\udcff b c": "'\\udcff': no UTF-8",
 }
 TAKEN = (
     "a b c", "--bot a b c --slices", "a -- --b c", "--features=-liga --features kern=2 a b c", "--direction rtl a b -",
+    "--keep-going a --lines b -",
 )  # fmt: skip
 TABLES, FONT = '{"splits":[],"classes":[]}', '{"upem":1000,"cmap":[]}'
 
@@ -63,7 +66,7 @@ class Words(unittest.TestCase):
             for name, file in zip("abc", ("tables.json", "ligature_font.json", "ligature_text.txt"))
         }
         program = standing(PROGRAM).file
-        for words in (*REFUSED, *TAKEN[:2], TAKEN[3]):
+        for words in (*REFUSED, *TAKEN[:2], *TAKEN[3:]):
             line = [os.fsencode(given.get(word, word)) for word in words.split()]
             ran = subprocess.run([program, *line], stdin=subprocess.DEVNULL, capture_output=True, check=False)
             self.assertEqual(ran.stderr, b"hb_shape: words\n" if words in REFUSED else b"", words)
@@ -115,6 +118,7 @@ class Commands(unittest.TestCase):
         for words, line in rows:
             self.assertEqual(self.told(6, *words), f"hb_shape: {line}\n")
         self.assertEqual(self.told(6, "tables", "font", "-"), "")
+        self.assertEqual(self.told(6, "tables", "-", "-"), "hb_shape: FONT: -: No such file or directory\n")
 
     def test_values(self) -> None:
         """Where tables or font break their format."""
@@ -134,6 +138,8 @@ class Commands(unittest.TestCase):
         """The byte at which the text is no UTF-8, also where a character lies across two pieces that are read."""
         (self.folder / "text").write_bytes(b"a\xc3(")
         self.assertEqual(self.told(4, "tables", "font", "text"), "hb_shape: TEXT: text: no UTF-8 at byte 1\n")
+        (self.folder / "-").write_bytes(b"\xff")
+        self.assertEqual(self.told(4, "tables", "font", "-"), "")
         with mock.patch("shaping.reasons.PIECE", 3):
             for content, at in (("aaäbbä".encode() + b"\xff", 8), ("aaä".encode()[:-1], 2), (b"\xf0\x9f\x98", 0)):
                 (self.folder / "text").write_bytes(content)

@@ -21,7 +21,8 @@ from support import DEJAVU, NASKH, run
 
 from building.places import PROGRAM, standing
 from common.faults import ToolFault
-from fontTools.ttLib import TTFont, newTable
+from fontTools.ttLib import TTFont
+from fontTools.ttLib.tables.DefaultTable import DefaultTable
 from formats.rules import font_faults
 from formats.where import font_fault, tables_fault
 from shaping import cli
@@ -35,18 +36,33 @@ from shaping.svg import svg
 from shaping.texts import Text, lack_notes, lacking
 from shaping.verify import Promises
 
-# Writes down its words, keeps the text, and ends with a status and a fault of its own for texts that begin with 3 or 5.
+# Writes down its words and keeps the text. Texts, and with --lines the lines, that begin with 3 or 5 are refused, and those
+# that begin with 6 end it for want of memory.
 STAND_IN = """#!/bin/sh
 for text; do :; done
-name=$(tr -d '\\n' < "$text")
 printf '%s\\n' "$@" > "$SHAPE_TEST/words"
-# Texts of a file are shaped side by side, and cp refuses a file that another one makes meanwhile.
-cat "$text" > "$SHAPE_TEST/text"
-case "$name" in
-    3*) echo "hb_shape: U1 OutOfOrder" >&2; exit 3;;
-    5*) echo "hb_shape: S2 TooLong" >&2; exit 5;;
+cp "$text" "$SHAPE_TEST/text"
+line='82=0+1253|5044=1@-3,4+1980,7#1<1,2,3,-4>'
+fail() { echo "hb_shape: $2" >&2; exit $1; }
+case " $* " in
+*' --lines '*)
+    number=0 status=0
+    while IFS= read -r name || [ -n "$name" ]; do
+        number=$((number + 1))
+        case "$name" in
+            3*) fail 3 'U1 OutOfOrder';;
+            5*) echo '! S2 TooLong'; [ $status = 0 ] && echo "hb_shape: S2 TooLong line $number" >&2; status=5;;
+            6*) fail 5 OutOfMemory;;
+            *) echo "$line";;
+        esac
+    done < "$text"
+    exit $status;;
 esac
-echo "82=0+1253|5044=1@-3,4+1980,7#1<1,2,3,-4>"
+case "$(tr -d '\\n' < "$text")" in
+    3*) fail 3 'U1 OutOfOrder';;
+    5*) fail 5 'S2 TooLong';;
+esac
+echo "$line"
 """
 LINE = "82=0+1253|5044=1@-3,4+1980,7#1<1,2,3,-4>\n"
 # The same with the names of DejaVu Sans, which the tool puts there.
@@ -106,6 +122,17 @@ class Commands(unittest.TestCase):
         self.assertEqual(self.words()[0], "--language=ur-PK")
         self.assertEqual((self.folder / "text").read_bytes(), b"--bot\n")
 
+    def test_locale(self) -> None:
+        """Without a language that of the locale is taken; one that is given stays."""
+        with mock.patch("locale.setlocale", return_value="tr_TR.UTF-8"):
+            self.shape("a")
+            self.assertIn("--language=tr-TR", self.words())
+            self.shape("a", "--language=de")
+            self.assertEqual([word for word in self.words() if word.startswith("--language")], ["--language=de"])
+        with mock.patch("locale.setlocale", return_value="C.UTF-8"):
+            self.shape("a")
+            self.assertFalse(any(word.startswith("--language") for word in self.words()))
+
     def test_font(self) -> None:
         """The font is valid, and has the keys of the format, in their order; nothing is written beside it."""
         self.shape("a")
@@ -123,6 +150,20 @@ class Commands(unittest.TestCase):
         status, shown, told = self.shape(f"--text-file={texts}")
         self.assertEqual((status, shown), (5, NAMED * 3))
         self.assertEqual(told.splitlines()[-1], f"shape: {texts}: line 3: S2 TooLong")
+        self.assertEqual(self.words()[-6:-3], ["--no-glyph-names", "--lines", "--keep-going"])
+        texts.write_bytes(b"a\nb\n")
+        self.assertEqual(self.shape(f"--text-file={texts}")[:2], (0, NAMED * 2))
+        texts.write_bytes(b"")
+        self.assertEqual(self.shape(f"--text-file={texts}")[:2], (0, ""))
+
+    def test_short_memory(self) -> None:
+        """The lines that a run did not come to share its fault."""
+        texts = self.folder / "texts"
+        texts.write_bytes(b"a\n6\nb\n")
+        status, shown, told = self.shape(f"--text-file={texts}")
+        self.assertEqual((status, shown), (5, NAMED))
+        says = [f"shape: {texts}: line {number}: OutOfMemory" for number in (2, 3)]
+        self.assertEqual(told.splitlines()[-2:], says)
 
     def test_cache(self) -> None:
         """Made once; anew where the font changes, or the kept value is cut, is another, or no JSON."""
@@ -182,6 +223,20 @@ class Commands(unittest.TestCase):
         self.assertEqual(titles[0], "o (82), cluster 0, advance 1253,0")
         self.assertIn("U+006F LATIN SMALL LETTER O", titles)
 
+    @unittest.skipUnless(importlib.util.find_spec("cairo"), "needs python3-cairo")
+    def test_png(self) -> None:
+        path = self.folder / "of.png"
+        self.assertEqual(self.shape("of", f"--png={path}")[:2], (0, NAMED))
+        self.assertTrue(path.read_bytes().startswith(b"\x89PNG\r\n"))
+
+    def test_no_cairo(self) -> None:
+        """Without python3-cairo the fault names the package, and nothing is printed or written."""
+        path = self.folder / "of.png"
+        with mock.patch.dict(sys.modules, {"cairo": None}), contextlib.redirect_stdout(io.StringIO()) as shown:
+            with contextlib.redirect_stderr(io.StringIO()):
+                self.assertRaisesRegex(ToolFault, "apt-get install python3-cairo", self.shape, "of", f"--png={path}")
+        self.assertEqual((shown.getvalue(), path.exists()), ("", False))
+
     def test_lacking(self) -> None:
         status, shown, told = self.shape("aक")
         self.assertEqual((status, shown), (0, NAMED))
@@ -206,18 +261,33 @@ class Commands(unittest.TestCase):
             cli.main([str(missing)])
 
     def test_told(self) -> None:
-        """What changes glyphs and is left out is told at each run; the rest when the font is converted."""
-        font = TTFont(DEJAVU)
-        font["morx"] = newTable("morx")
-        font["morx"].decompile = lambda data, font: None
-        font["morx"].compile = lambda font: b"\0" * 8
-        font.save(self.font)
+        """What changes glyphs and is left out is told at each run, once a font; the rest when it is converted."""
+        self.add_tables("morx")
         says = f"shape: {self.font}: left out, and it changes glyphs or positions: table morx\n"
         texts = self.folder / "texts"
         texts.write_text("a\nb\n")
         first, second = self.shape("a")[2], self.shape(f"--text-file={texts}")[2]
         self.assertIn("left out: table MATH (1)\n", first)
         self.assertEqual((first.count(says), second), (1, says))
+
+    def test_told_tables(self) -> None:
+        """The tables of other shapers, each by its name; a table kern beside GPOS, which changes nothing, is not told."""
+        tags = ("kerx", "mort", "morx", "trak", "Silf")
+        self.assertIn("kern", TTFont(DEJAVU))
+        self.shape("a")
+        self.assertEqual(self.shape("a")[2], "")
+        self.add_tables(*tags)
+        self.shape("a")
+        told = self.shape("a")[2].splitlines()
+        self.assertEqual([line.rpartition(": ")[2] for line in told], [f"table {tag}" for tag in tags])
+
+    def add_tables(self, *tags: str) -> None:
+        """Puts tables into the font whose content nobody reads."""
+        font = TTFont(DEJAVU)
+        for tag in tags:
+            font[tag] = DefaultTable(tag)
+            font[tag].data = b"\0" * 8
+        font.save(self.font)
 
     def test_whole_picture(self) -> None:
         """A picture has all fields, whatever is printed of them."""
@@ -273,6 +343,7 @@ class Commands(unittest.TestCase):
             self.assertEqual(shown.getvalue(), usage() + "\n")
         self.assertTrue(all(f"--{option.name}" in usage() for option in OPTIONS))
         self.assertIn("examples:\n", usage())
+        self.assertRegex(usage(), r"Clusters and the\nranges of features are bytes of the text in UTF-8")
 
 
 @unittest.skipUnless(has_library(), "needs the library (tools/build_library)")
@@ -491,6 +562,12 @@ class Shaped(unittest.TestCase):
                 shown = run("shape", DEJAVU, text, *words, own).stdout.decode()
                 self.assertEqual(shown, hb_shape(text, *words, more), (text, more))
         self.assertEqual(run("shape", DEJAVU, "a", "--foo").returncode, 2)
+
+    def test_verified(self) -> None:
+        """The program keeps its promises on ligatures, marks, joined letters and ignorables."""
+        for text in ("office", "e\u0301\u0323a", "\u0644\u0627\u0628", "a\u00adb\u200d"):
+            ran = run("shape", "--verify", "--no-glyph-names", DEJAVU, text)
+            self.assertEqual((ran.returncode, ran.stdout.decode()), (0, hb_shape(text, "--no-glyph-names")))
 
 
 def hb_shape(text: str, *options: str) -> str:

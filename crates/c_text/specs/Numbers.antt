@@ -38,7 +38,7 @@ abbrev pub level_numbered : ℕ → BufferClusterLevel
 level_numbered n = if n == 1 then MonotoneCharacters else if n == 2 then Characters else if n == 3 then Graphemes else MonotoneGraphemes
 
 -- the number of a fault: 1 for lack of memory, in whichever step, and one for each other cause; 15 for those of the program's
--- words and files, which no call has
+-- words, files and lines, which no call has
 abbrev pub fault_number : RunFault → ℕ
 fault_number run.OutOfMemory = 1
 fault_number (run.Json json.OutOfMemory) = 1
@@ -58,4 +58,5 @@ fault_number (run.Shape cause.UnknownSyllableKind) = 14
 fault_number run.Words = 15
 fault_number run.Read = 15
 fault_number run.ReadLimit = 15
+fault_number (run.Line _ _) = 15
 fault_number run.Write = 15

@@ -86,6 +86,10 @@ pub fn fault_number(fault: RunFault) -> u32
         RunFault::Shape(ShapeCause::TooLong) => 12,
         RunFault::Shape(ShapeCause::StretchRange) => 13,
         RunFault::Shape(ShapeCause::UnknownSyllableKind) => 14,
-        RunFault::Words | RunFault::Read | RunFault::ReadLimit | RunFault::Write => 15,
+        RunFault::Words
+        | RunFault::Read
+        | RunFault::ReadLimit
+        | RunFault::Line(_, _)
+        | RunFault::Write => 15,
     }
 }

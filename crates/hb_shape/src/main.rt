@@ -3,24 +3,24 @@
 
 use shell_readers::fault::RunFault;
 use shell_run::files::SystemFiles;
-use shell_run::program::shape;
-use std::io::Write;
+use shell_run::program::{Ending, end, shape};
 use std::process::ExitCode;
 use std::{env, io};
 
-fn main(rt: HostRuntime) -> io::Result<ExitCode> {
+fn main(rt: HostRuntime) -> ExitCode {
+    ExitCode::from(ran(&rt).status())
+}
+
+/// Runs the program over its command-line words, the system's files and its streams.
+fn ran(rt: &HostRuntime) -> Ending {
     let mut err = rt.stderr();
-    let words = match words_of(&rt) {
+    let words = match words_of(rt) {
         Ok(words) => words,
-        Err(fault) => {
-            writeln!(err, "hb_shape: {fault}")?;
-            return Ok(ExitCode::from(fault.status()));
-        }
+        Err(fault) => return end(Err(fault), &mut err),
     };
-    let mut files = SystemFiles { rt: &rt };
-    let mut out = io::writer(&rt);
-    let status = shape(rt.alloc(), &words, &mut files, &mut out, &mut err)?;
-    Ok(ExitCode::from(status))
+    let mut files = SystemFiles { rt };
+    let mut out = io::writer(rt);
+    shape(rt.alloc(), &words, &mut files, &mut out, &mut err)
 }
 
 /// The command-line words. One that is not UTF-8 is refused like any word that the program doesn't know.

@@ -1,5 +1,6 @@
 -- Faults of a run, and the exit status of each.
-use Rattle.std.specs.Prelude.{ℕ, List, codes}
+use Rattle.std.specs.Prelude.{ℕ, List, ◌++◌, codes}
+use Rattle.std.specs.Fmt.{decimal}
 use Rattle.shell_json.specs.declared.fault.JsonFault.{JsonFault}
 use Rattle.shell_json.specs.Fault as json_values
 use Rattle.shell_readers.specs.declared.fault.RunFault.{RunFault}
@@ -7,6 +8,8 @@ use Rattle.buffer_glyphs.specs.declared.cause.ShapeCause.{ShapeCause}
 use Rattle.buffer_glyphs.specs.declared.cause.ShapeCause.TheVariants as cause
 use Rattle.shell_json.specs.declared.fault.JsonFault.TheVariants as json
 use Rattle.shell_readers.specs.declared.fault.RunFault.TheVariants as run
+use Rattle.shell_readers.specs.declared.fault.LineFault.{LineFault}
+use Rattle.shell_readers.specs.declared.fault.LineFault.TheVariants as line
 
 -- the run's fault for a fault of a table or a font; lack of memory is one fault, in whichever step
 abbrev pub run_fault_of : JsonFault → RunFault
@@ -18,6 +21,11 @@ abbrev pub fault_of_cause : ShapeCause → RunFault
 fault_of_cause cause.OutOfMemory = run.OutOfMemory
 fault_of_cause c = run.Shape c
 
+-- the exit status of a line's fault, that of the same fault of a whole text
+abbrev pub status_of_line : LineFault → ℕ
+status_of_line line.NotUtf8 = 4
+status_of_line (line.Shape _) = 5
+
 -- the exit status: 2 for command-line words, 3 for tables and fonts, 4 for the text's bytes, 5 for shaping and lack of
 -- memory, 6 for input and output
 abbrev pub status_of : RunFault → ℕ
@@ -27,10 +35,23 @@ status_of (run.Json _) = 3
 status_of run.Unlawful = 3
 status_of run.NotUtf8 = 4
 status_of (run.Shape _) = 5
+status_of (run.Line _ fault) = status_of_line fault
 status_of run.OutOfMemory = 5
 status_of run.Read = 6
 status_of run.ReadLimit = 6
 status_of run.Write = 6
+
+-- the printed name of a cause for which a text was not shaped
+abbrev pub name_of_cause : ShapeCause → List ℕ
+name_of_cause cause.OutOfMemory = codes "S1 OutOfMemory"
+name_of_cause cause.TooLong = codes "S2 TooLong"
+name_of_cause cause.StretchRange = codes "S3 StretchRange"
+name_of_cause cause.UnknownSyllableKind = codes "S4 UnknownSyllableKind"
+
+-- the printed name of a line's fault, that of the same fault of a whole text
+abbrev pub name_of_line : LineFault → List ℕ
+name_of_line line.NotUtf8 = codes "NotUtf8"
+name_of_line (line.Shape c) = name_of_cause c
 
 -- the printed name of a fault
 abbrev pub name_of : RunFault → List ℕ
@@ -40,9 +61,12 @@ name_of run.ReadLimit = codes "ReadLimit"
 name_of (run.Json fault) = json_values.name_of fault
 name_of run.Unlawful = codes "Unlawful"
 name_of run.NotUtf8 = codes "NotUtf8"
-name_of (run.Shape cause.OutOfMemory) = codes "S1 OutOfMemory"
-name_of (run.Shape cause.TooLong) = codes "S2 TooLong"
-name_of (run.Shape cause.StretchRange) = codes "S3 StretchRange"
-name_of (run.Shape cause.UnknownSyllableKind) = codes "S4 UnknownSyllableKind"
+name_of (run.Shape c) = name_of_cause c
+name_of (run.Line _ fault) = name_of_line fault
 name_of run.Write = codes "Write"
 name_of run.OutOfMemory = codes "OutOfMemory"
+
+-- the text of a fault: its name, and after it the number of the line, where it is a line's
+abbrev pub message_of : RunFault → List ℕ
+message_of (run.Line number fault) = name_of_line fault ++ (codes " line " ++ decimal number)
+message_of fault = name_of fault

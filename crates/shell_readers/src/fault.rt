@@ -1,7 +1,7 @@
 //! The reasons why a run of the program is refused.
 
 ghost use Rattle.std.specs.Prelude.{◌≡◌};
-ghost use Rattle.shell_readers.specs.Fault.{name_of, status_of};
+ghost use Rattle.shell_readers.specs.Fault.{name_of, name_of_cause, name_of_line, status_of, status_of_line};
 
 use buffer_glyphs::cause::ShapeCause;
 use shell_json::fault::JsonFault;
@@ -26,13 +26,57 @@ pub enum RunFault {
     NotUtf8,
     /// The text could not be shaped.
     Shape(ShapeCause),
+    /// A line that is a text of its own was refused: its number in the text, from 1, and why.
+    Line(usize, LineFault),
     Write,
     OutOfMemory,
 }
 
+/// Why a line that is a text of its own was refused.
+#[derive(Clone, Copy, PartialEq, Eq, Debug)]
+pub enum LineFault {
+    /// The line is not UTF-8.
+    NotUtf8,
+    /// The line could not be shaped.
+    Shape(ShapeCause),
+}
+
+impl LineFault {
+    fn status(self) -> u8
+        ensures { result ≡ status_of_line self }
+    {
+        match self {
+            LineFault::NotUtf8 => 4,
+            LineFault::Shape(_) => 5,
+        }
+    }
+
+    /// The name under which it is printed, that of the same fault of a whole text.
+    fn name(self) -> &'static str
+        ensures { result.now ≡ name_of_line self }
+    {
+        match self {
+            LineFault::NotUtf8 => "NotUtf8",
+            LineFault::Shape(cause) => name_of_cause(cause),
+        }
+    }
+}
+
+fn name_of_cause(cause: ShapeCause) -> &'static str
+    ensures { result.now ≡ name_of_cause cause }
+{
+    match cause {
+        ShapeCause::OutOfMemory => "S1 OutOfMemory",
+        ShapeCause::TooLong => "S2 TooLong",
+        ShapeCause::StretchRange => "S3 StretchRange",
+        ShapeCause::UnknownSyllableKind => "S4 UnknownSyllableKind",
+    }
+}
+
 impl RunFault {
     /// The exit status of the program: 2 for command-line words, 3 for tables and fonts, 4 for a text that is not
-    /// UTF-8, 5 for a text that could not be shaped and for lack of memory, 6 for input and output.
+    /// UTF-8, 5 for a text that could not be shaped and for lack of memory, 6 for input and output. A line has the status
+    /// of a text.
     pub fn status(self) -> u8
         ensures { result ≡ status_of self }
     {
@@ -42,13 +86,14 @@ impl RunFault {
             RunFault::Json(_) | RunFault::Unlawful => 3,
             RunFault::NotUtf8 => 4,
             RunFault::Shape(_) | RunFault::OutOfMemory => 5,
+            RunFault::Line(_, fault) => fault.status(),
             RunFault::Read | RunFault::ReadLimit | RunFault::Write => 6,
         }
     }
 }
 
 impl RunFault {
-    /// The name under which it is printed, with its number where it has one.
+    /// The name under which it is printed, with its own number where it has one. A line's number isn't part of it.
     pub fn name(self) -> &'static str
         ensures { result.now ≡ name_of self }
     {
@@ -59,10 +104,8 @@ impl RunFault {
             RunFault::Json(fault) => fault.name(),
             RunFault::Unlawful => "Unlawful",
             RunFault::NotUtf8 => "NotUtf8",
-            RunFault::Shape(ShapeCause::OutOfMemory) => "S1 OutOfMemory",
-            RunFault::Shape(ShapeCause::TooLong) => "S2 TooLong",
-            RunFault::Shape(ShapeCause::StretchRange) => "S3 StretchRange",
-            RunFault::Shape(ShapeCause::UnknownSyllableKind) => "S4 UnknownSyllableKind",
+            RunFault::Shape(cause) => name_of_cause(cause),
+            RunFault::Line(_, fault) => fault.name(),
             RunFault::Write => "Write",
             RunFault::OutOfMemory => "OutOfMemory",
         }
@@ -71,12 +114,18 @@ impl RunFault {
 
 impl fmt::Display for RunFault {
     ghost use Rattle.std.specs.Prelude.{Some};
-    ghost use Rattle.shell_readers.specs.Fault.{name_of};
+    ghost use Rattle.shell_readers.specs.Fault.{message_of};
 
-    ghost output = { λ fault. Some (name_of fault) };
+    ghost output = { λ fault. Some (message_of fault) };
 
     fn fmt<W: fmt::Write>(&self, f: &mut fmt::Formatter<W>) -> fmt::Result {
-        f.write_str(self.name())
+        match *self {
+            RunFault::Line(number, fault) => {
+                let name = fault.name();
+                write!(f, "{name} line {number}")
+            }
+            fault => f.write_str(fault.name()),
+        }
     }
 }
 

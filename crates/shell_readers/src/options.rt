@@ -27,4 +27,9 @@ pub struct Options {
     pub flags: SerializeFlags,
     /// Whether the slices of the text are printed after its glyphs.
     pub slices: bool,
+    /// Whether each line of the text is a text of its own.
+    pub lines: bool,
+    /// Whether lines that are refused are named in their places and the others printed. Without `lines` it has no
+    /// effect.
+    pub keep_going: bool,
 }

@@ -6,15 +6,17 @@ use Rattle.buffer_glyphs.specs.declared.info.hb_glyph_info_t.{hb_glyph_info_t}
 use Rattle.buffer_glyphs.specs.Items.{clusters, item_of, strip, without_flags}
 use Rattle.buffer_glyphs.specs.Origins.{numbers, origin_of, origins}
 use Rattle.buffer_core.specs.Readings.{Follows, Reading, BufferState}
-use Rattle.buffer_core.specs.Text.{fits_text}
+use Rattle.buffer_core.specs.Segment.{after_guess_segment_properties}
+use Rattle.buffer_core.specs.Settings.{with_language}
+use Rattle.buffer_core.specs.Text.{added_text, fits_text}
 use Rattle.shell_run.specs.Output.{glyph_of, glyphs_of}
 use Rattle.shape_pipeline.specs.Shaped.{text_reading}
-use Rattle.shell_run.specs.Asked.{text_buffer}
+use Rattle.shell_run.specs.Asked.{plain_buffer, text_buffer}
 use Rattle.shell_readers.specs.Tables.{RunTables}
 use Rattle.layout_face.specs.declared.parts.FaceParts.{FaceParts}
 use Rattle.shell_readers.specs.declared.fault.RunFault.{RunFault}
 use Rattle.shell_readers.specs.declared.options.Options.{Options}
-use Rattle.buffer_core.specs.Sides.{Sides, all_glyphs, empty_buffer, state_of}
+use Rattle.buffer_core.specs.Sides.{Sides, all_glyphs, empty_buffer, state_of, with_added}
 use Rattle.shell_run.specs.Answer.{IsUnshaped, lines_of, lines_of_reading, lines_of_run, printed_line, shaping}
 use Rattle.shell_run.specs.Slices.{requested_lines}
 
@@ -48,6 +50,15 @@ lines_follow : (font : FaceParts) (options : Options) (text : List ℕ) (r : Rea
 lines_follow font options text (Ok r) old s f = ap (λ (run : BufferState). Ok (lines_of_run font options text run)) (sym f) ∙ ap Ok (buffer_lines font options text s)
 lines_follow font options text (Err e) old s f = absurd f
 
+-- a text that was not shaped has no lines
+unshaped_lines : (font : FaceParts) (options : Options) (text : List ℕ) (run : BufferState) (r : Reading) (e : RunFault) → IsUnshaped r e → lines_of_reading font options text run r ≡ Err e
+unshaped_lines font options text run r e h = ap (lines_of_reading font options text run) h.1 ∙ ap Err (sym h.2)
+
+-- the buffer of a text, once the run's language is set
+with_run_language : (options : Options) (text : List ℕ) (b : Sides) → b ≡ with_added (added_text text) (plain_buffer options)
+    → with_language options.language (after_guess_segment_properties b) ≡ text_buffer options text
+with_run_language options text b is = ap (λ (s : Sides). with_language options.language (after_guess_segment_properties s)) is
+
 -- the lines of a text that fits
 lines_of_fitting : (options : Options) (t : RunTables) (font : FaceParts) (text : List ℕ) (s : Sides) → s ≡ text_buffer options text → fits_text text empty_buffer ≡ true
     → lines_of options t font text ≡ lines_of_reading font options text (state_of s) (text_reading (shaping t font options.features.items s) (state_of s))
@@ -55,22 +66,20 @@ lines_of_fitting options t font text s is fits =
     let L : Sides → Type 0 = λ x. lines_of options t font text ≡ lines_of_reading font options text (state_of x) (text_reading (shaping t font options.features.items x) (state_of x)) in
     subst L (sym is) (rw fits refl)
 
--- the same, once it is shaped
-pub lines_shaped : (options : Options) (t : RunTables) (font : FaceParts) (text : List ℕ) (s b : Sides) (lines : List ℕ) → s ≡ text_buffer options text → fits_text text empty_buffer ≡ true
-    → Follows (text_reading (shaping t font options.features.items s) (state_of s)) (state_of s) (state_of b)
-    → lines ≡ printed_lines font options text b
-    → lines_of options t font text ≡ Ok lines
-lines_shaped options t font text s b lines is fits f e =
-    let r = text_reading (shaping t font options.features.items s) (state_of s) in
-    lines_of_fitting options t font text s is fits ∙ lines_follow font options text r (state_of s) b f ∙ ap Ok (sym e)
+module _ (options : Options) (t : RunTables) (font : FaceParts) (text : List ℕ) (b : Sides) (is : b ≡ with_added (added_text text) (plain_buffer options)) (fits : fits_text text empty_buffer ≡ true) where
+  abbrev guessed : Sides
+  guessed = after_guess_segment_properties b
 
--- a text that was not shaped has no lines
-unshaped_lines : (font : FaceParts) (options : Options) (text : List ℕ) (run : BufferState) (r : Reading) (e : RunFault) → IsUnshaped r e → lines_of_reading font options text run r ≡ Err e
-unshaped_lines font options text run r e h = ap (lines_of_reading font options text run) h.1 ∙ ap Err (sym h.2)
+  abbrev own : Reading
+  own = text_reading (shaping t font options.features.items (with_language options.language guessed)) (state_of guessed)
 
--- the fault of a text that fits and was not shaped
-pub lines_unshaped : (options : Options) (t : RunTables) (font : FaceParts) (text : List ℕ) (s : Sides) (e : RunFault) → s ≡ text_buffer options text → fits_text text empty_buffer ≡ true
-    → IsUnshaped (text_reading (shaping t font options.features.items s) (state_of s)) e
-    → lines_of options t font text ≡ Err e
-lines_unshaped options t font text s e is fits h =
-    lines_of_fitting options t font text s is fits ∙ unshaped_lines font options text (state_of s) (text_reading (shaping t font options.features.items s) (state_of s)) e h
+  own_lines : lines_of options t font text ≡ lines_of_reading font options text (state_of guessed) own
+  own_lines = lines_of_fitting options t font text (with_language options.language guessed) (with_run_language options text b is) fits
+
+  -- the lines of a text that is shaped
+  pub lines_shaped : (glyphs : Sides) (lines : List ℕ) → Follows own (state_of guessed) (state_of glyphs) → lines ≡ printed_lines font options text glyphs → lines_of options t font text ≡ Ok lines
+  lines_shaped glyphs lines f e = own_lines ∙ lines_follow font options text own (state_of guessed) glyphs f ∙ ap Ok (sym e)
+
+  -- the fault of a text that is not
+  pub lines_unshaped : (e : RunFault) → IsUnshaped own e → lines_of options t font text ≡ Err e
+  lines_unshaped e h = own_lines ∙ unshaped_lines font options text (state_of guessed) own e h

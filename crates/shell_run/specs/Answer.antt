@@ -1,5 +1,5 @@
--- The printed lines for the bytes of tables, a font and a text, or the first fault in them.
-use Rattle.std.specs.Prelude.{ℕ, ◌≡◌, ◌==◌, ◌-◌, if◌then◌else◌, List, [], ◌∷◌, ◌++◌, length, take, slice_index, Result, Ok, Err}
+-- What is printed for the bytes of tables, a font and a text, or the first fault in them.
+use Rattle.std.specs.Prelude.{ℕ, ◌≡◌, ◌==◌, ◌-◌, if◌then◌else◌, List, [], ◌∷◌, ◌++◌, length, map, take, slice_index, Result, Ok, Err}
 use Rattle.std.specs.Str.{is_utf8}
 use Rattle.buffer_glyphs.specs.declared.info.hb_glyph_info_t.{hb_glyph_info_t}
 use Rattle.buffer_glyphs.specs.declared.flags.SerializeFlags.{SerializeFlags}
@@ -26,6 +26,7 @@ use Rattle.buffer_serialize.specs.Printed.{printed_text}
 use Rattle.buffer_core.specs.Sides.{Sides, empty_buffer, state_of}
 use Rattle.buffer_core.specs.Text.{fits_text}
 use Rattle.script_categories.specs.Fronts.{syllable_at}
+use Rattle.shell_run.specs.Lines.{Answer, answer_of_lines, answer_of_text, refusal, text_lines}
 use Rattle.shell_run.specs.Output.{glyphs_of}
 use Rattle.shell_run.specs.Slices.{requested_lines}
 
@@ -81,11 +82,22 @@ lines_of options t font text = if fits_text text empty_buffer then lines_of_text
 unfoldable pub lines_in : Options → RunTables → FaceParts → List ℕ → Result (List ℕ) RunFault
 lines_in options t font bytes = then_run (text_of bytes) (lines_of options t font)
 
--- the lines of a text's bytes, where tables and a font were read; their faults come before the text's
-unfoldable pub answer_by : Options → Result RunParts RunFault → List ℕ → Result (List ℕ) RunFault
-answer_by options read text = then_run read (λ input. lines_in options input.tables input.font text)
+-- the printed lines of each line of a text, or its fault
+abbrev pub line_answers : Options → RunParts → List ℕ → List (Result (List ℕ) RunFault)
+line_answers options input text = map (lines_in options input.tables input.font) (text_lines text)
+
+-- what a text gives; with `lines` each of its lines is a text of its own
+abbrev pub answer_in : Options → RunParts → List ℕ → Answer
+answer_in options input text =
+    if options.lines then answer_of_lines options.keep_going (line_answers options input text)
+    else answer_of_text (lines_in options input.tables input.font text)
+
+-- what a text gives, where tables and a font were read; their faults come before the text's, and then nothing is written
+unfoldable pub answer_by : Options → Result RunParts RunFault → List ℕ → Answer
+answer_by options (Ok input) text = answer_in options input text
+answer_by options (Err fault) text = refusal fault
 
 -- the answer to tables, a font and a text
-unfoldable pub IsAnswer : Options → List ℕ → List ℕ → List ℕ → Result (List ℕ) RunFault → Type 0
+unfoldable pub IsAnswer : Options → List ℕ → List ℕ → List ℕ → Answer → Type 0
 IsAnswer options tables font text answer =
     (read : Result RunParts RunFault) × IsInput tables font read × (answer ≡ answer_by options read text)

@@ -1,13 +1,14 @@
-//! From the bytes of tables, a font and a text to the printed lines.
+//! From the bytes of a text to its printed lines.
 ghost use Rattle.std.specs.Prelude.{◌≡◌, ◌≢◌, Ok, Err, IfOk, IfErr, OnOk, ◌++◌, true, false, string_bytes};
 ghost use Rattle.buffer_glyphs.specs.Items.{clusters};
-ghost use Rattle.buffer_core.specs.Sides.{all_glyphs, empty_buffer};
-ghost use Rattle.buffer_core.specs.Text.{fits_text};
-ghost use Rattle.shell_run.specs.Answer.{IsAnswer, lines_in, lines_of, printed_line, text_of, without_line_feed};
+ghost use Rattle.buffer_core.specs.Sides.{all_glyphs, empty_buffer, with_added};
+ghost use Rattle.buffer_core.specs.Text.{added_text, fits_text};
+ghost use Rattle.shell_run.specs.Answer.{lines_in, lines_of, printed_line, text_of, without_line_feed};
 ghost use Rattle.shell_run.specs.Slices.{requested_lines};
-ghost use Rattle.shell_readers.specs.Faults.{IsOfRun};
+ghost use Rattle.shell_run.specs.Lines.{IsOfText};
 ghost use Rattle.shell_readers.specs.Tables.{tables_value};
-ghost use Rattle.shell_run.specs.Asked.{options_buffer, text_buffer};
+ghost use Rattle.shell_run.specs.Asked.{plain_buffer};
+ghost use Rattle.shell_run.specs.Plans.{HasRunPlan};
 
 use crate::shape::shape;
 use crate::slices::push_requested;
@@ -16,10 +17,10 @@ use buffer_glyphs::flags::SerializeFlags;
 use buffer_wrappers::glyphs::GlyphBuffer;
 use buffer_wrappers::unicode_buffer::UnicodeBuffer;
 use layout_face::Face;
+use shape_pipeline::ShapePlan;
 use shell_readers::fault::RunFault;
-use shell_readers::input::read_input;
+use shell_readers::input::RunInput;
 use shell_readers::options::Options;
-use shell_readers::tables::TextTables;
 use shell_readers::values::utf8;
 use std::alloc::{AllocError, Global};
 
@@ -35,7 +36,7 @@ fn without_line_feed(text: &str) -> &str
 fn read_text(bytes: &[u8]) -> Result<&str, RunFault>
     ensures ok { IfOk result (λ s. text_of bytes.now ≡ Ok s.now) }
     ensures refused { IfErr result (λ e. text_of bytes.now ≡ Err e) }
-    ensures kind { IfErr result IsOfRun }
+    ensures kind { IfErr result (λ e. e ≢ RunFault.OutOfMemory → IsOfText e) }
 {
     match utf8(bytes) {
         Some(text) => Ok(without_line_feed(text)),
@@ -43,12 +44,9 @@ fn read_text(bytes: &[u8]) -> Result<&str, RunFault>
     }
 }
 
-/// A buffer with the settings of the options. The language is moved into it.
-fn new_text(alloc: Global, options: &mut Options) -> UnicodeBuffer
-    ensures text { result ≡ options_buffer options.old }
-    ensures features { options.new.features.items ≡ options.old.features.items }
-    ensures flags { options.new.flags ≡ options.old.flags }
-    ensures slices { options.new.slices ≡ options.old.slices }
+/// An empty buffer with the settings of the options but the language, which the plan has.
+fn new_text(alloc: Global, options: &Options) -> UnicodeBuffer
+    ensures { result ≡ plain_buffer options.now }
 {
     let mut text = UnicodeBuffer::new(alloc);
     text.set_cluster_level(options.cluster_level);
@@ -57,28 +55,21 @@ fn new_text(alloc: Global, options: &mut Options) -> UnicodeBuffer
     if let Some(script) = options.script {
         text.set_script(script);
     }
-    if let Some(language) = options.language.take() {
-        text.set_language(language);
-    }
     text
 }
 
-/// A buffer with the characters of a text; settings that the options lack are guessed.
-fn text_buffer(alloc: Global, options: &mut Options, text: &str) -> Result<UnicodeBuffer, RunFault>
+/// A buffer with the characters of a text, and the settings of the options but the language.
+fn text_buffer(alloc: Global, options: &Options, text: &str) -> Result<UnicodeBuffer, RunFault>
     ensures fits { OnOk result (fits_text text.now empty_buffer ≡ true) }
-    ensures text { IfOk result (λ b. b ≡ text_buffer options.old text.now) }
-    ensures features { options.new.features.items ≡ options.old.features.items }
-    ensures flags { options.new.flags ≡ options.old.flags }
-    ensures slices { options.new.slices ≡ options.old.slices }
+    ensures text { IfOk result (λ b. b ≡ with_added (added_text text.now) (plain_buffer options.now)) }
     ensures refused { IfErr result (λ e. e ≢ RunFault.OutOfMemory
         → (e ≡ RunFault.Shape ShapeCause.TooLong) × (fits_text text.now empty_buffer ≡ false)) }
-    ensures kind { IfErr result IsOfRun }
+    ensures kind { IfErr result (λ e. e ≢ RunFault.OutOfMemory → IsOfText e) }
 {
     let mut buffer = new_text(alloc, options);
     if !buffer.push_str(text)? {
         return Err(RunFault::Shape(ShapeCause::TooLong));
     }
-    buffer.guess_segment_properties();
     Ok(buffer)
 }
 
@@ -118,60 +109,51 @@ fn print(
 /// The printed lines of a text in a font.
 fn lines(
     alloc: Global,
-    mut options: Options,
-    tables: &TextTables,
-    face: &Face,
+    options: &Options,
+    input: &RunInput,
+    plan: &mut Option<ShapePlan>,
     text: &str,
 ) -> Result<String, RunFault>
+    requires { HasRunPlan options.now input.now plan.old }
+    ensures kept { HasRunPlan options.now input.now plan.new }
     ensures ok { IfOk result (λ lines.
-        lines_of options (tables_value tables.now) face.now text.now ≡ Ok (string_bytes lines)) }
+        lines_of options.now (tables_value input.now.tables) input.now.face text.now ≡ Ok (string_bytes lines)) }
     ensures refused { IfErr result (λ e. e ≢ RunFault.OutOfMemory
-        → lines_of options (tables_value tables.now) face.now text.now ≡ Err e) }
-    ensures kind { IfErr result IsOfRun }
+        → lines_of options.now (tables_value input.now.tables) input.now.face text.now ≡ Err e) }
+    ensures kind { IfErr result (λ e. e ≢ RunFault.OutOfMemory → IsOfText e) }
 {
-    let buffer = text_buffer(alloc, &mut options, text)?;
-    let mut glyphs = shape(alloc, tables, face, &options.features, buffer)?;
+    let buffer = text_buffer(alloc, options, text)?;
+    let mut glyphs = shape(alloc, options, input, plan, buffer)?;
     // Where many characters became one glyph the lists are too large, and a long line needs the memory.
     glyphs.shrink_to_fit();
-    let lines = print(alloc, face, options.flags, options.slices, &glyphs, text)?;
+    let lines = print(
+        alloc,
+        &input.face,
+        options.flags,
+        options.slices,
+        &glyphs,
+        text,
+    )?;
     Ok(lines)
 }
 
+/// The printed lines of the bytes of a text.
 #[tactic(auto, unfolding(crate::specs::Answer::lines_in))]
-fn lines_in(
+pub(crate) fn lines_in(
     alloc: Global,
-    options: Options,
-    tables: &TextTables,
-    face: &Face,
+    options: &Options,
+    input: &RunInput,
+    plan: &mut Option<ShapePlan>,
     bytes: &[u8],
 ) -> Result<String, RunFault>
+    requires { HasRunPlan options.now input.now plan.old }
+    ensures kept { HasRunPlan options.now input.now plan.new }
     ensures ok { IfOk result (λ lines.
-        lines_in options (tables_value tables.now) face.now bytes.now ≡ Ok (string_bytes lines)) }
+        lines_in options.now (tables_value input.now.tables) input.now.face bytes.now ≡ Ok (string_bytes lines)) }
     ensures refused { IfErr result (λ e. e ≢ RunFault.OutOfMemory
-        → lines_in options (tables_value tables.now) face.now bytes.now ≡ Err e) }
-    ensures kind { IfErr result IsOfRun }
+        → lines_in options.now (tables_value input.now.tables) input.now.face bytes.now ≡ Err e) }
+    ensures kind { IfErr result (λ e. e ≢ RunFault.OutOfMemory → IsOfText e) }
 {
     let text = read_text(bytes)?;
-    lines(alloc, options, tables, face, text)
-}
-
-/// The printed lines for the bytes of tables, a font and a text, which are read in this order.
-pub(crate) fn answer(
-    alloc: Global,
-    options: Options,
-    tables: Vec<u8>,
-    font: Vec<u8>,
-    text: &[u8],
-) -> Result<String, RunFault>
-    ensures ok { IfOk result (λ lines.
-        IsAnswer options tables.items font.items text.now (Ok (string_bytes lines))) }
-    ensures refused { IfErr result (λ e. e ≢ RunFault.OutOfMemory
-        → IsAnswer options tables.items font.items text.now (Err e)) }
-    ensures kind { IfErr result IsOfRun }
-{
-    let input = read_input(alloc, &tables, &font)?;
-    // Their bytes are no longer needed, and a long text's glyphs need the memory.
-    drop(tables);
-    drop(font);
-    lines_in(alloc, options, &input.tables, &input.face, text)
+    lines(alloc, options, input, plan, text)
 }

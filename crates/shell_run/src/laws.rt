@@ -1,7 +1,7 @@
 //! Laws of the program's runs.
 
 ghost use Rattle.std.specs.Prelude.{◌≡◌, ◌≢◌, MatchBool};
-ghost use Rattle.shell_run.specs.Laws.{AnswersAreOne, EmptyTextGivesEmptyLine};
+ghost use Rattle.shell_run.specs.Laws.{AnswersAreOne, EmptyTextGivesEmptyLine, TextsHaveLines};
 
 use shell_json::fault::JsonFault;
 use shell_readers::fault::RunFault;
@@ -16,6 +16,11 @@ pub fn law_empty_text_gives_empty_line()
 #[tactic(auto, using(crate::proofs::Reading::answers_are_one))]
 pub fn law_answers_are_one()
     ensures { AnswersAreOne }
+{}
+
+/// No line of a text has a line feed, and the lines, each followed by one, are the text, with one at its end.
+pub fn law_texts_have_lines()
+    ensures { TextsHaveLines }
 {}
 
 /// `==` of JSON faults holds exactly between equal ones.

@@ -5,6 +5,7 @@
 mod answer;
 pub mod files;
 pub mod laws;
+mod lines;
 pub mod program;
 mod read;
 mod report;

@@ -12,7 +12,8 @@ use Rattle.shell_readers.specs.declared.fault.RunFault.{RunFault}
 use Rattle.shell_readers.specs.declared.fault.RunFault.TheVariants.{Words}
 use Rattle.buffer_common.specs.declared.direction.Direction.TheVariants.{Invalid}
 use Rattle.buffer_common.specs.Direction.{direction_of_text}
-use Rattle.shell_words.specs.Words.{Lookup, and_then, settings_or_fault, after, features_in, features_of, pieces_of, values_in, direction_in, file_in, hb_shape, options_of, or_words, read_or, script_in, settings_of, some_script, language_in, language_or_none, level_in, level_of_text, level_or_default}
+use Rattle.shell_words.specs.declared.options.Printing.{Printing}
+use Rattle.shell_words.specs.Words.{Lookup, and_then, settings_or_fault, after, features_in, features_of, pieces_of, values_in, direction_in, file_in, hb_shape, options_of, or_words, read_or, script_in, settings_of, some_script, language_in, language_or_none, level_in, level_of_text, level_or_default, are_consistent, consistent, printing_in}
 
 -- a result that is refused by Words alone
 abbrev RefusedByWords : {A : Type 0} → Result A RunFault → Type 0
@@ -69,6 +70,9 @@ level-refused : (o : Option (List ℕ)) → RefusedByWords (level_or_default o)
 level-refused None = ok-refused MonotoneGraphemes
 level-refused (Some text) = level-text-refused text
 
+consistent-refused : (p : Printing) → RefusedByWords (consistent p)
+consistent-refused p = if-refused (are_consistent p) (Ok p) (Err Words) (ok-refused p) words-refused
+
 settings-refused : (value : Lookup) (features : List (List ℕ)) → RefusedByWords (settings_of value features)
 settings-refused value features =
     then_words (file_in (codes "tables") value) _ (file-refused (value (codes "tables"))) (λ tables.
@@ -78,7 +82,8 @@ settings-refused value features =
     then_words (script_in value) _ (read_or-refused None some_script (value (codes "script"))) (λ script.
     then_words (language_in value) _ (language-refused (value (codes "language"))) (λ language.
     then_words (features_in features) _ (features-refused (flat_map pieces_of features)) (λ requests.
-    then_words (level_in value) _ (level-refused (value (codes "cluster-level"))) (λ level e same. let no : ⊥ = cc in absurd no))))))))
+    then_words (level_in value) _ (level-refused (value (codes "cluster-level"))) (λ level.
+    then_words (printing_in value) _ (consistent-refused _) (λ printing e same. let no : ⊥ = cc in absurd no)))))))))
 
 asked-refused : (faults : Kinds) (rows : List Row) → RefusedByWords (settings_or_fault faults rows)
 asked-refused [] rows e same = settings-refused (λ id. first_of id rows) (values_in (all_of (codes "features") rows)) e same

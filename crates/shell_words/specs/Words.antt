@@ -1,5 +1,5 @@
 -- The command line of the program: hb_shape [options] TABLES FONT TEXT.
-use Rattle.std.specs.Prelude.{ℕ, Bool, true, false, List, [], ◌∷◌, codes, if◌then◌else◌, Option, Some, None, Result, Ok, Err, string_bytes, unwrap_or, ◌++◌, ◌==◌, ◌+◌}
+use Rattle.std.specs.Prelude.{ℕ, Bool, true, false, not, List, [], ◌∷◌, codes, if◌then◌else◌, Option, Some, None, Result, Ok, Err, string_bytes, unwrap_or, ◌++◌, ◌==◌, ◌+◌}
 use Rattle.std.specs.List.{slice_split, flat_map}
 use Rattle.buffer_tags.specs.declared.feature.Feature.{Feature}
 use Rattle.buffer_tags.specs.FeatureText.{feature_of_text}
@@ -19,6 +19,7 @@ use Rattle.shell_readers.specs.declared.fault.RunFault.TheVariants.{Words, OutOf
 use Rattle.shell_words.specs.declared.command.Kind.{Kind}
 use Rattle.shell_words.specs.declared.command.Kind.TheVariants.{Value, Values, Switch, File}
 use Rattle.shell_words.specs.declared.options.CommandLine.{CommandLine}
+use Rattle.shell_words.specs.declared.options.Printing.{Printing}
 use Rattle.buffer_common.specs.declared.constants.BufferFlags.{BufferFlags}
 use Rattle.buffer_common.specs.Language.{language_text}
 use Rattle.buffer_common.specs.declared.direction.Direction.{Direction}
@@ -66,7 +67,8 @@ value_names = codes "direction" ∷ codes "script" ∷ codes "language" ∷ code
 abbrev pub switch_names : List (List ℕ)
 switch_names = codes "bot" ∷ codes "eot" ∷ codes "preserve-default-ignorables" ∷ codes "remove-default-ignorables" ∷ codes "no-dotted-circle"
     ∷ codes "unsafe-to-concat" ∷ codes "safe-to-insert-tatweel"
-    ∷ codes "no-clusters" ∷ codes "no-positions" ∷ codes "no-glyph-names" ∷ codes "show-extents" ∷ codes "show-flags" ∷ codes "no-advances" ∷ codes "slices" ∷ []
+    ∷ codes "no-clusters" ∷ codes "no-positions" ∷ codes "no-glyph-names" ∷ codes "show-extents" ∷ codes "show-flags" ∷ codes "no-advances" ∷ codes "slices"
+    ∷ codes "lines" ∷ codes "keep-going" ∷ []
 
 -- the names of the three files
 abbrev pub file_names : List (List ℕ)
@@ -96,6 +98,8 @@ pub record Settings : Type 0 where
   pub buffer_flags : BufferFlags
   pub flags : SerializeFlags
   pub slices : Bool
+  pub lines : Bool
+  pub keep_going : Bool
 
 -- the options and file names of a command line
 abbrev pub settings_in : CommandLine → Settings
@@ -111,6 +115,8 @@ settings_in c = record {
   buffer_flags = c.options.buffer_flags;
   flags = c.options.flags;
   slices = c.options.slices;
+  lines = c.options.lines;
+  keep_going = c.options.keep_going;
 }
 
 -- the first value of an id among the parsed words, if there is one
@@ -217,9 +223,21 @@ flags_in value = record {
       + flag_of (codes "no-advances") 32 value))));
 }
 
--- the switch `--slices` is given
-abbrev pub slices_in : Lookup → Bool
-slices_in value = is_given (codes "slices") value
+-- slices are those of a whole text, and only a run over lines keeps going
+abbrev pub are_consistent : Printing → Bool
+are_consistent p = if p.lines then not p.slices else not p.keep_going
+
+-- what is printed by the switches; switches that contradict each other are refused
+abbrev pub consistent : Printing → Result Printing RunFault
+consistent p = if are_consistent p then Ok p else Err Words
+
+-- what is printed by the switches
+abbrev pub printing_in : Lookup → Result Printing RunFault
+printing_in value = consistent (record {
+  slices = is_given (codes "slices") value;
+  lines = is_given (codes "lines") value;
+  keep_going = is_given (codes "keep-going") value;
+})
 
 -- the buffer flags of the switches
 abbrev pub buffer_flags_in : Lookup → BufferFlags
@@ -244,6 +262,7 @@ settings_of value features =
     and_then (language_in value) (λ language.
     and_then (features_in features) (λ requests.
     and_then (level_in value) (λ level.
+    and_then (printing_in value) (λ printing.
     Ok (record {
       tables = tables;
       font = font;
@@ -255,8 +274,10 @@ settings_of value features =
       cluster_level = level;
       buffer_flags = buffer_flags_in value;
       flags = flags_in value;
-      slices = slices_in value;
-    })))))))))
+      slices = printing.slices;
+      lines = printing.lines;
+      keep_going = printing.keep_going;
+    }))))))))))
 
 -- the run's fault of a parsing error
 abbrev pub refusal_of : ErrorKind → RunFault

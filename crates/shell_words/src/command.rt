@@ -22,7 +22,7 @@ pub(crate) enum Kind {
 
 const VALUES: [&str; 4] = ["direction", "script", "language", "cluster-level"];
 
-const SWITCHES: [&str; 14] = [
+const SWITCHES: [&str; 16] = [
     "bot",
     "eot",
     "preserve-default-ignorables",
@@ -37,6 +37,8 @@ const SWITCHES: [&str; 14] = [
     "show-flags",
     "no-advances",
     "slices",
+    "lines",
+    "keep-going",
 ];
 
 const FILES: [&str; 3] = ["tables", "font", "text"];

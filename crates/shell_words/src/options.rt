@@ -3,7 +3,7 @@
 ghost use Rattle.std.specs.Prelude.{◌≡◌, ◌≢◌, ◌≤◌, IfOk, IfErr, OnOk, Ok, Err, map, string_bytes};
 ghost use Rattle.buffer_tags.specs.FeatureText.{feature_of_text};
 ghost use Rattle.clap.specs.Words.{found_of, first_value};
-ghost use Rattle.shell_words.specs.Words.{options_of, refusal_of, settings_of, settings_in, file_in, direction_in, script_in, flag_of, flags_in, feature_values, features_in, features_of, pieces_of, after, or_words, language_in, language_of_text, level_in, level_of_text, buffer_flags_in, slices_in};
+ghost use Rattle.shell_words.specs.Words.{options_of, refusal_of, settings_of, settings_in, file_in, direction_in, script_in, flag_of, flags_in, feature_values, features_in, features_of, pieces_of, after, or_words, language_in, language_of_text, level_in, level_of_text, buffer_flags_in, consistent, is_given, printing_in};
 ghost use Rattle.std.specs.Option.{option_map};
 ghost use Rattle.buffer_common.specs.Language.{language_text};
 
@@ -40,8 +40,9 @@ pub struct CommandLine {
 /// L`, `--cluster-level 0` to `3`; for the text `--bot`, `--eot`, `--preserve-default-ignorables`,
 /// `--remove-default-ignorables`, `--no-dotted-circle`, `--unsafe-to-concat` and `--safe-to-insert-tatweel`; for the
 /// output `--no-clusters`, `--no-positions`, `--no-glyph-names`, `--show-extents`, `--show-flags`, `--no-advances` and
-/// `--slices`. Only `--features F` may be repeated; each F is features separated by commas. All other words, `--help`
-/// among them, are refused.
+/// `--slices`, or `--lines` and with it `--keep-going`. Only `--features F` may be repeated; each F is features separated by
+/// commas. All other words, `--help` among them, are refused, and so are `--slices` with `--lines` and `--keep-going`
+/// without it.
 pub fn parse_options<'a, S: AsStr>(alloc: Global, words: &'a [S]) -> Result<CommandLine, RunFault>
     ensures ok { IfOk result (λ o. options_of (map S.text words.entry.now) ≡ Ok (settings_in o)) }
     ensures refused { IfErr result (λ e. e ≢ RunFault.OutOfMemory
@@ -70,19 +71,30 @@ fn read_options(alloc: Global, matches: &ArgMatches<'_>) -> Result<CommandLine, 
     ensures refused { IfErr result (λ e. e ≢ RunFault.OutOfMemory
         → settings_of (first_value (found_of matches.now)) (feature_values (found_of matches.now)) ≡ Err e) }
 {
+    let tables = read_name(alloc, matches, "tables")?;
+    let font = read_name(alloc, matches, "font")?;
+    let text = read_name(alloc, matches, "text")?;
+    let direction = read_direction(matches)?;
+    let script = read_script(matches)?;
+    let language = read_language(alloc, matches)?;
+    let features = read_features(alloc, matches)?;
+    let cluster_level = read_level(matches)?;
+    let printing = read_printing(matches)?;
     Ok(CommandLine {
-        tables: read_name(alloc, matches, "tables")?,
-        font: read_name(alloc, matches, "font")?,
-        text: read_name(alloc, matches, "text")?,
+        tables,
+        font,
+        text,
         options: Options {
-            direction: read_direction(matches)?,
-            script: read_script(matches)?,
-            language: read_language(alloc, matches)?,
-            features: read_features(alloc, matches)?,
-            cluster_level: read_level(matches)?,
+            direction,
+            script,
+            language,
+            features,
+            cluster_level,
             buffer_flags: read_buffer_flags(matches),
             flags: read_flags(matches),
-            slices: read_slices(matches),
+            slices: printing.slices,
+            lines: printing.lines,
+            keep_going: printing.keep_going,
         },
     })
 }
@@ -228,11 +240,49 @@ fn read_flags(matches: &ArgMatches<'_>) -> SerializeFlags
     )
 }
 
-/// Whether the slices are requested.
-fn read_slices(matches: &ArgMatches<'_>) -> bool
-    ensures { result ≡ slices_in (first_value (found_of matches.now)) }
+/// Which of the switches are given that say what is printed of a text.
+#[derive(Clone, Copy)]
+pub(crate) struct Printing {
+    /// Its slices too.
+    slices: bool,
+    /// Each of its lines by itself.
+    lines: bool,
+    /// Lines that are refused by name, and the others.
+    keep_going: bool,
+}
+
+fn read_printing(matches: &ArgMatches<'_>) -> Result<Printing, RunFault>
+    ensures { result ≡ printing_in (first_value (found_of matches.now)) }
 {
-    matches.get_str("slices") == Some("true")
+    consistent(Printing {
+        slices: is_given(matches, "slices"),
+        lines: is_given(matches, "lines"),
+        keep_going: is_given(matches, "keep-going"),
+    })
+}
+
+/// The switches, unless they contradict each other: slices are those of a whole text, and only
+/// a run over lines keeps going.
+fn consistent(printing: Printing) -> Result<Printing, RunFault>
+    ensures { result ≡ consistent printing }
+{
+    let is_consistent = if printing.lines {
+        !printing.slices
+    } else {
+        !printing.keep_going
+    };
+    if is_consistent {
+        Ok(printing)
+    } else {
+        Err(RunFault::Words)
+    }
+}
+
+/// Whether a switch is given.
+fn is_given(matches: &ArgMatches<'_>, id: &str) -> bool
+    ensures { result ≡ is_given id.now (first_value (found_of matches.now)) }
+{
+    matches.get_str(id) == Some("true")
 }
 
 fn read_buffer_flags(matches: &ArgMatches<'_>) -> BufferFlags
@@ -270,11 +320,7 @@ fn buffer_flag_of(matches: &ArgMatches<'_>, id: &str, flag: BufferFlags) -> u32
     ensures value { result ≡ flag_of id.now flag.0 (first_value (found_of matches.now)) }
     ensures below { result ≤ flag.0 }
 {
-    if matches.get_str(id) == Some("true") {
-        flag.0
-    } else {
-        0
-    }
+    if is_given(matches, id) { flag.0 } else { 0 }
 }
 
 /// The serialize flag where its switch is given, else none.
@@ -282,9 +328,5 @@ fn flag_of(matches: &ArgMatches<'_>, id: &str, flag: SerializeFlags) -> u8
     ensures value { result ≡ flag_of id.now flag.0 (first_value (found_of matches.now)) }
     ensures below { result ≤ flag.0 }
 {
-    if matches.get_str(id) == Some("true") {
-        flag.0
-    } else {
-        0
-    }
+    if is_given(matches, id) { flag.0 } else { 0 }
 }

@@ -39,4 +39,6 @@ mod streams;
 #[cfg(test)]
 mod substitutions;
 #[cfg(test)]
+mod text_lines;
+#[cfg(test)]
 mod texts;

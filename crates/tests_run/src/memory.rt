@@ -21,6 +21,8 @@ pub(crate) fn plain_options(alloc: Global) -> Options {
         buffer_flags: BufferFlags(0),
         flags: NUMBERS,
         slices: false,
+        lines: false,
+        keep_going: false,
     }
 }
 

@@ -1,6 +1,7 @@
 //! The program: its statuses, what it writes to each stream, and the order in which it reads its files.
 use crate::languages;
 use crate::rows::part;
+use shell_readers::fault::RunFault;
 use shell_run::files::Files;
 use shell_run::program::shape;
 use std::alloc::{AllocError, Global};
@@ -8,7 +9,7 @@ use std::test::Fail;
 
 const FONT: &[u8] = b"{\"upem\":1000,\"cmap\":[[97,1],[98,2]],\"h\":[[1,500],[2,600]]}";
 
-// Files in memory, one of which may be missing. It records the names that were opened, each with a comma.
+// Files in memory, one of which may be missing, and standard input. It records the names that were opened, each with a comma.
 #[derive(Drop)]
 struct MemoryFiles {
     missing: &'static str,
@@ -29,8 +30,19 @@ impl Files<&'static [u8]> for MemoryFiles {
             "languages" => Some(languages::TABLES.as_bytes()),
             "local" => Some(languages::FONT.as_bytes()),
             "broken" => Some(b"\xFF".as_slice()),
+            "lines" => Some(b"ab\n\nb\n".as_slice()),
+            "some" => Some(b"a\n\xFFb\nb".as_slice()),
+            "-" => Some(b"a".as_slice()),
             _ => None,
         }
+    }
+
+    fn input(&mut self) -> Option<&'static [u8]> {
+        self.asked.push_str("(input),").ok()?;
+        if self.missing == "(input)" {
+            return None;
+        }
+        Some(b"ba\n".as_slice())
     }
 }
 
@@ -42,8 +54,8 @@ fn words_of(alloc: Global, line: &str) -> Result<Vec<String>, AllocError> {
     Ok(words)
 }
 
-// Each row has the command-line words, the missing file, the status, the written line and fault, and the opened files,
-// each with a comma. Files are opened in their order, and the first that is missing ends the program. The fault of the
+// Each row has the command-line words, the missing file, the status, the written lines, separated by commas, and the line of
+// the fault, and the opened files, each with a comma. `-` is standard input as the text, and else a name. Files are opened in their order, and the first that is missing ends the program. The fault of the
 // tables precedes that of the font, and that the text's.
 static ROWS: &str =
     "hb_shape --no-glyph-names tables font text;;0;1=0+500|2=1+600;;tables,font,text,
@@ -57,14 +69,28 @@ hb_shape tables broken text;text;6;;hb_shape: Read;tables,broken,text,
 hb_shape broken broken broken;;3;;hb_shape: J1 NotJson;broken,broken,broken,
 hb_shape tables text broken;;3;;hb_shape: J1 NotJson;tables,text,broken,
 hb_shape tables font broken;;4;;hb_shape: NotUtf8;tables,font,broken,
-hb_shape --script=deva tables font text;;0;gid1=0+500|gid2=1+600;;tables,font,text,";
+hb_shape --script=deva tables font text;;0;gid1=0+500|gid2=1+600;;tables,font,text,
+hb_shape tables font -;;0;gid2=0+600|gid1=1+500;;tables,font,(input),
+hb_shape tables font -;(input);6;;hb_shape: Read;tables,font,(input),
+hb_shape - font text;-;6;;hb_shape: Read;-,
+hb_shape --lines tables font lines;;0;gid1=0+500|gid2=1+600,,gid2=0+600;;tables,font,lines,
+hb_shape --lines tables font -;;0;gid2=0+600|gid1=1+500;;tables,font,(input),
+hb_shape --lines tables font some;;4;;hb_shape: NotUtf8 line 2;tables,font,some,
+hb_shape --lines --keep-going tables font some;;4;gid1=0+500,! NotUtf8,gid2=0+600;hb_shape: NotUtf8 line 2;tables,font,some,
+hb_shape --keep-going tables font some;;2;;hb_shape: words;
+hb_shape --lines --slices tables font text;;2;;hb_shape: words;";
 
-/// Whether these bytes are this line and its line feed, or nothing where there is no line.
-fn is_line(bytes: &[u8], line: &str) -> bool {
-    if line.is_empty() {
+/// Whether these bytes are lines, each with its line feed, given separated by commas; nothing where there is none.
+fn are_lines(bytes: &[u8], lines: &str) -> bool {
+    if lines.is_empty() {
         return bytes.is_empty();
     }
-    bytes.strip_suffix(b"\n") == Some(line.as_bytes())
+    let Some(bytes) = bytes.strip_suffix(b"\n") else {
+        return false;
+    };
+    bytes
+        .split(|byte| *byte == b'\n')
+        .eq(lines.split(',').map(|line| line.as_bytes()))
 }
 
 /// More bytes than a row's line, its fault or its files have, so that recording them asks for no memory.
@@ -78,14 +104,15 @@ fn is_followed(alloc: Global, row: &'static str) -> Result<bool, Fail> {
     };
     let mut written = Vec::with_capacity(alloc, ROOM)?;
     let mut reported = Vec::with_capacity(alloc, ROOM)?;
-    let status = shape(alloc, &words, &mut files, &mut written, &mut reported)?;
-    if is_line(&reported, "hb_shape: OutOfMemory") {
+    let ending = shape(alloc, &words, &mut files, &mut written, &mut reported);
+    if ending.fault == Some(RunFault::OutOfMemory) {
         return Err(AllocError.into());
     }
     Ok(
-        part(row, 2).parse() == Ok(status)
-            && is_line(&written, part(row, 3))
-            && is_line(&reported, part(row, 4))
+        part(row, 2).parse() == Ok(ending.status())
+            && ending.is_reported
+            && are_lines(&written, part(row, 3))
+            && are_lines(&reported, part(row, 4))
             && files.asked.as_str() == part(row, 5),
     )
 }

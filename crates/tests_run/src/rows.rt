@@ -25,10 +25,16 @@ pub(crate) fn level_of(number: &str) -> BufferClusterLevel {
 }
 
 fn ask(alloc: Global, options: &mut Options, word: &str) -> Result<(), Fail> {
-    if word == "slices" {
-        options.slices = true;
-        return Ok(());
+    match word {
+        "slices" => options.slices = true,
+        "lines" => options.lines = true,
+        "keep-going" => options.keep_going = true,
+        word => return ask_value(alloc, options, word),
     }
+    Ok(())
+}
+
+fn ask_value(alloc: Global, options: &mut Options, word: &str) -> Result<(), Fail> {
     let (name, value) = word.split_once('=').ok_or("a word without a value")?;
     match name {
         "script" => options.script = Some(value.parse()?),

@@ -61,9 +61,16 @@ impl Read for EndlessReader {
 
 // Takes a number of bytes, one per call.
 #[derive(Drop)]
-struct ByteWriter {
-    taken: Vec<u8>,
+pub(crate) struct ByteWriter {
+    pub(crate) taken: Vec<u8>,
     room: usize,
+}
+
+impl ByteWriter {
+    pub(crate) fn new(alloc: Global, room: usize) -> Result<ByteWriter, AllocError> {
+        let taken = Vec::with_capacity(alloc, room)?;
+        Ok(ByteWriter { taken, room })
+    }
 }
 
 impl Write for ByteWriter {
@@ -83,7 +90,9 @@ impl Write for ByteWriter {
 }
 
 /// The result of a run, unless memory was refused.
-fn with_memory(answer: Result<(), RunFault>) -> Result<Result<(), RunFault>, AllocError> {
+pub(crate) fn with_memory(
+    answer: Result<(), RunFault>,
+) -> Result<Result<(), RunFault>, AllocError> {
     match answer {
         Err(RunFault::OutOfMemory) => Err(AllocError),
         answer => Ok(answer),
@@ -101,10 +110,7 @@ fn reader(bytes: &[u8]) -> ByteReader<'_> {
 fn ran_by_bytes(alloc: Global, room: usize) -> Result<(Result<(), RunFault>, Vec<u8>), Fail> {
     let options = plain_options(alloc);
     let (mut tables, mut font, mut text) = (reader(b"{}"), reader(FONT), reader(b"ab"));
-    let mut out = ByteWriter {
-        taken: Vec::with_capacity(alloc, room)?,
-        room,
-    };
+    let mut out = ByteWriter::new(alloc, room)?;
     let answer = run(alloc, options, &mut tables, &mut font, &mut text, &mut out);
     let answer = with_memory(answer)?;
     if (tables.ends, font.ends, text.ends) != (1, 1, 1) {

@@ -20,6 +20,14 @@ hb_shape|--no-clusters|--no-clusters|a|b|c
 hb_shape|--show-flags=1|a|b|c
 hb_shape|--slices|--slices|a|b|c
 hb_shape|--slices=1|a|b|c
+hb_shape|--lines|--slices|a|b|c
+hb_shape|--slices|--lines|--keep-going|a|b|c
+hb_shape|--keep-going|a|b|c
+hb_shape|--keep-going|--slices|a|b|c
+hb_shape|--lines|--lines|a|b|c
+hb_shape|--lines=1|a|b|c
+hb_shape|--keep-going=no|--lines|a|b|c
+hb_shape|--line|a|b|c
 hb_shape|--foo|a|b|c
 hb_shape|-x|a|b|c
 hb_shape|--direction=x|a|b|c
@@ -106,6 +114,8 @@ hb_shape|--script=é|a|b|c;;Zzzz;0;;c
 hb_shape|--language=en|a|b|c;;;0;en;c
 hb_shape|--language|de-CH|a|b|c;;;0;de-ch;c
 hb_shape|a|--language=X-HBOT|b|c;;;0;x-hbot;c
+hb_shape|a|b|-;;;0;;-
+hb_shape|--lines|a|b|-;;;0;;-
 hb_shape|a|b|--|-c;;;0;;-c
 hb_shape|a|--direction=l|b|--|-c;ltr;;0;;-c
 x|--|a|b|-c;;;0;;-c";
@@ -174,18 +184,30 @@ fn options_are_read(rt: HostRuntime) -> Result<(), Fail> {
     Ok(())
 }
 
+// Command-line words, and whether slices, lines and going on are requested.
 #[test]
-fn slices_are_requested(rt: HostRuntime) -> Result<(), Fail> {
+fn slices_and_lines_are_requested(rt: HostRuntime) -> Result<(), Fail> {
     let cases = [
-        ("hb_shape|a|b|c", false),
-        ("hb_shape|--show-flags|--no-advances|a|b|c", false),
-        ("hb_shape|--slices|a|b|c", true),
-        ("hb_shape|a|b|--slices|c", true),
-        ("hb_shape|--show-flags|--slices|--direction=r|a|b|c", true),
+        ("hb_shape|a|b|c", [false, false, false]),
+        (
+            "hb_shape|--show-flags|--no-advances|a|b|c",
+            [false, false, false],
+        ),
+        ("hb_shape|--slices|a|b|c", [true, false, false]),
+        ("hb_shape|a|b|--slices|c", [true, false, false]),
+        (
+            "hb_shape|--show-flags|--slices|--direction=r|a|b|c",
+            [true, false, false],
+        ),
+        ("hb_shape|--lines|a|b|c", [false, true, false]),
+        ("hb_shape|--keep-going|a|b|--lines|c", [false, true, true]),
     ];
-    for (line, slices) in cases {
-        let found = command_line(rt.alloc(), line)??;
-        assert!(rt; found.options.slices == slices, "{line}");
+    for (line, switches) in cases {
+        let options = command_line(rt.alloc(), line)??.options;
+        assert!(rt;
+            [options.slices, options.lines, options.keep_going] == switches,
+            "{line}"
+        );
     }
     Ok(())
 }

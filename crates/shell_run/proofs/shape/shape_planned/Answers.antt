@@ -4,22 +4,19 @@ use Rattle.buffer_core.specs.Segment.{after_guess_segment_properties}
 use Rattle.buffer_core.specs.Sides.{state_of}
 use Rattle.shape_pipeline.specs.Shaping.{Shaping}
 use Rattle.shape_pipeline.specs.Shaped.{text_reading}
-use Rattle.script_categories.specs.Fronts.{syllable_at}
-use Rattle.shell_run.proofs.Faults.{refused_as}
-use Rattle.shell_run.proofs.Languages.{same_shaping}
-use Rattle.shell_run.proofs.shape.shape.Goals as goal
+use Rattle.shell_run.proofs.PlanLemmas.{as_planned}
+use Rattle.shell_run.proofs.Unshaped.{refused_as}
+use Rattle.shell_run.proofs.shape.shape_planned.Goals as goal
 
 pub returns-in-Ok-clause-ok : goal.returns-in-Ok-clause-ok
 returns-in-Ok-clause-ok c =
-    let t = c.args.tables.now in
     let run = state_of (after_guess_segment_properties c.args.text) in
     let P : Shaping → Type 0 = λ p. Follows (text_reading p run) run (state_of c.in-Ok.glyphs) in
-    subst P (same_shaping c.args.face.now t.characters t.languages (syllable_at t.syllables) c.args.features.now (after_guess_segment_properties c.args.text)) c.in-Ok.ensures.ok
+    subst P (as_planned c.args.options.now c.args.input.now c.args.plan.now c.args.text c.requires) c.in-Ok.ensures.ok
 
 pub returns-in-Err-clause-refused : goal.returns-in-Err-clause-refused
 returns-in-Err-clause-refused c =
-    let t = c.args.tables.now in
     let run = state_of (after_guess_segment_properties c.args.text) in
     let P : Shaping → Type 0 = λ p. text_reading p run ≡ Err c.in-Err.fault.cause in
     refused_as _ c.in-Err.fault.cause c.from.result c.from.ensures
-    (λ not_memory. subst P (same_shaping c.args.face.now t.characters t.languages (syllable_at t.syllables) c.args.features.now (after_guess_segment_properties c.args.text)) (c.in-Err.ensures.refused not_memory))
+    (λ not_memory. subst P (as_planned c.args.options.now c.args.input.now c.args.plan.now c.args.text c.requires) (c.in-Err.ensures.refused not_memory))
