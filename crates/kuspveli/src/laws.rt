@@ -10,7 +10,7 @@ pub mod shaping {
 pub mod clusters {
     pub use shape_parts::{
         character_laws, glyph_laws, grapheme_laws, line_laws, position_laws, reading_laws,
-        text_laws,
+        source_laws, text_laws, written_merges,
     };
 }
 

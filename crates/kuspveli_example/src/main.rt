@@ -1,11 +1,14 @@
-//! Shapes three texts over the crate `kuspveli` alone: tables and font are read once, and one plan serves all texts. The
-//! README shows these lines.
+//! Shapes three texts over the crate `kuspveli` alone, and prints where carets may stand in them: tables and font are read
+//! once, and a cache keeps the plans.
 #![tactic(auto)]
 
+ghost use Rattle.kuspveli.specs.buffer_tags.LanguageTable.{tags_of_table};
+ghost use Rattle.kuspveli.specs.plan_cache.Cache.{IsCacheOf};
+
+use caret_model::{Caret, CaretModel};
 use kuspveli::{
-    Direction, Face, LanguageTable, RunFault, RunInput, Script, SerializeFlags, ShapeCause,
-    ShapePlan, SyllableTable, Tag, TagExt, TextTables, UnicodeBuffer, hb_shape_data_t, read_input,
-    shape_with_plan,
+    Face, LanguageTable, PlanCache, RunFault, RunInput, SerializeFlags, ShapeCause, SyllableTable,
+    TextTables, UnicodeBuffer, hb_shape_data_t, read_input,
 };
 use std::alloc::{AllocError, Global};
 use std::fs;
@@ -24,51 +27,51 @@ fn read(rt: &HostRuntime) -> Result<RunInput, RunFault> {
     read_input(rt.alloc(), &tables, &font)
 }
 
-/// Shapes the texts with one plan.
+/// Shapes the texts in turn, with plans that are made once.
 fn shape_texts(rt: &HostRuntime, face: &Face, tables: &TextTables) -> Result<(), RunFault> {
     let data = hb_shape_data_t {
         tables: &tables.characters,
         spans: &tables.syllables,
         languages: &tables.languages,
     };
-    let plan = latin_plan(rt.alloc(), face, data)?;
-    print_lines(rt, face, data, &plan)
-}
-
-/// Prints a line for each text.
-fn print_lines(
-    rt: &HostRuntime,
-    face: &Face,
-    data: Data<'_>,
-    plan: &ShapePlan,
-) -> Result<(), RunFault> {
+    let mut plans = PlanCache::new(rt.alloc(), 4);
     for text in ["afi", "fib", "baffi"] {
-        let line = shape_line(rt.alloc(), face, data, plan, text)?;
+        let line = shape_line(rt.alloc(), face, data, &mut plans, text)?;
         println!(rt; "{line}").map_err(|_| RunFault::Write)?;
     }
     Ok(())
 }
 
-/// A plan for Latin texts of any language, with the features that are on by default.
-fn latin_plan(alloc: Global, face: &Face, data: Data<'_>) -> Result<ShapePlan, AllocError> {
-    let latin = Script::from_iso15924_tag(Tag::from_bytes(b"Latn"));
-    let direction = Direction::LeftToRight;
-    ShapePlan::new(alloc, face, data, direction, latin, None, &[])
-}
-
-/// Shapes a text, and prints its glyphs into a line.
+/// Shapes a text by a plan of the cache, and prints its glyphs and its carets into a line.
 fn shape_line(
     alloc: Global,
     face: &Face,
-    data: Data<'_>,
-    plan: &ShapePlan,
+    shape_data: Data<'_>,
+    plans: &mut PlanCache,
     text: &str,
-) -> Result<String, RunFault> {
+) -> Result<String, RunFault>
+    requires { IsCacheOf face.now (tags_of_table shape_data.languages.now) plans.old }
+    ensures { IsCacheOf face.now (tags_of_table shape_data.entry.languages.now) plans.new }
+{
     let mut buffer = UnicodeBuffer::new(alloc);
     if !buffer.push_str(text)? {
         return Err(RunFault::Shape(ShapeCause::TooLong));
     }
-    let glyphs = shape_with_plan(alloc, face, data, plan, buffer).map_err(|fault| fault.cause)?;
-    let line = glyphs.serialize(alloc, face, SerializeFlags::NO_GLYPH_NAMES)?;
+    let direction = buffer.guessed_direction();
+    let glyphs = plans.shape(alloc, face, shape_data, &[], buffer);
+    let glyphs = glyphs.map_err(|fault| fault.cause)?;
+    let mut line = glyphs.serialize(alloc, face, SerializeFlags::NO_GLYPH_NAMES)?;
+    if let Ok(model) = CaretModel::new(alloc, &glyphs, text, direction) {
+        push_carets(&mut line, model.carets())?;
+    }
     Ok(line)
+}
+
+/// Appends the byte and the position of each caret.
+fn push_carets(line: &mut String, carets: &[Caret]) -> Result<(), AllocError> {
+    for caret in carets {
+        let Caret { byte, position } = *caret;
+        write!(line, " {byte}@{position}")?;
+    }
+    Ok(())
 }

@@ -1,0 +1,13 @@
+pub mod Joins
+pub mod Orders
+pub mod LeadingBack
+pub mod Neighbours
+pub mod OneSlice
+pub mod Beginnings
+pub mod Selecting
+pub mod Closest
+pub mod PenSteps
+pub mod SourceLines
+pub mod Nearest
+pub mod Finding
+pub mod Made

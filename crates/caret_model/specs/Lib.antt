@@ -1,0 +1,6 @@
+pub mod Lines
+pub mod Moves
+pub mod Selections
+pub mod Laws
+pub mod Closer
+pub mod Pens
