@@ -76,7 +76,7 @@ characters_keep_fall t font flags context script =
 
 -- ---- the stage
 
-initial_stays : StaysInLine (always initial_view)
+pub initial_stays : StaysInLine (always initial_view)
 initial_stays = always_in_line initial_view (λ v level. even_plainly [] v (initial_view v).view level tt refl) (λ v. refl)
 
 pub begun_texts_keep_parts : (p : Shaping) → ShapingKeepsParts p → KeepsPartsOnLine (text_begun p)

@@ -1,5 +1,5 @@
 -- At the level Graphemes the clusters of a shaped text are first ones of its graphemes.
-use Rattle.std.proofs.Common.{ℕ, suc, ◌≡◌, ◌≤◌, ◌+◌, ◌==◌, Bool, true, false, if◌then◌else◌, nat_le, eqb-true, List, [], ◌∷◌, ◌++◌, length, map, Option, None, Some, Ok, Err, arith, refl, sym, ap, subst, ◌∙◌}
+use Rattle.std.proofs.Common.{ℕ, suc, ◌≡◌, ◌≤◌, ◌+◌, ◌==◌, Bool, true, false, if◌then◌else◌, nat_le, eqb-true, List, [], ◌∷◌, length, map, Option, None, Some, Ok, Err, arith, refl, sym, ap, subst, ◌∙◌}
 use Rattle.std.proofs.lemmas.List.{length-map}
 use Rattle.std.specs.Char.{len_utf8}
 use Rattle.std.specs.Str.{chars}
@@ -18,8 +18,8 @@ use Rattle.buffer_unicode_tables.specs.Lawful.{AsciiHasNoMarks, IsLawful}
 use Rattle.buffer_unicode_tables.specs.Tables.{Tables}
 use Rattle.buffer_core.specs.Graphemes.{continues as continues_item}
 use Rattle.buffer_core.specs.Readings.{BufferState, Read, Reading, Stage, View, always, and_then, state_after, then_read, then_reading, with_events}
-use Rattle.buffer_core.specs.Sides.{Sides, all_glyphs, items_of, origins_of, state_of}
-use Rattle.buffer_core.specs.Text.{added_glyph, added_text, added_text_from, offsets_from, text_items}
+use Rattle.buffer_core.specs.Sides.{all_glyphs, items_of, origins_of, state_of}
+use Rattle.buffer_core.specs.Text.{added_glyph, added_text_from, offsets_from}
 use Rattle.buffer_lists.specs.Turning.{groups, in_front}
 use Rattle.buffer_stage_laws.specs.Lemmas.Stages.{at_read, both_read}
 use Rattle.layout_face.specs.declared.parts.FaceParts.{FaceParts}

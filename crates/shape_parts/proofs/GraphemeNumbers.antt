@@ -2,16 +2,16 @@
 use Rattle.std.proofs.Common.{ℕ, zero, suc, ◌≡◌, ◌≤◌, ◌+◌, ◌-◌, ◌⊎◌, inl, inr, Bool, true, false, if◌then◌else◌, List, [], ◌∷◌, ◌++◌, length, map, take, drop, arith, refl, sym, ap, subst, ◌∙◌}
 use Rattle.std.proofs.lemmas.List.{drop-drop, drop-map, length-map, map-append, take-map, take_all}
 use Rattle.buffer_glyphs.specs.declared.level.BufferClusterLevel.TheVariants.{Graphemes}
-use Rattle.buffer_glyphs.specs.Events.{MergeGrapheme, origins_after, origins_after_event}
+use Rattle.buffer_glyphs.specs.Events.{origins_after}
 use Rattle.buffer_glyphs.specs.Levels.{Unites}
-use Rattle.buffer_glyphs.specs.Merges.{least_number, merged_number, merged_numbers}
+use Rattle.buffer_glyphs.specs.Merges.{least_number, merged_number}
 use Rattle.buffer_glyphs.specs.Merging.{order_kept_as}
 use Rattle.buffer_glyphs.specs.Order.{AllFrom, BringsNone, IsRising, has_number}
 use Rattle.buffer_glyphs.specs.Origins.{Asks, Origin, numbers, origins_merged_as}
 use Rattle.buffer_glyphs.specs.Parts.{range_of}
 use Rattle.buffer_glyphs.specs.Lemmas.Drawn.{drawn_drop, drawn_take}
 use Rattle.buffer_glyphs.specs.Lemmas.Merges.{least_number_is, merged_in}
-use Rattle.buffer_glyphs.specs.Lemmas.Numbers.{Has, has_cases, has_either, has_here, has_left, has_map, has_more, has_right, map_has}
+use Rattle.buffer_glyphs.specs.Lemmas.Numbers.{Has, has_cases, has_here, has_left, has_map, has_more, has_right, map_has}
 use Rattle.buffer_glyphs.specs.Lemmas.Origins.{numbers_merged}
 use Rattle.buffer_glyphs.specs.Lemmas.Parts.{order_drawn}
 use Rattle.buffer_lists.specs.Turning.{groups, in_front}

@@ -41,7 +41,7 @@ use Rattle.buffer_parts.specs.Lemmas.Orderly.{plain_is_orderly}
 use Rattle.buffer_parts.specs.Lemmas.Plainly.{steady_count, steady_giving, steady_kept, steady_plain, steady_unturned}
 use Rattle.buffer_parts.specs.Lemmas.Turns.{turns_add_up, unturned_keeps_side}
 use Rattle.buffer_core.specs.Graphemes.{continues as continues_item}
-use Rattle.buffer_core.specs.Readings.{View, Read, Reading, with_events}
+use Rattle.buffer_core.specs.Readings.{View, Read, Reading, always, with_events}
 use Rattle.buffer_stages.specs.Lemmas.Sorted.{groups_turned_size}
 use Rattle.buffer_stage_laws.specs.Lemmas.Stages.{at_read}
 use Rattle.buffer_properties.specs.Properties.{bit_if, is_hidden_character, is_mark_character, properties_of, scratch_flags_of}
@@ -56,6 +56,7 @@ use Rattle.shape_text.specs.NativeOrder.{continues_grapheme, is_number_text, is_
 use Rattle.shape_text.specs.Properties.{items_prepared, next_before, prepared_item, property_word_of, scratch_flags_of_items, with_properties}
 use Rattle.shape_parts.specs.Lines.{falls_on_line}
 use Rattle.shape_parts.specs.Graphemes.{HasKnownGraphemes}
+use Rattle.shape_parts.specs.Premises.{CountsItems}
 use Rattle.shape_parts.specs.StageLaws.{GraphemesAreKnown, GraphemesKeepFall, GraphemesKeepParts}
 use Rattle.shape_parts.proofs.Characters.{circle_view, clusters_steady}
 use Rattle.shape_parts.proofs.Events.{both_give, both_plain}
@@ -143,6 +144,17 @@ ordered_kept false v level known =
     let clusters = (with_clusters v).events level in
     subst (λ (es : List Event). AreKept level es (length v.items) (length v.items)) (sym (append-nil clusters))
     (let k = steady_kept clusters (length v.items) (clusters_steady (has_non_ascii v.scratch_flags) level (grapheme_lengths v.items)) in plain_is_kept level clusters (length v.items) (length v.items) k.plain k.giving k.counted)
+
+-- the order of the script leaves a glyph for each item
+pub native_counts : (script : Option Script) → CountsItems (always (native_order script))
+native_counts script v r level e =
+    let b = is_reversed script v.direction v.items in
+    at_read (λ q. count_after (q.events level) (length v.items) ≡ length q.view.items) (native_order script v) r e
+    (ap (λ es. count_after es (length v.items)) (append-nil ((ordered_if b v).events level)) ∙ by_turn b ∙ sym (ordered_many b v))
+  where
+    by_turn : (b : Bool) → count_after ((ordered_if b v).events level) (length v.items) ≡ length v.items
+    by_turn true = turn_count (merges_graphemes level) 0 (grapheme_lengths v.items) (length v.items)
+    by_turn false = refl
 
 pub graphemes_keep_parts : GraphemesKeepParts
 graphemes_keep_parts script v r level known e =

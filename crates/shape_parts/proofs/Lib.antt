@@ -12,6 +12,7 @@ pub mod Chains
 pub mod Begun
 pub mod Directions
 pub mod Phases
+pub mod Counting
 pub mod Lines
 pub mod Parts
 pub mod Texts
@@ -19,3 +20,8 @@ pub mod Shapers
 pub mod GraphemeNumbers
 pub mod GraphemeClusters
 pub mod Sources
+pub mod Unions
+pub mod Carried
+pub mod WrittenVowels
+pub mod WrittenWalks
+pub mod WrittenSyllables

@@ -9,6 +9,7 @@ use Rattle.buffer_glyphs.specs.Order.{BringsNone}
 use Rattle.buffer_glyphs.specs.Origins.{Origin, numbers}
 use Rattle.buffer_glyphs.specs.Lemmas.EventParts.{origins_keep_numbers}
 use Rattle.buffer_parts.specs.CharacterParts.{AreUnitedByEvents}
+use Rattle.buffer_parts.specs.Counts.{count_after}
 use Rattle.buffer_parts.specs.Keeping.{AreKept, HaveParts}
 use Rattle.buffer_parts.specs.Lemmas.Counts.{counts_follow}
 use Rattle.buffer_parts.specs.Lemmas.CharacterParts.{parts_are_united}
@@ -38,6 +39,7 @@ use Rattle.shape_parts.specs.Premises.{HasOrderedClusters, ShapingKeepsParts}
 use Rattle.shape_parts.specs.Laws.{ClustersAreParts, ClustersFitText, LeastClusterStays, RangesReadNumbers, RangesReadParts, ShapingKeepsTextParts, SlicesAreNoCoarserThanParts}
 use Rattle.shape_parts.proofs.Begun.{begun_texts_keep_parts}
 use Rattle.shape_parts.proofs.Chains.{IsOfChains, chain_has, wanted_has}
+use Rattle.shape_parts.proofs.Counting.{before_counts}
 use Rattle.shape_parts.proofs.Phases.{AreShaping, before_have, positions_adjusted_have, positions_begun_have, ranges_have, substituted_have, taken_have}
 
 -- ---- stages
@@ -174,5 +176,7 @@ after_brings_none (Err c) text = none_brought (numbers text.origins)
 pub ranges_read_numbers : RangesReadNumbers
 ranges_read_numbers p text = (
   after_brings_none (before_ranges p text.view) text,
-  λ r e. ap length (after_ok (before_ranges p text.view) text r e) ∙ length-map (state_after r text).origins (λ (q : Origin). q.cluster) ∙ counts_follow text.asks text.level (r.events text.level) text.origins,
+  λ r counts long e.
+      ap length (after_ok (before_ranges p text.view) text r e) ∙ length-map (state_after r text).origins (λ (q : Origin). q.cluster) ∙ counts_follow text.asks text.level (r.events text.level) text.origins
+      ∙ ap (count_after (r.events text.level)) long ∙ before_counts p counts text.view r text.level e,
 )

@@ -41,7 +41,7 @@ pub record AreShaping (P : Stage → Type 0) (p : Shaping) : Type 0 where
   pub substituted : P (substitution_stages p.font p.map (pauses_of p))
   pub positioned : P (positioning_stages p.font p.map (pauses_of p))
 
-turned_stays : (p : Shaping) → StaysInLine (always (turned_to_line p))
+pub turned_stays : (p : Shaping) → StaysInLine (always (turned_to_line p))
 turned_stays p = rotation_stays p.tables p.font p.direction (mask_at_one (codes "rtlm") p.map) p.choices.has_vert
 
 normal_stays : (p : Shaping) → ShapingKeepsParts p → StaysInLine (normalization (normalizer p))

@@ -1,5 +1,5 @@
 -- The slices of a result are those of its text.
-use Rattle.std.proofs.Common.{ℕ, ◌≡◌, ◌≢◌, ◌⊎◌, ◌↔◌, ◌<◌, inl, inr, Bool, false, List, [], length, map, Ok, refl, sym, ap, subst, ◌∙◌}
+use Rattle.std.proofs.Common.{ℕ, ◌≡◌, ◌≢◌, ◌↔◌, inl, inr, false, List, [], length, Ok, refl, sym, ap, subst, ◌∙◌}
 use Rattle.std.specs.Str.{IsUtf8}
 use Rattle.buffer_common.specs.Direction.{is_backward}
 use Rattle.buffer_glyphs.specs.EventParts.{parts_of}
@@ -8,7 +8,7 @@ use Rattle.buffer_glyphs.specs.Order.{IsInOrder}
 use Rattle.buffer_glyphs.specs.Origins.{numbers}
 use Rattle.buffer_glyphs.specs.Lemmas.Numbers.{Has}
 use Rattle.buffer_glyphs.specs.Lemmas.Origins.{numbers_origins}
-use Rattle.buffer_parts.specs.CharacterParts.{AreUnitedByEvents, part_after}
+use Rattle.buffer_parts.specs.CharacterParts.{part_after}
 use Rattle.buffer_parts.specs.Slices.{ShareSlice, slices}
 use Rattle.buffer_parts.specs.Lemmas.CharacterParts.{parts_are_united}
 use Rattle.buffer_common.specs.declared.tag.Tag.{Tag}
@@ -25,12 +25,12 @@ use Rattle.shape_pipeline.specs.Results.{IsShapedBy}
 use Rattle.shape_pipeline.specs.Shaped.{by_text, text_reading}
 use Rattle.shape_pipeline.specs.Shaping.{Shaping}
 use Rattle.shape_slices.specs.declared.slices.SourceSlice.{SourceSlice}
-use Rattle.shape_slices.specs.Fitting.{SlicesFit, character_starts}
-use Rattle.shape_slices.specs.Runs.{AreSourceSlices, along_glyphs, byte_range}
+use Rattle.shape_slices.specs.Fitting.{character_starts}
+use Rattle.shape_slices.specs.Runs.{AreSourceSlices}
 use Rattle.shape_slices.proofs.Covered.{in_text_order, source_slices_are_text, source_slices_join}
 use Rattle.shape_slices.proofs.Starts.{boundary_from_start}
 use Rattle.shape_parts.specs.Premises.{IsPushedOnce, RulesKeepDirection, ShapingKeepsParts}
-use Rattle.shape_parts.specs.SourceTexts.{AreOfOnePart, AreSlicesOf, ResultsHaveSourceSlices, slices_in_text}
+use Rattle.shape_parts.specs.SourceTexts.{AreOfOnePart, AreSlicesOf, ResultsHaveSourceSlices}
 use Rattle.shape_parts.proofs.Parts.{some_left, texts_have_parts}
 use Rattle.shape_parts.proofs.Shapers.{shapers_keep_direction}
 use Rattle.shape_parts.proofs.Texts.{items_left, left_by, left_by_this, ordered_state, pushed_rise, result_clusters, shaped_clusters_stand_in_line, shaped_runs_have_one_flag_set, shaped_texts_fit, shapers_keep_parts}

@@ -7,7 +7,7 @@ use Rattle.buffer_common.specs.Direction.{is_backward}
 use Rattle.buffer_glyphs.specs.declared.info.hb_glyph_info_t.{hb_glyph_info_t}
 use Rattle.buffer_glyphs.specs.EventParts.{parts_of}
 use Rattle.buffer_glyphs.specs.Items.{clusters, item_of, strip}
-use Rattle.buffer_glyphs.specs.Order.{AllFrom, IsInOrder, IsLeast, IsRising}
+use Rattle.buffer_glyphs.specs.Order.{AllFrom, BringsNone, IsInOrder, IsLeast, IsRising}
 use Rattle.buffer_glyphs.specs.Origins.{numbers, origin_of}
 use Rattle.buffer_glyphs.specs.Parts.{after_part_events}
 use Rattle.buffer_glyphs.specs.Lemmas.EventParts.{origins_keep_numbers}
@@ -17,19 +17,22 @@ use Rattle.buffer_parts.specs.CharacterParts.{AreUnitedByEvents}
 use Rattle.buffer_parts.specs.Fits.{FitsText}
 use Rattle.buffer_parts.specs.Slices.{ShareSlice, slices}
 use Rattle.buffer_core.specs.Readings.{BufferState, Follows, IsMonotone, Read, Reading, state_after}
-use Rattle.buffer_core.specs.Sides.{Sides, all_glyphs, origins_of, state_of}
+use Rattle.buffer_core.specs.Sides.{Sides, all_glyphs, items_of, origins_of, state_of, view_of}
 use Rattle.buffer_core.specs.Text.{added_text, added_text_from, offsets_from}
 use Rattle.script_dispatch.specs.Lemmas.Orders.{keeps_count, rules_keep_parts}
 use Rattle.script_dispatch.specs.Requests.{any_kind}
 use Rattle.script_plan.specs.Plans.{planned_shaper, text_plan}
 use Rattle.shape_pipeline.specs.Laws.{TextsAreEven}
-use Rattle.shape_pipeline.specs.Shaped.{language_tags, text_reading}
+use Rattle.script_dispatch.specs.Rules.{rules_of}
+use Rattle.shape_pipeline.specs.Reading.{before_ranges, clusters_after}
+use Rattle.shape_pipeline.specs.Shaped.{by_text, language_tags, text_reading}
 use Rattle.shape_slices.specs.Fitting.{character_starts}
 use Rattle.shape_slices.proofs.Flags.{runs_have_one_flag_set}
 use Rattle.shape_parts.specs.Premises.{HasOrderedClusters, IsPushedOnce}
-use Rattle.shape_parts.specs.TextLaws.{GuessingKeepsClusters, PushedTextsArePushedOnce, ShapedClustersAreParts, ShapedClustersStandInLine, ShapedRunsHaveOneFlagSet, ShapedSlicesAreNoCoarser, ShapedTextsFit, ShapedTextsKeepLeast, ShapersKeepParts, StartsRise}
+use Rattle.shape_parts.specs.TextLaws.{GuessingKeepsClusters, PushedTextsArePushedOnce, ShapedClustersAreParts, ShapedClustersStandInLine, ShapedRunsHaveOneFlagSet, ShapedSlicesAreNoCoarser, ShapedTextsFit, ShapedTextsKeepLeast, ShapersCountItems, ShapersKeepParts, StartsRise, TextRangesReadNumbers}
+use Rattle.shape_parts.proofs.Counting.{kept_counts}
 use Rattle.shape_parts.proofs.Lines.{clusters_stand_in_line}
-use Rattle.shape_parts.proofs.Parts.{clusters_are_parts, clusters_fit_text, least_cluster_stays, slices_are_no_coarser_than_parts}
+use Rattle.shape_parts.proofs.Parts.{clusters_are_parts, clusters_fit_text, least_cluster_stays, ranges_read_numbers, slices_are_no_coarser_than_parts}
 
 -- ---- starts
 
@@ -167,3 +170,24 @@ shapers_keep_parts font tables tags spans features text lawful after keeps =
     let shaper = planned_shaper any_kind font (language_tags tags text) text.direction text.script in
     let plan = text_plan any_kind font (language_tags tags text) text.direction text.script features in
     record { tables = lawful; rules = rules_keep_parts shaper plan; counts = keeps_count shaper plan; spans = after }
+
+pub shapers_count_items : ShapersCountItems
+shapers_count_items font tables tags spans features text =
+    let shaper = planned_shaper any_kind font (language_tags tags text) text.direction text.script in
+    let plan = text_plan any_kind font (language_tags tags text) text.direction text.script features in
+    let rules = rules_keep_parts shaper plan in
+    record {
+      preprocesses = λ f t settings. kept_counts ((rules_of shaper plan).preprocesses f t settings) (rules.preprocesses f t settings).parts;
+      reorders = rules.reorders;
+      counts = keeps_count shaper plan;
+      sets_masks = λ f t settings. kept_counts ((rules_of shaper plan).sets_masks f t settings) (rules.sets_masks f t settings).parts;
+    }
+
+pub text_ranges_read_numbers : TextRangesReadNumbers
+text_ranges_read_numbers font tables tags spans features text r e =
+    let p = by_text font tables tags spans features text in
+    let k = ranges_read_numbers p (state_of text) in
+    let counted : length (origins_of text) ≡ length (items_of text) = length-map (all_glyphs text) origin_of ∙ sym (length-map (all_glyphs text) item_of) in (
+      subst (λ (ns : List ℕ). BringsNone ns (clusters_after (before_ranges p (view_of text)) (state_of text))) (numbers_origins (all_glyphs text)) k.0,
+      k.1 r (shapers_count_items font tables tags spans features text) counted e,
+    )

@@ -6,7 +6,6 @@ use Rattle.buffer_glyphs.specs.Order.{BringsNone, IsInOrder, IsLeast, has_number
 use Rattle.buffer_glyphs.specs.Origins.{numbers}
 use Rattle.buffer_glyphs.specs.Parts.{after_part_events}
 use Rattle.buffer_parts.specs.CharacterParts.{AreUnitedByEvents}
-use Rattle.buffer_parts.specs.Counts.{count_after}
 use Rattle.buffer_parts.specs.Fits.{FitsText}
 use Rattle.buffer_parts.specs.Slices.{ShareSlice, slices}
 use Rattle.buffer_core.specs.Readings.{BufferState, Read, state_after}
@@ -16,7 +15,7 @@ use Rattle.shape_pipeline.specs.Characters.{text_begun}
 use Rattle.shape_pipeline.specs.Reading.{before_ranges, clusters_after, shaping_stage}
 use Rattle.shape_pipeline.specs.Shaped.{text_reading}
 use Rattle.shape_pipeline.specs.Shaping.{Shaping}
-use Rattle.shape_parts.specs.Premises.{HasOrderedClusters, RulesKeepDirection, ShapingKeepsParts}
+use Rattle.shape_parts.specs.Premises.{HasOrderedClusters, RulesCountItems, RulesKeepDirection, ShapingKeepsParts}
 
 -- ---- stages
 
@@ -63,7 +62,7 @@ abbrev pub RangesReadParts : Type 0
 RangesReadParts = (p : Shaping) (text : BufferState) (r : Read) (falls : Bool) → ShapingKeepsParts p → HasOrderedClusters falls text → before_ranges p text.view ≡ Ok r
     → (clusters_after (before_ranges p text.view) text ≡ after_part_events (parts_of text.level (r.events text.level)) (numbers text.origins)) × (length (clusters_after (before_ranges p text.view) text) ≡ length r.view.items)
 
--- at every level and for every shaper each cluster that the masks of ranges read is one of the text, and they are as many as the events before leave
+-- at every level and for every shaper each cluster that the masks of ranges read is one of the text; and where the text has as many clusters as characters, and the shaper's rules before leave a glyph for each item, there is one for each item at that step
 abbrev pub RangesReadNumbers : Type 0
 RangesReadNumbers = (p : Shaping) (text : BufferState) → BringsNone (numbers text.origins) (clusters_after (before_ranges p text.view) text)
-    × ((r : Read) → before_ranges p text.view ≡ Ok r → length (clusters_after (before_ranges p text.view) text) ≡ count_after (r.events text.level) (length text.origins))
+    × ((r : Read) → RulesCountItems p.rules → length text.origins ≡ length text.view.items → before_ranges p text.view ≡ Ok r → length (clusters_after (before_ranges p text.view) text) ≡ length r.view.items)

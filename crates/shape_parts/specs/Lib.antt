@@ -6,3 +6,4 @@ pub mod Laws
 pub mod TextLaws
 pub mod GraphemeLaws
 pub mod SourceTexts
+pub mod WrittenMerges

@@ -1,15 +1,17 @@
 -- What clusters stay in order of: a text, and all that it is shaped by.
-use Rattle.std.specs.Prelude.{ℕ, ◌≡◌, Bool, List, length}
+use Rattle.std.specs.Prelude.{ℕ, ◌≡◌, Bool, List, length, Ok}
 use Rattle.buffer_unicode_tables.specs.Lawful.{IsLawful}
 use Rattle.buffer_unicode_tables.specs.Tables.{Tables}
 use Rattle.buffer_glyphs.specs.Items.{Item, clusters}
 use Rattle.buffer_glyphs.specs.Order.{IsInOrder}
 use Rattle.buffer_glyphs.specs.Origins.{numbers}
-use Rattle.buffer_core.specs.Readings.{BufferState, IsMonotone}
+use Rattle.buffer_glyphs.specs.declared.level.BufferClusterLevel.{BufferClusterLevel}
+use Rattle.buffer_parts.specs.Counts.{count_after}
+use Rattle.buffer_core.specs.Readings.{BufferState, IsMonotone, Read, Stage, View}
 use Rattle.buffer_core.specs.Sides.{Sides, all_glyphs}
 use Rattle.buffer_stages.specs.Settings.{TextSettings}
 use Rattle.layout_face.specs.declared.parts.FaceParts.{FaceParts}
-use Rattle.script_plan.specs.Rules.{EndAfterStart, RulesKeepParts, ShaperRules, Spans}
+use Rattle.script_plan.specs.Rules.{EndAfterStart, IsArrangedInLine, RulesKeepParts, ShaperRules, Spans}
 use Rattle.shape_parts.specs.Lines.{KeepsDirection}
 use Rattle.shape_pipeline.specs.Shaping.{Shaping}
 use Rattle.shape_slices.specs.Fitting.{character_starts}
@@ -20,6 +22,17 @@ pub record ShapingKeepsParts (p : Shaping) : Type 0 where
   pub rules : RulesKeepParts p.rules
   pub counts : (run : List Item) → length (p.rules.reorders run).items ≡ length run
   pub spans : EndAfterStart p.spans
+
+-- a stage leaves as many glyphs as the items that it gives
+abbrev pub CountsItems : Stage → Type 0
+CountsItems stage = (v : View) (r : Read) (level : BufferClusterLevel) → stage v ≡ Ok r → count_after (r.events level) (length v.items) ≡ length r.view.items
+
+-- the rules of a shaper before the masks of ranges leave a glyph for each item: each of its two stages does; and its order of a run of marks keeps their parts and their count
+pub record RulesCountItems (rules : ShaperRules) : Type 0 where
+  pub preprocesses : (font : FaceParts) (t : Tables) (settings : TextSettings) → CountsItems (rules.preprocesses font t settings)
+  pub reorders : (run : List Item) → IsArrangedInLine run (rules.reorders run)
+  pub counts : (run : List Item) → length (rules.reorders run).items ≡ length run
+  pub sets_masks : (font : FaceParts) (t : Tables) (settings : TextSettings) → CountsItems (rules.sets_masks font t settings)
 
 -- no rule of a shaper changes the direction of a text before its glyphs are put in visual order
 pub record RulesKeepDirection (rules : ShaperRules) : Type 0 where

@@ -1,5 +1,5 @@
 -- What the slices of a result show of the text that was shaped, by premises that a caller of `shape` can test.
-use Rattle.std.specs.Prelude.{ℕ, ◌≡◌, ◌≢◌, ◌⊎◌, ◌↔◌, Bool, true, IsTrue, List, [], length, map, Ok}
+use Rattle.std.specs.Prelude.{ℕ, ◌≡◌, ◌≢◌, ◌⊎◌, ◌↔◌, true, IsTrue, List, [], length, map, Ok}
 use Rattle.std.specs.List.{All}
 use Rattle.std.specs.Str.{IsUtf8}
 use Rattle.buffer_common.specs.Direction.{is_backward}

@@ -10,18 +10,19 @@ use Rattle.buffer_tags.specs.declared.feature.Feature.{Feature}
 use Rattle.buffer_unicode_tables.specs.Lawful.{IsLawful}
 use Rattle.buffer_unicode_tables.specs.Tables.{Tables}
 use Rattle.layout_face.specs.declared.parts.FaceParts.{FaceParts}
-use Rattle.buffer_glyphs.specs.Order.{IsInOrder, IsLeast, IsRising, has_number}
+use Rattle.buffer_glyphs.specs.Order.{BringsNone, IsInOrder, IsLeast, IsRising, has_number}
 use Rattle.buffer_parts.specs.CharacterParts.{AreUnitedByEvents}
 use Rattle.buffer_parts.specs.Slices.{ShareSlice, slices}
 use Rattle.buffer_glyphs.specs.Parts.{after_part_events}
 use Rattle.buffer_core.specs.Readings.{IsMonotone, Read}
 use Rattle.buffer_core.specs.Segment.{after_guess_segment_properties}
-use Rattle.buffer_core.specs.Sides.{Sides, all_glyphs, state_of, with_added}
+use Rattle.buffer_core.specs.Sides.{Sides, all_glyphs, state_of, view_of, with_added}
 use Rattle.buffer_core.specs.Text.{added_text}
 use Rattle.script_dispatch.specs.Requests.{any_kind}
 use Rattle.script_dispatch.specs.Shapers.{keeps_order}
 use Rattle.script_plan.specs.Plans.{planned_shaper}
 use Rattle.script_plan.specs.Rules.{EndAfterStart, Spans}
+use Rattle.shape_pipeline.specs.Reading.{before_ranges, clusters_after}
 use Rattle.shape_pipeline.specs.Results.{IsShapedBy}
 use Rattle.shape_pipeline.specs.Shaped.{by_text, language_tags, text_reading}
 use Rattle.shape_pipeline.specs.Shaping.{Shaping}
@@ -29,7 +30,7 @@ use Rattle.shape_slices.specs.declared.slices.SourceSlice.{SourceSlice}
 use Rattle.shape_slices.specs.Laws.{HasOneFlagSet}
 use Rattle.shape_slices.specs.Runs.{AreSourceSlices}
 use Rattle.shape_slices.specs.Fitting.{SlicesFit, character_starts}
-use Rattle.shape_parts.specs.Premises.{IsPushedOnce, RulesKeepDirection, ShapingKeepsParts}
+use Rattle.shape_parts.specs.Premises.{IsPushedOnce, RulesCountItems, RulesKeepDirection, ShapingKeepsParts}
 
 -- ---- a text pushed once
 
@@ -86,3 +87,13 @@ ShapersKeepParts = (font : FaceParts) (tables : Tables) (tags : List ℕ → Lis
 -- no shaper of this stack changes the direction of a text before its glyphs are put in visual order
 abbrev pub ShapersKeepDirection : Type 0
 ShapersKeepDirection = (font : FaceParts) (tables : Tables) (tags : List ℕ → List Tag) (spans : Spans) (features : List Feature) (text : Sides) → RulesKeepDirection (by_text font tables tags spans features text).rules
+
+-- the rules of every shaper of this stack, before the masks of ranges, leave a glyph for each item
+abbrev pub ShapersCountItems : Type 0
+ShapersCountItems = (font : FaceParts) (tables : Tables) (tags : List ℕ → List Tag) (spans : Spans) (features : List Feature) (text : Sides) → RulesCountItems (by_text font tables tags spans features text).rules
+
+-- at every level and whatever its shaper, the clusters that the masks of ranges of a text read are clusters of the text, one for each item at that step
+abbrev pub TextRangesReadNumbers : Type 0
+TextRangesReadNumbers = (font : FaceParts) (tables : Tables) (tags : List ℕ → List Tag) (spans : Spans) (features : List Feature) (text : Sides) (r : Read) → before_ranges (by_text font tables tags spans features text) (view_of text) ≡ Ok r
+    → BringsNone (clusters (all_glyphs text)) (clusters_after (before_ranges (by_text font tables tags spans features text) (view_of text)) (state_of text))
+    × (length (clusters_after (before_ranges (by_text font tables tags spans features text) (view_of text)) (state_of text)) ≡ length r.view.items)

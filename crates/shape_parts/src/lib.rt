@@ -22,3 +22,4 @@ pub mod position_laws;
 pub mod reading_laws;
 pub mod source_laws;
 pub mod text_laws;
+pub mod written_merges;

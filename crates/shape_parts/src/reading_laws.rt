@@ -41,7 +41,7 @@ pub fn law_ranges_read_parts()
     ensures { RangesReadParts }
 {}
 
-/// At every level and for every shaper the masks of ranges read clusters of the text, as many as the events before leave.
+/// At every level and for every shaper the masks of ranges read a cluster of the text for each item.
 pub fn law_ranges_read_numbers()
     ensures { RangesReadNumbers }
 {}

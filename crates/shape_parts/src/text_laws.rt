@@ -1,5 +1,5 @@
 //! The clusters of a text that was pushed once, and of the glyphs that `shape` makes of it.
-ghost use Rattle.shape_parts.specs.TextLaws.{GuessingKeepsClusters, PushedTextsArePushedOnce, ShapedClustersAreParts, ShapedClustersStandInLine, ShapedRunsHaveOneFlagSet, ShapedSlicesAreNoCoarser, ShapedTextsFit, ShapedTextsKeepLeast, ShapersKeepDirection, ShapersKeepParts, StartsRise};
+ghost use Rattle.shape_parts.specs.TextLaws.{GuessingKeepsClusters, PushedTextsArePushedOnce, ShapedClustersAreParts, ShapedClustersStandInLine, ShapedRunsHaveOneFlagSet, ShapedSlicesAreNoCoarser, ShapedTextsFit, ShapedTextsKeepLeast, ShapersCountItems, ShapersKeepDirection, ShapersKeepParts, StartsRise, TextRangesReadNumbers};
 
 use shape_pipeline::laws::law_texts_are_even;
 
@@ -58,4 +58,14 @@ pub fn law_shapers_keep_parts()
 /// No shaper of this stack changes the direction of a text before its glyphs are put in visual order.
 pub fn law_shapers_keep_direction()
     ensures { ShapersKeepDirection }
+{}
+
+/// The rules of every shaper of this stack, before the masks of ranges, leave a glyph for each item.
+pub fn law_shapers_count_items()
+    ensures { ShapersCountItems }
+{}
+
+/// At every level and for every shaper the masks of ranges of a text read a cluster of the text for each item.
+pub fn law_text_ranges_read_numbers()
+    ensures { TextRangesReadNumbers }
 {}

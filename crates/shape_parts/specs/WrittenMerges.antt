@@ -1,0 +1,97 @@
+-- The texts of Thai, Lao and Hangul with each merge of a grapheme where HarfBuzz has it: once the vowel or the syllable
+-- is written.
+use Rattle.std.specs.Prelude.{ℕ, zero, suc, ◌≡◌, ◌+◌, ◌-◌, ◌==◌, Bool, if◌then◌else◌, List, [], ◌∷◌, ◌++◌, length, drop, Option, Some, None, Ok}
+use Rattle.buffer_common.specs.declared.constants.BufferFlags.{BufferFlags}
+use Rattle.buffer_common.specs.declared.script.Script.{Script}
+use Rattle.buffer_unicode_tables.specs.Tables.{Tables}
+use Rattle.buffer_glyphs.specs.declared.level.BufferClusterLevel.{BufferClusterLevel}
+use Rattle.buffer_glyphs.specs.declared.level.BufferClusterLevel.TheVariants.{Graphemes}
+use Rattle.buffer_glyphs.specs.Items.{Item}
+use Rattle.buffer_glyphs.specs.Levels.{InOutput}
+use Rattle.buffer_glyphs.specs.Order.{IsOrdered}
+use Rattle.buffer_glyphs.specs.Origins.{numbers}
+use Rattle.buffer_glyphs.specs.Events.{Event, Arrange, Merge, MergeGrapheme, Replace, origins_after}
+use Rattle.buffer_core.specs.Readings.{BufferState, Read, state_after}
+use Rattle.buffer_stages.specs.Moves.{order_of_move}
+use Rattle.layout_face.specs.declared.parts.FaceParts.{FaceParts}
+use Rattle.layout_map.specs.Compiled.{OtMapValue}
+use Rattle.script_thai.specs.Texts.{thai_text}
+use Rattle.script_thai.specs.ThaiVowel.{count_above, is_sara_am, with_character}
+use Rattle.script_hangul.specs.declared.actions.Action.{Action}
+use Rattle.script_hangul.specs.declared.actions.Action.TheVariants.{Keep, Apart, Compose, Split}
+use Rattle.script_hangul.specs.Actions.{action_on}
+use Rattle.script_hangul.specs.Hangul.{character_at, hangul_text, step, wants_circles}
+use Rattle.script_hangul.specs.Jamo.{is_tone}
+use Rattle.script_hangul.specs.Steps.{Step, numbers_of}
+
+-- ---- Thai and Lao
+
+-- the merge of a vowel's halves, at an index and the next one, with the character before them, if there is one (HarfBuzz:
+-- merge_out_grapheme_clusters)
+abbrev pub merge_with_character_before : ℕ → List Event
+merge_with_character_before at = if at == 0 then [] else MergeGrapheme (at - 1) (at + 2) ∷ []
+
+-- that many marks above and the halves after them are merged, then the first half is moved before the marks (HarfBuzz:
+-- merge_out_clusters)
+abbrev pub half_before_marks : ℕ → ℕ → List Event
+half_before_marks at n = Merge InOutput (at - n) (at + 2) ∷ Arrange (at - n) (order_of_move n 1) ∷ []
+
+-- the events of a vowel that is written at an index, after that many marks above: it is decomposed, then its halves are
+-- merged with what is before them
+abbrev pub written_vowel : ℕ → ℕ → List Event
+written_vowel at n = Replace at 1 2 ∷ (if n == 0 then merge_with_character_before at else half_before_marks at n)
+
+-- the events of one character that is written after a text
+abbrev pub written_character : List Item → Item → List Event
+written_character out x = if is_sara_am x then written_vowel (length out) (count_above out) else []
+
+-- the events of characters that are written after a text, each with its merge (HarfBuzz: preprocess_text_thai)
+abbrev pub written_characters : List Item → List Item → List Event
+written_characters out [] = []
+written_characters out (x ∷ xs) = written_character out x ++ written_characters (with_character out x) xs
+
+-- law: at every level and by all requests for flags, the origins of a Thai or Lao text that is preprocessed are those after
+-- its characters were written, each merge with its character
+abbrev pub VowelsMergeWhereWritten : Type 0
+VowelsMergeWhereWritten = (m : OtMapValue) (script : Option Script) (t : Tables) (font : FaceParts) (text : BufferState) (r : Read) → length text.origins ≡ length text.view.items → thai_text m script t font text.view ≡ Ok r
+    → (state_after r text).origins ≡ origins_after text.asks text.level (written_characters [] text.view.items) text.origins
+
+-- ---- Hangul
+
+-- the merge of a syllable that was written from an index on, where it is several jamo (HarfBuzz:
+-- merge_out_grapheme_clusters)
+abbrev pub syllable_merge : Action → ℕ → List Event
+syllable_merge (Keep whole) at = []
+syllable_merge (Apart n) at = MergeGrapheme at (at + n) ∷ []
+syllable_merge (Compose n u) at = []
+syllable_merge (Split letters joins) at = MergeGrapheme at (at + (length (numbers_of letters) + (if joins then 1 else 0))) ∷ []
+
+-- that merge by the first of the next characters; none at a tone mark
+abbrev pub written_merge_by : FaceParts → Option ℕ → ℕ → List Item → List Event
+written_merge_by font None at xs = []
+written_merge_by font (Some u) at xs = if is_tone u then [] else syllable_merge (action_on font u (character_at 1 xs) (character_at 2 xs)) at
+
+-- that merge by the next characters
+abbrev pub written_merge : FaceParts → ℕ → List Item → List Event
+written_merge font at xs = written_merge_by font (character_at 0 xs) at xs
+
+-- the events of that many steps at most, by the text before and the rest, each with its merge after it (HarfBuzz:
+-- preprocess_text_hangul)
+abbrev pub written_steps : FaceParts → Bool → BufferClusterLevel → ℕ → ℕ → List Item → List Item → List Event
+written_steps font circles level steps n out [] = []
+written_steps font circles level zero n out (x ∷ xs) = []
+written_steps font circles level (suc steps) n out (x ∷ xs) =
+    let s : Step = step font circles n out (x ∷ xs) in
+    s.events level ++ written_merge font (length out) (x ∷ xs) ++ written_steps font circles level steps s.start s.out (drop (s.more + 1) (x ∷ xs))
+
+-- the events of a text whose syllables are written, each with its merge; each step consumes an item
+abbrev pub written_syllables : FaceParts → BufferFlags → BufferClusterLevel → List Item → List Event
+written_syllables font flags level xs = written_steps font (wants_circles flags) level (length xs) 0 [] xs
+
+-- law: at every level the clusters of a Hangul text that is preprocessed are those after its syllables were written, each
+-- merge with its syllable; so are the flags, by all requests, but for a text at the level Graphemes whose clusters are in no
+-- order
+abbrev pub SyllablesMergeWhereWritten : Type 0
+SyllablesMergeWhereWritten = (font : FaceParts) (flags : BufferFlags) (text : BufferState) (r : Read) → length text.origins ≡ length text.view.items → hangul_text font flags text.view ≡ Ok r
+    → (numbers (state_after r text).origins ≡ numbers (origins_after text.asks text.level (written_syllables font flags text.level text.view.items) text.origins))
+    × ((text.level ≡ Graphemes → IsOrdered (numbers text.origins)) → (state_after r text).origins ≡ origins_after text.asks text.level (written_syllables font flags text.level text.view.items) text.origins)
