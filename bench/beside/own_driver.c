@@ -43,6 +43,7 @@ static void print_glyphs(const glyphs_t *made)
     /* driver.c prints no flags. */
     for (size_t at = 0; at < made->count; at++) made->infos[at].mask = 0;
     print_line(made->infos, made->positions, made->count);
+    putchar('\n');
 }
 
 static void print_time(kus_font_t *font, const kus_text_t *text, glyphs_t *made, int rounds)

@@ -1,9 +1,11 @@
 """The command line of hostile."""
 
 import argparse
+import contextlib
 import multiprocessing
+import shutil
 import tempfile
-from dataclasses import dataclass
+from dataclasses import dataclass, replace
 from pathlib import Path
 from typing import Any
 
@@ -13,6 +15,7 @@ from attacks.texts import TEXTS
 from attacks.values import VALUES
 from building.places import PROGRAM, standing
 from building.ready import usable
+from common.faults import FILES as NO_FILE
 from common.faults import WORDS, ToolFault
 from common.parsing import Words
 from fuzzing.cases import FILES
@@ -20,9 +23,11 @@ from fuzzing.cli import MEMORY
 from fuzzing.running import Answer, Limits, Runner, is_line, under
 
 NAME = "hostile"
+THEIRS = "hb-shape"
 ABOUT = """Runs the program on fonts, texts, tables and JSON that are made to cost much, each at a size, at twice and at
 four times of it, with a small stack; tells the processor time, the memory and the answer, and names what grows like a
-square. The status is 1 where an answer is not right."""
+square. The status is 1 where an answer is not right. With --beside the time of hb-shape stands below, on the same font
+as OpenType and the same text, where it can have them."""
 FACTORS = (1, 2, 4)
 # A straight line grows twice as much from twice to four times the size as from the size to twice; a square four times.
 SQUARE = 3.0
@@ -59,6 +64,7 @@ def parser() -> argparse.ArgumentParser:
     words.add_argument("--list", action="store_true", help="print the names and the first sizes")
     words.add_argument("--write", type=Path, metavar="FOLDER", help="write the files, and run nothing")
     words.add_argument("--times", type=int, default=1, metavar="N", help="of N runs the fastest is told (1)")
+    words.add_argument("--beside", action="store_true", help="tell the times of hb-shape too")
     words.add_argument("--program", type=Path, default=standing(PROGRAM).file, metavar="FILE", help="another program")
     words.add_argument("--limit", type=float, default=120, metavar="S", help="processor seconds for a run (120)")
     words.add_argument("--memory", type=int, default=4096, metavar="MB", help="memory for a run (4096)")
@@ -81,9 +87,22 @@ def main(given: list[str]) -> int:
         return 0
     usable(NAME, options.program)
     limits = Limits(options.limit, options.memory << 20, options.stack << 10)
-    with tempfile.TemporaryDirectory(prefix="hostile-", dir=MEMORY if MEMORY.is_dir() else None) as folder:
-        with Server(Runner(options.program, Path(folder), limits)) as server:
-            return run_all(server, attacks, options.times)
+    with contextlib.ExitStack() as stack:
+        named = tempfile.TemporaryDirectory(prefix="hostile-", dir=MEMORY if MEMORY.is_dir() else None)
+        folder = Path(stack.enter_context(named))
+        server = stack.enter_context(Server(Runner(options.program, folder, limits)))
+        theirs = None
+        if options.beside:
+            (folder / THEIRS).mkdir()
+            theirs = stack.enter_context(Server(Runner(their_program(), folder / THEIRS, replace(limits, stack=None))))
+        return run_all(server, theirs, attacks, options.times)
+
+
+def their_program() -> Path:
+    found = shutil.which(THEIRS)
+    if found is None:
+        raise ToolFault(NO_FILE, f"{THEIRS} is missing: apt-get install libharfbuzz-bin")
+    return Path(found)
 
 
 def write_all(folder: Path, attacks: list[Attack]) -> None:
@@ -139,13 +158,15 @@ def serve(runner: Runner, end: Any) -> None:
             end.send(error)
 
 
-def run_all(server: Server, attacks: list[Attack], times: int) -> int:
+def run_all(server: Server, theirs: Server | None, attacks: list[Attack], times: int) -> int:
     """Runs each, a line for each; the status is 1 where an answer is not right."""
     wrong: list[str] = []
     squares: list[str] = []
     for attack in attacks:
         measured = measure(server, attack, times)
         tell(attack, measured)
+        if theirs is not None:
+            tell_theirs(measured, beside(theirs, attack, times))
         wrong.extend([attack.name] if measured.wrong else [])
         squares.extend([attack.name] if measured.squares() else [])
     print(f"{len(attacks)} run, {len(wrong)} with an answer that is not right; like a square: {', '.join(squares) or 'none'}")
@@ -169,6 +190,19 @@ def measure(server: Server, attack: Attack, times: int) -> Measured:
     return Measured(answers, wrong)
 
 
+def beside(theirs: Server, attack: Attack, times: int) -> list[Answer]:
+    """The answers of hb-shape at the three sizes, none where it can't have the same files."""
+    from attacks.beside import write_beside  # it needs fontTools
+
+    answers: list[Answer] = []
+    for factor in FACTORS:
+        words = write_beside(theirs.folder, attack.files(attack.size * factor))
+        if words is None:
+            return []
+        answers.append(min((theirs.run(words) for _ in range(times)), key=lambda answer: answer.seconds))
+    return answers
+
+
 def fault_of(attack: Attack, size: int, files: Files, answer: Answer) -> str | None:
     """What is wrong with an answer."""
     name = answer.name()
@@ -183,6 +217,17 @@ def fault_of(attack: Attack, size: int, files: Files, answer: Answer) -> str | N
         if not (answer.out.startswith(start.encode()) and answer.out.endswith(end.encode())):
             return f"another line at {size}"
     return None
+
+
+def tell_theirs(measured: Measured, answers: list[Answer]) -> None:
+    """The times of hb-shape at the three sizes, and whether its lines are the same."""
+    if not answers:
+        print(f"  {THEIRS:49} none: other tables, a font that isn't written as OpenType, or JSON", flush=True)
+        return
+    seconds = " ".join(f"{answer.seconds:7.3f}" for answer in answers)
+    lines = [answer.out.strip().strip(b"[]") for answer in answers]
+    is_same = lines == [answer.out.strip() for answer in measured.answers]
+    print(f"  {THEIRS:49} {seconds} s  {'the same lines' if is_same else 'other lines'}", flush=True)
 
 
 def tell(attack: Attack, measured: Measured) -> None:

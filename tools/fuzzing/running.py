@@ -135,8 +135,8 @@ def processor_time(child: int) -> float:
 
 
 def under(limits: Limits, work: Callable[[], None]) -> None:
-    """Does the work where new processes have the limits. It is done by a thread, whose own stack is not limited so."""
-    threading.stack_size(16 << 20)
+    """Does the work where new processes have the limits, which end with it. It is done by a thread, whose own stack is
+    not limited so."""
     failed: list[BaseException] = []
 
     def body() -> None:
@@ -145,12 +145,19 @@ def under(limits: Limits, work: Callable[[], None]) -> None:
         except BaseException as error:  # pylint: disable=broad-exception-caught
             failed.append(error)
 
+    kinds = (resource.RLIMIT_AS, resource.RLIMIT_STACK, resource.RLIMIT_CORE)
+    kept = [(kind, resource.getrlimit(kind)) for kind in kinds]
+    size = threading.stack_size(16 << 20)
     thread = threading.Thread(target=body)
-    limit(resource.RLIMIT_AS, limits.memory)
-    limit(resource.RLIMIT_STACK, limits.stack)
-    resource.setrlimit(resource.RLIMIT_CORE, (0, 0))
-    thread.start()
-    thread.join()
+    try:
+        for kind, most in zip(kinds, (limits.memory, limits.stack, 0)):
+            limit(kind, most)
+        thread.start()
+        thread.join()
+    finally:
+        threading.stack_size(size)
+        for kind, before in kept:
+            resource.setrlimit(kind, before)
     if failed:
         raise failed[0]
 

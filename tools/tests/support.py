@@ -5,6 +5,7 @@ import io
 import json
 import os
 import shutil
+import signal
 import subprocess
 import sys
 import tempfile
@@ -57,6 +58,11 @@ def write_stand_in(path: Path, body: str) -> str:
     path.write_text(f"#!/bin/sh\n{body}\n", encoding="utf-8")
     path.chmod(0o755)
     return str(path)
+
+
+def interruptible() -> None:
+    """For a process that is to be interrupted: where this one ignores interrupts those that it makes would too."""
+    signal.signal(signal.SIGINT, signal.SIG_DFL)
 
 
 def told_by(main: Callable[[list[str]], int], *words: str) -> tuple[int, str]:

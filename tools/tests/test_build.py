@@ -15,7 +15,7 @@ import unittest
 from pathlib import Path
 from unittest import mock
 
-from support import TOOLS, copy_tools, write_files
+from support import TOOLS, copy_tools, interruptible, write_files
 
 from building import cli
 from building.places import PROGRAM, Place
@@ -252,7 +252,8 @@ class Built(unittest.TestCase):
         copy_tools(self.root)
         for sent, status in ((signal.SIGTERM, 143), (signal.SIGHUP, 129), (signal.SIGINT, 130)):
             (self.notes / "list").unlink(missing_ok=True)
-            with subprocess.Popen([self.root / "tools" / "build"], stderr=subprocess.PIPE, text=True) as run:
+            command, streams = [self.root / "tools" / "build"], {"stderr": subprocess.PIPE, "text": True}
+            with subprocess.Popen(command, preexec_fn=interruptible, **streams) as run:
                 while not (self.notes / "list").exists():
                     self.assertIsNone(run.poll())
                     time.sleep(0.05)

@@ -1,6 +1,7 @@
 """The fuzzer's cases, and what it says of stand-ins for the program."""
 
 import json
+import resource
 import tempfile
 import unittest
 from pathlib import Path
@@ -15,7 +16,7 @@ from fuzzing.alphabets import draw_alphabet
 from fuzzing.cases import Cases, State, as_json, right_answers
 from fuzzing.damage import damage_bytes, damage_value, places
 from fuzzing.fonts import draw_font
-from fuzzing.running import Answer, is_line
+from fuzzing.running import Answer, Limits, is_line, under
 from fuzzing.tables import draw_tables
 
 # What a stand-in does, and what the fuzzer then finds in the first sixteen cases of seed 1, among others.
@@ -166,6 +167,15 @@ class Run(unittest.TestCase):
         self.assertTrue(told.startswith("signal 11 in "), told)
         again = json.loads((self.folder / "kept" / f"case-{kept['case']}" / "case.json").read_text(encoding="utf-8"))
         self.assertEqual(again["options"], kept["options"])
+
+    def test_limits_end(self) -> None:
+        """The limits are those of the work alone, and begin before it."""
+        kinds = (resource.RLIMIT_AS, resource.RLIMIT_STACK, resource.RLIMIT_CORE)
+        before, seen = [resource.getrlimit(kind) for kind in kinds], []
+        under(Limits(1, 1 << 33, 192 << 10), lambda: seen.extend(resource.getrlimit(kind)[0] for kind in kinds))
+        self.assertEqual(seen, [1 << 33, 192 << 10, 0])
+        self.assertRaises(ZeroDivisionError, under, Limits(1, None, 192 << 10), lambda: print(1 // 0))
+        self.assertEqual([resource.getrlimit(kind) for kind in kinds], before)
 
     def test_compares_two_programs(self) -> None:
         """Answers that are right are compared; a difference is a finding."""

@@ -1,6 +1,8 @@
 """The hostile files, what grows like a square, and what is said of stand-ins for the program."""
 
 import json
+import shutil
+import subprocess
 import tempfile
 import unittest
 from pathlib import Path
@@ -8,7 +10,8 @@ from pathlib import Path
 from support import told_by, write_stand_in
 
 from attacks import cli
-from attacks.attack import Attack, Files, font, lookup, table
+from attacks.attack import Attack, Files, font, lookup, rules, table
+from attacks.beside import write_beside
 from attacks.cli import ATTACKS, fault_of, is_square
 from common.faults import ToolFault
 from formats.rules import font_faults, tables_faults
@@ -71,6 +74,44 @@ class Hostile(unittest.TestCase):
         self.told("--write", str(self.folder / "files"), "removed ignorables")
         options = (self.folder / "files" / "removed-ignorables" / "options").read_text(encoding="utf-8")
         self.assertEqual(options, "--remove-default-ignorables\n")
+
+    @unittest.skipUnless(shutil.which("hb-shape"), "needs hb-shape (libharfbuzz-bin)")
+    def test_beside(self) -> None:
+        """The times of hb-shape and whether its lines are the same; none where it can't have the same files."""
+        stand_in = f"--program={self.stand_in('echo 1=0+500')}"
+        names = ["a string", "reverse chaining", "a machine that accepts", "features of a font", "glyphs with names"]
+        _, told = self.told(stand_in, "--beside", *names)
+        theirs = [line.split()[1] for line in told.splitlines() if "hb-shape" in line]
+        self.assertEqual(theirs, ["none:"] * (len(names) + 1))
+        _, told = self.told(stand_in, "--beside", "growth to the limit")
+        self.assertRegex(told, r"  hb-shape +(\d+\.\d{3} *){3}s  other lines\n")
+
+    @unittest.skipUnless(shutil.which("hb-shape"), "needs hb-shape (libharfbuzz-bin)")
+    def test_opentype(self) -> None:
+        """A font that is written as OpenType has the value's rules: the lines are worked out by hand."""
+        marks = {"marks": [[2, 0, [100, 0]]], "bases": [[1, [[250, 480]]]]}
+        chained = [lookup("chain", rules([[2], [1], [3], [[0, 1]]])), lookup("single", [[1, 3]])]
+        cases = [
+            (font("ab", table("liga", [lookup("ligature", [[1, [[[2], 3]]]])])), "abb", "3=0+0|2=2+500"),
+            (font("ab", table("ccmp", [lookup("multiple", [[1, [2, 2]]])])), "ab", "2=0+500|2=0+500|2=1+500"),
+            (font("ab", table("salt", [lookup("alternate", [[1, [2, 3]]])])), "a", "1=0+500"),
+            (font("abc", table("calt", chained)), "bacac", "2=0+500|3=1+500|3=2+500|1=3+500|3=4+500"),
+            (font("ab", None, table("kern", [lookup("pair", [[1, 2, [0, 0, -50, 0], None]])])), "abb", "1=0+450|2=1+500|2=2+500"),
+            (
+                font("a\u0301", None, table("mark", [lookup("markbase", marks)]), gdef={"classes": [[1, 1], [2, 3]]}),
+                "a\u0301",
+                "1=0+500|2=0@-350,480+0",
+            ),
+            (
+                font("a", None, table("curs", [lookup("cursive", [[1, [0, 10], [400, 30]]])])),
+                "aa",
+                "1=0+400|1=1@0,20+500",
+            ),
+        ]  # fmt: skip
+        for given, text, line in cases:
+            words = write_beside(self.folder, Files(given, text))
+            ran = subprocess.run(["hb-shape", *(words or [])], capture_output=True, text=True, check=True)
+            self.assertEqual(ran.stdout.strip().strip("[]"), line)
 
     def test_refuses_words(self) -> None:
         """A name that none has, and a program that is not there."""

@@ -163,6 +163,33 @@ class Words(unittest.TestCase):
             broken = sum(kind == "broken" for _, kind in syllables("universal", self.categories("universal", text)))
             self.assertEqual(circles, broken, [hex(ord(c)) for c in text])
 
+    def test_hieroglyphs(self) -> None:
+        """Joiners between hieroglyphs and segments are of one syllable with them; one that joins nothing is by itself."""
+        cases = {
+            "\U00013000\U00013430\U00013000\U00013431\U00013002": [(5, "hieroglyph")],
+            "\U00013437\U00013000\U00013430\U00013000\U00013438\U00013431\U00013000": [(7, "hieroglyph")],
+            "\U00013430": [(1, "non")],
+            "\U00013431\U00013000": [(1, "non"), (2, "hieroglyph")],
+        }
+        for text, expected in cases.items():
+            self.assertEqual(syllables("universal", self.categories("universal", text)), expected, ascii(text))
+
+    @unittest.skipUnless(shutil.which("hb-shape"), "needs hb-shape (libharfbuzz-bin)")
+    def test_circles_of_hieroglyphs(self) -> None:
+        """Well-formed texts have no circle; HarfBuzz 6.0 has joiners as halants, so one that joins nothing has one."""
+        path = f"{NOTO}NotoSansEgyptianHieroglyphs-Regular.ttf"
+        draw = random.Random("egyp")
+        signs, joiners = range(0x13000, 0x13080), [*range(0x13430, 0x13437), *range(0x13439, 0x1343C)]
+        texts = []
+        for _ in range(200):
+            more = (chr(draw.choice(joiners)) + chr(draw.choice(signs)) for _ in range(draw.randint(0, 4)))
+            texts.append(chr(draw.choice(signs)) + "".join(more))
+        for text, circles in zip(texts, circles_of(path, "egyp", texts), strict=True):
+            [(end, kind)] = syllables("universal", self.categories("universal", text))
+            self.assertEqual((circles, end, kind), (0, len(text), "hieroglyph"), ascii(text))
+        alone = [chr(joiner) for joiner in joiners]
+        self.assertEqual(circles_of(path, "egyp", alone), [1] * len(alone))
+
     @unittest.skipUnless(shutil.which("hb-shape"), "needs hb-shape (libharfbuzz-bin)")
     def test_circles(self) -> None:
         """HarfBuzz puts a dotted circle into each broken syllable; so as many circles as broken syllables."""

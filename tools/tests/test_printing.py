@@ -15,16 +15,17 @@ from pathlib import Path
 from typing import Any
 from unittest import mock
 
-from support import TOOLS, write_stand_in
+from support import TOOLS, interruptible, write_stand_in
 
 from common.printing import clean, clean_name
 from hostile_fonts import plain, saved
 from shaping import cli
 
 WORDS, DATA, TEXT, FILES, INTERRUPTED = 2, 3, 4, 6, 130
-# A colour, a second glyph and a second line, C1, DEL, and the marks of a line, as a font's bytes can have them.
-NAME = "\x1b[31mx=0+1|y]\r\n\x9b\x7f\\@#<>,"
-SHOWN = r"\x1b\x5b31mx\x3d0+1\x7cy\x5d\x0d\x0a\u009b\x7f\x5c@#<>,"
+# A window's title, a colour, a second glyph and a second line, C1, DEL, and the marks of a line, as a font's bytes can
+# have them.
+NAME = "\x1b]0;t\x07\x1b[31mx=0+1|y]\r\n\x9b\x7f\\@#<>,"
+SHOWN = r"\x1b\x5d0;t\x07\x1b\x5b31mx\x3d0+1\x7cy\x5d\x0d\x0a\u009b\x7f\x5c@#<>,"
 PRINTABLE = re.compile("[ -~\n]*")
 # The characters that XML 1.0 may hold.
 XML = re.compile("[\t\n\r -\ud7ff\ue000-\ufffd\U00010000-\U0010ffff]*")
@@ -40,10 +41,6 @@ program = Path(sys.argv.pop(1))
 cli.ready_program, cli.TABLES_READ = lambda name: program, ["thai"]
 run_tool("shape", cli.main)
 """
-
-
-def interruptible() -> None:
-    signal.signal(signal.SIGINT, signal.SIG_DFL)
 
 
 class Printed(unittest.TestCase):
@@ -84,7 +81,7 @@ class Names(Printed):
         self.assertEqual(clean_name("uni0061.alt-é"), "uni0061.alt-é")
 
     def test_line(self) -> None:
-        """A name stays one field of the line, of a font file and of JSON."""
+        """A font with such names is shaped as any, and each name stays one field of the line; of JSON fonts too."""
         value = self.folder / "font.json"
         value.write_text(json.dumps({"cmap": [[97, 1], [98, 2]], "names": [[1, NAME], [2, "b"]]}))
         for font in (self.font, value):
@@ -171,7 +168,6 @@ class Streams(Printed):
         os.mkfifo(pipe)
         streams = {"stdout": subprocess.PIPE, "stderr": subprocess.PIPE, "env": self.environment}
         command = self.command(self.font, f"--text-file={pipe}")
-        # Another test may have made this process ignore interrupts, which those that it makes would too.
         with subprocess.Popen(command, preexec_fn=interruptible, **streams) as process:
             with open(pipe, "wb"):
                 # The pipe opens here when the tool reads it.

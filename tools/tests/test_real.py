@@ -17,7 +17,7 @@ from beside.pages import WORDS, chances, read_words, text_from, text_of, words_o
 from beside.programs import Files, build_driver, build_own_driver, printed_by, used_by
 from beside.sets import PACKAGES, SETS
 from beside.table import MIB, Pair, Row, each, head, row_line, slope, summary
-from building.places import LIBRARY, PROGRAM, Place
+from building.places import LIBRARY, PROGRAM, standing
 from common.faults import ToolFault
 from shaping.cache import cache_folder
 from shaping.cli import tables_file
@@ -233,13 +233,13 @@ class Running(unittest.TestCase):
             short, long = map(int, printed_by([str(driver), "en", DEJAVU, "3", *map(str, texts)]))
             self.assertTrue(0 < short < long)
 
-    @unittest.skipUnless(CAN_DRIVE and Place(LIBRARY).file.is_file(), "needs the library, libharfbuzz-dev, gcc and DejaVu Sans")
+    @unittest.skipUnless(CAN_DRIVE and standing(LIBRARY).file.is_file(), "needs the library, libharfbuzz-dev, gcc and DejaVu Sans")
     def test_own_driver(self) -> None:
         """The library's driver prints glyphs as that of libharfbuzz does, without flags, and measures as it does."""
         (chosen,) = cli.chosen_sets(["Latin, DejaVuSans"])
         with tempfile.TemporaryDirectory() as folder, cache_folder() as kept:
-            drivers = build_driver(Path(folder)), build_own_driver(Path(folder), Place(LIBRARY).file)
-            files = Files(chosen, Place(PROGRAM).file, tables_file(kept), cli.font_file(kept, chosen.font), *drivers)
+            drivers = build_driver(Path(folder)), build_own_driver(Path(folder), standing(LIBRARY).file)
+            files = Files(chosen, standing(PROGRAM).file, tables_file(kept), cli.font_file(kept, chosen.font), *drivers)
             texts = [cli.written_text(Path(folder), chosen, characters)[0] for characters in (100, 5_000)]
             for own, theirs in zip(*(printed_by(words(0, texts)) for words in (files.own_rounds, files.their_rounds))):
                 self.assertNotIn("#", own)

@@ -188,8 +188,10 @@ class Instances(unittest.TestCase):
             theirs = subprocess.run(
                 ["hb-shape", *options, self.path, "ababb"], capture_output=True, text=True, check=True
             )
-            own = run("shape", *options, self.path, "ababb").stdout.decode()
-            self.assertEqual(own.strip(), theirs.stdout.strip().strip("[]"), weight)
+            ran = run("shape", *options, self.path, "ababb")
+            self.assertEqual(ran.stdout.decode().strip(), theirs.stdout.strip().strip("[]"), weight)
+            told = f"shape: {self.path}: wght={weight} is outside wght from 100 to 900: 900 is taken\n"
+            self.assertEqual(told in ran.stderr.decode(), weight == 2000)
 
 
 if __name__ == "__main__":
