@@ -21,8 +21,10 @@ WORDS = {
     "place": ("place", "places"),
     "stretch": ("stretch", "stretches", "stretched"),
 }
-NAMES = ("participle", "law", "comment", "header")
-CLASSES = (*WORDS, *NAMES)
+# Phrases of prose that are hits as they stand.
+PHRASES = {"many": re.compile(r"\bso many\b", re.IGNORECASE)}
+NAMES = ("participle", "law", "comment", "header", "meaning")
+CLASSES = (*WORDS, *PHRASES, *NAMES)
 PART_OF_NAME = re.compile(r"[A-Z]?[a-z0-9]+|[A-Z]+(?![a-z])")
 LAW = re.compile(r"^pub(?:\(crate\))? fn (\w+)(?:<[^(]*>)?\(\)\s*\n\s*(?:requires|ensures)\b", re.MULTILINE)
 
@@ -43,11 +45,15 @@ class Lists:
     def __init__(self, text: str) -> None:
         self.passed: dict[str, list[re.Pattern[str]]] = defaultdict(list)
         self.words: dict[str, list[str]] = defaultdict(list)
+        # Names that mean what they mean in one crate.
+        self.homes: dict[str, str] = {}
         for line in text.splitlines():
             if line.startswith("#") or not line.strip():
                 continue
-            name, mark, rest = re.split(r"\s*([:=])\s*", line, maxsplit=1)
-            if mark == ":":
+            name, mark, rest = re.split(r"\s*([:=@])\s*", line, maxsplit=1)
+            if mark == "@":
+                self.homes.update({one: rest for one in name.split()})
+            elif mark == ":":
                 self.passed[name].append(re.compile(rest, re.IGNORECASE))
             else:
                 self.words[name].extend(rest.split())
@@ -84,6 +90,13 @@ def find(root: Path, lists: Lists) -> Iterator[Hit]:
 
 
 def by_words(said: Said, lists: Lists) -> Iterator[Hit]:
+    if said.is_name:
+        if lists.homes.get(said.text, said.crate) != said.crate:
+            yield Hit("meaning", said.path, said.line, said.crate, said.text, f"means that of {lists.homes[said.text]}")
+    else:
+        for kind, phrase in PHRASES.items():
+            for found in phrase.findall(said.text):
+                yield Hit(kind, said.path, said.line, said.crate, found, said.text)
     for kind, words in WORDS.items():
         found = list(hits_in(said, words, lists.passed[kind]))
         if found and not is_known(kind, said, lists):

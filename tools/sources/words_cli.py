@@ -14,7 +14,8 @@ NAME = "words"
 ALLOWED = ROOT / "tools" / "words_allowed"
 ABOUT = """Lists words and names that stand where another word is meant: behind and ahead away from the buffer's cursor,
 hang, goes (for deletes), tell, place (for position or index), stretch (for range), participles as names of definitions,
-laws that are not named law_.., definitions without a comment that stands by itself, code files without a heading.
+laws that are not named law_.., definitions without a comment that stands by itself, code files without a heading,
+"so many" where a count has a name, names that mean what they mean in one crate.
 Allowed phrases and lists of words stand in tools/sources/data/words.txt."""
 SHOWN = 100
 

@@ -46,6 +46,7 @@ pub struct MarkHung {
 }
 """,
     "crates/low/src/bare.rt": "fn ahead_of() {}\n",
+    "crates/low/src/tables.rt": "//! Tables, so many of them.\npub struct LayoutTable;\n",
     "crates/low/specs/Lib.antt": "pub mod Numbers\n",
     "crates/low/specs/Numbers.antt": """-- Numbers.
 use Rattle.std.specs.Prelude.{ℕ}
@@ -83,6 +84,8 @@ EXPECTED = [
     ("place", "crates/low/src/marks.rt", 4, "place"),
     ("behind", "crates/low/src/bare.rt", 1, "ahead"),
     ("header", "crates/low/src/bare.rt", 1, "bare.rt"),
+    ("many", "crates/low/src/tables.rt", 1, "so many"),
+    ("meaning", "crates/low/src/tables.rt", 2, "LayoutTable"),
     ("stretch", "crates/low/specs/Numbers.antt", 8, "stretch"),
     ("behind", "crates/low/specs/Numbers.antt", 17, "ahead"),
     ("participle", "crates/low/specs/Numbers.antt", 5, "begun"),

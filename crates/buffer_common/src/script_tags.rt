@@ -97,7 +97,7 @@ const NEW_TAGS: [(Script, Tag); 10] = [
     (MYANMAR, tag!(b"mym2")),
 ];
 
-/// Old tags that are no other spelling of the script's own.
+/// OpenType's older tags of the scripts for which they are not the script's own tag in small letters.
 const OLD_TAGS: [(Script, Tag); 6] = [
     (HIRAGANA, tag!(b"kana")),
     (LAO, tag!(b"lao ")),

@@ -38,7 +38,7 @@ abbrev pub picked_or_passed : (hb_glyph_info_t → Bool) → List hb_glyph_info_
 picked_or_passed goes [] s = s
 picked_or_passed goes (g ∷ back) s = if goes g then with_deleted g back s else after_next_glyphs 1 s
 
--- `picked_or_passed` for so many glyphs, one after another
+-- `picked_or_passed` for n glyphs, one after another
 abbrev pub after_walk : (hb_glyph_info_t → Bool) → ℕ → Sides → Sides
 after_walk goes zero s = s
 after_walk goes (suc n) s = after_walk goes n (picked_or_passed goes s.ahead s)

@@ -43,15 +43,15 @@ with_grapheme_merged from to s = with_glyphs (glyphs_merged_as (grapheme_manner 
 abbrev pub model : Sides → Option hb_glyph_info_t
 model s = or (first_of s.ahead) (last_of s.behind)
 
--- so many glyphs ahead replaced by a copy of the model for each number, with no merge
+-- the first n glyphs ahead replaced by a copy of the model for each number, with no merge
 abbrev pub with_copied : ℕ → List ℕ → Sides → Sides
 with_copied taken numbers s = with_behind (s.behind ++ numbered_copies glyph_numbered (model s) numbers) (record s { ahead = drop taken s.ahead; read = s.read + taken })
 
--- so many glyphs ahead merged, and then replaced by a copy of the model for each number (`replace_glyphs`)
+-- the first n glyphs ahead merged, and then replaced by a copy of the model for each number (`replace_glyphs`)
 abbrev pub with_replaced : ℕ → List ℕ → Sides → Sides
 with_replaced taken numbers s = with_copied taken numbers (with_merged (length s.behind) (length s.behind + taken) s)
 
--- whether so many copies may be appended to the output; without a glyph to copy none is
+-- whether n copies may be appended to the output; without a glyph to copy none is
 abbrev pub fits_copies : ℕ → Sides → Bool
 fits_copies n s = (length (all_glyphs s) == 0) || has_output_room n s
 

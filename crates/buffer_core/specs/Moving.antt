@@ -15,7 +15,7 @@ after_move_to i s = record s { behind = take i (all_glyphs s); ahead = drop i (a
 abbrev pub has_room_back : ℕ → Sides → Bool
 has_room_back i s = nat_le (length s.ahead + (length s.behind - i)) s.max_len
 
--- whether the side that grows by such a move may have so many glyphs
+-- whether the side that grows by such a move may have n glyphs
 abbrev pub side_holds : ℕ → Sides → Bool
 side_holds i s = if nat_lt (length s.behind) i then nat_le i s.max_len else has_room_back i s
 

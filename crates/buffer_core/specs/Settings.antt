@@ -36,11 +36,11 @@ next_lig_id n = if nat_lt n 7 then n + 1 else 1
 abbrev pub with_lig_id : ℕ → Sides → Sides
 with_lig_id n s = record s { lig_id = n }
 
--- the limit of the length while so many glyphs are shaped; the old limit where the product does not fit 64 bits
+-- the limit of the length while n glyphs are shaped; the old limit where the product does not fit 64 bits
 abbrev pub length_limit : ℕ → ℕ → ℕ
 length_limit count limit = if nat_le (count * 64) 0xFFFF_FFFF_FFFF_FFFF then max (count * 64) 16384 else limit
 
--- the limit of the steps while so many glyphs are shaped; the old limit where the product does not fit 31 bits
+-- the limit of the steps while n glyphs are shaped; the old limit where the product does not fit 31 bits
 abbrev pub steps_limit : ℕ → ℤ → ℤ
 steps_limit count limit = if nat_le (count * 1024) 0x7FFF_FFFF then pos (max (count * 1024) 16384) else limit
 

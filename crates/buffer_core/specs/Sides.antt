@@ -1,5 +1,5 @@
 -- A buffer as its clients see it: the glyphs behind the cursor and the glyphs ahead of it.
-use Rattle.std.specs.Prelude.{ℕ, ℤ, pos, ◌+◌, ◌==◌, bit_and, Bool, true, false, nat_le, nat_lt, not, ◌&&◌, ◌||◌, if◌then◌else◌, List, [], ◌++◌, length, take, drop, reverse, replicate, Option, None}
+use Rattle.std.specs.Prelude.{ℕ, ℤ, pos, ◌+◌, ◌==◌, ◌≡◌, ◌<◌, bit_and, Bool, true, false, nat_le, nat_lt, not, ◌&&◌, ◌||◌, if◌then◌else◌, List, [], ◌++◌, length, take, drop, reverse, replicate, Option, None}
 use Rattle.buffer_glyphs.specs.declared.info.hb_glyph_info_t.{hb_glyph_info_t}
 use Rattle.buffer_glyphs.specs.declared.level.BufferClusterLevel.{BufferClusterLevel}
 use Rattle.buffer_glyphs.specs.declared.level.BufferClusterLevel.TheVariants.{MonotoneGraphemes}
@@ -78,6 +78,16 @@ origins_by es s = origins_after (flag_requests_of s) s.level es (origins_of s)
 abbrev pub state_of : Sides → BufferState
 state_of s = record { view = view_of s; origins = origins_of s; level = s.level; asks = flag_requests_of s }
 
+-- an output is open, and the input has a current glyph
+pub record HasCurrent (s : Sides) : Type 0 where
+  pub opened : s.is_open ≡ true
+  pub current : 0 < length s.ahead
+
+-- no output is open, and the cursor is at a glyph
+pub record HasCurrentInPlace (s : Sides) : Type 0 where
+  pub closed : s.is_open ≡ false
+  pub current : 0 < length s.ahead
+
 -- the settings of a text that no pipeline stage changes
 pub record Settings : Type 0 where
   pub level : BufferClusterLevel
@@ -102,7 +112,7 @@ settings_of s = record {
   flags = s.flags;
 }
 
--- so many zero positions
+-- n zero positions
 abbrev pub zero_positions : ℕ → List Position
 zero_positions n = replicate n zero_position
 
@@ -135,7 +145,7 @@ empty_buffer = record {
 abbrev pub with_added : List hb_glyph_info_t → Sides → Sides
 with_added gs s = record s { ahead = s.ahead ++ gs; positions = s.positions ++ zero_positions (length gs) }
 
--- whether the list may have so many more glyphs
+-- whether the list may have n more glyphs
 abbrev pub has_room : ℕ → Sides → Bool
 has_room n s = nat_le (length (all_glyphs s) + n) s.max_len
 
@@ -151,7 +161,7 @@ with_behind gs s = record s { behind = gs; is_apart = s.is_apart || nat_lt s.rea
 abbrev pub after_next_glyphs : ℕ → Sides → Sides
 after_next_glyphs n s = record s { behind = s.behind ++ take n s.ahead; ahead = drop n s.ahead; read = s.read + n }
 
--- whether the output may have so many more glyphs
+-- whether the output may have n more glyphs
 abbrev pub has_output_room : ℕ → Sides → Bool
 has_output_room n s = nat_le (length s.behind + n) s.max_len
 

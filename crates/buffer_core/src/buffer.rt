@@ -51,14 +51,14 @@ pub struct hb_buffer_t {
     // is between them has no meaning.
     info: Vec<hb_glyph_info_t>,
     pos: Vec<GlyphPosition>,
-    // Whether a position may be other than zero. While none is, they need not be cleared.
+    // Whether a position may be other than zero. It only saves time: while none is, they need not be cleared.
     is_placed: bool,
     idx: usize,
     have_output: bool,
     front: usize,
     // Whether the output has had more glyphs than were read, so that the input has moved on.
     is_apart: bool,
-    // How far the input has moved on: so many elements before the cursor were not read.
+    // How far the input has moved on: the last `gap` elements before the cursor were not read.
     gap: usize,
     successful: bool,
     max_len: usize,

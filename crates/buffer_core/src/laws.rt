@@ -22,8 +22,8 @@ pub fn law_output_comes_back()
     ensures { OutputComesBack }
 {}
 
-/// While the output is in the place of what was read, `next_glyph` succeeds whatever memory is there: so many calls of it
-/// move so many glyphs behind the cursor. It answers true.
+/// While the output is in the place of what was read, `next_glyph` succeeds whatever memory is there: `count` calls of it
+/// move `count` glyphs behind the cursor. It answers true.
 pub fn law_walks_in_place(count: usize, buffer: &mut hb_buffer_t) -> bool
     requires open { buffer.old.is_open ≡ true }
     requires in_place { buffer.old.is_apart ≡ false }

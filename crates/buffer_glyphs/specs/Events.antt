@@ -12,7 +12,7 @@ pub data Event : Type 0 where
   -- such indices, of a grapheme, are merged where the level merges graphemes (`merge_grapheme_clusters`,
   -- `merge_out_grapheme_clusters`)
   MergeGrapheme : (from to : ℕ) → Event
-  -- so many glyphs from an index on are merged and replaced by copies of the first, past the end of the one before;
+  -- `taken` glyphs from the index `at` on are merged and replaced by copies of the first, past the end of the one before;
   -- none may be taken, or none given (`replace_glyphs`, `output_glyph`)
   Replace : (at taken given : ℕ) → Event
   -- a glyph is inserted before or after that at an index, in its cluster, with the flags of another

@@ -43,7 +43,7 @@ component_bound = 0x0FFF_FFFF
 abbrev pub component_count : ℕ → ℕ
 component_count n = min n component_bound
 
--- the ligature word of a ligature of so many components
+-- the ligature word of a ligature of n components
 abbrev pub ligature_word : ℕ → ℕ → ℕ
 ligature_word id components = id * 0x2000_0000 + (0x1000_0000 + component_count components)
 

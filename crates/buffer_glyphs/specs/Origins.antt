@@ -110,7 +110,7 @@ pub record Span : Type 0 where
   pub from : ℕ
   pub to : ℕ
 
--- the spans of so many indices from `index` on: each seam ends the span that began at `begin`
+-- the spans of n indices from `index` on: each seam ends the span that began at `begin`
 abbrev pub spans_from : List ℕ → ℕ → ℕ → ℕ → List Span
 spans_from order begin index zero = []
 spans_from order begin index (suc left) =

@@ -5,7 +5,7 @@ use Rattle.std.specs.Prelude.{ℕ, ◌+◌, ◌-◌, ◌==◌, ◌&&◌, ◌||�
 pub data PartEvent : Type 0 where
   -- the parts from the first to the last that occur at the indices from `from` up to before `to` become one
   JoinParts : (from to : ℕ) → PartEvent
-  -- so many items from an index on become one part, and are replaced by new items of that part
+  -- `taken` items from the index `at` on become one part, and are replaced by new items of that part
   ReplaceParts : (at taken given : ℕ) → PartEvent
   -- the item at an index is deleted
   DeletePart : (at : ℕ) → PartEvent
@@ -50,7 +50,7 @@ abbrev pub or : {X : Type 0} → Option X → Option X → Option X
 or None o = o
 or (Some x) o = Some x
 
--- so many copies of an element, none where there is none
+-- n copies of an element, none where there is none
 abbrev pub copies : {X : Type 0} → ℕ → Option X → List X
 copies n None = []
 copies n (Some x) = replicate n x

@@ -16,11 +16,11 @@ items a = a.items
 abbrev pub eventless_arrangement : List Item → Arrangement
 eventless_arrangement xs = record { items = xs; events = [] }
 
--- the first so many items replaced by others
+-- the first n items replaced by others
 abbrev pub replacement : ℕ → List Item → Arrangement
 replacement taken given = record { items = given; events = if taken == 1 && length given == 1 then [] else Replace 0 taken (length given) ∷ [] }
 
--- an event with its indices so many further
+-- an event with n added to its indices
 abbrev pub shifted_event : ℕ → Event → Event
 shifted_event n (Merge how from to) = Merge how (n + from) (n + to)
 shifted_event n (MergeGrapheme from to) = MergeGrapheme (n + from) (n + to)

@@ -1,4 +1,5 @@
-//! The cluster levels of a buffer (HarfBuzz: `hb_buffer_cluster_level_t`).
+//! The cluster levels of a buffer (HarfBuzz: `hb_buffer_cluster_level_t`; rustybuzz: hb/buffer.rs,
+//! `hb_buffer_cluster_level_t`).
 /// How finely cluster numbers are kept apart, and whether they stay in order.
 #[derive(Clone, Copy, PartialEq, Eq, Debug, Default)]
 pub enum BufferClusterLevel {

@@ -55,13 +55,6 @@ pub fn _hb_glyph_info_multiplied(info: &hb_glyph_info_t) -> bool
     info.glyph_props.0 & GlyphPropsFlags::MULTIPLIED.0 != 0
 }
 
-/// Whether a ligature substitution made the glyph, and no multiple substitution made several of it.
-pub fn _hb_glyph_info_ligated_and_didnt_multiply(info: &hb_glyph_info_t) -> bool
-    ensures { result ≡ (is_ligated (item_of info.now) && not (is_multiplied (item_of info.now))) }
-{
-    _hb_glyph_info_ligated(info) && !_hb_glyph_info_multiplied(info)
-}
-
 /// The number of the ligature that the glyph is or belongs to, 0 where there is none, else up to 7.
 pub fn _hb_glyph_info_get_lig_id(info: &hb_glyph_info_t) -> u8
     ensures { result ≡ lig_id (item_of info.now) }
@@ -98,7 +91,7 @@ pub fn _hb_glyph_info_get_lig_num_comps(info: &hb_glyph_info_t) -> u32
     1
 }
 
-/// Makes the glyph a ligature of so many components; at most `MAX_COMPONENTS` are counted.
+/// Makes the glyph a ligature of `lig_num_comps` components; at most `MAX_COMPONENTS` are counted.
 pub fn _hb_glyph_info_set_lig_props_for_ligature(
     info: &mut hb_glyph_info_t,
     lig_id: u8,

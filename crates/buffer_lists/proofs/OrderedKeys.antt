@@ -11,7 +11,7 @@ use Rattle.std.proofs.Math.Seq.{get_or-append_seam}
 use Rattle.buffer_stable_order.proofs.StableSort.{stable_sort_is}
 use Rattle.buffer_glyphs.specs.declared.info.hb_glyph_info_t.{hb_glyph_info_t as Glyph}
 use Rattle.buffer_glyphs.specs.declared.level.BufferClusterLevel.{BufferClusterLevel as Level}
-use Rattle.buffer_lists.specs.declared.sorting.Keyed.{Keyed}
+use Rattle.buffer_lists.specs.declared.sorting.KeyedIndex.{KeyedIndex}
 use Rattle.buffer_lists.specs.Lemmas.Neighbours.{no_glyph}
 use Rattle.buffer_lists.specs.Sorting.{keyed_indices_from, indices_by_key, is_seam, SpanMerge, span_merged, spans_merged, range_spanned, range_sorted, glyph_at, put_in_order}
 use Rattle.buffer_lists.proofs.Seams.{keyed_length}
@@ -32,12 +32,12 @@ key_there k gs i next e d lt now =
     let at : i + 1 - 1 ≡ i = omega arith in
     ap (λ n. k (get_or gs n e)) at ∙ ap k (get_or_default gs i e d lt) ∙ sym now
 
-key_at : (k : Glyph → ℕ) (j : ℕ) (gs : List Glyph) (i : ℕ) (d : Keyed) (z : Glyph) → i < length gs → (get_or (keyed_indices_from k j gs) i d).key ≡ k (get_or gs i z)
+key_at : (k : Glyph → ℕ) (j : ℕ) (gs : List Glyph) (i : ℕ) (d : KeyedIndex) (z : Glyph) → i < length gs → (get_or (keyed_indices_from k j gs) i d).key ≡ k (get_or gs i z)
 key_at k j [] i d z lt = absurd (omega (arith, lt))
 key_at k j (g ∷ gs) zero d z lt = refl
 key_at k j (g ∷ gs) (suc i) d z lt = key_at k (j + 1) gs i d z (omega (arith, lt))
 
-keyed_ordered : (k : Glyph → ℕ) (gs : List Glyph) → IsNonDecreasingBy k gs → IsNonDecreasingBy (λ (e : Keyed). e.key) (keyed_indices_from k 0 gs)
+keyed_ordered : (k : Glyph → ℕ) (gs : List Glyph) → IsNonDecreasingBy k gs → IsNonDecreasingBy (λ (e : KeyedIndex). e.key) (keyed_indices_from k 0 gs)
 keyed_ordered k gs h i j d le lt =
     let long = keyed_length k 0 gs in
     let within : j < length gs = omega (arith, lt, long) in
@@ -49,9 +49,9 @@ keyed_ordered k gs h i j d le lt =
 places_same : (k : Glyph → ℕ) (gs : List Glyph) → IsNonDecreasingBy k gs → indices_by_key k gs ≡ keyed_indices_from k 0 gs
 places_same k gs h =
     let keyed = keyed_indices_from k 0 gs in
-    sym (stable_sort_is (λ (e : Keyed). e.key) (λ c. record { key = c; index = 0 }) (λ c. refl) keyed keyed (keyed_ordered k gs h) (λ x. refl) (IsPermutation-refl keyed))
+    sym (stable_sort_is (λ (e : KeyedIndex). e.key) (λ c. record { key = c; index = 0 }) (λ c. refl) keyed keyed (keyed_ordered k gs h) (λ x. refl) (IsPermutation-refl keyed))
 
-all_before : (k : Glyph → ℕ) (i j n : ℕ) (gs : List Glyph) → j + i ≤ n → list_all (λ (e : Keyed). nat_lt e.index n) (take i (keyed_indices_from k j gs)) ≡ true
+all_before : (k : Glyph → ℕ) (i j n : ℕ) (gs : List Glyph) → j + i ≤ n → list_all (λ (e : KeyedIndex). nat_lt e.index n) (take i (keyed_indices_from k j gs)) ≡ true
 all_before k zero j n gs le = refl
 all_before k (suc i) j n [] le = refl
 all_before k (suc i) j n (g ∷ gs) le =
@@ -66,18 +66,18 @@ one_alone level start index s =
     let off : nat_lt (start + index + 1) (start + (index + 1)) ≡ false = grind (arith, nat_tests) in
     cond-false _ _ _ off
 
-spans_same : (level : Level) (start : ℕ) (order : List Keyed) (left index : ℕ) (s : SpanMerge) → ((i : ℕ) → is_seam order i ≡ true) → spans_merged level start order index index left s ≡ s
+spans_same : (level : Level) (start : ℕ) (order : List KeyedIndex) (left index : ℕ) (s : SpanMerge) → ((i : ℕ) → is_seam order i ≡ true) → spans_merged level start order index index left s ≡ s
 spans_same level start order zero index s seams = refl
 spans_same level start order (suc left) index s seams =
     cond-true _ _ _ (seams (index + 1)) ∙ ap (spans_merged level start order (index + 1) (index + 1) left) (one_alone level start index s) ∙ spans_same level start order left (index + 1) s seams
 
-put_from : (k : Glyph → ℕ) (front gs : List Glyph) (i : ℕ) → length front ≡ i → map (λ (e : Keyed). glyph_at (front ++ gs) e.index) (keyed_indices_from k i gs) ≡ gs
+put_from : (k : Glyph → ℕ) (front gs : List Glyph) (i : ℕ) → length front ≡ i → map (λ (e : KeyedIndex). glyph_at (front ++ gs) e.index) (keyed_indices_from k i gs) ≡ gs
 put_from k front [] i e = refl
 put_from k front (g ∷ gs) i e =
     let here : glyph_at (front ++ g ∷ gs) i ≡ g = ap (glyph_at (front ++ g ∷ gs)) (sym e) ∙ get_or-append_seam front g gs no_glyph in
     let longer : length (front ++ g ∷ []) ≡ i + 1 = omega (arith, e, length-append front (g ∷ [])) in
-    let rest = subst (λ (xs : List Glyph). map (λ (e : Keyed). glyph_at xs e.index) (keyed_indices_from k (i + 1) gs) ≡ gs) (append_assoc front (g ∷ []) gs) (put_from k (front ++ g ∷ []) gs (i + 1) longer) in
-    ap (λ (x : Glyph). x ∷ map (λ (e : Keyed). glyph_at (front ++ g ∷ gs) e.index) (keyed_indices_from k (i + 1) gs)) here ∙ ap (λ hs. g ∷ hs) rest
+    let rest = subst (λ (xs : List Glyph). map (λ (e : KeyedIndex). glyph_at xs e.index) (keyed_indices_from k (i + 1) gs) ≡ gs) (append_assoc front (g ∷ []) gs) (put_from k (front ++ g ∷ []) gs (i + 1) longer) in
+    ap (λ (x : Glyph). x ∷ map (λ (e : KeyedIndex). glyph_at (front ++ g ∷ gs) e.index) (keyed_indices_from k (i + 1) gs)) here ∙ ap (λ hs. g ∷ hs) rest
 
 put_same : (start end : ℕ) (k : Glyph → ℕ) (gs : List Glyph) → start ≤ end → put_in_order start end (keyed_indices_from k 0 (slice_range gs start end)) gs ≡ gs
 put_same start end k gs le =

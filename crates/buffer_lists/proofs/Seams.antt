@@ -6,7 +6,7 @@ use Rattle.std.proofs.lemmas.List.{length-take-le}
 use Rattle.std.proofs.lemmas.List.Elements.{All-nil, All-cons, All-head, All-tail, All-weaker}
 use Rattle.buffer_stable_order.specs.Keys.{key_order}
 use Rattle.buffer_glyphs.specs.declared.info.hb_glyph_info_t.{hb_glyph_info_t as Glyph}
-use Rattle.buffer_lists.specs.declared.sorting.Keyed.{Keyed}
+use Rattle.buffer_lists.specs.declared.sorting.KeyedIndex.{KeyedIndex}
 use Rattle.buffer_lists.specs.Laws.{SeamParts}
 use Rattle.buffer_lists.specs.Sorting.{keyed_indices_from, indices_by_key, is_seam}
 use Rattle.buffer_lists.specs.Indices.{all_keyed}
@@ -23,35 +23,35 @@ pub keyed_length : (k : Glyph → ℕ) (j : ℕ) (gs : List Glyph) → length (k
 keyed_length k j [] = refl
 keyed_length k j (g ∷ gs) = ap suc (keyed_length k (j + 1) gs)
 
-keyed_from_on : (k : Glyph → ℕ) (i j : ℕ) (gs : List Glyph) → i ≤ j → All (λ (e : Keyed). i ≤ e.index) (keyed_indices_from k j gs)
-keyed_from_on k i j [] le = All-nil (λ (e : Keyed). i ≤ e.index)
-keyed_from_on k i j (g ∷ gs) le = All-cons (λ (e : Keyed). i ≤ e.index) (record { key = k g; index = j }) (keyed_indices_from k (j + 1) gs) le (keyed_from_on k i (j + 1) gs (omega arith))
+keyed_from_on : (k : Glyph → ℕ) (i j : ℕ) (gs : List Glyph) → i ≤ j → All (λ (e : KeyedIndex). i ≤ e.index) (keyed_indices_from k j gs)
+keyed_from_on k i j [] le = All-nil (λ (e : KeyedIndex). i ≤ e.index)
+keyed_from_on k i j (g ∷ gs) le = All-cons (λ (e : KeyedIndex). i ≤ e.index) (record { key = k g; index = j }) (keyed_indices_from k (j + 1) gs) le (keyed_from_on k i (j + 1) gs (omega arith))
 
 -- what holds of each key of glyphs holds of each that stands with an index
-to_keyed : (P : ℕ → Type 0) (k : Glyph → ℕ) (j : ℕ) (gs : List Glyph) → All (λ g. P (k g)) gs → All (λ (e : Keyed). P e.key) (keyed_indices_from k j gs)
-to_keyed P k j [] h = All-nil (λ (e : Keyed). P e.key)
-to_keyed P k j (g ∷ gs) h = All-cons (λ (e : Keyed). P e.key) (record { key = k g; index = j }) (keyed_indices_from k (j + 1) gs) (All-head (λ x. P (k x)) g gs h) (to_keyed P k (j + 1) gs (All-tail (λ x. P (k x)) g gs h))
+to_keyed : (P : ℕ → Type 0) (k : Glyph → ℕ) (j : ℕ) (gs : List Glyph) → All (λ g. P (k g)) gs → All (λ (e : KeyedIndex). P e.key) (keyed_indices_from k j gs)
+to_keyed P k j [] h = All-nil (λ (e : KeyedIndex). P e.key)
+to_keyed P k j (g ∷ gs) h = All-cons (λ (e : KeyedIndex). P e.key) (record { key = k g; index = j }) (keyed_indices_from k (j + 1) gs) (All-head (λ x. P (k x)) g gs h) (to_keyed P k (j + 1) gs (All-tail (λ x. P (k x)) g gs h))
 
-from_keyed : (P : ℕ → Type 0) (k : Glyph → ℕ) (j : ℕ) (gs : List Glyph) → All (λ (e : Keyed). P e.key) (keyed_indices_from k j gs) → All (λ g. P (k g)) gs
+from_keyed : (P : ℕ → Type 0) (k : Glyph → ℕ) (j : ℕ) (gs : List Glyph) → All (λ (e : KeyedIndex). P e.key) (keyed_indices_from k j gs) → All (λ g. P (k g)) gs
 from_keyed P k j [] h = All-nil (λ g. P (k g))
 from_keyed P k j (g ∷ gs) h =
-    All-cons (λ x. P (k x)) g gs (All-head (λ (e : Keyed). P e.key) (record { key = k g; index = j }) (keyed_indices_from k (j + 1) gs) h)
-    (from_keyed P k (j + 1) gs (All-tail (λ (e : Keyed). P e.key) (record { key = k g; index = j }) (keyed_indices_from k (j + 1) gs) h))
+    All-cons (λ x. P (k x)) g gs (All-head (λ (e : KeyedIndex). P e.key) (record { key = k g; index = j }) (keyed_indices_from k (j + 1) gs) h)
+    (from_keyed P k (j + 1) gs (All-tail (λ (e : KeyedIndex). P e.key) (record { key = k g; index = j }) (keyed_indices_from k (j + 1) gs) h))
 
 pub seam_parts : SeamParts
 seam_parts k gs i le =
-    let key = λ (e : Keyed). e.key in
-    let p = λ (e : Keyed). nat_lt e.index i in
+    let key = λ (e : KeyedIndex). e.key in
+    let p = λ (e : KeyedIndex). nat_lt e.index i in
     let front = keyed_indices_from k 0 (take i gs) in
     let back = keyed_indices_from k i (drop i gs) in
     let none : 0 + i ≡ i = omega arith in
     let cut : keyed_indices_from k 0 gs ≡ front ++ back = keyed_cut k 0 i gs ∙ ap (λ m. front ++ keyed_indices_from k m (drop i gs)) none in
     let short = length-take-le i gs le in
     let long : length front ≡ i = keyed_length k 0 (take i gs) ∙ short in
-    let picked = All-weaker (λ (e : Keyed). e.index < i) (λ e. p e ≡ true) (λ e h. grind (arith, nat_tests)) front (all_keyed k 0 i (take i gs) (omega (arith, short))) in
-    let other = All-weaker (λ (e : Keyed). i ≤ e.index) (λ e. p e ≡ false) (λ e h. grind (arith, nat_tests)) back (keyed_from_on k i i (drop i gs) (omega arith)) in
+    let picked = All-weaker (λ (e : KeyedIndex). e.index < i) (λ e. p e ≡ true) (λ e h. grind (arith, nat_tests)) front (all_keyed k 0 i (take i gs) (omega (arith, short))) in
+    let other = All-weaker (λ (e : KeyedIndex). i ≤ e.index) (λ e. p e ≡ false) (λ e h. grind (arith, nat_tests)) back (keyed_from_on k i i (drop i gs) (omega arith)) in
     let known = seam_by_key key p front back picked other in
     let same : list_all p (take (length front) (key_order key (front ++ back))) ≡ is_seam (indices_by_key k gs) i = ap (λ m. list_all p (take m (key_order key (front ++ back)))) long ∙ ap (λ es. list_all p (take i (key_order key es))) (sym cut) in (
-      λ h. from_keyed (λ n. All (λ x. n ≤ k x) (drop i gs)) k 0 (take i gs) (All-weaker (λ (e : Keyed). All (λ (f : Keyed). e.key ≤ f.key) back) (λ e. All (λ x. e.key ≤ k x) (drop i gs)) (λ e b. from_keyed (λ m. e.key ≤ m) k i (drop i gs) b) front (known.0 (same ∙ h))),
-      λ h. sym same ∙ known.1 (All-weaker (λ (e : Keyed). All (λ x. e.key ≤ k x) (drop i gs)) (λ e. All (λ (f : Keyed). e.key ≤ f.key) back) (λ e b. to_keyed (λ m. e.key ≤ m) k i (drop i gs) b) front (to_keyed (λ n. All (λ x. n ≤ k x) (drop i gs)) k 0 (take i gs) h)),
+      λ h. from_keyed (λ n. All (λ x. n ≤ k x) (drop i gs)) k 0 (take i gs) (All-weaker (λ (e : KeyedIndex). All (λ (f : KeyedIndex). e.key ≤ f.key) back) (λ e. All (λ x. e.key ≤ k x) (drop i gs)) (λ e b. from_keyed (λ m. e.key ≤ m) k i (drop i gs) b) front (known.0 (same ∙ h))),
+      λ h. sym same ∙ known.1 (All-weaker (λ (e : KeyedIndex). All (λ x. e.key ≤ k x) (drop i gs)) (λ e. All (λ (f : KeyedIndex). e.key ≤ f.key) back) (λ e b. to_keyed (λ m. e.key ≤ m) k i (drop i gs) b) front (to_keyed (λ n. All (λ x. n ≤ k x) (drop i gs)) k 0 (take i gs) h)),
     )

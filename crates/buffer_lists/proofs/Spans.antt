@@ -13,23 +13,23 @@ use Rattle.buffer_glyphs.specs.Items.{clusters}
 use Rattle.buffer_glyphs.specs.Lists.{get_or_mapped}
 use Rattle.buffer_glyphs.specs.declared.info.hb_glyph_info_t.{hb_glyph_info_t as Glyph}
 use Rattle.buffer_glyphs.specs.declared.level.BufferClusterLevel.{BufferClusterLevel as Level}
-use Rattle.buffer_lists.specs.declared.sorting.Keyed.{Keyed}
+use Rattle.buffer_lists.specs.declared.sorting.KeyedIndex.{KeyedIndex}
 use Rattle.buffer_lists.specs.Sorting.{keyed_indices_from, indices_by_key, is_seam, SpanMerge, span_merged, spans_merged, range_spanned, range_merged, range_sorted, glyph_at, put_in_order}
 
 -- what an index past the end would give
-abbrev pub no_key : Keyed
+abbrev pub no_key : KeyedIndex
 no_key = record { key = 0; index = 0 }
 
-pub keyed_step : (k : Glyph → ℕ) (gs : List Glyph) (i : ℕ) (d : Glyph) (v new whole : List Keyed) (r : ℕ) → i < length gs → new ≡ v ++ record { key = r; index = i } ∷ [] → r ≡ k (get_or gs i d)
+pub keyed_step : (k : Glyph → ℕ) (gs : List Glyph) (i : ℕ) (d : Glyph) (v new whole : List KeyedIndex) (r : ℕ) → i < length gs → new ≡ v ++ record { key = r; index = i } ∷ [] → r ≡ k (get_or gs i d)
     → v ++ keyed_indices_from k i (drop i gs) ≡ whole → new ++ keyed_indices_from k (i + 1) (drop (i + 1) gs) ≡ whole
 keyed_step k gs i d v new whole r lt n e before =
     let cut : keyed_indices_from k i (drop i gs) ≡ record { key = k (get_or gs i d); index = i } ∷ keyed_indices_from k (i + 1) (drop (i + 1) gs) = ap (keyed_indices_from k i) (drop_more gs i d lt) in
     ap (λ es. es ++ keyed_indices_from k (i + 1) (drop (i + 1) gs)) n ∙ append_assoc v (record { key = r; index = i } ∷ []) (keyed_indices_from k (i + 1) (drop (i + 1) gs))
     ∙ ap (λ (m : ℕ). v ++ record { key = m; index = i } ∷ keyed_indices_from k (i + 1) (drop (i + 1) gs)) e ∙ ap (λ es. v ++ es) (sym cut) ∙ before
 
-all_more : (i : ℕ) (xs ys : List Keyed) → list_all (λ (e : Keyed). nat_lt e.index i) (xs ++ ys) ≡ (list_all (λ (e : Keyed). nat_lt e.index i) xs && list_all (λ (e : Keyed). nat_lt e.index i) ys)
+all_more : (i : ℕ) (xs ys : List KeyedIndex) → list_all (λ (e : KeyedIndex). nat_lt e.index i) (xs ++ ys) ≡ (list_all (λ (e : KeyedIndex). nat_lt e.index i) xs && list_all (λ (e : KeyedIndex). nat_lt e.index i) ys)
 all_more i [] ys = refl
-all_more i (x ∷ xs) ys = ap (λ t. nat_lt x.index i && t) (all_more i xs ys) ∙ sym (and_assoc (nat_lt x.index i) (list_all (λ (e : Keyed). nat_lt e.index i) xs) (list_all (λ (e : Keyed). nat_lt e.index i) ys))
+all_more i (x ∷ xs) ys = ap (λ t. nat_lt x.index i && t) (all_more i xs ys) ∙ sym (and_assoc (nat_lt x.index i) (list_all (λ (e : KeyedIndex). nat_lt e.index i) xs) (list_all (λ (e : KeyedIndex). nat_lt e.index i) ys))
   where
     and_assoc : (s t u : Bool) → ((s && t) && u) ≡ (s && (t && u))
     and_assoc true t u = refl
@@ -46,15 +46,15 @@ pub max_is : (m n : ℕ) → ord_max nat_cmp m n ≡ max m n
 max_is m n = grind (arith, nat_tests, common_steps)
 
 -- one place more came
-pub reach_more : (order : List Keyed) (index reach : ℕ) (d : Keyed) → index < length order → ((i : ℕ) → 0 < i → list_all (λ (e : Keyed). nat_lt e.index i) (take index order) ≡ nat_lt reach i)
-    → (i : ℕ) → 0 < i → list_all (λ (e : Keyed). nat_lt e.index i) (take (index + 1) order) ≡ nat_lt (max reach (get_or order index d).index) i
+pub reach_more : (order : List KeyedIndex) (index reach : ℕ) (d : KeyedIndex) → index < length order → ((i : ℕ) → 0 < i → list_all (λ (e : KeyedIndex). nat_lt e.index i) (take index order) ≡ nat_lt reach i)
+    → (i : ℕ) → 0 < i → list_all (λ (e : KeyedIndex). nat_lt e.index i) (take (index + 1) order) ≡ nat_lt (max reach (get_or order index d).index) i
 reach_more order index reach d lt before i some =
-    ap (list_all (λ (e : Keyed). nat_lt e.index i)) (take_more order index d lt) ∙ all_more i (take index order) (get_or order index d ∷ [])
+    ap (list_all (λ (e : KeyedIndex). nat_lt e.index i)) (take_more order index d lt) ∙ all_more i (take index order) (get_or order index d ∷ [])
     ∙ ap (λ t. t && (nat_lt (get_or order index d).index i && true)) (before i some) ∙ ap (λ t. nat_lt reach i && t) (and_true (nat_lt (get_or order index d).index i)) ∙ max_less reach (get_or order index d).index i
 
 -- no seam is after an index
-pub spans_go_on : (level : Level) (start : ℕ) (order : List Keyed) (begin index reach : ℕ) (s whole : SpanMerge) → index < length order → index < reach
-    → ((i : ℕ) → 0 < i → list_all (λ (e : Keyed). nat_lt e.index i) (take (index + 1) order) ≡ nat_lt reach i)
+pub spans_go_on : (level : Level) (start : ℕ) (order : List KeyedIndex) (begin index reach : ℕ) (s whole : SpanMerge) → index < length order → index < reach
+    → ((i : ℕ) → 0 < i → list_all (λ (e : KeyedIndex). nat_lt e.index i) (take (index + 1) order) ≡ nat_lt reach i)
     → spans_merged level start order begin index (length order - index) s ≡ whole → spans_merged level start order begin (index + 1) (length order - (index + 1)) s ≡ whole
 spans_go_on level start order begin index reach s whole lt far seen before =
     let less : length order - index ≡ suc (length order - (index + 1)) = omega arith in
@@ -64,8 +64,8 @@ spans_go_on level start order begin index reach s whole lt far seen before =
     sym (ap (λ t. if t then spans_merged level start order (index + 1) (index + 1) (length order - (index + 1)) (span_merged level (start + begin) (start + (index + 1)) s) else spans_merged level start order begin (index + 1) (length order - (index + 1)) s) seam) ∙ opened
 
 -- a seam is after it
-pub spans_end : (level : Level) (start : ℕ) (order : List Keyed) (begin index reach : ℕ) (s new whole : SpanMerge) → index < length order → reach ≤ index
-    → ((i : ℕ) → 0 < i → list_all (λ (e : Keyed). nat_lt e.index i) (take (index + 1) order) ≡ nat_lt reach i)
+pub spans_end : (level : Level) (start : ℕ) (order : List KeyedIndex) (begin index reach : ℕ) (s new whole : SpanMerge) → index < length order → reach ≤ index
+    → ((i : ℕ) → 0 < i → list_all (λ (e : KeyedIndex). nat_lt e.index i) (take (index + 1) order) ≡ nat_lt reach i)
     → new ≡ span_merged level (start + begin) (start + (index + 1)) s
     → spans_merged level start order begin index (length order - index) s ≡ whole → spans_merged level start order (index + 1) (index + 1) (length order - (index + 1)) new ≡ whole
 spans_end level start order begin index reach s new whole lt near seen n before =
@@ -87,13 +87,13 @@ put_step f order old range i d z g lt long before e =
     ∙ ap (λ (h : Glyph). map f (take i order) ++ h ∷ drop (i + 1) old) e ∙ sym (append_assoc (map f (take i order)) (f (get_or order i d) ∷ []) (drop (i + 1) old)) ∙ ap (λ hs. hs ++ drop (i + 1) old) (sym more)
 
 -- what a place past those that were put has
-still_there : (f : Keyed → Glyph) (order : List Keyed) (old range : List Glyph) (i : ℕ) (d : Glyph) → i < length order → length order ≡ length old → range ≡ map f (take i order) ++ drop i old → get_or range i d ≡ get_or old i d
+still_there : (f : KeyedIndex → Glyph) (order : List KeyedIndex) (old range : List Glyph) (i : ℕ) (d : Glyph) → i < length order → length order ≡ length old → range ≡ map f (take i order) ++ drop i old → get_or range i d ≡ get_or old i d
 still_there f order old range i d lt long before =
     let at : length (map f (take i order)) ≡ i = length-map (take i order) f ∙ length-take-le i order (omega arith) in
     ap (λ hs. get_or hs i d) (before ∙ ap (λ hs. map f (take i order) ++ hs) (drop_more old i d (omega arith))) ∙ get_or_at (map f (take i order)) (get_or old i d) (drop (i + 1) old) d i at
 
 -- the clusters are as they were just where they were so before, and the next place takes a glyph of the cluster that it has
-pub same_step : (f : Keyed → Glyph) (order : List Keyed) (old range : List Glyph) (i : ℕ) (z d : Glyph) (s : Bool) → i < length order → length order ≡ length old → range ≡ map f (take i order) ++ drop i old
+pub same_step : (f : KeyedIndex → Glyph) (order : List KeyedIndex) (old range : List Glyph) (i : ℕ) (z d : Glyph) (s : Bool) → i < length order → length order ≡ length old → range ≡ map f (take i order) ++ drop i old
     → IsTrue s ↔ (clusters range ≡ clusters old) → IsTrue (s && ((get_or range i d).cluster == z.cluster)) ↔ (clusters (set range i z) ≡ clusters old)
 same_step f order old range i z d s lt long before same = (there, back)
   where
@@ -112,29 +112,29 @@ same_step f order old range i z d s lt long before same = (there, back)
         grind (arith, nat_tests, common_steps, known, alike)
 
 -- a range was put in order once its spans were merged
-put_range : (start end : ℕ) (order : List Keyed) (mid range : List Glyph) → start ≤ end → range ≡ map (λ (e : Keyed). glyph_at (slice_range mid start end) e.index) order → put_mid start (end - start) mid range ≡ put_in_order start end order mid
+put_range : (start end : ℕ) (order : List KeyedIndex) (mid range : List Glyph) → start ≤ end → range ≡ map (λ (e : KeyedIndex). glyph_at (slice_range mid start end) e.index) order → put_mid start (end - start) mid range ≡ put_in_order start end order mid
 put_range start end order mid range le e =
     let there : start + (end - start) ≡ end = omega arith in
     let behind : drop (end - start) (drop start mid) ≡ drop end mid = drop-drop (end - start) start mid ∙ ap (λ n. drop n mid) there in
-    rw (e, behind) (sym (append_assoc (take start mid) (map (λ (e : Keyed). glyph_at (slice_range mid start end) e.index) order) (drop end mid)))
+    rw (e, behind) (sym (append_assoc (take start mid) (map (λ (e : KeyedIndex). glyph_at (slice_range mid start end) e.index) order) (drop end mid)))
 
-order_is : (k : Glyph → ℕ) (gs : List Glyph) (keyed order : List Keyed) → keyed ≡ keyed_indices_from k 0 gs → order ≡ key_order (λ (e : Keyed). e.key) keyed → order ≡ indices_by_key k gs
-order_is k gs keyed order e o = o ∙ ap (key_order (λ (e : Keyed). e.key)) e
+order_is : (k : Glyph → ℕ) (gs : List Glyph) (keyed order : List KeyedIndex) → keyed ≡ keyed_indices_from k 0 gs → order ≡ key_order (λ (e : KeyedIndex). e.key) keyed → order ≡ indices_by_key k gs
+order_is k gs keyed order e o = o ∙ ap (key_order (λ (e : KeyedIndex). e.key)) e
 
 -- the glyphs that were put in order
-pub merged_is : (level : Level) (start end : ℕ) (k : Glyph → ℕ) (gs mid : List Glyph) (keyed order : List Keyed) (marked : Bool) → keyed ≡ keyed_indices_from k 0 (slice_range gs start end) → order ≡ key_order (λ (e : Keyed). e.key) keyed
+pub merged_is : (level : Level) (start end : ℕ) (k : Glyph → ℕ) (gs mid : List Glyph) (keyed order : List KeyedIndex) (marked : Bool) → keyed ≡ keyed_indices_from k 0 (slice_range gs start end) → order ≡ key_order (λ (e : KeyedIndex). e.key) keyed
     → record { glyphs = mid; is_marked = marked } ≡ range_spanned level start order gs → mid ≡ range_merged level start end k gs
 merged_is level start end k gs mid keyed order marked e o spanned =
     ap (λ (s : SpanMerge). s.glyphs) spanned ∙ ap (λ es. (range_spanned level start es gs).glyphs) (order_is k (slice_range gs start end) keyed order e o)
 
-pub sorted_is : (level : Level) (start end : ℕ) (k : Glyph → ℕ) (gs mid range copy : List Glyph) (keyed order : List Keyed) (marked : Bool) → start ≤ end → keyed ≡ keyed_indices_from k 0 (slice_range gs start end) → order ≡ key_order (λ (e : Keyed). e.key) keyed
-    → record { glyphs = mid; is_marked = marked } ≡ range_spanned level start order gs → copy ≡ slice_range mid start end → range ≡ map (λ (e : Keyed). glyph_at copy e.index) order
+pub sorted_is : (level : Level) (start end : ℕ) (k : Glyph → ℕ) (gs mid range copy : List Glyph) (keyed order : List KeyedIndex) (marked : Bool) → start ≤ end → keyed ≡ keyed_indices_from k 0 (slice_range gs start end) → order ≡ key_order (λ (e : KeyedIndex). e.key) keyed
+    → record { glyphs = mid; is_marked = marked } ≡ range_spanned level start order gs → copy ≡ slice_range mid start end → range ≡ map (λ (e : KeyedIndex). glyph_at copy e.index) order
     → put_mid start (end - start) mid range ≡ (range_sorted level start end k gs).glyphs
 sorted_is level start end k gs mid range copy keyed order marked le e o spanned c r =
     let is = order_is k (slice_range gs start end) keyed order e o in
-    put_range start end order mid range le (r ∙ ap (λ hs. map (λ (e : Keyed). glyph_at hs e.index) order) c) ∙ ap (λ es. put_in_order start end es mid) is ∙ ap (put_in_order start end (indices_by_key k (slice_range gs start end))) (merged_is level start end k gs mid keyed order marked e o spanned)
+    put_range start end order mid range le (r ∙ ap (λ hs. map (λ (e : KeyedIndex). glyph_at hs e.index) order) c) ∙ ap (λ es. put_in_order start end es mid) is ∙ ap (put_in_order start end (indices_by_key k (slice_range gs start end))) (merged_is level start end k gs mid keyed order marked e o spanned)
 
-pub sort_marks : (level : Level) (start end : ℕ) (k : Glyph → ℕ) (gs mid : List Glyph) (keyed order : List Keyed) (marked : Bool) → keyed ≡ keyed_indices_from k 0 (slice_range gs start end) → order ≡ key_order (λ (e : Keyed). e.key) keyed
+pub sort_marks : (level : Level) (start end : ℕ) (k : Glyph → ℕ) (gs mid : List Glyph) (keyed order : List KeyedIndex) (marked : Bool) → keyed ≡ keyed_indices_from k 0 (slice_range gs start end) → order ≡ key_order (λ (e : KeyedIndex). e.key) keyed
     → record { glyphs = mid; is_marked = marked } ≡ range_spanned level start order gs → marked ≡ (range_sorted level start end k gs).is_marked
 sort_marks level start end k gs mid keyed order marked e o spanned =
     ap (λ (s : SpanMerge). s.is_marked) spanned ∙ ap (λ es. (range_spanned level start es gs).is_marked) (order_is k (slice_range gs start end) keyed order e o)

@@ -46,7 +46,7 @@ walk_step level p w (g ∷ back) = if p g then without_glyph level w g back else
 abbrev pub first_step : BufferClusterLevel → (hb_glyph_info_t → Bool) → DeletionState → DeletionState
 first_step level p w = walk_step level p w w.rest_glyphs
 
--- the walk over so many glyphs, one after another
+-- the walk over n glyphs, one after another
 abbrev pub many_steps : BufferClusterLevel → (hb_glyph_info_t → Bool) → ℕ → DeletionState → DeletionState
 many_steps level p zero w = w
 many_steps level p (suc n) w = many_steps level p n (first_step level p w)

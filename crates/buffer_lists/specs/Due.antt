@@ -26,7 +26,7 @@ MayPostpone level (Falling d) = IsMonotone level
 abbrev pub MayBeDue : BufferClusterLevel → ℕ → Due → List hb_glyph_info_t → Type 0
 MayBeDue level at due gs = MayPostpone level due × IsDue at due gs
 
--- the postponed renumbering is within so many glyphs
+-- the postponed renumbering is within the first n glyphs
 abbrev pub IsWithin : ℕ → Due → Type 0
 IsWithin n Nothing = Unit {0}
 IsWithin n (Falling d) = (d.from ≤ d.to) × (d.to ≤ n)

@@ -10,11 +10,11 @@ use Rattle.buffer_lists.specs.Facts.{group_lengths}
 abbrev pub order_of : List ℕ → List ℕ
 order_of keys = key_order (λ i. slice_index_or keys i 0) (range_with_len 0 (length keys))
 
--- so many indices, the last first
+-- the first n indices, the last first
 abbrev pub indices_reversed : ℕ → List ℕ
 indices_reversed n = reverse (range_with_len 0 n)
 
--- the event that reverses so many glyphs from an index on; where that is requested they are merged first
+-- the event that reverses n glyphs from an index on; where that is requested they are merged first
 abbrev pub group_event : Bool → ℕ → ℕ → Event
 group_event true at n = Move InList at (indices_reversed n)
 group_event false at n = Arrange at (indices_reversed n)

@@ -8,24 +8,24 @@ use Rattle.buffer_glyphs.specs.declared.level.BufferClusterLevel.{BufferClusterL
 use Rattle.buffer_glyphs.specs.Items.{clusters}
 use Rattle.buffer_glyphs.specs.Glyphs.{glyphs_merged_at, is_marked_at}
 use Rattle.buffer_stable_order.specs.Keys.{key_order}
-use Rattle.buffer_lists.specs.declared.sorting.Keyed.{Keyed}
+use Rattle.buffer_lists.specs.declared.sorting.KeyedIndex.{KeyedIndex}
 
 -- each key of a glyph is that of k
 abbrev pub Gives : {F : Type 0} → Shared F (Bor hb_glyph_info_t × Unit {0}) ℕ → F → (hb_glyph_info_t → ℕ) → Type 0
 Gives calls f k = (g : hb_glyph_info_t) (n : ℕ) → FnReturnsAt calls f g n → n ≡ k g
 
 -- the key and the index of each glyph; indices count from i
-abbrev pub keyed_indices_from : (hb_glyph_info_t → ℕ) → ℕ → List hb_glyph_info_t → List Keyed
+abbrev pub keyed_indices_from : (hb_glyph_info_t → ℕ) → ℕ → List hb_glyph_info_t → List KeyedIndex
 keyed_indices_from k i [] = []
 keyed_indices_from k i (g ∷ gs) = record { key = k g; index = i } ∷ keyed_indices_from k (i + 1) gs
 
 -- the indices of glyphs in stable order by key
-abbrev pub indices_by_key : (hb_glyph_info_t → ℕ) → List hb_glyph_info_t → List Keyed
-indices_by_key k gs = key_order (λ (e : Keyed). e.key) (keyed_indices_from k 0 gs)
+abbrev pub indices_by_key : (hb_glyph_info_t → ℕ) → List hb_glyph_info_t → List KeyedIndex
+indices_by_key k gs = key_order (λ (e : KeyedIndex). e.key) (keyed_indices_from k 0 gs)
 
 -- an index is a seam where the glyphs before it are those that were before it
-abbrev pub is_seam : List Keyed → ℕ → Bool
-is_seam order i = list_all (λ (e : Keyed). nat_lt e.index i) (take i order)
+abbrev pub is_seam : List KeyedIndex → ℕ → Bool
+is_seam order i = list_all (λ (e : KeyedIndex). nat_lt e.index i) (take i order)
 
 -- the merge of a span: the glyphs after it, and whether it flagged one
 pub record SpanMerge : Type 0 where
@@ -36,8 +36,8 @@ pub record SpanMerge : Type 0 where
 abbrev pub span_merged : BufferClusterLevel → ℕ → ℕ → SpanMerge → SpanMerge
 span_merged level from to s = if nat_lt (from + 1) to then record { glyphs = glyphs_merged_at level from to s.glyphs; is_marked = s.is_marked || is_marked_at level from to (clusters s.glyphs) } else s
 
--- of so many indices that are left, each seam ends the span that was begun; indices count from `start`
-abbrev pub spans_merged : BufferClusterLevel → ℕ → List Keyed → ℕ → ℕ → ℕ → SpanMerge → SpanMerge
+-- of n indices that are left, each seam ends the span that was begun; indices count from `start`
+abbrev pub spans_merged : BufferClusterLevel → ℕ → List KeyedIndex → ℕ → ℕ → ℕ → SpanMerge → SpanMerge
 spans_merged level start order begin index zero s = s
 spans_merged level start order begin index (suc left) s =
     if is_seam order (index + 1)
@@ -45,7 +45,7 @@ spans_merged level start order begin index (suc left) s =
     else spans_merged level start order begin (index + 1) left s
 
 -- each span of the range merged
-abbrev pub range_spanned : BufferClusterLevel → ℕ → List Keyed → List hb_glyph_info_t → SpanMerge
+abbrev pub range_spanned : BufferClusterLevel → ℕ → List KeyedIndex → List hb_glyph_info_t → SpanMerge
 range_spanned level start order gs = spans_merged level start order 0 0 (length order) (record { glyphs = gs; is_marked = false })
 
 -- a range with each span of its stable order by a key merged, before it is permuted
@@ -57,8 +57,8 @@ abbrev pub glyph_at : List hb_glyph_info_t → ℕ → hb_glyph_info_t
 glyph_at gs i = slice_index_or gs i (record { glyph_id = 0; mask = 0; cluster = 0; glyph_index = 0; unicode_props = record { 0 = 0 }; modified_combining_class = 0; glyph_props = record { 0 = 0 }; lig_props = 0; syllable = 0; category = 0; auxiliary = 0 })
 
 -- the glyphs of a range in an order of its indices
-abbrev pub put_in_order : ℕ → ℕ → List Keyed → List hb_glyph_info_t → List hb_glyph_info_t
-put_in_order start end order gs = take start gs ++ map (λ (e : Keyed). glyph_at (slice_range gs start end) e.index) order ++ drop end gs
+abbrev pub put_in_order : ℕ → ℕ → List KeyedIndex → List hb_glyph_info_t → List hb_glyph_info_t
+put_in_order start end order gs = take start gs ++ map (λ (e : KeyedIndex). glyph_at (slice_range gs start end) e.index) order ++ drop end gs
 
 -- a range sorted stably by its keys, with each span merged
 abbrev pub range_sorted : BufferClusterLevel → ℕ → ℕ → (hb_glyph_info_t → ℕ) → List hb_glyph_info_t → SpanMerge

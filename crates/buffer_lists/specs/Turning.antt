@@ -51,7 +51,7 @@ abbrev pub beside_if : Bool → BufferClusterLevel → List ℕ → List hb_glyp
 beside_if true level range gs = beside_merged level range gs
 beside_if false level range gs = gs
 
--- the first so many of the other glyphs, merged where that is requested, moved before the groups that were found
+-- the first n of the other glyphs, merged where that is requested, moved before the groups that were found
 abbrev pub first_turned : Bool → BufferClusterLevel → ℕ → Turning → Turning
 first_turned merge level n t = record {
   glyphs = take n (glyphs_merged_if merge level 0 n t.rest_glyphs) ++ beside_if merge level (range_of 0 n (clusters t.rest_glyphs)) t.glyphs;
@@ -65,7 +65,7 @@ first_turned merge level n t = record {
 abbrev pub group_turned : Bool → BufferClusterLevel → (hb_glyph_info_t → hb_glyph_info_t → Bool) → Turning → Turning
 group_turned merge level p t = first_turned merge level (group_length p t.rest_glyphs) t
 
--- so many groups moved so, one after another
+-- n groups moved so, one after another
 abbrev pub all_turned : Bool → BufferClusterLevel → (hb_glyph_info_t → hb_glyph_info_t → Bool) → ℕ → Turning → Turning
 all_turned merge level p zero t = t
 all_turned merge level p (suc n) t = all_turned merge level p n (group_turned merge level p t)

@@ -7,7 +7,8 @@ ghost use Rattle.buffer_lists.specs.Known.{HasOrder, IsFallingTo, IsRisingTo, is
 use buffer_glyphs::info::hb_glyph_info_t;
 use buffer_glyphs::level::BufferClusterLevel;
 
-/// What is known of the order of the clusters of all glyphs.
+/// What is known of the order of the clusters of all glyphs. It only saves time: a merge that knows nothing walks the
+/// lists.
 #[derive(Clone, Copy)]
 pub enum KnownOrder {
     Unknown,
@@ -123,7 +124,7 @@ impl KnownOrder {
         }
     }
 
-    /// Whether a glyph of the cluster may be after the others.
+    /// Whether the order still holds with a glyph of the cluster after the others.
     #[tactic(auto, using(crate::proofs::Known::known_last_alone))]
     fn holds_after(self, glyphs: &[hb_glyph_info_t], cluster: u32) -> bool
         ensures { result ≡ true → HasOrder self (clusters glyphs.now) →
@@ -136,7 +137,7 @@ impl KnownOrder {
         }
     }
 
-    /// Whether a glyph of the cluster may be before the others.
+    /// Whether the order still holds with a glyph of the cluster before the others.
     #[tactic(auto, using(crate::proofs::Known::known_first_alone))]
     fn holds_before(self, cluster: u32, glyphs: &[hb_glyph_info_t]) -> bool
         ensures { result ≡ true → HasOrder self (clusters glyphs.now) → HasOrder self (cluster ∷ clusters glyphs.now) }

@@ -68,7 +68,7 @@ pub fn join(glyphs: &mut Vec<hb_glyph_info_t>, front: usize, from: usize)
     }
 }
 
-/// Opens a gap of so many elements between the output and the input, whose glyphs move on.
+/// Opens a gap of `count` elements between the output and the input, whose glyphs move on.
 pub fn open_gap(
     glyphs: &mut Vec<hb_glyph_info_t>,
     front: usize,

@@ -112,7 +112,7 @@ pub struct Sorted {
 
 /// A glyph's key, and its index in a range.
 #[derive(Clone, Copy)]
-struct Keyed {
+struct KeyedIndex {
     key: u32,
     index: usize,
 }
@@ -122,7 +122,7 @@ fn keys_with_indices<F: Fn(&hb_glyph_info_t) -> u32>(
     alloc: Global,
     glyphs: &[hb_glyph_info_t],
     key: &F,
-) -> Result<Vec<Keyed>, AllocError>
+) -> Result<Vec<KeyedIndex>, AllocError>
     requires { F.IsAlwaysCallable key.now }
     ensures keys { (k : Glyph → ℕ) → Gives F.Fn key.now k → IfOk result (λ v. v.items ≡ keyed_indices_from k 0 glyphs.now) }
     ensures within { IfOk result (λ v. All (λ e. e.index < length glyphs.now) v.items) }
@@ -130,7 +130,7 @@ fn keys_with_indices<F: Fn(&hb_glyph_info_t) -> u32>(
 {
     let mut indices = Vec::new(alloc);
     for (index, glyph) in glyphs.iter().enumerate() {
-        let keyed = Keyed {
+        let keyed = KeyedIndex {
             key: key(glyph),
             index,
         };
@@ -140,7 +140,7 @@ fn keys_with_indices<F: Fn(&hb_glyph_info_t) -> u32>(
 }
 
 /// Sorts indices by their keys; those of one key keep their order.
-fn sort_indices(indices: &mut Vec<Keyed>) -> Result<(), AllocError>
+fn sort_indices(indices: &mut Vec<KeyedIndex>) -> Result<(), AllocError>
     ensures sorted { OnOk result (indices.new.items ≡ key_order (λ e. e.key) indices.old.items) }
     ensures len { OnOk result (vec_len indices.new ≡ vec_len indices.old) }
 {
@@ -178,7 +178,7 @@ fn merge_spans(
     level: BufferClusterLevel,
     in_order: bool,
     start: usize,
-    order: &[Keyed],
+    order: &[KeyedIndex],
 ) -> bool
     requires within { start + length order.now ≤ length glyphs.old }
     requires known { in_order ≡ true → IsOrdered (clusters glyphs.old) }
@@ -204,7 +204,11 @@ fn merge_spans(
 
 /// Permutes a range: each index takes the glyph from the index that the order gives; answers whether each index has the
 /// cluster that it had.
-fn put_in_order(range: &mut [hb_glyph_info_t], copy: &[hb_glyph_info_t], order: &[Keyed]) -> bool
+fn put_in_order(
+    range: &mut [hb_glyph_info_t],
+    copy: &[hb_glyph_info_t],
+    order: &[KeyedIndex],
+) -> bool
     requires long { length order.now ≡ length range.old }
     requires within { All (λ e. e.index < length copy.now) order.now }
     ensures put { range.new ≡ map (λ e. glyph_at copy.now e.index) order.now }

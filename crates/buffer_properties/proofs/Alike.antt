@@ -16,7 +16,7 @@ use Rattle.buffer_properties.specs.Normalizer.{Normalizer, is_composing}
 use Rattle.buffer_properties.specs.NormalLaws.{EquivalentsNormalizeAlike}
 use Rattle.buffer_properties.specs.Premises.{SplitsAsUnicode, ExpandsGreatest, IsRegular, HasNoSelector}
 use Rattle.buffer_properties.specs.SupportedExpansion.{Greatest}
-use Rattle.buffer_properties.proofs.Classes.{mark_of_character, class_of_part, order_map, short_map}
+use Rattle.buffer_properties.proofs.Classes.{mark_of_character, class_of_piece, order_map, short_map}
 use Rattle.buffer_properties.proofs.Expanded.{items_in_turn, groups_items, text_in_full}
 use Rattle.buffer_properties.proofs.Runs.{ordered_alike}
 
@@ -55,7 +55,7 @@ normalized_in_full c x us ends same greatest regular =
 
 pub equivalents_normalize_alike : EquivalentsNormalizeAlike
 equivalents_normalize_alike c x us vs ends lawful same greatest equivalent first second =
-    let class = λ (u : ℕ). class_of_part c x u lawful.classes_are_of_marks in
+    let class = λ (u : ℕ). class_of_piece c x u lawful.classes_are_of_marks in
     let order = order_map (piece_of c x) mark_class (class_of c.tables) (full_text c.tables us) (full_text c.tables vs) class (equivalents_have_one_order c.tables ends lawful us vs equivalent) in
     let short_first = short_map (piece_of c x) mark_class (class_of c.tables) 0 (full_text c.tables us) class first.has_short_runs in
     let short_second = short_map (piece_of c x) mark_class (class_of c.tables) 0 (full_text c.tables vs) class second.has_short_runs in

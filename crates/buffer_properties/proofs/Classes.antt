@@ -74,9 +74,9 @@ unfolding character_class
 class_of_character t u x marks =
     ap (λ b. if b then character_class t u else 0) (mark_of_character t u x) ∙ tested_twice (is_mark_character u) (class_of t u) (marks u)
 
-pub class_of_part : (c : Normalizer) (x : Item) (u : ℕ) → ClassesAreOfMarks c.tables → mark_class (piece_of c x u) ≡ class_of c.tables u
+pub class_of_piece : (c : Normalizer) (x : Item) (u : ℕ) → ClassesAreOfMarks c.tables → mark_class (piece_of c x u) ≡ class_of c.tables u
 unfolding piece_of
-class_of_part c x u marks = class_of_character c.tables u x marks
+class_of_piece c x u marks = class_of_character c.tables u x marks
 
 beside_map : {X Y : Type 0} (f : X → Y) (class : Y → ℕ) (own : X → ℕ) (k : ℕ) (xs : List X) → ((x : X) → class (f x) ≡ own x) → beside_starters class k (map f xs) ≡ map f (beside_starters own k xs)
 beside_map f class own k [] h = refl

@@ -36,8 +36,8 @@ unfolding composite
 composite_is c starter between x composed e =
     elim (cases_Bool (is_mark x && is_not_blocked between x)) [
       | inl reached ↦
-          let parts = and_parts (is_mark x) (is_not_blocked between x) reached in
-          record { reaches = parts.1; pair = composed_pair c starter composed (c.composes starter.number x.number) (sym (cond-true _ _ _ reached) ∙ e) }
+          let pieces = and_parts (is_mark x) (is_not_blocked between x) reached in
+          record { reaches = pieces.1; pair = composed_pair c starter composed (c.composes starter.number x.number) (sym (cond-true _ _ _ reached) ∙ e) }
       | inr blocked ↦ absurd (let none : None ≡ Some composed = sym (cond-false _ _ _ blocked) ∙ e in cc)
     ]
 

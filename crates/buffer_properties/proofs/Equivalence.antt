@@ -189,14 +189,14 @@ followed_alike t b xs ys h =
       | inr some ↦ rw some (around t [] xs ys (b ∷ []) h)
     ]
 
-parts_equivalent : (t : Tables) (expand : ℕ → List ℕ) (u : ℕ) (o : Option (ℕ × ℕ)) → split_of t u ≡ o → ((a : ℕ) → AreEquivalent t (a ∷ []) (expand a)) → AreEquivalent t (u ∷ []) (by_halves expand u o)
-parts_equivalent t expand u None s h = same
-parts_equivalent t expand u (Some (a, b)) s h = then_all t _ _ _ (split_is_equivalent t u a b s) (followed_alike t b (a ∷ []) (expand a) (h a))
+pieces_equivalent : (t : Tables) (expand : ℕ → List ℕ) (u : ℕ) (o : Option (ℕ × ℕ)) → split_of t u ≡ o → ((a : ℕ) → AreEquivalent t (a ∷ []) (expand a)) → AreEquivalent t (u ∷ []) (by_halves expand u o)
+pieces_equivalent t expand u None s h = same
+pieces_equivalent t expand u (Some (a, b)) s h = then_all t _ _ _ (split_is_equivalent t u a b s) (followed_alike t b (a ∷ []) (expand a) (h a))
 
 expansion_equivalent : (t : Tables) (depth u : ℕ) → AreEquivalent t (u ∷ []) (expansion_by_splits (split_of t) depth u)
 unfolding expansion_by_splits
 expansion_equivalent t zero u = same
-expansion_equivalent t (suc depth) u = parts_equivalent t (expansion_by_splits (split_of t) depth) u (split_of t u) refl (λ a. expansion_equivalent t depth a)
+expansion_equivalent t (suc depth) u = pieces_equivalent t (expansion_by_splits (split_of t) depth) u (split_of t u) refl (λ a. expansion_equivalent t depth a)
 
 -- a text is equivalent to its full expansion
 pub expansion_is_equivalent : (t : Tables) (us : List ℕ) → AreEquivalent t us (full_text t us)

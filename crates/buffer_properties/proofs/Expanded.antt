@@ -16,7 +16,7 @@ use Rattle.buffer_properties.specs.Expanding.{with_found_glyph, items_for, piece
 use Rattle.buffer_properties.specs.Normalizer.{Normalizer, has_character, reach_alone, reach_with_marks}
 use Rattle.buffer_properties.specs.Premises.{SplitsAsUnicode}
 use Rattle.buffer_properties.specs.SupportedExpansion.{Reach, Greatest}
-use Rattle.buffer_properties.proofs.Supported.{greatest_parts, no_parts, parts_agree}
+use Rattle.buffer_properties.proofs.Supported.{greatest_pieces, no_pieces, pieces_agree}
 
 pub items_in_turn : (stretches : List Arrangement) → (in_turn stretches).items ≡ flat_map items stretches
 items_in_turn [] = refl
@@ -49,10 +49,10 @@ groups_items c r x marks (y ∷ ys) alone marked none =
           ∙ (groups_items c r x (marks ++ y ∷ []) ys alone marked (ap (λ zs. list_any is_selector (x ∷ zs)) joined ∙ none)
           ∙ ap (λ zs. flat_map (expanded_item c r) (x ∷ zs)) joined)
       | inr other ↦
-          let parts = or_parts (list_any is_selector (x ∷ marks)) (list_any is_selector (y ∷ ys)) (sym (list_any-append is_selector (x ∷ marks) (y ∷ ys)) ∙ none) in
+          let pieces = or_parts (list_any is_selector (x ∷ marks)) (list_any is_selector (y ∷ ys)) (sym (list_any-append is_selector (x ∷ marks) (y ∷ ys)) ∙ none) in
           ap (flat_map items) (cond-false _ _ _ other)
           ∙ (flat_map-append items (expanded_group c x marks) (expanded_groups c y [] ys)
-          ∙ (ap₂ (λ a b. a ++ b) (group_items c r x marks alone marked parts.0) (groups_items c r y [] ys alone marked parts.1)
+          ∙ (ap₂ (λ a b. a ++ b) (group_items c r x marks alone marked pieces.0) (groups_items c r y [] ys alone marked pieces.1)
           ∙ sym (flat_map-append (expanded_item c r) (x ∷ marks) (y ∷ ys))))
     ]
 
@@ -67,17 +67,17 @@ unfolding expanded_item piece_of
 item_in_full c x u ends same h None s =
     let alone = expansion_alone c.tables u s in
     let has = and_parts (has_character c u) true (ap (list_all (has_character c)) (sym alone) ∙ h) in
-    ap (items_for c (standing_for c.tables u x)) (parts_agree Greatest (has_character c) c.splits (split_of c.tables) u same ∙ no_parts Greatest (has_character c) (split_of c.tables) u s)
+    ap (items_for c (standing_for c.tables u x)) (pieces_agree Greatest (has_character c) c.splits (split_of c.tables) u same ∙ no_pieces Greatest (has_character c) (split_of c.tables) u s)
     ∙ (ap (λ y. y ∷ []) (own_found c (standing_for c.tables u x) (c.glyph_of u) has.0)
     ∙ ap (map (piece_of c x)) (sym alone))
 item_in_full c x u ends same h (Some (a, b)) s =
-    ap (items_for c (standing_for c.tables u x)) (parts_agree Greatest (has_character c) c.splits (split_of c.tables) u same ∙ greatest_parts (has_character c) c.tables u a b ends s h)
+    ap (items_for c (standing_for c.tables u x)) (pieces_agree Greatest (has_character c) c.splits (split_of c.tables) u same ∙ greatest_pieces (has_character c) c.tables u a b ends s h)
 
 -- a text that the font has in full
 pub text_in_full : (c : Normalizer) (x : Item) (us : List ℕ) → EndWithin (split_of c.tables) 8 → SplitsAsUnicode c → list_all (has_character c) (full_text c.tables us) ≡ true
     → flat_map (expanded_item c Greatest) (items_of_text c.tables x us) ≡ map (piece_of c x) (full_text c.tables us)
 text_in_full c x [] ends same h = refl
 text_in_full c x (u ∷ us) ends same h =
-    let parts = and_parts (list_all (has_character c) (full_expansion c.tables u)) (list_all (has_character c) (full_text c.tables us)) (sym (list_all-append (has_character c) (full_expansion c.tables u) (full_text c.tables us)) ∙ h) in
-    ap₂ (λ a b. a ++ b) (item_in_full c x u ends same parts.0 (split_of c.tables u) refl) (text_in_full c x us ends same parts.1)
+    let pieces = and_parts (list_all (has_character c) (full_expansion c.tables u)) (list_all (has_character c) (full_text c.tables us)) (sym (list_all-append (has_character c) (full_expansion c.tables u) (full_text c.tables us)) ∙ h) in
+    ap₂ (λ a b. a ++ b) (item_in_full c x u ends same pieces.0 (split_of c.tables u) refl) (text_in_full c x us ends same pieces.1)
     ∙ sym (map-append (piece_of c x) (full_expansion c.tables u) (full_text c.tables us))

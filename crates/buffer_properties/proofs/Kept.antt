@@ -16,7 +16,7 @@ use Rattle.buffer_properties.specs.Expanding.{is_typed_space, space_glyph, with_
 use Rattle.buffer_properties.specs.Normalizer.{Normalizer, has_character, reach_alone, reach_with_marks}
 use Rattle.buffer_properties.specs.Premises.{SplitsAsUnicode}
 use Rattle.buffer_properties.specs.SupportedExpansion.{Reach, Least, Greatest, alone, preferred_expansion, by_supported, supported_expansion, in_pieces, expansion}
-use Rattle.buffer_properties.proofs.Classes.{class_of_part}
+use Rattle.buffer_properties.proofs.Classes.{class_of_piece}
 use Rattle.buffer_properties.proofs.Equivalence.{then_all, side_by_side, split_is_equivalent, followed_alike}
 use Rattle.buffer_properties.proofs.Expanded.{items_of_expanded}
 
@@ -28,9 +28,9 @@ alone_is has u ws e =
       | inr lacks ↦ let none : None ≡ Some ws = sym (cond-false _ _ _ lacks) ∙ e in cc
     ]
 
-pub preferred_is : (reach : Reach) (whole parts : Option (List ℕ)) (ws : List ℕ) → preferred_expansion reach whole parts ≡ Some ws → (whole ≡ Some ws) ⊎ (parts ≡ Some ws)
-preferred_is Least None parts ws e = inr e
-preferred_is Least (Some w) parts ws e = inl e
+pub preferred_is : (reach : Reach) (whole pieces : Option (List ℕ)) (ws : List ℕ) → preferred_expansion reach whole pieces ≡ Some ws → (whole ≡ Some ws) ⊎ (pieces ≡ Some ws)
+preferred_is Least None pieces ws e = inr e
+preferred_is Least (Some w) pieces ws e = inl e
 preferred_is Greatest whole None ws e = inl e
 preferred_is Greatest whole (Some w) ws e = inr e
 
@@ -55,19 +55,19 @@ supported_equivalent t reach has splits zero u ws h e = subst (λ (zs : List ℕ
 supported_equivalent t reach has splits (suc depth) u ws h e =
     elim (preferred_is reach (alone has u) (by_supported has (supported_expansion reach has splits depth) (splits u)) ws e) [
       | inl whole ↦ subst (λ (zs : List ℕ). AreEquivalent t (u ∷ []) zs) (alone_is has u ws whole) same
-      | inr parts ↦ by_supported_equivalent t has (supported_expansion reach has splits depth) u (splits u) ws (sym (h u)) (λ a vs k. supported_equivalent t reach has splits depth a vs h k) parts
+      | inr pieces ↦ by_supported_equivalent t has (supported_expansion reach has splits depth) u (splits u) ws (sym (h u)) (λ a vs k. supported_equivalent t reach has splits depth a vs h k) pieces
     ]
 
-parts_equivalent : (t : Tables) (reach : Reach) (has : ℕ → Bool) (splits : Splits) (u : ℕ) (ws : List ℕ) → ((v : ℕ) → splits v ≡ split_of t v) → in_pieces reach has splits u ≡ Some ws → AreEquivalent t (u ∷ []) ws
+pieces_equivalent : (t : Tables) (reach : Reach) (has : ℕ → Bool) (splits : Splits) (u : ℕ) (ws : List ℕ) → ((v : ℕ) → splits v ≡ split_of t v) → in_pieces reach has splits u ≡ Some ws → AreEquivalent t (u ∷ []) ws
 unfolding in_pieces
-parts_equivalent t reach has splits u ws h e = by_supported_equivalent t has (supported_expansion reach has splits 8) u (splits u) ws (sym (h u)) (λ a vs k. supported_equivalent t reach has splits 8 a vs h k) e
+pieces_equivalent t reach has splits u ws h e = by_supported_equivalent t has (supported_expansion reach has splits 8) u (splits u) ws (sym (h u)) (λ a vs k. supported_equivalent t reach has splits 8 a vs h k) e
 
 expansion_equivalent : (t : Tables) (reach : Reach) (has : ℕ → Bool) (splits : Splits) (u : ℕ) (ws : List ℕ) → ((v : ℕ) → splits v ≡ split_of t v) → expansion reach has splits u ≡ Some ws → AreEquivalent t (u ∷ []) ws
-expansion_equivalent t Greatest has splits u ws h e = parts_equivalent t Greatest has splits u ws h e
+expansion_equivalent t Greatest has splits u ws h e = pieces_equivalent t Greatest has splits u ws h e
 expansion_equivalent t Least has splits u ws h e =
     elim (cases_Bool (has u)) [
       | inl found ↦ absurd (let none : None ≡ Some ws = sym (cond-true _ _ _ found) ∙ e in cc)
-      | inr lacks ↦ parts_equivalent t Least has splits u ws h (sym (cond-false _ _ _ lacks) ∙ e)
+      | inr lacks ↦ pieces_equivalent t Least has splits u ws h (sym (cond-false _ _ _ lacks) ∙ e)
     ]
 
 -- each item has the class that the tables give its character
@@ -121,8 +121,8 @@ class_with_space c x None e = refl
 class_with_space c x (Some g) e =
     elim (cases_Bool (is_typed_space x)) [
       | inl found ↦
-          let parts = and_parts (is_space x) _ found in
-          let off = space_is_no_mark x parts.0 in
+          let pieces = and_parts (is_space x) _ found in
+          let off = space_is_no_mark x pieces.0 in
           cond-false _ _ _ off ∙ sym (cond-false _ _ _ off)
       | inr lacks ↦ absurd (let none : None ≡ Some g = sym (cond-false _ _ _ lacks) ∙ e in cc)
     ]
@@ -131,15 +131,15 @@ class_found : (c : Normalizer) (x : Item) (o : Option ℕ) → mark_class (with_
 class_found c x None = class_with_space c x (space_glyph c x) refl
 class_found c x (Some g) = refl
 
-pub characters_of_parts : (c : Normalizer) (x : Item) (us : List ℕ) → characters_of (map (piece_of c x) us) ≡ us
+pub characters_of_pieces : (c : Normalizer) (x : Item) (us : List ℕ) → characters_of (map (piece_of c x) us) ≡ us
 unfolding piece_of
-characters_of_parts c x [] = refl
-characters_of_parts c x (u ∷ us) = ap (λ vs. u ∷ vs) (characters_of_parts c x us)
+characters_of_pieces c x [] = refl
+characters_of_pieces c x (u ∷ us) = ap (λ vs. u ∷ vs) (characters_of_pieces c x us)
 
-parts_of_tables : (c : Normalizer) (x : Item) (us : List ℕ) → ClassesAreOfMarks c.tables → AreOfTables c.tables (map (piece_of c x) us)
+pieces_of_tables : (c : Normalizer) (x : Item) (us : List ℕ) → ClassesAreOfMarks c.tables → AreOfTables c.tables (map (piece_of c x) us)
 unfolding piece_of
-parts_of_tables c x [] marks = tt
-parts_of_tables c x (u ∷ us) marks = (class_of_part c x u marks, parts_of_tables c x us marks)
+pieces_of_tables c x [] marks = tt
+pieces_of_tables c x (u ∷ us) marks = (class_of_piece c x u marks, pieces_of_tables c x us marks)
 
 items_keep : (c : Normalizer) (x : Item) (o : Option (List ℕ)) → ClassesAreOfMarks c.tables → ((ws : List ℕ) → o ≡ Some ws → AreEquivalent c.tables (x.number ∷ []) ws) → Keeps c.tables (x ∷ []) (items_for c x o)
 items_keep c x None marks h =
@@ -150,8 +150,8 @@ items_keep c x None marks h =
       of_tables = λ o. (class ∙ (o.0 ∙ ap (class_of c.tables) (sym number)), tt);
     }
 items_keep c x (Some us) marks h = record {
-  equivalent = subst (λ (zs : List ℕ). AreEquivalent c.tables (x.number ∷ []) zs) (sym (characters_of_parts c x us)) (h us refl);
-  of_tables = λ o. parts_of_tables c x us marks;
+  equivalent = subst (λ (zs : List ℕ). AreEquivalent c.tables (x.number ∷ []) zs) (sym (characters_of_pieces c x us)) (h us refl);
+  of_tables = λ o. pieces_of_tables c x us marks;
 }
 
 item_keeps : (c : Normalizer) (r : Reach) (x : Item) → ClassesAreOfMarks c.tables → SplitsAsUnicode c → Keeps c.tables (x ∷ []) (expanded_item c r x)
@@ -188,10 +188,10 @@ groups_keep c R x ms (y ∷ ys) kept none =
           subst (λ (zs : List Item). K zs (expanded_groups c x ms (y ∷ ys))) joined
           (subst (K ((ms ++ y ∷ []) ++ ys)) (sym (cond-true _ _ _ mark)) (groups_keep c R x (ms ++ y ∷ []) ys kept (ap (λ zs. list_any is_selector (x ∷ zs)) joined ∙ none)))
       | inr other ↦
-          let parts = or_parts (list_any is_selector (x ∷ ms)) (list_any is_selector (y ∷ ys)) (sym (list_any-append is_selector (x ∷ ms) (y ∷ ys)) ∙ none) in
+          let pieces = or_parts (list_any is_selector (x ∷ ms)) (list_any is_selector (y ∷ ys)) (sym (list_any-append is_selector (x ∷ ms) (y ∷ ys)) ∙ none) in
           let K : List Item → Type 0 = R (x ∷ (ms ++ y ∷ ys)) in
           let whole = ap (flat_map items) (cond-false _ _ _ other) ∙ flat_map-append items (expanded_group c x ms) (expanded_groups c y [] ys) in
-          subst K (sym whole) (kept.both (x ∷ ms) (flat_map items (expanded_group c x ms)) (y ∷ ys) (flat_map items (expanded_groups c y [] ys)) (group_keeps c R x ms kept parts.0) (groups_keep c R y [] ys kept parts.1))
+          subst K (sym whole) (kept.both (x ∷ ms) (flat_map items (expanded_group c x ms)) (y ∷ ys) (flat_map items (expanded_groups c y [] ys)) (group_keeps c R x ms kept pieces.0) (groups_keep c R y [] ys kept pieces.1))
     ]
 
 pub expansion_keeps : (c : Normalizer) → ClassesAreOfMarks c.tables → SplitsAsUnicode c → IsKept c (Keeps c.tables)

@@ -9,7 +9,7 @@ use Rattle.buffer_unicode_tables.specs.Lawful.{SecondHalvesStay, SplitsKeepClass
 use Rattle.buffer_unicode_tables.proofs.Orders.{IsRun}
 use Rattle.buffer_unicode_tables.specs.Tables.{Tables, split_of, class_of}
 use Rattle.buffer_unicode_tables.specs.Texts.{full_expansion, full_text}
-use Rattle.buffer_unicode_tables.proofs.Expansions.{expansion_of_parts, expansion_alone}
+use Rattle.buffer_unicode_tables.proofs.Expansions.{expansion_of_pieces, expansion_alone}
 use Rattle.buffer_glyphs.specs.Items.{Item}
 use Rattle.buffer_properties.specs.Characters.{mark_class, characters_of, items_of_text, standing_for}
 use Rattle.buffer_properties.specs.Expanding.{items_for, expanded_item, expanded_groups, expanded_list}
@@ -19,7 +19,7 @@ use Rattle.buffer_properties.specs.Premises.{SplitsAsUnicode, HasNoSelector, Has
 use Rattle.buffer_properties.specs.SupportedExpansion.{Reach, Least, Greatest, alone, by_supported, supported_expansion, in_pieces, expansion}
 use Rattle.buffer_properties.proofs.Alike.{no_selector_in_text}
 use Rattle.buffer_properties.proofs.Expanded.{items_in_turn}
-use Rattle.buffer_properties.proofs.Kept.{alone_is, preferred_is, mapped_is, number_found, characters_of_parts, AreOfTables, IsKept, groups_keep}
+use Rattle.buffer_properties.proofs.Kept.{alone_is, preferred_is, mapped_is, number_found, characters_of_pieces, AreOfTables, IsKept, groups_keep}
 use Rattle.buffer_properties.proofs.Preserved.{text_of_tables, characters_of_text, expanded_keeps}
 use Rattle.buffer_properties.proofs.Runs.{run_append}
 
@@ -45,7 +45,7 @@ by_supported_full t has expand u (Some (a, b)) ws ends stay s h e =
     elim (cases_Bool (b == 0 || has b)) [
       | inl found ↦
           let at = mapped_is (with_second_piece b) (expand a) ws (sym (cond-true _ _ _ found) ∙ e) in
-          ap (full_text t) (sym at.1.1) ∙ (full_followed t b at.0 (full_expansion t a) (λ n. stay u a b s n) (h a at.0 at.1.0) ∙ sym (expansion_of_parts t u a b ends s))
+          ap (full_text t) (sym at.1.1) ∙ (full_followed t b at.0 (full_expansion t a) (λ n. stay u a b s n) (h a at.0 at.1.0) ∙ sym (expansion_of_pieces t u a b ends s))
       | inr lacks ↦ absurd (let none : None ≡ Some ws = sym (cond-false _ _ _ lacks) ∙ e in cc)
     ]
 
@@ -56,28 +56,28 @@ supported_in_full t reach has splits zero u ws ends stay h e = ap (full_text t) 
 supported_in_full t reach has splits (suc depth) u ws ends stay h e =
     elim (preferred_is reach (alone has u) (by_supported has (supported_expansion reach has splits depth) (splits u)) ws e) [
       | inl whole ↦ ap (full_text t) (sym (alone_is has u ws whole)) ∙ full_alone t u
-      | inr parts ↦ by_supported_full t has (supported_expansion reach has splits depth) u (splits u) ws ends stay (sym (h u)) (λ a vs k. supported_in_full t reach has splits depth a vs ends stay h k) parts
+      | inr pieces ↦ by_supported_full t has (supported_expansion reach has splits depth) u (splits u) ws ends stay (sym (h u)) (λ a vs k. supported_in_full t reach has splits depth a vs ends stay h k) pieces
     ]
 
-parts_in_full : (t : Tables) (reach : Reach) (has : ℕ → Bool) (splits : Splits) (u : ℕ) (ws : List ℕ) → EndWithin (split_of t) 8 → SecondHalvesStay t → ((v : ℕ) → splits v ≡ split_of t v)
+pieces_in_full : (t : Tables) (reach : Reach) (has : ℕ → Bool) (splits : Splits) (u : ℕ) (ws : List ℕ) → EndWithin (split_of t) 8 → SecondHalvesStay t → ((v : ℕ) → splits v ≡ split_of t v)
     → in_pieces reach has splits u ≡ Some ws → full_text t ws ≡ full_expansion t u
 unfolding in_pieces
-parts_in_full t reach has splits u ws ends stay h e =
+pieces_in_full t reach has splits u ws ends stay h e =
     by_supported_full t has (supported_expansion reach has splits 8) u (splits u) ws ends stay (sym (h u)) (λ a vs k. supported_in_full t reach has splits 8 a vs ends stay h k) e
 
 expansion_in_full : (t : Tables) (reach : Reach) (has : ℕ → Bool) (splits : Splits) (u : ℕ) (ws : List ℕ) → EndWithin (split_of t) 8 → SecondHalvesStay t → ((v : ℕ) → splits v ≡ split_of t v)
     → expansion reach has splits u ≡ Some ws → full_text t ws ≡ full_expansion t u
-expansion_in_full t Greatest has splits u ws ends stay h e = parts_in_full t Greatest has splits u ws ends stay h e
+expansion_in_full t Greatest has splits u ws ends stay h e = pieces_in_full t Greatest has splits u ws ends stay h e
 expansion_in_full t Least has splits u ws ends stay h e =
     elim (cases_Bool (has u)) [
       | inl found ↦ absurd (let none : None ≡ Some ws = sym (cond-true _ _ _ found) ∙ e in cc)
-      | inr lacks ↦ parts_in_full t Least has splits u ws ends stay h (sym (cond-false _ _ _ lacks) ∙ e)
+      | inr lacks ↦ pieces_in_full t Least has splits u ws ends stay h (sym (cond-false _ _ _ lacks) ∙ e)
     ]
 
 items_in_full : (c : Normalizer) (x : Item) (o : Option (List ℕ)) → ((ws : List ℕ) → o ≡ Some ws → full_text c.tables ws ≡ full_expansion c.tables x.number)
     → full_text c.tables (characters_of (items_for c x o)) ≡ full_expansion c.tables x.number
 items_in_full c x None h = ap (λ n. full_text c.tables (n ∷ [])) (number_found c x (c.glyph_of x.number)) ∙ full_alone c.tables x.number
-items_in_full c x (Some us) h = ap (full_text c.tables) (characters_of_parts c x us) ∙ h us refl
+items_in_full c x (Some us) h = ap (full_text c.tables) (characters_of_pieces c x us) ∙ h us refl
 
 item_in_full : (c : Normalizer) (r : Reach) (x : Item) → EndWithin (split_of c.tables) 8 → SecondHalvesStay c.tables → SplitsAsUnicode c → full_text c.tables (characters_of (expanded_item c r x)) ≡ full_expansion c.tables x.number
 unfolding expanded_item
@@ -110,15 +110,15 @@ run_followed class b xs r n =
       | inr some ↦ rw some (run_append class xs (b ∷ []) r (n (eqb-false b 0 some), tt))
     ]
 
-run_of_parts : (class : ℕ → ℕ) (expand : ℕ → List ℕ) (u : ℕ) (o : Option (ℕ × ℕ)) → class u ≢ 0 → ((a b : ℕ) → o ≡ Some (a, b) → IsRun class (expand a) × (b ≢ 0 → class b ≢ 0)) → IsRun class (by_halves expand u o)
-run_of_parts class expand u None n h = (n, tt)
-run_of_parts class expand u (Some (a, b)) n h = let parts = h a b refl in run_followed class b (expand a) parts.0 parts.1
+run_of_pieces : (class : ℕ → ℕ) (expand : ℕ → List ℕ) (u : ℕ) (o : Option (ℕ × ℕ)) → class u ≢ 0 → ((a b : ℕ) → o ≡ Some (a, b) → IsRun class (expand a) × (b ≢ 0 → class b ≢ 0)) → IsRun class (by_halves expand u o)
+run_of_pieces class expand u None n h = (n, tt)
+run_of_pieces class expand u (Some (a, b)) n h = let pieces = h a b refl in run_followed class b (expand a) pieces.0 pieces.1
 
 run_of_mark : (t : Tables) → SplitsKeepClass t → (depth u : ℕ) → class_of t u ≢ 0 → IsRun (class_of t) (expansion_by_splits (split_of t) depth u)
 unfolding expansion_by_splits
 run_of_mark t keeps zero u n = (n, tt)
 run_of_mark t keeps (suc depth) u n =
-    run_of_parts (class_of t) (expansion_by_splits (split_of t) depth) u (split_of t u) n
+    run_of_pieces (class_of t) (expansion_by_splits (split_of t) depth) u (split_of t u) n
     (λ a b s. let kept = keeps u a b s n in (run_of_mark t keeps depth a (λ z. n (sym kept.0 ∙ z)), λ m z. n (sym (kept.1 m) ∙ z)))
 
 followed_some : (b : ℕ) (xs : List ℕ) → 1 ≤ length xs → 1 ≤ length (with_second_piece b xs)
@@ -128,14 +128,14 @@ followed_some b xs le =
       | false ↦ omega (arith, length-append xs (b ∷ []))
     ]
 
-parts_some : (expand : ℕ → List ℕ) (u : ℕ) (o : Option (ℕ × ℕ)) → ((a : ℕ) → 1 ≤ length (expand a)) → 1 ≤ length (by_halves expand u o)
-parts_some expand u None h = omega arith
-parts_some expand u (Some (a, b)) h = followed_some b (expand a) (h a)
+pieces_some : (expand : ℕ → List ℕ) (u : ℕ) (o : Option (ℕ × ℕ)) → ((a : ℕ) → 1 ≤ length (expand a)) → 1 ≤ length (by_halves expand u o)
+pieces_some expand u None h = omega arith
+pieces_some expand u (Some (a, b)) h = followed_some b (expand a) (h a)
 
 expansion_some : (splits : Splits) (depth u : ℕ) → 1 ≤ length (expansion_by_splits splits depth u)
 unfolding expansion_by_splits
 expansion_some splits zero u = omega arith
-expansion_some splits (suc depth) u = parts_some (expansion_by_splits splits depth) u (splits u) (λ a. expansion_some splits depth a)
+expansion_some splits (suc depth) u = pieces_some (expansion_by_splits splits depth) u (splits u) (λ a. expansion_some splits depth a)
 
 short_less : (class : ℕ → ℕ) (m n : ℕ) (xs : List ℕ) → m ≤ n → HasShortRuns class n xs → HasShortRuns class m xs
 short_less class m n [] le h = omega (arith, le, h)
@@ -192,6 +192,6 @@ pub expansion_keeps_runs_short : ExpansionKeepsRunsShort
 expansion_keeps_runs_short c x us ends lawful unicode none short =
     let keeps = expanded_keeps c x us lawful.classes_are_of_marks unicode none in
     let of_tables = keeps.of_tables (text_of_tables c.tables x us lawful.classes_are_of_marks) in
-    let full = full_of_list c x us ends lawful.second_parts_stay unicode none in
+    let full = full_of_list c x us ends lawful.second_pieces_stay unicode none in
     short_items c.tables 0 (expanded_list c (items_of_text c.tables x us)).items of_tables
     (short_unexpanded c.tables lawful.splits_keep_class (characters_of (expanded_list c (items_of_text c.tables x us)).items) 0 0 (omega arith) (subst (HasShortRuns (class_of c.tables) 0) full short))

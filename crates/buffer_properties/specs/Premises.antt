@@ -11,7 +11,7 @@ use Rattle.buffer_properties.specs.Normalizer.{Normalizer, has_character, reach_
 use Rattle.buffer_properties.specs.SupportedExpansion.{Greatest}
 use Rattle.buffer_properties.specs.declared.normal_mode.TheConstants.{MAX_COMBINING_MARKS}
 
--- no run of nonzero class has more elements than are sorted; so many of a run were read
+-- no run of nonzero class has more elements than are sorted; n of a run were read
 abbrev pub HasShortRuns : {X : Type 0} → (X → ℕ) → ℕ → List X → Type 0
 HasShortRuns class met [] = met ≤ MAX_COMBINING_MARKS
 HasShortRuns class met (x ∷ xs) = (met ≤ MAX_COMBINING_MARKS) × HasShortRuns class (if class x == 0 then 0 else met + 1) xs

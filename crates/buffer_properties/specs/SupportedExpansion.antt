@@ -11,8 +11,8 @@ alone has u = if has u then Some (u ∷ []) else None
 
 -- of a character whole and in pieces, the preferred one, else the other
 abbrev pub preferred_expansion : Reach → Option (List ℕ) → Option (List ℕ) → Option (List ℕ)
-preferred_expansion Least whole parts = option_or whole parts
-preferred_expansion Greatest whole parts = option_or parts whole
+preferred_expansion Least whole pieces = option_or whole pieces
+preferred_expansion Greatest whole pieces = option_or pieces whole
 
 -- a split is supported where the font has the second piece, or there is none, and the first piece is a character of the
 -- font or is itself expanded

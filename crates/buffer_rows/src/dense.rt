@@ -12,7 +12,8 @@ use std::marker::Model;
 /// How many slots there are at most for each record.
 const SLOTS_PER_ROW: usize = 32;
 
-/// Records whose numbers rise strictly, each found at once by its number where the numbers are dense.
+/// Records whose numbers rise strictly, each found at once by its number where the numbers are dense. The slots only
+/// save time: contracts see the records.
 #[derive(Debug, Drop)]
 pub struct DenseRows<R: Numbered> {
     rows: Vec<R>,
@@ -103,8 +104,9 @@ fn ends_of<R: Numbered>(rows: &[R]) -> (u32, u32)
     (first.number(), last.number())
 }
 
-/// How many slots the numbers from `first` to `last` have; none where each of them has a record, where there would be
-/// more than `SLOTS_PER_ROW` for each of the records, or where an index is no slot.
+/// How many slots the numbers from `first` to `last` have. None are made where each of them has a record, where there
+/// would be more than `SLOTS_PER_ROW` for each of the records, or where there are too many records for slots of 16
+/// bits.
 fn slot_count(row_count: usize, first: u32, last: u32) -> Option<u32>
     ensures { IfSome result (λ count. (row_count < 65535) × (first + count ≤ last + 1)) }
 {

@@ -27,7 +27,8 @@ struct Index {
     slots: Vec<u16>,
 }
 
-/// Records whose numbers rise strictly, each found at once by its number.
+/// Records whose numbers rise strictly, each found at once by its number. The index only saves time: contracts see the
+/// records.
 #[derive(Debug, Drop)]
 pub struct PagedRows<R: Numbered> {
     rows: Vec<R>,
@@ -99,7 +100,8 @@ fn slots_of<R: Numbered>(rows: &[R]) -> usize
     count.min(MAX_SLOTS)
 }
 
-/// The pages of the characters, as far as their slots have room; none where an index is no slot.
+/// The index of the records: pages of 128 characters, as many as there is room for their slots. It is empty where there
+/// are no records, or too many for slots of 16 bits.
 fn index_of<R: Numbered>(alloc: Global, rows: &[R]) -> Result<Index, AllocError>
     requires { numbers_rise R.number_of rows.now ≡ true }
     ensures { IfOk result (λ i. ArePages R.number_of rows.now i.pages.items i.slots.items) }

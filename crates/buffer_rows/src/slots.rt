@@ -23,7 +23,7 @@ pub(crate) fn record_in<R: Numbered>(rows: &[R], slot: u16) -> Option<R>
     rows.get(slot as usize - 1).copied()
 }
 
-/// Appends the slots of so many numbers from a first one on.
+/// Appends the slots of `count` numbers from `first` on.
 #[tactic(auto, using(crate::proofs::Paged::block_grows, crate::proofs::Paged::one_more, crate::proofs::Paged::extends_on, crate::proofs::Paged::itself))]
 pub(crate) fn push_slots<R: Numbered>(
     rows: &[R],

@@ -1,12 +1,12 @@
 //! Laws of the order by a key.
 ghost use Rattle.buffer_stable_order.specs.Laws.{KeepsEachKey, OrderCommutesWithMap};
 
-/// In the order by a key the elements of each key are those of the list, in the order of the list.
+/// The order by a key is stable: the elements of each key are those of the list, in the same order.
 pub fn law_keeps_each_key()
     ensures { KeepsEachKey }
 {}
 
-/// A change of each element to another of the same key can be made before or after the sort.
+/// To change each element and then sort by a key is to sort by the key of the changed element and then change each.
 pub fn law_order_commutes_with_map()
     ensures { OrderCommutesWithMap }
 {}

@@ -4,7 +4,7 @@ use Rattle.buffer_glyphs.specs.declared.level.BufferClusterLevel.{BufferClusterL
 use Rattle.buffer_parts.specs.Keeping.{AreKept}
 use Rattle.buffer_stages.specs.Actions.{Cut, whole, Outcome, Passes, Acts, Refuses, Action}
 
--- the events of an outcome, on so many items, keep the parts of the text, and leave as many glyphs as its cut has items
+-- the events of an outcome, on n items, keep the parts of the text, and leave as many glyphs as its cut has items
 abbrev pub OutcomeKeepsParts : Outcome → ℕ → Type 0
 OutcomeKeepsParts (Passes es) n = (level : BufferClusterLevel) → AreKept level es n n
 OutcomeKeepsParts (Acts cut es) n = (level : BufferClusterLevel) → AreKept level es n (length (whole cut))

@@ -56,11 +56,11 @@ pub data Outcome : Type 0 where
 abbrev pub Action : Type 0
 Action = Cut → Outcome
 
--- a rule that would give so many new items refuses where a side of the list may not hold them
+-- a rule that would give n new items refuses where a side of the list may not hold them
 abbrev pub within_limit : ℕ → Cut → Outcome → Outcome
 within_limit n c o = if nat_le (length c.front + n) c.max_len then o else Refuses TooLong
 
--- a rule that was tried on so many items before the cut and from there on, and failed
+-- a rule that was tried on m items before the cut and n from there on, and failed
 abbrev pub attempt_around : ℕ → ℕ → Cut → Outcome
 attempt_around back ahead c = Passes (Concat (length c.front - back) (length c.front + ahead) ∷ [])
 

@@ -20,7 +20,7 @@ pub record AppendsArrangement (a : Arrangement) (rest : List Item) (old new : Si
   pub happened : origins (all_glyphs new) ≡ origins_after (flag_requests_of old) old.level (map (shifted_event (length old.behind)) a.events) (origins (all_glyphs old))
   pub frame : frame_of new ≡ frame_of old
 
--- a call refuses for want of memory, or since so many more items do not fit behind the cursor
+-- a call refuses for want of memory, or since n more items do not fit behind the cursor
 abbrev pub RefusesRoomFor : ℕ → ShapeCause → Sides → Type 0
 RefusesRoomFor n e old = e ≢ OutOfMemory → (e ≡ TooLong) × (old.max_len < length old.behind + n)
 

@@ -1,10 +1,14 @@
 -- Syllable bytes, which distinguish a syllable from its neighbours: a serial number and the kind.
-use Rattle.std.specs.Prelude.{ℕ, ◌+◌, ◌*◌, ◌-◌, ◌/◌, ◌%◌, ◌<◌, ◌≡◌, ◌≢◌, List, [], ◌∷◌, ◌++◌, length, replicate}
+use Rattle.std.specs.Prelude.{ℕ, ◌+◌, ◌*◌, ◌-◌, ◌/◌, ◌%◌, ◌<◌, ◌≡◌, ◌≢◌, bit_and, List, [], ◌∷◌, ◌++◌, length, replicate}
 use Rattle.buffer_stages.specs.Cuts.{EndsInside, Syllable, syllables}
 
 -- the serial number of a syllable, from 1 to 15 and then again from 1, times 16, and its kind
 abbrev pub syllable_byte : ℕ → ℕ → ℕ
 syllable_byte index kind = (index % 15 + 1) * 16 + kind
+
+-- the kind in a syllable byte: its low four bits
+abbrev pub kind_of_byte : ℕ → ℕ
+kind_of_byte byte = bit_and byte 15
 
 -- the bytes of the elements of syllables, the first of which has an index among all
 abbrev pub bytes_from : ℕ → List Syllable → List ℕ

@@ -17,13 +17,13 @@ pub record EndsInside (next : ℕ → ℕ × ℕ) (count : ℕ) : Type 0 where
 abbrev pub syllable_from : (ℕ → ℕ × ℕ) → ℕ → Syllable
 syllable_from next start = record { start = start; end = (next start).0; kind = (next start).1 }
 
--- at most so many syllables from an index on, each of which begins where the one before ends
+-- at most n syllables from an index on, each of which begins where the one before ends
 abbrev pub syllables_from : (ℕ → ℕ × ℕ) → ℕ → ℕ → ℕ → List Syllable
 syllables_from next count zero start = []
 syllables_from next count (suc most) start =
     if nat_lt start count then syllable_from next start ∷ syllables_from next count most (next start).0 else []
 
--- the syllables of a list of so many elements: at most as many as there are elements
+-- the syllables of a list of n elements: at most as many as there are elements
 abbrev pub syllables : (ℕ → ℕ × ℕ) → ℕ → List Syllable
 syllables next count = syllables_from next count count 0
 

@@ -24,7 +24,7 @@ with_fronts_moved pair one xs = fronts pair one xs ++ elements_after_fronts pair
 abbrev pub with_fronts_moved_after : {X : Type 0} → (X → X → Bool) → (X → Bool) → ℕ → List X → List X
 with_fronts_moved_after pair one n xs = fronts pair one (drop n xs) ++ (take n xs ++ elements_after_fronts pair one (drop n xs))
 
--- the moves of elements, with so many elements before the list; the first element of all need not move
+-- the moves of elements, with i elements before the list; the first element of all need not move
 abbrev pub front_moves : {X : Type 0} → (X → X → Bool) → (X → Bool) → ℕ → List X → List FrontMove
 front_moves pair one i [] = []
 front_moves pair one i (x ∷ []) = if one x && nat_lt 0 i then record { passed = i; taken = 1 } ∷ [] else []

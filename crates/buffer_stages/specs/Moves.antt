@@ -44,7 +44,7 @@ abbrev pub reach : ℕ → List FrontMove → ℕ
 reach n [] = n
 reach n (m ∷ ms) = reach (m.passed + m.taken) ms
 
--- each move permutes at least so many elements, and at least as many as those before it
+-- each move permutes at least n elements, and at least as many as those before it
 abbrev pub IsGrowing : ℕ → List FrontMove → Type 0
 IsGrowing n [] = Unit {0}
 IsGrowing n (m ∷ ms) = (n ≤ m.passed + m.taken) × IsGrowing (m.passed + m.taken) ms

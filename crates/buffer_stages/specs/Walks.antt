@@ -17,7 +17,7 @@ pub record HasWalked (out rest : List Item) (events : List Event) (old new : Sid
   pub opened : new.is_open ≡ true
   pub unrefused : new.has_refused ≡ old.has_refused
 
--- a call refuses for want of memory, or since so many items do not fit behind the cursor
+-- a call refuses for want of memory, or since n items do not fit behind the cursor
 abbrev pub RefusesLength : ℕ → ShapeCause → Sides → Type 0
 RefusesLength n e old = e ≢ OutOfMemory → (e ≡ TooLong) × (old.max_len < n)
 

@@ -1,9 +1,8 @@
 //! The pauses between the GSUB stages of a map (rustybuzz: hb/ot_map.rs, `pause_func_t`).
-ghost use Rattle.std.specs.Prelude.{ℕ, ◌≡◌, true, false, Ok};
+ghost use Rattle.std.specs.Prelude.{ℕ, ◌≡◌, false, Ok};
 ghost use Rattle.buffer_core.specs.Readings.{Stage};
 ghost use Rattle.buffer_core.specs.Sides.{items_of};
-ghost use Rattle.buffer_stages.specs.Buffers.{are_glyphs};
-ghost use Rattle.buffer_stages.specs.Ready.{DoesGlyphStage, DoesGlyphStageFrom, IsReady};
+ghost use Rattle.buffer_stages.specs.Ready.{DoesGlyphStage, DoesGlyphStageFrom, HoldsGlyphs};
 ghost use Rattle.buffer_stages.specs.Pauses.{BringsNoGlyph, pause_stage};
 ghost use Rattle.buffer_stages.specs.Settings.{TextSettings, text_settings};
 
@@ -18,8 +17,7 @@ pub trait Pause {
     /// Runs the pause of a number, and answers true whenever it introduced a new glyph number. It refuses with its own
     /// cause, or for want of memory.
     fn run(&self, pause: u8, buffer: &mut hb_buffer_t) -> Result<bool, ShapeCause>
-        requires ready { IsReady buffer.old }
-        requires numbers { are_glyphs (items_of buffer.old) ≡ true }
+        requires glyphs { HoldsGlyphs buffer.old }
         ensures stage { DoesGlyphStage (stage self.now (text_settings buffer.old) pause) result buffer.old buffer.new }
         ensures brings_none { result ≡ Ok false → BringsNoGlyph (items_of buffer.old) (items_of buffer.new) };
 }
@@ -33,8 +31,7 @@ pub fn run_pause<P: Pause>(
     number: Option<u8>,
     buffer: &mut hb_buffer_t,
 ) -> Result<bool, ShapeCause>
-    requires ready { IsReady buffer.old }
-    requires numbers { are_glyphs (items_of buffer.old) ≡ true }
+    requires glyphs { HoldsGlyphs buffer.old }
     ensures stage { (r : ℕ) → DoesGlyphStageFrom r r (pause_stage (P.stage pause.now (text_settings buffer.old)) number)
         result buffer.old buffer.new }
     ensures brings_none { result ≡ Ok false → BringsNoGlyph (items_of buffer.old) (items_of buffer.new) }

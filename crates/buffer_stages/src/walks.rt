@@ -6,7 +6,7 @@ ghost use Rattle.buffer_lists.specs.Known.{HasOrder};
 ghost use Rattle.buffer_glyphs.specs.Levels.{InOutput};
 ghost use Rattle.buffer_glyphs.specs.Events.{Merge, Move, Replace};
 ghost use Rattle.buffer_glyphs.specs.Origins.{origin_of, origins};
-ghost use Rattle.buffer_core.specs.Sides.{fits_joined, after_sync};
+ghost use Rattle.buffer_core.specs.Sides.{fits_joined, after_sync, HasCurrent};
 ghost use Rattle.buffer_stages.specs.Moves.{with_range_moved, order_of_move};
 ghost use Rattle.buffer_stages.specs.Walks.{RefusesLength, HasWalked, renumbered_first};
 
@@ -22,8 +22,7 @@ use buffer_lists::order::KnownOrder;
 ///
 /// `TooLong` where the output has as many glyphs as the buffer may hold, or want of memory.
 pub fn advance(buffer: &mut hb_buffer_t) -> Result<(), ShapeCause>
-    requires open { buffer.old.is_open ≡ true }
-    requires there { 0 < length buffer.old.ahead }
+    requires current { HasCurrent buffer.old }
     ensures ok { OnOk result (HasWalked (strip buffer.old.behind ++ take 1 (strip buffer.old.ahead))
         (drop 1 (strip buffer.old.ahead)) [] buffer.old buffer.new) }
     ensures err { IfErr result (λ e. RefusesLength (length buffer.old.behind + 1) e buffer.old) }
@@ -40,8 +39,7 @@ pub fn advance(buffer: &mut hb_buffer_t) -> Result<(), ShapeCause>
 ///
 /// `TooLong` where the output has as many glyphs as the buffer may hold, or want of memory.
 pub fn advance_as(glyph: hb_glyph_info_t, buffer: &mut hb_buffer_t) -> Result<(), ShapeCause>
-    requires open { buffer.old.is_open ≡ true }
-    requires there { 0 < length buffer.old.ahead }
+    requires current { HasCurrent buffer.old }
     requires same { (g : Glyph) → slice_get buffer.old.ahead 0 ≡ Some g → origin_of glyph ≡ origin_of g }
     ensures ok { OnOk result (HasWalked (strip buffer.old.behind ++ item_of glyph ∷ []) (drop 1 (strip buffer.old.ahead))
         [] buffer.old buffer.new) }
@@ -63,8 +61,7 @@ pub fn replace_current(
     glyphs: &[hb_glyph_info_t],
     buffer: &mut hb_buffer_t,
 ) -> Result<(), ShapeCause>
-    requires open { buffer.old.is_open ≡ true }
-    requires there { 0 < length buffer.old.ahead }
+    requires current { HasCurrent buffer.old }
     requires same { (g : Glyph) → slice_get buffer.old.ahead 0 ≡ Some g → origins glyphs.now
         ≡ replicate (length glyphs.now) (origin_of g) }
     ensures ok { OnOk result (HasWalked (strip buffer.old.behind ++ strip glyphs.now) (drop 1 (strip buffer.old.ahead))
@@ -137,7 +134,7 @@ pub fn finish(buffer: &mut hb_buffer_t) -> Result<(), ShapeCause>
     Ok(())
 }
 
-/// Merges so many glyphs at the cursor, and replaces them by the first of them under another number, which is output.
+/// Merges `count` glyphs at the cursor, and replaces them by the first of them under another number, which is output.
 ///
 /// # Errors
 ///

@@ -2,7 +2,7 @@
 ghost use Rattle.std.specs.Prelude.{◌≡◌, ℕ, Bool, List, Some, None, if◌then◌else◌};
 
 /// A record with a key of one or two numbers, the second being the more significant.
-pub trait Keyed: Copy {
+pub trait DoublyKeyed: Copy {
     ghost high: { Self → ℕ };
 
     ghost low: { Self → ℕ };
@@ -17,7 +17,7 @@ pub trait Keyed: Copy {
 }
 
 /// A record that is read from a row of N numbers.
-pub trait Row<const N: usize>: Keyed {
+pub trait Row<const N: usize>: DoublyKeyed {
     ghost of_numbers: { List ℕ → Self };
 
     ghost is_in_range: { Self → Bool };

@@ -17,11 +17,11 @@ pub mod space;
 pub use category::{GeneralCategoryExt, hb_unicode_general_category_t, law_from_rb_inverts_to_rb};
 pub use character::CharExt;
 pub use fault::TablesFault;
-pub use keyed::{Keyed, Row};
+pub use keyed::{DoublyKeyed, Row};
 pub use ranges::CharacterRanges;
 pub use read::{follows, read_rows};
 pub use rows::{
     CharacterClass, CharacterRange, Counterpart, IndicRow, JoiningRow, Pair, Split, ThaiRow,
     UnicodeRows, UniversalRow,
 };
-pub use search::find_row;
+pub use search::find_by_key;

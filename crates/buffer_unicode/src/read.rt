@@ -3,7 +3,7 @@ ghost use Rattle.std.specs.Prelude.{◌≡◌, ◌≢◌, true, IfOk, IfErr, OnO
 ghost use Rattle.buffer_unicode.specs.Keys.{follows, is_rising, precedes, row_fault};
 
 use crate::fault::TablesFault;
-use crate::keyed::{Keyed, Row};
+use crate::keyed::{DoublyKeyed, Row};
 use crate::search::is_below;
 use std::alloc::Global;
 
@@ -37,7 +37,7 @@ pub fn read_rows<const N: usize, R: Row<N>>(
 }
 
 /// Whether a row is the first, or its key is greater than that of the row before.
-pub fn follows<R: Keyed>(before: Option<R>, row: R) -> bool
+pub fn follows<R: DoublyKeyed>(before: Option<R>, row: R) -> bool
     ensures { result ≡ follows R.high R.low before row }
 {
     match before {
@@ -46,7 +46,7 @@ pub fn follows<R: Keyed>(before: Option<R>, row: R) -> bool
     }
 }
 
-fn precedes<R: Keyed>(a: R, b: R) -> bool
+fn precedes<R: DoublyKeyed>(a: R, b: R) -> bool
     ensures { result ≡ precedes R.high R.low a b }
 {
     is_below(a.high(), a.low(), b.high(), b.low())

@@ -2,7 +2,7 @@
 ghost use Rattle.std.specs.Prelude.{◌≡◌, ℕ, Bool, ◌&&◌, ◌≤◌, nat_lt, Some, None, if◌then◌else◌, []};
 ghost use Rattle.buffer_unicode.specs.Numbers.{is_scalar};
 
-use crate::keyed::{Keyed, Row};
+use crate::keyed::{DoublyKeyed, Row};
 use buffer_rows::Numbered;
 use std::alloc::Global;
 
@@ -28,7 +28,7 @@ pub struct Split {
     pub second: char,
 }
 
-impl Keyed for Split {
+impl DoublyKeyed for Split {
     ghost high = { λ _. 0 };
 
     ghost low = { λ r. r.whole };
@@ -75,7 +75,7 @@ pub struct Pair {
     pub whole: char,
 }
 
-impl Keyed for Pair {
+impl DoublyKeyed for Pair {
     ghost high = { λ r. r.first };
 
     ghost low = { λ r. r.second };
@@ -113,7 +113,7 @@ pub struct CharacterClass {
     pub class: u8,
 }
 
-impl Keyed for CharacterClass {
+impl DoublyKeyed for CharacterClass {
     ghost high = { λ _. 0 };
 
     ghost low = { λ r. r.character };
@@ -158,7 +158,7 @@ pub struct Counterpart {
     pub counterpart: char,
 }
 
-impl Keyed for Counterpart {
+impl DoublyKeyed for Counterpart {
     ghost high = { λ _. 0 };
 
     ghost low = { λ r. r.character };
@@ -203,7 +203,7 @@ pub struct CharacterRange {
     pub last: char,
 }
 
-impl Keyed for CharacterRange {
+impl DoublyKeyed for CharacterRange {
     ghost high = { λ _. 0 };
 
     ghost low = { λ r. r.first };
@@ -249,7 +249,7 @@ pub struct JoiningRow {
     pub joining_type: u8,
 }
 
-impl Keyed for JoiningRow {
+impl DoublyKeyed for JoiningRow {
     ghost high = { λ _. 0 };
 
     ghost low = { λ r. r.character };
@@ -295,7 +295,7 @@ pub struct IndicRow {
     pub position: u8,
 }
 
-impl Keyed for IndicRow {
+impl DoublyKeyed for IndicRow {
     ghost high = { λ _. 0 };
 
     ghost low = { λ r. r.character };
@@ -341,7 +341,7 @@ pub struct UniversalRow {
     pub category: u8,
 }
 
-impl Keyed for UniversalRow {
+impl DoublyKeyed for UniversalRow {
     ghost high = { λ _. 0 };
 
     ghost low = { λ r. r.character };
@@ -389,7 +389,7 @@ pub struct ThaiRow {
     pub second: char,
 }
 
-impl Keyed for ThaiRow {
+impl DoublyKeyed for ThaiRow {
     ghost high = { λ r. r.character };
 
     ghost low = { λ r. r.action };

@@ -2,10 +2,10 @@
 ghost use Rattle.std.specs.Prelude.{◌≡◌, true, find};
 ghost use Rattle.buffer_unicode.specs.Keys.{is_below, is_rising, is_at};
 
-use crate::keyed::Keyed;
+use crate::keyed::DoublyKeyed;
 
 /// The row with a key, by a binary search.
-pub fn find_row<R: Keyed>(rows: &[R], high: u32, low: u32) -> Option<R>
+pub fn find_by_key<R: DoublyKeyed>(rows: &[R], high: u32, low: u32) -> Option<R>
     requires { is_rising R.high R.low rows.now ≡ true }
     ensures { result ≡ find (is_at R.high R.low high low) rows.now }
 {

@@ -43,10 +43,10 @@ ends_more splits (suc depth) u h = ends_by_more (ends_within splits depth) (ends
 find_passes : {X : Type 0} (p q : X → Bool) (xs : List X) (x : X) → find p xs ≡ Some x → list_all q xs ≡ true → (p x ≡ true) × (q x ≡ true)
 find_passes p q [] x e h = cc
 find_passes p q (y ∷ ys) x e h =
-    let parts = and_parts (q y) (list_all q ys) h in
+    let pieces = and_parts (q y) (list_all q ys) h in
     cond_both (p y) _ _ (λ o. o ≡ Some x → (p x ≡ true) × (q x ≡ true))
-    (λ passes same. let at : y ≡ x = cc in (rw at at passes, rw at at parts.0))
-    (λ _ later. find_passes p q ys x later parts.1)
+    (λ passes same. let at : y ≡ x = cc in (rw at at passes, rw at at pieces.0))
+    (λ _ later. find_passes p q ys x later pieces.1)
     e
 
 syllable_splits : (splits : List Split) (u a b : ℕ) → hangul_split u ≡ Some (a, b) → splits_of splits u ≡ Some (a, b)
@@ -132,23 +132,23 @@ unfolding expansion_by_splits
 expanded_alone splits zero u h = refl
 expanded_alone splits (suc depth) u h = rw h refl
 
-pub expanded_parts : (splits : Splits) (depth u a b : ℕ) → splits u ≡ Some (a, b) → depth ≢ 0 → expansion_by_splits splits depth u ≡ with_second_piece b (expansion_by_splits splits (depth - 1) a)
+pub expanded_pieces : (splits : Splits) (depth u a b : ℕ) → splits u ≡ Some (a, b) → depth ≢ 0 → expansion_by_splits splits depth u ≡ with_second_piece b (expansion_by_splits splits (depth - 1) a)
 unfolding expansion_by_splits
-expanded_parts splits zero u a b h n = absurd (n refl)
-expanded_parts splits (suc depth) u a b h n =
+expanded_pieces splits zero u a b h n = absurd (n refl)
+expanded_pieces splits (suc depth) u a b h n =
     let e : suc depth - 1 ≡ depth = omega arith in
     rw (h, e) refl
 
 pub with_second : (splits : Splits) (depth u a b : ℕ) (old mid new : List ℕ) → splits u ≡ Some (a, b) → depth ≢ 0 → b ≢ 0 → mid ≡ old ++ expansion_by_splits splits (depth - 1) a → new ≡ mid ++ b ∷ []
     → new ≡ old ++ expansion_by_splits splits depth u
 with_second splits depth u a b old mid new h n present m e =
-    let parts = expanded_parts splits depth u a b h n in
+    let pieces = expanded_pieces splits depth u a b h n in
     let off : (b == 0) ≡ false = ne_eqb b 0 present in
-    rw (e, m, parts, off) (append_assoc old (expansion_by_splits splits (depth - 1) a) (b ∷ []))
+    rw (e, m, pieces, off) (append_assoc old (expansion_by_splits splits (depth - 1) a) (b ∷ []))
 
 pub without_second : (splits : Splits) (depth u a b : ℕ) (old mid : List ℕ) → splits u ≡ Some (a, b) → depth ≢ 0 → b ≡ 0 → mid ≡ old ++ expansion_by_splits splits (depth - 1) a
     → mid ≡ old ++ expansion_by_splits splits depth u
 without_second splits depth u a b old mid h n absent m =
-    let parts = expanded_parts splits depth u a b h n in
+    let pieces = expanded_pieces splits depth u a b h n in
     let at : (b == 0) ≡ true = eq-eqb b 0 absent in
-    rw (m, parts, at) refl
+    rw (m, pieces, at) refl

@@ -17,7 +17,7 @@ use Rattle.buffer_unicode_tables.specs.Ranges.{AllAmong, SomeAmong}
 use Rattle.buffer_unicode_tables.specs.Lawful.{SecondHalvesStay, PairsAreEquivalent, ClassesAreOfMarks, SplitsKeepClass}
 use Rattle.buffer_unicode_tables.proofs.Orders.{order_from_classes, classes_from_order}
 use Rattle.buffer_unicode_tables.specs.Tables.{Tables, split_of, class_of, pair_of}
-use Rattle.buffer_unicode_tables.specs.Tests.{second_half_stays, same_text, same_beside_starters, has_same_classes, whole_is_equivalent, class_is_of_mark, parts_have_class, keeps_class}
+use Rattle.buffer_unicode_tables.specs.Tests.{second_half_stays, same_text, same_beside_starters, has_same_classes, whole_is_equivalent, class_is_of_mark, pieces_have_class, keeps_class}
 use Rattle.buffer_unicode_tables.specs.Texts.{full_expansion, text_order}
 use Rattle.buffer_unicode_tables.proofs.Expansions.{expansion_of_split, second_is_jamo}
 use Rattle.buffer_unicode_tables.proofs.Syllables.{hangul_pairs_are_splits, pair_of_vowel, pair_of_trailing}
@@ -50,23 +50,23 @@ mark_missing : (t : Tables) → is_rising (λ _. 0) (λ (r : CharacterClass). r.
 mark_missing t rising marks h =
     let bad = failing_row (λ (_ : CharacterClass). 0) (λ (r : CharacterClass). r.character) class_is_of_mark t.classes rising h in
     let own = class_found t bad.row.character bad.row bad.found in
-    let parts = or_parts (bad.row.class == 0) (is_mark_category (general_category bad.row.character)) bad.fails in
-    both_ways _ parts.1 (marks bad.row.character (λ z. both_ways _ parts.0 (eq-eqb bad.row.class 0 (sym own ∙ z))))
+    let pieces = or_parts (bad.row.class == 0) (is_mark_category (general_category bad.row.character)) bad.fails in
+    both_ways _ pieces.1 (marks bad.row.character (λ z. both_ways _ pieces.0 (eq-eqb bad.row.class 0 (sym own ∙ z))))
 
 pub marks_decided : (t : Tables) → is_rising (λ _. 0) (λ (r : CharacterClass). r.character) t.classes ≡ true → IsTrue (list_all class_is_of_mark t.classes) ↔ ClassesAreOfMarks t
 marks_decided t rising = decided (list_all class_is_of_mark t.classes) (ClassesAreOfMarks t) (λ h u n. mark_at t u h n) (mark_missing t rising)
 
-parts_from : (class : ℕ → ℕ) (c : ℕ) (o : Option (ℕ × ℕ)) (a b : ℕ) → parts_have_class class c o ≡ true → o ≡ Some (a, b) → (class a ≡ c) × (b ≢ 0 → class b ≡ c)
-parts_from class c o a b h e =
+pieces_from : (class : ℕ → ℕ) (c : ℕ) (o : Option (ℕ × ℕ)) (a b : ℕ) → pieces_have_class class c o ≡ true → o ≡ Some (a, b) → (class a ≡ c) × (b ≢ 0 → class b ≡ c)
+pieces_from class c o a b h e =
     let here : (class a == c && (b == 0 || class b == c)) ≡ true = rw e at h in
-    let parts = and_parts (class a == c) (b == 0 || class b == c) here in
-    (eqb-true (class a) c parts.0, λ n. elim (or_cases (b == 0) (class b == c) parts.1) [ inl z ↦ absurd (n (eqb-true b 0 z)) | inr at ↦ eqb-true (class b) c at ])
+    let pieces = and_parts (class a == c) (b == 0 || class b == c) here in
+    (eqb-true (class a) c pieces.0, λ n. elim (or_cases (b == 0) (class b == c) pieces.1) [ inl z ↦ absurd (n (eqb-true b 0 z)) | inr at ↦ eqb-true (class b) c at ])
 
 keeps_from : (t : Tables) (u a b : ℕ) → keeps_class t u ≡ true → split_of t u ≡ Some (a, b) → class_of t u ≢ 0 → (class_of t a ≡ class_of t u) × (b ≢ 0 → class_of t b ≡ class_of t u)
 keeps_from t u a b h s n =
-    elim (or_cases (class_of t u == 0) (parts_have_class (class_of t) (class_of t u) (split_of t u)) h) [
+    elim (or_cases (class_of t u == 0) (pieces_have_class (class_of t) (class_of t u) (split_of t u)) h) [
       | inl z ↦ absurd (n (eqb-true (class_of t u) 0 z))
-      | inr parts ↦ parts_from (class_of t) (class_of t u) (split_of t u) a b parts s
+      | inr pieces ↦ pieces_from (class_of t) (class_of t u) (split_of t u) a b pieces s
     ]
 
 keeps_at : (t : Tables) → list_all (λ (r : CharacterClass). keeps_class t r.character) t.classes ≡ true → SplitsKeepClass t
@@ -76,18 +76,18 @@ keeps_at t h u a b s n =
     let at : row.0.character ≡ u = eqb-true row.0.character u found.0 in
     keeps_from t u a b (rw at at found.1) s n
 
-has_parts : (class : ℕ → ℕ) (c : ℕ) (o : Option (ℕ × ℕ)) → ((a b : ℕ) → o ≡ Some (a, b) → (class a ≡ c) × (b ≢ 0 → class b ≡ c)) → parts_have_class class c o ≡ true
-has_parts class c None h = refl
-has_parts class c (Some (a, b)) h =
-    let parts = h a b refl in
-    and_from _ _ (eq-eqb (class a) c parts.0)
-    (elim (cases_eq b 0) [ inl z ↦ or_left _ _ (eq-eqb b 0 z) | inr n ↦ or_right _ _ (eq-eqb (class b) c (parts.1 n)) ])
+has_pieces : (class : ℕ → ℕ) (c : ℕ) (o : Option (ℕ × ℕ)) → ((a b : ℕ) → o ≡ Some (a, b) → (class a ≡ c) × (b ≢ 0 → class b ≡ c)) → pieces_have_class class c o ≡ true
+has_pieces class c None h = refl
+has_pieces class c (Some (a, b)) h =
+    let pieces = h a b refl in
+    and_from _ _ (eq-eqb (class a) c pieces.0)
+    (elim (cases_eq b 0) [ inl z ↦ or_left _ _ (eq-eqb b 0 z) | inr n ↦ or_right _ _ (eq-eqb (class b) c (pieces.1 n)) ])
 
 always_keeps : (t : Tables) → SplitsKeepClass t → (u : ℕ) → keeps_class t u ≡ true
 always_keeps t keeps u =
     elim (cases_eq (class_of t u) 0) [
       | inl z ↦ or_left _ _ (eq-eqb (class_of t u) 0 z)
-      | inr n ↦ or_right _ _ (has_parts (class_of t) (class_of t u) (split_of t u) (λ a b s. keeps u a b s n))
+      | inr n ↦ or_right _ _ (has_pieces (class_of t) (class_of t u) (split_of t u) (λ a b s. keeps u a b s n))
     ]
 
 pub keeps_decided : (t : Tables) → IsTrue (list_all (λ (r : CharacterClass). keeps_class t r.character) t.classes) ↔ SplitsKeepClass t
@@ -98,8 +98,8 @@ same_text-true [] [] h = refl
 same_text-true [] (y ∷ ys) h = cc
 same_text-true (x ∷ xs) [] h = cc
 same_text-true (x ∷ xs) (y ∷ ys) h =
-    let parts = and_parts (x == y) (same_text xs ys) h in
-    ap₂ (λ a b. a ∷ b) (eqb-true x y parts.0) (same_text-true xs ys parts.1)
+    let pieces = and_parts (x == y) (same_text xs ys) h in
+    ap₂ (λ a b. a ∷ b) (eqb-true x y pieces.0) (same_text-true xs ys pieces.1)
 
 same_text-same : (xs : List ℕ) → same_text xs xs ≡ true
 same_text-same [] = refl
@@ -109,12 +109,12 @@ same_text-same (x ∷ xs) = and_from _ _ (eq-eqb x x refl) (same_text-same xs)
 class_or_none : (class : ℕ → ℕ) (p : ℕ → Bool) (c : ℕ) (zs : List ℕ) → list_all (λ z. p (class z)) zs ≡ true → (p c ≡ true) ⊎ (beside_starters class c zs ≡ beside_starters class 0 zs)
 class_or_none class p c [] h = inr refl
 class_or_none class p c (z ∷ zs) h =
-    let parts = and_parts (p (class z)) (list_all (λ z. p (class z)) zs) h in
+    let pieces = and_parts (p (class z)) (list_all (λ z. p (class z)) zs) h in
     elim (cases_eq (class z) c) [
-      | inl at ↦ inl (rw at at parts.0)
+      | inl at ↦ inl (rw at at pieces.0)
       | inr apart ↦
           let off : (class z == c) ≡ false = ne_eqb (class z) c apart in
-          elim (class_or_none class p c zs parts.1) [
+          elim (class_or_none class p c zs pieces.1) [
             | inl passes ↦ inl passes
             | inr same ↦
                 elim (cases_Bool (class z == 0)) [
@@ -126,9 +126,9 @@ class_or_none class p c (z ∷ zs) h =
 
 pub classes_agree : (class : ℕ → ℕ) (xs ys : List ℕ) → has_same_classes class xs ys ≡ true → (c : ℕ) → beside_starters class c xs ≡ beside_starters class c ys
 classes_agree class xs ys h c =
-    let parts = and_parts (same_beside_starters class xs ys 0) (list_all (λ x. same_beside_starters class xs ys (class x)) xs && list_all (λ y. same_beside_starters class xs ys (class y)) ys) h in
-    let both = and_parts (list_all (λ x. same_beside_starters class xs ys (class x)) xs) (list_all (λ y. same_beside_starters class xs ys (class y)) ys) parts.1 in
-    let starters = same_text-true (beside_starters class 0 xs) (beside_starters class 0 ys) parts.0 in
+    let pieces = and_parts (same_beside_starters class xs ys 0) (list_all (λ x. same_beside_starters class xs ys (class x)) xs && list_all (λ y. same_beside_starters class xs ys (class y)) ys) h in
+    let both = and_parts (list_all (λ x. same_beside_starters class xs ys (class x)) xs) (list_all (λ y. same_beside_starters class xs ys (class y)) ys) pieces.1 in
+    let starters = same_text-true (beside_starters class 0 xs) (beside_starters class 0 ys) pieces.0 in
     elim (class_or_none class (same_beside_starters class xs ys) c xs both.0) [
       | inl passes ↦ same_text-true (beside_starters class c xs) (beside_starters class c ys) passes
       | inr none ↦
@@ -172,9 +172,9 @@ pair_row t a b u (Some p) e h = (p, sym e)
 -- a syllable has the expansions of its two halves
 syllable_order : (t : Tables) (a b u : ℕ) → EndWithin (split_of t) 8 → SecondHalvesStay t → hangul_pair a b ≡ Some u → text_order t (full_expansion t u) ≡ text_order t (full_expansion t a ++ full_expansion t b)
 syllable_order t a b u ends stay h =
-    let parts = (hangul_pairs_are_splits a b u).0 h in
-    let s : split_of t u ≡ Some (a, b) = rw parts refl in
-    let present : b ≢ 0 = elim (second_is_jamo u a b parts) [ inl vowel ↦ λ z. absurd (omega (arith, vowel, z)) | inr trailing ↦ λ z. absurd (omega (arith, trailing, z)) ] in
+    let pieces = (hangul_pairs_are_splits a b u).0 h in
+    let s : split_of t u ≡ Some (a, b) = rw pieces refl in
+    let present : b ≢ 0 = elim (second_is_jamo u a b pieces) [ inl vowel ↦ λ z. absurd (omega (arith, vowel, z)) | inr trailing ↦ λ z. absurd (omega (arith, trailing, z)) ] in
     ap (text_order t) (expansion_of_split t u a b ends stay s present)
 
 pair_case : (t : Tables) → EndWithin (split_of t) 8 → SecondHalvesStay t
@@ -225,8 +225,8 @@ seconds_case : (t : Tables) → list_all (λ (r : Split). second_half_stays (spl
     → (u a b : ℕ) (o : Option (ℕ × ℕ)) → o ≡ hangul_split u → option_or o (option_map {U = ℕ × ℕ} (λ (s : Split). (s.first, s.second)) (find (λ (s : Split). s.whole == u) t.splits)) ≡ Some (a, b)
     → split_of t u ≡ Some (a, b) → b ≢ 0 → split_of t b ≡ None
 seconds_case t rows vowels trailing u a b (Some p) e at whole n =
-    let parts : hangul_split u ≡ Some (a, b) = sym e ∙ at in
-    elim (second_is_jamo u a b parts) [
+    let pieces : hangul_split u ≡ Some (a, b) = sym e ∙ at in
+    elim (second_is_jamo u a b pieces) [
       | inl vowel ↦ none_is (split_of t b) (vowels b vowel.0 vowel.1)
       | inr last ↦ none_is (split_of t b) (trailing b last.0 last.1)
     ]
@@ -252,15 +252,15 @@ row_splits_twice t h stay =
 pub vowel_splits : (t : Tables) → SomeAmong 0x1161 21 (λ c. is_none (split_of t c) ≡ false) → SecondHalvesStay t → ⊥
 vowel_splits t (c, (low, high, fails)) stay =
     let pair = pair_of_vowel 0x1100 c (omega arith) (omega arith) low (omega arith) in
-    let parts = (hangul_pairs_are_splits 0x1100 c _).0 pair in
-    let whole : split_of t (0xAC00 + ((0x1100 - 0x1100) * 588 + (c - 0x1161) * 28)) ≡ Some (0x1100, c) = rw parts refl in
+    let pieces = (hangul_pairs_are_splits 0x1100 c _).0 pair in
+    let whole : split_of t (0xAC00 + ((0x1100 - 0x1100) * 588 + (c - 0x1161) * 28)) ≡ Some (0x1100, c) = rw pieces refl in
     both_ways _ fails (is_none-none (split_of t c) (stay _ 0x1100 c whole (omega arith)))
 
 pub trailing_splits : (t : Tables) → SomeAmong 0x11A8 27 (λ c. is_none (split_of t c) ≡ false) → SecondHalvesStay t → ⊥
 trailing_splits t (c, (low, high, fails)) stay =
     let pair = pair_of_trailing 0xAC00 c (omega arith) (omega arith) (omega arith) low (omega arith) in
-    let parts = (hangul_pairs_are_splits 0xAC00 c _).0 pair in
-    let whole : split_of t (0xAC00 + (c - 0x11A7)) ≡ Some (0xAC00, c) = rw parts refl in
+    let pieces = (hangul_pairs_are_splits 0xAC00 c _).0 pair in
+    let whole : split_of t (0xAC00 + (c - 0x11A7)) ≡ Some (0xAC00, c) = rw pieces refl in
     both_ways _ fails (is_none-none (split_of t c) (stay _ 0xAC00 c whole (omega arith)))
 
 pub not_so : (P : Type 0) → (P → ⊥) → IsTrue false ↔ P

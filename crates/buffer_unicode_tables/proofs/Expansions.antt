@@ -6,12 +6,12 @@ use Rattle.buffer_unicode_tables.specs.Hangul.{is_syllable, hangul_split}
 use Rattle.buffer_unicode_tables.specs.Lawful.{SecondHalvesStay}
 use Rattle.buffer_unicode_tables.specs.Tables.{Tables, split_of}
 use Rattle.buffer_unicode_tables.specs.Texts.{full_expansion}
-use Rattle.buffer_unicode_tables.proofs.Chains.{ends_with_first, expanded_alone, expanded_parts}
+use Rattle.buffer_unicode_tables.proofs.Chains.{ends_with_first, expanded_alone, expanded_pieces}
 use Rattle.buffer_unicode_tables.proofs.Syllables.{among_bounds, no_split_without_syllable, split_without_trailing, split_with_trailing, second_eq}
 
-same_parts : (f g : ℕ → List ℕ) (e : ℕ → Bool) → ((a : ℕ) → e a ≡ true → f a ≡ g a) → (u : ℕ) (s : Option (ℕ × ℕ)) → ends_by e s ≡ true → by_halves f u s ≡ by_halves g u s
-same_parts f g e same u None h = refl
-same_parts f g e same u (Some (a, b)) h = ap (with_second_piece b) (same a h)
+same_pieces : (f g : ℕ → List ℕ) (e : ℕ → Bool) → ((a : ℕ) → e a ≡ true → f a ≡ g a) → (u : ℕ) (s : Option (ℕ × ℕ)) → ends_by e s ≡ true → by_halves f u s ≡ by_halves g u s
+same_pieces f g e same u None h = refl
+same_pieces f g e same u (Some (a, b)) h = ap (with_second_piece b) (same a h)
 
 none_alone : (f : ℕ → List ℕ) (u : ℕ) (s : Option (ℕ × ℕ)) → is_none s ≡ true → by_halves f u s ≡ u ∷ []
 none_alone f u None h = refl
@@ -22,14 +22,14 @@ pub depth_is_enough : (splits : Splits) (depth u : ℕ) → ends_within splits d
 unfolding expansion_by_splits ends_within
 depth_is_enough splits zero u h = none_alone (expansion_by_splits splits zero) u (splits u) h
 depth_is_enough splits (suc depth) u h =
-    same_parts (expansion_by_splits splits (suc depth)) (expansion_by_splits splits depth) (ends_within splits depth) (λ a k. depth_is_enough splits depth a k) u (splits u) h
+    same_pieces (expansion_by_splits splits (suc depth)) (expansion_by_splits splits depth) (ends_within splits depth) (λ a k. depth_is_enough splits depth a k) u (splits u) h
 
 -- the full expansion of the first half, then the second half
-pub expansion_of_parts : (t : Tables) (u a b : ℕ) → EndWithin (split_of t) 8 → split_of t u ≡ Some (a, b) → full_expansion t u ≡ with_second_piece b (full_expansion t a)
-expansion_of_parts t u a b ends s =
+pub expansion_of_pieces : (t : Tables) (u a b : ℕ) → EndWithin (split_of t) 8 → split_of t u ≡ Some (a, b) → full_expansion t u ≡ with_second_piece b (full_expansion t a)
+expansion_of_pieces t u a b ends s =
     let first = sym (ends_with_first (split_of t) 8 u a b s (omega arith)) ∙ ends u in
     let enough = depth_is_enough (split_of t) 7 a first in
-    expanded_parts (split_of t) 8 u a b s (omega arith) ∙ ap (with_second_piece b) (sym enough)
+    expanded_pieces (split_of t) 8 u a b s (omega arith) ∙ ap (with_second_piece b) (sym enough)
 
 pub expansion_alone : (t : Tables) (u : ℕ) → split_of t u ≡ None → full_expansion t u ≡ u ∷ []
 expansion_alone t u h = expanded_alone (split_of t) 8 u h
@@ -38,7 +38,7 @@ expansion_alone t u h = expanded_alone (split_of t) 8 u h
 pub expansion_of_split : (t : Tables) (u a b : ℕ) → EndWithin (split_of t) 8 → SecondHalvesStay t → split_of t u ≡ Some (a, b) → b ≢ 0 → full_expansion t u ≡ full_expansion t a ++ full_expansion t b
 expansion_of_split t u a b ends stay s n =
     let off : (b == 0) ≡ false = ne_eqb b 0 n in
-    let whole = expansion_of_parts t u a b ends s in
+    let whole = expansion_of_pieces t u a b ends s in
     let alone = expansion_alone t b (stay u a b s n) in
     rw alone (whole ∙ rw off refl)
 

@@ -179,16 +179,16 @@ starter_met class r x xs s (y ∷ ys) z rr rs later h =
     elim (cases_eq (class y) 0) [
       | inl zy ↦
           let at : (class y == 0) ≡ true = eq-eqb (class y) 0 zy in
-          let parts : (c : ℕ) → SameParts (of_key class c r) (of_key class c s) x y (beside_starters class c xs) (beside_starters class c ys) =
+          let pieces : (c : ℕ) → SameParts (of_key class c r) (of_key class c s) x y (beside_starters class c xs) (beside_starters class c ys) =
           λ c. first_starter class (of_key class c r) (of_key class c s) x y (beside_starters class c xs) (beside_starters class c ys) (run_of_class class c r rr) (run_of_class class c s rs) z zy
           (ap₂ (λ a b. a ++ b) (sym (beside_in_run class c r rr)) (sym (starter_stays class c x xs z))
           ∙ (sym (beside_starters-append class c r (x ∷ xs))
           ∙ (h c
           ∙ (beside_starters-append class c s (y ∷ ys)
           ∙ ap₂ (λ a b. a ++ b) (beside_in_run class c s rs) (starter_stays class c y ys zy))))) in
-          let runs = run_order_same class r s (λ c. (parts c).fronts) in
-          let heads : x ≡ y = (parts 0).starters in
-          let tails = later ys (λ c. (parts c).backs) in
+          let runs = run_order_same class r s (λ c. (pieces c).fronts) in
+          let heads : x ≡ y = (pieces 0).starters in
+          let tails = later ys (λ c. (pieces c).backs) in
           ap₂ (λ a b. a ++ b) runs (ap₂ (λ a b. a ∷ b) heads tails) ∙ sym (cond-true _ _ _ at)
       | inr ny ↦
           let off : (class y == 0) ≡ false = ne_eqb (class y) 0 ny in

@@ -10,29 +10,29 @@ use Rattle.buffer_unicode_tables.specs.Laws.{SplitsKeepExpansion, StepsKeepOrder
 use Rattle.buffer_unicode_tables.proofs.Orders.{beside_starters-append, order_from_classes, classes_from_order}
 use Rattle.buffer_unicode_tables.specs.Tables.{Tables, split_of, class_of}
 use Rattle.buffer_unicode_tables.specs.Texts.{full_expansion, full_text, text_order, IsSwap, splits, joins, swaps, same, then_step}
-use Rattle.buffer_unicode_tables.proofs.Expansions.{expansion_of_parts, expansion_of_split}
+use Rattle.buffer_unicode_tables.proofs.Expansions.{expansion_of_pieces, expansion_of_split}
 
 full_append : (t : Tables) (xs ys : List ℕ) → full_text t (xs ++ ys) ≡ full_text t xs ++ full_text t ys
 full_append t xs ys = flat_map-append (full_expansion t) xs ys
 
 -- the halves of a decomposition have the expansion of the whole
-whole_as_parts : (t : Tables) (u a b : ℕ) → EndWithin (split_of t) 8 → IsLawful t → split_of t u ≡ Some (a, b) → full_expansion t u ≡ full_text t (with_second_piece b (a ∷ []))
-whole_as_parts t u a b ends lawful s =
+whole_as_pieces : (t : Tables) (u a b : ℕ) → EndWithin (split_of t) 8 → IsLawful t → split_of t u ≡ Some (a, b) → full_expansion t u ≡ full_text t (with_second_piece b (a ∷ []))
+whole_as_pieces t u a b ends lawful s =
     elim (cases_eq b 0) [
       | inl z ↦
           let at : (b == 0) ≡ true = eq-eqb b 0 z in
-          let whole = expansion_of_parts t u a b ends s in
+          let whole = expansion_of_pieces t u a b ends s in
           rw at (whole ∙ (rw at (sym (append-nil (full_expansion t a)))))
       | inr n ↦
           let off : (b == 0) ≡ false = ne_eqb b 0 n in
-          let whole = expansion_of_split t u a b ends lawful.second_parts_stay s n in
+          let whole = expansion_of_split t u a b ends lawful.second_pieces_stay s n in
           rw off (whole ∙ ap (λ zs. full_expansion t a ++ zs) (sym (append-nil (full_expansion t b))))
     ]
 
 pub splits_keep_expansion : SplitsKeepExpansion
 splits_keep_expansion t ends lawful xs ys s =
-    let parts = with_second_piece s.second (s.first ∷ []) in
-    let whole = whole_as_parts t s.whole s.first s.second ends lawful s.splits in
+    let pieces = with_second_piece s.second (s.first ∷ []) in
+    let whole = whole_as_pieces t s.whole s.first s.second ends lawful s.splits in
     ap (full_text t) s.is_before
     ∙ (full_append t s.front (s.whole ∷ s.back)
     ∙ (ap (λ zs. full_text t s.front ++ (zs ++ full_text t s.back)) whole
@@ -56,16 +56,16 @@ all_followed class k xs b h e =
       | inr n ↦ let off : (b == 0) ≡ false = ne_eqb b 0 n in rw off (all_push class k xs b h (e n))
     ]
 
-parts_of_class : (class : ℕ → ℕ) (k : ℕ) (expand : ℕ → List ℕ) (u : ℕ) (o : Option (ℕ × ℕ)) → class u ≡ k → ((a b : ℕ) → o ≡ Some (a, b) → (AllOfClass class k (expand a)) × (b ≢ 0 → class b ≡ k)) → AllOfClass class k (by_halves expand u o)
-parts_of_class class k expand u None e h = (e, tt)
-parts_of_class class k expand u (Some (a, b)) e h = let parts = h a b refl in all_followed class k (expand a) b parts.0 parts.1
+pieces_of_class : (class : ℕ → ℕ) (k : ℕ) (expand : ℕ → List ℕ) (u : ℕ) (o : Option (ℕ × ℕ)) → class u ≡ k → ((a b : ℕ) → o ≡ Some (a, b) → (AllOfClass class k (expand a)) × (b ≢ 0 → class b ≡ k)) → AllOfClass class k (by_halves expand u o)
+pieces_of_class class k expand u None e h = (e, tt)
+pieces_of_class class k expand u (Some (a, b)) e h = let pieces = h a b refl in all_followed class k (expand a) b pieces.0 pieces.1
 
 -- what a character of nonzero class expands to has its class
 expansion_of_class : (t : Tables) → SplitsKeepClass t → (k : ℕ) → k ≢ 0 → (depth u : ℕ) → class_of t u ≡ k → AllOfClass (class_of t) k (expansion_by_splits (split_of t) depth u)
 unfolding expansion_by_splits
 expansion_of_class t keeps k n zero u e = (e, tt)
 expansion_of_class t keeps k n (suc depth) u e =
-    parts_of_class (class_of t) k (expansion_by_splits (split_of t) depth) u (split_of t u) e
+    pieces_of_class (class_of t) k (expansion_by_splits (split_of t) depth) u (split_of t u) e
     (λ a b s. let kept = keeps u a b s (λ z. n (sym e ∙ z)) in (expansion_of_class t keeps k n depth a (kept.0 ∙ e), λ m. kept.1 m ∙ e))
 
 none_beside : (class : ℕ → ℕ) (k c : ℕ) (xs : List ℕ) → k ≢ 0 → k ≢ c → AllOfClass class k xs → beside_starters class c xs ≡ []

@@ -6,7 +6,7 @@ use Rattle.buffer_unicode_tables.specs.Hangul.{is_among, is_syllable, is_trailin
 
 pub among_bounds : (base count c : ℕ) → is_among base count c ≡ true → (base ≤ c) × (c < base + count)
 among_bounds base count c h =
-    let parts = and_parts (nat_le base c) (nat_lt c (base + count)) h in (leb-true base c parts.0, ltb-true c (base + count) parts.1)
+    let pieces = and_parts (nat_le base c) (nat_lt c (base + count)) h in (leb-true base c pieces.0, ltb-true c (base + count) pieces.1)
 
 among_from : (base count c : ℕ) → base ≤ c → c < base + count → is_among base count c ≡ true
 among_from base count c low high = and_from _ _ (le-leb base c low) (lt-ltb c (base + count) high)
@@ -65,19 +65,19 @@ unfolding hangul_pair
 split_of_pair a b s h =
     cond_both (is_among 0x1100 19 a && is_among 0x1161 21 b) _ _ (λ o. o ≡ Some s → hangul_split s ≡ Some (a, b))
     (λ first e.
-    let parts = and_parts (is_among 0x1100 19 a) (is_among 0x1161 21 b) first in
-    let leading = among_bounds 0x1100 19 a parts.0 in
-    let vowel = among_bounds 0x1161 21 b parts.1 in
+    let pieces = and_parts (is_among 0x1100 19 a) (is_among 0x1161 21 b) first in
+    let leading = among_bounds 0x1100 19 a pieces.0 in
+    let vowel = among_bounds 0x1161 21 b pieces.1 in
     let value : s ≡ 0xAC00 + ((a - 0x1100) * 588 + (b - 0x1161) * 28) = cc in
     split_without_trailing s (omega arith) (omega arith) (omega arith) ∙ pair_eq _ _ _ _ (omega arith) (omega arith))
     (λ _ later.
     cond_both ((is_syllable a && (a - 0xAC00) % 28 == 0) && is_trailing_consonant b) _ _ (λ o. o ≡ Some s → hangul_split s ≡ Some (a, b))
     (λ second e.
-    let parts = and_parts (is_syllable a && (a - 0xAC00) % 28 == 0) (is_trailing_consonant b) second in
-    let of_a = and_parts (is_syllable a) ((a - 0xAC00) % 28 == 0) parts.0 in
+    let pieces = and_parts (is_syllable a && (a - 0xAC00) % 28 == 0) (is_trailing_consonant b) second in
+    let of_a = and_parts (is_syllable a) ((a - 0xAC00) % 28 == 0) pieces.0 in
     let syllable = among_bounds 0xAC00 11172 a of_a.0 in
     let bare : (a - 0xAC00) % 28 ≡ 0 = eqb-true _ 0 of_a.1 in
-    let trailing = among_bounds 0x11A8 27 b parts.1 in
+    let trailing = among_bounds 0x11A8 27 b pieces.1 in
     let value : s ≡ a + (b - 0x11A7) = cc in
     split_with_trailing s (omega arith) (omega arith) (omega arith) ∙ pair_eq _ _ _ _ (omega arith) (omega arith))
     (λ _ e. cc)

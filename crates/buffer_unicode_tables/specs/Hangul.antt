@@ -20,8 +20,8 @@ unfoldable pub hangul_split : ℕ → Option (ℕ × ℕ)
 hangul_split s =
     let index = s - S_BASE in
     let trailing = index % T_COUNT in
-    let parts = if trailing == 0 then (L_BASE + index / N_COUNT, V_BASE + index % N_COUNT / T_COUNT) else (s - trailing, T_BASE + trailing) in
-    if is_syllable s then Some parts else None
+    let pieces = if trailing == 0 then (L_BASE + index / N_COUNT, V_BASE + index % N_COUNT / T_COUNT) else (s - trailing, T_BASE + trailing) in
+    if is_syllable s then Some pieces else None
 
 -- the syllable of a leading consonant and a vowel, or of a syllable without a trailing consonant and such a consonant
 unfoldable pub hangul_pair : ℕ → ℕ → Option ℕ

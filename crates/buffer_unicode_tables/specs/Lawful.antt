@@ -29,7 +29,7 @@ AsciiHasNoMarks = (u : ℕ) → u < 0x80 → is_mark_category (general_category 
 
 -- tables are lawful
 pub record IsLawful (t : Tables) : Type 0 where
-  pub second_parts_stay : SecondHalvesStay t
+  pub second_pieces_stay : SecondHalvesStay t
   pub pairs_are_equivalent : PairsAreEquivalent t
   pub classes_are_of_marks : ClassesAreOfMarks t
   pub splits_keep_class : SplitsKeepClass t

@@ -41,10 +41,10 @@ abbrev pub class_is_of_mark : CharacterClass → Bool
 class_is_of_mark r = r.class == 0 || is_mark_category (general_category r.character)
 
 -- whether the halves of a decomposition have a class
-abbrev pub parts_have_class : (ℕ → ℕ) → ℕ → Option (ℕ × ℕ) → Bool
-parts_have_class class c None = true
-parts_have_class class c (Some (a, b)) = class a == c && (b == 0 || class b == c)
+abbrev pub pieces_have_class : (ℕ → ℕ) → ℕ → Option (ℕ × ℕ) → Bool
+pieces_have_class class c None = true
+pieces_have_class class c (Some (a, b)) = class a == c && (b == 0 || class b == c)
 
 -- whether the halves of a character of nonzero class have its class
 abbrev pub keeps_class : Tables → ℕ → Bool
-keeps_class t u = class_of t u == 0 || parts_have_class (class_of t) (class_of t u) (split_of t u)
+keeps_class t u = class_of t u == 0 || pieces_have_class (class_of t) (class_of t u) (split_of t u)

@@ -65,8 +65,8 @@ fn chain_ends(splits: &PagedRows<Split>, depth: u32, u: char) -> bool
 pub(crate) fn split(splits: &PagedRows<Split>, u: char) -> Option<(char, char)>
     ensures { result ≡ splits_of splits.now u }
 {
-    if let Some(parts) = decompose_hangul(u) {
-        return Some(parts);
+    if let Some(pieces) = decompose_hangul(u) {
+        return Some(pieces);
     }
     let row = splits.get(u as u32)?;
     Some((row.first, row.second))

@@ -49,7 +49,7 @@ impl UnicodeTables {
         ensures lawful { IsNone result ↔ IsLawful self.now }
         ensures first { IfSome result (IsFirstFault self.now) }
     {
-        if !self.second_parts_stay() {
+        if !self.second_pieces_stay() {
             return Some(LawFault::SecondPartSplits);
         }
         if !self.pairs_are_equivalent() {
@@ -67,7 +67,7 @@ impl UnicodeTables {
         None
     }
 
-    fn second_parts_stay(&self) -> bool
+    fn second_pieces_stay(&self) -> bool
         ensures { IsTrue result ↔ SecondHalvesStay self.now }
     {
         let splits = self.splits();
@@ -106,10 +106,10 @@ impl UnicodeTables {
         };
         let mut whole = ArrayVec::new();
         expand(self.splits(), u, &mut whole);
-        let mut parts = ArrayVec::new();
-        expand(self.splits(), a, &mut parts);
-        expand(self.splits(), b, &mut parts);
-        self.has_same_classes(&whole, &parts)
+        let mut pieces = ArrayVec::new();
+        expand(self.splits(), a, &mut pieces);
+        expand(self.splits(), b, &mut pieces);
+        self.has_same_classes(&whole, &pieces)
     }
 
     #[tactic(auto, using(crate::proofs::Decisions::same_texts_agree))]

@@ -12,11 +12,11 @@ pub struct UnicodeRecords {
     pub classes: Vec<CharacterClass>,
     pub mirrored: Vec<Counterpart>,
     pub vertical: Vec<Counterpart>,
-    /// By first characters.
+    /// Ranges of pictographic characters, in the order of their first characters.
     pub pictographic: Vec<CharacterRange>,
     pub joining: Vec<JoiningRow>,
     pub indic: Vec<IndicRow>,
     pub universal: Vec<UniversalRow>,
-    /// By characters, then by actions.
+    /// Private forms of Thai, in the order of their characters and then of their actions.
     pub thai: Vec<ThaiRow>,
 }

@@ -12,7 +12,7 @@ use crate::records::UnicodeRecords;
 use buffer_rows::{Numbered, PagedRows};
 use buffer_unicode::{
     CharacterClass, CharacterRanges, Counterpart, IndicRow, JoiningRow, Pair, Split, TablesFault,
-    ThaiRow, UnicodeRows, UniversalRow, find_row, read_rows,
+    ThaiRow, UnicodeRows, UniversalRow, find_by_key, read_rows,
 };
 use std::alloc::{AllocError, Global};
 use std::marker::Model;
@@ -131,7 +131,7 @@ impl UnicodeTables {
     pub fn thai(&self, c: char, action: u8) -> Option<(char, char)>
         ensures { result ≡ thai_of self.now c action }
     {
-        let row = find_row(&self.thai, c as u32, action as u32)?;
+        let row = find_by_key(&self.thai, c as u32, action as u32)?;
         Some((row.first, row.second))
     }
 
@@ -189,6 +189,7 @@ fn see_characters(rows: &[Split])
     ensures { are_of_characters rows.now ≡ true }
 {
     for row in rows {
+        // A `char` that is read is known to be a character.
         let _character = row.whole;
     }
 }
@@ -222,7 +223,7 @@ fn paged<R: Numbered>(alloc: Global, rows: Vec<R>) -> Result<PagedRows<R>, Alloc
 /// The two halves of a character's canonical decomposition, one step: by the rule for Hangul, else by the table. The
 /// second half is U+0000 where it is absent. Repeated decomposition of first halves ends within eight steps.
 pub fn decompose(tables: &UnicodeTables, ab: char) -> Option<(char, char)>
-    ensures parts { result ≡ split_of tables.now ab }
+    ensures pieces { result ≡ split_of tables.now ab }
     ensures shallow { EndWithin (split_of tables.now) MAX_SPLITS }
 {
     split(&tables.splits, ab)
@@ -235,5 +236,5 @@ pub fn compose(tables: &UnicodeTables, a: char, b: char) -> Option<char>
     if let Some(syllable) = compose_hangul(a, b) {
         return Some(syllable);
     }
-    Some(find_row(&tables.pairs, a as u32, b as u32)?.whole)
+    Some(find_by_key(&tables.pairs, a as u32, b as u32)?.whole)
 }

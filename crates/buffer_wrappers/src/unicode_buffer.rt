@@ -5,8 +5,7 @@ ghost use Rattle.std.specs.Str.{chars};
 ghost use Rattle.buffer_common.specs.declared.script.TheConstants.{UNKNOWN};
 ghost use Rattle.buffer_core.specs.Sides.{empty_buffer, all_glyphs, with_added, has_room, with_flags, with_level};
 ghost use Rattle.buffer_core.specs.Settings.{with_reset_clusters, with_invisible, with_language, with_not_found_variation_selector, with_post_context, with_pre_context};
-ghost use Rattle.buffer_wrappers.specs.Wrappers.{IsCharacter};
-ghost use Rattle.std.specs.List.{All};
+ghost use Rattle.buffer_wrappers.specs.Wrappers.{IsText};
 ghost use Rattle.buffer_core.specs.Segment.{after_guess_segment_properties, guessed_direction, guessed_script, with_segment};
 ghost use Rattle.buffer_core.specs.Text.{added_glyph, added_text, fits_text};
 
@@ -227,9 +226,7 @@ impl UnicodeBuffer {
     /// The buffer that holds the text.
     pub fn into_buffer(self) -> hb_buffer_t
         ensures same { result ≡ self }
-        ensures closed { result.is_open ≡ false }
-        ensures unrefused { result.has_refused ≡ false }
-        ensures characters { All IsCharacter (all_glyphs result) }
+        ensures text { IsText result }
     {
         let UnicodeBuffer { buffer } = self;
         buffer
@@ -237,9 +234,7 @@ impl UnicodeBuffer {
 
     /// The text that a buffer holds.
     pub fn from_buffer(buffer: hb_buffer_t) -> UnicodeBuffer
-        requires closed { buffer.is_open ≡ false }
-        requires unrefused { buffer.has_refused ≡ false }
-        requires characters { All IsCharacter (all_glyphs buffer) }
+        requires text { IsText buffer }
         ensures { result ≡ buffer }
     {
         UnicodeBuffer { buffer }

@@ -9,7 +9,7 @@ use Rattle.buffer_tags.specs.LanguageTable.{tags_of_table}
 use Rattle.buffer_tags.specs.declared.feature.Feature.{Feature}
 use Rattle.shape_pipeline.specs.buffer_unicode_tables.Tables.{Tables}
 use Rattle.layout_face.specs.declared.parts.FaceParts.{FaceParts}
-use Rattle.script_categories.specs.Fronts.{syllable_at}
+use Rattle.script_categories.specs.LongestMatch.{syllable_at}
 use Rattle.shape_pipeline.specs.script_plan.Rules.{Spans}
 use Rattle.shape_pipeline.specs.Shaped.{by_text, text_reading}
 use Rattle.shell_readers.specs.declared.fault.RunFault.{RunFault}

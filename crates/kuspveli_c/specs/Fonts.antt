@@ -6,7 +6,7 @@ use Rattle.buffer_core.specs.Sides.{Sides, empty_buffer}
 use Rattle.buffer_glyphs.specs.declared.cause.ShapeCause.{ShapeCause}
 use Rattle.buffer_tags.specs.declared.feature.Feature.{Feature}
 use Rattle.buffer_tags.specs.LanguageTable.{tags_of_table}
-use Rattle.script_categories.specs.Fronts.{syllable_at}
+use Rattle.script_categories.specs.LongestMatch.{syllable_at}
 use Rattle.shape_pipeline.specs.Results.{IsRefusedBy, IsShapedBy}
 use Rattle.shape_pipeline.specs.Shaped.{by_text}
 use Rattle.shape_pipeline.specs.Shaping.{Shaping}

@@ -14,7 +14,7 @@ use c_text::numbers::{direction_number, script_number};
 use c_text::types::{kus_glyph_extents_t, kus_slice_t};
 use c_text::written::{extents_of, write_front};
 use layout_face::Face;
-use layout_tables::table::LayoutTable;
+use layout_tables::table::ScriptsAndFeatures;
 use shape_slices::fitting::slices_fit;
 use shape_slices::slices::source_slices;
 use shell_readers::values::utf8;
@@ -274,7 +274,7 @@ pub extern "C" fn kus_font_get_script_tags(
 }
 
 /// The lists of the layout table that a tag names.
-fn layout_in(face: &Face, table: u32) -> Option<&LayoutTable>
+fn layout_in(face: &Face, table: u32) -> Option<&ScriptsAndFeatures>
     ensures { option_copied result ≡ layout_in face.now table }
 {
     match table {
@@ -284,7 +284,7 @@ fn layout_in(face: &Face, table: u32) -> Option<&LayoutTable>
     }
 }
 
-fn write_feature_tags(layout: Option<&LayoutTable>, tags: &mut [u32]) -> usize
+fn write_feature_tags(layout: Option<&ScriptsAndFeatures>, tags: &mut [u32]) -> usize
     ensures count { result ≡ length (feature_tags (option_copied layout.entry)) }
     ensures tags { tags.new ≡ with_front (feature_tags (option_copied layout.entry)) tags.old }
 {
@@ -295,7 +295,7 @@ fn write_feature_tags(layout: Option<&LayoutTable>, tags: &mut [u32]) -> usize
     layout.features().len()
 }
 
-fn write_script_tags(layout: Option<&LayoutTable>, tags: &mut [u32]) -> usize
+fn write_script_tags(layout: Option<&ScriptsAndFeatures>, tags: &mut [u32]) -> usize
     ensures count { result ≡ length (script_tags (option_copied layout.entry)) }
     ensures tags { tags.new ≡ with_front (script_tags (option_copied layout.entry)) tags.old }
 {

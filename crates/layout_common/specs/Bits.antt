@@ -8,7 +8,7 @@ use Rattle.layout_common.specs.Coverage.{is_covered}
 abbrev pub word_has : Option ℕ → ℕ → Bool
 word_has word b = option_map_or (λ w. has_bucket w b) word false
 
--- whether the bit of a glyph is set in words of which the first so many are left out
+-- whether the bit of a glyph is set in words of which the first n are left out
 abbrev pub has_bit : ℕ → List ℕ → ℕ → Bool
 has_bit start words g = if nat_lt (g / 64) start then false else word_has (slice_get words (g / 64 - start)) (g % 64)
 

@@ -19,12 +19,12 @@ may_have_glyph shift mask g = has_bucket mask (bucket shift g)
 abbrev pub is_bucket_of : ℕ → List ℕ → ℕ → Bool
 is_bucket_of shift glyphs b = list_any (λ g. b == bucket shift g) glyphs
 
--- whether a bucket is that of one of so many groups of neighbouring glyphs, from a group on
+-- whether a bucket is that of one of n groups of neighbouring glyphs, from a group on
 abbrev pub is_bucket_from : ℕ → ℕ → ℕ → Bool
 is_bucket_from first zero b = false
 is_bucket_from first (suc n) b = is_bucket_from first n b || b == (first + n) % 64
 
--- so many numbers from one on
+-- n numbers from one on
 abbrev pub numbers_from : ℕ → ℕ → List ℕ
 numbers_from first zero = []
 numbers_from first (suc n) = numbers_from first n ++ (first + n) ∷ []

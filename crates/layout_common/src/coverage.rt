@@ -18,7 +18,7 @@ const WORDS_PER_GLYPH: usize = 2;
 #[derive(Debug, Drop)]
 pub struct Coverage {
     glyphs: Vec<u16>,
-    /// Their bits, unless they lie too far apart.
+    /// Their bits, unless they lie too far apart. They only save time, the search by halves.
     bits: Option<GlyphBits>,
 }
 
@@ -93,8 +93,8 @@ pub trait CoverageExt {
 
     /// Adds the glyphs of the coverage to a set. What was there stays.
     fn collect<D: hb_set_digest_ext>(&self, set_digest: &mut D)
-        ensures added { (g : ℕ) → is_covered g (glyphs self.now) ≡ true → D.may_have set_digest.new g ≡ true }
-        ensures stays { (g : ℕ) → D.may_have set_digest.old g ≡ true → D.may_have set_digest.new g ≡ true };
+        ensures added { (g : ℕ) → is_covered g (glyphs self.now) ≡ true → D.may_contain set_digest.new g ≡ true }
+        ensures stays { (g : ℕ) → D.may_contain set_digest.old g ≡ true → D.may_contain set_digest.new g ≡ true };
 }
 
 impl CoverageExt for Coverage {

@@ -6,7 +6,7 @@ ghost use Rattle.layout_common.specs.Coverage.{is_covered};
 /// A set of glyphs that may have more than were added: those that are in one bucket with an added glyph, for each kind
 /// of buckets that the set has.
 pub trait hb_set_digest_ext: Copy {
-    ghost may_have: { Self → ℕ → Bool };
+    ghost may_contain: { Self → ℕ → Bool };
 
     // these glyphs were added, and no others
     ghost IsDigestOf: { Self → List ℕ → Type 0 };
@@ -16,45 +16,45 @@ pub trait hb_set_digest_ext: Copy {
 
     /// The empty set.
     fn new() -> Self
-        ensures none { (g : ℕ) → may_have result g ≡ false }
+        ensures none { (g : ℕ) → may_contain result g ≡ false }
         ensures exact { IsDigestOf result [] };
 
     /// The set of all glyphs.
     fn full() -> Self
-        ensures { (g : ℕ) → may_have result g ≡ true };
+        ensures { (g : ℕ) → may_contain result g ≡ true };
 
     /// Adds a glyph. What was there stays.
     fn add(&mut self, glyph: u16)
-        ensures added { may_have self.new glyph ≡ true }
-        ensures stays { (g : ℕ) → may_have self.old g ≡ true → may_have self.new g ≡ true }
+        ensures added { may_contain self.new glyph ≡ true }
+        ensures stays { (g : ℕ) → may_contain self.old g ≡ true → may_contain self.new g ≡ true }
         ensures exact { (glyphs : List ℕ) → IsDigestOf self.old glyphs → IsDigestOf self.new (glyphs ++ glyph ∷ []) };
 
     /// Adds glyphs. What was there stays.
     fn add_array(&mut self, glyphs: &[u16])
-        ensures added { (g : ℕ) → is_covered g glyphs.now ≡ true → may_have self.new g ≡ true }
-        ensures stays { (g : ℕ) → may_have self.old g ≡ true → may_have self.new g ≡ true }
+        ensures added { (g : ℕ) → is_covered g glyphs.now ≡ true → may_contain self.new g ≡ true }
+        ensures stays { (g : ℕ) → may_contain self.old g ≡ true → may_contain self.new g ≡ true }
         ensures exact { (others : List ℕ) → IsDigestOf self.old others → IsDigestOf self.new (others ++ glyphs.now) };
 
     /// Adds the glyphs from one to another, none where the last is before the first. What was there stays. It answers
     /// whether the set lacks a glyph.
     fn add_range(&mut self, first: u16, last: u16) -> bool
-        ensures added { (g : ℕ) → first ≤ g → g ≤ last → may_have self.new g ≡ true }
-        ensures stays { (g : ℕ) → may_have self.old g ≡ true → may_have self.new g ≡ true }
-        ensures all { result ≡ false ↔ ((g : ℕ) → may_have self.new g ≡ true) }
+        ensures added { (g : ℕ) → first ≤ g → g ≤ last → may_contain self.new g ≡ true }
+        ensures stays { (g : ℕ) → may_contain self.old g ≡ true → may_contain self.new g ≡ true }
+        ensures all { result ≡ false ↔ ((g : ℕ) → may_contain self.new g ≡ true) }
         ensures exact { (others : List ℕ) → IsDigestOf self.old others
             → IsDigestOf self.new (others ++ numbers_from first (last + 1 - first)) };
 
     /// Whether the set may have a glyph.
     fn may_have_glyph(&self, glyph: u16) -> bool
-        ensures { result ≡ may_have self.now glyph };
+        ensures { result ≡ may_contain self.now glyph };
 
     /// Whether the sets may have a glyph in common. Where they may not, no glyph is in both.
     fn may_have(&self, other: &Self) -> bool
-        ensures apart { result ≡ false → (g : ℕ) → may_have self.now g ≡ true → may_have other.now g ≡ false };
+        ensures apart { result ≡ false → (g : ℕ) → may_contain self.now g ≡ true → may_contain other.now g ≡ false };
 
     // a set may have exactly the glyphs that share buckets with those that were added
     ghost exact: { (s : Self) (glyphs : List ℕ) (g : ℕ) → IsDigestOf s glyphs
-        → may_have s g ≡ shares_buckets glyphs g };
+        → may_contain s g ≡ shares_buckets glyphs g };
 }
 
 /// A set of glyphs by 64 buckets: glyph g is in the bucket `(g >> SHIFT) mod 64`.
@@ -63,14 +63,15 @@ pub struct hb_set_digest_bits_pattern_t<const SHIFT: u8> {
     mask: u64,
 }
 
-/// What two sets may both have.
+/// The set of what two sets both may have: it lacks each glyph that one of them lacks.
 #[derive(Clone, Copy, Debug, Drop)]
 pub struct hb_set_digest_combiner_t<A, B> {
     pub head: A,
     pub tail: B,
 }
 
-/// A set of glyphs by three kinds of buckets.
+/// A set of glyphs by three kinds of buckets. It only saves time: what is skipped at a glyph that it lacks can't act
+/// there.
 pub type hb_set_digest_t = hb_set_digest_combiner_t<
     hb_set_digest_bits_pattern_t<4>,
     hb_set_digest_combiner_t<hb_set_digest_bits_pattern_t<0>, hb_set_digest_bits_pattern_t<9>>,
@@ -80,7 +81,7 @@ impl<A: hb_set_digest_ext, B: hb_set_digest_ext> hb_set_digest_ext
     for hb_set_digest_combiner_t<A, B> {
     ghost use Rattle.layout_common.specs.Lemmas.Digests.{both_alike};
 
-    ghost may_have = { λ s g. A.may_have s.head g && B.may_have s.tail g };
+    ghost may_contain = { λ s g. A.may_contain s.head g && B.may_contain s.tail g };
 
     ghost IsDigestOf = { λ s glyphs. A.IsDigestOf s.head glyphs × B.IsDigestOf s.tail glyphs };
 
@@ -173,7 +174,7 @@ fn with_glyphs<const SHIFT: u8>(mask: u64, glyphs: &[u16]) -> u64
     set
 }
 
-/// The mask with the buckets of so many groups from a group on.
+/// The mask with the buckets of `count` groups from `first` on.
 fn with_groups(mask: u64, first: u32, count: u32) -> u64
     requires { first + count < 2 ^ 32 }
     ensures { (b : ℕ) → has_bucket result b ≡ (has_bucket mask b || is_bucket_from first count b) }
@@ -202,7 +203,7 @@ fn with_range<const SHIFT: u8>(mask: u64, first: u16, last: u16) -> u64
 }
 
 impl<const SHIFT: u8> hb_set_digest_ext for hb_set_digest_bits_pattern_t<SHIFT> {
-    ghost may_have = { λ s g. may_have_glyph SHIFT s.mask g };
+    ghost may_contain = { λ s g. may_have_glyph SHIFT s.mask g };
 
     ghost IsDigestOf = { λ s glyphs. IsMaskOf SHIFT s.mask glyphs };
 

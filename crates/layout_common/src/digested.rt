@@ -12,8 +12,8 @@ pub trait Covers {
 
     /// Adds the glyphs at which it can act. What was there stays.
     fn collect<D: hb_set_digest_ext>(&self, digest: &mut D)
-        ensures added { (g : ℕ) → covers self.now g ≡ true → D.may_have digest.new g ≡ true }
-        ensures stays { (g : ℕ) → D.may_have digest.old g ≡ true → D.may_have digest.new g ≡ true };
+        ensures added { (g : ℕ) → covers self.now g ≡ true → D.may_contain digest.new g ≡ true }
+        ensures stays { (g : ℕ) → D.may_contain digest.old g ≡ true → D.may_contain digest.new g ≡ true };
 }
 
 /// A glyph, as the first item of a rule's input.
@@ -27,16 +27,17 @@ impl Covers for u16 {
 
 /// Adds the glyphs at which one of several can act. What was there stays.
 pub fn collect_each<S: Covers, D: hb_set_digest_ext>(items: &[S], digest: &mut D)
-    ensures added { (g : ℕ) → list_any (λ s. S.covers s g) items.now ≡ true → D.may_have digest.new g ≡ true }
-    ensures stays { (g : ℕ) → D.may_have digest.old g ≡ true → D.may_have digest.new g ≡ true }
+    ensures added { (g : ℕ) → list_any (λ s. S.covers s g) items.now ≡ true → D.may_contain digest.new g ≡ true }
+    ensures stays { (g : ℕ) → D.may_contain digest.old g ≡ true → D.may_contain digest.new g ≡ true }
 {
     for item in items {
         item.collect(digest);
     }
 }
 
-/// Such a thing, with two sets that have each glyph at which it can act: both are asked for a glyph, and the low bits are
-/// held against a text's. It is seen as the thing itself.
+/// A value that can act at some glyphs alone (`Covers`), kept with two sets that have each of these glyphs: a digest,
+/// and one by low bits. The value is skipped at a glyph that either of them lacks, and in a text that shares no low
+/// bits with the second. The sets only save time: contracts see the value alone.
 #[derive(Debug, Drop)]
 pub struct Digested<S: Covers> {
     inner: S,
@@ -52,12 +53,12 @@ impl<S: Covers> Model for Digested<S> {
     ghost view = { λ d. d.inner };
 
     ghost invariant = { λ d. ((g : ℕ) → S.covers d.inner g ≡ true
-        → ⟦<hb_set_digest_t as hb_set_digest_ext>⟧.may_have d.digest g ≡ true)
-        × ((g : ℕ) → S.covers d.inner g ≡ true → ⟦<LowBits as hb_set_digest_ext>⟧.may_have d.low_bits g ≡ true) };
+        → ⟦<hb_set_digest_t as hb_set_digest_ext>⟧.may_contain d.digest g ≡ true)
+        × ((g : ℕ) → S.covers d.inner g ≡ true → ⟦<LowBits as hb_set_digest_ext>⟧.may_contain d.low_bits g ≡ true) };
 }
 
 impl<S: Covers> Digested<S> {
-    /// With the set of its glyphs.
+    /// Keeps a value with both sets of the glyphs at which it can act.
     pub fn new(inner: S) -> Digested<S>
         ensures { result ≡ inner }
     {
@@ -72,32 +73,33 @@ impl<S: Covers> Digested<S> {
         }
     }
 
-    /// The thing itself.
+    /// The value itself.
     pub fn inner(&self) -> &S
         ensures { result.now ≡ self.now }
     {
         &self.inner
     }
 
-    /// Whether it may act at a glyph. Where it may not, it can't.
+    /// Whether both sets have a glyph: where one lacks it, the value can't act there.
     pub fn may_have_glyph(&self, glyph: u16) -> bool
         ensures { result ≡ false → S.covers self.now glyph ≡ false }
     {
-        // Low bits are exact in small fonts; in large ones the digest misses many glyphs that they have.
+        // Low bits first: one test of a bit, which is exact in a font of up to 1,024 glyphs. In larger ones the digest,
+        // three tests, lacks many glyphs that have the low bits of a covered one.
         self.low_bits.may_have_glyph(glyph) && self.digest.may_have_glyph(glyph)
     }
 
     /// The set by low bits, which has each glyph at which it can act.
     pub fn low_bits(&self) -> &LowBits
-        ensures { (g : ℕ) → S.covers self.now g ≡ true → ⟦<LowBits as hb_set_digest_ext>⟧.may_have result.now g ≡ true }
+        ensures { (g : ℕ) → S.covers self.now g ≡ true → ⟦<LowBits as hb_set_digest_ext>⟧.may_contain result.now g ≡ true }
     {
         &self.low_bits
     }
 
-    /// The set, which has each glyph at which it can act.
+    /// The digest, which has each glyph at which it can act.
     pub fn digest(&self) -> hb_set_digest_t
         ensures { (g : ℕ) → S.covers self.now g ≡ true
-            → ⟦<hb_set_digest_t as hb_set_digest_ext>⟧.may_have result g ≡ true }
+            → ⟦<hb_set_digest_t as hb_set_digest_ext>⟧.may_contain result g ≡ true }
     {
         self.digest
     }

@@ -73,7 +73,7 @@ fn word_at(words: &[u64], index: usize) -> Option<u64>
     words.get(index).copied()
 }
 
-/// Appends words without bits, so that there are at least so many.
+/// Appends words without bits, so that there are at least `count`.
 #[tactic(auto, using(crate::proofs::Words::word_appended))]
 fn lengthen(words: &mut Vec<u64>, count: usize) -> Result<(), AllocError>
     ensures long { OnOk result (count ≤ length words.new.items) }

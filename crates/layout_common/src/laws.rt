@@ -9,6 +9,6 @@ use crate::digest::{hb_set_digest_ext, hb_set_digest_t};
 /// neighbours one of the second, and 512 neighbours one of the third, modulo 64 buckets each.
 pub fn law_digests_are_exact(digest: &hb_set_digest_t)
     ensures { (glyphs : List ℕ) (g : ℕ) → ⟦<hb_set_digest_t as hb_set_digest_ext>⟧.IsDigestOf digest.now glyphs
-        → ⟦<hb_set_digest_t as hb_set_digest_ext>⟧.may_have digest.now g
+        → ⟦<hb_set_digest_t as hb_set_digest_ext>⟧.may_contain digest.now g
         ≡ (shares_bucket 4 glyphs g && (shares_bucket 0 glyphs g && shares_bucket 9 glyphs g)) }
 {}

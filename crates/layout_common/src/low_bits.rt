@@ -13,7 +13,7 @@ const WORDS: usize = 16;
 /// How many buckets there are.
 const BUCKETS: u16 = 1024;
 
-/// A set of glyphs by 1024 buckets: glyph g is in the bucket `g mod 1024`. Among glyphs of one run of so many it is exact,
+/// A set of glyphs by 1024 buckets: glyph g is in the bucket `g mod 1024`. Among 1024 neighbouring numbers it is exact,
 /// and it takes one test.
 #[derive(Clone, Copy, Debug, Drop)]
 pub struct LowBits {
@@ -44,7 +44,7 @@ fn are_full(words: &[u64; WORDS]) -> bool
 }
 
 impl hb_set_digest_ext for LowBits {
-    ghost may_have = { λ s g. has_low_bits s.words g };
+    ghost may_contain = { λ s g. has_low_bits s.words g };
 
     ghost IsDigestOf = { λ s glyphs. IsLowBitsOf s.words glyphs };
 

@@ -20,7 +20,8 @@ const FEWEST: usize = 8;
 const MOST: usize = 65536;
 
 /// The subtables of a lookup in the order in which they are tried. Where there are many, an index by the low bits of a
-/// glyph's number has those that may act at it, so that the others aren't tried.
+/// glyph's number has those that may act at it, so that the others aren't tried. The index only saves time: contracts
+/// see the list of subtables.
 #[derive(Debug, Drop)]
 pub struct Subtables<S: Covers> {
     items: Array<Digested<S>>,

@@ -28,7 +28,7 @@ Says (Fits back end ahead) a r ps c =
     (nest : Option (ℕ → Action)) → chain_rule nest a r c
     ≡ later (Break (length c.front - back) (length c.front + ahead) ∷ []) (cut_after_match (each_nested nest r.records c (map (λ k. k + length c.front) ps) (length c.front + end)))
 
--- there are so many items before the cut and from there on
+-- there are as many items before the cut and from there on as a fit read
 abbrev pub IsInside : ChainFit → List ℕ → ℕ → ℕ → Type 0
 IsInside NoAttempt ps front rest = Unit
 IsInside (Fails back ahead) ps front rest = (back ≤ front) × (ahead ≤ rest)

@@ -2,7 +2,7 @@
 use Rattle.std.specs.Prelude.{ℕ, ◌≤◌, ◌+◌, ◌-◌, List}
 use Rattle.layout_contexts.specs.MatchIndices.{AreRising}
 
--- a list of so many items became one of so many others: the indices still rise inside it, the end of the match is no
+-- a list of `before` items became one of `after` items: the indices still rise inside it, the end of the match is no
 -- further from the end of the list, and neither is before where they began
 pub record StaysInside (before after : ℕ) (indices settled : List ℕ) (end at : ℕ) : Type 0 where
   pub within : end ≤ before → at ≤ after

@@ -1,7 +1,7 @@
 -- The indices of a match, once a lookup nested at one of them made the list longer or shorter.
 use Rattle.std.specs.Prelude.{ℕ, zero, suc, ◌+◌, ◌-◌, max, List, [], ◌∷◌, ◌++◌, take, drop, map, get_or}
 
--- so many indices that follow one
+-- n indices that follow one
 abbrev pub following : ℕ → ℕ → List ℕ
 following p zero = []
 following p (suc n) = (p + 1) ∷ following (p + 1) n

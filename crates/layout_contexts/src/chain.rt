@@ -35,14 +35,15 @@ pub struct ChainRule<'a> {
 
 /// The result of matching a rule at the cursor.
 enum ChainFit {
-    /// Its first glyph doesn't match, or it has too many.
+    /// Nothing was tried, so that nothing is flagged: the rule's first glyph doesn't match, or it has more glyphs than
+    /// `MAX_CONTEXT_LENGTH`.
     NoAttempt,
-    /// It doesn't match; so many glyphs before the cursor and from it on were read.
+    /// It doesn't match; `back` glyphs before the cursor and `ahead` from it on were read.
     Fails {
         back: usize,
         ahead: usize,
     },
-    /// So many glyphs before the cursor and from it on were matched; the input ends so far from it.
+    /// `back` glyphs before the cursor and `ahead` from it on were matched; the input ends `end` glyphs from it.
     Fits {
         back: usize,
         end: usize,
@@ -108,6 +109,7 @@ fn find_chain(
         (cut_with ctx.now.random_state buffer.now) }
     ensures inside { IsInside result indices.new.items (length buffer.now.behind) (length buffer.now.ahead) }
 {
+    // Tested again: `first_matches` only spares the caller of this the list of indices.
     if !rule.input.fits(0, buffer.cur(0)) {
         return ChainFit::NoAttempt;
     }
@@ -143,6 +145,7 @@ pub fn match_chain(
         buffer.new }
 {
     let front = backtrack_len(buffer);
+    // Both counts are below 2^59, so that an index ahead counted among all glyphs fits its type.
     let _rest = buffer.lookahead_len();
     match find_chain(ctx, rule, buffer, indices) {
         ChainFit::NoAttempt => None,

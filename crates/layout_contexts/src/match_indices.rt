@@ -7,11 +7,12 @@ ghost use Rattle.layout_contexts.specs.Shifts.{following, indices_after_resize};
 use layout_match::MatchPositions;
 
 #[tactic(auto, using(crate::proofs::Shifted::following_on, crate::proofs::Shifted::following_full, crate::proofs::Shifted::following_all))]
-/// Appends so many indices that follow one, as far as there is room.
+/// Appends `count` indices that follow one, as far as there is room.
 fn push_following(indices: &mut MatchPositions, index: usize, count: usize)
     requires { index + count + 1 < 2 ^ 64 }
     ensures { indices.new.items ≡ take 64 (indices.old.items ++ following index count) }
 {
+    // There are at most 64 indices, which `take 64` keeps.
     let _len = indices.as_slice().len();
     for k in 0..count {
         if indices.is_full() {
@@ -27,6 +28,7 @@ fn push_moved(indices: &mut MatchPositions, later: &[usize], before: usize, afte
     requires { All (λ q. q + after < 2 ^ 64) later.now }
     ensures { indices.new.items ≡ take 64 (indices.old.items ++ map (λ q. q + after - before) later.now) }
 {
+    // There are at most 64 indices, which `take 64` keeps.
     let _len = indices.as_slice().len();
     for index in later {
         if indices.is_full() {
@@ -46,7 +48,7 @@ fn from_index(indices: &[usize], from: usize) -> &[usize]
     &[]
 }
 
-/// Moves all indices by so many.
+/// Adds a number to all indices.
 #[tactic(auto, using(crate::proofs::Shifted::all_moved))]
 pub(crate) fn move_indices(indices: &mut MatchPositions, by: usize)
     requires { All (λ q. q + by < 2 ^ 64) indices.old.items }

@@ -29,6 +29,7 @@ fn move_cursor_to(index: usize, buffer: &mut hb_buffer_t) -> Result<(), ShapeCau
     ensures err { IfErr result (λ e. IsMoveRefusal index (cut_of buffer.old) e) }
     ensures memory { buffer.old.is_open ≡ false → IfErr result (λ e. e ≢ ShapeCause.OutOfMemory) }
 {
+    // A list without an output is within its limit, so that no move in it is refused for length.
     let _count = buffer.len();
     if !buffer.move_to(index)? {
         return Err(ShapeCause::TooLong);

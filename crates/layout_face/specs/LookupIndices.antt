@@ -25,11 +25,11 @@ abbrev pub pair_classes_fit : PairPos → Bool
 pair_classes_fit (Pairs.Glyphs pairs) = true
 pair_classes_fit (Pairs.Classes pairs) = pairs_fit pairs
 
--- whether the lookups that contexts name exist, in a table with so many lookups
+-- whether the lookups that contexts name exist, in a table of n lookups
 abbrev pub contexts_fit : ℕ → List ContextSubtable → Bool
 contexts_fit lookups subtables = list_all (λ s. context_fits lookups s) subtables
 
--- whether the lookups that the subtables of a GSUB lookup name exist, in a table with so many lookups
+-- whether the lookups that the subtables of a GSUB lookup name exist, in a table of n lookups
 abbrev pub substitution_nested_fit : ℕ → SubstitutionSubtables → Bool
 substitution_nested_fit lookups (Subst.Context subtables) = contexts_fit lookups subtables
 substitution_nested_fit lookups (Subst.ChainContext subtables) = contexts_fit lookups subtables
@@ -50,7 +50,7 @@ positioning_classes_fit (MarkToMark subtables) = list_all (λ s. marks_fit_bases
 positioning_classes_fit (Context subtables) = true
 positioning_classes_fit (ChainContext subtables) = true
 
--- whether the lookups that the subtables of a GPOS lookup name exist, in a table with so many lookups
+-- whether the lookups that the subtables of a GPOS lookup name exist, in a table of n lookups
 abbrev pub positioning_nested_fit : ℕ → PositioningSubtables → Bool
 positioning_nested_fit lookups (Context subtables) = contexts_fit lookups subtables
 positioning_nested_fit lookups (ChainContext subtables) = contexts_fit lookups subtables

@@ -62,6 +62,13 @@ impl Face {
         i32::from(self.parts.upem)
     }
 
+    /// The height of the ascender above the baseline, in font units; 0 where the font gives none.
+    pub fn ascender(&self) -> i16
+        ensures { result ≡ self.now.ascender }
+    {
+        self.parts.ascender
+    }
+
     /// The glyph of a character, none where the font has none.
     pub fn get_nominal_glyph(&self, c: char) -> Option<u16>
         ensures { result ≡ nominal_glyph c self.now }

@@ -31,7 +31,7 @@ pub trait LayoutLookup {
     /// The set of the glyphs at which one of its subtables can act, and maybe of others.
     fn digest(&self) -> hb_set_digest_t
         ensures { (g : ℕ) → covers self.now g ≡ true
-            → ⟦<hb_set_digest_t as hb_set_digest_ext>⟧.may_have result g ≡ true };
+            → ⟦<hb_set_digest_t as hb_set_digest_ext>⟧.may_contain result g ≡ true };
 }
 
 /// A layout table, GSUB or GPOS.

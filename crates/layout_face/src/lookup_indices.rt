@@ -12,7 +12,7 @@ use layout_tables::mark::{MarkBasePos, MarkLigPos};
 use layout_tables::pair::PairPos;
 
 impl SubstitutionTable {
-    /// Whether each index of the table is below its list's length; the font has so many mark glyph sets.
+    /// Whether each index of the table is below its list's length; the font has `set_count` mark glyph sets.
     pub fn indices_fit(&self, set_count: usize) -> bool
         ensures { result ≡ substitution_fits set_count self.now }
     {
@@ -22,7 +22,7 @@ impl SubstitutionTable {
 }
 
 impl PositioningTable {
-    /// Whether each index and each class of the table is below its list's length; the font has so many mark glyph sets.
+    /// Whether each index and each class of the table is below its list's length; the font has `set_count` mark glyph sets.
     pub fn indices_fit(&self, set_count: usize) -> bool
         ensures { result ≡ positioning_fits set_count self.now }
     {
@@ -32,7 +32,7 @@ impl PositioningTable {
 }
 
 impl SubstLookup {
-    /// Whether the lookups that its contexts name exist, in a table with so many lookups.
+    /// Whether the lookups that its contexts name exist, in a table of `lookup_count` lookups.
     pub fn nested_fit(&self, lookup_count: usize) -> bool
         ensures { result ≡ substitution_nested_fit lookup_count self.now.subtables }
     {
@@ -51,7 +51,7 @@ impl SubstLookup {
 }
 
 impl PositioningLookup {
-    /// Whether the lookups that its contexts name exist, in a table with so many lookups.
+    /// Whether the lookups that its contexts name exist, in a table of `lookup_count` lookups.
     pub fn nested_fit(&self, lookup_count: usize) -> bool
         ensures { result ≡ positioning_nested_fit lookup_count self.now.subtables }
     {

@@ -13,7 +13,7 @@ use layout_tables::cursive::CursivePos;
 use layout_tables::mark::{MarkBasePos, MarkLigPos};
 use layout_tables::pair::PairPos;
 use layout_tables::single_pos::SinglePos;
-use layout_tables::table::LayoutTable;
+use layout_tables::table::ScriptsAndFeatures;
 
 /// The subtables of a positioning lookup, which are of one type, in the order in which they are tried, each with the
 /// set of the glyphs at which it can act.
@@ -86,7 +86,7 @@ impl PositioningLookup {
     /// The set of the glyphs at which one of its subtables can act, and maybe of others.
     pub fn digest(&self) -> hb_set_digest_t
         ensures { (g : ℕ) → positioning_covers self.now.subtables g ≡ true
-            → ⟦<hb_set_digest_t as hb_set_digest_ext>⟧.may_have result g ≡ true }
+            → ⟦<hb_set_digest_t as hb_set_digest_ext>⟧.may_contain result g ≡ true }
     {
         self.subtables.digest()
     }
@@ -111,14 +111,14 @@ impl PositioningLookup {
 #[derive(Debug, Drop)]
 pub struct PositioningTable {
     /// Scripts, language systems and features.
-    pub inner: LayoutTable,
+    pub inner: ScriptsAndFeatures,
     /// The lookups, in the order of their indices.
     pub lookups: Array<PositioningLookup>,
 }
 
 impl PositioningTable {
     /// A table of its lists of scripts and features, and of its lookups in the order of their indices.
-    pub fn new(inner: LayoutTable, lookups: Array<PositioningLookup>) -> PositioningTable
+    pub fn new(inner: ScriptsAndFeatures, lookups: Array<PositioningLookup>) -> PositioningTable
         ensures { result ≡ record { inner = inner; lookups = lookups } }
     {
         PositioningTable { inner, lookups }

@@ -14,7 +14,7 @@ use layout_tables::ligature::LigatureSubst;
 use layout_tables::reverse::ReverseChainSubst;
 use layout_tables::sequence::{AlternateSubst, MultipleSubst};
 use layout_tables::single_subst::SingleSubst;
-use layout_tables::table::LayoutTable;
+use layout_tables::table::ScriptsAndFeatures;
 
 /// The subtables of a substitution lookup, which are of one type, in the order in which they are tried, each with the
 /// set of the glyphs at which it can act.
@@ -91,7 +91,7 @@ impl SubstLookup {
     /// The set of the glyphs at which one of its subtables can act, and maybe of others.
     pub fn digest(&self) -> hb_set_digest_t
         ensures { (g : ℕ) → substitution_covers self.now.subtables g ≡ true
-            → ⟦<hb_set_digest_t as hb_set_digest_ext>⟧.may_have result g ≡ true }
+            → ⟦<hb_set_digest_t as hb_set_digest_ext>⟧.may_contain result g ≡ true }
     {
         self.subtables.digest()
     }
@@ -128,14 +128,14 @@ pub(crate) fn lookup_props(flags: u16, set: Option<u16>) -> u32
 #[derive(Debug, Drop)]
 pub struct SubstitutionTable {
     /// Scripts, language systems and features.
-    pub inner: LayoutTable,
+    pub inner: ScriptsAndFeatures,
     /// The lookups, in the order of their indices.
     pub lookups: Array<SubstLookup>,
 }
 
 impl SubstitutionTable {
     /// A table of its lists of scripts and features, and of its lookups in the order of their indices.
-    pub fn new(inner: LayoutTable, lookups: Array<SubstLookup>) -> SubstitutionTable
+    pub fn new(inner: ScriptsAndFeatures, lookups: Array<SubstLookup>) -> SubstitutionTable
         ensures { result ≡ record { inner = inner; lookups = lookups } }
     {
         SubstitutionTable { inner, lookups }

@@ -29,7 +29,7 @@ abbrev pub search_result_from : ℕ → Result ℕ ℕ → Result ℕ ℕ
 search_result_from k (Ok at) = Ok (at + k)
 search_result_from k (Err end) = Err (end + k)
 
--- what is kept is what such a search finds before so many of a list's items
+-- what is kept is what such a search finds before the item of index `before` of a list
 pub record IsKept (test : Item → Option Item → Bool) (xs : List Item) (l : LastSearch) : Type 0 where
   pub within : l.before ≤ length xs
   pub inside : IfOk l.found (λ at. at < l.before)

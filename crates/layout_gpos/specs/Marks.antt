@@ -124,7 +124,7 @@ mark_to_base a s c = at_first (λ x. mark_on_base a s.bases (value_of x.number s
 
 -- ---- mark to ligature
 
--- the mark's own component of so many, where it belongs to the ligature; else the last
+-- the mark's own component of n, where it belongs to the ligature; else the last
 abbrev pub component_of : ℕ → Item → Item → ℕ
 component_of count ligature mark = if lig_id ligature == lig_id mark && not (lig_id ligature == 0) && nat_lt 0 (lig_comp mark) then min (lig_comp mark) count - 1 else count - 1
 

@@ -4,11 +4,11 @@ use Rattle.buffer_glyphs.specs.Items.{Position}
 use Rattle.buffer_glyphs.specs.Events.{Event, Break}
 use Rattle.buffer_stages.specs.Actions.{Cut, Outcome, Passes, Acts, Refuses, Action, whole}
 
--- a cut with so many more items done, and with these positions
+-- a cut with n more items done, and with these positions
 abbrev pub cut_with_positions : ℕ → List Position → Cut → Cut
 cut_with_positions n ps c = record c { front = c.front ++ take n c.rest; rest = drop n c.rest; positions = ps }
 
--- the event that so many items before the cut up to so many from there on are unsafe to break
+-- the event that m items before the cut and n from there on are unsafe to break
 abbrev pub break_around : ℕ → ℕ → Cut → List Event
 break_around back ahead c = Break (length c.front - back) (length c.front + ahead) ∷ []
 

@@ -41,7 +41,7 @@ has_no_effect (Some v) = is_zero v
 abbrev pub pair_events : PairValues → ℕ → Cut → List Event
 pair_events v apart c = if is_zero v.first && has_no_effect v.second then [] else break_around 0 (apart + 1) c
 
--- the item so many after the cut is the second: where the two are no pair, all items from the first to it are unsafe to
+-- the item that is `apart` items after the cut is the second: where the two are no pair, all items from the first to it are unsafe to
 -- concat
 abbrev pub pair_of : Direction → ℕ → Option PairValues → Action
 pair_of d apart None c = attempt_around 0 (apart + 1) c

@@ -1,4 +1,5 @@
-//! Attachment of marks to other glyphs by anchors, on a list of positions.
+//! Attachment of marks to other glyphs by anchors, on a list of positions (rustybuzz: hb/ot_layout_gpos_table.rs,
+//! `MarkArrayExt`).
 ghost use Rattle.std.specs.Prelude.{◌≡◌, ◌<◌, ◌-ℤ◌, length};
 ghost use Rattle.layout_gpos.specs.Anchors.{anchored_position, with_mark_attached};
 ghost use Rattle.layout_offsets.specs.Links.{is_near, link_to};

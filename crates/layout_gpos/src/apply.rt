@@ -2,12 +2,12 @@
 //! hb/ot_layout_gsubgpos.rs, `Apply`).
 //!
 //! The trait is of the lookup type and not of its subtable, since types 4 and 6 have subtables of one form.
-ghost use Rattle.std.specs.Prelude.{ℕ, ◌≡◌, ◌<◌, Ok, true, false, [], length};
-ghost use Rattle.buffer_core.specs.Sides.{all_glyphs, items_of};
+ghost use Rattle.std.specs.Prelude.{ℕ, ◌≡◌, ◌<◌, Ok, false, []};
+ghost use Rattle.buffer_core.specs.Sides.{items_of};
 ghost use Rattle.layout_match.specs.Applied.{ApplyContext, apply_context_of};
 ghost use Rattle.buffer_stages.specs.Actions.{Action, first_rule};
-ghost use Rattle.buffer_stages.specs.Buffers.{are_glyphs};
 ghost use Rattle.buffer_stages.specs.Performing.{IsPerformed, cut_with};
+ghost use Rattle.buffer_stages.specs.Ready.{HasCurrentGlyphInPlace, IsAtGlyphPosition};
 ghost use Rattle.buffer_common.specs.declared.direction.Direction.{Direction};
 ghost use Rattle.layout_gpos.specs.Bases.{AreKept};
 
@@ -37,10 +37,7 @@ pub trait Apply {
         last: &mut LastSearches,
         buffer: &mut hb_buffer_t,
     ) -> bool
-        requires closed { buffer.old.is_open ≡ false }
-        requires there { 0 < length buffer.old.ahead }
-        requires placed { length buffer.old.positions ≡ length (all_glyphs buffer.old) }
-        requires number { are_glyphs (items_of buffer.old) ≡ true }
+        requires at_glyph_position { IsAtGlyphPosition buffer.old }
         requires kept { AreKept (apply_context_of ctx.now) (items_of buffer.old) last.old }
         ensures performed { (random : ℕ) → IsPerformed (action subtable.now buffer.old.direction (apply_context_of ctx.now)
             (cut_with random buffer.old)) result random random buffer.old buffer.new }
@@ -58,10 +55,7 @@ fn apply_digested<T: Apply>(
     last: &mut LastSearches,
     buffer: &mut hb_buffer_t,
 ) -> bool
-    requires closed { buffer.old.is_open ≡ false }
-    requires there { 0 < length buffer.old.ahead }
-    requires placed { length buffer.old.positions ≡ length (all_glyphs buffer.old) }
-    requires number { are_glyphs (items_of buffer.old) ≡ true }
+    requires at_glyph_position { IsAtGlyphPosition buffer.old }
     requires kept { AreKept (apply_context_of ctx.now) (items_of buffer.old) last.old }
     ensures performed { (random : ℕ) → IsPerformed (T.action subtable.now buffer.old.direction (apply_context_of ctx.now)
         (cut_with random buffer.old)) result random random buffer.old buffer.new }
@@ -81,9 +75,7 @@ pub fn apply_first<T: Apply>(
     last: &mut LastSearches,
     buffer: &mut hb_buffer_t,
 ) -> bool
-    requires closed { buffer.old.is_open ≡ false }
-    requires there { 0 < length buffer.old.ahead }
-    requires number { are_glyphs (items_of buffer.old) ≡ true }
+    requires current_glyph_in_place { HasCurrentGlyphInPlace buffer.old }
     requires kept { AreKept (apply_context_of ctx.now) (items_of buffer.old) last.old }
     ensures performed { IsPerformed (first_rule (λ s. T.action s buffer.old.direction (apply_context_of ctx.now))
         subtables.now (cut_with ctx.now.random_state buffer.old)) result ctx.now.random_state ctx.now.random_state

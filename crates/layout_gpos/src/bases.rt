@@ -40,7 +40,8 @@ impl Sought {
     }
 }
 
-/// The result of a search, kept for the next one of the same lookup on the same glyphs.
+/// The result of a search, kept for the next one of the same lookup on the same glyphs. It only saves time: it is what
+/// the search would find again, since positioning changes no glyph.
 #[derive(Clone, Copy)]
 pub struct LastSearch {
     /// How many glyphs were before the glyph that searched.
@@ -83,7 +84,7 @@ impl LastSearches {
     }
 }
 
-/// A result counted from a glyph so much farther on.
+/// A result as it is counted from a glyph that is `by` glyphs farther on.
 fn farther(found: Result<usize, usize>, by: usize) -> Result<usize, usize>
     requires inside { IfOk found (λ at. at + by < 2 ^ 64) }
     requires read { IfErr found (λ end. end + by < 2 ^ 64) }

@@ -1,12 +1,12 @@
-//! Mark to base attachment (OpenType, GPOS lookup type 4).
+//! Mark to base attachment (OpenType, GPOS lookup type 4; rustybuzz: hb/ot_layout_gpos_table.rs,
+//! `MarkToBaseAdjustment`).
 ghost use Rattle.std.specs.Prelude.{ℕ, ◌≡◌, ◌<◌, ◌≤◌, IfErr, IfOk, false, true, Ok, length};
-ghost use Rattle.buffer_core.specs.Sides.{all_glyphs, items_of};
 ghost use Rattle.std.specs.Option.{option_copied};
 ghost use Rattle.buffer_rows.specs.Keys.{row_of};
 ghost use Rattle.layout_tables.specs.Marks.{anchor_at};
 ghost use Rattle.layout_match.specs.Applied.{apply_context_of};
-ghost use Rattle.buffer_stages.specs.Buffers.{are_glyphs};
 ghost use Rattle.buffer_stages.specs.Performing.{IsPerformed, cut_with};
+ghost use Rattle.buffer_stages.specs.Ready.{IsAtGlyphPosition, IsAtPosition};
 ghost use Rattle.layout_gpos.specs.Anchors.{with_mark_attached, with_attachment_flag};
 ghost use Rattle.layout_offsets.specs.Links.{is_near};
 ghost use Rattle.layout_gpos.specs.Bases.{IsKept, any_sought};
@@ -55,14 +55,13 @@ pub fn set_attachment_flag(buffer: &mut hb_buffer_t, near: bool)
 
 /// Attaches the mark at the cursor to a glyph before it, and moves the cursor on.
 fn attach(base: Anchor, mark: Anchor, back: usize, buffer: &mut hb_buffer_t)
-    requires closed { buffer.old.is_open ≡ false }
-    requires there { 0 < length buffer.old.ahead }
+    requires at_position { IsAtPosition buffer.old }
     requires before { back < length buffer.old.behind }
-    requires placed { length buffer.old.positions ≡ length (all_glyphs buffer.old) }
     ensures { (random : ℕ) → IsPerformed (attach base mark back (cut_with random buffer.old)) true random random
         buffer.old
         buffer.new }
 {
+    // The number of glyphs bounds `back + 1`.
     let _end = buffer.len();
     let at = buffer.out_len();
     let parent = at - (back + 1);
@@ -80,10 +79,8 @@ pub fn attach_if(
     back: usize,
     buffer: &mut hb_buffer_t,
 ) -> bool
-    requires closed { buffer.old.is_open ≡ false }
-    requires there { 0 < length buffer.old.ahead }
+    requires at_position { IsAtPosition buffer.old }
     requires before { back < length buffer.old.behind }
-    requires placed { length buffer.old.positions ≡ length (all_glyphs buffer.old) }
     ensures { (random : ℕ) → IsPerformed (attach_if base mark back (cut_with random buffer.old)) result random random
         buffer.old buffer.new }
 {
@@ -123,14 +120,12 @@ pub fn attach_to_base(
     back: usize,
     buffer: &mut hb_buffer_t,
 ) -> bool
-    requires closed { buffer.old.is_open ≡ false }
-    requires there { 0 < length buffer.old.ahead }
+    requires at_glyph_position { IsAtGlyphPosition buffer.old }
     requires before { back < length buffer.old.behind }
-    requires placed { length buffer.old.positions ≡ length (all_glyphs buffer.old) }
-    requires number { are_glyphs (items_of buffer.old) ≡ true }
     ensures { (random : ℕ) → IsPerformed (with_found (on_base subtable.now.bases mark) (Ok back) (cut_with random
         buffer.old)) result random random buffer.old buffer.new }
 {
+    // The number of glyphs before the cursor bounds `back + 1`.
     let _end = buffer.out_len();
     let glyph = glyph_before(buffer, back).as_glyph().0;
     let Some(row) = base_row(subtable, glyph) else {

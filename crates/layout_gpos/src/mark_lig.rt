@@ -1,11 +1,11 @@
-//! Mark to ligature attachment (OpenType, GPOS lookup type 5).
-ghost use Rattle.std.specs.Prelude.{ℕ, ◌≡◌, ◌<◌, ◌≤◌, IfErr, IfOk, Ok, false, true, length};
-ghost use Rattle.buffer_core.specs.Sides.{all_glyphs, items_of};
+//! Mark to ligature attachment (OpenType, GPOS lookup type 5; rustybuzz: hb/ot_layout_gpos_table.rs,
+//! `MarkToLigatureAdjustment`).
+ghost use Rattle.std.specs.Prelude.{ℕ, ◌≡◌, ◌<◌, ◌≤◌, IfErr, IfOk, Ok, false, length};
 ghost use Rattle.buffer_glyphs.specs.Items.{item_of};
 ghost use Rattle.layout_tables.specs.Marks.{component_count};
 ghost use Rattle.layout_match.specs.Applied.{apply_context_of};
-ghost use Rattle.buffer_stages.specs.Buffers.{are_glyphs};
 ghost use Rattle.buffer_stages.specs.Performing.{IsPerformed, cut_with};
+ghost use Rattle.buffer_stages.specs.Ready.{IsAtGlyphPosition};
 ghost use Rattle.layout_gpos.specs.Bases.{IsKept, any_sought};
 ghost use Rattle.layout_gpos.specs.declared.bases.Sought.TheVariants.{Ligature};
 ghost use Rattle.layout_gpos.specs.Marks.{component_in, component_of, mark_to_ligature, on_ligature, with_found};
@@ -21,7 +21,7 @@ use layout_match::hb_ot_apply_context_t;
 use layout_match::marking::mark_attempt;
 use layout_tables::mark::{MarkLigPos, MarkRecord};
 
-/// The index of the mark's component among so many of the ligature, where it belongs to that ligature; else of the last
+/// The index of the mark's component among the `count` of the ligature, where it belongs to that ligature; else of the last
 /// one.
 fn component_of(count: usize, ligature: &hb_glyph_info_t, mark: &hb_glyph_info_t) -> usize
     requires { 0 < count }
@@ -61,14 +61,12 @@ fn attach_to_ligature(
     back: usize,
     buffer: &mut hb_buffer_t,
 ) -> bool
-    requires closed { buffer.old.is_open ≡ false }
-    requires there { 0 < length buffer.old.ahead }
+    requires at_glyph_position { IsAtGlyphPosition buffer.old }
     requires before { back < length buffer.old.behind }
-    requires placed { length buffer.old.positions ≡ length (all_glyphs buffer.old) }
-    requires number { are_glyphs (items_of buffer.old) ≡ true }
     ensures { (random : ℕ) → IsPerformed (with_found (on_ligature subtable.now.ligatures mark (item_of info.now)) (Ok
         back) (cut_with random buffer.old)) result random random buffer.old buffer.new }
 {
+    // The number of glyphs before the cursor bounds `back + 1`.
     let _end = buffer.out_len();
     let ligature = glyph_before(buffer, back);
     let glyph = ligature.as_glyph().0;

@@ -1,4 +1,5 @@
-//! Mark to mark attachment (OpenType, GPOS lookup type 6).
+//! Mark to mark attachment (OpenType, GPOS lookup type 6; rustybuzz: hb/ot_layout_gpos_table.rs,
+//! `MarkToMarkAdjustment`).
 ghost use Rattle.std.specs.Prelude.{ℕ, ◌≡◌, ◌<◌, ◌≤◌, ◌&&◌, IfErr, IfOk, false, true, length};
 ghost use Rattle.buffer_core.specs.Sides.{all_glyphs, items_of};
 ghost use Rattle.buffer_glyphs.specs.Items.{item_of};

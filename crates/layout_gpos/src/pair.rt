@@ -1,12 +1,12 @@
-//! Pair adjustment (OpenType, GPOS lookup type 2).
-ghost use Rattle.std.specs.Prelude.{ℕ, ◌≡◌, ◌<◌, ◌≤◌, ◌+◌, ◌==◌, ◌&&◌, IfErr, IfOk, None, Some, [], false, true, if◌then◌else◌, length};
+//! Pair adjustment (OpenType, GPOS lookup type 2; rustybuzz: hb/ot_layout_gpos_table.rs, `PairAdjustment`).
+ghost use Rattle.std.specs.Prelude.{ℕ, ◌≡◌, ◌<◌, ◌≤◌, ◌+◌, ◌==◌, ◌&&◌, IfErr, IfOk, None, Some, [], false, if◌then◌else◌, length};
 ghost use Rattle.std.specs.List.{list_any};
 ghost use Rattle.buffer_stages.specs.Actions.{Passes};
+ghost use Rattle.buffer_stages.specs.Ready.{IsAtGlyphPosition, IsAtPosition};
 ghost use Rattle.layout_tables.specs.Pairs.{glyph_pair_values};
-ghost use Rattle.buffer_core.specs.Sides.{all_glyphs, items_of};
 ghost use Rattle.buffer_glyphs.specs.Items.{strip};
 ghost use Rattle.layout_match.specs.Applied.{apply_context_of};
-ghost use Rattle.buffer_stages.specs.Buffers.{IsPassed, are_glyphs, cut_of};
+ghost use Rattle.buffer_stages.specs.Buffers.{IsPassed, cut_of};
 ghost use Rattle.buffer_stages.specs.Performing.{IsPerformed, cut_with};
 ghost use Rattle.layout_gpos.specs.Values.{is_zero};
 ghost use Rattle.layout_tables.specs.Covers.{covers_first_of_pair};
@@ -125,6 +125,7 @@ fn mark_pair(values: PairValues, apart: usize, buffer: &mut hb_buffer_t)
     requires { apart < length buffer.old.ahead }
     ensures { IsPassed (pair_events values apart (cut_of buffer.old)) buffer.old buffer.new }
 {
+    // The number of glyphs bounds `apart + 1`.
     let _end = buffer.len();
     if !pair_has_no_effect(values) {
         mark_match(0, apart + 1, buffer);
@@ -140,6 +141,7 @@ fn adjust_pair(buffer: &mut hb_buffer_t, first: usize, apart: usize, values: Pai
           values buffer.old.positions;
     } }
 {
+    // The number of positions bounds `first + apart`.
     let _count = buffer.pos_slice().len();
     adjust_glyph(buffer, first, values.first);
     if let Some(value) = values.second {
@@ -150,13 +152,13 @@ fn adjust_pair(buffer: &mut hb_buffer_t, first: usize, apart: usize, values: Pai
 /// Applies the values of a pair to two glyphs, where they are a pair.
 #[tactic(auto, using(crate::proofs::Lemmas::Performed::attempt_performed, crate::proofs::Paired::pair_acted))]
 fn apply_values(values: Option<PairValues>, apart: usize, buffer: &mut hb_buffer_t) -> bool
-    requires closed { buffer.old.is_open ≡ false }
+    requires at_position { IsAtPosition buffer.old }
     requires some { 0 < apart }
     requires there { apart < length buffer.old.ahead }
-    requires placed { length buffer.old.positions ≡ length (all_glyphs buffer.old) }
     ensures { (random : ℕ) → IsPerformed (pair_of buffer.old.direction apart values (cut_with random buffer.old)) result
         random random buffer.old buffer.new }
 {
+    // The number of glyphs bounds `apart + 1`.
     let _end = buffer.len();
     let Some(values) = values else {
         mark_attempt(0, apart + 1, buffer);
@@ -202,10 +204,7 @@ fn apply_from(
     ctx: &hb_ot_apply_context_t,
     buffer: &mut hb_buffer_t,
 ) -> bool
-    requires closed { buffer.old.is_open ≡ false }
-    requires there { 0 < length buffer.old.ahead }
-    requires placed { length buffer.old.positions ≡ length (all_glyphs buffer.old) }
-    requires number { are_glyphs (items_of buffer.old) ≡ true }
+    requires at_glyph_position { IsAtGlyphPosition buffer.old }
     ensures { (random : ℕ) → IsPerformed (if covers_first_of_pair subtable.now first
         then pair_second buffer.old.direction (λ y. pair_values subtable.now first y.number)
         (next_item (apply_context_of ctx.now) (strip buffer.old.ahead)) (cut_with random buffer.old)

@@ -1,4 +1,4 @@
-//! Single adjustment (OpenType, GPOS lookup type 1).
+//! Single adjustment (OpenType, GPOS lookup type 1; rustybuzz: hb/ot_layout_gpos_table.rs, `SingleAdjustment`).
 ghost use Rattle.std.specs.Prelude.{ℕ, ◌≡◌, ◌<◌, false, length};
 ghost use Rattle.buffer_core.specs.Sides.{all_glyphs};
 ghost use Rattle.layout_gpos.specs.Singles.{single_subtable};

@@ -1,4 +1,5 @@
-//! Value records (OpenType, GPOS) applied to a list of positions.
+//! Value records (OpenType, GPOS) applied to a list of positions (rustybuzz: hb/ot_layout_gpos_table.rs,
+//! `ValueRecordExt`).
 ghost use Rattle.std.specs.Prelude.{◌≡◌, ◌<◌, length};
 ghost use Rattle.layout_gpos.specs.Values.{adjusted_position, with_adjusted_position, position_with_advance, is_zero, position_with_placement};
 

@@ -1,4 +1,4 @@
--- A ligature that was made of its parts.
+-- A ligature that was made of its components.
 use Rattle.std.proofs.Common.{ℕ, zero, suc, ◌≡◌, ◌≤◌, ◌<◌, ◌+◌, ◌-◌, ◌==◌, ◌||◌, ◌&&◌, not, true, false, nat_le, Bool, if◌then◌else◌, List, [], ◌∷◌, ◌++◌, length, map, take, drop, refl, sym, ap, ◌∙◌, arith, append_assoc, Some, slice_get}
 use Rattle.std.specs.Prelude.{slice_range}
 use Rattle.std.proofs.lemmas.List.{map-append, length-append, length-map, drop-map, take-append-drop}
@@ -34,8 +34,8 @@ merged_same from to s items =
     let gs = glyphs_merged_at s.level from to (all_glyphs s) in
     cut_with_glyphs (is_marked_at s.level from to (clusters (all_glyphs s))) gs s (ap strip (sym (take-append-drop (length s.behind) gs)) ∙ items)
 
-pub parts_merged : (end start : ℕ) (s new : Sides) → start ≡ s.read → new ≡ with_merged (index_in_all start s) (index_in_all (start + end) s) s → items_of new ≡ items_of s → origins_of new ≡ origins_by (Merge InList (index_in_all start s) (index_in_all (start + end) s) ∷ []) s → IsMerged end s.lig_id s new
-parts_merged end start s new here is items happened =
+pub components_merged : (end start : ℕ) (s new : Sides) → start ≡ s.read → new ≡ with_merged (index_in_all start s) (index_in_all (start + end) s) s → items_of new ≡ items_of s → origins_of new ≡ origins_by (Merge InList (index_in_all start s) (index_in_all (start + end) s) ∷ []) s → IsMerged end s.lig_id s new
+components_merged end start s new here is items happened =
     let from : index_in_all start s ≡ length s.behind = omega (arith, here) in
     let to : index_in_all (start + end) s ≡ length s.behind + end = omega (arith, here) in
     let i = index_in_all start s in
@@ -88,7 +88,7 @@ pub last_ends : (i : ℕ) (places : List ℕ) → last_index (i ∷ places) + 1 
 last_ends i [] = refl
 last_ends i (j ∷ places) = last_ends j places
 
--- what a search for parts and the walk over them leave is what the rule says
+-- what a search for components and the walk over them leave is what the rule says
 pub ligature_made : (gdef : GlyphDefinition) (glyph end r : ℕ) (others : List ℕ) (x : Item) (passed ahead : List Item) (s a b new : Sides) (g : hb_glyph_info_t) → glyph ≤ 65535 → end ≡ end_of 1 others → end ≤ length s.ahead → slice_get a.ahead 0 ≡ Some g
     → IsMerged end (last_given (items_at (0 ∷ others) (strip s.ahead)) s.lig_id) s a
     → x ≡ ligature_item gdef glyph (items_at (0 ∷ others) (strip s.ahead)) (own_number (items_at (0 ∷ others) (strip s.ahead)) s.lig_id) (item_of g)
@@ -194,7 +194,7 @@ ligature_refused gdef glyph end r others passed s a e m is full cause =
       lig_id = last_given ps s.lig_id;
     }) (Merge InList (length c.front) (length c.front + end) ∷ component_deletions (length c.front) 0 others)) s none ∙ ap Refuses (sym cause)
 
--- what follows the parts, by what they tell
+-- what follows the components, by what they tell
 pub after_is : (p-marks : Bool) (p-id p-own p-count id end : ℕ) (others : List ℕ) (s : Sides) (g : hb_glyph_info_t) (rest : List Item) → end ≡ end_of 1 others → slice_get s.ahead (end - 1) ≡ Some g → p-marks ≡ are_marks (items_at (0 ∷ others) (strip s.ahead)) → p-count ≡ component_count (items_at (0 ∷ others) (strip s.ahead)) → p-id ≡ lig_id (item_of g) → p-own ≡ lig_num_comps (item_of g)
     → (if p-marks || (p-id == 0) then rest else following_items id p-id p-count p-own rest) ≡ after_components (items_at (0 ∷ others) (strip s.ahead)) id (slice_get (strip s.ahead) (last_index (0 ∷ others))) rest
 after_is p-marks p-id p-own p-count id end others s g rest ends at marks count last own =
@@ -205,7 +205,7 @@ after_is p-marks p-id p-own p-count id end others s g rest ends at marks count l
 pub given_of : (end : ℕ) (s new : Sides) → IsMerged end s.lig_id s new → new.lig_id ≡ s.lig_id
 given_of end s new m = ap (λ (t : Cut). t.lig_id) m.cut_is
 
--- the first part's item, by what the parts tell
+-- the first component's item, by what the components tell
 pub first_is : (gdef : GlyphDefinition) (glyph id count last : ℕ) (own : Bool) (ps : List Item) (x y : Item) → own ≡ has_own_number ps → count ≡ component_count ps → id ≡ own_number ps last
     → x ≡ record y { number = glyph; unicode_props = ligature_category own y.unicode_props; glyph_props = ligature_props gdef glyph own y.glyph_props; lig_props = if own then ligature_word id count else y.lig_props }
     → x ≡ ligature_item gdef glyph ps (own_number ps last) y

@@ -9,16 +9,16 @@ use Rattle.buffer_glyphs.specs.LigatureWords.{is_mark, lig_num_comps}
 use Rattle.layout_gsub.specs.Ligating.{are_marks, component_count, components_at, items_at}
 
 -- the items at the places that are left begin with the one at the next
-parts_left : (k : ℕ) (places : List ℕ) (gs : List hb_glyph_info_t) (g : hb_glyph_info_t) → k < length places → slice_get gs (get_or places k 0) ≡ Some g → items_at (drop k places) (strip gs) ≡ item_of g ∷ items_at (drop (k + 1) places) (strip gs)
-parts_left k places gs g lt at = rw (drop_more places k 0 lt, slice_get-map item_of gs (get_or places k 0), at) refl
+components_left : (k : ℕ) (places : List ℕ) (gs : List hb_glyph_info_t) (g : hb_glyph_info_t) → k < length places → slice_get gs (get_or places k 0) ≡ Some g → items_at (drop k places) (strip gs) ≡ item_of g ∷ items_at (drop (k + 1) places) (strip gs)
+components_left k places gs g lt at = rw (drop_more places k 0 lt, slice_get-map item_of gs (get_or places k 0), at) refl
 
 pub mark_there : (k : ℕ) (places : List ℕ) (gs : List hb_glyph_info_t) (g : hb_glyph_info_t) → k < length places → slice_get gs (get_or places k 0) ≡ Some g → is_mark (item_of g) ≡ true
     → are_marks (items_at (drop k places) (strip gs)) ≡ are_marks (items_at (drop (k + 1) places) (strip gs))
-mark_there k places gs g lt at is = ap are_marks (parts_left k places gs g lt at) ∙ rw is refl
+mark_there k places gs g lt at is = ap are_marks (components_left k places gs g lt at) ∙ rw is refl
 
 pub other_there : (k : ℕ) (places : List ℕ) (gs : List hb_glyph_info_t) (g : hb_glyph_info_t) → k < length places → slice_get gs (get_or places k 0) ≡ Some g → is_mark (item_of g) ≡ false
     → are_marks (items_at (drop k places) (strip gs)) ≡ false
-other_there k places gs g lt at is = ap are_marks (parts_left k places gs g lt at) ∙ rw is refl
+other_there k places gs g lt at is = ap are_marks (components_left k places gs g lt at) ∙ rw is refl
 
 pub none_there : (k : ℕ) (places : List ℕ) (xs : List Item) → length places ≤ k → are_marks (items_at (drop k places) xs) ≡ true
 none_there k places xs le = rw (drop_all k places le) refl
@@ -27,7 +27,7 @@ none_there k places xs le = rw (drop_all k places le) refl
 pub counted_cons : (x : Item) (xs : List Item) → component_count (x ∷ xs) ≡ lig_num_comps x + component_count xs
 counted_cons x xs = sum-map lig_num_comps (x ∷ xs) ∙ sum_by-cons lig_num_comps x xs ∙ ap (λ n. lig_num_comps x + n) (sym (sum-map lig_num_comps xs))
 
--- the first part is the glyph at the cursor
+-- the first component is the glyph at the cursor
 pub counted_first : (places : List ℕ) (gs : List hb_glyph_info_t) (g : hb_glyph_info_t) → slice_get gs 0 ≡ Some g → component_count (items_at (0 ∷ places) (strip gs)) ≡ lig_num_comps (item_of g) + component_count (items_at places (strip gs))
 counted_first places [] g at = cc
 counted_first places (h ∷ gs) g at = let same : h ≡ g = cc in rw (same) (counted_cons (item_of g) (items_at places (item_of g ∷ strip gs)))
@@ -38,7 +38,7 @@ counted_own (h ∷ gs) g at = let same : h ≡ g = cc in let none : lig_num_comp
 
 pub counted_there : (k : ℕ) (places : List ℕ) (gs : List hb_glyph_info_t) (g : hb_glyph_info_t) → k < length places → slice_get gs (get_or places k 0) ≡ Some g
     → component_count (items_at (drop k places) (strip gs)) ≡ lig_num_comps (item_of g) + component_count (items_at (drop (k + 1) places) (strip gs))
-counted_there k places gs g lt at = ap component_count (parts_left k places gs g lt at) ∙ counted_cons (item_of g) (items_at (drop (k + 1) places) (strip gs))
+counted_there k places gs g lt at = ap component_count (components_left k places gs g lt at) ∙ counted_cons (item_of g) (items_at (drop (k + 1) places) (strip gs))
 
 pub counted_all : (k : ℕ) (places : List ℕ) (xs : List Item) → length places ≤ k → component_count (items_at (drop k places) xs) ≡ 0
 counted_all k places xs le = rw (drop_all k places le) refl

@@ -113,9 +113,9 @@ one_from x s new a =
     map-append origin_of new.behind new.ahead ∙ ap (λ os. os ++ origins new.ahead) a.origin ∙ ap (λ os. (origins s.behind ++ take 1 (origins s.ahead)) ++ os) (ap origins ahead ∙ sym (drop-map origin_of 1 s.ahead)) ∙ append_assoc (origins s.behind) (take 1 (origins s.ahead)) (drop 1 (origins s.ahead))
     ∙ ap (λ os. origins s.behind ++ os) (take-append-drop 1 (origins s.ahead)) ∙ sym (map-append origin_of s.behind s.ahead)
 
--- ---- parts
+-- ---- components
 
--- some parts went: what there is now and what is left to pass and to go is all
+-- some components went: what there is now and what is left to pass and to go is all
 pub record IsUniting (first : Item) (renumbers : Bool) (id e0 o0 : ℕ) (places : List ℕ) (s : Sides) (k from e o : ℕ) (now : Sides) : Type 0 where
   pub items : strip now.behind ++ passed_items renumbers id e o from (drop k places) (strip s.ahead) ≡ strip s.behind ++ first ∷ passed_items renumbers id e0 o0 1 places (strip s.ahead)
   pub origin : origins_after (flag_requests_of s) s.level (component_deletions (length s.behind) k (drop k places)) (origins_of now) ≡ origins_by (component_deletions (length s.behind) 0 places) s
@@ -155,10 +155,10 @@ count_dropped (suc m) [] = omega arith
 count_dropped (suc m) (x ∷ xs) = let here = count_dropped m xs in omega (arith, here)
 
 -- one more went
-part_gone : (x : Item) (renumbers : Bool) (id ended own : ℕ) (places : List ℕ) (s : Sides) (k from e o i : ℕ) (rest : List ℕ) (now mid next : Sides) (g : hb_glyph_info_t) → drop k places ≡ i ∷ rest → drop (k + 1) places ≡ rest → i < length s.ahead → slice_get mid.ahead 0 ≡ Some g
+component_gone : (x : Item) (renumbers : Bool) (id ended own : ℕ) (places : List ℕ) (s : Sides) (k from e o i : ℕ) (rest : List ℕ) (now mid next : Sides) (g : hb_glyph_info_t) → drop k places ≡ i ∷ rest → drop (k + 1) places ≡ rest → i < length s.ahead → slice_get mid.ahead 0 ≡ Some g
     → IsUniting x renumbers id ended own places s k from e o now → from ≤ i → AreRising (i + 1) rest → ArePassedAs (passed_item renumbers id e o) (i - from) now mid → next ≡ with_glyph_skipped mid → origins_of next ≡ origins_by (Replace (length mid.behind) 1 0 ∷ []) mid
     → IsUniting x renumbers id ended own places s (k + 1) (i + 1) (e + lig_num_comps (item_of g)) (lig_num_comps (item_of g)) next
-part_gone x renumbers id ended own places s k from e o i rest now mid next g left after lt at u le rising a is gone =
+component_gone x renumbers id ended own places s k from e o i rest now mid next g left after lt at u le rising a is gone =
     let xs = strip s.ahead in
     let f = passed_item renumbers id e o in
     let n = i - from in
@@ -207,7 +207,7 @@ part_gone x renumbers id ended own places s k from e o i rest now mid next g lef
         let read : mid.read ≡ s.read + from + n = ap (λ (t : Sides). t.read) a.others ∙ ap (λ (t : Sides). t.read + n) u in
         ap (λ (gs : List hb_glyph_info_t). record s { behind = mid.behind; ahead = gs; read = s.read + from + n }) (sym ahead) ∙ ap (λ (m : ℕ). record s { behind = mid.behind; ahead = mid.ahead; read = m }) (sym read)
 
--- the next part goes
+-- the next component goes
 pub next_gone : (x : Item) (renumbers : Bool) (id ended own : ℕ) (places : List ℕ) (s : Sides) (k from e o i : ℕ) (now mid next : Sides) (g : hb_glyph_info_t) → k < length places → i ≡ get_or places k 0 → i < length s.ahead → slice_get mid.ahead 0 ≡ Some g
     → IsUniting x renumbers id ended own places s k from e o now → ArePassedAs (passed_item renumbers id e o) (i - from) now mid → next ≡ with_glyph_skipped mid → origins_of next ≡ origins_by (Replace (length mid.behind) 1 0 ∷ []) mid
     → IsUniting x renumbers id ended own places s (k + 1) (i + 1) (e + lig_num_comps (item_of g)) (lig_num_comps (item_of g)) next
@@ -215,9 +215,9 @@ next_gone x renumbers id ended own places s k from e o i now mid next g lt is th
     let left : drop k places ≡ i ∷ drop (k + 1) places = drop_more places k 0 lt ∙ ap (λ n. n ∷ drop (k + 1) places) (sym is) in
     let P : List ℕ → Type 0 = AreRising from in
     let rising = subst P left u.rising in
-    part_gone x renumbers id ended own places s k from e o i (drop (k + 1) places) now mid next g left refl there at u rising.0 rising.1 a after gone
+    component_gone x renumbers id ended own places s k from e o i (drop (k + 1) places) now mid next g left refl there at u rising.0 rising.1 a after gone
 
--- the next part stands at the cursor or ahead of it
+-- the next component stands at the cursor or ahead of it
 pub next_ahead : (x : Item) (renumbers : Bool) (id ended own : ℕ) (places : List ℕ) (s : Sides) (k from e o i : ℕ) (now : Sides) → k < length places → i ≡ get_or places k 0 → IsUniting x renumbers id ended own places s k from e o now → from ≤ i
 next_ahead x renumbers id ended own places s k from e o i now lt is u =
     let left : drop k places ≡ i ∷ drop (k + 1) places = drop_more places k 0 lt ∙ ap (λ n. n ∷ drop (k + 1) places) (sym is) in
@@ -240,7 +240,7 @@ all_united x renumbers id ended own places s k from e o now le u =
       within = u.within;
     }
 
--- where what is before a part finds no room, there is none for all
+-- where what is before a component finds no room, there is none for all
 pub unite_refused : (x : Item) (renumbers : Bool) (id ended own : ℕ) (places : List ℕ) (s : Sides) (k from e o i : ℕ) (now : Sides) → k < length places → i ≡ get_or places k 0 → i < length s.ahead → IsUniting x renumbers id ended own places s k from e o now → has_output_room (i - from) now ≡ false
     → nat_le (length s.behind + (1 + length (passed_items renumbers id ended own 1 places (strip s.ahead)))) s.max_len ≡ false
 unite_refused x renumbers id ended own places s k from e o i now lt is there u full =
@@ -274,9 +274,9 @@ uniting_open x renumbers id ended own places s k from e o now u opened = ap (λ 
 pub between_open : (f : Item → Item) (n : ℕ) (s new : Sides) → ArePassedAs f n s new → s.is_open ≡ true → new.is_open ≡ true
 between_open f n s new a opened = ap (λ (t : Sides). t.is_open) a.others ∙ opened
 
--- the part itself is then at the cursor
-pub part_there : (x : Item) (renumbers : Bool) (id ended own : ℕ) (places : List ℕ) (s : Sides) (k from e o i : ℕ) (f : Item → Item) (now mid : Sides) → k < length places → i ≡ get_or places k 0 → i < length s.ahead → IsUniting x renumbers id ended own places s k from e o now → ArePassedAs f (i - from) now mid → 0 < length mid.ahead
-part_there x renumbers id ended own places s k from e o i f now mid lt is there u a =
+-- the component itself is then at the cursor
+pub component_there : (x : Item) (renumbers : Bool) (id ended own : ℕ) (places : List ℕ) (s : Sides) (k from e o i : ℕ) (f : Item → Item) (now mid : Sides) → k < length places → i ≡ get_or places k 0 → i < length s.ahead → IsUniting x renumbers id ended own places s k from e o now → ArePassedAs f (i - from) now mid → 0 < length mid.ahead
+component_there x renumbers id ended own places s k from e o i f now mid lt is there u a =
     let le = next_ahead x renumbers id ended own places s k from e o i now lt is u in
     let left = ahead_left x renumbers id ended own places s k from e o now u in
     let rest = ap (λ (t : Sides). length t.ahead) a.others ∙ count_dropped (i - from) now.ahead in

@@ -28,7 +28,7 @@ items_at (i ∷ places) xs = copies 1 (slice_get xs i) ++ items_at places xs
 
 -- whether all items are of GDEF class MARK
 abbrev pub are_marks : List Item → Bool
-are_marks parts = list_all is_mark parts
+are_marks components = list_all is_mark components
 
 -- whether the first item is a base, and the others are of GDEF class MARK
 abbrev pub is_base_with_marks : List Item → Bool
@@ -38,19 +38,19 @@ is_base_with_marks (x ∷ marks) = is_base_glyph x && are_marks marks
 -- whether components become a ligature with a number of its own: not where all are marks, which stay a mark, or a base
 -- with marks, which stays a base
 abbrev pub has_own_number : List Item → Bool
-has_own_number parts = not (are_marks parts || is_base_with_marks parts)
+has_own_number components = not (are_marks components || is_base_with_marks components)
 
 -- the last ligature number given out, once components became a ligature
 abbrev pub last_given : List Item → ℕ → ℕ
-last_given parts last = if has_own_number parts then next_lig_id last else last
+last_given components last = if has_own_number components then next_lig_id last else last
 
 -- the ligature number that such components get, 0 where they get none
 abbrev pub own_number : List Item → ℕ → ℕ
-own_number parts last = if has_own_number parts then next_lig_id last else 0
+own_number components last = if has_own_number components then next_lig_id last else 0
 
 -- how many components the items of a ligature have
 abbrev pub component_count : List Item → ℕ
-component_count parts = sum (map lig_num_comps parts)
+component_count components = sum (map lig_num_comps components)
 
 -- ---- the ligature
 
@@ -62,24 +62,35 @@ ligature_props gdef glyph own old =
     else if own then bit_or (bit_and (bit_or old 48) 48) 4
     else bit_and (bit_or old 48) 0xFFBF
 
--- the property word of a ligature: where its first component is a non-spacing mark (general category 12, Mn), its
--- category is Letter (7, Lo)
+-- how many numbers there are for a general category, which the low bits of a property word hold
+abbrev pub categories : ℕ
+categories = 32
+
+-- the general category Mn, by HarfBuzz's number
+abbrev pub non_spacing_mark : ℕ
+non_spacing_mark = 12
+
+-- the general category Lo, by HarfBuzz's number
+abbrev pub other_letter : ℕ
+other_letter = 7
+
+-- the property word of a ligature: where its first component is a non-spacing mark (Mn), its category is Letter (Lo)
 abbrev pub ligature_category : Bool → ℕ → ℕ
-ligature_category own props = if own && (props % 32 == 12) then props - props % 32 + 7 else props
+ligature_category own props = if own && (props % categories == non_spacing_mark) then props - props % categories + other_letter else props
 
 -- the item that replaces components
 abbrev pub ligature_item : GlyphDefinition → ℕ → List Item → ℕ → Item → Item
-ligature_item gdef glyph parts id x = record x {
+ligature_item gdef glyph components id x = record x {
   number = glyph;
-  unicode_props = ligature_category (has_own_number parts) x.unicode_props;
-  glyph_props = ligature_props gdef glyph (has_own_number parts) x.glyph_props;
-  lig_props = if has_own_number parts then ligature_word id (component_count parts) else x.lig_props;
+  unicode_props = ligature_category (has_own_number components) x.unicode_props;
+  glyph_props = ligature_props gdef glyph (has_own_number components) x.glyph_props;
+  lig_props = if has_own_number components then ligature_word id (component_count components) else x.lig_props;
 }
 
 -- ---- marks
 
--- the component of the new ligature that a mark after a component belongs to, where so many components end with that
--- one, and so many of them are its own; a mark of no component belongs to the last of these
+-- the component of the new ligature that a mark after a component belongs to, where `ended` components end with that
+-- one, and `own` of them are its own; a mark of no component belongs to the last of these
 abbrev pub component_now : ℕ → ℕ → Item → ℕ
 component_now ended own y = ended - own + min (if lig_comp y == 0 then own else lig_comp y) own
 
@@ -108,12 +119,12 @@ following_items id last ended own (y ∷ ys) = if (lig_id y == last) && not (lig
 -- the items after the components: marks that become a mark renumber none, nor does a last component that is of no
 -- ligature
 abbrev pub after_components : List Item → ℕ → Option Item → List Item → List Item
-after_components parts id None rest = rest
-after_components parts id (Some last) rest = if are_marks parts || (lig_id last == 0) then rest else following_items id (lig_id last) (component_count parts) (lig_num_comps last) rest
+after_components components id None rest = rest
+after_components components id (Some last) rest = if are_marks components || (lig_id last == 0) then rest else following_items id (lig_id last) (component_count components) (lig_num_comps last) rest
 
 -- ---- the rule
 
--- the events of deletion of the components after the first, one after another, with so many deleted before
+-- the events of deletion of the components after the first, one after another, with n deleted before
 abbrev pub component_deletions : ℕ → ℕ → List ℕ → List Event
 component_deletions at gone [] = []
 component_deletions at gone (i ∷ places) = Replace (at + i - gone) 1 0 ∷ component_deletions at (gone + 1) places
@@ -127,15 +138,15 @@ last_index (i ∷ j ∷ places) = last_index (j ∷ places)
 -- the items at these indices become a ligature; the last of them ends before `end`
 abbrev pub ligature_substitution : GlyphDefinition → ℕ → List ℕ → ℕ → Action
 ligature_substitution gdef glyph places end c =
-    let parts : List Item = items_at places c.rest in
-    let id : ℕ = own_number parts c.lig_id in
-    let first : List Item = map (ligature_item gdef glyph parts id) (take 1 c.rest) in
+    let components : List Item = items_at places c.rest in
+    let id : ℕ = own_number components c.lig_id in
+    let first : List Item = map (ligature_item gdef glyph components id) (take 1 c.rest) in
     let own : ℕ = components_at 0 c.rest in
-    let passed : List Item = passed_items (has_own_number parts) id own own 1 (drop 1 places) c.rest in
+    let passed : List Item = passed_items (has_own_number components) id own own 1 (drop 1 places) c.rest in
     within_limit (1 + length passed) c (Acts (record c {
       front = c.front ++ first ++ passed;
-      rest = after_components parts id (slice_get c.rest (last_index places)) (drop end c.rest);
-      lig_id = last_given parts c.lig_id;
+      rest = after_components components id (slice_get c.rest (last_index places)) (drop end c.rest);
+      lig_id = last_given components c.lig_id;
     }) (Merge InList (length c.front) (length c.front + end) ∷ component_deletions (length c.front) 0 (drop 1 places)))
 
 -- the ligature where the search finds its components; else all items from the cut to the one that ends the search are

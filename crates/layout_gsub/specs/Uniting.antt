@@ -25,7 +25,7 @@ pub record IsPassedAs (x : Item) (old new : Sides) : Type 0 where
   pub others : new ≡ record old { behind = new.behind; ahead = drop 1 old.ahead; read = old.read + 1 }
   pub within : length new.behind ≤ new.max_len
 
--- so many glyphs were output, each as an item that is made of its own
+-- n glyphs were output, each as an item that is made of its own
 pub record ArePassedAs (f : Item → Item) (n : ℕ) (old new : Sides) : Type 0 where
   pub items : strip new.behind ≡ strip old.behind ++ map f (take n (strip old.ahead))
   pub origin : origins new.behind ≡ origins old.behind ++ take n (origins old.ahead)
@@ -40,7 +40,7 @@ pub record AreUnited (first : Item) (passed : List Item) (places : List ℕ) (ol
   pub others : new ≡ record old { behind = new.behind; ahead = drop (end_of 1 places) old.ahead; read = old.read + end_of 1 places }
   pub within : length new.behind ≤ new.max_len
 
--- so many glyphs from the cursor on were merged, and a ligature number was given out
+-- the first `end` glyphs from the cursor on were merged, and a ligature number was given out
 pub record IsMerged (end lig_id : ℕ) (old new : Sides) : Type 0 where
   pub cut_is : cut_of new ≡ record (cut_of old) { lig_id = lig_id }
   pub happened : HasHappened (Merge InList (length old.behind) (length old.behind + end) ∷ []) old new

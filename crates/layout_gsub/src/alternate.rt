@@ -1,5 +1,6 @@
-//! Alternate substitution (OpenType, GSUB lookup type 3).
-ghost use Rattle.std.specs.Prelude.{◌≡◌, ◌<◌, ◌∷◌, true, [], length};
+//! Alternate substitution (OpenType, GSUB lookup type 3; rustybuzz: hb/ot_layout_gsub_table.rs,
+//! `AlternateSubstitution`).
+ghost use Rattle.std.specs.Prelude.{◌≡◌, ◌<◌, ◌∷◌, [], length};
 ghost use Rattle.buffer_glyphs.specs.Events.{Break};
 ghost use Rattle.buffer_glyphs.specs.Items.{item_of};
 ghost use Rattle.layout_match.specs.Applied.{apply_context_of};
@@ -7,6 +8,7 @@ ghost use Rattle.buffer_stages.specs.Actions.{whole};
 ghost use Rattle.buffer_stages.specs.Buffers.{IsPassed, cut_of};
 ghost use Rattle.buffer_stages.specs.Performing.{Performs, cut_with};
 ghost use Rattle.layout_gsub.specs.Alternates.{alternate_of, alternate_of_value, alternate_subtable, drawn_alternate, feature_value, is_drawn};
+ghost use Rattle.buffer_core.specs.Sides.{HasCurrent};
 
 use crate::apply::{Apply, Skippable};
 use crate::replacement::replace_glyph;
@@ -49,6 +51,7 @@ fn is_drawn(random: bool, value: u64, glyphs: &[u16]) -> bool
 fn mark_all(buffer: &mut hb_buffer_t)
     ensures { IsPassed (Break 0 (length (whole (cut_of buffer.old))) ∷ []) buffer.old buffer.new }
 {
+    // The length of the input is the end for which `None` stands.
     let _end = buffer.len();
     buffer.unsafe_to_break_from_outbuffer(None, None);
 }
@@ -60,8 +63,7 @@ fn draw_alternate(
     buffer: &mut hb_buffer_t,
 ) -> Result<bool, ShapeCause>
     requires some { 0 < length glyphs.now }
-    requires open { buffer.old.is_open ≡ true }
-    requires there { 0 < length buffer.old.ahead }
+    requires current { HasCurrent buffer.old }
     ensures performs { Performs (drawn_alternate ctx.old.face.now.gdef glyphs.now
         (cut_with ctx.old.random_state buffer.old)) result ctx.old.random_state ctx.new.random_state buffer.old
         buffer.new }
@@ -79,8 +81,7 @@ fn apply_alternate(
     ctx: &mut hb_ot_apply_context_t,
     buffer: &mut hb_buffer_t,
 ) -> Result<bool, ShapeCause>
-    requires open { buffer.old.is_open ≡ true }
-    requires there { 0 < length buffer.old.ahead }
+    requires current { HasCurrent buffer.old }
     ensures performs { Performs (alternate_of ctx.old.face.now.gdef ctx.old.random value glyphs.now
         (cut_with ctx.old.random_state buffer.old)) result ctx.old.random_state ctx.new.random_state buffer.old
         buffer.new }

@@ -1,11 +1,11 @@
-//! The trait of substitution subtables, and the first of several that matches.
-ghost use Rattle.std.specs.Prelude.{ℕ, ◌≡◌, ◌<◌, ◌≤◌, true, [], length};
-ghost use Rattle.buffer_core.specs.Sides.{items_of};
+//! The trait of substitution subtables, and the first of several that matches (rustybuzz: hb/ot_layout_gsubgpos.rs,
+//! `Apply`).
+ghost use Rattle.std.specs.Prelude.{ℕ, ◌≡◌, ◌<◌, ◌≤◌, [], length};
 ghost use Rattle.layout_match.specs.Applied.{ApplyContext, apply_context_of};
 ghost use Rattle.layout_gsub.specs.Passing.{ArePassing};
 ghost use Rattle.buffer_stages.specs.Actions.{Action, first_rule};
-ghost use Rattle.buffer_stages.specs.Buffers.{are_glyphs};
 ghost use Rattle.buffer_stages.specs.Performing.{Performs, cut_with};
+ghost use Rattle.buffer_stages.specs.Ready.{HasCurrentGlyph, HasGlyphAtCursor};
 
 use buffer_core::buffer::hb_buffer_t;
 use buffer_glyphs::cause::ShapeCause;
@@ -24,9 +24,7 @@ pub trait Apply {
         ctx: &mut hb_ot_apply_context_t,
         buffer: &mut hb_buffer_t,
     ) -> Result<bool, ShapeCause>
-        requires open { buffer.old.is_open ≡ true }
-        requires there { 0 < length buffer.old.ahead }
-        requires number { are_glyphs (items_of buffer.old) ≡ true }
+        requires current_glyph { HasCurrentGlyph buffer.old }
         ensures performs { Performs (action self.now (apply_context_of ctx.old)
             (cut_with ctx.old.random_state buffer.old)) result ctx.old.random_state ctx.new.random_state buffer.old
             buffer.new }
@@ -68,8 +66,7 @@ fn next_at_cursor<S: Skippable>(
     from: usize,
     buffer: &hb_buffer_t,
 ) -> usize
-    requires there { 0 < length buffer.now.ahead }
-    requires number { are_glyphs (items_of buffer.now) ≡ true }
+    requires glyph_at_cursor { HasGlyphAtCursor buffer.now }
     ensures on { from ≤ result }
     ensures passed { (a : ApplyContext) (r : ℕ) → ArePassing (λ s. S.action s a) subtables.now from result
         (cut_with r buffer.now) }
@@ -91,9 +88,7 @@ pub fn apply_first<S: Skippable>(
     ctx: &mut hb_ot_apply_context_t,
     buffer: &mut hb_buffer_t,
 ) -> Result<bool, ShapeCause>
-    requires open { buffer.old.is_open ≡ true }
-    requires there { 0 < length buffer.old.ahead }
-    requires number { are_glyphs (items_of buffer.old) ≡ true }
+    requires current_glyph { HasCurrentGlyph buffer.old }
     ensures performs { Performs (first_rule (λ s. S.action s (apply_context_of ctx.old)) subtables.now
         (cut_with ctx.old.random_state buffer.old)) result ctx.old.random_state ctx.new.random_state buffer.old
         buffer.new }

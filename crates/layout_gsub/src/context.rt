@@ -3,7 +3,7 @@ ghost use Rattle.std.specs.Prelude.{ℕ, ◌≡◌, ◌≢◌, ◌<◌, ◌||◌
 ghost use Rattle.buffer_glyphs.specs.declared.info.hb_glyph_info_t.{hb_glyph_info_t as Glyph};
 ghost use Rattle.buffer_glyphs.specs.Items.{item_of};
 ghost use Rattle.buffer_glyphs.specs.Origins.{origin_of};
-ghost use Rattle.buffer_core.specs.Sides.{has_output_room};
+ghost use Rattle.buffer_core.specs.Sides.{has_output_room, HasCurrent};
 ghost use Rattle.buffer_stages.specs.Actions.{Acts};
 ghost use Rattle.buffer_stages.specs.Buffers.{cut_of};
 ghost use Rattle.buffer_stages.specs.Performing.{Performs, PerformsWithoutOutput, cut_with};
@@ -31,8 +31,7 @@ pub trait GlyphReplacement {
     /// Replaces the glyph at the cursor by another, and outputs it; its class is GDEF's, where GDEF has classes. It
     /// answers true, as a rule that acted. An output that is in place stays there.
     fn replace_glyph(&self, glyph: u16, buffer: &mut hb_buffer_t) -> Result<bool, ShapeCause>
-        requires open { buffer.old.is_open ≡ true }
-        requires there { 0 < length buffer.old.ahead }
+        requires current { HasCurrent buffer.old }
         ensures performs { Performs (single_substitution (definition self.now) (Some glyph)
             (cut_with (random self.now) buffer.old)) result (random self.now) (random self.now) buffer.old buffer.new }
         ensures apart { OnOk result (buffer.new.is_apart ≡ buffer.old.is_apart) };
@@ -52,8 +51,7 @@ pub trait GlyphReplacement {
         class_guess: GlyphPropsFlags,
         buffer: &mut hb_buffer_t,
     ) -> Result<bool, ShapeCause>
-        requires open { buffer.old.is_open ≡ true }
-        requires there { 0 < length buffer.old.ahead }
+        requires current { HasCurrent buffer.old }
         ensures performs { Performs (ligature_replacement (definition self.now) glyph class_guess.0
             (cut_with (random self.now) buffer.old)) result (random self.now) (random self.now) buffer.old buffer.new }
         ensures apart { OnOk result (buffer.new.is_apart ≡ buffer.old.is_apart) };
@@ -67,8 +65,7 @@ pub trait GlyphReplacement {
         component: usize,
         buffer: &mut hb_buffer_t,
     ) -> Result<(), ShapeCause>
-        requires open { buffer.old.is_open ≡ true }
-        requires there { 0 < length buffer.old.ahead }
+        requires current { HasCurrent buffer.old }
         ensures put { OnOk result ((g : Glyph) → slice_get buffer.old.ahead 0 ≡ Some g →
             IsPut (component_item (definition self.now) (item_of g) component glyph) (origin_of g) buffer.old buffer.new) }
         ensures apart { OnOk result (buffer.new.is_apart
@@ -137,8 +134,7 @@ fn replace_with_ligature(
     class_guess: GlyphPropsFlags,
     buffer: &mut hb_buffer_t,
 ) -> Result<bool, ShapeCause>
-    requires open { buffer.old.is_open ≡ true }
-    requires there { 0 < length buffer.old.ahead }
+    requires current { HasCurrent buffer.old }
     ensures performs { Performs (ligature_replacement ctx.now.face.now.gdef glyph class_guess.0
         (cut_with ctx.now.random_state buffer.old)) result ctx.now.random_state ctx.now.random_state buffer.old
         buffer.new }

@@ -3,12 +3,12 @@
 
 pub mod alternate;
 pub mod apply;
+mod components;
 pub mod context;
 pub mod glyph_classes;
 pub mod ligate;
 pub mod ligature;
 pub mod multiple;
-mod parts;
 pub mod replacement;
 pub mod reverse;
 pub mod single;

@@ -6,14 +6,14 @@ ghost use Rattle.buffer_glyphs.specs.Items.{Item, item_of, strip};
 ghost use Rattle.buffer_glyphs.specs.Origins.{origin_of};
 ghost use Rattle.buffer_core.specs.Lending.{with_glyph_ahead};
 ghost use Rattle.buffer_core.specs.Settings.{next_lig_id};
-ghost use Rattle.buffer_core.specs.Sides.{has_output_room};
+ghost use Rattle.buffer_core.specs.Sides.{has_output_room, HasCurrent};
 ghost use Rattle.buffer_glyphs.specs.LigatureWords.{lig_comp, lig_id, lig_num_comps, ligature_word};
 ghost use Rattle.buffer_stages.specs.Actions.{Refuses};
 ghost use Rattle.buffer_stages.specs.Performing.{IsPerformed, cut_with};
 ghost use Rattle.layout_gsub.specs.Ligating.{component_now, following_items, ligature_substitution, ligature_category, ligature_props, passed_item, passed_items, with_component};
 ghost use Rattle.layout_gsub.specs.Uniting.{ArePassedAs, AreRising, AreUnited, IsMerged, IsPassedAs, IsRenumbered, end_of};
 
-use crate::parts::LigatureParts;
+use crate::components::LigatureComponents;
 use crate::replacement::glyph_props;
 use buffer_core::buffer::hb_buffer_t;
 use buffer_glyphs::cause::ShapeCause;
@@ -24,6 +24,15 @@ use buffer_glyphs::ligature_words::{
     _hb_glyph_info_set_lig_props_for_ligature, _hb_glyph_info_set_lig_props_for_mark,
 };
 use layout_face::Face;
+
+/// The low bits of a property word hold a general category, one of 32.
+const CATEGORIES: u16 = 32;
+
+/// The general category Mn, by HarfBuzz's number.
+const NON_SPACING_MARK: u16 = 12;
+
+/// The general category Lo, by HarfBuzz's number.
+const OTHER_LETTER: u16 = 7;
 
 /// The properties of a ligature whose first component had `old`; `own_number` says whether it gets a ligature number.
 fn ligature_props(
@@ -50,8 +59,9 @@ fn ligature_props(
 fn ligature_category(own_number: bool, old: UnicodeProps) -> UnicodeProps
     ensures { result.0 ≡ ligature_category own_number old.0 }
 {
-    if own_number && old.0 % 32 == 12 {
-        return UnicodeProps(old.0 - old.0 % 32 + 7);
+    let category = old.0 % CATEGORIES;
+    if own_number && category == NON_SPACING_MARK {
+        return UnicodeProps(old.0 - category + OTHER_LETTER);
     }
     old
 }
@@ -60,44 +70,49 @@ fn ligature_category(own_number: bool, old: UnicodeProps) -> UnicodeProps
 fn ligature_info(
     face: &Face,
     glyph: u16,
-    parts: &LigatureParts,
+    components: &LigatureComponents,
     lig_id: u8,
     info: &hb_glyph_info_t,
 ) -> hb_glyph_info_t
     requires { lig_id < 8 }
     ensures item { item_of result ≡ record (item_of info.now) {
       number = glyph;
-      unicode_props = ligature_category parts.now.have_own_number info.now.unicode_props.0;
-      glyph_props = ligature_props face.now.gdef glyph parts.now.have_own_number info.now.glyph_props.0;
-      lig_props = if parts.now.have_own_number then ligature_word lig_id parts.now.component_count
+      unicode_props = ligature_category components.now.have_own_number info.now.unicode_props.0;
+      glyph_props = ligature_props face.now.gdef glyph components.now.have_own_number info.now.glyph_props.0;
+      lig_props = if components.now.have_own_number then ligature_word lig_id components.now.component_count
           else info.now.lig_props;
     } }
     ensures origin { origin_of result ≡ origin_of info.now }
 {
     let mut ligature = hb_glyph_info_t {
         glyph_id: u32::from(glyph),
-        unicode_props: ligature_category(parts.have_own_number, info.unicode_props),
-        glyph_props: ligature_props(face, glyph, parts.have_own_number, info.glyph_props),
+        unicode_props: ligature_category(components.have_own_number, info.unicode_props),
+        glyph_props: ligature_props(face, glyph, components.have_own_number, info.glyph_props),
         ..*info
     };
-    if parts.have_own_number {
-        _hb_glyph_info_set_lig_props_for_ligature(&mut ligature, lig_id, parts.component_count);
+    if components.have_own_number {
+        _hb_glyph_info_set_lig_props_for_ligature(
+            &mut ligature,
+            lig_id,
+            components.component_count,
+        );
     }
     ligature
 }
 
 /// The ligature components that marks after a component of a new ligature belong to.
 #[derive(Clone, Copy)]
-struct PartNumbering {
+struct ComponentNumbering {
     /// Whether marks between components are renumbered.
     renumbers: bool,
     lig_id: u8,
-    /// How many of the ligature's components end with this glyph, and how many are its own.
+    /// How many components the new ligature has up to the glyph that these marks follow, that one's own included.
     ended: u64,
+    /// How many of them are that glyph's own: several, where it was a ligature itself.
     own: u32,
 }
 
-impl PartNumbering {
+impl ComponentNumbering {
     /// The component of the new ligature that a mark belongs to.
     fn component_now(&self, info: &hb_glyph_info_t) -> u64
         requires { self.now.ended < 2 ^ 60 }
@@ -136,16 +151,16 @@ impl PartNumbering {
     }
 
     /// The numbering that applies after the next component.
-    fn behind(&self, part: &hb_glyph_info_t) -> PartNumbering
+    fn behind(&self, component: &hb_glyph_info_t) -> ComponentNumbering
         requires { self.now.ended < 2 ^ 60 }
         ensures numbering { result ≡ record self.now {
-          ended = self.now.ended + lig_num_comps (item_of part.now);
-          own = lig_num_comps (item_of part.now);
+          ended = self.now.ended + lig_num_comps (item_of component.now);
+          own = lig_num_comps (item_of component.now);
         } }
         ensures bound { result.ended ≤ self.now.ended + 2 ^ 28 }
     {
-        let own = _hb_glyph_info_get_lig_num_comps(part);
-        PartNumbering {
+        let own = _hb_glyph_info_get_lig_num_comps(component);
+        ComponentNumbering {
             ended: self.ended + u64::from(own),
             own,
             ..*self
@@ -163,8 +178,7 @@ fn set_glyph(at: usize, info: hb_glyph_info_t, buffer: &mut hb_buffer_t)
 
 /// Replaces the glyph at the cursor by another of its origin, and outputs it.
 fn pass_as(info: hb_glyph_info_t, buffer: &mut hb_buffer_t) -> Result<(), ShapeCause>
-    requires open { buffer.old.is_open ≡ true }
-    requires there { 0 < length buffer.old.ahead }
+    requires current { HasCurrent buffer.old }
     requires origin { (g : Glyph) → slice_get buffer.old.ahead 0 ≡ Some g → origin_of info ≡ origin_of g }
     ensures passed { OnOk result (IsPassedAs (item_of info) buffer.old buffer.new) }
     ensures cause { IfErr result (λ e. e ≢ ShapeCause.OutOfMemory → e ≡ ShapeCause.TooLong) }
@@ -177,9 +191,9 @@ fn pass_as(info: hb_glyph_info_t, buffer: &mut hb_buffer_t) -> Result<(), ShapeC
     Ok(())
 }
 
-/// Outputs so many glyphs from the cursor on, which are between two components.
+/// Outputs `count` glyphs from the cursor on, which are between two components.
 fn pass_between(
-    numbering: &PartNumbering,
+    numbering: &ComponentNumbering,
     count: usize,
     buffer: &mut hb_buffer_t,
 ) -> Result<(), ShapeCause>
@@ -203,14 +217,13 @@ fn pass_between(
 #[tactic(auto, using(crate::proofs::United::unite_refused, crate::proofs::United::first_refused))]
 /// Replaces the current glyph by the ligature, deletes the other components (at `others`), and outputs the glyphs
 /// between them.
-fn unite_parts(
+fn unite_components(
     first: hb_glyph_info_t,
     others: &[usize],
-    first_numbering: PartNumbering,
+    first_numbering: ComponentNumbering,
     buffer: &mut hb_buffer_t,
 ) -> Result<(), ShapeCause>
-    requires open { buffer.old.is_open ≡ true }
-    requires there { 0 < length buffer.old.ahead }
+    requires current { HasCurrent buffer.old }
     requires origin { (g : Glyph) → slice_get buffer.old.ahead 0 ≡ Some g → origin_of first ≡ origin_of g }
     requires ahead { All (λ q. q < length buffer.old.ahead) others.now }
     requires rising { AreRising 1 others.now }
@@ -226,6 +239,7 @@ fn unite_parts(
         nat_le (length buffer.old.behind + (1 + length (passed_items first_numbering.renumbers first_numbering.lig_id
         first_numbering.ended first_numbering.own 1 others.now (strip buffer.old.ahead)))) buffer.old.max_len ≡ false) }
 {
+    // The number of glyphs bounds `*at + 1`.
     let _end = buffer.len();
     pass_as(first, buffer)?;
     let mut numbering = first_numbering;
@@ -248,7 +262,7 @@ fn is_mark_of(ligature: u8, info: &hb_glyph_info_t) -> bool
 
 /// Renumbers the marks from the cursor on that belong to the last component's ligature; the first glyph that doesn't
 /// belong to it ends them.
-fn renumber_following(numbering: &PartNumbering, last_lig_id: u8, buffer: &mut hb_buffer_t)
+fn renumber_following(numbering: &ComponentNumbering, last_lig_id: u8, buffer: &mut hb_buffer_t)
     requires number { numbering.now.lig_id < 8 }
     requires bound { numbering.now.ended < 2 ^ 60 }
     ensures { IsRenumbered (following_items numbering.now.lig_id last_lig_id numbering.now.ended numbering.now.own
@@ -266,39 +280,40 @@ fn renumber_following(numbering: &PartNumbering, last_lig_id: u8, buffer: &mut h
 }
 
 /// Renumbers the marks after the last component, where that is of a ligature.
-fn renumber_behind(parts: &LigatureParts, lig_id: u8, buffer: &mut hb_buffer_t)
+fn renumber_behind(components: &LigatureComponents, lig_id: u8, buffer: &mut hb_buffer_t)
     requires number { lig_id < 8 }
-    requires bound { parts.now.component_count < 2 ^ 60 }
-    ensures { IsRenumbered (if parts.now.are_marks || (parts.now.last_lig_id == 0) then strip buffer.old.ahead
-        else following_items lig_id parts.now.last_lig_id parts.now.component_count parts.now.last_components
+    requires bound { components.now.component_count < 2 ^ 60 }
+    ensures { IsRenumbered (if components.now.are_marks || (components.now.last_lig_id == 0) then strip buffer.old.ahead
+        else following_items lig_id components.now.last_lig_id components.now.component_count components.now.last_components
         (strip buffer.old.ahead)) buffer.old buffer.new }
 {
-    if parts.are_marks || parts.last_lig_id == 0 {
+    if components.are_marks || components.last_lig_id == 0 {
         return;
     }
-    let numbering = PartNumbering {
+    let numbering = ComponentNumbering {
         renumbers: true,
         lig_id,
-        ended: parts.component_count,
-        own: parts.last_components,
+        ended: components.component_count,
+        own: components.last_components,
     };
-    renumber_following(&numbering, parts.last_lig_id, buffer);
+    renumber_following(&numbering, components.last_lig_id, buffer);
 }
 
-/// Merges so many glyphs from the cursor on; answers the number of the new ligature, 0 where it has none of its own.
-fn merge_parts(parts: &LigatureParts, end: usize, buffer: &mut hb_buffer_t) -> u8
+/// Merges the first `end` glyphs from the cursor on; answers the number of the new ligature, 0 where it has none of its own.
+fn merge_components(components: &LigatureComponents, end: usize, buffer: &mut hb_buffer_t) -> u8
     requires open { buffer.old.is_open ≡ true }
     requires within { end ≤ length buffer.old.ahead }
-    ensures given { result ≡ (if parts.now.have_own_number then next_lig_id buffer.old.lig_id else 0) }
+    ensures given { result ≡ (if components.now.have_own_number then next_lig_id buffer.old.lig_id else 0) }
     ensures number { result < 8 }
-    ensures merged { IsMerged end (if parts.now.have_own_number then next_lig_id buffer.old.lig_id
+    ensures merged { IsMerged end (if components.now.have_own_number then next_lig_id buffer.old.lig_id
         else buffer.old.lig_id) buffer.old buffer.new }
     ensures apart { buffer.new.is_apart ≡ buffer.old.is_apart }
 {
+    // The number of glyphs bounds `start + end`.
     let _end = buffer.len();
     let start = buffer.idx();
     buffer.merge_clusters(start, start + end);
-    if !parts.have_own_number {
+    if !components.have_own_number {
         return 0;
     }
     buffer.allocate_lig_id()
@@ -314,8 +329,7 @@ pub fn ligate_input(
     face: &Face,
     buffer: &mut hb_buffer_t,
 ) -> Result<(), ShapeCause>
-    requires open { buffer.old.is_open ≡ true }
-    requires there { 0 < length buffer.old.ahead }
+    requires current { HasCurrent buffer.old }
     requires ahead { All (λ q. q < length buffer.old.ahead) others.now }
     requires rising { AreRising 1 others.now }
     requires few { length others.now < 64 }
@@ -327,16 +341,16 @@ pub fn ligate_input(
     ensures refused { IfErr result (λ e. e ≢ ShapeCause.OutOfMemory → (r : ℕ) →
         ligature_substitution face.now.gdef glyph (0 ∷ others.now) end (cut_with r buffer.old) ≡ Refuses e) }
 {
-    let parts = LigatureParts::new(others, end, buffer);
-    let lig_id = merge_parts(&parts, end, buffer);
-    let first = ligature_info(face, glyph, &parts, lig_id, buffer.cur(0));
-    let numbering = PartNumbering {
-        renumbers: parts.have_own_number,
+    let components = LigatureComponents::new(others, end, buffer);
+    let lig_id = merge_components(&components, end, buffer);
+    let first = ligature_info(face, glyph, &components, lig_id, buffer.cur(0));
+    let numbering = ComponentNumbering {
+        renumbers: components.have_own_number,
         lig_id,
-        ended: u64::from(parts.first_components),
-        own: parts.first_components,
+        ended: u64::from(components.first_components),
+        own: components.first_components,
     };
-    unite_parts(first, others, numbering, buffer)?;
-    renumber_behind(&parts, lig_id, buffer);
+    unite_components(first, others, numbering, buffer)?;
+    renumber_behind(&components, lig_id, buffer);
     Ok(())
 }

@@ -1,13 +1,13 @@
-//! Ligature substitution (OpenType, GSUB lookup type 4).
-ghost use Rattle.std.specs.Prelude.{◌≡◌, ◌<◌, true, length, map};
-ghost use Rattle.buffer_core.specs.Sides.{items_of};
+//! Ligature substitution (OpenType, GSUB lookup type 4; rustybuzz: hb/ot_layout_gsub_table.rs, `LigatureSubstitution`).
+ghost use Rattle.std.specs.Prelude.{◌≡◌, ◌<◌, length, map};
+ghost use Rattle.buffer_core.specs.Sides.{HasCurrent};
 ghost use Rattle.buffer_glyphs.specs.Items.{strip};
 ghost use Rattle.layout_match.specs.Applied.{apply_context_of, own_search};
 ghost use Rattle.layout_match.specs.Matches.{input_end};
 ghost use Rattle.layout_match.specs.Sequences.{is_glyph};
 ghost use Rattle.buffer_stages.specs.Actions.{first_rule};
-ghost use Rattle.buffer_stages.specs.Buffers.{are_glyphs};
 ghost use Rattle.buffer_stages.specs.Performing.{Performs, cut_with};
+ghost use Rattle.buffer_stages.specs.Ready.{HasCurrentGlyph};
 ghost use Rattle.layout_gsub.specs.Ligating.{ligature_found, ligature_over, ligature_subst, may_follow};
 
 use crate::apply::{Apply, Skippable};
@@ -28,8 +28,7 @@ fn apply_ligature(
     ctx: &hb_ot_apply_context_t,
     buffer: &mut hb_buffer_t,
 ) -> Result<bool, ShapeCause>
-    requires open { buffer.old.is_open ≡ true }
-    requires there { 0 < length buffer.old.ahead }
+    requires current { HasCurrent buffer.old }
     requires few { length ligature.now.components < 64 }
     ensures { Performs (ligature_found (apply_context_of ctx.now) ligature.now (input_end (own_search (apply_context_of ctx.now)
         (strip buffer.old.ahead)) (map is_glyph ligature.now.components) (strip buffer.old.ahead))
@@ -37,9 +36,12 @@ fn apply_ligature(
         buffer.new }
 {
     let components = MatchSequence::Glyphs(ligature.components());
+    // Most ligatures fail. So their components are matched without recording, and only those that match are matched
+    // again with their indices, a list of 512 bytes that would be cleared for each try.
     match input_end(ctx, &components, buffer) {
         Ok(end) => {
             let mut places = MatchPositions::new();
+            // It matches as before, and ends at `end` again.
             let _ = match_input(ctx, &components, buffer, &mut places);
             let others = &places.as_slice()[1..];
             ligate_input(others, end, ligature.glyph(), ctx.face, buffer)?;
@@ -92,9 +94,7 @@ fn apply_ligatures(
     ctx: &mut hb_ot_apply_context_t,
     buffer: &mut hb_buffer_t,
 ) -> Result<bool, ShapeCause>
-    requires open { buffer.old.is_open ≡ true }
-    requires there { 0 < length buffer.old.ahead }
-    requires number { are_glyphs (items_of buffer.old) ≡ true }
+    requires current_glyph { HasCurrentGlyph buffer.old }
     ensures performs { Performs (first_rule (ligature_over (apply_context_of ctx.old)) ligatures.now
         (cut_with ctx.old.random_state buffer.old)) result ctx.old.random_state ctx.new.random_state buffer.old
         buffer.new }

@@ -1,8 +1,8 @@
-//! Multiple substitution (OpenType, GSUB lookup type 2).
+//! Multiple substitution (OpenType, GSUB lookup type 2; rustybuzz: hb/ot_layout_gsub_table.rs, `MultipleSubstitution`).
 ghost use Rattle.std.specs.Prelude.{ℕ, ◌≡◌, ◌≢◌, ◌<◌, ◌||◌, nat_lt, true, false, [], length, slice_get, Some, IfErr, OnOk};
 ghost use Rattle.buffer_glyphs.specs.Items.{item_of};
 ghost use Rattle.buffer_glyphs.specs.Origins.{origin_of};
-ghost use Rattle.buffer_core.specs.Sides.{has_output_room};
+ghost use Rattle.buffer_core.specs.Sides.{has_output_room, HasCurrent};
 ghost use Rattle.layout_gsub.specs.Putting.{IsPut};
 ghost use Rattle.buffer_stages.specs.Actions.{Refuses};
 ghost use Rattle.buffer_stages.specs.Performing.{IsPerformed, Performs, cut_with};
@@ -82,8 +82,7 @@ pub fn output_glyph_for_component(
 /// Replaces the glyph at the cursor by several glyphs, and outputs them.
 fn multiply(glyphs: &[u16], face: &Face, buffer: &mut hb_buffer_t) -> Result<(), ShapeCause>
     requires some { 0 < length glyphs.now }
-    requires open { buffer.old.is_open ≡ true }
-    requires there { 0 < length buffer.old.ahead }
+    requires current { HasCurrent buffer.old }
     ensures made { OnOk result ((r : ℕ) → IsPerformed (multiple_substitution face.now.gdef glyphs.now
         (cut_with r buffer.old)) true r r buffer.old buffer.new) }
     ensures refused { IfErr result (λ e. e ≢ ShapeCause.OutOfMemory → (r : ℕ) → multiple_substitution face.now.gdef glyphs.now
@@ -99,8 +98,7 @@ fn multiply(glyphs: &[u16], face: &Face, buffer: &mut hb_buffer_t) -> Result<(),
 
 /// Deletes the glyph at the cursor.
 fn delete(buffer: &mut hb_buffer_t)
-    requires open { buffer.old.is_open ≡ true }
-    requires there { 0 < length buffer.old.ahead }
+    requires current { HasCurrent buffer.old }
     ensures { (r : ℕ) → IsPerformed (deletion (cut_with r buffer.old)) true r r buffer.old buffer.new }
 {
     buffer.delete_glyph();
@@ -111,8 +109,7 @@ fn apply_sequence(
     ctx: &hb_ot_apply_context_t,
     buffer: &mut hb_buffer_t,
 ) -> Result<bool, ShapeCause>
-    requires open { buffer.old.is_open ≡ true }
-    requires there { 0 < length buffer.old.ahead }
+    requires current { HasCurrent buffer.old }
     ensures { Performs (sequence ctx.now.face.now.gdef glyphs.now
         (cut_with ctx.now.random_state buffer.old)) result ctx.now.random_state ctx.now.random_state buffer.old
         buffer.new }

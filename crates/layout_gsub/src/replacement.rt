@@ -1,7 +1,8 @@
 //! One glyph replaced by another (rustybuzz: hb/ot_layout_gsubgpos.rs, `replace_glyph`).
-ghost use Rattle.std.specs.Prelude.{◌≡◌, ◌<◌, true, Some, [], length, slice_get, OnOk, IfErr};
+ghost use Rattle.std.specs.Prelude.{◌≡◌, ◌<◌, Some, [], length, slice_get, OnOk, IfErr};
 ghost use Rattle.buffer_glyphs.specs.declared.info.hb_glyph_info_t.{hb_glyph_info_t as Glyph};
 ghost use Rattle.buffer_core.specs.Lending.{with_glyph_ahead};
+ghost use Rattle.buffer_core.specs.Sides.{HasCurrent};
 ghost use Rattle.buffer_stages.specs.Performing.{Performs, cut_with};
 ghost use Rattle.layout_gsub.specs.Replacements.{glyph_props_of, props_of_class, single_substitution, substituted_props};
 
@@ -63,8 +64,7 @@ pub fn replace_glyph(
     glyph: u16,
     buffer: &mut hb_buffer_t,
 ) -> Result<bool, ShapeCause>
-    requires open { buffer.old.is_open ≡ true }
-    requires there { 0 < length buffer.old.ahead }
+    requires current { HasCurrent buffer.old }
     ensures performs { Performs (single_substitution ctx.now.face.now.gdef (Some glyph)
         (cut_with ctx.now.random_state buffer.old)) result ctx.now.random_state ctx.now.random_state buffer.old
         buffer.new }

@@ -1,15 +1,16 @@
-//! Reverse chaining single substitution (OpenType, GSUB lookup type 8).
+//! Reverse chaining single substitution (OpenType, GSUB lookup type 8; rustybuzz: hb/ot_layout_gsub_table.rs,
+//! `ReverseChainSingleSubstitution`).
 ghost use Rattle.std.specs.Prelude.{◌≡◌, ◌<◌, ◌≤◌, ◌+◌, ◌-◌, ◌∷◌, true, Some, [], length, map, slice_get};
 ghost use Rattle.buffer_glyphs.specs.declared.info.hb_glyph_info_t.{hb_glyph_info_t as Glyph};
 ghost use Rattle.buffer_core.specs.Lending.{with_glyph_ahead};
 ghost use Rattle.buffer_glyphs.specs.Items.{strip};
-ghost use Rattle.buffer_core.specs.Sides.{items_of};
 ghost use Rattle.layout_match.specs.Applied.{apply_context_of, context_search};
 ghost use Rattle.layout_match.specs.Matches.{backtrack_end};
 ghost use Rattle.layout_match.specs.Sequences.{is_covered_by};
 ghost use Rattle.buffer_stages.specs.Actions.{Acts};
-ghost use Rattle.buffer_stages.specs.Buffers.{are_glyphs, cut_of};
+ghost use Rattle.buffer_stages.specs.Buffers.{cut_of};
 ghost use Rattle.buffer_stages.specs.Performing.{PerformsWithoutOutput};
+ghost use Rattle.buffer_stages.specs.Ready.{HasGlyphAtCursor};
 ghost use Rattle.layout_gsub.specs.Reverses.{reverse_after_backtrack, cut_with_substitute_kept, reverse_subtable};
 
 use crate::replacement::substituted_props;
@@ -78,8 +79,7 @@ pub fn apply_reverse_chain_single_subst(
     ctx: &hb_ot_apply_context_t,
     buffer: &mut hb_buffer_t,
 ) -> bool
-    requires there { 0 < length buffer.old.ahead }
-    requires number { are_glyphs (items_of buffer.old) ≡ true }
+    requires glyph_at_cursor { HasGlyphAtCursor buffer.old }
     ensures { PerformsWithoutOutput (reverse_subtable (apply_context_of ctx.now) subtable.now
         (cut_of buffer.old)) result buffer.old buffer.new }
 {

@@ -1,4 +1,4 @@
-//! Single substitution (OpenType, GSUB lookup type 1).
+//! Single substitution (OpenType, GSUB lookup type 1; rustybuzz: hb/ot_layout_gsub_table.rs, `SingleSubstitution`).
 ghost use Rattle.layout_gsub.specs.Replacements.{single_subtable};
 
 use crate::apply::{Apply, Skippable};

@@ -13,7 +13,7 @@ use Rattle.layout_substitution.specs.Substituting.{substitution_stages}
 use Rattle.layout_positioning.specs.Positioning.{positioning_stages}
 use Rattle.buffer_stage_laws.specs.Counting.{is_left}
 
--- so many units were taken of a budget, each while one was left: none of a budget of none, and never more than there were
+-- units were taken of a budget, each while one was left: none of a budget of none, and never more than there were
 pub record IsTaken (given left : ℤ) : Type 0 where
   pub taken : ℕ
   pub sum : given ≡ left +ℤ pos taken

@@ -22,7 +22,7 @@ features_of table = option_map_or (λ (t : LayoutLists). t.features) table []
 abbrev pub script_of : List Tag → Option LayoutLists → Option ChosenScript
 script_of scripts table = option_and_then (λ (t : LayoutLists). chosen_script scripts t.scripts) table
 
--- the table, with so many lookups, for the wanted scripts and languages, the best first
+-- the table, of n lookups, for the wanted scripts and languages, the best first
 abbrev pub chosen_table : List Tag → List Tag → Option LayoutLists → ℕ → ChosenTable
 chosen_table scripts languages table lookup_count = record {
   script = script_of scripts table;

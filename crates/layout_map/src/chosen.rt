@@ -11,13 +11,13 @@ use layout_face::positioning::PositioningTable;
 use layout_face::substitution::SubstitutionTable;
 use layout_map_features::per_table::TableIndex;
 use layout_tables::script::LangSys;
-use layout_tables::table::{FeatureRecord, LayoutTable, SelectedScript};
+use layout_tables::table::{FeatureRecord, ScriptsAndFeatures, SelectedScript};
 use std::marker::Model;
 
 /// A layout table, where the font has it, with the script and the language system that are chosen for a text.
 #[derive(Drop)]
 pub struct ChosenTable<'a> {
-    table: Option<&'a LayoutTable>,
+    table: Option<&'a ScriptsAndFeatures>,
     lookup_count: usize,
     script: Option<SelectedScript<'a>>,
     system: Option<&'a LangSys>,
@@ -67,7 +67,7 @@ impl<'a> ChosenTable<'a> {
     }
 
     fn new(
-        table: Option<&'a LayoutTable>,
+        table: Option<&'a ScriptsAndFeatures>,
         lookup_count: usize,
         scripts: &[Tag],
         languages: &[Tag],
@@ -153,7 +153,7 @@ fn first_of_tag(features: &[FeatureRecord], tag: Tag) -> Option<usize>
 }
 
 fn selected_script<'a>(
-    table: Option<&'a LayoutTable>,
+    table: Option<&'a ScriptsAndFeatures>,
     scripts: &[Tag],
 ) -> Option<SelectedScript<'a>>
     ensures { option_map (λ s. record { found = s.found; script = s.script.now }) result

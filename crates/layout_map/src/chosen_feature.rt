@@ -23,13 +23,13 @@ pub struct feature_map_t {
     pub mask: u32,
     /// The mask of a glyph whose value is 1.
     pub one_mask: u32,
-    /// ZWNJ is skipped when contexts are matched.
+    /// Whether ZWNJ is skipped when contexts are matched.
     pub auto_zwnj: bool,
-    /// ZWJ is skipped when input is matched.
+    /// Whether ZWJ is skipped when input is matched.
     pub auto_zwj: bool,
-    /// An alternate is drawn at random.
+    /// Whether an alternate is drawn at random.
     pub random: bool,
-    /// Its lookups match within syllables.
+    /// Whether its lookups match within syllables alone.
     pub per_syllable: bool,
 }
 

@@ -26,7 +26,7 @@ bits_needed value = min (32 - leading_zeros w32 value) 8
 abbrev pub global_field : FeatureField
 global_field = record { shift = global_shift; mask = global_bit; one_mask = global_bit; default_mask = global_bit }
 
--- so many bits of a feature's own from a bit on, with the low bits of the value outside ranges
+-- n bits of a feature's own from a bit on, with the low bits of the value outside ranges
 abbrev pub own_field : ℕ → ℕ → ℕ → FeatureField
 own_field next count value = record {
   shift = next;

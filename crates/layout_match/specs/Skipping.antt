@@ -15,8 +15,8 @@ PassesAll act [] = Unit
 PassesAll act (x ∷ xs) = PassesAt act x × PassesAll act xs
 
 -- a set of glyphs, which may have more, has the glyph of each item
-abbrev pub HoldsGlyphs : (ℕ → Bool) → List Item → Type 0
-HoldsGlyphs has xs = (n : ℕ) → list_any (λ (x : Item). x.number == n) xs ≡ true → has n ≡ true
+abbrev pub HoldsNumbers : (ℕ → Bool) → List Item → Type 0
+HoldsNumbers has xs = (n : ℕ) → list_any (λ (x : Item). x.number == n) xs ≡ true → has n ≡ true
 
 -- what is known of a text: a set that has its glyphs, and the masks with which one of them may share a bit; both may
 -- have more
@@ -30,4 +30,4 @@ HoldsMasks shares xs = (mask : ℕ) → list_any (λ (x : Item). shares_mask mas
 
 -- what is known of a text is true of these items
 abbrev pub HoldsText : TextSets → List Item → Type 0
-HoldsText t xs = HoldsGlyphs t.has xs × HoldsMasks t.shares xs
+HoldsText t xs = HoldsNumbers t.has xs × HoldsMasks t.shares xs

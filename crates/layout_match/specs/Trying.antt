@@ -43,7 +43,7 @@ abbrev pub trial_at : Action → (Cut → Reading) → View → List Item → Cu
 trial_at act next v [] c = Ok (with_events [] (view_at v c))
 trial_at act next v (x ∷ rest) c = after_outcome (outcome_past_item (act c) c) next v c
 
--- a rule tried at so many indices at most, the first of them the cut
+-- a rule tried at n indices at most, the first of them the cut
 abbrev pub trials : Action → View → ℕ → Cut → Reading
 trials act v zero c = Ok (with_events [] (view_at v c))
 trials act v (suc n) c = trial_at act (trials act v n) v c.rest c
@@ -52,7 +52,7 @@ trials act v (suc n) c = trial_at act (trials act v n) v c.rest c
 abbrev pub with_zero_positions : View → Read
 with_zero_positions v = with_events [] (record v { positions = zero_positions (length v.items) })
 
--- the items done and the items left become one list, which may have so many items
+-- the items done and the items left become one list, where that is not above the limit
 abbrev pub whole_list : Stage
 whole_list v = if nat_le (length v.items) v.max_len then Ok (with_zero_positions v) else Err TooLong
 

@@ -6,6 +6,7 @@ ghost use Rattle.buffer_core.specs.Sides.{items_of};
 ghost use Rattle.buffer_stages.specs.Actions.{Action, Passes};
 ghost use Rattle.buffer_stages.specs.Buffers.{are_glyphs};
 ghost use Rattle.buffer_stages.specs.Performing.{cut_with};
+ghost use Rattle.buffer_stages.specs.Ready.{HasGlyphAtCursor};
 ghost use Rattle.layout_match.specs.Applied.{apply_context_of};
 ghost use Rattle.layout_match.specs.Skipping.{PassesAt};
 ghost use Rattle.layout_match.specs.Trying.{meets, met_first};
@@ -31,14 +32,15 @@ pub fn is_tried<S: Covers>(
     subtables: &Digested<S>,
     buffer: &hb_buffer_t,
 ) -> bool
-    requires there { 0 < length buffer.now.ahead }
-    requires number { are_glyphs (items_of buffer.now) ≡ true }
+    requires glyph_at_cursor { HasGlyphAtCursor buffer.now }
     ensures meets { result ≡ true → (act : Action) (r : ℕ) → met_first (apply_context_of ctx.now) act (cut_with r buffer.now)
         ≡ act (cut_with r buffer.now) }
     ensures passes { result ≡ false → (act : Action)
         → ((x : Item) → S.covers subtables.now x.number ≡ false → PassesAt act x)
         → (r : ℕ) → met_first (apply_context_of ctx.now) act (cut_with r buffer.now) ≡ Passes [] }
 {
+    // What costs least comes first: the sets of the subtables' glyphs, the mask, and last the lookup flag, which may
+    // look the glyph up in a mark filtering set.
     let info = buffer.cur(0);
     if !subtables.may_have_glyph(info.as_glyph().0) {
         return false;
@@ -57,11 +59,12 @@ fn may_act_at<S: Covers>(
     ensures { result ≡ false → (meets (apply_context_of ctx.now) (item_of info.now)
         && S.covers subtables.now info.now.glyph_id) ≡ false }
 {
+    // In the order of `is_tried`: what costs least comes first.
     subtables.may_have_glyph(info.as_glyph().0) && meets(ctx, info)
 }
 
 /// How many glyphs from the cursor on a lookup is not to be tried at: each is one that it doesn't apply to, or that its
-/// subtables don't cover.
+/// subtables don't cover. It only saves time: the lookup would pass at each of them.
 #[tactic(auto, using(crate::proofs::Lemmas::Idle::number_ahead_at))]
 pub fn idle_run<S: Covers>(
     ctx: &hb_ot_apply_context_t,

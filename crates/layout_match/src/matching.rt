@@ -48,7 +48,7 @@ pub(crate) fn nearest_ahead<'a>(
     Err(end)
 }
 
-/// The glyph behind the cursor with so many between.
+/// The glyph behind the cursor with `at` glyphs between.
 fn behind(buffer: &hb_buffer_t, at: usize) -> &hb_glyph_info_t
     requires { at < length buffer.now.behind }
     ensures { slice_get (reverse buffer.now.behind) at ≡ Some result.now }
@@ -132,6 +132,7 @@ fn match_from_first<'a>(
         ≡ 0 ∷ indices (answers_of (search_of search.now) (tests_of sequence.now)) 1 (strip buffer.now.ahead) }
     ensures ahead { All (λ q. q < length buffer.now.ahead) match_positions.new.items }
 {
+    // The number of glyphs bounds `at + 1`.
     let _end = buffer.len();
     match_positions.clear();
     match_positions.push(0);
@@ -161,6 +162,7 @@ fn match_ahead<'a>(
     ensures inside { IfOk result (λ end. end ≤ length buffer.now.ahead) }
     ensures read { IfErr result (λ end. end ≤ length buffer.now.ahead) }
 {
+    // The number of glyphs bounds `at + 1`.
     let _end = buffer.len();
     let mut from = start;
     for k in 0..sequence.len() {
@@ -183,6 +185,7 @@ fn match_behind<'a>(
     ensures inside { IfOk result (λ end. end ≤ length buffer.now.behind) }
     ensures read { IfErr result (λ end. end ≤ length buffer.now.behind) }
 {
+    // The number of glyphs before the cursor bounds `at + 1`.
     let _end = buffer.out_len();
     let mut from = 0;
     for k in 0..sequence.len() {

@@ -21,7 +21,7 @@ use buffer_glyphs::property_words::_hb_glyph_info_is_default_ignorable;
 use buffer_stages::mask::shares_mask;
 use layout_face::Face;
 
-/// What a search finds next, whatever its item's test is.
+/// What a search finds next, whatever its item's test is. It only saves time: a rule that it excludes would fail.
 #[derive(Clone, Copy)]
 pub enum NextGlyph {
     /// No glyph: none is left, or the next one lacks the feature bits or the syllable that a match needs.

@@ -81,13 +81,6 @@ impl<'a> skipping_iterator_t<'a> {
         self.index
     }
 
-    /// Sets the index from which the search continues.
-    pub fn reset(&mut self, index: usize)
-        ensures { self.new ≡ record self.old { index = index } }
-    {
-        self.index = index;
-    }
-
     /// The iterator's answer for a glyph.
     pub fn match_(&self, info: &hb_glyph_info_t) -> match_t
         ensures { result ≡ iterator_answer self.now (item_of info.now) }
@@ -102,6 +95,7 @@ impl<'a> skipping_iterator_t<'a> {
         ensures moved { self.new ≡ after_found result self.old }
         ensures inside { IfOk result (λ at. at < length buffer.now.ahead) }
     {
+        // The number of glyphs bounds `at + 1`.
         let _end = buffer.len();
         let at = nearest_ahead(
             &self.search,
@@ -122,6 +116,7 @@ impl<'a> skipping_iterator_t<'a> {
         ensures moved { self.new ≡ after_found result self.old }
         ensures inside { IfOk result (λ at. at < length buffer.now.behind) }
     {
+        // The number of glyphs before the cursor bounds `at + 1`.
         let _end = buffer.out_len();
         let at = nearest_behind(
             &self.search,

@@ -8,7 +8,8 @@ ghost use Rattle.buffer_core.specs.Sides.{items_of};
 ghost use Rattle.buffer_stages.specs.Buffers.{are_glyphs};
 ghost use Rattle.buffer_stages.specs.Masks.{shares_mask};
 ghost use Rattle.buffer_stages.specs.Pauses.{BringsNoGlyph};
-ghost use Rattle.layout_match.specs.Skipping.{HoldsGlyphs, HoldsMasks, HoldsText, TextSets};
+ghost use Rattle.buffer_stages.specs.Ready.{HasGlyphsInPlace};
+ghost use Rattle.layout_match.specs.Skipping.{HoldsNumbers, HoldsMasks, HoldsText, TextSets};
 
 use buffer_core::buffer::hb_buffer_t;
 use buffer_glyphs::info::{DEFINED, hb_glyph_info_t};
@@ -28,8 +29,7 @@ pub trait TextDigest {
         subtables: &Digested<S>,
         buffer: &hb_buffer_t,
     ) -> bool
-        requires closed { buffer.now.is_open ≡ false }
-        requires numbers { are_glyphs (items_of buffer.now) ≡ true }
+        requires glyphs_in_place { HasGlyphsInPlace buffer.now }
         requires held { HoldsText (sets self.old) (items_of buffer.now) }
         ensures held { HoldsText (sets self.new) (items_of buffer.now) }
         ensures misses { result ≡ true → list_any (λ (x : Item). shares_mask mask x.mask
@@ -47,8 +47,9 @@ pub trait TextDigest {
             → HoldsText (sets self.new) new };
 }
 
-/// A text's glyphs by the low bits of their numbers, and the feature bits of their masks. Both are collected in one pass,
-/// when a lookup is first tested after they were forgotten, and the lookup before it acted nowhere.
+/// A text's glyphs by the low bits of their numbers, and the feature bits of their masks. Both are collected in one
+/// pass, when a lookup is first tested after they were forgotten, and the lookup before it acted nowhere. They only
+/// save time: a lookup that is skipped would act at no glyph of the text.
 #[derive(Debug, Drop)]
 pub struct TextGlyphs {
     glyphs: Option<LowBits>,
@@ -69,7 +70,7 @@ fn features_of(info: &hb_glyph_info_t) -> u32
 #[tactic(auto, using(crate::proofs::Lemmas::Held::held_none, crate::proofs::Lemmas::Held::masks_none))]
 fn collect_glyphs<D: hb_set_digest_ext>(glyphs: &[hb_glyph_info_t], digest: &mut D) -> u32
     requires { are_glyphs (strip glyphs.now) ≡ true }
-    ensures glyphs { HoldsGlyphs (D.may_have digest.new) (strip glyphs.now) }
+    ensures glyphs { HoldsNumbers (D.may_contain digest.new) (strip glyphs.now) }
     ensures features { HoldsMasks (λ mask. shares_mask mask result) (strip glyphs.now) }
 {
     let mut features = 0;
@@ -91,10 +92,10 @@ fn may_share(features: Option<u32>, mask: u32) -> bool
 }
 
 /// Whether a text may have a glyph of a set, by the glyphs that are known. Where it may not, it has none.
-fn may_have(glyphs: &Option<LowBits>, set: &LowBits) -> bool
+fn may_share_glyph(glyphs: &Option<LowBits>, set: &LowBits) -> bool
     ensures { result ≡ false → (n : ℕ)
-        → option_map_or (λ d. ⟦<LowBits as hb_set_digest_ext>⟧.may_have d n) glyphs.now true ≡ true
-        → ⟦<LowBits as hb_set_digest_ext>⟧.may_have set.now n ≡ false }
+        → option_map_or (λ d. ⟦<LowBits as hb_set_digest_ext>⟧.may_contain d n) glyphs.now true ≡ true
+        → ⟦<LowBits as hb_set_digest_ext>⟧.may_contain set.now n ≡ false }
 {
     match glyphs {
         Some(glyphs) => glyphs.may_have(set),
@@ -116,8 +117,7 @@ impl TextGlyphs {
 
     /// Collects what isn't known of the text in a buffer, where that is due.
     fn collect(&mut self, buffer: &hb_buffer_t)
-        requires closed { buffer.now.is_open ≡ false }
-        requires numbers { are_glyphs (items_of buffer.now) ≡ true }
+        requires glyphs_in_place { HasGlyphsInPlace buffer.now }
         requires held { HoldsText (⟦<TextGlyphs as TextDigest>⟧.sets self.old) (items_of buffer.now) }
         ensures { HoldsText (⟦<TextGlyphs as TextDigest>⟧.sets self.new) (items_of buffer.now) }
     {
@@ -133,7 +133,7 @@ impl TextGlyphs {
 
 impl TextDigest for TextGlyphs {
     ghost sets = { λ t. record {
-      has = λ n. option_map_or (λ d. ⟦<LowBits as hb_set_digest_ext>⟧.may_have d n) t.glyphs true;
+      has = λ n. option_map_or (λ d. ⟦<LowBits as hb_set_digest_ext>⟧.may_contain d n) t.glyphs true;
       shares = λ mask. option_map_or (λ m. shares_mask mask m) t.features true;
     } };
 
@@ -144,10 +144,11 @@ impl TextDigest for TextGlyphs {
         buffer: &hb_buffer_t,
     ) -> bool {
         self.collect(buffer);
+        // One test of the mask comes before those of sixteen words of low bits.
         if !may_share(self.features, mask) {
             return true;
         }
-        !may_have(&self.glyphs, subtables.low_bits())
+        !may_share_glyph(&self.glyphs, subtables.low_bits())
     }
 
     fn after_lookup(&mut self, acted: bool) {

@@ -41,7 +41,7 @@ abbrev pub turned_beyond : Direction → (ℕ → Position → List Position →
 turned_beyond d turn p None ps = ps
 turned_beyond d turn p (Some j) ps = turn j (turned_position d p (position_at j ps)) ps
 
--- glyph i gets another position, and the chain from it on is reversed, over at most so many links
+-- glyph i gets another position, and the chain from it on is reversed, over at most n links
 unfoldable pub chain_reversed_from : Direction → ℕ → ℕ → ℕ → Position → List Position → List Position
 chain_reversed_from d stop zero i new ps = ps
 chain_reversed_from d stop (suc fuel) i new ps = turned_beyond d (chain_reversed_from d stop fuel) (position_at i ps) (old_parent stop i ps) (set ps i new)

@@ -67,7 +67,7 @@ abbrev pub with_parent_drawn : Drawing → (ℕ → List Position → List Posit
 with_parent_drawn draw follow i None ps = with_link_cleared i ps
 with_parent_drawn draw follow i (Some j) ps = with_child_drawn draw i j (follow j (with_link_cleared i ps))
 
--- a glyph drawn with all glyphs that it is attached to, over at most so many links
+-- a glyph drawn with all glyphs that it is attached to, over at most n links
 unfoldable pub with_link_followed : Drawing → ℕ → ℕ → List Position → List Position
 with_link_followed draw zero i ps = ps
 with_link_followed draw (suc fuel) i ps = with_parent_drawn draw (with_link_followed draw fuel) i (parent i ps) ps

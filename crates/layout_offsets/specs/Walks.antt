@@ -49,7 +49,7 @@ abbrev pub trail_drawn : Drawing → ℕ → List ℕ → List Position → List
 trail_drawn draw at [] ps = ps
 trail_drawn draw at (c ∷ rest) ps = trail_drawn draw c rest (with_child_drawn draw c at ps)
 
--- a walk is at a glyph, which it reached by a link, after so many glyphs
+-- a walk is at a glyph, which it reached by a link, after `depth` glyphs
 pub record IsWalk (count at : ℕ) (by : ℤ) (depth : ℕ) (ps : List Position) : Type 0 where
   pub stack : List ℕ
   pub long : length ps ≡ count

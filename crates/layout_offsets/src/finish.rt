@@ -55,6 +55,7 @@ fn unattached_position(position: GlyphPosition) -> GlyphPosition
 pub fn position_finish_advances(buffer: &mut hb_buffer_t)
     ensures { buffer.new ≡ buffer.old }
 {
+    // The buffer is an argument because rustybuzz's call has it.
     let _none = buffer;
 }
 

@@ -289,6 +289,7 @@ fn step_origin(positions: &[GlyphPosition], last: Step) -> usize
     ensures link { pos last.at ≡ pos result +ℤ last.by }
     ensures open { is_open (position_at result positions.now) ≡ true }
 {
+    // The length of a slice fits an `isize`, so both casts keep their value.
     let _count = positions.len();
     (last.at as isize - isize::from(last.by)) as usize
 }
@@ -409,11 +410,12 @@ fn follow_all(positions: &mut [GlyphPosition], direction: Direction, by_sums: bo
     }
 }
 
-/// A mark that is attached to a glyph at most so many before it is drawn by the advances between the two. Where a link
+/// A mark that is attached to one of the 16 glyphs before it is drawn by the advances between the two. Where a link
 /// leads further back, all glyphs are drawn by sums, so that it takes linear time.
 const NEAR: i16 = 16;
 
-/// Clears a glyph's link of neither kind, and answers whether the glyph is attached to one far before it.
+/// Clears a glyph's link where that is neither a mark's nor a cursive child's, and answers whether the glyph is
+/// attached to one more than `NEAR` glyphs before it.
 #[tactic(auto, using(crate::proofs::Tested::linkless_tested, crate::proofs::Tested::other_tested, crate::proofs::Tested::kind_stays, crate::proofs::Tested::linkless_near, crate::proofs::Tested::other_near, crate::proofs::Tested::kind_far))]
 fn test_kind(positions: &mut [GlyphPosition], at: usize) -> bool
     requires here { at < length positions.old }
@@ -431,7 +433,8 @@ fn test_kind(positions: &mut [GlyphPosition], at: usize) -> bool
     position.attach_chain < -NEAR
 }
 
-/// Clears links of neither kind, and answers whether a glyph is attached to one far before it.
+/// Clears the links that are neither a mark's nor a cursive child's, and answers whether some glyph is attached to one
+/// more than `NEAR` glyphs before it.
 fn test_kinds(positions: &mut [GlyphPosition]) -> bool
     ensures tested { positions.new ≡ kinds_tested positions.old }
     ensures far { result ≡ list_any is_far_back positions.old }

@@ -2,7 +2,7 @@
 ghost use Rattle.std.specs.Prelude.{◌≡◌, true};
 ghost use Rattle.layout_offsets.specs.Links.{is_near, link_to, link_target};
 
-/// The index that a link of a position leads to, among so many: none where the link is 0 or leads outside.
+/// The index that a link of a position leads to, among `count`: none where the link is 0 or leads outside.
 pub fn linked(count: usize, at: usize, link: i16) -> Option<usize>
     ensures { result ≡ link_target count at link }
 {

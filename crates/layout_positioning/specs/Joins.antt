@@ -16,7 +16,7 @@ use Rattle.layout_offsets.specs.Cursive.{attaches_earlier, cursive_attachment}
 use Rattle.layout_gpos.specs.Marks.{item_before, with_found}
 use Rattle.layout_gpos.specs.Moving.{break_around, cut_with_positions}
 
--- the item at the cut joined to the item so many before it, exit on entry
+-- the item at the cut joined to the item with `back` items between, exit on entry
 abbrev pub join : Direction → ApplyContext → Anchor → Anchor → ℕ → Action
 join d a exit entry back c = Acts (record (cut_with_positions 1 (cursive_attachment d (attaches_earlier a.props) (length c.front - (back + 1)) exit (length c.front) entry c.positions) c) {
   scratch_flags = with_attachment_flag (is_near (length c.front) (length c.front - (back + 1))) c.scratch_flags;

@@ -45,12 +45,12 @@ abbrev pub nested_lookup : (ApplyContext → Option (ℕ → Action)) → Option
 nested_lookup below None d a c = Passes []
 nested_lookup below (Some lookup) d a c = first_subtable (below (under_flag lookup a)) d (under_flag lookup a) lookup.subtables c
 
--- the lookups of a table that may be nested in one, each by its index, at so many levels; none at level 0
+-- the lookups of a table that may be nested in one, each by its index, at n levels; none at level 0
 unfoldable pub nested_actions : List PositioningLookup → ℕ → Direction → ApplyContext → Option (ℕ → Action)
 nested_actions table zero d a = None
 nested_actions table (suc depth) d a = Some (λ i. nested_lookup (nested_actions table depth d) (slice_get table i) d a)
 
--- a nested lookup, by its index, in which lookups may be nested at so many levels more
+-- a nested lookup, by its index, in which lookups may be nested at n levels more
 abbrev pub nested_act : List PositioningLookup → ℕ → Direction → ApplyContext → ℕ → Action
 nested_act table depth d a i c = nested_lookup (nested_actions table depth d) (slice_get table i) d a c
 

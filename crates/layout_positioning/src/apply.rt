@@ -1,10 +1,9 @@
 //! Applies positioning lookups to a whole buffer (rustybuzz: hb/ot_layout.rs, `apply_string`, `apply_layout_table`).
-ghost use Rattle.std.specs.Prelude.{◌≡◌, ◌≢◌, OnOk, true, slice_get, IfErr};
+ghost use Rattle.std.specs.Prelude.{◌≡◌, ◌≢◌, OnOk, slice_get, IfErr};
 ghost use Rattle.buffer_core.specs.Sides.{items_of};
 ghost use Rattle.layout_match.specs.Applied.{apply_context_of};
 ghost use Rattle.layout_match.specs.Skipping.{HoldsText};
-ghost use Rattle.buffer_stages.specs.Buffers.{are_glyphs};
-ghost use Rattle.buffer_stages.specs.Ready.{DoesGlyphStageFrom, IsReady};
+ghost use Rattle.buffer_stages.specs.Ready.{DoesGlyphStageFrom, HoldsGlyphs};
 ghost use Rattle.layout_positioning.specs.Lookups.{lookup_context, lookup_stage};
 ghost use Rattle.layout_positioning.specs.Positioning.{lookups_stage};
 
@@ -46,8 +45,7 @@ fn apply_mapped<T: TextDigest>(
     text: &mut T,
     buffer: &mut hb_buffer_t,
 ) -> Result<(), ShapeCause>
-    requires ready { IsReady buffer.old }
-    requires numbers { are_glyphs (items_of buffer.old) ≡ true }
+    requires glyphs { HoldsGlyphs buffer.old }
     requires held { HoldsText (T.sets text.old) (items_of buffer.old) }
     ensures stage { DoesGlyphStageFrom 1 1 (lookup_stage face.now table.now.lookups (slice_get table.now.lookups
         lookup_map.now.index) lookup_map.now) result buffer.old buffer.new }
@@ -57,6 +55,7 @@ fn apply_mapped<T: TextDigest>(
     let Some(lookup) = table.get_lookup(lookup_map.index) else {
         return Ok(());
     };
+    // A list without an output is within its limit, so what is skipped would not have been refused for length.
     let _count = buffer.len();
     if text.misses(lookup_map.mask, &lookup.subtables, buffer) {
         return Ok(());
@@ -76,8 +75,7 @@ pub(crate) fn apply_lookups<T: TextDigest>(
     text: &mut T,
     buffer: &mut hb_buffer_t,
 ) -> Result<(), ShapeCause>
-    requires ready { IsReady buffer.old }
-    requires numbers { are_glyphs (items_of buffer.old) ≡ true }
+    requires glyphs { HoldsGlyphs buffer.old }
     requires held { HoldsText (T.sets text.old) (items_of buffer.old) }
     ensures stage { DoesGlyphStageFrom 1 1 (lookups_stage face.now table.now.lookups lookups.now) result buffer.old
         buffer.new }

@@ -1,9 +1,8 @@
-//! Cursive attachment (OpenType, GPOS lookup type 3).
+//! Cursive attachment (OpenType, GPOS lookup type 3; rustybuzz: hb/ot_layout_gpos_table.rs, `CursiveAdjustment`).
 ghost use Rattle.std.specs.Prelude.{ℕ, ◌≡◌, ◌<◌, ◌≤◌, IfErr, IfOk, Ok, false, true, length};
-ghost use Rattle.buffer_core.specs.Sides.{all_glyphs, items_of};
 ghost use Rattle.layout_match.specs.Applied.{apply_context_of};
-ghost use Rattle.buffer_stages.specs.Buffers.{are_glyphs};
 ghost use Rattle.buffer_stages.specs.Performing.{IsPerformed, cut_with};
+ghost use Rattle.buffer_stages.specs.Ready.{IsAtGlyphPosition, IsAtPosition};
 ghost use Rattle.layout_positioning.specs.Joins.{cursive_subtable, entry_of, exit_of, join, join_if, on_exit};
 ghost use Rattle.layout_offsets.specs.Cursive.{cursive_attachment};
 ghost use Rattle.layout_gpos.specs.Marks.{with_found};
@@ -42,13 +41,12 @@ fn join(
     back: usize,
     buffer: &mut hb_buffer_t,
 )
-    requires closed { buffer.old.is_open ≡ false }
-    requires there { 0 < length buffer.old.ahead }
+    requires at_position { IsAtPosition buffer.old }
     requires before { back < length buffer.old.behind }
-    requires placed { length buffer.old.positions ≡ length (all_glyphs buffer.old) }
     ensures { (random : ℕ) → IsPerformed (join buffer.old.direction (apply_context_of ctx.now) exit entry back (cut_with random
         buffer.old)) true random random buffer.old buffer.new }
 {
+    // The number of glyphs bounds `back + 1`.
     let _end = buffer.len();
     let second = buffer.out_len();
     let first = second - (back + 1);
@@ -89,14 +87,13 @@ fn join_if(
     back: usize,
     buffer: &mut hb_buffer_t,
 ) -> bool
-    requires closed { buffer.old.is_open ≡ false }
-    requires there { 0 < length buffer.old.ahead }
+    requires at_position { IsAtPosition buffer.old }
     requires before { back < length buffer.old.behind }
-    requires placed { length buffer.old.positions ≡ length (all_glyphs buffer.old) }
     ensures { (random : ℕ) → IsPerformed (join_if buffer.old.direction (apply_context_of ctx.now) exit entry back
         (cut_with random
         buffer.old)) result random random buffer.old buffer.new }
 {
+    // The number of glyphs before the cursor bounds `back + 1`.
     let _end = buffer.out_len();
     let Some(exit) = exit else {
         mark_attempt(back + 1, 1, buffer);
@@ -115,12 +112,9 @@ fn join_found(
     found: Result<usize, usize>,
     buffer: &mut hb_buffer_t,
 ) -> bool
-    requires closed { buffer.old.is_open ≡ false }
-    requires there { 0 < length buffer.old.ahead }
+    requires at_glyph_position { IsAtGlyphPosition buffer.old }
     requires inside { IfOk found (λ at. at < length buffer.old.behind) }
     requires read { IfErr found (λ end. end ≤ length buffer.old.behind) }
-    requires placed { length buffer.old.positions ≡ length (all_glyphs buffer.old) }
-    requires number { are_glyphs (items_of buffer.old) ≡ true }
     ensures { (random : ℕ) → IsPerformed (with_found (on_exit buffer.old.direction (apply_context_of ctx.now) subtable.now.rows
         entry) found (cut_with random buffer.old)) result random random buffer.old buffer.new }
 {

@@ -1,10 +1,9 @@
 //! A positioning lookup over a buffer (rustybuzz: hb/ot_layout.rs, `apply_forward`).
-ghost use Rattle.std.specs.Prelude.{◌≡◌, ◌≢◌, ◌<◌, List, length, true, false, IfErr, OnOk};
+ghost use Rattle.std.specs.Prelude.{◌≢◌, ◌<◌, List, IfErr, OnOk};
 ghost use Rattle.buffer_core.specs.Sides.{items_of};
 ghost use Rattle.layout_face.specs.declared.positioning.PositioningLookup.{PositioningLookup as Lookup};
 ghost use Rattle.layout_match.specs.Applied.{apply_context_of};
-ghost use Rattle.buffer_stages.specs.Buffers.{are_glyphs};
-ghost use Rattle.buffer_stages.specs.Ready.{DoesGlyphStageFrom, IsReady};
+ghost use Rattle.buffer_stages.specs.Ready.{DoesGlyphStageFrom, HasGlyphsInPlace, HoldsGlyphs, IsAtGlyphInPlace};
 ghost use Rattle.layout_match.specs.Steps.{IsGivenUp, IsIdleRun, IsStep};
 ghost use Rattle.layout_gpos.specs.Bases.{AreKept};
 ghost use Rattle.layout_positioning.specs.Lookups.{positioning_pass, lookup_action};
@@ -20,11 +19,11 @@ use layout_match::lookup::idle_run;
 
 /// Moves the cursor over the glyphs that a lookup is not to be tried at, to the next one where it is.
 fn pass_idle(lookup: &PositioningLookup, ctx: &hb_ot_apply_context_t, buffer: &mut hb_buffer_t)
-    requires closed { buffer.old.is_open ≡ false }
-    requires numbers { are_glyphs (items_of buffer.old) ≡ true }
+    requires glyphs_in_place { HasGlyphsInPlace buffer.old }
     ensures { (table : List Lookup) → IsIdleRun (lookup_action table buffer.old.direction (apply_context_of ctx.now)
         lookup.now) buffer.old buffer.new }
 {
+    // A list without an output is within its limit, so the run is not refused for length.
     let _count = buffer.len();
     let run = idle_run(ctx, &lookup.subtables, buffer);
     pass(buffer, run);
@@ -39,10 +38,7 @@ fn apply_next(
     last: &mut LastSearches,
     buffer: &mut hb_buffer_t,
 ) -> Result<(), ShapeCause>
-    requires closed { buffer.old.is_open ≡ false }
-    requires there { 0 < length buffer.old.ahead }
-    requires unrefused { buffer.old.has_refused ≡ false }
-    requires numbers { are_glyphs (items_of buffer.old) ≡ true }
+    requires at_glyph_in_place { IsAtGlyphInPlace buffer.old }
     requires kept { AreKept (apply_context_of ctx.now) (items_of buffer.old) last.old }
     ensures ok { OnOk result (IsStep (lookup_action table.now.lookups buffer.old.direction (apply_context_of ctx.now)
         lookup.now)
@@ -52,6 +48,7 @@ fn apply_next(
     ensures kept { OnOk result (AreKept (apply_context_of ctx.now) (items_of buffer.new) last.new) }
     ensures memory { IfErr result (λ e. e ≢ ShapeCause.OutOfMemory) }
 {
+    // A list without an output is within its limit, so a step over one glyph is not refused for length.
     let _count = buffer.len();
     if apply_lookup(table, lookup, ctx, last, buffer)? {
         return Ok(());
@@ -67,8 +64,7 @@ pub fn apply_forward(
     ctx: &hb_ot_apply_context_t,
     buffer: &mut hb_buffer_t,
 ) -> Result<(), ShapeCause>
-    requires ready { IsReady buffer.old }
-    requires numbers { are_glyphs (items_of buffer.old) ≡ true }
+    requires glyphs { HoldsGlyphs buffer.old }
     ensures stage { DoesGlyphStageFrom ctx.now.random_state ctx.now.random_state (positioning_pass (lookup_action
         table.now.lookups buffer.old.direction (apply_context_of ctx.now) lookup.now)) result buffer.old buffer.new }
     ensures memory { IfErr result (λ e. e ≢ ShapeCause.OutOfMemory) }
@@ -79,8 +75,11 @@ pub fn apply_forward(
         apply_next(table, lookup, ctx, &mut last, buffer)?;
         pass_idle(lookup, ctx, buffer);
     }
+    // The length is that of what was read and of what is ahead: the loop has read all.
     let _end = buffer.len();
+    // Without an output a move is never refused.
     let _ = buffer.move_to(0);
+    // There are as many positions as glyphs, as a buffer that is ready has.
     let _after = buffer.pos_slice();
     Ok(())
 }

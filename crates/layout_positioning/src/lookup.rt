@@ -1,9 +1,9 @@
 //! A GPOS lookup at the cursor (rustybuzz: `PositioningLookup`).
-ghost use Rattle.std.specs.Prelude.{◌≡◌, ◌≢◌, ◌<◌, true, false, OnOk, length, IfErr};
+ghost use Rattle.std.specs.Prelude.{◌≢◌, ◌<◌, OnOk, IfErr};
 ghost use Rattle.buffer_core.specs.Sides.{items_of};
 ghost use Rattle.layout_match.specs.Applied.{apply_context_of};
-ghost use Rattle.buffer_stages.specs.Buffers.{are_glyphs};
 ghost use Rattle.buffer_stages.specs.Performing.{Performs, cut_with};
+ghost use Rattle.buffer_stages.specs.Ready.{IsAtGlyphInPlace};
 ghost use Rattle.layout_gpos.specs.Bases.{AreKept};
 ghost use Rattle.layout_positioning.specs.Lookups.{lookup_action};
 
@@ -26,10 +26,7 @@ pub fn apply_lookup(
     last: &mut LastSearches,
     buffer: &mut hb_buffer_t,
 ) -> Result<bool, ShapeCause>
-    requires closed { buffer.old.is_open ≡ false }
-    requires unrefused { buffer.old.has_refused ≡ false }
-    requires there { 0 < length buffer.old.ahead }
-    requires number { are_glyphs (items_of buffer.old) ≡ true }
+    requires at_glyph_in_place { IsAtGlyphInPlace buffer.old }
     requires kept { AreKept (apply_context_of ctx.now) (items_of buffer.old) last.old }
     ensures performs { Performs (lookup_action table.now.lookups buffer.old.direction (apply_context_of ctx.now) lookup.now
         (cut_with ctx.now.random_state buffer.old)) result ctx.now.random_state ctx.now.random_state buffer.old

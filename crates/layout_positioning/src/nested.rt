@@ -5,7 +5,7 @@
 //! a record) is written for each of the two tables, here and in `layout_substitution`, and the two repeat each other.
 //! Within this file too functions repeat clauses: each one of the cycle calls the next, so each requires what the next
 //! requires and refuses as the next refuses.
-ghost use Rattle.std.specs.Prelude.{◌≡◌, ◌≢◌, ◌≤◌, ◌<◌, ◌+◌, true, false, length, slice_get, IfOk, OnOk, Some, None, IfErr};
+ghost use Rattle.std.specs.Prelude.{◌≡◌, ◌≢◌, ◌≤◌, ◌<◌, ◌+◌, length, slice_get, IfOk, OnOk, Some, None, IfErr};
 ghost use Rattle.buffer_core.specs.Sides.{items_of};
 ghost use Rattle.layout_contexts.specs.Chains.{chain_rule, context_subtable};
 ghost use Rattle.layout_contexts.specs.Fitting.{chain_of};
@@ -17,8 +17,9 @@ ghost use Rattle.layout_contexts.specs.Rules.{chains_of};
 ghost use Rattle.layout_gpos.specs.Bases.{AreKept};
 ghost use Rattle.layout_match.specs.Applied.{apply_context_of};
 ghost use Rattle.buffer_stages.specs.Actions.{first_rule, whole};
-ghost use Rattle.buffer_stages.specs.Buffers.{are_glyphs, cut_of};
+ghost use Rattle.buffer_stages.specs.Buffers.{cut_of};
 ghost use Rattle.buffer_stages.specs.Performing.{Performs, cut_with};
+ghost use Rattle.buffer_stages.specs.Ready.{IsAmongGlyphsInPlace, IsAtGlyphInPlace};
 ghost use Rattle.layout_positioning.specs.Lookups.{first_subtable, nested_actions, nested_act, nested_lookup, under_flag};
 
 use crate::cursive_join::CursiveAttachment;
@@ -54,7 +55,7 @@ fn under_flag<'a>(
 }
 
 /// Applies the lookup at an index of the table at the cursor, nested in another: with its own flag, and without a test
-/// whether it applies to the glyph there. An index without one does nothing. Lookups may be nested in it so many levels
+/// whether it applies to the glyph there. An index without one does nothing. Lookups may be nested in it `depth` levels
 /// deep.
 #[cycle(nested)]
 #[tactic(auto, using(crate::proofs::Levels::no_lookup, crate::proofs::Levels::lookup_there))]
@@ -66,10 +67,7 @@ pub(crate) fn recurse(
     last: &mut LastSearches,
     buffer: &mut hb_buffer_t,
 ) -> Result<bool, ShapeCause>
-    requires closed { buffer.old.is_open ≡ false }
-    requires unrefused { buffer.old.has_refused ≡ false }
-    requires there { 0 < length buffer.old.ahead }
-    requires number { are_glyphs (items_of buffer.old) ≡ true }
+    requires at_glyph_in_place { IsAtGlyphInPlace buffer.old }
     requires kept { AreKept (apply_context_of ctx.now) (items_of buffer.old) last.old }
     ensures performs { Performs (nested_lookup (nested_actions table.now.lookups depth buffer.old.direction)
         (slice_get table.now.lookups index) buffer.old.direction (apply_context_of ctx.now)
@@ -102,10 +100,7 @@ pub(crate) fn apply_subtables(
     last: &mut LastSearches,
     buffer: &mut hb_buffer_t,
 ) -> Result<bool, ShapeCause>
-    requires closed { buffer.old.is_open ≡ false }
-    requires unrefused { buffer.old.has_refused ≡ false }
-    requires there { 0 < length buffer.old.ahead }
-    requires number { are_glyphs (items_of buffer.old) ≡ true }
+    requires at_glyph_in_place { IsAtGlyphInPlace buffer.old }
     requires kept { AreKept (apply_context_of ctx.now) (items_of buffer.old) last.old }
     ensures performs { Performs (first_subtable (nested_actions table.now.lookups depth buffer.old.direction
         (apply_context_of ctx.now)) buffer.old.direction (apply_context_of ctx.now) subtables.now
@@ -149,10 +144,7 @@ fn apply_contexts(
     last: &mut LastSearches,
     buffer: &mut hb_buffer_t,
 ) -> Result<bool, ShapeCause>
-    requires closed { buffer.old.is_open ≡ false }
-    requires unrefused { buffer.old.has_refused ≡ false }
-    requires there { 0 < length buffer.old.ahead }
-    requires number { are_glyphs (items_of buffer.old) ≡ true }
+    requires at_glyph_in_place { IsAtGlyphInPlace buffer.old }
     requires kept { AreKept (apply_context_of ctx.now) (items_of buffer.old) last.old }
     ensures performs { Performs (first_rule (context_subtable
         (nested_actions table.now.lookups depth buffer.old.direction (apply_context_of ctx.now)) (apply_context_of ctx.now)) subtables.now
@@ -183,10 +175,7 @@ fn apply_context(
     last: &mut LastSearches,
     buffer: &mut hb_buffer_t,
 ) -> Result<bool, ShapeCause>
-    requires closed { buffer.old.is_open ≡ false }
-    requires unrefused { buffer.old.has_refused ≡ false }
-    requires there { 0 < length buffer.old.ahead }
-    requires number { are_glyphs (items_of buffer.old) ≡ true }
+    requires at_glyph_in_place { IsAtGlyphInPlace buffer.old }
     requires kept { AreKept (apply_context_of ctx.now) (items_of buffer.old) last.old }
     ensures performs { Performs (context_subtable (nested_actions table.now.lookups depth buffer.old.direction
         (apply_context_of ctx.now)) (apply_context_of ctx.now) subtable.now (cut_with ctx.now.random_state buffer.old)) result
@@ -217,10 +206,7 @@ fn apply_rules(
     last: &mut LastSearches,
     buffer: &mut hb_buffer_t,
 ) -> Result<bool, ShapeCause>
-    requires closed { buffer.old.is_open ≡ false }
-    requires unrefused { buffer.old.has_refused ≡ false }
-    requires there { 0 < length buffer.old.ahead }
-    requires number { are_glyphs (items_of buffer.old) ≡ true }
+    requires at_glyph_in_place { IsAtGlyphInPlace buffer.old }
     requires kept { AreKept (apply_context_of ctx.now) (items_of buffer.old) last.old }
     ensures performs { Performs (first_rule (chain_rule (nested_actions table.now.lookups depth buffer.old.direction
         (apply_context_of ctx.now)) (apply_context_of ctx.now)) (chains_of subtable.now) (cut_with ctx.now.random_state buffer.old))
@@ -255,10 +241,7 @@ fn apply_rule(
     last: &mut LastSearches,
     buffer: &mut hb_buffer_t,
 ) -> Result<bool, ShapeCause>
-    requires closed { buffer.old.is_open ≡ false }
-    requires unrefused { buffer.old.has_refused ≡ false }
-    requires there { 0 < length buffer.old.ahead }
-    requires number { are_glyphs (items_of buffer.old) ≡ true }
+    requires at_glyph_in_place { IsAtGlyphInPlace buffer.old }
     requires kept { AreKept (apply_context_of ctx.now) (items_of buffer.old) last.old }
     ensures performs { Performs (chain_rule (nested_actions table.now.lookups depth buffer.old.direction (apply_context_of ctx.now))
         (apply_context_of ctx.now) (chain_of rule.now) (cut_with ctx.now.random_state buffer.old)) result
@@ -300,9 +283,7 @@ fn apply_records(
     last: &mut LastSearches,
     buffer: &mut hb_buffer_t,
 ) -> Result<usize, ShapeCause>
-    requires closed { buffer.old.is_open ≡ false }
-    requires unrefused { buffer.old.has_refused ≡ false }
-    requires number { are_glyphs (items_of buffer.old) ≡ true }
+    requires among_glyphs_in_place { IsAmongGlyphsInPlace buffer.old }
     requires kept { AreKept (apply_context_of ctx.now) (items_of buffer.old) last.old }
     requires rising { AreRising 0 (length (whole (cut_of buffer.old)) + 1) indices.old.items }
     requires within { end ≤ length (whole (cut_of buffer.old)) }
@@ -350,9 +331,7 @@ fn apply_record(
     last: &mut LastSearches,
     buffer: &mut hb_buffer_t,
 ) -> Result<usize, ShapeCause>
-    requires closed { buffer.old.is_open ≡ false }
-    requires unrefused { buffer.old.has_refused ≡ false }
-    requires number { are_glyphs (items_of buffer.old) ≡ true }
+    requires among_glyphs_in_place { IsAmongGlyphsInPlace buffer.old }
     requires kept { AreKept (apply_context_of ctx.now) (items_of buffer.old) last.old }
     requires rising { AreRising 0 (length (whole (cut_of buffer.old)) + 1) indices.old.items }
     requires within { end ≤ length (whole (cut_of buffer.old)) }

@@ -1,8 +1,8 @@
 //! A nested GPOS lookup as a method of the apply context (rustybuzz: hb/ot_layout_gsubgpos.rs, `recurse`).
-ghost use Rattle.std.specs.Prelude.{ℕ, ◌≡◌, ◌≢◌, ◌<◌, true, false, length, slice_get, IfErr};
-ghost use Rattle.buffer_core.specs.Sides.{items_of};
-ghost use Rattle.buffer_stages.specs.Buffers.{are_glyphs, cut_of};
+ghost use Rattle.std.specs.Prelude.{ℕ, ◌≡◌, ◌≢◌, ◌<◌, true, false, slice_get, IfErr};
+ghost use Rattle.buffer_stages.specs.Buffers.{cut_of};
 ghost use Rattle.buffer_stages.specs.Performing.{Performs, cut_with};
+ghost use Rattle.buffer_stages.specs.Ready.{IsAtGlyphInPlace};
 ghost use Rattle.layout_contexts.specs.Nested.{has_budget};
 ghost use Rattle.layout_contexts.specs.Records.{after_spending};
 ghost use Rattle.layout_match.specs.Applied.{ApplyContext, apply_context_of};
@@ -28,10 +28,7 @@ pub trait Nesting {
     /// does nothing. It answers whether the lookup acted. It takes no memory, and refuses only where a list has more
     /// glyphs than it may.
     fn recurse(&self, index: u16, buffer: &mut hb_buffer_t) -> Result<bool, ShapeCause>
-        requires closed { buffer.old.is_open ≡ false }
-        requires unrefused { buffer.old.has_refused ≡ false }
-        requires there { 0 < length buffer.old.ahead }
-        requires number { are_glyphs (items_of buffer.old) ≡ true }
+        requires at_glyph_in_place { IsAtGlyphInPlace buffer.old }
         ensures performs { has_budget (cut_of buffer.old) ≡ true → Performs
             (nested_lookup (nested_actions (positioning_lookups (applied self.now).font) 63 buffer.old.direction)
             (slice_get (positioning_lookups (applied self.now).font) index) buffer.old.direction (applied self.now)
@@ -56,10 +53,7 @@ fn apply_nested(
     ctx: &hb_ot_apply_context_t,
     buffer: &mut hb_buffer_t,
 ) -> Result<bool, ShapeCause>
-    requires closed { buffer.old.is_open ≡ false }
-    requires unrefused { buffer.old.has_refused ≡ false }
-    requires there { 0 < length buffer.old.ahead }
-    requires number { are_glyphs (items_of buffer.old) ≡ true }
+    requires at_glyph_in_place { IsAtGlyphInPlace buffer.old }
     ensures performs { has_budget (cut_of buffer.old) ≡ true → Performs
         (nested_lookup (nested_actions (positioning_lookups ctx.now.face.now) 63 buffer.old.direction)
         (slice_get (positioning_lookups ctx.now.face.now) index) buffer.old.direction (apply_context_of ctx.now)

@@ -1,9 +1,8 @@
 //! Positioning, GPOS stage after GPOS stage (rustybuzz: hb/ot_layout_gpos_table.rs, `position`; hb/ot_layout.rs,
 //! `apply_layout_table`).
-ghost use Rattle.std.specs.Prelude.{ℕ, ◌≡◌, ◌≢◌, true, OnOk, IfErr};
+ghost use Rattle.std.specs.Prelude.{ℕ, ◌≡◌, ◌≢◌, OnOk, IfErr};
 ghost use Rattle.buffer_core.specs.Sides.{items_of};
-ghost use Rattle.buffer_stages.specs.Buffers.{are_glyphs};
-ghost use Rattle.buffer_stages.specs.Ready.{DoesGlyphStage, DoesGlyphStageFrom, IsReady};
+ghost use Rattle.buffer_stages.specs.Ready.{DoesGlyphStage, DoesGlyphStageFrom, HoldsGlyphs};
 ghost use Rattle.buffer_stages.specs.Settings.{text_settings};
 ghost use Rattle.layout_match.specs.Skipping.{HoldsText};
 ghost use Rattle.layout_positioning.specs.Positioning.{LeavesItems, lookups_stage, positioning_stages, positioning_lookups, table_stages};
@@ -25,8 +24,7 @@ fn apply_stage<T: TextDigest>(
     text: &mut T,
     buffer: &mut hb_buffer_t,
 ) -> Result<(), ShapeCause>
-    requires ready { IsReady buffer.old }
-    requires numbers { are_glyphs (items_of buffer.old) ≡ true }
+    requires glyphs { HoldsGlyphs buffer.old }
     requires held { HoldsText (T.sets text.old) (items_of buffer.old) }
     ensures stage { DoesGlyphStageFrom 1 1 (lookups_stage face.now (positioning_lookups face.now) lookups.now) result
         buffer.old buffer.new }
@@ -49,8 +47,7 @@ fn apply_stages<P: Pause, T: TextDigest>(
     buffer: &mut hb_buffer_t,
     pause: &P,
 ) -> Result<(), ShapeCause>
-    requires ready { IsReady buffer.old }
-    requires numbers { are_glyphs (items_of buffer.old) ≡ true }
+    requires glyphs { HoldsGlyphs buffer.old }
     requires held { HoldsText (T.sets text.old) (items_of buffer.old) }
     ensures { DoesGlyphStageFrom 1 1 (table_stages face.now (positioning_lookups face.now) map.now.tables.gpos
         (P.stage pause.now (text_settings buffer.old)) 0 map.now.tables.gpos.stages) result buffer.old buffer.new }
@@ -72,8 +69,7 @@ pub fn apply_layout_table<P: Pause>(
     buffer: &mut hb_buffer_t,
     pause: &P,
 ) -> Result<(), ShapeCause>
-    requires ready { IsReady buffer.old }
-    requires numbers { are_glyphs (items_of buffer.old) ≡ true }
+    requires glyphs { HoldsGlyphs buffer.old }
     ensures { DoesGlyphStageFrom 1 1 (table_stages face.now (positioning_lookups face.now) map.now.tables.gpos
         (P.stage pause.now (text_settings buffer.old)) 0 map.now.tables.gpos.stages) result buffer.old buffer.new }
 {
@@ -92,8 +88,7 @@ pub fn position<P: Pause>(
     buffer: &mut hb_buffer_t,
     pause: &P,
 ) -> Result<(), ShapeCause>
-    requires ready { IsReady buffer.old }
-    requires numbers { are_glyphs (items_of buffer.old) ≡ true }
+    requires glyphs { HoldsGlyphs buffer.old }
     ensures stage { DoesGlyphStage (positioning_stages face.now map.now (P.stage pause.now (text_settings
         buffer.old))) result buffer.old buffer.new }
     ensures items { OnOk result (((i : ℕ) → LeavesItems (P.stage pause.now (text_settings buffer.old) i)) →

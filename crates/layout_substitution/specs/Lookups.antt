@@ -45,12 +45,12 @@ abbrev pub nested_lookup : (ApplyContext → Option (ℕ → Action)) → Option
 nested_lookup below None a c = Passes []
 nested_lookup below (Some lookup) a c = first_subtable (below (under_flag lookup a)) (under_flag lookup a) lookup.subtables c
 
--- the lookups of a table that may be nested in one, each by its index, at so many levels; none at level 0
+-- the lookups of a table that may be nested in one, each by its index, at n levels; none at level 0
 unfoldable pub nested_actions : List SubstLookup → ℕ → ApplyContext → Option (ℕ → Action)
 nested_actions table zero a = None
 nested_actions table (suc depth) a = Some (λ i. nested_lookup (nested_actions table depth) (slice_get table i) a)
 
--- a nested lookup, by its index, in which lookups may be nested at so many levels more
+-- a nested lookup, by its index, in which lookups may be nested at n levels more
 abbrev pub nested_act : List SubstLookup → ℕ → ApplyContext → ℕ → Action
 nested_act table depth a i c = nested_lookup (nested_actions table depth) (slice_get table i) a c
 
@@ -78,7 +78,7 @@ reverse_action a lookup c = met_first a (first_reverse a lookup.subtables) c
 abbrev pub cut_at_index : ℕ → Cut → Cut
 cut_at_index i c = record c { front = take i (whole c); rest = drop i (whole c) }
 
--- a rule tried in place at so many indices from the first, the last of them first
+-- a rule tried in place at the first n indices, the last of them first
 abbrev pub backward_trials : Action → View → ℕ → Cut → Reading
 backward_trials act v zero c = Ok (with_events [] (view_at v c))
 backward_trials act v (suc n) c = after_outcome (act (cut_at_index n c)) (backward_trials act v n) v (cut_at_index n c)

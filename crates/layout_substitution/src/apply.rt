@@ -8,8 +8,7 @@ ghost use Rattle.layout_map_features.specs.declared.per_table.TableIndex.TheVari
 ghost use Rattle.layout_match.specs.Applied.{apply_context_of};
 ghost use Rattle.layout_match.specs.Skipping.{HoldsText};
 ghost use Rattle.layout_match.specs.Trying.{meets};
-ghost use Rattle.buffer_stages.specs.Buffers.{are_glyphs};
-ghost use Rattle.buffer_stages.specs.Ready.{DoesGlyphStageFrom, IsReady};
+ghost use Rattle.buffer_stages.specs.Ready.{DoesGlyphStageFrom, HoldsGlyphs};
 ghost use Rattle.layout_substitution.specs.Steps.{HasZeroPositions};
 ghost use Rattle.layout_substitution.specs.Lookups.{lookup_context, lookup_applied, lookup_stage, lookups_stage};
 
@@ -44,8 +43,7 @@ fn skip_lookup(lookup: &SubstLookup, cleared: bool, buffer: &mut hb_buffer_t) ->
 /// Whether a lookup is to be tried at no glyph of a text: then no output has to be opened for it.
 #[tactic(auto, using(crate::proofs::Skipped::none_in_text))]
 fn is_idle(lookup: &SubstLookup, ctx: &hb_ot_apply_context_t, buffer: &hb_buffer_t) -> bool
-    requires ready { IsReady buffer.now }
-    requires numbers { are_glyphs (items_of buffer.now) ≡ true }
+    requires glyphs { HoldsGlyphs buffer.now }
     ensures idle { result ≡ true → list_any (λ (x : Item). meets (apply_context_of ctx.now) x
         && substitution_covers lookup.now.subtables x.number) (items_of buffer.now) ≡ false }
 {
@@ -63,8 +61,7 @@ fn apply_everywhere(
     ctx: &mut hb_ot_apply_context_t,
     buffer: &mut hb_buffer_t,
 ) -> Result<bool, ShapeCause>
-    requires ready { IsReady buffer.old }
-    requires numbers { are_glyphs (items_of buffer.old) ≡ true }
+    requires glyphs { HoldsGlyphs buffer.old }
     requires cleared { cleared ≡ true → HasZeroPositions buffer.old }
     ensures stage { DoesGlyphStageFrom ctx.old.random_state ctx.new.random_state (lookup_applied table.now.lookups
         (apply_context_of ctx.old) lookup.now) result buffer.old buffer.new }
@@ -72,9 +69,10 @@ fn apply_everywhere(
     ensures unchanged { result ≡ Ok false → items_of buffer.new ≡ items_of buffer.old }
     ensures cleared { is_reverse lookup.now.subtables ≡ false → OnOk result (HasZeroPositions buffer.new) }
 {
-    // (carries to the proof that the buffer's length is a usize)
+    // A list without an output is within its limit, so what is skipped would not have been refused for length.
     let _count = buffer.len();
     if is_idle(lookup, ctx, buffer) {
+        // That the positions are zero now is this function's clause: the answer isn't needed.
         let _ = skip_lookup(lookup, cleared, buffer);
         return Ok(false);
     }
@@ -110,8 +108,7 @@ fn apply_mapped<T: TextDigest>(
     buffer: &mut hb_buffer_t,
 ) -> Result<bool, ShapeCause>
     requires substitution { ctx.old.table_index ≡ GSUB }
-    requires ready { IsReady buffer.old }
-    requires numbers { are_glyphs (items_of buffer.old) ≡ true }
+    requires glyphs { HoldsGlyphs buffer.old }
     requires held { HoldsText (T.sets text.old) (items_of buffer.old) }
     requires cleared { cleared ≡ true → HasZeroPositions buffer.old }
     ensures stage { DoesGlyphStageFrom ctx.old.random_state ctx.new.random_state (lookup_stage ctx.old.face.now
@@ -125,6 +122,7 @@ fn apply_mapped<T: TextDigest>(
     let Some(lookup) = table.get_lookup(lookup_map.index) else {
         return Ok(cleared);
     };
+    // A list without an output is within its limit, so what is skipped would not have been refused for length.
     let _count = buffer.len();
     if text.misses(lookup_map.mask, &lookup.subtables, buffer) {
         return Ok(skip_lookup(lookup, cleared, buffer));
@@ -144,8 +142,7 @@ pub(crate) fn apply_all<T: TextDigest>(
     buffer: &mut hb_buffer_t,
 ) -> Result<(), ShapeCause>
     requires substitution { ctx.old.table_index ≡ GSUB }
-    requires ready { IsReady buffer.old }
-    requires numbers { are_glyphs (items_of buffer.old) ≡ true }
+    requires glyphs { HoldsGlyphs buffer.old }
     requires held { HoldsText (T.sets text.old) (items_of buffer.old) }
     ensures stage { DoesGlyphStageFrom ctx.old.random_state ctx.new.random_state (lookups_stage ctx.old.face.now
         table.now.lookups lookups.now) result buffer.old buffer.new }
@@ -153,7 +150,8 @@ pub(crate) fn apply_all<T: TextDigest>(
     ensures face { ctx.new.face.now ≡ ctx.old.face.now }
     ensures held { OnOk result (HoldsText (T.sets text.new) (items_of buffer.new)) }
 {
-    // A lookup from the left leaves all positions zero, which the next ones that are skipped need not clear again.
+    // It only saves time: a lookup from the left leaves all positions zero, so the next ones that are skipped need not
+    // clear them again.
     let mut cleared = false;
     for lookup_map in lookups {
         cleared = apply_mapped(table, lookup_map, text, cleared, ctx, buffer)?;

@@ -1,9 +1,8 @@
 //! A reverse chaining lookup over a buffer, in place (rustybuzz: hb/ot_layout.rs, `apply_backward`).
-ghost use Rattle.std.specs.Prelude.{ℕ, ◌≡◌, ◌<◌, true, false, length};
+ghost use Rattle.std.specs.Prelude.{ℕ, ◌≡◌, ◌<◌, false, length};
 ghost use Rattle.buffer_core.specs.Sides.{all_glyphs, items_of};
 ghost use Rattle.layout_match.specs.Applied.{apply_context_of};
-ghost use Rattle.buffer_stages.specs.Buffers.{are_glyphs};
-ghost use Rattle.buffer_stages.specs.Ready.{IsDoneFrom, IsReady};
+ghost use Rattle.buffer_stages.specs.Ready.{IsDoneFrom, HasGlyphsInPlace, HoldsGlyphs};
 ghost use Rattle.layout_substitution.specs.Lookups.{backward_pass, reverse_action};
 ghost use Rattle.layout_substitution.specs.Steps.{IsStepBack};
 
@@ -21,16 +20,17 @@ fn apply_at(
     acted: bool,
     buffer: &mut hb_buffer_t,
 ) -> bool
-    requires closed { buffer.old.is_open ≡ false }
+    requires glyphs_in_place { HasGlyphsInPlace buffer.old }
     requires there { at < length (all_glyphs buffer.old) }
-    requires numbers { are_glyphs (items_of buffer.old) ≡ true }
     ensures step { IsStepBack (reverse_action (apply_context_of ctx.now) lookup.now) at buffer.old buffer.new }
     ensures before { result ≡ false → acted ≡ false }
     ensures unchanged { result ≡ false → items_of buffer.new ≡ items_of buffer.old }
 {
+    // There are as many positions as glyphs. Without an output a move is never refused.
     let _before = buffer.pos_slice();
     let _ = buffer.move_to(at);
     let acts = apply_reverse_lookup(lookup, ctx, buffer);
+    // There still are as many positions as glyphs.
     let _after = buffer.pos_slice();
     acts || acted
 }
@@ -43,8 +43,7 @@ pub fn apply_backward(
     ctx: &hb_ot_apply_context_t,
     buffer: &mut hb_buffer_t,
 ) -> bool
-    requires ready { IsReady buffer.old }
-    requires numbers { are_glyphs (items_of buffer.old) ≡ true }
+    requires glyphs { HoldsGlyphs buffer.old }
     ensures stage { (r : ℕ) → IsDoneFrom r r (backward_pass
         (reverse_action (apply_context_of ctx.now) lookup.now)) buffer.old buffer.new }
     ensures unchanged { result ≡ false → items_of buffer.new ≡ items_of buffer.old }
@@ -53,6 +52,7 @@ pub fn apply_backward(
     for at in (0..buffer.len()).rev() {
         acted = apply_at(lookup, at, ctx, acted, buffer);
     }
+    // The list is as long as at first, and has as many positions as glyphs. Without an output a move is never refused.
     let _end = buffer.len();
     let _ = buffer.move_to(0);
     let _after = buffer.pos_slice();

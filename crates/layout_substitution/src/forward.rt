@@ -1,11 +1,10 @@
 //! A lookup over a buffer with an open output (rustybuzz: hb/ot_layout.rs, `apply_forward`).
-ghost use Rattle.std.specs.Prelude.{◌≡◌, ◌≢◌, ◌<◌, List, length, true, false, Ok, Err, IfErr, OnOk};
+ghost use Rattle.std.specs.Prelude.{◌≡◌, ◌≢◌, ◌<◌, List, false, Ok, Err, IfErr, OnOk};
 ghost use Rattle.buffer_core.specs.Sides.{items_of};
 ghost use Rattle.layout_face.specs.declared.substitution.SubstLookup.{SubstLookup as Lookup};
 ghost use Rattle.layout_match.specs.Applied.{apply_context_of};
 ghost use Rattle.buffer_glyphs.specs.declared.cause.ShapeCause.TheVariants.{TooLong};
-ghost use Rattle.buffer_stages.specs.Buffers.{are_glyphs};
-ghost use Rattle.buffer_stages.specs.Ready.{DoesGlyphStageFrom, IsReady};
+ghost use Rattle.buffer_stages.specs.Ready.{DoesGlyphStageFrom, HoldsGlyphs, IsAmongGlyphs, IsAtGlyph};
 ghost use Rattle.layout_match.specs.Trying.{forward_pass};
 ghost use Rattle.layout_substitution.specs.Lookups.{lookup_action};
 ghost use Rattle.layout_match.specs.Steps.{IsGivenUp, IsIdleRun, IsIdleRunTooLong, IsStep};
@@ -24,8 +23,7 @@ fn pass_idle(
     ctx: &hb_ot_apply_context_t,
     buffer: &mut hb_buffer_t,
 ) -> Result<(), ShapeCause>
-    requires open { buffer.old.is_open ≡ true }
-    requires numbers { are_glyphs (items_of buffer.old) ≡ true }
+    requires among_glyphs { IsAmongGlyphs buffer.old }
     ensures ok { OnOk result ((table : List Lookup) → IsIdleRun (lookup_action table (apply_context_of ctx.now) lookup.now)
         buffer.old buffer.new) }
     ensures err { IfErr result (λ e. e ≢ ShapeCause.OutOfMemory → (e ≡ TooLong) × ((table : List Lookup)
@@ -50,10 +48,7 @@ fn apply_next(
     acted: bool,
     buffer: &mut hb_buffer_t,
 ) -> Result<bool, ShapeCause>
-    requires open { buffer.old.is_open ≡ true }
-    requires there { 0 < length buffer.old.ahead }
-    requires unrefused { buffer.old.has_refused ≡ false }
-    requires numbers { are_glyphs (items_of buffer.old) ≡ true }
+    requires at_glyph { IsAtGlyph buffer.old }
     ensures ok { OnOk result (IsStep (lookup_action table.now.lookups
         (apply_context_of ctx.old) lookup.now) ctx.old.random_state ctx.new.random_state buffer.old buffer.new) }
     ensures err { IfErr result (λ e. e ≢ ShapeCause.OutOfMemory
@@ -81,8 +76,7 @@ pub fn apply_forward(
     ctx: &mut hb_ot_apply_context_t,
     buffer: &mut hb_buffer_t,
 ) -> Result<bool, ShapeCause>
-    requires ready { IsReady buffer.old }
-    requires numbers { are_glyphs (items_of buffer.old) ≡ true }
+    requires glyphs { HoldsGlyphs buffer.old }
     ensures stage { DoesGlyphStageFrom ctx.old.random_state ctx.new.random_state (forward_pass (lookup_action
         table.now.lookups (apply_context_of ctx.old) lookup.now)) result buffer.old buffer.new }
     ensures context { apply_context_of ctx.new ≡ apply_context_of ctx.old }

@@ -1,10 +1,10 @@
 //! A GSUB lookup at the cursor (rustybuzz: `SubstLookup`).
-ghost use Rattle.std.specs.Prelude.{◌≡◌, ◌<◌, true, false, length};
-ghost use Rattle.buffer_core.specs.Sides.{items_of};
+ghost use Rattle.std.specs.Prelude.{◌≡◌, ◌<◌};
 ghost use Rattle.layout_match.specs.Applied.{apply_context_of};
 ghost use Rattle.buffer_stages.specs.Actions.{first_rule};
-ghost use Rattle.buffer_stages.specs.Buffers.{are_glyphs, cut_of};
+ghost use Rattle.buffer_stages.specs.Buffers.{cut_of};
 ghost use Rattle.buffer_stages.specs.Performing.{Performs, PerformsWithoutOutput, cut_with};
+ghost use Rattle.buffer_stages.specs.Ready.{HasGlyphAtCursor, IsAtGlyph};
 ghost use Rattle.layout_gsub.specs.Reverses.{reverse_subtable};
 ghost use Rattle.layout_substitution.specs.Lookups.{first_reverse, lookup_action, reverse_action};
 
@@ -28,10 +28,7 @@ pub fn apply_lookup(
     ctx: &mut hb_ot_apply_context_t,
     buffer: &mut hb_buffer_t,
 ) -> Result<bool, ShapeCause>
-    requires open { buffer.old.is_open ≡ true }
-    requires unrefused { buffer.old.has_refused ≡ false }
-    requires there { 0 < length buffer.old.ahead }
-    requires number { are_glyphs (items_of buffer.old) ≡ true }
+    requires at_glyph { IsAtGlyph buffer.old }
     ensures performs { Performs (lookup_action table.now.lookups (apply_context_of ctx.old) lookup.now
         (cut_with ctx.old.random_state buffer.old)) result ctx.old.random_state ctx.new.random_state buffer.old
         buffer.new }
@@ -57,8 +54,7 @@ fn apply_reverse_subtable(
     ctx: &hb_ot_apply_context_t,
     buffer: &mut hb_buffer_t,
 ) -> bool
-    requires there { 0 < length buffer.old.ahead }
-    requires number { are_glyphs (items_of buffer.old) ≡ true }
+    requires glyph_at_cursor { HasGlyphAtCursor buffer.old }
     ensures { PerformsWithoutOutput (reverse_subtable (apply_context_of ctx.now) subtable.now
         (cut_of buffer.old)) result buffer.old buffer.new }
 {
@@ -75,8 +71,7 @@ fn apply_reverse_subtables(
     ctx: &hb_ot_apply_context_t,
     buffer: &mut hb_buffer_t,
 ) -> bool
-    requires there { 0 < length buffer.old.ahead }
-    requires number { are_glyphs (items_of buffer.old) ≡ true }
+    requires glyph_at_cursor { HasGlyphAtCursor buffer.old }
     ensures { PerformsWithoutOutput (first_rule (reverse_subtable (apply_context_of ctx.now)) subtables.now
         (cut_of buffer.old)) result buffer.old buffer.new }
 {
@@ -94,8 +89,7 @@ fn apply_reverse_substitution(
     ctx: &hb_ot_apply_context_t,
     buffer: &mut hb_buffer_t,
 ) -> bool
-    requires there { 0 < length buffer.old.ahead }
-    requires number { are_glyphs (items_of buffer.old) ≡ true }
+    requires glyph_at_cursor { HasGlyphAtCursor buffer.old }
     ensures { PerformsWithoutOutput (first_reverse (apply_context_of ctx.now) subtables.now
         (cut_of buffer.old)) result buffer.old buffer.new }
 {
@@ -119,8 +113,7 @@ pub fn apply_reverse_lookup(
     ctx: &hb_ot_apply_context_t,
     buffer: &mut hb_buffer_t,
 ) -> bool
-    requires there { 0 < length buffer.old.ahead }
-    requires number { are_glyphs (items_of buffer.old) ≡ true }
+    requires glyph_at_cursor { HasGlyphAtCursor buffer.old }
     ensures { PerformsWithoutOutput (reverse_action (apply_context_of ctx.now) lookup.now
         (cut_of buffer.old)) result buffer.old buffer.new }
 {

@@ -5,8 +5,7 @@
 //! a record) is written for each of the two tables, here and in `layout_positioning`, and the two repeat each other.
 //! Within this file too functions repeat clauses: each one of the cycle calls the next, so each requires what the next
 //! requires and refuses as the next refuses.
-ghost use Rattle.std.specs.Prelude.{ℕ, ◌≡◌, ◌≢◌, ◌≤◌, ◌<◌, ◌+◌, true, false, length, slice_get, IfOk, Option, Some, None};
-ghost use Rattle.buffer_core.specs.Sides.{items_of};
+ghost use Rattle.std.specs.Prelude.{ℕ, ◌≡◌, ◌≢◌, ◌≤◌, ◌<◌, ◌+◌, length, slice_get, IfOk, Option, Some, None};
 ghost use Rattle.layout_contexts.specs.Chains.{chain_rule, context_subtable};
 ghost use Rattle.layout_contexts.specs.Fitting.{chain_of};
 ghost use Rattle.layout_contexts.specs.Inside.{StaysInside};
@@ -17,8 +16,9 @@ ghost use Rattle.layout_contexts.specs.Rules.{chains_of};
 ghost use Rattle.layout_gsub.specs.Passing.{ArePassing};
 ghost use Rattle.layout_match.specs.Applied.{ApplyContext, apply_context_of};
 ghost use Rattle.buffer_stages.specs.Actions.{Action, first_rule, whole};
-ghost use Rattle.buffer_stages.specs.Buffers.{are_glyphs, cut_of};
+ghost use Rattle.buffer_stages.specs.Buffers.{cut_of};
 ghost use Rattle.buffer_stages.specs.Performing.{Performs, cut_with};
+ghost use Rattle.buffer_stages.specs.Ready.{HasGlyphAtCursor, IsAmongGlyphs, IsAtGlyph};
 ghost use Rattle.layout_substitution.specs.Lookups.{first_subtable, nested_actions, nested_act, nested_lookup};
 
 use buffer_core::buffer::hb_buffer_t;
@@ -35,7 +35,7 @@ use layout_match::{MatchPositions, hb_ot_apply_context_t, next_glyphs};
 use layout_tables::context::{ContextSubtable, SequenceLookupRecord};
 
 /// Applies the lookup at an index of the table at the cursor, nested in another: with its own flag, and without a test
-/// whether it applies to the glyph there. An index without one does nothing. Lookups may be nested in it so many levels
+/// whether it applies to the glyph there. An index without one does nothing. Lookups may be nested in it `depth` levels
 /// deep.
 #[cycle(nested)]
 pub(crate) fn recurse(
@@ -45,10 +45,7 @@ pub(crate) fn recurse(
     ctx: &mut hb_ot_apply_context_t,
     buffer: &mut hb_buffer_t,
 ) -> Result<bool, ShapeCause>
-    requires open { buffer.old.is_open ≡ true }
-    requires unrefused { buffer.old.has_refused ≡ false }
-    requires there { 0 < length buffer.old.ahead }
-    requires number { are_glyphs (items_of buffer.old) ≡ true }
+    requires at_glyph { IsAtGlyph buffer.old }
     ensures performs { Performs (nested_lookup (nested_actions table.now.lookups depth) (slice_get table.now.lookups index)
         (apply_context_of ctx.old) (cut_with ctx.old.random_state buffer.old)) result ctx.old.random_state
         ctx.new.random_state buffer.old buffer.new }
@@ -73,10 +70,7 @@ pub(crate) fn apply_subtables(
     ctx: &mut hb_ot_apply_context_t,
     buffer: &mut hb_buffer_t,
 ) -> Result<bool, ShapeCause>
-    requires open { buffer.old.is_open ≡ true }
-    requires unrefused { buffer.old.has_refused ≡ false }
-    requires there { 0 < length buffer.old.ahead }
-    requires number { are_glyphs (items_of buffer.old) ≡ true }
+    requires at_glyph { IsAtGlyph buffer.old }
     ensures performs { Performs (first_subtable (nested_actions table.now.lookups depth (apply_context_of ctx.old))
         (apply_context_of ctx.old) subtables.now (cut_with ctx.old.random_state buffer.old)) result
         ctx.old.random_state ctx.new.random_state buffer.old buffer.new }
@@ -99,8 +93,7 @@ pub(crate) fn apply_subtables(
 /// none may.
 #[tactic(auto, using(buffer_stages::proofs::Lemmas::Glyphs::number_ahead))]
 fn next_context(subtables: &Subtables<ContextSubtable>, from: usize, buffer: &hb_buffer_t) -> usize
-    requires there { 0 < length buffer.now.ahead }
-    requires number { are_glyphs (items_of buffer.now) ≡ true }
+    requires glyph_at_cursor { HasGlyphAtCursor buffer.now }
     ensures on { from ≤ result }
     ensures passed { (nest : Option (ℕ → Action)) (a : ApplyContext) (r : ℕ)
         → ArePassing (context_subtable nest a) subtables.now from result (cut_with r buffer.now) }
@@ -125,10 +118,7 @@ fn apply_contexts(
     ctx: &mut hb_ot_apply_context_t,
     buffer: &mut hb_buffer_t,
 ) -> Result<bool, ShapeCause>
-    requires open { buffer.old.is_open ≡ true }
-    requires unrefused { buffer.old.has_refused ≡ false }
-    requires there { 0 < length buffer.old.ahead }
-    requires number { are_glyphs (items_of buffer.old) ≡ true }
+    requires at_glyph { IsAtGlyph buffer.old }
     ensures performs { Performs (first_rule (context_subtable (nested_actions table.now.lookups depth
         (apply_context_of ctx.old)) (apply_context_of ctx.old)) subtables.now (cut_with ctx.old.random_state buffer.old))
         result ctx.old.random_state ctx.new.random_state buffer.old buffer.new }
@@ -162,10 +152,7 @@ fn apply_context(
     ctx: &mut hb_ot_apply_context_t,
     buffer: &mut hb_buffer_t,
 ) -> Result<bool, ShapeCause>
-    requires open { buffer.old.is_open ≡ true }
-    requires unrefused { buffer.old.has_refused ≡ false }
-    requires there { 0 < length buffer.old.ahead }
-    requires number { are_glyphs (items_of buffer.old) ≡ true }
+    requires at_glyph { IsAtGlyph buffer.old }
     ensures performs { Performs (context_subtable (nested_actions table.now.lookups depth (apply_context_of ctx.old))
         (apply_context_of ctx.old) subtable.now (cut_with ctx.old.random_state buffer.old)) result
         ctx.old.random_state ctx.new.random_state buffer.old buffer.new }
@@ -193,10 +180,7 @@ fn apply_rules(
     ctx: &mut hb_ot_apply_context_t,
     buffer: &mut hb_buffer_t,
 ) -> Result<bool, ShapeCause>
-    requires open { buffer.old.is_open ≡ true }
-    requires unrefused { buffer.old.has_refused ≡ false }
-    requires there { 0 < length buffer.old.ahead }
-    requires number { are_glyphs (items_of buffer.old) ≡ true }
+    requires at_glyph { IsAtGlyph buffer.old }
     ensures performs { Performs (first_rule (chain_rule (nested_actions table.now.lookups depth (apply_context_of
         ctx.old)) (apply_context_of ctx.old)) (chains_of subtable.now) (cut_with ctx.old.random_state buffer.old)) result
         ctx.old.random_state ctx.new.random_state buffer.old buffer.new }
@@ -227,10 +211,7 @@ fn apply_rule(
     ctx: &mut hb_ot_apply_context_t,
     buffer: &mut hb_buffer_t,
 ) -> Result<bool, ShapeCause>
-    requires open { buffer.old.is_open ≡ true }
-    requires unrefused { buffer.old.has_refused ≡ false }
-    requires there { 0 < length buffer.old.ahead }
-    requires number { are_glyphs (items_of buffer.old) ≡ true }
+    requires at_glyph { IsAtGlyph buffer.old }
     ensures performs { Performs (chain_rule (nested_actions table.now.lookups depth (apply_context_of ctx.old))
         (apply_context_of ctx.old) (chain_of rule.now) (cut_with ctx.old.random_state buffer.old)) result
         ctx.old.random_state ctx.new.random_state buffer.old buffer.new }
@@ -260,9 +241,7 @@ fn apply_records(
     ctx: &mut hb_ot_apply_context_t,
     buffer: &mut hb_buffer_t,
 ) -> Result<usize, ShapeCause>
-    requires open { buffer.old.is_open ≡ true }
-    requires unrefused { buffer.old.has_refused ≡ false }
-    requires number { are_glyphs (items_of buffer.old) ≡ true }
+    requires among_glyphs { IsAmongGlyphs buffer.old }
     requires rising { AreRising 0 (length (whole (cut_of buffer.old)) + 1) indices.old.items }
     requires within { end ≤ length (whole (cut_of buffer.old)) }
     ensures walks { Walking (each_nested (nested_actions table.now.lookups depth (apply_context_of ctx.old)) records.now
@@ -297,9 +276,7 @@ fn apply_record(
     ctx: &mut hb_ot_apply_context_t,
     buffer: &mut hb_buffer_t,
 ) -> Result<usize, ShapeCause>
-    requires open { buffer.old.is_open ≡ true }
-    requires unrefused { buffer.old.has_refused ≡ false }
-    requires number { are_glyphs (items_of buffer.old) ≡ true }
+    requires among_glyphs { IsAmongGlyphs buffer.old }
     requires rising { AreRising 0 (length (whole (cut_of buffer.old)) + 1) indices.old.items }
     requires within { end ≤ length (whole (cut_of buffer.old)) }
     ensures walks { Walking (one_record (nested_act table.now.lookups depth (apply_context_of ctx.old)) lookup_record.now

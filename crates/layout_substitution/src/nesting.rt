@@ -1,8 +1,8 @@
 //! A nested GSUB lookup as a method of the apply context (rustybuzz: hb/ot_layout_gsubgpos.rs, `recurse`).
-ghost use Rattle.std.specs.Prelude.{ℕ, ◌≡◌, ◌<◌, true, false, length, slice_get};
-ghost use Rattle.buffer_core.specs.Sides.{items_of};
-ghost use Rattle.buffer_stages.specs.Buffers.{are_glyphs, cut_of};
+ghost use Rattle.std.specs.Prelude.{ℕ, ◌≡◌, ◌<◌, true, false, slice_get};
+ghost use Rattle.buffer_stages.specs.Buffers.{cut_of};
 ghost use Rattle.buffer_stages.specs.Performing.{Performs, cut_with};
+ghost use Rattle.buffer_stages.specs.Ready.{IsAtGlyph};
 ghost use Rattle.layout_contexts.specs.Nested.{has_budget};
 ghost use Rattle.layout_contexts.specs.Records.{after_spending};
 ghost use Rattle.layout_match.specs.Applied.{ApplyContext, apply_context_of};
@@ -27,10 +27,7 @@ pub trait Nesting {
     /// does nothing. It answers whether the lookup acted. It refuses for want of memory, or where a side of the buffer
     /// would have more glyphs than it may.
     fn recurse(&mut self, index: u16, buffer: &mut hb_buffer_t) -> Result<bool, ShapeCause>
-        requires open { buffer.old.is_open ≡ true }
-        requires unrefused { buffer.old.has_refused ≡ false }
-        requires there { 0 < length buffer.old.ahead }
-        requires number { are_glyphs (items_of buffer.old) ≡ true }
+        requires at_glyph { IsAtGlyph buffer.old }
         ensures performs { has_budget (cut_of buffer.old) ≡ true → Performs
             (nested_lookup (nested_actions (substitution_lookups (applied self.old).font) 63)
             (slice_get (substitution_lookups (applied self.old).font) index) (applied self.old)
@@ -56,10 +53,7 @@ fn apply_nested(
     ctx: &mut hb_ot_apply_context_t,
     buffer: &mut hb_buffer_t,
 ) -> Result<bool, ShapeCause>
-    requires open { buffer.old.is_open ≡ true }
-    requires unrefused { buffer.old.has_refused ≡ false }
-    requires there { 0 < length buffer.old.ahead }
-    requires number { are_glyphs (items_of buffer.old) ≡ true }
+    requires at_glyph { IsAtGlyph buffer.old }
     ensures performs { has_budget (cut_of buffer.old) ≡ true → Performs
         (nested_lookup (nested_actions (substitution_lookups ctx.old.face.now) 63)
         (slice_get (substitution_lookups ctx.old.face.now) index) (apply_context_of ctx.old)

@@ -3,12 +3,11 @@
 //!
 //! `apply_stage` repeats the parameters and clauses of `apply_all`, which it calls: a stage promises what a list of
 //! lookups does, for a font without GSUB too.
-ghost use Rattle.std.specs.Prelude.{ℕ, ◌≡◌, OnOk, true};
+ghost use Rattle.std.specs.Prelude.{ℕ, ◌≡◌, OnOk};
 ghost use Rattle.std.specs.Option.{option_map_or, option_map};
 ghost use Rattle.buffer_core.specs.Sides.{items_of};
 ghost use Rattle.layout_map_features.specs.declared.per_table.TableIndex.TheVariants.{GSUB};
-ghost use Rattle.buffer_stages.specs.Buffers.{are_glyphs};
-ghost use Rattle.buffer_stages.specs.Ready.{DoesGlyphStage, DoesGlyphStageFrom, IsReady};
+ghost use Rattle.buffer_stages.specs.Ready.{DoesGlyphStage, DoesGlyphStageFrom, HoldsGlyphs};
 ghost use Rattle.layout_match.specs.Skipping.{HoldsText};
 ghost use Rattle.layout_substitution.specs.Lookups.{lookups_stage};
 ghost use Rattle.buffer_stages.specs.Settings.{text_settings};
@@ -32,8 +31,7 @@ fn apply_stage<T: TextDigest>(
     buffer: &mut hb_buffer_t,
 ) -> Result<(), ShapeCause>
     requires substitution { ctx.old.table_index ≡ GSUB }
-    requires ready { IsReady buffer.old }
-    requires numbers { are_glyphs (items_of buffer.old) ≡ true }
+    requires glyphs { HoldsGlyphs buffer.old }
     requires held { HoldsText (T.sets text.old) (items_of buffer.old) }
     ensures stage { DoesGlyphStageFrom ctx.old.random_state ctx.new.random_state (lookups_stage ctx.old.face.now
         (substitution_lookups ctx.old.face.now) lookups.now) result buffer.old buffer.new }
@@ -58,8 +56,7 @@ fn apply_stages<P: Pause, T: TextDigest>(
     pause: &P,
 ) -> Result<(), ShapeCause>
     requires substitution { ctx.old.table_index ≡ GSUB }
-    requires ready { IsReady buffer.old }
-    requires numbers { are_glyphs (items_of buffer.old) ≡ true }
+    requires glyphs { HoldsGlyphs buffer.old }
     requires held { HoldsText (T.sets text.old) (items_of buffer.old) }
     ensures stage { DoesGlyphStageFrom ctx.old.random_state ctx.new.random_state (table_stages ctx.old.face.now
         (substitution_lookups ctx.old.face.now) map.now.tables.gsub (P.stage pause.now (text_settings buffer.old)) 0
@@ -87,8 +84,7 @@ pub fn apply_layout_table<P: Pause>(
     pause: &P,
 ) -> Result<(), ShapeCause>
     requires substitution { ctx.old.table_index ≡ GSUB }
-    requires ready { IsReady buffer.old }
-    requires numbers { are_glyphs (items_of buffer.old) ≡ true }
+    requires glyphs { HoldsGlyphs buffer.old }
     ensures stage { DoesGlyphStageFrom ctx.old.random_state ctx.new.random_state (table_stages ctx.old.face.now
         (substitution_lookups ctx.old.face.now) map.now.tables.gsub (P.stage pause.now (text_settings buffer.old)) 0
         map.now.tables.gsub.stages) result buffer.old buffer.new }
@@ -108,8 +104,7 @@ pub fn substitute<P: Pause>(
     buffer: &mut hb_buffer_t,
     pause: &P,
 ) -> Result<(), ShapeCause>
-    requires ready { IsReady buffer.old }
-    requires numbers { are_glyphs (items_of buffer.old) ≡ true }
+    requires glyphs { HoldsGlyphs buffer.old }
     ensures { DoesGlyphStage (substitution_stages face.now map.now (P.stage pause.now (text_settings buffer.old)))
         result buffer.old buffer.new }
 {

@@ -31,7 +31,7 @@ components_fit count components = list_all (λ c. nat_le count (length c.anchors
 abbrev pub marks_fit_ligatures : List (GlyphRow MarkRecord) → List LigatureRow → Bool
 marks_fit_ligatures marks ligatures = list_all (λ l. components_fit (mark_class_count 0 marks) l.components) ligatures
 
--- whether each row of records has at least so many
+-- whether each row of records has at least n
 abbrev pub records_fit : ℕ → List Class1Record → Bool
 records_fit count records = list_all (λ r. nat_le count (length r.class2_records)) records
 

@@ -6,7 +6,7 @@ ghost use Rattle.layout_tables.specs.Choice.{chosen_lang_sys, chosen_script, lan
 ghost use Rattle.layout_tables.specs.Layout.{LayoutLists};
 
 use crate::script::{LangSys, ScriptRecord};
-use crate::table::{LayoutTable, SelectedScript};
+use crate::table::{ScriptsAndFeatures, SelectedScript};
 use buffer_common::tag::Tag;
 
 /// The choices that a table's lists leave to the tags of a text.
@@ -36,11 +36,11 @@ pub trait LayoutTableExt {
         ensures { result ≡ language_feature tag system.now (lists self.now).features };
 }
 
-impl LayoutTableExt for LayoutTable {
+impl LayoutTableExt for ScriptsAndFeatures {
     ghost lists = { λ t. t };
 
     fn select_script(&self, wanted: &[Tag]) -> Option<SelectedScript<'_>> {
-        LayoutTable::select_script(self, wanted)
+        ScriptsAndFeatures::select_script(self, wanted)
     }
 
     fn select_script_language<'a>(
@@ -52,10 +52,10 @@ impl LayoutTableExt for LayoutTable {
     }
 
     fn get_required_language_feature(&self, system: &LangSys) -> Option<(u16, Tag)> {
-        LayoutTable::get_required_language_feature(self, system)
+        ScriptsAndFeatures::get_required_language_feature(self, system)
     }
 
     fn find_language_feature(&self, system: &LangSys, tag: Tag) -> Option<u16> {
-        LayoutTable::find_language_feature(self, system, tag)
+        ScriptsAndFeatures::find_language_feature(self, system, tag)
     }
 }

@@ -6,10 +6,10 @@ ghost use Rattle.layout_tables.specs.Indices.{all_below, context_fits, records_f
 
 use crate::context::{ContextSubtable, SequenceLookupRecord, SequenceRule};
 use crate::script::{LangSys, LangSysRecord, ScriptRecord};
-use crate::table::{FeatureRecord, LayoutTable};
+use crate::table::{FeatureRecord, ScriptsAndFeatures};
 
-impl LayoutTable {
-    /// Whether all features of each language system, and all lookups of each feature, exist, in a table with so many
+impl ScriptsAndFeatures {
+    /// Whether all features of each language system, and all lookups of each feature, exist, in a table of `lookup_count`
     /// lookups.
     pub fn indices_fit(&self, lookup_count: usize) -> bool
         ensures { result ≡ indices_fit lookup_count self.now }
@@ -20,7 +20,7 @@ impl LayoutTable {
 }
 
 impl ContextSubtable {
-    /// Whether the lookup of each record of the rules exists, in a table with so many lookups.
+    /// Whether the lookup of each record of the rules exists, in a table of `lookup_count` lookups.
     pub fn lookups_fit(&self, lookup_count: usize) -> bool
         ensures { result ≡ context_fits lookup_count self.now }
     {

@@ -13,7 +13,8 @@ use std::marker::Model;
 /// How many entries of the index there are at most for each row.
 const STARTS_PER_ROW: usize = 32;
 
-/// Pairs of glyphs and their adjustments, in the order of first and then second glyphs.
+/// Pairs of glyphs and their adjustments, in the order of first and then second glyphs, with an index of the first
+/// glyphs. The index only saves time: contracts see the rows.
 #[derive(Debug, Drop)]
 pub struct PairRows {
     rows: SortedRows<PairRow>,
@@ -179,7 +180,7 @@ fn starts_between(
     Ok(starts)
 }
 
-/// Appends the entries of so many glyphs from a first one on.
+/// Appends the entries of `count` glyphs from `first` on.
 #[tactic(auto, using(crate::proofs::PairRuns::no_starts, crate::proofs::PairRuns::starts_grow))]
 fn push_starts(
     rows: &[PairRow],

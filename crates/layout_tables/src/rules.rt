@@ -12,7 +12,8 @@ use std::marker::Model;
 #[derive(Debug, Drop)]
 pub struct SequenceRules {
     rules: Array<SequenceRule<u16>>,
-    /// Whether the first items of the inputs never fall, as in a font's sets of rules.
+    /// Whether the first items of the inputs never fall, as in a font's sets of rules. It only saves time: the rules
+    /// that begin with an item are then found by halves.
     rises: bool,
 }
 

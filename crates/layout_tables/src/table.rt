@@ -58,12 +58,12 @@ pub struct SelectedScript<'a> {
 
 /// A layout table without its lookups: scripts by rising tags, and features in the order of their indices.
 #[derive(Debug, Drop)]
-pub struct LayoutTable {
+pub struct ScriptsAndFeatures {
     scripts: Vec<ScriptRecord>,
     features: Vec<FeatureRecord>,
 }
 
-impl Model for LayoutTable {
+impl Model for ScriptsAndFeatures {
     ghost use Rattle.std.specs.Prelude.{◌≡◌, None, true};
     ghost use Rattle.layout_tables.specs.Keyed.{is_rising};
     ghost use Rattle.layout_tables.specs.Layout.{LayoutLists};
@@ -75,13 +75,13 @@ impl Model for LayoutTable {
     ghost invariant = { λ t. is_rising (λ s. s.tag.0) None t.scripts.items ≡ true };
 }
 
-impl LayoutTable {
+impl ScriptsAndFeatures {
     /// A table with scripts whose tags rise strictly, as numbers.
-    pub fn new(scripts: Vec<ScriptRecord>, features: Vec<FeatureRecord>) -> LayoutTable
+    pub fn new(scripts: Vec<ScriptRecord>, features: Vec<FeatureRecord>) -> ScriptsAndFeatures
         requires { is_rising (λ s. s.tag.0) None scripts.items ≡ true }
         ensures { result ≡ record { scripts = scripts.items; features = features.items } }
     {
-        LayoutTable { scripts, features }
+        ScriptsAndFeatures { scripts, features }
     }
 
     /// The script of a tag.

@@ -1,4 +1,5 @@
-//! Whether a lookup would apply to glyphs with no context around them.
+//! Whether a lookup would apply to glyphs with no context around them (rustybuzz: hb/ot_layout_gsubgpos.rs,
+//! `WouldApply`).
 ghost use Rattle.std.specs.Prelude.{◌≡◌, ◌==◌};
 ghost use Rattle.std.specs.List.{list_any};
 ghost use Rattle.layout_common.specs.Classes.{class_of};

@@ -23,5 +23,5 @@ pub use layout_tables::script::{LangSys, LangSysRecord, ScriptRecord};
 pub use layout_tables::sequence::{AlternateSubst, MultipleSubst, SequenceRow};
 pub use layout_tables::single_pos::SinglePos;
 pub use layout_tables::single_subst::SingleSubst;
-pub use layout_tables::table::{FeatureRecord, LayoutTable, SelectedScript};
+pub use layout_tables::table::{FeatureRecord, ScriptsAndFeatures, SelectedScript};
 pub use layout_tables::value::{Anchor, ValueRecord};

@@ -19,7 +19,8 @@ use shape_pipeline::{
 use std::alloc::{AllocError, Global};
 use std::marker::Model;
 
-/// Plans of one font and one table of languages, the least recently used first, at most as many as its bound.
+/// Plans of one font and one table of languages, the least recently used first, at most as many as its bound. They only
+/// save time: a text has the glyphs that `shape` gives it without a cache.
 #[derive(Drop)]
 pub struct PlanCache {
     plans: Vec<CachedPlan>,

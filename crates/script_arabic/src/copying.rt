@@ -1,8 +1,8 @@
 //! The copies of tiles (rustybuzz: hb/ot_shaper_arabic.rs, apply_stch).
-ghost use Rattle.std.specs.Prelude.{◌≡◌, ◌<◌, ◌+◌, ◌++◌, ◌∷◌, [], List, Err, IfErr, OnOk, length, replicate, true};
+ghost use Rattle.std.specs.Prelude.{◌≡◌, ◌<◌, ◌+◌, ◌++◌, ◌∷◌, [], List, Err, IfErr, OnOk, length, replicate};
 ghost use Rattle.buffer_glyphs.specs.Items.{Item, strip};
 ghost use Rattle.buffer_glyphs.specs.Events.{Replace};
-ghost use Rattle.buffer_core.specs.Sides.{all_glyphs};
+ghost use Rattle.buffer_core.specs.Sides.{all_glyphs, HasCurrent};
 ghost use Rattle.buffer_stages.specs.Ready.{IsReady};
 ghost use Rattle.buffer_stages.specs.Walks.{RefusesLength, HasWalked};
 ghost use Rattle.buffer_stages.specs.Stages.{DoesStage};
@@ -32,8 +32,7 @@ pub fn copy_tiles(tiles: &[Option<Tile>], buffer: &mut hb_buffer_t) -> Result<()
 
 /// Outputs the copies of the current glyph, and then the glyph.
 fn pass(tile: Option<Tile>, buffer: &mut hb_buffer_t) -> Result<(), ShapeCause>
-    requires open { buffer.old.is_open ≡ true }
-    requires there { 0 < length buffer.old.ahead }
+    requires current { HasCurrent buffer.old }
     ensures ok { OnOk result ((x : Item) (xs : List Item) → strip buffer.old.ahead ≡ x ∷ xs
         → HasWalked (strip buffer.old.behind ++ replicate (copies_in tile + 1) x) xs
         (copy_events (length buffer.old.behind) (copies_in tile)) buffer.old buffer.new) }
@@ -56,8 +55,7 @@ fn copies_in(tile: Option<Tile>) -> u32
 
 /// Outputs a copy of the current glyph.
 fn copy_current(buffer: &mut hb_buffer_t) -> Result<(), ShapeCause>
-    requires open { buffer.old.is_open ≡ true }
-    requires there { 0 < length buffer.old.ahead }
+    requires current { HasCurrent buffer.old }
     ensures ok { OnOk result ((x : Item) (xs : List Item) → strip buffer.old.ahead ≡ x ∷ xs
         → HasWalked (strip buffer.old.behind ++ x ∷ []) (x ∷ xs) (Replace (length buffer.old.behind) 0 1 ∷ []) buffer.old
         buffer.new) }

@@ -6,7 +6,7 @@ pub mod Pauses
 pub mod Shapers
 pub mod Thai
 pub mod Universal
-pub mod Fronts
+pub mod LongestMatch
 pub mod Gaps
 pub mod Inside
 pub mod Machines

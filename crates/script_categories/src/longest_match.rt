@@ -1,5 +1,5 @@
 //! The law of the longest match: no longer prefix is accepted.
-ghost use Rattle.script_categories.specs.Fronts.{LongestIsLongest, LongestIsUnique};
+ghost use Rattle.script_categories.specs.LongestMatch.{LongestIsLongest, LongestIsUnique};
 
 /// A prefix that is found is accepted, and no longer prefix is; where none is found, no prefix is accepted.
 #[tactic(auto, using(crate::proofs::Walks::is_longest))]

@@ -1,5 +1,5 @@
 //! State machines that read the categories of characters.
-use buffer_unicode::Keyed;
+use buffer_unicode::DoublyKeyed;
 use std::alloc::Global;
 
 /// A transition: in a state a category leads to another state.
@@ -10,7 +10,7 @@ pub struct Step {
     pub next: u32,
 }
 
-impl Keyed for Step {
+impl DoublyKeyed for Step {
     ghost high = { λ r. r.state };
 
     ghost low = { λ r. r.category };
@@ -31,7 +31,7 @@ pub struct Accept {
     pub kind: u8,
 }
 
-impl Keyed for Accept {
+impl DoublyKeyed for Accept {
     ghost high = { λ _. 0 };
 
     ghost low = { λ r. r.state };

@@ -3,11 +3,16 @@ ghost use Rattle.std.specs.Prelude.{◌≡◌, None, true, find, slice_get};
 ghost use Rattle.buffer_unicode.specs.Keys.{is_at, is_rising};
 ghost use Rattle.script_categories.specs.Gaps.{stands_after, stands_before};
 
-use buffer_unicode::{Keyed, find_row};
+use buffer_unicode::{DoublyKeyed, find_by_key};
 
 /// The row with a key: at once where it stands at the guessed index, or would stand there, else by a binary search.
 #[tactic(auto, using(crate::proofs::Guesses::found_there))]
-pub(crate) fn find_row_near<R: Keyed>(rows: &[R], high: u32, low: u32, guess: usize) -> Option<R>
+pub(crate) fn find_by_key_near<R: DoublyKeyed>(
+    rows: &[R],
+    high: u32,
+    low: u32,
+    guess: usize,
+) -> Option<R>
     requires { is_rising R.high R.low rows.now ≡ true }
     ensures { result ≡ find (is_at R.high R.low high low) rows.now }
 {
@@ -20,12 +25,12 @@ pub(crate) fn find_row_near<R: Keyed>(rows: &[R], high: u32, low: u32, guess: us
     if is_gap(rows, high, low, guess) {
         return None;
     }
-    find_row(rows, high, low)
+    find_by_key(rows, high, low)
 }
 
 /// Whether a key is between the row before an index and the row at it, so that no row has it.
 #[tactic(auto, using(crate::proofs::Guesses::none_after, crate::proofs::Guesses::none_between))]
-fn is_gap<R: Keyed>(rows: &[R], high: u32, low: u32, index: usize) -> bool
+fn is_gap<R: DoublyKeyed>(rows: &[R], high: u32, low: u32, index: usize) -> bool
     requires { is_rising R.high R.low rows.now ≡ true }
     ensures { result ≡ true → find (is_at R.high R.low high low) rows.now ≡ None }
 {
@@ -36,7 +41,7 @@ fn is_gap<R: Keyed>(rows: &[R], high: u32, low: u32, index: usize) -> bool
 }
 
 /// Whether the row at an index is after a key, or no row stands there.
-fn stands_after<R: Keyed>(rows: &[R], high: u32, low: u32, index: usize) -> bool
+fn stands_after<R: DoublyKeyed>(rows: &[R], high: u32, low: u32, index: usize) -> bool
     ensures { result ≡ stands_after R.high R.low high low (slice_get rows.now index) }
 {
     match rows.get(index) {
@@ -46,7 +51,7 @@ fn stands_after<R: Keyed>(rows: &[R], high: u32, low: u32, index: usize) -> bool
 }
 
 /// Whether the row at an index is before a key.
-fn stands_before<R: Keyed>(rows: &[R], high: u32, low: u32, index: usize) -> bool
+fn stands_before<R: DoublyKeyed>(rows: &[R], high: u32, low: u32, index: usize) -> bool
     ensures { result ≡ stands_before R.high R.low high low (slice_get rows.now index) }
 {
     match rows.get(index) {

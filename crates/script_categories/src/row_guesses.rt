@@ -7,15 +7,16 @@ const STATES: usize = 160;
 /// Where the rows of a state stand.
 #[derive(Clone, Copy)]
 struct StateRows {
-    /// The index of its first transition.
+    /// The index of the state's first transition among those of the machine.
     first_step: u16,
-    /// The index that it has among the accepting states, or would have.
+    /// The index of the state among the accepting ones; where it isn't one, that at which it would be inserted.
     accept: u16,
-    /// A bit for each of the first 64 categories by which it has a transition.
+    /// A bit for each of the first 64 categories by which the state has a transition.
     categories: u64,
 }
 
-/// Guesses where the rows of a machine stand. No answer depends on them: who takes one looks at the row.
+/// Guesses where the rows of a machine stand. They only save time: who takes one looks at the row, and searches where
+/// the guess is wrong, so that no answer depends on them.
 #[derive(Clone, Copy)]
 pub(crate) struct RowGuesses {
     states: [StateRows; STATES],

@@ -1,5 +1,8 @@
 //! The kinds of syllables of each shaper's machine, with their names.
 
+/// The bits of a syllable byte that hold the kind; the others hold a serial number.
+pub const SYLLABLE_KIND: u8 = 15;
+
 /// Kinds of the Indic shaper's syllables.
 pub mod indic {
     pub const CONSONANT_SYLLABLE: u8 = 0;

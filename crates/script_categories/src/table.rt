@@ -1,7 +1,7 @@
 //! The syllables that the given machines find.
 ghost use Rattle.std.specs.Prelude.{◌≡◌, ◌<◌, ◌≤◌, IfOk, IfErr, IfSome, OnOk, None, Some, length};
 ghost use Rattle.std.specs.Option.{option_and_then};
-ghost use Rattle.script_categories.specs.Fronts.{longest_front};
+ghost use Rattle.script_categories.specs.LongestMatch.{longest_syllable};
 ghost use Rattle.script_categories.specs.Machines.{machine_of, machines_fault, machines_in};
 ghost use Rattle.script_categories.specs.Sound.{AreRising};
 
@@ -11,7 +11,7 @@ use crate::hb_ot_script_shaper_t::{
 };
 use crate::machine::SyllableMachines;
 use crate::row_guesses::RowGuesses;
-use crate::scan::{Front, longest_front_near};
+use crate::scan::{FoundSyllable, longest_syllable};
 use crate::spans::SyllableSpans;
 use buffer_unicode::TablesFault;
 use std::marker::Model;
@@ -85,27 +85,19 @@ impl SyllableTable {
         }
     }
 
-    fn front(&self, shaper: hb_ot_script_shaper_t, categories: &[u8]) -> Option<Front>
-        ensures front { result ≡ option_and_then (λ m. longest_front m categories.now) (machine_of self.now shaper) }
+    fn found(&self, shaper: hb_ot_script_shaper_t, categories: &[u8]) -> Option<FoundSyllable>
+        ensures found { result ≡ option_and_then (λ m. longest_syllable m categories.now) (machine_of self.now shaper) }
         ensures within { IfSome result (λ f. (0 < f.length) × (f.length ≤ length categories.now)) }
     {
         match shaper {
-            INDIC_SHAPER => longest_front_near(
-                &self.machines.indic,
-                &self.guesses.indic,
-                categories,
-            ),
-            KHMER_SHAPER => longest_front_near(
-                &self.machines.khmer,
-                &self.guesses.khmer,
-                categories,
-            ),
-            MYANMAR_SHAPER => longest_front_near(
+            INDIC_SHAPER => longest_syllable(&self.machines.indic, &self.guesses.indic, categories),
+            KHMER_SHAPER => longest_syllable(&self.machines.khmer, &self.guesses.khmer, categories),
+            MYANMAR_SHAPER => longest_syllable(
                 &self.machines.myanmar,
                 &self.guesses.myanmar,
                 categories,
             ),
-            UNIVERSAL_SHAPER => longest_front_near(
+            UNIVERSAL_SHAPER => longest_syllable(
                 &self.machines.universal,
                 &self.guesses.universal,
                 categories,
@@ -116,14 +108,14 @@ impl SyllableTable {
 }
 
 impl SyllableSpans for SyllableTable {
-    ghost use Rattle.script_categories.specs.Fronts.{syllable_at};
+    ghost use Rattle.script_categories.specs.LongestMatch.{syllable_at};
     ghost use Rattle.script_categories.specs.Spans.{ends_after_start, ends_inside};
 
     ghost span_of = { syllable_at };
 
     fn next(&self, shaper: hb_ot_script_shaper_t, categories: &[u8], start: usize) -> (usize, u8) {
-        match self.front(shaper, &categories[start..]) {
-            Some(front) => (start + front.length, front.kind),
+        match self.found(shaper, &categories[start..]) {
+            Some(found) => (start + found.length, found.kind),
             None => (start + 1, shaper.non_cluster_kind()),
         }
     }

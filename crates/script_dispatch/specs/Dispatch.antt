@@ -19,10 +19,14 @@ is_tag name (Some t) = t.0 == (tag_of name).0
 abbrev pub is_default_or_latin : Option Tag → Bool
 is_default_or_latin chosen = is_tag (codes "DFLT") chosen || is_tag (codes "latn") chosen
 
+-- the character 3, as the last byte of a tag
+abbrev pub digit_three : ℕ
+digit_three = 0x33
+
 -- the font's script tag ends in 3
 abbrev pub ends_in_three : Option Tag → Bool
 ends_in_three None = false
-ends_in_three (Some t) = t.0 % 256 == 51
+ends_in_three (Some t) = t.0 % 256 == digit_three
 
 -- the nine scripts of the Indic shaper
 abbrev pub indic_scripts : List Script
@@ -136,8 +140,8 @@ abbrev pub universal_shaper : Option Tag → hb_ot_any_shaper_t
 universal_shaper chosen = if is_default_or_latin chosen then any.Default else any.Script UNIVERSAL_SHAPER
 
 -- a text has the Arabic shaper: horizontal lines in Arabic, or in Syriac where the font has a script for it
-abbrev pub joins : Script → Direction → Option Tag → Bool
-joins s direction chosen =
+abbrev pub connects_letters : Script → Direction → Option Tag → Bool
+connects_letters s direction chosen =
     is_horizontal direction && (is_script s script.ARABIC || is_script s script.SYRIAC && not (is_tag (codes "DFLT") chosen))
 
 -- the shaper of a script whose choice doesn't depend on the font
@@ -153,7 +157,7 @@ own_shaper s =
 -- the shaper of a text by its script, its direction, and the chosen GSUB script
 abbrev pub script_shaper : Script → Direction → Option Tag → hb_ot_any_shaper_t
 script_shaper s direction chosen =
-    if joins s direction chosen then any.Script ARABIC_SHAPER
+    if connects_letters s direction chosen then any.Script ARABIC_SHAPER
     else if is_among indic_scripts s then indic_shaper chosen
     else if is_script s script.MYANMAR then myanmar_shaper chosen
     else if is_among universal_scripts s then universal_shaper chosen

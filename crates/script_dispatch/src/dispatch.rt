@@ -1,6 +1,6 @@
 //! The choice of a shaper for a script, hb_ot_shape_complex_categorize (rustybuzz: hb/ot_shaper.rs).
 ghost use Rattle.std.specs.Prelude.{◌≡◌};
-ghost use Rattle.script_dispatch.specs.Dispatch.{script_shaper, ends_in_three, indic_shaper, is_default_or_latin, joins, myanmar_shaper, own_shaper, universal_shaper};
+ghost use Rattle.script_dispatch.specs.Dispatch.{script_shaper, ends_in_three, indic_shaper, is_default_or_latin, connects_letters, myanmar_shaper, own_shaper, universal_shaper};
 
 use crate::any_shaper::{DEFAULT_SHAPER, hb_ot_any_shaper_t};
 use buffer_common::direction::Direction;
@@ -111,7 +111,7 @@ pub fn hb_ot_shape_complex_categorize(
 ) -> hb_ot_any_shaper_t
     ensures { result ≡ script_shaper script direction gsub_script }
 {
-    if joins(script, direction, gsub_script) {
+    if connects_letters(script, direction, gsub_script) {
         hb_ot_any_shaper_t::Script(ARABIC_SHAPER)
     } else if INDIC.contains(&script) {
         indic_shaper(gsub_script)
@@ -130,18 +130,21 @@ fn is_default_or_latin(tag: Option<Tag>) -> bool
     tag == Some(Tag::from_bytes(b"DFLT")) || tag == Some(Tag::from_bytes(b"latn"))
 }
 
+/// The character 3, as the last byte of a tag.
+const DIGIT_THREE: u32 = 0x33;
+
 /// Whether the font's script tag ends in 3, which the universal shaper takes.
 fn ends_in_three(tag: Option<Tag>) -> bool
     ensures { result ≡ ends_in_three tag }
 {
     match tag {
-        Some(tag) => tag.0 % 256 == 51,
+        Some(tag) => tag.0 % 256 == DIGIT_THREE,
         None => false,
     }
 }
 
-fn joins(script: Script, direction: Direction, tag: Option<Tag>) -> bool
-    ensures { result ≡ joins script direction tag }
+fn connects_letters(script: Script, direction: Direction, tag: Option<Tag>) -> bool
+    ensures { result ≡ connects_letters script direction tag }
 {
     direction.is_horizontal()
         && (script == ARABIC || script == SYRIAC && tag != Some(Tag::from_bytes(b"DFLT")))

@@ -3,6 +3,7 @@
 ghost use Rattle.std.specs.Prelude.{◌≡◌, Bool};
 ghost use Rattle.script_dispatch.specs.Present.{collects_features, composes, creates_data, decomposes, overrides_features, postprocesses_glyphs, preprocesses_text, reorders_marks, sets_masks};
 ghost use Rattle.script_dispatch.specs.Present.{RequestsNothing, ComposesAsUnicode, LeavesGlyphs, LeavesMarks, LeavesMasks, LeavesText, OverridesNothing, SplitsAsUnicode};
+ghost use Rattle.buffer_stages.specs.Ready.{HoldsGlyphs};
 
 use crate::plan_data::{self, hb_script_plan_data_t};
 use crate::scripts;
@@ -56,7 +57,7 @@ pub trait ScriptHooks: Sized {
 
     ghost splits: { Self → Bool };
 
-    ghost joins: { Self → Bool };
+    ghost recomposes: { Self → Bool };
 
     ghost masks: { Self → Bool };
 
@@ -108,7 +109,7 @@ pub trait ScriptHooks: Sized {
 
     /// Whether it has its own rule for composing characters.
     fn has_compose(self) -> bool
-        ensures { result ≡ joins self };
+        ensures { result ≡ recomposes self };
 
     /// Whether it sets masks or categories.
     fn has_setup_masks(self) -> bool
@@ -223,8 +224,7 @@ pub trait ScriptHooks: Sized {
         spans: &P,
         buffer: &mut hb_buffer_t,
     ) -> Result<bool, ShapeCause>
-        requires ready { IsReady buffer.old }
-        requires numbers { are_glyphs (items_of buffer.old) ≡ true }
+        requires glyphs { HoldsGlyphs buffer.old }
         ensures stage { DoesGlyphStage
             (pausing self plan.now.map plan.now.script face.now (P.span_of spans.now) (text_settings buffer.old) pause)
             result buffer.old buffer.new }
@@ -268,7 +268,7 @@ impl ScriptHooks for hb_ot_script_shaper_t {
 
     ghost splits = { decomposes };
 
-    ghost joins = { composes };
+    ghost recomposes = { composes };
 
     ghost masks = { sets_masks };
 

@@ -1,10 +1,9 @@
 //! From a script's shaper to its crate: what each does at each hook (rustybuzz: hb/ot_shaper.rs).
-ghost use Rattle.std.specs.Prelude.{◌≡◌, ◌≤◌, codes, false, fold, length, true, Ok, OnOk};
+ghost use Rattle.std.specs.Prelude.{◌≡◌, ◌≤◌, codes, false, fold, length, Ok, OnOk};
 ghost use Rattle.buffer_common.specs.Tag.{tag_of};
 ghost use Rattle.buffer_core.specs.Sides.{all_glyphs, items_of};
-ghost use Rattle.buffer_stages.specs.Buffers.{are_glyphs};
 ghost use Rattle.buffer_stages.specs.Pauses.{BringsNoGlyph};
-ghost use Rattle.buffer_stages.specs.Ready.{DoesGlyphStage, IsReady};
+ghost use Rattle.buffer_stages.specs.Ready.{DoesGlyphStage, IsReady, HoldsGlyphs};
 ghost use Rattle.buffer_stages.specs.Rearranged.{Rearranges};
 ghost use Rattle.buffer_stages.specs.Settings.{text_settings};
 ghost use Rattle.buffer_stages.specs.Stages.{DoesStage, IsFollowed};
@@ -194,8 +193,7 @@ pub fn run_pause<D, P: SyllableSpans>(
     spans: &P,
     buffer: &mut hb_buffer_t,
 ) -> Result<bool, ShapeCause>
-    requires ready { IsReady buffer.old }
-    requires numbers { are_glyphs (items_of buffer.old) ≡ true }
+    requires glyphs { HoldsGlyphs buffer.old }
     ensures stage { DoesGlyphStage (pause_done shaper plan.now.map plan.now.script face.now (P.span_of spans.now)
         (text_settings buffer.old) pause) result buffer.old buffer.new }
     ensures brings_none { result ≡ Ok false → BringsNoGlyph (items_of buffer.old) (items_of buffer.new) }

@@ -128,17 +128,17 @@ parted_long (Three l v t) (x ∷ xs) lt = refl
 some_items : (s : Sides) → 0 < length s.ahead → 0 < length (strip s.ahead)
 some_items s lt = let n = length-map s.ahead item_of in omega (arith, n, lt)
 
-pub parts_behind : (letters : Letters) (s m : Sides) → 0 < length s.ahead → HasWalked (strip s.behind ++ letters_from 1 (letters_of_first letters (strip s.ahead))) (drop 1 (strip s.ahead)) (Replace (length s.behind) 1 (length (numbers_of letters)) ∷ []) s m
+pub pieces_behind : (letters : Letters) (s m : Sides) → 0 < length s.ahead → HasWalked (strip s.behind ++ letters_from 1 (letters_of_first letters (strip s.ahead))) (drop 1 (strip s.ahead)) (Replace (length s.behind) 1 (length (numbers_of letters)) ∷ []) s m
     → length m.behind ≡ length s.behind + length (numbers_of letters)
-parts_behind letters s m some w =
+pieces_behind letters s m some w =
     let a = behind_long (strip s.behind ++ letters_from 1 (letters_of_first letters (strip s.ahead))) (drop 1 (strip s.ahead)) (Replace (length s.behind) 1 (length (numbers_of letters)) ∷ []) s m w in
     let b = length-append (strip s.behind) (letters_from 1 (letters_of_first letters (strip s.ahead))) in
     let c = parted_long letters (strip s.ahead) (some_items s some) in
     let d = seen_long s in
     omega (arith, a, b, c, d)
 
-pub parts_ahead : (letters : Letters) (s m : Sides) → HasWalked (strip s.behind ++ letters_from 1 (letters_of_first letters (strip s.ahead))) (drop 1 (strip s.ahead)) (Replace (length s.behind) 1 (length (numbers_of letters)) ∷ []) s m → length m.ahead ≡ length s.ahead - 1
-parts_ahead letters s m w =
+pub pieces_ahead : (letters : Letters) (s m : Sides) → HasWalked (strip s.behind ++ letters_from 1 (letters_of_first letters (strip s.ahead))) (drop 1 (strip s.ahead)) (Replace (length s.behind) 1 (length (numbers_of letters)) ∷ []) s m → length m.ahead ≡ length s.ahead - 1
+pieces_ahead letters s m w =
     let a = length-map m.ahead item_of in
     let b = ap (λ (xs : List Item). length xs) w.ahead in
     let c = length-drop 1 (strip s.ahead) in
@@ -200,7 +200,7 @@ joined_exceeds letters true e s m j two more w over = λ other.
     let o = over other in
     let past = o.1 in
     let limit : m.max_len ≡ s.max_len = ap (λ (v : View). v.max_len) w.view in
-    let many = parts_behind letters s m (omega (arith, more)) w in
+    let many = pieces_behind letters s m (omega (arith, more)) w in
     let k = two_long letters two in
     let long = joined_long letters (strip s.ahead) two (let n = length-map s.ahead item_of in omega (arith, n, more)) in
     let sums = length-append (strip s.behind) (letters_from 1 (letters_of_first letters (strip s.ahead) ++ take 1 (drop 1 (strip s.ahead)))) in

@@ -46,9 +46,9 @@ steps_by : (font : FaceParts) (circles : Bool) (n : ℕ) (o : Option ℕ) (out x
 steps_by font circles n None out xs e = (false, refl)
 steps_by font circles n (Some u) out xs e =
     let a = action_on font u (character_at 1 xs) (character_at 2 xs) in
-    let parts = and_parts (not (is_tone u)) (is_keep a) e in
-    let kept = keep_steps a out xs parts.1 in
-    (kept.0, untoned (is_tone u) (tone_step font circles n u out xs) (step_of a out xs) (keep_step kept.0 out xs) parts.0 kept.1)
+    let pieces = and_parts (not (is_tone u)) (is_keep a) e in
+    let kept = keep_steps a out xs pieces.1 in
+    (kept.0, untoned (is_tone u) (tone_step font circles n u out xs) (step_of a out xs) (keep_step kept.0 out xs) pieces.0 kept.1)
 
 counts_by : (font : FaceParts) (o : Option ℕ) (xs : List Item) → keeps_by font o xs ≡ true → rule_by font o xs ≡ 0
 counts_by font None xs e = refl

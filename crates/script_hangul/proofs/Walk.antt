@@ -192,7 +192,7 @@ text_grows font circles (suc k) start out (x ∷ xs) =
     let b = text_grows font circles k p.start p.out (drop (p.more + 1) (x ∷ xs)) in
     omega (arith, a, b)
 
--- what comes of a step is part of what comes of all
+-- what comes of a step is piece of what comes of all
 step_within : (font : FaceParts) (circles : Bool) (k start : ℕ) (out xs : List Item) → length (step font circles start out xs).out ≤ length (text_after font circles (suc k) start out xs)
 step_within font circles k start out [] = let a = length-append out (take 1 []) in omega (arith, a)
 step_within font circles k start out (x ∷ xs) = let p : Step = step font circles start out (x ∷ xs) in text_grows font circles k p.start p.out (drop (p.more + 1) (x ∷ xs))

@@ -1,5 +1,5 @@
 //! The Hangul shaper's preprocess_text (rustybuzz: hb/ot_shaper_hangul.rs).
-ghost use Rattle.std.specs.Prelude.{◌≡◌, ◌≢◌, ◌<◌, ◌≤◌, true, false, length, IfOk, OnOk, IfErr, Err};
+ghost use Rattle.std.specs.Prelude.{◌≡◌, ◌≢◌, ◌<◌, ◌≤◌, true, length, IfOk, OnOk, IfErr, Err};
 ghost use Rattle.buffer_glyphs.specs.Items.{strip};
 ghost use Rattle.buffer_stages.specs.Ready.{IsReady};
 ghost use Rattle.script_hangul.specs.Actions.{action_on};
@@ -7,6 +7,7 @@ ghost use Rattle.script_hangul.specs.Steps.{step_of};
 ghost use Rattle.script_hangul.specs.Hangul.{character_at, count_apart, hangul_text, jamo_rule, step, syllables_formed, wants_circles};
 ghost use Rattle.script_syllabic.specs.Graphemes.{with_graphemes_merged};
 ghost use Rattle.buffer_core.specs.Readings.{always};
+ghost use Rattle.buffer_core.specs.Sides.{HasCurrent};
 ghost use Rattle.script_hangul.specs.Stepped.{Passes, Refuses, IsStepped};
 ghost use Rattle.buffer_stages.specs.Walks.{RefusesLength};
 ghost use Rattle.buffer_stages.specs.Stages.{DoesStage, IsFollowed};
@@ -158,8 +159,7 @@ fn pass_next(
     start: usize,
     buffer: &mut hb_buffer_t,
 ) -> Result<usize, ShapeCause>
-    requires open { buffer.old.is_open ≡ true }
-    requires there { 0 < length buffer.old.ahead }
+    requires current { HasCurrent buffer.old }
     ensures ok { IfOk result (λ n. IsStepped (step face.now circles start (strip buffer.old.behind)
         (strip buffer.old.ahead)) n buffer.old buffer.new) }
     ensures err { IfErr result (λ e. Refuses (step face.now circles start (strip buffer.old.behind)
@@ -178,8 +178,7 @@ fn pass_next(
 
 /// Outputs a current character that is no tone mark, with those of its syllable.
 fn pass_other(face: &Face, u: char, buffer: &mut hb_buffer_t) -> Result<usize, ShapeCause>
-    requires open { buffer.old.is_open ≡ true }
-    requires there { 0 < length buffer.old.ahead }
+    requires current { HasCurrent buffer.old }
     ensures ok { IfOk result (λ n. IsStepped (step_of (action_on face.now u (character_at 1 (strip buffer.old.ahead))
         (character_at 2 (strip buffer.old.ahead))) (strip buffer.old.behind) (strip buffer.old.ahead)) n buffer.old
         buffer.new) }

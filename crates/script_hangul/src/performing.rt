@@ -7,6 +7,7 @@ ghost use Rattle.buffer_glyphs.specs.Events.{Replace};
 ghost use Rattle.script_hangul.specs.Steps.{apart_step, compose_step, keep_step, letters_from, numbers_of, letters_of_first, step_of, numbered_letter, split_step};
 ghost use Rattle.script_hangul.specs.Stepped.{Refuses, IsStepped, fits_rest};
 ghost use Rattle.buffer_stages.specs.Walks.{RefusesLength, HasWalked};
+ghost use Rattle.buffer_core.specs.Sides.{HasCurrent};
 
 use crate::actions::Action;
 use crate::jamo::Letters;
@@ -44,8 +45,7 @@ pub(crate) fn perform(action: Action, buffer: &mut hb_buffer_t) -> Result<usize,
 
 /// Outputs the current character unchanged.
 pub(crate) fn keep(is_whole: bool, buffer: &mut hb_buffer_t) -> Result<usize, ShapeCause>
-    requires open { buffer.old.is_open ≡ true }
-    requires there { 0 < length buffer.old.ahead }
+    requires current { HasCurrent buffer.old }
     ensures ok { IfOk result (λ n. IsStepped (keep_step is_whole (strip buffer.old.behind) (strip buffer.old.ahead)) n
         buffer.old buffer.new) }
     ensures err { IfErr result (λ e. Refuses (keep_step is_whole (strip buffer.old.behind) (strip buffer.old.ahead)) e
@@ -96,8 +96,7 @@ fn put_apart(count: usize, buffer: &mut hb_buffer_t) -> Result<usize, ShapeCause
 
 /// Outputs the current jamo, with its feature.
 fn put_letter(kind: u8, buffer: &mut hb_buffer_t) -> Result<(), ShapeCause>
-    requires open { buffer.old.is_open ≡ true }
-    requires there { 0 < length buffer.old.ahead }
+    requires current { HasCurrent buffer.old }
     ensures ok { OnOk result (HasWalked (strip buffer.old.behind ++ letters_from kind (take 1 (strip buffer.old.ahead)))
         (drop 1 (strip buffer.old.ahead)) [] buffer.old buffer.new) }
     ensures err { IfErr result (λ e. RefusesLength (length buffer.old.behind + 1) e buffer.old) }
@@ -140,7 +139,7 @@ fn split(letters: Letters, joins: bool, buffer: &mut hb_buffer_t) -> Result<usiz
         (strip buffer.old.ahead)) e buffer.old) }
 {
     let at = buffer.out_len();
-    put_parts(letters, buffer)?;
+    put_pieces(letters, buffer)?;
     if joins {
         put_letter(TJMO, buffer)?;
         return Ok(at);
@@ -149,9 +148,8 @@ fn split(letters: Letters, joins: bool, buffer: &mut hb_buffer_t) -> Result<usiz
 }
 
 /// Replaces the current syllable by its jamo in the output.
-fn put_parts(letters: Letters, buffer: &mut hb_buffer_t) -> Result<(), ShapeCause>
-    requires open { buffer.old.is_open ≡ true }
-    requires there { 0 < length buffer.old.ahead }
+fn put_pieces(letters: Letters, buffer: &mut hb_buffer_t) -> Result<(), ShapeCause>
+    requires current { HasCurrent buffer.old }
     ensures ok { OnOk result (HasWalked (strip buffer.old.behind
         ++ letters_from 1 (letters_of_first letters (strip buffer.old.ahead))) (drop 1 (strip buffer.old.ahead))
         (Replace (length buffer.old.behind) 1 (length (numbers_of letters)) ∷ []) buffer.old buffer.new) }
@@ -164,8 +162,7 @@ fn put_parts(letters: Letters, buffer: &mut hb_buffer_t) -> Result<(), ShapeCaus
 }
 
 fn put_two(l: char, v: char, buffer: &mut hb_buffer_t) -> Result<(), ShapeCause>
-    requires open { buffer.old.is_open ≡ true }
-    requires there { 0 < length buffer.old.ahead }
+    requires current { HasCurrent buffer.old }
     ensures ok { OnOk result (HasWalked (strip buffer.old.behind
         ++ letters_from 1 (letters_of_first (Letters.Two l v) (strip buffer.old.ahead))) (drop 1 (strip buffer.old.ahead))
         (Replace (length buffer.old.behind) 1 2 ∷ []) buffer.old buffer.new) }
@@ -179,8 +176,7 @@ fn put_two(l: char, v: char, buffer: &mut hb_buffer_t) -> Result<(), ShapeCause>
 }
 
 fn put_three(l: char, v: char, t: char, buffer: &mut hb_buffer_t) -> Result<(), ShapeCause>
-    requires open { buffer.old.is_open ≡ true }
-    requires there { 0 < length buffer.old.ahead }
+    requires current { HasCurrent buffer.old }
     ensures ok { OnOk result (HasWalked (strip buffer.old.behind
         ++ letters_from 1 (letters_of_first (Letters.Three l v t) (strip buffer.old.ahead))) (drop 1 (strip buffer.old.ahead))
         (Replace (length buffer.old.behind) 1 3 ∷ []) buffer.old buffer.new) }

@@ -1,4 +1,5 @@
-//! The Hangul shaper's preprocess_text as a stage of the settings that a text's rules may read.
+//! The Hangul shaper's preprocess_text as a stage of the settings that a text's rules may read (rustybuzz:
+//! hb/ot_shaper_hangul.rs, `preprocess_text_hangul`).
 ghost use Rattle.buffer_stages.specs.Ready.{IsReady};
 ghost use Rattle.buffer_stages.specs.Settings.{text_settings};
 ghost use Rattle.buffer_stages.specs.Stages.{DoesStage};

@@ -1,9 +1,10 @@
 //! Hangul tone marks (rustybuzz: hb/ot_shaper_hangul.rs).
-ghost use Rattle.std.specs.Prelude.{◌≡◌, ◌<◌, ◌≤◌, true, false, length, IfOk, IfErr};
+ghost use Rattle.std.specs.Prelude.{◌≡◌, ◌<◌, ◌≤◌, length, IfOk, IfErr};
 ghost use Rattle.buffer_glyphs.specs.Items.{item_of, strip};
 ghost use Rattle.buffer_glyphs.specs.Origins.{origin_of};
 ghost use Rattle.script_hangul.specs.Steps.{before_syllable, circle_for, has_no_width, tone_step, with_circle};
 ghost use Rattle.script_hangul.specs.Stepped.{Refuses, IsStepped};
+ghost use Rattle.buffer_core.specs.Sides.{HasCurrent};
 
 use crate::performing::keep;
 use buffer_core::buffer::hb_buffer_t;
@@ -26,8 +27,7 @@ pub(crate) fn put_tone(
     u: char,
     buffer: &mut hb_buffer_t,
 ) -> Result<usize, ShapeCause>
-    requires open { buffer.old.is_open ≡ true }
-    requires there { 0 < length buffer.old.ahead }
+    requires current { HasCurrent buffer.old }
     ensures ok { IfOk result (λ n. IsStepped (tone_step face.now circles start u (strip buffer.old.behind)
         (strip buffer.old.ahead)) n buffer.old buffer.new) }
     ensures err { IfErr result (λ e. Refuses (tone_step face.now circles start u (strip buffer.old.behind)
@@ -48,8 +48,7 @@ pub(crate) fn put_tone(
 
 /// Outputs the current mark before the output's glyphs from `start` on, and merges it with them.
 fn put_before(start: usize, buffer: &mut hb_buffer_t) -> Result<usize, ShapeCause>
-    requires open { buffer.old.is_open ≡ true }
-    requires there { 0 < length buffer.old.ahead }
+    requires current { HasCurrent buffer.old }
     requires before { start < length buffer.old.behind }
     ensures ok { IfOk result (λ n. IsStepped (before_syllable start (strip buffer.old.behind) (strip buffer.old.ahead)) n
         buffer.old buffer.new) }
@@ -65,8 +64,7 @@ fn put_before(start: usize, buffer: &mut hb_buffer_t) -> Result<usize, ShapeCaus
 
 /// Outputs the current mark with a dotted circle.
 fn put_circle(is_thin: bool, buffer: &mut hb_buffer_t) -> Result<usize, ShapeCause>
-    requires open { buffer.old.is_open ≡ true }
-    requires there { 0 < length buffer.old.ahead }
+    requires current { HasCurrent buffer.old }
     ensures ok { IfOk result (λ n. IsStepped (with_circle is_thin (strip buffer.old.behind) (strip buffer.old.ahead)) n
         buffer.old buffer.new) }
     ensures err { IfErr result (λ e. Refuses (with_circle is_thin (strip buffer.old.behind) (strip buffer.old.ahead)) e

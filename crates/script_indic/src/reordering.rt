@@ -1,9 +1,8 @@
 //! The two pauses of the Indic shaper (rustybuzz: hb/ot_shaper_indic.rs).
-ghost use Rattle.std.specs.Prelude.{◌≡◌, true, false, length, nat_lt, Ok, IfOk};
+ghost use Rattle.std.specs.Prelude.{◌≡◌, false, length, nat_lt, Ok, IfOk};
 ghost use Rattle.buffer_core.specs.Sides.{items_of};
-ghost use Rattle.buffer_stages.specs.Buffers.{are_glyphs};
 ghost use Rattle.buffer_stages.specs.Pauses.{BringsNoGlyph};
-ghost use Rattle.buffer_stages.specs.Ready.{DoesGlyphStage, IsReady};
+ghost use Rattle.buffer_stages.specs.Ready.{DoesGlyphStage, IsReady, HoldsGlyphs};
 ghost use Rattle.buffer_stages.specs.Settings.{text_settings};
 ghost use Rattle.script_indic_reordering.specs.Orders.{initial_syllable};
 ghost use Rattle.script_syllabic.specs.Quiet.{IsQuiet};
@@ -41,8 +40,7 @@ pub fn initial_reordering(
     face: &Face,
     buffer: &mut hb_buffer_t,
 ) -> Result<bool, ShapeCause>
-    requires ready { IsReady buffer.old }
-    requires numbers { are_glyphs (items_of buffer.old) ≡ true }
+    requires glyphs { HoldsGlyphs buffer.old }
     ensures stage { DoesGlyphStage (indic_initial map.now script face.now (text_settings buffer.old).flags) result
         buffer.old buffer.new }
     ensures longer { IfOk result (λ inserted. inserted ≡ nat_lt (length (items_of buffer.old)) (length (items_of buffer.new))) }
@@ -86,8 +84,7 @@ pub fn reorder_initially<F: IndicForms>(
     masks: &IndicMasks,
     buffer: &mut hb_buffer_t,
 ) -> Result<bool, ShapeCause>
-    requires ready { IsReady buffer.old }
-    requires numbers { are_glyphs (items_of buffer.old) ≡ true }
+    requires glyphs { HoldsGlyphs buffer.old }
     ensures stage { DoesGlyphStage
         (initial_stage face.now (text_settings buffer.old).flags (F.forms_of forms.now) virama mode masks.now) result
         buffer.old buffer.new }
@@ -115,8 +112,7 @@ fn insert_and_reorder<F: IndicForms>(
     masks: &IndicMasks,
     buffer: &mut hb_buffer_t,
 ) -> Result<bool, ShapeCause>
-    requires ready { IsReady buffer.old }
-    requires numbers { are_glyphs (items_of buffer.old) ≡ true }
+    requires glyphs { HoldsGlyphs buffer.old }
     ensures stage { DoesGlyphStage
         (circles_order face.now (text_settings buffer.old).flags (initial_syllable mode masks.now (F.forms_of forms.now)))
         result buffer.old buffer.new }

@@ -15,6 +15,7 @@ use Rattle.buffer_glyphs.specs.Rewriting.{Arrangement, eventless_arrangement, an
 use Rattle.buffer_stages.specs.Rewriting.{within}
 use Rattle.buffer_stages.specs.Ordering.{merged_in_order}
 use Rattle.buffer_stages.specs.Parts.{first_to_back, item_with_features}
+use Rattle.buffer_stages.specs.Bytes.{kind_of_byte}
 use Rattle.script_indic_reordering.specs.Base.{joiners}
 use Rattle.script_indic_reordering.specs.Glyphs.{is_free_halant, is_left, is_nukta_or_halant, stands_at}
 use Rattle.script_indic_reordering.specs.Indices.{begins_with, first_at, last_at}
@@ -223,7 +224,7 @@ is_of_syllable byte (Some x) = x.syllable == byte
 
 -- an item is a left matra that begins a reordered syllable and a word, by the item before it
 abbrev pub begins_word : (ℕ → Bool) → Option Item → Item → Bool
-begins_word is_reordered before x = not (is_of_syllable x.syllable before) && is_reordered (bit_and x.syllable 15) && is_left x && not (continues_word before)
+begins_word is_reordered before x = not (is_of_syllable x.syllable before) && is_reordered (kind_of_byte x.syllable) && is_left x && not (continues_word before)
 
 -- a list in which the left matras that begin words have the features of a mask
 abbrev pub words_begun : (ℕ → Bool) → ℕ → Option Item → List Item → List Item

@@ -1,6 +1,6 @@
 -- The reorderings of all Indic syllables of a text, and the syllabic positions of consonants before them (HarfBuzz:
 -- initial_reordering_indic, final_reordering_indic).
-use Rattle.std.specs.Prelude.{ℕ, ◌||◌, Bool, bit_and, if◌then◌else◌, List, [], ◌∷◌, map, slice_get, Option, None, Some}
+use Rattle.std.specs.Prelude.{ℕ, ◌||◌, Bool, if◌then◌else◌, List, [], ◌∷◌, map, slice_get, Option, None, Some}
 use Rattle.script_categories.specs.declared.ot_position_t.TheConstants as position
 use Rattle.script_categories.specs.declared.shaper.hb_ot_script_shaper_t.TheVariants.{INDIC_SHAPER}
 use Rattle.script_categories.specs.Shapers.{is_reordered}
@@ -8,6 +8,7 @@ use Rattle.buffer_glyphs.specs.Items.{Item}
 use Rattle.buffer_stages.specs.Pieces.{ArePermuted}
 use Rattle.buffer_glyphs.specs.Rewriting.{Arrangement, eventless_arrangement, and_arranged}
 use Rattle.buffer_stages.specs.Rewriting.{in_syllables, by_syllable}
+use Rattle.buffer_stages.specs.Bytes.{kind_of_byte}
 use Rattle.script_indic_reordering.specs.declared.script.RephMode.{RephMode}
 use Rattle.script_indic_reordering.specs.declared.script.IndicMasks.{IndicMasks}
 use Rattle.script_indic_reordering.specs.Glyphs.{is_consonant, with_position}
@@ -36,7 +37,7 @@ consonant_with_position forms virama x = if is_consonant x then with_position (c
 -- a rule for a syllable that applies where the kind of the syllable, in its first item, is one that is reordered
 abbrev pub if_reordered : (List Item → Arrangement) → List Item → Option Item → Arrangement
 if_reordered rule xs None = eventless_arrangement xs
-if_reordered rule xs (Some x) = if is_reordered INDIC_SHAPER (bit_and x.syllable 15) then rule xs else eventless_arrangement xs
+if_reordered rule xs (Some x) = if is_reordered INDIC_SHAPER (kind_of_byte x.syllable) then rule xs else eventless_arrangement xs
 
 -- the initial reordering of a syllable, by its kind (HarfBuzz: initial_reordering_syllable_indic)
 abbrev pub initial_syllable : RephMode → IndicMasks → Forms → List Item → Arrangement

@@ -45,7 +45,7 @@ pub(crate) fn find_base<F: IndicForms>(
     }
 }
 
-/// The base after so many glyphs that a reph is.
+/// The base after the first `count` glyphs, which are a reph.
 fn base_after(glyphs: &[hb_glyph_info_t], count: usize) -> Option<usize>
     requires { count ≤ length glyphs.now }
     ensures value { result ≡ base_after count (strip glyphs.now) }

@@ -19,7 +19,7 @@ use script_categories::ot_position_t::{POS_BELOW_C, POS_POST_C, Position};
 /// How many consonants are remembered at once: a script has fewer, and fonts number most of them one after another.
 const ROWS: usize = 64;
 
-/// The form of a consonant with a virama, as a font answered.
+/// The form of a consonant with a virama, as a font answered. It only saves time: the font would answer the same again.
 #[derive(Clone, Copy)]
 pub(crate) struct KnownForm {
     /// The glyph of the consonant that the font was asked for, if it was asked.

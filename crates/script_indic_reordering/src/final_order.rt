@@ -20,6 +20,7 @@ use buffer_stages::parts::first_to_back;
 use buffer_stages::walk::{SyllableRule, each_syllable};
 use script_categories::hb_ot_script_shaper_t::INDIC_SHAPER;
 use script_categories::ot_position_t::Position;
+use script_categories::syllable_kinds::SYLLABLE_KIND;
 use std::alloc::AllocError;
 
 /// Reorders each Indic syllable of a kind that is reordered, once its forms are made. Left matras move after the last
@@ -73,7 +74,7 @@ impl SyllableRule for FinalOrder {
         end: usize,
     ) -> Result<(), AllocError> {
         let first = first_glyph(buffer, start, end);
-        if !INDIC_SHAPER.is_reordered(first.syllable & 15) {
+        if !INDIC_SHAPER.is_reordered(first.syllable & SYLLABLE_KIND) {
             return Ok(());
         }
         reorder_syllable(self.reph_pos, self.masks.pref, buffer, start, end);

@@ -24,6 +24,7 @@ use buffer_stages::rewriting::rewrite_part;
 use buffer_stages::sorting::sort_by_auxiliary;
 use buffer_stages::walk::{SyllableRule, each_syllable};
 use script_categories::hb_ot_script_shaper_t::INDIC_SHAPER;
+use script_categories::syllable_kinds::SYLLABLE_KIND;
 use std::alloc::{AllocError, Global};
 
 /// Reorders each Indic syllable of a kind that is reordered, before its forms are made. Its glyphs get their syllabic
@@ -74,7 +75,7 @@ impl<F: IndicForms> SyllableRule for InitialOrder<'_, F> {
         end: usize,
     ) -> Result<(), AllocError> {
         let first = first_glyph(buffer, start, end);
-        if !INDIC_SHAPER.is_reordered(first.syllable & 15) {
+        if !INDIC_SHAPER.is_reordered(first.syllable & SYLLABLE_KIND) {
             return Ok(());
         }
         reorder_syllable(self, buffer, start, end)

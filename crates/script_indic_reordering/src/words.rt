@@ -17,6 +17,7 @@ use buffer_glyphs::info::{hb_glyph_info_t, hb_mask_t};
 use buffer_stages::parts::with_mask;
 use buffer_stages::rewriting::{PartRule, rewrite_part};
 use script_categories::hb_ot_script_shaper_t::INDIC_SHAPER;
+use script_categories::syllable_kinds::SYLLABLE_KIND;
 
 /// Left matras that begin a syllable and a word get the features of a mask, which is 0 where the font lacks them.
 #[tactic(auto, using(crate::specs::Lemmas::Words::no_words))]
@@ -75,7 +76,7 @@ fn begins_word(before: Option<hb_glyph_info_t>, glyph: &hb_glyph_info_t) -> bool
     ensures { result ≡ begins_word (is_reordered INDIC_SHAPER) (option_map item_of before) (item_of glyph.now) }
 {
     !is_of_syllable(glyph.syllable, before)
-        && INDIC_SHAPER.is_reordered(glyph.syllable & 15)
+        && INDIC_SHAPER.is_reordered(glyph.syllable & SYLLABLE_KIND)
         && is_left(glyph)
         && !continues_word(before)
 }

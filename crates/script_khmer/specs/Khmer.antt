@@ -1,6 +1,6 @@
 -- Khmer: how vowels split, and which items of a syllable move to its start (Unicode core specification, Khmer; OpenType
 -- specification, Creating fonts for Khmer).
-use Rattle.std.specs.Prelude.{ℕ, zero, suc, ◌+◌, ◌-◌, ◌==◌, ◌&&◌, Bool, nat_le, bit_and, if◌then◌else◌, List, [], ◌∷◌, length, map, slice_get, Option, None, Some}
+use Rattle.std.specs.Prelude.{ℕ, zero, suc, ◌+◌, ◌-◌, ◌==◌, ◌&&◌, Bool, nat_le, if◌then◌else◌, List, [], ◌∷◌, length, map, slice_get, Option, None, Some}
 use Rattle.std.specs.List.{list_any}
 use Rattle.script_categories.specs.declared.ot_category_t.TheConstants as category
 use Rattle.script_categories.specs.declared.shaper.hb_ot_script_shaper_t.TheVariants.{KHMER_SHAPER}
@@ -11,6 +11,7 @@ use Rattle.buffer_stages.specs.Pieces.{ArePermuted}
 use Rattle.buffer_glyphs.specs.Rewriting.{Arrangement, eventless_arrangement, and_arranged}
 use Rattle.buffer_stages.specs.Rewriting.{within, in_syllables, by_syllable}
 use Rattle.buffer_stages.specs.Parts.{items_with_features, first_to_back}
+use Rattle.buffer_stages.specs.Bytes.{kind_of_byte}
 use Rattle.script_khmer.specs.declared.khmer.KhmerMasks.{KhmerMasks}
 
 -- ---- split vowels
@@ -82,7 +83,7 @@ khmer_reordered m xs = and_arranged (within 1 (length xs) (items_with_features m
 -- a syllable, reordered if the kind in its first item's byte is reordered
 abbrev pub khmer_first : KhmerMasks → List Item → Option Item → Arrangement
 khmer_first m xs None = eventless_arrangement xs
-khmer_first m xs (Some x) = if is_reordered KHMER_SHAPER (bit_and x.syllable 15) then khmer_reordered m xs else eventless_arrangement xs
+khmer_first m xs (Some x) = if is_reordered KHMER_SHAPER (kind_of_byte x.syllable) then khmer_reordered m xs else eventless_arrangement xs
 
 -- the reading of one Khmer syllable
 abbrev pub khmer_syllable : KhmerMasks → List Item → Arrangement

@@ -19,6 +19,7 @@ use buffer_stages::walk::{SyllableRule, each_syllable};
 use buffer_unicode_tables::UnicodeTables;
 use script_categories::hb_ot_script_shaper_t::KHMER_SHAPER;
 use script_categories::ot_category_t::{OT_H, OT_Ra, OT_VPre};
+use script_categories::syllable_kinds::SYLLABLE_KIND;
 use script_syllabic::syllable_glyphs::glyph_in;
 use std::alloc::AllocError;
 
@@ -72,7 +73,7 @@ impl SyllableRule for KhmerMasks {
         let Some(first) = glyph_in(buffer, start, end, 0) else {
             return Ok(());
         };
-        if KHMER_SHAPER.is_reordered(first.syllable & 15) {
+        if KHMER_SHAPER.is_reordered(first.syllable & SYLLABLE_KIND) {
             reorder_syllable(self, buffer, start, end);
         }
         Ok(())

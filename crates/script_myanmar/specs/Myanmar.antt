@@ -1,6 +1,6 @@
 -- Myanmar: the positions of the items of a syllable, and their order (OpenType specification, Creating fonts for
 -- Myanmar).
-use Rattle.std.specs.Prelude.{ℕ, ◌==◌, ◌&&◌, ◌||◌, Bool, nat_lt, bit_and, if◌then◌else◌, List, [], ◌∷◌, ◌++◌, drop, filter, length, map, replicate, slice_get, take, Option, None, Some}
+use Rattle.std.specs.Prelude.{ℕ, ◌==◌, ◌&&◌, ◌||◌, Bool, nat_lt, if◌then◌else◌, List, [], ◌∷◌, ◌++◌, drop, filter, length, map, replicate, slice_get, take, Option, None, Some}
 use Rattle.std.specs.List.{list_any, position_or_len, prefix_len}
 use Rattle.script_categories.specs.declared.ot_category_t.TheConstants as category
 use Rattle.script_categories.specs.declared.ot_position_t.TheConstants as position
@@ -11,6 +11,7 @@ use Rattle.buffer_stages.specs.Pieces.{ArePermuted}
 use Rattle.buffer_stages.specs.Ordering.{groups_reversed, auxiliary_order}
 use Rattle.buffer_glyphs.specs.Rewriting.{Arrangement, eventless_arrangement, and_arranged}
 use Rattle.buffer_stages.specs.Rewriting.{within, in_syllables, by_syllable}
+use Rattle.buffer_stages.specs.Bytes.{kind_of_byte}
 
 -- ---- positions, by the categories of a syllable's items
 
@@ -114,7 +115,7 @@ myanmar_reordered xs = and_arranged (and_arranged (items_with_positions xs) auxi
 -- a syllable, reordered if the kind in its first item's byte is reordered
 abbrev pub myanmar_first : List Item → Option Item → Arrangement
 myanmar_first xs None = eventless_arrangement xs
-myanmar_first xs (Some x) = if is_reordered MYANMAR_SHAPER (bit_and x.syllable 15) then myanmar_reordered xs else eventless_arrangement xs
+myanmar_first xs (Some x) = if is_reordered MYANMAR_SHAPER (kind_of_byte x.syllable) then myanmar_reordered xs else eventless_arrangement xs
 
 -- the reading of one Myanmar syllable
 abbrev pub myanmar_syllable : List Item → Arrangement

@@ -20,6 +20,7 @@ use buffer_stages::walk::{SyllableRule, each_syllable};
 use script_categories::hb_ot_script_shaper_t::MYANMAR_SHAPER;
 use script_categories::ot_category_t::OT_VPre;
 use script_categories::ot_position_t::POS_PRE_M;
+use script_categories::syllable_kinds::SYLLABLE_KIND;
 use script_syllabic::syllable_glyphs::glyph_in;
 use std::alloc::{AllocError, Global};
 
@@ -58,7 +59,7 @@ impl SyllableRule for MyanmarOrder {
         let Some(first) = glyph_in(buffer, start, end, 0) else {
             return Ok(());
         };
-        if !MYANMAR_SHAPER.is_reordered(first.syllable & 15) {
+        if !MYANMAR_SHAPER.is_reordered(first.syllable & SYLLABLE_KIND) {
             return Ok(());
         }
         reorder_syllable(self.alloc, buffer, start, end)

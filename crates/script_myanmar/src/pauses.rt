@@ -1,8 +1,7 @@
 //! The pauses of the Myanmar shaper (rustybuzz: hb/ot_shaper_myanmar.rs).
-ghost use Rattle.std.specs.Prelude.{◌≡◌, true, false, length, nat_lt, Ok, IfOk};
+ghost use Rattle.std.specs.Prelude.{◌≡◌, false, length, nat_lt, Ok, IfOk};
 ghost use Rattle.buffer_core.specs.Sides.{items_of};
-ghost use Rattle.buffer_stages.specs.Buffers.{are_glyphs};
-ghost use Rattle.buffer_stages.specs.Ready.{DoesGlyphStage, IsReady};
+ghost use Rattle.buffer_stages.specs.Ready.{DoesGlyphStage, HoldsGlyphs};
 ghost use Rattle.buffer_stages.specs.Pauses.{BringsNoGlyph};
 ghost use Rattle.buffer_stages.specs.Settings.{text_settings};
 ghost use Rattle.script_myanmar.specs.Pauses.{myanmar_order};
@@ -27,8 +26,7 @@ pub fn reorder_myanmar(
     face: &Face,
     buffer: &mut hb_buffer_t,
 ) -> Result<bool, ShapeCause>
-    requires ready { IsReady buffer.old }
-    requires numbers { are_glyphs (items_of buffer.old) ≡ true }
+    requires glyphs { HoldsGlyphs buffer.old }
     ensures stage { DoesGlyphStage (myanmar_order face.now (text_settings buffer.old).flags) result buffer.old buffer.new }
     ensures longer { IfOk result (λ inserted. inserted ≡ nat_lt (length (items_of buffer.old)) (length (items_of buffer.new))) }
     ensures brings_none { result ≡ Ok false → BringsNoGlyph (items_of buffer.old) (items_of buffer.new) }

@@ -1,5 +1,7 @@
 //! The trait of a shaper (rustybuzz: hb/ot_shaper.rs).
 
+ghost use Rattle.buffer_stages.specs.Ready.{HoldsGlyphs};
+
 use crate::plan::hb_script_plan_t;
 use crate::planned::PlannedShaper;
 use buffer_core::buffer::hb_buffer_t;
@@ -98,8 +100,7 @@ pub trait hb_ot_shaper_t: PlannedShaper {
         spans: &P,
         buffer: &mut hb_buffer_t,
     ) -> Result<bool, ShapeCause>
-        requires ready { IsReady buffer.old }
-        requires numbers { are_glyphs (items_of buffer.old) ≡ true }
+        requires glyphs { HoldsGlyphs buffer.old }
         ensures stage { DoesGlyphStage ((rules self.now plan.now).pauses face.now tables.now (P.span_of spans.now) (text_settings buffer.old) pause) result buffer.old buffer.new }
         ensures brings_none { result ≡ Ok false → BringsNoGlyph (items_of buffer.old) (items_of buffer.new) };
 

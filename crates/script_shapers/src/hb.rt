@@ -1,6 +1,6 @@
 //! The layer's names where rustybuzz has them, by its files under src/hb.
 
-/// Arabic: how letters join, and words that are stretched.
+/// Arabic: how letters connect, and words that are stretched.
 pub mod ot_shaper_arabic {
     pub use script_arabic::masks::{arabic_shape_plan_t, data_create_arabic};
     pub use script_arabic::pauses::record_stch;

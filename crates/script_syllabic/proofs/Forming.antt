@@ -21,7 +21,7 @@ use Rattle.buffer_stages.specs.Lemmas.Parts.{part_written, range_seen, range_siz
 use Rattle.buffer_stages.specs.Lemmas.Rewritings.{middle, items_after, rewritten_beside, rewritten_count, rewritten_follows, rewritten_nothing, rewritten_same, counted}
 use Rattle.buffer_stages.proofs.Lemmas.Syllables.{syllable_end, syllables_cut}
 use Rattle.script_syllabic.specs.declared.forms.FormMasks.{FormMasks}
-use Rattle.script_syllabic.specs.Features.{all_forms, each_formed, first_joins, form_bits, form_of, syllable_with_form, joins, topography, with_form}
+use Rattle.script_syllabic.specs.Features.{all_forms, each_formed, first_connects, form_bits, form_of, syllable_with_form, connects, topography, with_form}
 use Rattle.script_syllabic.specs.Formed.{glyph_with_form}
 use Rattle.buffer_stages.proofs.Lemmas.Masks.{high_cleared, without_flags_is}
 
@@ -88,51 +88,51 @@ form_rewrites masks form from to bits gs a ready le fits b e =
 
 -- ---- one syllable
 
-joins_front : (k : ℕ) (xs : List Item) → 0 < k → joins (take k xs) ≡ joins xs
-joins_front zero xs lt = absurd (omega (arith, lt))
-joins_front (suc k) [] lt = refl
-joins_front (suc k) (x ∷ xs) lt = refl
+connects_front : (k : ℕ) (xs : List Item) → 0 < k → connects (take k xs) ≡ connects xs
+connects_front zero xs lt = absurd (omega (arith, lt))
+connects_front (suc k) [] lt = refl
+connects_front (suc k) (x ∷ xs) lt = refl
 
--- the syllable from an index on joins where the first item there does
-pub joins_there : (start end : ℕ) (xs : List Item) → start < end → joins (slice_range xs start end) ≡ joins (drop start xs)
-joins_there start end xs lt = joins_front (end - start) (drop start xs) (omega (arith, lt))
+-- the syllable from an index on connects where the first item there does
+pub connects_there : (start end : ℕ) (xs : List Item) → start < end → connects (slice_range xs start end) ≡ connects (drop start xs)
+connects_there start end xs lt = connects_front (end - start) (drop start xs) (omega (arith, lt))
 
-first_of_syllables : (xs : List Item) → first_joins (in_syllables xs) ≡ joins xs
+first_of_syllables : (xs : List Item) → first_connects (in_syllables xs) ≡ connects xs
 first_of_syllables [] = refl
 first_of_syllables (x ∷ xs) = by_runs (runs_of (λ (y : Item). y.syllable) xs)
   where
-    by_runs : (runs : List (List Item)) → first_joins (runs_with_first (λ (y : Item). y.syllable) x runs) ≡ joins (x ∷ xs)
+    by_runs : (runs : List (List Item)) → first_connects (runs_with_first (λ (y : Item). y.syllable) x runs) ≡ connects (x ∷ xs)
     by_runs [] = refl
     by_runs ([] ∷ runs) = refl
-    by_runs ((y ∷ ys) ∷ runs) = elim (y.syllable == x.syllable) as (λ t. first_joins (if t then (x ∷ y ∷ ys) ∷ runs else (x ∷ []) ∷ (y ∷ ys) ∷ runs) ≡ joins (x ∷ xs)) [ true ↦ refl | false ↦ refl ]
+    by_runs ((y ∷ ys) ∷ runs) = elim (y.syllable == x.syllable) as (λ t. first_connects (if t then (x ∷ y ∷ ys) ∷ runs else (x ∷ []) ∷ (y ∷ ys) ∷ runs) ≡ connects (x ∷ xs)) [ true ↦ refl | false ↦ refl ]
 
 abbrev formed_if : FormMasks → Bool → List Item → Bool → Bool → List Item
 formed_if masks before s behind t = if t then map (with_form masks (form_of masks before behind)) s else s
 
 formed_size : (masks : FormMasks) (before behind : Bool) (s : List Item) → length (syllable_with_form masks before s behind) ≡ length s
-formed_size masks before behind s = by_test (joins s)
+formed_size masks before behind s = by_test (connects s)
   where
     by_test : (t : Bool) → length (formed_if masks before s behind t) ≡ length s
     by_test true = length-map s (with_form masks (form_of masks before behind))
     by_test false = refl
 
 -- a syllable that does not join stays
-pub left_as_it_is : (masks : FormMasks) (start end : ℕ) (before behind : Bool) (a : Sides) → start < end → IsReady a → joins (drop start (items_of a)) ≡ false
+pub left_as_it_is : (masks : FormMasks) (start end : ℕ) (before behind : Bool) (a : Sides) → start < end → IsReady a → connects (drop start (items_of a)) ≡ false
     → IsRewritten (eventless_arrangement (syllable_with_form masks before (slice_range (items_of a) start end) behind)) start end a a
 left_as_it_is masks start end before behind a lt ready e =
     let s = slice_range (items_of a) start end in
-    let none : joins s ≡ false = joins_there start end (items_of a) lt ∙ e in
+    let none : connects s ≡ false = connects_there start end (items_of a) lt ∙ e in
     subst (λ ys. IsRewritten (eventless_arrangement ys) start end a a) (sym (ap (formed_if masks before s behind) none)) (rewritten_same start end a (omega (arith, lt)) ready)
 
-pub gets_form : (masks : FormMasks) (start end form : ℕ) (before joined : Bool) (a b : Sides) → start < end → joins (drop start (items_of a)) ≡ true → joined ≡ joins (drop end (items_of a)) → form ≡ form_of masks before joined
+pub gets_form : (masks : FormMasks) (start end form : ℕ) (before joined : Bool) (a b : Sides) → start < end → connects (drop start (items_of a)) ≡ true → joined ≡ connects (drop end (items_of a)) → form ≡ form_of masks before joined
     → IsRewritten (eventless_arrangement (map (with_form masks form) (slice_range (items_of a) start end))) start end a b
-    → IsRewritten (eventless_arrangement (syllable_with_form masks before (slice_range (items_of a) start end) (joins (drop end (items_of a))))) start end a b
+    → IsRewritten (eventless_arrangement (syllable_with_form masks before (slice_range (items_of a) start end) (connects (drop end (items_of a))))) start end a b
 gets_form masks start end form before joined a b lt e j f h =
     let s = slice_range (items_of a) start end in
-    let yes : joins s ≡ true = joins_there start end (items_of a) lt ∙ e in
+    let yes : connects s ≡ true = connects_there start end (items_of a) lt ∙ e in
     let P : ℕ → Type 0 = λ n. IsRewritten (eventless_arrangement (map (with_form masks n) s)) start end a b in
     let Q : Bool → Type 0 = λ t. IsRewritten (eventless_arrangement (map (with_form masks (form_of masks before t)) s)) start end a b in
-    subst (λ ys. IsRewritten (eventless_arrangement ys) start end a b) (sym (ap (formed_if masks before s (joins (drop end (items_of a)))) yes)) (subst Q j (subst P f h))
+    subst (λ ys. IsRewritten (eventless_arrangement ys) start end a b) (sym (ap (formed_if masks before s (connects (drop end (items_of a)))) yes)) (subst Q j (subst P f h))
 
 -- ---- the walk
 
@@ -148,21 +148,21 @@ forming_begun masks s ready = record { ready = ready; count = refl; does = λ ne
 
 next_formed : (masks : FormMasks) (before : Bool) (start end : ℕ) (s : Sides) → start < length (all_glyphs s) → end ≡ start + run_length (λ (g : hb_glyph_info_t). g.syllable) (drop start (all_glyphs s))
     → each_formed masks before (in_syllables (drop start (items_of s)))
-    ≡ syllable_with_form masks before (slice_range (items_of s) start end) (joins (drop end (items_of s))) ++ each_formed masks (joins (drop start (items_of s))) (in_syllables (drop end (items_of s)))
+    ≡ syllable_with_form masks before (slice_range (items_of s) start end) (connects (drop end (items_of s))) ++ each_formed masks (connects (drop start (items_of s))) (in_syllables (drop end (items_of s)))
 next_formed masks before start end s lt e =
     let part = slice_range (items_of s) start end in
     let w = syllable_end start end s lt e in
     ap (each_formed masks before) (syllables_cut start end s lt e)
-    ∙ ap (λ t. syllable_with_form masks before part t ++ each_formed masks (joins part) (in_syllables (drop end (items_of s)))) (first_of_syllables (drop end (items_of s)))
-    ∙ ap (λ t. syllable_with_form masks before part (joins (drop end (items_of s))) ++ each_formed masks t (in_syllables (drop end (items_of s)))) (joins_there start end (items_of s) w.0)
+    ∙ ap (λ t. syllable_with_form masks before part t ++ each_formed masks (connects part) (in_syllables (drop end (items_of s)))) (first_of_syllables (drop end (items_of s)))
+    ∙ ap (λ t. syllable_with_form masks before part (connects (drop end (items_of s))) ++ each_formed masks t (in_syllables (drop end (items_of s)))) (connects_there start end (items_of s) w.0)
 
 pub formed_on : (masks : FormMasks) (before : Bool) (start end : ℕ) (old now next : Sides) (joined : Bool) → IsForming masks start before old now → start < length (all_glyphs now)
     → end ≡ start + run_length (λ (g : hb_glyph_info_t). g.syllable) (drop start (all_glyphs now))
-    → IsRewritten (eventless_arrangement (syllable_with_form masks before (slice_range (items_of now) start end) (joins (drop end (items_of now))))) start end now next → joined ≡ joins (drop start (items_of now)) → IsForming masks end joined old next
+    → IsRewritten (eventless_arrangement (syllable_with_form masks before (slice_range (items_of now) start end) (connects (drop end (items_of now))))) start end now next → joined ≡ connects (drop start (items_of now)) → IsForming masks end joined old next
 formed_on masks before start end old now next joined u lt e f j =
     let w = syllable_end start end now lt e in
     let part = slice_range (items_of now) start end in
-    let behind = joins (drop end (items_of now)) in
+    let behind = connects (drop end (items_of now)) in
     let r = eventless_arrangement (syllable_with_form masks before part behind) in
     let n = counted now in
     let inside : end ≤ length (items_of now) = omega (arith, n, w.1) in
@@ -178,7 +178,7 @@ formed_on masks before start end old now next joined u lt e f j =
           let P : List Item → Type 0 = λ ys. IsRewritten (eventless_arrangement (each_formed masks joined (in_syllables ys))) end whole next new in
           let Q : Bool → Type 0 = λ t. IsRewritten (eventless_arrangement (each_formed masks t (in_syllables (drop end (items_of now))))) end whole next new in
           let R : List Item → Type 0 = λ ys. IsRewritten (eventless_arrangement ys) start whole now new in
-          u.does new (subst R (sym (next_formed masks before start end now lt e)) (rewritten_beside r (eventless_arrangement (each_formed masks (joins (drop start (items_of now))) (in_syllables (drop end (items_of now))))) start end whole now next new le inside size (omega (arith, count, w.1)) f (subst Q j (subst P same g))));
+          u.does new (subst R (sym (next_formed masks before start end now lt e)) (rewritten_beside r (eventless_arrangement (each_formed masks (connects (drop start (items_of now))) (in_syllables (drop end (items_of now))))) start end whole now next new le inside size (omega (arith, count, w.1)) f (subst Q j (subst P same g))));
     }
 
 pub all_formed : (masks : FormMasks) (before : Bool) (start : ℕ) (old now : Sides) → IsForming masks start before old now → length (all_glyphs old) ≤ start → IsFollowed (always (with_rule (topography masks))) old now

@@ -24,7 +24,7 @@ use Rattle.buffer_stages.specs.SyllableLaws.{IsPermuted, numbers_of}
 use Rattle.buffer_stages.specs.Lemmas.Numbers.{concatenation, mapped_permutes, masked_permutes, runs_join, same_numbers, then_permutes, within_permutes}
 use Rattle.script_syllabic.specs.Bytes.{bytes_of, bytes_set, is_known, itself, one_syllable, syllables_set, with_byte}
 use Rattle.script_syllabic.specs.declared.forms.FormMasks.{FormMasks}
-use Rattle.script_syllabic.specs.Features.{each_formed, first_joins, form_of, syllable_with_form, has_feature, joins, pref_recorded, with_first_recorded, reph_size, rphf_masked, rphf_recorded, topography, with_category, with_form}
+use Rattle.script_syllabic.specs.Features.{each_formed, first_connects, form_of, syllable_with_form, has_feature, connects, pref_recorded, with_first_recorded, reph_size, rphf_masked, rphf_recorded, topography, with_category, with_form}
 use Rattle.script_syllabic.specs.Spans.{categories_counted, index_or_end, counted_index, counted_indices_from, universal_set}
 use Rattle.script_syllabic.proofs.Counting.{indices_rise}
 use Rattle.script_syllabic.specs.Quiet.{IsQuiet}
@@ -53,7 +53,7 @@ pref_recorded_permutes xs = same_numbers xs (pref_recorded xs) (recorded_numbers
 -- ---- forms
 
 formed_numbers : (masks : FormMasks) (before behind : Bool) (s : List Item) → numbers_of (syllable_with_form masks before s behind) ≡ numbers_of s
-formed_numbers masks before behind s = by_test (joins s)
+formed_numbers masks before behind s = by_test (connects s)
   where
     same : (xs : List Item) → numbers_of (map (with_form masks (form_of masks before behind)) xs) ≡ numbers_of xs
     same [] = refl
@@ -66,9 +66,9 @@ formed_numbers masks before behind s = by_test (joins s)
 each_numbers : (masks : FormMasks) (before : Bool) (ss : List (List Item)) → numbers_of (each_formed masks before ss) ≡ numbers_of (concatenation ss)
 each_numbers masks before [] = refl
 each_numbers masks before (s ∷ ss) =
-    map-append (λ (x : Item). x.number) (syllable_with_form masks before s (first_joins ss)) (each_formed masks (joins s) ss)
-    ∙ ap (λ ns. ns ++ numbers_of (each_formed masks (joins s) ss)) (formed_numbers masks before (first_joins ss) s)
-    ∙ ap (λ ns. numbers_of s ++ ns) (each_numbers masks (joins s) ss) ∙ sym (map-append (λ (x : Item). x.number) s (concatenation ss))
+    map-append (λ (x : Item). x.number) (syllable_with_form masks before s (first_connects ss)) (each_formed masks (connects s) ss)
+    ∙ ap (λ ns. ns ++ numbers_of (each_formed masks (connects s) ss)) (formed_numbers masks before (first_connects ss) s)
+    ∙ ap (λ ns. numbers_of s ++ ns) (each_numbers masks (connects s) ss) ∙ sym (map-append (λ (x : Item). x.number) s (concatenation ss))
 
 pub topography_permutes : (masks : FormMasks) (xs : List Item) → IsPermuted xs (topography masks xs)
 topography_permutes masks xs = same_numbers xs (topography masks xs) (each_numbers masks false (in_syllables xs) ∙ ap numbers_of (runs_join (λ (x : Item). x.syllable) xs))

@@ -10,6 +10,7 @@ use Rattle.buffer_glyphs.specs.Items.{Item}
 use Rattle.buffer_glyphs.specs.Events.{Event, Circle}
 use Rattle.buffer_core.specs.Readings.{View, Stage, with_events, as_it_is}
 use Rattle.buffer_core.specs.Sides.{zero_positions}
+use Rattle.buffer_stages.specs.Bytes.{kind_of_byte}
 use Rattle.script_syllabic.specs.declared.circles.CircleRule.{CircleRule}
 
 -- U+25CC DOTTED CIRCLE
@@ -22,7 +23,7 @@ circle_glyph flags font = if bit_and flags.0 16 == 16 then None else nominal_gly
 
 -- the byte of the item's syllable has the kind of broken syllables
 abbrev pub is_broken : CircleRule → Item → Bool
-is_broken r x = bit_and x.syllable 15 == r.kind
+is_broken r x = kind_of_byte x.syllable == r.kind
 
 -- an item begins a broken syllable, unless its byte is that of the previous broken one
 abbrev pub begins : CircleRule → ℕ → Item → Bool

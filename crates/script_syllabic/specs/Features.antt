@@ -9,6 +9,7 @@ use Rattle.buffer_glyphs.specs.Items.{Item, without_flags}
 use Rattle.buffer_glyphs.specs.Rewriting.{Arrangement, eventless_arrangement}
 use Rattle.buffer_stages.specs.Rewriting.{within, in_syllables}
 use Rattle.buffer_stages.specs.Parts.{items_with_features}
+use Rattle.buffer_stages.specs.Bytes.{kind_of_byte}
 use Rattle.script_syllabic.specs.declared.forms.FormMasks.{FormMasks}
 
 -- ---- rphf
@@ -51,19 +52,19 @@ pref_recorded xs = eventless_arrangement (with_first_recorded (has_feature None)
 
 -- ---- forms of syllables
 
--- a kind of syllable joins its neighbours: neither hieroglyphs nor non-clusters do
-abbrev pub joins_by : ℕ → Bool
-joins_by kind = not (kind == universal.HIEROGLYPH_CLUSTER || kind == universal.NON_CLUSTER)
+-- a kind of syllable connects to its neighbours: neither hieroglyphs nor non-clusters do
+abbrev pub connects_by : ℕ → Bool
+connects_by kind = not (kind == universal.HIEROGLYPH_CLUSTER || kind == universal.NON_CLUSTER)
 
--- a syllable joins its neighbours, by the kind in its first item's byte
-abbrev pub joins : List Item → Bool
-joins [] = false
-joins (x ∷ xs) = joins_by (bit_and x.syllable 15)
+-- a syllable connects to its neighbours, by the kind in its first item's byte
+abbrev pub connects : List Item → Bool
+connects [] = false
+connects (x ∷ xs) = connects_by (kind_of_byte x.syllable)
 
--- the first syllable of a list of them joins
-abbrev pub first_joins : List (List Item) → Bool
-first_joins [] = false
-first_joins (s ∷ ss) = joins s
+-- the first syllable of a list of them connects
+abbrev pub first_connects : List (List Item) → Bool
+first_connects [] = false
+first_connects (s ∷ ss) = connects s
 
 -- the mask of the form of a joining syllable, by whether the previous and the next one join
 abbrev pub form_of : FormMasks → Bool → Bool → ℕ
@@ -86,12 +87,12 @@ with_form masks form x = record x { mask = bit_or (x.mask - bit_and x.mask (form
 
 -- a syllable with its form, by whether the previous and the next one join
 abbrev pub syllable_with_form : FormMasks → Bool → List Item → Bool → List Item
-syllable_with_form masks before s behind = if joins s then map (with_form masks (form_of masks before behind)) s else s
+syllable_with_form masks before s behind = if connects s then map (with_form masks (form_of masks before behind)) s else s
 
 -- the syllables with their forms: isol between syllables that don't join, then init, fina or medi
 abbrev pub each_formed : FormMasks → Bool → List (List Item) → List Item
 each_formed masks before [] = []
-each_formed masks before (s ∷ ss) = syllable_with_form masks before s (first_joins ss) ++ each_formed masks (joins s) ss
+each_formed masks before (s ∷ ss) = syllable_with_form masks before s (first_connects ss) ++ each_formed masks (connects s) ss
 
 -- the stage that sets the masks of topographical forms (HarfBuzz: setup_topographical_masks)
 abbrev pub topography : FormMasks → List Item → Arrangement

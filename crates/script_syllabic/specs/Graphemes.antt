@@ -4,7 +4,7 @@ use Rattle.buffer_glyphs.specs.Items.{Item}
 use Rattle.buffer_glyphs.specs.Events.{Event, MergeGrapheme}
 use Rattle.buffer_core.specs.Readings.{Read, View, with_events}
 
--- the merge of so many items from an index on into one grapheme; of none where it is 0
+-- the merge of n items from an index on into one grapheme; of none where it is 0
 abbrev pub merge_of : ℕ → ℕ → List Event
 merge_of at n = if n == 0 then [] else MergeGrapheme at (at + n) ∷ []
 

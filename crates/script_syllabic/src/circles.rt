@@ -3,7 +3,7 @@ ghost use Rattle.std.specs.Prelude.{◌≡◌, ◌<◌, ◌≤◌, ◌+◌, ◌-
 ghost use Rattle.std.specs.List.{list_any, prefix_len};
 ghost use Rattle.buffer_glyphs.specs.Items.{item_of, strip};
 ghost use Rattle.buffer_glyphs.specs.Origins.{origin_of};
-ghost use Rattle.buffer_core.specs.Sides.{all_glyphs, items_of, after_next_glyphs, origins_of};
+ghost use Rattle.buffer_core.specs.Sides.{all_glyphs, items_of, after_next_glyphs, origins_of, HasCurrent};
 ghost use Rattle.buffer_stages.specs.Buffers.{are_glyphs};
 ghost use Rattle.buffer_stages.specs.Ready.{IsReady};
 ghost use Rattle.buffer_stages.specs.Stages.{DoesStage};
@@ -16,6 +16,7 @@ use buffer_core::buffer::hb_buffer_t;
 use buffer_glyphs::cause::ShapeCause;
 use buffer_glyphs::info::hb_glyph_info_t;
 use layout_face::Face;
+use script_categories::syllable_kinds::SYLLABLE_KIND;
 
 /// U+25CC DOTTED CIRCLE.
 pub const DOTTED_CIRCLE: char = '\u{25CC}';
@@ -118,7 +119,7 @@ fn has_broken(rule: &CircleRule, glyphs: &[hb_glyph_info_t]) -> bool
 fn is_broken(rule: &CircleRule, glyph: &hb_glyph_info_t) -> bool
     ensures { result ≡ is_broken rule.now (item_of glyph.now) }
 {
-    glyph.syllable & 15 == rule.kind
+    glyph.syllable & SYLLABLE_KIND == rule.kind
 }
 
 fn begins(rule: &CircleRule, last: u8, glyph: &hb_glyph_info_t) -> bool
@@ -161,8 +162,7 @@ fn put_circles(rule: &CircleRule, buffer: &mut hb_buffer_t) -> Result<(), ShapeC
 
 /// Outputs the current glyph.
 fn pass_glyph(buffer: &mut hb_buffer_t) -> Result<(), ShapeCause>
-    requires open { buffer.old.is_open ≡ true }
-    requires there { 0 < length buffer.old.ahead }
+    requires current { HasCurrent buffer.old }
     ensures moved { OnOk result (buffer.new ≡ after_next_glyphs 1 buffer.old) }
     ensures err { IfErr result (λ e. IsTooLong (length buffer.old.behind + 1) buffer.old e) }
 {

@@ -8,11 +8,12 @@ ghost use Rattle.buffer_stages.specs.Ready.{IsReady};
 ghost use Rattle.buffer_stages.specs.Stages.{IsFollowed};
 ghost use Rattle.buffer_glyphs.specs.Rewriting.{eventless_arrangement};
 ghost use Rattle.buffer_stages.specs.SyllableBuffers.{IsRewritten, with_rule};
-ghost use Rattle.script_syllabic.specs.Features.{all_forms, form_bits, form_of, syllable_with_form, joins, topography, with_form};
+ghost use Rattle.script_syllabic.specs.Features.{all_forms, form_bits, form_of, syllable_with_form, connects, topography, with_form};
 ghost use Rattle.script_syllabic.specs.Formed.{glyph_with_form};
 
 use buffer_core::buffer::hb_buffer_t;
 use buffer_glyphs::info::{DEFINED, hb_glyph_info_t, hb_mask_t};
+use script_categories::syllable_kinds::SYLLABLE_KIND;
 use script_categories::syllable_kinds::universal::{HIEROGLYPH_CLUSTER, NON_CLUSTER};
 
 /// The mask bit that every glyph has.
@@ -55,7 +56,7 @@ impl FormMasks {
     }
 }
 
-/// Gives each joining syllable the mask of its form (`setup_topographical_masks`): isol where neither neighbour joins,
+/// Gives each joining syllable the mask of its form (`setup_topographical_masks`): isol where neither neighbour connects,
 /// init where only the next does, fina where only the previous does, else medi. Syllables of kind hieroglyph or
 /// non-cluster don't join. It takes linear time and no memory.
 pub fn setup_topographical_masks(masks: &FormMasks, buffer: &mut hb_buffer_t)
@@ -72,7 +73,7 @@ pub fn setup_topographical_masks(masks: &FormMasks, buffer: &mut hb_buffer_t)
     }
 }
 
-/// Gives the syllable `start..end` its form, and returns whether it joins.
+/// Gives the syllable `start..end` its form, and returns whether it connects.
 fn form_syllable(
     masks: &FormMasks,
     buffer: &mut hb_buffer_t,
@@ -84,32 +85,35 @@ fn form_syllable(
     requires ordered { start < end }
     requires within { end ≤ length (all_glyphs buffer.old) }
     ensures rewritten { IsRewritten (eventless_arrangement (syllable_with_form masks.now before (slice_range (items_of buffer.old) start end)
-        (joins (drop end (items_of buffer.old))))) start end buffer.old buffer.new }
-    ensures joins { result ≡ joins (drop start (items_of buffer.old)) }
+        (connects (drop end (items_of buffer.old))))) start end buffer.old buffer.new }
+    ensures connects { result ≡ connects (drop start (items_of buffer.old)) }
 {
-    if !joins_at(buffer, start) {
+    if !connects_at(buffer, start) {
         return false;
     }
-    let behind = joins_at(buffer, end);
+    let behind = connects_at(buffer, end);
     set_form(masks, buffer, start, end, masks.form(before, behind));
     true
 }
 
-/// Whether the syllable that begins at an index joins its neighbours.
-fn joins_at(buffer: &hb_buffer_t, at: usize) -> bool
+/// Whether the syllable that begins at an index connects to its neighbours.
+fn connects_at(buffer: &hb_buffer_t, at: usize) -> bool
     requires ready { IsReady buffer.now }
     requires within { at ≤ length (all_glyphs buffer.now) }
-    ensures { result ≡ joins (drop at (items_of buffer.now)) }
+    ensures { result ≡ connects (drop at (items_of buffer.now)) }
 {
-    joins(&buffer.info_slice()[at..])
+    connects(&buffer.info_slice()[at..])
 }
 
-/// Whether the first syllable of these glyphs joins its neighbours.
-fn joins(glyphs: &[hb_glyph_info_t]) -> bool
-    ensures { result ≡ joins (strip glyphs.now) }
+/// Whether the first syllable of these glyphs connects to its neighbours.
+fn connects(glyphs: &[hb_glyph_info_t]) -> bool
+    ensures { result ≡ connects (strip glyphs.now) }
 {
     match glyphs.first() {
-        Some(first) => !matches!(first.syllable & 15, HIEROGLYPH_CLUSTER | NON_CLUSTER),
+        Some(first) => !matches!(
+            first.syllable & SYLLABLE_KIND,
+            HIEROGLYPH_CLUSTER | NON_CLUSTER
+        ),
         None => false,
     }
 }

@@ -7,7 +7,7 @@ ghost use Rattle.script_syllabic.specs.Graphemes.{merge_of};
 
 use buffer_core::buffer::hb_buffer_t;
 
-/// Merges so many characters from an index on into one grapheme; none where it is 0. It takes no memory.
+/// Merges `count` characters from an index on into one grapheme; none where it is 0. It takes no memory.
 #[tactic(auto, using(crate::proofs::GraphemesMerged::none_merged, crate::proofs::GraphemesMerged::some_merged, buffer_stages::proofs::Lemmas::Happened::grapheme_happens, buffer_stages::proofs::Lemmas::Happened::end_of_input))]
 pub fn merge_grapheme(at: usize, count: usize, buffer: &mut hb_buffer_t)
     requires ready { IsReady buffer.old }

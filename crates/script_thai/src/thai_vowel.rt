@@ -4,6 +4,7 @@ ghost use Rattle.std.specs.List.{list_all};
 ghost use Rattle.buffer_glyphs.specs.Items.{Item, item_of, strip};
 ghost use Rattle.buffer_glyphs.specs.Origins.{origin_of};
 ghost use Rattle.buffer_core.specs.Readings.{always};
+ghost use Rattle.buffer_core.specs.Sides.{HasCurrent};
 ghost use Rattle.buffer_stages.specs.Ready.{IsReady};
 ghost use Rattle.script_thai.specs.ThaiVowel.{count_above, events_of_vowel, is_mark_above, is_sara_am, nikhahit, nonspacing, move_of_vowel, sara_aa, split_events, text_with_splits, thai_or_lao, vowel_rule, vowels_decomposed, vowels_split, with_vowel};
 ghost use Rattle.script_syllabic.specs.Graphemes.{with_graphemes_merged};
@@ -91,8 +92,7 @@ fn split_vowels(buffer: &mut hb_buffer_t) -> Result<(), ShapeCause>
 /// Outputs the current character as two halves where it is such a vowel, else all characters before the next one.
 /// Answers how many were read.
 fn pass(buffer: &mut hb_buffer_t) -> Result<usize, ShapeCause>
-    requires open { buffer.old.is_open ≡ true }
-    requires there { 0 < length buffer.old.ahead }
+    requires current { HasCurrent buffer.old }
     ensures some { IfOk result (λ n. 0 < n) }
     ensures within { IfOk result (λ n. n ≤ length buffer.old.ahead) }
     ensures ok { IfOk result (λ n. HasWalked
@@ -128,7 +128,7 @@ fn count_others(buffer: &hb_buffer_t) -> usize
     count
 }
 
-/// Outputs so many characters as they are.
+/// Outputs `count` characters as they are.
 fn advance_over(count: usize, buffer: &mut hb_buffer_t) -> Result<(), ShapeCause>
     requires open { buffer.old.is_open ≡ true }
     requires there { count ≤ length buffer.old.ahead }

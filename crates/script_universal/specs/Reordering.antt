@@ -1,5 +1,5 @@
 -- The universal shaper: the order of a syllable's items (OpenType specification, Universal Shaping Engine).
-use Rattle.std.specs.Prelude.{ℕ, zero, suc, ◌+◌, ◌-◌, ◌==◌, ◌&&◌, ◌||◌, not, Bool, false, nat_lt, bit_and, if◌then◌else◌, List, [], ◌∷◌, drop, length, map, slice_get, Option, None, Some}
+use Rattle.std.specs.Prelude.{ℕ, zero, suc, ◌+◌, ◌-◌, ◌==◌, ◌&&◌, ◌||◌, not, Bool, false, nat_lt, if◌then◌else◌, List, [], ◌∷◌, drop, length, map, slice_get, Option, None, Some}
 use Rattle.std.specs.List.{list_any, prefix_len}
 use Rattle.script_categories.specs.declared.category.TheConstants as category
 use Rattle.script_categories.specs.declared.shaper.hb_ot_script_shaper_t.TheVariants.{UNIVERSAL_SHAPER}
@@ -10,6 +10,7 @@ use Rattle.buffer_stages.specs.Pieces.{ArePermuted}
 use Rattle.buffer_glyphs.specs.Rewriting.{Arrangement, eventless_arrangement, and_arranged}
 use Rattle.buffer_stages.specs.Rewriting.{within, in_syllables, by_syllable}
 use Rattle.buffer_stages.specs.Parts.{first_to_back}
+use Rattle.buffer_stages.specs.Bytes.{kind_of_byte}
 
 -- the categories of post-base items: finals, medials, vowels, their modifiers and those of finals (HarfBuzz:
 -- POST_BASE_FLAGS64)
@@ -92,7 +93,7 @@ universal_reordered xs = and_arranged (reph_moved xs) (left_walk (length xs) 0 0
 -- a syllable, reordered if the kind in its first item's byte is reordered
 abbrev pub universal_first : List Item → Option Item → Arrangement
 universal_first xs None = eventless_arrangement xs
-universal_first xs (Some x) = if is_reordered UNIVERSAL_SHAPER (bit_and x.syllable 15) then universal_reordered xs else eventless_arrangement xs
+universal_first xs (Some x) = if is_reordered UNIVERSAL_SHAPER (kind_of_byte x.syllable) then universal_reordered xs else eventless_arrangement xs
 
 -- the reading of one syllable
 abbrev pub universal_syllable : List Item → Arrangement

@@ -1,9 +1,8 @@
 //! The pauses of the universal shaper (rustybuzz: hb/ot_shaper_use.rs).
-ghost use Rattle.std.specs.Prelude.{◌≡◌, ◌≢◌, true, false, codes, length, nat_lt, Ok, Err, IfOk, IfErr, OnOk};
+ghost use Rattle.std.specs.Prelude.{◌≡◌, ◌≢◌, false, codes, length, nat_lt, Ok, Err, IfOk, IfErr, OnOk};
 ghost use Rattle.buffer_core.specs.Readings.{reading_of};
 ghost use Rattle.buffer_core.specs.Sides.{items_of, state_of};
-ghost use Rattle.buffer_stages.specs.Buffers.{are_glyphs};
-ghost use Rattle.buffer_stages.specs.Ready.{DoesGlyphStage, IsDone, IsReady};
+ghost use Rattle.buffer_stages.specs.Ready.{DoesGlyphStage, IsDone, IsReady, HoldsGlyphs};
 ghost use Rattle.buffer_stages.specs.Pauses.{BringsNoGlyph};
 ghost use Rattle.buffer_stages.specs.Settings.{text_settings};
 ghost use Rattle.layout_map.specs.Masks.{mask_at_one};
@@ -154,8 +153,7 @@ pub fn record_pref(buffer: &mut hb_buffer_t) -> Result<bool, ShapeCause>
 ///
 /// `TooLong` where the text would have more glyphs than the buffer may hold, or lack of memory.
 pub fn reorder_use(face: &Face, buffer: &mut hb_buffer_t) -> Result<bool, ShapeCause>
-    requires ready { IsReady buffer.old }
-    requires numbers { are_glyphs (items_of buffer.old) ≡ true }
+    requires glyphs { HoldsGlyphs buffer.old }
     ensures stage { DoesGlyphStage (universal_order face.now (text_settings buffer.old).flags) result buffer.old
         buffer.new }
     ensures longer { IfOk result (λ inserted. inserted ≡ nat_lt (length (items_of buffer.old)) (length (items_of buffer.new))) }

@@ -23,6 +23,7 @@ use buffer_stages::syllable_fronts::move_fronts;
 use buffer_stages::walk::{SyllableRule, each_syllable};
 use script_categories::category::R;
 use script_categories::hb_ot_script_shaper_t::UNIVERSAL_SHAPER;
+use script_categories::syllable_kinds::SYLLABLE_KIND;
 use std::alloc::AllocError;
 
 /// Reorders each syllable of a kind that is reordered (`reorder_syllable`): a reph at the start moves before the first
@@ -51,7 +52,7 @@ impl SyllableRule for UniversalOrder {
         end: usize,
     ) -> Result<(), AllocError> {
         let first = glyph_at(buffer, start, end, 0);
-        if !UNIVERSAL_SHAPER.is_reordered(first.syllable & 15) {
+        if !UNIVERSAL_SHAPER.is_reordered(first.syllable & SYLLABLE_KIND) {
             return Ok(());
         }
         reorder_syllable(buffer, start, end);

@@ -7,5 +7,6 @@ use buffer_core::buffer::hb_buffer_t;
 pub fn _hb_ot_shape_fallback_kern(buffer: &mut hb_buffer_t)
     ensures { buffer.new ≡ buffer.old }
 {
+    // The buffer is an argument because rustybuzz's call has it.
     let _ = buffer;
 }

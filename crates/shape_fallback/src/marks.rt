@@ -1,13 +1,12 @@
 //! Positions each mark of a text around the base before it (rustybuzz: hb/ot_shape_fallback.rs).
-ghost use Rattle.std.specs.Prelude.{◌≡◌, ◌≤◌, ◌<◌, ◌+◌, true, length, drop, [], ◌∷◌};
+ghost use Rattle.std.specs.Prelude.{◌≡◌, ◌≤◌, ◌<◌, ◌+◌, length, drop, [], ◌∷◌};
 ghost use Rattle.std.specs.List.{list_any};
 ghost use Rattle.buffer_properties.specs.Characters.{is_mark};
 ghost use Rattle.buffer_glyphs.specs.Events.{Break};
 ghost use Rattle.buffer_glyphs.specs.Items.{item_of, strip};
 ghost use Rattle.buffer_core.specs.Readings.{always};
 ghost use Rattle.buffer_core.specs.Sides.{all_glyphs, items_of};
-ghost use Rattle.buffer_stages.specs.Buffers.{are_glyphs};
-ghost use Rattle.buffer_stages.specs.Ready.{IsDone, IsReady};
+ghost use Rattle.buffer_stages.specs.Ready.{IsDone, IsReady, HoldsGlyphs};
 ghost use Rattle.buffer_stages.specs.Stages.{Becomes, Happens};
 ghost use Rattle.shape_fallback.specs.Marks.{HasBound, base_events, after_base, components_direction, first_event, is_left_to_right, marks, positioned_marks, script_direction, step, step_of_mark, with_positioned_marks, without_box};
 ghost use Rattle.layout_common.specs.Rows.{value_of};
@@ -69,8 +68,7 @@ pub fn position_marks(
     adjust_offsets: bool,
     buffer: &mut hb_buffer_t,
 )
-    requires ready { IsReady buffer.old }
-    requires numbers { are_glyphs (items_of buffer.old) ≡ true }
+    requires glyphs { HoldsGlyphs buffer.old }
     ensures { IsDone (always (with_positioned_marks face.now components adjust_offsets)) buffer.old buffer.new }
 {
     // Most texts have no mark, and then no base's extents matter.
@@ -93,8 +91,7 @@ fn position_all_marks(
     adjust_offsets: bool,
     buffer: &mut hb_buffer_t,
 )
-    requires ready { IsReady buffer.old }
-    requires numbers { are_glyphs (items_of buffer.old) ≡ true }
+    requires glyphs { HoldsGlyphs buffer.old }
     ensures { IsDone (always (with_positioned_marks face.now components adjust_offsets)) buffer.old buffer.new }
 {
     mark_bases(buffer);
@@ -245,8 +242,7 @@ fn make_step(
 
 #[tactic(auto, using(crate::proofs::Placed::begins, crate::proofs::Placed::goes_on, crate::proofs::Placed::ends, crate::proofs::Placed::numbers_within))]
 fn position_each(face: &Face, by: Placing, buffer: &mut hb_buffer_t)
-    requires ready { IsReady buffer.old }
-    requires numbers { are_glyphs (items_of buffer.old) ≡ true }
+    requires glyphs { HoldsGlyphs buffer.old }
     ensures { Becomes (items_of buffer.old) (positioned_marks face.now by Nothing (items_of buffer.old)
         buffer.old.positions)
         buffer.old buffer.new }

@@ -47,18 +47,18 @@ GlyphsDependOnNoLimit = (p : Shaping) → RulesDependOnNoLimit p.rules → Depen
 abbrev pub budget_of : Sides → ℤ
 budget_of text = steps_limit (length (all_glyphs text)) text.max_ops
 
--- a budget allows so many nested lookups
+-- a budget allows n nested lookups
 abbrev pub allows : ℤ → ℕ → Bool
 allows (pos k) n = nat_le n k
 allows (negsuc k) n = false
 
--- a text's reading applies so many nested lookups, whatever its budget above that
+-- a text's reading applies n nested lookups, whatever its budget above that
 pub record AppliesNested (p : Shaping) (text : Sides) (n : ℕ) : Type 0 where
   pub chosen : Read
   pub is : characters_stage p (view_of text) ≡ Ok chosen
   pub uses : Uses (glyphs_stage p) chosen.view n 0
 
--- law: one run that leaves some of its budget applied what it took: so many nested lookups, and the same with each
+-- law: one run that leaves some of its budget applied what it took: that number of nested lookups, and the same with each
 -- greater budget
 abbrev pub RunsCountNested : Type 0
 RunsCountNested = (p : Shaping) (text : Sides) (chosen r : Read) (n k : ℕ) → RulesDependOnNoLimit p.rules → characters_stage p (view_of text) ≡ Ok chosen

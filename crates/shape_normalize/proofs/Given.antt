@@ -76,9 +76,9 @@ given_more c i start now next lt is goes =
     let gs : List hb_glyph_info_t = map f (take i start.ahead) ++ drop i start.ahead in
     let seen : now.ahead ≡ gs = ap (λ (q : Sides). q.ahead) is in
     let sides = length-append (map f (take i start.ahead)) (drop i start.ahead) in
-    let parts = length-append (take i start.ahead) (drop i start.ahead) in
+    let pieces = length-append (take i start.ahead) (drop i start.ahead) in
     let whole = ap length (take-append-drop i start.ahead) in
-    let long : length gs ≡ length start.ahead = omega (arith, sides, parts, whole, length-map (take i start.ahead) f) in
+    let long : length gs ≡ length start.ahead = omega (arith, sides, pieces, whole, length-map (take i start.ahead) f) in
     let there = ap length seen in
     let g = get_or now.ahead i no_glyph in
     goes g (slice_get-get_or now.ahead i no_glyph (omega (arith, lt, long, there))) ∙ ap (λ (q : Sides). with_glyph_ahead i (f g) q) is

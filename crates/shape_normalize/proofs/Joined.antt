@@ -30,8 +30,8 @@ walked_view a s mid b =
     ∙ ap (λ n. record { items = a.items; positions = zero_positions n; lig_id = mid.lig_id; max_ops = mid.max_ops; random = 1; max_len = mid.max_len; direction = mid.direction; scratch_flags = stage_flags mid.scratch_flags }) (walked_count a s mid b)
     ∙ ap (λ (f : Sides). record { items = a.items; positions = zero_positions (length a.items); lig_id = f.lig_id; max_ops = f.max_ops; random = 1; max_len = f.max_len; direction = f.direction; scratch_flags = f.scratch_flags }) b.frame
 
-fits_parts : (s : Sides) → fits_joined s ≡ true → length (all_glyphs s) ≤ s.max_len
-fits_parts s fits = let room = (and_parts (not s.has_refused) (has_room 0 s) fits).1 in grind (arith, nat_tests, room)
+fits_pieces : (s : Sides) → fits_joined s ≡ true → length (all_glyphs s) ≤ s.max_len
+fits_pieces s fits = let room = (and_parts (not s.has_refused) (has_room 0 s) fits).1 in grind (arith, nat_tests, room)
 
 too_long : (s : Sides) → s.has_refused ≡ false → fits_joined s ≡ false → s.max_len < length (all_glyphs s)
 too_long s unrefused full =
@@ -69,7 +69,7 @@ list_arranged a s mid new ready b after =
     })
 
 pub list_fits : (a : Arrangement) (s mid : Sides) → AppendsArrangement a [] (with_output s) mid → fits_joined mid ≡ true → length a.items ≤ s.max_len
-list_fits a s mid b fits = let few = fits_parts mid fits in omega (arith, few, walked_count a s mid b, same_limit a s mid b)
+list_fits a s mid b fits = let few = fits_pieces mid fits in omega (arith, few, walked_count a s mid b, same_limit a s mid b)
 
 pub list_overfills : (a : Arrangement) (s : Sides) (e : ShapeCause) → RefusesRoomFor (length a.items) e (with_output s) → e ≢ OutOfMemory → (e ≡ TooLong) × (s.max_len < length a.items)
 list_overfills a s e over some = let past = over some in let lt = past.1 in (past.0, omega (arith, lt))

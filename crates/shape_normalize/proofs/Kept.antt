@@ -99,8 +99,8 @@ not_true : (b : Bool) → not b ≡ true → b ≡ false
 not_true true e = absurd (let bad = e in cc)
 not_true false e = refl
 
-kept_parts : (c : Normalizer) (reach : Reach) (x : Item) → with_own_glyph c x ≡ x → is_kept c reach x ≡ true → (is_whole c reach x ≡ true) × (is_selector x ≡ false)
-kept_parts c reach x own kept =
+kept_pieces : (c : Normalizer) (reach : Reach) (x : Item) → with_own_glyph c x ≡ x → is_kept c reach x ≡ true → (is_whole c reach x ≡ true) × (is_selector x ≡ false)
+kept_pieces c reach x own kept =
     let one = and_parts (not (x.glyph_index == 0)) (not (is_selector x) && is_undecomposed reach (c.splits x.number)) kept in
     let two = and_parts (not (is_selector x)) (is_undecomposed reach (c.splits x.number)) one.1 in
     let index : x.glyph_index ≡ unwrap_or (c.glyph_of x.number) 0 = sym (ap (λ (y : Item). y.glyph_index) own) in
@@ -108,7 +108,7 @@ kept_parts c reach x own kept =
     (ap₂ (λ a b. a && b) found two.1, not_true (is_selector x) two.0)
 
 one_kept : (c : Normalizer) (reach : Reach) (x : Item) → with_own_glyph c x ≡ x → is_kept c reach x ≡ true → item_expansion c reach x ≡ eventless_arrangement (x ∷ [])
-one_kept c reach x own kept = one_whole c reach x (kept_parts c reach x own kept).0 ∙ ap (λ (y : Item). eventless_arrangement (y ∷ [])) own
+one_kept c reach x own kept = one_whole c reach x (kept_pieces c reach x own kept).0 ∙ ap (λ (y : Item). eventless_arrangement (y ∷ [])) own
 
 all_kept : (c : Normalizer) (reach : Reach) (xs : List Item) → HasOwn c xs → list_all (is_kept c reach) xs ≡ true → in_turn (map (item_expansion c reach) xs) ≡ eventless_arrangement xs
 all_kept c reach [] own kept = refl
@@ -124,7 +124,7 @@ no_selector c reach (x ∷ xs) own kept =
     let both = and_parts (is_kept c reach x) (list_all (is_kept c reach) xs) kept in
     let first : with_own_glyph c x ≡ x = let e : with_own_glyph c x ∷ map (with_own_glyph c) xs ≡ x ∷ xs = own in cc in
     let rest : map (with_own_glyph c) xs ≡ xs = let e : with_own_glyph c x ∷ map (with_own_glyph c) xs ≡ x ∷ xs = own in cc in
-    ap₂ (λ a b. a || b) (kept_parts c reach x first both.0).1 (no_selector c reach xs rest both.1)
+    ap₂ (λ a b. a || b) (kept_pieces c reach x first both.0).1 (no_selector c reach xs rest both.1)
 
 group_kept : (c : Normalizer) (x : Item) (marks : List Item) → HasOwn c (x ∷ marks) → list_all (is_kept c (group_reach c (length (x ∷ marks)))) (x ∷ marks) ≡ true
     → in_turn (expanded_group c x marks) ≡ eventless_arrangement (x ∷ marks)

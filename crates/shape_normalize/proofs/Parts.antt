@@ -7,21 +7,21 @@ use Rattle.buffer_core.specs.Sides.{Sides}
 use Rattle.buffer_unicode_tables.specs.Expansion.{with_second_piece}
 use Rattle.buffer_properties.specs.Normalizer.{Normalizer, has_character}
 use Rattle.buffer_properties.specs.SupportedExpansion.{by_supported}
-use Rattle.shape_normalize.specs.Glyphs.{part_glyph, part_glyphs, with_current_read, HasHalvesOutput, Puts}
+use Rattle.shape_normalize.specs.Glyphs.{piece_glyph, piece_glyphs, with_current_read, HasHalvesOutput, Puts}
 
-parts_both : (c : Normalizer) (us vs : List ℕ) (o : Option hb_glyph_info_t) → part_glyphs c us o ++ part_glyphs c vs o ≡ part_glyphs c (us ++ vs) o
-parts_both c us vs None = refl
-parts_both c us vs (Some g) = sym (map-append (part_glyph c g) us vs)
+pieces_both : (c : Normalizer) (us vs : List ℕ) (o : Option hb_glyph_info_t) → piece_glyphs c us o ++ piece_glyphs c vs o ≡ piece_glyphs c (us ++ vs) o
+pieces_both c us vs None = refl
+pieces_both c us vs (Some g) = sym (map-append (piece_glyph c g) us vs)
 
 put_both : (c : Normalizer) (us vs : List ℕ) (last : Bool) (s mid new : Sides) → HasHalvesOutput c us false s mid → HasHalvesOutput c vs last mid new → HasHalvesOutput c (us ++ vs) last s new
 put_both c us vs last s mid new first next =
     let o = slice_get s.ahead 0 in
-    next ∙ ap (λ (m : Sides). with_current_read last (record m { behind = m.behind ++ part_glyphs c vs (slice_get m.ahead 0); is_apart = new.is_apart })) first
-    ∙ ap (λ gs. with_current_read last (record s { behind = gs; is_apart = new.is_apart })) (append_assoc s.behind (part_glyphs c us o) (part_glyphs c vs o) ∙ ap (λ gs. s.behind ++ gs) (parts_both c us vs o))
+    next ∙ ap (λ (m : Sides). with_current_read last (record m { behind = m.behind ++ piece_glyphs c vs (slice_get m.ahead 0); is_apart = new.is_apart })) first
+    ∙ ap (λ gs. with_current_read last (record s { behind = gs; is_apart = new.is_apart })) (append_assoc s.behind (piece_glyphs c us o) (piece_glyphs c vs o) ∙ ap (λ gs. s.behind ++ gs) (pieces_both c us vs o))
 
-pub two_parts : (c : Normalizer) (expand : ℕ → Option (List ℕ)) (a b g : ℕ) (last : Bool) (old mid new : Sides) → (b == 0) ≡ false → c.glyph_of b ≡ Some g → Puts c (expand a) false true old mid → HasHalvesOutput c (b ∷ []) last mid new
+pub two_pieces : (c : Normalizer) (expand : ℕ → Option (List ℕ)) (a b g : ℕ) (last : Bool) (old mid new : Sides) → (b == 0) ≡ false → c.glyph_of b ≡ Some g → Puts c (expand a) false true old mid → HasHalvesOutput c (b ∷ []) last mid new
     → Puts c (by_supported (has_character c) expand (Some (a, b))) last true old new
-two_parts c expand a b g last old mid new some has put next = rw (some, has) (by_case (expand a) put)
+two_pieces c expand a b g last old mid new some has put next = rw (some, has) (by_case (expand a) put)
   where
     by_case : (o : Option (List ℕ)) → Puts c o false true old mid → Puts c (option_map (with_second_piece b) o) last true old new
     by_case None p = absurd (let bad = p.0 in cc)

@@ -20,7 +20,7 @@ use Rattle.buffer_properties.specs.Normalizer.{Normalizer, has_character}
 use Rattle.buffer_properties.specs.declared.normal_mode.Reach.{Reach}
 use Rattle.buffer_properties.specs.SupportedExpansion.{expansion}
 use Rattle.buffer_properties.specs.Expanding.{whole_item, piece_of, items_for, expanded_item, item_expansion}
-use Rattle.shape_normalize.specs.Glyphs.{part_glyph, part_glyphs, Puts, count_of, with_glyph_replaced}
+use Rattle.shape_normalize.specs.Glyphs.{piece_glyph, piece_glyphs, Puts, count_of, with_glyph_replaced}
 use Rattle.buffer_stages.specs.Appending.{AppendsArrangement, RefusesRoomFor}
 use Rattle.shape_normalize.proofs.Lemmas.Chain.{overfills_more}
 
@@ -71,14 +71,14 @@ replaced_ahead info s mid new some set moved = moved ∙ ap (after_next_glyphs 1
     by_case [] e = absurd (let none = ap length e in omega (arith, none, some))
     by_case (g ∷ gs) e = rw e refl
 
-parts_origins : (c : Normalizer) (g : hb_glyph_info_t) (us : List ℕ) → origins (map (part_glyph c g) us) ≡ replicate (length (map (part_glyph c g) us)) (origin_of g)
-parts_origins c g [] = refl
-parts_origins c g (u ∷ us) = ap (λ os. origin_of g ∷ os) (parts_origins c g us)
+pieces_origins : (c : Normalizer) (g : hb_glyph_info_t) (us : List ℕ) → origins (map (piece_glyph c g) us) ≡ replicate (length (map (piece_glyph c g) us)) (origin_of g)
+pieces_origins c g [] = refl
+pieces_origins c g (u ∷ us) = ap (λ os. origin_of g ∷ os) (pieces_origins c g us)
 
-parts_items : (c : Normalizer) (g : hb_glyph_info_t) (us : List ℕ) → strip (map (part_glyph c g) us) ≡ map (piece_of c (item_of g)) us
+pieces_items : (c : Normalizer) (g : hb_glyph_info_t) (us : List ℕ) → strip (map (piece_glyph c g) us) ≡ map (piece_of c (item_of g)) us
 unfolding piece_of
-parts_items c g [] = refl
-parts_items c g (u ∷ us) = ap (λ xs. piece_of c (item_of g) u ∷ xs) (parts_items c g us)
+pieces_items c g [] = refl
+pieces_items c g (u ∷ us) = ap (λ xs. piece_of c (item_of g) u ∷ xs) (pieces_items c g us)
 
 first_ahead : (g : hb_glyph_info_t) (gs : List hb_glyph_info_t) (x : Item) (xs : List Item) → slice_get gs 0 ≡ Some g → strip gs ≡ x ∷ xs → gs ≡ g ∷ drop 1 gs
 first_ahead g [] x xs at seen = absurd (let bad = seen in cc)
@@ -91,10 +91,10 @@ rest_ahead : (g : hb_glyph_info_t) (gs : List hb_glyph_info_t) (x : Item) (xs : 
 rest_ahead g gs x xs is seen = let e : x ∷ xs ≡ item_of g ∷ strip (drop 1 gs) = sym seen ∙ ap strip is in cc
 
 -- an item that was decomposed into the characters that were appended to the output
-pub parts_brought : (c : Normalizer) (reach : Reach) (b : Bool) (g : hb_glyph_info_t) (old new : Sides) (x : Item) (xs : List Item) → slice_get old.ahead 0 ≡ Some g → strip old.ahead ≡ x ∷ xs
+pub pieces_brought : (c : Normalizer) (reach : Reach) (b : Bool) (g : hb_glyph_info_t) (old new : Sides) (x : Item) (xs : List Item) → slice_get old.ahead 0 ≡ Some g → strip old.ahead ≡ x ∷ xs
     → Puts c (expansion reach (has_character c) c.splits g.glyph_id) true b old new → b ≡ true → AppendsArrangement (item_expansion c reach x) xs old new
 unfolding expanded_item
-parts_brought c reach b g old new x xs at seen put went =
+pieces_brought c reach b g old new x xs at seen put went =
     let first = first_ahead g old.ahead x xs at seen in
     let item = item_ahead g old.ahead x xs first seen in
     rw (item) (by_case (expansion reach (has_character c) c.splits g.glyph_id) put first)
@@ -102,11 +102,11 @@ parts_brought c reach b g old new x xs at seen put went =
     by_case : (o : Option (List ℕ)) → Puts c o true b old new → old.ahead ≡ g ∷ drop 1 old.ahead → AppendsArrangement (replacement 1 (items_for c (item_of g) o)) xs old new
     by_case None p first = absurd (let bad = p.0 in cc)
     by_case (Some us) p first =
-        let gs = map (part_glyph c g) us in
-        let is : new ≡ with_glyph_skipped (record old { behind = old.behind ++ gs; is_apart = new.is_apart }) = p.1 ∙ ap (λ o. with_glyph_skipped (record old { behind = old.behind ++ part_glyphs c us o; is_apart = new.is_apart })) at in
-        subst (λ ys. AppendsArrangement (replacement 1 ys) xs old new) (parts_items c g us)
+        let gs = map (piece_glyph c g) us in
+        let is : new ≡ with_glyph_skipped (record old { behind = old.behind ++ gs; is_apart = new.is_apart }) = p.1 ∙ ap (λ o. with_glyph_skipped (record old { behind = old.behind ++ piece_glyphs c us o; is_apart = new.is_apart })) at in
+        subst (λ ys. AppendsArrangement (replacement 1 ys) xs old new) (pieces_items c g us)
         (subst (λ zs. AppendsArrangement (replacement 1 (strip gs)) zs old new) (rest_ahead g old.ahead x xs first seen)
-        (put_skipped gs g (drop 1 old.ahead) new.is_apart old new first (parts_origins c g us) is))
+        (put_skipped gs g (drop 1 old.ahead) new.is_apart old new first (pieces_origins c g us) is))
 
 -- an item that was replaced by one glyph
 pub placed_brought : (g info : hb_glyph_info_t) (y : Item) (old mid new : Sides) (x : Item) (xs : List Item) → slice_get old.ahead 0 ≡ Some g → strip old.ahead ≡ x ∷ xs
@@ -136,10 +136,10 @@ items_count c x None = omega arith
 items_count c x (Some us) = let n = length-map us (piece_of c x) in omega (arith, n)
 
 -- characters that were too many
-pub parts_too_many : (c : Normalizer) (reach : Reach) (g : hb_glyph_info_t) (e : ShapeCause) (old : Sides) → slice_get old.ahead 0 ≡ Some g → RefusesRoomFor (count_of (expansion reach (has_character c) c.splits g.glyph_id)) e old
+pub pieces_too_many : (c : Normalizer) (reach : Reach) (g : hb_glyph_info_t) (e : ShapeCause) (old : Sides) → slice_get old.ahead 0 ≡ Some g → RefusesRoomFor (count_of (expansion reach (has_character c) c.splits g.glyph_id)) e old
     → (x : Item) (xs : List Item) → strip old.ahead ≡ x ∷ xs → RefusesRoomFor (length (expanded_item c reach x)) e old
 unfolding expanded_item
-parts_too_many c reach g e old at over x xs seen =
+pieces_too_many c reach g e old at over x xs seen =
     let item = item_ahead g old.ahead x xs (first_ahead g old.ahead x xs at seen) seen in
     rw item (overfills_more (count_of (expansion reach (has_character c) c.splits g.glyph_id)) (length (items_for c (item_of g) (expansion reach (has_character c) c.splits g.glyph_id))) e old
     (items_count c (item_of g) (expansion reach (has_character c) c.splits g.glyph_id)) over)

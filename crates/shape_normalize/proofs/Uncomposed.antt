@@ -22,13 +22,13 @@ pub item_seen : (gs : List hb_glyph_info_t) (i : ℕ) (g : hb_glyph_info_t) (y :
 item_seen gs i g y at seen = let both : Some (item_of g) ≡ Some y = sym (slice_get-map item_of gs i ∙ ap (option_map item_of) at) ∙ seen in cc
 
 seen_mark : (n at : ℕ) (xs done : List Item) (x : Item) (between : List Item) (y : Item) (ys : List Item) → xs ≡ done ++ x ∷ (between ++ y ∷ ys) → length done + 1 + length between ≡ at → slice_get xs at ≡ Some y
-seen_mark n at xs done x between y ys parts ends =
+seen_mark n at xs done x between y ys pieces ends =
     let sides = length-append done (x ∷ between) in
     let index : at ≡ length (done ++ x ∷ between) = omega (arith, sides, ends) in
-    ap₂ slice_get (parts ∙ sym (append_assoc done (x ∷ between) (y ∷ ys))) index ∙ get_seam (done ++ x ∷ between) y ys
+    ap₂ slice_get (pieces ∙ sym (append_assoc done (x ∷ between) (y ∷ ys))) index ∙ get_seam (done ++ x ∷ between) y ys
 
 seen_starter : (n : ℕ) (xs done : List Item) (x : Item) (rest : List Item) → xs ≡ done ++ x ∷ rest → length done ≡ n → slice_get xs n ≡ Some x
-seen_starter n xs done x rest parts starts = ap₂ slice_get parts (sym starts) ∙ get_seam done x rest
+seen_starter n xs done x rest pieces starts = ap₂ slice_get pieces (sym starts) ∙ get_seam done x rest
 
 last_before : (xs : List Item) (z : Item) (zs rest : List Item) (w : Item) → slice_get (xs ++ z ∷ (zs ++ rest)) (length xs + length zs) ≡ Some w → last_class (mark_class z) zs ≡ mark_class w
 last_before xs z [] rest w e =
@@ -44,19 +44,19 @@ last_before xs z (v ∷ zs) rest w e =
 
 -- what is no mark is not composed
 pub no_mark_stays : (c : Normalizer) (n at : ℕ) (gs : List hb_glyph_info_t) (g : hb_glyph_info_t) → slice_get gs at ≡ Some g → is_mark (item_of g) ≡ false → StaysApart c n at (strip gs)
-no_mark_stays c n at gs g there off done x between y ys parts starts ends =
-    let same = item_seen gs at g y there (seen_mark n at (strip gs) done x between y ys parts ends) in
+no_mark_stays c n at gs g there off done x between y ys pieces starts ends =
+    let same = item_seen gs at g y there (seen_mark n at (strip gs) done x between y ys pieces ends) in
     no_mark c x between y (ap is_mark (sym same) ∙ off)
 
 -- nor is a mark that is blocked
 pub blocked_stays : (c : Normalizer) (n at : ℕ) (gs : List hb_glyph_info_t) (g h : hb_glyph_info_t) → slice_get gs at ≡ Some g → is_mark (item_of g) ≡ true → n + 1 < at → slice_get gs (at - 1) ≡ Some h
     → mark_class (item_of g) ≤ mark_class (item_of h) → StaysApart c n at (strip gs)
-blocked_stays c n at gs g h there on far before le done x [] y ys parts starts ends = absurd (omega (arith, starts, ends, far))
-blocked_stays c n at gs g h there on far before le done x (z ∷ zs) y ys parts starts ends =
-    let same = item_seen gs at g y there (seen_mark n at (strip gs) done x (z ∷ zs) y ys parts ends) in
+blocked_stays c n at gs g h there on far before le done x [] y ys pieces starts ends = absurd (omega (arith, starts, ends, far))
+blocked_stays c n at gs g h there on far before le done x (z ∷ zs) y ys pieces starts ends =
+    let same = item_seen gs at g y there (seen_mark n at (strip gs) done x (z ∷ zs) y ys pieces ends) in
     let sides = length-append done (x ∷ []) in
     let index : length (done ++ x ∷ []) + length zs ≡ at - 1 = omega (arith, sides, ends) in
-    let seam : (done ++ x ∷ []) ++ z ∷ (zs ++ y ∷ ys) ≡ strip gs = append_assoc done (x ∷ []) (z ∷ (zs ++ y ∷ ys)) ∙ sym parts in
+    let seam : (done ++ x ∷ []) ++ z ∷ (zs ++ y ∷ ys) ≡ strip gs = append_assoc done (x ∷ []) (z ∷ (zs ++ y ∷ ys)) ∙ sym pieces in
     let last : slice_get (strip gs) (at - 1) ≡ Some (item_of h) = slice_get-map item_of gs (at - 1) ∙ ap (option_map item_of) before in
     let class : last_class (mark_class z) zs ≡ mark_class (item_of h) = last_before (done ++ x ∷ []) z zs (y ∷ ys) (item_of h) (ap₂ slice_get seam index ∙ last) in
     let own : mark_class (item_of g) ≡ mark_class y = ap mark_class same in
@@ -71,9 +71,9 @@ none_there (Some x) e = absurd (let bad = e in cc)
 pub uncomposed_stays : (c : Normalizer) (n at : ℕ) (gs : List hb_glyph_info_t) (f g : hb_glyph_info_t) (o : Option (ℕ × ℕ)) → slice_get gs n ≡ Some f → slice_get gs at ≡ Some g
     → become c (item_of f) o ≡ option_and_then (becoming c (item_of f)) (c.composes f.glyph_id g.glyph_id) → is_some o ≡ false → StaysApart c n at (strip gs)
 unfolding composite
-uncomposed_stays c n at gs f g o first there is none done x between y ys parts starts ends =
-    let same = item_seen gs at g y there (seen_mark n at (strip gs) done x between y ys parts ends) in
-    let starter = item_seen gs n f x first (seen_starter n (strip gs) done x (between ++ y ∷ ys) parts starts) in
+uncomposed_stays c n at gs f g o first there is none done x between y ys pieces starts ends =
+    let same = item_seen gs at g y there (seen_mark n at (strip gs) done x between y ys pieces ends) in
+    let starter = item_seen gs n f x first (seen_starter n (strip gs) done x (between ++ y ∷ ys) pieces starts) in
     let nothing : option_and_then (becoming c x) (c.composes x.number y.number) ≡ None =
     sym (ap₂ (λ (a b : Item). option_and_then (becoming c a) (c.composes a.number b.number)) starter same) ∙ sym is ∙ ap (become c (item_of f)) (none_there o none) in
     by_test (is_mark y && is_not_blocked between y) nothing
@@ -86,7 +86,7 @@ uncomposed_stays c n at gs f g o first there is none done x between y ys parts s
 
 pub search_begun : (c : Normalizer) (gs : List hb_glyph_info_t) → length gs ≢ 0 → IsUncomposed c 1 0 (strip gs)
 search_begun c [] some = absurd (some refl)
-search_begun c (g ∷ gs) some = record { done = []; x = item_of g; between = []; ys = strip gs; parts = refl; starts = refl; ends = refl; whole = refl }
+search_begun c (g ∷ gs) some = record { done = []; x = item_of g; between = []; ys = strip gs; pieces = refl; starts = refl; ends = refl; whole = refl }
 
 pub starter_before : (c : Normalizer) (at n : ℕ) (xs : List Item) → IsUncomposed c at n xs → n < at
 starter_before c at n xs w = let starts = w.starts in let ends = w.ends in omega (arith, starts, ends)
@@ -97,14 +97,14 @@ search_more c at n m xs lt w stays next = by_case w.ys refl
   where
     by_case : (zs : List Item) → w.ys ≡ zs → IsUncomposed c (at + 1) m xs
     by_case [] e =
-        let all = ap length (w.parts ∙ ap (λ zs. w.done ++ w.x ∷ (w.between ++ zs)) e ∙ ap (λ zs. w.done ++ w.x ∷ zs) (append-nil w.between)) in
+        let all = ap length (w.pieces ∙ ap (λ zs. w.done ++ w.x ∷ (w.between ++ zs)) e ∙ ap (λ zs. w.done ++ w.x ∷ zs) (append-nil w.between)) in
         let sides = length-append w.done (w.x ∷ w.between) in
         let ends = w.ends in
         absurd (omega (arith, all, sides, ends, lt))
     by_case (y ∷ ys) e = by_class (mark_class y == 0) refl
       where
         seam : xs ≡ w.done ++ w.x ∷ (w.between ++ y ∷ ys)
-        seam = w.parts ∙ ap (λ zs. w.done ++ w.x ∷ (w.between ++ zs)) e
+        seam = w.pieces ∙ ap (λ zs. w.done ++ w.x ∷ (w.between ++ zs)) e
 
         starter : m ≡ (if mark_class y == 0 then at else n)
         starter = next y (seen_mark n at xs w.done w.x w.between y ys seam w.ends)
@@ -118,7 +118,7 @@ search_more c at n m xs lt w stays next = by_case w.ys refl
           x = y;
           between = [];
           ys = ys;
-          parts = seam ∙ sym (append_assoc w.done (w.x ∷ w.between) (y ∷ ys));
+          pieces = seam ∙ sym (append_assoc w.done (w.x ∷ w.between) (y ∷ ys));
           starts = let sides = length-append w.done (w.x ∷ w.between) in let ends = w.ends in let is = starter ∙ cond-true _ _ _ t in omega (arith, sides, ends, is);
           ends = let sides = length-append w.done (w.x ∷ w.between) in let ends = w.ends in omega (arith, sides, ends);
           whole = passed ∙ cond-true _ _ _ t;
@@ -128,7 +128,7 @@ search_more c at n m xs lt w stays next = by_case w.ys refl
           x = w.x;
           between = w.between ++ y ∷ [];
           ys = ys;
-          parts = seam ∙ ap (λ zs. w.done ++ w.x ∷ zs) (sym (append_assoc w.between (y ∷ []) ys));
+          pieces = seam ∙ ap (λ zs. w.done ++ w.x ∷ zs) (sym (append_assoc w.between (y ∷ []) ys));
           starts = w.starts ∙ sym (starter ∙ cond-false _ _ _ t);
           ends = let sides = length-append w.between (y ∷ []) in let ends = w.ends in omega (arith, sides, ends);
           whole = passed ∙ cond-false _ _ _ t;
@@ -139,11 +139,11 @@ search_done c at n xs le w = by_case w.ys refl
   where
     by_case : (zs : List Item) → w.ys ≡ zs → composed_list c xs ≡ eventless_arrangement xs
     by_case (y ∷ ys) e =
-        let all = ap length (w.parts ∙ ap (λ zs. w.done ++ w.x ∷ (w.between ++ zs)) e ∙ sym (append_assoc w.done (w.x ∷ w.between) (y ∷ ys))) in
+        let all = ap length (w.pieces ∙ ap (λ zs. w.done ++ w.x ∷ (w.between ++ zs)) e ∙ sym (append_assoc w.done (w.x ∷ w.between) (y ∷ ys))) in
         let sides = length-append (w.done ++ w.x ∷ w.between) (y ∷ ys) in
         let front = length-append w.done (w.x ∷ w.between) in
         let ends = w.ends in
         absurd (omega (arith, all, sides, front, ends, le))
     by_case [] e =
         w.whole ∙ ap (composition_from c w.done w.x w.between) e
-        ∙ ap eventless_arrangement (sym (w.parts ∙ ap (λ zs. w.done ++ w.x ∷ (w.between ++ zs)) e ∙ ap (λ zs. w.done ++ w.x ∷ zs) (append-nil w.between)))
+        ∙ ap eventless_arrangement (sym (w.pieces ∙ ap (λ zs. w.done ++ w.x ∷ (w.between ++ zs)) e ∙ ap (λ zs. w.done ++ w.x ∷ zs) (append-nil w.between)))

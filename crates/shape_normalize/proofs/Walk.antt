@@ -55,7 +55,7 @@ pub composing_begun : (c : Normalizer) (at n count : ℕ) (s p : Sides) → HasR
 composing_begun c at n count s p room front len lt w next kept =
     let ends = w.ends in
     let met : length (w.done ++ w.x ∷ w.between) ≡ at = let sides = length-append w.done (w.x ∷ w.between) in omega (arith, sides, ends) in
-    let seam : strip s.ahead ≡ (w.done ++ w.x ∷ w.between) ++ w.ys = w.parts ∙ sym (append_assoc w.done (w.x ∷ w.between) w.ys) in
+    let seam : strip s.ahead ≡ (w.done ++ w.x ∷ w.between) ++ w.ys = w.pieces ∙ sym (append_assoc w.done (w.x ∷ w.between) w.ys) in
     record {
       done = w.done;
       x = w.x;

@@ -11,7 +11,7 @@ use Rattle.buffer_properties.specs.declared.normal_mode.Reach.{Reach}
 use Rattle.buffer_properties.specs.declared.normal_mode.Reach.TheVariants.{Least, Greatest}
 use Rattle.buffer_stages.specs.Stages.{Becomes}
 
--- so many items as they are, and the expansion of those after them
+-- the first n items as they are, and the expansion of those after them
 abbrev pub expansion_after : Normalizer → ℕ → List Item → Arrangement
 expansion_after c n xs = beside (eventless_arrangement (take n xs)) (expanded_list c (drop n xs))
 
@@ -40,13 +40,13 @@ glyph_with_own c g = record g { glyph_index = unwrap_or (c.glyph_of g.glyph_id) 
 abbrev pub glyph_with_index : ℕ → hb_glyph_info_t → hb_glyph_info_t
 glyph_with_index n g = record g { glyph_index = n }
 
--- so many items got the font's glyphs of their characters; nothing else changed, and they are what they expand to
+-- the first n items got the font's glyphs of their characters; nothing else changed, and they are what they expand to
 pub record TakesGlyphs (c : Normalizer) (n : ℕ) (old new : List hb_glyph_info_t) : Type 0 where
   pub expanded : expanded_list c (strip old) ≡ expansion_after c n (strip new)
   pub origins : origins new ≡ origins old
   pub within : n ≤ length new
 
--- so many of a buffer's items got the font's glyphs of their characters; nothing else changed, and they are what they
+-- the first n of a buffer's items got the font's glyphs of their characters; nothing else changed, and they are what they
 -- expand to
 pub record TakesFront (c : Normalizer) (n : ℕ) (old new : Sides) : Type 0 where
   pub expanded : expanded_list c (items_of old) ≡ expansion_after c n (items_of new)

@@ -7,13 +7,13 @@ use Rattle.buffer_core.specs.Merging.{with_glyph_skipped}
 use Rattle.buffer_properties.specs.Normalizer.{Normalizer}
 
 -- the glyph record of a half of a decomposed character
-abbrev pub part_glyph : Normalizer → hb_glyph_info_t → ℕ → hb_glyph_info_t
-part_glyph c g u = record g { glyph_id = u; glyph_index = unwrap_or (c.glyph_of u) 0; unicode_props = record { 0 = properties_of u }; modified_combining_class = character_class c.tables u }
+abbrev pub piece_glyph : Normalizer → hb_glyph_info_t → ℕ → hb_glyph_info_t
+piece_glyph c g u = record g { glyph_id = u; glyph_index = unwrap_or (c.glyph_of u) 0; unicode_props = record { 0 = properties_of u }; modified_combining_class = character_class c.tables u }
 
 -- the glyph records of the characters that replace one
-abbrev pub part_glyphs : Normalizer → List ℕ → Option hb_glyph_info_t → List hb_glyph_info_t
-part_glyphs c us None = []
-part_glyphs c us (Some g) = map (part_glyph c g) us
+abbrev pub piece_glyphs : Normalizer → List ℕ → Option hb_glyph_info_t → List hb_glyph_info_t
+piece_glyphs c us None = []
+piece_glyphs c us (Some g) = map (piece_glyph c g) us
 
 -- the glyph at the cursor replaced by another one, over which the cursor moved
 abbrev pub with_glyph_replaced : hb_glyph_info_t → Sides → Sides
@@ -27,7 +27,7 @@ with_current_read false s = s
 -- characters of the current glyph were appended to the output, with which it was read where these are its last ones;
 -- nothing else changes but whether the output is apart
 abbrev pub HasHalvesOutput : Normalizer → List ℕ → Bool → Sides → Sides → Type 0
-HasHalvesOutput c us last old new = new ≡ with_current_read last (record old { behind = old.behind ++ part_glyphs c us (slice_get old.ahead 0); is_apart = new.is_apart })
+HasHalvesOutput c us last old new = new ≡ with_current_read last (record old { behind = old.behind ++ piece_glyphs c us (slice_get old.ahead 0); is_apart = new.is_apart })
 
 -- characters were appended to the output, if there are any, and the call returns whether there were
 abbrev pub Puts : Normalizer → Option (List ℕ) → Bool → Bool → Sides → Sides → Type 0

@@ -22,11 +22,11 @@ HasOwn c xs = map (with_own_glyph c) xs ≡ xs
 abbrev pub is_kept : Normalizer → Reach → Item → Bool
 is_kept c reach x = not (x.glyph_index == 0) && (not (is_selector x) && is_undecomposed reach (c.splits x.number))
 
--- how far the items of a group of so many are decomposed
+-- how far the items of a group of n are decomposed
 abbrev pub group_reach : Normalizer → ℕ → Reach
 group_reach c n = if n == 1 then reach_alone c.mode else reach_with_marks c.mode
 
--- so many items are what they expand to, if they have the font's glyphs
+-- the first n items are what they expand to, if they have the font's glyphs
 pub record Keeps (c : Normalizer) (n : ℕ) (xs : List Item) : Type 0 where
   pub within : n ≤ length xs
   pub expanded : HasOwn c xs → expanded_list c xs ≡ expansion_after c n xs

@@ -55,7 +55,7 @@ pub record IsUncomposed (c : Normalizer) (at n : ℕ) (xs : List Item) : Type 0 
   pub x : Item
   pub between : List Item
   pub ys : List Item
-  pub parts : xs ≡ done ++ x ∷ (between ++ ys)
+  pub pieces : xs ≡ done ++ x ∷ (between ++ ys)
   pub starts : length done ≡ n
   pub ends : length done + 1 + length between ≡ at
   pub whole : composed_list c xs ≡ composition_from c done x between ys

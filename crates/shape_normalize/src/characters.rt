@@ -6,7 +6,7 @@ ghost use Rattle.buffer_glyphs.specs.Items.{item_of};
 ghost use Rattle.buffer_glyphs.specs.Origins.{origin_of};
 ghost use Rattle.buffer_properties.specs.Properties.{without_bits};
 ghost use Rattle.buffer_unicode.specs.Character.{space_fallback_of};
-ghost use Rattle.shape_normalize.specs.Glyphs.{part_glyph};
+ghost use Rattle.shape_normalize.specs.Glyphs.{piece_glyph};
 
 use crate::normalizing::Normalizing;
 use buffer_glyphs::flags::UnicodeProps;
@@ -59,14 +59,14 @@ fn space_fallback(u: u32) -> u8
 }
 
 /// A glyph record of a half of a character's decomposition, with the font's glyph.
-pub(crate) fn part_of<N: Normalizing>(
+pub(crate) fn piece_of<N: Normalizing>(
     by: &N,
     info: &hb_glyph_info_t,
     u: char,
     glyph: u32,
 ) -> hb_glyph_info_t
     requires { (N.normalizer by.now).glyph_of u ≡ Some glyph }
-    ensures { result ≡ part_glyph (N.normalizer by.now) info.now u }
+    ensures { result ≡ piece_glyph (N.normalizer by.now) info.now u }
 {
     hb_glyph_info_t {
         glyph_id: u32::from(u),

@@ -1,6 +1,6 @@
 //! The first round: decomposes characters, and combines variation selectors with the character before them
 //! (rustybuzz: hb/ot_shape_normalize.rs).
-ghost use Rattle.std.specs.Prelude.{◌≡◌, ◌<◌, ◌≤◌, ◌+◌, ◌++◌, ◌∷◌, [], List, false, length, map, take, true, Some, IfOk, IfErr, OnOk};
+ghost use Rattle.std.specs.Prelude.{◌≡◌, ◌<◌, ◌≤◌, ◌+◌, ◌++◌, ◌∷◌, [], List, length, map, take, true, Some, IfOk, IfErr, OnOk};
 ghost use Rattle.std.specs.List.{list_any};
 ghost use Rattle.buffer_glyphs.specs.Items.{Item, strip};
 ghost use Rattle.buffer_glyphs.specs.Rewriting.{in_turn};
@@ -12,8 +12,9 @@ ghost use Rattle.buffer_stages.specs.Appending.{AppendsArrangement, RefusesRoomF
 ghost use Rattle.shape_normalize.specs.KeptRuns.{Advances, HasOwn};
 ghost use Rattle.shape_normalize.specs.Walking.{Groups, GroupsTooMany};
 ghost use Rattle.shape_normalize.specs.Glyphs.{HasHalvesOutput, Puts, count_of};
+ghost use Rattle.buffer_core.specs.Sides.{HasCurrent};
 
-use crate::characters::{is_selector, part_of, whole_of};
+use crate::characters::{is_selector, piece_of, whole_of};
 use crate::kept_runs::{count_marks, give_ahead, kept_run};
 use crate::normalizing::Normalizing;
 use crate::outputting::output_replacement;
@@ -24,24 +25,23 @@ use buffer_properties::{NormalizationMode, Reach};
 
 /// Appends a character to the output, with the font's glyph for it; the last one that replaces the current character is
 /// put in its place.
-fn put_part<N: Normalizing>(
+fn put_piece<N: Normalizing>(
     by: &N,
     u: char,
     glyph: u32,
     is_last: bool,
     buffer: &mut hb_buffer_t,
 ) -> Result<(), ShapeCause>
-    requires open { buffer.old.is_open ≡ true }
-    requires there { 0 < length buffer.old.ahead }
+    requires current { HasCurrent buffer.old }
     requires glyph { (N.normalizer by.now).glyph_of u ≡ Some glyph }
     ensures ok { OnOk result (HasHalvesOutput (N.normalizer by.now) (u ∷ []) is_last buffer.old buffer.new) }
     ensures err { IfErr result (λ e. RefusesRoomFor 1 e buffer.old) }
 {
-    let part = part_of(by, buffer.cur(0), u, glyph);
+    let piece = piece_of(by, buffer.cur(0), u, glyph);
     if is_last {
-        return output_replacement(part, buffer);
+        return output_replacement(piece, buffer);
     }
-    if !buffer.output_info(part)? {
+    if !buffer.output_info(piece)? {
         return Err(ShapeCause::TooLong);
     }
     Ok(())
@@ -54,8 +54,7 @@ fn put_alone<N: Normalizing>(
     is_last: bool,
     buffer: &mut hb_buffer_t,
 ) -> Result<bool, ShapeCause>
-    requires open { buffer.old.is_open ≡ true }
-    requires there { 0 < length buffer.old.ahead }
+    requires current { HasCurrent buffer.old }
     ensures ok { IfOk result (λ b. Puts (N.normalizer by.now) (alone (has_character (N.normalizer by.now)) u)
         is_last b buffer.old buffer.new) }
     ensures err { IfErr result (λ e. RefusesRoomFor (count_of (alone (has_character (N.normalizer by.now)) u))
@@ -64,7 +63,7 @@ fn put_alone<N: Normalizing>(
     let Some(glyph) = by.glyph(u as u32) else {
         return Ok(false);
     };
-    put_part(by, u, glyph, is_last, buffer)?;
+    put_piece(by, u, glyph, is_last, buffer)?;
     Ok(true)
 }
 
@@ -80,8 +79,7 @@ fn put_supported<N: Normalizing>(
     is_last: bool,
     buffer: &mut hb_buffer_t,
 ) -> Result<bool, ShapeCause>
-    requires open { buffer.old.is_open ≡ true }
-    requires there { 0 < length buffer.old.ahead }
+    requires current { HasCurrent buffer.old }
     ensures ok { IfOk result (λ b. Puts (N.normalizer by.now)
         (supported_expansion reach (has_character (N.normalizer by.now)) (N.normalizer by.now).splits depth u)
         is_last b buffer.old buffer.new) }
@@ -96,10 +94,10 @@ fn put_supported<N: Normalizing>(
             if put_alone(by, u, is_last, buffer)? {
                 return Ok(true);
             }
-            put_in_parts(by, reach, depth - 1, u as u32, is_last, buffer)
+            put_in_pieces(by, reach, depth - 1, u as u32, is_last, buffer)
         }
         Reach::Greatest => {
-            if put_in_parts(by, reach, depth - 1, u as u32, is_last, buffer)? {
+            if put_in_pieces(by, reach, depth - 1, u as u32, is_last, buffer)? {
                 return Ok(true);
             }
             put_alone(by, u, is_last, buffer)
@@ -109,8 +107,8 @@ fn put_supported<N: Normalizing>(
 
 /// Appends the two halves of a decomposition, if the font has them; the first is decomposed at most `depth` times.
 #[cycle(expand)]
-#[tactic(auto, using(crate::proofs::Parts::two_parts, crate::proofs::Parts::no_second))]
-fn put_in_parts<N: Normalizing>(
+#[tactic(auto, using(crate::proofs::Parts::two_pieces, crate::proofs::Parts::no_second))]
+fn put_in_pieces<N: Normalizing>(
     by: &N,
     reach: Reach,
     depth: u32,
@@ -118,8 +116,7 @@ fn put_in_parts<N: Normalizing>(
     is_last: bool,
     buffer: &mut hb_buffer_t,
 ) -> Result<bool, ShapeCause>
-    requires open { buffer.old.is_open ≡ true }
-    requires there { 0 < length buffer.old.ahead }
+    requires current { HasCurrent buffer.old }
     ensures ok { IfOk result (λ b. Puts (N.normalizer by.now)
         (by_supported (has_character (N.normalizer by.now))
         (supported_expansion reach (has_character (N.normalizer by.now)) (N.normalizer by.now).splits depth)
@@ -140,7 +137,7 @@ fn put_in_parts<N: Normalizing>(
     if !put_supported(by, reach, depth, first, false, buffer)? {
         return Ok(false);
     }
-    put_part(by, second, glyph, is_last, buffer)?;
+    put_piece(by, second, glyph, is_last, buffer)?;
     Ok(true)
 }
 
@@ -154,8 +151,7 @@ fn put_expansion<N: Normalizing>(
     has: bool,
     buffer: &mut hb_buffer_t,
 ) -> Result<bool, ShapeCause>
-    requires open { buffer.old.is_open ≡ true }
-    requires there { 0 < length buffer.old.ahead }
+    requires current { HasCurrent buffer.old }
     requires known { has ≡ has_character (N.normalizer by.now) u }
     ensures ok { IfOk result (λ b. Puts (N.normalizer by.now)
         (expansion reach (has_character (N.normalizer by.now)) (N.normalizer by.now).splits u)
@@ -168,9 +164,9 @@ fn put_expansion<N: Normalizing>(
             if has {
                 return Ok(false);
             }
-            put_in_parts(by, Reach::Least, 8, u, true, buffer)
+            put_in_pieces(by, Reach::Least, 8, u, true, buffer)
         }
-        Reach::Greatest => put_in_parts(by, Reach::Greatest, 8, u, true, buffer),
+        Reach::Greatest => put_in_pieces(by, Reach::Greatest, 8, u, true, buffer),
     }
 }
 
@@ -180,8 +176,7 @@ fn expand_current<N: Normalizing>(
     reach: Reach,
     buffer: &mut hb_buffer_t,
 ) -> Result<(), ShapeCause>
-    requires open { buffer.old.is_open ≡ true }
-    requires there { 0 < length buffer.old.ahead }
+    requires current { HasCurrent buffer.old }
     ensures ok { OnOk result ((x : Item) (xs : List Item) → strip buffer.old.ahead ≡ x ∷ xs
         → AppendsArrangement (item_expansion (N.normalizer by.now) reach x) xs buffer.old buffer.new) }
     ensures err { IfErr result (λ e. (x : Item) (xs : List Item) → strip buffer.old.ahead ≡ x ∷ xs
@@ -254,6 +249,7 @@ fn expand_group<N: Normalizing>(
         expand_current(by, reach_alone(by.mode()), buffer)?;
         return Ok(());
     }
+    // The number of glyphs bounds `marks + 1`.
     let _end = buffer.len();
     let count = marks + 1;
     if has_selector(count, buffer) {
@@ -282,8 +278,7 @@ fn has_selector(count: usize, buffer: &hb_buffer_t) -> bool
 /// decompositions.
 #[tactic(auto, using(crate::proofs::Advance::run_too_many))]
 fn expand_next<N: Normalizing>(by: &N, buffer: &mut hb_buffer_t) -> Result<(), ShapeCause>
-    requires open { buffer.old.is_open ≡ true }
-    requires there { 0 < length buffer.old.ahead }
+    requires current { HasCurrent buffer.old }
     requires given { HasOwn (N.normalizer by.now) (strip buffer.old.ahead) }
     ensures ok { OnOk result (Advances (N.normalizer by.now) buffer.old buffer.new) }
     ensures err { IfErr result (λ e. RefusesRoomFor (length (expanded_list (N.normalizer by.now)

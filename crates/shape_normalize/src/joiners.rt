@@ -44,6 +44,7 @@ fn show_joiner(before: u8, i: usize, buffer: &mut hb_buffer_t) -> u8
     requires there { i + 1 < length buffer.old.ahead }
     ensures { ShowsAt before i result buffer.old buffer.new }
 {
+    // The number of glyphs bounds `i + 1`.
     let _count = buffer.len();
     let glyph = *buffer.cur(i);
     let class = mark_class(&glyph);

@@ -1,5 +1,5 @@
 //! The first round's runs of characters that stay whole, which are passed at once (rustybuzz:
-//! hb/ot_shape_normalize.rs).
+//! hb/ot_shape_normalize.rs). This only saves time: each of them would be output as it is.
 ghost use Rattle.std.specs.Prelude.{◌≡◌, ◌<◌, ◌≤◌, ◌+◌, true, length, map, take, drop, slice_get, if◌then◌else◌, Some};
 ghost use Rattle.std.specs.List.{list_all, prefix_len};
 ghost use Rattle.buffer_core.specs.Lending.{with_glyph_ahead};
@@ -53,8 +53,8 @@ pub(crate) fn count_marks(from: usize, buffer: &hb_buffer_t) -> usize
     end - from
 }
 
-/// Whether a character with the font's glyph, or glyph 0, stays whole; one that the font lacks, or has as glyph 0, is
-/// left to be looked at alone, as are selectors.
+/// Whether a character that was given the font's glyph, or glyph 0, is known to stay whole. One that the font lacks, or
+/// has as glyph 0, is not, and neither is a selector: these are looked at alone.
 fn is_kept<N: Normalizing>(by: &N, reach: Reach, glyph: &hb_glyph_info_t) -> bool
     ensures { result ≡ is_kept (N.normalizer by.now) reach (item_of glyph.now) }
 {
@@ -94,7 +94,8 @@ fn group_reach<N: Normalizing>(by: &N, count: usize) -> Reach
     }
 }
 
-/// How many characters the group at an index has, a character and the marks after it, if all stay whole, or 0.
+/// How many characters the group at an index has, a character and the marks after it; 0 where one of them may not stay
+/// whole.
 fn kept_group<N: Normalizing>(by: &N, at: usize, buffer: &hb_buffer_t) -> usize
     requires { at < length buffer.now.ahead }
     ensures { Keeps (N.normalizer by.now) result (drop at (strip buffer.now.ahead)) }

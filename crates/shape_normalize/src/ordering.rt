@@ -113,6 +113,7 @@ fn arrange_next<N: Normalizing>(
     ensures ok { IfOk result (λ n. Meets (N.normalizer by.now).reorders start i n buffer.old buffer.new) }
     ensures err { IfErr result (λ e. e ≡ ShapeCause.OutOfMemory) }
 {
+    // The number of glyphs bounds `i + 1`.
     let _count = buffer.len();
     let glyph = item_at(i, buffer);
     if mark_class(&glyph) != 0 {

@@ -1,7 +1,8 @@
 //! Replaces the character at the cursor by another one with its glyph (rustybuzz: hb/ot_shape_normalize.rs).
-ghost use Rattle.std.specs.Prelude.{◌≡◌, ◌<◌, true, length, IfErr, OnOk};
+ghost use Rattle.std.specs.Prelude.{◌≡◌, ◌<◌, IfErr, OnOk};
 ghost use Rattle.buffer_stages.specs.Appending.{RefusesRoomFor};
 ghost use Rattle.shape_normalize.specs.Glyphs.{with_glyph_replaced};
+ghost use Rattle.buffer_core.specs.Sides.{HasCurrent};
 
 use crate::composing::write_ahead;
 use buffer_core::buffer::hb_buffer_t;
@@ -15,8 +16,7 @@ pub(crate) fn output_replacement(
     info: hb_glyph_info_t,
     buffer: &mut hb_buffer_t,
 ) -> Result<(), ShapeCause>
-    requires open { buffer.old.is_open ≡ true }
-    requires there { 0 < length buffer.old.ahead }
+    requires current { HasCurrent buffer.old }
     ensures ok { OnOk result (buffer.new ≡ with_glyph_replaced info buffer.old) }
     ensures err { IfErr result (λ e. RefusesRoomFor 1 e buffer.old) }
 {

@@ -1,6 +1,7 @@
 //! Characters followed by variation selectors, handle_variation_selector_cluster (rustybuzz: hb/ot_shape_normalize.rs).
 ghost use Rattle.std.specs.Prelude.{◌≡◌, ◌<◌, ◌++◌, ◌∷◌, [], List, true, false, if◌then◌else◌, length, is_some, Some, None, IfOk, IfErr, OnOk};
 ghost use Rattle.buffer_core.specs.Lending.{with_glyph_ahead};
+ghost use Rattle.buffer_core.specs.Sides.{HasCurrent};
 ghost use Rattle.buffer_glyphs.specs.Items.{Item, strip};
 ghost use Rattle.buffer_glyphs.specs.Rewriting.{in_turn, replacement};
 ghost use Rattle.buffer_properties.specs.Characters.{unjoined_selector, with_glyph};
@@ -18,8 +19,7 @@ use buffer_glyphs::info::hb_glyph_info_t;
 /// Outputs the current character, with the font's glyph or glyph 0.
 #[tactic(auto, using(crate::proofs::Put::placed_brought))]
 fn put_unexpanded<N: Normalizing>(by: &N, buffer: &mut hb_buffer_t) -> Result<(), ShapeCause>
-    requires open { buffer.old.is_open ≡ true }
-    requires there { 0 < length buffer.old.ahead }
+    requires current { HasCurrent buffer.old }
     ensures ok { OnOk result ((x : Item) (xs : List Item) → strip buffer.old.ahead ≡ x ∷ xs
         → AppendsArrangement (unexpanded_item (N.normalizer by.now) x) xs buffer.old buffer.new) }
     ensures err { IfErr result (λ e. RefusesRoomFor 1 e buffer.old) }
@@ -31,8 +31,7 @@ fn put_unexpanded<N: Normalizing>(by: &N, buffer: &mut hb_buffer_t) -> Result<()
 
 /// Outputs the current selector, which the font doesn't combine with the character before it.
 fn put_unjoined<N: Normalizing>(by: &N, buffer: &mut hb_buffer_t) -> Result<(), ShapeCause>
-    requires open { buffer.old.is_open ≡ true }
-    requires there { 0 < length buffer.old.ahead }
+    requires current { HasCurrent buffer.old }
     ensures ok { OnOk result ((x : Item) (xs : List Item) → strip buffer.old.ahead ≡ x ∷ xs
         → AppendsArrangement (unexpanded_item (N.normalizer by.now)
         (unjoined_selector (is_some (N.normalizer by.now).unjoined_glyph) x)) xs buffer.old buffer.new) }
@@ -111,8 +110,7 @@ fn put_selected<N: Normalizing>(by: &N, buffer: &mut hb_buffer_t) -> Result<(), 
 
 /// Handles the current character while no character is pending.
 fn select_first<N: Normalizing>(by: &N, buffer: &mut hb_buffer_t) -> Result<bool, ShapeCause>
-    requires open { buffer.old.is_open ≡ true }
-    requires there { 0 < length buffer.old.ahead }
+    requires current { HasCurrent buffer.old }
     ensures ok { IfOk result (λ b. Selects (N.normalizer by.now) false b buffer.old buffer.new) }
     ensures err { IfErr result (λ e. SelectsTooMany (N.normalizer by.now) false e buffer.old) }
 {

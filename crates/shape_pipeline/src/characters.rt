@@ -1,10 +1,8 @@
 //! The pipeline stages on characters, up to normalizing (rustybuzz: hb/ot_shape.rs).
-ghost use Rattle.std.specs.Prelude.{◌≡◌, true};
 ghost use Rattle.buffer_core.specs.Readings.{always};
-ghost use Rattle.buffer_core.specs.Sides.{items_of};
 ghost use Rattle.buffer_stages.specs.Ready.{IsReady};
 ghost use Rattle.buffer_stages.specs.Stages.{DoesStage, IsFollowed};
-ghost use Rattle.shape_text.specs.Properties.{are_characters};
+ghost use Rattle.shape_text.specs.Properties.{HoldsCharacters};
 ghost use Rattle.shape_normalize.specs.Rounds.{normalization};
 ghost use Rattle.shape_pipeline.specs.Characters.{characters_chosen, normalizer, text_begun, turned_to_line};
 ghost use Rattle.shape_pipeline.specs.Shaping.{preprocessing_stage};
@@ -27,8 +25,7 @@ impl<S: hb_ot_shaper_t, P: SyllableSpans> ShapeStages<'_, S, P> {
     /// Begins shaping: sets limits, masks and the characters' properties, inserts a dotted circle before a mark, forms
     /// clusters, and puts the text in its script's direction.
     pub(crate) fn begin_text(&self, buffer: &mut hb_buffer_t) -> Result<(), ShapeCause>
-        requires ready { IsReady buffer.old }
-        requires characters { are_characters (items_of buffer.old) ≡ true }
+        requires characters { HoldsCharacters buffer.old }
         ensures { DoesStage (text_begun (⟦<Self as Shaped>⟧.shaping self.now buffer.old)) result buffer.old buffer.new }
     {
         buffer.enter();

@@ -1,9 +1,9 @@
 //! Shaping with a context, hb_ot_shape_context_t and shape_internal (rustybuzz: hb/ot_shape.rs).
-ghost use Rattle.std.specs.Prelude.{◌≡◌, ◌≢◌, Err, IfErr, OnOk, true, false};
+ghost use Rattle.std.specs.Prelude.{◌≡◌, ◌≢◌, Err, IfErr, OnOk, false};
 ghost use Rattle.buffer_core.specs.Readings.{Follows};
-ghost use Rattle.buffer_core.specs.Sides.{items_of, state_of};
+ghost use Rattle.buffer_core.specs.Sides.{state_of};
 ghost use Rattle.buffer_stages.specs.Settings.{text_settings};
-ghost use Rattle.shape_text.specs.Properties.{are_characters};
+ghost use Rattle.shape_text.specs.Properties.{IsUnshaped};
 ghost use Rattle.shape_pipeline.specs.Reading.{reading};
 ghost use Rattle.shape_pipeline.specs.Results.{IsResultOf};
 ghost use Rattle.shape_pipeline.specs.Shaped.{by_plan};
@@ -43,9 +43,7 @@ pub fn shape_internal<S: hb_ot_shaper_t, P: SyllableSpans, L: LanguageTags>(
     alloc: Global,
     ctx: &mut hb_ot_shape_context_t<'_, S, P, L>,
 ) -> Result<(), ShapeCause>
-    requires closed { ctx.old.buffer.now.is_open ≡ false }
-    requires unrefused { ctx.old.buffer.now.has_refused ≡ false }
-    requires characters { are_characters (items_of ctx.old.buffer.now) ≡ true }
+    requires unshaped { IsUnshaped ctx.old.buffer.now }
     requires target { ctx.old.plan.now.script_plan.direction ≡ ctx.old.target_direction }
     ensures same_reference { ctx.new.buffer.ghost_name ≡ ctx.old.buffer.ghost_name }
     ensures rest { ctx.new ≡ record ctx.old { buffer = ctx.new.buffer } }

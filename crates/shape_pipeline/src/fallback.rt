@@ -1,9 +1,7 @@
 //! The fallbacks of a font without rules, by a plan (rustybuzz: hb/ot_shape_fallback.rs).
-ghost use Rattle.std.specs.Prelude.{◌≡◌, true};
+ghost use Rattle.std.specs.Prelude.{◌≡◌};
 ghost use Rattle.buffer_core.specs.Readings.{always};
-ghost use Rattle.buffer_core.specs.Sides.{items_of};
-ghost use Rattle.buffer_stages.specs.Buffers.{are_glyphs};
-ghost use Rattle.buffer_stages.specs.Ready.{IsDone, IsReady};
+ghost use Rattle.buffer_stages.specs.Ready.{IsDone, IsReady, HoldsGlyphs};
 ghost use Rattle.buffer_stages.specs.Stages.{IsFollowed};
 ghost use Rattle.shape_fallback.specs.Classes.{with_fallback_classes};
 ghost use Rattle.shape_fallback.specs.Marks.{components_direction, with_positioned_marks};
@@ -37,8 +35,7 @@ pub fn position_marks<S: hb_ot_shaper_t>(
     buffer: &mut hb_buffer_t,
     adjust_offsets_when_zeroing: bool,
 )
-    requires ready { IsReady buffer.old }
-    requires numbers { are_glyphs (items_of buffer.old) ≡ true }
+    requires glyphs { HoldsGlyphs buffer.old }
     ensures { IsDone (always (with_positioned_marks face.now
         (components_direction plan.now.script_plan.direction plan.now.script_plan.script)
         adjust_offsets_when_zeroing)) buffer.old buffer.new }

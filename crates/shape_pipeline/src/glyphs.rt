@@ -3,7 +3,7 @@ ghost use Rattle.std.specs.Prelude.{◌≡◌, true};
 ghost use Rattle.buffer_core.specs.Readings.{always};
 ghost use Rattle.buffer_core.specs.Sides.{items_of};
 ghost use Rattle.buffer_stages.specs.Buffers.{are_glyphs};
-ghost use Rattle.buffer_stages.specs.Ready.{DoesGlyphStage, IsDone, IsReady};
+ghost use Rattle.buffer_stages.specs.Ready.{DoesGlyphStage, IsDone, IsReady, HoldsGlyphs};
 ghost use Rattle.layout_substitution.specs.Substituting.{substitution_stages};
 ghost use Rattle.buffer_stages.specs.Stages.{IsFollowed};
 ghost use Rattle.shape_fallback.specs.Classes.{with_fallback_classes};
@@ -59,8 +59,7 @@ impl<S: hb_ot_shaper_t, P: SyllableSpans> ShapeStages<'_, S, P> {
     }
 
     fn apply_substitutions(&self, buffer: &mut hb_buffer_t) -> Result<(), ShapeCause>
-        requires ready { IsReady buffer.old }
-        requires numbers { are_glyphs (items_of buffer.old) ≡ true }
+        requires glyphs { HoldsGlyphs buffer.old }
         ensures { DoesGlyphStage (substitution_stages self.now.face.now self.now.plan.now.script_plan.map (pauses_of
             (⟦<Self as Shaped>⟧.shaping self.now buffer.old))) result buffer.old buffer.new }
     {
@@ -69,8 +68,7 @@ impl<S: hb_ot_shaper_t, P: SyllableSpans> ShapeStages<'_, S, P> {
 
     /// Sets glyph classes, and applies the GSUB lookups with the shaper's pauses.
     pub(crate) fn substitute_glyphs(&self, buffer: &mut hb_buffer_t) -> Result<(), ShapeCause>
-        requires ready { IsReady buffer.old }
-        requires numbers { are_glyphs (items_of buffer.old) ≡ true }
+        requires glyphs { HoldsGlyphs buffer.old }
         ensures { DoesGlyphStage (glyphs_substituted (⟦<Self as Shaped>⟧.shaping self.now buffer.old)) result
             buffer.old buffer.new }
     {

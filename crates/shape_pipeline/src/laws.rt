@@ -61,7 +61,8 @@ pub fn law_texts_read_alike()
     law_runs_read_alike();
 }
 
-/// What is guessed of two such texts is the same.
+/// Two texts that differ only in their clusters, their cluster level and their requests for glyph flags get the same
+/// direction and script where these are guessed.
 #[tactic(auto, using(crate::proofs::Agreeing::guessed_alike))]
 pub fn law_guessed_texts_are_alike()
     ensures { GuessedTextsAreAlike }

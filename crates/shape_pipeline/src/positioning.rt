@@ -1,10 +1,8 @@
 //! The pipeline stages that position glyphs, position (rustybuzz: hb/ot_shape.rs).
-ghost use Rattle.std.specs.Prelude.{◌≡◌, ◌==◌, ◌&&◌, true};
+ghost use Rattle.std.specs.Prelude.{◌≡◌, ◌==◌, ◌&&◌};
 ghost use Rattle.buffer_common.specs.Direction.{is_forward};
 ghost use Rattle.buffer_core.specs.Readings.{always};
-ghost use Rattle.buffer_core.specs.Sides.{items_of};
-ghost use Rattle.buffer_stages.specs.Buffers.{are_glyphs};
-ghost use Rattle.buffer_stages.specs.Ready.{DoesGlyphStage, IsDone, IsReady};
+ghost use Rattle.buffer_stages.specs.Ready.{DoesGlyphStage, IsDone, IsReady, HoldsGlyphs};
 ghost use Rattle.buffer_stages.specs.Settings.{text_settings};
 ghost use Rattle.layout_positioning.specs.Positioning.{positioning_stages};
 ghost use Rattle.shape_glyphs.specs.Widths.{zero_widths};
@@ -115,8 +113,7 @@ impl<S: hb_ot_shaper_t, P: SyllableSpans> ShapeStages<'_, S, P> {
     /// Applies the GPOS lookups, if the plan uses them.
     #[tactic(auto, using(crate::proofs::Lemmas::Chains::acts_does, crate::proofs::Lemmas::Chains::rests_done))]
     fn position_by_lookups(&self, buffer: &mut hb_buffer_t) -> Result<(), ShapeCause>
-        requires ready { IsReady buffer.old }
-        requires numbers { are_glyphs (items_of buffer.old) ≡ true }
+        requires glyphs { HoldsGlyphs buffer.old }
         ensures { DoesGlyphStage (only_if self.now.plan.now.script_plan.choices.apply_gpos (positioning_stages
             self.now.face.now self.now.plan.now.script_plan.map (pauses_of
             (⟦<Self as Shaped>⟧.shaping self.now buffer.old)))) result buffer.old buffer.new }
@@ -138,8 +135,7 @@ impl<S: hb_ot_shaper_t, P: SyllableSpans> ShapeStages<'_, S, P> {
 
     /// Applies GPOS and fallback kerning, as the plan says.
     fn position_by_plan(&self, buffer: &mut hb_buffer_t) -> Result<(), ShapeCause>
-        requires ready { IsReady buffer.old }
-        requires numbers { are_glyphs (items_of buffer.old) ≡ true }
+        requires glyphs { HoldsGlyphs buffer.old }
         ensures { DoesGlyphStage (only_if self.now.plan.now.script_plan.choices.apply_gpos (positioning_stages
             self.now.face.now self.now.plan.now.script_plan.map (pauses_of
             (⟦<Self as Shaped>⟧.shaping self.now buffer.old)))) result buffer.old buffer.new }
@@ -151,8 +147,7 @@ impl<S: hb_ot_shaper_t, P: SyllableSpans> ShapeStages<'_, S, P> {
 
     /// Applies GPOS, and zeroes the advances of marks before or after it.
     fn adjust_positions(&self, buffer: &mut hb_buffer_t) -> Result<(), ShapeCause>
-        requires ready { IsReady buffer.old }
-        requires numbers { are_glyphs (items_of buffer.old) ≡ true }
+        requires glyphs { HoldsGlyphs buffer.old }
         ensures { DoesGlyphStage (positions_adjusted (⟦<Self as Shaped>⟧.shaping self.now buffer.old)) result
             buffer.old buffer.new }
     {
@@ -164,8 +159,7 @@ impl<S: hb_ot_shaper_t, P: SyllableSpans> ShapeStages<'_, S, P> {
 
     #[tactic(auto, using(crate::proofs::Placed::marks_done))]
     fn position_all_marks(&self, buffer: &mut hb_buffer_t)
-        requires ready { IsReady buffer.old }
-        requires numbers { are_glyphs (items_of buffer.old) ≡ true }
+        requires glyphs { HoldsGlyphs buffer.old }
         ensures { IsDone (always (marks_positioned (⟦<Self as Shaped>⟧.shaping self.now buffer.old))) buffer.old
             buffer.new }
     {
@@ -178,8 +172,7 @@ impl<S: hb_ot_shaper_t, P: SyllableSpans> ShapeStages<'_, S, P> {
     /// Positions marks by the extents of their bases, if the plan says so.
     #[tactic(auto, using(crate::proofs::Lemmas::Chains::acts_done, crate::proofs::Lemmas::Chains::rests_done))]
     fn position_marks_by_plan(&self, buffer: &mut hb_buffer_t)
-        requires ready { IsReady buffer.old }
-        requires numbers { are_glyphs (items_of buffer.old) ≡ true }
+        requires glyphs { HoldsGlyphs buffer.old }
         ensures { IsDone (only_if self.now.plan.now.script_plan.choices.fallback_mark_positioning (always
             (marks_positioned (⟦<Self as Shaped>⟧.shaping self.now buffer.old)))) buffer.old buffer.new }
     {
@@ -190,8 +183,7 @@ impl<S: hb_ot_shaper_t, P: SyllableSpans> ShapeStages<'_, S, P> {
 
     /// Adds the offsets of attached glyphs, positions marks by fallback, and puts the glyphs in visual order.
     fn end_positions(&self, buffer: &mut hb_buffer_t)
-        requires ready { IsReady buffer.old }
-        requires numbers { are_glyphs (items_of buffer.old) ≡ true }
+        requires glyphs { HoldsGlyphs buffer.old }
         ensures { IsDone (positions_ended (⟦<Self as Shaped>⟧.shaping self.now buffer.old)) buffer.old buffer.new }
     {
         zero_ignorables(buffer);
@@ -202,8 +194,7 @@ impl<S: hb_ot_shaper_t, P: SyllableSpans> ShapeStages<'_, S, P> {
 
     /// Positions the glyphs.
     pub(crate) fn position(&self, buffer: &mut hb_buffer_t) -> Result<(), ShapeCause>
-        requires ready { IsReady buffer.old }
-        requires numbers { are_glyphs (items_of buffer.old) ≡ true }
+        requires glyphs { HoldsGlyphs buffer.old }
         ensures { DoesGlyphStage (positioning_stage (⟦<Self as Shaped>⟧.shaping self.now buffer.old)) result
             buffer.old buffer.new }
     {

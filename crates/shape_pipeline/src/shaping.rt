@@ -1,11 +1,11 @@
-//! Shaping of a text, with a plan or without one.
-ghost use Rattle.std.specs.Prelude.{◌≡◌, ◌≢◌, Err, IfErr, IfOk, Ok, [], length, true, false};
+//! Shaping of a text, with a plan or without one (rustybuzz: hb/shape.rs, `shape`, `shape_with_plan`).
+ghost use Rattle.std.specs.Prelude.{◌≡◌, ◌≢◌, Err, IfErr, IfOk, Ok, [], length, false};
 ghost use Rattle.buffer_core.specs.Readings.{Follows};
 ghost use Rattle.buffer_core.specs.Segment.{after_guess_segment_properties};
 ghost use Rattle.buffer_core.specs.Settings.{after_leave};
-ghost use Rattle.buffer_core.specs.Sides.{all_glyphs, empty_buffer, items_of, state_of};
+ghost use Rattle.buffer_core.specs.Sides.{all_glyphs, empty_buffer, state_of};
 ghost use Rattle.buffer_stages.specs.Settings.{text_settings};
-ghost use Rattle.shape_text.specs.Properties.{are_characters};
+ghost use Rattle.shape_text.specs.Properties.{IsUnshaped};
 ghost use Rattle.shape_pipeline.specs.Budget.{budget_left};
 ghost use Rattle.shape_pipeline.specs.Results.{IsResultOf};
 ghost use Rattle.shape_pipeline.specs.Shaped.{by_plan, by_text, text_reading};
@@ -49,6 +49,7 @@ fn leave_empty(mut buffer: hb_buffer_t) -> GlyphBuffer
     ensures left { result ≡ after_leave buffer }
     ensures placed { length buffer.positions ≡ length (all_glyphs buffer) }
 {
+    // The result has as many positions as glyphs (`placed`), by the clauses of both calls.
     let is_placed = buffer.pos_slice().len() == buffer.len();
     prove!(is_placed);
     buffer.leave();
@@ -60,9 +61,7 @@ fn shape_guessed<'a, S: hb_ot_shaper_t, P: SyllableSpans>(
     stages: &ShapeStages<'a, S, P>,
     mut buffer: hb_buffer_t,
 ) -> Result<GlyphBuffer, ShapeFault>
-    requires closed { buffer.is_open ≡ false }
-    requires unrefused { buffer.has_refused ≡ false }
-    requires characters { are_characters (items_of buffer) ≡ true }
+    requires unshaped { IsUnshaped buffer }
     ensures ok { IfOk result (λ glyphs. Follows (text_reading
         (⟦<ShapeStages<'a, S, P> as Shaped>⟧.shaping stages.now buffer) (state_of buffer)) (state_of
         buffer) (state_of glyphs)) }

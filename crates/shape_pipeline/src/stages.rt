@@ -5,7 +5,7 @@ ghost use Rattle.buffer_core.specs.Sides.{items_of, state_of, settings_of};
 ghost use Rattle.buffer_stages.specs.Buffers.{are_glyphs};
 ghost use Rattle.buffer_stages.specs.Ready.{IsReady};
 ghost use Rattle.buffer_stages.specs.Stages.{DoesStage};
-ghost use Rattle.shape_text.specs.Properties.{are_characters};
+ghost use Rattle.shape_text.specs.Properties.{HoldsCharacters, IsUnshaped};
 ghost use Rattle.shape_pipeline.specs.Budget.{before_reset, budget_left};
 ghost use Rattle.shape_pipeline.specs.Reading.{after_ranges, before_ranges, reading};
 ghost use Rattle.shape_pipeline.specs.Results.{IsLeft, IsResultOf};
@@ -19,22 +19,22 @@ use script_plan::hb_ot_shaper_t;
 /// Moves the cursor to the start of the text.
 #[tactic(auto, using(crate::proofs::Whole::rewound_ready, crate::proofs::Whole::rewound_run))]
 fn rewind(buffer: &mut hb_buffer_t)
-    requires closed { buffer.old.is_open ≡ false }
-    requires unrefused { buffer.old.has_refused ≡ false }
+    requires unshaped { IsUnshaped buffer.old }
     ensures ready { IsReady buffer.new }
     ensures run { state_of buffer.new ≡ state_of buffer.old }
     ensures settings { settings_of buffer.new ≡ settings_of buffer.old }
 {
+    // A buffer that is ready has as many positions as glyphs, by the clauses of both calls.
     let is_placed = buffer.pos_slice().len() == buffer.len();
     prove!(is_placed);
+    // Without an output a move is never refused.
     let _moved = buffer.move_to(0);
 }
 
 impl<S: hb_ot_shaper_t, P: SyllableSpans> ShapeStages<'_, S, P> {
     /// Performs the pipeline stages before the masks of ranges.
     fn prepare_text(&self, buffer: &mut hb_buffer_t) -> Result<(), ShapeCause>
-        requires ready { IsReady buffer.old }
-        requires characters { are_characters (items_of buffer.old) ≡ true }
+        requires characters { HoldsCharacters buffer.old }
         ensures { DoesStage (before_ranges (⟦<Self as Shaped>⟧.shaping self.now buffer.old)) result buffer.old
             buffer.new }
     {
@@ -61,8 +61,7 @@ impl<S: hb_ot_shaper_t, P: SyllableSpans> ShapeStages<'_, S, P> {
 
     /// Performs all pipeline stages on a prepared buffer.
     fn shape_ready(&self, buffer: &mut hb_buffer_t) -> Result<(), ShapeCause>
-        requires ready { IsReady buffer.old }
-        requires characters { are_characters (items_of buffer.old) ≡ true }
+        requires characters { HoldsCharacters buffer.old }
         ensures ok { OnOk result (Follows (reading (⟦<Self as Shaped>⟧.shaping self.now buffer.old) (state_of
             buffer.old)) (state_of buffer.old) (state_of buffer.new)) }
         ensures handed_on { OnOk result (IsResultOf buffer.old buffer.new) }
@@ -81,9 +80,7 @@ impl<S: hb_ot_shaper_t, P: SyllableSpans> ShapeStages<'_, S, P> {
     /// reading. Each glyph has a number that a glyph can have; what was set for the text stays, and the direction is the plan's.
     /// It refuses by the reading's own cause, or for want of memory.
     pub(crate) fn shape_internal(&self, buffer: &mut hb_buffer_t) -> Result<(), ShapeCause>
-        requires closed { buffer.old.is_open ≡ false }
-        requires unrefused { buffer.old.has_refused ≡ false }
-        requires characters { are_characters (items_of buffer.old) ≡ true }
+        requires unshaped { IsUnshaped buffer.old }
         ensures ok { OnOk result (Follows (reading (⟦<Self as Shaped>⟧.shaping self.now buffer.old) (state_of
             buffer.old)) (state_of buffer.old) (state_of buffer.new)) }
         ensures handed_on { OnOk result (IsResultOf buffer.old buffer.new) }
@@ -110,8 +107,7 @@ impl<S: hb_ot_shaper_t, P: SyllableSpans> ShapeStages<'_, S, P> {
     }
 
     fn budget_left_of(&self, buffer: &mut hb_buffer_t) -> Result<i32, ShapeCause>
-        requires ready { IsReady buffer.old }
-        requires characters { are_characters (items_of buffer.old) ≡ true }
+        requires characters { HoldsCharacters buffer.old }
         ensures ok { IfOk result (λ left. budget_left (⟦<Self as Shaped>⟧.shaping self.now buffer.old) (state_of
             buffer.old) ≡ Ok left) }
         ensures err { IfErr result (λ e. e ≢ ShapeCause.OutOfMemory → budget_left
@@ -126,9 +122,7 @@ impl<S: hb_ot_shaper_t, P: SyllableSpans> ShapeStages<'_, S, P> {
     /// What shaping a text by the plan leaves of its budget of nested lookups, which `shape_internal` resets at its end. It
     /// refuses by the reading's own cause, or for want of memory. What is then in the buffer is of no use.
     pub(crate) fn budget_left(&self, buffer: &mut hb_buffer_t) -> Result<i32, ShapeCause>
-        requires closed { buffer.old.is_open ≡ false }
-        requires unrefused { buffer.old.has_refused ≡ false }
-        requires characters { are_characters (items_of buffer.old) ≡ true }
+        requires unshaped { IsUnshaped buffer.old }
         ensures ok { IfOk result (λ left. budget_left (⟦<Self as Shaped>⟧.shaping self.now buffer.old) (state_of
             buffer.old) ≡ Ok left) }
         ensures err { IfErr result (λ e. e ≢ ShapeCause.OutOfMemory → budget_left

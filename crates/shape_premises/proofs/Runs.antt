@@ -5,7 +5,7 @@ use Rattle.std.specs.List.{list_all, flat_map}
 use Rattle.std.specs.Prelude.{fold}
 use Rattle.std.proofs.lemmas.List.Folds.{list_all-append}
 use Rattle.buffer_unicode_tables.specs.Expansion.{Splits, expansion_by_splits}
-use Rattle.buffer_unicode_tables.proofs.Chains.{expanded_alone, expanded_at_zero, expanded_parts}
+use Rattle.buffer_unicode_tables.proofs.Chains.{expanded_alone, expanded_at_zero, expanded_pieces}
 use Rattle.buffer_properties.specs.Premises.{HasShortRuns}
 use Rattle.shape_premises.specs.Texts.{has_whole, is_in_font, run_after, run_grown, run_with_whole}
 use Rattle.buffer_unicode_tables.specs.Tables.{Tables, class_of}
@@ -25,10 +25,10 @@ run_ended class (Some n) = refl
 -- ---- the decomposition of a character
 
 expanded_first : (splits : Splits) (depth u a b : ℕ) → splits u ≡ Some (a, b) → depth ≢ 0 → b ≡ 0 → expansion_by_splits splits depth u ≡ expansion_by_splits splits (depth - 1) a
-expanded_first splits depth u a b s n absent = let at : (b == 0) ≡ true = eq-eqb b 0 absent in expanded_parts splits depth u a b s n ∙ rw at refl
+expanded_first splits depth u a b s n absent = let at : (b == 0) ≡ true = eq-eqb b 0 absent in expanded_pieces splits depth u a b s n ∙ rw at refl
 
 expanded_both : (splits : Splits) (depth u a b : ℕ) → splits u ≡ Some (a, b) → depth ≢ 0 → b ≢ 0 → expansion_by_splits splits depth u ≡ expansion_by_splits splits (depth - 1) a ++ b ∷ []
-expanded_both splits depth u a b s n present = let off : (b == 0) ≡ false = ne_eqb b 0 present in expanded_parts splits depth u a b s n ∙ rw off refl
+expanded_both splits depth u a b s n present = let off : (b == 0) ≡ false = ne_eqb b 0 present in expanded_pieces splits depth u a b s n ∙ rw off refl
 
 pub run_at_zero : (class : ℕ → ℕ) (splits : Splits) (depth u met : ℕ) → depth ≡ 0 → run_after class (Some met) (expansion_by_splits splits depth u) ≡ run_grown (class u) met
 run_at_zero class splits depth u met e = ap (run_after class (Some met)) (expanded_at_zero splits depth u e) ∙ run_ended class (run_grown (class u) met)
@@ -51,7 +51,7 @@ none_long class (u ∷ us) = refl
 
 pub run_long : (class : ℕ → ℕ) (splits : Splits) (depth u a b : ℕ) (met : Option ℕ) → splits u ≡ Some (a, b) → depth ≢ 0 → run_after class met (expansion_by_splits splits (depth - 1) a) ≡ None
     → run_after class met (expansion_by_splits splits depth u) ≡ None
-run_long class splits depth u a b met s n e = ap (run_after class met) (expanded_parts splits depth u a b s n) ∙ by_second (b == 0)
+run_long class splits depth u a b met s n e = ap (run_after class met) (expanded_pieces splits depth u a b s n) ∙ by_second (b == 0)
   where
     front : List ℕ
     front = expansion_by_splits splits (depth - 1) a
@@ -88,7 +88,7 @@ pub all_second : (p : ℕ → Bool) (splits : Splits) (depth u a b : ℕ) → sp
 all_second p splits depth u a b s n present = ap (list_all p) (expanded_both splits depth u a b s n present) ∙ all_both p (expansion_by_splits splits (depth - 1) a) b
 
 pub all_lacking : (p : ℕ → Bool) (splits : Splits) (depth u a b : ℕ) → splits u ≡ Some (a, b) → depth ≢ 0 → list_all p (expansion_by_splits splits (depth - 1) a) ≡ false → list_all p (expansion_by_splits splits depth u) ≡ false
-all_lacking p splits depth u a b s n e = ap (list_all p) (expanded_parts splits depth u a b s n) ∙ by_second (b == 0)
+all_lacking p splits depth u a b s n e = ap (list_all p) (expanded_pieces splits depth u a b s n) ∙ by_second (b == 0)
   where
     front : List ℕ
     front = expansion_by_splits splits (depth - 1) a

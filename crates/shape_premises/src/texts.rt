@@ -42,7 +42,8 @@ pub fn has_full_expansion(face: &Face, tables: &UnicodeTables, text: &str) -> bo
     has_each_whole(face, tables, text)
 }
 
-/// Whether no run of nonzero class of a text's full canonical decomposition is longer than is sorted.
+/// Whether a text's full canonical decomposition has no run of more characters of nonzero class than normalising sorts,
+/// which is 32.
 #[tactic(auto, using(crate::proofs::Runs::some_is_short))]
 pub fn has_short_runs(tables: &UnicodeTables, text: &str) -> bool
     ensures { IsTrue result ↔ HasShortRuns (class_of tables.now) 0 (full_text tables.now (chars text.now)) }
@@ -63,7 +64,8 @@ fn has_whole(face: &Face, tables: &UnicodeTables, u: char) -> bool
     has_expansion(face, tables, MAX_SPLITS, u)
 }
 
-/// How many characters of nonzero class the decomposition of a text ends with, `None` where a run is longer than is sorted.
+/// How many characters of nonzero class the decomposition of a text ends with; `None` where it has a run of more such
+/// characters than normalising sorts, which is 32.
 fn run_of_text(tables: &UnicodeTables, text: &str) -> Option<usize>
     ensures { result ≡ fold (run_with_whole tables.now) (Some 0) (chars text.now) }
 {
@@ -78,7 +80,7 @@ fn run_with_whole(tables: &UnicodeTables, met: Option<usize>, u: char) -> Option
     run_of(tables, MAX_SPLITS, u, met?)
 }
 
-/// How many characters of nonzero class there are at the end, after so many and then the decomposition of a character.
+/// How many characters of nonzero class there are at the end, after `met` of them and then the decomposition of a character.
 #[tactic(auto, using(crate::proofs::Runs::run_at_zero, crate::proofs::Runs::run_unsplit, crate::proofs::Runs::run_first, crate::proofs::Runs::run_both, crate::proofs::Runs::run_long))]
 fn run_of(tables: &UnicodeTables, depth: u32, u: char, met: usize) -> Option<usize>
     ensures { result ≡ run_after (class_of tables.now) (Some met)
@@ -97,7 +99,7 @@ fn run_of(tables: &UnicodeTables, depth: u32, u: char, met: usize) -> Option<usi
     run_with(tables, second, met)
 }
 
-/// How many characters of nonzero class there are at the end, after so many and then one character.
+/// How many characters of nonzero class there are at the end, after `met` of them and then one character.
 fn run_with(tables: &UnicodeTables, u: char, met: usize) -> Option<usize>
     ensures { result ≡ run_grown (class_of tables.now u) met }
 {

@@ -10,6 +10,7 @@ use std::test::Fail;
 fn glyphs_of(alloc: Global, clusters: &[u32]) -> Result<GlyphBuffer, AllocError> {
     let mut text = UnicodeBuffer::new(alloc);
     for cluster in clusters {
+        // So few characters always have room.
         let _added = text.add('x', *cluster)?;
     }
     Ok(GlyphBuffer::from_buffer(text.into_buffer()))
@@ -39,7 +40,7 @@ fn are(
     Ok(slices.iter().copied().eq(want.iter().copied()))
 }
 
-/// The clusters don't fit the text.
+/// Whether the clusters fit no slices of the text.
 fn fit_nothing(alloc: Global, text: &str, clusters: &[u32]) -> Result<bool, AllocError> {
     let glyphs = glyphs_of(alloc, clusters)?;
     Ok(!slices_fit(&glyphs, text))

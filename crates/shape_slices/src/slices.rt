@@ -35,7 +35,7 @@ pub fn source_slices(
     slices_of(alloc, glyphs.glyph_infos(), text.len())
 }
 
-/// The runs of glyphs, with their bytes of a text of so many bytes.
+/// The runs of glyphs, with their bytes of a text of `end` bytes.
 fn slices_of(
     alloc: Global,
     glyphs: &[hb_glyph_info_t],

@@ -1,5 +1,5 @@
 -- A text whose characters have their properties.
-use Rattle.std.specs.Prelude.{ℕ, Bool, if◌then◌else◌, fold, List, [], ◌∷◌, Option, Some, None}
+use Rattle.std.specs.Prelude.{ℕ, ◌≡◌, Bool, true, false, if◌then◌else◌, fold, List, [], ◌∷◌, Option, Some, None}
 use Rattle.std.specs.Int.RustNames.{bit_or}
 use Rattle.std.specs.List.{list_all}
 use lib.Utf8.{scalar}
@@ -8,6 +8,8 @@ use Rattle.buffer_unicode_tables.specs.Tables.{Tables}
 use Rattle.buffer_properties.specs.Properties.{CONTINUATION, properties_of, character_class, scratch_flags_of}
 use Rattle.buffer_glyphs.specs.Items.{Item}
 use Rattle.buffer_core.specs.Readings.{View, Read, with_events}
+use Rattle.buffer_core.specs.Sides.{Sides, items_of}
+use Rattle.buffer_stages.specs.Ready.{IsReady}
 use Rattle.shape_text.specs.declared.graphemes.Before.{Before}
 use Rattle.shape_text.specs.Graphemes.{continues}
 
@@ -26,6 +28,17 @@ is_character x = scalar x.number
 -- all items are characters
 abbrev pub are_characters : List Item → Bool
 are_characters xs = list_all is_character xs
+
+-- a ready buffer that holds characters
+pub record HoldsCharacters (s : Sides) : Type 0 where
+  pub ready : IsReady s
+  pub characters : are_characters (items_of s) ≡ true
+
+-- a text before it is shaped: no output is open, no call was refused for length, and there are characters
+pub record IsUnshaped (s : Sides) : Type 0 where
+  pub closed : s.is_open ≡ false
+  pub unrefused : s.has_refused ≡ false
+  pub characters : are_characters (items_of s) ≡ true
 
 -- what the next character reads of a character: it, and whether it continues a grapheme
 abbrev pub next_before : Tables → Option Before → ℕ → Before

@@ -2,7 +2,7 @@
 ghost use Rattle.std.specs.Prelude.{◌≡◌, ◌≢◌, ◌<◌, ◌≤◌, ◌+◌, length, bit_or, IfErr, OnOk, Err};
 ghost use Rattle.buffer_glyphs.specs.Items.{item_of, strip};
 ghost use Rattle.buffer_core.specs.Sides.{items_of, all_glyphs};
-ghost use Rattle.buffer_stages.specs.Ready.{IsReady};
+ghost use Rattle.buffer_stages.specs.Ready.{IsReady, HasFirst};
 ghost use Rattle.buffer_properties.specs.Characters.{is_mark};
 ghost use Rattle.shape_text.specs.Circle.{flags_want_circle, begins_with_mark, first_circle, glyph_circle, needs_circle, with_circle_put};
 ghost use Rattle.buffer_properties.specs.Properties.{scratch_flags_of};
@@ -72,8 +72,7 @@ fn begins_with_mark(glyphs: &[hb_glyph_info_t]) -> bool
 
 /// Inserts a circle before the first glyph.
 fn put_circle(tables: &UnicodeTables, buffer: &mut hb_buffer_t) -> Result<(), ShapeCause>
-    requires ready { IsReady buffer.old }
-    requires there { 0 < length buffer.old.ahead }
+    requires first { HasFirst buffer.old }
     ensures ok { OnOk result (buffer.new ≡ with_circle_put tables.now buffer.old) }
     ensures some { OnOk result (0 < length (all_glyphs buffer.old)) }
     ensures fits { OnOk result (length (all_glyphs buffer.old) + 1 ≤ buffer.old.max_len) }

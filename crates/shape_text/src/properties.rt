@@ -7,9 +7,7 @@ ghost use Rattle.buffer_properties.specs.Properties.{CONTINUATION, bit_if, chara
 ghost use Rattle.std.specs.Int.RustNames.{bit_or};
 ghost use Rattle.buffer_glyphs.specs.Items.{strip};
 ghost use Rattle.buffer_core.specs.Readings.{always};
-ghost use Rattle.buffer_core.specs.Sides.{items_of};
-ghost use Rattle.buffer_stages.specs.Ready.{IsReady};
-ghost use Rattle.shape_text.specs.Properties.{are_characters, glyph_prepared, glyphs_prepared, scratch_flags_of_glyphs, with_properties};
+ghost use Rattle.shape_text.specs.Properties.{are_characters, glyph_prepared, glyphs_prepared, scratch_flags_of_glyphs, with_properties, HoldsCharacters};
 ghost use Rattle.buffer_stages.specs.Stages.{IsFollowed};
 
 use crate::graphemes::{Before, continues};
@@ -29,8 +27,7 @@ use buffer_unicode_tables::{CharTablesExt, UnicodeTables};
 /// scratch flags (`set_unicode_props`). The property word says whether a character continues the grapheme of the one
 /// before.
 pub fn set_unicode_props(tables: &UnicodeTables, buffer: &mut hb_buffer_t)
-    requires ready { IsReady buffer.old }
-    requires characters { are_characters (items_of buffer.old) ≡ true }
+    requires characters { HoldsCharacters buffer.old }
     ensures { IsFollowed (always (with_properties tables.now)) buffer.old buffer.new }
 {
     let mut scratch_flags = buffer.scratch_flags();

@@ -34,128 +34,128 @@ use buffer_unicode_tables::hangul::{
 };
 use buffer_unicode_tables::law_fault::LawFault;
 
-pub fn directions_are_equal(left: Direction, right: Direction) -> bool
+pub fn law_directions_are_equal(left: Direction, right: Direction) -> bool
     ensures { MatchBool result (left ≡ right) (left ≢ right) }
 {
     left == right
 }
 
-pub fn scripts_are_equal(left: Script, right: Script) -> bool
+pub fn law_scripts_are_equal(left: Script, right: Script) -> bool
     ensures { MatchBool result (left ≡ right) (left ≢ right) }
 {
     left == right
 }
 
-pub fn tags_are_equal(left: Tag, right: Tag) -> bool
+pub fn law_tags_are_equal(left: Tag, right: Tag) -> bool
     ensures { MatchBool result (left ≡ right) (left ≢ right) }
 {
     left == right
 }
 
-pub fn features_are_equal(left: Feature, right: Feature) -> bool
+pub fn law_features_are_equal(left: Feature, right: Feature) -> bool
     ensures { MatchBool result (left ≡ right) (left ≢ right) }
 {
     left == right
 }
 
-pub fn levels_are_equal(left: BufferClusterLevel, right: BufferClusterLevel) -> bool
+pub fn law_levels_are_equal(left: BufferClusterLevel, right: BufferClusterLevel) -> bool
     ensures { MatchBool result (left ≡ right) (left ≢ right) }
 {
     left == right
 }
 
-pub fn infos_are_equal(left: &hb_glyph_info_t, right: &hb_glyph_info_t) -> bool
+pub fn law_infos_are_equal(left: &hb_glyph_info_t, right: &hb_glyph_info_t) -> bool
     ensures { MatchBool result (left.now ≡ right.now) (left.now ≢ right.now) }
 {
     left == right
 }
 
-pub fn glyph_ids_are_equal(left: GlyphId, right: GlyphId) -> bool
+pub fn law_glyph_ids_are_equal(left: GlyphId, right: GlyphId) -> bool
     ensures { MatchBool result (left ≡ right) (left ≢ right) }
 {
     left == right
 }
 
-pub fn positions_are_equal(left: &GlyphPosition, right: &GlyphPosition) -> bool
+pub fn law_positions_are_equal(left: &GlyphPosition, right: &GlyphPosition) -> bool
     ensures { Decides result (left.now ≡ right.now) }
 {
     left == right
 }
 
-pub fn extents_are_equal(left: &hb_glyph_extents_t, right: &hb_glyph_extents_t) -> bool
+pub fn law_extents_are_equal(left: &hb_glyph_extents_t, right: &hb_glyph_extents_t) -> bool
     ensures { Decides result (left.now ≡ right.now) }
 {
     left == right
 }
 
 /// Languages are equal where their tags are.
-pub fn languages_are_equal(left: &Language, right: &Language) -> bool
+pub fn law_languages_are_equal(left: &Language, right: &Language) -> bool
     ensures { Decides result (language_text left.now ≡ language_text right.now) }
 {
     left == right
 }
 
-pub fn causes_are_equal(left: ShapeCause, right: ShapeCause) -> bool
+pub fn law_causes_are_equal(left: ShapeCause, right: ShapeCause) -> bool
     ensures { MatchBool result (left ≡ right) (left ≢ right) }
 {
     left == right
 }
 
-pub fn glyph_properties_are_equal(left: GlyphPropsFlags, right: GlyphPropsFlags) -> bool
+pub fn law_glyph_properties_are_equal(left: GlyphPropsFlags, right: GlyphPropsFlags) -> bool
     ensures { MatchBool result (left ≡ right) (left ≢ right) }
 {
     left == right
 }
 
-pub fn unicode_properties_are_equal(left: UnicodeProps, right: UnicodeProps) -> bool
+pub fn law_unicode_properties_are_equal(left: UnicodeProps, right: UnicodeProps) -> bool
     ensures { MatchBool result (left ≡ right) (left ≢ right) }
 {
     left == right
 }
 
-pub fn buffer_flags_are_equal(left: BufferFlags, right: BufferFlags) -> bool
+pub fn law_buffer_flags_are_equal(left: BufferFlags, right: BufferFlags) -> bool
     ensures { MatchBool result (left ≡ right) (left ≢ right) }
 {
     left == right
 }
 
-pub fn serialize_flags_are_equal(left: SerializeFlags, right: SerializeFlags) -> bool
+pub fn law_serialize_flags_are_equal(left: SerializeFlags, right: SerializeFlags) -> bool
     ensures { MatchBool result (left ≡ right) (left ≢ right) }
 {
     left == right
 }
 
-pub fn table_faults_are_equal(left: TablesFault, right: TablesFault) -> bool
+pub fn law_table_faults_are_equal(left: TablesFault, right: TablesFault) -> bool
     ensures { MatchBool result (left ≡ right) (left ≢ right) }
 {
     left == right
 }
 
-pub fn law_faults_are_equal(left: LawFault, right: LawFault) -> bool
+pub fn law_law_faults_are_equal(left: LawFault, right: LawFault) -> bool
     ensures { MatchBool result (left ≡ right) (left ≢ right) }
 {
     left == right
 }
 
-pub fn direction_faults_are_equal(left: InvalidDirection, right: InvalidDirection) -> bool
+pub fn law_direction_faults_are_equal(left: InvalidDirection, right: InvalidDirection) -> bool
     ensures { MatchBool result (left ≡ right) (left ≢ right) }
 {
     left == right
 }
 
-pub fn script_faults_are_equal(left: InvalidScript, right: InvalidScript) -> bool
+pub fn law_script_faults_are_equal(left: InvalidScript, right: InvalidScript) -> bool
     ensures { MatchBool result (left ≡ right) (left ≢ right) }
 {
     left == right
 }
 
-pub fn feature_faults_are_equal(left: InvalidFeature, right: InvalidFeature) -> bool
+pub fn law_feature_faults_are_equal(left: InvalidFeature, right: InvalidFeature) -> bool
     ensures { MatchBool result (left ≡ right) (left ≢ right) }
 {
     left == right
 }
 
-pub fn language_faults_are_equal(left: LanguageFault, right: LanguageFault) -> bool
+pub fn law_language_faults_are_equal(left: LanguageFault, right: LanguageFault) -> bool
     ensures { MatchBool result (left ≡ right) (left ≢ right) }
 {
     left == right

@@ -9,7 +9,7 @@ use crate::rows::read_row;
 use crate::value::Part;
 use buffer_common::tag::Tag;
 use layout_common::array::Array;
-use layout_tables::table::{FeatureRecord, LayoutTable};
+use layout_tables::table::{FeatureRecord, ScriptsAndFeatures};
 use serde_json::Value;
 use shell_json::fault::JsonFault;
 use shell_json::parts::list_at;
@@ -26,7 +26,7 @@ impl Part for FeatureRecord {
 
 /// Reads the keys `scripts` and `features` of a layout table, whose indices must be below the lengths of its lists
 /// `features` and `lookups`.
-pub fn read_layout(alloc: Global, value: &Value) -> Result<LayoutTable, JsonFault>
+pub fn read_layout(alloc: Global, value: &Value) -> Result<ScriptsAndFeatures, JsonFault>
     ensures ok { IfOk result (λ t. layout_of (view value.now) ≡ Ok t) }
     ensures refused { IfErr result (λ e. e ≢ JsonFault.OutOfMemory
         → layout_of (view value.now) ≡ Err e) }
@@ -35,5 +35,5 @@ pub fn read_layout(alloc: Global, value: &Value) -> Result<LayoutTable, JsonFaul
     let lookup_count = count_at(value, "lookups");
     let scripts = read_rising(alloc, list_at(value, "scripts")?, feature_count)?;
     let features: Array<FeatureRecord> = read_in_turn_at(alloc, value, "features", lookup_count)?;
-    Ok(LayoutTable::new(scripts, features.into_vec()))
+    Ok(ScriptsAndFeatures::new(scripts, features.into_vec()))
 }

@@ -20,7 +20,7 @@ use Rattle.script_dispatch.specs.declared.any_shaper.hb_ot_any_shaper_t.{hb_ot_a
 use Rattle.script_dispatch.specs.Requests.{any_kind}
 use Rattle.script_dispatch.specs.Rules.{rules_of}
 use Rattle.script_dispatch.specs.Shapers.{traits_of}
-use Rattle.script_categories.specs.Fronts.{syllable_at}
+use Rattle.script_categories.specs.LongestMatch.{syllable_at}
 use Rattle.shape_pipeline.specs.Shaped.{by_plan, by_shaper}
 use Rattle.shell_readers.specs.declared.input.RunInput.{RunInput}
 use Rattle.shell_readers.specs.declared.options.Options.{Options}

@@ -25,7 +25,7 @@ use Rattle.buffer_core.specs.Readings.{Reading, BufferState, state_after}
 use Rattle.buffer_serialize.specs.Printed.{printed_text}
 use Rattle.buffer_core.specs.Sides.{Sides, empty_buffer, state_of}
 use Rattle.buffer_core.specs.Text.{fits_text}
-use Rattle.script_categories.specs.Fronts.{syllable_at}
+use Rattle.script_categories.specs.LongestMatch.{syllable_at}
 use Rattle.shell_run.specs.Lines.{Answer, answer_of_lines, answer_of_text, refusal, text_lines}
 use Rattle.shell_run.specs.Output.{glyphs_of}
 use Rattle.shell_run.specs.Slices.{requested_lines}

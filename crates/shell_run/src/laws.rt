@@ -24,14 +24,14 @@ pub fn law_texts_have_lines()
 {}
 
 /// `==` of JSON faults holds exactly between equal ones.
-pub fn json_faults_are_equal(left: JsonFault, right: JsonFault) -> bool
+pub fn law_json_faults_are_equal(left: JsonFault, right: JsonFault) -> bool
     ensures { MatchBool result (left ≡ right) (left ≢ right) }
 {
     left == right
 }
 
 /// `==` of run faults holds exactly between equal ones.
-pub fn run_faults_are_equal(left: RunFault, right: RunFault) -> bool
+pub fn law_run_faults_are_equal(left: RunFault, right: RunFault) -> bool
     ensures { MatchBool result (left ≡ right) (left ≢ right) }
 {
     left == right

@@ -6,7 +6,7 @@ ghost use Rattle.shell_json.specs.declared.fault.JsonFault.{JsonFault};
 ghost use Rattle.shell_tables_json.specs.Rows.{rows_at};
 ghost use Rattle.buffer_unicode.specs.Keys.{follows, is_rising};
 
-use buffer_unicode::{Keyed, follows};
+use buffer_unicode::{DoublyKeyed, follows};
 use serde_json::Value;
 use shell_json::fault::JsonFault;
 use shell_json::parts::list_at;
@@ -15,7 +15,7 @@ use std::alloc::Global;
 
 /// The reader of a list's rows.
 pub trait RowReader: Copy {
-    type Row: Keyed;
+    type Row: DoublyKeyed;
 
     ghost means: { Self → Data → Result Self.Row JsonFault };
 

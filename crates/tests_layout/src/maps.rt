@@ -14,7 +14,7 @@ use layout_map_features::lookup::lookup_map_t;
 use layout_map_features::per_table::TableIndex;
 use layout_tables::is_rising;
 use layout_tables::script::{LangSys, LangSysRecord, ScriptRecord};
-use layout_tables::table::{FeatureRecord, LayoutTable};
+use layout_tables::table::{FeatureRecord, ScriptsAndFeatures};
 use std::alloc::{AllocError, Global};
 use std::process::Abort;
 use std::test::Fail;
@@ -408,13 +408,13 @@ fn features(alloc: Global, table: &Table) -> Result<Vec<FeatureRecord>, AllocErr
     Ok(features)
 }
 
-fn layout_table(alloc: Global, table: &Table) -> Result<LayoutTable, AllocError> {
+fn layout_table(alloc: Global, table: &Table) -> Result<ScriptsAndFeatures, AllocError> {
     let scripts = scripts(alloc, table)?;
     let features = features(alloc, table)?;
     if !is_rising(&scripts) {
-        return Ok(LayoutTable::new(Vec::new(alloc), features));
+        return Ok(ScriptsAndFeatures::new(Vec::new(alloc), features));
     }
-    Ok(LayoutTable::new(scripts, features))
+    Ok(ScriptsAndFeatures::new(scripts, features))
 }
 
 fn substitution_lookups(alloc: Global, count: usize) -> Result<Vec<SubstLookup>, AllocError> {

@@ -5,7 +5,7 @@ use layout_tables::choice::LayoutTableExt;
 use layout_tables::is_rising;
 use layout_tables::ligature::{Ligature, LigatureSet, LigatureSubst};
 use layout_tables::script::{LangSys, LangSysRecord, ScriptRecord};
-use layout_tables::table::{FeatureRecord, LayoutTable};
+use layout_tables::table::{FeatureRecord, ScriptsAndFeatures};
 use std::alloc::{AllocError, Global};
 use std::process::Abort;
 use std::test::Fail;
@@ -153,23 +153,23 @@ fn features_of(alloc: Global, texts: &str) -> Result<Vec<FeatureRecord>, AllocEr
     Ok(features)
 }
 
-fn table_of(alloc: Global, scripts: &str, features: &str) -> Result<LayoutTable, Fail> {
+fn table_of(alloc: Global, scripts: &str, features: &str) -> Result<ScriptsAndFeatures, Fail> {
     let features = features_of(alloc, features)?;
     let scripts = scripts_of(alloc, scripts)?;
     if !is_rising(&scripts) {
         return Err("not rising".into());
     }
-    Ok(LayoutTable::new(scripts, features))
+    Ok(ScriptsAndFeatures::new(scripts, features))
 }
 
-fn is_first_feature(table: &LayoutTable, text: &str) -> bool {
+fn is_first_feature(table: &ScriptsAndFeatures, text: &str) -> bool {
     match table.feature(0) {
         Some(feature) => feature.tag() == tag(text) && feature.lookups() == [0].as_slice(),
         None => false,
     }
 }
 
-fn parts_of_a_table(rt: &impl Abort, table: &LayoutTable) {
+fn parts_of_a_table(rt: &impl Abort, table: &ScriptsAndFeatures) {
     let script = table.script(tag("DFLT")).map(|script| script.tag());
     assert_eq!(rt; script, Some(tag("DFLT")));
     assert!(rt; table.script(tag("latn")).is_none());
@@ -198,7 +198,7 @@ cyrl,thai grek none
 cyrl  none
  latn none";
 
-fn selected(table: &LayoutTable, wanted: &[Tag]) -> Option<(bool, Tag)> {
+fn selected(table: &ScriptsAndFeatures, wanted: &[Tag]) -> Option<(bool, Tag)> {
     LayoutTableExt::select_script(table, wanted).map(|selected| (
         selected.found,
         selected.script.tag(),
@@ -262,14 +262,14 @@ fn script_of_systems(
     Ok(ScriptRecord::new(tag("latn"), default, records))
 }
 
-fn first_feature(table: &LayoutTable, script: &ScriptRecord, wanted: &[Tag]) -> Option<u16> {
+fn first_feature(table: &ScriptsAndFeatures, script: &ScriptRecord, wanted: &[Tag]) -> Option<u16> {
     let system = table.select_script_language(script, wanted)?;
     system.features().first().copied()
 }
 
 /// The first features of the systems that the script selects for each line of languages.
 fn selects(alloc: Global, script: &ScriptRecord, column: usize) -> Result<bool, AllocError> {
-    let table = LayoutTable::new(Vec::new(alloc), Vec::new(alloc));
+    let table = ScriptsAndFeatures::new(Vec::new(alloc), Vec::new(alloc));
     for (wanted, features) in LANGUAGE_CHOICES {
         let wanted = tags_of(alloc, wanted)?;
         if features.get(column).copied() != Some(first_feature(&table, script, &wanted)) {
@@ -292,7 +292,7 @@ fn languages_are_selected(rt: HostRuntime) -> Result<(), Fail> {
     Ok(())
 }
 
-fn features_of_a_system(rt: &impl Abort, table: &LayoutTable, system: &LangSys) {
+fn features_of_a_system(rt: &impl Abort, table: &ScriptsAndFeatures, system: &LangSys) {
     for (text, index) in [
         ("liga", Some(2)),
         ("kern", Some(1)),
@@ -306,12 +306,16 @@ fn features_of_a_system(rt: &impl Abort, table: &LayoutTable, system: &LangSys) 
     }
 }
 
-fn required_feature(alloc: Global, table: &LayoutTable, index: Option<u16>) -> Option<(u16, Tag)> {
+fn required_feature(
+    alloc: Global,
+    table: &ScriptsAndFeatures,
+    index: Option<u16>,
+) -> Option<(u16, Tag)> {
     let system = LangSys::new(index, Vec::new(alloc));
     LayoutTableExt::get_required_language_feature(table, &system)
 }
 
-fn required_features(rt: &impl Abort, alloc: Global, table: &LayoutTable) {
+fn required_features(rt: &impl Abort, alloc: Global, table: &ScriptsAndFeatures) {
     let ccmp = Some((3, tag("ccmp")));
     for (index, feature) in [(Some(3), ccmp), (Some(4), None), (None, None)] {
         assert_eq!(rt; required_feature(alloc, table, index), feature);

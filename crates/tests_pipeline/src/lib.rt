@@ -6,6 +6,8 @@
 #![tactic(auto)]
 
 #[cfg(test)]
+mod cached_plans;
+#[cfg(test)]
 mod data;
 #[cfg(test)]
 mod decomposing;

@@ -97,7 +97,7 @@ fn led_on(at: Option<usize>, from: usize, to: usize) -> Option<usize> {
     if at == Some(from) { Some(to) } else { None }
 }
 
-/// Whether slices join to a text of so many bytes, from its first byte on or from its last.
+/// Whether slices join to a text of `end` bytes, from its first byte on or from its last.
 fn are_joined(slices: &[SourceSlice], end: usize) -> bool {
     let (mut forward, mut backward) = (Some(0), Some(end));
     for slice in slices {

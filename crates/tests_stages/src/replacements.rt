@@ -70,7 +70,7 @@ fn nest(face: &Face, index: u16, buffer: &mut hb_buffer_t) -> Result<bool, Shape
     ctx.recurse(index, buffer)
 }
 
-/// Whether the lookup at an index acts at the first glyph with so many steps of the budget, and how many are then left.
+/// Whether the lookup at an index acts at the first glyph with `steps` steps of the budget, and how many are then left.
 fn acts(alloc: Global, index: u16, steps: i32) -> Result<(bool, i32), Fail> {
     let face = face_of(alloc, FONT)?;
     let mut buffer = buffer_of(alloc, TEXT)?;

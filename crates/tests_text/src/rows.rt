@@ -1,5 +1,5 @@
 //! Rows of numbers that are read, found and refused.
-use buffer_unicode::{CharacterRange, CharacterRanges, Pair, Split, find_row, read_rows};
+use buffer_unicode::{CharacterRange, CharacterRanges, Pair, Split, find_by_key, read_rows};
 use buffer_unicode_tables::{TablesFault, UnicodeRows, UnicodeTables};
 use std::alloc::{AllocError, Global};
 use std::test::Fail;
@@ -50,13 +50,13 @@ fn faults_of_rows(rt: HostRuntime) -> Result<(), Fail> {
 fn second_of(alloc: Global, whole: u32) -> Result<Option<char>, TablesFault> {
     let rows = [[0x41, 1, 2], [0xE1, 0x61, 0x301], [0x1B06, 0x1B05, 0x1B35]];
     let splits: Vec<Split> = read_rows(alloc, &rows)?;
-    Ok(find_row(&splits, 0, whole).map(|row| row.second))
+    Ok(find_by_key(&splits, 0, whole).map(|row| row.second))
 }
 
 fn whole_of(alloc: Global, first: u32, second: u32) -> Result<Option<char>, TablesFault> {
     let rows = [[0x41, 0x300, 0xC0], [0x61, 0x300, 0xE0]];
     let pairs: Vec<Pair> = read_rows(alloc, &rows)?;
-    Ok(find_row(&pairs, first, second).map(|row| row.whole))
+    Ok(find_by_key(&pairs, first, second).map(|row| row.whole))
 }
 
 fn found(alloc: Global) -> Result<[Option<char>; 4], TablesFault> {

@@ -2,7 +2,7 @@
 ghost use Rattle.std.specs.Prelude.{◌≡◌, ◌<◌, ◌≤◌, ◌+◌, ◌-◌, ◌^◌, ◌++◌, [], drop, length, vec_len, not, true, false, Some, IsOk, OnOk, OnErr, IfOk, slice_get};
 ghost use Rattle.std.specs.Bool.{OnFalse};
 ghost use Rattle.std.specs.Borrow.{sem};
-ghost use Rattle.buffer_core.specs.Sides.{all_glyphs, has_output_room, with_output, after_next_glyphs, fits_next, fits_joined, after_sync, after_refusal, zero_positions};
+ghost use Rattle.buffer_core.specs.Sides.{all_glyphs, has_output_room, with_output, after_next_glyphs, fits_next, fits_joined, after_sync, after_refusal, zero_positions, HasCurrentInPlace};
 ghost use Rattle.buffer_core.specs.Lending.{LendsGlyph, LendsLast, LendsPosition};
 
 use super::hb_buffer_t;
@@ -112,8 +112,7 @@ impl hb_buffer_t {
 
     /// The position of the glyph at the cursor, to be written, while no output is open.
     pub fn cur_pos_mut(&mut self) -> &mut GlyphPosition
-        requires closed { self.old.is_open ≡ false }
-        requires there { 0 < length self.old.ahead }
+        requires current_in_place { HasCurrentInPlace self.old }
         ensures value { slice_get self.old.positions self.old.read ≡ Some result.now }
         ensures* writes_back { sem 𝓛 (LendsPosition self.entry result) }
     {
@@ -211,7 +210,7 @@ impl hb_buffer_t {
     }
 }
 
-/// So many zero positions in place of those that there are. Only where some may be other than zero are these written.
+/// `count` zero positions in place of those that there are. Only where some may be other than zero are these written.
 #[tactic(auto, using(crate::proofs::Cleared::zero_cut, crate::proofs::Cleared::zero_of_length))]
 fn resize_positions(
     positions: &mut Vec<GlyphPosition>,

@@ -1,9 +1,9 @@
 //! Deletes a glyph while an output is open (rustybuzz: hb/buffer.rs, `delete_glyph`).
-ghost use Rattle.std.specs.Prelude.{◌≡◌, ◌+◌, ◌<◌, ◌++◌, ◌∷◌, true, false, List, length, drop, []};
+ghost use Rattle.std.specs.Prelude.{◌≡◌, ◌+◌, ◌++◌, ◌∷◌, true, List, length, drop, []};
 ghost use Rattle.buffer_glyphs.specs.declared.info.hb_glyph_info_t.{hb_glyph_info_t as Glyph};
 ghost use Rattle.buffer_glyphs.specs.Items.{strip};
 ghost use Rattle.buffer_glyphs.specs.Deletions.{number_deleted};
-ghost use Rattle.buffer_core.specs.Sides.{items_of, origins_of, origins_by};
+ghost use Rattle.buffer_core.specs.Sides.{items_of, origins_of, origins_by, HasCurrent};
 ghost use Rattle.buffer_core.specs.Grouping.{with_deleted};
 ghost use Rattle.buffer_glyphs.specs.Events.{Delete};
 
@@ -16,8 +16,7 @@ impl hb_buffer_t {
     /// its cluster and its three flags if that cluster is less; with none before it, it is merged with the next, as by
     /// `merge_clusters`. It takes no memory.
     pub fn delete_glyph(&mut self)
-        requires open { self.old.is_open ≡ true }
-        requires there { 0 < length self.old.ahead }
+        requires current { HasCurrent self.old }
         ensures deleted { (g : Glyph) (back : List Glyph) → self.old.ahead ≡ g ∷ back →
             self.new ≡ with_deleted g back self.old }
         ensures open { self.new.is_open ≡ true }

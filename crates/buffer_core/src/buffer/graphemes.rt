@@ -1,20 +1,18 @@
-//! Graphemes, clusters and default ignorables of a buffer (rustybuzz: hb/ot_shape.rs, hb/ot_layout.rs).
+//! Graphemes and clusters of a buffer (rustybuzz: hb/ot_shape.rs, hb/ot_layout.rs).
 ghost use Rattle.std.specs.Prelude.{◌≡◌, ◌==◌, false};
 ghost use Rattle.buffer_glyphs.specs.Items.{item_of};
-ghost use Rattle.buffer_glyphs.specs.PropertyWords.{is_default_ignorable};
-ghost use Rattle.buffer_lists.specs.Events.{deletions, groups_reversed};
-ghost use Rattle.buffer_lists.specs.Facts.{items_kept, positions_kept, positions_turned};
+ghost use Rattle.buffer_lists.specs.Events.{groups_reversed};
+ghost use Rattle.buffer_lists.specs.Facts.{positions_turned};
 ghost use Rattle.buffer_lists.specs.Turning.{groups_reversed_list};
 ghost use Rattle.buffer_core.specs.Graphemes.{continues};
-ghost use Rattle.buffer_core.specs.Grouping.{with_groups_reversed, with_picked_deleted};
+ghost use Rattle.buffer_core.specs.Grouping.{with_groups_reversed};
 ghost use Rattle.buffer_core.specs.Sides.{all_glyphs, items_of, origins_by, origins_of};
 
 use super::hb_buffer_t;
 use buffer_glyphs::flags::UnicodeProps;
 use buffer_glyphs::info::hb_glyph_info_t;
-use buffer_glyphs::property_words::_hb_glyph_info_is_default_ignorable;
 
-// Groups, deletion and sort with the tests of shaping.
+// Groups with the tests of shaping.
 impl hb_buffer_t {
     /// Reverses the order of the graphemes, each in its own order; positions move with their glyphs. Where `merge` is
     /// set, the glyphs of each grapheme are merged before.
@@ -37,19 +35,6 @@ impl hb_buffer_t {
         ensures glyphs { all_glyphs self.new ≡ groups_reversed_list (λ g h. g.cluster == h.cluster) (all_glyphs self.old) }
     {
         self.reverse_groups(|before, glyph| before.cluster == glyph.cluster, false);
-    }
-
-    /// Deletes the default ignorable characters that no substitution made into glyphs, and their positions.
-    pub fn delete_default_ignorables(&mut self)
-        requires { self.old.is_open ≡ false }
-        ensures deleted { self.new ≡ with_picked_deleted (λ g. is_default_ignorable (item_of g)) self.old }
-        ensures items { items_of self.new ≡ items_kept is_default_ignorable (items_of self.old) }
-        ensures positions { self.new.positions
-            ≡ positions_kept is_default_ignorable (items_of self.old) self.old.positions }
-        ensures origins { origins_of self.new
-            ≡ origins_by (deletions is_default_ignorable (items_of self.old)) self.old }
-    {
-        self.delete_glyphs_inplace(|glyph| _hb_glyph_info_is_default_ignorable(glyph));
     }
 }
 

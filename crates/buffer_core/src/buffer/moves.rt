@@ -1,7 +1,7 @@
 //! Moves of the cursor (rustybuzz: hb/buffer.rs, `next_glyphs`, `skip_glyph`, `move_to`).
 ghost use Rattle.std.specs.Prelude.{◌≡◌, ◌<◌, ◌≤◌, ◌+◌, ◌-◌, ◌++◌, length, drop, true, false, Ok, OnOk, OnErr, IfOk, ◌∷◌, []};
 ghost use Rattle.buffer_glyphs.specs.Items.{strip};
-ghost use Rattle.buffer_core.specs.Sides.{all_glyphs, fits_next, has_output_room, items_of, after_next_glyphs, after_refusal, origins_of, origins_by};
+ghost use Rattle.buffer_core.specs.Sides.{all_glyphs, fits_next, has_output_room, items_of, after_next_glyphs, after_refusal, origins_of, origins_by, HasCurrent};
 ghost use Rattle.buffer_core.specs.Merging.{with_glyph_skipped};
 ghost use Rattle.buffer_core.specs.Moving.{fits_moved, has_room_back, after_move_to};
 ghost use Rattle.buffer_glyphs.specs.Events.{Replace};
@@ -11,7 +11,7 @@ use buffer_lists::over;
 use std::alloc::AllocError;
 
 impl hb_buffer_t {
-    /// Moves the cursor over so many glyphs, which are appended to the output where one is open; answers false, and
+    /// Moves the cursor over `count` glyphs, which are appended to the output where one is open; answers false, and
     /// moves nothing, where the output would have more than it may. With the output in place it takes no memory.
     #[tactic(auto, using(crate::proofs::Kept::moved_all))]
     pub fn next_glyphs(&mut self, count: usize) -> Result<bool, AllocError>
@@ -38,8 +38,7 @@ impl hb_buffer_t {
     /// Deletes the glyph at the cursor, with no merge of clusters. It takes no memory.
     #[tactic(auto, using(buffer_glyphs::specs::Lists::drop_next))]
     pub fn skip_glyph(&mut self)
-        requires open { self.old.is_open ≡ true }
-        requires there { 0 < length self.old.ahead }
+        requires current { HasCurrent self.old }
         ensures skipped { self.new ≡ with_glyph_skipped self.old }
         ensures items { items_of self.new ≡ strip self.old.behind ++ drop 1 (strip self.old.ahead) }
         ensures origins { origins_of self.new ≡ origins_by (Replace (length self.old.behind) 1 0 ∷ []) self.old }
@@ -47,9 +46,10 @@ impl hb_buffer_t {
         self.idx += 1;
     }
 
-    /// Moves the cursor to before the i-th of all glyphs. While an output is open, glyphs move from the one side to the
-    /// other; it answers false, and moves nothing, where a call before was refused for length, or the side that grows
-    /// would have more than it may. With the output in place it takes no memory.
+    /// Moves the cursor to before the i-th of all glyphs. While an output is open this moves glyphs: those up to the
+    /// i-th from the input to the output, or those from the i-th on from the output back to the input. It then answers
+    /// false, and moves nothing, where an earlier call was refused for length, or where the side that gets the glyphs
+    /// would have more than a list may have. With the output in place it takes no memory.
     pub fn move_to(&mut self, i: usize) -> Result<bool, AllocError>
         requires { i ≤ length (all_glyphs self.old) }
         ensures held { IfOk result (λ b. b ≡ fits_moved i self.old) }
@@ -107,7 +107,7 @@ impl hb_buffer_t {
         self.front = i;
     }
 
-    /// Whether the input may have the glyphs of the output from the i-th on too.
+    /// Whether the input has room for the glyphs of the output from the i-th on.
     fn has_room_back(&self, i: usize) -> bool
         requires open { self.now.is_open ≡ true }
         requires there { i ≤ length self.now.behind }

@@ -4,7 +4,7 @@ ghost use Rattle.buffer_glyphs.specs.Items.{clusters, item_of, strip};
 ghost use Rattle.buffer_lists.specs.Known.{HasOrder};
 ghost use Rattle.buffer_glyphs.specs.Parts.{numbers_replaced};
 ghost use Rattle.buffer_glyphs.specs.Replacements.{items_replaced};
-ghost use Rattle.buffer_core.specs.Sides.{all_glyphs, has_output_room, items_of, after_refusal, origins_of, origins_by};
+ghost use Rattle.buffer_core.specs.Sides.{all_glyphs, has_output_room, items_of, after_refusal, origins_of, origins_by, HasCurrent};
 ghost use Rattle.buffer_core.specs.Merging.{fits_copies, with_output_glyph, with_output_info, with_replaced_glyph};
 ghost use Rattle.buffer_glyphs.specs.Origins.{origin_of, origins};
 ghost use Rattle.buffer_glyphs.specs.Events.{Replace};
@@ -111,8 +111,7 @@ impl hb_buffer_t {
     /// output has as many as it may. With the output in place it takes no memory.
     #[tactic(auto, using(crate::proofs::Kept::renumbered_origins))]
     pub fn replace_glyph(&mut self, glyph_index: u32) -> Result<bool, AllocError>
-        requires open { self.old.is_open ≡ true }
-        requires there { 0 < length self.old.ahead }
+        requires current { HasCurrent self.old }
         ensures held { IfOk result (λ b. b ≡ has_output_room 1 self.old) }
         ensures replaced { result ≡ Ok true → self.new ≡ with_replaced_glyph glyph_index self.old }
         ensures items { result ≡ Ok true →
@@ -130,8 +129,7 @@ impl hb_buffer_t {
     }
 
     fn pass_renumbered(&mut self, glyph_index: u32)
-        requires open { self.old.is_open ≡ true }
-        requires there { 0 < length self.old.ahead }
+        requires current { HasCurrent self.old }
         requires room { has_output_room 1 self.old ≡ true }
         ensures replaced { self.new ≡ with_replaced_glyph glyph_index self.old }
     {

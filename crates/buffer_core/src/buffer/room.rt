@@ -8,7 +8,7 @@ use buffer_lists::over;
 use std::alloc::AllocError;
 
 impl hb_buffer_t {
-    /// Whether the output may have so many more glyphs.
+    /// Whether the output may have `count` more glyphs.
     pub(super) fn has_output_room(&self, count: usize) -> bool
         requires { self.now.is_open ≡ true }
         ensures room { result ≡ has_output_room count self.now }
@@ -28,7 +28,7 @@ impl hb_buffer_t {
     }
 }
 
-/// Makes room for so many more glyphs after the output, and moves the input on where there is too little; answers how
+/// Makes room for `count` more glyphs after the output, and moves the input on where there is too little; answers how
 /// far. Where it moves, it moves by a sixteenth of its length at least, and as far as it has moved before, so that it
 /// moves few times.
 pub(super) fn make_room(

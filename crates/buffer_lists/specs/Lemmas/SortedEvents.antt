@@ -21,7 +21,7 @@ use Rattle.buffer_glyphs.specs.Glyphs.{glyphs_merged_at, is_marked_at}
 use Rattle.buffer_glyphs.specs.Origins.{Origin, Asks, InList, Manner, Unites, Marks, Keeps, manner, numbers, cast, added_outside, origins_merged, origins_merged_as, origin_of, origins, with_range_arranged, is_seam as is_seam_of, spans_from, spans, spans_merged as all_merged}
 use Rattle.buffer_glyphs.specs.Events.{Sort, origins_after}
 use Rattle.buffer_glyphs.specs.Lemmas.Origins.{cut_in_three, origins_of_merged_at, slice_seen}
-use Rattle.buffer_lists.specs.declared.sorting.Keyed.{Keyed}
+use Rattle.buffer_lists.specs.declared.sorting.KeyedIndex.{KeyedIndex}
 use Rattle.buffer_lists.specs.Events.{order_of}
 use Rattle.buffer_lists.specs.Indices.{indices_within}
 use Rattle.buffer_lists.specs.Sorting.{keyed_indices_from, indices_by_key, is_seam, SpanMerge, span_merged, spans_merged, range_spanned, range_sorted, glyph_at, put_in_order}
@@ -33,11 +33,11 @@ use Rattle.buffer_lists.specs.Lemmas.Ranges.{map_twice}
 
 -- ---- the order of the indices
 
-abbrev keyed_index : Keyed → ℕ
+abbrev keyed_index : KeyedIndex → ℕ
 keyed_index e = e.index
 
 -- the key that stands at an index, and the index
-abbrev key_at_index : List ℕ → ℕ → Keyed
+abbrev key_at_index : List ℕ → ℕ → KeyedIndex
 key_at_index keys i = record { key = slice_index_or keys i 0; index = i }
 
 keyed_all : (k : Glyph → ℕ) (front : List ℕ) (gs : List Glyph) → keyed_indices_from k (length front) gs ≡ map (key_at_index (front ++ map k gs)) (range_with_len (length front) (length gs))
@@ -56,7 +56,7 @@ indices_are : (k : Glyph → ℕ) (gs : List Glyph) → map keyed_index (indices
 indices_are k gs =
     let keys = map k gs in
     let indices = range_with_len 0 (length gs) in
-    ap (λ es. map keyed_index (key_order (λ (e : Keyed). e.key) es)) (keyed_all k [] gs) ∙ ap (map keyed_index) (key_order_map (λ (e : Keyed). e.key) (key_at_index keys) indices)
+    ap (λ es. map keyed_index (key_order (λ (e : KeyedIndex). e.key) es)) (keyed_all k [] gs) ∙ ap (map keyed_index) (key_order_map (λ (e : KeyedIndex). e.key) (key_at_index keys) indices)
     ∙ map_twice keyed_index (key_at_index keys) (key_order (λ i. slice_index_or keys i 0) indices) ∙ map-id (key_order (λ i. slice_index_or keys i 0) indices)
     ∙ ap (λ n. key_order (λ i. slice_index_or keys i 0) (range_with_len 0 n)) (sym (length-map gs k))
 
@@ -69,7 +69,7 @@ order_length keys =
 
 -- ---- the spans
 
-seam_same : (es : List Keyed) (i : ℕ) → is_seam_of (map keyed_index es) i ≡ is_seam es i
+seam_same : (es : List KeyedIndex) (i : ℕ) → is_seam_of (map keyed_index es) i ≡ is_seam es i
 seam_same es i = ap (list_all (λ j. nat_lt j i)) (take-map keyed_index i es) ∙ list_all-map (λ j. nat_lt j i) keyed_index (take i es)
 
 cast_same : (o : Origin) → cast o.cluster 0 o ≡ o
@@ -122,7 +122,7 @@ span_origins level from to s lt = by_test (nat_lt (from + 1) to) refl
         let one : from + 1 ≡ to = grind (arith, nat_tests, e, lt) in
         sym (lone_merged (manner InList level) from (origins s.glyphs)) ∙ ap (λ n. origins_merged_as (manner InList level) from n (origins s.glyphs)) one
 
-spans_origins : (level : Level) (start : ℕ) (es : List Keyed) (left begin index : ℕ) (s : SpanMerge) → begin ≤ index
+spans_origins : (level : Level) (start : ℕ) (es : List KeyedIndex) (left begin index : ℕ) (s : SpanMerge) → begin ≤ index
     → origins (spans_merged level start es begin index left s).glyphs ≡ all_merged (manner InList level) start (spans_from (map keyed_index es) begin index left) (origins s.glyphs)
 spans_origins level start es zero begin index s le = refl
 spans_origins level start es (suc left) begin index s le =
@@ -141,18 +141,18 @@ spans_origins level start es (suc left) begin index s le =
 
 -- ---- the order
 
-taken_at : (range : List Glyph) (es : List Keyed) → All (λ (e : Keyed). e.index < length range) es → AreAt (origins range) (map keyed_index es) (origins (map (λ (e : Keyed). glyph_at range e.index) es))
+taken_at : (range : List Glyph) (es : List KeyedIndex) → All (λ (e : KeyedIndex). e.index < length range) es → AreAt (origins range) (map keyed_index es) (origins (map (λ (e : KeyedIndex). glyph_at range e.index) es))
 taken_at range [] h = tt
 taken_at range (e ∷ es) h =
-    let lt : e.index < length range = All-head (λ (f : Keyed). f.index < length range) e es h in
-    (slice_get-map origin_of range e.index ∙ ap (λ o. option_map origin_of o) (slice_get-get_or range e.index no_glyph lt), taken_at range es (All-tail (λ (f : Keyed). f.index < length range) e es h))
+    let lt : e.index < length range = All-head (λ (f : KeyedIndex). f.index < length range) e es h in
+    (slice_get-map origin_of range e.index ∙ ap (λ o. option_map origin_of o) (slice_get-get_or range e.index no_glyph lt), taken_at range es (All-tail (λ (f : KeyedIndex). f.index < length range) e es h))
 
-put_origins : (start end : ℕ) (es : List Keyed) (gs : List Glyph) → start ≤ end → end ≤ length gs → length es ≡ end - start → All (λ (e : Keyed). e.index < length (slice_range gs start end)) es
+put_origins : (start end : ℕ) (es : List KeyedIndex) (gs : List Glyph) → start ≤ end → end ≤ length gs → length es ≡ end - start → All (λ (e : KeyedIndex). e.index < length (slice_range gs start end)) es
     → origins (put_in_order start end es gs) ≡ with_range_arranged start (map keyed_index es) (origins gs)
 put_origins start end es gs le within long h =
     let range = slice_range gs start end in
     let order = map keyed_index es in
-    let put = map (λ (e : Keyed). glyph_at range e.index) es in
+    let put = map (λ (e : KeyedIndex). glyph_at range e.index) es in
     let many : length order ≡ end - start = length-map es keyed_index ∙ long in
     let there : start + length order ≡ end = omega arith in
     let same : take (length order) (drop start (origins gs)) ≡ origins range = ap (λ n. take n (drop start (origins gs))) many ∙ sym (slice_seen origin_of start end gs) in
@@ -181,7 +181,7 @@ sort_is_event asks level start end k gs le within =
     let same_range : length (slice_range mid start end) ≡ end - start = length-take-le (end - start) (drop start mid) (omega (arith, as_long, length-drop start mid)) in
     let is : order ≡ order_of (map key range) = indices_are key range in
     let many : length es ≡ end - start = sym (length-map es keyed_index) ∙ ap length is ∙ order_length (map key range) ∙ length-map range key ∙ wide in
-    let inside : All (λ (e : Keyed). e.index < length (slice_range mid start end)) es = subst (λ n. All (λ (e : Keyed). e.index < n) es) (wide ∙ sym same_range) (indices_within key range) in
+    let inside : All (λ (e : KeyedIndex). e.index < length (slice_range mid start end)) es = subst (λ n. All (λ (e : KeyedIndex). e.index < n) es) (wide ∙ sym same_range) (indices_within key range) in
     let items : map key range ≡ map k (slice_range (strip gs) start end) = items_keyed k range ∙ ap (map k) (slice_seen item_of start end gs) in
     put_origins start end es mid le (omega (arith, as_long, within)) many inside
     ∙ ap (with_range_arranged start order) (spans_origins level start es (length es) 0 0 whole (omega arith) ∙ ap (λ n. all_merged m start (spans_from order 0 0 n) (origins gs)) (sym (length-map es keyed_index)))

@@ -11,12 +11,12 @@ use Rattle.buffer_glyphs.specs.Lists.{get_or_mapped}
 use Rattle.buffer_glyphs.specs.Lemmas.Glyphs.{strip_merged_at}
 use Rattle.buffer_stable_order.specs.Keys.{key_order}
 use Rattle.buffer_stable_order.specs.Orders.{Agree, key_order_agree, key_order_map}
-use Rattle.buffer_lists.specs.declared.sorting.Keyed.{Keyed}
+use Rattle.buffer_lists.specs.declared.sorting.KeyedIndex.{KeyedIndex}
 use Rattle.buffer_lists.specs.Sorting.{keyed_indices_from, indices_by_key, is_seam, SpanMerge, span_merged, spans_merged, range_spanned, range_sorted, glyph_at, put_in_order}
 use Rattle.buffer_lists.specs.Lemmas.Neighbours.{no_glyph}
 
 -- what stands at an index of items
-abbrev item_at : List Item → Keyed → Item
+abbrev item_at : List Item → KeyedIndex → Item
 item_at xs e = get_or xs e.index (item_of no_glyph)
 
 here : (front : List Item) (x : Item) (xs : List Item) (i : ℕ) → length front ≡ i → get_or (front ++ x ∷ xs) i (item_of no_glyph) ≡ x
@@ -35,18 +35,18 @@ placed_from k (g ∷ gs) front i e =
     let moved = subst (λ (xs : List Item). map (item_at xs) (keyed_indices_from k (i + 1) gs) ≡ strip gs) (pushed front (item_of g) (strip gs)) rest in
     ap (λ (x : Item). x ∷ map (item_at (front ++ item_of g ∷ strip gs)) (keyed_indices_from k (i + 1) gs)) (here front (item_of g) (strip gs) i e) ∙ ap (λ xs. item_of g ∷ xs) moved
 
-agree_from : (key : Item → ℕ) (gs : List Glyph) (front : List Item) (i : ℕ) → length front ≡ i → Agree (λ (e : Keyed). e.key) (λ (e : Keyed). key (item_at (front ++ strip gs) e)) (keyed_indices_from (λ g. key (item_of g)) i gs)
+agree_from : (key : Item → ℕ) (gs : List Glyph) (front : List Item) (i : ℕ) → length front ≡ i → Agree (λ (e : KeyedIndex). e.key) (λ (e : KeyedIndex). key (item_at (front ++ strip gs) e)) (keyed_indices_from (λ g. key (item_of g)) i gs)
 agree_from key [] front i e = tt
 agree_from key (g ∷ gs) front i e =
     let rest = agree_from key gs (front ++ item_of g ∷ []) (i + 1) (one_longer front (item_of g) i e) in
-    let moved = subst (λ (xs : List Item). Agree (λ (e : Keyed). e.key) (λ (e : Keyed). key (item_at xs e)) (keyed_indices_from (λ h. key (item_of h)) (i + 1) gs)) (pushed front (item_of g) (strip gs)) rest in
+    let moved = subst (λ (xs : List Item). Agree (λ (e : KeyedIndex). e.key) (λ (e : KeyedIndex). key (item_at xs e)) (keyed_indices_from (λ h. key (item_of h)) (i + 1) gs)) (pushed front (item_of g) (strip gs)) rest in
     (ap key (sym (here front (item_of g) (strip gs) i e)), moved)
 
 -- items at the indices by key are the items in the order of the key
 items_by_key : (key : Item → ℕ) (gs : List Glyph) → map (item_at (strip gs)) (indices_by_key (λ g. key (item_of g)) gs) ≡ key_order key (strip gs)
 items_by_key key gs =
     let keyed = keyed_indices_from (λ g. key (item_of g)) 0 gs in
-    ap (map (item_at (strip gs))) (key_order_agree (λ (e : Keyed). e.key) (λ (e : Keyed). key (item_at (strip gs) e)) keyed (agree_from key gs [] 0 refl))
+    ap (map (item_at (strip gs))) (key_order_agree (λ (e : KeyedIndex). e.key) (λ (e : KeyedIndex). key (item_at (strip gs) e)) keyed (agree_from key gs [] 0 refl))
     ∙ sym (key_order_map key (item_at (strip gs)) keyed) ∙ ap (key_order key) (placed_from (λ g. key (item_of g)) gs [] 0 refl)
 
 span_strip : (level : Level) (from to : ℕ) (s : SpanMerge) → from ≤ to → strip (span_merged level from to s).glyphs ≡ strip s.glyphs
@@ -56,7 +56,7 @@ span_strip level from to s le = by_test (nat_lt (from + 1) to)
     by_test true = strip_merged_at level from to s.glyphs le
     by_test false = refl
 
-pub spans_strip : (level : Level) (start : ℕ) (order : List Keyed) (left begin index : ℕ) (s : SpanMerge) → begin ≤ index → strip (spans_merged level start order begin index left s).glyphs ≡ strip s.glyphs
+pub spans_strip : (level : Level) (start : ℕ) (order : List KeyedIndex) (left begin index : ℕ) (s : SpanMerge) → begin ≤ index → strip (spans_merged level start order begin index left s).glyphs ≡ strip s.glyphs
 spans_strip level start order zero begin index s le = refl
 spans_strip level start order (suc left) begin index s le = by_test (is_seam order (index + 1)) (spans_strip level start order left begin (index + 1) s (omega arith)) (spans_strip level start order left (index + 1) (index + 1) (span_merged level (start + begin) (start + (index + 1)) s) (omega arith))
   where
@@ -69,13 +69,13 @@ spans_strip level start order (suc left) begin index s le = by_test (is_seam ord
 strip_range : (start end : ℕ) (gs : List Glyph) → strip (slice_range gs start end) ≡ slice_range (strip gs) start end
 strip_range start end gs = sym (ap (take (end - start)) (drop-map item_of start gs) ∙ take-map item_of (end - start) (drop start gs))
 
-taken : (zs : List Glyph) (order : List Keyed) → strip (map (λ (e : Keyed). glyph_at zs e.index) order) ≡ map (item_at (strip zs)) order
+taken : (zs : List Glyph) (order : List KeyedIndex) → strip (map (λ (e : KeyedIndex). glyph_at zs e.index) order) ≡ map (item_at (strip zs)) order
 taken zs [] = refl
-taken zs (e ∷ es) = ap (λ (x : Item). x ∷ strip (map (λ (f : Keyed). glyph_at zs f.index) es)) (sym (get_or_mapped item_of zs e.index no_glyph)) ∙ ap (λ xs. item_at (strip zs) e ∷ xs) (taken zs es)
+taken zs (e ∷ es) = ap (λ (x : Item). x ∷ strip (map (λ (f : KeyedIndex). glyph_at zs f.index) es)) (sym (get_or_mapped item_of zs e.index no_glyph)) ∙ ap (λ xs. item_at (strip zs) e ∷ xs) (taken zs es)
 
-put_strip : (start end : ℕ) (order : List Keyed) (gs : List Glyph) → strip (put_in_order start end order gs) ≡ take start (strip gs) ++ map (item_at (slice_range (strip gs) start end)) order ++ drop end (strip gs)
+put_strip : (start end : ℕ) (order : List KeyedIndex) (gs : List Glyph) → strip (put_in_order start end order gs) ≡ take start (strip gs) ++ map (item_at (slice_range (strip gs) start end)) order ++ drop end (strip gs)
 put_strip start end order gs =
-    let range = map (λ (e : Keyed). glyph_at (slice_range gs start end) e.index) order in
+    let range = map (λ (e : KeyedIndex). glyph_at (slice_range gs start end) e.index) order in
     map-append item_of (take start gs ++ range) (drop end gs) ∙ ap (λ xs. xs ++ strip (drop end gs)) (map-append item_of (take start gs) range)
     ∙ ap (λ xs. strip (take start gs) ++ xs ++ strip (drop end gs)) (taken (slice_range gs start end) order ∙ ap (λ xs. map (item_at xs) order) (strip_range start end gs))
     ∙ ap (λ xs. xs ++ map (item_at (slice_range (strip gs) start end)) order ++ strip (drop end gs)) (sym (take-map item_of start gs))

@@ -177,7 +177,7 @@ pub all_idle : (n : ℕ) (merge : Bool) (level : BufferClusterLevel) (p : Glyph 
 all_idle zero merge level p gs ps pa m = refl
 all_idle (suc n) merge level p gs ps pa m = ap (all_turned merge level p n) (idle merge level p gs ps pa m) ∙ all_idle n merge level p gs ps pa m
 
--- what the walk still has to do: so many groups at most, and then it has done them all
+-- what the walk still has to do: `most` groups at most, and then it has done them all
 pub record Rest (merge : Bool) (level : BufferClusterLevel) (p : Glyph → Glyph → Bool) (start : ℕ) (gs : List Glyph) (ps : List Position) (m : Bool) (whole : Turning) : Type 0 where
   pub most : ℕ
   pub enough : length gs - start ≤ most

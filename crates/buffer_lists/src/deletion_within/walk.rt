@@ -14,19 +14,20 @@ use buffer_glyphs::level::BufferClusterLevel;
 use buffer_glyphs::position::GlyphPosition;
 use buffer_glyphs::runs::last_cluster;
 
-/// The state of a walk of deletions. Where clusters are in order, the last run of the glyphs that are left takes a new
-/// cluster only once another glyph is left after it, so that it is written once.
+/// The state of a walk of deletions. A deleted glyph may give its cluster and flags to the last run of the glyphs that
+/// were kept before it. Where clusters are in order this is put off (`due`) until the next glyph is kept, so that
+/// however many are deleted the run is written once.
 #[derive(Clone, Copy)]
 pub(super) struct Walk {
-    /// How many glyphs are left so far.
+    /// How many glyphs were kept so far; they are the first ones of the list.
     pub(super) kept: usize,
-    /// The glyph whose cluster and flags the last run of these is still to take.
+    /// The deleted glyph whose cluster and flags are still to be written on the last run of these.
     pub(super) due: Option<hb_glyph_info_t>,
     /// Whether a merge flagged a glyph.
     pub(super) marked: bool,
 }
 
-/// Gives the last run of the first `kept` glyphs the cluster and flags that it is still to take.
+/// Writes the cluster and flags of the glyph that is due, where one is, on the last run of the first `kept` glyphs.
 #[tactic(auto, using(crate::proofs::Walking::settled_put))]
 pub(super) fn settle(glyphs: &mut [hb_glyph_info_t], kept: usize, due: Option<hb_glyph_info_t>)
     requires { kept ≤ length glyphs.old }
@@ -37,7 +38,7 @@ pub(super) fn settle(glyphs: &mut [hb_glyph_info_t], kept: usize, due: Option<hb
     }
 }
 
-/// Leaves the glyph at `at`: it moves after the glyphs that are left.
+/// Keeps the glyph at `at`: it moves to directly after the glyphs that were kept before.
 #[tactic(auto, using(crate::proofs::Walking::keep_front, crate::proofs::Walking::keep_ahead))]
 fn keep_glyph(
     glyphs: &mut [hb_glyph_info_t],
@@ -86,7 +87,7 @@ fn move_position(positions: &mut [GlyphPosition], to: usize, from: usize)
     positions[to] = positions[from];
 }
 
-/// The cluster of the last glyph that is left, once it took the one that it is still to take.
+/// The cluster that the last kept glyph has in the end: that of the glyph which is due, where one is, else its own.
 #[tactic(auto, using(crate::proofs::Walking::last_settled))]
 fn last_kept(glyphs: &[hb_glyph_info_t], kept: usize, due: Option<hb_glyph_info_t>) -> u32
     requires some { 0 < kept }
@@ -99,7 +100,7 @@ fn last_kept(glyphs: &[hb_glyph_info_t], kept: usize, due: Option<hb_glyph_info_
     }
 }
 
-/// Deletes glyph `at`, where a glyph before it is left.
+/// Deletes glyph `at`, where a glyph before it was kept.
 fn delete_after_kept(glyphs: &mut [hb_glyph_info_t], at: usize, walk: Walk, in_order: bool) -> Walk
     requires some { 0 < walk.kept }
     requires within { at < length glyphs.old }

@@ -39,7 +39,7 @@ both_read (Ok a) t r e = by_second (t a.view) refl e
     by_second (Ok b) g h = record { first = a; second = b; first_is = refl; second_is = g; both = same_read (then_read a b) r h }
     by_second (Err c) g h = cc
 
--- a reading on so many items keeps the parts
+-- a reading on n items keeps the parts
 abbrev pub ReadsParts : ℕ → Reading → Type 0
 ReadsParts n a = (r : Read) (level : BufferClusterLevel) → a ≡ Ok r → AreKept level (r.events level) n (length r.view.items)
 

@@ -17,7 +17,7 @@ use Rattle.buffer_stages.specs.Moves.{FrontMove, IsGrowing, all_moved, are_one_c
 use Rattle.buffer_stages.specs.Lemmas.Moves.{moved_seen, take_both}
 use Rattle.buffer_stages.specs.Lemmas.Nested.{all_moved_seen, reach_grows}
 
--- such a number after so many of it
+-- such a number after a list of it
 one_after : (c : ℕ) (ns : List ℕ) → list_all (λ n. n == c) ns ≡ true → ns ++ c ∷ [] ≡ c ∷ ns
 one_after c [] e = refl
 one_after c (n ∷ ns) e =

@@ -108,7 +108,7 @@ after_length parts id (Some last) rest = by_test (are_marks parts || (lig_id las
 counted : (front first passed after others rest end : ℕ) → first ≡ 1 → passed + others + 1 ≡ end → after ≡ rest - end → end ≤ rest → front + first + passed + after ≡ front + rest - others
 counted front first passed after others rest end a b c d = omega (arith, a, b, c, d)
 
--- a match of some components after the first leaves so many items fewer
+-- a match of some components after the first leaves as many items fewer
 pub ligated_length : (gdef : GlyphDefinition) (glyph end : ℕ) (others : List ℕ) (x : Item) (c : Cut) → first_of c.rest ≡ Some x → AreFound 1 end others (length c.rest) → length (whole (ligated_cut gdef glyph (0 ∷ others) end c)) ≡ length (whole c) - length others
 ligated_length gdef glyph end others x c there found = by_rest c.rest refl
   where

@@ -13,7 +13,7 @@ use Rattle.buffer_stage_laws.specs.Rules.{OutcomeKeepsParts, RuleKeepsParts}
 use Rattle.buffer_stage_laws.specs.Lemmas.Stages.{nothing_keeps}
 use Rattle.layout_laws.specs.RuleParts.{NestedKeepParts}
 
--- the events of a walk, on so many items, keep the parts of the text
+-- the events of a walk, on n items, keep the parts of the text
 abbrev WalkKeeps : ℕ → RecordsOutcome → Type 0
 WalkKeeps n (Walks cut ps end es) = (level : BufferClusterLevel) → AreKept level es n (length (whole cut))
 WalkKeeps n (Stops cause) = Unit {0}

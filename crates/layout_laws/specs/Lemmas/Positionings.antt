@@ -156,7 +156,7 @@ lookup_related : (w : Limits) (i : w.Index) → IsPositioned w → (below : Appl
 lookup_related w i ways below k None d a c = ways.closed.passes i c
 lookup_related w i ways below k (Some lookup) d a c = subtable_related w i ways (below (under_flag lookup a)) (k (under_flag lookup a)) d (under_flag lookup a) lookup.subtables c
 
--- lookups nested at so many levels
+-- lookups nested at n levels
 pub nest_related : (w : Limits) → IsPositioned w → (table : List PositioningLookup) (depth : ℕ) (d : Direction) (a : ApplyContext) → NestRelated w (nested_actions table depth d a)
 unfolding nested_actions
 nest_related w ways table zero d a = tt

@@ -124,7 +124,7 @@ lookup_related : (w : Limits) (i : w.Index) → IsSubstituted w → (below : App
 lookup_related w i ways below k None a c = ways.closed.passes i c
 lookup_related w i ways below k (Some lookup) a c = subtable_related w i ways (below (under_flag lookup a)) (k (under_flag lookup a)) (under_flag lookup a) lookup.subtables c
 
--- lookups nested at so many levels
+-- lookups nested at n levels
 pub nest_related : (w : Limits) → IsSubstituted w → (table : List SubstLookup) (depth : ℕ) (a : ApplyContext) → NestRelated w (nested_actions table depth a)
 unfolding nested_actions
 nest_related w ways table zero a = tt

@@ -14,7 +14,7 @@ use Rattle.buffer_glyphs.specs.Items.{Item, item_of, strip}
 use Rattle.buffer_stages.specs.Actions.{Action}
 use Rattle.buffer_stages.specs.Buffers.{are_glyphs}
 use Rattle.buffer_stages.specs.Masks.{shares_mask}
-use Rattle.layout_match.specs.Skipping.{HoldsGlyphs, HoldsMasks, PassesAll, PassesAt}
+use Rattle.layout_match.specs.Skipping.{HoldsNumbers, HoldsMasks, PassesAll, PassesAt}
 
 pub number_there : (gs : List hb_glyph_info_t) (k : ℕ) (d : hb_glyph_info_t) → k < length gs → are_glyphs (strip gs) ≡ true → (get_or gs k d).glyph_id ≤ 65535
 number_there [] k d lt e = absurd (omega (arith, lt))
@@ -45,7 +45,7 @@ held_next has more gs k d lt held added stays n e = by_first (list_any (λ (h : 
         let same : (get_or gs k d).glyph_id ≡ n = grind (arith, nat_tests, own) in
         ap more (sym same) ∙ added
 
-pub held_all : (has : ℕ → Bool) (gs : List hb_glyph_info_t) (k : ℕ) → length gs ≤ k → HoldsFirst has k gs → HoldsGlyphs has (strip gs)
+pub held_all : (has : ℕ → Bool) (gs : List hb_glyph_info_t) (k : ℕ) → length gs ≤ k → HoldsFirst has k gs → HoldsNumbers has (strip gs)
 held_all has gs k le held n e =
     let here = sym (any_mapped (λ (x : Item). x.number == n) gs) ∙ e in
     held n (ap (list_any (λ (g : hb_glyph_info_t). g.glyph_id == n)) (take_all k gs le) ∙ here)
@@ -54,7 +54,7 @@ same_number : (n : ℕ) → (n == n) ≡ true
 same_number n = grind (arith, nat_tests)
 
 -- where what is covered is none of a text's glyphs, no item passes a test and is covered
-pub glyphs_missed : (has covers : ℕ → Bool) (test : Item → Bool) (xs : List Item) → HoldsGlyphs has xs → ((n : ℕ) → has n ≡ true → covers n ≡ false) → list_any (λ (x : Item). test x && covers x.number) xs ≡ false
+pub glyphs_missed : (has covers : ℕ → Bool) (test : Item → Bool) (xs : List Item) → HoldsNumbers has xs → ((n : ℕ) → has n ≡ true → covers n ≡ false) → list_any (λ (x : Item). test x && covers x.number) xs ≡ false
 glyphs_missed has covers test [] held apart = refl
 glyphs_missed has covers test (x ∷ xs) held apart =
     let there : has x.number ≡ true = held x.number (or_left (x.number == x.number) (list_any (λ (y : Item). y.number == x.number) xs) (same_number x.number)) in

@@ -57,7 +57,7 @@ last_none p gs from i le e = sym (subst (λ n. last_at (begins_with p) n (drop n
 
 -- ---- two left matras
 
--- whether so many left matras, with the one that was met, are two
+-- whether the left matras of a list, with the one that was met, are two
 abbrev pub are_two : Bool → List Item → Bool
 are_two met xs = if met then nat_lt 0 (length (filter is_left_matra xs)) else nat_lt 1 (length (filter is_left_matra xs))
 

@@ -51,7 +51,7 @@ later start end n xs le =
     let wide : end - start ≡ n + (end - (start + n)) = omega (arith, le) in
     sym (ap (λ k. drop n (take k (drop start xs))) wide ∙ drop-take n (end - (start + n)) (drop start xs) ∙ ap (take (end - (start + n))) (drop-drop n start xs))
 
--- so many of them
+-- the first k of them
 pub middle : {X : Type 0} (start end n k : ℕ) (xs : List X) → start + n + k ≤ end → slice_range xs (start + n) (start + n + k) ≡ take k (drop n (slice_range xs start end))
 middle start end n k xs le =
     let wide : start + n + k - (start + n) ≡ k = omega arith in

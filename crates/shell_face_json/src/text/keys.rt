@@ -25,7 +25,7 @@ use layout_common::array::Array;
 use layout_face::parts::GlyphDefinition;
 use layout_face::positioning::{PositioningLookup, PositioningTable};
 use layout_face::substitution::{SubstLookup, SubstitutionTable};
-use layout_tables::table::LayoutTable;
+use layout_tables::table::ScriptsAndFeatures;
 use serde_json::Value;
 use shell_json::cell::Cell;
 use shell_json::key_takers::{Key, Whole};
@@ -168,7 +168,7 @@ pub fn take_tables(
     Ok((substitution(gsub), positioning(gpos)))
 }
 
-fn substitution(found: Option<(LayoutTable, Array<SubstLookup>)>) -> Option<SubstitutionTable>
+fn substitution(found: Option<(ScriptsAndFeatures, Array<SubstLookup>)>) -> Option<SubstitutionTable>
     ensures { result ≡ option_map (λ t. record { inner = t.0; lookups = t.1 }) found }
 {
     match found {
@@ -177,7 +177,7 @@ fn substitution(found: Option<(LayoutTable, Array<SubstLookup>)>) -> Option<Subs
     }
 }
 
-fn positioning(found: Option<(LayoutTable, Array<PositioningLookup>)>) -> Option<PositioningTable>
+fn positioning(found: Option<(ScriptsAndFeatures, Array<PositioningLookup>)>) -> Option<PositioningTable>
     ensures { result ≡ option_map (λ t. record { inner = t.0; lookups = t.1 }) found }
 {
     match found {

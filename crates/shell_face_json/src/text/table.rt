@@ -14,7 +14,7 @@ use crate::text::rows::ListTaker;
 use crate::value::Part;
 use json::Reader;
 use layout_common::array::Array;
-use layout_tables::table::{FeatureRecord, LayoutTable};
+use layout_tables::table::{FeatureRecord, ScriptsAndFeatures};
 use serde_json::Value;
 use shell_json::fault::JsonFault;
 use shell_json::key_takers::{Key, ValueTaker, Whole};
@@ -44,7 +44,7 @@ impl<L: Lookup> TableTaker<L> {
 }
 
 impl<L: Lookup> ValueTaker for TableTaker<L> {
-    type Output = (LayoutTable, Array<L>);
+    type Output = (ScriptsAndFeatures, Array<L>);
 
     ghost means = { λ taker d table. (is_object d ≡ Ok tt) × (layout_of d ≡ Ok table.0)
         × (lookups_of L.fits (L.part taker.set_count) d ≡ Ok table.1) };
@@ -54,7 +54,7 @@ impl<L: Lookup> ValueTaker for TableTaker<L> {
         alloc: Global,
         reader: &mut Reader<'_>,
         depth: usize,
-    ) -> Result<(LayoutTable, Array<L>), Unread> {
+    ) -> Result<(ScriptsAndFeatures, Array<L>), Unread> {
         let keys = table_keys::<L>(self.set_count);
         let mut found = (None, (None, None));
         take_object(alloc, reader, depth, &keys, &mut found)?;
@@ -109,7 +109,7 @@ fn read_layout(
     scripts: &Option<Value>,
     features: &Option<Value>,
     lookup_count: usize,
-) -> Result<LayoutTable, JsonFault>
+) -> Result<ScriptsAndFeatures, JsonFault>
     ensures { IfOk result (λ t.
         layout_in (option_map view scripts.now) (option_map view features.now) lookup_count ≡ Ok t) }
 {
@@ -117,7 +117,7 @@ fn read_layout(
     let features = items(features)?;
     let scripts = read_rising(alloc, scripts, features.len())?;
     let features: Array<FeatureRecord> = read_in_turn(alloc, features, lookup_count)?;
-    Ok(LayoutTable::new(scripts, features.into_vec()))
+    Ok(ScriptsAndFeatures::new(scripts, features.into_vec()))
 }
 
 fn items(value: &Option<Value>) -> Result<&[Value], JsonFault>

@@ -76,7 +76,7 @@ pub fn have_advances(positions: &[GlyphPosition], list: &str) -> bool {
     positions.iter().copied().eq(wanted)
 }
 
-/// Whether the clusters never fall or never rise.
+/// Whether the clusters are in order: they never fall, or they never rise.
 pub fn stand_in_order(glyphs: &[hb_glyph_info_t]) -> bool
     ensures { result ≡ true → IsOrdered (clusters glyphs.now) }
 {

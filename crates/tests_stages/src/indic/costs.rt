@@ -51,7 +51,7 @@ fn glyphs_of(alloc: Global, parts: &[Part<'_>]) -> Result<Vec<(u8, Position)>, F
     Ok(glyphs)
 }
 
-/// The byte of the syllable that a glyph is of, where each has so many glyphs.
+/// The byte of the syllable that a glyph is of, where each has `size` glyphs.
 fn syllable_byte(index: usize, size: usize) -> u8 {
     let serial = index / size.max(1) % 15;
     u8::try_from(serial * 16 + 16).unwrap_or(16)
@@ -69,7 +69,7 @@ fn write(infos: &mut [hb_glyph_info_t], glyphs: &[(u8, Position)], size: usize) 
     }
 }
 
-/// A text in syllables of so many glyphs, in which each glyph has its index as its number and cluster.
+/// A text in syllables of `size` glyphs, in which each glyph has its index as its number and cluster.
 fn text(
     alloc: Global,
     level: BufferClusterLevel,

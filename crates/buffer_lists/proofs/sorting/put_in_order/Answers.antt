@@ -1,4 +1,4 @@
-use Rattle.buffer_lists.specs.declared.sorting.Keyed.{Keyed}
+use Rattle.buffer_lists.specs.declared.sorting.KeyedIndex.{KeyedIndex}
 use Rattle.buffer_lists.specs.Sorting.{glyph_at}
 use Rattle.std.proofs.Common.{get_or, refl}
 use Rattle.buffer_lists.specs.Lemmas.Neighbours.{no_glyph}
@@ -8,7 +8,7 @@ use Rattle.buffer_lists.proofs.sorting.put_in_order.Goals as goal
 pub loop-index-preserved : goal.loop-index-preserved
 loop-index-preserved c =
     let inv = c.loop-index.invariant in
-    let taken = λ (e : Keyed). glyph_at c.args.copy.now e.index in
+    let taken = λ (e : KeyedIndex). glyph_at c.args.copy.now e.index in
     let glyph = taken (get_or c.args.order.now c.loop-index.index no_key) in
     record {
       put = put_step taken c.args.order.now c.args.range.now c.loop-index.range c.loop-index.index no_key glyph no_glyph c.loop-index-test.true c.requires.long inv.put refl;

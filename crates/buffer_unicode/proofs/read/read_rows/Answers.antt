@@ -9,10 +9,10 @@ returns-clause-rising g c =
     let done : drop c.loop-numbers.numbers-index c.args.rows.now ≡ [] = drop_all c.loop-numbers.numbers-index c.args.rows.now (omega arith) in
     let faults = rw done at c.loop-numbers.invariant.faults in
     let records = rw (done, append-nil) at c.loop-numbers.invariant.records in
-    rises_without_fault g.R.Row.is_in_range g.R.Keyed.high g.R.Keyed.low (map g.R.Row.of_numbers c.args.rows.now) c.loop-numbers.records.items (sym faults) records
+    rises_without_fault g.R.Row.is_in_range g.R.DoublyKeyed.high g.R.DoublyKeyed.low (map g.R.Row.of_numbers c.args.rows.now) c.loop-numbers.records.items (sym faults) records
 
 pub loop-numbers-preserved : goal.loop-numbers-preserved
 loop-numbers-preserved g c = record {
-  records = rw c.in_ok-push.ensures.items (one_more g.R.Row.of_numbers g.R.Row.is_in_range g.R.Keyed.high g.R.Keyed.low c.args.rows.now c.loop-numbers.numbers-index c.numbers-item.result c.in-Some.row c.loop-numbers-test.true c.numbers-item.is c.in-Some.ensures c.loop-numbers.records.items c.loop-numbers.invariant.records);
-  faults = no_fault g.R.Row.of_numbers g.R.Row.is_in_range g.R.Keyed.high g.R.Keyed.low c.args.rows.now c.loop-numbers.numbers-index c.numbers-item.result c.in-Some.row c.loop-numbers-test.true c.numbers-item.is c.in-Some.ensures c.loop-numbers.before _ c.loop-numbers.invariant.faults (sym c.follows.ensures ∙ c.if-not-follows.false);
+  records = rw c.in_ok-push.ensures.items (one_more g.R.Row.of_numbers g.R.Row.is_in_range g.R.DoublyKeyed.high g.R.DoublyKeyed.low c.args.rows.now c.loop-numbers.numbers-index c.numbers-item.result c.in-Some.row c.loop-numbers-test.true c.numbers-item.is c.in-Some.ensures c.loop-numbers.records.items c.loop-numbers.invariant.records);
+  faults = no_fault g.R.Row.of_numbers g.R.Row.is_in_range g.R.DoublyKeyed.high g.R.DoublyKeyed.low c.args.rows.now c.loop-numbers.numbers-index c.numbers-item.result c.in-Some.row c.loop-numbers-test.true c.numbers-item.is c.in-Some.ensures c.loop-numbers.before _ c.loop-numbers.invariant.faults (sym c.follows.ensures ∙ c.if-not-follows.false);
 }

@@ -1,6 +1,6 @@
 use Rattle.std.proofs.Common.{ap}
 use Rattle.buffer_tags.specs.LanguageTable.{tags_of_table}
-use Rattle.script_categories.specs.Fronts.{syllable_at}
+use Rattle.script_categories.specs.LongestMatch.{syllable_at}
 use Rattle.kuspveli_c.proofs.Plans.{refused_by_data}
 use Rattle.kuspveli_c.proofs.plan.shape_kept.Goals as goal
 

@@ -9,21 +9,21 @@ use Rattle.layout_gsub.specs.Uniting.{IsMerged}
 use Rattle.layout_gsub.proofs.LigatureMade.{after_is, after_small, first_is, last_ends, ligature_made, number_is, passed_is}
 use Rattle.layout_gsub.proofs.ligate.ligate_input.Goals as goal
 
-pub new-parts-requires-clause-last : goal.new-parts-requires-clause-last
-new-parts-requires-clause-last c = let last = last_ends 0 c.args.others.now in let ends = c.requires.end in omega (arith, last, ends)
+pub new-components-requires-clause-last : goal.new-components-requires-clause-last
+new-components-requires-clause-last c = let last = last_ends 0 c.args.others.now in let ends = c.requires.end in omega (arith, last, ends)
 
 pub returns-clause-made : goal.returns-clause-made
 returns-clause-made c = λ r.
     let s = c.args.buffer.now in
-    let a = c.merge_parts-lig_id.new.buffer in
-    let b = c.unite_parts.new.buffer in
+    let a = c.merge_components-lig_id.new.buffer in
+    let b = c.unite_components.new.buffer in
     let new = c.renumber_behind.new.buffer in
     let others = c.args.others.now in
     let end = c.args.end in
     let gdef = c.args.face.now.gdef in
-    let p = c.new-parts.result in
-    let scratch_flags = c.new-parts.ensures in
-    let id = c.merge_parts-lig_id.result in
+    let p = c.new-components.result in
+    let scratch_flags = c.new-components.ensures in
+    let id = c.merge_components-lig_id.result in
     let g = c.cur.result.now in
     let x = item_of c.ligature_info-first.result in
     let ps = items_at (0 ∷ others) (strip s.ahead) in
@@ -34,9 +34,9 @@ returns-clause-made c = λ r.
     let before : end - 1 < length s.ahead = omega (arith, last, ends, within) in
     let h = get_or s.ahead (end - 1) g in
     let at : slice_get s.ahead (end - 1) ≡ _ = slice_get-get_or s.ahead (end - 1) g before in
-    let id-is = number_is id s.lig_id p.have_own_number ps scratch_flags.own c.merge_parts-lig_id.ensures.given in
+    let id-is = number_is id s.lig_id p.have_own_number ps scratch_flags.own c.merge_components-lig_id.ensures.given in
     let P : Bool → Type 0 = λ own. IsMerged end (if own then next_lig_id s.lig_id else s.lig_id) s a in
-    let merged = subst P scratch_flags.own c.merge_parts-lig_id.ensures.merged in
+    let merged = subst P scratch_flags.own c.merge_components-lig_id.ensures.merged in
     let ahead-a = ap (λ (t : Cut). t.rest) merged.cut_is in
     let first = first_is gdef c.args.glyph id p.component_count s.lig_id p.have_own_number ps x (item_of g) scratch_flags.own scratch_flags.count id-is c.ligature_info-first.ensures.item in
     let passed = passed_items p.have_own_number id c.from.result p.first_components 1 others (strip a.ahead) in
@@ -44,9 +44,9 @@ returns-clause-made c = λ r.
     let behind = if p.are_marks || (p.last_lig_id == 0) then strip b.ahead else following_items id p.last_lig_id p.component_count p.last_components (strip b.ahead) in
     let tells = scratch_flags.last h at in
     let is-ahead = after_is p.are_marks p.last_lig_id p.last_components p.component_count id end others s h (strip b.ahead) ends at scratch_flags.marks scratch_flags.count tells.0 tells.1 ∙ ap (λ n. after_components ps n (slice_get (strip s.ahead) (last_index (0 ∷ others))) (strip b.ahead)) id-is in
-    ligature_made gdef c.args.glyph end r others x passed behind s a b new g small ends within c.cur.ensures merged first is-passed c.in_ok-unite_parts.ensures.united is-ahead
+    ligature_made gdef c.args.glyph end r others x passed behind s a b new g small ends within c.cur.ensures merged first is-passed c.in_ok-unite_components.ensures.united is-ahead
     (λ k. after_small (p.are_marks || (p.last_lig_id == 0)) id p.last_lig_id p.component_count p.last_components (strip b.ahead) ∙ k) c.renumber_behind.ensures
 
 pub returns-clause-apart : goal.returns-clause-apart
 returns-clause-apart c =
-    ap (λ (t : Sides). t.is_apart) c.renumber_behind.ensures.others ∙ ap (λ (t : Sides). t.is_apart) c.in_ok-unite_parts.ensures.united.others ∙ c.merge_parts-lig_id.ensures.apart
+    ap (λ (t : Sides). t.is_apart) c.renumber_behind.ensures.others ∙ ap (λ (t : Sides). t.is_apart) c.in_ok-unite_components.ensures.united.others ∙ c.merge_components-lig_id.ensures.apart

@@ -9,4 +9,4 @@ loop-i-preserved c =
 
 pub returns-clause-made : goal.returns-clause-made
 returns-clause-made c = λ r.
-    output_made c.args.face.now.gdef c.args.glyphs.now c.loop-i.i r c.cur.result.now c.args.buffer.now c.loop-i.buffer c.skip_glyph.new.self c.requires.there c.cur.ensures c.requires.some (all_small c.args.glyphs.now (λ i. omega (arith, c.type_inv.glyphs i))) c.loop-i-test.false c.loop-i.auto.i-end c.loop-i.invariant c.skip_glyph.ensures.skipped
+    output_made c.args.face.now.gdef c.args.glyphs.now c.loop-i.i r c.cur.result.now c.args.buffer.now c.loop-i.buffer c.skip_glyph.new.self c.requires.current.current c.cur.ensures c.requires.some (all_small c.args.glyphs.now (λ i. omega (arith, c.type_inv.glyphs i))) c.loop-i-test.false c.loop-i.auto.i-end c.loop-i.invariant c.skip_glyph.ensures.skipped

@@ -10,7 +10,7 @@ returns-then-held-clause-performs c =
     let ctx = c.args.ctx.now in
     let small : c.args.glyph ≤ 65535 = omega arith in
     let after = c.in_ok-held.ensures.replaced (ap Ok c.if-held.true) ∙ ap (λ (k : ℕ). with_replaced_glyph k mid) c.from.ensures in
-    glyph_performed ctx.face.now.gdef c.args.glyph ctx.random_state c.substituted_props-props.result c.args.buffer.now mid c.replace_glyph.new.self c.cur.result.now c.cur.ensures c.requires.there small c.substituted_props-props.ensures (c.set_glyph_props.ensures.set c.cur.result.now c.cur.ensures) (sym c.in_ok-held.ensures.held ∙ c.if-held.true) after c.in_ok-held.ensures.origins
+    glyph_performed ctx.face.now.gdef c.args.glyph ctx.random_state c.substituted_props-props.result c.args.buffer.now mid c.replace_glyph.new.self c.cur.result.now c.cur.ensures c.requires.current.current small c.substituted_props-props.ensures (c.set_glyph_props.ensures.set c.cur.result.now c.cur.ensures) (sym c.in_ok-held.ensures.held ∙ c.if-held.true) after c.in_ok-held.ensures.origins
 
 pub returns-then-held-clause-apart : goal.returns-then-held-clause-apart
 returns-then-held-clause-apart c = ap (λ (t : Sides). t.is_apart) (c.in_ok-held.ensures.replaced (ap Ok c.if-held.true)) ∙ c.set_glyph_props.ensures.apart

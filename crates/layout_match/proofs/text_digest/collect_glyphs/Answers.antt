@@ -11,15 +11,15 @@ as_glyph-requires g c = number_there c.args.glyphs.now c.loop-info.info-index no
 
 pub loop-info-preserved : goal.loop-info-preserved
 loop-info-preserved g c =
-    let before = g.D.hb_set_digest_ext.may_have c.loop-info.digest in
-    let after = g.D.hb_set_digest_ext.may_have c.add.new.self in
+    let before = g.D.hb_set_digest_ext.may_contain c.loop-info.digest in
+    let after = g.D.hb_set_digest_ext.may_contain c.add.new.self in
     record {
       glyphs = held_next before after c.args.glyphs.now c.loop-info.info-index none c.loop-info-test.true c.loop-info.invariant.glyphs (ap after (sym c.as_glyph.ensures) ∙ c.add.ensures.added) c.add.ensures.stays;
       features = masks_next c.loop-info.features c.features_of-features.result c.args.glyphs.now c.loop-info.info-index none c.loop-info-test.true c.loop-info.invariant.features c.features_of-features.ensures;
     }
 
 pub returns-clause-glyphs : goal.returns-clause-glyphs
-returns-clause-glyphs g c = held_all (g.D.hb_set_digest_ext.may_have c.loop-info.digest) c.args.glyphs.now c.loop-info.info-index (omega (arith, c.loop-info-test.false)) c.loop-info.invariant.glyphs
+returns-clause-glyphs g c = held_all (g.D.hb_set_digest_ext.may_contain c.loop-info.digest) c.args.glyphs.now c.loop-info.info-index (omega (arith, c.loop-info-test.false)) c.loop-info.invariant.glyphs
 
 pub returns-clause-features : goal.returns-clause-features
 returns-clause-features g c = masks_all c.loop-info.features c.args.glyphs.now c.loop-info.info-index (omega (arith, c.loop-info-test.false)) c.loop-info.invariant.features

@@ -15,7 +15,7 @@ pub loop-last-init : goal.loop-last-init
 loop-last-init c =
     let s = c.args.buffer.now in
     record {
-      underway = first_run (lookup_action c.args.table.now.lookups s.direction (apply_context_of c.args.ctx.now) c.args.lookup.now) c.args.ctx.now.random_state s c.pass_idle.new.buffer c.requires.ready (c.pass_idle.ensures c.args.table.now.lookups);
+      underway = first_run (lookup_action c.args.table.now.lookups s.direction (apply_context_of c.args.ctx.now) c.args.lookup.now) c.args.ctx.now.random_state s c.pass_idle.new.buffer c.requires.glyphs.ready (c.pass_idle.ensures c.args.table.now.lookups);
       kept = c.new-last.ensures (apply_context_of c.args.ctx.now) (items_of c.pass_idle.new.buffer);
     }
 
@@ -48,15 +48,15 @@ returns-in_err-apply_next-clause-stage c =
     let there : 0 < length c.loop-last.buffer.ahead = omega (arith, c.idx.ensures, c.len.ensures.input, c.loop-last-test.true) in
     stage_refused c.from_residual.result cause _ _ _ _ _ c.from_residual.ensures.1
     (λ not_memory.
-    over_refused (λ d. lookup_action c.args.table.now.lookups d (apply_context_of c.args.ctx.now) c.args.lookup.now) (length (all_glyphs s)) c.args.ctx.now.random_state s c.loop-last.buffer cause c.requires.ready refl there c.loop-last.invariant.underway (c.in_err-apply_next.ensures.err not_memory))
+    over_refused (λ d. lookup_action c.args.table.now.lookups d (apply_context_of c.args.ctx.now) c.args.lookup.now) (length (all_glyphs s)) c.args.ctx.now.random_state s c.loop-last.buffer cause c.requires.glyphs.ready refl there c.loop-last.invariant.underway (c.in_err-apply_next.ensures.err not_memory))
 
 pub returns-clause-stage : goal.returns-clause-stage
 returns-clause-stage c =
     let s = c.args.buffer.now in
     let now = c.loop-last.buffer in
-    let closed : now.is_open ≡ false = still_open s now c.loop-last.invariant.underway.still ∙ c.requires.ready.closed in
+    let closed : now.is_open ≡ false = still_open s now c.loop-last.invariant.underway.still ∙ c.requires.glyphs.ready.closed in
     let there : c.move_to.new.self ≡ after_move_to 0 now = c.move_to.ensures.moved (c.move_to.ensures.in_place closed) in
     let places : length c.move_to.new.self.positions ≡ length (all_glyphs c.move_to.new.self) = ap length (sym c.pos_slice-after.ensures.same) ∙ c.pos_slice-after.ensures.len in
     let none : length now.ahead ≡ 0 = omega (arith, c.idx.ensures, c.len.ensures.input, c.loop-last-test.false) in
-    looked_over_done (lookup_action c.args.table.now.lookups s.direction (apply_context_of c.args.ctx.now) c.args.lookup.now) c.len-end.result (length (all_glyphs s)) c.args.ctx.now.random_state s now c.move_to.new.self c.requires.ready refl none c.loop-last.invariant.underway
+    looked_over_done (lookup_action c.args.table.now.lookups s.direction (apply_context_of c.args.ctx.now) c.args.lookup.now) c.len-end.result (length (all_glyphs s)) c.args.ctx.now.random_state s now c.move_to.new.self c.requires.glyphs.ready refl none c.loop-last.invariant.underway
     c.len-end.ensures.input (c.len-end.ensures.count closed) there places

@@ -234,11 +234,11 @@ apply_rule-apply_records-requires t c =
     let r = chain_of c.args.rule.now in
     let ps = c.match_chain.new.indices.items in
     let end = c.in-Some.end in
-    let closed_there = matched_closed a r c.args.ctx.now.random_state end ps s mid m c.requires.closed in
-    let unrefused = matched_unrefused a r c.args.ctx.now.random_state end ps s mid m c.requires.unrefused in
-    let numbers = matched_numbers a r c.args.ctx.now.random_state end ps s mid m c.requires.number in
+    let closed_there = matched_closed a r c.args.ctx.now.random_state end ps s mid m c.requires.at_glyph_in_place.closed in
+    let unrefused = matched_unrefused a r c.args.ctx.now.random_state end ps s mid m c.requires.at_glyph_in_place.unrefused in
+    let numbers = matched_numbers a r c.args.ctx.now.random_state end ps s mid m c.requires.at_glyph_in_place.numbers in
     let rising = match_inside a r c.args.ctx.now.random_state end ps s mid m in
-    (omega (arith, c.decreases), (closed_there, (unrefused, (numbers, (matched_kept a r c.args.ctx.now.random_state end ps c.args.last.now s mid m c.requires.kept, (rising, m.within))))))
+    (omega (arith, c.decreases), (record { closed = closed_there; unrefused = unrefused; numbers = numbers }, (matched_kept a r c.args.ctx.now.random_state end ps c.args.last.now s mid m c.requires.kept, (rising, m.within))))
 
 pub apply_record-recurse-requires : goal.apply_record-recurse-requires
 apply_record-recurse-requires t c =
@@ -248,7 +248,13 @@ apply_record-recurse-requires t c =
     let ps = c.args.indices.now.items in
     let p = c.in-Ok-Some.index_in_match in
     let b : IsRecordBegun k ps p s mid = begun_some k ps p c.in-Ok-Some.field-0 s mid (let f = c.in-Ok-Some.field-0-is in let g = c.in-Ok-Some.index_in_match-is in cc) c.in-Ok-Some.ensures.begins in
-    (omega (arith, c.decreases), (begun_closed k ps p s mid b c.requires.closed, (begun_unrefused k ps p s mid b c.requires.unrefused, (b.ahead, (begun_numbers k ps p s mid b c.requires.number, begun_kept k ps p (apply_context_of c.args.ctx.now) c.args.last.now s mid b c.requires.kept)))))
+    let among = c.requires.among_glyphs_in_place in (
+      omega (arith, c.decreases),
+      (
+        record { closed = begun_closed k ps p s mid b among.closed; current = b.ahead; unrefused = begun_unrefused k ps p s mid b among.unrefused; numbers = begun_numbers k ps p s mid b among.numbers },
+        begun_kept k ps p (apply_context_of c.args.ctx.now) c.args.last.now s mid b c.requires.kept,
+      ),
+    )
 
 pub apply_rule-returns-in_default-clause-kept : goal.apply_rule-returns-in_default-clause-kept
 apply_rule-returns-in_default-clause-kept t c =

@@ -18,10 +18,10 @@ returns-then-is_reverse-clause-stage c =
 pub returns-then-is_idle-clause-stage : goal.returns-then-is_idle-clause-stage
 returns-then-is_idle-clause-stage c =
     let s = c.args.buffer.now in
-    let count = c.len-count.ensures.count c.requires.ready.closed in
-    let most = c.len-count.ensures.within c.requires.ready.closed in
+    let count = c.len-count.ensures.count c.requires.glyphs.ready.closed in
+    let most = c.len-count.ensures.within c.requires.glyphs.ready.closed in
     let within : length (all_glyphs s) ≤ s.max_len = omega (arith, count, most) in
-    idle_done c.args.table.now.lookups (apply_context_of c.args.ctx.now) c.args.lookup.now c.args.ctx.now.random_state s c.skip_lookup.new.buffer c.requires.ready within (c.is_idle.ensures.idle c.if-is_idle.true) c.skip_lookup.ensures.backward c.skip_lookup.ensures.forward
+    idle_done c.args.table.now.lookups (apply_context_of c.args.ctx.now) c.args.lookup.now c.args.ctx.now.random_state s c.skip_lookup.new.buffer c.requires.glyphs.ready within (c.is_idle.ensures.idle c.if-is_idle.true) c.skip_lookup.ensures.backward c.skip_lookup.ensures.forward
 
 pub returns-then-is_idle-clause-unchanged : goal.returns-then-is_idle-clause-unchanged
 returns-then-is_idle-clause-unchanged c = λ _. skipped_items (is_reverse c.args.lookup.now.subtables) c.args.buffer.now c.skip_lookup.new.buffer c.skip_lookup.ensures.backward c.skip_lookup.ensures.forward

@@ -22,7 +22,7 @@ loop-at-preserved c =
 pub returns-clause-unchanged : goal.returns-clause-unchanged
 returns-clause-unchanged c none =
     let now = c.loop-at.buffer in
-    let closed : now.is_open ≡ false = still_open c.args.buffer.now now c.loop-at.invariant.on_its_way.still ∙ c.requires.ready.closed in
+    let closed : now.is_open ≡ false = still_open c.args.buffer.now now c.loop-at.invariant.on_its_way.still ∙ c.requires.glyphs.ready.closed in
     let there : c.move_to.new.self ≡ after_move_to 0 now = c.move_to.ensures.moved (c.move_to.ensures.in_place closed) in
     ap items_of there ∙ c.loop-at.invariant.unchanged none
 
@@ -32,9 +32,9 @@ returns-clause-stage c =
     let s = c.args.buffer.now in
     let now = c.loop-at.buffer in
     let count = length (all_glyphs s) in
-    let closed : now.is_open ≡ false = still_open s now c.loop-at.invariant.on_its_way.still ∙ c.requires.ready.closed in
+    let closed : now.is_open ≡ false = still_open s now c.loop-at.invariant.on_its_way.still ∙ c.requires.glyphs.ready.closed in
     let none : c.loop-at.at ≡ 0 = omega (arith, c.loop-at-test.false) in
     let P : ℕ → Type 0 = λ n. IsOnItsWayBack act count n s now in
     let there : c.move_to.new.self ≡ after_move_to 0 now = c.move_to.ensures.moved (c.move_to.ensures.in_place closed) in
     let places : length c.move_to.new.self.positions ≡ length (all_glyphs c.move_to.new.self) = ap length (sym c.pos_slice-after.ensures.same) ∙ c.pos_slice-after.ensures.len in
-    looked_back_done act c.len-end.result count s now c.move_to.new.self c.requires.ready refl (subst P none c.loop-at.invariant.on_its_way) c.len-end.ensures.input (c.len-end.ensures.count closed) there places
+    looked_back_done act c.len-end.result count s now c.move_to.new.self c.requires.glyphs.ready refl (subst P none c.loop-at.invariant.on_its_way) c.len-end.ensures.input (c.len-end.ensures.count closed) there places

@@ -87,7 +87,7 @@ returns-then-not-branch-clause-stage c =
     let act = lookup_action c.args.table.now.lookups (apply_context_of ctx) c.args.lookup.now in
     let none : length c.loop-ctx.buffer.ahead ≡ 0 = omega (arith, c.idx.ensures, c.len.ensures.input, c.loop-ctx-test.false) in
     let full : fits_joined c.loop-ctx.buffer ≡ false = sym c.in_ok-sync.ensures.held ∙ c.if-not-branch.true in
-    λ not_memory. looked_up_long act (length (all_glyphs s)) ctx.random_state c.loop-ctx.ctx.random_state s c.loop-ctx.buffer c.requires.ready refl none c.loop-ctx.invariant.underway full
+    λ not_memory. looked_up_long act (length (all_glyphs s)) ctx.random_state c.loop-ctx.ctx.random_state s c.loop-ctx.buffer c.requires.glyphs.ready refl none c.loop-ctx.invariant.underway full
 
 pub returns-clause-stage : goal.returns-clause-stage
 returns-clause-stage c =
@@ -97,7 +97,7 @@ returns-clause-stage c =
     let none : length c.loop-ctx.buffer.ahead ≡ 0 = omega (arith, c.idx.ensures, c.len.ensures.input, c.loop-ctx-test.false) in
     let fits : fits_joined c.loop-ctx.buffer ≡ true = sym c.in_ok-sync.ensures.held ∙ c.if-not-branch.false in
     let answer : c.sync.result ≡ Ok true = c.in_ok-sync.was ∙ ap Ok c.if-not-branch.false in
-    looked_up_done act (length (all_glyphs s)) ctx.random_state c.loop-ctx.ctx.random_state s c.loop-ctx.buffer c.sync.new.self c.requires.ready refl none c.loop-ctx.invariant.underway fits (c.sync.ensures.joined answer)
+    looked_up_done act (length (all_glyphs s)) ctx.random_state c.loop-ctx.ctx.random_state s c.loop-ctx.buffer c.sync.new.self c.requires.glyphs.ready refl none c.loop-ctx.invariant.underway fits (c.sync.ensures.joined answer)
 
 pub returns-clause-unchanged : goal.returns-clause-unchanged
 returns-clause-unchanged c e =

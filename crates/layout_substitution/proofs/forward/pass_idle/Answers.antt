@@ -6,10 +6,10 @@ use Rattle.layout_substitution.proofs.forward.pass_idle.Goals as goal
 pub returns-then-not-branch-clause-err : goal.returns-then-not-branch-clause-err
 returns-then-not-branch-clause-err c = λ _. (
   refl,
-  λ table. lookup_run_too_long table (apply_context_of c.args.ctx.now) c.args.lookup.now c.idle_run-count.result c.args.buffer.now c.if-count-eq0.false c.idle_run-count.ensures.within c.idle_run-count.ensures.idle c.requires.open (sym c.in_ok-next_glyphs.ensures.held ∙ c.if-not-branch.true),
+  λ table. lookup_run_too_long table (apply_context_of c.args.ctx.now) c.args.lookup.now c.idle_run-count.result c.args.buffer.now c.if-count-eq0.false c.idle_run-count.ensures.within c.idle_run-count.ensures.idle c.requires.among_glyphs.opened (sym c.in_ok-next_glyphs.ensures.held ∙ c.if-not-branch.true),
 )
 
 pub returns-clause-ok : goal.returns-clause-ok
 returns-clause-ok c = λ table.
     let answer : c.next_glyphs.result ≡ Ok true = c.in_ok-next_glyphs.was ∙ ap Ok c.if-not-branch.false in
-    lookup_run table (apply_context_of c.args.ctx.now) c.args.lookup.now c.idle_run-count.result c.args.buffer.now c.next_glyphs.new.self c.idle_run-count.ensures.within c.idle_run-count.ensures.idle c.requires.open (sym c.in_ok-next_glyphs.ensures.held ∙ c.if-not-branch.false) (c.next_glyphs.ensures.moved answer)
+    lookup_run table (apply_context_of c.args.ctx.now) c.args.lookup.now c.idle_run-count.result c.args.buffer.now c.next_glyphs.new.self c.idle_run-count.ensures.within c.idle_run-count.ensures.idle c.requires.among_glyphs.opened (sym c.in_ok-next_glyphs.ensures.held ∙ c.if-not-branch.false) (c.next_glyphs.ensures.moved answer)

@@ -248,8 +248,8 @@ apply_rule-apply_records-requires t c =
     let new = c.match_chain.new.buffer in
     let ps = c.match_chain.new.indices.items in
     let m : IsMatched a r c.args.ctx.now.random_state c.in-Some.end ps old new = c.in-Some.ensures in
-    let open_there = matched_open a r c.args.ctx.now.random_state c.in-Some.end ps old new m c.requires.open in
-    let unrefused = matched_unrefused a r c.args.ctx.now.random_state c.in-Some.end ps old new m c.requires.unrefused in
-    let numbers = matched_numbers a r c.args.ctx.now.random_state c.in-Some.end ps old new m c.requires.number in
+    let open_there = matched_open a r c.args.ctx.now.random_state c.in-Some.end ps old new m c.requires.at_glyph.opened in
+    let unrefused = matched_unrefused a r c.args.ctx.now.random_state c.in-Some.end ps old new m c.requires.at_glyph.unrefused in
+    let numbers = matched_numbers a r c.args.ctx.now.random_state c.in-Some.end ps old new m c.requires.at_glyph.numbers in
     let rising = match_inside a r c.args.ctx.now.random_state c.in-Some.end ps old new m in
-    (omega (arith, c.decreases), (open_there, (unrefused, (numbers, (rising, m.within)))))
+    (omega (arith, c.decreases), (record { opened = open_there; unrefused = unrefused; numbers = numbers }, (rising, m.within)))

@@ -4,7 +4,7 @@ use Rattle.script_arabic.proofs.Copied.{AreCopied, more_copied, on_ok, passed_on
 use Rattle.script_arabic.proofs.copying.pass.Goals as goal
 
 pub loop-preserved : goal.loop-preserved
-loop-preserved c = more_copied c.loop.counter c.args.buffer.now c.loop.buffer c.copy_current.new.buffer c.requires.there c.loop.invariant c.in_ok-copy_current.ensures.ok
+loop-preserved c = more_copied c.loop.counter c.args.buffer.now c.loop.buffer c.copy_current.new.buffer c.requires.current.current c.loop.invariant c.in_ok-copy_current.ensures.ok
 
 pub returns-clause-ok : goal.returns-clause-ok
 returns-clause-ok c =

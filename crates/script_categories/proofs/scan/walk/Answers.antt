@@ -1,7 +1,7 @@
 use Rattle.std.proofs.Common.{ℕ, ◌≡◌, ◌+◌, take, get_or, Option, None, Some, sym, ap, ◌∙◌}
-use Rattle.script_categories.specs.Fronts.{front_or, kind_in, kind_of_front, state_by}
+use Rattle.script_categories.specs.LongestMatch.{found_or, kind_in, kind_of_prefix, state_by}
 use Rattle.script_categories.specs.Machines.{machine_in}
-use Rattle.script_categories.proofs.Walks.{led_on, longer_front, ends_here}
+use Rattle.script_categories.proofs.Walks.{led_on, longer_found, ends_here}
 use Rattle.script_categories.proofs.scan.walk.Goals as goal
 
 pub returns-in_default : goal.returns-in_default
@@ -11,7 +11,7 @@ returns-in_default c =
     let i = c.loop-i.i in
     let on = led_on m cs i 0 c.loop-i.state c.loop-i-test.true c.loop-i.invariant.state in
     let none : state_by m (Some c.loop-i.state) (get_or cs i 0) ≡ None = sym c.next_state.ensures ∙ c.in_default.is in
-    c.loop-i.invariant.front ∙ sym (ends_here m cs i c.loop-i-test.true (on ∙ none))
+    c.loop-i.invariant.found ∙ sym (ends_here m cs i c.loop-i-test.true (on ∙ none))
 
 pub loop-i-preserved : goal.loop-i-preserved
 loop-i-preserved c =
@@ -22,7 +22,7 @@ loop-i-preserved c =
     let some : state_by m (Some c.loop-i.state) (get_or cs i 0) ≡ Some c.in-Some.next = sym c.next_state.ensures ∙ c.in-Some.is in
     let kind = c.kind_of.ensures ∙ ap (kind_in m) (sym (on ∙ some)) in
     record {
-      front = c.longer-front.ensures ∙ ap (λ (k : Option ℕ). front_or k (i + 1) c.loop-i.front) kind
-          ∙ ap (front_or (kind_of_front m (take (i + 1) cs)) (i + 1)) c.loop-i.invariant.front ∙ sym (longer_front m cs i);
+      found = c.longer-found.ensures ∙ ap (λ (k : Option ℕ). found_or k (i + 1) c.loop-i.found) kind
+          ∙ ap (found_or (kind_of_prefix m (take (i + 1) cs)) (i + 1)) c.loop-i.invariant.found ∙ sym (longer_found m cs i);
       state = sym (on ∙ some);
     }

@@ -1,11 +1,11 @@
 use Rattle.std.proofs.Common.{◌≡◌, take, Some}
-use Rattle.script_categories.specs.Fronts.{longest_up_to, state_after}
+use Rattle.script_categories.specs.LongestMatch.{longest_up_to, state_after}
 use Rattle.script_categories.specs.Machines.{machine_in}
 use Rattle.script_categories.proofs.scan.walk.Given as goal
 
--- the longest of the fronts so far, and the state that they lead to
+-- the longest prefix so far, and the state that they lead to
 abbrev pub invariant-loop-i : goal.invariant-loop-i
 invariant-loop-i l = record {
-  front : l.front ≡ longest_up_to (machine_in l.machine) l.categories l.i;
+  found : l.found ≡ longest_up_to (machine_in l.machine) l.categories l.i;
   state : Some l.state ≡ state_after (machine_in l.machine) (take l.i l.categories);
 }

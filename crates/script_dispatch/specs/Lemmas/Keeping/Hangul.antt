@@ -103,7 +103,7 @@ letters_long : (n : ℕ) (xs : List Item) → length (letters_from n xs) ≡ len
 letters_long n [] = refl
 letters_long n (x ∷ xs) = ap suc (letters_long (n + 1) xs)
 
--- what a step makes of the first item of n, after so many before them
+-- what a step makes of the first item of n, after `at` items before them
 abbrev StepKept : Step → BufferClusterLevel → ℕ → ℕ → Type 0
 StepKept s level at n = ArePlainlyKept (s.events level) (at + n) (length s.out + (n - (s.more + 1)))
 

@@ -30,7 +30,12 @@ returns-clause-brings_none g c = λ e.
     let forms = g.F.IndicForms.forms_of c.args.forms.now in
     brings_then (consonants_updated forms c.args.virama) c.args.buffer.now c.update_positions.new.buffer (items_of c.insert_and_reorder.new.buffer) c.update_positions.ensures (c.insert_and_reorder.ensures.brings_none e)
 
-pub insert_and_reorder-requires-clause-numbers : goal.insert_and_reorder-requires-clause-numbers
-insert_and_reorder-requires-clause-numbers g c =
+pub insert_and_reorder-requires : goal.insert_and_reorder-requires
+insert_and_reorder-requires g c =
     let forms = g.F.IndicForms.forms_of c.args.forms.now in
-    numbers_stay (consonants_updated forms c.args.virama) c.args.buffer.now c.update_positions.new.buffer c.update_positions.ensures c.requires.numbers
+    record {
+      glyphs = record {
+        ready = c.update_positions.ensures.followed.ready;
+        numbers = numbers_stay (consonants_updated forms c.args.virama) c.args.buffer.now c.update_positions.new.buffer c.update_positions.ensures c.requires.glyphs.numbers;
+      };
+    }

@@ -27,7 +27,7 @@ loop-start-preserved c =
     let count = c.len-count.ensures.count c.requires.ready.closed in
     let same = c.loop-start.invariant.count in
     let lt : c.loop-start.start < length (all_glyphs now) = omega (arith, c.loop-start-test.true, count, same) in
-    formed_on c.args.masks.now c.loop-start.before c.loop-start.start c.next_syllable-end.result c.args.buffer.now now c.form_syllable-before.new.buffer c.form_syllable-before.result c.loop-start.invariant lt c.next_syllable-end.ensures c.form_syllable-before.ensures.rewritten c.form_syllable-before.ensures.joins
+    formed_on c.args.masks.now c.loop-start.before c.loop-start.start c.next_syllable-end.result c.args.buffer.now now c.form_syllable-before.new.buffer c.form_syllable-before.result c.loop-start.invariant lt c.next_syllable-end.ensures c.form_syllable-before.ensures.rewritten c.form_syllable-before.ensures.connects
 
 pub returns : goal.returns
 returns c =

@@ -4,15 +4,12 @@ use Rattle.shape_normalize.proofs.Each.{each_more, each_too_many}
 use Rattle.shape_normalize.proofs.Lemmas.Refusals.{passed_on}
 use Rattle.shape_normalize.proofs.expanding.expand_each.Goals as goal
 
-pub expand_current-requires-clause-open : goal.expand_current-requires-clause-open
-expand_current-requires-clause-open g c = c.loop.invariant.is_open
-
-pub expand_current-requires-clause-there : goal.expand_current-requires-clause-there
-expand_current-requires-clause-there g c =
+pub expand_current-requires : goal.expand_current-requires
+expand_current-requires g c =
     let left = c.loop.invariant.left in
     let lt = c.loop-test.true in
     let le = c.requires.there in
-    omega (arith, left, lt, le)
+    record { current = record { opened = c.loop.invariant.is_open; current = omega (arith, left, lt, le) } }
 
 pub loop-preserved : goal.loop-preserved
 loop-preserved g c =

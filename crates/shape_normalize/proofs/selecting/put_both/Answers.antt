@@ -4,11 +4,10 @@ use Rattle.shape_normalize.proofs.Select.{both_brought, one_left, second_too_man
 use Rattle.shape_normalize.proofs.Lemmas.Refusals.{passed_on}
 use Rattle.shape_normalize.proofs.selecting.put_both.Goals as goal
 
-pub put_unjoined-requires-clause-open : goal.put_unjoined-requires-clause-open
-put_unjoined-requires-clause-open g c = (one_left (g.N.Normalizing.normalizer c.args.by.now) c.args.buffer.now c.put_unexpanded.new.buffer c.requires.there c.in_ok-put_unexpanded.ensures.ok).0 ∙ c.requires.open
-
-pub put_unjoined-requires-clause-there : goal.put_unjoined-requires-clause-there
-put_unjoined-requires-clause-there g c = (one_left (g.N.Normalizing.normalizer c.args.by.now) c.args.buffer.now c.put_unexpanded.new.buffer c.requires.there c.in_ok-put_unexpanded.ensures.ok).1
+pub put_unjoined-requires : goal.put_unjoined-requires
+put_unjoined-requires g c =
+    let left = one_left (g.N.Normalizing.normalizer c.args.by.now) c.args.buffer.now c.put_unexpanded.new.buffer c.requires.there c.in_ok-put_unexpanded.ensures.ok in
+    record { current = record { opened = left.0 ∙ c.requires.open; current = left.1 } }
 
 pub returns-in_err-put_unjoined-clause-err : goal.returns-in_err-put_unjoined-clause-err
 returns-in_err-put_unjoined-clause-err g c =

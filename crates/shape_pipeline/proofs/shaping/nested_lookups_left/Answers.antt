@@ -2,8 +2,10 @@ use Rattle.shape_pipeline.proofs.Budget.{IsLeft, IsLeftRefused, of_its_own}
 use Rattle.shape_pipeline.proofs.Shaped.{same_characters}
 use Rattle.shape_pipeline.proofs.shaping.nested_lookups_left.Goals as goal
 
-pub budget_left-requires-clause-characters : goal.budget_left-requires-clause-characters
-budget_left-requires-clause-characters g c = same_characters c.into_buffer-buffer.result c.into_buffer-buffer.ensures.characters
+pub budget_left-requires : goal.budget_left-requires
+budget_left-requires g c =
+    let text = c.into_buffer-buffer.ensures.text in
+    record { unshaped = record { closed = text.closed; unrefused = text.unrefused; characters = same_characters c.into_buffer-buffer.result text.characters } }
 
 pub returns-clause-ok : goal.returns-clause-ok
 returns-clause-ok g c =

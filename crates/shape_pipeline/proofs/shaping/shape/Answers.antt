@@ -3,8 +3,10 @@ use Rattle.shape_pipeline.proofs.Shaped.{direction_kept, empty_shaped, refused_b
 use Rattle.shape_pipeline.specs.Shaped.{by_text}
 use Rattle.shape_pipeline.proofs.shaping.shape.Goals as goal
 
-pub shape_guessed-requires-clause-characters : goal.shape_guessed-requires-clause-characters
-shape_guessed-requires-clause-characters g c = same_characters c.into_buffer-buffer.result c.into_buffer-buffer.ensures.characters
+pub shape_guessed-requires : goal.shape_guessed-requires
+shape_guessed-requires g c =
+    let text = c.into_buffer-buffer.ensures.text in
+    record { unshaped = record { closed = text.closed; unrefused = text.unrefused; characters = same_characters c.into_buffer-buffer.result text.characters } }
 
 pub returns-clause-ok : goal.returns-clause-ok
 returns-clause-ok g c =

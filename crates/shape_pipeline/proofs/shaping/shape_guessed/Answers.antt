@@ -15,4 +15,4 @@ returns-in-Err-clause-refused g c not_memory =
     text_refused _ c.args.buffer c.in-Err.cause c.fault.result.cause c.fault.ensures.cause (sym c.is_empty.ensures ∙ c.if-is_empty.false) (c.in-Err.ensures.err (λ e. not_memory (c.fault.ensures.cause ∙ e)))
 
 pub returns-then-is_empty-clause-handed_on : goal.returns-then-is_empty-clause-handed_on
-returns-then-is_empty-clause-handed_on g c = empty_result c.args.buffer c.leave_empty.result c.leave_empty.ensures.left c.requires.unrefused c.leave_empty.ensures.placed (sym c.is_empty.ensures ∙ c.if-is_empty.true)
+returns-then-is_empty-clause-handed_on g c = empty_result c.args.buffer c.leave_empty.result c.leave_empty.ensures.left c.requires.unshaped.unrefused c.leave_empty.ensures.placed (sym c.is_empty.ensures ∙ c.if-is_empty.true)

@@ -2,8 +2,10 @@ use Rattle.shape_pipeline.proofs.Shaped.{HandsOn, IsLeftEmpty, Keeps, refused_as
 use Rattle.shape_pipeline.specs.Shaped.{by_plan}
 use Rattle.shape_pipeline.proofs.shaping.shape_with_plan.Goals as goal
 
-pub shape_guessed-requires-clause-characters : goal.shape_guessed-requires-clause-characters
-shape_guessed-requires-clause-characters g c = same_characters c.into_buffer.result c.into_buffer.ensures.characters
+pub shape_guessed-requires : goal.shape_guessed-requires
+shape_guessed-requires g c =
+    let text = c.into_buffer.ensures.text in
+    record { unshaped = record { closed = text.closed; unrefused = text.unrefused; characters = same_characters c.into_buffer.result text.characters } }
 
 pub returns-clause-ok : goal.returns-clause-ok
 returns-clause-ok g c =

@@ -11,4 +11,4 @@ both false y z e f = cc
 pub returns-else-second-eq0 : goal.returns-else-second-eq0
 returns-else-second-eq0 t c =
     both _ (is_in_font c.args.face.now c.in-Some.second) _ (sym c.has_expansion.ensures ∙ c.if-not-has_expansion.false) c.has_character-else-second-eq0.ensures
-    ∙ sym (all_second (is_in_font c.args.face.now) (split_of c.args.tables.now) c.args.depth c.args.u c.in-Some.first c.in-Some.second (sym c.in-Some.ensures.parts) (omega arith) (omega arith))
+    ∙ sym (all_second (is_in_font c.args.face.now) (split_of c.args.tables.now) c.args.depth c.args.u c.in-Some.first c.in-Some.second (sym c.in-Some.ensures.pieces) (omega arith) (omega arith))

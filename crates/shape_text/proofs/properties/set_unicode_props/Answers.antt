@@ -23,7 +23,7 @@ returns c =
     (prepared_followed t gs flags s
     (c.prepare.ensures.glyphs ∙ ap (glyphs_prepared t None) lent)
     (c.prepare.ensures.scratch_flags ∙ ap (λ f. scratch_flags_of_glyphs c.info_slice_mut.result.now f) c.scratch_flags-scratch_flags.ensures ∙ ap (λ hs. scratch_flags_of_glyphs hs s.scratch_flags) lent)
-    c.requires.ready)))
+    c.requires.characters.ready)))
 
 pub keep_order-requires : goal.keep_order-requires
 keep_order-requires c =

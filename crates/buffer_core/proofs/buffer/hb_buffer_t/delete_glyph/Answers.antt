@@ -18,12 +18,12 @@ use Rattle.buffer_core.proofs.buffer.hb_buffer_t.delete_glyph.Goals as goal
 pub delete_first-marked-requires-clause-known : goal.delete_first-marked-requires-clause-known
 delete_first-marked-requires-clause-known c =
     let b = c.self.inside in
-    let open_now : b.have_output ≡ true = rw (← c.self.view_is) at c.requires.open in
+    let open_now : b.have_output ≡ true = rw (← c.self.view_is) at c.requires.current.opened in
     let known = settled_all b c.settle.new.self.known c.self.invariant (λ m n. (rw c.deref.ensures.value at (c.settle.ensures.order m n))) in
     rw c.deref_mut.ensures.value (subst (HasOrder c.settle.new.self.known) (sym (parts_seen b (b.front, b.idx) (open_ends b open_now))) known)
 
 open_now : (c : goal.After-self-3-1) → c.self.inside.have_output ≡ true
-open_now c = rw (← c.self.view_is) at c.requires.open
+open_now c = rw (← c.self.view_is) at c.requires.current.opened
 
 put : (c : goal.After-self-3-1) → (with_items c.self.inside.info c.delete_first-marked.new.glyphs).items ≡ c.delete_first-marked.new.glyphs
 put c =
@@ -37,7 +37,7 @@ invariant_of-self c =
     let done = c.delete_first-marked in
     let info = with_items b.info done.new.glyphs in
     let long : length info.items ≡ length b.info.items = ap length (put c) ∙ done.ensures.len ∙ ap length c.deref_mut.ensures.value in
-    let some : 0 < length (drop b.idx b.info.items) = rw (← c.self.view_is) at c.requires.there in
+    let some : 0 < length (drop b.idx b.info.items) = rw (← c.self.view_is) at c.requires.current.current in
     let new : Inside = record b { info = info; idx = b.idx + 1; order = c.settle.new.self } in
     sound_changed b info c.settle.new.self (b.idx + 1) c.add_has_glyph_flags-self-inside.result c.self.invariant long (omega arith) (omega (arith, some, length-drop b.idx b.info.items)) c.settle.ensures.back
     (subst (HasOrder c.settle.new.self.known) (parts_seen new (b.front, b.idx + 1) (open_ends new (open_now c))) (rw (put c) done.ensures.order))
@@ -55,11 +55,11 @@ deleted c g e =
 pub returns-clause-items : goal.returns-clause-items
 returns-clause-items c =
     let s = c.args.self.now in
-    let first = first_is s.ahead c.requires.there in
+    let first = first_is s.ahead c.requires.current.current in
     ap items_of (deleted c _ first) ∙ left_items _ _ s first
 
 pub returns-clause-origins : goal.returns-clause-origins
 returns-clause-origins c =
     let s = c.args.self.now in
-    let first = first_is s.ahead c.requires.there in
+    let first = first_is s.ahead c.requires.current.current in
     ap origins_of (deleted c _ first) ∙ deleted_origins _ _ s first

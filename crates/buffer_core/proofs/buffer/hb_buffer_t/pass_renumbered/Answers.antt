@@ -10,13 +10,13 @@ use Rattle.buffer_core.proofs.buffer.hb_buffer_t.pass_renumbered.Goals as goal
 pub invariant_of-self : goal.invariant_of-self
 invariant_of-self c =
     let b = c.self.inside in
-    let open_now : b.have_output ≡ true = rw (← c.self.view_is) at c.requires.open in
+    let open_now : b.have_output ≡ true = rw (← c.self.view_is) at c.requires.current.opened in
     let in_info : b.info.len ≡ length b.info.items = first_of (search rules, grind (arith, common_steps)) in
     let count : length c.deref_mut.result.now ≡ length b.info.items = ap length c.deref_mut.ensures.value in
     let info = with_items b.info c.put.new.glyphs in
     let put : info.items ≡ c.put.new.glyphs = all_put b.info c.put.new.glyphs c.put.new.glyphs in_info refl (c.put.ensures.len ∙ count) in
     let long : length info.items ≡ length b.info.items = ap length put ∙ c.put.ensures.len ∙ count in
-    let there : b.idx < length b.info.items = some_ahead b.info.items b.idx (rw (← c.self.view_is) at c.requires.there) in
+    let there : b.idx < length b.info.items = some_ahead b.info.items b.idx (rw (← c.self.view_is) at c.requires.current.current) in
     let settled = settled_open b c.settle.new.self.known c.self.invariant open_now (λ m n. (rw c.deref.ensures.value at (c.settle.ensures.order m n))) in
     let output = ap (take (b.front + 1)) put ∙ (rw c.deref_mut.ensures.value at c.put.ensures.output) in
     let input = ap (drop (b.idx + 1)) put ∙ (rw c.deref_mut.ensures.value at c.put.ensures.input) in

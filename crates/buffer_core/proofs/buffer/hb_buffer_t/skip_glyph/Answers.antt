@@ -9,7 +9,7 @@ use Rattle.buffer_core.proofs.buffer.hb_buffer_t.skip_glyph.Goals as goal
 use Rattle.buffer_core.proofs.MergedOrigins.{skipped_origins}
 
 pub returns-clause-skipped : goal.returns-clause-skipped
-returns-clause-skipped c = skipped_view c.self.inside c.self.invariant.opened (rw (← c.self.view_is) at c.requires.open) ∙ ap with_glyph_skipped c.self.view_is
+returns-clause-skipped c = skipped_view c.self.inside c.self.invariant.opened (rw (← c.self.view_is) at c.requires.current.opened) ∙ ap with_glyph_skipped c.self.view_is
 
 pub returns-clause-items : goal.returns-clause-items
 returns-clause-items c = ap items_of (returns-clause-skipped c) ∙ skipped_items c.args.self.now
@@ -20,7 +20,7 @@ returns-clause-origins c = ap origins_of (returns-clause-skipped c) ∙ skipped_
 pub invariant_of-self : goal.invariant_of-self
 invariant_of-self c =
     let b = c.self.inside in
-    let open_now : b.have_output ≡ true = rw (← c.self.view_is) at c.requires.open in
+    let open_now : b.have_output ≡ true = rw (← c.self.view_is) at c.requires.current.opened in
     record {
       cursor = first_of (search rules, grind (arith, common_steps));
       opened = omega (arith, c.self.invariant.opened);

@@ -15,4 +15,4 @@ returns-then-not-may_share-clause-misses g c _ = masks_missed _ c.args.mask (g.S
 pub returns-clause-misses : goal.returns-clause-misses
 returns-clause-misses g c e =
     let covers = g.S.Covers.covers c.args.subtables.now in
-    glyphs_missed _ covers (λ x. shares_mask c.args.mask x.mask) (items_of c.args.buffer.now) c.collect.ensures.0 (λ n there. missed (covers n) _ (c.low_bits.ensures n) (c.may_have.ensures (not_true c.may_have.result e) n there))
+    glyphs_missed _ covers (λ x. shares_mask c.args.mask x.mask) (items_of c.args.buffer.now) c.collect.ensures.0 (λ n there. missed (covers n) _ (c.low_bits.ensures n) (c.may_share_glyph.ensures (not_true c.may_share_glyph.result e) n there))

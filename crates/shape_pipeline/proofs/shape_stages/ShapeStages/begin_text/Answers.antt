@@ -7,17 +7,22 @@ use Rattle.shape_pipeline.proofs.Begun.{characters_masked, text_begun_followed, 
 use Rattle.shape_pipeline.proofs.Phases.{stage_refused}
 use Rattle.shape_pipeline.proofs.shape_stages.ShapeStages.begin_text.Goals as goal
 
-pub set_unicode_props-requires-clause-characters : goal.set_unicode_props-requires-clause-characters
-set_unicode_props-requires-clause-characters g c =
+pub set_unicode_props-requires : goal.set_unicode_props-requires
+set_unicode_props-requires g c =
     let M : Sides → Type 0 = λ t. IsDone (always (with_one_mask c.get_global_mask.result)) t c.initialize_masks.new.buffer in
-    characters_masked c.get_global_mask.result _ c.initialize_masks.new.buffer (subst M c.enter.ensures c.initialize_masks.ensures) c.requires.characters
+    record {
+      characters = record {
+        ready = c.initialize_masks.ensures.ready;
+        characters = characters_masked c.get_global_mask.result _ c.initialize_masks.new.buffer (subst M c.enter.ensures c.initialize_masks.ensures) c.requires.characters.characters;
+      };
+    }
 
 pub returns : goal.returns
 returns g c =
     let M : Sides → Type 0 = λ t. IsDone (always (with_one_mask c.get_global_mask.result)) t c.initialize_masks.new.buffer in
-    text_begun_followed _ c.get_global_mask.result c.args.buffer.now c.initialize_masks.new.buffer c.set_unicode_props.new.buffer c.insert_dotted_circle.new.buffer c.form_clusters.new.buffer c.ensure_native_direction.new.buffer refl c.get_global_mask.ensures.value c.requires.ready (subst M c.enter.ensures c.initialize_masks.ensures) c.set_unicode_props.ensures c.in_ok-insert_dotted_circle.ensures c.form_clusters.ensures c.ensure_native_direction.ensures
+    text_begun_followed _ c.get_global_mask.result c.args.buffer.now c.initialize_masks.new.buffer c.set_unicode_props.new.buffer c.insert_dotted_circle.new.buffer c.form_clusters.new.buffer c.ensure_native_direction.new.buffer refl c.get_global_mask.ensures.value c.requires.characters.ready (subst M c.enter.ensures c.initialize_masks.ensures) c.set_unicode_props.ensures c.in_ok-insert_dotted_circle.ensures c.form_clusters.ensures c.ensure_native_direction.ensures
 
 pub returns-in_err-insert_dotted_circle : goal.returns-in_err-insert_dotted_circle
 returns-in_err-insert_dotted_circle g c =
     let M : Sides → Type 0 = λ t. IsDone (always (with_one_mask c.get_global_mask.result)) t c.initialize_masks.new.buffer in
-    stage_refused c.from_residual.result c.in_err-insert_dotted_circle.field-0.0 _ _ _ c.from_residual.ensures.1 (λ not_memory. text_begun_refused _ c.get_global_mask.result c.args.buffer.now c.initialize_masks.new.buffer c.set_unicode_props.new.buffer c.in_err-insert_dotted_circle.field-0.0 refl c.get_global_mask.ensures.value c.requires.ready (subst M c.enter.ensures c.initialize_masks.ensures) c.set_unicode_props.ensures (c.in_err-insert_dotted_circle.ensures not_memory))
+    stage_refused c.from_residual.result c.in_err-insert_dotted_circle.field-0.0 _ _ _ c.from_residual.ensures.1 (λ not_memory. text_begun_refused _ c.get_global_mask.result c.args.buffer.now c.initialize_masks.new.buffer c.set_unicode_props.new.buffer c.in_err-insert_dotted_circle.field-0.0 refl c.get_global_mask.ensures.value c.requires.characters.ready (subst M c.enter.ensures c.initialize_masks.ensures) c.set_unicode_props.ensures (c.in_err-insert_dotted_circle.ensures not_memory))
