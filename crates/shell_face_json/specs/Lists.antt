@@ -99,6 +99,6 @@ within fits a = if fits then Ok a else Err OutOfRange
 abbrev pub lookup_in_table : {A : Type 0} → (A → Bool) → (Data → Result A JsonFault) → Data → Result A JsonFault
 lookup_in_table fits read d = and_then (read d) (λ a. within (fits a) a)
 
--- the lookups of a table under the key `lookups`, by a test of a lookup in a table with so many of them
+-- the lookups of a table under the key `lookups`, by a test of a lookup in a table of n of them
 abbrev pub lookups_of : {A : Type 0} → (ℕ → A → Bool) → (Data → Result A JsonFault) → Data → Result (List A) JsonFault
 lookups_of fits read d = rows_at (codes "lookups") (rows_in_turn (lookup_in_table (fits (count_at (codes "lookups") d)) read)) d

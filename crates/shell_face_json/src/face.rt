@@ -45,11 +45,39 @@ fn read_face_parts(alloc: Global, value: &Value) -> Result<FaceParts, JsonFault>
     let characters = read_characters(alloc, value)?;
     let advances = read_advances(alloc, value)?;
     let drawing = read_drawing(alloc, value)?;
-    let (gdef, (gsub, gpos)) = read_layouts(alloc, value)?;
+    let layouts = read_layouts(alloc, value)?;
+    Ok(face_parts((upem, ascender), characters, advances, drawing, layouts))
+}
+
+/// A font of its fields, in the groups in which they are read.
+pub(crate) fn face_parts(
+    metrics: (u16, i16),
+    characters: Characters,
+    advances: Advances,
+    drawing: Drawing,
+    layouts: Layouts,
+) -> FaceParts
+    ensures { result ≡ record {
+      upem = metrics.0;
+      ascender = metrics.1;
+      cmap = characters.0;
+      variants = characters.1;
+      h = advances.0;
+      v = advances.1;
+      origins = drawing.0;
+      extents = drawing.1.0;
+      names = drawing.1.1;
+      gdef = layouts.0;
+      gsub = layouts.1.0;
+      gpos = layouts.1.1;
+    } }
+{
+    let (upem, ascender) = metrics;
     let (cmap, variants) = characters;
     let (h, v) = advances;
     let (origins, (extents, names)) = drawing;
-    Ok(FaceParts {
+    let (gdef, (gsub, gpos)) = layouts;
+    FaceParts {
         upem,
         ascender,
         cmap,
@@ -62,14 +90,13 @@ fn read_face_parts(alloc: Global, value: &Value) -> Result<FaceParts, JsonFault>
         gdef,
         gsub,
         gpos,
-    })
+    }
 }
 
+type Characters = (PagedRows<CharacterRow>, SortedRows<VariationRow>);
+
 /// Reads the glyphs of characters, and those of characters with variation selectors.
-fn read_characters(
-    alloc: Global,
-    value: &Value,
-) -> Result<(PagedRows<CharacterRow>, SortedRows<VariationRow>), JsonFault>
+fn read_characters(alloc: Global, value: &Value) -> Result<Characters, JsonFault>
     ensures ok { IfOk result (λ p. character_keys (view value.now) ≡ Ok p) }
     ensures refused { IfErr result (λ e. e ≢ JsonFault.OutOfMemory
         → character_keys (view value.now) ≡ Err e) }
@@ -91,8 +118,10 @@ pub(crate) fn index_characters(
 
 type Rows<V> = SortedRows<GlyphRow<V>>;
 
+type Advances = (Rows<u16>, Rows<u16>);
+
 /// Reads the horizontal and the vertical advances of glyphs.
-fn read_advances(alloc: Global, value: &Value) -> Result<(Rows<u16>, Rows<u16>), JsonFault>
+fn read_advances(alloc: Global, value: &Value) -> Result<Advances, JsonFault>
     ensures ok { IfOk result (λ p. advance_keys (view value.now) ≡ Ok p) }
     ensures refused { IfErr result (λ e. e ≢ JsonFault.OutOfMemory
         → advance_keys (view value.now) ≡ Err e) }

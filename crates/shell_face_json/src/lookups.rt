@@ -1,8 +1,8 @@
 //! Reads the lookups of a layout table.
-ghost use Rattle.std.specs.Prelude.{◌≡◌, ◌≢◌, ℕ, Bool, IfOk, IfErr, Ok, Err};
+ghost use Rattle.std.specs.Prelude.{◌≡◌, ◌≢◌, ℕ, Bool, Option, IfOk, IfErr, Ok, Err};
 ghost use Rattle.std.specs.List.{list_all};
 ghost use Rattle.serde_json.specs.View.{items_view, view};
-ghost use Rattle.layout_face.specs.LookupIndices.{positioning_nested_fit, substitution_nested_fit};
+ghost use Rattle.layout_face.specs.LookupIndices.{positioning_nested_fit, set_fits, substitution_nested_fit};
 ghost use Rattle.shell_face_json.specs.Lists.{lookup_in_table, lookups_of, rows_in_turn};
 
 use crate::objects::count_at;
@@ -19,32 +19,68 @@ use std::alloc::Global;
 pub trait Lookup: Part {
     ghost fits: { ℕ → Self → Bool };
 
-    /// Whether the lookups that it names exist, in a table with so many lookups.
+    ghost set_of: { Self → Option ℕ };
+
+    /// Whether the lookups that it names exist, in a table of `lookup_count` lookups.
     fn fits(&self, lookup_count: usize) -> bool
         ensures { result ≡ fits lookup_count self.now };
+
+    /// The mark glyph set that it names, if it names one.
+    fn set(&self) -> Option<u16>
+        ensures { result ≡ set_of self.now };
 }
 
 impl Lookup for SubstLookup {
     ghost fits = { λ count lookup. substitution_nested_fit count lookup.subtables };
 
+    ghost set_of = { λ lookup. lookup.mark_filtering_set };
+
     fn fits(&self, lookup_count: usize) -> bool {
         self.nested_fit(lookup_count)
+    }
+
+    fn set(&self) -> Option<u16> {
+        self.mark_filtering_set
     }
 }
 
 impl Lookup for PositioningLookup {
     ghost fits = { λ count lookup. positioning_nested_fit count lookup.subtables };
 
+    ghost set_of = { λ lookup. lookup.mark_filtering_set };
+
     fn fits(&self, lookup_count: usize) -> bool {
         self.nested_fit(lookup_count)
     }
+
+    fn set(&self) -> Option<u16> {
+        self.mark_filtering_set
+    }
 }
 
-/// Whether the lookups that some lookups name exist, in a table with so many lookups.
+/// Whether the lookups that some lookups name exist, in a table of `lookup_count` lookups.
 pub(crate) fn all_fit<L: Lookup>(lookups: &[L], lookup_count: usize) -> bool
     ensures { result ≡ list_all (λ l. L.fits lookup_count l) lookups.now }
 {
     lookups.iter().all(|lookup| lookup.fits(lookup_count))
+}
+
+/// Whether the mark glyph sets that some lookups name exist, in a font with `set_count` of them.
+pub(crate) fn all_sets_fit<L: Lookup>(lookups: &[L], set_count: usize) -> bool
+    ensures { result ≡ list_all (λ l. set_fits set_count (L.set_of l)) lookups.now }
+{
+    lookups
+        .iter()
+        .all(|lookup| set_fits(lookup.set(), set_count))
+}
+
+fn set_fits(set: Option<u16>, set_count: usize) -> bool
+    ensures { result ≡ set_fits set_count set }
+{
+    match set {
+        Some(index) => usize::from(index) < set_count,
+        None => true,
+    }
 }
 
 fn read_lookup<L: Lookup>(
@@ -64,7 +100,7 @@ fn read_lookup<L: Lookup>(
     Err(JsonFault::OutOfRange)
 }
 
-/// Reads the lookups of a table, in a font with so many mark glyph sets; the fault of the first faulty lookup is
+/// Reads the lookups of a table, in a font with `set_count` mark glyph sets; the fault of the first faulty lookup is
 /// returned.
 pub(crate) fn read_lookups<L: Lookup>(
     alloc: Global,

@@ -27,8 +27,8 @@ impl<R: Part + Keyed> Part for SortedRows<R> {
     }
 }
 
-/// Reads the rows of a list in turn, whose keys must rise strictly; the fault of the first faulty row is returned, and
-/// of that row's faults the order is the last.
+/// Reads the rows of a list in turn; each key has to be above the one before. The fault is that of the first row that
+/// has one: a fault of the row itself, else that its key is out of order.
 pub fn read_by_key<R: Part + Keyed>(
     alloc: Global,
     values: &[Value],

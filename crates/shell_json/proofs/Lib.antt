@@ -2,7 +2,6 @@ pub mod Items
 pub mod Pairs
 pub mod Rising
 pub mod Steps
-mod Reading
+pub mod Reading
 pub mod TokenSteps
-mod Numbers
 mod Found

@@ -1,6 +1,5 @@
 //! The takers of the values of an object's keys.
-ghost use Rattle.std.specs.Prelude.{◌≡◌, ◌≢◌, ◌<◌, List, length, true, false, None, IfOk, OnOk};
-ghost use Rattle.json.specs.Token.{Token as SpecToken};
+ghost use Rattle.std.specs.Prelude.{◌≡◌, ◌≢◌, ◌<◌, length, true, false, None, IfOk, OnOk};
 ghost use Rattle.serde_json.specs.Data.{Data};
 ghost use Rattle.serde_json.specs.View.{view};
 ghost use Rattle.shell_json.specs.TextValues.{BeginsWith, HasMember};
@@ -26,8 +25,7 @@ pub trait ValueTaker: Drop {
         reader: &mut Reader<'_>,
         depth: usize,
     ) -> Result<Self::Output, Unread>
-        ensures ok { IfOk result (λ o. (d : Data) → (rest : List SpecToken)
-            → BeginsWith depth reader.old d rest → (reader.new ≡ rest) × means self.now d o) }
+        ensures ok { IfOk result (λ o. (d : Data) × BeginsWith depth reader.old d reader.new × means self.now d o) }
         ensures shorter { OnOk result (length reader.new < length reader.old) };
 }
 
@@ -63,7 +61,8 @@ impl<T: ValueTaker> MemberTaker for Key<T> {
     }
 }
 
-fn same_name(name: &str, other: &str) -> bool
+/// Whether two names are equal.
+pub fn same_name(name: &str, other: &str) -> bool
     ensures yes { result ≡ true → name.now ≡ other.now }
     ensures no { result ≡ false → name.now ≢ other.now }
 {

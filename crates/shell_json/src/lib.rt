@@ -3,7 +3,6 @@
 #![tactic(auto)]
 
 pub mod cell;
-pub mod check;
 pub mod fault;
 pub mod key_takers;
 pub mod keys;

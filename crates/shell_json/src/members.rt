@@ -1,12 +1,12 @@
 //! Reads the members of an object one after another.
-ghost use Rattle.std.specs.Prelude.{◌≡◌, ◌<◌, ℕ, List, length, false, Some, IfOk, OnOk};
-ghost use Rattle.json.specs.Token.{Token as SpecToken};
+ghost use Rattle.std.specs.Prelude.{◌≡◌, ◌<◌, length, false, Some, OnOk};
 ghost use Rattle.json.specs.Json.{value, members};
 ghost use Rattle.serde_json.specs.Data.{Data, Members, no_members, object, put};
 ghost use Rattle.serde_json.specs.Read.{of_members, converted, read};
 ghost use Rattle.shell_json.specs.TextValues.{BeginsWith};
 
 use crate::unread::Unread;
+use crate::value::read_value;
 use json::{Reader, Scratch, Token};
 use std::alloc::Global;
 
@@ -35,13 +35,13 @@ pub trait MemberTaker: Drop {
         depth: usize,
         found: &mut Self::Found,
     ) -> Result<(), Unread>
-        ensures ok { OnOk result ((d : Data) → (rest : List SpecToken) → (ms : Members)
-            → BeginsWith depth reader.old d rest → holds self.now ms found.old
-            → (reader.new ≡ rest) × holds self.now (put name.now d ms) found.new) }
+        ensures ok { OnOk result ((d : Data) × BeginsWith depth reader.old d reader.new
+            × ((ms : Members) → holds self.now ms found.old → holds self.now (put name.now d ms) found.new)) }
         ensures shorter { OnOk result (length reader.new < length reader.old) };
 }
 
-/// Reads the members of the object that a text is.
+/// Reads the members of the object that a text is, in one walk: numbers that are no integers of 64 bits are refused,
+/// also where no member that is read has them.
 pub fn take_text<T: MemberTaker>(
     alloc: Global,
     text: &str,
@@ -49,11 +49,15 @@ pub fn take_text<T: MemberTaker>(
     taker: &T,
     found: &mut T::Found,
 ) -> Result<(), Unread>
-    ensures ok { OnOk result ((d : Data) → read text.now ≡ Some d → T.holds taker.now no_members found.old
-        → (ms : Members) × (d ≡ object ms) × T.holds taker.now ms found.new) }
+    ensures ok { OnOk result (T.holds taker.now no_members found.old
+        → (ms : Members) × (read text.now ≡ Some (object ms)) × T.holds taker.now ms found.new) }
 {
     let mut reader = Reader::new(text, scratch)?;
-    take_object(alloc, &mut reader, MAX_DEPTH, taker, found)
+    take_object(alloc, &mut reader, MAX_DEPTH, taker, found)?;
+    match reader.next() {
+        Some(_) => Err(Unread),
+        None => Ok(()),
+    }
 }
 
 /// Reads the members of the object that is the next value.
@@ -64,9 +68,8 @@ pub fn take_object<T: MemberTaker>(
     taker: &T,
     found: &mut T::Found,
 ) -> Result<(), Unread>
-    ensures ok { OnOk result ((d : Data) → (rest : List SpecToken)
-        → BeginsWith depth reader.old d rest → T.holds taker.now no_members found.old
-        → (ms : Members) × (d ≡ object ms) × (reader.new ≡ rest) × T.holds taker.now ms found.new) }
+    ensures ok { OnOk result (T.holds taker.now no_members found.old
+        → (ms : Members) × BeginsWith depth reader.old (object ms) reader.new × T.holds taker.now ms found.new) }
     ensures shorter { OnOk result (length reader.new < length reader.old) }
 {
     let token = reader.next().ok_or(Unread)?;
@@ -88,10 +91,11 @@ fn take_members<T: MemberTaker>(
     taker: &T,
     found: &mut T::Found,
 ) -> Result<(), Unread>
-    ensures ok { OnOk result ((ms : Members) → (rest : List SpecToken) → (n : ℕ)
-        → converted (λ js. of_members js no_members) (members (value depth) n reader.old) ≡ Some (ms, rest)
-        → T.holds taker.now no_members found.old
-        → (reader.new ≡ rest) × T.holds taker.now ms found.new) }
+    ensures ok { OnOk result (T.holds taker.now no_members found.old
+        → (ms : Members)
+        × (converted (λ js. of_members js no_members) (members (value depth) (length reader.old) reader.old)
+        ≡ Some (ms, reader.new))
+        × T.holds taker.now ms found.new) }
     ensures shorter { OnOk result (length reader.new < length reader.old) }
 {
     'members: while let Some(name) = reader.next_key()? {
@@ -108,22 +112,21 @@ fn take_member<T: MemberTaker>(
     taker: &T,
     found: &mut T::Found,
 ) -> Result<(), Unread>
-    ensures ok { OnOk result ((d : Data) → (rest : List SpecToken) → (ms : Members)
-        → BeginsWith depth reader.old d rest → T.holds taker.now ms found.old
-        → (reader.new ≡ rest) × T.holds taker.now (put name.now d ms) found.new) }
+    ensures ok { OnOk result ((d : Data) × BeginsWith depth reader.old d reader.new
+        × ((ms : Members) → T.holds taker.now ms found.old → T.holds taker.now (put name.now d ms) found.new)) }
     ensures shorter { OnOk result (length reader.new < length reader.old) }
 {
     if taker.wants(name) {
         return taker.take(alloc, name, reader, depth, found);
     }
-    skip(reader, depth)
+    pass(alloc, reader, depth)
 }
 
-fn skip(reader: &mut Reader<'_>, depth: usize) -> Result<(), Unread>
-    ensures ok { OnOk result ((d : Data) → (rest : List SpecToken)
-        → BeginsWith depth reader.old d rest → reader.new ≡ rest) }
+/// Passes a value. It is read, since a number that is no integer must be refused.
+fn pass(alloc: Global, reader: &mut Reader<'_>, depth: usize) -> Result<(), Unread>
+    ensures ok { OnOk result ((d : Data) × BeginsWith depth reader.old d reader.new) }
     ensures shorter { OnOk result (length reader.new < length reader.old) }
 {
-    reader.skip_value(depth)?;
+    drop(read_value(alloc, reader, depth)?);
     Ok(())
 }

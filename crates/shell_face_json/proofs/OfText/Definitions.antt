@@ -77,8 +77,7 @@ definition_in None found e = ap (λ f. Ok (unwrap_or f no_definition)) (sym e)
 definition_in (Some d) None h = absurd h
 definition_in (Some d) (Some g) e = e
 
-pub definition_found : (name : List ℕ) (d : Data) (ms : Members) (found : Option GlyphDefinition) (definition : GlyphDefinition) → name ≡ codes "gdef" → definition ≡ unwrap_or found no_definition → d ≡ object ms
-    → HasMember (λ x g. glyph_definition x ≡ Ok g) name ms found → glyph_definition_in (get (codes "gdef") d) ≡ Ok definition
-definition_found name d ms found definition n is e h =
-    let named = subst (λ k. HasMember (λ x g. glyph_definition x ≡ Ok g) k ms found) n h in
-    ap (λ x. glyph_definition_in (get (codes "gdef") x)) e ∙ definition_in (get_member (codes "gdef") ms) found named ∙ ap (λ g. Ok g) (sym is)
+pub definition_found : (name : List ℕ) (ms : Members) (found : Option GlyphDefinition) (definition : GlyphDefinition) → name ≡ codes "gdef" → definition ≡ unwrap_or found no_definition
+    → HasMember (λ x g. glyph_definition x ≡ Ok g) name ms found → glyph_definition_in (get (codes "gdef") (object ms)) ≡ Ok definition
+definition_found name ms found definition n is h =
+    ap (λ k. glyph_definition_in (get k (object ms))) (sym n) ∙ definition_in (get_member name ms) found h ∙ ap (λ g. Ok g) (sym is)

@@ -2,6 +2,8 @@
 use Rattle.std.proofs.Common.{◌≡◌, true, List, [], ◌∷◌, ◌++◌, Option, Some, None, Result, Ok, Err, refl, sym, ap, ◌∙◌, append_assoc, append-nil}
 use Rattle.std.proofs.lemmas.Bool.{and_parts}
 use Rattle.std.specs.declared.cmp.Ordering.{Ordering}
+use Rattle.json.specs.Token.{Token}
+use Rattle.json.specs.Json.{parse_map}
 use Rattle.serde_json.specs.Data.{Data, Items, no_items, item}
 use Rattle.shell_json.specs.declared.fault.JsonFault.{JsonFault}
 use Rattle.shell_json.specs.Cell.{and_then}
@@ -62,3 +64,8 @@ module _ {R : Type 0} (read : Data → Result R JsonFault) where
 
   pub last_parts : (front : List R) (ds : Items) → no_items ≡ ds → after front (rows_in_turn read ds) ≡ Ok front
   last_parts front ds e = ap (λ x. after front (rows_in_turn read x)) (sym e) ∙ ap (λ ys. Ok ys) (append-nil front)
+
+-- an item more before those that are left
+pub item_before : (before : (Items → Items)) (d : Data) (o : Option (Items × List Token)) → parse_map before (parse_map (item d) o) ≡ parse_map (λ ds. before (item d ds)) o
+item_before before d None = refl
+item_before before d (Some p) = refl

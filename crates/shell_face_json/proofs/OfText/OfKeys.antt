@@ -6,7 +6,6 @@ use Rattle.serde_json.specs.Data.{Data, no_items, Members, object}
 use Rattle.serde_json.specs.Find.{get, get_member}
 use Rattle.serde_json.specs.View.{view}
 use Rattle.serde_json.specs.declared.value.Value.{Value}
-use Rattle.serde_json.specs.Read.{read}
 use Rattle.shell_json.specs.TextValues.{IsFound, HasMember}
 use Rattle.shell_json.specs.declared.fault.JsonFault.{JsonFault}
 use Rattle.shell_json.specs.Cell.{and_then}
@@ -23,24 +22,21 @@ use Rattle.layout_face.specs.LookupIndices.{positioning_nested_fit, substitution
 use Rattle.layout_face.specs.declared.substitution.SubstLookup.{SubstLookup}
 use Rattle.layout_face.specs.declared.positioning.PositioningLookup.{PositioningLookup}
 
-pub is_an_object : (d : Data) (ms : Members) → d ≡ object ms → is_object d ≡ Ok tt
-is_an_object d ms e = ap is_object e
-
 no_rows : {R K : Type 0} (order : K → K → Ordering) (key : R → K) (read : Data → Result R JsonFault) → rows_by_key order key read None no_items ≡ Ok []
 unfolding rows_by_key
 no_rows order key read = refl
 
 -- rows by their keys
-pub rows_found : {R K : Type 0} (order : K → K → Ordering) (key : R → K) (part : ℕ → Data → Result R JsonFault) (limit limit' : ℕ) (name name' : List ℕ) (d : Data) (ms : Members) (found : Option (List R)) (rows : List R)
-    → limit ≡ limit' → name ≡ name' → rows ≡ unwrap_or found [] → d ≡ object ms → HasMember (λ x rs. and_then (list_of x) (rows_by_key order key (part limit) None) ≡ Ok rs) name ms found
-    → rows_at name' (rows_by_key order key (part limit') None) d ≡ Ok rows
-rows_found order key part limit limit' name name' d ms found rows l n r e h =
-    ap (λ k. rows_at name' (rows_by_key order key (part k) None) d) (sym l) ∙ ap (λ k. rows_at k (rows_by_key order key (part limit) None) d) (sym n) ∙ ap (rows_at name (rows_by_key order key (part limit) None)) e
+pub rows_found : {R K : Type 0} (order : K → K → Ordering) (key : R → K) (part : ℕ → Data → Result R JsonFault) (limit limit' : ℕ) (name name' : List ℕ) (ms : Members) (found : Option (List R)) (rows : List R)
+    → limit ≡ limit' → name ≡ name' → rows ≡ unwrap_or found [] → HasMember (λ x rs. and_then (list_of x) (rows_by_key order key (part limit) None) ≡ Ok rs) name ms found
+    → rows_at name' (rows_by_key order key (part limit') None) (object ms) ≡ Ok rows
+rows_found order key part limit limit' name name' ms found rows l n r h =
+    ap (λ k. rows_at name' (rows_by_key order key (part k) None) (object ms)) (sym l) ∙ ap (λ k. rows_at k (rows_by_key order key (part limit) None) (object ms)) (sym n)
     ∙ list_found (rows_by_key order key (part limit) None) (get_member name ms) found (no_rows order key (part limit)) h ∙ ap (λ xs. Ok xs) (sym r)
 
 -- a value that was taken whole
-pub value_found : (name name' : List ℕ) (d : Data) (ms : Members) (found : Option Value) → name ≡ name' → d ≡ object ms → HasMember (λ x v. view v ≡ x) name ms found → option_map view found ≡ get name' d
-value_found name name' d ms found n e h = whole_found (get_member name ms) found h ∙ sym (ap (get name) e) ∙ ap (λ k. get k d) n
+pub value_found : (name name' : List ℕ) (ms : Members) (found : Option Value) → name ≡ name' → HasMember (λ x v. view v ≡ x) name ms found → option_map view found ≡ get name' (object ms)
+value_found name name' ms found n h = whole_found (get_member name ms) found h ∙ ap (λ k. get k (object ms)) n
 
 -- ---- tables
 
@@ -53,28 +49,17 @@ substitution_names count lookup = substitution_nested_fit count lookup.subtables
 abbrev pub positioning_names : ℕ → PositioningLookup → Bool
 positioning_names count lookup = positioning_nested_fit count lookup.subtables
 
-substitution_in : (sets : ℕ) (o : Option Data) (found : Option (LayoutLists × List SubstLookup)) → IsFound (IsTable substitution_names (substitution_lookup sets)) o found
-    → optional_value (substitution_table sets) o ≡ Ok (option_map (λ t. record { inner = t.0; lookups = t.1 }) found)
-substitution_in sets None found e = ap (λ f. Ok (option_map (λ t. record { inner = t.0; lookups = t.1 }) f)) (sym e)
-substitution_in sets (Some d) None h = absurd h
-substitution_in sets (Some d) (Some t) e =
-    ap (λ o. and_then (and_then o (λ _. and_then (layout_of d) (λ inner. and_then (lookups_of substitution_names (substitution_lookup sets) d) (λ lookups. Ok (record { inner = inner; lookups = lookups }))))) (λ x. Ok (Some x))) e.0
-    ∙ ap (λ o. and_then (and_then o (λ inner. and_then (lookups_of substitution_names (substitution_lookup sets) d) (λ lookups. Ok (record { inner = inner; lookups = lookups })))) (λ x. Ok (Some x))) e.1
-    ∙ ap (λ o. and_then (and_then o (λ lookups. Ok (record { inner = t.0; lookups = lookups }))) (λ x. Ok (Some x))) e.2
+-- a table by its scripts, features and lookups
+pub substitution_read : (sets : ℕ) (d : Data) (t : LayoutLists × List SubstLookup) → IsTable substitution_names (substitution_lookup sets) d t
+    → substitution_table sets d ≡ Ok (record { inner = t.0; lookups = t.1 })
+substitution_read sets d t e =
+    ap (λ o. and_then o (λ _. and_then (layout_of d) (λ inner. and_then (lookups_of substitution_names (substitution_lookup sets) d) (λ lookups. Ok (record { inner = inner; lookups = lookups }))))) e.0
+    ∙ ap (λ o. and_then o (λ inner. and_then (lookups_of substitution_names (substitution_lookup sets) d) (λ lookups. Ok (record { inner = inner; lookups = lookups })))) e.1
+    ∙ ap (λ o. and_then o (λ lookups. Ok (record { inner = t.0; lookups = lookups }))) e.2
 
-pub substitution_found : (sets : ℕ) (d : Data) (ms : Members) (found : Option (LayoutLists × List SubstLookup)) → d ≡ object ms → HasMember (IsTable substitution_names (substitution_lookup sets)) (codes "gsub") ms found
-    → optional_value (substitution_table sets) (get (codes "gsub") d) ≡ Ok (option_map (λ t. record { inner = t.0; lookups = t.1 }) found)
-substitution_found sets d ms found e h = ap (λ x. optional_value (substitution_table sets) (get (codes "gsub") x)) e ∙ substitution_in sets (get_member (codes "gsub") ms) found h
-
-positioning_in : (sets : ℕ) (o : Option Data) (found : Option (LayoutLists × List PositioningLookup)) → IsFound (IsTable positioning_names (positioning_lookup sets)) o found
-    → optional_value (positioning_table sets) o ≡ Ok (option_map (λ t. record { inner = t.0; lookups = t.1 }) found)
-positioning_in sets None found e = ap (λ f. Ok (option_map (λ t. record { inner = t.0; lookups = t.1 }) f)) (sym e)
-positioning_in sets (Some d) None h = absurd h
-positioning_in sets (Some d) (Some t) e =
-    ap (λ o. and_then (and_then o (λ _. and_then (layout_of d) (λ inner. and_then (lookups_of positioning_names (positioning_lookup sets) d) (λ lookups. Ok (record { inner = inner; lookups = lookups }))))) (λ x. Ok (Some x))) e.0
-    ∙ ap (λ o. and_then (and_then o (λ inner. and_then (lookups_of positioning_names (positioning_lookup sets) d) (λ lookups. Ok (record { inner = inner; lookups = lookups })))) (λ x. Ok (Some x))) e.1
-    ∙ ap (λ o. and_then (and_then o (λ lookups. Ok (record { inner = t.0; lookups = lookups }))) (λ x. Ok (Some x))) e.2
-
-pub positioning_found : (sets : ℕ) (d : Data) (ms : Members) (found : Option (LayoutLists × List PositioningLookup)) → d ≡ object ms → HasMember (IsTable positioning_names (positioning_lookup sets)) (codes "gpos") ms found
-    → optional_value (positioning_table sets) (get (codes "gpos") d) ≡ Ok (option_map (λ t. record { inner = t.0; lookups = t.1 }) found)
-positioning_found sets d ms found e h = ap (λ x. optional_value (positioning_table sets) (get (codes "gpos") x)) e ∙ positioning_in sets (get_member (codes "gpos") ms) found h
+pub positioning_read : (sets : ℕ) (d : Data) (t : LayoutLists × List PositioningLookup) → IsTable positioning_names (positioning_lookup sets) d t
+    → positioning_table sets d ≡ Ok (record { inner = t.0; lookups = t.1 })
+positioning_read sets d t e =
+    ap (λ o. and_then o (λ _. and_then (layout_of d) (λ inner. and_then (lookups_of positioning_names (positioning_lookup sets) d) (λ lookups. Ok (record { inner = inner; lookups = lookups }))))) e.0
+    ∙ ap (λ o. and_then o (λ inner. and_then (lookups_of positioning_names (positioning_lookup sets) d) (λ lookups. Ok (record { inner = inner; lookups = lookups })))) e.1
+    ∙ ap (λ o. and_then o (λ lookups. Ok (record { inner = t.0; lookups = lookups }))) e.2

@@ -1,58 +1,89 @@
-//! Reads the keys of a font, a few in each walk over its text.
-ghost use Rattle.std.specs.Prelude.{◌≡◌, [], None, codes, unwrap_or, IfOk, Ok, pos};
-ghost use Rattle.std.specs.Option.{option_map};
-ghost use Rattle.serde_json.specs.Data.{Data};
-ghost use Rattle.serde_json.specs.Find.{get};
-ghost use Rattle.serde_json.specs.Read.{read};
+//! The keys of a font, and what is found of them.
+ghost use Rattle.std.specs.Prelude.{◌≡◌, [], codes, true, unwrap_or, IfOk, Ok, pos};
+ghost use Rattle.std.specs.List.{list_all};
+ghost use Rattle.std.specs.Option.{option_map, option_map_or};
 ghost use Rattle.serde_json.specs.View.{view};
+ghost use Rattle.layout_face.specs.LookupIndices.{set_fits};
 ghost use Rattle.shell_json.specs.Cell.{u16_value, i16_value};
-ghost use Rattle.shell_json.specs.Objects.{read_or, optional_value};
-ghost use Rattle.shell_face_json.specs.Lists.{is_object, rows_at};
-ghost use Rattle.shell_face_json.specs.Sorted.{rows_by_key};
+ghost use Rattle.shell_json.specs.Objects.{read_or};
 ghost use Rattle.shell_face_json.specs.Glyphs.{glyph_limit};
-ghost use Rattle.shell_face_json.specs.Face.{glyph_definition_in, no_definition};
-ghost use Rattle.shell_face_json.specs.SubstitutionTable.{substitution_table};
-ghost use Rattle.shell_face_json.specs.PositionTable.{positioning_table};
 
 use crate::glyphs::GLYPH_LIMIT;
-use crate::text::definition::{DefinitionTaker, definition_or_none};
+use crate::lookups::{Lookup, all_sets_fit};
+use crate::text::definition::DefinitionTaker;
 use crate::text::rows::RowTaker;
 use crate::text::table::TableTaker;
 use crate::value::Part;
+use buffer_glyphs::names::hb_glyph_extents_t;
 use buffer_rows::{Keyed, SortedRows};
-use json::Scratch;
 use layout_common::array::Array;
-use layout_face::parts::GlyphDefinition;
+use layout_common::glyph_row::GlyphRow;
+use layout_face::parts::{CharacterRow, NameRow, VariationRow};
 use layout_face::positioning::{PositioningLookup, PositioningTable};
 use layout_face::substitution::{SubstLookup, SubstitutionTable};
 use layout_tables::table::ScriptsAndFeatures;
 use serde_json::Value;
 use shell_json::cell::Cell;
 use shell_json::key_takers::{Key, Whole};
-use shell_json::members::take_text;
 use shell_json::unread::Unread;
 use std::alloc::Global;
 
-/// Reads units per em, the ascender, and the glyph definitions.
-pub fn take_metrics(
-    alloc: Global,
-    text: &str,
-    scratch: &mut Scratch,
-) -> Result<(u16, i16, GlyphDefinition), Unread>
-    ensures { IfOk result (λ p. (d : Data) → read text.now ≡ Some d → (is_object d ≡ Ok tt)
-        × (read_or 0 u16_value (get (codes "upem") d) ≡ Ok p.0)
-        × (read_or (pos 0) i16_value (get (codes "ascender") d) ≡ Ok p.1)
-        × (glyph_definition_in (get (codes "gdef") d) ≡ Ok p.2)) }
+/// A limit that no index of a mark glyph set reaches.
+const ANY_SET: usize = 0x1_0000;
+
+type TwoKeys<A, B> = (Key<RowTaker<A>>, Key<RowTaker<B>>);
+
+type MetricKeys = (Key<Whole>, Key<Whole>);
+
+type CharacterKeys = TwoKeys<CharacterRow, VariationRow>;
+
+type AdvanceKeys = TwoKeys<GlyphRow<u16>, GlyphRow<u16>>;
+
+type DrawingKeys = (
+    TwoKeys<GlyphRow<i16>, GlyphRow<hb_glyph_extents_t>>,
+    Key<RowTaker<NameRow>>,
+);
+
+type TableKeys = (
+    Key<TableTaker<SubstLookup>>,
+    Key<TableTaker<PositioningLookup>>,
+);
+
+/// The keys of a font.
+pub type FontKeys = (
+    (MetricKeys, CharacterKeys),
+    (
+        AdvanceKeys,
+        (DrawingKeys, (Key<DefinitionTaker>, TableKeys)),
+    ),
+);
+
+/// The keys of a font. Lookups are read with any index of a mark glyph set, since `gdef` may follow them.
+pub fn font_keys() -> FontKeys
+    ensures metrics { (result.0.0.0.name.now ≡ codes "upem") × (result.0.0.1.name.now ≡ codes "ascender") }
+    ensures characters { (result.0.1.0.name.now ≡ codes "cmap") × (result.0.1.1.name.now ≡ codes "variants")
+        × (result.0.1.0.taker.limit ≡ glyph_limit) × (result.0.1.1.taker.limit ≡ glyph_limit) }
+    ensures advances { (result.1.0.0.name.now ≡ codes "h") × (result.1.0.1.name.now ≡ codes "v")
+        × (result.1.0.0.taker.limit ≡ glyph_limit) × (result.1.0.1.taker.limit ≡ glyph_limit) }
+    ensures drawing { (result.1.1.0.0.0.name.now ≡ codes "origins") × (result.1.1.0.0.1.name.now ≡ codes "extents")
+        × (result.1.1.0.0.0.taker.limit ≡ glyph_limit) × (result.1.1.0.0.1.taker.limit ≡ glyph_limit) }
+    ensures names { (result.1.1.0.1.name.now ≡ codes "names") × (result.1.1.0.1.taker.limit ≡ glyph_limit) }
+    ensures definitions { result.1.1.1.0.name.now ≡ codes "gdef" }
+    ensures tables { (result.1.1.1.1.0.name.now ≡ codes "gsub") × (result.1.1.1.1.1.name.now ≡ codes "gpos") }
 {
-    let gdef = Key {
+    let metrics = (whole("upem"), whole("ascender"));
+    let characters = (rows_key("cmap"), rows_key("variants"));
+    let advances = (rows_key("h"), rows_key("v"));
+    let drawing = (
+        (rows_key("origins"), rows_key("extents")),
+        rows_key("names"),
+    );
+    let definitions = Key {
         name: "gdef",
         taker: DefinitionTaker,
     };
-    let keys = (whole("upem"), (whole("ascender"), gdef));
-    let mut found = (None, (None, None));
-    take_text(alloc, text, scratch, &keys, &mut found)?;
-    let (upem, (ascender, gdef)) = found;
-    read_metrics(alloc, &upem, &ascender, gdef)
+    let layouts = (definitions, (table_key("gsub"), table_key("gpos")));
+    ((metrics, characters), (advances, (drawing, layouts)))
 }
 
 fn whole(name: &'static str) -> Key<Whole>
@@ -61,19 +92,32 @@ fn whole(name: &'static str) -> Key<Whole>
     Key { name, taker: Whole }
 }
 
-fn read_metrics(
-    alloc: Global,
-    upem: &Option<Value>,
-    ascender: &Option<Value>,
-    gdef: Option<GlyphDefinition>,
-) -> Result<(u16, i16, GlyphDefinition), Unread>
-    ensures { IfOk result (λ p. (read_or 0 u16_value (option_map view upem.now) ≡ Ok p.0)
-        × (read_or (pos 0) i16_value (option_map view ascender.now) ≡ Ok p.1)
-        × (p.2 ≡ unwrap_or gdef no_definition)) }
+fn rows_key<R: Part + Keyed>(name: &'static str) -> Key<RowTaker<R>>
+    ensures { (result.name.now ≡ name.now) × (result.taker.limit ≡ glyph_limit) }
 {
-    let upem = cell_or(upem, 0u16)?;
-    let ascender = cell_or(ascender, 0i16)?;
-    Ok((upem, ascender, definition_or_none(alloc, gdef)))
+    Key {
+        name,
+        taker: RowTaker::new(GLYPH_LIMIT),
+    }
+}
+
+fn table_key<L: Lookup>(name: &'static str) -> Key<TableTaker<L>>
+    ensures { result.name.now ≡ name.now }
+{
+    Key {
+        name,
+        taker: TableTaker::new(ANY_SET),
+    }
+}
+
+/// The units per em and the ascender by the values of their keys.
+pub fn read_metrics(found: &(Option<Value>, Option<Value>)) -> Result<(u16, i16), Unread>
+    ensures { IfOk result (λ p. (read_or 0 u16_value (option_map view found.now.0) ≡ Ok p.0)
+        × (read_or (pos 0) i16_value (option_map view found.now.1) ≡ Ok p.1)) }
+{
+    let upem = cell_or(&found.0, 0u16)?;
+    let ascender = cell_or(&found.1, 0i16)?;
+    Ok((upem, ascender))
 }
 
 fn cell_or<T: Cell>(value: &Option<Value>, missing: T) -> Result<T, Unread>
@@ -88,51 +132,8 @@ fn cell_or<T: Cell>(value: &Option<Value>, missing: T) -> Result<T, Unread>
     }
 }
 
-/// Reads the rows under a key of the font.
-pub fn take_rows<R: Part + Keyed>(
-    alloc: Global,
-    text: &str,
-    scratch: &mut Scratch,
-    name: &'static str,
-) -> Result<SortedRows<R>, Unread>
-    ensures { IfOk result (λ rows. (d : Data) → read text.now ≡ Some d
-        → rows_at name.now (rows_by_key R.Key.cmp R.key_of (R.part glyph_limit) None) d ≡ Ok rows) }
-{
-    let mut found = None;
-    take_text(alloc, text, scratch, &rows_key::<R>(name), &mut found)?;
-    Ok(rows_or_none(alloc, found))
-}
-
-/// Reads the rows under two keys of the font.
-pub fn take_two<A: Part + Keyed, B: Part + Keyed>(
-    alloc: Global,
-    text: &str,
-    scratch: &mut Scratch,
-    first: &'static str,
-    second: &'static str,
-) -> Result<(SortedRows<A>, SortedRows<B>), Unread>
-    ensures { IfOk result (λ p. (d : Data) → read text.now ≡ Some d
-        → (rows_at first.now (rows_by_key A.Key.cmp A.key_of (A.part glyph_limit) None) d ≡ Ok p.0)
-        × (rows_at second.now (rows_by_key B.Key.cmp B.key_of (B.part glyph_limit) None) d ≡ Ok p.1)) }
-{
-    let keys = (rows_key::<A>(first), rows_key::<B>(second));
-    let mut found = (None, None);
-    take_text(alloc, text, scratch, &keys, &mut found)?;
-    let (first, second) = found;
-    let first = rows_or_none(alloc, first);
-    Ok((first, rows_or_none(alloc, second)))
-}
-
-fn rows_key<R: Part + Keyed>(name: &'static str) -> Key<RowTaker<R>>
-    ensures { (result.name.now ≡ name.now) × (result.taker.limit ≡ glyph_limit) }
-{
-    Key {
-        name,
-        taker: RowTaker::new(GLYPH_LIMIT),
-    }
-}
-
-fn rows_or_none<R: Keyed>(alloc: Global, found: Option<SortedRows<R>>) -> SortedRows<R>
+/// The rows that were found, none where their key is missing.
+pub fn rows_or_none<R: Keyed>(alloc: Global, found: Option<SortedRows<R>>) -> SortedRows<R>
     ensures { result ≡ unwrap_or found [] }
 {
     match found {
@@ -141,47 +142,50 @@ fn rows_or_none<R: Keyed>(alloc: Global, found: Option<SortedRows<R>>) -> Sorted
     }
 }
 
-type Tables = (Option<SubstitutionTable>, Option<PositioningTable>);
-
-/// Reads GSUB and GPOS, in a font with that many mark glyph sets.
-pub fn take_tables(
+/// The rows that were found of two keys.
+pub fn two_or_none<A: Keyed, B: Keyed>(
     alloc: Global,
-    text: &str,
-    scratch: &mut Scratch,
+    found: (Option<SortedRows<A>>, Option<SortedRows<B>>),
+) -> (SortedRows<A>, SortedRows<B>)
+    ensures { (result.0 ≡ unwrap_or found.0 []) × (result.1 ≡ unwrap_or found.1 []) }
+{
+    let (first, second) = found;
+    let first = rows_or_none(alloc, first);
+    (first, rows_or_none(alloc, second))
+}
+
+type Found<L> = Option<(ScriptsAndFeatures, Array<L>)>;
+
+/// The GSUB table that was found, in a font with `set_count` mark glyph sets.
+pub fn substitution(
+    found: Found<SubstLookup>,
     set_count: usize,
-) -> Result<Tables, Unread>
-    ensures { IfOk result (λ p. (d : Data) → read text.now ≡ Some d
-        → (optional_value (substitution_table set_count) (get (codes "gsub") d) ≡ Ok p.0)
-        × (optional_value (positioning_table set_count) (get (codes "gpos") d) ≡ Ok p.1)) }
+) -> Result<Option<SubstitutionTable>, Unread>
+    ensures { IfOk result (λ t. (t ≡ option_map (λ x. record { inner = x.0; lookups = x.1 }) found)
+        × (option_map_or (λ x. list_all (λ l. set_fits set_count l.mark_filtering_set) x.1) found true ≡ true)) }
 {
-    let gsub = Key {
-        name: "gsub",
-        taker: TableTaker::<SubstLookup>::new(set_count),
+    let Some((inner, lookups)) = found else {
+        return Ok(None);
     };
-    let gpos = Key {
-        name: "gpos",
-        taker: TableTaker::<PositioningLookup>::new(set_count),
-    };
-    let mut found = (None, None);
-    take_text(alloc, text, scratch, &(gsub, gpos), &mut found)?;
-    let (gsub, gpos) = found;
-    Ok((substitution(gsub), positioning(gpos)))
+    if !all_sets_fit(lookups.as_slice(), set_count) {
+        return Err(Unread);
+    }
+    Ok(Some(SubstitutionTable { inner, lookups }))
 }
 
-fn substitution(found: Option<(ScriptsAndFeatures, Array<SubstLookup>)>) -> Option<SubstitutionTable>
-    ensures { result ≡ option_map (λ t. record { inner = t.0; lookups = t.1 }) found }
+/// The GPOS table that was found, in a font with `set_count` mark glyph sets.
+pub fn positioning(
+    found: Found<PositioningLookup>,
+    set_count: usize,
+) -> Result<Option<PositioningTable>, Unread>
+    ensures { IfOk result (λ t. (t ≡ option_map (λ x. record { inner = x.0; lookups = x.1 }) found)
+        × (option_map_or (λ x. list_all (λ l. set_fits set_count l.mark_filtering_set) x.1) found true ≡ true)) }
 {
-    match found {
-        Some((inner, lookups)) => Some(SubstitutionTable { inner, lookups }),
-        None => None,
+    let Some((inner, lookups)) = found else {
+        return Ok(None);
+    };
+    if !all_sets_fit(lookups.as_slice(), set_count) {
+        return Err(Unread);
     }
-}
-
-fn positioning(found: Option<(ScriptsAndFeatures, Array<PositioningLookup>)>) -> Option<PositioningTable>
-    ensures { result ≡ option_map (λ t. record { inner = t.0; lookups = t.1 }) found }
-{
-    match found {
-        Some((inner, lookups)) => Some(PositioningTable { inner, lookups }),
-        None => None,
-    }
+    Ok(Some(PositioningTable { inner, lookups }))
 }

@@ -1,6 +1,5 @@
 //! Reads the values and rows of a font, each one by itself.
-ghost use Rattle.std.specs.Prelude.{◌≡◌, ◌<◌, ℕ, List, length, None, true, IfOk, OnOk, Ok};
-ghost use Rattle.json.specs.Token.{Token as SpecToken};
+ghost use Rattle.std.specs.Prelude.{◌≡◌, ◌<◌, length, None, Some, IfOk, OnOk, Ok};
 ghost use Rattle.json.specs.Json.{value, items};
 ghost use Rattle.serde_json.specs.Data.{Data, Items};
 ghost use Rattle.serde_json.specs.Read.{of_items, converted};
@@ -99,8 +98,8 @@ fn take_list<P: Part>(
     depth: usize,
     limit: usize,
 ) -> Result<Vec<P>, Unread>
-    ensures ok { IfOk result (λ v. (d : Data) → (rest : List SpecToken) → BeginsWith depth reader.old d rest
-        → (reader.new ≡ rest) × (and_then (list_of d) (rows_in_turn (P.part limit)) ≡ Ok v.items)) }
+    ensures ok { IfOk result (λ v. (d : Data) × BeginsWith depth reader.old d reader.new
+        × (and_then (list_of d) (rows_in_turn (P.part limit)) ≡ Ok v.items)) }
     ensures shorter { OnOk result (length reader.new < length reader.old) }
 {
     let token = reader.next().ok_or(Unread)?;
@@ -121,9 +120,9 @@ fn take_items<P: Part>(
     depth: usize,
     limit: usize,
 ) -> Result<Vec<P>, Unread>
-    ensures ok { IfOk result (λ v. (ds : Items) → (rest : List SpecToken) → (n : ℕ)
-        → converted of_items (items (value depth) n reader.old) ≡ Some (ds, rest)
-        → (reader.new ≡ rest) × (rows_in_turn (P.part limit) ds ≡ Ok v.items)) }
+    ensures ok { IfOk result (λ v. (ds : Items)
+        × (converted of_items (items (value depth) (length reader.old) reader.old) ≡ Some (ds, reader.new))
+        × (rows_in_turn (P.part limit) ds ≡ Ok v.items)) }
     ensures shorter { OnOk result (length reader.new < length reader.old) }
 {
     let mut parts = Vec::new(alloc);
@@ -140,8 +139,7 @@ fn take_part<P: Part>(
     depth: usize,
     limit: usize,
 ) -> Result<P, Unread>
-    ensures ok { IfOk result (λ p. (d : Data) → (rest : List SpecToken) → BeginsWith depth reader.old d rest
-        → (reader.new ≡ rest) × (P.part limit d ≡ Ok p)) }
+    ensures ok { IfOk result (λ p. (d : Data) × BeginsWith depth reader.old d reader.new × (P.part limit d ≡ Ok p)) }
     ensures shorter { OnOk result (length reader.new < length reader.old) }
 {
     let value = read_value(alloc, reader, depth)?;
