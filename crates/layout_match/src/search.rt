@@ -111,6 +111,10 @@ impl<'a> GlyphSearch<'a> {
         ensures { result
             ≡ answer (search_of self.now) (test_of (search_of self.now) sequence.entry k) (item_of info.now) }
     {
+        // Where many such glyphs follow each other, this test alone decides.
+        if sequence.is_none() && self.is_skippable(info) {
+            return match_t::SKIP;
+        }
         if is_left_out(self.face, self.lookup_props, info) {
             return match_t::SKIP;
         }

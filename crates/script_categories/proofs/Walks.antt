@@ -2,12 +2,14 @@
 use Rattle.std.proofs.Common.{ℕ, zero, suc, ◌≡◌, ◌<◌, ◌≤◌, ◌+◌, ◌-◌, List, [], ◌∷◌, length, take, drop, get_or, fold, Option, Some, None, refl, sym, ap, subst, ◌∙◌, arith, add-one, Bool, true, false, ◌==◌, nat_lt}
 use Rattle.std.proofs.lemmas.Grind.{common_steps}
 use Rattle.std.proofs.lemmas.Bool.Decides.{nat_tests}
-use Rattle.std.proofs.lemmas.List.{take_more}
+use Rattle.std.proofs.lemmas.List.{get_or-drop, get_or-take, length-drop, length-take-le, take_more}
+use Rattle.std.proofs.lemmas.List.Elements.{All-get_or}
+use Rattle.std.specs.List.{All}
 use Rattle.std.proofs.Math.Seq.{take-add}
 use Rattle.std.proofs.lemmas.List.Sums.{fold-append}
-use Rattle.script_categories.specs.LongestMatch.{state_by, state_after, kind_of_prefix, found_or, longest_up_to, longest_syllable, IsLongest, IsLongestMatch, LongestIsLongest, LongestIsUnique}
+use Rattle.script_categories.specs.LongestMatch.{kind_in, state_by, state_after, kind_of_prefix, found_or, longest_up_to, longest_syllable, IsLongest, IsLongestMatch, LongestIsLongest, LongestIsUnique}
 use Rattle.script_categories.specs.declared.scan.FoundSyllable.{FoundSyllable}
-use Rattle.script_categories.specs.Machines.{Machine}
+use Rattle.script_categories.specs.Machines.{Machine, accepted_kind}
 
 -- one category more
 pub led_on : (m : Machine) (cs : List ℕ) (i d s : ℕ) → i < length cs → Some s ≡ state_after m (take i cs)
@@ -19,6 +21,83 @@ led_on m cs i d s lt e =
 pub longer_found : (m : Machine) (cs : List ℕ) (i : ℕ)
     → longest_up_to m cs (i + 1) ≡ found_or (kind_of_prefix m (take (i + 1) cs)) (i + 1) (longest_up_to m cs i)
 longer_found m cs i = rw add-one refl
+
+-- ---- a stretch of alike categories, each of which leads back to the state
+
+-- the category at a place of the stretch
+alike_at : (cs : List ℕ) (i n k c : ℕ) → i + n ≤ length cs → k < n → All (λ x. x ≡ c) (take n (drop i cs)) → get_or cs (i + k) 0 ≡ c
+alike_at cs i n k c le lt all =
+    let size : length (drop i cs) ≡ length cs - i = length-drop i cs in
+    let room : n ≤ length (drop i cs) = omega (arith, size, le) in
+    let cut : length (take n (drop i cs)) ≡ n = length-take-le n (drop i cs) room in
+    let inside : k < length (take n (drop i cs)) = omega (arith, cut, lt) in
+    sym (get_or-drop i cs k 0) ∙ sym (get_or-take n (drop i cs) k 0 lt) ∙ All-get_or (λ x. x ≡ c) (take n (drop i cs)) k 0 inside all
+
+found_again : (kind : Option ℕ) (n k : ℕ) (other : Option FoundSyllable) → found_or kind k (found_or kind n other) ≡ found_or kind k other
+found_again (Some kind) n k other = refl
+found_again None n k other = refl
+
+-- a walk that was before the category at an index has come to a state, and has found what is found there
+pub record IsLed (m : Machine) (cs : List ℕ) (i s j : ℕ) : Type 0 where
+  pub state : Some s ≡ state_after m (take j cs)
+  pub found : longest_up_to m cs j ≡ found_or (accepted_kind m s) j (longest_up_to m cs i)
+
+-- one category more that leads back
+back_once : (m : Machine) (cs : List ℕ) (i s : ℕ) → i < length cs → Some s ≡ state_after m (take i cs)
+    → state_by m (Some s) (get_or cs i 0) ≡ Some s → IsLed m cs i s (i + 1)
+back_once m cs i s lt e back =
+    let state : Some s ≡ state_after m (take (i + 1) cs) = sym (led_on m cs i 0 s lt e ∙ back) in
+    record {
+      state = state;
+      found = longer_found m cs i ∙ ap (λ t. found_or (kind_in m t) (i + 1) (longest_up_to m cs i)) (sym state);
+    }
+
+back_more : (m : Machine) (cs : List ℕ) (i s j : ℕ) → IsLed m cs i s j → IsLed m cs j s (j + 1) → IsLed m cs i s (j + 1)
+back_more m cs i s j before last = record {
+  state = last.state;
+  found = last.found ∙ ap (found_or (accepted_kind m s) (j + 1)) before.found ∙ found_again (accepted_kind m s) j (j + 1) (longest_up_to m cs i);
+}
+
+back_within : (m : Machine) (cs : List ℕ) (i s n k : ℕ) → i + n ≤ length cs → k < n → Some s ≡ state_after m (take i cs)
+    → state_by m (Some s) (get_or cs i 0) ≡ Some s → All (λ x. x ≡ get_or cs i 0) (take n (drop i cs)) → IsLed m cs i s (i + suc k)
+back_within m cs i s n zero le lt e back all =
+    let one : i + 1 ≡ i + suc 0 = omega arith in
+    subst (IsLed m cs i s) one (back_once m cs i s (omega (arith, le, lt)) e back)
+back_within m cs i s n (suc k) le lt e back all =
+    let more : i + suc k + 1 ≡ i + suc (suc k) = omega arith in
+    let before = back_within m cs i s n k le (omega (arith, lt)) e back all in
+    let alike : get_or cs (i + suc k) 0 ≡ get_or cs i 0 = alike_at cs i n (suc k) (get_or cs i 0) le lt all in
+    let last = back_once m cs (i + suc k) s (omega (arith, le, lt)) before.state (ap (state_by m (Some s)) alike ∙ back) in
+    subst (IsLed m cs i s) more (back_more m cs i s (i + suc k) before last)
+
+-- where the stretch ends
+pub back_after : (m : Machine) (cs : List ℕ) (i s j : ℕ) → i < j → j ≤ length cs → Some s ≡ state_after m (take i cs)
+    → state_by m (Some s) (get_or cs i 0) ≡ Some s → All (λ x. x ≡ get_or cs i 0) (take (j - i) (drop i cs)) → IsLed m cs i s j
+back_after m cs i s j lt le e back all =
+    let within : i + (j - i) ≤ length cs = omega (arith, lt, le) in
+    let inside : j - i - 1 < j - i = omega (arith, lt) in
+    let ends : i + suc (j - i - 1) ≡ j = omega (arith, lt) in
+    subst (IsLed m cs i s) ends (back_within m cs i s (j - i) (j - i - 1) within inside e back all)
+
+-- one step of the walk: to the next category, or past all that lead back
+pub stepped : (m : Machine) (cs : List ℕ) (i j s next : ℕ) → i < length cs → i < j → j ≤ length cs → Some s ≡ state_after m (take i cs)
+    → state_by m (Some s) (get_or cs i 0) ≡ Some next → ((next == s) ≡ false → j ≡ i + 1)
+    → All (λ x. x ≡ get_or cs i 0) (take (j - i) (drop i cs)) → IsLed m cs i next j
+stepped m cs i j s next here on within e led one alike = by_state (next == s) refl
+  where
+    by_state : (b : Bool) → (next == s) ≡ b → IsLed m cs i next j
+    by_state true t =
+        let same : next ≡ s = grind (arith, common_steps, t) in
+        let at_next : Some next ≡ state_after m (take i cs) = ap Some same ∙ e in
+        let back : state_by m (Some next) (get_or cs i 0) ≡ Some next = ap (λ q. state_by m (Some q) (get_or cs i 0)) same ∙ led in
+        back_after m cs i next j on within at_next back alike
+    by_state false t =
+        let state : Some next ≡ state_after m (take (i + 1) cs) = sym (led_on m cs i 0 s here e ∙ led) in
+        let first : IsLed m cs i next (i + 1) = record {
+          state = state;
+          found = longer_found m cs i ∙ ap (λ q. found_or (kind_in m q) (i + 1) (longest_up_to m cs i)) (sym state);
+        } in
+        subst (IsLed m cs i next) (sym (one t)) first
 
 lost : (m : Machine) (cs : List ℕ) → fold (state_by m) None cs ≡ None
 lost m [] = refl

@@ -1,5 +1,6 @@
 //! The longest prefix of a list of categories that a machine accepts.
-ghost use Rattle.std.specs.Prelude.{◌≡◌, ◌<◌, ◌≤◌, IfSome, length};
+ghost use Rattle.std.specs.Prelude.{◌≡◌, ◌<◌, ◌≤◌, ◌+◌, ◌-◌, IfSome, drop, false, get_or, length, take};
+ghost use Rattle.std.specs.List.{All};
 ghost use Rattle.script_categories.specs.LongestMatch.{found_or, longest_syllable};
 ghost use Rattle.script_categories.specs.Machines.{accepted_kind, machine_in, next_state};
 ghost use Rattle.script_categories.specs.Sound.{IsRising};
@@ -29,19 +30,40 @@ pub(crate) fn longest_syllable(
     walk(machine, guesses, categories)
 }
 
-#[tactic(auto, using(crate::proofs::Walks::led_on, crate::proofs::Walks::longer_found, crate::proofs::Walks::ends_here))]
+/// Where a step of the walk ends: after the category at an index; and where the step leads back to its state, after all that
+/// follow and are alike, since each of them does.
+fn step_end(categories: &[u8], i: usize, stays: bool) -> usize
+    requires { i < length categories.now }
+    ensures on { i < result }
+    ensures within { result ≤ length categories.now }
+    ensures one { stays ≡ false → result ≡ i + 1 }
+    ensures alike { All (λ c. c ≡ get_or categories.now i 0) (take (result - i) (drop i categories.now)) }
+{
+    if !stays {
+        return i + 1;
+    }
+    let category = categories[i];
+    let alike = categories[i..]
+        .iter()
+        .take_while(|c| **c == category)
+        .count();
+    i + alike
+}
+
 fn walk(machine: &SyllableMachine, guesses: &RowGuesses, categories: &[u8]) -> Option<FoundSyllable>
     requires { IsRising (machine_in machine.now) }
     ensures { result ≡ longest_syllable (machine_in machine.now) categories.now }
 {
     let mut found = None;
     let mut state = 0;
-    for (i, category) in categories.iter().enumerate() {
-        let Some(next) = next_state(machine, guesses, state, *category) else {
+    let mut i = 0;
+    while i < categories.len() {
+        let Some(next) = next_state(machine, guesses, state, categories[i]) else {
             return found;
         };
+        i = step_end(categories, i, next == state);
         state = next;
-        found = longer(kind_of(machine, guesses, state), i + 1, found);
+        found = longer(kind_of(machine, guesses, state), i, found);
     }
     found
 }
