@@ -161,6 +161,23 @@ fn turn_agrees(
     Ok(())
 }
 
+/// Shapes the text of each turn by one cache.
+fn each_turn_agrees(
+    rt: &impl Abort,
+    alloc: Global,
+    face: &Face,
+    shape_data: hb_shape_data_t<'_, SyllableTable, LanguageTable>,
+    cache: &mut PlanCache,
+    turns: &str,
+) -> Result<(), Fail>
+    requires { IsCacheOf face.now (tags_of_table shape_data.languages.now) cache.old }
+{
+    for turn in turns.lines() {
+        turn_agrees(rt, alloc, face, shape_data, cache, turn)?;
+    }
+    Ok(())
+}
+
 /// Shapes texts in turn by a cache for some plans.
 fn turns_agree(rt: &impl Abort, alloc: Global, bound: usize, turns: &str) -> Result<(), Fail>
     requires { 0 < bound }
@@ -169,10 +186,7 @@ fn turns_agree(rt: &impl Abort, alloc: Global, bound: usize, turns: &str) -> Res
     let face = face_of(alloc, FONT)?;
     let data = tables.borrowed().data();
     let mut cache = PlanCache::new(alloc, bound);
-    for turn in turns.lines() {
-        turn_agrees(rt, alloc, &face, data, &mut cache, turn)?;
-    }
-    Ok(())
+    each_turn_agrees(rt, alloc, &face, data, &mut cache, turns)
 }
 
 #[test]

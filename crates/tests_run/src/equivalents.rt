@@ -1,15 +1,15 @@
 //! Canonically equivalent texts of Balinese, Myanmar, Tibetan and Tai Tham: a run prints the same glyphs at the same
 //! positions for both.
 use crate::memory::{plain_options, ran};
-use crate::rows::characters;
+use crate::rows::{characters, is_row, part, rows_of};
 use buffer_glyphs::flags::SerializeFlags;
 use shell_readers::options::Options;
 use std::alloc::{AllocError, Global};
 use std::process::Abort;
 use std::test::Fail;
 
-/// The rows of the Unicode Character Database for the characters of the texts, as `tools/unicode_to_json` makes them, and
-/// machines that make a syllable of a letter with all that follows it.
+/// The rows of the Unicode Character Database for the characters of the texts, as `tools/unicode_to_json` makes them,
+/// and machines that make a syllable of a letter with all that follows it.
 static TABLES: &str =
     r#"{"splits":[[3907,3906,4023],[3917,3916,4023],[3922,3921,4023],[3927,3926,4023],[3932,3931,4023],[3945,3904,4021],
 [3955,3953,3954],[3957,3953,3956],[3958,4018,3968],[3960,4019,3968],[3969,3953,3968],[3987,3986,4023],
@@ -40,9 +40,9 @@ static TABLES: &str =
 [1,"CMBlw",1],[1,"VAbv",1],[1,"VBlw",1],[1,"VPst",1],[1,"VPre",1],[1,"VMAbv",1],[1,"VMBlw",1],[1,"SMAbv",1],
 [1,"SMBlw",1],[1,"FMBlw",1]],"accept":[[1,"standard"]]}}}"#;
 
-/// Each character of the texts' full canonical decompositions has a glyph, and so have U+0F43, U+1B06 and U+1B40, which have
-/// one. A vowel sign becomes two glyphs, letters form ligatures with marks, and some marks change before or after others. Each
-/// nonspacing mark is attached to a base or to a mark.
+/// Each character of the texts' full canonical decompositions has a glyph, and so have U+0F43, U+1B06 and U+1B40,
+/// which have one. A vowel sign becomes two glyphs, letters form ligatures with marks, and some marks change before
+/// or after others. Each nonspacing mark is attached to a base or to a mark.
 static FONT: &str = r#"{"upem":1000,
 "cmap":[[3893,1],[3897,2],[3904,3],[3906,4],[3907,5],[3916,6],[3921,7],[3926,8],[3931,9],[3953,10],[3954,11],
 [3956,12],[3962,13],[3968,14],[3971,15],[3972,16],[3984,17],[3986,18],[4018,19],[4019,20],[4021,21],[4023,22],
@@ -96,21 +96,27 @@ static FONT: &str = r#"{"upem":1000,
 [48,[[78,90]]],[49,[[79,90]]],[50,[[80,90]]],[51,[[81,90]]],[60,[[90,90]]],[62,[[92,90]]],[63,[[93,90]]],
 [67,[[97,90]]],[69,[[99,90]]],[70,[[100,90]]]]}]}]}}"#;
 
-/// For each script a line of starts of texts, each spelt composed and decomposed where it can be, and a line of sets of marks
-/// of distinct classes, each set in all its orders. They were chosen by hand from the rows above, and all spellings of a
-/// start with a set were found to have one NFD by Python's `unicodedata`.
-static TEXTS: &str =
-    "1B06=1B05 1B35;1B08=1B07 1B35;1B0A=1B09 1B35;1B0C=1B0B 1B35;1B0E=1B0D 1B35;1B12=1B11 1B35;1B13 1B3B=1B13 1B3A 1B35;1B13 1B3D=1B13 1B3C 1B35;1B13 1B40=1B13 1B3E 1B35;1B13 1B41=1B13 1B3F 1B35;1B13 1B43=1B13 1B42 1B35\n\
-    1B34 1B44|1B44 1B34;1B34 1B6B|1B6B 1B34;1B44 1B6C|1B6C 1B44;1B34 1B44 1B6B|1B34 1B6B 1B44|1B44 1B34 1B6B|1B44 1B6B 1B34|1B6B 1B34 1B44|1B6B 1B44 1B34\n\
-    \n\
-    1026=1025 102E;1000;1005 103E;1010 102F;1019 1031;101E 1036\n\
-    1037 1039|1039 1037;1037 103A|103A 1037;1039 108D|108D 1039;103A 1037 108D|103A 108D 1037|1037 103A 108D|1037 108D 103A|108D 103A 1037|108D 1037 103A\n\
-    \n\
-    F43=F42 FB7;F4D=F4C FB7;F52=F51 FB7;F57=F56 FB7;F5C=F5B FB7;F69=F40 FB5;F40 F73=F40 F71 F72;F40 F75=F40 F71 F74;F40 F81=F40 F71 F80;F40 F76=F40 FB2 F80;F40 F78=F40 FB3 F80;F40 F93=F40 F92 FB7;F40 FB9=F40 F90 FB5\n\
-    F71 F72|F72 F71;F71 F74|F74 F71;F74 F80|F80 F74;F39 F7A F84|F39 F84 F7A|F7A F39 F84|F7A F84 F39|F84 F39 F7A|F84 F7A F39;F35 F83|F83 F35\n\
-    \n\
-    1A20;1A34 1A65;1A43 1A6E;1A37 1A69;1A3E 1A6C\n\
-    1A60 1A75|1A75 1A60;1A7F 1A79|1A79 1A7F;1A60 1A7A 1A7F|1A60 1A7F 1A7A|1A7A 1A60 1A7F|1A7A 1A7F 1A60|1A7F 1A60 1A7A|1A7F 1A7A 1A60";
+/// For each script starts of texts, each spelt composed and decomposed where it can be, and sets of marks of distinct
+/// classes, each set in all its orders. They were chosen by hand from the rows above, and all spellings of a start
+/// with a set were found to have one NFD by Python's `unicodedata`.
+static TEXTS: &str = "
+# script; starts; sets of marks
+Balinese; 1B06=1B05 1B35, 1B08=1B07 1B35, 1B0A=1B09 1B35, 1B0C=1B0B 1B35, 1B0E=1B0D 1B35, 1B12=1B11 1B35,
+  1B13 1B3B=1B13 1B3A 1B35, 1B13 1B3D=1B13 1B3C 1B35, 1B13 1B40=1B13 1B3E 1B35, 1B13 1B41=1B13 1B3F 1B35,
+  1B13 1B43=1B13 1B42 1B35;
+  1B34 1B44|1B44 1B34, 1B34 1B6B|1B6B 1B34, 1B44 1B6C|1B6C 1B44,
+  1B34 1B44 1B6B|1B34 1B6B 1B44|1B44 1B34 1B6B|1B44 1B6B 1B34|1B6B 1B34 1B44|1B6B 1B44 1B34
+Myanmar; 1026=1025 102E, 1000, 1005 103E, 1010 102F, 1019 1031, 101E 1036;
+  1037 1039|1039 1037, 1037 103A|103A 1037, 1039 108D|108D 1039,
+  103A 1037 108D|103A 108D 1037|1037 103A 108D|1037 108D 103A|108D 103A 1037|108D 1037 103A
+Tibetan; F43=F42 FB7, F4D=F4C FB7, F52=F51 FB7, F57=F56 FB7, F5C=F5B FB7, F69=F40 FB5, F40 F73=F40 F71 F72,
+  F40 F75=F40 F71 F74, F40 F81=F40 F71 F80, F40 F76=F40 FB2 F80, F40 F78=F40 FB3 F80, F40 F93=F40 F92 FB7,
+  F40 FB9=F40 F90 FB5;
+  F71 F72|F72 F71, F71 F74|F74 F71, F74 F80|F80 F74,
+  F39 F7A F84|F39 F84 F7A|F7A F39 F84|F7A F84 F39|F84 F39 F7A|F84 F7A F39, F35 F83|F83 F35
+Tai Tham; 1A20, 1A34 1A65, 1A43 1A6E, 1A37 1A69, 1A3E 1A6C;
+  1A60 1A75|1A75 1A60, 1A7F 1A79|1A79 1A7F,
+  1A60 1A7A 1A7F|1A60 1A7F 1A7A|1A7A 1A60 1A7F|1A7A 1A7F 1A60|1A7F 1A60 1A7A|1A7F 1A7A 1A60";
 
 /// Glyphs are printed by their numbers, without clusters.
 const SHOWN: SerializeFlags = SerializeFlags(5);
@@ -164,18 +170,17 @@ fn follow_spellings(rt: &impl Abort, alloc: Global, texts: &[String]) -> Result<
 
 fn follow_start(rt: &impl Abort, alloc: Global, start: &str, sets: &str) -> Result<usize, Fail> {
     let mut pairs = 0_usize;
-    for marks in sets.split(';') {
-        let texts = spellings(alloc, start, marks)?;
+    for marks in sets.split(',') {
+        let texts = spellings(alloc, start.trim(), marks.trim())?;
         pairs = pairs.saturating_add(follow_spellings(rt, alloc, &texts)?);
     }
     Ok(pairs)
 }
 
 fn follow_script(rt: &impl Abort, alloc: Global, script: &str) -> Result<usize, Fail> {
-    let (starts, sets) = script.split_once('\n').ok_or("no marks")?;
     let mut pairs = 0_usize;
-    for start in starts.split(';') {
-        pairs = pairs.saturating_add(follow_start(rt, alloc, start, sets)?);
+    for start in part(script, 1).split(',') {
+        pairs = pairs.saturating_add(follow_start(rt, alloc, start, part(script, 2))?);
     }
     Ok(pairs)
 }
@@ -183,8 +188,11 @@ fn follow_script(rt: &impl Abort, alloc: Global, script: &str) -> Result<usize, 
 #[test]
 fn equivalent_texts_print_alike(rt: HostRuntime) -> Result<(), Fail> {
     let mut pairs = 0_usize;
-    for script in TEXTS.split("\n\n") {
-        pairs = pairs.saturating_add(follow_script(&rt, rt.alloc(), script)?);
+    let scripts = rows_of(rt.alloc(), TEXTS)?;
+    for script in scripts.lines() {
+        if is_row(script) {
+            pairs = pairs.saturating_add(follow_script(&rt, rt.alloc(), script)?);
+        }
     }
     assert_eq!(rt; pairs, 614);
     Ok(())

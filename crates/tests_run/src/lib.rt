@@ -11,6 +11,8 @@ mod equivalents;
 #[cfg(test)]
 mod faults;
 #[cfg(test)]
+mod fonts;
+#[cfg(test)]
 mod indic;
 #[cfg(test)]
 mod languages;

@@ -1,6 +1,6 @@
 //! The program: its statuses, what it writes to each stream, and the order in which it reads its files.
 use crate::languages;
-use crate::rows::part;
+use crate::rows::{is_row, part, rows_of};
 use shell_readers::fault::RunFault;
 use shell_run::files::Files;
 use shell_run::program::shape;
@@ -9,10 +9,11 @@ use std::test::Fail;
 
 const FONT: &[u8] = b"{\"upem\":1000,\"cmap\":[[97,1],[98,2]],\"h\":[[1,500],[2,600]]}";
 
-// Files in memory, one of which may be missing, and standard input. It records the names that were opened, each with a comma.
+// Files in memory, one of which may be missing, and standard input. It records the names that were opened, each with
+// a comma.
 #[derive(Drop)]
 struct MemoryFiles {
-    missing: &'static str,
+    missing: String,
     asked: String,
 }
 
@@ -20,7 +21,7 @@ impl Files<&'static [u8]> for MemoryFiles {
     fn open(&mut self, name: &str) -> Option<&'static [u8]> {
         self.asked.push_str(name).ok()?;
         self.asked.push_str(",").ok()?;
-        if name == self.missing {
+        if name == self.missing.as_str() {
             return None;
         }
         match name {
@@ -39,46 +40,51 @@ impl Files<&'static [u8]> for MemoryFiles {
 
     fn input(&mut self) -> Option<&'static [u8]> {
         self.asked.push_str("(input),").ok()?;
-        if self.missing == "(input)" {
+        if self.missing.as_str() == "(input)" {
             return None;
         }
         Some(b"ba\n".as_slice())
     }
 }
 
+/// The command line of words after the program's name.
 fn words_of(alloc: Global, line: &str) -> Result<Vec<String>, AllocError> {
     let mut words = Vec::new(alloc);
+    words.push(String::from_str(alloc, "hb_shape")?)?;
     for word in line.split(' ') {
         words.push(String::from_str(alloc, word)?)?;
     }
     Ok(words)
 }
 
-// Each row has the command-line words, the missing file, the status, the written lines, separated by commas, and the line of
-// the fault, and the opened files, each with a comma. `-` is standard input as the text, and else a name. Files are opened in their order, and the first that is missing ends the program. The fault of the
-// tables precedes that of the font, and that the text's.
-static ROWS: &str =
-    "hb_shape --no-glyph-names tables font text;;0;1=0+500|2=1+600;;tables,font,text,
-hb_shape --direction=r tables font text;;0;gid2=1+600|gid1=0+500;;tables,font,text,
-hb_shape --language=ro languages local text;;0;gid3=0+510|gid2=1+600;;languages,local,text,
-hb_shape tables font;;2;;hb_shape: words;
-hb_shape --help;;2;;hb_shape: words;
-hb_shape tables font text;tables;6;;hb_shape: Read;tables,
-hb_shape tables font text;font;6;;hb_shape: Read;tables,font,
-hb_shape tables broken text;text;6;;hb_shape: Read;tables,broken,text,
-hb_shape broken broken broken;;3;;hb_shape: J1 NotJson;broken,broken,broken,
-hb_shape tables text broken;;3;;hb_shape: J1 NotJson;tables,text,broken,
-hb_shape tables font broken;;4;;hb_shape: NotUtf8;tables,font,broken,
-hb_shape --script=deva tables font text;;0;gid1=0+500|gid2=1+600;;tables,font,text,
-hb_shape tables font -;;0;gid2=0+600|gid1=1+500;;tables,font,(input),
-hb_shape tables font -;(input);6;;hb_shape: Read;tables,font,(input),
-hb_shape - font text;-;6;;hb_shape: Read;-,
-hb_shape --lines tables font lines;;0;gid1=0+500|gid2=1+600,,gid2=0+600;;tables,font,lines,
-hb_shape --lines tables font -;;0;gid2=0+600|gid1=1+500;;tables,font,(input),
-hb_shape --lines tables font some;;4;;hb_shape: NotUtf8 line 2;tables,font,some,
-hb_shape --lines --keep-going tables font some;;4;gid1=0+500,! NotUtf8,gid2=0+600;hb_shape: NotUtf8 line 2;tables,font,some,
-hb_shape --keep-going tables font some;;2;;hb_shape: words;
-hb_shape --lines --slices tables font text;;2;;hb_shape: words;";
+// Each row has its name, the command-line words after the program's, the missing file, the status, the written lines,
+// with commas between, the line of the fault, and the opened files, each with a comma. `-` is standard input as the
+// text, and else a name. Files are opened in their order, and the first that is missing ends the program. The fault
+// of the tables precedes that of the font, and that the text's.
+static ROWS: &str = "
+# name; words; missing; status; lines; fault; files
+a line; --no-glyph-names tables font text; ; 0; 1=0+500|2=1+600; ; tables,font,text,
+a line backward; --direction=r tables font text; ; 0; gid2=1+600|gid1=0+500; ; tables,font,text,
+a line of a language; --language=ro languages local text; ; 0; gid3=0+510|gid2=1+600; ; languages,local,text,
+a file too few; tables font; ; 2; ; hb_shape: words;
+help; --help; ; 2; ; hb_shape: words;
+no tables; tables font text; tables; 6; ; hb_shape: Read; tables,
+no font; tables font text; font; 6; ; hb_shape: Read; tables,font,
+no text; tables broken text; text; 6; ; hb_shape: Read; tables,broken,text,
+tables before the font; broken broken broken; ; 3; ; hb_shape: J1 NotJson; broken,broken,broken,
+the font before the text; tables text broken; ; 3; ; hb_shape: J1 NotJson; tables,text,broken,
+a text that is not UTF-8; tables font broken; ; 4; ; hb_shape: NotUtf8; tables,font,broken,
+a script; --script=deva tables font text; ; 0; gid1=0+500|gid2=1+600; ; tables,font,text,
+the input as text; tables font -; ; 0; gid2=0+600|gid1=1+500; ; tables,font,(input),
+no input; tables font -; (input); 6; ; hb_shape: Read; tables,font,(input),
+the input is no table; - font text; -; 6; ; hb_shape: Read; -,
+lines; --lines tables font lines; ; 0; gid1=0+500|gid2=1+600,,gid2=0+600; ; tables,font,lines,
+lines of the input; --lines tables font -; ; 0; gid2=0+600|gid1=1+500; ; tables,font,(input),
+a line refused; --lines tables font some; ; 4; ; hb_shape: NotUtf8 line 2; tables,font,some,
+a line named; --lines --keep-going tables font some; ; 4;
+  gid1=0+500,! NotUtf8,gid2=0+600; hb_shape: NotUtf8 line 2; tables,font,some,
+keep-going without lines; --keep-going tables font some; ; 2; ; hb_shape: words;
+lines with slices; --lines --slices tables font text; ; 2; ; hb_shape: words;";
 
 /// Whether these bytes are lines, each with its line feed, given separated by commas; nothing where there is none.
 fn are_lines(bytes: &[u8], lines: &str) -> bool {
@@ -96,10 +102,10 @@ fn are_lines(bytes: &[u8], lines: &str) -> bool {
 /// More bytes than a row's line, its fault or its files have, so that recording them asks for no memory.
 const ROOM: usize = 64;
 
-fn is_followed(alloc: Global, row: &'static str) -> Result<bool, Fail> {
-    let words = words_of(alloc, part(row, 0))?;
+fn is_followed(alloc: Global, row: &str) -> Result<bool, Fail> {
+    let words = words_of(alloc, part(row, 1))?;
     let mut files = MemoryFiles {
-        missing: part(row, 1),
+        missing: String::from_str(alloc, part(row, 2))?,
         asked: String::with_capacity(alloc, ROOM)?,
     };
     let mut written = Vec::with_capacity(alloc, ROOM)?;
@@ -109,18 +115,19 @@ fn is_followed(alloc: Global, row: &'static str) -> Result<bool, Fail> {
         return Err(AllocError.into());
     }
     Ok(
-        part(row, 2).parse() == Ok(ending.status())
+        part(row, 3).parse() == Ok(ending.status())
             && ending.is_reported
-            && are_lines(&written, part(row, 3))
-            && are_lines(&reported, part(row, 4))
-            && files.asked.as_str() == part(row, 5),
+            && are_lines(&written, part(row, 4))
+            && are_lines(&reported, part(row, 5))
+            && files.asked.as_str() == part(row, 6),
     )
 }
 
 #[test]
 fn statuses_lines_and_files(rt: HostRuntime) -> Result<(), Fail> {
-    for row in ROWS.lines() {
-        let is_followed = is_followed(rt.alloc(), row)?;
+    let rows = rows_of(rt.alloc(), ROWS)?;
+    for row in rows.lines() {
+        let is_followed = !is_row(row) || is_followed(rt.alloc(), row)?;
         assert!(rt; is_followed, "{row}");
     }
     Ok(())

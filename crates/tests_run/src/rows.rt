@@ -1,5 +1,9 @@
-//! Rows of tests: fields are separated by semicolons. The first field holds the options, separated by spaces, the second
-//! the text, and each other one a printed line.
+//! Tables of tests, as texts. A row begins at the margin, and indented lines continue it; a line that begins with `#`
+//! says what the rows after it have in common. The fields of a row are separated by semicolons: its name, what it is
+//! shaped with, its options, its text, and each line that is printed.
+//!
+//! A text is its characters, and then their numbers, unless all are of ASCII; where a character has no picture, it is
+//! the numbers alone.
 use crate::memory::{plain_options, ran};
 use buffer_common::constants::BufferFlags;
 use buffer_common::language::Language;
@@ -10,12 +14,30 @@ use std::alloc::{AllocError, Global};
 use std::process::Abort;
 use std::test::Fail;
 
-/// A field of a row.
-pub(crate) fn part(row: &str, at: usize) -> &str {
-    row.split(';').nth(at).unwrap_or("")
+/// The rows of a table, a line each.
+pub(crate) fn rows_of(alloc: Global, table: &str) -> Result<String, AllocError> {
+    table.replace(alloc, "\n  ", "")
 }
 
-pub(crate) fn level_of(number: &str) -> BufferClusterLevel {
+/// Whether a line is a row.
+pub(crate) fn is_row(line: &str) -> bool {
+    !line.is_empty() && !line.starts_with('#')
+}
+
+/// A field of a row.
+pub(crate) fn part(row: &str, at: usize) -> &str {
+    row.split(';').nth(at).unwrap_or("").trim()
+}
+
+/// The fields of a row after the first ones.
+pub(crate) fn after(row: &str, count: usize) -> &str {
+    row.splitn(count.saturating_add(1), ';')
+        .nth(count)
+        .unwrap_or("")
+        .trim()
+}
+
+fn level_of(number: &str) -> BufferClusterLevel {
     match number {
         "0" => BufferClusterLevel::MonotoneGraphemes,
         "1" => BufferClusterLevel::MonotoneCharacters,
@@ -52,7 +74,7 @@ fn ask_value(alloc: Global, options: &mut Options, word: &str) -> Result<(), Fai
 /// The options of command-line words.
 pub(crate) fn asked(alloc: Global, words: &str) -> Result<Options, Fail> {
     let mut options = plain_options(alloc);
-    for word in words.split_terminator(' ') {
+    for word in words.split_whitespace() {
         ask(alloc, &mut options, word)?;
     }
     Ok(options)
@@ -68,12 +90,16 @@ pub(crate) fn characters(alloc: Global, numbers: &str) -> Result<String, Fail> {
     Ok(text)
 }
 
-/// The text of a field, which may begin with `U+` and name its characters.
-fn text_of(alloc: Global, field: &str) -> Result<String, Fail> {
-    match field.strip_prefix("U+") {
-        Some(numbers) => characters(alloc, numbers),
-        None => Ok(String::from_str(alloc, field)?),
+/// The text of a field: ASCII, or characters with their numbers.
+pub(crate) fn text_of(alloc: Global, field: &str) -> Result<String, Fail> {
+    let Some((shown, numbers)) = field.split_once("U+") else {
+        return Ok(String::from_str(alloc, field)?);
+    };
+    let text = characters(alloc, numbers)?;
+    if !shown.is_empty() && shown.trim() != text.as_str() {
+        return Err("characters that are not those of the numbers".into());
     }
+    Ok(text)
 }
 
 /// Whether a run writes these lines, separated by line feeds, and a line feed.
@@ -89,44 +115,55 @@ pub(crate) fn prints(
     Ok(answer == Ok(()) && out.strip_suffix(b"\n") == Some(lines.as_bytes()))
 }
 
-/// The printed lines of a row, separated by line feeds.
-fn lines_of(alloc: Global, row: &str) -> Result<String, AllocError> {
-    let lines = row.splitn(3, ';').nth(2).unwrap_or("");
-    lines.replace(alloc, ';', "\n")
-}
-
-/// Whether a row holds: its options, a text and the lines.
-pub(crate) fn is_followed(
+/// Whether a run prints what the last fields of a row say: its options, a text and the lines. The words come before
+/// the row's options.
+pub(crate) fn shows(
     alloc: Global,
     tables: &str,
     font: &str,
-    row: &str,
+    words: &str,
+    fields: &str,
 ) -> Result<bool, Fail> {
-    let text = text_of(alloc, part(row, 1))?;
-    let options = asked(alloc, part(row, 0))?;
-    let lines = lines_of(alloc, row)?;
+    let words = format!(in alloc; "{words} {}", part(fields, 0))?;
+    let options = asked(alloc, &words)?;
+    let text = text_of(alloc, part(fields, 1))?;
+    let lines = after(fields, 2).replace(alloc, ";", "\n")?;
     Ok(prints(alloc, options, tables, font, &text, &lines)?)
 }
 
-/// A font, and after it the rows that must hold in it.
-fn follow_in_font(rt: &impl Abort, alloc: Global, tables: &str, block: &str) -> Result<(), Fail> {
-    let (font, rows) = block.split_once('\n').ok_or("a font without rows")?;
-    for row in rows.lines() {
-        let is_followed = is_followed(alloc, tables, font, row)?;
-        assert!(rt; is_followed, "{row}");
+/// A font by its name, from the lines of a table that begin with the name, or the font that is given.
+pub(crate) fn font_in<'a>(fonts: &'a str, name: &'a str) -> Result<&'a str, Fail> {
+    if name.starts_with('{') {
+        return Ok(name);
     }
-    Ok(())
+    for line in fonts.lines() {
+        if let Some((found, font)) = line.split_once(' ') {
+            if found == name {
+                return Ok(font);
+            }
+        }
+    }
+    Err("no font of that name".into())
 }
 
-/// Fonts with their rows, separated by empty lines.
+fn is_followed(alloc: Global, tables: &str, fonts: &str, row: &str) -> Result<bool, Fail> {
+    let font = font_in(fonts, part(row, 1))?;
+    shows(alloc, tables, font, "", after(row, 2))
+}
+
+/// Rows with a font each, which has its name in a table of fonts.
 pub(crate) fn follow(
     rt: &impl Abort,
     alloc: Global,
     tables: &str,
-    blocks: &str,
+    fonts: &str,
+    table: &str,
 ) -> Result<(), Fail> {
-    for block in blocks.split("\n\n") {
-        follow_in_font(rt, alloc, tables, block)?;
+    let fonts = rows_of(alloc, fonts)?;
+    let rows = rows_of(alloc, table)?;
+    for row in rows.lines() {
+        let is_followed = !is_row(row) || is_followed(alloc, tables, &fonts, row)?;
+        assert!(rt; is_followed, "{row}");
     }
     Ok(())
 }

@@ -8,8 +8,8 @@ use std::io::{ErrorKind, Read, Write};
 use std::test::Fail;
 
 /// Four glyphs and their widths.
-const FONT: &[u8] =
-    b"{\"upem\":1000,\"ascender\":800,\"cmap\":[[97,1],[98,2],[102,3],[105,4]],\"h\":[[1,500],[2,600],[3,300],[4,250]]}";
+const FONT: &[u8] = br#"{"upem":1000,"ascender":800,"cmap":[[97,1],[98,2],[102,3],[105,4]],
+  "h":[[1,500],[2,600],[3,300],[4,250]]}"#;
 
 // Gives one byte per call and then the end, which it counts.
 #[derive(Drop)]

@@ -1,3 +1,2 @@
 pub mod Ready
 pub mod Masks
-pub mod ScriptsReady

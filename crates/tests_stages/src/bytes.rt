@@ -1,53 +1,51 @@
-//! The bytes of syllables: a machine and numbers.
-use crate::numbers::Numbers;
+//! The bytes of syllables that a machine finds.
+use crate::buffers::{buffer_of, has_glyphs, limit};
+use crate::rows::{is_row, part, rows_of};
 use crate::spans::SingleGlyphs;
 use buffer_glyphs::cause::ShapeCause;
-use buffer_glyphs::info::hb_glyph_info_t;
 use script_categories::hb_ot_script_shaper_t::UNIVERSAL_SHAPER;
 use script_categories::{Accept, Step, SyllableMachine, SyllableMachines, SyllableTable};
 use script_syllabic::spans::find_syllables;
 use script_syllabic::syllables::setup_syllables;
-use std::alloc::{AllocError, Global};
+use std::alloc::Global;
 use std::test::Fail;
 
-fn steps(alloc: Global, numbers: &mut Numbers<'_>) -> Result<Vec<Step>, AllocError> {
-    let mut steps = Vec::new(alloc);
-    let count = numbers.next();
-    for _ in 0..count {
-        steps.push(Step {
-            state: numbers.next(),
-            category: numbers.class(),
-            next: numbers.next(),
-        })?;
-    }
-    Ok(steps)
+/// A step: a state, a category and the next state.
+fn step(text: &str) -> Result<Step, Fail> {
+    let mut words = text.split_whitespace();
+    let state = words.next().ok_or("no state")?.parse::<u32>()?;
+    let name = words.next().ok_or("no category")?;
+    let next = words.next().ok_or("no next state")?.parse::<u32>()?;
+    Ok(Step {
+        state,
+        category: UNIVERSAL_SHAPER
+            .category_number(name)
+            .ok_or("no category of that name")?,
+        next,
+    })
 }
 
-fn accepting(alloc: Global, numbers: &mut Numbers<'_>) -> Result<Vec<Accept>, AllocError> {
-    let mut accepting = Vec::new(alloc);
-    let count = numbers.next();
-    for _ in 0..count {
-        accepting.push(Accept {
-            state: numbers.next(),
-            kind: numbers.class(),
-        })?;
-    }
-    Ok(accepting)
-}
-
-fn machine(alloc: Global, numbers: &mut Numbers<'_>) -> Result<SyllableMachine, AllocError> {
-    Ok(SyllableMachine {
-        states: numbers.next(),
-        next: steps(alloc, numbers)?,
-        accept: accepting(alloc, numbers)?,
+/// An accepting state and its kind.
+fn accepting(text: &str) -> Result<Accept, Fail> {
+    let mut words = text.split_whitespace();
+    let state = words.next().ok_or("no state")?.parse::<u32>()?;
+    let name = words.next().ok_or("no kind")?;
+    Ok(Accept {
+        state,
+        kind: UNIVERSAL_SHAPER
+            .kind_number(name)
+            .ok_or("no kind of that name")?,
     })
 }
 
 fn machine_of(alloc: Global, row: &str) -> Result<SyllableMachine, Fail> {
-    let mut numbers = Numbers::of(row);
-    let machine = machine(alloc, &mut numbers)?;
-    if !numbers.are_there() {
-        return Err("no number".into());
+    let mut machine = SyllableMachine::new(alloc);
+    machine.states = part(row, 1).parse::<u32>()?;
+    for text in part(row, 2).split_terminator(',') {
+        machine.next.push(step(text)?)?;
+    }
+    for text in part(row, 3).split_terminator(',') {
+        machine.accept.push(accepting(text)?)?;
     }
     Ok(machine)
 }
@@ -66,43 +64,31 @@ fn table(alloc: Global, row: &str) -> Result<SyllableTable, Fail> {
     }
 }
 
-fn check(alloc: Global, line: &str) -> Result<bool, Fail> {
-    let (steps, row) = line.split_once('|').ok_or("no machine")?;
-    let table = table(alloc, steps)?;
-    check_with(alloc, &table, row)
-}
-
-fn check_with(alloc: Global, table: &SyllableTable, row: &str) -> Result<bool, Fail> {
-    let mut numbers = Numbers::of(row);
-    let max_len = numbers.count();
-    numbers.six();
-    let mut buffer = numbers.glyphs(alloc, max_len)?;
+fn agrees_with(alloc: Global, table: &SyllableTable, row: &str) -> Result<bool, Fail> {
+    let mut buffer = buffer_of(alloc, UNIVERSAL_SHAPER, "", part(row, 4))?;
+    limit(16_384, &mut buffer);
     find_syllables(alloc, table, &mut buffer)?;
-    Ok(are_wanted(buffer.info_slice(), &mut numbers) && numbers.are_there())
+    Ok(has_glyphs(UNIVERSAL_SHAPER, "s", part(row, 5), &buffer))
 }
 
-fn are_wanted(glyphs: &[hb_glyph_info_t], numbers: &mut Numbers<'_>) -> bool {
-    numbers.next();
-    numbers.next();
-    for glyph in glyphs {
-        if glyph.syllable != numbers.syllable() {
-            return false;
-        }
-    }
-    true
+fn agrees(alloc: Global, row: &str) -> Result<bool, Fail> {
+    let table = table(alloc, row)?;
+    agrees_with(alloc, &table, row)
 }
 
 #[test]
 fn numbers_syllables(rt: HostRuntime) -> Result<(), Fail> {
-    for line in ROWS.lines() {
-        assert!(rt; check(rt.alloc(), line)?, "{line}");
+    let rows = rows_of(rt.alloc(), ROWS)?;
+    for row in rows.lines() {
+        let agrees = !is_row(row) || agrees(rt.alloc(), row)?;
+        assert!(rt; agrees, "{row}");
     }
     Ok(())
 }
 
 /// Whether a kind that the shaper doesn't have is refused as such.
 fn is_unknown_kind(alloc: Global, kind: u8) -> Result<bool, Fail> {
-    let mut buffer = Numbers::of("0 1 97 0 7 0 0").buffer(alloc)?;
+    let mut buffer = buffer_of(alloc, UNIVERSAL_SHAPER, "", "U+61@0 p=7")?;
     let spans = SingleGlyphs { kind };
     match setup_syllables(alloc, &spans, UNIVERSAL_SHAPER, &mut buffer) {
         Ok(()) => Ok(false),
@@ -117,20 +103,38 @@ fn refuses_an_unknown_kind(rt: HostRuntime) -> Result<(), Fail> {
     Ok(())
 }
 
-static ROWS: &str = "\
-2 5 0 0 1 0 4 1 0 11 1 1 0 0 1 2 1 0|16384 0 0 0 0 0 0 0 1 0 1 0 7 0 0 2 0 0 0 0 0 1 1 0 0 0 25 2 0 0 0
-2 2 0 4 1 0 28 1 0|16384 0 0 0 0 0 0 0 2 0 1 1 0 108 0 0 4 0 0 2 0 108 0 0 4 0 0 0 0 0 0 0 2 1 0 0 0 0 4 0 0 0 2 1 0 0 0 4 0 0 0
-3 6 0 4 1 1 28 2 2 4 1 2 8 1 2 11 1 2 28 1 0|16384 0 0 0 0 0 0 0 1 0 1 0 108 0 0 4 0 0 0 0 0 1 1 0 0 0 0 4 0 0 0
-3 7 0 1 2 0 4 2 0 28 1 1 1 2 1 4 2 1 8 1 2 8 0 1 1 3|16384 0 0 0 0 0 0 0 1 0 1 0 7 0 0 1 0 0 0 0 0 1 1 0 0 0 25 1 0 0 0
-3 7 0 4 1 0 8 2 0 28 1 1 4 2 1 28 2 2 4 2 2 8 1 1 1 8|16384 0 0 0 0 0 0 0 1 0 1 0 12 0 0 28 0 0 0 0 0 1 1 0 0 0 24 28 0 0 0
-4 6 0 8 2 0 28 2 1 4 2 2 4 3 2 8 2 3 8 1 1 1 9|16384 0 0 0 0 0 0 0 2 0 1 1 0 108 0 0 4 0 0 2 0 12 0 0 28 0 0 0 0 0 0 0 2 1 0 0 0 0 4 0 0 0 2 1 0 0 25 28 0 0 0
-2 6 0 8 1 0 11 1 1 0 1 1 4 1 1 8 1 1 11 1 1 1 7|16384 0 0 0 0 0 0 0 3 0 1 2 1 0 7 0 0 2 0 0 2 0 7 0 0 2 0 0 3 0 108 0 0 4 0 0 0 0 0 0 0 0 0 3 1 0 0 0 25 2 0 0 0 2 1 0 0 41 2 0 0 0 3 2 0 0 41 4 0 0 0
-2 4 0 2 1 0 4 1 1 2 1 1 4 1 1 1 3|16384 0 0 0 0 0 0 0 4 0 1 2 3 1 0 7 0 0 2 0 0 2 0 108 0 0 4 0 0 3 0 108 0 0 4 0 0 4 0 108 0 0 4 0 0 0 0 0 0 0 0 0 0 0 4 1 0 0 0 19 2 0 0 0 2 1 0 0 19 4 0 0 0 3 2 0 0 19 4 0 0 0 4 3 0 0 19 4 0 0 0
-4 9 0 1 2 0 4 2 0 28 3 1 4 2 2 8 1 2 28 1 3 1 2 3 4 1 3 8 2 2 1 7 3 6|16384 0 0 0 0 0 0 0 2 0 1 1 0 7 0 0 1 0 0 2 0 7 0 0 1 0 0 0 0 0 0 0 2 1 0 0 0 25 1 0 0 0 2 1 0 0 41 1 0 0 0
-3 7 0 6 2 0 26 2 1 4 1 1 8 1 2 6 1 2 8 1 2 26 2 0|16384 0 0 0 0 0 0 0 4 0 1 2 3 1 0 12 0 0 6 0 0 2 0 545 0 0 8 0 0 3 0 108 0 0 4 0 0 4 0 12 0 0 6 0 0 0 0 0 0 0 0 0 0 0 4 1 0 0 0 25 6 0 0 0 2 1 0 0 25 8 0 0 0 3 2 0 0 25 4 0 0 0 4 3 0 0 41 6 0 0 0
-5 10 0 4 4 0 8 2 1 4 2 2 4 1 2 8 4 3 4 1 3 28 1 4 4 4 4 8 4 4 28 3 2 2 1 4 7|16384 0 0 0 0 0 0 0 2 0 1 1 0 12 0 0 28 0 0 2 0 12 0 0 28 0 0 0 0 0 0 0 2 1 0 0 0 25 28 0 0 0 2 1 0 0 41 28 0 0 0
-2 4 0 4 1 0 26 1 1 4 1 1 8 1 1 1 1|16384 0 0 0 0 0 0 0 5 0 1 2 3 4 1 0 545 0 0 8 0 0 2 0 545 0 0 8 0 0 3 0 545 0 0 8 0 0 4 0 108 0 0 4 0 0 5 0 108 0 0 4 0 0 0 0 0 0 0 0 0 0 0 0 0 5 1 0 0 0 25 8 0 0 0 2 1 0 0 41 8 0 0 0 3 2 0 0 57 8 0 0 0 4 3 0 0 57 4 0 0 0 5 4 0 0 57 4 0 0 0
-3 6 0 8 1 0 28 1 1 8 1 2 4 2 2 8 1 2 28 1 1 2 4|16384 0 0 0 0 0 0 0 5 0 1 2 3 4 1 0 12 0 0 28 0 0 2 0 545 0 0 8 0 0 3 0 108 0 0 4 0 0 4 0 12 0 0 28 0 0 5 0 12 0 0 28 0 0 0 0 0 0 0 0 0 0 0 0 0 5 1 0 0 0 25 28 0 0 0 2 1 0 0 25 8 0 0 0 3 2 0 0 25 4 0 0 0 4 3 0 0 41 28 0 0 0 5 4 0 0 57 28 0 0 0
-3 11 0 1 1 0 2 2 0 4 1 0 8 1 0 26 2 1 1 2 1 4 2 1 8 2 2 1 1 2 2 1 2 26 2 1 2 8|16384 0 0 0 0 0 0 0 4 0 1 2 3 1 0 12 0 0 26 0 0 2 0 545 0 0 8 0 0 3 0 7 0 0 1 0 0 4 0 7 0 0 2 0 0 0 0 0 0 0 0 0 0 0 4 1 0 0 0 24 26 0 0 0 2 1 0 0 40 8 0 0 0 3 2 0 0 40 1 0 0 0 4 3 0 0 56 2 0 0 0
-5 10 0 4 2 1 0 4 1 28 2 2 8 4 3 4 3 3 8 2 3 26 1 4 0 3 4 8 4 4 28 3 2 1 2 4 2|16384 0 0 0 0 0 0 0 5 0 1 2 3 4 1 0 7 0 0 0 0 0 2 0 12 0 0 26 0 0 3 0 545 0 0 8 0 0 4 0 12 0 0 28 0 0 5 0 12 0 0 28 0 0 0 0 0 0 0 0 0 0 0 0 0 5 1 0 0 0 25 0 0 0 0 2 1 0 0 41 26 0 0 0 3 2 0 0 41 8 0 0 0 4 3 0 0 57 28 0 0 0 5 4 0 0 73 28 0 0 0
-5 11 0 0 2 0 8 2 0 26 3 1 1 4 1 8 3 2 1 3 2 26 3 3 4 2 3 26 3 4 0 4 4 8 1 3 2 6 3 9 4 3|16384 0 0 0 0 0 0 0 5 0 1 2 3 4 1 0 7 0 0 1 0 0 2 0 7 0 0 1 0 0 3 0 7 0 0 0 0 0 4 0 7 0 0 1 0 0 5 0 12 0 0 26 0 0 0 0 0 0 0 0 0 0 0 0 0 5 1 0 0 0 25 1 0 0 0 2 1 0 0 41 1 0 0 0 3 2 0 0 57 0 0 0 0 4 3 0 0 57 1 0 0 0 5 4 0 0 57 26 0 0 0";
+// A name has the categories of the glyphs.
+static ROWS: &str = "
+# name; states; steps; accepting states; glyphs; their syllables
+N; 2; 0 O 1, 0 CGJ 1, 0 R 1, 1 O 0, 1 N 1; ; 1@0 c=N p=7; * s=1.non
+CGJ CGJ; 2; 0 CGJ 1, 0 VPre 1; ; 1@0 c=CGJ p=108, 2@1 c=CGJ p=108; *, *
+CGJ; 3; 0 CGJ 1, 1 VPre 2, 2 CGJ 1, 2 ZWNJ 1, 2 R 1, 2 VPre 1; ; 1@0 c=CGJ p=108; *
+B; 3; 0 B 2, 0 CGJ 2, 0 VPre 1, 1 B 2, 1 CGJ 2, 1 ZWNJ 1, 2 ZWNJ 0; 1 standard; 1@0 c=B p=7; * s=1.non
+VPre; 3; 0 CGJ 1, 0 ZWNJ 2, 0 VPre 1, 1 CGJ 2, 1 VPre 2, 2 CGJ 2, 2 ZWNJ 1; 1 broken; 1@0 c=VPre p=12; * s=1.broken
+CGJ VPre; 4; 0 ZWNJ 2, 0 VPre 2, 1 CGJ 2, 2 CGJ 3, 2 ZWNJ 2, 3 ZWNJ 1; 1 non; 1@0 c=CGJ p=108, 2@1 c=VPre p=12;
+  *, * s=1.non
+N N CGJ; 2; 0 ZWNJ 1, 0 R 1, 1 O 1, 1 CGJ 1, 1 ZWNJ 1, 1 R 1; 1 hieroglyph; 1@0 c=N p=7, 2@1 c=N p=7, 3@2 c=CGJ p=108;
+  * s=1.non, * s=2.non, * s=2.non
+N CGJ CGJ CGJ; 2; 0 N 1, 0 CGJ 1, 1 N 1, 1 CGJ 1; 1 standard;
+  1@0 c=N p=7, 2@1 c=CGJ p=108, 3@2 c=CGJ p=108, 4@3 c=CGJ p=108;
+  * s=1.standard, * s=1.standard, * s=1.standard, * s=1.standard
+B B; 4; 0 B 2, 0 CGJ 2, 0 VPre 3, 1 CGJ 2, 2 ZWNJ 1, 2 VPre 1, 3 B 2, 3 CGJ 1, 3 ZWNJ 2; 1 hieroglyph, 3 symbol;
+  1@0 c=B p=7, 2@1 c=B p=7; * s=1.non, * s=2.non
+H ZWNJ CGJ H; 3; 0 H 2, 0 VBlw 2, 1 CGJ 1, 1 ZWNJ 1, 2 H 1, 2 ZWNJ 1, 2 VBlw 2; ;
+  1@0 c=H p=12, 2@1 c=ZWNJ p=545, 3@2 c=CGJ p=108, 4@3 c=H p=12; * s=1.non, * s=1.non, * s=1.non, * s=2.non
+VPre VPre; 5; 0 CGJ 4, 0 ZWNJ 2, 1 CGJ 2, 2 CGJ 1, 2 ZWNJ 4, 3 CGJ 1, 3 VPre 1, 4 CGJ 4, 4 ZWNJ 4, 4 VPre 3;
+  2 virama, 4 hieroglyph; 1@0 c=VPre p=12, 2@1 c=VPre p=12; * s=1.non, * s=2.non
+ZWNJ ZWNJ ZWNJ CGJ CGJ; 2; 0 CGJ 1, 0 VBlw 1, 1 CGJ 1, 1 ZWNJ 1; 1 virama;
+  1@0 c=ZWNJ p=545, 2@1 c=ZWNJ p=545, 3@2 c=ZWNJ p=545, 4@3 c=CGJ p=108, 5@4 c=CGJ p=108;
+  * s=1.non, * s=2.non, * s=3.non, * s=3.non, * s=3.non
+VPre ZWNJ CGJ VPre VPre; 3; 0 ZWNJ 1, 0 VPre 1, 1 ZWNJ 1, 2 CGJ 2, 2 ZWNJ 1, 2 VPre 1; 2 number_joiner;
+  1@0 c=VPre p=12, 2@1 c=ZWNJ p=545, 3@2 c=CGJ p=108, 4@3 c=VPre p=12, 5@4 c=VPre p=12;
+  * s=1.non, * s=1.non, * s=1.non, * s=2.non, * s=3.non
+VBlw ZWNJ B N; 3; 0 B 1, 0 N 2, 0 CGJ 1, 0 ZWNJ 1, 0 VBlw 2, 1 B 2, 1 CGJ 2, 1 ZWNJ 2, 2 B 1, 2 N 1, 2 VBlw 2; 2 broken;
+  1@0 c=VBlw p=12, 2@1 c=ZWNJ p=545, 3@2 c=B p=7, 4@3 c=N p=7; * s=1.broken, * s=2.broken, * s=2.broken, * s=3.broken
+O VBlw ZWNJ VPre VPre; 5; 0 CGJ 2, 1 O 4, 1 VPre 2, 2 ZWNJ 4, 3 CGJ 3, 3 ZWNJ 2, 3 VBlw 1, 4 O 3, 4 ZWNJ 4, 4 VPre 3;
+  1 sakot, 4 sakot; 1@0 p=7, 2@1 c=VBlw p=12, 3@2 c=ZWNJ p=545, 4@3 c=VPre p=12, 5@4 c=VPre p=12;
+  * s=1.non, * s=2.non, * s=2.non, * s=3.non, * s=4.non
+B B O B VBlw; 5; 0 O 2, 0 ZWNJ 2, 0 VBlw 3, 1 B 4, 1 ZWNJ 3, 2 B 3, 2 VBlw 3, 3 CGJ 2, 3 VBlw 3, 4 O 4, 4 ZWNJ 1;
+  2 symbol, 3 non, 4 standard; 1@0 c=B p=7, 2@1 c=B p=7, 3@2 p=7, 4@3 c=B p=7, 5@4 c=VBlw p=12;
+  * s=1.non, * s=2.non, * s=3.non, * s=3.non, * s=3.non";

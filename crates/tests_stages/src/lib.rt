@@ -1,13 +1,15 @@
 //! Tests of stages around the lookups, normalizing among them, and of what the shapers of scripts do to a text.
 //!
-//! Each module of tests has a line `#[cfg(test)]`, since the gate also proves the crate without its tests: with none of
-//! these lines it would prove every function twice.
+//! Each module of tests has a line `#[cfg(test)]`, since the gate also proves the crate without its tests: with none
+//! of these lines it would prove every function twice.
 #![tactic(auto)]
 
 #[cfg(test)]
 mod buffers;
 #[cfg(test)]
 mod bytes;
+#[cfg(test)]
+mod glyphs;
 #[cfg(test)]
 mod indic;
 #[cfg(test)]
@@ -18,8 +20,6 @@ mod marks;
 mod nested_positions;
 #[cfg(test)]
 mod normalizing;
-#[cfg(test)]
-mod numbers;
 #[cfg(test)]
 mod positions;
 #[cfg(test)]

@@ -1,107 +1,194 @@
 //! The order of marks on a range of a text.
-use crate::numbers::Numbers;
-use buffer_glyphs::info::hb_glyph_info_t;
+ghost use Rattle.buffer_stages.specs.Ready.{IsReady};
+
+use crate::buffers::{buffer_of, has_glyphs};
+use crate::rows::{is_row, natural, part, rows_of};
+use buffer_core::buffer::hb_buffer_t;
+use script_categories::hb_ot_script_shaper_t;
+use script_categories::hb_ot_script_shaper_t::{ARABIC_SHAPER, HEBREW_SHAPER};
 use std::alloc::Global;
 use std::test::Fail;
 
-fn check_numbers(alloc: Global, numbers: &mut Numbers<'_>, is_hebrew: bool) -> Result<bool, Fail> {
-    let mut buffer = numbers.buffer(alloc)?;
-    let start = numbers.count();
-    let end = numbers.count();
+/// Orders the marks from the option `start` to the option `end`.
+fn reorder(shaper: hb_ot_script_shaper_t, words: &str, buffer: &mut hb_buffer_t)
+    requires { IsReady buffer.old }
+    ensures { IsReady buffer.new }
+{
+    let start = natural(words, "start") as usize;
+    let end = natural(words, "end") as usize;
     if start > end || end > buffer.len() {
-        return Ok(false);
+        return;
     }
-    if is_hebrew {
-        script_hebrew::hebrew::reorder_marks(&mut buffer, start, end);
-        return Ok(are_wanted(buffer.info_slice(), numbers));
+    if shaper == HEBREW_SHAPER {
+        script_hebrew::hebrew::reorder_marks(buffer, start, end);
+        return;
     }
-    script_arabic::marks::reorder_marks(&mut buffer, start, end);
-    Ok(are_wanted(buffer.info_slice(), numbers))
+    script_arabic::marks::reorder_marks(buffer, start, end);
 }
 
-fn check(alloc: Global, row: &str, is_hebrew: bool) -> Result<bool, Fail> {
-    let mut numbers = Numbers::of(row);
-    Ok(check_numbers(alloc, &mut numbers, is_hebrew)? && numbers.are_there())
-}
-
-fn are_wanted(glyphs: &[hb_glyph_info_t], numbers: &mut Numbers<'_>) -> bool {
-    for glyph in glyphs {
-        let wanted = (numbers.next(), numbers.next(), numbers.class());
-        if (
-            glyph.glyph_id,
-            glyph.cluster,
-            glyph.modified_combining_class,
-        ) != wanted
-        {
-            return false;
-        }
-    }
-    true
+fn agrees(alloc: Global, shaper: hb_ot_script_shaper_t, row: &str) -> Result<bool, Fail> {
+    let mut buffer = buffer_of(alloc, shaper, part(row, 1), part(row, 2))?;
+    reorder(shaper, part(row, 1), &mut buffer);
+    Ok(has_glyphs(shaper, "n@k", part(row, 3), &buffer))
 }
 
 #[test]
-fn orders(rt: HostRuntime) -> Result<(), Fail> {
-    for row in ARABIC.lines() {
-        assert!(rt; check(rt.alloc(), row, false)?, "{row}");
-    }
-    for row in HEBREW.lines() {
-        assert!(rt; check(rt.alloc(), row, true)?, "{row}");
+fn orders_arabic_marks(rt: HostRuntime) -> Result<(), Fail> {
+    let rows = rows_of(rt.alloc(), ARABIC)?;
+    for row in rows.lines() {
+        let agrees = !is_row(row) || agrees(rt.alloc(), ARABIC_SHAPER, row)?;
+        assert!(rt; agrees, "{row}");
     }
     Ok(())
 }
 
-static ARABIC: &str = "\
-0 1 769 0 12 234 0 0 1 769 0 234
-0 1 2259 0 12 220 0 0 1 2259 0 25
-1 2 2253 1 1577 0 12 220 0 7 0 0 0 1 2253 1 25 1577 0 0
-0 2 2252 0 1767 3 12 27 0 12 230 0 0 2 1767 0 26 2252 0 27
-1 2 1611 2 1620 0 12 220 0 12 230 0 0 2 1620 0 26 1611 0 220
-0 3 1576 0 1768 1 1577 4 7 0 0 12 230 0 7 0 0 1 2 1576 0 0 1768 1 26 1577 4 0
-0 3 1576 0 1768 3 2250 5 7 0 0 12 230 0 12 230 0 1 3 1576 0 0 1768 3 26 2250 3 26
-0 3 2259 0 2250 1 2253 1 12 27 0 12 27 0 12 230 0 0 3 2253 0 26 2259 0 27 2250 0 27
-0 3 2259 0 1756 0 2259 0 12 220 0 12 230 0 12 230 0 0 3 2259 0 25 1756 0 26 2259 0 26
-1 4 1576 0 2259 3 2259 5 1577 6 7 0 0 12 230 0 12 234 0 7 0 0 1 3 1576 0 0 2259 3 26 2259 5 234 1577 6 0
-1 4 1576 0 2253 0 2252 3 1621 4 7 0 0 12 27 0 12 220 0 12 230 0 1 4 1576 0 0 1621 0 26 2253 0 27 2252 0 220
-0 4 1576 0 1621 1 2255 2 2255 3 7 0 0 12 27 0 12 220 0 12 220 0 1 4 1576 0 0 2255 1 25 2255 1 25 1621 1 27
-1 4 1576 0 2255 0 1617 0 1763 2 7 0 0 12 230 0 12 230 0 12 234 0 1 4 1576 0 0 2255 0 26 1617 0 230 1763 2 234
-1 4 1576 0 1621 0 1621 0 1756 1 7 0 0 12 220 0 12 220 0 12 230 0 1 4 1576 0 0 1621 0 25 1621 0 25 1756 1 26
-0 4 1767 6 2250 3 1768 1 1756 0 12 230 0 12 230 0 12 230 0 12 234 0 0 4 1767 1 26 2250 1 26 1768 1 26 1756 0 234
-0 5 1576 0 1621 1 1756 4 2253 6 1577 7 7 0 0 12 230 0 12 230 0 12 234 0 7 0 0 1 4 1576 0 0 1621 1 26 1756 1 26 2253 6 234 1577 7 0
-1 5 1576 7 2253 4 2255 1 2291 1 2291 0 7 0 0 12 27 0 12 27 0 12 220 0 12 220 0 1 5 1576 7 0 2291 0 25 2291 0 25 2253 0 27 2255 0 27
-0 5 1576 0 1621 0 1621 3 1611 4 1620 7 7 0 0 12 220 0 12 220 0 12 220 0 12 234 0 1 5 1576 0 0 1621 0 25 1621 0 25 1611 4 220 1620 7 234
-0 5 1620 0 1617 2 1611 3 769 3 1624 3 12 220 0 12 220 0 12 220 0 12 230 0 12 234 0 0 5 1620 0 25 1617 2 220 1611 3 220 769 3 230 1624 3 234
-0 6 1576 4 1617 3 1614 2 2250 1 2291 1 1577 0 7 0 0 12 27 0 12 220 0 12 230 0 12 230 0 7 0 0 1 5 1576 4 0 2250 1 26 2291 1 26 1617 1 27 1614 1 220 1577 0 0
-0 6 1576 0 2291 2 1616 5 1621 7 1763 8 1763 10 7 0 0 12 27 0 12 33 0 12 230 0 12 230 0 12 234 0 1 6 1576 0 0 1621 2 26 1763 2 26 2291 2 27 1616 2 33 1763 10 234
-0 6 1576 0 2250 3 1768 4 1614 6 2255 8 2253 11 7 0 0 12 27 0 12 230 0 12 230 0 12 230 0 12 234 0 1 6 1576 0 0 1768 3 26 2250 3 27 1614 6 230 2255 8 230 2253 11 234
-1 6 2252 0 769 0 1620 0 1621 0 2253 0 2291 2 12 220 0 12 220 0 12 220 0 12 230 0 12 230 0 12 230 0 0 6 1621 0 26 2253 0 26 2291 0 26 2252 0 220 769 0 220 1620 0 220
-1 7 1576 0 2291 1 1768 1 1621 1 1756 1 2259 1 1577 3 7 0 0 12 220 0 12 220 0 12 220 0 12 230 0 12 230 0 7 0 0 1 6 1576 0 0 2291 1 25 1768 1 25 1621 1 25 1756 1 26 2259 1 26 1577 3 0
-0 7 1576 0 2252 3 2255 4 769 5 2259 6 2250 9 2252 10 7 0 0 12 27 0 12 220 0 12 230 0 12 230 0 12 234 0 12 234 0 1 7 1576 0 0 2255 3 25 2252 3 27 769 5 230 2259 6 230 2250 9 234 2252 10 234
-0 7 1576 2 2255 2 1621 1 1756 1 2250 1 1768 0 1614 0 7 0 0 12 220 0 12 220 0 12 230 0 12 230 0 12 230 0 12 234 0 1 7 1576 0 0 2255 0 25 1621 0 25 1756 0 26 2250 0 26 1768 0 26 1614 0 234";
+#[test]
+fn orders_hebrew_marks(rt: HostRuntime) -> Result<(), Fail> {
+    let rows = rows_of(rt.alloc(), HEBREW)?;
+    for row in rows.lines() {
+        let agrees = !is_row(row) || agrees(rt.alloc(), HEBREW_SHAPER, row)?;
+        assert!(rt; agrees, "{row}");
+    }
+    Ok(())
+}
 
-static HEBREW: &str = "\
-0 1 1474 0 12 25 0 0 1 1474 0 25
-1 3 1469 0 1474 2 1460 4 12 21 0 12 22 0 12 25 0 0 3 1469 0 21 1460 2 25 1474 2 22
-1 3 1463 2 1463 1 1469 0 12 20 0 12 23 0 12 25 0 0 3 1463 2 20 1469 0 25 1463 0 23
-1 3 1469 0 1463 1 1463 3 12 21 0 12 22 0 12 220 0 0 3 1469 0 21 1463 1 220 1463 1 22
-1 4 1576 0 1425 0 1456 0 1464 0 7 0 0 12 21 0 12 23 0 12 25 0 1 4 1576 0 0 1425 0 21 1464 0 25 1456 0 23
-1 4 1576 0 1468 1 1468 2 1464 5 7 0 0 12 21 0 12 23 0 12 25 0 1 4 1576 0 0 1468 1 21 1464 2 25 1468 2 23
-1 4 1576 7 1425 5 1456 3 1469 0 7 0 0 12 20 0 12 22 0 12 25 0 1 4 1576 7 0 1425 5 20 1469 0 25 1456 0 22
-0 4 1576 0 1474 1 1456 2 1430 3 7 0 0 12 21 0 12 23 0 12 25 0 1 4 1576 0 0 1474 1 21 1430 2 25 1456 2 23
-0 4 1576 0 1460 0 1464 1 1464 1 7 0 0 12 21 0 12 23 0 12 220 0 1 4 1576 0 0 1460 0 21 1464 1 220 1464 1 23
-1 4 1576 0 1463 3 1464 3 1464 3 7 0 0 12 20 0 12 23 0 12 220 0 1 4 1576 0 0 1463 3 20 1464 3 220 1464 3 23
-0 4 1456 4 1456 4 1469 1 1464 0 12 21 0 12 23 0 12 25 0 12 220 0 0 4 1456 1 21 1469 1 25 1456 1 23 1464 0 220
-1 5 1576 0 1460 0 1469 0 1460 0 1577 1 7 0 0 12 21 0 12 23 0 12 220 0 7 0 0 1 4 1576 0 0 1460 0 21 1460 0 220 1469 0 23 1577 1 0
-0 5 1576 3 1464 3 1430 3 1463 1 1464 0 7 0 0 12 21 0 12 23 0 12 25 0 12 21 0 1 5 1576 1 0 1464 1 21 1463 1 25 1430 1 23 1464 0 21
-0 5 1576 0 1456 0 1430 0 1468 0 1430 0 7 0 0 12 20 0 12 21 0 12 22 0 12 25 0 1 5 1576 0 0 1456 0 20 1430 0 21 1430 0 25 1468 0 22
-1 5 1576 0 1468 2 1464 2 1430 5 1460 8 7 0 0 12 20 0 12 21 0 12 23 0 12 220 0 1 5 1576 0 0 1468 2 20 1464 2 21 1460 5 220 1430 5 23
-0 5 1576 1 1456 1 1469 1 1430 1 1460 0 7 0 0 12 21 0 12 21 0 12 22 0 12 220 0 1 5 1576 0 0 1456 0 21 1469 0 21 1460 0 220 1430 0 22
-1 5 1464 0 1464 0 1468 0 1425 1 1460 1 12 21 0 12 22 0 12 25 0 12 20 0 12 22 0 0 5 1464 0 21 1468 0 25 1464 0 22 1425 1 20 1460 1 22
-0 6 1576 0 1464 0 1474 1 1425 1 1425 1 1577 1 7 0 0 12 21 0 12 22 0 12 25 0 12 220 0 7 0 0 1 5 1576 0 0 1464 0 21 1425 1 25 1474 1 22 1425 1 220 1577 1 0
-0 6 1576 0 1460 1 1464 4 1460 5 1430 8 1577 10 7 0 0 12 21 0 12 21 0 12 22 0 12 220 0 7 0 0 1 5 1576 0 0 1460 1 21 1464 4 21 1430 5 220 1460 5 22 1577 10 0
-1 6 1576 0 1430 0 1425 0 1463 1 1425 4 1577 6 7 0 0 12 20 0 12 22 0 12 220 0 12 220 0 7 0 0 1 5 1576 0 0 1430 0 20 1463 0 220 1425 0 22 1425 4 220 1577 6 0
-1 6 1576 0 1460 1 1474 1 1474 1 1456 1 1474 1 7 0 0 12 20 0 12 23 0 12 25 0 12 22 0 12 220 0 1 6 1576 0 0 1460 1 20 1474 1 25 1474 1 23 1456 1 22 1474 1 220
-0 6 1576 3 1430 3 1469 3 1456 0 1425 0 1430 0 7 0 0 12 20 0 12 20 0 12 22 0 12 25 0 12 220 0 1 6 1576 3 0 1430 3 20 1469 3 20 1425 0 25 1456 0 22 1430 0 220
-1 6 1468 0 1474 0 1456 2 1460 2 1463 2 1430 2 12 12 0 12 21 0 12 21 0 12 23 0 12 25 0 12 25 0 0 6 1468 0 12 1474 0 21 1456 2 21 1463 2 25 1460 2 23 1430 2 25
-0 6 1576 10 1460 7 1463 5 1460 4 1469 2 1464 0 7 0 0 12 20 0 12 21 0 12 23 0 12 220 0 12 220 0 1 6 1576 10 0 1460 7 20 1463 5 21 1469 2 220 1460 2 23 1464 0 220
-0 6 1468 0 1468 2 1425 5 1468 5 1425 7 1463 7 12 20 0 12 22 0 12 220 0 12 220 0 12 20 0 12 25 0 0 6 1468 0 20 1425 2 220 1468 2 22 1468 2 220 1425 7 20 1463 7 25
-0 7 1576 0 1474 1 1463 1 1468 2 1460 4 1468 7 1425 10 7 0 0 12 20 0 12 23 0 12 21 0 12 20 0 12 22 0 12 25 0 1 7 1576 0 0 1474 1 20 1463 1 23 1468 2 21 1460 4 20 1425 7 25 1468 7 22";
+// A name has the names of the characters.
+static ARABIC: &str = "
+# name; options; characters; characters afterwards
+acute accent; end=1; U+301@0 p=12 k=234; U+301@0 k=234
+waw; end=1; U+8D3@0 p=12 k=220; U+8D3@0 k=25
+zah, teh marbuta; level=1 end=1; U+8CD@1 p=12 k=220, U+629@0 p=7; U+8CD@1 k=25, U+629@0
+word sah, yeh; end=2; U+8CC@0 p=12 k=27, U+6E7@3 p=12 k=230; U+6E7@0 k=26, U+8CC@0 k=27
+fathatan, hamza above; level=1 end=2; U+64B@2 p=12 k=220, U+654@0 p=12 k=230; U+654@0 k=26, U+64B@0 k=220
+beh, noon, teh marbuta; start=1 end=2; U+628@0 p=7, U+6E8@1 p=12 k=230, U+629@4 p=7; U+628@0, U+6E8@1 k=26, U+629@4
+beh, noon, farsi yeh; start=1 end=3; U+628@0 p=7, U+6E8@3 p=12 k=230, U+8CA@5 p=12 k=230;
+  U+628@0, U+6E8@3 k=26, U+8CA@3 k=26
+waw, farsi yeh, zah; end=3; U+8D3@0 p=12 k=27, U+8CA@1 p=12 k=27, U+8CD@1 p=12 k=230;
+  U+8CD@0 k=26, U+8D3@0 k=27, U+8CA@0 k=27
+waw, seen, waw; end=3; U+8D3@0 p=12 k=220, U+6DC@0 p=12 k=230, U+8D3@0 p=12 k=230;
+  U+8D3@0 k=25, U+6DC@0 k=26, U+8D3@0 k=26
+beh, 2 waw, teh marbuta; level=1 start=1 end=3; U+628@0 p=7, U+8D3@3 p=12 k=230, U+8D3@5 p=12 k=234, U+629@6 p=7;
+  U+628@0, U+8D3@3 k=26, U+8D3@5 k=234, U+629@6
+beh, zah, word sah, hamza below; level=1 start=1 end=4;
+  U+628@0 p=7, U+8CD@0 p=12 k=27, U+8CC@3 p=12 k=220, U+655@4 p=12 k=230;
+  U+628@0, U+655@0 k=26, U+8CD@0 k=27, U+8CC@0 k=220
+beh, hamza below, 2 large round dot below; start=1 end=4;
+  U+628@0 p=7, U+655@1 p=12 k=27, U+8CF@2 p=12 k=220, U+8CF@3 p=12 k=220;
+  U+628@0, U+8CF@1 k=25, U+8CF@1 k=25, U+655@1 k=27
+beh, large round dot below, shadda, seen; level=1 start=1 end=4;
+  U+628@0 p=7, U+8CF@0 p=12 k=230, U+651@0 p=12 k=230, U+6E3@2 p=12 k=234;
+  U+628@0, U+8CF@0 k=26, U+651@0 k=230, U+6E3@2 k=234
+beh, 2 hamza below, seen; level=1 start=1 end=4;
+  U+628@0 p=7, U+655@0 p=12 k=220, U+655@0 p=12 k=220, U+6DC@1 p=12 k=230;
+  U+628@0, U+655@0 k=25, U+655@0 k=25, U+6DC@1 k=26
+yeh, farsi yeh, noon, seen; end=4; U+6E7@6 p=12 k=230, U+8CA@3 p=12 k=230, U+6E8@1 p=12 k=230, U+6DC@0 p=12 k=234;
+  U+6E7@1 k=26, U+8CA@1 k=26, U+6E8@1 k=26, U+6DC@0 k=234
+beh, hamza below, seen, zah, teh marbuta; start=1 end=4;
+  U+628@0 p=7, U+655@1 p=12 k=230, U+6DC@4 p=12 k=230, U+8CD@6 p=12 k=234, U+629@7 p=7;
+  U+628@0, U+655@1 k=26, U+6DC@1 k=26, U+8CD@6 k=234, U+629@7
+beh, zah, large round dot below, 2 waw; level=1 start=1 end=5;
+  U+628@7 p=7, U+8CD@4 p=12 k=27, U+8CF@1 p=12 k=27, U+8F3@1 p=12 k=220, U+8F3@0 p=12 k=220;
+  U+628@7, U+8F3@0 k=25, U+8F3@0 k=25, U+8CD@0 k=27, U+8CF@0 k=27
+beh, 2 hamza below, fathatan, hamza above; start=1 end=5;
+  U+628@0 p=7, U+655@0 p=12 k=220, U+655@3 p=12 k=220, U+64B@4 p=12 k=220, U+654@7 p=12 k=234;
+  U+628@0, U+655@0 k=25, U+655@0 k=25, U+64B@4 k=220, U+654@7 k=234
+hamza above, shadda, fathatan, acute accent, mark noon ghunna; end=5;
+  U+654@0 p=12 k=220, U+651@2 p=12 k=220, U+64B@3 p=12 k=220, U+301@3 p=12 k=230, U+658@3 p=12 k=234;
+  U+654@0 k=25, U+651@2 k=220, U+64B@3 k=220, U+301@3 k=230, U+658@3 k=234
+beh, shadda, fatha, farsi yeh, waw, teh marbuta; start=1 end=5;
+  U+628@4 p=7, U+651@3 p=12 k=27, U+64E@2 p=12 k=220, U+8CA@1 p=12 k=230, U+8F3@1 p=12 k=230, U+629@0 p=7;
+  U+628@4, U+8CA@1 k=26, U+8F3@1 k=26, U+651@1 k=27, U+64E@1 k=220, U+629@0
+beh, waw, kasra, hamza below, 2 seen; start=1 end=6;
+  U+628@0 p=7, U+8F3@2 p=12 k=27, U+650@5 p=12 k=33, U+655@7 p=12 k=230, U+6E3@8 p=12 k=230, U+6E3@10 p=12 k=234;
+  U+628@0, U+655@2 k=26, U+6E3@2 k=26, U+8F3@2 k=27, U+650@2 k=33, U+6E3@10 k=234
+beh, farsi yeh, noon, fatha, large round dot below, zah; start=1 end=6;
+  U+628@0 p=7, U+8CA@3 p=12 k=27, U+6E8@4 p=12 k=230, U+64E@6 p=12 k=230, U+8CF@8 p=12 k=230, U+8CD@11 p=12 k=234;
+  U+628@0, U+6E8@3 k=26, U+8CA@3 k=27, U+64E@6 k=230, U+8CF@8 k=230, U+8CD@11 k=234
+word sah, acute accent, hamza above, hamza below, zah, waw; level=1 end=6;
+  U+8CC@0 p=12 k=220, U+301@0 p=12 k=220, U+654@0 p=12 k=220, U+655@0 p=12 k=230, U+8CD@0 p=12 k=230,
+  U+8F3@2 p=12 k=230;
+  U+655@0 k=26, U+8CD@0 k=26, U+8F3@0 k=26, U+8CC@0 k=220, U+301@0 k=220, U+654@0 k=220
+beh, waw, noon, hamza below, seen, waw, teh marbuta; level=1 start=1 end=6;
+  U+628@0 p=7, U+8F3@1 p=12 k=220, U+6E8@1 p=12 k=220, U+655@1 p=12 k=220, U+6DC@1 p=12 k=230, U+8D3@1 p=12 k=230,
+  U+629@3 p=7;
+  U+628@0, U+8F3@1 k=25, U+6E8@1 k=25, U+655@1 k=25, U+6DC@1 k=26, U+8D3@1 k=26, U+629@3
+beh, word sah and more, 7 in all; start=1 end=7;
+  U+628@0 p=7, U+8CC@3 p=12 k=27, U+8CF@4 p=12 k=220, U+301@5 p=12 k=230, U+8D3@6 p=12 k=230, U+8CA@9 p=12 k=234,
+  U+8CC@10 p=12 k=234;
+  U+628@0, U+8CF@3 k=25, U+8CC@3 k=27, U+301@5 k=230, U+8D3@6 k=230, U+8CA@9 k=234, U+8CC@10 k=234
+beh, large round dot below and more, 7 in all; start=1 end=7;
+  U+628@2 p=7, U+8CF@2 p=12 k=220, U+655@1 p=12 k=220, U+6DC@1 p=12 k=230, U+8CA@1 p=12 k=230, U+6E8@0 p=12 k=230,
+  U+64E@0 p=12 k=234;
+  U+628@0, U+8CF@0 k=25, U+655@0 k=25, U+6DC@0 k=26, U+8CA@0 k=26, U+6E8@0 k=26, U+64E@0 k=234";
+
+static HEBREW: &str = "
+# name; options; characters; characters afterwards
+sin dot; end=1; U+5C2@0 p=12 k=25; U+5C2@0 k=25
+meteg, sin dot, hiriq; level=1 end=3; U+5BD@0 p=12 k=21, U+5C2@2 p=12 k=22, U+5B4@4 p=12 k=25;
+  U+5BD@0 k=21, U+5B4@2 k=25, U+5C2@2 k=22
+2 patah, meteg; level=1 end=3; U+5B7@2 p=12 k=20, U+5B7@1 p=12 k=23, U+5BD@0 p=12 k=25;
+  U+5B7@2 k=20, U+5BD@0 k=25, U+5B7@0 k=23
+meteg, 2 patah; level=1 end=3; U+5BD@0 p=12 k=21, U+5B7@1 p=12 k=22, U+5B7@3 p=12 k=220;
+  U+5BD@0 k=21, U+5B7@1 k=220, U+5B7@1 k=22
+beh, etnahta, sheva, qamats; level=1 start=1 end=4;
+  U+628@0 p=7, U+591@0 p=12 k=21, U+5B0@0 p=12 k=23, U+5B8@0 p=12 k=25;
+  U+628@0, U+591@0 k=21, U+5B8@0 k=25, U+5B0@0 k=23
+beh, 2 dagesh or mapiq, qamats; level=1 start=1 end=4;
+  U+628@0 p=7, U+5BC@1 p=12 k=21, U+5BC@2 p=12 k=23, U+5B8@5 p=12 k=25;
+  U+628@0, U+5BC@1 k=21, U+5B8@2 k=25, U+5BC@2 k=23
+beh, etnahta, sheva, meteg; level=1 start=1 end=4; U+628@7 p=7, U+591@5 p=12 k=20, U+5B0@3 p=12 k=22, U+5BD@0 p=12 k=25;
+  U+628@7, U+591@5 k=20, U+5BD@0 k=25, U+5B0@0 k=22
+beh, sin dot, sheva, tipeha; start=1 end=4; U+628@0 p=7, U+5C2@1 p=12 k=21, U+5B0@2 p=12 k=23, U+596@3 p=12 k=25;
+  U+628@0, U+5C2@1 k=21, U+596@2 k=25, U+5B0@2 k=23
+beh, hiriq, 2 qamats; start=1 end=4; U+628@0 p=7, U+5B4@0 p=12 k=21, U+5B8@1 p=12 k=23, U+5B8@1 p=12 k=220;
+  U+628@0, U+5B4@0 k=21, U+5B8@1 k=220, U+5B8@1 k=23
+beh, patah, 2 qamats; level=1 start=1 end=4; U+628@0 p=7, U+5B7@3 p=12 k=20, U+5B8@3 p=12 k=23, U+5B8@3 p=12 k=220;
+  U+628@0, U+5B7@3 k=20, U+5B8@3 k=220, U+5B8@3 k=23
+2 sheva, meteg, qamats; end=4; U+5B0@4 p=12 k=21, U+5B0@4 p=12 k=23, U+5BD@1 p=12 k=25, U+5B8@0 p=12 k=220;
+  U+5B0@1 k=21, U+5BD@1 k=25, U+5B0@1 k=23, U+5B8@0 k=220
+beh, hiriq, meteg, hiriq, teh marbuta; level=1 start=1 end=4;
+  U+628@0 p=7, U+5B4@0 p=12 k=21, U+5BD@0 p=12 k=23, U+5B4@0 p=12 k=220, U+629@1 p=7;
+  U+628@0, U+5B4@0 k=21, U+5B4@0 k=220, U+5BD@0 k=23, U+629@1
+beh, qamats, tipeha, patah, qamats; start=1 end=5;
+  U+628@3 p=7, U+5B8@3 p=12 k=21, U+596@3 p=12 k=23, U+5B7@1 p=12 k=25, U+5B8@0 p=12 k=21;
+  U+628@1, U+5B8@1 k=21, U+5B7@1 k=25, U+596@1 k=23, U+5B8@0 k=21
+beh, sheva, tipeha, dagesh or mapiq, tipeha; start=1 end=5;
+  U+628@0 p=7, U+5B0@0 p=12 k=20, U+596@0 p=12 k=21, U+5BC@0 p=12 k=22, U+596@0 p=12 k=25;
+  U+628@0, U+5B0@0 k=20, U+596@0 k=21, U+596@0 k=25, U+5BC@0 k=22
+beh, dagesh or mapiq, qamats, tipeha, hiriq; level=1 start=1 end=5;
+  U+628@0 p=7, U+5BC@2 p=12 k=20, U+5B8@2 p=12 k=21, U+596@5 p=12 k=23, U+5B4@8 p=12 k=220;
+  U+628@0, U+5BC@2 k=20, U+5B8@2 k=21, U+5B4@5 k=220, U+596@5 k=23
+beh, sheva, meteg, tipeha, hiriq; start=1 end=5;
+  U+628@1 p=7, U+5B0@1 p=12 k=21, U+5BD@1 p=12 k=21, U+596@1 p=12 k=22, U+5B4@0 p=12 k=220;
+  U+628@0, U+5B0@0 k=21, U+5BD@0 k=21, U+5B4@0 k=220, U+596@0 k=22
+2 qamats, dagesh or mapiq, etnahta, hiriq; level=1 end=5;
+  U+5B8@0 p=12 k=21, U+5B8@0 p=12 k=22, U+5BC@0 p=12 k=25, U+591@1 p=12 k=20, U+5B4@1 p=12 k=22;
+  U+5B8@0 k=21, U+5BC@0 k=25, U+5B8@0 k=22, U+591@1 k=20, U+5B4@1 k=22
+beh, qamats, sin dot, 2 etnahta, teh marbuta; start=1 end=5;
+  U+628@0 p=7, U+5B8@0 p=12 k=21, U+5C2@1 p=12 k=22, U+591@1 p=12 k=25, U+591@1 p=12 k=220, U+629@1 p=7;
+  U+628@0, U+5B8@0 k=21, U+591@1 k=25, U+5C2@1 k=22, U+591@1 k=220, U+629@1
+beh, hiriq, qamats, hiriq, tipeha, teh marbuta; start=1 end=5;
+  U+628@0 p=7, U+5B4@1 p=12 k=21, U+5B8@4 p=12 k=21, U+5B4@5 p=12 k=22, U+596@8 p=12 k=220, U+629@10 p=7;
+  U+628@0, U+5B4@1 k=21, U+5B8@4 k=21, U+596@5 k=220, U+5B4@5 k=22, U+629@10
+beh, tipeha, etnahta, patah, etnahta, teh marbuta; level=1 start=1 end=5;
+  U+628@0 p=7, U+596@0 p=12 k=20, U+591@0 p=12 k=22, U+5B7@1 p=12 k=220, U+591@4 p=12 k=220, U+629@6 p=7;
+  U+628@0, U+596@0 k=20, U+5B7@0 k=220, U+591@0 k=22, U+591@4 k=220, U+629@6
+beh, hiriq, 2 sin dot, sheva, sin dot; level=1 start=1 end=6;
+  U+628@0 p=7, U+5B4@1 p=12 k=20, U+5C2@1 p=12 k=23, U+5C2@1 p=12 k=25, U+5B0@1 p=12 k=22, U+5C2@1 p=12 k=220;
+  U+628@0, U+5B4@1 k=20, U+5C2@1 k=25, U+5C2@1 k=23, U+5B0@1 k=22, U+5C2@1 k=220
+beh, tipeha, meteg, sheva, etnahta, tipeha; start=1 end=6;
+  U+628@3 p=7, U+596@3 p=12 k=20, U+5BD@3 p=12 k=20, U+5B0@0 p=12 k=22, U+591@0 p=12 k=25, U+596@0 p=12 k=220;
+  U+628@3, U+596@3 k=20, U+5BD@3 k=20, U+591@0 k=25, U+5B0@0 k=22, U+596@0 k=220
+dagesh or mapiq, sin dot, sheva, hiriq, patah, tipeha; level=1 end=6;
+  U+5BC@0 p=12 k=12, U+5C2@0 p=12 k=21, U+5B0@2 p=12 k=21, U+5B4@2 p=12 k=23, U+5B7@2 p=12 k=25, U+596@2 p=12 k=25;
+  U+5BC@0 k=12, U+5C2@0 k=21, U+5B0@2 k=21, U+5B7@2 k=25, U+5B4@2 k=23, U+596@2 k=25
+beh, hiriq, patah, hiriq, meteg, qamats; start=1 end=6;
+  U+628@10 p=7, U+5B4@7 p=12 k=20, U+5B7@5 p=12 k=21, U+5B4@4 p=12 k=23, U+5BD@2 p=12 k=220, U+5B8@0 p=12 k=220;
+  U+628@10, U+5B4@7 k=20, U+5B7@5 k=21, U+5BD@2 k=220, U+5B4@2 k=23, U+5B8@0 k=220
+2 dagesh or mapiq, etnahta, dagesh or mapiq, etnahta, patah; end=6;
+  U+5BC@0 p=12 k=20, U+5BC@2 p=12 k=22, U+591@5 p=12 k=220, U+5BC@5 p=12 k=220, U+591@7 p=12 k=20, U+5B7@7 p=12 k=25;
+  U+5BC@0 k=20, U+591@2 k=220, U+5BC@2 k=22, U+5BC@2 k=220, U+591@7 k=20, U+5B7@7 k=25
+beh, sin dot and more, 7 in all; start=1 end=7;
+  U+628@0 p=7, U+5C2@1 p=12 k=20, U+5B7@1 p=12 k=23, U+5BC@2 p=12 k=21, U+5B4@4 p=12 k=20, U+5BC@7 p=12 k=22,
+  U+591@10 p=12 k=25;
+  U+628@0, U+5C2@1 k=20, U+5B7@1 k=23, U+5BC@2 k=21, U+5B4@4 k=20, U+591@7 k=25, U+5BC@7 k=22";

@@ -11,6 +11,7 @@ use layout_face::Face;
 use layout_map_features::per_table::TableIndex;
 use layout_match::hb_ot_apply_context_t;
 use layout_positioning::nesting::Nesting;
+use script_categories::hb_ot_script_shaper_t::ARABIC_SHAPER;
 use std::alloc::Global;
 use std::test::Fail;
 
@@ -27,10 +28,11 @@ fn nest(face: &Face, index: u16, buffer: &mut hb_buffer_t) -> Result<bool, Shape
     ctx.recurse(index, buffer)
 }
 
-/// Whether the lookup at an index acts at the first glyph with `steps` steps of the budget, and how many are then left.
+/// Whether the lookup at an index acts at the first glyph with `steps` steps of the budget, and how many are then
+/// left.
 fn acts(alloc: Global, index: u16, steps: i32) -> Result<(bool, i32), Fail> {
     let face = face_of(alloc, FONT)?;
-    let mut buffer = buffer_of(alloc, TEXT)?;
+    let mut buffer = buffer_of(alloc, ARABIC_SHAPER, "", TEXT)?;
     set_budget(steps, &mut buffer);
     let acted = nest(&face, index, &mut buffer)?;
     Ok((acted, buffer.max_ops()))

@@ -1,89 +1,139 @@
 //! Positions before and after their links are followed.
-use crate::rows::{direction_of, distance, part};
+use crate::glyphs::position_of;
+use crate::rows::{direction_of, distance, is_row, part, rows_of, value};
 use buffer_common::direction::Direction;
 use buffer_glyphs::position::GlyphPosition;
 use layout_offsets::followed_links::finish_offsets;
 use std::alloc::{AllocError, Global};
 use std::test::Fail;
 
-// Each run: its direction; then of each position both advances, both offsets, link and kind, and both offsets after.
-static RUNS: &str = "ttb;0,0,10,7,0,0,10,7;0,0,10,7,-1,2,20,7;-20,0,-30,0,0,0,-30,0
-rtl;100,0,10,0,1,2,10,0;0,-900,0,0,0,0,0,0;0,0,0,200,0,0,0,200
-rtl;500,0,10,7,0,0,10,7;100,0,10,7,0,0,10,7;-20,0,0,7,-1,1,-10,14
-ltr;100,0,-30,7,0,0,-30,7;0,0,10,0,-1,1,-120,7;0,0,10,200,-2,1,-120,207
-btt;500,0,0,0,0,0,0,0;-20,0,10,7,0,0,10,7;500,0,-30,0,-1,2,-20,0
-rtl;0,0,-30,0,0,0,-30,0;0,-900,-30,7,-1,1,-60,-893;500,0,0,7,-2,1,470,-893
-ltr;100,0,0,0,0,0,0,0;0,-900,0,0,-1,2,0,0;100,0,-30,7,-1,2,-30,7
-rtl;0,-900,-30,200,0,0,-30,200;500,0,0,0,1,2,0,200;0,0,0,200,0,0,0,200
-ttb;0,0,-30,0,2,2,-60,0;100,0,0,0,-1,1,-60,0;500,-900,-30,0,0,0,-30,0
-rtl;100,0,0,200,0,0,0,200;-20,0,0,200,-1,1,-20,400;500,0,10,0,-2,2,10,200
-ltr;500,-900,0,7,0,0,0,7;-20,0,10,200,-1,2,10,207;-20,0,0,0,0,0,0,0
-ttb;500,0,-30,200,0,0,-30,200;100,-900,-30,0,0,0,-30,0;0,0,0,0,-2,1,-630,1100
-ltr;100,-900,10,0,0,0,10,0;-20,0,-30,7,-1,1,-120,907;0,0,-30,0,-1,1,-130,907
-ltr;-20,0,-30,200,0,0,-30,200;500,0,10,7,-1,2,10,207;500,0,10,0,-1,1,-480,207
-btt;100,0,10,0,0,0,10,0;-20,-900,10,7,-1,1,0,-893;500,0,-30,7,-2,1,460,-893
-ttb;100,0,-30,7,0,0,-30,7;0,-900,0,200,-1,1,-130,207;0,-900,10,7,-1,1,-120,1114
-rtl;100,0,10,0,0,0,10,0;0,-900,-30,0,0,0,-30,0;-20,-900,-30,7,-1,2,-30,7
-ttb;0,-900,0,0,0,0,0,0;0,-900,10,7,-1,2,10,7;500,-900,10,200,0,0,10,200
-btt;-20,0,10,0,0,0,10,0;500,0,0,200,-1,1,510,200;100,-900,-30,200,-1,2,480,200
-rtl;500,0,-30,7,1,2,-30,207;0,0,-30,200,0,0,-30,200;500,-900,-30,200,-1,1,440,-500
-btt;500,-900,-30,200,0,0,-30,200;100,-900,-30,200,-1,1,40,-500;500,-900,0,0,-2,1,570,-1600
-ttb;-20,0,0,7,0,0,0,7;0,-900,10,0,-1,2,10,0;0,0,-30,0,1,2,-30,0;-20,0,0,0,0,0,0,0
-rtl;500,0,0,7,0,0,0,7;-20,-900,-30,0,-1,2,-30,7;0,0,0,7,-2,1,-20,-886;500,0,-30,7,0,0,-30,7
-ltr;100,0,0,200,0,0,0,200;0,0,10,0,-1,1,-90,200;0,-900,0,0,0,0,0,0;-20,-900,10,7,-3,2,10,207
-btt;500,0,0,200,0,0,0,200;100,0,-30,0,0,0,-30,0;500,0,-30,7,-1,2,-60,7;500,-900,0,0,0,0,0,0
-ltr;100,0,-30,0,3,2,-30,900;0,-900,-30,0,-1,1,-160,900;0,-900,-30,0,0,0,-30,0;500,-900,10,0,-1,1,-20,900
-ltr;-20,0,10,200,0,0,10,200;500,0,0,200,0,0,0,200;0,0,0,7,2,2,0,214;0,0,0,7,-1,1,0,221;500,0,-30,7,-3,1,-530,207
-ttb;0,0,0,7,0,0,0,7;0,0,-30,200,-1,2,-30,200;0,0,10,200,0,0,10,200;100,0,-30,7,0,0,-30,7;0,0,-30,200,-3,1,-160,400
-ttb;0,-900,0,7,0,0,0,7;0,0,10,0,-1,1,10,907;0,-900,0,7,-2,1,0,914;100,0,0,200,-3,2,0,200;500,0,10,200,0,0,10,200
-btt;500,-900,0,0,0,0,0,0;0,-900,0,200,0,0,0,200;500,-900,0,0,0,0,0,0;500,0,-30,7,1,2,-20,7;0,0,10,0,0,0,10,0
-rtl;500,-900,-30,200,0,0,-30,200;-20,-900,0,7,-1,2,0,207;0,0,0,7,0,0,0,7;100,-900,10,0,0,0,10,0;100,0,10,7,0,0,10,7
-btt;-20,-900,0,0,0,0,0,0;100,-900,-30,0,-1,2,-30,0;500,0,10,200,-1,1,480,200;500,0,10,0,-2,2,-20,0;-20,0,10,7,0,0,10,7
-rtl;-20,0,2147483643,200,1,2,2147483643,207;-20,0,-30,7,2,2,-30,7;-20,0,-30,200,0,0,-30,200;0,0,10,0,0,0,10,0;-20,0,-30,0,-1,1,-40,0";
-
-fn position(row: &str) -> GlyphPosition {
+fn position(words: &str) -> GlyphPosition {
     GlyphPosition {
-        x_advance: distance(row, 0),
-        y_advance: distance(row, 1),
-        x_offset: distance(row, 2),
-        y_offset: distance(row, 3),
-        attach_chain: i16::try_from(distance(row, 4)).unwrap_or(0),
-        attach_type: u8::try_from(distance(row, 5)).unwrap_or(0),
+        attach_chain: i16::try_from(distance(words, "link")).unwrap_or(0),
+        attach_type: match value(words, "kind") {
+            "mark" => 1,
+            "cursive" => 2,
+            _ => 0,
+        },
+        ..position_of(words)
     }
 }
 
-fn drawn(row: &str) -> GlyphPosition {
+/// A position after links are followed: its offsets are new, and it keeps its advances and its kind.
+fn drawn(words: &str, offsets: &str) -> GlyphPosition {
     GlyphPosition {
-        x_offset: distance(row, 6),
-        y_offset: distance(row, 7),
+        x_offset: distance(offsets, "o"),
+        y_offset: distance(offsets, "q"),
         attach_chain: 0,
-        ..position(row)
+        ..position(words)
     }
 }
 
-fn are_drawn(positions: &[GlyphPosition], run: &str) -> bool {
-    positions
-        .iter()
-        .zip(run.split(';').skip(1))
-        .all(|(position, row)| *position == drawn(row))
+fn are_drawn(positions: &[GlyphPosition], row: &str) -> bool {
+    let words = part(row, 2).split(',').zip(part(row, 3).split(','));
+    for (found, (words, offsets)) in positions.iter().zip(words) {
+        if *found != drawn(words, offsets) {
+            return false;
+        }
+    }
+    positions.len() == part(row, 3).split(',').count()
 }
 
-/// Whether the links of a run's positions are followed as its row says.
-fn is_drawn(alloc: Global, run: &str) -> Result<bool, AllocError> {
-    let rows = run.split(';').skip(1);
-    let mut positions: Vec<GlyphPosition> = rows.map(|row| position(row)).collect(alloc)?;
-    finish_offsets(&mut positions, direction_of(part(run, 0)));
-    Ok(are_drawn(&positions, run))
+/// Whether the links of a row's positions are followed as it says.
+fn is_drawn(alloc: Global, row: &str) -> Result<bool, AllocError> {
+    let words = part(row, 2).split(',');
+    let mut positions: Vec<GlyphPosition> = words.map(|words| position(words)).collect(alloc)?;
+    finish_offsets(&mut positions, direction_of(part(row, 1)));
+    Ok(are_drawn(&positions, row))
 }
 
 #[test]
 fn runs_are_drawn(rt: HostRuntime) -> Result<(), Fail> {
-    for run in RUNS.lines() {
-        let as_wanted = is_drawn(rt.alloc(), run)?;
-        assert!(rt; as_wanted, "{run}");
+    let rows = rows_of(rt.alloc(), ROWS)?;
+    for row in rows.lines() {
+        let as_wanted = !is_row(row) || is_drawn(rt.alloc(), row)?;
+        assert!(rt; as_wanted, "{row}");
     }
     Ok(())
 }
+
+// A position has advances `a` and `b`, offsets `o` and `q`, and a link to another one, of a kind.
+static ROWS: &str = "
+# name; direction; positions; offsets afterwards
+ttb: cursive 2 to 1; ttb; o=10 q=7, o=10 q=7 link=-1 kind=cursive, a=-20 o=-30; o=10 q=7, o=20 q=7, o=-30
+rtl: cursive 1 to 2; rtl; a=100 o=10 link=1 kind=cursive, b=-900, q=200; o=10, o=0, q=200
+rtl: mark 3 to 2; rtl; a=500 o=10 q=7, a=100 o=10 q=7, a=-20 q=7 link=-1 kind=mark; o=10 q=7, o=10 q=7, o=-10 q=14
+ltr: mark 2 to 1 and mark 3 to 1; ltr; a=100 o=-30 q=7, o=10 link=-1 kind=mark, o=10 q=200 link=-2 kind=mark;
+  o=-30 q=7, o=-120 q=7, o=-120 q=207
+btt: cursive 3 to 2; btt; a=500, a=-20 o=10 q=7, a=500 o=-30 link=-1 kind=cursive; o=0, o=10 q=7, o=-20
+rtl: mark 2 to 1 and mark 3 to 1; rtl; o=-30, b=-900 o=-30 q=7 link=-1 kind=mark, a=500 q=7 link=-2 kind=mark;
+  o=-30, o=-60 q=-893, o=470 q=-893
+ltr: cursive 2 to 1 and cursive 3 to 2; ltr; a=100, b=-900 link=-1 kind=cursive, a=100 o=-30 q=7 link=-1 kind=cursive;
+  o=0, o=0, o=-30 q=7
+rtl: cursive 2 to 3; rtl; b=-900 o=-30 q=200, a=500 link=1 kind=cursive, q=200; o=-30 q=200, q=200, q=200
+ttb: cursive 1 to 3 and mark 2 to 1; ttb; o=-30 link=2 kind=cursive, a=100 link=-1 kind=mark, a=500 b=-900 o=-30;
+  o=-60, o=-60, o=-30
+rtl: mark 2 to 1 and cursive 3 to 1; rtl; a=100 q=200, a=-20 q=200 link=-1 kind=mark, a=500 o=10 link=-2 kind=cursive;
+  q=200, o=-20 q=400, o=10 q=200
+ltr: cursive 2 to 1; ltr; a=500 b=-900 q=7, a=-20 o=10 q=200 link=-1 kind=cursive, a=-20; q=7, o=10 q=207, o=0
+ttb: mark 3 to 1; ttb; a=500 o=-30 q=200, a=100 b=-900 o=-30, a=0 link=-2 kind=mark; o=-30 q=200, o=-30, o=-630 q=1100
+ltr: mark 2 to 1 and mark 3 to 2; ltr; a=100 b=-900 o=10, a=-20 o=-30 q=7 link=-1 kind=mark, o=-30 link=-1 kind=mark;
+  o=10, o=-120 q=907, o=-130 q=907
+ltr: cursive 2 to 1 and mark 3 to 2; ltr;
+  a=-20 o=-30 q=200, a=500 o=10 q=7 link=-1 kind=cursive, a=500 o=10 link=-1 kind=mark;
+  o=-30 q=200, o=10 q=207, o=-480 q=207
+btt: mark 2 to 1 and mark 3 to 1; btt;
+  a=100 o=10, a=-20 b=-900 o=10 q=7 link=-1 kind=mark, a=500 o=-30 q=7 link=-2 kind=mark; o=10, q=-893, o=460 q=-893
+ttb: mark 2 to 1 and mark 3 to 2; ttb;
+  a=100 o=-30 q=7, b=-900 q=200 link=-1 kind=mark, b=-900 o=10 q=7 link=-1 kind=mark;
+  o=-30 q=7, o=-130 q=207, o=-120 q=1114
+rtl: cursive 3 to 2; rtl; a=100 o=10, b=-900 o=-30, a=-20 b=-900 o=-30 q=7 link=-1 kind=cursive; o=10, o=-30, o=-30 q=7
+ttb: cursive 2 to 1; ttb; b=-900, b=-900 o=10 q=7 link=-1 kind=cursive, a=500 b=-900 o=10 q=200;
+  o=0, o=10 q=7, o=10 q=200
+btt: mark 2 to 1 and cursive 3 to 2; btt;
+  a=-20 o=10, a=500 q=200 link=-1 kind=mark, a=100 b=-900 o=-30 q=200 link=-1 kind=cursive;
+  o=10, o=510 q=200, o=480 q=200
+rtl: cursive 1 to 2 and mark 3 to 2; rtl;
+  a=500 o=-30 q=7 link=1 kind=cursive, o=-30 q=200, a=500 b=-900 o=-30 q=200 link=-1 kind=mark;
+  o=-30 q=207, o=-30 q=200, o=440 q=-500
+btt: mark 2 to 1 and mark 3 to 1; btt;
+  a=500 b=-900 o=-30 q=200, a=100 b=-900 o=-30 q=200 link=-1 kind=mark, a=500 b=-900 link=-2 kind=mark;
+  o=-30 q=200, o=40 q=-500, o=570 q=-1600
+ttb: cursive 2 to 1 and cursive 3 to 4; ttb;
+  a=-20 q=7, b=-900 o=10 link=-1 kind=cursive, o=-30 link=1 kind=cursive, a=-20; q=7, o=10, o=-30, o=0
+rtl: cursive 2 to 1 and mark 3 to 1; rtl;
+  a=500 q=7, a=-20 b=-900 o=-30 link=-1 kind=cursive, q=7 link=-2 kind=mark, a=500 o=-30 q=7;
+  q=7, o=-30 q=7, o=-20 q=-886, o=-30 q=7
+ltr: mark 2 to 1 and cursive 4 to 1; ltr;
+  a=100 q=200, o=10 link=-1 kind=mark, b=-900, a=-20 b=-900 o=10 q=7 link=-3 kind=cursive;
+  q=200, o=-90 q=200, o=0, o=10 q=207
+btt: cursive 3 to 2; btt; a=500 q=200, a=100 o=-30, a=500 o=-30 q=7 link=-1 kind=cursive, a=500 b=-900;
+  q=200, o=-30, o=-60 q=7, o=0
+ltr: cursive 1 to 4 and mark 2 to 1 and mark 4 to 3; ltr;
+  a=100 o=-30 link=3 kind=cursive, b=-900 o=-30 link=-1 kind=mark, b=-900 o=-30, a=500 b=-900 o=10 link=-1 kind=mark;
+  o=-30 q=900, o=-160 q=900, o=-30, o=-20 q=900
+ltr: cursive 3 to 5 and mark 4 to 3 and mark 5 to 2; ltr;
+  a=-20 o=10 q=200, a=500 q=200, q=7 link=2 kind=cursive, q=7 link=-1 kind=mark, a=500 o=-30 q=7 link=-3 kind=mark;
+  o=10 q=200, q=200, q=214, q=221, o=-530 q=207
+ttb: cursive 2 to 1 and mark 5 to 2; ttb;
+  q=7, o=-30 q=200 link=-1 kind=cursive, o=10 q=200, a=100 o=-30 q=7, o=-30 q=200 link=-3 kind=mark;
+  q=7, o=-30 q=200, o=10 q=200, o=-30 q=7, o=-160 q=400
+ttb: mark 2 to 1 and mark 3 to 1 and cursive 4 to 1; ttb;
+  b=-900 q=7, o=10 link=-1 kind=mark, b=-900 q=7 link=-2 kind=mark, a=100 q=200 link=-3 kind=cursive, a=500 o=10 q=200;
+  q=7, o=10 q=907, q=914, q=200, o=10 q=200
+btt: cursive 4 to 5; btt; a=500 b=-900, b=-900 q=200, a=500 b=-900, a=500 o=-30 q=7 link=1 kind=cursive, o=10;
+  o=0, q=200, o=0, o=-20 q=7, o=10
+rtl: cursive 2 to 1; rtl;
+  a=500 b=-900 o=-30 q=200, a=-20 b=-900 q=7 link=-1 kind=cursive, q=7, a=100 b=-900 o=10, a=100 o=10 q=7;
+  o=-30 q=200, q=207, q=7, o=10, o=10 q=7
+btt: cursive 2 to 1 and mark 3 to 2 and cursive 4 to 2; btt;
+  a=-20 b=-900, a=100 b=-900 o=-30 link=-1 kind=cursive, a=500 o=10 q=200 link=-1 kind=mark, a=500 o=10 link=-2
+   kind=cursive, a=-20 o=10 q=7;
+  o=0, o=-30, o=480 q=200, o=-20, o=10 q=7
+rtl: cursive 1 to 2 and cursive 2 to 4 and mark 5 to 4; rtl;
+  a=-20 o=2147483643 q=200 link=1 kind=cursive, a=-20 o=-30 q=7 link=2 kind=cursive, a=-20 o=-30 q=200, o=10, a=-20
+   o=-30 link=-1 kind=mark;
+  o=2147483643 q=207, o=-30 q=7, o=-30 q=200, o=10, o=-40";
 
 /// A mark with a link of that length.
 fn mark(attach_chain: i16) -> GlyphPosition {

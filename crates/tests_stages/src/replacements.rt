@@ -12,6 +12,7 @@ use layout_gsub::context::GlyphReplacement;
 use layout_map_features::per_table::TableIndex;
 use layout_match::hb_ot_apply_context_t;
 use layout_substitution::nesting::Nesting;
+use script_categories::hb_ot_script_shaper_t::ARABIC_SHAPER;
 use std::alloc::Global;
 use std::test::Fail;
 
@@ -21,7 +22,7 @@ pub(crate) static FONT: &str =
 {"type":"single","subtables":[[[7,[1,0,0,0]]]]}]}}"#;
 
 /// Two glyphs.
-pub(crate) static TEXT: &str = ";ltr;;;0;;7,0 9,1";
+pub(crate) static TEXT: &str = "7@0, 9@1";
 
 fn replace(face: &Face, kind: &str, buffer: &mut hb_buffer_t) -> Result<bool, ShapeCause>
     requires { IsReady buffer.old }
@@ -43,7 +44,7 @@ fn replace(face: &Face, kind: &str, buffer: &mut hb_buffer_t) -> Result<bool, Sh
 
 fn is_replaced(alloc: Global, kind: &str) -> Result<bool, Fail> {
     let face = face_of(alloc, FONT)?;
-    let mut buffer = buffer_of(alloc, TEXT)?;
+    let mut buffer = buffer_of(alloc, ARABIC_SHAPER, "", TEXT)?;
     Ok(replace(&face, kind, &mut buffer)?)
 }
 
@@ -70,10 +71,11 @@ fn nest(face: &Face, index: u16, buffer: &mut hb_buffer_t) -> Result<bool, Shape
     ctx.recurse(index, buffer)
 }
 
-/// Whether the lookup at an index acts at the first glyph with `steps` steps of the budget, and how many are then left.
+/// Whether the lookup at an index acts at the first glyph with `steps` steps of the budget, and how many are then
+/// left.
 fn acts(alloc: Global, index: u16, steps: i32) -> Result<(bool, i32), Fail> {
     let face = face_of(alloc, FONT)?;
-    let mut buffer = buffer_of(alloc, TEXT)?;
+    let mut buffer = buffer_of(alloc, ARABIC_SHAPER, "", TEXT)?;
     set_budget(steps, &mut buffer);
     let acted = nest(&face, index, &mut buffer)?;
     Ok((acted, buffer.max_ops()))

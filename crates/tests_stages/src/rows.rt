@@ -1,4 +1,6 @@
-//! Rows of tests: fields are separated by semicolons, lists by spaces, and numbers by commas.
+//! Tables of tests, as texts. A row begins at the margin, and indented lines continue it; a line that begins with `#`
+//! says what the rows after it have in common. The fields of a row are separated by semicolons, of which the first is
+//! its name; options are words with a key and a value, and masks are hexadecimal.
 ghost use Rattle.std.specs.Prelude.{◌≡◌};
 ghost use Rattle.std.specs.Int.RustNames.{bit_and};
 ghost use Rattle.buffer_glyphs.specs.declared.info.TheConstants.{DEFINED};
@@ -6,87 +8,80 @@ ghost use Rattle.buffer_glyphs.specs.declared.info.TheConstants.{DEFINED};
 use buffer_common::direction::Direction;
 use buffer_common::script::Script;
 use buffer_common::tag::Tag;
-use buffer_glyphs::flags::{GlyphPropsFlags, UnicodeProps};
-use buffer_glyphs::info::hb_glyph_info_t;
-use buffer_glyphs::position::GlyphPosition;
+use buffer_glyphs::level::BufferClusterLevel;
+use std::alloc::{AllocError, Global};
+use std::test::Fail;
 
-/// The number of a glyph's fields: its number and its cluster, mask, properties, class, glyph properties, ligature
-/// word, advances, offsets.
-pub const GLYPH_NUMBERS: usize = 11;
+/// The rows of a table, a line each.
+pub fn rows_of(alloc: Global, table: &str) -> Result<String, AllocError> {
+    table.replace(alloc, "\n  ", "")
+}
+
+/// Whether a line is a row.
+pub fn is_row(line: &str) -> bool {
+    !line.is_empty() && !line.starts_with('#')
+}
 
 /// A field of a row.
 pub fn part(row: &str, at: usize) -> &str {
-    row.split(';').nth(at).unwrap_or("")
+    row.split(';').nth(at).unwrap_or("").trim()
 }
 
-/// A number of a list, `None` where it is missing.
-pub fn number(list: &str, at: usize) -> Option<i64> {
-    list.split(',').nth(at)?.parse().ok()
-}
-
-fn natural(list: &str, at: usize) -> u32 {
-    match number(list, at) {
-        Some(n) => u32::try_from(n).unwrap_or(0),
-        None => 0,
+/// What has a name, from the lines of a table that begin with the name.
+pub fn named<'a>(rows: &'a str, name: &str) -> Result<&'a str, Fail> {
+    for line in rows.lines() {
+        if let Some((found, rest)) = line.split_once(' ') {
+            if found == name {
+                return Ok(rest);
+            }
+        }
     }
+    Err("no such name".into())
 }
 
-/// A number of a list as a distance, zero where it is missing.
-pub fn distance(list: &str, at: usize) -> i32 {
-    match number(list, at) {
-        Some(n) => i32::try_from(n).unwrap_or(0),
-        None => 0,
+/// The value of a key among words, empty where it is missing.
+pub fn value<'a>(words: &'a str, key: &str) -> &'a str {
+    for word in words.split_whitespace() {
+        if let Some((found, value)) = word.split_once('=') {
+            if found == key {
+                return value;
+            }
+        }
     }
+    ""
+}
+
+/// The number of a key, zero where it is missing.
+pub fn natural(words: &str, key: &str) -> u32 {
+    value(words, key).parse::<u32>().unwrap_or(0)
+}
+
+/// The signed number of a key, zero where it is missing.
+pub fn distance(words: &str, key: &str) -> i32 {
+    value(words, key).parse::<i32>().unwrap_or(0)
+}
+
+/// The hexadecimal number of a key, zero where it is missing.
+pub fn hexadecimal(words: &str, key: &str) -> u32 {
+    u32::from_str_radix(value(words, key), 16).unwrap_or(0)
 }
 
 /// A mask without glyph flags.
 #[tactic(auto, using(crate::proofs::Masks::eightfold))]
-pub fn mask(list: &str, at: usize) -> u32
+pub fn mask(words: &str, key: &str) -> u32
     ensures { bit_and result DEFINED ≡ 0 }
 {
-    let bits = natural(list, at);
+    let bits = hexadecimal(words, key);
     bits / 8 * 8
 }
 
-/// A glyph of a row.
-pub fn info_of(glyph: &str) -> hb_glyph_info_t {
-    hb_glyph_info_t {
-        glyph_id: natural(glyph, 0),
-        cluster: natural(glyph, 1),
-        mask: natural(glyph, 2),
-        unicode_props: UnicodeProps(u16::try_from(natural(glyph, 3)).unwrap_or(0)),
-        modified_combining_class: u8::try_from(natural(glyph, 4)).unwrap_or(0),
-        glyph_props: GlyphPropsFlags(u16::try_from(natural(glyph, 5)).unwrap_or(0)),
-        lig_props: natural(glyph, 6),
-        ..hb_glyph_info_t::default()
-    }
-}
-
-/// The position of a row's glyph.
-pub fn position_of(glyph: &str) -> GlyphPosition {
-    GlyphPosition {
-        x_advance: distance(glyph, 7),
-        y_advance: distance(glyph, 8),
-        x_offset: distance(glyph, 9),
-        y_offset: distance(glyph, 10),
-        ..GlyphPosition::default()
-    }
-}
-
-/// A field of a glyph by its index in rows.
-pub fn seen(info: &hb_glyph_info_t, position: &GlyphPosition, at: usize) -> i64 {
-    match at {
-        0 => i64::from(info.glyph_id),
-        1 => i64::from(info.cluster),
-        2 => i64::from(info.mask / 8 * 8),
-        3 => i64::from(info.unicode_props.0),
-        4 => i64::from(info.modified_combining_class),
-        5 => i64::from(info.glyph_props.0),
-        6 => i64::from(info.lig_props),
-        7 => i64::from(position.x_advance),
-        8 => i64::from(position.y_advance),
-        9 => i64::from(position.x_offset),
-        _ => i64::from(position.y_offset),
+/// A cluster level by its number.
+pub fn level_of(number: &str) -> BufferClusterLevel {
+    match number {
+        "1" => BufferClusterLevel::MonotoneCharacters,
+        "2" => BufferClusterLevel::Characters,
+        "3" => BufferClusterLevel::Graphemes,
+        _ => BufferClusterLevel::MonotoneGraphemes,
     }
 }
 
@@ -106,4 +101,14 @@ pub fn script_of(name: &str) -> Option<Script> {
         return None;
     }
     Script::from_iso15924_tag(Tag::from_bytes_lossy(name.as_bytes()))
+}
+
+/// A text of the characters that these hexadecimal numbers name.
+pub fn characters(alloc: Global, numbers: &str) -> Result<String, Fail> {
+    let mut text = String::new(alloc);
+    for number in numbers.split_whitespace() {
+        let number = u32::from_str_radix(number, 16)?;
+        text.push(char::from_u32(number).ok_or("no character")?)?;
+    }
+    Ok(text)
 }

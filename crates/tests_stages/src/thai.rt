@@ -1,83 +1,118 @@
 //! The Thai and Lao vowels that are decomposed.
-ghost use Rattle.std.specs.Prelude.{◌≡◌, false};
-
-use crate::numbers::Numbers;
-use buffer_core::buffer::hb_buffer_t;
+use crate::buffers::{buffer_of, has_glyphs};
+use crate::rows::{is_row, part, rows_of};
+use script_categories::hb_ot_script_shaper_t::THAI_SHAPER;
 use script_thai::thai_vowel::preprocess_text;
 use std::alloc::Global;
 use std::test::Fail;
 
-fn check(alloc: Global, row: &str) -> Result<bool, Fail> {
-    let mut numbers = Numbers::of(row);
-    let mut buffer = numbers.buffer(alloc)?;
+fn agrees(alloc: Global, row: &str) -> Result<bool, Fail> {
+    let mut buffer = buffer_of(alloc, THAI_SHAPER, part(row, 1), part(row, 2))?;
     preprocess_text(&mut buffer)?;
-    Ok(are_wanted(&buffer, &mut numbers) && numbers.are_there())
-}
-
-/// Whether a text has that many characters, with these numbers, clusters and properties without the continuation bit.
-fn are_wanted(buffer: &hb_buffer_t, numbers: &mut Numbers<'_>) -> bool
-    requires { buffer.now.is_open ≡ false }
-{
-    if buffer.len() != numbers.count() {
-        return false;
-    }
-    for glyph in buffer.info_slice() {
-        let wanted = (numbers.next(), numbers.next(), numbers.small());
-        if (glyph.glyph_id, glyph.cluster, glyph.unicode_props.0 & !0x80) != wanted {
-            return false;
-        }
-    }
-    true
+    Ok(has_glyphs(THAI_SHAPER, "n@u", part(row, 3), &buffer))
 }
 
 #[test]
 fn splits(rt: HostRuntime) -> Result<(), Fail> {
-    for row in ROWS.lines() {
-        assert!(rt; check(rt.alloc(), row)?, "{row}");
+    let rows = rows_of(rt.alloc(), ROWS)?;
+    for row in rows.lines() {
+        let agrees = !is_row(row) || agrees(rt.alloc(), row)?;
+        assert!(rt; agrees, "{row}");
     }
     Ok(())
 }
 
-static ROWS: &str = "\
-1 1 3763 0 7 0 0 2 3789 0 12 3762 0 7
-1 1 3784 0 12 0 0 1 3784 0 12
-1 1 3635 0 7 0 0 2 3661 0 12 3634 0 7
-0 1 3635 0 7 0 0 2 3661 0 12 3634 0 7
-1 2 3630 0 3635 1 7 0 0 7 0 0 3 3630 0 7 3661 1 12 3634 1 7
-0 2 3597 0 3635 1 7 0 0 7 0 0 3 3597 0 7 3661 0 12 3634 0 7
-1 2 3655 0 3635 1 12 0 0 7 0 0 3 3661 0 12 3655 0 12 3634 0 7
-0 2 3656 0 3635 3 12 0 0 7 0 0 3 3661 0 12 3656 0 12 3634 0 7
-0 2 3613 0 3635 0 7 0 0 7 0 0 3 3613 0 7 3661 0 12 3634 0 7
-0 2 3633 0 3635 2 12 0 0 7 0 0 3 3661 0 12 3633 0 12 3634 0 7
-1 3 3636 0 3640 0 3635 0 12 0 0 12 0 0 7 0 0 4 3636 0 12 3640 0 12 3661 0 12 3634 0 7
-1 3 3640 0 3633 3 3635 3 12 0 0 12 0 0 7 0 0 4 3640 0 12 3661 3 12 3633 3 12 3634 3 7
-1 3 3714 0 3768 3 3763 4 7 0 0 12 0 0 7 0 0 4 3714 0 7 3768 3 12 3789 4 12 3762 4 7
-0 3 3713 0 3784 0 3763 2 7 0 0 12 0 0 7 0 0 4 3713 0 7 3789 0 12 3784 0 12 3762 0 7
-0 4 3630 0 3660 1 3639 2 3635 3 7 0 0 12 0 0 12 0 0 7 0 0 5 3630 0 7 3661 1 12 3660 1 12 3639 1 12 3634 1 7
-1 4 3615 0 3656 1 3655 3 3635 6 7 0 0 12 0 0 12 0 0 7 0 0 5 3615 0 7 3661 1 12 3656 1 12 3655 1 12 3634 1 7
-0 4 3597 0 3643 1 3655 1 3635 3 7 0 0 2 0 0 12 0 0 7 0 0 5 3597 0 7 3661 1 12 3643 1 2 3655 1 12 3634 1 7
-0 5 3714 0 3763 3 3713 4 3764 7 3763 10 7 0 0 7 0 0 7 0 0 12 0 0 7 0 0 7 3714 0 7 3789 0 12 3762 0 7 3713 4 7 3789 7 12 3764 7 12 3762 7 7
-1 5 3636 0 3586 1 3660 2 3660 2 3635 5 12 0 0 7 0 0 12 0 0 12 0 0 7 0 0 6 3636 0 12 3586 1 7 3661 2 12 3660 2 12 3660 2 12 3634 2 7
-1 5 3585 0 3636 2 3643 3 3633 6 3635 7 7 0 0 12 0 0 2 0 0 12 0 0 7 0 0 6 3585 0 7 3661 2 12 3636 2 12 3643 2 2 3633 2 12 3634 2 7
-1 5 3586 0 3639 0 3640 3 3639 4 3635 7 7 0 0 12 0 0 12 0 0 12 0 0 7 0 0 6 3586 0 7 3639 0 12 3640 3 12 3661 4 12 3639 4 12 3634 4 7
-1 5 3656 0 3635 1 3648 4 3633 7 3635 8 12 0 0 7 0 0 7 0 0 12 0 0 7 0 0 7 3661 0 12 3656 0 12 3634 0 7 3648 4 7 3661 7 12 3633 7 12 3634 7 7
-0 6 3597 0 3655 1 3635 2 3611 3 3643 4 3635 6 7 0 0 12 0 0 7 0 0 7 0 0 2 0 0 7 0 0 8 3597 0 7 3661 1 12 3655 1 12 3634 1 7 3611 3 7 3661 4 12 3643 4 2 3634 4 7
-0 6 3598 0 3586 0 3662 1 3639 2 3639 3 3635 4 7 0 0 7 0 0 12 0 0 12 0 0 12 0 0 7 0 0 7 3598 0 7 3586 0 7 3661 1 12 3662 1 12 3639 1 12 3639 1 12 3634 1 7
-0 6 3630 0 3661 3 3660 3 3633 3 3598 3 3635 3 7 0 0 12 0 0 12 0 0 12 0 0 7 0 0 7 0 0 7 3630 0 7 3661 3 12 3660 3 12 3633 3 12 3598 3 7 3661 3 12 3634 3 7
-0 6 3640 0 3640 1 3635 3 3659 4 3643 4 3633 4 12 0 0 12 0 0 7 0 0 12 0 0 2 0 0 12 0 0 7 3640 0 12 3640 1 12 3661 1 12 3634 1 7 3659 4 12 3643 4 2 3633 4 12
-1 3 3713 0 3761 2 3763 3 7 0 0 12 0 0 7 0 0 4 3713 0 7 3789 2 12 3761 2 12 3762 2 7
-0 7 3640 0 3635 3 3631 4 3635 7 3613 9 3659 10 3635 11 12 0 0 7 0 0 7 0 0 7 0 0 7 0 0 12 0 0 7 0 0 10 3640 0 12 3661 0 12 3634 0 7 3631 4 7 3661 4 12 3634 4 7 3613 9 7 3661 10 12 3659 10 12 3634 10 7
-0 7 3598 0 3656 1 3599 1 3635 2 3639 3 3633 4 3635 6 7 0 0 12 0 0 7 0 0 7 0 0 12 0 0 12 0 0 7 0 0 9 3598 0 7 3656 1 12 3599 1 7 3661 1 12 3634 1 7 3661 3 12 3639 3 12 3633 3 12 3634 3 7
-1 8 3600 0 3655 0 3599 3 3639 4 3635 7 3600 7 3655 8 3635 8 7 0 0 12 0 0 7 0 0 12 0 0 7 0 0 7 0 0 12 0 0 7 0 0 10 3600 0 7 3655 0 12 3599 3 7 3661 4 12 3639 4 12 3634 4 7 3600 4 7 3661 8 12 3655 8 12 3634 8 7
-1 9 3615 0 3660 0 3640 1 3662 3 3635 4 3586 5 3642 6 3655 8 3635 9 7 0 0 12 0 0 12 0 0 12 0 0 7 0 0 7 0 0 12 0 0 12 0 0 7 0 0 11 3615 0 7 3660 0 12 3640 1 12 3661 3 12 3662 3 12 3634 3 7 3586 5 7 3642 6 12 3661 8 12 3655 8 12 3634 8 7
-1 9 3597 0 3636 3 3635 6 3631 7 3655 8 3662 11 3642 11 3631 14 3643 16 7 0 0 12 0 0 7 0 0 7 0 0 12 0 0 12 0 0 12 0 0 7 0 0 2 0 0 10 3597 0 7 3661 3 12 3636 3 12 3634 3 7 3631 7 7 3655 8 12 3662 11 12 3642 11 12 3631 14 7 3643 16 2
-1 9 3613 0 3659 3 3643 6 3659 9 3635 10 3599 11 3633 11 3613 14 3662 14 7 0 0 12 0 0 2 0 0 12 0 0 7 0 0 7 0 0 12 0 0 7 0 0 12 0 0 10 3613 0 7 3661 3 12 3659 3 12 3643 3 2 3659 3 12 3634 3 7 3599 11 7 3633 11 12 3613 14 7 3662 14 12
-1 6 3713 0 3789 1 3763 1 3713 4 3789 7 3763 10 7 0 0 12 0 0 7 0 0 7 0 0 12 0 0 7 0 0 8 3713 0 7 3789 1 12 3789 1 12 3762 1 7 3713 4 7 3789 7 12 3789 7 12 3762 7 7
-0 6 3768 0 3784 1 3789 2 3763 2 3764 4 3763 4 12 0 0 12 0 0 12 0 0 7 0 0 12 0 0 7 0 0 8 3768 0 12 3789 1 12 3784 1 12 3789 1 12 3762 1 7 3789 4 12 3764 4 12 3762 4 7
-0 5 3714 0 3771 1 3784 1 3784 2 3763 5 7 0 0 12 0 0 12 0 0 12 0 0 7 0 0 6 3714 0 7 3789 1 12 3771 1 12 3784 1 12 3784 1 12 3762 1 7
-0 3 3604 0 3659 0 3635 6 7 0 0 12 0 0 7 0 0 4 3604 0 7 3661 0 12 3659 0 12 3634 0 7
-0 2 3604 0 3635 3 7 0 0 7 0 0 3 3604 0 7 3661 0 12 3634 0 7
-2 3 3604 0 3659 0 3635 6 7 0 0 12 0 0 7 0 0 4 3604 0 7 3661 6 12 3659 0 12 3634 6 7
-3 3 3604 0 3659 0 3635 6 7 0 0 12 0 0 7 0 0 4 3604 0 7 3661 6 12 3659 0 12 3634 6 7
-3 2 3604 0 3635 3 7 0 0 7 0 0 3 3604 0 7 3661 0 12 3634 0 7
-3 3 3604 6 3604 0 3635 6 7 0 0 7 0 0 7 0 0 4 3604 0 7 3604 0 7 3661 0 12 3634 0 7";
+// A name has the names of the characters.
+static ROWS: &str = "
+# name; options; characters; characters afterwards
+am; level=1; U+EB3@0 p=7; U+ECD@0 p=12, U+EB2@0 p=7
+mai ek; level=1; U+EC8@0 p=12; U+EC8@0 p=12
+sara am; level=1; U+E33@0 p=7; U+E4D@0 p=12, U+E32@0 p=7
+sara am; ; U+E33@0 p=7; U+E4D@0 p=12, U+E32@0 p=7
+ho nokhuk, sara am; level=1; U+E2E@0 p=7, U+E33@1 p=7; U+E2E@0 p=7, U+E4D@1 p=12, U+E32@1 p=7
+yo ying, sara am; ; U+E0D@0 p=7, U+E33@1 p=7; U+E0D@0 p=7, U+E4D@0 p=12, U+E32@0 p=7
+maitaikhu, sara am; level=1; U+E47@0 p=12, U+E33@1 p=7; U+E4D@0 p=12, U+E47@0 p=12, U+E32@0 p=7
+mai ek, sara am; ; U+E48@0 p=12, U+E33@3 p=7; U+E4D@0 p=12, U+E48@0 p=12, U+E32@0 p=7
+fo fa, sara am; ; U+E1D@0 p=7, U+E33@0 p=7; U+E1D@0 p=7, U+E4D@0 p=12, U+E32@0 p=7
+mai han-akat, sara am; ; U+E31@0 p=12, U+E33@2 p=7; U+E4D@0 p=12, U+E31@0 p=12, U+E32@0 p=7
+sara i, sara u, sara am; level=1; U+E34@0 p=12, U+E38@0 p=12, U+E33@0 p=7;
+  U+E34@0 p=12, U+E38@0 p=12, U+E4D@0 p=12, U+E32@0 p=7
+sara u, mai han-akat, sara am; level=1; U+E38@0 p=12, U+E31@3 p=12, U+E33@3 p=7;
+  U+E38@0 p=12, U+E4D@3 p=12, U+E31@3 p=12, U+E32@3 p=7
+kho sung, u, am; level=1; U+E82@0 p=7, U+EB8@3 p=12, U+EB3@4 p=7; U+E82@0 p=7, U+EB8@3 p=12, U+ECD@4 p=12, U+EB2@4 p=7
+ko, mai ek, am; ; U+E81@0 p=7, U+EC8@0 p=12, U+EB3@2 p=7; U+E81@0 p=7, U+ECD@0 p=12, U+EC8@0 p=12, U+EB2@0 p=7
+ho nokhuk, thanthakhat, sara uee, sara am; ; U+E2E@0 p=7, U+E4C@1 p=12, U+E37@2 p=12, U+E33@3 p=7;
+  U+E2E@0 p=7, U+E4D@1 p=12, U+E4C@1 p=12, U+E37@1 p=12, U+E32@1 p=7
+fo fan, mai ek, maitaikhu, sara am; level=1; U+E1F@0 p=7, U+E48@1 p=12, U+E47@3 p=12, U+E33@6 p=7;
+  U+E1F@0 p=7, U+E4D@1 p=12, U+E48@1 p=12, U+E47@1 p=12, U+E32@1 p=7
+yo ying, U+E3B, maitaikhu, sara am; ; U+E0D@0 p=7, U+E3B@1 p=2, U+E47@1 p=12, U+E33@3 p=7;
+  U+E0D@0 p=7, U+E4D@1 p=12, U+E3B@1 p=2, U+E47@1 p=12, U+E32@1 p=7
+kho sung, am, ko, i, am; ; U+E82@0 p=7, U+EB3@3 p=7, U+E81@4 p=7, U+EB4@7 p=12, U+EB3@10 p=7;
+  U+E82@0 p=7, U+ECD@0 p=12, U+EB2@0 p=7, U+E81@4 p=7, U+ECD@7 p=12, U+EB4@7 p=12, U+EB2@7 p=7
+sara i, kho khai, 2 thanthakhat, sara am; level=1; U+E34@0 p=12, U+E02@1 p=7, U+E4C@2 p=12, U+E4C@2 p=12, U+E33@5 p=7;
+  U+E34@0 p=12, U+E02@1 p=7, U+E4D@2 p=12, U+E4C@2 p=12, U+E4C@2 p=12, U+E32@2 p=7
+ko kai, sara i, U+E3B, mai han-akat, sara am; level=1;
+  U+E01@0 p=7, U+E34@2 p=12, U+E3B@3 p=2, U+E31@6 p=12, U+E33@7 p=7;
+  U+E01@0 p=7, U+E4D@2 p=12, U+E34@2 p=12, U+E3B@2 p=2, U+E31@2 p=12, U+E32@2 p=7
+kho khai, sara uee, sara u, sara uee, sara am; level=1;
+  U+E02@0 p=7, U+E37@0 p=12, U+E38@3 p=12, U+E37@4 p=12, U+E33@7 p=7;
+  U+E02@0 p=7, U+E37@0 p=12, U+E38@3 p=12, U+E4D@4 p=12, U+E37@4 p=12, U+E32@4 p=7
+mai ek, sara am, sara e, mai han-akat, sara am; level=1;
+  U+E48@0 p=12, U+E33@1 p=7, U+E40@4 p=7, U+E31@7 p=12, U+E33@8 p=7;
+  U+E4D@0 p=12, U+E48@0 p=12, U+E32@0 p=7, U+E40@4 p=7, U+E4D@7 p=12, U+E31@7 p=12, U+E32@7 p=7
+yo ying, maitaikhu, sara am, po pla, U+E3B, sara am; ;
+  U+E0D@0 p=7, U+E47@1 p=12, U+E33@2 p=7, U+E1B@3 p=7, U+E3B@4 p=2, U+E33@6 p=7;
+  U+E0D@0 p=7, U+E4D@1 p=12, U+E47@1 p=12, U+E32@1 p=7, U+E1B@3 p=7, U+E4D@4 p=12, U+E3B@4 p=2, U+E32@4 p=7
+do chada, kho khai, yamakkan, 2 sara uee, sara am; ;
+  U+E0E@0 p=7, U+E02@0 p=7, U+E4E@1 p=12, U+E37@2 p=12, U+E37@3 p=12, U+E33@4 p=7;
+  U+E0E@0 p=7, U+E02@0 p=7, U+E4D@1 p=12, U+E4E@1 p=12, U+E37@1 p=12, U+E37@1 p=12, U+E32@1 p=7
+ho nokhuk, nikhahit and more, 6 in all; ;
+  U+E2E@0 p=7, U+E4D@3 p=12, U+E4C@3 p=12, U+E31@3 p=12, U+E0E@3 p=7, U+E33@3 p=7;
+  U+E2E@0 p=7, U+E4D@3 p=12, U+E4C@3 p=12, U+E31@3 p=12, U+E0E@3 p=7, U+E4D@3 p=12, U+E32@3 p=7
+2 sara u, sara am, mai chattawa, U+E3B, mai han-akat; ;
+  U+E38@0 p=12, U+E38@1 p=12, U+E33@3 p=7, U+E4B@4 p=12, U+E3B@4 p=2, U+E31@4 p=12;
+  U+E38@0 p=12, U+E38@1 p=12, U+E4D@1 p=12, U+E32@1 p=7, U+E4B@4 p=12, U+E3B@4 p=2, U+E31@4 p=12
+ko, mai kan, am; level=1; U+E81@0 p=7, U+EB1@2 p=12, U+EB3@3 p=7; U+E81@0 p=7, U+ECD@2 p=12, U+EB1@2 p=12, U+EB2@2 p=7
+sara u, sara am and more, 7 in all; ;
+  U+E38@0 p=12, U+E33@3 p=7, U+E2F@4 p=7, U+E33@7 p=7, U+E1D@9 p=7, U+E4B@10 p=12, U+E33@11 p=7;
+  U+E38@0 p=12, U+E4D@0 p=12, U+E32@0 p=7, U+E2F@4 p=7, U+E4D@4 p=12, U+E32@4 p=7, U+E1D@9 p=7, U+E4D@10 p=12,
+  U+E4B@10 p=12, U+E32@10 p=7
+do chada, mai ek and more, 7 in all; ;
+  U+E0E@0 p=7, U+E48@1 p=12, U+E0F@1 p=7, U+E33@2 p=7, U+E37@3 p=12, U+E31@4 p=12, U+E33@6 p=7;
+  U+E0E@0 p=7, U+E48@1 p=12, U+E0F@1 p=7, U+E4D@1 p=12, U+E32@1 p=7, U+E4D@3 p=12, U+E37@3 p=12, U+E31@3 p=12,
+  U+E32@3 p=7
+tho than, maitaikhu and more, 8 in all; level=1;
+  U+E10@0 p=7, U+E47@0 p=12, U+E0F@3 p=7, U+E37@4 p=12, U+E33@7 p=7, U+E10@7 p=7, U+E47@8 p=12, U+E33@8 p=7;
+  U+E10@0 p=7, U+E47@0 p=12, U+E0F@3 p=7, U+E4D@4 p=12, U+E37@4 p=12, U+E32@4 p=7, U+E10@4 p=7, U+E4D@8 p=12,
+  U+E47@8 p=12, U+E32@8 p=7
+fo fan, thanthakhat and more, 9 in all; level=1;
+  U+E1F@0 p=7, U+E4C@0 p=12, U+E38@1 p=12, U+E4E@3 p=12, U+E33@4 p=7, U+E02@5 p=7, U+E3A@6 p=12, U+E47@8 p=12,
+  U+E33@9 p=7;
+  U+E1F@0 p=7, U+E4C@0 p=12, U+E38@1 p=12, U+E4D@3 p=12, U+E4E@3 p=12, U+E32@3 p=7, U+E02@5 p=7, U+E3A@6 p=12,
+  U+E4D@8 p=12, U+E47@8 p=12, U+E32@8 p=7
+yo ying, sara i and more, 9 in all; level=1;
+  U+E0D@0 p=7, U+E34@3 p=12, U+E33@6 p=7, U+E2F@7 p=7, U+E47@8 p=12, U+E4E@11 p=12, U+E3A@11 p=12, U+E2F@14 p=7,
+  U+E3B@16 p=2;
+  U+E0D@0 p=7, U+E4D@3 p=12, U+E34@3 p=12, U+E32@3 p=7, U+E2F@7 p=7, U+E47@8 p=12, U+E4E@11 p=12, U+E3A@11 p=12,
+  U+E2F@14 p=7, U+E3B@16 p=2
+fo fa, mai chattawa and more, 9 in all; level=1;
+  U+E1D@0 p=7, U+E4B@3 p=12, U+E3B@6 p=2, U+E4B@9 p=12, U+E33@10 p=7, U+E0F@11 p=7, U+E31@11 p=12, U+E1D@14 p=7,
+  U+E4E@14 p=12;
+  U+E1D@0 p=7, U+E4D@3 p=12, U+E4B@3 p=12, U+E3B@3 p=2, U+E4B@3 p=12, U+E32@3 p=7, U+E0F@11 p=7, U+E31@11 p=12,
+  U+E1D@14 p=7, U+E4E@14 p=12
+ko, niggahita, am, ko, niggahita, am; level=1;
+  U+E81@0 p=7, U+ECD@1 p=12, U+EB3@1 p=7, U+E81@4 p=7, U+ECD@7 p=12, U+EB3@10 p=7;
+  U+E81@0 p=7, U+ECD@1 p=12, U+ECD@1 p=12, U+EB2@1 p=7, U+E81@4 p=7, U+ECD@7 p=12, U+ECD@7 p=12, U+EB2@7 p=7
+u, mai ek, niggahita, am, i, am; ; U+EB8@0 p=12, U+EC8@1 p=12, U+ECD@2 p=12, U+EB3@2 p=7, U+EB4@4 p=12, U+EB3@4 p=7;
+  U+EB8@0 p=12, U+ECD@1 p=12, U+EC8@1 p=12, U+ECD@1 p=12, U+EB2@1 p=7, U+ECD@4 p=12, U+EB4@4 p=12, U+EB2@4 p=7
+kho sung, mai kon, 2 mai ek, am; ; U+E82@0 p=7, U+EBB@1 p=12, U+EC8@1 p=12, U+EC8@2 p=12, U+EB3@5 p=7;
+  U+E82@0 p=7, U+ECD@1 p=12, U+EBB@1 p=12, U+EC8@1 p=12, U+EC8@1 p=12, U+EB2@1 p=7
+do dek, mai chattawa, sara am; ; U+E14@0 p=7, U+E4B@0 p=12, U+E33@6 p=7;
+  U+E14@0 p=7, U+E4D@0 p=12, U+E4B@0 p=12, U+E32@0 p=7
+do dek, sara am; ; U+E14@0 p=7, U+E33@3 p=7; U+E14@0 p=7, U+E4D@0 p=12, U+E32@0 p=7
+do dek, mai chattawa, sara am; level=2; U+E14@0 p=7, U+E4B@0 p=12, U+E33@6 p=7;
+  U+E14@0 p=7, U+E4D@6 p=12, U+E4B@0 p=12, U+E32@6 p=7
+do dek, mai chattawa, sara am; level=3; U+E14@0 p=7, U+E4B@0 p=12, U+E33@6 p=7;
+  U+E14@0 p=7, U+E4D@6 p=12, U+E4B@0 p=12, U+E32@6 p=7
+do dek, sara am; level=3; U+E14@0 p=7, U+E33@3 p=7; U+E14@0 p=7, U+E4D@0 p=12, U+E32@0 p=7
+2 do dek, sara am; level=3; U+E14@6 p=7, U+E14@0 p=7, U+E33@6 p=7; U+E14@0 p=7, U+E14@0 p=7, U+E4D@0 p=12, U+E32@0 p=7";

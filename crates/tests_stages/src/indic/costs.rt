@@ -2,9 +2,9 @@
 ghost use Rattle.std.specs.Prelude.{IfOk, OnOk};
 ghost use Rattle.buffer_stages.specs.Ready.{IsReady};
 
+use crate::buffers::settle;
 use crate::indic::forms::NoForms;
 use crate::indic::text::add_characters;
-use crate::numbers::settle;
 use buffer_core::buffer::hb_buffer_t;
 use buffer_glyphs::cause::ShapeCause;
 use buffer_glyphs::info::hb_glyph_info_t;

@@ -1,40 +1,384 @@
-//! Rows of the two orders: which order, a script, a cluster level, a font, the masks of features, and the glyphs before
-//! and after it.
+//! The two orders of syllables, by the forms of fonts.
 
-pub(crate) static ROWS: &str =
-    r#"initial|Beng|1|{"cmap":[[2509,4]],"gsub":{"scripts":[["bng2",{"features":[0,1,2,3,4,5,6]},[]]],"features":[["abvf",[0]],["blwf",[1]],["half",[2]],["pref",[3]],["pstf",[4]],["rphf",[5]],["vatu",[6]]],"lookups":[{"type":"ligature","subtables":[[[6,[[[],20]]]]]},{"type":"ligature","subtables":[[[3,[[[4],21]]]]]},{"type":"ligature","subtables":[[[2,[[[4],22]]]]]},{"type":"ligature","subtables":[[[4,[[[1],23]]]]]},{"type":"chain","subtables":[{"format":"glyphs","rules":[[[],[4,2],[],[]]]}]},{"type":"chain","subtables":[{"format":"glyphs","rules":[[[2],[1,4],[],[]]]}]},{"type":"ligature","subtables":[[[2,[[[4],26]]]]]}]}}|512 128 32 16 64 256 0|2 0 2147483648 0 0 21 1 14|2 0 2147483648 1 8
-initial|Beng|1|{"cmap":[[2509,4]],"gsub":{"scripts":[["bng2",{"features":[0,1,2,3,4,5]},[]]],"features":[["abvf",[0]],["blwf",[1]],["half",[2]],["pref",[3]],["pstf",[4]],["rphf",[5]]],"lookups":[{"type":"ligature","subtables":[[[6,[[[],20]]]]]},{"type":"ligature","subtables":[[[4,[[[3],21]]]]]},{"type":"chain","subtables":[{"format":"glyphs","rules":[[[2],[2,4],[],[]]]}]},{"type":"ligature","subtables":[[[4,[[[1],23]]]]]},{"type":"ligature","subtables":[[[4,[[[3],24]]]]]},{"type":"chain","subtables":[{"format":"glyphs","rules":[[[],[1,4],[],[]]]}]}]}}|512 128 32 16 64 256 0|13 0 2147483648 0 0 16 2 4,4 2 2147483648 0 0 16 4 14,10 3 2147483648 0 0 16 6 14,13 4 2147483648 0 0 16 19 14,4 5 2147483648 0 0 16 4 14|13 0 2147483744 2 3,4 2 2147483744 4 3,10 3 2147483744 6 3,13 4 2147483648 19 4,4 5 2147483952 4 4
-initial|Beng|1|{"cmap":[[2509,4]],"gsub":{"scripts":[["bng2",{"features":[0,1,2,3]},[]]],"features":[["abvf",[0]],["init",[1]],["pstf",[2]],["rphf",[3]]],"lookups":[{"type":"chain","subtables":[{"format":"glyphs","rules":[[[2],[6],[],[]]]}]},{"type":"ligature","subtables":[[[5,[[[],21]]]]]},{"type":"ligature","subtables":[[[4,[[[3],22]]]]]},{"type":"ligature","subtables":[[[1,[[[4],23]]]]]}]}}|128 0 0 16 0 64 32|12 0 2147483648 0 0 18 15 14,5 0 2147483648 0 0 18 7 2|5 0 2147483648 7 2,12 0 2147483648 15 3
-initial|Deva|1|{"cmap":[[2381,4]],"gsub":{"scripts":[["dev2",{"features":[0,1,2,3]},[]]],"features":[["blwf",[0]],["half",[1]],["init",[2]],["rphf",[3]]],"lookups":[{"type":"ligature","subtables":[[[4,[[[2],20],[[3],20]]]]]},{"type":"ligature","subtables":[[[2,[[[4],21]]]]]},{"type":"ligature","subtables":[[[5,[[[],22]]]]]},{"type":"ligature","subtables":[[[1,[[[4],23]]]]]}]}}|128 0 16 0 32 0 64|12 0 2147483648 0 0 16 15 14,3 1 2147483648 0 0 16 1 4|12 0 2147483696 15 3,3 1 2147483648 1 4
-initial|Deva|1|{"cmap":[[2381,4]],"gsub":{"scripts":[["dev2",{"features":[0,1,2,3,4]},[]]],"features":[["abvf",[0]],["blwf",[1]],["pref",[2]],["pstf",[3]],["rphf",[4]]],"lookups":[{"type":"chain","subtables":[{"format":"glyphs","rules":[[[2],[6],[],[]]]}]},{"type":"ligature","subtables":[[[3,[[[4],21]]]]]},{"type":"ligature","subtables":[[[4,[[[1],22]]]]]},{"type":"chain","subtables":[{"format":"glyphs","rules":[[[],[4,2],[],[]]]}]},{"type":"ligature","subtables":[[[1,[[[4],24],[[4,10],24]]]]]}]}}|256 64 32 16 0 128 0|1 0 2147483648 0 0 16 16 4,4 2 2147483648 0 0 16 4 14,13 3 2147483648 0 0 16 11 14|1 0 2147483936 16 1,4 2 2147483936 4 1,13 3 2147483648 11 4
-initial|Deva|0|{"cmap":[[2381,4]],"gsub":{"scripts":[["dev2",{"features":[0,1,2,3,4]},[]]],"features":[["abvf",[0]],["blwf",[1]],["init",[2]],["pref",[3]],["rphf",[4]]],"lookups":[{"type":"ligature","subtables":[[[6,[[[],20]]]]]},{"type":"ligature","subtables":[[[4,[[[3],21]]]]]},{"type":"chain","subtables":[{"format":"glyphs","rules":[[[],[5],[],[]]]}]},{"type":"ligature","subtables":[[[4,[[[1],23]]]]]},{"type":"ligature","subtables":[[[1,[[[4],24]]]]]}]}}|256 128 32 16 0 0 64|3 0 2147483648 0 0 16 1 4,4 3 2147483648 0 0 16 4 14,11 5 2147483648 0 0 16 5 14,13 8 2147483648 0 0 16 2 4|3 0 2147483680 1 3,4 3 2147483680 4 3,11 5 2147483680 5 3,13 8 2147483648 2 4
-initial|Gujr|1|{"cmap":[[2765,4]],"gsub":{"scripts":[["gjr2",{"features":[0,1,2,3,4,5,6]},[]]],"features":[["abvf",[0]],["blwf",[1]],["half",[2]],["pref",[3]],["pstf",[4]],["rphf",[5]],["vatu",[6]]],"lookups":[{"type":"ligature","subtables":[[[6,[[[],20]]]]]},{"type":"ligature","subtables":[[[4,[[[2],21],[[3],21]]]]]},{"type":"ligature","subtables":[[[2,[[[4],22]]]]]},{"type":"ligature","subtables":[[[4,[[[1],23]]]]]},{"type":"chain","subtables":[{"format":"glyphs","rules":[[[],[3,4],[],[]]]}]},{"type":"ligature","subtables":[[[1,[[[4],25],[[4,10],25]]]]]},{"type":"ligature","subtables":[[[2,[[[4],26]]]]]}]}}|512 128 32 16 64 256 0|13 0 2147483648 0 0 17 1 4,7 1 2147483648 0 0 17 7 9,7 4 2147483648 0 0 17 14 7,2 6 2147483648 0 0 32 1 4|13 0 2147483648 1 4,7 1 2147483952 14 7,7 1 2147483952 7 9,2 6 2147483648 1 4
-initial|Gujr|1|{"cmap":[[2765,4]],"gsub":{"scripts":[["gjr2",{"features":[0,1,2,3]},[]]],"features":[["half",[0]],["pref",[1]],["pstf",[2]],["rphf",[3]]],"lookups":[{"type":"ligature","subtables":[[[2,[[[4],20]]]]]},{"type":"ligature","subtables":[[[4,[[[1],21]]]]]},{"type":"ligature","subtables":[[[4,[[[2],22]]]]]},{"type":"ligature","subtables":[[[1,[[[4],23]]]]]}]}}|128 32 0 0 16 64 0|13 0 2147483648 0 0 21 1 14,13 1 2147483648 0 0 21 17 14|13 0 2147483648 1 14,13 1 2147483648 17 14
-initial|Gujr|0|{"cmap":[[2765,4]],"gsub":{"scripts":[["gjr2",{"features":[0,1,2,3,4]},[]]],"features":[["abvf",[0]],["blwf",[1]],["init",[2]],["pref",[3]],["rphf",[4]]],"lookups":[{"type":"chain","subtables":[{"format":"glyphs","rules":[[[2],[6],[],[]]]}]},{"type":"ligature","subtables":[[[4,[[[3],21]]]]]},{"type":"chain","subtables":[{"format":"glyphs","rules":[[[],[5],[],[]]]}]},{"type":"ligature","subtables":[[[4,[[[1],23]]]]]},{"type":"ligature","subtables":[[[1,[[[4],24]]]]]}]}}|256 128 32 16 0 0 64|1 0 2147483648 0 0 21 16 4,4 0 2147483648 0 0 21 4 14,13 3 2147483648 0 0 21 11 14,6 5 2147483648 0 0 21 7 8,7 6 2147483648 0 0 21 14 8|1 0 2147483648 16 11,4 0 2147483648 4 14,13 3 2147483648 11 14,6 5 2147483648 7 8,7 6 2147483648 14 8
-initial|Guru|1|{"gsub":{"scripts":[["gur2",{"features":[0,1,2,3,4]},[]]],"features":[["blwf",[0]],["half",[1]],["init",[2]],["pref",[3]],["vatu",[4]]],"lookups":[{"type":"ligature","subtables":[[[4,[[[2],20]]]]]},{"type":"ligature","subtables":[[[2,[[[4],21]]]]]},{"type":"chain","subtables":[{"format":"glyphs","rules":[[[],[5],[],[]]]}]},{"type":"ligature","subtables":[[[4,[[[1],23]]]]]},{"type":"ligature","subtables":[[[2,[[[4],24]]]]]}]}}|0 128 16 0 32 0 64|13 0 2147483648 0 0 16 11 4,13 3 2147483648 0 0 16 17 14|13 0 2147483696 11 3,13 3 2147483696 17 3
-initial|Guru|1|{"cmap":[[2637,4]],"gsub":{"scripts":[["gur2",{"features":[0,1,2,3,4]},[]]],"features":[["abvf",[0]],["half",[1]],["pstf",[2]],["rphf",[3]],["vatu",[4]]],"lookups":[{"type":"chain","subtables":[{"format":"glyphs","rules":[[[2],[6],[],[]]]}]},{"type":"ligature","subtables":[[[2,[[[4],21]]]]]},{"type":"ligature","subtables":[[[3,[[[4],22]]]]]},{"type":"chain","subtables":[{"format":"glyphs","rules":[[[2],[1,4],[],[]]]}]},{"type":"ligature","subtables":[[[2,[[[4],24]]]]]}]}}|128 0 0 16 32 64 0|13 0 2147483648 0 0 20 2 14,9 1 2147483648 0 0 20 3 14,4 4 2147483648 0 0 20 4 14,13 5 2147483648 0 0 20 11 14|13 0 2147483680 2 3,9 1 2147483680 3 3,4 4 2147483680 4 3,13 5 2147483648 11 4
-initial|Guru|1|{"cmap":[[2637,4]],"gsub":{"scripts":[["gur2",{"features":[0,1,2,3,4,5]},[]]],"features":[["abvf",[0]],["blwf",[1]],["pref",[2]],["pstf",[3]],["rphf",[4]],["vatu",[5]]],"lookups":[{"type":"ligature","subtables":[[[6,[[[],20]]]]]},{"type":"ligature","subtables":[[[4,[[[2],21]]]]]},{"type":"ligature","subtables":[[[4,[[[1],22]]]]]},{"type":"ligature","subtables":[[[4,[[[3],23]]]]]},{"type":"chain","subtables":[{"format":"glyphs","rules":[[[],[1,4],[],[]]]}]},{"type":"ligature","subtables":[[[4,[[[1],25]]]]]}]}}|256 64 32 16 0 128 0|3 0 2147483648 0 0 18 1 14,4 3 2147483648 0 0 18 4 14,10 4 2147483648 0 0 18 6 14,1 4 2147483648 0 0 18 16 4,4 7 2147483648 0 0 18 4 14,13 8 2147483648 0 0 18 19 4,7 9 2147483648 0 0 18 7 9|3 0 2147483680 1 3,4 3 2147483680 4 3,10 4 2147483680 6 3,1 4 2147483680 16 3,4 7 2147483680 4 3,13 8 2147483648 19 4,7 9 2147483824 7 9
-initial|Knda|0|{"cmap":[[3277,4]],"gsub":{"scripts":[["knd2",{"features":[0,1,2,3,4,5]},[]]],"features":[["abvf",[0]],["blwf",[1]],["init",[2]],["pref",[3]],["pstf",[4]],["rphf",[5]]],"lookups":[{"type":"ligature","subtables":[[[6,[[[],20]]]]]},{"type":"ligature","subtables":[[[4,[[[2],21],[[3],21]]]]]},{"type":"ligature","subtables":[[[5,[[[],22]]]]]},{"type":"ligature","subtables":[[[4,[[[3],23]]]]]},{"type":"ligature","subtables":[[[4,[[[2],24]]]]]},{"type":"chain","subtables":[{"format":"glyphs","rules":[[[],[1,4],[],[]]]}]}]}}|512 128 32 16 0 256 64|12 0 2147483648 0 0 16 15 14,13 3 2147483648 0 0 16 2 4,4 4 2147483648 0 0 16 4 14,13 5 2147483648 0 0 16 11 4,6 6 2147483648 0 0 16 7 7,5 7 2147483648 0 0 16 7 2|5 0 2147483648 7 2,12 0 2147483648 15 3,13 0 2147483648 2 3,4 0 2147483648 4 3,13 0 2147483648 11 4,6 0 2147483952 7 7
-initial|Knda|1|{"cmap":[[3277,4]],"gsub":{"scripts":[["knd2",{"features":[0,1]},[]]],"features":[["blwf",[0]],["init",[1]]],"lookups":[{"type":"ligature","subtables":[[[4,[[[3],20]]]]]},{"type":"ligature","subtables":[[[5,[[[],21]]]]]}]}}|0 0 16 0 0 0 32|2 0 2147483648 0 0 16 1 4|2 0 2147483648 1 4
-initial|Knda|0|{"cmap":[[3277,4]],"gsub":{"scripts":[["knd2",{"features":[0,1,2]},[]]],"features":[["blwf",[0]],["half",[1]],["pref",[2]]],"lookups":[{"type":"ligature","subtables":[[[3,[[[4],20]]]]]},{"type":"ligature","subtables":[[[2,[[[4],21]]]]]},{"type":"ligature","subtables":[[[4,[[[1],22]]]]]}]}}|0 64 16 0 32 0 0|1 0 2147483648 0 0 20 16 4,4 2 2147483648 0 0 20 4 14,10 3 2147483648 0 0 20 6 14|1 0 2147483680 16 3,4 2 2147483680 4 3,10 3 2147483680 6 3
-initial|Mlym|0|{"cmap":[[3405,4]],"gsub":{"scripts":[["mlm2",{"features":[0,1,2,3,4,5]},[]]],"features":[["abvf",[0]],["blwf",[1]],["half",[2]],["init",[3]],["rphf",[4]],["vatu",[5]]],"lookups":[{"type":"ligature","subtables":[[[6,[[[],20]]]]]},{"type":"ligature","subtables":[[[4,[[[2],21],[[3],21]]]]]},{"type":"chain","subtables":[{"format":"glyphs","rules":[[[2],[2,4],[],[]]]}]},{"type":"ligature","subtables":[[[5,[[[],23]]]]]},{"type":"ligature","subtables":[[[1,[[[4],24]]]]]},{"type":"ligature","subtables":[[[2,[[[4],25]]]]]}]}}|256 0 32 16 64 0 128|4 0 2147483648 0 0 17 4 14|4 0 2147483744 4 0
-initial|Mlym|1|{"cmap":[[3405,4]],"gsub":{"scripts":[["mlm2",{"features":[0,1,2,3,4]},[]]],"features":[["abvf",[0]],["init",[1]],["pstf",[2]],["rphf",[3]],["vatu",[4]]],"lookups":[{"type":"ligature","subtables":[[[6,[[[],20]]]]]},{"type":"ligature","subtables":[[[5,[[[],21]]]]]},{"type":"ligature","subtables":[[[3,[[[4],22]]]]]},{"type":"ligature","subtables":[[[1,[[[4],23],[[4,10],23]]]]]},{"type":"ligature","subtables":[[[2,[[[4],24]]]]]}]}}|128 0 0 16 0 64 32|12 0 2147483648 0 0 18 15 14,1 1 2147483648 0 0 18 16 4|12 0 2147483776 15 1,1 1 2147483648 16 4
-initial|Mlym|1|{"cmap":[[3405,4]],"gsub":{"scripts":[["mlm2",{"features":[0,1,2,3,4,5]},[]]],"features":[["blwf",[0]],["half",[1]],["init",[2]],["pstf",[3]],["rphf",[4]],["vatu",[5]]],"lookups":[{"type":"ligature","subtables":[[[4,[[[2],20],[[3],20]]]]]},{"type":"ligature","subtables":[[[2,[[[4],21]]]]]},{"type":"ligature","subtables":[[[5,[[[],22]]]]]},{"type":"ligature","subtables":[[[3,[[[4],23]]]]]},{"type":"ligature","subtables":[[[1,[[[4],24],[[4,10],24]]]]]},{"type":"ligature","subtables":[[[2,[[[4],25]]]]]}]}}|256 0 16 0 32 128 64|12 0 2147483648 0 0 16 15 14,1 1 2147483648 0 0 37 16 14,4 2 2147483648 0 0 37 4 14,3 5 2147483648 0 0 37 1 4|12 0 2147483648 15 4,1 1 2147483648 16 14,4 2 2147483648 4 14,3 5 2147483648 1 8
-initial|Orya|0|{"cmap":[[2893,4]],"gsub":{"scripts":[["ory2",{"features":[0,1,2,3]},[]]],"features":[["abvf",[0]],["pstf",[1]],["rphf",[2]],["vatu",[3]]],"lookups":[{"type":"chain","subtables":[{"format":"glyphs","rules":[[[],[6],[],[]]]}]},{"type":"ligature","subtables":[[[4,[[[3],21]]]]]},{"type":"ligature","subtables":[[[1,[[[4],22],[[4,10],22]]]]]},{"type":"ligature","subtables":[[[4,[[[1],23]]]]]}]}}|64 0 0 16 0 32 0|13 0 2147483648 0 0 16 11 14,5 1 2147483648 0 0 16 7 2|5 0 2147483648 7 2,13 0 2147483648 11 4
-initial|Orya|0|{"gsub":{"scripts":[["ory2",{"features":[0,1,2,3]},[]]],"features":[["half",[0]],["pref",[1]],["rphf",[2]],["vatu",[3]]],"lookups":[{"type":"ligature","subtables":[[[2,[[[4],20]]]]]},{"type":"ligature","subtables":[[[4,[[[1],21]]]]]},{"type":"ligature","subtables":[[[1,[[[4],22],[[4,10],22]]]]]},{"type":"chain","subtables":[{"format":"glyphs","rules":[[[2],[2,4],[],[]]]}]}]}}|64 32 0 0 16 0 0|13 0 2147483648 0 0 17 1 4,4 3 2147483648 0 0 17 4 14,5 4 2147483648 0 0 17 7 2|5 0 2147483664 7 2,13 0 2147483648 1 4,4 0 2147483648 4 4
-initial|Orya|1|{"cmap":[[2893,4]],"gsub":{"scripts":[["ory2",{"features":[0,1,2,3]},[]]],"features":[["abvf",[0]],["blwf",[1]],["init",[2]],["rphf",[3]]],"lookups":[{"type":"ligature","subtables":[[[6,[[[],20]]]]]},{"type":"ligature","subtables":[[[4,[[[2],21],[[3],21]]]]]},{"type":"ligature","subtables":[[[5,[[[],22]]]]]},{"type":"ligature","subtables":[[[1,[[[4],23]]]]]}]}}|128 0 32 16 0 0 64|12 0 2147483648 0 0 16 15 14,2 1 2147483648 0 0 16 1 4,4 2 2147483648 0 0 34 4 14,7 4 2147483648 0 0 34 7 12,6 5 2147483648 0 0 34 7 8,8 6 2147483648 0 0 34 9 13|12 0 2147483680 15 3,2 1 2147483648 1 4,4 2 2147483680 4 0,7 4 2147483680 7 3,6 5 2147483680 7 3,8 6 2147483680 9 3
-initial|Taml|1|{"cmap":[[3021,4]],"gsub":{"scripts":[["tml2",{"features":[0,1,2,3,4,5]},[]]],"features":[["abvf",[0]],["blwf",[1]],["pref",[2]],["pstf",[3]],["rphf",[4]],["vatu",[5]]],"lookups":[{"type":"ligature","subtables":[[[6,[[[],20]]]]]},{"type":"chain","subtables":[{"format":"glyphs","rules":[[[],[4,2],[],[]]]}]},{"type":"ligature","subtables":[[[4,[[[3],22]]]]]},{"type":"chain","subtables":[{"format":"glyphs","rules":[[[2],[4,3],[],[]]]}]},{"type":"chain","subtables":[{"format":"glyphs","rules":[[[],[1,4],[],[]]]}]},{"type":"chain","subtables":[{"format":"glyphs","rules":[[[2],[2,4],[],[]]]}]}]}}|256 64 32 16 0 128 0|13 0 2147483648 0 0 17 1 4,5 3 2147483648 0 0 17 7 2,8 5 2147483648 0 0 17 9 13|5 0 2147483680 7 2,13 0 2147483648 1 4,8 5 2147483824 9 13
-initial|Taml|0|{"cmap":[[3021,4]],"gsub":{"scripts":[["tml2",{"features":[0,1,2,3,4,5]},[]]],"features":[["abvf",[0]],["blwf",[1]],["half",[2]],["init",[3]],["pref",[4]],["rphf",[5]]],"lookups":[{"type":"ligature","subtables":[[[6,[[[],20]]]]]},{"type":"ligature","subtables":[[[4,[[[2],21],[[3],21]]]]]},{"type":"ligature","subtables":[[[2,[[[4],22]]]]]},{"type":"ligature","subtables":[[[5,[[[],23]]]]]},{"type":"ligature","subtables":[[[4,[[[3],24]]]]]},{"type":"ligature","subtables":[[[1,[[[4],25],[[4,10],25]]]]]}]}}|512 256 32 16 64 0 128|13 0 2147483648 0 0 19 2 4,4 1 2147483648 0 0 19 4 14,13 2 2147483648 0 0 19 1 14,4 3 2147483648 0 0 19 4 14,2 5 2147483648 0 0 19 1 4|13 0 2147483648 2 4,4 1 2147483648 4 14,13 2 2147483648 1 14,4 3 2147483648 4 14,2 5 2147483648 1 8
-initial|Taml|1|{"cmap":[[3021,4]],"gsub":{"scripts":[["tml2",{"features":[0,1,2,3]},[]]],"features":[["blwf",[0]],["half",[1]],["rphf",[2]],["vatu",[3]]],"lookups":[{"type":"ligature","subtables":[[[3,[[[4],20]]]]]},{"type":"ligature","subtables":[[[2,[[[4],21]]]]]},{"type":"ligature","subtables":[[[1,[[[4],22]]]]]},{"type":"ligature","subtables":[[[4,[[[1],23]]]]]}]}}|64 0 16 0 32 0 0|1 0 2147483648 0 0 16 16 14,4 1 2147483648 0 0 16 4 14,5 4 2147483648 0 0 16 7 2|5 0 2147483696 7 2,1 0 2147483648 16 4,4 0 2147483664 4 4
-initial|Telu|1|{"cmap":[[3149,4]],"gsub":{"scripts":[["tel2",{"features":[0,1,2,3,4]},[]]],"features":[["abvf",[0]],["half",[1]],["pstf",[2]],["rphf",[3]],["vatu",[4]]],"lookups":[{"type":"ligature","subtables":[[[6,[[[],20]]]]]},{"type":"ligature","subtables":[[[2,[[[4],21]]]]]},{"type":"ligature","subtables":[[[4,[[[3],22]]]]]},{"type":"ligature","subtables":[[[1,[[[4],23]]]]]},{"type":"ligature","subtables":[[[2,[[[4],24]]]]]}]}}|128 0 0 16 32 64 0|3 0 2147483648 0 0 20 1 4,4 3 2147483648 0 0 20 4 14|3 0 2147483648 1 4,4 3 2147483728 4 4
-initial|Telu|1|{"cmap":[[3149,4]],"gsub":{"scripts":[["tel2",{"features":[0,1,2,3,4,5]},[]]],"features":[["abvf",[0]],["blwf",[1]],["init",[2]],["pstf",[3]],["rphf",[4]],["vatu",[5]]],"lookups":[{"type":"ligature","subtables":[[[6,[[[],20]]]]]},{"type":"ligature","subtables":[[[3,[[[4],21]]]]]},{"type":"ligature","subtables":[[[5,[[[],22]]]]]},{"type":"chain","subtables":[{"format":"glyphs","rules":[[[2],[4,2],[],[]]]}]},{"type":"chain","subtables":[{"format":"glyphs","rules":[[[2],[1,4],[],[]]]}]},{"type":"ligature","subtables":[[[4,[[[1],25]]]]]}]}}|256 0 32 16 0 128 64|1 0 2147483648 0 0 16 16 14,4 1 2147483648 0 0 16 4 14,10 2 2147483648 0 0 16 6 14,1 4 2147483648 0 0 16 16 4,5 5 2147483648 0 0 16 14 2|5 0 2147483648 14 2,1 0 2147483648 16 3,4 0 2147483648 4 3,10 0 2147483648 6 3,1 0 2147483648 16 4
-initial|Telu|0|{"cmap":[[3149,4]],"gsub":{"scripts":[["tel2",{"features":[0,1,2,3,4,5]},[]]],"features":[["blwf",[0]],["half",[1]],["init",[2]],["pstf",[3]],["rphf",[4]],["vatu",[5]]],"lookups":[{"type":"ligature","subtables":[[[4,[[[2],20],[[3],20]]]]]},{"type":"ligature","subtables":[[[2,[[[4],21]]]]]},{"type":"ligature","subtables":[[[5,[[[],22]]]]]},{"type":"ligature","subtables":[[[4,[[[3],23]]]]]},{"type":"ligature","subtables":[[[1,[[[4],24]]]]]},{"type":"ligature","subtables":[[[4,[[[1],25]]]]]}]}}|256 0 16 0 32 128 64|13 0 2147483648 0 0 17 1 4,8 2 2147483648 0 0 17 9 13,6 4 2147483648 0 0 17 7 7,1 5 2147483648 0 0 32 16 4,4 6 2147483648 0 0 32 4 14,13 6 2147483648 0 0 32 2 4,8 8 2147483648 0 0 32 8 13|13 0 2147483648 1 4,6 2 2147483792 7 7,8 2 2147483792 9 13,1 5 2147483680 16 3,4 6 2147483680 4 3,13 6 2147483648 2 4,8 8 2147483792 8 13
-final|Beng|0|{"cmap":[[2509,4]],"gsub":{"scripts":[["bng2",{"features":[0,1,2,3,4,5]},[]]],"features":[["abvf",[0]],["half",[1]],["init",[2]],["pref",[3]],["pstf",[4]],["rphf",[5]]],"lookups":[{"type":"ligature","subtables":[[[6,[[[],20]]]]]},{"type":"ligature","subtables":[[[2,[[[4],21]]]]]},{"type":"ligature","subtables":[[[5,[[[],22]]]]]},{"type":"ligature","subtables":[[[4,[[[3],23]]]]]},{"type":"ligature","subtables":[[[4,[[[2],24]]]]]},{"type":"ligature","subtables":[[[1,[[[4],25]]]]]}]}}|512 128 0 16 32 256 64|5 0 2147483680 10 2 17 7 2,13 0 2147483680 7 2 17 19 3,4 0 2147483680 12 2 17 4 3,1 0 2147483648 7 2 17 16 4|13 0 2147483680 19 3,4 0 2147483680 4 3,5 0 2147483680 7 2,1 0 2147483648 16 4
-final|Deva|1|{"cmap":[[2381,4]],"gsub":{"scripts":[["dev2",{"features":[0,1,2,3,4]},[]]],"features":[["blwf",[0]],["half",[1]],["init",[2]],["pstf",[3]],["rphf",[4]]],"lookups":[{"type":"ligature","subtables":[[[4,[[[2],20]]]]]},{"type":"ligature","subtables":[[[2,[[[4],21]]]]]},{"type":"ligature","subtables":[[[5,[[[],22]]]]]},{"type":"ligature","subtables":[[[3,[[[4],23]]]]]},{"type":"ligature","subtables":[[[1,[[[4],24]]]]]}]}}|256 0 16 0 32 128 64|5 0 2147483696 10 2 16 7 2|5 0 2147483760 7 2
-final|Gujr|0|{"cmap":[[2765,4]],"gsub":{"scripts":[["gjr2",{"features":[0,1,2]},[]]],"features":[["init",[0]],["pref",[1]],["rphf",[2]]],"lookups":[{"type":"ligature","subtables":[[[5,[[[],20]]]]]},{"type":"ligature","subtables":[[[4,[[[1],21]]]]]},{"type":"ligature","subtables":[[[1,[[[4],22]]]]]}]}}|64 32 0 0 0 0 16|1 0 2147483648 7 2 16 16 4,4 1 2147483648 12 2 16 4 4|1 0 2147483648 16 4,4 1 2147483648 4 4
-final|Guru|0|{"cmap":[[2637,4]],"gsub":{"scripts":[["gur2",{"features":[0,1,2,3,4,5]},[]]],"features":[["abvf",[0]],["blwf",[1]],["half",[2]],["pstf",[3]],["rphf",[4]],["vatu",[5]]],"lookups":[{"type":"ligature","subtables":[[[6,[[[],20]]]]]},{"type":"ligature","subtables":[[[4,[[[2],21]]]]]},{"type":"ligature","subtables":[[[2,[[[4],22]]]]]},{"type":"ligature","subtables":[[[4,[[[3],23]]]]]},{"type":"ligature","subtables":[[[1,[[[4],24],[[4,10],24]]]]]},{"type":"ligature","subtables":[[[4,[[[1],25]]]]]}]}}|256 0 32 16 64 128 0|30 0 2147484000 7 50 16 16 1,13 6 2147483648 7 2 16 11 4,4 8 2147483824 12 2 16 4 4,1 11 2147483648 7 2 34 16 4,4 12 2147483824 12 2 34 4 4|13 0 2147483648 11 4,4 0 2147483824 4 4,30 0 2147484000 16 1,1 11 2147483648 16 4,4 12 2147483824 4 4
-final|Knda|0|{"cmap":[[3277,4]],"gsub":{"scripts":[["knd2",{"features":[0,1,2,3]},[]]],"features":[["abvf",[0]],["blwf",[1]],["init",[2]],["rphf",[3]]],"lookups":[{"type":"ligature","subtables":[[[6,[[[],20]]]]]},{"type":"ligature","subtables":[[[3,[[[4],21]]]]]},{"type":"chain","subtables":[{"format":"glyphs","rules":[[[2],[5],[],[]]]}]},{"type":"ligature","subtables":[[[1,[[[4],23]]]]]}]}}|128 0 32 16 0 0 64|5 0 2147483648 10 2 20 14 2,13 0 2147483648 7 2 20 11 4|5 0 2147483712 14 2,13 0 2147483648 11 4
-final|Mlym|0|{"cmap":[[3405,4]],"gsub":{"scripts":[["mlm2",{"features":[0,1,2,3,4,5]},[]]],"features":[["abvf",[0]],["blwf",[1]],["half",[2]],["pstf",[3]],["rphf",[4]],["vatu",[5]]],"lookups":[{"type":"ligature","subtables":[[[6,[[[],20]]]]]},{"type":"chain","subtables":[{"format":"glyphs","rules":[[[],[4,2],[],[]]]}]},{"type":"ligature","subtables":[[[2,[[[4],22]]]]]},{"type":"ligature","subtables":[[[4,[[[3],23]]]]]},{"type":"ligature","subtables":[[[1,[[[4],24]]]]]},{"type":"ligature","subtables":[[[4,[[[1],25]]]]]}]}}|256 0 32 16 64 128 0|12 0 2147484000 7 2 16 15 1,1 1 2147483648 7 2 16 16 4,6 2 2147483824 10 2 16 7 10|1 0 2147483648 16 4,12 0 2147484000 15 1,6 2 2147483824 7 10
-final|Orya|1|{"cmap":[[2893,4]],"gsub":{"scripts":[["ory2",{"features":[0,1,2,3,4,5]},[]]],"features":[["abvf",[0]],["blwf",[1]],["init",[2]],["pref",[3]],["pstf",[4]],["rphf",[5]]],"lookups":[{"type":"ligature","subtables":[[[6,[[[],20]]]]]},{"type":"ligature","subtables":[[[4,[[[2],21],[[3],21]]]]]},{"type":"ligature","subtables":[[[5,[[[],22]]]]]},{"type":"chain","subtables":[{"format":"glyphs","rules":[[[],[4,1],[],[]]]}]},{"type":"ligature","subtables":[[[4,[[[3],24]]]]]},{"type":"ligature","subtables":[[[1,[[[4],25],[[4,10],25]]]]]}]}}|512 128 32 16 0 256 64|30 0 2147484192 7 50 18 16 1,2 2 2147483648 7 2 18 1 4,6 2 2147483952 10 2 18 7 5|2 0 2147483648 1 4,6 0 2147483952 7 5,30 0 2147484192 16 1
-final|Taml|1|{"cmap":[[3021,4]],"gsub":{"scripts":[["tml2",{"features":[0,1,2,3,4,5,6]},[]]],"features":[["blwf",[0]],["half",[1]],["init",[2]],["pref",[3]],["pstf",[4]],["rphf",[5]],["vatu",[6]]],"lookups":[{"type":"ligature","subtables":[[[4,[[[2],20],[[3],20]]]]]},{"type":"ligature","subtables":[[[2,[[[4],21]]]]]},{"type":"ligature","subtables":[[[5,[[[],22]]]]]},{"type":"ligature","subtables":[[[4,[[[3],23]]]]]},{"type":"ligature","subtables":[[[4,[[[3],24]]]]]},{"type":"chain","subtables":[{"format":"glyphs","rules":[[[],[1,4],[],[]]]}]},{"type":"ligature","subtables":[[[2,[[[4],26]]]]]}]}}|512 128 16 0 32 256 64|30 0 2147484208 7 50 17 16 1,13 2 2147483696 7 2 17 11 3,4 2 2147483696 12 2 17 4 3,1 3 2147483696 7 2 17 16 3,4 4 2147483696 12 2 17 4 3,13 7 2147483648 7 2 17 1 4|13 0 2147483696 11 3,4 0 2147483696 4 3,1 0 2147483696 16 3,4 0 2147483696 4 3,13 0 2147483648 1 4,30 0 2147484208 16 1
-final|Telu|0|{"cmap":[[3149,4]],"gsub":{"scripts":[["tel2",{"features":[0,1,2,3,4,5,6]},[]]],"features":[["abvf",[0]],["blwf",[1]],["half",[2]],["init",[3]],["pref",[4]],["rphf",[5]],["vatu",[6]]],"lookups":[{"type":"ligature","subtables":[[[6,[[[],20]]]]]},{"type":"ligature","subtables":[[[4,[[[2],21]]]]]},{"type":"ligature","subtables":[[[2,[[[4],22]]]]]},{"type":"ligature","subtables":[[[5,[[[],23]]]]]},{"type":"ligature","subtables":[[[4,[[[1],24]]]]]},{"type":"ligature","subtables":[[[1,[[[4],25]]]]]},{"type":"ligature","subtables":[[[4,[[[1],26]]]]]}]}}|512 256 32 16 64 0 128|5 0 2147483712 10 2 16 7 2,12 0 2147483712 7 2 16 15 3,13 0 2147483648 7 2 16 11 4,7 4 2147483696 12 2 16 7 9|5 0 2147483840 7 2,12 0 2147483712 15 3,13 0 2147483648 11 4,7 4 2147483696 7 9"#;
+/// Fonts, each after the glyphs that its features form; a glyph before a bar is one that has to precede them.
+pub(crate) static FONTS: &str = r#"
+# abvf 6; blwf 3 4; half 2 4; pref 4 1; pstf 4 2; rphf 2 | 1 4; vatu 2 4.
+beng_1 {"cmap":[[2509,4]],"gsub":{"scripts":[["bng2",{"features":[0,1,2,3,4,5,6]},[]]],
+  "features":[["abvf",[0]],["blwf",[1]],["half",[2]],["pref",[3]],["pstf",[4]],["rphf",[5]],["vatu",[6]]],
+  "lookups":[{"type":"ligature","subtables":[[[6,[[[],20]]]]]},{"type":"ligature",
+  "subtables":[[[3,[[[4],21]]]]]},{"type":"ligature","subtables":[[[2,[[[4],22]]]]]},{"type":"ligature",
+  "subtables":[[[4,[[[1],23]]]]]},{"type":"chain","subtables":[{"format":"glyphs",
+  "rules":[[[],[4,2],[],[]]]}]},{"type":"chain","subtables":[{"format":"glyphs",
+  "rules":[[[2],[1,4],[],[]]]}]},{"type":"ligature","subtables":[[[2,[[[4],26]]]]]}]}}
+# abvf 6; blwf 4 3; half 2 | 2 4; pref 4 1; pstf 4 3; rphf 1 4.
+beng_2 {"cmap":[[2509,4]],"gsub":{"scripts":[["bng2",{"features":[0,1,2,3,4,5]},[]]],
+  "features":[["abvf",[0]],["blwf",[1]],["half",[2]],["pref",[3]],["pstf",[4]],["rphf",[5]]],
+  "lookups":[{"type":"ligature","subtables":[[[6,[[[],20]]]]]},{"type":"ligature",
+  "subtables":[[[4,[[[3],21]]]]]},{"type":"chain","subtables":[{"format":"glyphs",
+  "rules":[[[2],[2,4],[],[]]]}]},{"type":"ligature","subtables":[[[4,[[[1],23]]]]]},{"type":"ligature",
+  "subtables":[[[4,[[[3],24]]]]]},{"type":"chain","subtables":[{"format":"glyphs","rules":[[[],[1,4],[],[]]]}]}]}}
+# abvf 2 | 6; init 5; pstf 4 3; rphf 1 4.
+beng_3 {"cmap":[[2509,4]],"gsub":{"scripts":[["bng2",{"features":[0,1,2,3]},[]]],
+  "features":[["abvf",[0]],["init",[1]],["pstf",[2]],["rphf",[3]]],"lookups":[{"type":"chain",
+  "subtables":[{"format":"glyphs","rules":[[[2],[6],[],[]]]}]},{"type":"ligature",
+  "subtables":[[[5,[[[],21]]]]]},{"type":"ligature","subtables":[[[4,[[[3],22]]]]]},{"type":"ligature",
+  "subtables":[[[1,[[[4],23]]]]]}]}}
+# blwf 4 2, 4 3; half 2 4; init 5; rphf 1 4.
+deva_1 {"cmap":[[2381,4]],"gsub":{"scripts":[["dev2",{"features":[0,1,2,3]},[]]],
+  "features":[["blwf",[0]],["half",[1]],["init",[2]],["rphf",[3]]],"lookups":[{"type":"ligature",
+  "subtables":[[[4,[[[2],20],[[3],20]]]]]},{"type":"ligature","subtables":[[[2,[[[4],21]]]]]},{"type":"ligature",
+  "subtables":[[[5,[[[],22]]]]]},{"type":"ligature","subtables":[[[1,[[[4],23]]]]]}]}}
+# abvf 2 | 6; blwf 3 4; pref 4 1; pstf 4 2; rphf 1 4, 1 4 10.
+deva_2 {"cmap":[[2381,4]],"gsub":{"scripts":[["dev2",{"features":[0,1,2,3,4]},[]]],
+  "features":[["abvf",[0]],["blwf",[1]],["pref",[2]],["pstf",[3]],["rphf",[4]]],"lookups":[{"type":"chain",
+  "subtables":[{"format":"glyphs","rules":[[[2],[6],[],[]]]}]},{"type":"ligature",
+  "subtables":[[[3,[[[4],21]]]]]},{"type":"ligature","subtables":[[[4,[[[1],22]]]]]},{"type":"chain",
+  "subtables":[{"format":"glyphs","rules":[[[],[4,2],[],[]]]}]},{"type":"ligature",
+  "subtables":[[[1,[[[4],24],[[4,10],24]]]]]}]}}
+# abvf 6; blwf 4 3; init 5; pref 4 1; rphf 1 4.
+deva_3 {"cmap":[[2381,4]],"gsub":{"scripts":[["dev2",{"features":[0,1,2,3,4]},[]]],
+  "features":[["abvf",[0]],["blwf",[1]],["init",[2]],["pref",[3]],["rphf",[4]]],"lookups":[{"type":"ligature",
+  "subtables":[[[6,[[[],20]]]]]},{"type":"ligature","subtables":[[[4,[[[3],21]]]]]},{"type":"chain",
+  "subtables":[{"format":"glyphs","rules":[[[],[5],[],[]]]}]},{"type":"ligature",
+  "subtables":[[[4,[[[1],23]]]]]},{"type":"ligature","subtables":[[[1,[[[4],24]]]]]}]}}
+# abvf 6; blwf 4 2, 4 3; half 2 4; pref 4 1; pstf 3 4; rphf 1 4, 1 4 10; vatu 2 4.
+gujr_1 {"cmap":[[2765,4]],"gsub":{"scripts":[["gjr2",{"features":[0,1,2,3,4,5,6]},[]]],
+  "features":[["abvf",[0]],["blwf",[1]],["half",[2]],["pref",[3]],["pstf",[4]],["rphf",[5]],["vatu",[6]]],
+  "lookups":[{"type":"ligature","subtables":[[[6,[[[],20]]]]]},{"type":"ligature",
+  "subtables":[[[4,[[[2],21],[[3],21]]]]]},{"type":"ligature","subtables":[[[2,[[[4],22]]]]]},{"type":"ligature",
+  "subtables":[[[4,[[[1],23]]]]]},{"type":"chain","subtables":[{"format":"glyphs",
+  "rules":[[[],[3,4],[],[]]]}]},{"type":"ligature","subtables":[[[1,[[[4],25],[[4,10],25]]]]]},{"type":"ligature",
+  "subtables":[[[2,[[[4],26]]]]]}]}}
+# half 2 4; pref 4 1; pstf 4 2; rphf 1 4.
+gujr_2 {"cmap":[[2765,4]],"gsub":{"scripts":[["gjr2",{"features":[0,1,2,3]},[]]],
+  "features":[["half",[0]],["pref",[1]],["pstf",[2]],["rphf",[3]]],"lookups":[{"type":"ligature",
+  "subtables":[[[2,[[[4],20]]]]]},{"type":"ligature","subtables":[[[4,[[[1],21]]]]]},{"type":"ligature",
+  "subtables":[[[4,[[[2],22]]]]]},{"type":"ligature","subtables":[[[1,[[[4],23]]]]]}]}}
+# abvf 2 | 6; blwf 4 3; init 5; pref 4 1; rphf 1 4.
+gujr_3 {"cmap":[[2765,4]],"gsub":{"scripts":[["gjr2",{"features":[0,1,2,3,4]},[]]],
+  "features":[["abvf",[0]],["blwf",[1]],["init",[2]],["pref",[3]],["rphf",[4]]],"lookups":[{"type":"chain",
+  "subtables":[{"format":"glyphs","rules":[[[2],[6],[],[]]]}]},{"type":"ligature",
+  "subtables":[[[4,[[[3],21]]]]]},{"type":"chain","subtables":[{"format":"glyphs",
+  "rules":[[[],[5],[],[]]]}]},{"type":"ligature","subtables":[[[4,[[[1],23]]]]]},{"type":"ligature",
+  "subtables":[[[1,[[[4],24]]]]]}]}}
+# blwf 4 2; half 2 4; init 5; pref 4 1; vatu 2 4.
+guru_1 {"gsub":{"scripts":[["gur2",{"features":[0,1,2,3,4]},[]]],
+  "features":[["blwf",[0]],["half",[1]],["init",[2]],["pref",[3]],["vatu",[4]]],"lookups":[{"type":"ligature",
+  "subtables":[[[4,[[[2],20]]]]]},{"type":"ligature","subtables":[[[2,[[[4],21]]]]]},{"type":"chain",
+  "subtables":[{"format":"glyphs","rules":[[[],[5],[],[]]]}]},{"type":"ligature",
+  "subtables":[[[4,[[[1],23]]]]]},{"type":"ligature","subtables":[[[2,[[[4],24]]]]]}]}}
+# abvf 2 | 6; half 2 4; pstf 3 4; rphf 2 | 1 4; vatu 2 4.
+guru_2 {"cmap":[[2637,4]],"gsub":{"scripts":[["gur2",{"features":[0,1,2,3,4]},[]]],
+  "features":[["abvf",[0]],["half",[1]],["pstf",[2]],["rphf",[3]],["vatu",[4]]],"lookups":[{"type":"chain",
+  "subtables":[{"format":"glyphs","rules":[[[2],[6],[],[]]]}]},{"type":"ligature",
+  "subtables":[[[2,[[[4],21]]]]]},{"type":"ligature","subtables":[[[3,[[[4],22]]]]]},{"type":"chain",
+  "subtables":[{"format":"glyphs","rules":[[[2],[1,4],[],[]]]}]},{"type":"ligature","subtables":[[[2,[[[4],24]]]]]}]}}
+# abvf 6; blwf 4 2; pref 4 1; pstf 4 3; rphf 1 4; vatu 4 1.
+guru_3 {"cmap":[[2637,4]],"gsub":{"scripts":[["gur2",{"features":[0,1,2,3,4,5]},[]]],
+  "features":[["abvf",[0]],["blwf",[1]],["pref",[2]],["pstf",[3]],["rphf",[4]],["vatu",[5]]],
+  "lookups":[{"type":"ligature","subtables":[[[6,[[[],20]]]]]},{"type":"ligature",
+  "subtables":[[[4,[[[2],21]]]]]},{"type":"ligature","subtables":[[[4,[[[1],22]]]]]},{"type":"ligature",
+  "subtables":[[[4,[[[3],23]]]]]},{"type":"chain","subtables":[{"format":"glyphs",
+  "rules":[[[],[1,4],[],[]]]}]},{"type":"ligature","subtables":[[[4,[[[1],25]]]]]}]}}
+# abvf 6; blwf 4 2, 4 3; init 5; pref 4 3; pstf 4 2; rphf 1 4.
+knda_1 {"cmap":[[3277,4]],"gsub":{"scripts":[["knd2",{"features":[0,1,2,3,4,5]},[]]],
+  "features":[["abvf",[0]],["blwf",[1]],["init",[2]],["pref",[3]],["pstf",[4]],["rphf",[5]]],
+  "lookups":[{"type":"ligature","subtables":[[[6,[[[],20]]]]]},{"type":"ligature",
+  "subtables":[[[4,[[[2],21],[[3],21]]]]]},{"type":"ligature","subtables":[[[5,[[[],22]]]]]},{"type":"ligature",
+  "subtables":[[[4,[[[3],23]]]]]},{"type":"ligature","subtables":[[[4,[[[2],24]]]]]},{"type":"chain",
+  "subtables":[{"format":"glyphs","rules":[[[],[1,4],[],[]]]}]}]}}
+# blwf 4 3; init 5.
+knda_2 {"cmap":[[3277,4]],"gsub":{"scripts":[["knd2",{"features":[0,1]},[]]],"features":[["blwf",[0]],["init",[1]]],
+  "lookups":[{"type":"ligature","subtables":[[[4,[[[3],20]]]]]},{"type":"ligature","subtables":[[[5,[[[],21]]]]]}]}}
+# blwf 3 4; half 2 4; pref 4 1.
+knda_3 {"cmap":[[3277,4]],"gsub":{"scripts":[["knd2",{"features":[0,1,2]},[]]],
+  "features":[["blwf",[0]],["half",[1]],["pref",[2]]],"lookups":[{"type":"ligature",
+  "subtables":[[[3,[[[4],20]]]]]},{"type":"ligature","subtables":[[[2,[[[4],21]]]]]},{"type":"ligature",
+  "subtables":[[[4,[[[1],22]]]]]}]}}
+# abvf 6; blwf 4 2, 4 3; half 2 | 2 4; init 5; rphf 1 4; vatu 2 4.
+mlym_1 {"cmap":[[3405,4]],"gsub":{"scripts":[["mlm2",{"features":[0,1,2,3,4,5]},[]]],
+  "features":[["abvf",[0]],["blwf",[1]],["half",[2]],["init",[3]],["rphf",[4]],["vatu",[5]]],
+  "lookups":[{"type":"ligature","subtables":[[[6,[[[],20]]]]]},{"type":"ligature",
+  "subtables":[[[4,[[[2],21],[[3],21]]]]]},{"type":"chain","subtables":[{"format":"glyphs",
+  "rules":[[[2],[2,4],[],[]]]}]},{"type":"ligature","subtables":[[[5,[[[],23]]]]]},{"type":"ligature",
+  "subtables":[[[1,[[[4],24]]]]]},{"type":"ligature","subtables":[[[2,[[[4],25]]]]]}]}}
+# abvf 6; init 5; pstf 3 4; rphf 1 4, 1 4 10; vatu 2 4.
+mlym_2 {"cmap":[[3405,4]],"gsub":{"scripts":[["mlm2",{"features":[0,1,2,3,4]},[]]],
+  "features":[["abvf",[0]],["init",[1]],["pstf",[2]],["rphf",[3]],["vatu",[4]]],"lookups":[{"type":"ligature",
+  "subtables":[[[6,[[[],20]]]]]},{"type":"ligature","subtables":[[[5,[[[],21]]]]]},{"type":"ligature",
+  "subtables":[[[3,[[[4],22]]]]]},{"type":"ligature","subtables":[[[1,[[[4],23],[[4,10],23]]]]]},{"type":"ligature",
+  "subtables":[[[2,[[[4],24]]]]]}]}}
+# blwf 4 2, 4 3; half 2 4; init 5; pstf 3 4; rphf 1 4, 1 4 10; vatu 2 4.
+mlym_3 {"cmap":[[3405,4]],"gsub":{"scripts":[["mlm2",{"features":[0,1,2,3,4,5]},[]]],
+  "features":[["blwf",[0]],["half",[1]],["init",[2]],["pstf",[3]],["rphf",[4]],["vatu",[5]]],
+  "lookups":[{"type":"ligature","subtables":[[[4,[[[2],20],[[3],20]]]]]},{"type":"ligature",
+  "subtables":[[[2,[[[4],21]]]]]},{"type":"ligature","subtables":[[[5,[[[],22]]]]]},{"type":"ligature",
+  "subtables":[[[3,[[[4],23]]]]]},{"type":"ligature","subtables":[[[1,[[[4],24],[[4,10],24]]]]]},{"type":"ligature",
+  "subtables":[[[2,[[[4],25]]]]]}]}}
+# abvf 6; pstf 4 3; rphf 1 4, 1 4 10; vatu 4 1.
+orya_1 {"cmap":[[2893,4]],"gsub":{"scripts":[["ory2",{"features":[0,1,2,3]},[]]],
+  "features":[["abvf",[0]],["pstf",[1]],["rphf",[2]],["vatu",[3]]],"lookups":[{"type":"chain",
+  "subtables":[{"format":"glyphs","rules":[[[],[6],[],[]]]}]},{"type":"ligature",
+  "subtables":[[[4,[[[3],21]]]]]},{"type":"ligature","subtables":[[[1,[[[4],22],[[4,10],22]]]]]},{"type":"ligature",
+  "subtables":[[[4,[[[1],23]]]]]}]}}
+# half 2 4; pref 4 1; rphf 1 4, 1 4 10; vatu 2 | 2 4.
+orya_2 {"gsub":{"scripts":[["ory2",{"features":[0,1,2,3]},[]]],
+  "features":[["half",[0]],["pref",[1]],["rphf",[2]],["vatu",[3]]],"lookups":[{"type":"ligature",
+  "subtables":[[[2,[[[4],20]]]]]},{"type":"ligature","subtables":[[[4,[[[1],21]]]]]},{"type":"ligature",
+  "subtables":[[[1,[[[4],22],[[4,10],22]]]]]},{"type":"chain","subtables":[{"format":"glyphs",
+  "rules":[[[2],[2,4],[],[]]]}]}]}}
+# abvf 6; blwf 4 2, 4 3; init 5; rphf 1 4.
+orya_3 {"cmap":[[2893,4]],"gsub":{"scripts":[["ory2",{"features":[0,1,2,3]},[]]],
+  "features":[["abvf",[0]],["blwf",[1]],["init",[2]],["rphf",[3]]],"lookups":[{"type":"ligature",
+  "subtables":[[[6,[[[],20]]]]]},{"type":"ligature","subtables":[[[4,[[[2],21],[[3],21]]]]]},{"type":"ligature",
+  "subtables":[[[5,[[[],22]]]]]},{"type":"ligature","subtables":[[[1,[[[4],23]]]]]}]}}
+# abvf 6; blwf 4 2; pref 4 3; pstf 2 | 4 3; rphf 1 4; vatu 2 | 2 4.
+taml_1 {"cmap":[[3021,4]],"gsub":{"scripts":[["tml2",{"features":[0,1,2,3,4,5]},[]]],
+  "features":[["abvf",[0]],["blwf",[1]],["pref",[2]],["pstf",[3]],["rphf",[4]],["vatu",[5]]],
+  "lookups":[{"type":"ligature","subtables":[[[6,[[[],20]]]]]},{"type":"chain","subtables":[{"format":"glyphs",
+  "rules":[[[],[4,2],[],[]]]}]},{"type":"ligature","subtables":[[[4,[[[3],22]]]]]},{"type":"chain",
+  "subtables":[{"format":"glyphs","rules":[[[2],[4,3],[],[]]]}]},{"type":"chain","subtables":[{"format":"glyphs",
+  "rules":[[[],[1,4],[],[]]]}]},{"type":"chain","subtables":[{"format":"glyphs","rules":[[[2],[2,4],[],[]]]}]}]}}
+# abvf 6; blwf 4 2, 4 3; half 2 4; init 5; pref 4 3; rphf 1 4, 1 4 10.
+taml_2 {"cmap":[[3021,4]],"gsub":{"scripts":[["tml2",{"features":[0,1,2,3,4,5]},[]]],
+  "features":[["abvf",[0]],["blwf",[1]],["half",[2]],["init",[3]],["pref",[4]],["rphf",[5]]],
+  "lookups":[{"type":"ligature","subtables":[[[6,[[[],20]]]]]},{"type":"ligature",
+  "subtables":[[[4,[[[2],21],[[3],21]]]]]},{"type":"ligature","subtables":[[[2,[[[4],22]]]]]},{"type":"ligature",
+  "subtables":[[[5,[[[],23]]]]]},{"type":"ligature","subtables":[[[4,[[[3],24]]]]]},{"type":"ligature",
+  "subtables":[[[1,[[[4],25],[[4,10],25]]]]]}]}}
+# blwf 3 4; half 2 4; rphf 1 4; vatu 4 1.
+taml_3 {"cmap":[[3021,4]],"gsub":{"scripts":[["tml2",{"features":[0,1,2,3]},[]]],
+  "features":[["blwf",[0]],["half",[1]],["rphf",[2]],["vatu",[3]]],"lookups":[{"type":"ligature",
+  "subtables":[[[3,[[[4],20]]]]]},{"type":"ligature","subtables":[[[2,[[[4],21]]]]]},{"type":"ligature",
+  "subtables":[[[1,[[[4],22]]]]]},{"type":"ligature","subtables":[[[4,[[[1],23]]]]]}]}}
+# abvf 6; half 2 4; pstf 4 3; rphf 1 4; vatu 2 4.
+telu_1 {"cmap":[[3149,4]],"gsub":{"scripts":[["tel2",{"features":[0,1,2,3,4]},[]]],
+  "features":[["abvf",[0]],["half",[1]],["pstf",[2]],["rphf",[3]],["vatu",[4]]],"lookups":[{"type":"ligature",
+  "subtables":[[[6,[[[],20]]]]]},{"type":"ligature","subtables":[[[2,[[[4],21]]]]]},{"type":"ligature",
+  "subtables":[[[4,[[[3],22]]]]]},{"type":"ligature","subtables":[[[1,[[[4],23]]]]]},{"type":"ligature",
+  "subtables":[[[2,[[[4],24]]]]]}]}}
+# abvf 6; blwf 3 4; init 5; pstf 2 | 4 2; rphf 2 | 1 4; vatu 4 1.
+telu_2 {"cmap":[[3149,4]],"gsub":{"scripts":[["tel2",{"features":[0,1,2,3,4,5]},[]]],
+  "features":[["abvf",[0]],["blwf",[1]],["init",[2]],["pstf",[3]],["rphf",[4]],["vatu",[5]]],
+  "lookups":[{"type":"ligature","subtables":[[[6,[[[],20]]]]]},{"type":"ligature",
+  "subtables":[[[3,[[[4],21]]]]]},{"type":"ligature","subtables":[[[5,[[[],22]]]]]},{"type":"chain",
+  "subtables":[{"format":"glyphs","rules":[[[2],[4,2],[],[]]]}]},{"type":"chain","subtables":[{"format":"glyphs",
+  "rules":[[[2],[1,4],[],[]]]}]},{"type":"ligature","subtables":[[[4,[[[1],25]]]]]}]}}
+# blwf 4 2, 4 3; half 2 4; init 5; pstf 4 3; rphf 1 4; vatu 4 1.
+telu_3 {"cmap":[[3149,4]],"gsub":{"scripts":[["tel2",{"features":[0,1,2,3,4,5]},[]]],
+  "features":[["blwf",[0]],["half",[1]],["init",[2]],["pstf",[3]],["rphf",[4]],["vatu",[5]]],
+  "lookups":[{"type":"ligature","subtables":[[[4,[[[2],20],[[3],20]]]]]},{"type":"ligature",
+  "subtables":[[[2,[[[4],21]]]]]},{"type":"ligature","subtables":[[[5,[[[],22]]]]]},{"type":"ligature",
+  "subtables":[[[4,[[[3],23]]]]]},{"type":"ligature","subtables":[[[1,[[[4],24]]]]]},{"type":"ligature",
+  "subtables":[[[4,[[[1],25]]]]]}]}}
+# abvf 6; half 2 4; init 5; pref 4 3; pstf 4 2; rphf 1 4.
+beng_4 {"cmap":[[2509,4]],"gsub":{"scripts":[["bng2",{"features":[0,1,2,3,4,5]},[]]],
+  "features":[["abvf",[0]],["half",[1]],["init",[2]],["pref",[3]],["pstf",[4]],["rphf",[5]]],
+  "lookups":[{"type":"ligature","subtables":[[[6,[[[],20]]]]]},{"type":"ligature",
+  "subtables":[[[2,[[[4],21]]]]]},{"type":"ligature","subtables":[[[5,[[[],22]]]]]},{"type":"ligature",
+  "subtables":[[[4,[[[3],23]]]]]},{"type":"ligature","subtables":[[[4,[[[2],24]]]]]},{"type":"ligature",
+  "subtables":[[[1,[[[4],25]]]]]}]}}
+# blwf 4 2; half 2 4; init 5; pstf 3 4; rphf 1 4.
+deva_4 {"cmap":[[2381,4]],"gsub":{"scripts":[["dev2",{"features":[0,1,2,3,4]},[]]],
+  "features":[["blwf",[0]],["half",[1]],["init",[2]],["pstf",[3]],["rphf",[4]]],"lookups":[{"type":"ligature",
+  "subtables":[[[4,[[[2],20]]]]]},{"type":"ligature","subtables":[[[2,[[[4],21]]]]]},{"type":"ligature",
+  "subtables":[[[5,[[[],22]]]]]},{"type":"ligature","subtables":[[[3,[[[4],23]]]]]},{"type":"ligature",
+  "subtables":[[[1,[[[4],24]]]]]}]}}
+# init 5; pref 4 1; rphf 1 4.
+gujr_4 {"cmap":[[2765,4]],"gsub":{"scripts":[["gjr2",{"features":[0,1,2]},[]]],
+  "features":[["init",[0]],["pref",[1]],["rphf",[2]]],"lookups":[{"type":"ligature",
+  "subtables":[[[5,[[[],20]]]]]},{"type":"ligature","subtables":[[[4,[[[1],21]]]]]},{"type":"ligature",
+  "subtables":[[[1,[[[4],22]]]]]}]}}
+# abvf 6; blwf 4 2; half 2 4; pstf 4 3; rphf 1 4, 1 4 10; vatu 4 1.
+guru_4 {"cmap":[[2637,4]],"gsub":{"scripts":[["gur2",{"features":[0,1,2,3,4,5]},[]]],
+  "features":[["abvf",[0]],["blwf",[1]],["half",[2]],["pstf",[3]],["rphf",[4]],["vatu",[5]]],
+  "lookups":[{"type":"ligature","subtables":[[[6,[[[],20]]]]]},{"type":"ligature",
+  "subtables":[[[4,[[[2],21]]]]]},{"type":"ligature","subtables":[[[2,[[[4],22]]]]]},{"type":"ligature",
+  "subtables":[[[4,[[[3],23]]]]]},{"type":"ligature","subtables":[[[1,[[[4],24],[[4,10],24]]]]]},{"type":"ligature",
+  "subtables":[[[4,[[[1],25]]]]]}]}}
+# abvf 6; blwf 3 4; init 2 | 5; rphf 1 4.
+knda_4 {"cmap":[[3277,4]],"gsub":{"scripts":[["knd2",{"features":[0,1,2,3]},[]]],
+  "features":[["abvf",[0]],["blwf",[1]],["init",[2]],["rphf",[3]]],"lookups":[{"type":"ligature",
+  "subtables":[[[6,[[[],20]]]]]},{"type":"ligature","subtables":[[[3,[[[4],21]]]]]},{"type":"chain",
+  "subtables":[{"format":"glyphs","rules":[[[2],[5],[],[]]]}]},{"type":"ligature","subtables":[[[1,[[[4],23]]]]]}]}}
+# abvf 6; blwf 4 2; half 2 4; pstf 4 3; rphf 1 4; vatu 4 1.
+mlym_4 {"cmap":[[3405,4]],"gsub":{"scripts":[["mlm2",{"features":[0,1,2,3,4,5]},[]]],
+  "features":[["abvf",[0]],["blwf",[1]],["half",[2]],["pstf",[3]],["rphf",[4]],["vatu",[5]]],
+  "lookups":[{"type":"ligature","subtables":[[[6,[[[],20]]]]]},{"type":"chain","subtables":[{"format":"glyphs",
+  "rules":[[[],[4,2],[],[]]]}]},{"type":"ligature","subtables":[[[2,[[[4],22]]]]]},{"type":"ligature",
+  "subtables":[[[4,[[[3],23]]]]]},{"type":"ligature","subtables":[[[1,[[[4],24]]]]]},{"type":"ligature",
+  "subtables":[[[4,[[[1],25]]]]]}]}}
+# abvf 6; blwf 4 2, 4 3; init 5; pref 4 1; pstf 4 3; rphf 1 4, 1 4 10.
+orya_4 {"cmap":[[2893,4]],"gsub":{"scripts":[["ory2",{"features":[0,1,2,3,4,5]},[]]],
+  "features":[["abvf",[0]],["blwf",[1]],["init",[2]],["pref",[3]],["pstf",[4]],["rphf",[5]]],
+  "lookups":[{"type":"ligature","subtables":[[[6,[[[],20]]]]]},{"type":"ligature",
+  "subtables":[[[4,[[[2],21],[[3],21]]]]]},{"type":"ligature","subtables":[[[5,[[[],22]]]]]},{"type":"chain",
+  "subtables":[{"format":"glyphs","rules":[[[],[4,1],[],[]]]}]},{"type":"ligature",
+  "subtables":[[[4,[[[3],24]]]]]},{"type":"ligature","subtables":[[[1,[[[4],25],[[4,10],25]]]]]}]}}
+# blwf 4 2, 4 3; half 2 4; init 5; pref 4 3; pstf 4 3; rphf 1 4; vatu 2 4.
+taml_4 {"cmap":[[3021,4]],"gsub":{"scripts":[["tml2",{"features":[0,1,2,3,4,5,6]},[]]],
+  "features":[["blwf",[0]],["half",[1]],["init",[2]],["pref",[3]],["pstf",[4]],["rphf",[5]],["vatu",[6]]],
+  "lookups":[{"type":"ligature","subtables":[[[4,[[[2],20],[[3],20]]]]]},{"type":"ligature",
+  "subtables":[[[2,[[[4],21]]]]]},{"type":"ligature","subtables":[[[5,[[[],22]]]]]},{"type":"ligature",
+  "subtables":[[[4,[[[3],23]]]]]},{"type":"ligature","subtables":[[[4,[[[3],24]]]]]},{"type":"chain",
+  "subtables":[{"format":"glyphs","rules":[[[],[1,4],[],[]]]}]},{"type":"ligature","subtables":[[[2,[[[4],26]]]]]}]}}
+# abvf 6; blwf 4 2; half 2 4; init 5; pref 4 1; rphf 1 4; vatu 4 1.
+telu_4 {"cmap":[[3149,4]],"gsub":{"scripts":[["tel2",{"features":[0,1,2,3,4,5,6]},[]]],
+  "features":[["abvf",[0]],["blwf",[1]],["half",[2]],["init",[3]],["pref",[4]],["rphf",[5]],["vatu",[6]]],
+  "lookups":[{"type":"ligature","subtables":[[[6,[[[],20]]]]]},{"type":"ligature",
+  "subtables":[[[4,[[[2],21]]]]]},{"type":"ligature","subtables":[[[2,[[[4],22]]]]]},{"type":"ligature",
+  "subtables":[[[5,[[[],23]]]]]},{"type":"ligature","subtables":[[[4,[[[1],24]]]]]},{"type":"ligature",
+  "subtables":[[[1,[[[4],25]]]]]},{"type":"ligature","subtables":[[[4,[[[1],26]]]]]}]}}"#;
+
+// A name has the categories of the glyphs.
+pub(crate) static ROWS: &str = "
+# name; options, with the masks of features; font; glyphs; glyphs afterwards
+C; order=initial script=Beng level=1 rphf=200 pref=80 blwf=20 abvf=10 half=40 pstf=100; beng_1;
+  2@0 s=1.non c=C x=END m=80000000; 2@0 c=C x=BELOW_C m=80000000
+V H ZWJ CS H; order=initial script=Beng level=1 rphf=200 pref=80 blwf=20 abvf=10 half=40 pstf=100; beng_2;
+  13@0 s=1.consonant c=V x=BASE_C m=80000000, 4@2 s=1.consonant c=H x=END m=80000000,
+  10@3 s=1.consonant c=ZWJ x=END m=80000000, 13@4 s=1.consonant c=CS x=END m=80000000,
+  4@5 s=1.consonant c=H x=END m=80000000;
+  13@0 c=V x=PRE_C m=80000060, 4@2 c=H x=PRE_C m=80000060, 10@3 c=ZWJ x=PRE_C m=80000060,
+  13@4 c=CS x=BASE_C m=80000000, 4@5 c=H x=BASE_C m=80000130
+Repha M; order=initial script=Beng level=1 rphf=80 abvf=10 pstf=40 init=20; beng_3;
+  12@0 s=1.standalone c=Repha x=END m=80000000, 5@0 s=1.standalone c=M x=PRE_M m=80000000;
+  5@0 c=M x=PRE_M m=80000000, 12@0 c=Repha x=PRE_C m=80000000
+Repha C; order=initial script=Deva level=1 rphf=80 blwf=10 half=20 init=40; deva_1;
+  12@0 s=1.consonant c=Repha x=END m=80000000, 3@1 s=1.consonant c=C x=BASE_C m=80000000;
+  12@0 c=Repha x=PRE_C m=80000030, 3@1 c=C x=BASE_C m=80000000
+Ra H PLACEHOLDER; order=initial script=Deva level=1 rphf=100 pref=40 blwf=20 abvf=10 pstf=80; deva_2;
+  1@0 s=1.consonant c=Ra x=BASE_C m=80000000, 4@2 s=1.consonant c=H x=END m=80000000,
+  13@3 s=1.consonant c=PLACEHOLDER x=END m=80000000;
+  1@0 c=Ra x=RA_TO_BECOME_REPH m=80000120, 4@2 c=H x=RA_TO_BECOME_REPH m=80000120,
+  13@3 c=PLACEHOLDER x=BASE_C m=80000000
+C H ZWNJ V; order=initial script=Deva rphf=100 pref=80 blwf=20 abvf=10 init=40; deva_3;
+  3@0 s=1.consonant c=C x=BASE_C m=80000000, 4@3 s=1.consonant c=H x=END m=80000000,
+  11@5 s=1.consonant c=ZWNJ x=END m=80000000, 13@8 s=1.consonant c=V x=BASE_C m=80000000;
+  3@0 c=C x=PRE_C m=80000020, 4@3 c=H x=PRE_C m=80000020, 11@5 c=ZWNJ x=PRE_C m=80000020, 13@8 c=V x=BASE_C m=80000000
+C M MPst C; order=initial script=Gujr level=1 rphf=200 pref=80 blwf=20 abvf=10 half=40 pstf=100; gujr_1;
+  13@0 s=1.vowel c=C x=BASE_C m=80000000, 7@1 s=1.vowel c=M x=AFTER_SUB m=80000000,
+  7@4 s=1.vowel c=MPst x=BEFORE_SUB m=80000000, 2@6 s=2.consonant c=C x=BASE_C m=80000000;
+  13@0 c=C x=BASE_C m=80000000, 7@1 c=MPst x=BEFORE_SUB m=80000130, 7@1 c=M x=AFTER_SUB m=80000130,
+  2@6 c=C x=BASE_C m=80000000
+C CM; order=initial script=Gujr level=1 rphf=80 pref=20 half=10 pstf=40; gujr_2;
+  13@0 s=1.non c=C x=END m=80000000, 13@1 s=1.non c=CM x=END m=80000000;
+  13@0 c=C x=END m=80000000, 13@1 c=CM x=END m=80000000
+Ra H PLACEHOLDER M MPst; order=initial script=Gujr rphf=100 pref=80 blwf=20 abvf=10 init=40; gujr_3;
+  1@0 s=1.non c=Ra x=BASE_C m=80000000, 4@0 s=1.non c=H x=END m=80000000, 13@3 s=1.non c=PLACEHOLDER x=END m=80000000,
+  6@5 s=1.non c=M x=BELOW_C m=80000000, 7@6 s=1.non c=MPst x=BELOW_C m=80000000;
+  1@0 c=Ra x=POST_C m=80000000, 4@0 c=H x=END m=80000000, 13@3 c=PLACEHOLDER x=END m=80000000,
+  6@5 c=M x=BELOW_C m=80000000, 7@6 c=MPst x=BELOW_C m=80000000
+PLACEHOLDER CM; order=initial script=Guru level=1 pref=80 blwf=10 half=20 init=40; guru_1;
+  13@0 s=1.consonant c=PLACEHOLDER x=BASE_C m=80000000, 13@3 s=1.consonant c=CM x=END m=80000000;
+  13@0 c=PLACEHOLDER x=PRE_C m=80000030, 13@3 c=CM x=PRE_C m=80000030
+V N H PLACEHOLDER; order=initial script=Guru level=1 rphf=80 abvf=10 half=20 pstf=40; guru_2;
+  13@0 s=1.broken c=V x=END m=80000000, 9@1 s=1.broken c=N x=END m=80000000, 4@4 s=1.broken c=H x=END m=80000000,
+  13@5 s=1.broken c=PLACEHOLDER x=END m=80000000;
+  13@0 c=V x=PRE_C m=80000020, 9@1 c=N x=PRE_C m=80000020, 4@4 c=H x=PRE_C m=80000020,
+  13@5 c=PLACEHOLDER x=BASE_C m=80000000
+C H ZWJ Ra H CS M; order=initial script=Guru level=1 rphf=100 pref=40 blwf=20 abvf=10 pstf=80; guru_3;
+  3@0 s=1.standalone c=C x=END m=80000000, 4@3 s=1.standalone c=H x=END m=80000000,
+  10@4 s=1.standalone c=ZWJ x=END m=80000000, 1@4 s=1.standalone c=Ra x=BASE_C m=80000000,
+  4@7 s=1.standalone c=H x=END m=80000000, 13@8 s=1.standalone c=CS x=BASE_C m=80000000,
+  7@9 s=1.standalone c=M x=AFTER_SUB m=80000000;
+  3@0 c=C x=PRE_C m=80000020, 4@3 c=H x=PRE_C m=80000020, 10@4 c=ZWJ x=PRE_C m=80000020, 1@4 c=Ra x=PRE_C m=80000020,
+  4@7 c=H x=PRE_C m=80000020, 13@8 c=CS x=BASE_C m=80000000, 7@9 c=M x=AFTER_SUB m=800000B0
+Repha V H PLACEHOLDER M M; order=initial script=Knda rphf=200 pref=80 blwf=20 abvf=10 pstf=100 init=40; knda_1;
+  12@0 s=1.consonant c=Repha x=END m=80000000, 13@3 s=1.consonant c=V x=BASE_C m=80000000,
+  4@4 s=1.consonant c=H x=END m=80000000, 13@5 s=1.consonant c=PLACEHOLDER x=BASE_C m=80000000,
+  6@6 s=1.consonant c=M x=BEFORE_SUB m=80000000, 5@7 s=1.consonant c=M x=PRE_M m=80000000;
+  5@0 c=M x=PRE_M m=80000000, 12@0 c=Repha x=PRE_C m=80000000, 13@0 c=V x=PRE_C m=80000000,
+  4@0 c=H x=PRE_C m=80000000, 13@0 c=PLACEHOLDER x=BASE_C m=80000000, 6@0 c=M x=BEFORE_SUB m=80000130
+C; order=initial script=Knda level=1 blwf=10 init=20; knda_2; 2@0 s=1.consonant c=C x=BASE_C m=80000000;
+  2@0 c=C x=BASE_C m=80000000
+Ra H ZWJ; order=initial script=Knda pref=40 blwf=10 half=20; knda_3;
+  1@0 s=1.broken c=Ra x=BASE_C m=80000000, 4@2 s=1.broken c=H x=END m=80000000, 10@3 s=1.broken c=ZWJ x=END m=80000000;
+  1@0 c=Ra x=PRE_C m=80000020, 4@2 c=H x=PRE_C m=80000020, 10@3 c=ZWJ x=PRE_C m=80000020
+H; order=initial script=Mlym rphf=100 blwf=20 abvf=10 half=40 init=80; mlym_1; 4@0 s=1.vowel c=H x=END m=80000000;
+  4@0 c=H m=80000060
+Repha Ra; order=initial script=Mlym level=1 rphf=80 abvf=10 pstf=40 init=20; mlym_2;
+  12@0 s=1.standalone c=Repha x=END m=80000000, 1@1 s=1.standalone c=Ra x=BASE_C m=80000000;
+  12@0 c=Repha x=RA_TO_BECOME_REPH m=80000080, 1@1 c=Ra x=BASE_C m=80000000
+Repha Ra H C; order=initial script=Mlym level=1 rphf=100 blwf=10 half=20 pstf=80 init=40; mlym_3;
+  12@0 s=1.consonant c=Repha x=END m=80000000, 1@1 s=2.non c=Ra x=END m=80000000, 4@2 s=2.non c=H x=END m=80000000,
+  3@5 s=2.non c=C x=BASE_C m=80000000;
+  12@0 c=Repha x=BASE_C m=80000000, 1@1 c=Ra x=END m=80000000, 4@2 c=H x=END m=80000000, 3@5 c=C x=BELOW_C m=80000000
+PLACEHOLDER M; order=initial script=Orya rphf=40 abvf=10 pstf=20; orya_1;
+  13@0 s=1.consonant c=PLACEHOLDER x=END m=80000000, 5@1 s=1.consonant c=M x=PRE_M m=80000000;
+  5@0 c=M x=PRE_M m=80000000, 13@0 c=PLACEHOLDER x=BASE_C m=80000000
+C H M; order=initial script=Orya rphf=40 pref=20 half=10; orya_2;
+  13@0 s=1.vowel c=C x=BASE_C m=80000000, 4@3 s=1.vowel c=H x=END m=80000000, 5@4 s=1.vowel c=M x=PRE_M m=80000000;
+  5@0 c=M x=PRE_M m=80000010, 13@0 c=C x=BASE_C m=80000000, 4@0 c=H x=BASE_C m=80000000
+Repha C H M M A; order=initial script=Orya level=1 rphf=80 blwf=20 abvf=10 init=40; orya_3;
+  12@0 s=1.consonant c=Repha x=END m=80000000, 2@1 s=1.consonant c=C x=BASE_C m=80000000,
+  4@2 s=2.standalone c=H x=END m=80000000, 7@4 s=2.standalone c=M x=AFTER_POST m=80000000,
+  6@5 s=2.standalone c=M x=BELOW_C m=80000000, 8@6 s=2.standalone c=A x=SMVD m=80000000;
+  12@0 c=Repha x=PRE_C m=80000020, 2@1 c=C x=BASE_C m=80000000, 4@2 c=H m=80000020, 7@4 c=M x=PRE_C m=80000020,
+  6@5 c=M x=PRE_C m=80000020, 8@6 c=A x=PRE_C m=80000020
+C M A; order=initial script=Taml level=1 rphf=100 pref=40 blwf=20 abvf=10 pstf=80; taml_1;
+  13@0 s=1.vowel c=C x=BASE_C m=80000000, 5@3 s=1.vowel c=M x=PRE_M m=80000000, 8@5 s=1.vowel c=A x=SMVD m=80000000;
+  5@0 c=M x=PRE_M m=80000020, 13@0 c=C x=BASE_C m=80000000, 8@5 c=A x=SMVD m=800000B0
+V H C H C; order=initial script=Taml rphf=200 pref=100 blwf=20 abvf=10 half=40 init=80; taml_2;
+  13@0 s=1.symbol c=V x=BASE_C m=80000000, 4@1 s=1.symbol c=H x=END m=80000000, 13@2 s=1.symbol c=C x=END m=80000000,
+  4@3 s=1.symbol c=H x=END m=80000000, 2@5 s=1.symbol c=C x=BASE_C m=80000000;
+  13@0 c=V x=BASE_C m=80000000, 4@1 c=H x=END m=80000000, 13@2 c=C x=END m=80000000, 4@3 c=H x=END m=80000000,
+  2@5 c=C x=BELOW_C m=80000000
+Ra H M; order=initial script=Taml level=1 rphf=40 blwf=10 half=20; taml_3;
+  1@0 s=1.consonant c=Ra x=END m=80000000, 4@1 s=1.consonant c=H x=END m=80000000,
+  5@4 s=1.consonant c=M x=PRE_M m=80000000;
+  5@0 c=M x=PRE_M m=80000030, 1@0 c=Ra x=BASE_C m=80000000, 4@0 c=H x=BASE_C m=80000010
+C H; order=initial script=Telu level=1 rphf=80 abvf=10 half=20 pstf=40; telu_1;
+  3@0 s=1.broken c=C x=BASE_C m=80000000, 4@3 s=1.broken c=H x=END m=80000000;
+  3@0 c=C x=BASE_C m=80000000, 4@3 c=H x=BASE_C m=80000050
+Ra H ZWJ Ra MPst; order=initial script=Telu level=1 rphf=100 blwf=20 abvf=10 pstf=80 init=40; telu_2;
+  1@0 s=1.consonant c=Ra x=END m=80000000, 4@1 s=1.consonant c=H x=END m=80000000,
+  10@2 s=1.consonant c=ZWJ x=END m=80000000, 1@4 s=1.consonant c=Ra x=BASE_C m=80000000,
+  5@5 s=1.consonant c=MPst x=PRE_M m=80000000;
+  5@0 c=MPst x=PRE_M m=80000000, 1@0 c=Ra x=PRE_C m=80000000, 4@0 c=H x=PRE_C m=80000000,
+  10@0 c=ZWJ x=PRE_C m=80000000, 1@0 c=Ra x=BASE_C m=80000000
+C A M Ra H V SM; order=initial script=Telu rphf=100 blwf=10 half=20 pstf=80 init=40; telu_3;
+  13@0 s=1.vowel c=C x=BASE_C m=80000000, 8@2 s=1.vowel c=A x=SMVD m=80000000,
+  6@4 s=1.vowel c=M x=BEFORE_SUB m=80000000, 1@5 s=2.consonant c=Ra x=BASE_C m=80000000,
+  4@6 s=2.consonant c=H x=END m=80000000, 13@6 s=2.consonant c=V x=BASE_C m=80000000,
+  8@8 s=2.consonant c=SM x=SMVD m=80000000;
+  13@0 c=C x=BASE_C m=80000000, 6@2 c=M x=BEFORE_SUB m=80000090, 8@2 c=A x=SMVD m=80000090,
+  1@5 c=Ra x=PRE_C m=80000020, 4@6 c=H x=PRE_C m=80000020, 13@6 c=V x=BASE_C m=80000000, 8@8 c=SM x=SMVD m=80000090
+M CS H Ra; order=final script=Beng rphf=200 pref=80 abvf=10 half=20 pstf=100 init=40; beng_4;
+  5@0 s=1.vowel c=M x=PRE_M m=80000020 p=10 g=2, 13@0 s=1.vowel c=CS x=PRE_C m=80000020 p=7 g=2,
+  4@0 s=1.vowel c=H x=PRE_C m=80000020 p=12 g=2, 1@0 s=1.vowel c=Ra x=BASE_C m=80000000 p=7 g=2;
+  13@0 c=CS x=PRE_C m=80000020, 4@0 c=H x=PRE_C m=80000020, 5@0 c=M x=PRE_M m=80000020, 1@0 c=Ra x=BASE_C m=80000000
+M; order=final script=Deva level=1 rphf=100 blwf=10 half=20 pstf=80 init=40; deva_4;
+  5@0 s=1.consonant c=M x=PRE_M m=80000030 p=10 g=2; 5@0 c=M x=PRE_M m=80000070
+Ra H; order=final script=Gujr rphf=40 pref=20 init=10; gujr_4;
+  1@0 s=1.consonant c=Ra x=BASE_C m=80000000 p=7 g=2, 4@1 s=1.consonant c=H x=BASE_C m=80000000 p=12 g=2;
+  1@0 c=Ra x=BASE_C m=80000000, 4@1 c=H x=BASE_C m=80000000
+Ra PLACEHOLDER H Ra H; order=final script=Guru rphf=100 blwf=20 abvf=10 half=40 pstf=80; guru_4;
+  30@0 s=1.consonant c=Ra x=RA_TO_BECOME_REPH m=80000160 p=7 g=50,
+  13@6 s=1.consonant c=PLACEHOLDER x=BASE_C m=80000000 p=7 g=2, 4@8 s=1.consonant c=H x=BASE_C m=800000B0 p=12 g=2,
+  1@11 s=2.standalone c=Ra x=BASE_C m=80000000 p=7 g=2, 4@12 s=2.standalone c=H x=BASE_C m=800000B0 p=12 g=2;
+  13@0 c=PLACEHOLDER x=BASE_C m=80000000, 4@0 c=H x=BASE_C m=800000B0, 30@0 c=Ra x=RA_TO_BECOME_REPH m=80000160,
+  1@11 c=Ra x=BASE_C m=80000000, 4@12 c=H x=BASE_C m=800000B0
+MPst PLACEHOLDER; order=final script=Knda rphf=80 blwf=20 abvf=10 init=40; knda_4;
+  5@0 s=1.broken c=MPst x=PRE_M m=80000000 p=10 g=2, 13@0 s=1.broken c=PLACEHOLDER x=BASE_C m=80000000 p=7 g=2;
+  5@0 c=MPst x=PRE_M m=80000040, 13@0 c=PLACEHOLDER x=BASE_C m=80000000
+Repha Ra M; order=final script=Mlym rphf=100 blwf=20 abvf=10 half=40 pstf=80; mlym_4;
+  12@0 s=1.consonant c=Repha x=RA_TO_BECOME_REPH m=80000160 p=7 g=2,
+  1@1 s=1.consonant c=Ra x=BASE_C m=80000000 p=7 g=2, 6@2 s=1.consonant c=M x=BEFORE_POST m=800000B0 p=10 g=2;
+  1@0 c=Ra x=BASE_C m=80000000, 12@0 c=Repha x=RA_TO_BECOME_REPH m=80000160, 6@2 c=M x=BEFORE_POST m=800000B0
+Ra C M; order=final script=Orya level=1 rphf=200 pref=80 blwf=20 abvf=10 pstf=100 init=40; orya_4;
+  30@0 s=1.standalone c=Ra x=RA_TO_BECOME_REPH m=80000220 p=7 g=50,
+  2@2 s=1.standalone c=C x=BASE_C m=80000000 p=7 g=2, 6@2 s=1.standalone c=M x=AFTER_MAIN m=80000130 p=10 g=2;
+  2@0 c=C x=BASE_C m=80000000, 6@0 c=M x=AFTER_MAIN m=80000130, 30@0 c=Ra x=RA_TO_BECOME_REPH m=80000220
+Ra PLACEHOLDER H Ra H C; order=final script=Taml level=1 rphf=200 pref=80 blwf=10 half=20 pstf=100 init=40; taml_4;
+  30@0 s=1.vowel c=Ra x=RA_TO_BECOME_REPH m=80000230 p=7 g=50,
+  13@2 s=1.vowel c=PLACEHOLDER x=PRE_C m=80000030 p=7 g=2, 4@2 s=1.vowel c=H x=PRE_C m=80000030 p=12 g=2,
+  1@3 s=1.vowel c=Ra x=PRE_C m=80000030 p=7 g=2, 4@4 s=1.vowel c=H x=PRE_C m=80000030 p=12 g=2,
+  13@7 s=1.vowel c=C x=BASE_C m=80000000 p=7 g=2;
+  13@0 c=PLACEHOLDER x=PRE_C m=80000030, 4@0 c=H x=PRE_C m=80000030, 1@0 c=Ra x=PRE_C m=80000030,
+  4@0 c=H x=PRE_C m=80000030, 13@0 c=C x=BASE_C m=80000000, 30@0 c=Ra x=RA_TO_BECOME_REPH m=80000230
+M Repha PLACEHOLDER M; order=final script=Telu rphf=200 pref=100 blwf=20 abvf=10 half=40 init=80; telu_4;
+  5@0 s=1.consonant c=M x=PRE_M m=80000040 p=10 g=2, 12@0 s=1.consonant c=Repha x=PRE_C m=80000040 p=7 g=2,
+  13@0 s=1.consonant c=PLACEHOLDER x=BASE_C m=80000000 p=7 g=2, 7@4 s=1.consonant c=M x=AFTER_SUB m=80000030 p=12 g=2;
+  5@0 c=M x=PRE_M m=800000C0, 12@0 c=Repha x=PRE_C m=80000040, 13@0 c=PLACEHOLDER x=BASE_C m=80000000,
+  7@4 c=M x=AFTER_SUB m=80000030";

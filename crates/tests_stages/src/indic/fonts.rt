@@ -2,8 +2,9 @@
 ghost use Rattle.std.specs.Prelude.{OnOk};
 ghost use Rattle.buffer_stages.specs.Ready.{IsReady};
 
-use crate::indic::font_rows::ROWS;
-use crate::indic::text::{buffer, field, has, lists, numbers};
+use crate::buffers::{buffer_of, has_glyphs};
+use crate::indic::font_rows::{FONTS, ROWS};
+use crate::rows::{hexadecimal, is_row, named, part, rows_of, value};
 use buffer_common::script::{KANNADA, Script, TELUGU};
 use buffer_common::script_tags::script_tags;
 use buffer_core::buffer::hb_buffer_t;
@@ -12,6 +13,7 @@ use buffer_stages::glyphs::are_glyphs;
 use layout_face::Face;
 use layout_map::builder::hb_ot_map_builder_t;
 use layout_map::map::hb_ot_map_t;
+use script_categories::hb_ot_script_shaper_t::INDIC_SHAPER;
 use script_indic::config::indic_config;
 use script_indic::masks::indic_masks;
 use script_indic::reordering::{final_reordering, initial_reordering};
@@ -58,20 +60,18 @@ fn forms_before_base(script: Script) -> bool {
     script != TELUGU && script != KANNADA
 }
 
-/// The masks of rphf, pref, blwf, abvf, half, pstf and init in a row, as the shaper reads them.
-fn wanted_masks(wanted: &[u32], script: Script) -> Option<IndicMasks> {
-    let [rphf, pref, blwf, abvf, half, pstf, init] = wanted else {
-        return None;
-    };
-    let before = if forms_before_base(script) { *blwf } else { 0 };
-    Some(IndicMasks {
-        rphf: *rphf,
-        before_base: *half | before,
-        after_base: *blwf | *abvf | *pstf,
-        half: *half,
-        pref: *pref,
-        init: *init,
-    })
+/// The masks of a row's features, as the shaper reads them.
+fn wanted_masks(words: &str, script: Script) -> IndicMasks {
+    let below = hexadecimal(words, "blwf");
+    let before = if forms_before_base(script) { below } else { 0 };
+    IndicMasks {
+        rphf: hexadecimal(words, "rphf"),
+        before_base: hexadecimal(words, "half") | before,
+        after_base: below | hexadecimal(words, "abvf") | hexadecimal(words, "pstf"),
+        half: hexadecimal(words, "half"),
+        pref: hexadecimal(words, "pref"),
+        init: hexadecimal(words, "init"),
+    }
 }
 
 fn six(masks: &IndicMasks) -> [u32; 6] {
@@ -86,12 +86,9 @@ fn six(masks: &IndicMasks) -> [u32; 6] {
 }
 
 /// Whether a map has the masks of a row.
-fn has_masks(map: &hb_ot_map_t, script: Script, wanted: &[u32]) -> bool {
+fn has_masks(map: &hb_ot_map_t, script: Script, words: &str) -> bool {
     let found = indic_masks(map, indic_config(Some(script)).blwf_mode);
-    match wanted_masks(wanted, script) {
-        Some(wanted) => six(&found) == six(&wanted),
-        None => false,
-    }
+    six(&found) == six(&wanted_masks(words, script))
 }
 
 /// Whether a row's glyphs are in their order afterwards, and no glyph was inserted.
@@ -100,31 +97,32 @@ fn orders(
     map: &hb_ot_map_t,
     script: Script,
     face: &Face,
-    line: &str,
+    row: &str,
 ) -> Result<bool, Fail> {
-    let given = lists(alloc, field(line, 5))?;
-    let wanted = lists(alloc, field(line, 6))?;
-    let mut buffer = buffer(alloc, field(line, 2), &given)?;
-    let inserted = order(alloc, field(line, 0), map, script, face, &mut buffer)?;
-    Ok(!inserted && has(&buffer, &wanted))
+    let words = part(row, 1);
+    let mut buffer = buffer_of(alloc, INDIC_SHAPER, words, part(row, 3))?;
+    let inserted = order(alloc, value(words, "order"), map, script, face, &mut buffer)?;
+    Ok(!inserted && has_glyphs(INDIC_SHAPER, "n@mfcx", part(row, 4), &buffer))
 }
 
-fn check_in_font(alloc: Global, face: &Face, line: &str) -> Result<bool, Fail> {
-    let script = field(line, 1).parse::<Script>()?;
-    let masks = numbers(alloc, field(line, 4))?;
+fn agrees_in_font(alloc: Global, face: &Face, row: &str) -> Result<bool, Fail> {
+    let script = value(part(row, 1), "script").parse::<Script>()?;
     let map = map_of(alloc, face, script)?;
-    Ok(has_masks(&map, script, &masks) && orders(alloc, &map, script, face, line)?)
+    Ok(has_masks(&map, script, part(row, 1)) && orders(alloc, &map, script, face, row)?)
 }
 
-fn check(alloc: Global, line: &str) -> Result<bool, Fail> {
-    let face = read_face_text(alloc, field(line, 3))?;
-    check_in_font(alloc, &face, line)
+fn agrees(alloc: Global, fonts: &str, row: &str) -> Result<bool, Fail> {
+    let face = read_face_text(alloc, named(fonts, part(row, 2))?)?;
+    agrees_in_font(alloc, &face, row)
 }
 
 #[test]
 fn orders_syllables_by_fonts(rt: HostRuntime) -> Result<(), Fail> {
-    for line in ROWS.lines() {
-        assert!(rt; check(rt.alloc(), line)?, "{line}");
+    let fonts = rows_of(rt.alloc(), FONTS)?;
+    let rows = rows_of(rt.alloc(), ROWS)?;
+    for row in rows.lines() {
+        let agrees = !is_row(row) || agrees(rt.alloc(), &fonts, row)?;
+        assert!(rt; agrees, "{row}");
     }
     Ok(())
 }

@@ -59,7 +59,12 @@ pub struct NoForms;
 impl IndicForms for NoForms {
     ghost use Rattle.std.specs.Prelude.{false};
 
-    ghost forms_of = { λ f. record { reph = λ ns. false; pref = λ ns. false; below = λ ns. false; post = λ ns. false } };
+    ghost forms_of = { λ f. record {
+      reph = λ ns. false;
+      pref = λ ns. false;
+      below = λ ns. false;
+      post = λ ns. false;
+    } };
 
     fn forms_reph(&self, _ra: u32, _halant: u32) -> bool {
         false

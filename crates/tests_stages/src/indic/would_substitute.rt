@@ -11,8 +11,10 @@ use std::process::Abort;
 use std::test::Fail;
 
 // The feature half forms 2 4, rphf 1 4 and 1 4 10; blwf forms 4 3, after a glyph 7 alone.
-static FONT: &str =
-    r#"{"gsub":{"scripts":[["dev2",{"features":[0,1,2]},[]]],"features":[["blwf",[2]],["half",[0]],["rphf",[1]]],"lookups":[{"type":"ligature","subtables":[[[2,[[[4],20]]]]]},{"type":"ligature","subtables":[[[1,[[[4],21],[[4,10],21]]]]]},{"type":"chain","subtables":[{"format":"glyphs","rules":[[[7],[4,3],[],[]]]}]}]}}"#;
+static FONT: &str = r#"{"gsub":{"scripts":[["dev2",{"features":[0,1,2]},[]]],
+  "features":[["blwf",[2]],["half",[0]],["rphf",[1]]],"lookups":[{"type":"ligature",
+  "subtables":[[[2,[[[4],20]]]]]},{"type":"ligature","subtables":[[[1,[[[4],21],[[4,10],21]]]]]},{"type":"chain",
+  "subtables":[{"format":"glyphs","rules":[[[7],[4,3],[],[]]]}]}]}}"#;
 
 /// A feature, whether only rules without context count, glyphs, and whether they would form.
 type Case = (&'static [u8; 4], bool, &'static [u16], bool);

@@ -1,5 +1,6 @@
-//! The first round writes over the characters that it read, while its output has no more glyphs than were read: then it
-//! takes no memory. `tools/short_memory tests_stages normalizing::in_place` runs it with each allocation refused in turn.
+//! The first round writes over the characters that it read, while its output has no more glyphs than were read: then
+//! it takes no memory. `tools/short_memory tests_stages normalizing::in_place` runs it with each allocation refused
+//! in turn.
 use super::rows::RowNormalizer;
 use super::texts::{buffer_of, normalized};
 use buffer_glyphs::cause::ShapeCause;

@@ -1,128 +1,75 @@
 //! Worked rows of normalizing.
 use super::rows::RowNormalizer;
 use super::texts::normalized;
-use buffer_glyphs::info::hb_glyph_info_t;
-use buffer_glyphs::level::BufferClusterLevel;
+use crate::buffers::has_glyphs;
+use crate::rows::{is_row, level_of, part, rows_of, value};
 use buffer_properties::NormalizationMode;
-use buffer_unicode_tables::UnicodeTables;
+use buffer_unicode_tables::{UnicodeRows, UnicodeTables};
+use script_categories::hb_ot_script_shaper_t::INDIC_SHAPER;
 use shape_normalize::normalizing::Normalizing;
-use shell_readers::tables::tables_in;
 use std::alloc::Global;
 use std::test::Fail;
 
-// A cluster level, tables, the glyphs of characters, a text with its clusters; of the normalized list characters, glyphs,
-// clusters, properties and classes, where a hyphen is for a column that isn't compared; the shaper's preference, its
-// decompositions and compositions, the font's variants, its invisible glyph, and the glyph of what is unjoined. Among the
-// texts are runs of 32 marks, which is sorted, and of 33, which is unchanged; marks of one class, after which no other one
-// is composed with the letter; grapheme joiners, which keep two marks apart or do not; and selectors that nothing combines
-// with.
-static ROWS: &str =
-    r#"0;{"classes":[[769,230],[803,220]]};769,1 803,2;769,1 803,0;803 769;2 1;0 0;-;-;ComposedDiacritics;;;;;
-1;{"classes":[[770,230],[837,240]]};97,1 226,2 770,3 837,4;226,0 837,3;226 837;2 4;0 3;-;-;Auto;226,97,770;97,770,226;;;
-0;{"classes":[[770,230],[803,220]]};97,1 226,2 770,3 803,4;226,0 803,0;226 803;2 4;0 0;-;-;Auto;226,97,770;97,770,226;;;
-1;{};4520,1;4520,0 769,2 65024,3;4520 769;1 42;0 2;-;-;None;;;769,65024,42;;
-1;{"classes":[[769,230],[837,240]]};769,1 837,2 4520,3;4520,0 837,1 769,2;4520 769 837;3 1 2;0 1 1;-;-;None;;;;;
-1;{"classes":[[769,230],[776,230],[803,220],[836,230]]};97,1 225,2 769,3 776,4 803,5 836,6;225,0 836,3 803,3;225 803 776 769;2 5 4 3;0 0 0 0;-;-;ComposedDiacriticsNoShortCircuit;225,97,769 836,776,769;97,769,225;;;
-0;{"classes":[[770,230],[776,230]]};97,1 115,2 226,3 474,4 770,5 776,6;115,0 776,0 474,2 226,2;115 776 474 226;2 6 4 3;0 0 2 2;-;-;ComposedDiacriticsNoShortCircuit;226,97,770;97,770,226;;;
-1;{};769,1 65025,2;769,0 65024,1 769,2 65024,2 65025,3;769 769 65025;42 42 2;0 2 3;-;-;ComposedDiacritics;;;769,65024,42;;
-0;{"classes":[[769,230],[775,230],[803,220]]};115,1 775,2 7779,3 7785,4 65024,5;7785,0 65025,0 769,0;7785 769;47 0;0 0;-;-;ComposedDiacriticsNoShortCircuit;7779,115,803 7785,7779,775;115,803,7779 7779,775,7785;7785,65025,47;;77
-0;{"classes":[[769,7],[770,1],[771,7],[772,22],[773,7],[775,7]]};;97,0 769,0 770,2 771,3 772,3 773,4 103,6 775,9;97 770 769 771 773 772 103 775;0 0 0 0 0 0 0 0;0 0 0 3 3 3 6 9;-;-;Decomposed;;;;;
-0;{"classes":[[769,9],[770,7],[771,232],[772,9],[774,7]]};;97,0 769,2 770,2 771,5 772,8 102,10 774,11 104,12;97 770 769 772 771 102 774 104;0 0 0 0 0 0 0 0;0 2 2 5 5 10 11 12;-;-;Decomposed;;;;;
-0;{"classes":[[768,232],[769,7]]};;768,0 769,2 99,3;769 768 99;0 0 0;0 0 3;-;-;Decomposed;;;;;
-0;{"classes":[[769,230],[803,220]]};97,1 225,4 769,2 803,3 7841,5;97,0 769,1 803,2;97 803 769;1 3 2;-;-;-;Decomposed;225,97,769 7841,97,803;97,769,225 97,803,7841;;;
-0;{"classes":[[769,230],[803,220]]};97,1 225,4 769,2 803,3 7841,5;225,0 803,1;97 803 769;1 3 2;-;-;-;Decomposed;225,97,769 7841,97,803;97,769,225 97,803,7841;;;
-0;{"classes":[[769,230],[803,220]]};97,1 225,4 769,2 803,3 7841,5;7841,0 769,1;97 803 769;1 3 2;-;-;-;Decomposed;225,97,769 7841,97,803;97,769,225 97,803,7841;;;
-0;{"classes":[[769,230]]};97,1 225,4 769,2;225,0;97 769;1 2;-;-;-;Decomposed;225,97,769;97,769,225;;;
-0;{"classes":[[769,230]]};97,1 225,8;97,0 769,1;225;8;-;-;-;Auto;225,97,769;97,769,225;;;
-0;{"classes":[[769,230]]};97,1 225,8;225,0;225;8;-;-;-;Auto;225,97,769;97,769,225;;;
-0;{"classes":[[769,230]]};97,1 769,9;225,0;97 769;1 9;-;-;-;Auto;225,97,769;97,769,225;;;
-0;{"classes":[[769,230]]};97,1 769,9;97,0 769,1;97 769;1 9;-;-;-;Auto;225,97,769;97,769,225;;;
-0;{"classes":[[768,230],[769,230]]};97,1 225,4 768,2 769,3;97,0 768,1 769,2;97 768 769;1 2 3;-;-;-;ComposedDiacritics;225,97,769;97,769,225;;;
-0;{"classes":[[768,230],[769,230]]};97,1 225,4 768,2 769,3;97,0 769,1 768,2;225 768;4 2;-;-;-;ComposedDiacritics;225,97,769;97,769,225;;;
-0;{"classes":[[769,230],[803,220]]};97,1 225,4 769,3;97,0 803,1 769,2;225 803;4 0;-;-;-;ComposedDiacritics;225,97,769 7841,97,803;97,769,225 97,803,7841;;;
-0;{};4133,1 4142,2 4150,3;4134,0 4150,1;4133 4142 4150;1 2 3;-;-;-;ComposedDiacriticsNoShortCircuit;4134,4133,4142;;;;
-0;{};4133,1 4142,2 4150,3;4133,0 4142,1 4150,2;4133 4142 4150;1 2 3;-;-;-;ComposedDiacriticsNoShortCircuit;;;;;
-0;{};32,5 8208,6;8195,0 8209,1 98,2;8195 8209 98;5 6 0;-;-;-;Auto;;;;;
-0;{};6917,1 6965,2 6966,3;6918,0 6966,1;6917 6965 6966;1 2 3;-;-;-;ComposedDiacriticsNoShortCircuit;6918,6917,6965;6917,6965,6918;;;
-0;{};6917,1 6965,2 6966,3;6917,0 6965,1 6966,2;6917 6965 6966;1 2 3;-;-;-;ComposedDiacriticsNoShortCircuit;6918,6917,6965;6917,6965,6918;;;
-0;{"classes":[[6964,7],[6980,9]]};6917,1 6964,4 6980,5;6917,0 6964,1 6980,2;6917 6964 6980;1 4 5;-;-;-;ComposedDiacriticsNoShortCircuit;;;;;
-0;{"classes":[[6964,7],[6980,9]]};6917,1 6964,4 6980,5;6917,0 6980,1 6964,2;6917 6964 6980;1 4 5;-;-;-;ComposedDiacriticsNoShortCircuit;;;;;
-0;{};6078,2 6081,3;6078,0;6081 6078;3 2;-;-;-;ComposedDiacriticsNoShortCircuit;6078,6081,6078;;;;
-0;{};97,1;97,0 65024,1;97;11;-;-;-;Decomposed;;;97,65024,11;;12
-0;{};97,1 65025,3;97,0 65024,1 65025,2;97 65025;11 3;-;-;-;Decomposed;;;97,65024,11;;12
-0;{"classes":[[769,230]]};97,1 769,2 65025,3;225,0 65025,1;225 65025;0 3;-;-;-;Decomposed;225,97,769;97,769,225;97,65024,11;;12
-0;{};;8195,0 8209,1;8195 8209;7 0;-;-;-;None;;;;7;
-0;{};;;;;-;-;-;None;;;;;
-0;{"classes":[[769,230]]};97,1 225,3 769,2;225,0;225;3;-;-;-;None;225,97,769;97,769,225;;;
-0;{"classes":[[769,230]]};97,1 225,3 769,2;97,0 769,1;97 769;1 2;-;-;-;None;225,97,769;97,769,225;;;
-0;{"classes":[[769,230]]};97,1 225,3 769,2;225,0;97 769;1 2;-;-;-;Decomposed;225,97,769;97,769,225;;;
-0;{"classes":[[769,230]]};97,1 225,3 769,2;97,0 769,1;97 769;1 2;-;-;-;Decomposed;225,97,769;97,769,225;;;
-0;{"classes":[[769,230]]};97,1 225,3 769,2;225,0;225;3;-;-;-;ComposedDiacritics;225,97,769;97,769,225;;;
-0;{"classes":[[769,230]]};97,1 225,3 769,2;97,0 769,1;225;3;-;-;-;ComposedDiacritics;225,97,769;97,769,225;;;
-0;{"classes":[[769,230]]};97,1 225,3 769,2;225,0;97 769;1 2;-;-;-;ComposedDiacriticsNoShortCircuit;225,97,769;97,769,225;;;
-0;{"classes":[[769,230]]};97,1 225,3 769,2;97,0 769,1;225;3;-;-;-;ComposedDiacriticsNoShortCircuit;225,97,769;97,769,225;;;
-0;{"classes":[[769,230]]};97,1 225,3 769,2;225,0;225;3;-;-;-;Auto;225,97,769;97,769,225;;;
-0;{"classes":[[769,230]]};97,1 225,3 769,2;97,0 769,1;225;3;-;-;-;Auto;225,97,769;97,769,225;;;
-0;{"classes":[[768,230],[769,230],[803,220]]};;97,0 769,1 768,2 768,2 768,2 768,2 768,2 768,2 768,2 768,2 768,2 768,2 768,2 768,2 768,2 768,2 768,2 768,2 768,2 768,2 768,2 768,2 768,2 768,2 768,2 768,2 768,2 768,2 768,2 768,2 768,2 768,2 803,3;97 803 769 768 768 768 768 768 768 768 768 768 768 768 768 768 768 768 768 768 768 768 768 768 768 768 768 768 768 768 768 768 768;-;-;-;-;Decomposed;;;;;
-0;{"classes":[[768,230],[769,230],[803,220]]};;97,0 769,1 768,2 768,2 768,2 768,2 768,2 768,2 768,2 768,2 768,2 768,2 768,2 768,2 768,2 768,2 768,2 768,2 768,2 768,2 768,2 768,2 768,2 768,2 768,2 768,2 768,2 768,2 768,2 768,2 768,2 768,2 768,2 803,3;97 769 768 768 768 768 768 768 768 768 768 768 768 768 768 768 768 768 768 768 768 768 768 768 768 768 768 768 768 768 768 768 768 803;-;-;-;-;Decomposed;;;;;
-0;{"classes":[[768,230],[769,230],[803,220]]};;97,0 769,1 847,2 803,3;97 769 847 803;-;-;5 12 108 12;-;Decomposed;;;;;
-0;{"classes":[[768,230],[769,230],[803,220]]};;97,0 803,1 847,2 769,3;97 803 847 769;-;-;5 12 44 12;-;Decomposed;;;;;
-0;{};97,1 769,2 65025,3;97,0 65025,1 65024,2;97 65025 65024;-;-;5 1025 44;-;Decomposed;;;97,65024,11;;12
-0;{};32,5 8208,6;8195,0;-;5;-;-;1;Auto;;;;;"#;
-
-/// How many columns of the normalized list a row has, and the index of the first.
-const COLUMNS: usize = 5;
-
-const FIRST_COLUMN: usize = 4;
-
-/// A field of a row.
-pub(super) fn field(row: &str, at: usize) -> Result<&str, Fail> {
-    Ok(row.split(';').nth(at).ok_or("no field")?)
+/// A character by its hexadecimal number.
+fn character(digits: &str) -> Result<char, Fail> {
+    let number = u32::from_str_radix(digits.trim(), 16)?;
+    Ok(char::from_u32(number).ok_or("no character")?)
 }
 
-fn number(list: &str, at: usize) -> Result<u32, Fail> {
-    let word = list.split(',').nth(at).ok_or("no number")?;
-    Ok(word.parse::<u32>()?)
-}
-
-fn character(list: &str, at: usize) -> Result<char, Fail> {
-    Ok(char::from_u32(number(list, at)?).ok_or("no character")?)
-}
-
-/// A number, where the field has one.
+/// The number of an option, where there is one.
 fn option(text: &str) -> Result<Option<u32>, Fail> {
     if text.is_empty() {
         return Ok(None);
     }
-    Ok(Some(number(text, 0)?))
+    Ok(Some(text.parse::<u32>()?))
 }
 
-/// Characters with a number each.
-pub(super) fn numbered(alloc: Global, text: &str) -> Result<Vec<(char, u32)>, Fail> {
+/// Characters with a number each, after the sign between.
+pub(super) fn numbered(alloc: Global, text: &str, sign: char) -> Result<Vec<(char, u32)>, Fail> {
     let mut rows = Vec::new(alloc);
-    for list in text.split_whitespace() {
-        rows.push((character(list, 0)?, number(list, 1)?))?;
+    for row in text.split_terminator(',') {
+        let (digits, number) = row.trim().split_once(sign).ok_or("no number")?;
+        let digits = digits.strip_prefix("U+").unwrap_or(digits);
+        rows.push((character(digits)?, number.parse::<u32>()?))?;
     }
     Ok(rows)
+}
+
+/// Two characters with a plus sign between.
+fn pair(text: &str) -> Result<(char, char), Fail> {
+    let (first, second) = text.split_once('+').ok_or("no pair")?;
+    Ok((character(first)?, character(second)?))
 }
 
 /// Pairs of characters with a number each.
 fn numbered_pairs(alloc: Global, text: &str) -> Result<Vec<(char, char, u32)>, Fail> {
     let mut rows = Vec::new(alloc);
-    for list in text.split_whitespace() {
-        rows.push((character(list, 0)?, character(list, 1)?, number(list, 2)?))?;
+    for row in text.split_terminator(',') {
+        let (characters, number) = row.split_once('=').ok_or("no number")?;
+        let (first, second) = pair(characters)?;
+        rows.push((first, second, number.parse::<u32>()?))?;
     }
     Ok(rows)
 }
 
-fn characters(alloc: Global, text: &str) -> Result<Vec<(char, char, char)>, Fail> {
+/// Characters with their decompositions.
+fn splits(alloc: Global, text: &str) -> Result<Vec<(char, char, char)>, Fail> {
     let mut rows = Vec::new(alloc);
-    for list in text.split_whitespace() {
-        rows.push((
-            character(list, 0)?,
-            character(list, 1)?,
-            character(list, 2)?,
-        ))?;
+    for row in text.split_terminator(',') {
+        let (whole, halves) = row.split_once('=').ok_or("no halves")?;
+        let (first, second) = pair(halves)?;
+        rows.push((character(whole)?, first, second))?;
+    }
+    Ok(rows)
+}
+
+/// Pairs of characters with their compositions.
+fn compositions(alloc: Global, text: &str) -> Result<Vec<(char, char, char)>, Fail> {
+    let mut rows = Vec::new(alloc);
+    for row in text.split_terminator(',') {
+        let (halves, whole) = row.split_once('=').ok_or("no composition")?;
+        let (first, second) = pair(halves)?;
+        rows.push((first, second, character(whole)?))?;
     }
     Ok(rows)
 }
@@ -140,14 +87,6 @@ fn mode_of(name: &str) -> Result<NormalizationMode, Fail> {
     }
 }
 
-fn level_of(text: &str) -> Result<BufferClusterLevel, Fail> {
-    match text {
-        "0" => Ok(BufferClusterLevel::MonotoneGraphemes),
-        "1" => Ok(BufferClusterLevel::MonotoneCharacters),
-        _ => Err("no level".into()),
-    }
-}
-
 /// What the font and the shaper of a row have.
 #[derive(Drop)]
 struct RowFont {
@@ -159,97 +98,201 @@ struct RowFont {
 
 fn read_font(alloc: Global, row: &str) -> Result<RowFont, Fail> {
     Ok(RowFont {
-        glyphs: numbered(alloc, field(row, 2)?)?,
-        variants: numbered_pairs(alloc, field(row, 12)?)?,
-        splits: characters(alloc, field(row, 10)?)?,
-        pairs: characters(alloc, field(row, 11)?)?,
+        glyphs: numbered(alloc, part(row, 3), '=')?,
+        splits: splits(alloc, part(row, 4))?,
+        pairs: compositions(alloc, part(row, 5))?,
+        variants: numbered_pairs(alloc, part(row, 6))?,
     })
 }
 
 fn normalizer<'a>(
     tables: &'a UnicodeTables,
     font: &'a RowFont,
-    row: &str,
+    words: &str,
 ) -> Result<RowNormalizer<'a>, Fail> {
     Ok(RowNormalizer {
         tables,
-        mode: mode_of(field(row, 9)?)?,
+        mode: mode_of(value(words, "mode"))?,
         glyphs: &font.glyphs,
         variants: &font.variants,
         splits: &font.splits,
         pairs: &font.pairs,
-        invisible: option(field(row, 13)?)?,
-        unjoined_glyph: option(field(row, 14)?)?,
+        invisible: option(value(words, "invisible"))?,
+        unjoined_glyph: option(value(words, "unjoined"))?,
     })
 }
 
-fn number_in(glyph: &hb_glyph_info_t, column: usize) -> u32 {
-    match column {
-        0 => glyph.glyph_id,
-        1 => glyph.glyph_index,
-        2 => glyph.cluster,
-        3 => u32::from(glyph.unicode_props.0),
-        _ => u32::from(glyph.modified_combining_class),
+/// Tables with decompositions, compositions and classes.
+pub(super) fn tables_of(
+    alloc: Global,
+    halves: &str,
+    wholes: &str,
+    classes: &str,
+) -> Result<UnicodeTables, Fail> {
+    let mut rows = UnicodeRows::new(alloc);
+    let halves = splits(alloc, halves)?;
+    for (whole, first, second) in &halves {
+        rows.splits
+            .push([u32::from(*whole), u32::from(*first), u32::from(*second)])?;
     }
+    let wholes = compositions(alloc, wholes)?;
+    for (first, second, whole) in &wholes {
+        rows.pairs
+            .push([u32::from(*first), u32::from(*second), u32::from(*whole)])?;
+    }
+    let classes = numbered(alloc, classes, '=')?;
+    for (character, class) in &classes {
+        rows.classes.push([u32::from(*character), *class])?;
+    }
+    Ok(UnicodeTables::new(alloc, &rows)?)
 }
 
-/// Whether the glyphs' numbers are those of a column.
-fn column_agrees(wanted: &str, glyphs: &[hb_glyph_info_t], column: usize) -> Result<bool, Fail> {
-    if wanted == "-" {
-        return Ok(true);
-    }
-    let mut words = wanted.split_whitespace();
-    for glyph in glyphs {
-        let word = words.next().ok_or("a number is missing")?;
-        if word.parse::<u32>()? != number_in(glyph, column) {
-            return Ok(false);
-        }
-    }
-    Ok(words.next().is_none())
-}
-
-fn columns_agree(row: &str, glyphs: &[hb_glyph_info_t]) -> Result<bool, Fail> {
-    for column in 0..COLUMNS {
-        if !column_agrees(field(row, FIRST_COLUMN + column)?, glyphs, column)? {
-            return Ok(false);
-        }
-    }
-    Ok(true)
-}
-
-/// Whether a text, normalized, has the row's columns.
-fn text_agrees<N: Normalizing>(
+/// Whether a text, normalized, has a row's last field, by the fields of glyphs that these letters name.
+pub(super) fn list_agrees<N: Normalizing>(
     alloc: Global,
     by: &N,
-    text: &[(char, u32)],
-    row: &str,
+    level: &str,
+    letters: &str,
+    text: &str,
+    wanted: &str,
 ) -> Result<bool, Fail> {
-    let buffer = normalized(alloc, by, level_of(field(row, 0)?)?, text)?;
-    columns_agree(row, buffer.info_slice())
-}
-
-/// Whether the text of a row, normalized, has the row's columns.
-pub(super) fn list_agrees<N: Normalizing>(alloc: Global, by: &N, row: &str) -> Result<bool, Fail> {
-    let text = numbered(alloc, field(row, 3)?)?;
-    text_agrees(alloc, by, &text, row)
+    let text = numbered(alloc, text, '@')?;
+    let buffer = normalized(alloc, by, level_of(level), &text)?;
+    Ok(has_glyphs(INDIC_SHAPER, letters, wanted, &buffer))
 }
 
 fn font_agrees(alloc: Global, tables: &UnicodeTables, row: &str) -> Result<bool, Fail> {
+    let words = part(row, 1);
     let font = read_font(alloc, row)?;
-    let by = normalizer(tables, &font, row)?;
-    list_agrees(alloc, &by, row)
+    let by = normalizer(tables, &font, words)?;
+    let (level, letters) = (value(words, "level"), value(words, "seen"));
+    list_agrees(alloc, &by, level, letters, part(row, 7), part(row, 8))
 }
 
-fn row_agrees(alloc: Global, row: &str) -> Result<bool, Fail> {
-    let tables = tables_in(alloc, field(row, 1)?.as_bytes())?;
-    font_agrees(alloc, &tables.characters, row)
+fn agrees(alloc: Global, row: &str) -> Result<bool, Fail> {
+    let tables = tables_of(alloc, "", "", part(row, 2))?;
+    font_agrees(alloc, &tables, row)
 }
 
 #[test]
 fn lists(rt: HostRuntime) -> Result<(), Fail> {
-    for row in ROWS.lines() {
-        let agrees = row_agrees(rt.alloc(), row)?;
+    let rows = rows_of(rt.alloc(), ROWS)?;
+    for row in rows.lines() {
+        let agrees = !is_row(row) || agrees(rt.alloc(), row)?;
         assert!(rt; agrees, "{row}");
     }
     Ok(())
 }
+
+// Options are the shaper's preference, the level, which fields of glyphs are compared, the font's invisible glyph,
+// and that of what is unjoined. Among the texts are runs of 32 marks, which is sorted, and of 33, which is unchanged;
+// marks of one class, after which no other one is composed with the letter; grapheme joiners, which keep two marks
+// apart or do not; and selectors that nothing combines with.
+static ROWS: &str = r#"
+# name; options; classes; glyphs; decompositions; compositions; variants; text; normalized text
+acute accent, dot below; mode=ComposedDiacritics seen=ni@; 301=230, 323=220; 301=1, 323=2; ; ; ; U+301@1, U+323@0;
+  U+323@0 i=2, U+301@0 i=1
+a with circumflex, greek ypogegrammeni; mode=Auto level=1 seen=ni@; 302=230, 345=240; 61=1, E2=2, 302=3, 345=4;
+  E2=61+302; 61+302=E2; ; U+E2@0, U+345@3; U+E2@0 i=2, U+345@3 i=4
+a with circumflex, dot below; mode=Auto seen=ni@; 302=230, 323=220; 61=1, E2=2, 302=3, 323=4; E2=61+302; 61+302=E2; ;
+  U+E2@0, U+323@0; U+E2@0 i=2, U+323@0 i=4
+kiyeok, acute accent, selector 1; mode=None level=1 seen=ni@; ; 11A8=1; ; ; 301+FE00=42; U+11A8@0, U+301@2, U+FE00@3;
+  U+11A8@0 i=1, U+301@2 i=42
+kiyeok, greek ypogegrammeni, acute accent; mode=None level=1 seen=ni@; 301=230, 345=240; 301=1, 345=2, 11A8=3; ; ; ;
+  U+11A8@0, U+345@1, U+301@2; U+11A8@0 i=3, U+301@1 i=1, U+345@1 i=2
+a with acute, greek dialytika tonos, dot below; mode=ComposedDiacriticsNoShortCircuit level=1 seen=ni@;
+  301=230, 308=230, 323=220, 344=230; 61=1, E1=2, 301=3, 308=4, 323=5, 344=6; E1=61+301, 344=308+301; 61+301=E1; ;
+  U+E1@0, U+344@3, U+323@3; U+E1@0 i=2, U+323@0 i=5, U+308@0 i=4, U+301@0 i=3
+s, diaeresis, u with diaeresis and caron, a with circumflex; mode=ComposedDiacriticsNoShortCircuit seen=ni@;
+  302=230, 308=230; 61=1, 73=2, E2=3, 1DA=4, 302=5, 308=6; E2=61+302; 61+302=E2; ; U+73@0, U+308@0, U+1DA@2, U+E2@2;
+  U+73@0 i=2, U+308@0 i=6, U+1DA@2 i=4, U+E2@2 i=3
+acute accent, selector 1, acute accent, selector 1, selector 2; mode=ComposedDiacritics level=1 seen=ni@; ;
+  301=1, FE01=2; ; ; 301+FE00=42; U+301@0, U+FE00@1, U+301@2, U+FE00@2, U+FE01@3;
+  U+301@0 i=42, U+301@2 i=42, U+FE01@3 i=2
+s with dot below and dot above, selector 2, acute accent; mode=ComposedDiacriticsNoShortCircuit seen=ni@ unjoined=77;
+  301=230, 307=230, 323=220; 73=1, 307=2, 1E63=3, 1E69=4, FE00=5; 1E63=73+323, 1E69=1E63+307;
+  73+323=1E63, 1E63+307=1E69; 1E69+FE01=47; U+1E69@0, U+FE01@0, U+301@0; U+1E69@0 i=47, U+301@0
+a, acute accent and more, 8 in all; mode=Decomposed seen=ni@; 301=7, 302=1, 303=7, 304=22, 305=7, 307=7; ; ; ; ;
+  U+61@0, U+301@0, U+302@2, U+303@3, U+304@3, U+305@4, U+67@6, U+307@9;
+  U+61@0, U+302@0, U+301@0, U+303@3, U+305@3, U+304@3, U+67@6, U+307@9
+a, acute accent, circumflex accent, tilde, macron, f, breve, h; mode=Decomposed seen=ni@;
+  301=9, 302=7, 303=232, 304=9, 306=7; ; ; ; ; U+61@0, U+301@2, U+302@2, U+303@5, U+304@8, U+66@10, U+306@11, U+68@12;
+  U+61@0, U+302@2, U+301@2, U+304@5, U+303@5, U+66@10, U+306@11, U+68@12
+grave accent, acute accent, c; mode=Decomposed seen=ni@; 300=232, 301=7; ; ; ; ; U+300@0, U+301@2, U+63@3;
+  U+301@0, U+300@0, U+63@3
+a, acute accent, dot below; mode=Decomposed seen=ni; 301=230, 323=220; 61=1, E1=4, 301=2, 323=3, 1EA1=5;
+  E1=61+301, 1EA1=61+323; 61+301=E1, 61+323=1EA1; ; U+61@0, U+301@1, U+323@2; U+61 i=1, U+323 i=3, U+301 i=2
+a with acute, dot below; mode=Decomposed seen=ni; 301=230, 323=220; 61=1, E1=4, 301=2, 323=3, 1EA1=5;
+  E1=61+301, 1EA1=61+323; 61+301=E1, 61+323=1EA1; ; U+E1@0, U+323@1; U+61 i=1, U+323 i=3, U+301 i=2
+a with dot below, acute accent; mode=Decomposed seen=ni; 301=230, 323=220; 61=1, E1=4, 301=2, 323=3, 1EA1=5;
+  E1=61+301, 1EA1=61+323; 61+301=E1, 61+323=1EA1; ; U+1EA1@0, U+301@1; U+61 i=1, U+323 i=3, U+301 i=2
+a with acute; mode=Decomposed seen=ni; 301=230; 61=1, E1=4, 301=2; E1=61+301; 61+301=E1; ; U+E1@0; U+61 i=1, U+301 i=2
+a, acute accent; mode=Auto seen=ni; 301=230; 61=1, E1=8; E1=61+301; 61+301=E1; ; U+61@0, U+301@1; U+E1 i=8
+a with acute; mode=Auto seen=ni; 301=230; 61=1, E1=8; E1=61+301; 61+301=E1; ; U+E1@0; U+E1 i=8
+a with acute; mode=Auto seen=ni; 301=230; 61=1, 301=9; E1=61+301; 61+301=E1; ; U+E1@0; U+61 i=1, U+301 i=9
+a, acute accent; mode=Auto seen=ni; 301=230; 61=1, 301=9; E1=61+301; 61+301=E1; ; U+61@0, U+301@1; U+61 i=1, U+301 i=9
+a, grave accent, acute accent; mode=ComposedDiacritics seen=ni; 300=230, 301=230; 61=1, E1=4, 300=2, 301=3; E1=61+301;
+  61+301=E1; ; U+61@0, U+300@1, U+301@2; U+61 i=1, U+300 i=2, U+301 i=3
+a, acute accent, grave accent; mode=ComposedDiacritics seen=ni; 300=230, 301=230; 61=1, E1=4, 300=2, 301=3; E1=61+301;
+  61+301=E1; ; U+61@0, U+301@1, U+300@2; U+E1 i=4, U+300 i=2
+a, dot below, acute accent; mode=ComposedDiacritics seen=ni; 301=230, 323=220; 61=1, E1=4, 301=3;
+  E1=61+301, 1EA1=61+323; 61+301=E1, 61+323=1EA1; ; U+61@0, U+323@1, U+301@2; U+E1 i=4, U+323
+uu, anusvara; mode=ComposedDiacriticsNoShortCircuit seen=ni; ; 1025=1, 102E=2, 1036=3; 1026=1025+102E; ; ;
+  U+1026@0, U+1036@1; U+1025 i=1, U+102E i=2, U+1036 i=3
+u, ii, anusvara; mode=ComposedDiacriticsNoShortCircuit seen=ni; ; 1025=1, 102E=2, 1036=3; ; ; ;
+  U+1025@0, U+102E@1, U+1036@2; U+1025 i=1, U+102E i=2, U+1036 i=3
+em space, non-breaking hyphen, b; mode=Auto seen=ni; ; 20=5, 2010=6; ; ; ; U+2003@0, U+2011@1, U+62@2;
+  U+2003 i=5, U+2011 i=6, U+62
+akara tedung, ulu; mode=ComposedDiacriticsNoShortCircuit seen=ni; ; 1B05=1, 1B35=2, 1B36=3; 1B06=1B05+1B35;
+  1B05+1B35=1B06; ; U+1B06@0, U+1B36@1; U+1B05 i=1, U+1B35 i=2, U+1B36 i=3
+akara, tedung, ulu; mode=ComposedDiacriticsNoShortCircuit seen=ni; ; 1B05=1, 1B35=2, 1B36=3; 1B06=1B05+1B35;
+  1B05+1B35=1B06; ; U+1B05@0, U+1B35@1, U+1B36@2; U+1B05 i=1, U+1B35 i=2, U+1B36 i=3
+akara, rerekan, adeg adeg; mode=ComposedDiacriticsNoShortCircuit seen=ni; 1B34=7, 1B44=9; 1B05=1, 1B34=4, 1B44=5; ; ; ;
+  U+1B05@0, U+1B34@1, U+1B44@2; U+1B05 i=1, U+1B34 i=4, U+1B44 i=5
+akara, adeg adeg, rerekan; mode=ComposedDiacriticsNoShortCircuit seen=ni; 1B34=7, 1B44=9; 1B05=1, 1B34=4, 1B44=5; ; ; ;
+  U+1B05@0, U+1B44@1, U+1B34@2; U+1B05 i=1, U+1B34 i=4, U+1B44 i=5
+oe; mode=ComposedDiacriticsNoShortCircuit seen=ni; ; 17BE=2, 17C1=3; 17BE=17C1+17BE; ; ; U+17BE@0;
+  U+17C1 i=3, U+17BE i=2
+a, selector 1; mode=Decomposed seen=ni unjoined=12; ; 61=1; ; ; 61+FE00=11; U+61@0, U+FE00@1; U+61 i=11
+a, selector 1, selector 2; mode=Decomposed seen=ni unjoined=12; ; 61=1, FE01=3; ; ; 61+FE00=11;
+  U+61@0, U+FE00@1, U+FE01@2; U+61 i=11, U+FE01 i=3
+a with acute, selector 2; mode=Decomposed seen=ni unjoined=12; 301=230; 61=1, 301=2, FE01=3; E1=61+301; 61+301=E1;
+  61+FE00=11; U+E1@0, U+FE01@1; U+E1, U+FE01 i=3
+em space, non-breaking hyphen; mode=None seen=ni invisible=7; ; ; ; ; ; U+2003@0, U+2011@1; U+2003 i=7, U+2011
+no text; mode=None seen=ni; ; ; ; ; ; ;
+a with acute; mode=None seen=ni; 301=230; 61=1, E1=3, 301=2; E1=61+301; 61+301=E1; ; U+E1@0; U+E1 i=3
+a, acute accent; mode=None seen=ni; 301=230; 61=1, E1=3, 301=2; E1=61+301; 61+301=E1; ; U+61@0, U+301@1;
+  U+61 i=1, U+301 i=2
+a with acute; mode=Decomposed seen=ni; 301=230; 61=1, E1=3, 301=2; E1=61+301; 61+301=E1; ; U+E1@0; U+61 i=1, U+301 i=2
+a, acute accent; mode=Decomposed seen=ni; 301=230; 61=1, E1=3, 301=2; E1=61+301; 61+301=E1; ; U+61@0, U+301@1;
+  U+61 i=1, U+301 i=2
+a with acute; mode=ComposedDiacritics seen=ni; 301=230; 61=1, E1=3, 301=2; E1=61+301; 61+301=E1; ; U+E1@0; U+E1 i=3
+a, acute accent; mode=ComposedDiacritics seen=ni; 301=230; 61=1, E1=3, 301=2; E1=61+301; 61+301=E1; ; U+61@0, U+301@1;
+  U+E1 i=3
+a with acute; mode=ComposedDiacriticsNoShortCircuit seen=ni; 301=230; 61=1, E1=3, 301=2; E1=61+301; 61+301=E1; ; U+E1@0;
+  U+61 i=1, U+301 i=2
+a, acute accent; mode=ComposedDiacriticsNoShortCircuit seen=ni; 301=230; 61=1, E1=3, 301=2; E1=61+301; 61+301=E1; ;
+  U+61@0, U+301@1; U+E1 i=3
+a with acute; mode=Auto seen=ni; 301=230; 61=1, E1=3, 301=2; E1=61+301; 61+301=E1; ; U+E1@0; U+E1 i=3
+a, acute accent; mode=Auto seen=ni; 301=230; 61=1, E1=3, 301=2; E1=61+301; 61+301=E1; ; U+61@0, U+301@1; U+E1 i=3
+a, acute accent, 30 grave accent, dot below; mode=Decomposed seen=n; 300=230, 301=230, 323=220; ; ; ; ;
+  U+61@0, U+301@1, U+300@2, U+300@2, U+300@2, U+300@2, U+300@2, U+300@2, U+300@2, U+300@2, U+300@2, U+300@2, U+300@2,
+  U+300@2, U+300@2, U+300@2, U+300@2, U+300@2, U+300@2, U+300@2, U+300@2, U+300@2, U+300@2, U+300@2, U+300@2, U+300@2,
+  U+300@2, U+300@2, U+300@2, U+300@2, U+300@2, U+300@2, U+323@3;
+  U+61, U+323, U+301, U+300, U+300, U+300, U+300, U+300, U+300, U+300, U+300, U+300, U+300, U+300, U+300, U+300,
+  U+300, U+300, U+300, U+300, U+300, U+300, U+300, U+300, U+300, U+300, U+300, U+300, U+300, U+300, U+300, U+300,
+  U+300
+a, acute accent, 31 grave accent, dot below; mode=Decomposed seen=n; 300=230, 301=230, 323=220; ; ; ; ;
+  U+61@0, U+301@1, U+300@2, U+300@2, U+300@2, U+300@2, U+300@2, U+300@2, U+300@2, U+300@2, U+300@2, U+300@2, U+300@2,
+  U+300@2, U+300@2, U+300@2, U+300@2, U+300@2, U+300@2, U+300@2, U+300@2, U+300@2, U+300@2, U+300@2, U+300@2, U+300@2,
+  U+300@2, U+300@2, U+300@2, U+300@2, U+300@2, U+300@2, U+300@2, U+323@3;
+  U+61, U+301, U+300, U+300, U+300, U+300, U+300, U+300, U+300, U+300, U+300, U+300, U+300, U+300, U+300, U+300,
+  U+300, U+300, U+300, U+300, U+300, U+300, U+300, U+300, U+300, U+300, U+300, U+300, U+300, U+300, U+300, U+300,
+  U+300, U+323
+a, acute accent, grapheme joiner, dot below; mode=Decomposed seen=np; 300=230, 301=230, 323=220; ; ; ; ;
+  U+61@0, U+301@1, U+34F@2, U+323@3; U+61 p=5, U+301 p=12, U+34F p=108, U+323 p=12
+a, dot below, grapheme joiner, acute accent; mode=Decomposed seen=np; 300=230, 301=230, 323=220; ; ; ; ;
+  U+61@0, U+323@1, U+34F@2, U+301@3; U+61 p=5, U+323 p=12, U+34F p=44, U+301 p=12
+a, selector 2, selector 1; mode=Decomposed seen=np unjoined=12; ; 61=1, 301=2, FE01=3; ; ; 61+FE00=11;
+  U+61@0, U+FE01@1, U+FE00@2; U+61 p=5, U+FE01 p=1025, U+FE00 p=44
+em space; mode=Auto seen=ik; ; 20=5, 2010=6; ; ; ; U+2003@0; * i=5 k=1"#;
