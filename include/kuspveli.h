@@ -223,6 +223,9 @@ kus_status_t kus_get_slices (kus_font_t *font, const uint8_t *text, size_t text_
 /* The units of the em. */
 uint32_t kus_font_get_upem (kus_font_t *font);
 
+/* The height of the ascender above the baseline, in font units; 0 where the font gives none. */
+int32_t kus_font_get_ascender (kus_font_t *font);
+
 /* Whether the font has a glyph for a character; *glyph is that glyph, else 0. */
 bool kus_font_get_nominal_glyph (kus_font_t *font, uint32_t unicode, uint32_t *glyph);
 

@@ -89,6 +89,7 @@ def load(path: Union[str, "os.PathLike[str]"]) -> ctypes.CDLL:
     declare(found, "kus_get_script", u32, handle)
     declare(found, "kus_get_slices", u32, handle, bytes_, size, ctypes.POINTER(RawSlice), size, ctypes.POINTER(size))
     declare(found, "kus_font_get_upem", u32, handle)
+    declare(found, "kus_font_get_ascender", ctypes.c_int32, handle)
     declare(found, "kus_font_get_nominal_glyph", ctypes.c_bool, handle, u32, numbers)
     declare(found, "kus_font_get_glyph_name", size, handle, u32, ctypes.c_char_p, size)
     declare(found, "kus_font_get_glyph_extents", ctypes.c_bool, handle, u32, ctypes.POINTER(RawExtents))
@@ -443,6 +444,11 @@ class Font(Held):
         """The units of the em."""
         with self._lock:
             return LIBRARY.kus_font_get_upem(self._handle)
+
+    def ascender(self) -> int:
+        """The height of the ascender above the baseline, in font units; 0 where the font gives none."""
+        with self._lock:
+            return LIBRARY.kus_font_get_ascender(self._handle)
 
     def nominal_glyph(self, character: str) -> Optional[int]:
         """The glyph that the font has for a character, if it has one."""

@@ -169,6 +169,11 @@ impl Font {
         unsafe { kus_font_get_upem(&mut self.handle) }
     }
 
+    /// The height of the ascender above the baseline, in font units; 0 where the font gives none.
+    pub fn ascender(&mut self) -> i32 {
+        unsafe { kus_font_get_ascender(&mut self.handle) }
+    }
+
     /// The glyph that the font has for a character, if it has one.
     pub fn nominal_glyph(&mut self, character: char) -> Option<u32> {
         let mut glyph = 0;

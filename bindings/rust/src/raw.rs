@@ -125,6 +125,7 @@ extern "C" {
         count: *mut usize,
     ) -> u32;
     pub(crate) fn kus_font_get_upem(font: *mut Handle) -> u32;
+    pub(crate) fn kus_font_get_ascender(font: *mut Handle) -> i32;
     pub(crate) fn kus_font_get_nominal_glyph(font: *mut Handle, unicode: u32, glyph: *mut u32) -> bool;
     pub(crate) fn kus_font_get_glyph_name(font: *mut Handle, glyph: u32, name: *mut u8, name_room: usize) -> usize;
     pub(crate) fn kus_font_get_glyph_extents(font: *mut Handle, glyph: u32, extents: *mut GlyphExtents) -> bool;

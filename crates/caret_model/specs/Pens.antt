@@ -5,7 +5,7 @@ use Rattle.kuspveli.specs.buffer_glyphs.declared.position.GlyphPosition.{GlyphPo
 use Rattle.kuspveli.specs.shape_slices.declared.slices.SourceSlice.{SourceSlice}
 use Rattle.caret_model.specs.Lines.{left_byte, pen_at, right_end}
 
--- the pen before the glyph at an index, which so many advances of 32 bits bound
+-- the pen before the glyph at index k, which k advances of 32 bits bound
 pub record IsPenAt (d : Direction) (ps : List GlyphPosition) (k : ℕ) (pen : ℤ) : Type 0 where
   pub sum : pen ≡ pen_at d ps k
   pub low : neg_ℤ (pos (2 ^ 31 * k)) ≤ℤ pen

@@ -1,5 +1,5 @@
 -- What a font says of itself, and of the glyphs of its last text.
-use Rattle.std.specs.Prelude.{ℕ, ◌≡◌, ◌==◌, ◌⊎◌, nat_lt, true, false, if◌then◌else◌, List, [], map, length, Option, Some, None}
+use Rattle.std.specs.Prelude.{ℕ, ℤ, pos, ◌≡◌, ◌==◌, ◌⊎◌, nat_lt, true, false, if◌then◌else◌, List, [], map, length, Option, Some, None}
 use Rattle.std.specs.Option.{option_map, option_map_or}
 use Rattle.std.specs.Str.{is_utf8}
 use lib.Utf8.{scalar}
@@ -22,6 +22,10 @@ use Rattle.kuspveli_c.specs.Fonts.{KeptFont}
 -- the units of a font's em, 0 where there is no font
 abbrev pub upem_in : Option KeptFont → ℕ
 upem_in font = option_map_or (λ (f : KeptFont). f.input.face.upem) font 0
+
+-- the height of a font's ascender (OpenType, tables OS/2 and hhea), 0 where the font gives none or there is no font
+abbrev pub ascender_in : Option KeptFont → ℤ
+ascender_in font = option_map_or (λ (f : KeptFont). f.input.face.ascender) font (pos 0)
 
 -- the glyph that a font has for a character (OpenType, table cmap); none where the number is no character
 abbrev pub glyph_in : Option KeptFont → ℕ → Option ℕ

@@ -6,7 +6,7 @@ ghost use Rattle.layout_face.specs.Glyphs.{nominal_glyph};
 ghost use Rattle.c_text.specs.Numbers.{direction_number, script_number};
 ghost use Rattle.c_text.specs.Written.{extents_of, with_front};
 ghost use Rattle.kuspveli_c.specs.Fonts.{glyphs_of, segment_in};
-ghost use Rattle.kuspveli_c.specs.Queries.{AreSlicesOf, IsSlicesFault, extents_in, feature_tags, feature_tags_in, glyph_in, layout_in, name_in, script_tags, script_tags_in, upem_in};
+ghost use Rattle.kuspveli_c.specs.Queries.{AreSlicesOf, IsSlicesFault, ascender_in, extents_in, feature_tags, feature_tags_in, glyph_in, layout_in, name_in, script_tags, script_tags_in, upem_in};
 
 use crate::font::Font;
 use crate::handle::Handle;
@@ -129,6 +129,20 @@ pub extern "C" fn kus_font_get_upem(alloc: Global, font: &mut Handle) -> u32
     let upem = shown.face().units_per_em() as u32;
     font.put(alloc, shown);
     upem
+}
+
+/// The height of the font's ascender above the baseline, in font units; 0 where the font gives none or there is no font.
+#[unsafe(no_mangle)]
+pub extern "C" fn kus_font_get_ascender(alloc: Global, font: &mut Handle) -> i32
+    ensures same { font.new.value ≡ font.old.value }
+    ensures ascender { result ≡ ascender_in font.old.value }
+{
+    let Some(shown) = font.take(alloc) else {
+        return 0;
+    };
+    let ascender = i32::from(shown.face().ascender());
+    font.put(alloc, shown);
+    ascender
 }
 
 /// Whether the font has a glyph for a character, and which; 0 where it has none.

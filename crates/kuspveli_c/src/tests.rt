@@ -5,9 +5,9 @@ use crate::calls::{
 };
 use crate::handle::{Handle, TablesHandle};
 use crate::queries::{
-    kus_font_get_feature_tags, kus_font_get_glyph_extents, kus_font_get_glyph_name,
-    kus_font_get_nominal_glyph, kus_font_get_script_tags, kus_font_get_upem, kus_get_direction,
-    kus_get_script, kus_get_slices, kus_version,
+    kus_font_get_ascender, kus_font_get_feature_tags, kus_font_get_glyph_extents,
+    kus_font_get_glyph_name, kus_font_get_nominal_glyph, kus_font_get_script_tags,
+    kus_font_get_upem, kus_get_direction, kus_get_script, kus_get_slices, kus_version,
 };
 use c_text::types::{
     kus_feature_t, kus_glyph_extents_t, kus_glyph_info_t, kus_glyph_position_t, kus_slice_t,
@@ -278,10 +278,14 @@ fn fonts_answer_questions(rt: HostRuntime) -> Result<(), Fail> {
     let mut font = Handle::empty(alloc);
     let nothing = (
         kus_font_get_upem(alloc, &mut font),
+        kus_font_get_ascender(alloc, &mut font),
         kus_get_direction(alloc, &mut font),
     );
     let status = kus_font_create(alloc, &mut font, b"{}", FONT.as_bytes());
-    let upem = kus_font_get_upem(alloc, &mut font);
+    let lengths = (
+        kus_font_get_upem(alloc, &mut font),
+        kus_font_get_ascender(alloc, &mut font),
+    );
     let mut glyphs = [77; 3];
     let has = (
         kus_font_get_nominal_glyph(alloc, &mut font, 98, &mut glyphs[0]),
@@ -305,9 +309,9 @@ fn fonts_answer_questions(rt: HostRuntime) -> Result<(), Fail> {
     let positions = kus_font_get_feature_tags(alloc, &mut font, 0x47504F53, &mut []);
     let others = kus_font_get_script_tags(alloc, &mut font, 0x47444546, &mut []);
     close(font);
-    assert!(rt; nothing == (0, 0));
+    assert!(rt; nothing == (0, 0, 0));
     assert_eq!(rt; answered(status)?, 0);
-    assert_eq!(rt; upem, 1000);
+    assert!(rt; lengths == (1000, 800));
     assert!(rt; has == (true, false, false));
     assert!(rt; glyphs == [2, 0, 0]);
     assert!(rt; (length, name, unnamed) == (3, *b"be", 0));
