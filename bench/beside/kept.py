@@ -2,7 +2,6 @@
 
 import json
 import os
-import subprocess
 from dataclasses import asdict, dataclass
 from datetime import date
 from pathlib import Path
@@ -11,9 +10,9 @@ from typing import Any
 from beside.programs import THEIRS, printed_by
 from beside.table import Pair, Row, of_glyphs, shown
 from common.faults import DATA, ToolFault
+from common.host import first_line, host
 from sources.crates import ROOT
 
-CPUS = Path("/proc/cpuinfo")
 # What is measured: the program, and the library for a page and for each page more.
 WHAT = ("program", "page", "more")
 
@@ -70,20 +69,6 @@ def set_of(row: Row) -> dict[str, Any]:
 
 def rounded(pair: Pair) -> float | None:
     return None if pair.ratio is None else round(pair.ratio, 2)
-
-
-def first_line(*words: str) -> str:
-    """What a command says first; that it is unknown where it is not there or fails."""
-    try:
-        ran = subprocess.run(words, capture_output=True, text=True, check=False)
-    except FileNotFoundError:
-        return "unknown"
-    return ran.stdout.splitlines()[0] if ran.returncode == 0 and ran.stdout else "unknown"
-
-
-def host() -> str:
-    names = [line.split(":", 1)[1].strip() for line in CPUS.read_text().splitlines() if line.startswith("model name")]
-    return f"{os.cpu_count()} cores of {names[0] if names else os.uname().machine}"
 
 
 def write_kept(path: Path, command: str, rows: list[Row]) -> None:

@@ -28,10 +28,11 @@ class Target:
     crate: str
     files: tuple[str, ...]
     tool: str
+    kind: str = "program"
 
 
 PROGRAM = Target("hb_shape", "hb_shape", ("hb_shape",), BUILD)
-LIBRARY = Target("libkuspveli", "kuspveli_c", ("libkuspveli.a", "libkuspveli.so"), BUILD_LIBRARY)
+LIBRARY = Target("libkuspveli", "kuspveli_c", ("libkuspveli.a", "libkuspveli.so"), BUILD_LIBRARY, "library")
 
 
 @dataclass(frozen=True)

@@ -1,10 +1,10 @@
-"""The program, there before it is run: no build of an hour is started for that unasked."""
+"""The program or the library, there before it is used: no build of an hour is started for that unasked."""
 
 import os
 import sys
 from pathlib import Path
 
-from building.places import BUILD, PROGRAM, UNPROVED, Place
+from building.places import BUILD, PROGRAM, UNPROVED, Place, Target
 from building.progress import Teller
 from common.faults import FILES, ToolFault
 from common.printing import tell
@@ -17,30 +17,46 @@ def is_ready(root: Path = ROOT) -> bool:
 
 
 def ready_program(name: str, root: Path = ROOT) -> Path:
-    """The proved program, where it was built of the sources that stand here; else the unproved one, which is made where
-    there is none of these sources, and told under the name of the tool that runs it."""
-    proved, unproved = Place(PROGRAM, True, root), Place(PROGRAM, False, root)
-    if proved.is_current():
-        return proved.file
-    if not unproved.is_current():
-        from building.unproved import make_unproved  # few runs need it
+    """The program of the sources that stand here."""
+    return ready_place(name, PROGRAM, root).file
 
-        teller = Teller(name)
-        teller.line(f"{why_not(proved)}: making one without proofs, in some minutes ({BUILD} makes the proved one)")
-        failure = make_unproved(unproved, teller)
-        if failure is not None:
-            print(failure.tail(), file=sys.stderr)
-            raise ToolFault(FILES, f"{failure.name} was not compiled, so there is no program to run")
-    return usable(name, unproved.file)
+
+def ready_place(name: str, target: Target, root: Path = ROOT) -> Place:
+    """Where a target stands that was built of the sources that stand here: the proved one, else the unproved one, which is
+    made where there is none of these sources, and told under the name of the tool that uses it."""
+    proved = Place(target, True, root)
+    return proved if proved.is_current() else unproved_place(name, target, why_not(proved), root)
+
+
+def unproved_place(name: str, target: Target, why: str, root: Path = ROOT) -> Place:
+    """Where an unproved target of the sources that stand here stands, and why no proved one is used."""
+    unproved = Place(target, False, root)
+    if not unproved.is_current():
+        make(unproved, name, f"{why}: making one without proofs, in some minutes ({target.tool} makes the proved one)")
+    tell_unproved(name, target.name, target.tool)
+    return unproved
+
+
+def make(place: Place, name: str, why: str) -> None:
+    """Makes an unproved program, and tells why under the name of the tool that runs it."""
+    from building.unproved import make_unproved  # few runs need it
+
+    teller = Teller(name)
+    teller.line(why)
+    failure = make_unproved(place, teller)
+    if failure is not None:
+        print(failure.tail(), file=sys.stderr)
+        raise ToolFault(FILES, f"{failure.name} was not compiled, so there is no {place.target.kind} to run")
 
 
 def why_not(proved: Place) -> str:
-    """Why the proved program isn't used."""
+    """Why what is proved isn't used."""
+    target = proved.target
     if not proved.file.is_file():
-        return "no proved program is built"
+        return f"no proved {target.kind} is built"
     if proved.stamp() is None:
-        return f"{proved.file} has no stamp of {BUILD}, so nothing says what it was built of"
-    return "the sources are others than those of the proved program"
+        return f"{proved.file} has no stamp of {target.tool}, so nothing says what it was built of"
+    return f"the sources are others than those of the proved {target.kind}"
 
 
 def usable(name: str, program: Path) -> Path:
@@ -48,5 +64,9 @@ def usable(name: str, program: Path) -> Path:
     if not os.access(program, os.X_OK):
         raise ToolFault(FILES, f"{program} is not there: {BUILD} builds it")
     if program.parent.name == UNPROVED:
-        tell(name, f"{program.name} is unproved: no proof was checked ({BUILD} proves it)")
+        tell_unproved(name, program.name, BUILD)
     return program
+
+
+def tell_unproved(name: str, made: str, tool: str) -> None:
+    tell(name, f"{made} is unproved: no proof was checked ({tool} proves it)")

@@ -15,10 +15,10 @@ TURNS = (
     ("words of Hebrew", "noto/NotoSansHebrew-Regular", "שלום, ירושלים בראשית תורתנו ספרים מילים אנשים עברית"),
     ("words of Arabic", "noto/NotoNaskhArabic-Regular", "السلام العربية مدرسة كتابنا الجديد نستعين المستقيم عليكم"),
     ("words of Tamil", "noto/NotoSansTamil-Regular", "தமிழ்நாடு வணக்கம் எழுத்து மொழிகள் புத்தகம் இலக்கணம்"),
-    ("Latin and numerals", "dejavu/DejaVuSans", "office 1984 reading 12.5 letters 7"),
-    ("Latin, Arabic and numerals", "dejavu/DejaVuSans", "office السلام 1984 reading كتابنا 12"),
-    ("Latin, Greek, Arabic and numerals", "dejavu/DejaVuSans", "office λόγος السلام 1984 reading Ελλάδα كتابنا 12"),
-    ("Arabic, Latin and numerals, Amiri", "fonts-hosny-amiri/Amiri-Regular", "السلام office 1984 العربية reading 12"),
+    ("Latin and numerals in turn", "dejavu/DejaVuSans", "office 1984 reading 12.5 letters 7"),
+    ("Latin, Arabic and numerals in turn", "dejavu/DejaVuSans", "office السلام 1984 reading كتابنا 12"),
+    ("Latin, Greek, Arabic and numerals in turn", "dejavu/DejaVuSans", "office λόγος السلام 1984 reading Ελλάδα كتابنا 12"),
+    ("Arabic, Latin and numerals in turn, Amiri", "fonts-hosny-amiri/Amiri-Regular", "السلام office 1984 العربية reading 12"),
 )
 GLOBAL_END = 0xFFFF_FFFF
 NO = "-"

@@ -2,83 +2,82 @@
 
 import json
 import shutil
-import subprocess
 import sys
 import tempfile
 import time
 from concurrent.futures import ThreadPoolExecutor
-from dataclasses import dataclass
 from pathlib import Path
 
 from attacks import fonts as attacks
-from building.places import LIBRARY, PROGRAM, Place
+from building.places import LIBRARY, PROGRAM, Place, Target
+from building.ready import ready_place, unproved_place
+from common.documents import replace_part
 from common.faults import FILES, ToolFault
-from common import parsing
+from common.parsing import Words
 from library_tests import drivers
-from library_tests.cases import SETTINGS, Case, Script, Words, scripts, turns
+from library_tests.cases import SETTINGS, Case, Script, scripts
+from library_tests.drivers import Tested
+from library_tests.times import measure, table
 from shaping.cache import cache_folder
 from shaping.cli import font_value, tables_file
 from shaping.program import run_one
 from shaping.texts import Text
-from sources.crates import ROOT
 
 NAME = "test_library"
 ABOUT = """Tests the library for C: its header as C99, C11 and C++ beside HarfBuzz's numbers and structs; the same texts from
 C, Rust (where cargo is there) and Python as from the program, with their slices; each allocation freed, by valgrind and
 by counts over many calls on four threads; each allocation of a call refused in turn; the stack that the header asks for;
-and the processor time of a word of each script by the kept plan, of words of four scripts and of texts of several
-scripts in turn, beside HarfBuzz's. The program and the library are built first, where they are not, and proved unless
---unproved is given."""
-BUILDS = ("build", "build_library")
+and what a word of each script takes by the kept plan, words of four scripts and texts of several scripts in turn,
+beside HarfBuzz's. It takes the proved program and library where they are built of the sources that stand here, else
+those without proofs, which it makes first, and says so. By --table it measures alone, and the table stands in a
+document between its two lines."""
 # The room for the first call of each text: small, so that some texts are read again.
 ROOM = 8
 SHOWN = ("--no-glyph-names", "--show-flags", "--slices")
 CALLS = 1_000_000
-# A word by the kept plan is to cost less than so many of HarfBuzz's, each the least of several runs.
-TIMES = 2.0
-RUNS = 3
 # How deep arrays and objects may nest in a file.
 DEEPEST = 127
+BEGIN, END = (f"<!-- tools/test_library --table {word} -->" for word in ("begins", "ends"))
 
 
 def main(words: list[str]) -> int:
     """Tests; its status is 1 where something is not as it is to be."""
-    parser = parsing.Words(prog=NAME, description=ABOUT)
+    parser = Words(prog=NAME, description=ABOUT)
     parser.add_argument("--calls", type=int, default=CALLS, metavar="N", help=f"calls of one run ({CALLS:,})")
     parser.add_argument("--unproved", action="store_true", help="test what is compiled without proofs (out/unproved)")
-    parser.add_argument("--no-times", action="store_true", help="don't compare times")
+    modes = parser.add_mutually_exclusive_group()
+    modes.add_argument("--no-times", action="store_true", help="don't compare times")
+    modes.add_argument("--table", type=Path, metavar="FILE", help="compare times alone, and write their table into a document")
     options = parser.parse_args(words)
     for command in ("gcc", "g++", "pkg-config", "valgrind"):
         if shutil.which(command) is None:
             raise ToolFault(FILES, f"the command {command} is not on the path (docs/TOOLS.md names the packages)")
-    kinds = ["--unproved"] if options.unproved else []
-    for tool in BUILDS:
-        if subprocess.run([ROOT / "tools" / tool, *kinds], stdout=subprocess.DEVNULL, check=False).returncode:
-            raise ToolFault(FILES, f"tools/{tool} failed")
-    program, library = (Place(target, not options.unproved) for target in (PROGRAM, LIBRARY))
     with cache_folder() as values, tempfile.TemporaryDirectory() as work:
-        return run(Tested(program.file, library, Path(values), Path(work)), options.calls, not options.no_times)
+        tested = Tested(place_of(LIBRARY, options.unproved), values, Path(work))
+        tables, all_scripts = tables_file(values), scripts()
+        wrong = 0
+        if options.table is None:
+            program = place_of(PROGRAM, options.unproved).file
+            wrong += tell_tests(program, tested, tables, all_scripts, options.calls)
+        if not options.no_times:
+            wrong += tell_times(tested, tables, all_scripts, options.table)
+    print(f"{NAME}: {f'{wrong} wrong' if wrong else 'passed'}")
+    return 1 if wrong else 0
 
 
-@dataclass(frozen=True)
-class Tested:
-    """The program and the library, the folder of the fonts' values, and one for what is made."""
-
-    program: Path
-    library: Place
-    values: Path
-    work: Path
+def place_of(target: Target, is_unproved: bool) -> Place:
+    """Where a target of the sources that stand here stands, which is made where it is not there."""
+    return unproved_place(NAME, target, "--unproved") if is_unproved else ready_place(NAME, target)
 
 
-def run(tested: Tested, calls: int, timed: bool) -> int:
-    """Runs each test; tells which passed."""
+def tell_tests(program: Path, tested: Tested, tables: Path, all_scripts: list[Script], calls: int) -> int:
+    """Runs each test but that of times, and tells it; how much is wrong."""
     values, work, library = tested.values, tested.work, tested.library
     drivers.check_header(work)
     tell("header", "C99, C11 and C++, HarfBuzz's numbers and layouts")
-    tables, all_scripts = tables_file(values), scripts()
     fonts = {script.font: font_value(values, script.font, 0) for script in all_scripts}
     expected = {
-        script.name: lines_of_program(tested.program, tables, fonts[script.font], script.cases)
+        script.name: lines_of_program(program, tables, fonts[script.font], script.cases)
         for script in all_scripts
     }
     wrong = 0
@@ -92,11 +91,7 @@ def run(tested: Tested, calls: int, timed: bool) -> int:
     latin, *_ = all_scripts
     some = [case.text for case in latin.cases if case.settings == SETTINGS[0] and case.text][:4]
     tell("memory", drivers.count_calls(work, library, (tables, fonts[latin.font]), calls, some))
-    wrong += tell_stacks(tested, tables, fonts[latin.font])
-    if timed:
-        wrong += tell_times(tested, tables, all_scripts)
-    print(f"{NAME}: {f'{wrong} wrong' if wrong else 'passed'}")
-    return 1 if wrong else 0
+    return wrong + tell_stacks(tested, tables, fonts[latin.font])
 
 
 def lines_of_program(program: Path, tables: Path, font: Path, cases: list[Case]) -> list[str]:
@@ -147,28 +142,14 @@ def tell_stacks(tested: Tested, tables: Path, font: Path) -> int:
     return wrong
 
 
-def tell_times(tested: Tested, tables: Path, all_scripts: list[Script]) -> int:
-    """Tells the times of a word of each script, and of words in turn, beside HarfBuzz's; how many cost too much."""
-    rows = [Words(f"{script.name} {script.cases[0].text}", script.font, [script.cases[0].text]) for script in all_scripts]
-    rows += turns()
-    least: dict[str, drivers.Times] = {}
-    # Each run is of all words, so that what else the machine does does not meet one of them alone.
-    for row in rows * RUNS:
-        files = (tables, font_value(tested.values, row.font, 0))
-        found = drivers.times(tested.work, tested.library, files, row.font, row.words)
-        least[row.name] = found.least(least.get(row.name, found))
+def tell_times(tested: Tested, tables: Path, all_scripts: list[Script], document: Path | None) -> int:
+    """Tells what words take beside HarfBuzz's, and writes the table into a document; how many cost too much."""
+    rows = measure(tested, tables, all_scripts)
     for row in rows:
-        tell("time", f"{row.name}: {told_times(least[row.name])}")
-    return sum(map(is_slow, least.values()))
-
-
-def is_slow(times: drivers.Times) -> bool:
-    return times.ratio >= TIMES
-
-
-def told_times(times: drivers.Times) -> str:
-    notes = f"{'' if times.is_same else ', other glyphs'}{', too much' if is_slow(times) else ''}"
-    return f"{times.own:.2f} µs, HarfBuzz {times.theirs:.2f} µs ({times.ratio:.2f}){notes}"
+        tell("time", row.line())
+    if document is not None:
+        replace_part(document, BEGIN, END, table(rows, tested.library.is_proved))
+    return sum(row.is_slow for row in rows)
 
 
 def tell(what: str, how: str) -> None:

@@ -1,6 +1,7 @@
 """The programs over the library, in C, Rust and Python."""
 
 import os
+import re
 import shutil
 import subprocess
 import sys
@@ -9,7 +10,7 @@ from pathlib import Path
 
 from building.places import Place
 from common.faults import DATA, ToolFault
-from library_tests.cases import Case
+from library_tests.cases import Case, Words
 from sources.crates import ROOT
 
 SOURCES = Path(__file__).parent / "c"
@@ -18,6 +19,19 @@ BINDINGS = ROOT / "bindings"
 WARNINGS = ("-Wall", "-Wextra", "-Werror")
 VALGRIND = ("valgrind", "-q", "--leak-check=full", "--show-leak-kinds=all", "--errors-for-leak-kinds=all", "--error-exitcode=9")
 WRAPPED = ("malloc", "realloc", "aligned_alloc", "free")
+COUNTED = ("valgrind", "-q", "--tool=callgrind", "--instr-atstart=no")
+# How many calls a round of the driver beside HarfBuzz has, and the line of a count in callgrind's file.
+CALLS = 60
+TOTAL = re.compile(r"^totals: (\d+)$", re.MULTILINE)
+
+
+@dataclass(frozen=True)
+class Tested:
+    """The library, the folder of the fonts' values, and one for what is made."""
+
+    library: Place
+    values: Path
+    work: Path
 
 
 @dataclass(frozen=True)
@@ -107,8 +121,8 @@ def stack_taken(work: Path, library: Place, tables: Path, font: Path, text: Path
 
 
 @dataclass(frozen=True)
-class Times:
-    """The microseconds of a call and of HarfBuzz's for a word, and whether the glyphs are the same."""
+class Beside:
+    """What a call and HarfBuzz's take for some words, and whether the glyphs are the same."""
 
     own: float
     theirs: float
@@ -118,15 +132,37 @@ class Times:
     def ratio(self) -> float:
         return self.own / self.theirs
 
-    def least(self, other: "Times") -> "Times":
-        return Times(min(self.own, other.own), min(self.theirs, other.theirs), self.is_same and other.is_same)
+    def least(self, other: "Beside") -> "Beside":
+        return Beside(min(self.own, other.own), min(self.theirs, other.theirs), self.is_same and other.is_same)
 
 
-def times(work: Path, library: Place, files: tuple[Path, Path], file: Path, words: list[str]) -> Times:
-    """What a call takes in one run, whose words come in turn."""
-    program = work / "beside"
+def times(tested: Tested, files: tuple[Path, Path], words: Words) -> Beside:
+    """The microseconds of processor time of a call in one run, whose words come in turn."""
+    own, theirs, glyphs = call([beside_driver(tested), *files, words.font, *words.words]).split()
+    return Beside(float(own), float(theirs), glyphs == "same")
+
+
+def instructions(tested: Tested, files: tuple[Path, Path], words: Words) -> Beside:
+    """The instructions of a call, as callgrind counts them: each side's round is a file of its own."""
+    kept = tested.work / "counted"
+    driver = [beside_driver(tested), *files, words.font, *words.words]
+    *_, glyphs = call([*COUNTED, f"--callgrind-out-file={kept}", *driver]).split()
+    own, theirs = (counted(kept.with_suffix(f".{part}")) / CALLS for part in (1, 2))
+    return Beside(own, theirs, glyphs == "same")
+
+
+def counted(path: Path) -> int:
+    """The instructions of a file of callgrind's."""
+    found = TOTAL.search(path.read_text(encoding="utf-8"))
+    if found is None:
+        raise ToolFault(DATA, f"{path.name}: callgrind wrote no total")
+    return int(found[1])
+
+
+def beside_driver(tested: Tested) -> Path:
+    """The driver beside HarfBuzz, which is compiled once."""
+    program = tested.work / "beside"
     if not program.exists():
-        flags = [*harfbuzz("--cflags"), SOURCES / "beside.c", library.file, *harfbuzz("--libs")]
-        call(["gcc", "-std=gnu11", "-O2", *WARNINGS, f"-I{INCLUDE}", "-o", program, *flags])
-    own, theirs, glyphs = call([program, *files, file, *words]).split()
-    return Times(float(own), float(theirs), glyphs == "same")
+        flags = [*harfbuzz("--cflags"), SOURCES / "beside.c", tested.library.file, *harfbuzz("--libs")]
+        call(["gcc", "-std=gnu11", "-O2", *WARNINGS, f"-DCALLS={CALLS}", f"-I{INCLUDE}", "-o", program, *flags])
+    return program

@@ -19,8 +19,9 @@ from building.kit import Kit
 from building.linking import link_library
 from building.places import LIBRARY, Place
 from building.tree import tree_of
-from library_tests import cli, drivers
-from library_tests.cases import SETTINGS, WORDS, scripts, turns
+from library_tests import cli, drivers, times
+from library_tests.cases import SETTINGS, WORDS, Words, scripts, turns
+from library_tests.drivers import Beside, Tested
 from sources.crates import ROOT
 
 COMMANDS = ("gcc", "ld", "objcopy", "ar", "nm")
@@ -88,27 +89,50 @@ class Timed(unittest.TestCase):
         taken = {0: (1.99, 1.0), 1: (4.0, 2.0), 2: (1.0, 1.0)}
         asked = []
 
-        def times(*given: object) -> drivers.Times:
-            asked.append(given[-1])
+        def measured(_: Tested, files: tuple[Path, Path], words: Words) -> Beside:
+            asked.append(words.words)
             own, theirs = taken[(len(asked) - 1) % 3]
             busy = 5 if len(asked) <= 3 else 1
-            return drivers.Times(own * busy, theirs, is_same=len(asked) != 6)
+            return Beside(own * busy, theirs, is_same=len(asked) != 6)
 
+        document = self.document()
         patches = (
-            mock.patch.object(drivers, "times", times),
-            mock.patch.object(cli, "turns", lambda: several),
-            mock.patch.object(cli, "font_value", lambda *_: Path()),
+            mock.patch.object(drivers, "times", measured),
+            mock.patch.object(drivers, "instructions", lambda *_: Beside(9000, 6000, is_same=True)),
+            mock.patch.object(times, "turns", lambda: several),
+            mock.patch.object(times, "font_value", lambda *_: Path()),
+            mock.patch.object(drivers, "harfbuzz", lambda _: ["9.0"]),
             contextlib.redirect_stdout(io.StringIO()),
         )
         with contextlib.ExitStack() as stack:
             *_, shown = map(stack.enter_context, patches)
-            slow = cli.tell_times(cli.Tested(*[Path()] * 4), Path(), some)
+            slow = cli.tell_times(Tested(Place(LIBRARY, False), Path(), Path()), Path(), some, document)
         self.assertEqual(slow, 1)
-        self.assertEqual(asked, [*([script.cases[0].text] for script in some), several[0].words] * cli.RUNS)
-        ends = ["1.99 µs, HarfBuzz 1.00 µs (1.99)", "4.00 µs, HarfBuzz 2.00 µs (2.00), too much"]
-        ends += ["1.00 µs, HarfBuzz 1.00 µs (1.00), other glyphs"]
+        self.assertEqual(asked, [*([script.cases[0].text] for script in some), several[0].words] * times.RUNS)
+        counts = "9,000 instructions, HarfBuzz 6,000 (1.50)"
+        ends = [f"1.99 µs, HarfBuzz 1.00 µs (1.99); {counts}", f"4.00 µs, HarfBuzz 2.00 µs (2.00); {counts}, too much"]
+        ends += [f"1.00 µs, HarfBuzz 1.00 µs (1.00); {counts}, other glyphs"]
         for line, end in zip(shown.getvalue().splitlines(), ends, strict=True):
             self.assertTrue(line.endswith(f": {end}"), line)
+        self.check_table(document.read_text(encoding="utf-8"))
+
+    def document(self) -> Path:
+        """A document with a table that is to be replaced."""
+        folder = tempfile.TemporaryDirectory()
+        self.addCleanup(folder.cleanup)
+        path = Path(folder.name) / "SPEED.md"
+        path.write_text(f"# Speed\n\n{cli.BEGIN}\n| old |\n{cli.END}\n\nMore.\n", encoding="utf-8")
+        return path
+
+    def check_table(self, text: str) -> None:
+        """The table says how it was taken, and that the library is unproved."""
+        self.assertTrue(text.startswith(f"# Speed\n\n{cli.BEGIN}\n\nBy `tools/test_library --table docs/SPEED.md` of "))
+        self.assertTrue(text.endswith(f"\n\n{cli.END}\n\nMore.\n"))
+        self.assertIn("of the unproved library", " ".join(text.split()))
+        self.assertIn("beside libharfbuzz 9.0 in the same run", " ".join(text.split()))
+        *_, last = [line for line in text.splitlines() if line.startswith("|")]
+        self.assertEqual(last, "| words of Latin (other glyphs) | 1.00 | 1.00 | 1.00 | 9,000 | 6,000 | 1.50 |")
+        self.assertNotIn("old", text)
 
     def test_turns(self) -> None:
         """Words of five to nine characters of four scripts; and texts of one, two and three scripts, each with numerals."""

@@ -147,7 +147,7 @@ class Answered(unittest.TestCase):
         self.assertEqual((self.font.direction(), self.font.script()), ("ttb", "Latn"))
 
     def test_queries(self) -> None:
-        self.assertEqual(self.font.upem(), 1000)
+        self.assertEqual((self.font.upem(), self.font.ascender()), (1000, 800))
         self.assertEqual((self.font.nominal_glyph("b"), self.font.nominal_glyph("c")), (2, None))
         self.assertEqual((self.font.glyph_name(2), self.font.glyph_name(1), self.font.glyph_name(1 << 20)), ("bee", None, None))
         self.assertEqual((self.font.glyph_extents(1), self.font.glyph_extents(2)), ((10, 20, 30, -40), None))

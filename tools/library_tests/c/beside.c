@@ -1,15 +1,16 @@
 /* beside TABLES FONT FILE WORD..: the microseconds of processor time of a call by a kept plan, and of hb_shape, which keeps
  * its plans with the face; the least of many rounds, in turn. The words of a round come one after another, again and
- * again. A round is shorter than the time that a busy machine leaves a process alone. */
+ * again. A round is shorter than the time that a busy machine leaves a process alone. Under callgrind a round of each side
+ * is counted. */
 #include <hb-ot.h>
 #include <hb.h>
+#include <valgrind/callgrind.h>
 #include "clock.h"
 #include "common.h"
 
 #define MOST 512
 #define ROUNDS 400
-/* The calls of a round. */
-#define CALLS 60
+/* The calls of a round (CALLS) are given where this is compiled. */
 #define WORDS 32
 
 /* The OpenType shaper alone: some fonts have rules for others. */
@@ -61,6 +62,20 @@ other (hb_font_t *font, hb_buffer_t *buffer)
   return each_since (start);
 }
 
+/* A round before it has plans and lists made. What is dumped is counted from nothing afterwards. */
+static void
+count_round (kus_font_t *font, hb_font_t *their_font, hb_buffer_t *buffer)
+{
+  own (font);
+  other (their_font, buffer);
+  CALLGRIND_START_INSTRUMENTATION;
+  own (font);
+  CALLGRIND_DUMP_STATS;
+  other (their_font, buffer);
+  CALLGRIND_DUMP_STATS;
+  CALLGRIND_STOP_INSTRUMENTATION;
+}
+
 static int
 same (hb_buffer_t *buffer, size_t made)
 {
@@ -85,7 +100,9 @@ main (int count, char **arguments)
   hb_font_t *their_font = hb_font_create (face);
   hb_buffer_t *buffer = hb_buffer_create ();
   double mine = 1e9, theirs = 1e9;
-  for (int k = 0; k < ROUNDS; k++) {
+  int rounds = RUNNING_ON_VALGRIND ? 0 : ROUNDS;
+  if (RUNNING_ON_VALGRIND) count_round (&font, their_font, buffer);
+  for (int k = 0; k < rounds; k++) {
     double a = own (&font), b = other (their_font, buffer);
     mine = a < mine ? a : mine;
     theirs = b < theirs ? b : theirs;
