@@ -3,14 +3,14 @@ use Rattle.std.proofs.Common.{ℕ, ◌≡◌, ◌≢◌, List, [], Result, Ok, E
 use Rattle.std.specs.Prelude.{◌⊎◌, ⊤, Option, Some, None, IfErr, IsErrAnd, OnOk, string_bytes}
 use Rattle.std.specs.Io.KnownBytes.{Appends, Keeps}
 use Rattle.shell_readers.specs.declared.fault.RunFault.{RunFault}
-use Rattle.shell_readers.specs.declared.fault.RunFault.TheVariants.{OutOfMemory, Read, Write}
+use Rattle.shell_readers.specs.declared.fault.RunFault.TheVariants.{OutOfMemory, Read, ReadLimit, Words, Write}
 use Rattle.shell_readers.specs.declared.options.Options.{Options}
 use Rattle.shell_readers.specs.Faults.{IsOfBytes}
 use Rattle.shell_words.specs.declared.options.CommandLine.{CommandLine}
 use Rattle.shell_words.specs.Words.{options_of, settings_in}
 use Rattle.shell_run.specs.Answer.{IsAnswer}
 use Rattle.shell_run.specs.Lines.{fault_of}
-use Rattle.shell_run.specs.Program.{Asks, EndsAtMissing, HasBytes, IsRun, Opening, Runs, Source, all_opened, sources_of, text_source}
+use Rattle.shell_run.specs.Program.{Asks, EndsAtMissing, HasBytes, IsRun, Opening, ReachesReadLimit, Runs, Source, all_opened, sources_of, text_source}
 use Rattle.shell_run.specs.Program.IsProgram.{missing, no_memory, refused, run}
 use Rattle.shell_run.specs.Program.Source.{File}
 use Rattle.shell_run.specs.Run.{AppendsFront, OfAnswer, OnKnown, SomeBytes, may_have_written}
@@ -54,7 +54,16 @@ either_known : (K A B : Type 0) → (A → B) → K ⊎ A → K ⊎ B
 either_known K A B f (inl k) = inl k
 either_known K A B f (inr a) = inr (f a)
 
+reaches_known : (known remaining : Option (List ℕ)) → HasBytes known remaining → ReachesReadLimit remaining → ReachesReadLimit known
+reaches_known None remaining has long = tt
+reaches_known (Some bytes) remaining has long = subst ReachesReadLimit has long
+
 module _ (options : Options) (ts fs xs rs ss us old new : Option (List ℕ)) (p : HasBytes ts rs) (q : HasBytes fs ss) (r : HasBytes xs us) where
+  some_reaches : ReachesReadLimit rs ⊎ ReachesReadLimit ss ⊎ ReachesReadLimit us → ReachesReadLimit ts ⊎ ReachesReadLimit fs ⊎ ReachesReadLimit xs
+  some_reaches (inl tables) = inl (reaches_known ts rs p tables)
+  some_reaches (inr (inl font)) = inr (inl (reaches_known fs ss q font))
+  some_reaches (inr (inr text)) = inr (inr (reaches_known xs us r text))
+
   -- what `run` ensures
   pub is_run : (result : Result ⊤ RunFault)
       → OnOk result (OnKnown rs ss us (λ a b c. SomeBytes (IsAnswer options a b c) None (Appends old new)))
@@ -62,19 +71,25 @@ module _ (options : Options) (ts fs xs rs ss us old new : Option (List ℕ)) (p 
       → (result ≡ Err Write → OnKnown rs ss us (λ a b c. OfAnswer (IsAnswer options a b c) (AppendsFront old new)))
       → (result ≡ Err OutOfMemory → Keeps old new ⊎ OnKnown rs ss us (λ a b c. OfAnswer (IsAnswer options a b c) (AppendsFront old new)))
       → IfErr result (λ e. may_have_written options e ≡ false → Keeps old new)
+      → result ≢ Err Words
+      → (result ≡ Err ReadLimit → ReachesReadLimit rs ⊎ ReachesReadLimit ss ⊎ ReachesReadLimit us)
       → IsRun options ts fs xs old new (fault_of result)
-  is_run (Ok done) written refuses front memory kept = record {
+  is_run (Ok done) written refuses front memory kept parsed limit = record {
     answered = λ _. known_as (λ a b c. SomeBytes (IsAnswer options a b c) None (Appends old new)) ts fs xs rs ss us p q r written;
     write_last = λ same. cc;
     no_memory = λ same. let no : ⊥ = cc in absurd no;
     kept = tt;
+    not_words = λ same. let no : ⊥ = cc in absurd no;
+    read_limit = λ same. let no : ⊥ = cc in absurd no;
   }
-  is_run (Err e) written refuses front memory kept = record {
+  is_run (Err e) written refuses front memory kept parsed limit = record {
     answered = λ of. known_as (λ a b c. SomeBytes (IsAnswer options a b c) (Some e) (Appends old new)) ts fs xs rs ss us p q r (refuses of);
     write_last = λ same. let is : e ≡ Write = cc in known_as (λ a b c. OfAnswer (IsAnswer options a b c) (AppendsFront old new)) ts fs xs rs ss us p q r (front (ap Err is));
     no_memory = λ same. let is : e ≡ OutOfMemory = cc in
         either_known (Keeps old new) _ _ (λ some. known_as (λ a b c. OfAnswer (IsAnswer options a b c) (AppendsFront old new)) ts fs xs rs ss us p q r some) (memory (ap Err is));
     kept = kept;
+    not_words = λ same. let is : e ≡ Words = cc in parsed (ap Err is);
+    read_limit = λ same. let is : e ≡ ReadLimit = cc in some_reaches (limit (ap Err is));
   }
 
 -- the end of a result that `?` passes on

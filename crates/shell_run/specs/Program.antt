@@ -1,9 +1,9 @@
 -- The program's files and standard input, the line of a fault, and what the program does with its command-line words.
-use Rattle.std.specs.Prelude.{◌≡◌, ℕ, ◌⊎◌, ⊤, Bool, true, false, if◌then◌else◌, List, [], ◌∷◌, ◌++◌, Option, Some, None, Ok, Err, IfSome, codes, string_bytes}
+use Rattle.std.specs.Prelude.{◌≡◌, ◌≢◌, ◌≤◌, ◌^◌, ℕ, ◌⊎◌, ⊤, Bool, true, false, if◌then◌else◌, List, [], ◌∷◌, ◌++◌, Option, Some, None, Ok, Err, IfSome, codes, length, string_bytes}
 use Rattle.std.specs.Io.KnownBytes.{Appends, Keeps}
 use Rattle.std.specs.Str.{bytes_eq}
 use Rattle.shell_readers.specs.declared.fault.RunFault.{RunFault}
-use Rattle.shell_readers.specs.declared.fault.RunFault.TheVariants.{OutOfMemory, Read, Write}
+use Rattle.shell_readers.specs.declared.fault.RunFault.TheVariants.{OutOfMemory, Read, ReadLimit, Words, Write}
 use Rattle.shell_readers.specs.declared.options.Options.{Options}
 use Rattle.shell_readers.specs.Fault.{message_of, status_of}
 use Rattle.shell_readers.specs.Faults.{IsOfBytes}
@@ -75,6 +75,10 @@ abbrev pub IsAnswered : Option RunFault → Type 0
 IsAnswered None = ⊤
 IsAnswered (Some fault) = IsOfBytes fault
 
+-- a source that is not at its end after 2^26 reads has a byte for each, where its bytes are known
+abbrev pub ReachesReadLimit : Option (List ℕ) → Type 0
+ReachesReadLimit bytes = IfSome bytes (λ bs. 2 ^ 26 ≤ length bs)
+
 -- what a run over tables, a font and a text writes, by its end, where the bytes of the three are known
 pub record IsRun (options : Options) (tables font text old new : Option (List ℕ)) (end : Option RunFault) : Type 0 where
   -- the bytes of the answer that has this end are written
@@ -85,6 +89,10 @@ pub record IsRun (options : Options) (tables font text old new : Option (List �
   pub no_memory : end ≡ Some OutOfMemory → Keeps old new ⊎ OnKnown tables font text (λ ts fs xs. OfAnswer (IsAnswer options ts fs xs) (AppendsFront old new))
   -- before other faults nothing is written
   pub kept : IfSome end (λ fault. may_have_written options fault ≡ false → Keeps old new)
+  -- words that were parsed are not refused
+  pub not_words : end ≢ Some Words
+  -- the limit of reads is reached by one of the three
+  pub read_limit : end ≡ Some ReadLimit → ReachesReadLimit tables ⊎ ReachesReadLimit font ⊎ ReachesReadLimit text
 
 -- what the program does with its command-line words, by the sources that it asks for and by its end
 pub data IsProgram (words : List (List ℕ)) (bytes : Source → Option (List ℕ)) (old new : Option (List ℕ)) : List Opening → Option RunFault → Type 0 where

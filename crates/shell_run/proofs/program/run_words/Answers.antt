@@ -39,4 +39,4 @@ returns g c =
     (is_run line.options (bytes (File (string_bytes line.tables))) (bytes (File (string_bytes line.font))) (bytes (text_source (string_bytes line.text)))
     (g.F.Read.remaining opened.tables) (g.F.Read.remaining opened.font) (g.F.Read.remaining opened.text) out out'
     c.in_ok-opened.ensures.tables c.in_ok-opened.ensures.font c.in_ok-opened.ensures.text
-    c.run.result c.run.ensures.written c.run.ensures.refused c.run.ensures.write_last c.run.ensures.no_memory c.run.ensures.kept)
+    c.run.result c.run.ensures.written c.run.ensures.refused c.run.ensures.write_last c.run.ensures.no_memory c.run.ensures.kept c.run.ensures.not_words c.run.ensures.read_limit)
