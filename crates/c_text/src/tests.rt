@@ -1,11 +1,11 @@
 //! With ample memory a text of C becomes its buffer, and its features become requests; and some tags of scripts.
 use crate::numbers::{script_number, script_numbered};
-use crate::texts::{features_of, text_buffer};
+use crate::texts::{features_of, put_text};
 use crate::types::{kus_feature_t, kus_text_t};
 use buffer_common::direction::Direction;
 use buffer_common::script::{ARABIC, DEVANAGARI, Script, UNKNOWN};
 use buffer_common::tag::Tag;
-use buffer_wrappers::unicode_buffer::UnicodeBuffer;
+use buffer_core::buffer::hb_buffer_t;
 use shell_readers::fault::RunFault;
 use std::alloc::Global;
 use std::test::Fail;
@@ -32,8 +32,8 @@ fn text_of<'a>(text: &'a [u8], features: &'a [kus_feature_t]) -> kus_text_t<'a> 
 }
 
 fn fault_of(alloc: Global, text: &[u8]) -> Option<RunFault> {
-    match text_buffer(alloc, &text_of(text, &[]), UnicodeBuffer::new(alloc)) {
-        Ok(_) => None,
+    match put_text(alloc, &text_of(text, &[]), &mut hb_buffer_t::new(alloc)) {
+        Ok(()) => None,
         Err(fault) => Some(fault),
     }
 }
@@ -41,7 +41,8 @@ fn fault_of(alloc: Global, text: &[u8]) -> Option<RunFault> {
 #[test]
 fn texts_become_buffers(rt: HostRuntime) -> Result<(), Fail> {
     let text = text_of(b"a\xC3\xA4b", &[]);
-    let buffer = text_buffer(rt.alloc(), &text, UnicodeBuffer::new(rt.alloc()))?;
+    let mut buffer = hb_buffer_t::new(rt.alloc());
+    put_text(rt.alloc(), &text, &mut buffer)?;
     assert_eq!(rt; buffer.len(), 3);
     assert!(rt; buffer.direction() == Direction::RightToLeft);
     assert!(rt; buffer.language().is_some());

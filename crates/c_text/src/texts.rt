@@ -1,6 +1,8 @@
 //! The text that C passes becomes a buffer to be shaped.
-ghost use Rattle.std.specs.Prelude.{⊤, ◌≡◌, ◌≢◌, IfOk, IfErr, MatchOption, Some, true, false};
-ghost use Rattle.buffer_core.specs.Sides.{empty_buffer};
+ghost use Rattle.std.specs.Prelude.{⊤, ◌≡◌, ◌≢◌, IfOk, IfErr, MatchOption, Ok, OnOk, Some, true, false};
+ghost use Rattle.buffer_core.specs.Sides.{empty_buffer, with_added};
+ghost use Rattle.buffer_core.specs.Text.{added_text, fits_text};
+ghost use Rattle.buffer_wrappers.specs.Wrappers.{IsText};
 ghost use Rattle.c_text.specs.Texts.{IsLanguage, IsTextOf, are_utf8, feature_of, features_of, set_buffer, text_fault};
 
 use crate::numbers::{direction_numbered, level_numbered, script_numbered};
@@ -8,9 +10,9 @@ use crate::types::{kus_feature_t, kus_text_t};
 use buffer_common::constants::BufferFlags;
 use buffer_common::language::Language;
 use buffer_common::tag::Tag;
+use buffer_core::buffer::hb_buffer_t;
 use buffer_glyphs::cause::ShapeCause;
 use buffer_tags::feature::Feature;
-use buffer_wrappers::unicode_buffer::UnicodeBuffer;
 use shell_readers::fault::RunFault;
 use shell_readers::values::utf8;
 use std::alloc::{AllocError, Global};
@@ -74,49 +76,58 @@ fn language_of(alloc: Global, tag: &str) -> Result<Option<Language>, RunFault>
     }
 }
 
-/// The empty buffer with the settings of a text.
-fn set_buffer(
+/// Sets in an empty buffer what a text sets.
+#[tactic(auto, using(crate::proofs::Putting::set_buffer_is_text))]
+fn put_settings(
     text: &kus_text_t<'_>,
     strings: Strings<'_>,
     language: Option<Language>,
-    mut buffer: UnicodeBuffer,
-) -> UnicodeBuffer
-    requires empty { buffer ≡ empty_buffer }
+    buffer: &mut hb_buffer_t,
+)
+    requires empty { buffer.old ≡ empty_buffer }
     requires before { strings.before.now ≡ text.now.before.now }
     requires after { strings.after.now ≡ text.now.after.now }
-    ensures { result ≡ set_buffer text.now language }
+    ensures set { buffer.new ≡ set_buffer text.now language }
+    ensures text { IsText buffer.new }
 {
     buffer.set_cluster_level(level_numbered(text.cluster_level));
     buffer.set_flags(BufferFlags(text.flags));
     buffer.set_direction(direction_numbered(text.direction));
-    if let Some(script) = script_numbered(text.script) {
-        buffer.set_script(script);
-    }
-    if let Some(language) = language {
-        buffer.set_language(language);
-    }
+    buffer.set_script(script_numbered(text.script));
+    buffer.set_language(language);
     buffer.set_pre_context(strings.before);
     buffer.set_post_context(strings.after);
-    buffer
 }
 
-/// The buffer of a text, in the storage of an empty one.
-pub fn text_buffer(
+/// Appends characters to a buffer that holds characters alone; answers false, and appends none, where there are too many.
+#[tactic(auto, using(buffer_wrappers::proofs::Characters::text_characters, buffer_wrappers::proofs::Characters::text_grown))]
+fn push_characters(buffer: &mut hb_buffer_t, text: &str) -> Result<bool, AllocError>
+    requires { IsText buffer.old }
+    ensures held { IfOk result (λ b. b ≡ fits_text text.now buffer.old) }
+    ensures added { result ≡ Ok true → buffer.new ≡ with_added (added_text text.now) buffer.old }
+    ensures text { IsText buffer.new }
+{
+    buffer.push_str(text)
+}
+
+/// Puts a text into an empty buffer. Where it is refused, the buffer can only be cleared.
+pub fn put_text(
     alloc: Global,
     text: &kus_text_t<'_>,
-    buffer: UnicodeBuffer,
-) -> Result<UnicodeBuffer, RunFault>
-    requires { buffer ≡ empty_buffer }
-    ensures ok { IfOk result (IsTextOf text.now) }
+    buffer: &mut hb_buffer_t,
+) -> Result<(), RunFault>
+    requires { buffer.old ≡ empty_buffer }
+    ensures ok { OnOk result (IsTextOf text.now buffer.new) }
+    ensures characters { OnOk result (IsText buffer.new) }
     ensures refused { IfErr result (λ e. e ≢ RunFault.OutOfMemory → text_fault text.now ≡ Some e) }
 {
     let Some(strings) = utf8_strings(text) else {
         return Err(RunFault::NotUtf8);
     };
     let language = language_of(alloc, strings.language)?;
-    let mut buffer = set_buffer(text, strings, language, buffer);
-    if !buffer.push_str(strings.text)? {
+    put_settings(text, strings, language, buffer);
+    if !push_characters(buffer, strings.text)? {
         return Err(RunFault::Shape(ShapeCause::TooLong));
     }
-    Ok(buffer)
+    Ok(())
 }

@@ -2,7 +2,7 @@
 use Rattle.std.proofs.Common.{ℕ, ◌≡◌, ◌≢◌, Err, List, ap, subst, ◌∙◌}
 use Rattle.buffer_common.specs.declared.tag.Tag.{Tag}
 use Rattle.buffer_core.specs.Segment.{after_guess_segment_properties}
-use Rattle.buffer_core.specs.Sides.{Sides, state_of}
+use Rattle.buffer_core.specs.Sides.{Settings, Sides, state_of}
 use Rattle.buffer_glyphs.specs.declared.cause.ShapeCause.{ShapeCause}
 use Rattle.buffer_glyphs.specs.declared.cause.ShapeCause.TheVariants.{OutOfMemory as NoMemory}
 use Rattle.buffer_tags.specs.LanguageTable.{tags_of_table}
@@ -11,12 +11,17 @@ use Rattle.shape_pipeline.specs.buffer_unicode_tables.Tables.{Tables}
 use Rattle.layout_face.specs.declared.parts.FaceParts.{FaceParts}
 use Rattle.script_categories.specs.LongestMatch.{syllable_at}
 use Rattle.shape_pipeline.specs.script_plan.Rules.{Spans}
+use Rattle.shape_pipeline.specs.Results.{IsResultOf}
 use Rattle.shape_pipeline.specs.Shaped.{by_text, text_reading}
 use Rattle.shell_readers.specs.declared.fault.RunFault.{RunFault}
 use Rattle.shell_readers.specs.declared.fault.RunFault.TheVariants.{OutOfMemory}
 use Rattle.shell_readers.specs.Fault.{fault_of_cause}
 use Rattle.shell_readers.specs.declared.input.RunInput.{RunInput}
 use Rattle.kuspveli_c.specs.Fonts.{IsUnshaped}
+
+-- a result has the script of its text
+pub script_handed_on : (text glyphs : Sides) → IsResultOf text glyphs → glyphs.script ≡ text.script
+script_handed_on text glyphs is = ap (λ (s : Settings). s.script) is.settings
 
 -- a fault names the cause for which the text is refused, by what was read
 pub refused_by_data : (input : RunInput) (face : FaceParts) (tables : Tables) (tags : List ℕ → List Tag) (spans : Spans) (features : List Feature) (text : Sides) (cause : ShapeCause) (e : RunFault)

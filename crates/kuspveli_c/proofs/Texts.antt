@@ -41,10 +41,12 @@ pub number_of_fault : (Holds : RunFault → Type 0) (e : RunFault) (number : ℕ
 number_of_fault Holds e number same holds memory =
     record { fault = e; same = same; holds = holds (λ none. memory (same ∙ ap fault_number none)) }
 
--- the direction and the script of a text's buffer are the text's
-pub segment_of_text : (t : kus_text_t) (buffer : Sides) (segment : Segment) → IsTextOf t buffer
-    → segment.direction ≡ (after_guess_segment_properties buffer).direction → segment.script ≡ (after_guess_segment_properties buffer).script → HasSegmentOf t segment
-segment_of_text t buffer segment is direction script = record { buffer = buffer; of_text = is; direction = direction; script = script }
+-- the direction and the script that a text was shaped by are the text's
+pub segment_of_text : (t : kus_text_t) (buffer shaped : Sides) (segment : Segment) → IsTextOf t buffer
+    → shaped.direction ≡ (after_guess_segment_properties buffer).direction → shaped.script ≡ (after_guess_segment_properties buffer).script
+    → segment.direction ≡ shaped.direction → segment.script ≡ shaped.script → HasSegmentOf t segment
+segment_of_text t buffer shaped segment is direction script same_direction same_script =
+    record { buffer = buffer; of_text = is; direction = same_direction ∙ direction; script = same_script ∙ script }
 
 -- ---- tables, and fonts over them
 

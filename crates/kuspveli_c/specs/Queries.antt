@@ -78,8 +78,12 @@ pub record AreSlicesOf (glyphs : Sides) (text : List ℕ) (room now : List kus_s
   pub all : count ≡ length slices
   pub written : now ≡ with_front (map slice_of slices) room
 
--- the number of why there are no slices: no font, a text that is not UTF-8, or one that the glyphs don't fit
+-- the number of why glyphs have no slices: a text that is not UTF-8, or one that the glyphs don't fit
+abbrev pub IsSlicesRefusal : Sides → List ℕ → ℕ → Type 0
+IsSlicesRefusal glyphs text number =
+    ((number ≡ 10) × (is_utf8 text ≡ false)) ⊎ ((number ≡ 18) × (is_utf8 text ≡ true) × (¬ SlicesFit glyphs text))
+
+-- the number of why there are no slices: no font, or what the font's glyphs have
 abbrev pub IsSlicesFault : Option KeptFont → List ℕ → ℕ → Type 0
 IsSlicesFault None text number = number ≡ 16
-IsSlicesFault (Some f) text number =
-    ((number ≡ 10) × (is_utf8 text ≡ false)) ⊎ ((number ≡ 18) × (is_utf8 text ≡ true) × (¬ SlicesFit f.glyphs text))
+IsSlicesFault (Some f) text number = IsSlicesRefusal f.glyphs text number

@@ -1,5 +1,5 @@
 //! A font as handles keep it: what was read, which they share; plans for texts like the last ones; the last text's glyphs.
-ghost use Rattle.std.specs.Prelude.{◌≡◌, ◌≢◌, IfErr, IfOk, Ok, Err, OnErr, OnOk, length, map};
+ghost use Rattle.std.specs.Prelude.{◌≡◌, ◌≢◌, IfErr, IfOk, Ok, Err, OnErr, OnOk, false, length, map};
 ghost use Rattle.buffer_core.specs.Sides.{all_glyphs, empty_buffer};
 ghost use Rattle.c_text.specs.Written.{info_of, position_of, with_front};
 ghost use Rattle.shell_readers.specs.Input.{IsInput, font_in, input_value};
@@ -9,9 +9,9 @@ ghost use Rattle.kuspveli_c.specs.Plans.{HasPlansOf};
 use crate::input::{Input, Tables};
 use crate::plan::{KEPT_PLANS, shape_kept};
 use crate::segment::{NO_SEGMENT, Segment, segment_of};
+use buffer_core::buffer::hb_buffer_t;
 use buffer_wrappers::glyphs::GlyphBuffer;
-use buffer_wrappers::unicode_buffer::UnicodeBuffer;
-use c_text::texts::{features_of, text_buffer};
+use c_text::texts::{features_of, put_text};
 use c_text::types::{kus_glyph_info_t, kus_glyph_position_t, kus_text_t};
 use c_text::written::write_front;
 use layout_face::Face;
@@ -26,7 +26,8 @@ use std::mem;
 pub struct Font {
     input: Input,
     plans: PlanCache,
-    glyphs: GlyphBuffer,
+    // The last text's glyphs, in the buffer in which the next text is shaped.
+    buffer: hb_buffer_t,
     segment: Segment,
 }
 
@@ -36,10 +37,11 @@ impl Model for Font {
     ghost Value = { KeptFont };
 
     ghost use Rattle.kuspveli_c.specs.Plans.{HasPlansOf};
+    ghost use Rattle.std.specs.Prelude.{◌≡◌, false};
 
-    ghost view = { λ f. record { input = f.input; glyphs = f.glyphs; segment = f.segment } };
+    ghost view = { λ f. record { input = f.input; glyphs = f.buffer; segment = f.segment } };
 
-    ghost invariant = { λ f. HasPlansOf f.input f.plans };
+    ghost invariant = { λ f. (HasPlansOf f.input f.plans) × (f.buffer.is_open ≡ false) };
 }
 
 impl Font {
@@ -50,7 +52,7 @@ impl Font {
         Font {
             input,
             plans: PlanCache::new(alloc, KEPT_PLANS),
-            glyphs: no_glyphs(alloc),
+            buffer: hb_buffer_t::new(alloc),
             segment: NO_SEGMENT,
         }
     }
@@ -94,11 +96,19 @@ impl Font {
         self.input.face()
     }
 
-    /// The glyphs of the last text.
-    pub fn glyphs(&self) -> &GlyphBuffer
-        ensures { result.now ≡ self.now.glyphs }
+    /// Takes the last text's glyphs out, and leaves none.
+    pub fn take_glyphs(&mut self, alloc: Global) -> GlyphBuffer
+        ensures glyphs { result ≡ self.old.glyphs }
+        ensures left { self.new ≡ record self.old { glyphs = empty_buffer } }
     {
-        &self.glyphs
+        GlyphBuffer::from_buffer(mem::replace(&mut self.buffer, hb_buffer_t::new(alloc)))
+    }
+
+    /// Puts the last text's glyphs back.
+    pub fn put_glyphs(&mut self, glyphs: GlyphBuffer)
+        ensures { self.new ≡ record self.old { glyphs = glyphs } }
+    {
+        self.buffer = glyphs.into_buffer();
     }
 
     /// The direction and the script by which the last text was shaped.
@@ -117,7 +127,7 @@ impl Font {
         ensures refused { IfErr result (λ e. e ≢ RunFault.OutOfMemory → IsFaultOf self.old.input text.now e) }
     {
         self.segment = NO_SEGMENT;
-        self.segment = shape_into(alloc, &self.input, &mut self.plans, &mut self.glyphs, text)?;
+        self.segment = shape_into(alloc, &self.input, &mut self.plans, &mut self.buffer, text)?;
         Ok(())
     }
 
@@ -131,16 +141,10 @@ impl Font {
         ensures infos { infos.new ≡ with_front (map info_of (all_glyphs self.now.glyphs)) infos.old }
         ensures positions { positions.new ≡ with_front (map position_of self.now.glyphs.positions) positions.old }
     {
-        write_front(self.glyphs.glyph_infos(), infos);
-        write_front(self.glyphs.glyph_positions(), positions);
-        self.glyphs.len()
+        write_front(self.buffer.info_slice(), infos);
+        write_front(self.buffer.pos_slice(), positions);
+        self.buffer.len()
     }
-}
-
-fn no_glyphs(alloc: Global) -> GlyphBuffer
-    ensures { result ≡ empty_buffer }
-{
-    GlyphBuffer::from_buffer(UnicodeBuffer::new(alloc).into_buffer())
 }
 
 /// Shapes a text in the storage of the glyphs before it; answers by which direction and script.
@@ -148,43 +152,48 @@ fn shape_into(
     alloc: Global,
     input: &Input,
     plans: &mut PlanCache,
-    glyphs: &mut GlyphBuffer,
+    buffer: &mut hb_buffer_t,
     text: &kus_text_t<'_>,
 ) -> Result<Segment, RunFault>
     requires { HasPlansOf input.now plans.old }
     ensures plans { HasPlansOf input.now plans.new }
-    ensures ok { OnOk result (AreGlyphsOf input.now text.now glyphs.new) }
+    ensures ok { OnOk result (AreGlyphsOf input.now text.now buffer.new) }
     ensures segment { IfOk result (HasSegmentOf text.now) }
-    ensures none { OnErr result (glyphs.new ≡ empty_buffer) }
+    ensures none { OnErr result (buffer.new ≡ empty_buffer) }
     ensures refused { IfErr result (λ e. e ≢ RunFault.OutOfMemory → IsFaultOf input.now text.now e) }
+    ensures closed { buffer.new.is_open ≡ false }
 {
-    let storage = mem::replace(glyphs, no_glyphs(alloc)).clear();
-    let (shaped, segment) = shape_text(alloc, input, plans, storage, text)?;
-    *glyphs = shaped;
-    Ok(segment)
+    buffer.clear();
+    match shape_text(alloc, input, plans, text, buffer) {
+        Ok(segment) => Ok(segment),
+        Err(fault) => {
+            buffer.clear();
+            Err(fault)
+        }
+    }
 }
 
-/// Shapes a text in the storage of an empty buffer.
+/// Shapes a text in an empty buffer.
 #[tactic(auto, using(crate::proofs::Texts::glyphs_of_text, crate::proofs::Texts::segment_of_text, crate::proofs::Texts::fault_of_bytes, crate::proofs::Texts::fault_of_reading))]
 fn shape_text(
     alloc: Global,
     input: &Input,
     plans: &mut PlanCache,
-    storage: UnicodeBuffer,
     text: &kus_text_t<'_>,
-) -> Result<(GlyphBuffer, Segment), RunFault>
+    buffer: &mut hb_buffer_t,
+) -> Result<Segment, RunFault>
     requires plans { HasPlansOf input.now plans.old }
-    requires empty { storage ≡ empty_buffer }
+    requires empty { buffer.old ≡ empty_buffer }
     ensures plans { HasPlansOf input.now plans.new }
-    ensures ok { IfOk result (λ p. AreGlyphsOf input.now text.now p.0) }
-    ensures segment { IfOk result (λ p. HasSegmentOf text.now p.1) }
+    ensures ok { OnOk result (AreGlyphsOf input.now text.now buffer.new) }
+    ensures segment { IfOk result (HasSegmentOf text.now) }
     ensures refused { IfErr result (λ e. e ≢ RunFault.OutOfMemory → IsFaultOf input.now text.now e) }
+    ensures closed { OnOk result (buffer.new.is_open ≡ false) }
 {
     let features = features_of(alloc, text)?;
-    let buffer = text_buffer(alloc, text, storage)?;
-    let segment = segment_of(&buffer);
-    let glyphs = shape_kept(alloc, input, plans, &features, buffer)?;
-    Ok((glyphs, segment))
+    put_text(alloc, text, buffer)?;
+    shape_kept(alloc, input, plans, &features, buffer)?;
+    Ok(segment_of(buffer))
 }
 
 fn is_send<T: Send>(_value: &T) {}

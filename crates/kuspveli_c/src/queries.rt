@@ -6,10 +6,11 @@ ghost use Rattle.layout_face.specs.Glyphs.{nominal_glyph};
 ghost use Rattle.c_text.specs.Numbers.{direction_number, script_number};
 ghost use Rattle.c_text.specs.Written.{extents_of, with_front};
 ghost use Rattle.kuspveli_c.specs.Fonts.{glyphs_of, segment_in};
-ghost use Rattle.kuspveli_c.specs.Queries.{AreSlicesOf, IsSlicesFault, ascender_in, extents_in, feature_tags, feature_tags_in, glyph_in, layout_in, name_in, script_tags, script_tags_in, upem_in};
+ghost use Rattle.kuspveli_c.specs.Queries.{AreSlicesOf, IsSlicesFault, IsSlicesRefusal, ascender_in, extents_in, feature_tags, feature_tags_in, glyph_in, layout_in, name_in, script_tags, script_tags_in, upem_in};
 
 use crate::font::Font;
 use crate::handle::Handle;
+use buffer_wrappers::glyphs::GlyphBuffer;
 use c_text::numbers::{direction_number, script_number};
 use c_text::types::{kus_glyph_extents_t, kus_slice_t};
 use c_text::written::{extents_of, write_front};
@@ -68,6 +69,7 @@ pub extern "C" fn kus_get_script(alloc: Global, font: &mut Handle) -> u32
 
 /// Each run of the last text's glyphs with one cluster, and the bytes of the text that it comes from, as many as there is room
 /// for, and how many there are; none where the glyphs don't fit the text.
+#[tactic(auto, using(crate::proofs::Slices::glyphs_put_back, crate::proofs::Slices::slices_of_font, crate::proofs::Slices::font_refuses_slices))]
 #[unsafe(no_mangle)]
 pub extern "C" fn kus_get_slices(
     alloc: Global,
@@ -82,10 +84,12 @@ pub extern "C" fn kus_get_slices(
     ensures none { result ≢ 0 → (count.new ≡ 0) × (slices.new ≡ slices.old) }
 {
     *count = 0;
-    let Some(shown) = font.take(alloc) else {
+    let Some(mut shown) = font.take(alloc) else {
         return NO_FONT;
     };
-    let status = write_slices(alloc, &shown, text, slices, count);
+    let glyphs = shown.take_glyphs(alloc);
+    let status = write_slices(alloc, &glyphs, text, slices, count);
+    shown.put_glyphs(glyphs);
     font.put(alloc, shown);
     status
 }
@@ -93,23 +97,23 @@ pub extern "C" fn kus_get_slices(
 #[tactic(auto, using(crate::proofs::Slices::slices_of_bytes))]
 fn write_slices(
     alloc: Global,
-    font: &Font,
+    glyphs: &GlyphBuffer,
     text: &[u8],
     slices: &mut [kus_slice_t],
     count: &mut usize,
 ) -> u32
     requires { count.old ≡ 0 }
-    ensures slices { result ≡ 0 → AreSlicesOf font.now.glyphs text.now slices.old slices.new count.new }
-    ensures refused { result ≢ 0 → result ≢ 1 → IsSlicesFault (Some font.now) text.now result }
+    ensures slices { result ≡ 0 → AreSlicesOf glyphs.now text.now slices.old slices.new count.new }
+    ensures refused { result ≢ 0 → result ≢ 1 → IsSlicesRefusal glyphs.now text.now result }
     ensures none { result ≢ 0 → (count.new ≡ 0) × (slices.new ≡ slices.old) }
 {
     let Some(text) = utf8(text) else {
         return NOT_UTF8;
     };
-    if !slices_fit(font.glyphs(), text) {
+    if !slices_fit(glyphs, text) {
         return NO_SLICES;
     }
-    let Ok(found) = source_slices(alloc, font.glyphs(), text) else {
+    let Ok(found) = source_slices(alloc, glyphs, text) else {
         return OUT_OF_MEMORY;
     };
     *count = found.len();

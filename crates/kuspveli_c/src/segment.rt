@@ -1,10 +1,9 @@
 //! The direction and the script by which a text is shaped.
 ghost use Rattle.std.specs.Prelude.{◌≡◌};
-ghost use Rattle.buffer_core.specs.Segment.{after_guess_segment_properties};
 
 use buffer_common::direction::Direction;
 use buffer_common::script::Script;
-use buffer_wrappers::unicode_buffer::UnicodeBuffer;
+use buffer_core::buffer::hb_buffer_t;
 
 /// The direction and the script by which a text is shaped.
 #[derive(Clone, Copy)]
@@ -19,13 +18,13 @@ pub const NO_SEGMENT: Segment = Segment {
     script: None,
 };
 
-/// That of a text, guessed where it is not set.
-pub fn segment_of(text: &UnicodeBuffer) -> Segment
-    ensures direction { result.direction ≡ (after_guess_segment_properties text.now).direction }
-    ensures script { result.script ≡ (after_guess_segment_properties text.now).script }
+/// That of a text that was shaped.
+pub fn segment_of(shaped: &hb_buffer_t) -> Segment
+    ensures direction { result.direction ≡ shaped.now.direction }
+    ensures script { result.script ≡ shaped.now.script }
 {
     Segment {
-        direction: text.guessed_direction(),
-        script: text.guessed_script(),
+        direction: shaped.direction(),
+        script: shaped.script(),
     }
 }

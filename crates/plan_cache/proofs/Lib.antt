@@ -1,3 +1,4 @@
 mod Order
 mod Languages
+mod Guessed
 mod Shaped

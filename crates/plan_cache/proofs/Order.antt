@@ -1,7 +1,7 @@
 -- The order of use.
 use Rattle.std.proofs.Common.{ℕ, suc, ◌≡◌, ◌+◌, ◌-◌, ◌<◌, ◌≤◌, ◌⊎◌, inl, inr, List, [], ◌∷◌, ◌++◌, length, take, drop, refl, sym, ap, subst, ◌∙◌, arith}
 use Rattle.std.specs.List.{All, AllWithin, HoldsAt, remove, slice_range, slice_index_or}
-use Rattle.std.proofs.lemmas.List.{length-append, drop-append-le, get_or_at, drop_more, length_push}
+use Rattle.std.proofs.lemmas.List.{append-nil, drop-append-le, drop_all, drop_more, get_or_at, length-append, length-drop, length_push, take-append-drop, take_all}
 use Rattle.std.proofs.lemmas.Bool.{cases_order}
 use Rattle.std.proofs.lemmas.List.Elements.{All-append, All-take, All-drop, All-push}
 use Rattle.shape_pipeline.specs.buffer_common.declared.tag.Tag.{Tag}
@@ -51,6 +51,15 @@ after_miss tags features text old new k none serves same = record {
   hit = λ i is. absurd (none i (some_of old.plans i is.within) is.within (is.serves (some_of old.plans i is.within)));
   miss = λ again. record { plan = k; serves = serves; is = same };
 }
+
+-- the last plan, used again, stays the last
+pub last_used_again : (c : Cache) (i : ℕ) → i < length c.plans → i ≡ length c.plans - 1 → c ≡ with_plan_used i c
+last_used_again c i within last =
+    let xs = c.plans in
+    let rest : slice_range xs i (i + 1) ≡ drop i xs = take_all (i + 1 - i) (drop i xs) (omega (arith, length-drop i xs)) in
+    let none : drop (suc i) xs ≡ [] = drop_all (suc i) xs (omega arith) in
+    let front : remove xs i ≡ take i xs = ap (λ l. take i xs ++ l) none ∙ append-nil (take i xs) in
+    ap (λ l. record c { plans = l }) (sym (ap (λ l. l ++ slice_range xs i (i + 1)) front ∙ ap (λ l. take i xs ++ l) rest ∙ take-append-drop i xs))
 
 -- ---- another plan
 

@@ -1,10 +1,11 @@
 //! Plans for texts in turn.
-ghost use Rattle.std.specs.Prelude.{◌≡◌, ◌≢◌, ◌≤◌, ◌<◌, ◌-◌, ◌⊎◌, Err, IfErr, IfOk, MatchOption, Ok, OnErr, OnOk, [], drop, length, slice_index_or};
-ghost use Rattle.std.specs.List.{All};
+ghost use Rattle.std.specs.Prelude.{◌≡◌, ◌≢◌, ◌≤◌, ◌<◌, ◌-◌, ◌+◌, ◌++◌, ◌⊎◌, Err, IfErr, IfOk, MatchOption, Ok, OnErr, OnOk, [], drop, false, length, slice_index_or};
+ghost use Rattle.std.specs.List.{All, remove, slice_range};
 ghost use Rattle.shape_pipeline.specs.buffer_core.Readings.{Follows};
 ghost use Rattle.shape_pipeline.specs.buffer_core.Segment.{after_guess_segment_properties};
 ghost use Rattle.shape_pipeline.specs.buffer_core.Settings.{after_leave};
 ghost use Rattle.shape_pipeline.specs.buffer_core.Sides.{all_glyphs, empty_buffer, state_of};
+ghost use Rattle.shape_pipeline.specs.buffer_wrappers.Wrappers.{IsText};
 ghost use Rattle.shape_pipeline.specs.Results.{IsResultOf};
 ghost use Rattle.shape_pipeline.specs.Shaped.{by_text, text_reading};
 ghost use Rattle.plan_cache.specs.Cache.{EndsServing, IsAfter, IsCacheOf, IsServing, ServeNot, with_plan_used, with_plan_added};
@@ -14,7 +15,7 @@ use crate::cached::CachedPlan;
 use shape_pipeline::laws::law_serving_plans_give_the_texts_shaping;
 use shape_pipeline::{
     Face, Feature, GlyphBuffer, LanguageTags, ShapeCause, ShapeFault, SyllableSpans, UnicodeBuffer,
-    hb_shape_data_t, shape, shape_with_plan,
+    hb_buffer_t, hb_shape_data_t, shape_buffer,
 };
 use std::alloc::{AllocError, Global};
 use std::marker::Model;
@@ -68,7 +69,6 @@ impl PlanCache {
     /// Shapes a text in a font to what `shape` gives, by a plan of the cache where one serves the text, else by a new one,
     /// which the cache then keeps. Where a plan of the cache serves the text, and where the text has no characters, it takes
     /// no memory beside that of the text's glyphs.
-    #[tactic(auto, using(crate::proofs::Order::some_last))]
     pub fn shape<P: SyllableSpans, L: LanguageTags>(
         &mut self,
         alloc: Global,
@@ -96,15 +96,60 @@ impl PlanCache {
         ensures handed_on { IfOk result (λ glyphs. IsResultOf (after_guess_segment_properties buffer) glyphs) }
         ensures direction { IfOk result (λ glyphs. glyphs.direction ≡ (after_guess_segment_properties buffer).direction) }
     {
-        if buffer.is_empty() {
-            return shape(alloc, face, shape_data, features, buffer);
+        let mut buffer = buffer.into_buffer();
+        match self.shape_buffer(alloc, face, shape_data, features, &mut buffer) {
+            Ok(()) => Ok(GlyphBuffer::from_buffer(buffer)),
+            Err(cause) => Err(ShapeFault {
+                cause,
+                buffer: UnicodeBuffer::from_buffer(buffer),
+            }),
         }
-        let Ok(()) = self.use_plan(alloc, face, shape_data, features, &buffer) else {
-            return Err(out_of_memory(buffer));
+    }
+
+    /// Shapes a text in its buffer, which then has the glyphs that `shape` gives; where it refuses, the buffer is cleared.
+    #[tactic(auto, using(crate::proofs::Order::some_last))]
+    pub fn shape_buffer<P: SyllableSpans, L: LanguageTags>(
+        &mut self,
+        alloc: Global,
+        face: &Face,
+        shape_data: hb_shape_data_t<'_, P, L>,
+        features: &[Feature],
+        buffer: &mut hb_buffer_t,
+    ) -> Result<(), ShapeCause>
+        requires plans { IsCacheOf face.now (L.tags_of shape_data.languages.now) self.old }
+        requires text { IsText buffer.old }
+        ensures cache { IsCacheOf face.now (L.tags_of shape_data.entry.languages.now) self.new }
+        ensures unused { all_glyphs buffer.old ≡ [] → self.new ≡ self.old }
+        ensures used { all_glyphs buffer.old ≢ []
+            → IsAfter (L.tags_of shape_data.entry.languages.now) features.now buffer.old self.old self.new
+            ⊎ (self.new ≡ self.old) × IfErr result (λ e. e ≡ ShapeCause.OutOfMemory) }
+        ensures ok { OnOk result (Follows
+            (text_reading (by_text face.now shape_data.entry.tables.now (L.tags_of shape_data.entry.languages.now)
+            (P.span_of shape_data.entry.spans.now) features.now
+            (after_guess_segment_properties buffer.old)) (state_of (after_guess_segment_properties buffer.old))) (state_of (after_guess_segment_properties buffer.old)) (state_of buffer.new)) }
+        ensures refused { IfErr result (λ e. e ≢ ShapeCause.OutOfMemory → text_reading
+            (by_text face.now shape_data.entry.tables.now (L.tags_of shape_data.entry.languages.now)
+            (P.span_of shape_data.entry.spans.now) features.now
+            (after_guess_segment_properties buffer.old)) (state_of (after_guess_segment_properties buffer.old)) ≡ Err e) }
+        ensures cleared { OnErr result (buffer.new ≡ empty_buffer) }
+        ensures empty { all_glyphs buffer.old ≡ []
+            → (result ≡ Ok tt) × (buffer.new ≡ after_leave (after_guess_segment_properties buffer.old)) }
+        ensures handed_on { OnOk result (IsResultOf (after_guess_segment_properties buffer.old) buffer.new) }
+        ensures direction { OnOk result (buffer.new.direction ≡ (after_guess_segment_properties buffer.old).direction) }
+        ensures closed { buffer.new.is_open ≡ false }
+    {
+        buffer.guess_segment_properties();
+        if buffer.is_empty() {
+            leave_empty(buffer);
+            return Ok(());
+        }
+        let Ok(()) = self.use_plan(alloc, face, shape_data, features, buffer) else {
+            buffer.clear();
+            return Err(ShapeCause::OutOfMemory);
         };
         law_serving_plans_give_the_texts_shaping();
         let cached = self.last_used();
-        shape_with_plan(alloc, face, shape_data, &cached.plan, buffer)
+        shape_buffer(alloc, face, shape_data, &cached.plan, buffer)
     }
 
     /// The plan that was used last.
@@ -116,7 +161,8 @@ impl PlanCache {
         &self.plans[last]
     }
 
-    /// Makes the plan that serves a text with features the last one: one of the cache, or a new one.
+    /// Makes the plan that serves a text with features the last one: one of the cache, or a new one. The text's direction
+    /// and script are guessed.
     #[tactic(auto, using(crate::proofs::Order::after_hit, crate::proofs::Order::after_miss, crate::proofs::Order::ends_used, crate::proofs::Order::ends_with_plan_added))]
     fn use_plan<P: SyllableSpans, L: LanguageTags>(
         &mut self,
@@ -124,9 +170,10 @@ impl PlanCache {
         face: &Face,
         shape_data: hb_shape_data_t<'_, P, L>,
         features: &[Feature],
-        text: &UnicodeBuffer,
+        text: &hb_buffer_t,
     ) -> Result<(), AllocError>
-        requires { IsCacheOf face.now (L.tags_of shape_data.languages.now) self.old }
+        requires plans { IsCacheOf face.now (L.tags_of shape_data.languages.now) self.old }
+        requires guessed { after_guess_segment_properties text.now ≡ text.now }
         ensures cache { IsCacheOf face.now (L.tags_of shape_data.entry.languages.now) self.new }
         ensures used { OnOk result (IsAfter (L.tags_of shape_data.entry.languages.now) features.now text.now self.old self.new) }
         ensures last { OnOk result (EndsServing (L.tags_of shape_data.entry.languages.now) features.now text.now self.new.plans) }
@@ -148,9 +195,10 @@ impl PlanCache {
         &self,
         languages: &L,
         features: &[Feature],
-        text: &UnicodeBuffer,
+        text: &hb_buffer_t,
     ) -> Option<usize>
-        requires { All (HasTagsOf (L.tags_of languages.now)) self.now.plans }
+        requires tags { All (HasTagsOf (L.tags_of languages.now)) self.now.plans }
+        requires guessed { after_guess_segment_properties text.now ≡ text.now }
         ensures { MatchOption result (ServeNot (L.tags_of languages.now) features.now text.now self.now.plans)
             (IsServing (L.tags_of languages.now) features.now text.now self.now.plans) }
     {
@@ -163,12 +211,16 @@ impl PlanCache {
     }
 
     /// Makes the plan at an index the last one.
+    #[tactic(auto, using(crate::proofs::Order::last_used_again))]
     fn use_again(&mut self, i: usize)
         requires { i < length self.old.plans }
         ensures { self.new ≡ with_plan_used i self.old }
     {
-        let cached = self.plans.remove(i);
-        self.plans.push(cached).unwrap();
+        let last = self.plans.len() - 1;
+        if i == last {
+            return;
+        }
+        move_to_end(&mut self.plans, i);
     }
 
     /// Adds a plan as the last one, and drops the first one where there are more than the bound.
@@ -185,6 +237,15 @@ impl PlanCache {
     }
 }
 
+/// Moves the plan at an index to the end.
+fn move_to_end(plans: &mut Vec<CachedPlan>, i: usize)
+    requires { i < length plans.old.items }
+    ensures { plans.new.items ≡ remove plans.old.items i ++ slice_range plans.old.items i (i + 1) }
+{
+    let cached = plans.remove(i);
+    plans.push(cached).unwrap();
+}
+
 /// Drops the first plan.
 fn drop_first(plans: &mut Vec<CachedPlan>)
     requires { 0 < length plans.old.items }
@@ -194,14 +255,15 @@ fn drop_first(plans: &mut Vec<CachedPlan>)
     drop(first);
 }
 
-/// The fault of a text for whose plan there is no memory.
-fn out_of_memory(mut buffer: UnicodeBuffer) -> ShapeFault
-    ensures cause { result.cause ≡ ShapeCause.OutOfMemory }
-    ensures cleared { result.buffer ≡ empty_buffer }
+/// A text without characters needs no plan, and stays as it is, with the limits as at first.
+fn leave_empty(buffer: &mut hb_buffer_t)
+    requires text { IsText buffer.old }
+    requires empty { all_glyphs buffer.old ≡ [] }
+    ensures left { buffer.new ≡ after_leave buffer.old }
+    ensures handed_on { IsResultOf buffer.old buffer.new }
 {
-    buffer.clear();
-    ShapeFault {
-        cause: ShapeCause::OutOfMemory,
-        buffer,
-    }
+    // The result has as many positions as glyphs, by the clauses of both calls.
+    let is_placed = buffer.pos_slice().len() == buffer.len();
+    prove!(is_placed);
+    buffer.leave();
 }

@@ -5,12 +5,14 @@ ghost use Rattle.std.specs.String.{string_bytes};
 ghost use Rattle.shape_pipeline.specs.Plans.{Serves};
 ghost use Rattle.shape_pipeline.specs.buffer_common.Language.{language_text};
 ghost use Rattle.shape_pipeline.specs.buffer_common.ScriptTags.{wanted_language_tags};
+ghost use Rattle.shape_pipeline.specs.buffer_core.Segment.{after_guess_segment_properties};
+ghost use Rattle.shape_pipeline.specs.script_plan.Fits.{Fits, script_or_unknown};
 ghost use Rattle.plan_cache.specs.Cached.{HasTagsOf, IsCachedFor};
 
 use shape_pipeline::laws::law_plans_serve_their_texts;
 use shape_pipeline::{
-    Face, Feature, Language, LanguageTags, ShapePlan, SyllableSpans, Tag, UnicodeBuffer,
-    hb_shape_data_t,
+    Face, Feature, Language, LanguageTags, Script, ShapePlan, SyllableSpans, Tag, UNKNOWN,
+    hb_buffer_t, hb_shape_data_t,
 };
 use std::alloc::{AllocError, Global};
 
@@ -22,14 +24,15 @@ pub struct CachedPlan {
 }
 
 impl CachedPlan {
-    /// The plan for a text with features.
+    /// The plan for a text with features, whose direction and script are guessed.
     pub(crate) fn new<P: SyllableSpans, L: LanguageTags>(
         alloc: Global,
         face: &Face,
         shape_data: hb_shape_data_t<'_, P, L>,
         features: &[Feature],
-        text: &UnicodeBuffer,
+        text: &hb_buffer_t,
     ) -> Result<CachedPlan, AllocError>
+        requires { after_guess_segment_properties text.now ≡ text.now }
         ensures cached { IfOk result (IsCachedFor face.now (L.tags_of shape_data.entry.languages.now)) }
         ensures serves { IfOk result (λ k. Serves (L.tags_of shape_data.entry.languages.now) features.now text.now k.plan) }
     {
@@ -40,8 +43,8 @@ impl CachedPlan {
             alloc,
             face,
             shape_data,
-            text.guessed_direction(),
-            text.guessed_script(),
+            text.direction(),
+            text.script(),
             language,
             features,
         )?;
@@ -51,19 +54,31 @@ impl CachedPlan {
         })
     }
 
-    /// Whether the plan serves a text with features.
+    /// Whether the plan serves a text with features, whose direction and script are guessed.
     pub(crate) fn serves<L: LanguageTags>(
         &self,
         languages: &L,
         features: &[Feature],
-        text: &UnicodeBuffer,
+        text: &hb_buffer_t,
     ) -> bool
-        requires { HasTagsOf (L.tags_of languages.now) self.now }
+        requires tags { HasTagsOf (L.tags_of languages.now) self.now }
+        requires guessed { after_guess_segment_properties text.now ≡ text.now }
         ensures { IsTrue result ↔ Serves (L.tags_of languages.now) features.now text.now self.now.plan }
     {
-        self.plan.fits(text)
+        self.fits(text)
             && are_features(self.plan.user_features.as_slice(), features)
             && self.has_tags_of(languages, text.language())
+    }
+
+    /// Whether the plan was made for the direction and the script of a text, which are guessed. No script counts as
+    /// `UNKNOWN`.
+    fn fits(&self, text: &hb_buffer_t) -> bool
+        requires { after_guess_segment_properties text.now ≡ text.now }
+        ensures { IsTrue result ↔ Fits self.now.plan text.now }
+    {
+        let plan = &self.plan.script_plan;
+        text.direction() == plan.direction
+            && script_or_unknown(text.script()) == script_or_unknown(plan.script)
     }
 
     /// Whether the plan has the tags of a language. The tags are looked up only for another language than the plan's.
@@ -76,6 +91,12 @@ impl CachedPlan {
         is_language(&self.language, language)
             || are_tags_of(self.plan.language_tags.as_slice(), languages, language)
     }
+}
+
+fn script_or_unknown(script: Option<Script>) -> Script
+    ensures { result ≡ script_or_unknown script }
+{
+    script.unwrap_or(UNKNOWN)
 }
 
 /// The BCP 47 tag of a language, where a text has one.

@@ -8,7 +8,7 @@ mod Ended
 mod Phases
 mod Whole
 mod Budget
-mod Numbers
+pub mod Numbers
 pub mod Shaped
 mod Serving
 mod Texts

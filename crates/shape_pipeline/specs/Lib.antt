@@ -5,6 +5,7 @@ pub use Rattle.buffer_properties.specs as buffer_properties
 pub use Rattle.buffer_stages.specs as buffer_stages
 pub use Rattle.buffer_tags.specs as buffer_tags
 pub use Rattle.buffer_unicode_tables.specs as buffer_unicode_tables
+pub use Rattle.buffer_wrappers.specs as buffer_wrappers
 pub use Rattle.layout_face.specs as layout_face
 pub use Rattle.script_dispatch.specs as script_dispatch
 pub use Rattle.script_plan.specs as script_plan

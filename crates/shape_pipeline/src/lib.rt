@@ -21,7 +21,9 @@ mod stages;
 
 pub use buffer_common::language::Language;
 pub use buffer_common::language_tags::LanguageTags;
+pub use buffer_common::script::{Script, UNKNOWN};
 pub use buffer_common::tag::Tag;
+pub use buffer_core::buffer::hb_buffer_t;
 pub use buffer_glyphs::cause::ShapeCause;
 pub use buffer_tags::feature::Feature;
 pub use buffer_wrappers::glyphs::GlyphBuffer;
@@ -34,7 +36,7 @@ pub use script_dispatch::{
 pub use script_plan::data::hb_shape_data_t;
 pub use script_plan::hb_ot_shaper_t;
 pub use script_plan::plan::hb_ot_shape_plan_t;
-pub use shaping::{ShapeFault, nested_lookups_left, shape, shape_with_plan};
+pub use shaping::{ShapeFault, nested_lookups_left, shape, shape_buffer, shape_with_plan};
 
 /// A plan of the shapers of this stack.
 pub type ShapePlan = hb_ot_shape_plan_t<hb_ot_any_shaper_t>;

@@ -1,10 +1,11 @@
 //! Shaping of a text, with a plan or without one (rustybuzz: hb/shape.rs, `shape`, `shape_with_plan`).
-ghost use Rattle.std.specs.Prelude.{◌≡◌, ◌≢◌, Err, IfErr, IfOk, Ok, [], length, false};
+ghost use Rattle.std.specs.Prelude.{◌≡◌, ◌≢◌, Err, IfErr, IfOk, Ok, OnErr, OnOk, [], length, false};
 ghost use Rattle.buffer_core.specs.Readings.{Follows};
 ghost use Rattle.buffer_core.specs.Segment.{after_guess_segment_properties};
 ghost use Rattle.buffer_core.specs.Settings.{after_leave};
 ghost use Rattle.buffer_core.specs.Sides.{all_glyphs, empty_buffer, state_of};
 ghost use Rattle.buffer_stages.specs.Settings.{text_settings};
+ghost use Rattle.buffer_wrappers.specs.Wrappers.{IsText};
 ghost use Rattle.shape_text.specs.Properties.{IsUnshaped};
 ghost use Rattle.shape_pipeline.specs.Budget.{budget_left};
 ghost use Rattle.shape_pipeline.specs.Results.{IsResultOf};
@@ -44,16 +45,46 @@ fn fault(cause: ShapeCause, mut buffer: hb_buffer_t) -> ShapeFault
 }
 
 /// A text without characters stays as it is, with the limits as at first.
-fn leave_empty(mut buffer: hb_buffer_t) -> GlyphBuffer
-    requires { buffer.is_open ≡ false }
-    ensures left { result ≡ after_leave buffer }
-    ensures placed { length buffer.positions ≡ length (all_glyphs buffer) }
+fn leave_empty(buffer: &mut hb_buffer_t)
+    requires { buffer.old.is_open ≡ false }
+    ensures left { buffer.new ≡ after_leave buffer.old }
+    ensures placed { length buffer.old.positions ≡ length (all_glyphs buffer.old) }
 {
     // The result has as many positions as glyphs (`placed`), by the clauses of both calls.
     let is_placed = buffer.pos_slice().len() == buffer.len();
     prove!(is_placed);
     buffer.leave();
-    GlyphBuffer::from_buffer(buffer)
+}
+
+/// Shapes in its buffer a text whose direction and script are known. A text without characters stays as it is.
+fn shape_here<'a, S: hb_ot_shaper_t, P: SyllableSpans>(
+    stages: &ShapeStages<'a, S, P>,
+    buffer: &mut hb_buffer_t,
+) -> Result<(), ShapeCause>
+    requires unshaped { IsUnshaped buffer.old }
+    ensures ok { OnOk result (Follows (text_reading
+        (⟦<ShapeStages<'a, S, P> as Shaped>⟧.shaping stages.now buffer.old) (state_of buffer.old)) (state_of
+        buffer.old) (state_of buffer.new)) }
+    ensures refused { IfErr result (λ e. e ≢ ShapeCause.OutOfMemory → text_reading
+        (⟦<ShapeStages<'a, S, P> as Shaped>⟧.shaping stages.now buffer.old) (state_of buffer.old) ≡ Err e) }
+    ensures cleared { OnErr result (buffer.new ≡ empty_buffer) }
+    ensures empty { all_glyphs buffer.old ≡ [] → (result ≡ Ok tt) × (buffer.new ≡ after_leave buffer.old) }
+    ensures handed_on { OnOk result (IsResultOf buffer.old buffer.new) }
+    ensures direction { stages.now.plan.now.script_plan.direction ≡ buffer.old.direction
+        → OnOk result (buffer.new.direction ≡ buffer.old.direction) }
+    ensures closed { buffer.new.is_open ≡ false }
+{
+    if buffer.is_empty() {
+        leave_empty(buffer);
+        return Ok(());
+    }
+    match stages.shape_internal(buffer) {
+        Ok(()) => Ok(()),
+        Err(cause) => {
+            buffer.clear();
+            Err(cause)
+        }
+    }
 }
 
 /// Shapes a text whose direction and script are known. A text without characters stays as it is.
@@ -73,13 +104,50 @@ fn shape_guessed<'a, S: hb_ot_shaper_t, P: SyllableSpans>(
     ensures direction { stages.now.plan.now.script_plan.direction ≡ buffer.direction
         → IfOk result (λ glyphs. glyphs.direction ≡ buffer.direction) }
 {
-    if buffer.is_empty() {
-        return Ok(leave_empty(buffer));
-    }
-    match stages.shape_internal(&mut buffer) {
+    match shape_here(stages, &mut buffer) {
         Ok(()) => Ok(GlyphBuffer::from_buffer(buffer)),
-        Err(cause) => Err(fault(cause, buffer)),
+        Err(cause) => Err(ShapeFault {
+            cause,
+            buffer: UnicodeBuffer::from_buffer(buffer),
+        }),
     }
+}
+
+/// Shapes in its buffer a text whose direction and script are known, by a plan for this font, for this direction and script
+/// (HarfBuzz: `hb_shape_plan_execute`). The glyphs are those of `shape_with_plan`; where it refuses, the buffer is cleared.
+pub fn shape_buffer<S: hb_ot_shaper_t, P: SyllableSpans, L: LanguageTags>(
+    alloc: Global,
+    face: &Face,
+    shape_data: hb_shape_data_t<'_, P, L>,
+    plan: &hb_ot_shape_plan_t<S>,
+    buffer: &mut hb_buffer_t,
+) -> Result<(), ShapeCause>
+    requires text { IsText buffer.old }
+    ensures ok { OnOk result (Follows
+        (text_reading (by_plan (S.traits plan.now.shaper) (S.rules plan.now.shaper plan.now.script_plan) plan.now
+        face.now
+        shape_data.entry.tables.now (P.span_of shape_data.entry.spans.now) (text_settings buffer.old))
+        (state_of buffer.old))
+        (state_of buffer.old) (state_of buffer.new)) }
+    ensures refused { IfErr result (λ e. e ≢ ShapeCause.OutOfMemory → text_reading
+        (by_plan (S.traits plan.now.shaper) (S.rules plan.now.shaper plan.now.script_plan) plan.now face.now
+        shape_data.entry.tables.now (P.span_of shape_data.entry.spans.now) (text_settings buffer.old))
+        (state_of buffer.old) ≡ Err e) }
+    ensures cleared { OnErr result (buffer.new ≡ empty_buffer) }
+    ensures empty { all_glyphs buffer.old ≡ [] → (result ≡ Ok tt) × (buffer.new ≡ after_leave buffer.old) }
+    ensures handed_on { OnOk result (IsResultOf buffer.old buffer.new) }
+    ensures direction { plan.now.script_plan.direction ≡ buffer.old.direction
+        → OnOk result (buffer.new.direction ≡ buffer.old.direction) }
+    ensures closed { buffer.new.is_open ≡ false }
+{
+    let stages = ShapeStages {
+        plan,
+        face,
+        tables: shape_data.tables,
+        spans: shape_data.spans,
+        alloc,
+    };
+    shape_here(&stages, buffer)
 }
 
 /// Shapes a text by a plan for this font, for the text's direction and script, which are guessed where they are not set. The
@@ -143,9 +211,10 @@ pub fn shape<P: SyllableSpans, L: LanguageTags>(
     ensures direction { IfOk result (λ glyphs. glyphs.direction ≡ (after_guess_segment_properties buffer).direction) }
 {
     buffer.guess_segment_properties();
-    let buffer = buffer.into_buffer();
+    let mut buffer = buffer.into_buffer();
     if buffer.is_empty() {
-        return Ok(leave_empty(buffer));
+        leave_empty(&mut buffer);
+        return Ok(GlyphBuffer::from_buffer(buffer));
     }
     let plan = match hb_ot_shape_plan_t::<hb_ot_any_shaper_t>::new(
         alloc,

@@ -23,7 +23,7 @@ returns-clause-refused g c =
 pub returns-then-is_empty-clause-ok : goal.returns-then-is_empty-clause-ok
 returns-then-is_empty-clause-ok g c =
     empty_shaped (by_text c.args.face.now c.args.shape_data.tables.now (g.L.LanguageTags.tags_of c.args.shape_data.languages.now) (g.P.SyllableSpans.span_of c.args.shape_data.spans.now) c.args.features.now)
-    c.into_buffer-buffer.result c.guess_segment_properties.new.self _ c.leave_empty.result c.into_buffer-buffer.ensures.same c.guess_segment_properties.ensures c.leave_empty.ensures.left (sym c.is_empty.ensures ∙ c.if-is_empty.true)
+    c.into_buffer-buffer.result c.guess_segment_properties.new.self _ c.from_buffer.result c.into_buffer-buffer.ensures.same c.guess_segment_properties.ensures (c.from_buffer.ensures ∙ c.leave_empty.ensures.left) (sym c.is_empty.ensures ∙ c.if-is_empty.true)
 
 pub returns-clause-direction : goal.returns-clause-direction
 returns-clause-direction g c =
