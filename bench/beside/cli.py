@@ -1,72 +1,79 @@
 """The command line of real."""
 
 import argparse
-import contextlib
 import os
 import shutil
+import subprocess
 import tempfile
-from dataclasses import dataclass, field
+from concurrent.futures import ThreadPoolExecutor
 from pathlib import Path
+from typing import Callable
+
+from fontTools.ttLib import TTFont
 
 from beside.chart import chart
 from beside.differences import Difference, difference
-from beside.kept import Kept, narrow_table, read_kept, write_kept
-from beside.pages import text_of
-from beside.programs import THEIRS, Files, build_driver, build_own_driver, printed_by, used_by
+from beside.kept import INSTRUCTIONS, NANOSECONDS, Kept, read_kept, run_of, write_kept
+from beside.pages import text_of, words_of
+from beside.programs import THEIRS, Files, build_driver, printed_by
 from beside.sets import PACKAGES, SETS, Set
-from beside.table import Pair, Row, each, head, row_line, slope, summary
-from building.places import LIBRARY, PROGRAM, Place
+from beside.steps import Steps
+from beside.table import Row, of_glyphs, summary, tables
+from beside.works import LARGE, PAGE, Measure, measure_of, take_counts, take_peaks, take_times
+from building.places import LIBRARY, PROGRAM, standing
+from building.ready import usable
+from common.documents import replace_part
 from common.faults import FILES, WORDS, ToolFault
-from common.notes import Notes, Progress
+from common.notes import Notes
 from common.parsing import Words
 from fontjson.cli import read_font
 from shaping.cache import cache_folder, cached, fingerprint, font_name
 from shaping.cli import FONT_READ, tables_file
 
 NAME = "real"
-PAGE = 10_000
-LARGE = 1_000_000
 # Programs that a run needs, each with its package.
-PROGRAMS = ((THEIRS, "libharfbuzz-bin"), ("gcc", "gcc"))
-# Rounds of a driver in one run of it.
-ROUNDS = 5
-# What is timed: the programs, and the libraries with a plan that is kept.
-WHOLE = "hb-shape", "program"
-KEPT = "libharfbuzz", "libkuspveli"
+PROGRAMS = ((THEIRS, "libharfbuzz-bin"), ("gcc", "gcc"), ("pkg-config", "pkg-config"), ("valgrind", "valgrind"))
+# Pages of the longer text. Instructions know no caches, so by them one is measured only where it is asked for.
+PAGES, COUNTED_PAGES = 11, 1
+BEGIN, END = (f"<!-- bench/real --table {word} -->" for word in ("begins", "ends"))
 
-Times = tuple[float, float]
-ABOUT = f"""Measures the program beside hb-shape, and the library for C beside libharfbuzz, with a plan that both keep,
-on real fonts of Debian's packages, and prints one table in Markdown, in nanoseconds of processor time for each
-character.
+ABOUT = f"""Measures the library for C beside libharfbuzz, and the program beside hb-shape, on real fonts of Debian's
+packages and composed texts that don't repeat. Prints tables in Markdown: what Kuspveli takes over what HarfBuzz takes.
 
-A set's text is made of a list of words in bench/beside/words. Each program shapes a text of a page ({PAGE:,}
-characters) and one of --pages pages in each run, and a run goes through all sets; the least time of each text counts.
-The programs print all of a glyph but its name, and what they take for a character is the slope between the two texts:
-what both take alike cancels in it, reading font and tables, and the plan. Of each library a driver opens the font once
-and shapes a text again and again; it prints nothing. What it takes for a character of a page stands beside the slope,
-which is what it takes for each that the longer text has more.
+  program  a character, by the programs, past the first word
+  page     a character of a page ({PAGE:,} characters), by the libraries with a plan that both keep
+  more     the same, of what each page after the first takes
+  words    a word of 300 different ones of five to eight characters, with plans that are kept
+  turns    a text of two scripts in turn, with numbers between, with plans that are kept
+  anew     a word whose plan is made for it
+  font     reading a font and shaping a word in it, in millions
+  first    the same with the tables: what a process takes up to its first word, in millions
 
-Before the first run both texts of each set are shaped once by all four, and their glyphs, clusters, offsets and
-advances are compared. Below the table stand the rows above 1.0, and where glyphs differ."""
-AFTER = f"""Needs {THEIRS} (libharfbuzz-bin), gcc and libharfbuzz-dev, python3-fonttools, unicode-data, and the fonts
-({', '.join(PACKAGES)}).
+By default in nanoseconds of processor time, of which the least of all rounds counts; by --instructions in those that
+callgrind counts, where the machine has other work too. Both sides come in turn in one run. Before it all texts are
+shaped once, and glyphs, clusters, offsets and advances compared. Below the tables stand the rows above a mark, and
+where glyphs differ."""
+AFTER = f"""Needs {THEIRS} (libharfbuzz-bin), gcc, pkg-config, valgrind and libharfbuzz-dev, python3-fonttools,
+unicode-data, and the fonts ({', '.join(PACKAGES)}).
 The status is 1 where glyphs differ otherwise than docs/DIFFERENCES.md says.
 
 examples:
   bench/real                            all sets
   bench/real --only Arabic --only Urdu  these alone
+  bench/real --instructions --jobs 4    by instructions, four sets at once
   bench/real --memory                   also the peak of memory for {LARGE:,} characters
   bench/real --glyphs                   compares glyphs, and measures nothing
-  bench/real --texts FOLDER             writes the texts of a page, and measures nothing
+  bench/real --texts FOLDER             writes the pages and words, and measures nothing
   bench/real --keep docs/speed.json     keeps the numbers, which the next line shows and draws again
-  bench/real --from docs/speed.json --chart docs/pictures/speed.svg"""
+  bench/real --from docs/speed.json --table docs/SPEED.md --chart docs/pictures/speed.svg"""
 
 
 def main(words: list[str]) -> int:
     """Measures; its status is 1 where glyphs differ otherwise than docs/DIFFERENCES.md says."""
     options = read_options(words)
     if options.kept is not None:
-        return show_kept(read_kept(options.kept), options.chart)
+        show(read_kept(options.kept), options)
+        return 0
     sets = chosen_sets(options.only)
     if options.texts is not None:
         write_texts(options.texts, sets)
@@ -74,43 +81,50 @@ def main(words: list[str]) -> int:
     need(sets, options.program, options.library)
     if options.cpu is not None:
         os.sched_setaffinity(0, {options.cpu})
-    with tempfile.TemporaryDirectory() as made, cache_folder() as kept:
-        return measure_all(sets, options, Path(made), kept)
+    with tempfile.TemporaryDirectory() as made, cache_folder() as values:
+        return measure_all(sets, options, Path(made), values)
+
+
+# ---- words
 
 
 def read_options(words: list[str]) -> argparse.Namespace:
     layout = argparse.RawDescriptionHelpFormatter
     parser = Words(prog=NAME, description=ABOUT, epilog=AFTER, formatter_class=layout)
-    only = "sets whose name or font has this word; may be given again"
-    parser.add_argument("--only", action="append", metavar="WORD", help=only)
-    pages = "pages of the longer text, from 2 on (11)"
-    parser.add_argument("--pages", type=number, default=11, metavar="N", help=pages)
-    parser.add_argument("--runs", type=number, default=5, metavar="N", help="runs of which the least counts (5)")
-    parser.add_argument("--cpu", type=processor, metavar="N", help="the one processor to run on")
+    add_sizes(parser)
     parser.add_argument("--memory", action="store_true", help=f"also the peak of memory for {LARGE:,} characters")
     parser.add_argument("--glyphs", action="store_true", help="compare glyphs, and measure nothing")
-    parser.add_argument("--texts", type=Path, metavar="FOLDER", help="write the texts of a page, and measure nothing")
-    parser.add_argument("--program", type=Path, default=Place(PROGRAM).file, metavar="FILE", help="the program to measure")
-    parser.add_argument("--library", type=Path, default=Place(LIBRARY).file, metavar="FILE", help="the archive to measure")
+    parser.add_argument("--texts", type=Path, metavar="FOLDER", help="write the pages and words, and measure nothing")
+    program, library = standing(PROGRAM).file, standing(LIBRARY).file
+    parser.add_argument("--program", type=Path, default=program, metavar="FILE", help="the program to measure")
+    parser.add_argument("--library", type=Path, default=library, metavar="FILE", help="the archive to measure")
     parser.add_argument("--keep", type=Path, metavar="FILE", help="keep the numbers in a file")
-    shown = "measure nothing, and show the numbers of such a file in a narrow table"
+    shown = "measure nothing, and show the numbers of such a file"
     parser.add_argument("--from", type=Path, dest="kept", metavar="FILE", help=shown)
-    drawn = "draw the numbers that --from or --keep names into a file (SVG)"
-    parser.add_argument("--chart", type=Path, metavar="FILE", help=drawn)
+    parser.add_argument("--chart", type=Path, metavar="FILE", help="draw the numbers into a file (SVG)")
+    written = "write the tables into a document, between its two lines for them"
+    parser.add_argument("--table", type=Path, metavar="FILE", help=written)
     options = parser.parse_args(words)
-    if options.chart is not None and options.kept is None and options.keep is None:
-        raise ToolFault(WORDS, "--chart: it draws the numbers that --from or --keep names, and neither is given")
-    if options.pages < 2:
+    options.pages = options.pages or (COUNTED_PAGES if options.instructions else PAGES)
+    if options.pages < 2 and not options.instructions:
         raise ToolFault(WORDS, "--pages: a slope needs two lengths, so 2 pages or more")
+    if options.jobs > 1 and not options.instructions:
+        raise ToolFault(WORDS, "--jobs: times are taken one after another; it is for --instructions")
     return options
 
 
-def show_kept(kept: Kept, drawn: Path | None) -> int:
-    """Prints what was measured with its table, and draws it where that is asked."""
-    if drawn is not None:
-        drawn.write_text(chart(kept), encoding="utf-8")
-    print("\n".join([kept.told(), "", *narrow_table(kept)]))
-    return 0
+def add_sizes(parser: Words) -> None:
+    """The words for how much is measured, and how."""
+    only = "sets whose name or font has this word; may be given again"
+    parser.add_argument("--only", action="append", metavar="WORD", help=only)
+    pages = f"pages of the longer text ({PAGES}); by instructions there is none, and neither program nor more"
+    parser.add_argument("--pages", type=number, metavar="N", help=pages)
+    parser.add_argument("--runs", type=number, default=5, metavar="N", help="runs of which the least times count (5)")
+    parser.add_argument("--cpu", type=processor, metavar="N", help="the one processor to run on")
+    counted = "count instructions by callgrind, in one run, in place of times"
+    parser.add_argument("--instructions", action="store_true", help=counted)
+    jobs = "sets whose instructions are counted at once (1)"
+    parser.add_argument("--jobs", type=number, default=1, metavar="N", help=jobs)
 
 
 def number(text: str) -> int:
@@ -137,12 +151,6 @@ def has_word(chosen: Set, word: str) -> bool:
     return word.casefold() in chosen.title.casefold()
 
 
-def write_texts(folder: Path, sets: list[Set]) -> None:
-    folder.mkdir(parents=True, exist_ok=True)
-    for chosen in sets:
-        (folder / f"{chosen.title}.txt").write_text(text_of(chosen, PAGE) + "\n", encoding="utf-8")
-
-
 def need(sets: list[Set], program: Path, library: Path) -> None:
     """Refuses before anything is made where a program, the library or a font is missing."""
     if not os.access(program, os.X_OK):
@@ -150,52 +158,94 @@ def need(sets: list[Set], program: Path, library: Path) -> None:
     if not library.is_file():
         raise ToolFault(FILES, f"{library} is not there: tools/build_library proves and builds it")
     packages = {chosen.package for chosen in sets if not chosen.font.is_file()}
-    packages |= {package for program, package in PROGRAMS if not shutil.which(program)}
+    packages |= {package for command, package in PROGRAMS if not shutil.which(command)}
+    if "pkg-config" not in packages and subprocess.run(["pkg-config", "--exists", "harfbuzz"], check=False).returncode:
+        packages.add("libharfbuzz-dev")
     if packages:
         raise ToolFault(FILES, f"apt-get install {' '.join(sorted(packages))}: what is measured or read is not there")
+    usable(NAME, program)
 
 
-def measure_all(sets: list[Set], options: argparse.Namespace, made: Path, kept: Path) -> int:
-    """Compares the glyphs of all sets, measures them, and prints the table and the summary."""
-    drivers = build_driver(made), build_own_driver(made, options.library)
-    tables, progress = tables_file(kept), Progress(NAME)
-    measures: list[Measure] = []
-    for at, chosen in enumerate(sets):
-        progress.step(chosen.title, at + 1, len(sets))
-        files = Files(chosen, options.program, tables, font_file(kept, chosen.font), *drivers)
-        measures.append(compared(files, options.pages, made / str(at)))
-        if options.glyphs:
-            progress.end()
-            unlike = measures[-1].difference
-            print(f"{chosen.title}: {unlike.told if unlike else 'same'}", flush=True)
-    if not options.glyphs:
-        take_times(measures, options.runs, progress)
-        rows = [row_of(measure, options.memory, made) for measure in measures]
-        lines = what_is_measured(options), "", head(options.memory), *map(row_line, rows), "", *summary(rows)
-        progress.end()
-        print("\n".join(lines))
-        if options.keep is not None:
-            write_kept(options.keep, command_of(options), rows)
-        if options.chart is not None:
-            options.chart.write_text(chart(read_kept(options.keep)), encoding="utf-8")
-    return 1 if any(is_fault(measure.files.chosen, measure.difference) for measure in measures) else 0
-
-
-def is_fault(chosen: Set, unlike: Difference | None) -> bool:
-    """Whether glyphs differ otherwise than the set's are known to."""
-    return unlike is not None and not (chosen.has_own_clusters and unlike.in_clusters_alone)
+def write_texts(folder: Path, sets: list[Set]) -> None:
+    folder.mkdir(parents=True, exist_ok=True)
+    for chosen in sets:
+        (folder / f"{chosen.title}.txt").write_text(text_of(chosen, PAGE) + "\n", encoding="utf-8")
+        (folder / f"{chosen.title}, words.txt").write_text("\n".join(words_of(chosen)) + "\n", encoding="utf-8")
 
 
 def command_of(options: argparse.Namespace) -> str:
     """The command that takes such numbers again."""
     only = "".join(f" --only {word}" for word in options.only or [])
-    return f"bench/real --runs {options.runs} --pages {options.pages}{only}"
+    how = " --instructions" if options.instructions else f" --runs {options.runs}"
+    pages = "" if options.pages == (COUNTED_PAGES if options.instructions else PAGES) else f" --pages {options.pages}"
+    return f"bench/real{how}{pages}{' --memory' if options.memory else ''}{only}"
 
 
-def what_is_measured(options: argparse.Namespace) -> str:
-    lengths = f"{PAGE:,} to {PAGE * options.pages:,} characters"
-    version = printed_by([THEIRS, "--version"])[0]
-    return f"Nanoseconds a character, from {lengths}, the least of {options.runs} runs, beside {version}."
+# ---- a run
+
+
+def measure_all(sets: list[Set], options: argparse.Namespace, made: Path, values: Path) -> int:
+    """Compares the glyphs of all sets, measures them, and shows the tables and the summary."""
+    driver, tables_made, steps = build_driver(made, options.library), tables_file(values), Steps(NAME, len(sets))
+    measures: dict[str, Measure] = {}
+    for at, chosen in enumerate(sets):
+        files = Files(chosen, options.program, tables_made, font_file(values, chosen.font), driver)
+        measures[chosen.title] = measure_of(files, characters_of(chosen.font), options.pages, made / str(at))
+    unlike: dict[str, Difference | None] = {}
+    steps.each("glyphs", measures, lambda measure: unlike.update({measure.title: differences(measure)}))
+    if options.glyphs:
+        print("\n".join(f"{title}: {other.told if other else 'same'}" for title, other in unlike.items()))
+    else:
+        take_all(measures, options, steps, lambda: keep(kept_of(measures, unlike, options), options))
+        kept = kept_of(measures, unlike, options)
+        keep(kept, options)
+        show(kept, options)
+        told = [f"{title}: {other.told}" for title, other in unlike.items() if other is not None]
+        print("\n".join(["", *summary(kept.rows), *told]))
+    return 1 if any(is_fault(chosen, unlike[chosen.title]) for chosen in sets) else 0
+
+
+def kept_of(measures: dict[str, Measure], unlike: dict[str, Difference | None], options: argparse.Namespace) -> Kept:
+    """What was taken so far."""
+    unit = INSTRUCTIONS if options.instructions else NANOSECONDS
+    rows = [row_of(measure, unlike[title]) for title, measure in measures.items() if measure.taken]
+    return Kept(run_of(command_of(options), unit, options.program), rows)
+
+
+def keep(kept: Kept, options: argparse.Namespace) -> None:
+    if options.keep is not None:
+        write_kept(options.keep, kept)
+
+
+def show(kept: Kept, options: argparse.Namespace) -> None:
+    """Prints what was measured with its tables; writes and draws them where that is asked."""
+    if options.chart is not None:
+        options.chart.write_text(chart(kept), encoding="utf-8")
+    lines = [*kept.told(), "", *tables(kept.rows)]
+    if options.table is not None:
+        replace_part(options.table, BEGIN, END, lines)
+    print("\n".join(lines))
+
+
+def take_all(
+    measures: dict[str, Measure], options: argparse.Namespace, steps: Steps, after_set: Callable[[], None]
+) -> None:
+    """Takes what is asked of all sets; a set that is counted is kept at once, since counting takes minutes."""
+    if options.instructions:
+        with ThreadPoolExecutor(options.jobs) as pool:
+            begun = {pool.submit(take_counts, measure): title for title, measure in measures.items()}
+            steps.follow("counted", begun, after_set)
+    else:
+        # A run is of all sets, so that what else the machine does for some seconds meets few runs of a set.
+        for run in range(options.runs):
+            steps.each(f"run {run + 1}", measures, take_times)
+    if options.memory:
+        steps.each("memory", measures, take_peaks)
+
+
+def row_of(measure: Measure, unlike: Difference | None) -> Row:
+    chosen = measure.files.chosen
+    return Row(chosen.name, chosen.font_name, measure.pairs(), of_glyphs(unlike))
 
 
 def font_file(folder: Path, path: Path) -> Path:
@@ -205,83 +255,26 @@ def font_file(folder: Path, path: Path) -> Path:
     return cached(folder / font_name(path, 0), stamp, lambda: read_font(str(path), 0, FONT_READ, Notes()))
 
 
-@dataclass
-class Measure:
-    """A set with its two texts, how many characters they have, where glyphs differ, and the least times so far."""
-
-    files: Files
-    texts: list[Path]
-    characters: tuple[int, int]
-    difference: Difference | None
-    least: dict[tuple[str, int], float] = field(default_factory=dict)
-
-    def note(self, name: str, at: int, seconds: float) -> None:
-        self.least[name, at] = min(self.least.get((name, at), seconds), seconds)
-
-    def pair(self, name: str) -> Times:
-        """The least times of the two texts."""
-        return self.least[name, 0], self.least[name, 1]
+def characters_of(path: Path) -> frozenset[int]:
+    with TTFont(path, lazy=True) as font:
+        return frozenset(font.getBestCmap())
 
 
-def compared(files: Files, pages: int, folder: Path) -> Measure:
-    """A set whose texts are written, and whose glyphs are compared."""
-    folder.mkdir()
-    written = [written_text(folder, files.chosen, length) for length in (PAGE, PAGE * pages)]
-    texts = [text for text, _ in written]
-    return Measure(files, texts, (written[0][1], written[1][1]), differences(files, texts))
+# ---- glyphs
 
 
-def row_of(measure: Measure, with_memory: bool, folder: Path) -> Row:
-    chosen, characters = measure.files.chosen, measure.characters
-    whole = Pair(*(slope(characters, measure.pair(name)) for name in WHOLE))
-    page = Pair(*(each(characters[0], measure.pair(name)[0]) for name in KEPT))
-    more = Pair(*(slope(characters, measure.pair(name)) for name in KEPT))
-    memory = peaks(measure.files, folder) if with_memory else None
-    return Row(chosen.name, chosen.font_name, whole, page, more, measure.difference, memory)
-
-
-def written_text(folder: Path, chosen: Set, characters: int) -> tuple[Path, int]:
-    """A file with the set's text, and how many characters it has."""
-    text, path = text_of(chosen, characters), folder / f"{characters}.txt"
-    path.write_text(text + "\n", encoding="utf-8")
-    return path, len(text)
-
-
-def differences(files: Files, texts: list[Path]) -> Difference | None:
+def differences(measure: Measure) -> Difference | None:
     """Where the glyphs of a text differ, the program's from those of hb-shape or the library's from those of
-    libharfbuzz; None where nowhere."""
+    libharfbuzz, first where not in clusters alone; None where nowhere."""
+    files, texts = measure.files, [work.texts for work in measure.works if work.name in ("page", "font")]
     by_programs = [["".join(printed_by(words)) for words in (files.own(text), files.theirs(text))] for text in texts]
-    by_libraries = zip(printed_by(files.own_rounds(0, texts)), printed_by(files.their_rounds(0, texts)), strict=True)
-    for own, theirs in (*by_programs, *by_libraries):
-        found = difference(own, theirs.strip("[]"))
-        if found is not None:
-            return found
-    return None
+    lines = printed_by(files.rounds(0, [work.word() for work in measure.works if work.kind == "kept"]))
+    pairs = (*by_programs, *zip(lines[::2], lines[1::2], strict=True))
+    found = [unlike for own, theirs in pairs if (unlike := difference(own, theirs.strip("[]"))) is not None]
+    return min(found, key=lambda unlike: unlike.in_clusters_alone, default=None)
 
 
-def take_times(measures: list[Measure], runs: int, progress: Progress) -> None:
-    """Takes the times of all sets, so many runs. A run goes through all sets, and in each through all programs, so that
-    what else the machine does for some seconds meets few runs of a set, and all programs alike."""
-    for run in range(runs):
-        for at, measure in enumerate(measures):
-            progress.step(f"run {run + 1}, {measure.files.chosen.title}", at + 1, len(measures))
-            take_time(measure)
+def is_fault(chosen: Set, unlike: Difference | None) -> bool:
+    """Whether glyphs differ otherwise than the set's are known to."""
+    return unlike is not None and not (chosen.has_own_clusters and unlike.in_clusters_alone)
 
-
-def take_time(measure: Measure) -> None:
-    files = measure.files
-    for at, text in enumerate(measure.texts):
-        for name, words in zip(WHOLE, (files.theirs(text), files.own(text)), strict=True):
-            measure.note(name, at, used_by(words).seconds)
-    drivers = files.their_rounds(ROUNDS, measure.texts), files.own_rounds(ROUNDS, measure.texts)
-    for name, words in zip(KEPT, drivers, strict=True):
-        for at, taken in enumerate(printed_by(words)):
-            measure.note(name, at, int(taken) / 1e9)
-
-
-def peaks(files: Files, folder: Path) -> Pair:
-    """The peaks of memory for a large text."""
-    text, _ = written_text(folder, files.chosen, LARGE)
-    with contextlib.ExitStack() as stack:
-        stack.callback(text.unlink)
-        return Pair(used_by(files.theirs(text)).bytes, used_by(files.own(text)).bytes)

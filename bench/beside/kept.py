@@ -1,101 +1,88 @@
-"""A run's numbers, kept in a file: what was measured with what, and of each set the times and their ratios."""
+"""A run's numbers, kept in a file: what was measured with what, and of each set what was taken and the ratios."""
 
 import json
-import os
 from dataclasses import asdict, dataclass
 from datetime import date
 from pathlib import Path
 from typing import Any
 
 from beside.programs import THEIRS, printed_by
-from beside.table import Pair, Row, of_glyphs, shown
+from beside.table import MARKS, ONCE, Pair, Row
+from building.places import UNPROVED
+from common.documents import wrapped
 from common.faults import DATA, ToolFault
 from common.host import first_line, host
 from sources.crates import ROOT
 
-# What is measured: the program, and the library for a page and for each page more.
-WHAT = ("program", "page", "more")
-
-
-@dataclass(frozen=True)
-class Ratios:
-    """A set's ratios, as a table shows them; None where nothing was measured above zero."""
-
-    title: str
-    program: float | None
-    page: float | None
-    more: float | None
-    glyphs: str
+COLUMNS = (*MARKS, *ONCE, "memory")
+KEYS = ("command", "unit", "harfbuzz", "library", "kit", "host", "date", "commit")
+INSTRUCTIONS, NANOSECONDS = "instructions", "nanoseconds"
 
 
 @dataclass(frozen=True)
 class Kept:
-    """A run: the command, HarfBuzz's version, the kit, the host, the date and the commit, and each set's ratios."""
+    """A run: the command, the unit, HarfBuzz's version, the library (proved or not), the kit, the host, the date and
+    the commit; and each set's row."""
 
     run: dict[str, str]
-    rows: list[Ratios]
+    rows: list[Row]
 
-    def told(self) -> str:
-        """What was measured, in one sentence."""
+    @property
+    def is_counted(self) -> bool:
+        return self.run["unit"] == INSTRUCTIONS
+
+    def told(self) -> list[str]:
+        """What was measured, in lines of a document."""
         run = self.run
-        return (
-            f"By `{run['command']}` of {run['date']} at commit {run['commit']}, beside {run['harfbuzz']}, "
-            f"on {run['host']}, proved with {run['kit']}."
+        is_proved = run["library"] != UNPROVED
+        by = f"proved with {run['kit']}" if is_proved else f"not proved (made by {run['kit']}, with no proof checked)"
+        counted = "in instructions, which callgrind counts and no other load of the machine changes"
+        unit = counted if self.is_counted else "in nanoseconds of processor time"
+        return wrapped(
+            f"By `{run['command']}` of {run['date']} at commit {run['commit']}, of the program and the library {by}, "
+            f"beside {run['harfbuzz']} and its library, {unit}, on {run['host']}."
         )
 
 
-def as_value(command: str, rows: list[Row]) -> dict[str, Any]:
-    """What is kept of a run."""
-    run = {
+def run_of(command: str, unit: str, program: Path) -> dict[str, str]:
+    """What is kept of a run beside its rows."""
+    return {
         "command": command,
+        "unit": unit,
         "harfbuzz": printed_by([THEIRS, "--version"])[0],
+        "library": UNPROVED if program.parent.name == UNPROVED else "proved",
         "kit": first_line("rt", "version"),
         "host": host(),
         "date": date.today().isoformat(),
         "commit": first_line("git", "-C", str(ROOT), "rev-parse", "--short", "HEAD"),
     }
-    return {"run": run, "sets": [set_of(row) for row in rows]}
+
+
+def write_kept(path: Path, kept: Kept) -> None:
+    value = {"run": kept.run, "sets": [set_of(row) for row in kept.rows]}
+    path.write_text(json.dumps(value, indent=1, ensure_ascii=False) + "\n", encoding="utf-8")
 
 
 def set_of(row: Row) -> dict[str, Any]:
-    pairs = (row.whole, row.page, row.more)
-    return {
-        "set": row.name,
-        "font": row.font,
-        **{key: {**asdict(pair), "ratio": rounded(pair)} for key, pair in zip(WHAT, pairs, strict=True)},
-        "glyphs": of_glyphs(row.difference),
-    }
+    taken = {what: value_of(row.pairs[what]) for what in COLUMNS if what in row.pairs}
+    return {"set": row.name, "font": row.font, "glyphs": row.glyphs, "taken": taken}
 
 
-def rounded(pair: Pair) -> float | None:
-    return None if pair.ratio is None else round(pair.ratio, 2)
-
-
-def write_kept(path: Path, command: str, rows: list[Row]) -> None:
-    path.write_text(json.dumps(as_value(command, rows), indent=1, ensure_ascii=False) + "\n", encoding="utf-8")
+def value_of(pair: Pair) -> dict[str, float | None]:
+    rounded = {key: round(number, 1) for key, number in asdict(pair).items()}
+    return {**rounded, "ratio": None if pair.ratio is None else round(pair.ratio, 2)}
 
 
 def read_kept(path: Path) -> Kept:
     """A run that was kept; a file of another form is a fault."""
     try:
         value = json.loads(path.read_text(encoding="utf-8"))
-        run = {key: str(value["run"][key]) for key in ("command", "harfbuzz", "kit", "host", "date", "commit")}
-        return Kept(run, [ratios_of(each) for each in value["sets"]])
-    except (KeyError, TypeError, ValueError) as error:
-        raise ToolFault(DATA, f"{path}: not what --keep writes: {error}") from error
+        run = {key: str(value["run"][key]) for key in KEYS}
+        return Kept(run, [row_of(each) for each in value["sets"]])
+    except (AttributeError, KeyError, TypeError, ValueError) as error:
+        raise ToolFault(DATA, f"{path}: not what --keep writes: {error!r}") from error
 
 
-def ratios_of(value: dict[str, Any]) -> Ratios:
-    program, page, more = (None if value[key]["ratio"] is None else float(value[key]["ratio"]) for key in WHAT)
-    return Ratios(f"{value['set']}, {value['font']}", program, page, more, str(value["glyphs"]))
-
-
-# ---- the narrow table
-
-
-def narrow_table(kept: Kept) -> list[str]:
-    """The ratios alone, in lines of Markdown."""
-    lines = ["| Set | program | page | more |", "|---|---|---|---|"]
-    return lines + [
-        f"| {row.title} | {shown(row.program)} | {shown(row.page)} | {shown(row.more)} |" for row in kept.rows
-    ]
+def row_of(value: dict[str, Any]) -> Row:
+    pairs = {str(what): Pair(float(pair["theirs"]), float(pair["own"])) for what, pair in value["taken"].items()}
+    return Row(str(value["set"]), str(value["font"]), pairs, str(value["glyphs"]))

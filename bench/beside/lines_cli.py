@@ -12,9 +12,9 @@ import tempfile
 import time
 from itertools import islice
 from pathlib import Path
-from typing import Callable
+from typing import Callable, Iterator
 
-from beside.pages import WORDS, chances, read_words
+from beside.pages import WORDS, read_words
 from beside.programs import used_by
 from building.places import BUILD, PROGRAM, standing
 from common.faults import FILES, ToolFault
@@ -133,3 +133,11 @@ def processors() -> float:
     """The processor time of the processes that ended."""
     used = resource.getrusage(resource.RUSAGE_CHILDREN)
     return used.ru_utime + used.ru_stime
+
+
+def chances(below: int) -> Iterator[int]:
+    """Numbers below another, by a linear congruence: every Python gives the same ones."""
+    state = 1
+    while True:
+        state = (state * 1103515245 + 12345) % 2**31
+        yield (state >> 8) % below

@@ -1,15 +1,24 @@
-"""Texts of so many characters, made of lists of words: the same ones at each run."""
+"""The texts of a set, composed of a list of words: the same ones at each run."""
 
 import unicodedata
+from functools import cache
+from itertools import chain, islice
 from pathlib import Path
-from typing import Iterator
+from typing import Iterable, Iterator
 
+from beside.composed import JOINERS, TSHEG, composed, kind_of
 from beside.sets import Set
 
 WORDS = Path(__file__).parent / "words"
 COMMENT = "#"
 # A stop stands after so many words.
 CLAUSE = 9
+# The words of the measure of words: how many, and of how many characters.
+COUNT, SHORTEST, LONGEST = 300, 5, 8
+# At most so many composed words are looked at for them.
+MOST = 50 * COUNT
+# Texts of two scripts in turn: so many words of each, and as many numbers.
+TURNS = 20
 
 
 def read_words(path: Path) -> list[str]:
@@ -18,32 +27,78 @@ def read_words(path: Path) -> list[str]:
     return [word for line in lines if not line.startswith(COMMENT) for word in line.split()]
 
 
-def words_of(chosen: Set) -> list[str]:
-    """The words of a set as its text has them."""
-    words = read_words(WORDS / f"{chosen.words}.txt")
-    return [unicodedata.normalize("NFD", word) for word in words] if chosen.is_decomposed else words
+def list_of(name: str) -> tuple[str, ...]:
+    return tuple(read_words(WORDS / f"{name}.txt"))
+
+
+# ---- pages
 
 
 def text_of(chosen: Set, characters: int) -> str:
     """The set's text: as many whole words as fit."""
-    return text_from(words_of(chosen), chosen.between, chosen.stop, characters)
+    words = spelled(composed(list_of(chosen.words)), chosen.is_decomposed)
+    return text_from(words, chosen.between, chosen.stop, characters)
 
 
-def text_from(words: list[str], between: str, stop: str, characters: int) -> str:
-    """Words in an order that looks like chance, as many as fit; a shorter text is the front of a longer one."""
+def spelled(words: Iterable[str], is_decomposed: bool) -> Iterator[str]:
+    """Words as a set writes them: as they are, or decomposed."""
+    return (unicodedata.normalize("NFD", word) if is_decomposed else word for word in words)
+
+
+def text_from(words: Iterable[str], between: str, stop: str, characters: int) -> str:
+    """As many words as fit; a shorter text is the front of a longer one."""
     pieces: list[str] = []
     length = 0
-    for number, at in enumerate(chances(len(words)), 1):
-        if length + len(words[at]) > characters:
+    for number, word in enumerate(words, 1):
+        if length + len(word) > characters:
             break
-        pieces += words[at], between if number % CLAUSE else stop
-        length += len(words[at]) + len(pieces[-1])
+        pieces += word, between if number % CLAUSE else stop
+        length += len(word) + len(pieces[-1])
     return "".join(pieces[:-1])
 
 
-def chances(below: int) -> Iterator[int]:
-    """Numbers below another, by a linear congruence: every Python gives the same ones."""
-    state = 1
-    while True:
-        state = (state * 1103515245 + 12345) % 2**31
-        yield (state >> 8) % below
+# ---- words
+
+
+def words_of(chosen: Set) -> list[str]:
+    """Different words of five to eight characters: those of the set's list, then composed ones."""
+    return long_words(chosen.words, chosen.is_decomposed)[:COUNT]
+
+
+@cache
+def long_words(name: str, is_decomposed: bool) -> list[str]:
+    own = list_of(name)
+    found: dict[str, None] = {}
+    for word in chain(spelled(own, is_decomposed), islice(joined(spelled(composed(own), is_decomposed)), MOST)):
+        if SHORTEST <= len(word) <= LONGEST and is_plain(word):
+            found[word] = None
+        if len(found) == COUNT:
+            break
+    return list(found)
+
+
+def joined(words: Iterator[str]) -> Iterator[str]:
+    """Words of letters; what is too short stands before the next one of its script."""
+    front = ""
+    for word in filter(is_plain, words):
+        whole = front + word if front and kind_of(front)[:1] == kind_of(word)[:1] else word
+        front = whole if len(whole) < SHORTEST else ""
+        yield whole
+
+
+def is_plain(word: str) -> bool:
+    """Whether a word has letters and marks alone."""
+    return all(unicodedata.category(letter)[0] in "LM" or letter in JOINERS + TSHEG for letter in word)
+
+
+# ---- two scripts in turn
+
+
+def turns_of(chosen: Set, characters: frozenset[int]) -> list[str]:
+    """Words of a set and of another script in turn, with numbers between, as far as a font has their characters; none
+    where it has the set's words alone."""
+    numbers = [str(number) for number in range(1984, 1984 + TURNS)]
+    rows = (words_of(chosen), long_words(chosen.other, is_decomposed=False), numbers)
+    there = [[text for text in row if characters.issuperset(map(ord, text))][:TURNS] for row in rows]
+    full = [row for row in there if len(row) == TURNS]
+    return [text for texts in zip(*full) for text in texts] if len(full) > 1 else []

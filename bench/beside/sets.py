@@ -19,7 +19,8 @@ DANDA = "\u0964 "
 
 @dataclass(frozen=True)
 class Set:
-    """A font, and a text of the words of a language; `stop` stands after some words in place of `between`."""
+    """A font, and texts of the words of a language; `stop` stands after some words in place of `between`. `other` is
+    the list whose words come in turn with them, where the font has its letters."""
 
     name: str
     package: str
@@ -29,6 +30,7 @@ class Set:
     between: str = " "
     stop: str = ". "
     is_decomposed: bool = False
+    other: str = "latin"
     # Its clusters are not those of HarfBuzz, as docs/DIFFERENCES.md says.
     has_own_clusters: bool = False
 
@@ -59,9 +61,9 @@ def indic(script: str, language: str, stop: str = DANDA, *, has_own_clusters: bo
 
 NANUM = ("fonts-nanum", "NanumGothic.ttf")
 SETS = (
-    Set("Latin", "fonts-dejavu-core", "DejaVuSans.ttf", "latin", "en"),
-    noto("Latin", "Sans", "latin", "en"),
-    Set("Vietnamese, decomposed", NOTO, "NotoSans-Regular.ttf", "vietnamese", "vi", is_decomposed=True),
+    Set("Latin", "fonts-dejavu-core", "DejaVuSans.ttf", "latin", "en", other="arabic"),
+    Set("Latin", NOTO, "NotoSans-Regular.ttf", "latin", "en", other="greek"),
+    Set("Vietnamese, decomposed", NOTO, "NotoSans-Regular.ttf", "vietnamese", "vi", is_decomposed=True, other="greek"),
     noto("Hebrew", "SansHebrew", "hebrew", "he", stop="\u05c3 "),
     noto("Arabic", "NaskhArabic", "arabic", "ar", stop="\u060c "),
     Set("Arabic", "fonts-hosny-amiri", "Amiri-Regular.ttf", "arabic", "ar", stop="\u060c "),
@@ -75,7 +77,7 @@ SETS = (
     noto("Tibetan", "SerifTibetan", "tibetan", "bo", "", "\u0f0d "),
     Set("Hangul", *NANUM, "hangul", "ko"),
     Set("Jamo", *NANUM, "hangul", "ko", is_decomposed=True),
-    Set("Chinese, Japanese, Korean", *NANUM, "cjk", "zh", "", "\u3002"),
+    Set("CJK", *NANUM, "cjk", "zh", "", "\u3002"),
     indic("Devanagari", "hi"),
     indic("Bengali", "bn"),
     indic("Gurmukhi", "pa"),

@@ -1,19 +1,25 @@
-"""Slopes, ratios, and the table in Markdown."""
+"""What a run measured, the tables in Markdown, and the rows above a mark."""
 
-from dataclasses import dataclass
+from dataclasses import dataclass, field
 
 from beside.differences import Difference
+from common.documents import table_lines
 
+# The columns of ratios, each with its mark and what it is.
+MARKS = {
+    "program": (1.0, "the program beside hb-shape"),
+    "page": (0.75, "a page"),
+    "more": (0.78, "each page more"),
+    "words": (0.85, "words"),
+    "turns": (0.85, "two scripts in turn"),
+    "anew": (0.85, "the plan made anew"),
+}
+MEMORY = (1.1, "memory")
+# What is taken once, and so stands in numbers of its own.
+ONCE = ("font", "first")
+NONE = "-"
+MEGA = 1e6
 MIB = 1 << 20
-WHOLE_HEAD = ("hb-shape", "program", "ratio")
-# With a plan that is kept: of a page, and of each page after it.
-PAGE_HEAD = ("libharfbuzz, a page", "libkuspveli, a page", "ratio")
-MORE_HEAD = ("libharfbuzz, each page more", "libkuspveli, each page more", "ratio")
-HEAD = ("Set", "Font", *WHOLE_HEAD, *PAGE_HEAD, *MORE_HEAD, "glyphs")
-MEMORY_HEAD = ("hb-shape, MiB", "program, MiB", "ratio")
-# The ratio above which a row is named, of time and of memory.
-TIME_BOUND = 1.0
-MEMORY_BOUND = 1.2
 
 
 @dataclass(frozen=True)
@@ -28,48 +34,26 @@ class Pair:
         """How often what HarfBuzz takes is in the other; None where nothing was measured above zero."""
         return self.own / self.theirs if self.theirs > 0 and self.own > 0 else None
 
+    def over(self, units: int) -> "Pair":
+        return Pair(self.theirs / units, self.own / units)
+
 
 @dataclass(frozen=True)
 class Row:
-    """A set: nanoseconds a character of the programs, and of the libraries with a plan that is kept, for a page and for
-    what a longer text has more; where glyphs differ; peaks in bytes."""
+    """A set, and what was measured of it by the columns' names; where glyphs differ."""
 
     name: str
     font: str
-    whole: Pair
-    page: Pair
-    more: Pair
-    difference: Difference | None
-    memory: Pair | None = None
+    pairs: dict[str, Pair] = field(default_factory=dict)
+    glyphs: str = "same"
 
     @property
     def title(self) -> str:
         return f"{self.name}, {self.font}"
 
-
-def slope(lengths: tuple[int, int], seconds: tuple[float, float]) -> float:
-    """Nanoseconds for each character that the longer text has more: what both texts take alike cancels."""
-    return (seconds[1] - seconds[0]) * 1e9 / (lengths[1] - lengths[0])
-
-
-def each(characters: int, seconds: float) -> float:
-    """Nanoseconds for each character of a text."""
-    return seconds * 1e9 / characters
-
-
-def head(with_memory: bool) -> str:
-    """The first two lines of the table."""
-    names = HEAD + MEMORY_HEAD if with_memory else HEAD
-    return f"{line(names)}\n{line('---' for _ in names)}"
-
-
-def row_line(row: Row) -> str:
-    """A row's line of the table."""
-    times = *of_time(row.whole), *of_time(row.page), *of_time(row.more)
-    cells = [row.name, row.font, *times, of_glyphs(row.difference)]
-    if row.memory is not None:
-        cells += [f"{row.memory.theirs / MIB:.0f}", f"{row.memory.own / MIB:.0f}", shown(row.memory.ratio)]
-    return line(cells)
+    def shown(self, what: str) -> str:
+        """The ratio of a column; nothing where it isn't measured."""
+        return shown(self.pairs[what].ratio) if what in self.pairs else NONE
 
 
 def of_glyphs(unlike: Difference | None) -> str:
@@ -78,35 +62,55 @@ def of_glyphs(unlike: Difference | None) -> str:
     return "clusters differ" if unlike.in_clusters_alone else "differ"
 
 
-def of_time(pair: Pair) -> tuple[str, str, str]:
-    return f"{pair.theirs:.0f}", f"{pair.own:.0f}", shown(pair.ratio)
-
-
 def shown(ratio: float | None) -> str:
     return "?" if ratio is None else f"{ratio:.2f}"
 
 
-def line(cells: object) -> str:
-    return f"| {' | '.join(cells)} |"
+# ---- tables
+
+
+def tables(rows: list[Row]) -> list[str]:
+    """The ratios; what reading a font and a first word take; the peaks of memory where they were taken."""
+    there = [what for what in MARKS if any(what in row.pairs for row in rows)]
+    lines = [
+        *table_lines([["Set", *there], *([row.title, *map(row.shown, there)] for row in rows)]),
+        "",
+        *table_lines([once_head(), *([row.title, *once_cells(row)] for row in rows)]),
+    ]
+    peaks = [[row.title, *peak_cells(row)] for row in rows if "memory" in row.pairs]
+    return [*lines, "", *table_lines([["Set", "memory", "HarfBuzz", "ratio"], *peaks])] if peaks else lines
+
+
+def once_head() -> list[str]:
+    return ["Set", *(cell for what in ONCE for cell in (what, "HarfBuzz"))]
+
+
+def once_cells(row: Row) -> list[str]:
+    pairs = [row.pairs.get(what) for what in ONCE]
+    return [cell for pair in pairs for cell in ((millions(pair.own), millions(pair.theirs)) if pair else (NONE, NONE))]
+
+
+def millions(number: float) -> str:
+    return f"{number / MEGA:.0f}" if number >= 10 * MEGA else f"{number / MEGA:.2f}"
+
+
+def peak_cells(row: Row) -> list[str]:
+    pair = row.pairs["memory"]
+    return [f"{pair.own / MIB:.0f}", f"{pair.theirs / MIB:.0f}", row.shown("memory")]
+
+
+# ---- marks
 
 
 def summary(rows: list[Row]) -> list[str]:
-    """The rows above a bound, by what was measured, and the rows whose glyphs differ."""
-    lines = [
-        above("beside hb-shape", TIME_BOUND, [(row, row.whole) for row in rows]),
-        above("beside libharfbuzz, a page", TIME_BOUND, [(row, row.page) for row in rows]),
-        above("beside libharfbuzz, each page more", TIME_BOUND, [(row, row.more) for row in rows]),
-    ]
-    measured = [(row, row.memory) for row in rows if row.memory is not None]
-    if measured:
-        lines.append(above("in memory", MEMORY_BOUND, measured))
-    return lines + [f"{row.title}: {row.difference.told}" for row in rows if row.difference is not None]
+    """The rows above a mark, for each column that was measured."""
+    marks = {**MARKS, "memory": MEMORY}
+    measured = {what: [row for row in rows if what in row.pairs] for what in marks}
+    return [above(*marks[what], what, there) for what, there in measured.items() if there]
 
 
-def above(what: str, bound: float, pairs: list[tuple[Row, Pair]]) -> str:
-    """Names the rows whose ratio, as it is shown, is above a bound, and those without one."""
-    found = []
-    for row, pair in pairs:
-        if pair.ratio is None or float(shown(pair.ratio)) > bound:
-            found.append(f"{row.title} ({shown(pair.ratio)})")
-    return f"Above {bound} {what}: {', '.join(found) if found else 'none'} ({len(found)} of {len(pairs)})."
+def above(mark: float, about: str, what: str, rows: list[Row]) -> str:
+    """Names the rows whose ratio, as it is shown, is above a mark, and those without one."""
+    found = [row for row in rows if row.shown(what) == "?" or float(row.shown(what)) > mark]
+    named = ", ".join(f"{row.title} ({row.shown(what)})" for row in found)
+    return f"Above {mark} in {about}: {named or 'none'} ({len(found)} of {len(rows)})."

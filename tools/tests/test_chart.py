@@ -1,8 +1,7 @@
-"""Numbers of bench/real that are kept: what is written and read again, the narrow table, the chart, the documents."""
+"""Numbers of bench/real that are kept: what is written and read again, the tables, the chart, the documents."""
 
 import contextlib
 import io
-import json
 import tempfile
 import unittest
 import xml.etree.ElementTree as tree
@@ -12,44 +11,48 @@ from support import TOOLS
 
 from beside import cli
 from beside.chart import NAMES, chart
-from beside.differences import Difference
-from beside.kept import Kept, Ratios, narrow_table, read_kept, set_of
+from beside.kept import KEYS, Kept, read_kept, set_of, write_kept
 from beside.sets import SETS
-from beside.table import Pair, Row
+from beside.table import Pair, Row, tables
 from common.faults import ToolFault
 
 DOCS = TOOLS.parent / "docs"
 NUMBERS = DOCS / "speed.json"
-RUN = {
-    "command": "bench/real",
-    "harfbuzz": "hb-shape (HarfBuzz) 6.0.0",
-    "kit": "k",
-    "host": "h",
-    "date": "d",
-    "commit": "c",
-}
+NAMED = {"unit": "instructions", "library": "unproved", "harfbuzz": "hb-shape (HarfBuzz) 6.0.0"}
+RUN = {**{key: key for key in KEYS}, **NAMED}
 SVG = "{http://www.w3.org/2000/svg}"
 
 
 class Numbers(unittest.TestCase):
+    def setUp(self) -> None:
+        folder = tempfile.TemporaryDirectory()
+        self.addCleanup(folder.cleanup)
+        self.folder = Path(folder.name)
+
     def test_kept(self) -> None:
-        """A row's times and ratios are kept; what was not above zero has no ratio."""
-        clusters = Difference("1 of 2 glyphs differ in clusters alone", in_clusters_alone=True)
-        value = set_of(Row("Thai", "Loma", Pair(400, 300), Pair(300, 100), Pair(0, 5), clusters))
-        self.assertEqual(value["program"], {"theirs": 400, "own": 300, "ratio": 0.75})
-        self.assertEqual([value["page"]["ratio"], value["more"]["ratio"]], [0.33, None])
-        with tempfile.NamedTemporaryFile("w", suffix=".json") as file:
-            file.write(json.dumps({"run": RUN, "sets": [value]}))
-            file.flush()
-            kept = read_kept(Path(file.name))
-        self.assertEqual(kept, Kept(RUN, [Ratios("Thai, Loma", 0.75, 0.33, None, "clusters differ")]))
-        self.assertEqual(narrow_table(kept)[2:], ["| Thai, Loma | 0.75 | 0.33 | ? |"])
+        """What a row has is kept with its ratios, and read again; what was not above zero has no ratio."""
+        row = Row("Thai", "Loma", {"page": Pair(400, 300), "words": Pair(0, 5), "first": Pair(3, 1)}, "clusters differ")
+        taken = set_of(row)["taken"]
+        self.assertEqual(taken["page"], {"theirs": 400, "own": 300, "ratio": 0.75})
+        self.assertIsNone(taken["words"]["ratio"])
+        self.assertEqual(list(taken), ["page", "words", "first"])
+        write_kept(self.folder / "kept.json", Kept(RUN, [row]))
+        self.assertEqual(read_kept(self.folder / "kept.json"), Kept(RUN, [row]))
+
+    def test_told(self) -> None:
+        """A run says whether the library is proved, and what was counted."""
+        for library, unit, words in (
+            ("unproved", "instructions", "not proved (made by kit, with no proof checked), beside"),
+            ("proved", "nanoseconds", "proved with kit, beside"),
+        ):
+            lines = " ".join(Kept({**RUN, "library": library, "unit": unit}, []).told())
+            self.assertIn(f"By `command` of date at commit commit, of the program and the library {words}", lines)
+            self.assertEqual("callgrind counts" in lines, unit == "instructions")
 
     def test_chart(self) -> None:
-        """Two bars a set, as long as their ratios, and the line where a ratio of 1 ends; none without a ratio."""
-        drawn = tree.fromstring(
-            chart(Kept(RUN, [Ratios("A<B", 0.5, 1.5, 1, "same"), Ratios("C", None, 0.75, 1, "same")]))
-        )
+        """Bars of a set as long as their ratios, and the line where a ratio of 1 ends; none without a ratio."""
+        first = Row("A<B", "f", {"page": Pair(2, 1), "words": Pair(2, 3), "turns": Pair(1, 9)})
+        drawn = tree.fromstring(chart(Kept(RUN, [first, Row("C", "f", {"anew": Pair(4, 3), "page": Pair(0, 1)})])))
         bars = [bar for bar in drawn.iter(f"{SVG}rect") if bar.find(f"{SVG}title") is not None]
         widths = [float(bar.attrib["width"]) for bar in bars]
         self.assertEqual(len(bars), 3)
@@ -58,23 +61,35 @@ class Numbers(unittest.TestCase):
         at = float(line[0].attrib["d"].split()[0].removeprefix("M")) - NAMES
         self.assertAlmostEqual(at, 2 * widths[0], 0)
         self.assertTrue(all(NAMES + width < float(drawn.attrib["width"]) for width in widths))
+        self.assertIn("Instructions over those of HarfBuzz 6.0.0", "".join(drawn.itertext()))
+
+    def test_table(self) -> None:
+        """The tables stand in a document between its two lines, and stay the same when they are written again."""
+        kept, document = self.folder / "kept.json", self.folder / "SPEED.md"
+        write_kept(kept, Kept(RUN, [Row("Thai", "Loma", {"page": Pair(400, 300)})]))
+        document.write_text(f"# Speed\n\n{cli.BEGIN}\n| old |\n{cli.END}\n\nMore.\n", encoding="utf-8")
+        for _ in range(2):
+            with contextlib.redirect_stdout(io.StringIO()) as shown:
+                self.assertEqual(cli.main([f"--from={kept}", f"--table={document}"]), 0)
+            made = f"{cli.BEGIN}\n\n{shown.getvalue()}\n{cli.END}"
+            self.assertEqual(document.read_text(), f"# Speed\n\n{made}\n\nMore.\n")
+        self.assertIn("| Thai, Loma | 0.75 |", document.read_text())
 
     def test_words(self) -> None:
-        """A chart wants numbers; a file of another form is a fault that names it."""
-        self.assertRaisesRegex(ToolFault, "--chart: it draws", cli.main, ["--chart=x.svg"])
-        with tempfile.NamedTemporaryFile("w") as file:
-            file.write('{"run": {}}')
-            file.flush()
-            self.assertRaisesRegex(ToolFault, f"{file.name}: not what --keep writes", cli.main, [f"--from={file.name}"])
+        """A file of another form is a fault that names it."""
+        path = self.folder / "kept.json"
+        for text in ('{"run": {}}', "no JSON", '{"run": 5}'):
+            path.write_text(text)
+            self.assertRaisesRegex(ToolFault, f"{path}: not what --keep writes", cli.main, [f"--from={path}"])
 
 
 class Documents(unittest.TestCase):
     def test_table(self) -> None:
-        """SPEED.md has the table of the kept numbers, of all sets, and says of which run they are."""
+        """SPEED.md has the tables of the kept numbers, of all sets, and says of which run they are; none is wide."""
         kept, text = read_kept(NUMBERS), (DOCS / "SPEED.md").read_text(encoding="utf-8")
         self.assertEqual([row.title for row in kept.rows], [chosen.title for chosen in SETS])
-        self.assertIn("\n".join(narrow_table(kept)), text)
-        self.assertIn(kept.told(), " ".join(text.split()))
+        self.assertIn("\n".join([cli.BEGIN, "", *kept.told(), "", *tables(kept.rows), "", cli.END]), text)
+        self.assertLessEqual(max(map(len, tables(kept.rows))), 80)
 
     def test_drawn(self) -> None:
         with tempfile.TemporaryDirectory() as folder, contextlib.redirect_stdout(io.StringIO()):

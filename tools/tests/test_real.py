@@ -1,4 +1,4 @@
-"""The measure beside HarfBuzz: texts of words, slopes, the table, differences, and running programs."""
+"""The measure beside HarfBuzz: composed texts, what is taken of a set, tables and marks, differences, and runs."""
 
 import contextlib
 import io
@@ -7,16 +7,22 @@ import sys
 import tempfile
 import unicodedata
 import unittest
+from itertools import islice
 from pathlib import Path
+from unittest import mock
 
-from support import DEJAVU, TOOLS  # noqa: F401  (it puts the tools and bench/ on the path)
+from support import DEJAVU, told_by  # it puts the tools and bench/ on the path
 
-from beside import cli
+from beside import cli, works
+from beside.composed import composed, pieces_of
 from beside.differences import Difference, difference
-from beside.pages import WORDS, chances, read_words, text_from, text_of, words_of
-from beside.programs import Files, build_driver, build_own_driver, printed_by, used_by
-from beside.sets import PACKAGES, SETS
-from beside.table import MIB, Pair, Row, each, head, row_line, slope, summary
+from beside.lines_cli import chances
+from beside.pages import COUNT, LONGEST, SHORTEST, WORDS, is_plain, read_words, text_from, text_of, turns_of, words_of
+from beside.programs import Files, build_driver, counted_by, counts_of_rounds, printed_by, used_by
+from beside.sets import PACKAGES, SETS, Set
+from beside.steps import Steps
+from beside.table import MEGA, MIB, Pair, Row, summary, tables
+from beside.works import Measure, Work
 from building.places import LIBRARY, PROGRAM, standing
 from common.faults import ToolFault
 from shaping.cache import cache_folder
@@ -25,21 +31,63 @@ from shaping.cli import tables_file
 # The longest list has 73 words; one of fewer than 30 says little of a language.
 FEWEST, MOST = 30, 80
 HEADER = Path("/usr/include/harfbuzz/hb.h")
-CAN_DRIVE = HEADER.exists() and Path(DEJAVU).exists() and shutil.which("gcc") and shutil.which("hb-shape")
-
-
-# Nanoseconds of a row, and what a summary names rows by.
-TIMES = "420 | 315 | 0.75 | 840 | 630 | 0.75 | 1260 | 945 | 0.75"
-BESIDE = ("beside hb-shape", "beside libharfbuzz, a page", "beside libharfbuzz, each page more")
+COMMANDS = ("gcc", "pkg-config", "valgrind", "hb-shape")
+HAS_LIBRARY = standing(LIBRARY).file.is_file()
+CAN_DRIVE = HAS_LIBRARY and HEADER.exists() and Path(DEJAVU).exists() and all(map(shutil.which, COMMANDS))
+NEEDED = f"needs the library, libharfbuzz-dev, DejaVu Sans and {', '.join(COMMANDS)}"
 
 UNLIKE = Difference("1 of 2 glyphs differ", in_clusters_alone=False)
 CLUSTERS = Difference("1 of 2 glyphs differ in clusters alone", in_clusters_alone=True)
+NOWHERE = Path("/none")
 
 
-def row(theirs: float, own: float, unlike: Difference | None = None, memory: Pair | None = None) -> Row:
-    """A row of Thai: of a page the libraries take twice, and of more three times what the programs take."""
-    times = Pair(theirs, own), Pair(2 * theirs, 2 * own), Pair(3 * theirs, 3 * own)
-    return Row("Thai", "Loma", *times, unlike, memory)
+def one_set(word: str) -> Set:
+    (chosen,) = cli.chosen_sets([word])
+    return chosen
+
+
+def files_of(chosen: Set, driver: Path = NOWHERE) -> Files:
+    return Files(chosen, NOWHERE, NOWHERE, NOWHERE, driver)
+
+
+class Composed(unittest.TestCase):
+    def test_pieces(self) -> None:
+        """A syllable as its script writes it; of Latin runs of consonants and of vowels; a number stays one by one."""
+        for word, pieces in (
+            ("office", "o ff i c e"),
+            ("thuyền", "th uyề n"),
+            ("(3,750)", "( 3 , 7 5 0 )"),
+            ("विद्यार्थी", "वि द्या र्थी"),
+            ("ភ្លៀង", "ភ្លៀ ង"),
+            ("မြန်မာ", "မြ န် မာ"),
+            ("เพื่อน", "เพื่ อ น"),
+            ("བཀྲ་ཤིས་", "བཀྲ་ ཤིས་"),
+            ("שָׁלוֹם", "שָׁ ל וֹ ם"),
+            ("漢字", "漢 字"),
+        ):
+            self.assertEqual([piece.text for piece in pieces_of(word)], pieces.split(" "), word)
+
+    def test_pattern(self) -> None:
+        """A word has as many pieces as a word of the list, of like kinds, its punctuation, and other digits."""
+        words = ("Tower", "(river)", "10,5")
+        inner, last = {"T", "t", "r", "w", "o", "i", "v", "e"}, {"w", "v", "e", "r", "i", "o"}
+        for made in islice(composed(words), 50):
+            if made[0].isdigit():
+                self.assertRegex(made, "^[0-9]{2},[0-9]$")
+                continue
+            self.assertRegex(made, "^T[oeiaui]|^[(][rwv]")
+            self.assertEqual(made.startswith("("), made.endswith(")"))
+            letters = [piece.text for piece in pieces_of(made.strip("()"))]
+            self.assertEqual((len(letters), set(letters[:-1]) <= inner, letters[-1] in last), (5, True, True), made)
+
+    def test_no_word_again(self) -> None:
+        """Of three words' pieces there are many words before one comes again; the same ones each time."""
+        words = ("abido", "ekunu", "imoga")
+        found = list(islice(composed(words), 200))
+        self.assertEqual(len(set(found)), 200)
+        self.assertEqual(found, list(islice(composed(words), 200)))
+        # Each of two pieces has two others: some come again.
+        self.assertEqual(set(islice(composed(("ab", "ef")), 30)), {"ab", "af", "eb", "ef"})
 
 
 class Texts(unittest.TestCase):
@@ -49,7 +97,8 @@ class Texts(unittest.TestCase):
             words = read_words(path)
             self.assertTrue(FEWEST <= len(words) == len(set(words)) <= MOST, path)
             self.assertEqual([unicodedata.normalize("NFC", word) for word in words], words, path)
-        self.assertEqual({f"{chosen.words}.txt" for chosen in SETS}, {path.name for path in WORDS.iterdir()})
+        used = {chosen.words for chosen in SETS} | {chosen.other for chosen in SETS}
+        self.assertEqual({f"{name}.txt" for name in used}, {path.name for path in WORDS.iterdir()})
 
     def test_sets(self) -> None:
         """No two sets have one title, each package serves one, and the decomposed ones hold no whole letter."""
@@ -68,73 +117,128 @@ class Texts(unittest.TestCase):
 
     def test_text(self) -> None:
         """As many whole words as fit, a stop after nine, and each text the front of a longer one."""
-        whole = text_from(["ab"], " ", ". ", 40)
+        whole = text_from(["ab"] * 20, " ", ". ", 40)
         self.assertEqual(whole, " ".join(["ab"] * 9) + ". " + " ".join(["ab"] * 4))
         for length in range(41):
-            front = text_from(["ab"], " ", ". ", length)
+            front = text_from(["ab"] * 20, " ", ". ", length)
             self.assertTrue(whole.startswith(front) and len(front) <= length < len(front) + 4, length)
-        self.assertEqual([len(text_from(["ab"], "", " ", length)) for length in (20, 21)], [18, 21])
+        self.assertEqual([len(text_from(["ab"] * 20, "", " ", length)) for length in (20, 21)], [18, 21])
 
-    def test_length(self) -> None:
-        """A page is full but for one word, and is the same each time."""
+    def test_page(self) -> None:
+        """A page is full but for one word, is the same each time, and where words are apart hardly one comes again."""
         for chosen in SETS:
-            longest = max(map(len, words_of(chosen))) + 2
-            text = text_of(chosen, 1000)
-            self.assertTrue(1000 - longest < len(text) <= 1000, chosen.title)
-            self.assertEqual(text, text_of(chosen, 1000))
+            text = text_of(chosen, cli.PAGE)
+            self.assertTrue(cli.PAGE - 100 < len(text) <= cli.PAGE, chosen.title)
+            self.assertEqual(text[:900], text_of(chosen, 1000)[:900])
+            words = text.replace(chosen.stop, " ").split(chosen.between or None)
+            if chosen.between:
+                self.assertGreater(len(set(words)), 0.97 * len(words), chosen.title)
+
+    def test_words(self) -> None:
+        """Three hundred different words of five to eight characters, of letters and marks, in each set."""
+        for chosen in SETS:
+            words = words_of(chosen)
+            self.assertEqual((len(words), len(set(words))), (COUNT, COUNT), chosen.title)
+            self.assertTrue(all(SHORTEST <= len(word) <= LONGEST and is_plain(word) for word in words), chosen.title)
+
+    def test_turns(self) -> None:
+        """Words of both scripts and numbers in turn as far as the font has them; nothing where it has one script."""
+        chosen = one_set("Amiri")
+        arabic, latin = frozenset(range(0x600, 0x700)), frozenset(range(0x61, 0x7B))
+        digits = frozenset(map(ord, "0123456789"))
+        texts = turns_of(chosen, arabic | latin | digits)
+        self.assertEqual(len(texts), 60)
+        for own, other, number in zip(texts[::3], texts[1::3], texts[2::3], strict=True):
+            self.assertTrue(own[0] > "\u0600" and other.isascii() and other.isalpha() and number.isdigit())
+        self.assertEqual(turns_of(chosen, arabic | digits)[:4:2], words_of(chosen)[:2])
+        self.assertEqual(turns_of(chosen, arabic), [])
 
 
 class Numbers(unittest.TestCase):
-    def test_slope(self) -> None:
-        """What both take cancels: 0.4 s more for 1,000,000 characters more are 400 ns each."""
-        self.assertAlmostEqual(slope((10_000, 1_010_000), (0.1, 0.5)), 400)
-        self.assertAlmostEqual(slope((10_000, 1_010_000), (7.1, 7.5)), 400)
+    def measure(self) -> Measure:
+        units = {"page": 100, "more": 300, "words": 50, "first": 1}
+        made = [Work(name, "kept", NOWHERE, of) for name, of in units.items()]
+        return Measure(files_of(one_set("Jamo")), made, {}, NOWHERE)
 
-    def test_each(self) -> None:
-        """4 ms for 10,000 characters are 400 ns each."""
-        self.assertAlmostEqual(each(10_000, 0.004), 400)
+    def test_least(self) -> None:
+        """Of several runs the least counts, for each side by itself."""
+        measure = self.measure()
+        for name, pair in (("page", Pair(3, 9)), ("page", Pair(5, 8)), ("words", Pair(1, 1)), ("page", Pair(4, 9))):
+            measure.note(name, pair)
+        self.assertEqual(measure.taken, {"page": Pair(3, 8), "words": Pair(1, 1)})
+
+    def test_pairs(self) -> None:
+        """A page and words by their units; what a longer text has more, and whole runs past their first word."""
+        measure = self.measure()
+        measure.taken = {"page": Pair(400, 300), "words": Pair(100, 50), "first": Pair(7, 900)}
+        self.assertEqual(measure.pairs(), {"page": Pair(4, 3), "words": Pair(2, 1), "first": Pair(7, 900)})
+        measure.taken |= {"more": Pair(1400, 900), "short": Pair(100, 5000), "long": Pair(1600, 5900)}
+        found = measure.pairs()
+        self.assertEqual((found["more"], found["program"]), (Pair(5, 3), Pair(5, 3)))
+        self.assertFalse({"short", "long"} & set(found))
 
     def test_ratio(self) -> None:
         self.assertEqual(Pair(400, 300).ratio, 0.75)
         for lost in (Pair(0, 300), Pair(-5, 300), Pair(400, -1)):
             self.assertIsNone(lost.ratio)
 
-    def test_table(self) -> None:
-        """Each line has as many cells as the head, with the peaks of memory and without them."""
-        plain, large = row(420, 315), row(420, 315, UNLIKE, Pair(100 * MIB, 130 * MIB))
-        self.assertEqual(row_line(plain), f"| Thai | Loma | {TIMES} | same |")
-        want = f"| Thai | Loma | {TIMES} | differ | 100 | 130 | 1.30 |"
-        self.assertEqual(row_line(large), want)
-        self.assertIn("| clusters differ |", row_line(row(420, 315, CLUSTERS)))
-        for with_memory, measured in ((False, plain), (True, large)):
-            first, second = head(with_memory).split("\n")
-            self.assertEqual({first.count("|"), second.count("|")}, {row_line(measured).count("|")})
+    def test_tables(self) -> None:
+        """The columns that were measured; what a set lacks is a hyphen; peaks where they were taken."""
+        page = {"page": Pair(400, 300), "font": Pair(1.5 * MEGA, 127.2 * MEGA)}
+        rows = [Row("Thai", "Loma", page), Row("Urdu", "Nast", {**page, "turns": Pair(2, 3), "first": Pair(0, 0)})]
+        ratios, once = ["| Set | page | turns |"], ["| Set | font | HarfBuzz | first | HarfBuzz |"]
+        ratios += ["| --- | --- | --- |", "| Thai, Loma | 0.75 | - |", "| Urdu, Nast | 0.75 | 1.50 |"]
+        once += ["| --- | --- | --- | --- | --- |", "| Thai, Loma | 127 | 1.50 | - | - |"]
+        self.assertEqual(tables(rows), [*ratios, "", *once, "| Urdu, Nast | 127 | 1.50 | 0.00 | 0.00 |"])
+        peaks = Row("Thai", "Loma", {"memory": Pair(100 * MIB, 130 * MIB)})
+        self.assertEqual(tables([peaks])[-1], "| Thai, Loma | 130 | 100 | 1.30 |")
 
     def test_summary(self) -> None:
-        """Rows above the bound are named, and so are those without a ratio; one that shows 1.00 is not."""
-        rows = [row(400, 401), row(400, 600), row(0, 5)]
-        told = "Thai, Loma (1.50), Thai, Loma (?) (2 of 3)."
-        self.assertEqual(summary(rows), [f"Above 1.0 {beside}: {told}" for beside in BESIDE])
-        none = "none (0 of 1)."
-        self.assertEqual(
-            summary([row(4, 3, UNLIKE, Pair(100, 121))]),
-            [
-                *(f"Above 1.0 {beside}: {none}" for beside in BESIDE),
-                "Above 1.2 in memory: Thai, Loma (1.21) (1 of 1).",
-                "Thai, Loma: 1 of 2 glyphs differ",
-            ],
-        )
+        """Rows above a column's mark are named, and so are those without a ratio; one that shows the mark is not."""
+        rows = [Row("A", "f", {"page": Pair(1000, own), "memory": Pair(100, 111)}) for own in (754, 756)]
+        rows.append(Row("B", "f", {"page": Pair(0, 5)}))
+        page, memory = summary(rows)
+        self.assertEqual(page, "Above 0.75 in a page: A, f (0.76), B, f (?) (2 of 3).")
+        self.assertEqual(memory, "Above 1.1 in memory: A, f (1.11), A, f (1.11) (2 of 2).")
+        self.assertEqual(summary(rows[:1])[0], "Above 0.75 in a page: none (0 of 1).")
 
 
-class Least(unittest.TestCase):
-    def test_least(self) -> None:
-        """Of several runs the least time of each text counts, for each program by itself."""
-        (chosen,) = cli.chosen_sets(["Jamo"])
-        none = Path("/none")
-        measure = cli.Measure(Files(chosen, none, none, none, none, none), [], (10, 20), None)
-        for name, at, seconds in (("a", 0, 3.0), ("a", 1, 5.0), ("a", 0, 2.0), ("a", 1, 6.0), ("b", 0, 1.0), ("b", 1, 4.0)):
-            measure.note(name, at, seconds)
-        self.assertEqual((measure.pair("a"), measure.pair("b")), ((2.0, 5.0), (1.0, 4.0)))
+class Taken(unittest.TestCase):
+    """What a run of the driver and of the programs gives, over stand-ins for them."""
+
+    def setUp(self) -> None:
+        folder = tempfile.TemporaryDirectory()
+        self.addCleanup(folder.cleanup)
+        path, whole = Path(folder.name), {"short": NOWHERE, "long": NOWHERE}
+        made = [works.work_of(name, kind, ["ab", "c"], path) for name, kind in (("page", "kept"), ("anew", "anew"))]
+        self.measure = Measure(files_of(one_set("Jamo")), made, whole, path)
+
+    def test_works(self) -> None:
+        """A page counts by its characters, other texts one by one, which stand in a file a line each."""
+        page, anew = self.measure.works
+        self.assertEqual((page.units, anew.units, anew.word()), (2, 2, f"anew={anew.texts}"))
+        self.assertEqual(anew.texts.read_text(), "ab\nc\n")
+
+    def test_times(self) -> None:
+        lines, used = ["30 20", "7 9"], mock.Mock(side_effect=lambda words: mock.Mock(seconds=len(words) / 1e9))
+        with mock.patch.multiple(works, printed_by=lambda _: lines, used_by=used):
+            works.take_times(self.measure)
+        self.assertEqual((self.measure.taken["page"], self.measure.taken["anew"]), (Pair(20, 30), Pair(9, 7)))
+        self.assertEqual(self.measure.taken["short"].own, 6)
+
+    def test_counts(self) -> None:
+        with mock.patch.multiple(works, counts_of_rounds=lambda *_: [(30, 20), (7, 9)], counted_by=lambda *_: 5):
+            works.take_counts(self.measure)
+        taken = {"page": Pair(20, 30), "anew": Pair(9, 7), "short": Pair(5, 5), "long": Pair(5, 5)}
+        self.assertEqual(self.measure.taken, taken)
+
+    def test_steps(self) -> None:
+        """Where no terminal is, each set that is done has its line."""
+        with contextlib.redirect_stderr(io.StringIO()) as told:
+            Steps("real", 2).each("run 1", {"A": 1, "B": 2}, lambda _: None)
+        first, second = told.getvalue().splitlines()
+        self.assertRegex(first, "^real: [0-9:]{8} run 1, A 1 of 2$")
+        self.assertTrue(second.endswith(" run 1, B 2 of 2"))
 
 
 class Differences(unittest.TestCase):
@@ -161,6 +265,15 @@ class Differences(unittest.TestCase):
         self.assertEqual(difference("5=0+6|6=0", "5=0+6|6=1"), Difference(told, True))
         found = difference("5=0+6|6=0|7=2", "5=0+6|6=1|8=2")
         self.assertTrue(found is not None and not found.in_clusters_alone and found.told.startswith("2 of 3 "))
+
+    def test_texts(self) -> None:
+        """Of all texts' differences one that isn't in clusters alone is told before those that are."""
+        made = [Work("page", "kept", NOWHERE, 1), Work("words", "kept", NOWHERE, 2), Work("anew", "anew", NOWHERE, 2)]
+        measure = Measure(files_of(one_set("Tamil")), made, {}, NOWHERE)
+        for words, first in ((["5=0", "[5=0]"], None), (["5=1", "[5=2]"], True), (["5=1", "[5=2]", "5=1", "[6=1]"], False)):
+            with mock.patch.object(cli, "printed_by", lambda called: words if "0" in called else ["5=0"]):
+                found = cli.differences(measure)
+            self.assertEqual(None if found is None else found.in_clusters_alone, first)
 
     def test_fault(self) -> None:
         """Other clusters are no fault of a set that has clusters of its own; anything else is."""
@@ -194,13 +307,22 @@ class Running(unittest.TestCase):
         for words, told in (
             (["--pages=1"], "two lengths"),
             (["--runs=0"], "no number above 0"),
+            (["--jobs=2"], "it is for --instructions"),
             (["--only=Klingon"], "no set has 'Klingon'"),
             (["--cpu=99999"], "no processor"),
             (["--program=/no/program"], "tools/build proves"),
             (["--program=/bin/sh", "--library=/no/archive"], "tools/build_library proves"),
+            (["--from=/no/numbers.json"], "No such file"),
         ):
-            with self.assertRaisesRegex(ToolFault, told):
+            with self.assertRaisesRegex((ToolFault, OSError), told):
                 cli.main(words)
+
+    def test_no_font(self) -> None:
+        """A set without its font is told by the package that has it."""
+        words = ["--only=Urdu", "--program=/bin/sh", f"--library={__file__}"]
+        with mock.patch.dict(PACKAGES, {"fonts-noto-core": Path("/no/fonts")}), self.assertRaises(ToolFault) as told:
+            cli.main(words)
+        self.assertRegex(str(told.exception), "^apt-get install .*fonts-noto-core.*: what is measured or read is not")
 
     def test_only(self) -> None:
         """A word is looked for in names of sets and of fonts, whatever its case."""
@@ -213,39 +335,62 @@ class Running(unittest.TestCase):
 
     def test_texts(self) -> None:
         """The texts are written as they are measured."""
+        chosen = one_set("Jamo")
         with tempfile.TemporaryDirectory() as folder, contextlib.redirect_stdout(io.StringIO()):
             self.assertEqual(cli.main(["--only=Jamo", f"--texts={folder}/made"]), 0)
-            (path,) = (Path(folder) / "made").iterdir()
-            self.assertEqual(path.read_text(encoding="utf-8"), text_of(cli.chosen_sets(["Jamo"])[0], cli.PAGE) + "\n")
+            page, words = (Path(folder) / "made" / f"{chosen.title}{rest}.txt" for rest in ("", ", words"))
+            self.assertEqual(page.read_text(encoding="utf-8"), text_of(chosen, cli.PAGE) + "\n")
+            self.assertEqual(words.read_text(encoding="utf-8").split(), words_of(chosen))
 
-    @unittest.skipUnless(CAN_DRIVE, "needs libharfbuzz-dev, gcc, hb-shape and DejaVu Sans")
+    @unittest.skipUnless(CAN_DRIVE, NEEDED)
     def test_driver(self) -> None:
-        """The driver prints the glyphs that hb-shape prints, and times above zero that grow with the text."""
-        with tempfile.TemporaryDirectory() as folder:
-            driver = build_driver(Path(folder))
-            texts = [Path(folder) / f"{times}.txt" for times in (1, 1000)]
+        """The driver prints the glyphs of both libraries, which are those of hb-shape; times and instructions of a
+        round grow with the texts, and are more where the plan is made anew or the font opened."""
+        with tempfile.TemporaryDirectory() as name, cache_folder() as values:
+            folder, chosen = Path(name), one_set("Latin, DejaVuSans")
+            driver = build_driver(folder, standing(LIBRARY).file)
+            files = Files(chosen, NOWHERE, tables_file(values), cli.font_file(values, chosen.font), driver)
+            texts = [folder / f"{count}.txt" for count in (1, 50)]
             for path in texts:
-                path.write_text("office " * int(path.stem) + "\n", encoding="utf-8")
-            lines = printed_by([str(driver), "en", DEJAVU, "0", *map(str, texts)])
-            for path, line in zip(texts, lines, strict=True):
-                words = ["hb-shape", "--no-glyph-names", "--utf8-clusters", f"--text-file={path}", DEJAVU]
-                self.assertEqual([line], printed_by(words))
-            short, long = map(int, printed_by([str(driver), "en", DEJAVU, "3", *map(str, texts)]))
-            self.assertTrue(0 < short < long)
+                path.write_text("office\n" * int(path.stem), encoding="utf-8")
+            own, theirs = printed_by(files.rounds(0, [f"kept={texts[0]}"]))
+            words = ["hb-shape", "--no-glyph-names", "--utf8-clusters", f"--text-file={texts[0]}", DEJAVU]
+            self.assertEqual(([theirs], own), (printed_by(words), theirs.strip("[]")))
+            kinds = [f"kept={path}" for path in texts] + [f"{kind}={texts[0]}" for kind in ("anew", "open", "first")]
+            counted = counts_of_rounds(files.rounds(1, kinds), len(kinds), folder / "callgrind")
+            for side in (0, 1):
+                one, fifty, anew, opened, first = (pair[side] for pair in counted)
+                self.assertTrue(0 < 40 * one < fifty < 60 * one and one < anew < opened and 0.9 * opened < first)
+            self.assertGreater(counted[4][0], 1.2 * counted[3][0])
+            times = [list(map(int, line.split())) for line in printed_by(files.rounds(3, kinds[:2]))]
+            self.assertTrue(all(0 < short < long for short, long in zip(*times, strict=True)))
+            for wrong in ("kept", f"never={texts[0]}", "kept=/no/text"):
+                with self.assertRaisesRegex(ToolFault, "driver ended with 1: "):
+                    printed_by(files.rounds(1, [wrong]))
 
-    @unittest.skipUnless(CAN_DRIVE and standing(LIBRARY).file.is_file(), "needs the library, libharfbuzz-dev, gcc and DejaVu Sans")
-    def test_own_driver(self) -> None:
-        """The library's driver prints glyphs as that of libharfbuzz does, without flags, and measures as it does."""
-        (chosen,) = cli.chosen_sets(["Latin, DejaVuSans"])
-        with tempfile.TemporaryDirectory() as folder, cache_folder() as kept:
-            drivers = build_driver(Path(folder)), build_own_driver(Path(folder), standing(LIBRARY).file)
-            files = Files(chosen, standing(PROGRAM).file, tables_file(kept), cli.font_file(kept, chosen.font), *drivers)
-            texts = [cli.written_text(Path(folder), chosen, characters)[0] for characters in (100, 5_000)]
-            for own, theirs in zip(*(printed_by(words(0, texts)) for words in (files.own_rounds, files.their_rounds))):
-                self.assertNotIn("#", own)
-                self.assertIsNone(difference(own, theirs.strip("[]")))
-            short, long = map(int, printed_by(files.own_rounds(3, texts)))
-            self.assertTrue(0 < short < long)
+    @unittest.skipUnless(shutil.which("valgrind"), "needs valgrind")
+    def test_counted(self) -> None:
+        """A whole run has instructions; a fault of the program is told."""
+        with tempfile.TemporaryDirectory() as folder:
+            self.assertGreater(counted_by(["true"], Path(folder) / "callgrind"), 1000)
+            self.assertEqual(list(Path(folder).iterdir()), [])
+            with self.assertRaisesRegex(ToolFault, "ended with 1"):
+                counted_by(["false"], Path(folder) / "callgrind")
+
+    @unittest.skipUnless(CAN_DRIVE and standing(PROGRAM).file.is_file(), f"{NEEDED}, and the program")
+    def test_run(self) -> None:
+        """A small run from texts to tables; what it keeps is shown again as it was."""
+        one = (one_set("Latin, DejaVuSans"),)
+        sizes = mock.patch.multiple(works, PAGE=300, ANEW=2, words_of=lambda _: ["office", "fjords"])
+        with tempfile.TemporaryDirectory() as folder, contextlib.ExitStack() as stack:
+            for patch in (sizes, mock.patch.object(cli, "SETS", one), contextlib.redirect_stderr(io.StringIO())):
+                stack.enter_context(patch)
+            kept = f"{folder}/kept.json"
+            status, shown = told_by(cli.main, "--instructions", f"--keep={kept}")
+            again = told_by(cli.main, f"--from={kept}")
+        self.assertEqual(status, 0)
+        self.assertEqual(again, (0, shown[: shown.index("\nAbove ")]))
+        self.assertRegex(shown, r"\| Latin, DejaVuSans \| [0-9.]+ \| [0-9.]+ \| [0-9.]+ \| [0-9.]+ \|\n")
 
 
 if __name__ == "__main__":

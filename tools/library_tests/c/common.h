@@ -32,20 +32,35 @@ read_file (const char *name)
   return read;
 }
 
+static inline kus_tables_t
+open_tables (const char *name)
+{
+  kus_tables_t tables = KUS_TABLES_INIT;
+  bytes_t json = read_file (name);
+  kus_status_t status = kus_tables_create (&tables, json.bytes, json.length);
+  if (status != KUS_OK) fail (name, kus_status_name (status));
+  free (json.bytes);
+  return tables;
+}
+
+static inline kus_font_t
+open_font_over (kus_tables_t *tables, const char *name)
+{
+  kus_font_t font = KUS_FONT_INIT;
+  bytes_t json = read_file (name);
+  kus_status_t status = kus_font_create_with_tables (&font, tables, json.bytes, json.length);
+  if (status != KUS_OK) fail (name, kus_status_name (status));
+  free (json.bytes);
+  return font;
+}
+
 /* A font over tables, which are let go as soon as the font has them. */
 static inline kus_font_t
 open_font (const char *tables, const char *json)
 {
-  kus_tables_t shared = KUS_TABLES_INIT;
-  kus_font_t font = KUS_FONT_INIT;
-  bytes_t t = read_file (tables), j = read_file (json);
-  kus_status_t status = kus_tables_create (&shared, t.bytes, t.length);
-  if (status != KUS_OK) fail (tables, kus_status_name (status));
-  status = kus_font_create_with_tables (&font, &shared, j.bytes, j.length);
-  if (status != KUS_OK) fail (json, kus_status_name (status));
+  kus_tables_t shared = open_tables (tables);
+  kus_font_t font = open_font_over (&shared, json);
   kus_tables_destroy (&shared);
-  free (t.bytes);
-  free (j.bytes);
   return font;
 }
 
