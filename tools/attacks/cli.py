@@ -68,7 +68,7 @@ def parser() -> argparse.ArgumentParser:
     words.add_argument("--program", type=Path, default=standing(PROGRAM).file, metavar="FILE", help="another program")
     words.add_argument("--limit", type=float, default=120, metavar="S", help="processor seconds for a run (120)")
     words.add_argument("--memory", type=int, default=4096, metavar="MB", help="memory for a run (4096)")
-    words.add_argument("--stack", type=int, default=192, metavar="KB", help="stack for a run (192)")
+    words.add_argument("--stack", type=int, default=384, metavar="KB", help="stack for a run (384)")
     return words
 
 

@@ -18,6 +18,7 @@ from sources.crates import ROOT
 
 UNPROVED = "unproved"
 BUILD, BUILD_LIBRARY = "tools/build", "tools/build_library"
+TESTS = "tests"
 
 
 @dataclass(frozen=True)
@@ -33,6 +34,12 @@ class Target:
 
 PROGRAM = Target("hb_shape", "hb_shape", ("hb_shape",), BUILD)
 LIBRARY = Target("libkuspveli", "kuspveli_c", ("libkuspveli.a", "libkuspveli.so"), BUILD_LIBRARY, "library")
+
+
+def tests_target(crate: str) -> Target:
+    """The program of a crate's tests, as rt test builds it."""
+    name = f"{crate}_tests"
+    return Target(name, crate, (name,), "rt test", TESTS)
 
 
 @dataclass(frozen=True)

@@ -4,7 +4,7 @@ import os
 import sys
 from pathlib import Path
 
-from building.places import BUILD, PROGRAM, UNPROVED, Place, Target
+from building.places import BUILD, PROGRAM, UNPROVED, Place, Target, tests_target
 from building.progress import Teller
 from common.faults import FILES, ToolFault
 from common.printing import tell
@@ -35,6 +35,14 @@ def unproved_place(name: str, target: Target, why: str, root: Path = ROOT) -> Pl
         make(unproved, name, f"{why}: making one without proofs, in some minutes ({target.tool} makes the proved one)")
     tell_unproved(name, target.name, target.tool)
     return unproved
+
+
+def ready_tests(name: str, crate: str, root: Path = ROOT) -> Path:
+    """The program of a crate's tests, of the sources that stand here, made without proofs where there is none."""
+    place = Place(tests_target(crate), False, root)
+    if not place.is_current():
+        make(place, name, f"the tests of {crate} of these sources are not built: making them without proofs")
+    return place.file
 
 
 def make(place: Place, name: str, why: str) -> None:

@@ -52,7 +52,7 @@ def parser() -> argparse.ArgumentParser:
     words.add_argument("--against", type=Path, metavar="FILE", help="a program that has to answer the same")
     words.add_argument("--limit", type=float, default=10, metavar="S", help="processor seconds for a run (10)")
     words.add_argument("--memory", type=int, default=1024, metavar="MB", help="memory for a run (1024)")
-    words.add_argument("--stack", type=int, default=192, metavar="KB", help="stack for a run (192)")
+    words.add_argument("--stack", type=int, default=384, metavar="KB", help="stack for a run (384)")
     words.add_argument("--keep", type=Path, default=ROOT / "out" / "fuzz", metavar="FOLDER", help="where cases are kept")
     return words
 

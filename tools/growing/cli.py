@@ -8,17 +8,14 @@ from pathlib import Path
 from common.faults import FILES, ToolFault
 from common.parsing import Words
 from growing.code import Function, all_functions, faults_of_memory
-from growing.refused import Trials, shown
-from refusing.programs import Refusing
+from growing.refused import Trials
+from refusing.programs import MOST, Refusing, shown
 from sources.crates import ROOT, all_needs, read_crates
 
 NAME = "growing_calls"
 ABOUT = """Lists the public calls that may ask for memory: those that take an allocator, and those whose error may be
 want of memory. Beside each stand the tests from which it is reached, by the names that functions call: how many, and one
 of them. With --refuse it runs these tests, as the gate built them, with each of their allocations refused in turn."""
-
-# So many allocations of one test are refused, each in two runs.
-MOST = 10_000
 
 
 def is_growing(function: Function, faults: set[str]) -> bool:
@@ -90,9 +87,9 @@ def main(words: list[str]) -> int:
     parser.add_argument("--check", action="store_true", help="print the calls that no test reaches; the status is 1 for one")
     parser.add_argument("--crate", metavar="NAME", help="the calls of one crate")
     parser.add_argument("--refuse", action="store_true", help="run the tests; the status is 1 for a wrong answer")
-    built = "the crates in whose out/ the tests' programs stand (those of this repository)"
+    built = "where the tests' programs stand: there, or in crates there in out/ (this repository's crates)"
     parser.add_argument("--built", type=Path, default=ROOT / "crates", metavar="FOLDER", help=built)
-    most = f"leave out tests that ask for memory more often ({MOST:,})"
+    most = f"of tests that ask for memory more often refuse a sample ({MOST:,})"
     parser.add_argument("--most", type=int, default=MOST, metavar="N", help=most)
     options = parser.parse_args(words)
     functions = all_functions()
@@ -103,7 +100,7 @@ def main(words: list[str]) -> int:
     if options.refuse:
         chosen = [each for each in growing if options.crate in (None, each.crate)]
         with tempfile.TemporaryDirectory() as folder:
-            return refuse(chosen, reach, Trials(options.built, Refusing(Path(folder)), options.most))
+            return refuse(chosen, reach, Trials(options.built, Refusing(Path(folder), options.most)))
     for function in unreached if options.check else growing:
         if options.crate in (None, function.crate):
             print(line(function, reach.tests[function]))
@@ -115,16 +112,17 @@ def refuse(growing: list[Function], reach: Reach, trials: Trials) -> int:
     """Runs the tests of each call with their allocations refused; the status is 1 where an answer is wrong."""
     if not trials.programs:
         raise ToolFault(FILES, "no tests are built there: rt ci and rt test build them")
+    trials.run(test for function in growing for test in reach.tests[function])
     unasked = 0
     for function in growing:
         ends = trials.of_tests(reach.tests[function])
         unasked += not ends
-        print(f"{function.shown()}: {shown(ends) if ends else 'no test that asks for memory'}", flush=True)
-    wrong = list(trials.wrong())
-    for told in [*wrong, *(f"left out: {test}" for test in trials.left_out())]:
+        print(f"{function.shown()}: {shown(ends) if ends else 'no test that asks for memory'}")
+    for told in trials.told():
         print(told)
-    print(f"{shown(trials.all_ends())}; {len(growing)} growing calls, {unasked} of them in no test")
-    return 1 if wrong or unasked else 0
+    all_ends = list(trials.ends.values())
+    print(f"{shown(all_ends)}; {len(growing)} growing calls, {unasked} of them in no test")
+    return 1 if unasked or any(ends.wrong() for ends in all_ends) else 0
 
 
 def line(function: Function, tests: list[Function]) -> str:

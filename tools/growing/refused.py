@@ -1,12 +1,10 @@
 """The tests of growing calls, run as they were built with each allocation refused in turn."""
 
-from collections import Counter
 from pathlib import Path, PurePosixPath
-from typing import Iterator
+from typing import Iterable, Iterator
 
 from growing.code import Function
-from refusing.programs import PASSED, WANT, Ends, Refusing, tests_of
-
+from refusing.programs import Ends, Refusing, programs_in, tests_of
 
 def built_names(test: Function, names: list[str]) -> list[str]:
     """Under which of a program's names a test may have been built: its file is a module, or a module is in its file."""
@@ -17,45 +15,29 @@ def built_names(test: Function, names: list[str]) -> list[str]:
 
 
 class Trials:
-    """The tests that were built, and how those ended that were run; measures, which ask too often, are left out."""
+    """The tests that were built, and how those ended that were run."""
 
-    def __init__(self, built: Path, refusing: Refusing, most: int) -> None:
+    def __init__(self, built: Path, refusing: Refusing) -> None:
         self.refusing = refusing
-        self.most = most
-        self.programs = {path.parent.parent.name: path for path in sorted(built.glob("*/out/*_tests"))}
+        self.programs = programs_in(built)
         self.names = {crate: tests_of(program) for crate, program in self.programs.items()}
-        self.ends: dict[tuple[str, str], Ends | None] = {}
+        self.ends: dict[tuple[str, str], Ends] = {}
+
+    def built(self, tests: Iterable[Function]) -> list[tuple[str, str]]:
+        """The crates and names of those tests that were built."""
+        found = ((test.crate, name) for test in tests for name in built_names(test, self.names.get(test.crate, [])))
+        return list(dict.fromkeys(found))
+
+    def run(self, tests: Iterable[Function]) -> None:
+        """Runs those tests that were built."""
+        built = self.built(tests)
+        self.ends = dict(zip(built, self.refusing.all_ends((self.programs[crate], name) for crate, name in built)))
 
     def of_tests(self, tests: list[Function]) -> list[Ends]:
-        """How the tests end that were built and ask for memory."""
-        each = (self.run(test.crate, name) for test in tests for name in built_names(test, self.names.get(test.crate, [])))
-        return [ends for ends in each if ends is not None and ends.answers]
+        """How the tests ended that were run and ask for memory."""
+        return [self.ends[test] for test in self.built(tests) if self.ends[test].allocations]
 
-    def all_ends(self) -> list[Ends]:
-        """How all tests ended that were run."""
-        return [ends for ends in self.ends.values() if ends is not None]
-
-    def run(self, crate: str, test: str) -> Ends | None:
-        """How a test ends; each is run once."""
-        if (crate, test) not in self.ends:
-            self.ends[crate, test] = self.refusing.ends(self.programs[crate], test, self.most)
-        return self.ends[crate, test]
-
-    def wrong(self) -> Iterator[str]:
-        """The tests that ended otherwise than well or for want of memory, each with one such end."""
-        for (crate, test), ends in self.ends.items():
-            for answer in ends.others()[:1] if ends else ():
-                yield f"{crate} {test}: {len(ends.others())} of {len(ends.answers)} otherwise, as {answer}"
-
-    def left_out(self) -> list[str]:
-        """The tests that were left out."""
-        return [f"{crate} {test}" for (crate, test), ends in self.ends.items() if ends is None]
-
-
-def shown(all_ends: list[Ends]) -> str:
-    """How many tests there are, how many of their allocations were refused, and how often they ended how."""
-    answers = Counter(answer for ends in all_ends for answer in ends.answers)
-    counts = {kind: answers.pop(kind, 0) for kind in (WANT, PASSED)} | {"otherwise": answers.total()}
-    allocations = sum(ends.allocations for ends in all_ends)
-    told = ", ".join(f"{times:,} {kind}" for kind, times in counts.items() if times)
-    return f"{len(all_ends)} tests, {allocations:,} allocations: {told}"
+    def told(self) -> Iterator[str]:
+        """The tests that ended otherwise than well or for want of memory, and those of which a sample was taken."""
+        for (crate, _), ends in self.ends.items():
+            yield from ends.told(crate)

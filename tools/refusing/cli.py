@@ -1,54 +1,66 @@
 """The command line of short_memory."""
 
-import re
-import subprocess
-from itertools import count
+import tempfile
+from pathlib import Path
 
-from common.faults import DATA, WORDS, ToolFault
+from building.command import positive
+from building.progress import Teller
+from building.ready import ready_tests
+from common.faults import FILES, WORDS, ToolFault
 from common.parsing import Words
-from sources.crates import ROOT
+from common.printing import emit
+from refusing.programs import MOST, Ends, Refusing, programs_in, shown, tests_of
+from sources.crates import ROOT, tested_crates
 
 NAME = "short_memory"
-ABOUT = """Runs the tests of a crate with one allocation of each test refused: its first, its second, and so on until
-none of them is refused one. A test that is refused memory may end for want of memory, and in no other way."""
-# The last line of a run, and a test's line with the first line that tells why it failed.
-ENDED = re.compile(r"^run=ended ", re.MULTILINE)
-TEST = re.compile(r"^test (\S+) \.\.\. (ok|FAILED)(?:\n +(.*))?$", re.MULTILINE)
-WANT = re.compile(r"error: (AllocError|AllocFailed|OutOfMemory)\b")
+ABOUT = """Runs the tests of a crate, or of all crates that have tests, with each of their allocations refused in turn,
+alone and with all that follow it. A test that is refused memory may end for want of memory or as with all memory, and
+in no other way. The tests are compiled without proofs and with checks of their steps, unless --built names others."""
 
 
 def main(words: list[str]) -> int:
-    """Tells how many allocations were refused; its status is 1 where a test failed but for want of memory."""
+    """Tells how the tests ended; its status is 1 where one ended otherwise than well or for want of memory."""
     parser = Words(prog=NAME, description=ABOUT)
-    parser.add_argument("crate", help="a crate's name")
+    parser.add_argument("crate", nargs="?", help="a crate's name (all crates that have tests)")
     parser.add_argument("module", nargs="?", default="", help="what the names of the tests begin with")
+    built = "where tests' programs stand that are built: there, or in crates there in out/"
+    parser.add_argument("--built", type=Path, metavar="FOLDER", help=built)
+    most = f"of a test that asks for memory more often refuse a sample ({MOST:,})"
+    parser.add_argument("--most", type=positive, default=MOST, metavar="N", help=most)
+    parser.add_argument("--jobs", type=positive, metavar="N", help="how many tests run at once (as many as processors)")
     options = parser.parse_args(words)
-    if not (ROOT / "crates" / options.crate).is_dir():
-        raise ToolFault(WORDS, f"no crate {options.crate}")
-    for refused in count(1):
-        ends = ends_of_tests(options.crate, options.module, refused)
-        wrong = {name: why for name, why in ends.items() if why and not WANT.search(why)}
-        for name, why in wrong.items():
-            print(f"{name}: with allocation {refused} refused: {why}")
-        if wrong:
-            return 1
-        if not any(ends.values()):
-            break
-    print(f"{options.crate}: {len(ends)} tests, each with up to {refused - 1} allocations refused in turn")
-    return 0
+    crates = tested_crates(ROOT)
+    if options.crate not in (None, *crates):
+        raise ToolFault(WORDS, f"no crate {options.crate} that has tests")
+    chosen = [options.crate] if options.crate else crates
+    with tempfile.TemporaryDirectory() as folder:
+        refusing = Refusing(Path(folder), options.most, options.jobs)
+        all_ends: list[Ends] = []
+        for number, crate in enumerate(chosen, 1):
+            program = program_of(crate, options.built)
+            all_ends += refuse(crate, program, options.module, refusing, f"crate {number} of {len(chosen)}")
+    if len(chosen) > 1:
+        emit(f"all: {shown(all_ends)}\n")
+    return 1 if any(ends.wrong() for ends in all_ends) else 0
 
 
-def ends_of_tests(crate: str, module: str, refused: int) -> dict[str, str]:
-    """Why each test failed with an allocation refused, nothing where it passed."""
-    command = ["rt", "try", "--test", "--fail-alloc", str(refused)]
-    folder = ROOT / "crates" / crate
-    run = subprocess.run(
-        command, cwd=folder, stdout=subprocess.PIPE, stderr=subprocess.STDOUT, check=False, encoding="utf-8"
-    )
-    if not ENDED.search(run.stdout):
-        raise ToolFault(DATA, f"rt did not run the tests of {crate}: {run.stdout[-300:]}")
-    found = TEST.finditer(run.stdout)
-    ends = {test[1]: "" if test[2] == "ok" else test[3] or test[2] for test in found if test[1].startswith(module)}
-    if not ends:
+def program_of(crate: str, built: Path | None) -> Path:
+    """The program of a crate's tests: one that is built, or one of the sources that stand here."""
+    if built is None:
+        return ready_tests(NAME, crate, ROOT)
+    programs = programs_in(built)
+    if crate not in programs:
+        raise ToolFault(FILES, f"no tests of {crate} are built in {built}: rt ci and rt test build them")
+    return programs[crate]
+
+
+def refuse(crate: str, program: Path, module: str, refusing: Refusing, at: str) -> list[Ends]:
+    """Runs the tests of a crate, and tells how they ended."""
+    tests = [test for test in tests_of(program) if test.startswith(module)]
+    if not tests:
         raise ToolFault(WORDS, f"{crate} has no test whose name begins with {module}")
-    return ends
+    with Teller(NAME).step(f"{at}, {crate}: {len(tests)} tests"):
+        all_ends = list(refusing.all_ends((program, test) for test in tests))
+    told = [line for ends in all_ends for line in ends.told(crate)]
+    emit("".join(f"{line}\n" for line in [*told, f"{crate}: {shown(all_ends)}"]))
+    return all_ends

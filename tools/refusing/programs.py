@@ -1,90 +1,141 @@
-"""The tests of a crate as they were built: each runs by itself, with one allocation refused."""
+"""The tests of a crate as they were built, with their allocations refused."""
 
 import os
 import re
+import signal
 import subprocess
+import tempfile
+from collections import Counter
 from concurrent.futures import ThreadPoolExecutor
-from contextlib import contextmanager
 from dataclasses import dataclass
 from pathlib import Path
-from queue import SimpleQueue
-from typing import Iterator
+from typing import Iterable, Iterator
 
 from common.faults import DATA, ToolFault
-from streams.shim import Shim
+from refusing.forks import Choice, Forks
 
 PASSED, WANT = "as with all memory", "want of memory"
 # A test's line in the list that its program prints.
 LISTED = re.compile(r"^(\S+): test$", re.MULTILINE)
 NAMED = re.compile(r"error: (?:AllocError|AllocFailed|\w*\(*OutOfMemory|Error\(out of memory\))")
+# The gate gives a test so long.
 SECONDS = 60
-# A test that takes longer with all memory is a measure, and is left out.
-LONGEST = 2
+# A test that takes longer, or that asks for memory more often than it is let, is a measure: its first and its last
+# allocations are refused, and of the others one in so many that they are SAMPLE at most.
+LONGEST, MOST = 2_000, 10_000
+EDGE, SAMPLE = 100, 1_000
+
+
+@dataclass(frozen=True)
+class End:
+    """How a test ended that was refused an allocation, alone or with all that follow it."""
+
+    number: int
+    is_alone: bool
+    answer: str
+
+    def shown(self) -> str:
+        return f"with allocation {self.number}{'' if self.is_alone else ' and all after it'} refused: {self.answer}"
 
 
 @dataclass(frozen=True)
 class Ends:
-    """How a test ended with each of its allocations refused, alone and with all that follow it."""
+    """How often a test asks for memory, and how it ended with one and another of its allocations refused."""
 
     test: str
     allocations: int
-    answers: tuple[str, ...]
+    ends: tuple[End, ...]
 
-    def others(self) -> list[str]:
-        """The answers that are neither want of memory nor the right one."""
-        return [answer for answer in self.answers if answer not in (PASSED, WANT)]
+    @property
+    def refused(self) -> int:
+        """How many of the allocations were refused."""
+        return sum(end.is_alone for end in self.ends)
+
+    def wrong(self) -> list[End]:
+        """The ends that are neither want of memory nor the right one."""
+        return [end for end in self.ends if end.answer not in (PASSED, WANT)]
+
+    def told(self, crate: str) -> Iterator[str]:
+        """The first wrong end, and whether a sample was taken."""
+        for end in self.wrong()[:1]:
+            yield f"{crate} {self.test}: {len(self.wrong())} of {len(self.ends)} otherwise, {end.shown()}"
+        if self.refused < self.allocations:
+            yield f"{crate} {self.test}: {self.refused:,} of {self.allocations:,} allocations"
 
 
 class Refusing:
-    """Runs tests under shims, each of which one run uses at a time."""
+    """Runs tests under the functions that refuse memory."""
 
-    def __init__(self, folder: Path, at_once: int | None = None) -> None:
+    def __init__(self, folder: Path, most: int = MOST, at_once: int | None = None) -> None:
+        self.folder = folder
+        self.most = most
         self.at_once = at_once or os.cpu_count() or 1
-        self.free: SimpleQueue[Shim] = SimpleQueue()
-        for number in range(self.at_once):
-            own = folder / str(number)
-            own.mkdir()
-            self.free.put(Shim(own))
+        self.forks = Forks(folder)
 
-    def ends(self, program: Path, test: str, most: int) -> Ends | None:
-        """How a test of a program ends; its runs are side by side. None where it takes long or asks more often."""
-        last = self.count(program, test)
-        if last is None or last > most:
-            return None
-        runs = [(number, on) for number in range(1, last + 1) for on in (0, 1)]
+    def all_ends(self, tests: Iterable[tuple[Path, str]]) -> Iterator[Ends]:
+        """How tests of programs end, in their order; they run side by side."""
         with ThreadPoolExecutor(self.at_once) as pool:
-            return Ends(test, last, tuple(pool.map(lambda run: self.refused(program, test, *run), runs)))
+            yield from pool.map(lambda test: self.ends(*test), tests)
 
-    def count(self, program: Path, test: str) -> int | None:
-        """How many allocations a test asks for; None where it takes long."""
-        with self.shim() as shim:
-            try:
-                answer = answer_of(program, test, shim.counting(), LONGEST)
-            except subprocess.TimeoutExpired:
-                return None
+    def ends(self, program: Path, test: str) -> Ends:
+        """How a test of a program ends."""
+        _, allocations, milliseconds = self.report(program, test, None)
+        choice = self.choice(allocations, milliseconds)
+        lines, again, _ = self.report(program, test, choice)
+        ends = tuple(map(end_of, lines))
+        if again != allocations or [end.number for end in ends if end.is_alone] != choice.numbers():
+            raise ToolFault(DATA, f"{program.name} {test} did not ask for memory as often as before")
+        return Ends(test, allocations, ends)
+
+    def choice(self, allocations: int, milliseconds: int) -> Choice:
+        """Which allocations are refused."""
+        if allocations <= self.most and milliseconds <= LONGEST:
+            return Choice(allocations)
+        return Choice(allocations, max(1, allocations // (SAMPLE - 2 * EDGE)), EDGE)
+
+    def report(self, program: Path, test: str, choice: Choice | None) -> tuple[list[str], int, int]:
+        """The lines of the children of a run, which has all its memory; how many allocations there were, and how many
+        milliseconds it took."""
+        with tempfile.NamedTemporaryFile(dir=self.folder, mode="r", encoding="ascii") as report:
+            ran = subprocess.run(
+                [program, test],
+                stdin=subprocess.DEVNULL,
+                stdout=subprocess.DEVNULL,
+                stderr=subprocess.PIPE,
+                env=self.forks.environment(Path(report.name), choice, SECONDS),
+                check=False,
+                encoding="utf-8",
+                errors="replace",
+            )
+            answer = answer_of(ran.returncode, ran.stderr)
             if answer != PASSED:
                 raise ToolFault(DATA, f"{program.name} {test} fails with all memory: {answer}")
-            return shim.counted()
+            *lines, last = report.read().splitlines()
+        allocations, milliseconds = map(int, last.split())
+        return lines, allocations, milliseconds
 
-    def refused(self, program: Path, test: str, number: int, on: int) -> str:
-        """How a test ends with one of its allocations refused, or with this and all that follow."""
-        with self.shim() as shim:
-            try:
-                answer = answer_of(program, test, shim.environment(malloc=number, on=on))
-            except subprocess.TimeoutExpired:
-                return "no end"
-            if not shim.was_met():
-                raise ToolFault(DATA, f"{program.name} {test} did not ask for memory {number} times as before")
-            return answer
 
-    @contextmanager
-    def shim(self) -> Iterator[Shim]:
-        """A shim that no other run uses meanwhile."""
-        shim = self.free.get()
-        try:
-            yield shim
-        finally:
-            self.free.put(shim)
+def end_of(line: str) -> End:
+    """The end that a line of a report has."""
+    number, is_all, status, told = line.split(" ", 3)
+    return End(int(number), is_all == "0", answer_of(os.waitstatus_to_exitcode(int(status)), told))
+
+
+def answer_of(status: int, told: str) -> str:
+    """How a run of a test ended, by its status and what it told."""
+    if status == 0:
+        return PASSED
+    if status == -signal.SIGXCPU:
+        return "no end"
+    ended = f"signal {-status}" if status < 0 else f"status {status}"
+    lines = told.strip().splitlines()
+    return WANT if status > 0 and NAMED.match(told) else f"{ended}: {lines[0] if lines else 'no message'}"
+
+
+def programs_in(folder: Path) -> dict[str, Path]:
+    """The tests' programs in a folder, or in the folders `out` of crates there, by the names of the crates."""
+    found = sorted([*folder.glob("*_tests"), *folder.glob("*/out/*_tests")])
+    return {path.name.removesuffix("_tests"): path for path in found}
 
 
 def tests_of(program: Path) -> list[str]:
@@ -96,18 +147,10 @@ def tests_of(program: Path) -> list[str]:
     return names
 
 
-def answer_of(program: Path, test: str, environment: dict[str, str], seconds: float = SECONDS) -> str:
-    """How one run of a test ends."""
-    ran = subprocess.run(
-        [program, test],
-        stdin=subprocess.DEVNULL,
-        stdout=subprocess.DEVNULL,
-        stderr=subprocess.PIPE,
-        env=environment,
-        check=False,
-        timeout=seconds,
-    )
-    told = ran.stderr.decode("utf-8", "replace").strip()
-    if ran.returncode == 0:
-        return PASSED
-    return WANT if NAMED.match(told) else f"status {ran.returncode}: {told.splitlines()[0] if told else 'no message'}"
+def shown(all_ends: list[Ends]) -> str:
+    """How many tests there are, how many of their allocations were refused, and how often they ended how."""
+    answers = Counter(end.answer for ends in all_ends for end in ends.ends)
+    counts = {kind: answers.pop(kind, 0) for kind in (WANT, PASSED)} | {"otherwise": answers.total()}
+    told = ", ".join(f"{times:,} {kind}" for kind, times in counts.items() if times)
+    refused = sum(ends.refused for ends in all_ends)
+    return f"{len(all_ends)} tests, {refused:,} allocations refused: {told or 'no end'}"

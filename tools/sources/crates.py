@@ -1,10 +1,12 @@
 """The crates of crates.txt, with what each is built on."""
 
+import re
 from pathlib import Path
 
 from common.faults import DATA, ToolFault
 
 ROOT = Path(__file__).parent.parent.parent
+TEST = re.compile(r"^\s*#\[test\]", re.MULTILINE)
 
 
 def read_crates(root: Path = ROOT) -> dict[str, list[str]]:
@@ -43,3 +45,12 @@ def all_needs(name: str, crates: dict[str, list[str]]) -> list[str]:
 
     visit(name)
     return ordered
+
+
+def tested_crates(root: Path = ROOT) -> list[str]:
+    """The crates that have tests."""
+    return [crate for crate in read_crates(root) if has_tests(root / "crates" / crate)]
+
+
+def has_tests(folder: Path) -> bool:
+    return any(TEST.search(path.read_text(encoding="utf-8")) for path in (folder / "src").rglob("*.rt"))

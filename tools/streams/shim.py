@@ -9,7 +9,6 @@ from pathlib import Path
 SOURCE = r"""
 #include <errno.h>
 #include <fcntl.h>
-#include <stdio.h>
 #include <stdlib.h>
 #include <sys/syscall.h>
 #include <unistd.h>
@@ -37,15 +36,6 @@ void *malloc(size_t size) { return is_met("SHIM_MALLOC", &allocations) ? 0 : __l
 
 void *realloc(void *old, size_t size) {
     return is_met("SHIM_MALLOC", &allocations) ? 0 : __libc_realloc(old, size);
-}
-
-__attribute__((destructor)) static void tell(void) {
-    char text[24];
-    long file = getenv("SHIM_COUNT") ? syscall(SYS_openat, AT_FDCWD, getenv("SHIM_COUNT"), O_CREAT | O_WRONLY, 0600) : -1;
-    if (file >= 0) {
-        syscall(SYS_write, file, text, (size_t)snprintf(text, sizeof text, "%ld", allocations));
-        syscall(SYS_close, file);
-    }
 }
 
 static long limited(long call, int file, void *bytes, size_t size, int met) {
@@ -93,12 +83,3 @@ class Shim:
 
     def was_met(self) -> bool:
         return self.met.exists()
-
-    def counting(self) -> dict[str, str]:
-        """The environment in which all calls are as they are, and the allocations of a program that ends are counted."""
-        self.met.unlink(missing_ok=True)
-        return {"PATH": os.environ.get("PATH", ""), "LD_PRELOAD": str(self.library), "SHIM_COUNT": str(self.met)}
-
-    def counted(self) -> int:
-        """How many allocations were counted."""
-        return int(self.met.read_text(encoding="ascii"))

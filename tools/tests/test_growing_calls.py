@@ -134,16 +134,17 @@ class GrowingCalls(unittest.TestCase):
         built = f"--built={self.root / 'crates'}"
         self.build("error: AllocError")
         status, told = self.told("--refuse", "--crate=low", built)
-        ends = "1 tests, 2 allocations: 3 want of memory, 1 as with all memory"
+        ends = "1 tests, 2 allocations refused: 3 want of memory, 1 as with all memory"
         want = f"low: List::push: {ends}\nlow: made: {ends}\n{ends}; 2 growing calls, 0 of them in no test\n"
         self.assertEqual((status, told), (0, want))
         self.build("assertion failed")
         status, told = self.told("--refuse", "--crate=low", built)
         self.assertEqual(status, 1)
-        self.assertIn("tests_high reads: 3 of 4 otherwise, as status 101: assertion failed\n", told)
-        status, told = self.told("--refuse", built, "--most=1")
+        wrong = "with allocation 1 and all after it refused: status 101: assertion failed"
+        self.assertIn(f"tests_high reads: 3 of 4 otherwise, {wrong}\n", told)
+        status, told = self.told("--refuse", built)
         self.assertEqual(status, 1)
-        self.assertIn("high: unread: no test that asks for memory\nleft out: tests_high reads\n", told)
+        self.assertIn("high: unread: no test that asks for memory\ntests_high reads: 3 of 4 otherwise", told)
 
     def test_nothing_built(self) -> None:
         """Without the tests' programs nothing is run."""
