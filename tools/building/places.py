@@ -17,7 +17,7 @@ from building.tree import LIST, last_change, needed_lines, stamp_of
 from sources.crates import ROOT
 
 UNPROVED = "unproved"
-BUILD, BUILD_LIBRARY = "tools/build", "tools/build_library"
+BUILD, BUILD_LIBRARY, FUZZ = "tools/build", "tools/build_library", "tools/fuzz --in-process"
 TESTS = "tests"
 
 
@@ -33,6 +33,7 @@ class Target:
 
 
 PROGRAM = Target("hb_shape", "hb_shape", ("hb_shape",), BUILD)
+TRIALS = Target("shape_trials", "shape_trials", ("shape_trials",), FUZZ)
 LIBRARY = Target("libkuspveli", "kuspveli_c", ("libkuspveli.a", "libkuspveli.so"), BUILD_LIBRARY, "library")
 
 

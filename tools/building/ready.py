@@ -4,11 +4,14 @@ import os
 import sys
 from pathlib import Path
 
-from building.places import BUILD, PROGRAM, UNPROVED, Place, Target, tests_target
+from building.places import BUILD, PROGRAM, TRIALS, UNPROVED, Place, Target, tests_target
 from building.progress import Teller
 from common.faults import FILES, ToolFault
 from common.printing import tell
 from sources.crates import ROOT
+
+# The gate builds what tools/build leaves out.
+GATE = "rt ci"
 
 
 def is_ready(root: Path = ROOT) -> bool:
@@ -35,6 +38,14 @@ def unproved_place(name: str, target: Target, why: str, root: Path = ROOT) -> Pl
         make(unproved, name, f"{why}: making one without proofs, in some minutes ({target.tool} makes the proved one)")
     tell_unproved(name, target.name, target.tool)
     return unproved
+
+
+def ready_trials(name: str, root: Path = ROOT) -> Path:
+    """The program shape_trials of the sources that stand here, which is made without proofs where there is none."""
+    place = Place(TRIALS, False, root)
+    if not place.is_current():
+        make(place, name, f"{TRIALS.name} of these sources is not built: making it without proofs, in some minutes")
+    return place.file
 
 
 def ready_tests(name: str, crate: str, root: Path = ROOT) -> Path:
@@ -72,7 +83,7 @@ def usable(name: str, program: Path) -> Path:
     if not os.access(program, os.X_OK):
         raise ToolFault(FILES, f"{program} is not there: {BUILD} builds it")
     if program.parent.name == UNPROVED:
-        tell_unproved(name, program.name, BUILD)
+        tell_unproved(name, program.name, GATE if program.name == TRIALS.name else BUILD)
     return program
 
 

@@ -10,7 +10,7 @@ from pathlib import Path
 from typing import Any, Iterator
 
 from building.places import PROGRAM, standing
-from building.ready import usable
+from building.ready import ready_trials, usable
 from common.faults import FILES as FILES_STATUS
 from common.faults import WORDS, ToolFault
 from common.notes import Progress
@@ -18,6 +18,8 @@ from common.parsing import Words
 from fuzzing import tables
 from fuzzing.cases import FILES, GROUP, Case, Cases
 from fuzzing.found import Kept, Tally, finding_of, write_case
+from fuzzing.in_process import run_in_process
+from fuzzing.plants import PLANTS, run_plant
 from fuzzing.running import Answer, Limits, Runner, under
 from sources.crates import ROOT
 
@@ -25,11 +27,19 @@ NAME = "fuzz"
 ABOUT = """Runs the program on random fonts, tables, texts and options, some of them damaged, under limits of time,
 memory and stack. Of each kind of answer that is not right (a signal, no end, output before a refusal, a message that
 is not documented, a refusal of what follows the format, a shape of what breaks it) the smallest case is kept. The
-status is 1 where there is one."""
+status is 1 where there is one.
+
+With --in-process many cases run in one process: the program shape_trials reads fonts, settings and texts, shapes each
+text in several ways, and tests what the contracts promise of the answers. A line is printed for each case whose answer
+breaks a promise; how far it is, and how many cases it takes in a second, is told each minute. With --plant the program
+is compiled with a bug, and cases run until one is wrong."""
 EXAMPLES = """examples:
   tools/fuzz --seconds=3600 --jobs=2          for an hour, by two processes
   tools/fuzz --cases=100000 --seed=7          the first 100,000 cases of another seed
-  tools/fuzz --seed=7 --case=4711             one of them again: its files and its answer"""
+  tools/fuzz --seed=7 --case=4711             one of them again: its files and its answer
+  tools/fuzz --in-process --cases=1000000     a million cases in one process after another
+  tools/fuzz --in-process --seed=7 --case=12  one of them again
+  tools/fuzz --plant=merge                    a bug in the sources, and the first case that finds it"""
 # So many cases run at once in each process: they wait for the system more than for a processor.
 AT_ONCE = 8
 # After so many cases a process tells what it found.
@@ -42,13 +52,15 @@ def parser() -> argparse.ArgumentParser:
     words = Words(
         prog=NAME, description=ABOUT, epilog=EXAMPLES, formatter_class=argparse.RawDescriptionHelpFormatter
     )
+    words.add_argument("--in-process", action="store_true", help="many cases in one process")
+    words.add_argument("--plant", choices=PLANTS, help="a bug that cases in one process have to find")
     words.add_argument("--seconds", type=float, metavar="S", help="stop after S seconds")
     words.add_argument("--cases", type=int, metavar="N", help="stop after N cases (10,000 where nothing is given)")
     words.add_argument("--jobs", type=int, default=1, metavar="N", help="processes side by side (1)")
     words.add_argument("--seed", type=int, default=1, metavar="N", help="which cases are drawn (1)")
     words.add_argument("--first", type=int, default=0, metavar="N", help="the number of the first case (0)")
     words.add_argument("--case", type=int, metavar="N", help="run one case, and write its files to --keep")
-    words.add_argument("--program", type=Path, default=standing(PROGRAM).file, metavar="FILE", help="another program")
+    words.add_argument("--program", type=Path, metavar="FILE", help="another program")
     words.add_argument("--against", type=Path, metavar="FILE", help="a program that has to answer the same")
     words.add_argument("--limit", type=float, default=10, metavar="S", help="processor seconds for a run (10)")
     words.add_argument("--memory", type=int, default=1024, metavar="MB", help="memory for a run (1024)")
@@ -60,6 +72,10 @@ def parser() -> argparse.ArgumentParser:
 def main(given: list[str]) -> int:
     """Runs the cases; its status is 1 where one has an answer that is not right."""
     options = parser().parse_args(given)
+    if options.plant is not None:
+        return run_plant(options)
+    if options.program is None:
+        options.program = ready_trials(NAME) if options.in_process else standing(PROGRAM).file
     for program in filter(None, (options.program, options.against)):
         usable(NAME, program)
     if min(options.jobs, options.stack, options.memory) < 1 or options.first < 0:
@@ -68,6 +84,8 @@ def main(given: list[str]) -> int:
     tables.whole_tables()
     tables.rows_by_character()
     tables.machines()
+    if options.in_process:
+        return run_in_process(options)
     return run_case(options) if options.case is not None else run_cases(options)
 
 

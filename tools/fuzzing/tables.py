@@ -50,14 +50,14 @@ def rows_by_character() -> dict[str, dict[int, list[Row]]]:
     return found
 
 
-def draw_tables(draw: Random, alphabet: Alphabet) -> tuple[dict[str, Any], bool]:
-    """Tables that follow the format, and whether they are lawful for sure."""
+def draw_tables(draw: Random, alphabet: Alphabet, lawful: float = 0.7) -> tuple[dict[str, Any], bool]:
+    """Tables that follow the format, and whether they are lawful for sure; so many of the random ones have lawful rows."""
     kind = draw.random()
     if kind < 0.1:
         return {}, True
     if kind < 0.65 and whole_tables() is not None:
         return {**cut_tables(alphabet), "syllables": machines_of(alphabet)}, False
-    value = random_tables(draw, alphabet)
+    value = random_tables(draw, alphabet, lawful)
     value["syllables"] = machines_of(alphabet) if draw.random() < 0.5 else random_machines(draw, alphabet)
     return value, False
 
@@ -79,7 +79,7 @@ def cut_tables(alphabet: Alphabet) -> dict[str, Any]:
     return value
 
 
-def random_tables(draw: Random, alphabet: Alphabet) -> dict[str, Any]:
+def random_tables(draw: Random, alphabet: Alphabet, lawful: float) -> dict[str, Any]:
     """Rows of every key over the alphabet; some keys are missing."""
     characters = alphabet.characters
 
@@ -90,7 +90,7 @@ def random_tables(draw: Random, alphabet: Alphabet) -> dict[str, Any]:
         return draw.choice(characters)
 
     value = {
-        **(lawful_rows(draw, alphabet) if draw.random() < 0.7 else any_rows(draw, alphabet)),
+        **(lawful_rows(draw, alphabet) if draw.random() < lawful else any_rows(draw, alphabet)),
         "mirrored": rows(0.2, lambda: [letter()]),
         "vertical": rows(0.2, lambda: [letter()]),
         "joining": rows(0.7, lambda: [draw.choice(JOINING_TYPES)]),

@@ -14,6 +14,8 @@ DIRECTIONS = ["ltr", "rtl", "ttb", "btt", "L", "r"]
 VALUES = ["", "=0", "=1", "=2", "=255", "=256", "=4294967295", "=on", "=off"]
 RANGES = ["", "", "", "[3:5]", "[:2]", "[4:]", "[1]", "[]", "[5:1]"]
 LANGUAGES = ["en", "de", "de-CH", "ro", "tr", "ur", "x", "zh-Hant"]
+# Lengths of texts of one line.
+LENGTHS = [0, 1, 1, 2, 2, 3, 3, 4, 5, 5, 6, 8, 8, 10, 13, 21]
 # Words that the program refuses.
 WRONG = [
     ["--features=kern=4294967296"],
@@ -34,8 +36,8 @@ WRONG = [
 ]
 
 
-def draw_words(draw: Random, alphabet: Alphabet) -> tuple[list[str], bool]:
-    """Options that the program takes, rarely with one that it refuses; and whether it takes them."""
+def draw_settings(draw: Random, alphabet: Alphabet) -> list[str]:
+    """Options that the program takes."""
     words = [switch for switch in SWITCHES if draw.random() < 0.15]
     if draw.random() < 0.3:
         words.append(f"--direction={draw.choice(DIRECTIONS)}")
@@ -47,6 +49,12 @@ def draw_words(draw: Random, alphabet: Alphabet) -> tuple[list[str], bool]:
         words += ["--cluster-level", draw.choice("0123")]
     if draw.random() < 0.4:
         words.append("--features=" + ",".join(feature(draw) for _ in range(draw.choice([1, 1, 2, 5]))))
+    return words
+
+
+def draw_words(draw: Random, alphabet: Alphabet) -> tuple[list[str], bool]:
+    """Options that the program takes, rarely with one that it refuses; and whether it takes them."""
+    words = draw_settings(draw, alphabet)
     if draw.random() < 0.01:
         return [*words, *draw.choice(WRONG)], False
     return words, True
@@ -72,3 +80,15 @@ def draw_text(draw: Random, alphabet: Alphabet) -> tuple[bytes, bool]:
         wrong = draw.choice([b"\x80", b"\xc3(", b"\xed\xa0\x80", b"\xf4\x90\x80\x80", b"\xc0\x80", b"\xff", b"\xe2\x82"])
         return text[:at] + wrong + text[at:], False
     return text, True
+
+
+def draw_line(draw: Random, characters: list[str]) -> str:
+    """A text of some characters on one line: short, rarely long; some are a few characters again and again."""
+    length = draw.choice(LENGTHS)
+    chance = draw.random()
+    if chance < 0.01:
+        length = draw.choice([40, 70, 150])
+    drawn = draw.choices(characters, k=length)
+    if length and chance > 0.9:
+        drawn = (drawn[: draw.randint(1, 3)] * length)[:length]
+    return "".join(drawn)
