@@ -49,7 +49,7 @@ PLANTS = {
     ),
     # At one level a mark whose advance is zeroed isn't shifted back by it.
     "level": Plant(
-        "crates/shape_pipeline/src/positioning.rt",
+        "crates/shape_pipeline/src/shape_stages.rt",
         "let adjusts = self.adjusts_marks(buffer.direction());\n        zero_mark",
         "let adjusts = self.adjusts_marks(buffer.direction())"
         " && buffer.cluster_level() != buffer_glyphs::level::BufferClusterLevel::Characters;\n        zero_mark",

@@ -1,4 +1,6 @@
 //! The flags of buffers, and the modified combining classes (rustybuzz: hb/buffer.rs, hb/unicode.rs).
+//!
+//! Other lists of numbered names have the same form; each has its own type.
 ghost use Rattle.std.specs.Prelude.{⊤, ◌≡◌, ◌^◌, ◌<◌, ◌≤◌, ◌+◌, ◌-◌, if◌then◌else◌, nat_lt, [], ◌∷◌, codes};
 ghost use Rattle.buffer_common.specs.Constants.{CombiningClassesAreListed, ScratchFlagsAreListed};
 

@@ -1,4 +1,7 @@
 //! The language of a text (rustybuzz: hb/common.rs, `Language`).
+//!
+//! As each error type of the workspace `LanguageFault` has a conversion from want of memory of its own: rt takes no
+//! impl that a macro of a repository writes.
 ghost use Rattle.std.specs.Prelude.{◌≡◌, ◌↔◌, [], IfOk};
 ghost use Rattle.std.specs.Str.{str_to_ascii_lowercase};
 ghost use Rattle.buffer_common.specs.Language.{language_text};

@@ -77,23 +77,23 @@ flagged_across_sides s behind ahead bits start end flags le begins o i f =
     both_sides s behind ahead flags (glyphs_flagged bits start (length s.behind + n) (s.behind ++ s.ahead)) long glyphs ∙ rw (place, f) refl
 
 -- the view of a buffer whose glyphs were changed on both sides
-pub marked_across_view : (b : Inside) (info : Vec hb_glyph_info_t) (order : ClusterOrder) (bits start end flags : ℕ) → b.gap ≤ b.idx → b.have_output ≡ true → start ≤ length (take b.front b.info.items) → b.idx - b.gap ≤ end
-    → take b.front info.items ≡ take start (take b.front b.info.items) ++ map (marked_outside bits (least_number (clusters (drop start (take b.front b.info.items)) ++ clusters (take (end + b.gap - b.idx) (drop b.idx b.info.items))))) (drop start (take b.front b.info.items))
-    → drop b.idx info.items ≡ map (marked_outside bits (least_number (clusters (drop start (take b.front b.info.items)) ++ clusters (take (end + b.gap - b.idx) (drop b.idx b.info.items))))) (take (end + b.gap - b.idx) (drop b.idx b.info.items)) ++ drop (end + b.gap - b.idx) (drop b.idx b.info.items)
-    → flags ≡ with_has_glyph_flags (has_several_numbers (clusters (drop start (take b.front b.info.items)) ++ clusters (take (end + b.gap - b.idx) (drop b.idx b.info.items)))) b.scratch_flags
+pub marked_across_view : (b : Inside) (info : Vec hb_glyph_info_t) (order : ClusterOrder) (bits start end flags : ℕ) → b.gap ≤ b.idx → b.have_output ≡ true → start ≤ length (take b.out_len b.info.items) → b.idx - b.gap ≤ end
+    → take b.out_len info.items ≡ take start (take b.out_len b.info.items) ++ map (marked_outside bits (least_number (clusters (drop start (take b.out_len b.info.items)) ++ clusters (take (end + b.gap - b.idx) (drop b.idx b.info.items))))) (drop start (take b.out_len b.info.items))
+    → drop b.idx info.items ≡ map (marked_outside bits (least_number (clusters (drop start (take b.out_len b.info.items)) ++ clusters (take (end + b.gap - b.idx) (drop b.idx b.info.items))))) (take (end + b.gap - b.idx) (drop b.idx b.info.items)) ++ drop (end + b.gap - b.idx) (drop b.idx b.info.items)
+    → flags ≡ with_has_glyph_flags (has_several_numbers (clusters (drop start (take b.out_len b.info.items)) ++ clusters (take (end + b.gap - b.idx) (drop b.idx b.info.items)))) b.scratch_flags
     → sides_of (record b { info = info; scratch_flags = flags; order = order }) ≡ with_flagged_apart bits start (index_in_all end (sides_of b)) (sides_of b)
 marked_across_view b info order bits start end flags opened h le begins o i f =
     let n : end + b.gap - b.idx ≡ end - (b.idx - b.gap) = omega (arith, opened) in
-    rw h (marked_across_sides (record (sides_of b) { behind = take b.front b.info.items; positions = []; is_open = true; read = b.idx - b.gap }) (take b.front info.items) (drop b.idx info.items) bits start end flags le begins (rw n at o) (rw n at i) (rw n at f))
+    rw h (marked_across_sides (record (sides_of b) { behind = take b.out_len b.info.items; positions = []; is_open = true; read = b.idx - b.gap }) (take b.out_len info.items) (drop b.idx info.items) bits start end flags le begins (rw n at o) (rw n at i) (rw n at f))
 
-pub flagged_across_view : (b : Inside) (info : Vec hb_glyph_info_t) (order : ClusterOrder) (bits start end flags : ℕ) → b.gap ≤ b.idx → b.have_output ≡ true → start ≤ length (take b.front b.info.items) → b.idx - b.gap ≤ end
-    → take b.front info.items ≡ take start (take b.front b.info.items) ++ map (glyph_flagged bits) (drop start (take b.front b.info.items))
+pub flagged_across_view : (b : Inside) (info : Vec hb_glyph_info_t) (order : ClusterOrder) (bits start end flags : ℕ) → b.gap ≤ b.idx → b.have_output ≡ true → start ≤ length (take b.out_len b.info.items) → b.idx - b.gap ≤ end
+    → take b.out_len info.items ≡ take start (take b.out_len b.info.items) ++ map (glyph_flagged bits) (drop start (take b.out_len b.info.items))
     → drop b.idx info.items ≡ map (glyph_flagged bits) (take (end + b.gap - b.idx) (drop b.idx b.info.items)) ++ drop (end + b.gap - b.idx) (drop b.idx b.info.items)
-    → flags ≡ with_has_glyph_flags (nat_lt start (length (take b.front b.info.items) + (end + b.gap - b.idx))) b.scratch_flags
+    → flags ≡ with_has_glyph_flags (nat_lt start (length (take b.out_len b.info.items) + (end + b.gap - b.idx))) b.scratch_flags
     → sides_of (record b { info = info; scratch_flags = flags; order = order }) ≡ with_flagged bits start (index_in_all end (sides_of b)) (sides_of b)
 flagged_across_view b info order bits start end flags opened h le begins o i f =
     let n : end + b.gap - b.idx ≡ end - (b.idx - b.gap) = omega (arith, opened) in
-    rw h (flagged_across_sides (record (sides_of b) { behind = take b.front b.info.items; positions = []; is_open = true; read = b.idx - b.gap }) (take b.front info.items) (drop b.idx info.items) bits start end flags le begins o (rw n at i) (rw n at f))
+    rw h (flagged_across_sides (record (sides_of b) { behind = take b.out_len b.info.items; positions = []; is_open = true; read = b.idx - b.gap }) (take b.out_len info.items) (drop b.idx info.items) bits start end flags le begins o (rw n at i) (rw n at f))
 
 -- a range within the first of two lists
 stretch_first : (xs ys : List hb_glyph_info_t) (start end : ℕ) → start ≤ end → end ≤ length xs → range_of start end (clusters (xs ++ ys)) ≡ range_of start end (clusters xs)
@@ -133,11 +133,11 @@ output_merged_sides s behind ahead start end le within o i =
     let glyphs : gs ≡ behind ++ ahead = rw (o, i) (both_merged s.level s.behind s.ahead start end le within) in
     both_sides s behind ahead s.scratch_flags gs long glyphs
 
-pub output_merged_view : (b : Inside) (info : Vec hb_glyph_info_t) (order : ClusterOrder) (start end : ℕ) → b.have_output ≡ true → start ≤ end → end ≤ length (take b.front b.info.items)
-    → take b.front info.items ≡ output_merged_at b.cluster_level start end (take b.front b.info.items) → drop b.idx info.items ≡ beside_merged_as (manner InOutput b.cluster_level) (range_of start end (clusters (take b.front b.info.items))) (drop b.idx b.info.items)
+pub output_merged_view : (b : Inside) (info : Vec hb_glyph_info_t) (order : ClusterOrder) (start end : ℕ) → b.have_output ≡ true → start ≤ end → end ≤ length (take b.out_len b.info.items)
+    → take b.out_len info.items ≡ output_merged_at b.cluster_level start end (take b.out_len b.info.items) → drop b.idx info.items ≡ beside_merged_as (manner InOutput b.cluster_level) (range_of start end (clusters (take b.out_len b.info.items))) (drop b.idx b.info.items)
     → sides_of (record b { info = info; order = order }) ≡ with_output_merged start end (sides_of b)
 output_merged_view b info order start end h le within o i =
-    rw h (output_merged_sides (record (sides_of b) { behind = take b.front b.info.items; positions = []; is_open = true; read = b.idx - b.gap }) (take b.front info.items) (drop b.idx info.items) start end le within o i)
+    rw h (output_merged_sides (record (sides_of b) { behind = take b.out_len b.info.items; positions = []; is_open = true; read = b.idx - b.gap }) (take b.out_len info.items) (drop b.idx info.items) start end le within o i)
 
 pub all_output_merged : (start end : ℕ) (s : Sides) → all_glyphs (with_output_merged start end s) ≡ output_merged_at s.level start end (all_glyphs s)
 all_output_merged start end s = take-append-drop (length s.behind) (output_merged_at s.level start end (all_glyphs s))

@@ -14,23 +14,23 @@ use Rattle.buffer_core.proofs.Ordered.{all_own}
 
 -- where the output ends and the input begins; with no output open all glyphs are the input
 abbrev pub ends_of : Inside → ℕ × ℕ
-ends_of b = if b.have_output then (b.front, b.idx) else (0, 0)
+ends_of b = if b.have_output then (b.out_len, b.idx) else (0, 0)
 
 pub parts_seen : (b : Inside) (p : ℕ × ℕ) → p ≡ ends_of b → clusters (take p.0 b.info.items) ++ clusters (drop p.1 b.info.items) ≡ clusters (all_glyphs (sides_of b))
 parts_seen b p e = by_open b.have_output refl
   where
     by_open : (t : Bool) → b.have_output ≡ t → clusters (take p.0 b.info.items) ++ clusters (drop p.1 b.info.items) ≡ clusters (all_glyphs (sides_of b))
-    by_open true h = let at : p ≡ (b.front, b.idx) = rw h at e in rw (at, h) (sym (map-append (λ (g : hb_glyph_info_t). g.cluster) (take b.front b.info.items) (drop b.idx b.info.items)))
+    by_open true h = let at : p ≡ (b.out_len, b.idx) = rw h at e in rw (at, h) (sym (map-append (λ (g : hb_glyph_info_t). g.cluster) (take b.out_len b.info.items) (drop b.idx b.info.items)))
     by_open false h = let at : p ≡ (0, 0) = rw h at e in rw (at, h) (sym (ap clusters (take-append-drop b.idx b.info.items)))
 
-pub open_ends : (b : Inside) → b.have_output ≡ true → (b.front, b.idx) ≡ ends_of b
+pub open_ends : (b : Inside) → b.have_output ≡ true → (b.out_len, b.idx) ≡ ends_of b
 open_ends b h = rw h refl
 
-pub front_before : (b : Inside) → IsSound b → b.have_output ≡ true → b.front ≤ b.idx
-front_before b s h = rw h at s.front
+pub front_before : (b : Inside) → IsSound b → b.have_output ≡ true → b.out_len ≤ b.idx
+front_before b s h = rw h at s.out_len
 
-pub front_long : (b : Inside) → IsSound b → b.have_output ≡ true → length (take b.front b.info.items) ≡ b.front
-front_long b s h = length-take-le b.front b.info.items (let le = front_before b s h in omega (arith, le, s.cursor))
+pub front_long : (b : Inside) → IsSound b → b.have_output ≡ true → length (take b.out_len b.info.items) ≡ b.out_len
+front_long b s h = length-take-le b.out_len b.info.items (let le = front_before b s h in omega (arith, le, s.cursor))
 
 -- with no output open, nothing was opened
 pub closed_gap : (b : Inside) → IsSound b → b.have_output ≡ false → b.gap ≡ 0
@@ -46,7 +46,7 @@ sound_changed b info order idx flags s long later within back o = record {
   unopened = s.unopened;
   input_within = rw long s.input_within;
   output_within = s.output_within;
-  front = moved b.have_output s.front;
+  out_len = moved b.have_output s.out_len;
   together = s.together;
   placed = subst (λ n. OnFalse b.have_output (length b.pos.items ≡ n)) (sym long) s.placed;
   counted = subst (λ n. OnFalse b.is_apart (length b.pos.items ≡ n)) (sym long) s.counted;
@@ -54,7 +54,7 @@ sound_changed b info order idx flags s long later within back o = record {
   ordered = rw back (subst (HasOrder order.known) (all_own (record b { info = info; idx = idx; order = order; scratch_flags = flags })) o);
 }
   where
-    moved : (t : Bool) → OnTrue t (b.front ≤ b.idx) → OnTrue t (b.front ≤ idx)
+    moved : (t : Bool) → OnTrue t (b.out_len ≤ b.idx) → OnTrue t (b.out_len ≤ idx)
     moved true le = omega (arith, le, later)
     moved false le = tt
 
@@ -77,8 +77,8 @@ places_within b i s within = by_open b.have_output refl
         omega (arith, there, length-drop b.idx b.info.items, s.cursor, none)
 
 -- the same clusters on both sides
-pub same_ends : (b : Inside) (info : Vec hb_glyph_info_t) (order : ClusterOrder) (flags : ℕ) → b.have_output ≡ true → clusters (take b.front info.items) ≡ clusters (take b.front b.info.items) → clusters (drop b.idx info.items) ≡ clusters (drop b.idx b.info.items)
+pub same_ends : (b : Inside) (info : Vec hb_glyph_info_t) (order : ClusterOrder) (flags : ℕ) → b.have_output ≡ true → clusters (take b.out_len info.items) ≡ clusters (take b.out_len b.info.items) → clusters (drop b.idx info.items) ≡ clusters (drop b.idx b.info.items)
     → clusters (all_glyphs (sides_of b)) ≡ clusters (all_glyphs (sides_of (record b { info = info; order = order; scratch_flags = flags })))
 same_ends b info order flags h o i =
-    sym (parts_seen b (b.front, b.idx) (open_ends b h)) ∙ ap (λ ns. ns ++ clusters (drop b.idx b.info.items)) (sym o) ∙ ap (λ ns. clusters (take b.front info.items) ++ ns) (sym i)
-    ∙ parts_seen (record b { info = info; order = order; scratch_flags = flags }) (b.front, b.idx) (open_ends b h)
+    sym (parts_seen b (b.out_len, b.idx) (open_ends b h)) ∙ ap (λ ns. ns ++ clusters (drop b.idx b.info.items)) (sym o) ∙ ap (λ ns. clusters (take b.out_len info.items) ++ ns) (sym i)
+    ∙ parts_seen (record b { info = info; order = order; scratch_flags = flags }) (b.out_len, b.idx) (open_ends b h)

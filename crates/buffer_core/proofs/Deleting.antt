@@ -20,7 +20,7 @@ skipped_view b le h =
     rw (h, ← drop-drop 1 b.idx b.info.items, read) refl
 
 pub deleted_view : (b : Inside) (info : Vec Glyph) (order : ClusterOrder) (flags : ℕ) (m : Bool) (g : Glyph) (back : List Glyph) → b.gap ≤ b.idx → b.have_output ≡ true → drop b.idx b.info.items ≡ g ∷ back
-    → Deletes b.cluster_level (take b.front b.info.items) (drop b.idx b.info.items) (take b.front info.items) (drop (b.idx + 1) info.items) m → flags ≡ with_has_glyph_flags m b.scratch_flags
+    → Deletes b.cluster_level (take b.out_len b.info.items) (drop b.idx b.info.items) (take b.out_len info.items) (drop (b.idx + 1) info.items) m → flags ≡ with_has_glyph_flags m b.scratch_flags
     → sides_of (record b { info = info; idx = b.idx + 1; scratch_flags = flags; order = order }) ≡ with_deleted g back (sides_of b)
 deleted_view b info order flags m g back le h e gone f =
     let read : b.idx + 1 - b.gap ≡ b.idx - b.gap + 1 = omega (arith, le) in

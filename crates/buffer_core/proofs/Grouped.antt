@@ -17,7 +17,7 @@ use Rattle.buffer_lists.specs.Events.{deletions, groups_reversed, order_of}
 use Rattle.buffer_lists.specs.Lemmas.DeletedEvents.{deletions_are_events}
 use Rattle.buffer_lists.specs.Lemmas.ReversedEvents.{groups_are_events}
 use Rattle.buffer_lists.specs.Lemmas.SortedEvents.{sort_is_event}
-use Rattle.buffer_stable_order.specs.Keys.{key_order}
+use Rattle.buffer_rows.specs.KeyOrder.{key_order}
 use Rattle.buffer_lists.specs.DeletionWalk.{whole_walk}
 use Rattle.buffer_lists.specs.Facts.{items_kept, positions_kept, positions_turned}
 use Rattle.buffer_lists.specs.Sorting.{range_sorted}

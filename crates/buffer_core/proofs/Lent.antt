@@ -58,13 +58,13 @@ refilled_rest (x ∷ xs) [] (suc n) le = ap (drop n) (take_all (length xs) xs (o
 refilled_rest (x ∷ xs) (w ∷ ws) (suc n) le = refilled_rest xs ws n (omega (arith, le))
 
 -- the output, with the input next after what was read and after the output's end
-pub front_back : (b : Inside) (order : ClusterOrder) (ws : List hb_glyph_info_t) → b.have_output ≡ true → max (b.idx - b.gap) b.front ≡ b.idx → b.front ≤ b.idx → b.idx ≤ length b.info.items
+pub front_back : (b : Inside) (order : ClusterOrder) (ws : List hb_glyph_info_t) → b.have_output ≡ true → max (b.idx - b.gap) b.out_len ≡ b.idx → b.out_len ≤ b.idx → b.idx ≤ length b.info.items
     → b.info.len ≡ length b.info.items → sides_of (record b { info = with_items_from b.info 0 ws; order = order }) ≡ with_output_refilled ws (sides_of b)
 front_back b order ws h least ordered le counted =
     let gs = b.info.items in
-    let long : length (take b.front gs) ≡ b.front = length-take-le b.front gs (omega (arith, ordered, le)) in
-    let most : max (b.idx - b.gap) (length (take b.front gs)) ≡ b.idx = ap (max (b.idx - b.gap)) long ∙ least in
-    let behind : take b.front (refilled_list ws gs) ≡ refilled_list ws (take b.front gs) = refilled_front gs ws b.front (omega (arith, ordered, le)) in
+    let long : length (take b.out_len gs) ≡ b.out_len = length-take-le b.out_len gs (omega (arith, ordered, le)) in
+    let most : max (b.idx - b.gap) (length (take b.out_len gs)) ≡ b.idx = ap (max (b.idx - b.gap)) long ∙ least in
+    let behind : take b.out_len (refilled_list ws gs) ≡ refilled_list ws (take b.out_len gs) = refilled_front gs ws b.out_len (omega (arith, ordered, le)) in
     let ahead : drop b.idx (refilled_list ws gs) ≡ refilled_list (drop b.idx ws) (drop b.idx gs) = refilled_rest gs ws b.idx le in
     rw (h, front_put b.info.len gs ws counted, most, behind, ahead) refl
 
@@ -72,15 +72,15 @@ front_back b order ws h least ordered le counted =
 abbrev pub moved_up : Inside → Vec hb_glyph_info_t → ℕ → Inside
 moved_up b info at = record b { info = info; idx = at; gap = b.gap - (b.idx - at) }
 
-pub moved_up_view : (b : Inside) (info : Vec hb_glyph_info_t) (at : ℕ) → IsSound b → b.have_output ≡ true → at ≡ max b.front (b.idx - b.gap) → info.items ≡ take at b.info.items ++ drop b.idx b.info.items → sides_of (moved_up b info at) ≡ sides_of b
+pub moved_up_view : (b : Inside) (info : Vec hb_glyph_info_t) (at : ℕ) → IsSound b → b.have_output ≡ true → at ≡ max b.out_len (b.idx - b.gap) → info.items ≡ take at b.info.items ++ drop b.idx b.info.items → sides_of (moved_up b info at) ≡ sides_of b
 moved_up_view b info at s h e i =
     let front = front_within b s h in
-    let within : at ≤ b.idx = top b.front b.gap b.idx at e front in
+    let within : at ≤ b.idx = top b.out_len b.gap b.idx at e front in
     let long : length (take at b.info.items) ≡ at = length-take-le at b.info.items (omega (arith, within, s.cursor)) in
-    let behind : take b.front (take at b.info.items ++ drop b.idx b.info.items) ≡ take b.front b.info.items =
-    take-append-le b.front (take at b.info.items) (drop b.idx b.info.items) (let le = least b.front b.gap b.idx at e in omega (arith, long, le)) ∙ take-take b.front at b.info.items (least b.front b.gap b.idx at e) in
+    let behind : take b.out_len (take at b.info.items ++ drop b.idx b.info.items) ≡ take b.out_len b.info.items =
+    take-append-le b.out_len (take at b.info.items) (drop b.idx b.info.items) (let le = least b.out_len b.gap b.idx at e in omega (arith, long, le)) ∙ take-take b.out_len at b.info.items (least b.out_len b.gap b.idx at e) in
     let ahead : drop at (take at b.info.items ++ drop b.idx b.info.items) ≡ drop b.idx b.info.items = drop_at (take at b.info.items) (drop b.idx b.info.items) at long in
-    let read : at - (b.gap - (b.idx - at)) ≡ b.idx - b.gap = same_read b.front b.gap b.idx at e s.opened within in
+    let read : at - (b.gap - (b.idx - at)) ≡ b.idx - b.gap = same_read b.out_len b.gap b.idx at e s.opened within in
     rw (h, i, behind, ahead, read) refl
   where
     top : (front gap idx at : ℕ) → at ≡ max front (idx - gap) → front ≤ idx → at ≤ idx
@@ -112,13 +112,13 @@ behind_back b info order at end s e most i counted = by_open b.have_output refl
     by_open : (t : Bool) → b.have_output ≡ t → ((ws : List hb_glyph_info_t) → sides_of (record (moved_up b info at) { info = with_items_from info 0 ws; order = order }) ≡ with_output_refilled ws (sides_of b)) × (take (end - 0) info.items ≡ (sides_of b).behind)
     by_open true h =
         let front = front_within b s h in
-        let end_is : end ≡ b.front = (let there : end ≡ length (take b.front b.info.items) = rw h at e in there ∙ length-take-le b.front b.info.items (omega (arith, front, s.cursor))) in
-        let least : at ≡ max b.front (b.idx - b.gap) = most ∙ ap (λ k. max k (b.idx - b.gap)) end_is in
-        let within : at ≤ b.idx = top b.front b.gap b.idx at least front in
-        let after : b.front ≤ at = grind (arith, nat_tests, common_steps, least) in
+        let end_is : end ≡ b.out_len = (let there : end ≡ length (take b.out_len b.info.items) = rw h at e in there ∙ length-take-le b.out_len b.info.items (omega (arith, front, s.cursor))) in
+        let least : at ≡ max b.out_len (b.idx - b.gap) = most ∙ ap (λ k. max k (b.idx - b.gap)) end_is in
+        let within : at ≤ b.idx = top b.out_len b.gap b.idx at least front in
+        let after : b.out_len ≤ at = grind (arith, nat_tests, common_steps, least) in
         let long : length info.items ≡ at + (length b.info.items - b.idx) = ap length i ∙ length-append (take at b.info.items) (drop b.idx b.info.items) ∙ ap (λ k. k + length (drop b.idx b.info.items)) (length-take-le at b.info.items (omega (arith, within, s.cursor))) ∙ ap (λ k. at + k) (length-drop b.idx b.info.items) in
         let view = moved_up_view b info at s h least i in (
-          λ ws. front_back (moved_up b info at) order ws h (at_is_most b.front b.gap b.idx at least s.opened front) after (omega (arith, long)) counted ∙ ap (with_output_refilled ws) view,
+          λ ws. front_back (moved_up b info at) order ws h (at_is_most b.out_len b.gap b.idx at least s.opened front) after (omega (arith, long)) counted ∙ ap (with_output_refilled ws) view,
           rw (h, whole end, end_is) (rw h at (ap (λ (t : Sides). t.behind) view)),
         )
     by_open false h =

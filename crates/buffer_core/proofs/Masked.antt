@@ -31,7 +31,7 @@ both_mapped f s =
 
 -- each glyph was changed alike
 pub mapped_view : (f : hb_glyph_info_t → hb_glyph_info_t) (b : Inside) (info : Vec hb_glyph_info_t) → info.items ≡ map f b.info.items → sides_of (record b { info = info }) ≡ with_glyphs (map f (all_glyphs (sides_of b))) (sides_of b)
-mapped_view f b info i = rw (i, behind_mapped f b.have_output b.front b.idx b.info.items, drop-map f b.idx b.info.items) (sym (both_mapped f (sides_of b)))
+mapped_view f b info i = rw (i, behind_mapped f b.have_output b.out_len b.idx b.info.items, drop-map f b.idx b.info.items) (sym (both_mapped f (sides_of b)))
 
 all_masked : (m : ℕ) (s : Sides) → all_glyphs (with_masks m s) ≡ map (glyph_masked m) (all_glyphs s)
 all_masked m s = take-append-drop (length s.behind) (map (glyph_masked m) (all_glyphs s))

@@ -51,9 +51,9 @@ merged_view b info order p start end flags s ends before unread i o f = by_test 
   where
     by_test : (t : Bool) → b.have_output ≡ t → sides_of (record b { info = info; scratch_flags = flags; order = order }) ≡ with_merged (index_in_all start (sides_of b)) (index_in_all end (sides_of b)) (sides_of b)
     by_test true h =
-        let at : p ≡ (b.front, b.idx) = rw h at ends in
+        let at : p ≡ (b.out_len, b.idx) = rw h at ends in
         let first : b.idx - b.gap ≤ start = (rw h at unread) refl in
-        let out = take b.front b.info.items in
+        let out = take b.out_len b.info.items in
         let from = start + b.gap - b.idx in
         let to = end + b.gap - b.idx in
         let m = merged_sides b.cluster_level from to (length out + start - (b.idx - b.gap)) (length out + end - (b.idx - b.gap)) out (drop b.idx b.info.items) (omega (arith, s.opened, first)) (omega (arith, s.opened, first, before)) in

@@ -28,13 +28,13 @@ use Rattle.buffer_core.proofs.Kept.{take_on}
 use Rattle.buffer_core.proofs.Merged.{merged_sides, same_marks}
 
 -- the output's end
-pub front_within : (b : Inside) → IsSound b → b.have_output ≡ true → b.front ≤ b.idx
-front_within b s h = rw h at s.front
+pub front_within : (b : Inside) → IsSound b → b.have_output ≡ true → b.out_len ≤ b.idx
+front_within b s h = rw h at s.out_len
 
-pub front_long : (b : Inside) → IsSound b → b.have_output ≡ true → length (take b.front b.info.items) ≡ b.front
-front_long b s h = length-take-le b.front b.info.items (let le = front_within b s h in omega (arith, le, s.cursor))
+pub front_long : (b : Inside) → IsSound b → b.have_output ≡ true → length (take b.out_len b.info.items) ≡ b.out_len
+front_long b s h = length-take-le b.out_len b.info.items (let le = front_within b s h in omega (arith, le, s.cursor))
 
-pub front_limit : (b : Inside) → IsSound b → b.have_output ≡ true → b.front ≤ b.max_len
+pub front_limit : (b : Inside) → IsSound b → b.have_output ≡ true → b.out_len ≤ b.max_len
 front_limit b s h = rw h at s.output_within
 
 -- clusters of both ends of a list
@@ -44,20 +44,20 @@ both_ends m n gs = ap (λ ns. ns ++ drop n (clusters gs)) (take-map (λ (g : hb_
 -- what is known once a lent glyph is back
 pub settled_open : (b : Inside) (o : KnownOrder) → IsSound b → b.have_output ≡ true
     → ((m n : ℕ) → HasOrder b.order.known (take m (known_clusters b.order.lent (clusters b.info.items)) ++ drop n (known_clusters b.order.lent (clusters b.info.items))) → HasOrder o (take m (clusters b.info.items) ++ drop n (clusters b.info.items)))
-    → HasOrder o (clusters (take b.front b.info.items) ++ clusters (drop b.idx b.info.items))
-settled_open b o s h settles = subst (HasOrder o) (both_ends b.front b.idx b.info.items) (settles b.front b.idx (rw h at s.ordered))
+    → HasOrder o (clusters (take b.out_len b.info.items) ++ clusters (drop b.idx b.info.items))
+settled_open b o s h settles = subst (HasOrder o) (both_ends b.out_len b.idx b.info.items) (settles b.out_len b.idx (rw h at s.ordered))
 
 -- other glyphs, as many as before, cut elsewhere
 pub sound_over : (b : Inside) (info : Vec hb_glyph_info_t) (order : ClusterOrder) (front idx flags : ℕ) → IsSound b → b.have_output ≡ true
     → length info.items ≡ length b.info.items → front ≤ idx → idx ≤ length b.info.items → b.gap ≤ idx → front ≤ b.max_len → order.lent ≡ None → HasOrder order.known (clusters (take front info.items) ++ clusters (drop idx info.items))
-    → IsSound (record b { info = info; front = front; idx = idx; order = order; scratch_flags = flags })
+    → IsSound (record b { info = info; out_len = front; idx = idx; order = order; scratch_flags = flags })
 sound_over b info order front idx flags s h long le within gap room back o = record {
   cursor = rw long within;
   opened = gap;
   unopened = s.unopened;
   input_within = rw long s.input_within;
   output_within = rw h room;
-  front = rw h le;
+  out_len = rw h le;
   together = rw h tt;
   placed = rw h tt;
   counted = rw long s.counted;
@@ -70,20 +70,20 @@ abbrev pub moved_on : Inside → Vec hb_glyph_info_t → ClusterOrder → ℕ �
 moved_on b info order n apart = record b { info = info; order = order; idx = b.idx + n; gap = b.gap + n; is_apart = apart }
 
 pub sound_moved : (b : Inside) (info : Vec hb_glyph_info_t) (order : ClusterOrder) (n : ℕ) (apart : Bool) → apart ≡ (b.is_apart || nat_lt 0 n) → IsSound b → b.have_output ≡ true
-    → take b.front info.items ≡ take b.front b.info.items → drop (b.idx + n) info.items ≡ drop b.idx b.info.items → length info.items ≡ length b.info.items + n
-    → order.lent ≡ None → HasOrder order.known (clusters (take b.front b.info.items) ++ clusters (drop b.idx b.info.items)) → IsSound (moved_on b info order n apart)
+    → take b.out_len info.items ≡ take b.out_len b.info.items → drop (b.idx + n) info.items ≡ drop b.idx b.info.items → length info.items ≡ length b.info.items + n
+    → order.lent ≡ None → HasOrder order.known (clusters (take b.out_len b.info.items) ++ clusters (drop b.idx b.info.items)) → IsSound (moved_on b info order n apart)
 sound_moved b info order n apart left s h out in_ long back o = record {
   cursor = omega (arith, long, s.cursor);
   opened = omega (arith, s.opened);
   unopened = rw left (none b.is_apart n b.gap s.unopened);
   input_within = omega (arith, long, s.input_within);
   output_within = s.output_within;
-  front = let le = front_within b s h in rw h (omega (arith, le));
+  out_len = let le = front_within b s h in rw h (omega (arith, le));
   together = rw h tt;
   placed = rw h tt;
   counted = rw left (count b.is_apart n (length b.pos.items) (length b.info.items) (length info.items) long s.counted);
   cleared = s.cleared;
-  ordered = rw (h, back) (subst (HasOrder order.known) (sym (both_ends b.front (b.idx + n) info.items)) (rw (out, in_) o));
+  ordered = rw (h, back) (subst (HasOrder order.known) (sym (both_ends b.out_len (b.idx + n) info.items)) (rw (out, in_) o));
 }
   where
     none : (apart : Bool) (n gap : ℕ) → OnFalse apart (gap ≡ 0) → OnFalse (apart || nat_lt 0 n) (gap + n ≡ 0)
@@ -97,7 +97,7 @@ sound_moved b info order n apart left s h out in_ long back o = record {
     count false (suc n) k m l long e = let lt : nat_lt 0 (suc n) ≡ true = grind (arith, nat_tests) in rw lt tt
 
 pub moved_view : (b : Inside) (info : Vec hb_glyph_info_t) (order : ClusterOrder) (n : ℕ) (apart : Bool) → b.have_output ≡ true
-    → take b.front info.items ≡ take b.front b.info.items → drop (b.idx + n) info.items ≡ drop b.idx b.info.items
+    → take b.out_len info.items ≡ take b.out_len b.info.items → drop (b.idx + n) info.items ≡ drop b.idx b.info.items
     → record (sides_of (moved_on b info order n apart)) { is_apart = b.is_apart } ≡ sides_of b
 moved_view b info order n apart h out in_ =
     let read : b.idx + n - (b.gap + n) ≡ b.idx - b.gap = omega arith in
@@ -113,8 +113,8 @@ later : (idx gap k : ℕ) → gap ≤ idx → idx + k - gap ≡ idx - gap + k
 later idx gap k le = omega (arith, le)
 
 pub passed_view : (b : Inside) (info : Vec hb_glyph_info_t) (order : ClusterOrder) (k : ℕ) → b.have_output ≡ true → b.gap ≤ b.idx
-    → take (b.front + k) info.items ≡ take b.front b.info.items ++ take k (drop b.idx b.info.items) → drop (b.idx + k) info.items ≡ drop (b.idx + k) b.info.items
-    → sides_of (record b { info = info; front = b.front + k; idx = b.idx + k; order = order }) ≡ after_next_glyphs k (sides_of b)
+    → take (b.out_len + k) info.items ≡ take b.out_len b.info.items ++ take k (drop b.idx b.info.items) → drop (b.idx + k) info.items ≡ drop (b.idx + k) b.info.items
+    → sides_of (record b { info = info; out_len = b.out_len + k; idx = b.idx + k; order = order }) ≡ after_next_glyphs k (sides_of b)
 passed_view b info order k h le o i = let read = later b.idx b.gap k le in rw (h, o, i, read, ← drop-drop k b.idx b.info.items) refl
 
 pub order_passed : (o : KnownOrder) (gs new : List hb_glyph_info_t) (front idx k : ℕ) → take (front + k) new ≡ take front gs ++ take k (drop idx gs) → drop (idx + k) new ≡ drop (idx + k) gs
@@ -125,65 +125,65 @@ order_passed o gs new front idx k out in_ h =
     (ap (λ xs. xs ++ drop (idx + k) new) out ∙ ap (λ xs. (take front gs ++ take k (drop idx gs)) ++ xs) rest ∙ append_assoc (take front gs) (take k (drop idx gs)) (drop k (drop idx gs)) ∙ ap (λ xs. take front gs ++ xs) (take-append-drop k (drop idx gs))) h
 
 -- the same where each is in its place already
-pub along_view : (b : Inside) (k : ℕ) → b.have_output ≡ true → b.gap ≤ b.idx → b.front ≡ b.idx
-    → sides_of (record b { front = b.front + k; idx = b.idx + k }) ≡ after_next_glyphs k (sides_of b)
+pub along_view : (b : Inside) (k : ℕ) → b.have_output ≡ true → b.gap ≤ b.idx → b.out_len ≡ b.idx
+    → sides_of (record b { out_len = b.out_len + k; idx = b.idx + k }) ≡ after_next_glyphs k (sides_of b)
 along_view b k h le e =
-    passed_view b b.info b.order k h le (take_on b.info.items b.front k ∙ ap (λ n. take b.front b.info.items ++ take k (drop n b.info.items)) e) refl
+    passed_view b b.info b.order k h le (take_on b.info.items b.out_len k ∙ ap (λ n. take b.out_len b.info.items ++ take k (drop n b.info.items)) e) refl
 
 cut_on : (ns : List ℕ) (m n k : ℕ) → m ≡ n → take (m + k) ns ++ drop (n + k) ns ≡ take m ns ++ drop n ns
 cut_on ns m n k e =
     ap (λ j. take (j + k) ns ++ drop (n + k) ns) e ∙ take-append-drop (n + k) ns ∙ sym (take-append-drop n ns) ∙ ap (λ j. take j ns ++ drop n ns) (sym e)
 
-pub sound_along : (b : Inside) (k : ℕ) → IsSound b → b.have_output ≡ true → b.front ≡ b.idx → b.idx + k ≤ length b.info.items → b.front + k ≤ b.max_len
-    → IsSound (record b { front = b.front + k; idx = b.idx + k })
+pub sound_along : (b : Inside) (k : ℕ) → IsSound b → b.have_output ≡ true → b.out_len ≡ b.idx → b.idx + k ≤ length b.info.items → b.out_len + k ≤ b.max_len
+    → IsSound (record b { out_len = b.out_len + k; idx = b.idx + k })
 sound_along b k s h e within room =
     let ns : List ℕ = known_clusters b.order.lent (clusters b.info.items) in
-    let before : HasOrder b.order.known (take b.front ns ++ drop b.idx ns) = rw h at s.ordered in
+    let before : HasOrder b.order.known (take b.out_len ns ++ drop b.idx ns) = rw h at s.ordered in
     record {
       cursor = within;
       opened = omega (arith, s.opened);
       unopened = s.unopened;
       input_within = s.input_within;
       output_within = rw h room;
-      front = rw h (omega (arith, e));
+      out_len = rw h (omega (arith, e));
       together = s.together;
       placed = s.placed;
       counted = s.counted;
       cleared = s.cleared;
-      ordered = rw h (subst (HasOrder b.order.known) (sym (cut_on ns b.front b.idx k e)) before);
+      ordered = rw h (subst (HasOrder b.order.known) (sym (cut_on ns b.out_len b.idx k e)) before);
     }
 
 -- glyphs that went back: those that were put where nothing was read no longer count as opened
 taken_back : (idx gap front i : ℕ) → gap ≤ idx → front ≤ idx → i ≤ front → idx - (front - i) - min gap (idx - (front - i)) ≡ idx - gap + i - front
 taken_back idx gap front i opened ordered le = grind (arith, nat_tests, common_steps, opened, ordered, le)
 
-pub backed_view : (b : Inside) (info : Vec hb_glyph_info_t) (order : ClusterOrder) (i gap : ℕ) → b.have_output ≡ true → b.gap ≤ b.idx → b.front ≤ b.idx → length (take b.front b.info.items) ≡ b.front → i ≤ b.front → gap ≡ min b.gap (b.idx - (b.front - i))
-    → take i info.items ≡ take i b.info.items → drop (b.idx - (b.front - i)) info.items ≡ drop i (take b.front b.info.items) ++ drop b.idx b.info.items
-    → sides_of (record b { info = info; front = i; idx = b.idx - (b.front - i); gap = gap; order = order }) ≡ after_move_to i (sides_of b)
+pub backed_view : (b : Inside) (info : Vec hb_glyph_info_t) (order : ClusterOrder) (i gap : ℕ) → b.have_output ≡ true → b.gap ≤ b.idx → b.out_len ≤ b.idx → length (take b.out_len b.info.items) ≡ b.out_len → i ≤ b.out_len → gap ≡ min b.gap (b.idx - (b.out_len - i))
+    → take i info.items ≡ take i b.info.items → drop (b.idx - (b.out_len - i)) info.items ≡ drop i (take b.out_len b.info.items) ++ drop b.idx b.info.items
+    → sides_of (record b { info = info; out_len = i; idx = b.idx - (b.out_len - i); gap = gap; order = order }) ≡ after_move_to i (sides_of b)
 backed_view b info order i gap h opened ordered long le least out in_ =
-    let behind = take b.front b.info.items in
+    let behind = take b.out_len b.info.items in
     let ahead = drop b.idx b.info.items in
-    let read : b.idx - (b.front - i) - gap ≡ b.idx - b.gap + i - length behind = ap (λ n. b.idx - (b.front - i) - n) least ∙ taken_back b.idx b.gap b.front i opened ordered le ∙ ap (λ n. b.idx - b.gap + i - n) (sym long) in
+    let read : b.idx - (b.out_len - i) - gap ≡ b.idx - b.gap + i - length behind = ap (λ n. b.idx - (b.out_len - i) - n) least ∙ taken_back b.idx b.gap b.out_len i opened ordered le ∙ ap (λ n. b.idx - b.gap + i - n) (sym long) in
     let short : i ≤ length behind = omega (arith, le, long) in
-    let same : take i b.info.items ≡ take i behind = sym (take-take i b.front b.info.items le) in
+    let same : take i b.info.items ≡ take i behind = sym (take-take i b.out_len b.info.items le) in
     rw (h, out, in_, same, take-append-le i behind ahead short, drop-append-le i behind ahead short, read) refl
 
-pub backed_sound : (b : Inside) (info : Vec hb_glyph_info_t) (order : ClusterOrder) (i gap : ℕ) → IsSound b → b.have_output ≡ true → i ≤ b.front → gap ≡ min b.gap (b.idx - (b.front - i)) → length (drop b.idx b.info.items) + (length (take b.front b.info.items) - i) ≤ b.max_len
-    → length info.items ≡ length b.info.items → order.lent ≡ None → HasOrder order.known (clusters (take i info.items) ++ clusters (drop (b.idx - (b.front - i)) info.items))
-    → IsSound (record b { info = info; front = i; idx = b.idx - (b.front - i); gap = gap; order = order })
+pub backed_sound : (b : Inside) (info : Vec hb_glyph_info_t) (order : ClusterOrder) (i gap : ℕ) → IsSound b → b.have_output ≡ true → i ≤ b.out_len → gap ≡ min b.gap (b.idx - (b.out_len - i)) → length (drop b.idx b.info.items) + (length (take b.out_len b.info.items) - i) ≤ b.max_len
+    → length info.items ≡ length b.info.items → order.lent ≡ None → HasOrder order.known (clusters (take i info.items) ++ clusters (drop (b.idx - (b.out_len - i)) info.items))
+    → IsSound (record b { info = info; out_len = i; idx = b.idx - (b.out_len - i); gap = gap; order = order })
 backed_sound b info order i gap s h le least fits long back o =
     let ordered = front_within b s h in
     let limit = front_limit b s h in
     let wide = front_long b s h in
     let rest = length-drop b.idx b.info.items in
-    let at = b.idx - (b.front - i) in
+    let at = b.idx - (b.out_len - i) in
     record {
       cursor = omega (arith, long, s.cursor);
       opened = rw least (below b.gap at);
       unopened = rw least (none b.is_apart b.gap at s.unopened);
       input_within = rw (least, long) (room b.gap at (length b.info.items) b.max_len s.input_within (omega (arith, fits, wide, rest, ordered, le, s.cursor)));
       output_within = rw h (omega (arith, le, limit));
-      front = rw h (omega (arith, ordered, le));
+      out_len = rw h (omega (arith, ordered, le));
       together = rw h tt;
       placed = rw h tt;
       counted = rw long s.counted;
@@ -209,7 +209,7 @@ order_backed o gs new front idx i at le out in_ h =
     (ap (λ xs. xs ++ drop at new) same ∙ ap (λ xs. take i (take front gs) ++ xs) in_ ∙ sym (append_assoc (take i (take front gs)) (drop i (take front gs)) (drop idx gs)) ∙ ap (λ xs. xs ++ drop idx gs) (take-append-drop i (take front gs))) h
 
 -- one list of both
-pub joined_view : (b : Inside) (info : Vec hb_glyph_info_t) (positions : Vec GlyphPosition) (order : ClusterOrder) (placed : Bool) → b.have_output ≡ true → info.items ≡ take b.front b.info.items ++ drop b.idx b.info.items
+pub joined_view : (b : Inside) (info : Vec hb_glyph_info_t) (positions : Vec GlyphPosition) (order : ClusterOrder) (placed : Bool) → b.have_output ≡ true → info.items ≡ take b.out_len b.info.items ++ drop b.idx b.info.items
     → positions.items ≡ zero_positions (length info.items)
     → sides_of (record b { info = info; pos = positions; is_placed = placed; idx = 0; gap = 0; have_output = false; is_apart = false; order = order }) ≡ after_sync (sides_of b)
 joined_view b info positions order placed h i p = rw (h, p, i) refl
@@ -257,21 +257,21 @@ end_of_replaced level taken numbers behind ahead some =
 
 -- copies that were put after the output
 pub copies_view : (b : Inside) (info : Vec hb_glyph_info_t) (front n : ℕ) (apart : Bool) → b.have_output ≡ true → b.is_apart ≡ (apart || nat_lt (b.idx - b.gap + 0) front) → length (take front info.items) ≡ front
-    → take front info.items ≡ with_copies (n ∷ []) (drop b.idx b.info.items) (take b.front b.info.items) → drop b.idx info.items ≡ drop b.idx b.info.items
-    → sides_of (record b { info = info; front = front }) ≡ with_output_glyph n (record (sides_of b) { is_apart = apart })
+    → take front info.items ≡ with_copies (n ∷ []) (drop b.idx b.info.items) (take b.out_len b.info.items) → drop b.idx info.items ≡ drop b.idx b.info.items
+    → sides_of (record b { info = info; out_len = front }) ≡ with_output_glyph n (record (sides_of b) { is_apart = apart })
 copies_view b info front n apart h left long o i =
-    let count : front ≡ length (with_copies (n ∷ []) (drop b.idx b.info.items) (take b.front b.info.items)) = sym long ∙ ap length o in
+    let count : front ≡ length (with_copies (n ∷ []) (drop b.idx b.info.items) (take b.out_len b.info.items)) = sym long ∙ ap length o in
     let read : b.idx - b.gap + 0 ≡ b.idx - b.gap = omega arith in
     rw (h, left ∙ ap (λ k. apart || nat_lt k front) read ∙ ap (λ k. apart || nat_lt (b.idx - b.gap) k) count, o, i) refl
 
 -- a glyph that was put after the output
-pub put_view : (b : Inside) (info : Vec hb_glyph_info_t) (order : ClusterOrder) (g : hb_glyph_info_t) (apart : Bool) → b.have_output ≡ true → b.is_apart ≡ (apart || nat_lt (b.idx - b.gap + 0) (b.front + 1)) → length (take b.front b.info.items) ≡ b.front
-    → take (b.front + 1) info.items ≡ take b.front b.info.items ++ g ∷ [] → drop b.idx info.items ≡ drop b.idx b.info.items
-    → sides_of (record b { info = info; front = b.front + 1; order = order }) ≡ with_output_info g (record (sides_of b) { is_apart = apart })
+pub put_view : (b : Inside) (info : Vec hb_glyph_info_t) (order : ClusterOrder) (g : hb_glyph_info_t) (apart : Bool) → b.have_output ≡ true → b.is_apart ≡ (apart || nat_lt (b.idx - b.gap + 0) (b.out_len + 1)) → length (take b.out_len b.info.items) ≡ b.out_len
+    → take (b.out_len + 1) info.items ≡ take b.out_len b.info.items ++ g ∷ [] → drop b.idx info.items ≡ drop b.idx b.info.items
+    → sides_of (record b { info = info; out_len = b.out_len + 1; order = order }) ≡ with_output_info g (record (sides_of b) { is_apart = apart })
 put_view b info order g apart h left long o i =
-    let count : b.front + 1 ≡ length (take b.front b.info.items ++ g ∷ []) = sym (length-append (take b.front b.info.items) (g ∷ []) ∙ ap (λ k. k + 1) long) in
+    let count : b.out_len + 1 ≡ length (take b.out_len b.info.items ++ g ∷ []) = sym (length-append (take b.out_len b.info.items) (g ∷ []) ∙ ap (λ k. k + 1) long) in
     let read : b.idx - b.gap + 0 ≡ b.idx - b.gap = omega arith in
-    rw (h, left ∙ ap (λ k. apart || nat_lt k (b.front + 1)) read ∙ ap (λ k. apart || nat_lt (b.idx - b.gap) k) count, o, i) refl
+    rw (h, left ∙ ap (λ k. apart || nat_lt k (b.out_len + 1)) read ∙ ap (λ k. apart || nat_lt (b.idx - b.gap) k) count, o, i) refl
 
 pub order_put : (o : KnownOrder) (front back new : List hb_glyph_info_t) (g : hb_glyph_info_t) → new ≡ front ++ g ∷ [] → HasOrder o (clusters front ++ g.cluster ∷ clusters back) → HasOrder o (clusters new ++ clusters back)
 order_put o front back new g e h =
@@ -279,8 +279,8 @@ order_put o front back new g e h =
 
 -- a glyph that passed under another number
 pub numbered_view : (b : Inside) (info : Vec hb_glyph_info_t) (order : ClusterOrder) (n : ℕ) (g d : hb_glyph_info_t) → b.have_output ≡ true → b.gap ≤ b.idx → b.idx < length b.info.items → g ≡ get_or b.info.items b.idx d
-    → take (b.front + 1) info.items ≡ take b.front b.info.items ++ glyph_numbered g n ∷ [] → drop (b.idx + 1) info.items ≡ drop (b.idx + 1) b.info.items
-    → sides_of (record b { info = info; front = b.front + 1; idx = b.idx + 1; order = order }) ≡ with_replaced_glyph n (sides_of b)
+    → take (b.out_len + 1) info.items ≡ take b.out_len b.info.items ++ glyph_numbered g n ∷ [] → drop (b.idx + 1) info.items ≡ drop (b.idx + 1) b.info.items
+    → sides_of (record b { info = info; out_len = b.out_len + 1; idx = b.idx + 1; order = order }) ≡ with_replaced_glyph n (sides_of b)
 numbered_view b info order n g d h le lt is o i = let read = later b.idx b.gap 1 le in rw (h, o, i, read, ← drop-drop 1 b.idx b.info.items, take_one b.info.items b.idx d lt, is) refl
 
 pub order_numbered : (o : KnownOrder) (gs new : List hb_glyph_info_t) (front idx : ℕ) (g d : hb_glyph_info_t) → idx < length gs → g.cluster ≡ (get_or gs idx d).cluster → take (front + 1) new ≡ take front gs ++ g ∷ [] → drop (idx + 1) new ≡ drop (idx + 1) gs
@@ -292,11 +292,11 @@ order_numbered o gs new front idx g d lt same out in_ h =
 -- a replacement
 pub replaced_view : (b : Inside) (info : Vec hb_glyph_info_t) (order : ClusterOrder) (front taken flags : ℕ) (numbers : List ℕ) (apart : Bool) → b.have_output ≡ true → b.gap ≤ b.idx → b.is_apart ≡ (apart || nat_lt (b.idx - b.gap + taken) front) → length (take front info.items) ≡ front
     → drop (b.idx + taken) info.items ≡ drop taken (glyphs_merged_at b.cluster_level 0 taken (drop b.idx b.info.items))
-    → take front info.items ≡ with_copies numbers (glyphs_merged_at b.cluster_level 0 taken (drop b.idx b.info.items)) (beside_merged b.cluster_level (range_of 0 taken (clusters (drop b.idx b.info.items))) (take b.front b.info.items))
+    → take front info.items ≡ with_copies numbers (glyphs_merged_at b.cluster_level 0 taken (drop b.idx b.info.items)) (beside_merged b.cluster_level (range_of 0 taken (clusters (drop b.idx b.info.items))) (take b.out_len b.info.items))
     → flags ≡ with_has_glyph_flags (is_marked_at b.cluster_level 0 taken (clusters (drop b.idx b.info.items))) b.scratch_flags
-    → sides_of (record b { info = info; front = front; idx = b.idx + taken; scratch_flags = flags; order = order }) ≡ with_replaced taken numbers (record (sides_of b) { is_apart = apart })
+    → sides_of (record b { info = info; out_len = front; idx = b.idx + taken; scratch_flags = flags; order = order }) ≡ with_replaced taken numbers (record (sides_of b) { is_apart = apart })
 replaced_view b info order front taken flags numbers apart h le left long i o f =
-    let out = take b.front b.info.items in
+    let out = take b.out_len b.info.items in
     let ahead = drop b.idx b.info.items in
     let m = merged_sides b.cluster_level 0 taken (length out) (length out + taken) out ahead (omega arith) refl in
     let marks = f ∙ ap (λ any. with_has_glyph_flags any b.scratch_flags) (same_marks b.cluster_level 0 taken (length out) (length out + taken) (clusters ahead) (clusters (out ++ ahead)) m.range_is) in

@@ -58,7 +58,7 @@ range_ordered o start end n front info le is h =
 
 -- the clusters of all glyphs, as the list has them
 abbrev pub own_clusters : Inside → List ℕ
-own_clusters b = if b.have_output then take b.front (clusters b.info.items) ++ drop b.idx (clusters b.info.items) else clusters b.info.items
+own_clusters b = if b.have_output then take b.out_len (clusters b.info.items) ++ drop b.idx (clusters b.info.items) else clusters b.info.items
 
 pub all_own : (b : Inside) → clusters (all_glyphs (sides_of b)) ≡ own_clusters b
 all_own b = by_open b.have_output refl
@@ -67,7 +67,7 @@ all_own b = by_open b.have_output refl
     f g = g.cluster
 
     by_open : (t : Bool) → b.have_output ≡ t → clusters (all_glyphs (sides_of b)) ≡ own_clusters b
-    by_open true h = rw h (map-append f (take b.front b.info.items) (drop b.idx b.info.items) ∙ ap (λ ns. ns ++ clusters (drop b.idx b.info.items)) (sym (take-map f b.front b.info.items)) ∙ ap (λ ns. take b.front (clusters b.info.items) ++ ns) (sym (drop-map f b.idx b.info.items)))
+    by_open true h = rw h (map-append f (take b.out_len b.info.items) (drop b.idx b.info.items) ∙ ap (λ ns. ns ++ clusters (drop b.idx b.info.items)) (sym (take-map f b.out_len b.info.items)) ∙ ap (λ ns. take b.out_len (clusters b.info.items) ++ ns) (sym (drop-map f b.idx b.info.items)))
     by_open false h = rw h (ap clusters (take-append-drop b.idx b.info.items))
 
 -- what is known once a lent glyph is back
@@ -76,9 +76,9 @@ pub settled_own : (b : Inside) (o : KnownOrder) → IsSound b
     → HasOrder o (own_clusters b)
 settled_own b o s settle = by_test b.have_output s.ordered
   where
-    by_test : (t : Bool) → HasOrder b.order.known (if t then take b.front (list_clusters b) ++ drop b.idx (list_clusters b) else list_clusters b)
-        → HasOrder o (if t then take b.front (clusters b.info.items) ++ drop b.idx (clusters b.info.items) else clusters b.info.items)
-    by_test true h = settle b.front b.idx h
+    by_test : (t : Bool) → HasOrder b.order.known (if t then take b.out_len (list_clusters b) ++ drop b.idx (list_clusters b) else list_clusters b)
+        → HasOrder o (if t then take b.out_len (clusters b.info.items) ++ drop b.idx (clusters b.info.items) else clusters b.info.items)
+    by_test true h = settle b.out_len b.idx h
     by_test false h = settle 0 0 h
 
 -- the same of the glyphs that clients see
@@ -103,7 +103,7 @@ sound_as_many b info order flags s e h =
       unopened = s.unopened;
       input_within = rw e s.input_within;
       output_within = s.output_within;
-      front = s.front;
+      out_len = s.out_len;
       together = s.together;
       placed = rw e s.placed;
       counted = rw e s.counted;
@@ -122,7 +122,7 @@ sound_placed b info positions order s e p h =
       unopened = s.unopened;
       input_within = rw e s.input_within;
       output_within = s.output_within;
-      front = s.front;
+      out_len = s.out_len;
       together = s.together;
       placed = rw (e, p) s.placed;
       counted = rw (e, p) s.counted;
@@ -152,12 +152,12 @@ pub range_known : (b : Inside) (o : KnownOrder) (start end : ℕ) → (if b.have
 range_known b o start end le is h = by_open b.have_output refl
   where
     by_open : (t : Bool) → b.have_output ≡ t → IsOrdered (range_of start end (clusters b.info.items))
-    by_open true e = range_ordered o start end b.idx (take b.front (clusters b.info.items)) b.info.items (rw e at le) is (rw e at h)
+    by_open true e = range_ordered o start end b.idx (take b.out_len (clusters b.info.items)) b.info.items (rw e at le) is (rw e at h)
     by_open false e = range_ordered o start end 0 [] b.info.items (omega arith) is (rw e at h)
 
 -- a glyph of the input went
 pub known_skipped : (b : Inside) → b.have_output ≡ true → HasOrder b.order.known (all_clusters b) → HasOrder b.order.known (all_clusters (record b { idx = b.idx + 1 }))
-known_skipped b h o = rw h (order_skipped b.order.known (take b.front (list_clusters b)) (list_clusters b) b.idx (rw h at o))
+known_skipped b h o = rw h (order_skipped b.order.known (take b.out_len (list_clusters b)) (list_clusters b) b.idx (rw h at o))
 
 -- an output was opened
 pub known_opened : (b : Inside) → b.have_output ≡ false → HasOrder b.order.known (all_clusters b) → HasOrder b.order.known (list_clusters b)

@@ -34,11 +34,11 @@ moved_output_view b info order start n k s le e = by_open b.have_output refl
     by_open : (t : Bool) → b.have_output ≡ t → sides_of (record b { info = info; order = order }) ≡ with_output_moved start n k (sides_of b)
     by_open true h =
         let low = front_before b s h in
-        let within : b.front ≤ length b.info.items = omega (arith, low, s.cursor) in
-        let there : start + (n + k) ≤ length (take b.front b.info.items) = rw h at le in
-        let fits : start + (n + k) ≤ b.front = omega (arith, there, length-take-le b.front b.info.items within) in
+        let within : b.out_len ≤ length b.info.items = omega (arith, low, s.cursor) in
+        let there : start + (n + k) ≤ length (take b.out_len b.info.items) = rw h at le in
+        let fits : start + (n + k) ≤ b.out_len = omega (arith, there, length-take-le b.out_len b.info.items within) in
         let past : start + (n + k) ≤ b.idx = omega (arith, fits, low) in
-        rw (h, e, moved_take start n k b.front b.info.items fits within, moved_drop start n k b.idx b.info.items past s.cursor) refl
+        rw (h, e, moved_take start n k b.out_len b.info.items fits within, moved_drop start n k b.idx b.info.items past s.cursor) refl
     by_open false h =
         let there : start + (n + k) ≤ length (take b.idx b.info.items) = rw h at le in
         let fits : start + (n + k) ≤ b.idx = omega (arith, there, length-take-le b.idx b.info.items s.cursor) in

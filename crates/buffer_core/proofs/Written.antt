@@ -12,19 +12,19 @@ use Rattle.buffer_core.specs.Lending.{with_glyph_ahead, with_last_behind}
 
 -- how many glyphs of the list are behind the cursor
 abbrev pub end_of : Inside → ℕ
-end_of b = if b.have_output then b.front else b.idx
+end_of b = if b.have_output then b.out_len else b.idx
 
 pub end_before : (b : Inside) → IsSound b → end_of b ≤ b.idx
-end_before b s = by_open b.have_output s.front
+end_before b s = by_open b.have_output s.out_len
   where
-    by_open : (t : Bool) → OnTrue t (b.front ≤ b.idx) → (if t then b.front else b.idx) ≤ b.idx
+    by_open : (t : Bool) → OnTrue t (b.out_len ≤ b.idx) → (if t then b.out_len else b.idx) ≤ b.idx
     by_open true le = le
     by_open false le = omega arith
 
 behind_is : (b : Inside) → (sides_of b).behind ≡ take (end_of b) b.info.items
 behind_is b = by_open b.have_output
   where
-    by_open : (t : Bool) → (if t then take b.front b.info.items else take b.idx b.info.items) ≡ take (if t then b.front else b.idx) b.info.items
+    by_open : (t : Bool) → (if t then take b.out_len b.info.items else take b.idx b.info.items) ≡ take (if t then b.out_len else b.idx) b.info.items
     by_open true = refl
     by_open false = refl
 

@@ -10,7 +10,7 @@ use Rattle.buffer_core.specs.Settings.{number_set}
 -- the sides that clients see, of a buffer's fields
 abbrev pub sides_of : Inside → Sides
 sides_of b = record {
-  behind = if b.have_output then take b.front b.info.items else take b.idx b.info.items;
+  behind = if b.have_output then take b.out_len b.info.items else take b.idx b.info.items;
   ahead = drop b.idx b.info.items;
   positions = if b.have_output then [] else b.pos.items;
   is_open = b.have_output;
@@ -38,7 +38,7 @@ list_clusters b = known_clusters b.order.lent (clusters b.info.items)
 
 -- the clusters of all glyphs; while an output is open, what is between its end and the cursor has no meaning
 abbrev pub all_clusters : Inside → List ℕ
-all_clusters b = if b.have_output then take b.front (list_clusters b) ++ drop b.idx (list_clusters b) else list_clusters b
+all_clusters b = if b.have_output then take b.out_len (list_clusters b) ++ drop b.idx (list_clusters b) else list_clusters b
 
 -- the invariant of a buffer's fields
 pub record IsSound (b : Inside) : Type 0 where
@@ -47,9 +47,9 @@ pub record IsSound (b : Inside) : Type 0 where
   pub opened : b.gap ≤ b.idx
   pub unopened : OnFalse b.is_apart (b.gap ≡ 0)
   pub input_within : length b.info.items ≤ b.max_len + b.gap
-  pub output_within : OnTrue b.have_output (b.front ≤ b.max_len)
+  pub output_within : OnTrue b.have_output (b.out_len ≤ b.max_len)
   -- the output ends before the cursor
-  pub front : OnTrue b.have_output (b.front ≤ b.idx)
+  pub out_len : OnTrue b.have_output (b.out_len ≤ b.idx)
   pub together : OnFalse b.have_output (b.is_apart ≡ false)
   pub placed : OnFalse b.have_output (length b.pos.items ≡ length b.info.items)
   -- an output in place takes no memory when it is closed

@@ -47,7 +47,7 @@ use std::marker::Model;
 /// calls take glyphs from the input and append others to the output.
 #[derive(Drop)]
 pub struct hb_buffer_t {
-    // All glyphs. While an output is open it is the first `front` glyphs here, the input begins at the cursor, and what
+    // All glyphs. While an output is open it is the first `out_len` glyphs here, the input begins at the cursor, and what
     // is between them has no meaning.
     info: Vec<hb_glyph_info_t>,
     pos: Vec<GlyphPosition>,
@@ -55,7 +55,7 @@ pub struct hb_buffer_t {
     is_placed: bool,
     idx: usize,
     have_output: bool,
-    front: usize,
+    out_len: usize,
     // Whether the output has had more glyphs than were read, so that the input has moved on.
     is_apart: bool,
     // How far the input has moved on: the last `gap` elements before the cursor were not read.
@@ -120,7 +120,7 @@ impl hb_buffer_t {
             is_placed: false,
             idx: 0,
             have_output: false,
-            front: 0,
+            out_len: 0,
             is_apart: false,
             gap: 0,
             successful: true,
@@ -150,7 +150,7 @@ impl hb_buffer_t {
         self.is_placed = false;
         self.idx = 0;
         self.have_output = false;
-        self.front = 0;
+        self.out_len = 0;
         self.is_apart = false;
         self.gap = 0;
         self.successful = true;

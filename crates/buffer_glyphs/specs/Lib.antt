@@ -1,4 +1,5 @@
 pub mod Lemmas
+pub mod Coordinates
 pub mod Items
 pub mod LigatureWords
 pub mod PropertyWords

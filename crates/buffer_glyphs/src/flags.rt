@@ -1,4 +1,6 @@
 //! The bits of glyph records and of printing (rustybuzz: hb/buffer.rs, hb/ot_layout.rs).
+//!
+//! Each set of flags has its impl of `Flags`: rt takes no impl that a macro of a repository writes.
 ghost use Rattle.std.specs.Prelude.{⊤, [], ◌∷◌, codes};
 
 use bitflags::{Flag, Flags, bitflag_items};

@@ -1,4 +1,6 @@
 //! Glyph flags set on ranges of a slice (rustybuzz: hb/buffer.rs, `_set_glyph_flags`, `_infos_set_glyph_flags`).
+//!
+//! Merges (`ranges`) have clauses of the same form: both change a range by the clusters in it.
 ghost use Rattle.std.specs.Prelude.{◌≡◌, ◌==◌, ◌≤◌, ◌++◌, true, false, not, length, map};
 ghost use Rattle.std.specs.List.{list_any};
 ghost use Rattle.buffer_glyphs.specs.Items.{clusters};

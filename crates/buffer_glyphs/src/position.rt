@@ -1,4 +1,6 @@
 //! The position of a glyph (rustybuzz: hb/buffer.rs, `GlyphPosition`; hb/ot_layout_gpos_table.rs, `attach_type`).
+//!
+//! `GlyphPosition` has plain fields and the derives of `hb_glyph_info_t`, and so its form.
 
 /// How a glyph is attached to another one.
 pub mod attach_type {

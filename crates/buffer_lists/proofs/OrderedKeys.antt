@@ -8,7 +8,7 @@ use Rattle.std.proofs.lemmas.Bool.Decides.{nat_tests}
 use Rattle.std.proofs.lemmas.List.{take_more, length-take-le, length-append, get_or-take, get_or_default, drop-drop, take-append-drop}
 use Rattle.std.proofs.lemmas.List.Sorted.{IsNonDecreasingBy-push, IsPermutation-refl}
 use Rattle.std.proofs.Math.Seq.{get_or-append_seam}
-use Rattle.buffer_stable_order.proofs.StableSort.{stable_sort_is}
+use Rattle.buffer_rows.proofs.StableSort.{stable_sort_is}
 use Rattle.buffer_glyphs.specs.declared.info.hb_glyph_info_t.{hb_glyph_info_t as Glyph}
 use Rattle.buffer_glyphs.specs.declared.level.BufferClusterLevel.{BufferClusterLevel as Level}
 use Rattle.buffer_lists.specs.declared.sorting.KeyedIndex.{KeyedIndex}

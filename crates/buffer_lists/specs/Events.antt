@@ -1,7 +1,7 @@
 -- The events of walks over a list: a sort of a range, a reversal of groups, deletions in place.
 use Rattle.std.specs.Prelude.{ℕ, ◌+◌, Bool, true, false, if◌then◌else◌, List, [], ◌∷◌, ◌++◌, length, reverse, slice_index_or}
 use Rattle.std.specs.List.{range_with_len}
-use Rattle.buffer_stable_order.specs.Keys.{key_order}
+use Rattle.buffer_rows.specs.KeyOrder.{key_order}
 use Rattle.buffer_glyphs.specs.Origins.{InList}
 use Rattle.buffer_glyphs.specs.Events.{Event, Delete, Move, Arrange, Reverse}
 use Rattle.buffer_lists.specs.Facts.{group_lengths}

@@ -24,7 +24,7 @@ pub struct AskedFlags {
 /// requested, UNSAFE_TO_BREAK clears SAFE_TO_INSERT_TATWEEL; where that stays, UNSAFE_TO_BREAK and UNSAFE_TO_CONCAT are
 /// added. UNSAFE_TO_CONCAT stays only where it is requested. All other bits of a mask, those of features, are cleared,
 /// and no other field changes. It takes linear time.
-pub fn propagate_flags(glyphs: &mut [hb_glyph_info_t], asked: AskedFlags)
+pub fn spread_glyph_flags(glyphs: &mut [hb_glyph_info_t], asked: AskedFlags)
     ensures items { strip glyphs.new ≡ map (item_masked 0) (strip glyphs.old) }
     ensures origins { origins glyphs.new ≡ origins_spread (flag_requests_of asked) (origins glyphs.old) }
 {

@@ -3,7 +3,7 @@ ghost use Rattle.buffer_lists.specs.Laws.{DeletesOneItem, DeletionIsEvent, Delet
 
 /// The deletion of a glyph is the event `Delete`.
 #[tactic(auto, using(buffer_glyphs::specs::DeletedOrigins::deletion_after_front))]
-pub fn law_deletion_is_event()
+pub fn law_list_deletion_is_event()
     ensures { DeletionIsEvent }
 {}
 

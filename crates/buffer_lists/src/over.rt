@@ -17,7 +17,7 @@ use buffer_glyphs::marks;
 use std::alloc::AllocError;
 
 /// Moves the first `count` glyphs of the input to the end of the output.
-pub fn pass(glyphs: &mut [hb_glyph_info_t], front: usize, from: usize, count: usize)
+pub fn output_first(glyphs: &mut [hb_glyph_info_t], front: usize, from: usize, count: usize)
     requires ordered { front ≤ from }
     requires within { from + count ≤ length glyphs.old }
     ensures output { take (front + count) glyphs.new ≡ take front glyphs.old ++ take count (drop from glyphs.old) }

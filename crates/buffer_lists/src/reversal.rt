@@ -1,4 +1,6 @@
 //! Reversal of groups (rustybuzz: hb/buffer.rs, `reverse_groups`).
+//!
+//! Functions repeat clauses: each requires what the one that it calls requires.
 ghost use Rattle.std.specs.Prelude.{◌≡◌, ◌<◌, ◌≤◌, ◌-◌, ◌||◌, true, false, Bool, length};
 ghost use Rattle.buffer_glyphs.specs.declared.info.hb_glyph_info_t.{hb_glyph_info_t as Glyph};
 ghost use Rattle.buffer_glyphs.specs.Items.{clusters};

@@ -8,7 +8,7 @@ ghost use Rattle.std.specs.List.Sorted.{IsNonDecreasingBy};
 ghost use Rattle.buffer_glyphs.specs.declared.info.hb_glyph_info_t.{hb_glyph_info_t as Glyph};
 ghost use Rattle.buffer_glyphs.specs.Items.{clusters};
 ghost use Rattle.buffer_glyphs.specs.Order.{IsInOrder, IsOrdered};
-ghost use Rattle.buffer_stable_order.specs.Keys.{key_order};
+ghost use Rattle.buffer_rows.specs.KeyOrder.{key_order};
 ghost use Rattle.buffer_lists.specs.Due.{MayBeDue, with_due};
 ghost use Rattle.buffer_lists.specs.Sorting.{Gives, SpanMerge, glyph_at, keyed_indices_from, put_in_order, range_merged, range_sorted, range_spanned, span_merged};
 

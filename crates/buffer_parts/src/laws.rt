@@ -15,13 +15,13 @@ pub fn law_orderly_in_turn()
 
 /// At a monotone level, on clusters in order, orderly events do to clusters what they do to the parts of the text.
 #[tactic(auto, using(crate::specs::Lemmas::Orderly::orderly_are_parts))]
-pub fn law_origins_are_parts()
+pub fn law_orderly_events_are_parts()
     ensures { OriginsAreParts }
 {}
 
 /// Clusters in order stay in order.
 #[tactic(auto, using(crate::specs::Lemmas::Orderly::orderly_keep_order))]
-pub fn law_origins_keep_order()
+pub fn law_orderly_events_keep_order()
     ensures { OriginsKeepOrder }
 {}
 
@@ -73,7 +73,7 @@ pub fn law_parts_are_united()
 {}
 
 /// The least cluster is kept while a glyph is left.
-pub fn law_origins_keep_least()
+pub fn law_orderly_events_keep_least()
     ensures { OriginsKeepLeast }
 {}
 

@@ -3,7 +3,7 @@ use Rattle.std.proofs.Common.{ℕ, zero, suc, ◌≡◌, ◌≢◌, ◌≤◌, �
 use Rattle.std.proofs.lemmas.Bool.{cases_Bool, cases_eq, cases_order, cond-true, cond-false}
 use Rattle.std.proofs.lemmas.Bool.Decides.{nat_tests}
 use Rattle.std.proofs.lemmas.List.{append-nil}
-use Rattle.buffer_stable_order.specs.Keys.{of_key, by_key, key_bound}
+use Rattle.buffer_rows.specs.KeyOrder.{of_key, by_key, key_bound}
 use Rattle.buffer_unicode_tables.specs.ClassOrder.{run_order, order_after}
 use Rattle.buffer_unicode_tables.specs.Expansion.{with_second_piece, by_halves, expansion_by_splits}
 use Rattle.buffer_unicode_tables.specs.Lawful.{IsLawful}

@@ -4,7 +4,7 @@ use Rattle.std.proofs.lemmas.Bool.{cases_Bool, cases_eq, cases_order, cond-true,
 use Rattle.std.proofs.lemmas.Bool.Decides.{nat_tests}
 use Rattle.std.proofs.lemmas.List.{append-nil, length-append, length_push}
 use Rattle.std.specs.List.{flat_map}
-use Rattle.buffer_stable_order.specs.Keys.{of_key, by_key, key_bound}
+use Rattle.buffer_rows.specs.KeyOrder.{of_key, by_key, key_bound}
 use Rattle.buffer_unicode_tables.specs.ClassOrder.{run_order, order_after, class_order}
 use Rattle.buffer_unicode_tables.proofs.Orders.{IsRun}
 use Rattle.buffer_glyphs.specs.Items.{Item}

@@ -5,7 +5,7 @@ use Rattle.std.proofs.lemmas.List.{map-append}
 use Rattle.std.proofs.lemmas.Nat.{and_mask}
 use Rattle.std.proofs.lemmas.Nat.Bits.{and_high}
 use Rattle.std.specs.Int.RustNames.{bit_and}
-use Rattle.buffer_stable_order.specs.Keys.{of_key, by_key, key_bound}
+use Rattle.buffer_rows.specs.KeyOrder.{of_key, by_key, key_bound}
 use Rattle.buffer_unicode_tables.specs.ClassOrder.{run_order, order_after, class_order}
 use Rattle.buffer_unicode_tables.specs.Tables.{Tables, class_of}
 use Rattle.buffer_unicode_tables.specs.Texts.{AreEquivalent, same}

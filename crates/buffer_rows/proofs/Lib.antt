@@ -1,3 +1,4 @@
 pub mod Searched
 pub mod Paged
 pub mod DenseSlots
+pub mod StableSort

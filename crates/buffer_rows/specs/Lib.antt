@@ -1,3 +1,6 @@
 pub mod Keys
 pub mod Pages
 pub mod Dense
+pub mod KeyOrder
+pub mod Laws
+pub mod Orders

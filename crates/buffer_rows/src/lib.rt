@@ -1,8 +1,9 @@
-//! Records whose keys rise strictly, and the search for the record of a key.
+//! Records whose keys rise strictly, and the search for the record of a key; the stable order of elements by a key.
 #![tactic(auto)]
 
 mod dense;
 mod keyed;
+pub mod laws;
 mod numbered;
 mod pages;
 mod rows;

@@ -2,7 +2,7 @@
 use Rattle.std.proofs.Common.{ℕ, ◌≡◌, ◌+◌, List, [], ◌∷◌, ◌++◌, length, map, take, drop, sym, ap, ◌∙◌, arith}
 use Rattle.std.specs.Prelude.{slice_range}
 use Rattle.buffer_glyphs.specs.declared.info.hb_glyph_info_t.{hb_glyph_info_t}
-use Rattle.buffer_stable_order.specs.Keys.{key_order}
+use Rattle.buffer_rows.specs.KeyOrder.{key_order}
 use Rattle.buffer_lists.specs.Events.{order_of}
 use Rattle.buffer_lists.specs.Sorting.{range_sorted}
 use Rattle.buffer_glyphs.specs.Items.{Item}

@@ -2,7 +2,7 @@
 use Rattle.std.specs.Prelude.{drop, take, ℕ, ◌≡◌, ◌+◌, ◌&&◌, Bool, nat_lt, if◌then◌else◌, true, false, List, [], ◌∷◌, ◌++◌}
 use Rattle.buffer_glyphs.specs.declared.info.hb_glyph_info_t.{hb_glyph_info_t}
 use Rattle.buffer_glyphs.specs.Items.{Item, item_of}
-use Rattle.buffer_stages.specs.Moves.{FrontMove}
+use Rattle.buffer_stages.specs.Moves.{MoveToFront}
 
 -- the elements that are moved, alone or with the next, in their final order
 abbrev pub fronts : {X : Type 0} → (X → X → Bool) → (X → Bool) → List X → List X
@@ -25,13 +25,13 @@ abbrev pub with_fronts_moved_after : {X : Type 0} → (X → X → Bool) → (X 
 with_fronts_moved_after pair one n xs = fronts pair one (drop n xs) ++ (take n xs ++ elements_after_fronts pair one (drop n xs))
 
 -- the moves of elements, with i elements before the list; the first element of all need not move
-abbrev pub front_moves : {X : Type 0} → (X → X → Bool) → (X → Bool) → ℕ → List X → List FrontMove
-front_moves pair one i [] = []
-front_moves pair one i (x ∷ []) = if one x && nat_lt 0 i then record { passed = i; taken = 1 } ∷ [] else []
-front_moves pair one i (x ∷ y ∷ zs) =
-    if pair x y then record { passed = i; taken = 2 } ∷ front_moves pair one (i + 2) zs
-    else if one x && nat_lt 0 i then record { passed = i; taken = 1 } ∷ front_moves pair one (i + 1) (y ∷ zs)
-    else front_moves pair one (i + 1) (y ∷ zs)
+abbrev pub moves_to_front : {X : Type 0} → (X → X → Bool) → (X → Bool) → ℕ → List X → List MoveToFront
+moves_to_front pair one i [] = []
+moves_to_front pair one i (x ∷ []) = if one x && nat_lt 0 i then record { passed = i; taken = 1 } ∷ [] else []
+moves_to_front pair one i (x ∷ y ∷ zs) =
+    if pair x y then record { passed = i; taken = 2 } ∷ moves_to_front pair one (i + 2) zs
+    else if one x && nat_lt 0 i then record { passed = i; taken = 1 } ∷ moves_to_front pair one (i + 1) (y ∷ zs)
+    else moves_to_front pair one (i + 1) (y ∷ zs)
 
 -- no pair overlaps another
 abbrev pub StandApart : {X : Type 0} → (X → X → Bool) → Type 0

@@ -25,31 +25,31 @@ with_move start n k v = with_events (Move InList start (order_of_move n k) ∷ [
 -- ---- moves to the front of one range
 
 -- elements moved to the front: how many they pass, and how many they are
-pub record FrontMove : Type 0 where
+pub record MoveToFront : Type 0 where
   pub passed : ℕ
   pub taken : ℕ
 
 -- such moves one after another, to one index
-abbrev pub all_moved : {X : Type 0} → ℕ → List FrontMove → List X → List X
+abbrev pub all_moved : {X : Type 0} → ℕ → List MoveToFront → List X → List X
 all_moved start [] xs = xs
 all_moved start (m ∷ ms) xs = all_moved start ms (with_range_moved start m.passed m.taken xs)
 
 -- the events of such moves: each merges what it permutes
-abbrev pub move_events : ℕ → List FrontMove → List Event
+abbrev pub move_events : ℕ → List MoveToFront → List Event
 move_events start [] = []
 move_events start (m ∷ ms) = Move InList start (order_of_move m.passed m.taken) ∷ move_events start ms
 
 -- how many elements the last of the moves permutes, or n where there is none
-abbrev pub reach : ℕ → List FrontMove → ℕ
+abbrev pub reach : ℕ → List MoveToFront → ℕ
 reach n [] = n
 reach n (m ∷ ms) = reach (m.passed + m.taken) ms
 
 -- each move permutes at least n elements, and at least as many as those before it
-abbrev pub IsGrowing : ℕ → List FrontMove → Type 0
+abbrev pub IsGrowing : ℕ → List MoveToFront → Type 0
 IsGrowing n [] = Unit {0}
 IsGrowing n (m ∷ ms) = (n ≤ m.passed + m.taken) × IsGrowing (m.passed + m.taken) ms
 
 -- such moves leave, at every level, what one merge of the longest range leaves, in the order to which they move
 abbrev pub MovesMergeOnce : Type 0
-MovesMergeOnce = (asks : Asks) (level : BufferClusterLevel) (start : ℕ) (ms : List FrontMove) (os : List Origin) → IsGrowing 1 ms → start + reach 1 ms ≤ length os
+MovesMergeOnce = (asks : Asks) (level : BufferClusterLevel) (start : ℕ) (ms : List MoveToFront) (os : List Origin) → IsGrowing 1 ms → start + reach 1 ms ≤ length os
     → origins_after asks level (move_events start ms) os ≡ all_moved start ms (origins_merged_as (manner InList level) start (start + reach 1 ms) os)

@@ -2,7 +2,7 @@
 use Rattle.std.specs.Prelude.{ℕ, ◌≡◌, not, Bool, false, List, [], ◌∷◌, ◌++◌, drop, length, map, slice_get, slice_range, take}
 use Rattle.std.specs.List.{range_with_len}
 use Rattle.std.specs.Option.{option_map_or}
-use Rattle.buffer_stable_order.specs.Keys.{key_order}
+use Rattle.buffer_rows.specs.KeyOrder.{key_order}
 use Rattle.buffer_lists.specs.Events.{order_of}
 use Rattle.buffer_lists.specs.Turning.{groups_reversed_list}
 use Rattle.buffer_glyphs.specs.declared.info.hb_glyph_info_t.{hb_glyph_info_t}

@@ -6,7 +6,7 @@ use Rattle.buffer_glyphs.specs.Items.{Item, without_flags}
 use Rattle.buffer_glyphs.specs.Levels.{InList}
 use Rattle.buffer_glyphs.specs.Events.{Move}
 use Rattle.buffer_stages.specs.Moves.{move_events, order_of_move}
-use Rattle.buffer_stages.specs.Fronts.{front_moves, with_fronts_moved_after}
+use Rattle.buffer_stages.specs.Fronts.{moves_to_front, with_fronts_moved_after}
 use Rattle.buffer_glyphs.specs.Rewriting.{Arrangement, eventless_arrangement}
 
 -- an item with the feature bits of a mask, without its glyph flags
@@ -27,4 +27,4 @@ first_to_back n xs = record { items = drop n xs ++ take n xs; events = Move InLi
 
 -- items moved to the front of those after the first n, one after another, each merged with the items that it passes
 abbrev pub fronts_moved : (Item → Item → Bool) → (Item → Bool) → ℕ → List Item → Arrangement
-fronts_moved pair one n xs = record { items = with_fronts_moved_after pair one n xs; events = move_events 0 (front_moves pair one n (drop n xs)) }
+fronts_moved pair one n xs = record { items = with_fronts_moved_after pair one n xs; events = move_events 0 (moves_to_front pair one n (drop n xs)) }

@@ -1,4 +1,7 @@
 //! Stages over a whole buffer that rustybuzz has with its layout calls (rustybuzz: hb/ot_layout.rs).
+//!
+//! A stage that changes each glyph by itself is a call, its walk by `map_glyphs`, and the rule for one glyph; all such
+//! stages have this form.
 ghost use Rattle.std.specs.Prelude.{◌≡◌, false};
 ghost use Rattle.buffer_glyphs.specs.Items.{item_of};
 ghost use Rattle.buffer_glyphs.specs.Origins.{origin_of};

@@ -9,8 +9,8 @@ use crate::moves::move_back;
 use buffer_core::buffer::hb_buffer_t;
 use buffer_glyphs::info::{DEFINED, hb_glyph_info_t, hb_mask_t};
 
-/// Moves the first `count` glyphs from `start` up to before `end` after the others, and merges all of them. It takes no
-/// memory.
+/// Moves the first `count` glyphs from `start` up to before `end` after the others, and merges all of them: `move_back`
+/// as a rewriting of a range (`IsRewritten`), which the goals of rules for syllables need. It takes no memory.
 pub fn first_to_back(buffer: &mut hb_buffer_t, start: usize, end: usize, count: usize)
     requires ready { IsReady buffer.old }
     requires ordered { start ≤ end }

@@ -2,8 +2,8 @@
 ghost use Rattle.std.specs.Prelude.{ℕ, ◌≡◌, false, Ok};
 ghost use Rattle.buffer_core.specs.Readings.{Stage};
 ghost use Rattle.buffer_core.specs.Sides.{items_of};
-ghost use Rattle.buffer_stages.specs.Ready.{DoesGlyphStage, DoesGlyphStageFrom, HoldsGlyphs};
-ghost use Rattle.buffer_stages.specs.Pauses.{BringsNoGlyph, pause_stage};
+ghost use Rattle.buffer_stages.specs.Ready.{DoesGlyphStage, HoldsGlyphs};
+ghost use Rattle.buffer_stages.specs.Pauses.{BringsNoGlyph};
 ghost use Rattle.buffer_stages.specs.Settings.{TextSettings, text_settings};
 
 use buffer_core::buffer::hb_buffer_t;
@@ -20,24 +20,4 @@ pub trait Pause {
         requires glyphs { HoldsGlyphs buffer.old }
         ensures stage { DoesGlyphStage (stage self.now (text_settings buffer.old) pause) result buffer.old buffer.new }
         ensures brings_none { result ≡ Ok false → BringsNoGlyph (items_of buffer.old) (items_of buffer.new) };
-}
-
-/// Runs the pause of a stage of lookups, if it has one: a pipeline stage of its own, which leaves the random state as it
-/// was. It answers true whenever the pause introduced a new glyph number, and refuses with the pause's cause, or for want
-/// of memory.
-#[tactic(auto, using(crate::proofs::Lemmas::Ways::does_pause, crate::proofs::Lemmas::Ways::nothing_done))]
-pub fn run_pause<P: Pause>(
-    pause: &P,
-    number: Option<u8>,
-    buffer: &mut hb_buffer_t,
-) -> Result<bool, ShapeCause>
-    requires glyphs { HoldsGlyphs buffer.old }
-    ensures stage { (r : ℕ) → DoesGlyphStageFrom r r (pause_stage (P.stage pause.now (text_settings buffer.old)) number)
-        result buffer.old buffer.new }
-    ensures brings_none { result ≡ Ok false → BringsNoGlyph (items_of buffer.old) (items_of buffer.new) }
-{
-    match number {
-        Some(number) => pause.run(number, buffer),
-        None => Ok(false),
-    }
 }

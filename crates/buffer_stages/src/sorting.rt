@@ -1,6 +1,6 @@
 //! The stable order of a range by the `auxiliary` number of its glyphs.
 ghost use Rattle.std.specs.Prelude.{◌≡◌, ◌≤◌, ◌++◌, ◌∷◌, [], false, drop, length, map, slice_range, take, OnOk};
-ghost use Rattle.buffer_stable_order.specs.Keys.{key_order};
+ghost use Rattle.buffer_rows.specs.KeyOrder.{key_order};
 ghost use Rattle.buffer_glyphs.specs.Events.{Sort};
 ghost use Rattle.buffer_lists.specs.Events.{order_of};
 ghost use Rattle.buffer_core.specs.Sides.{all_glyphs, items_of, origins_by, origins_of};

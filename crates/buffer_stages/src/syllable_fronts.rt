@@ -3,7 +3,7 @@ ghost use Rattle.std.specs.Prelude.{◌≡◌, ◌≤◌, ◌+◌, drop, length,
 ghost use Rattle.buffer_core.specs.Sides.{all_glyphs, items_of};
 ghost use Rattle.buffer_stages.specs.Ready.{IsReady};
 ghost use Rattle.buffer_stages.specs.Moves.{reach};
-ghost use Rattle.buffer_stages.specs.Fronts.{front_moves};
+ghost use Rattle.buffer_stages.specs.Fronts.{moves_to_front};
 ghost use Rattle.buffer_stages.specs.SyllableBuffers.{IsRewritten};
 ghost use Rattle.buffer_stages.specs.Parts.{fronts_moved};
 
@@ -25,7 +25,7 @@ pub fn move_fronts<R: FrontRule>(
     requires ready { IsReady buffer.old }
     requires ordered { start + walked ≤ end }
     requires within { end ≤ length (all_glyphs buffer.old) }
-    requires last { merged ≡ reach 1 (front_moves (R.pairs rule.now) (R.ones rule.now) walked
+    requires last { merged ≡ reach 1 (moves_to_front (R.pairs rule.now) (R.ones rule.now) walked
         (drop walked (slice_range (items_of buffer.old) start end))) }
     requires fits { start + merged ≤ end }
     ensures { IsRewritten (fronts_moved (R.pairs rule.now) (R.ones rule.now) walked

@@ -1,4 +1,6 @@
 //! Properties of a character that need no tables (rustybuzz: hb/unicode.rs, `CharExt`).
+//!
+//! Its calls have clauses of one form, each by its own definition.
 ghost use Rattle.std.specs.Prelude.{◌≡◌, ℕ, Bool};
 ghost use Rattle.unicode.specs.GeneralCategory.{general_category};
 ghost use Rattle.ucd_category.specs.declared.GeneralCategory.{GeneralCategory};

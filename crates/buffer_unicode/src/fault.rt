@@ -1,4 +1,7 @@
 //! Why rows are refused.
+//!
+//! As each error type of the workspace it has conversions from want of memory of its own: rt takes no impl that a macro
+//! of a repository writes.
 use std::alloc::{AllocError, AllocFailed};
 use thiserror::Error;
 

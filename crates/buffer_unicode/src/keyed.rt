@@ -1,6 +1,8 @@
 //! The traits of a row: a record that is made of numbers and found by its key.
 ghost use Rattle.std.specs.Prelude.{◌≡◌, ℕ, Bool, List, Some, None, if◌then◌else◌};
 
+use buffer_rows::Numbered;
+
 /// A record with a key of one or two numbers, the second being the more significant.
 pub trait DoublyKeyed: Copy {
     ghost high: { Self → ℕ };
@@ -14,6 +16,21 @@ pub trait DoublyKeyed: Copy {
     /// The less significant number of the key.
     fn low(&self) -> u32
         ensures { result ≡ low self.now };
+}
+
+/// A record that is found by one number has 0 and this number as its key.
+impl<R: Numbered> DoublyKeyed for R {
+    ghost high = { λ _. 0 };
+
+    ghost low = { R.number_of };
+
+    fn high(&self) -> u32 {
+        0
+    }
+
+    fn low(&self) -> u32 {
+        self.number()
+    }
 }
 
 /// A record that is read from a row of N numbers.

@@ -1,4 +1,6 @@
 //! The rows of each table.
+//!
+//! Each type of row has its impls, by its own definitions; all have this form.
 ghost use Rattle.std.specs.Prelude.{◌≡◌, ℕ, Bool, ◌&&◌, ◌≤◌, nat_lt, Some, None, if◌then◌else◌, []};
 ghost use Rattle.buffer_unicode.specs.Numbers.{is_scalar};
 
@@ -26,20 +28,6 @@ pub struct Split {
     pub first: char,
     /// U+0000 where there is no second half.
     pub second: char,
-}
-
-impl DoublyKeyed for Split {
-    ghost high = { λ _. 0 };
-
-    ghost low = { λ r. r.whole };
-
-    fn high(&self) -> u32 {
-        0
-    }
-
-    fn low(&self) -> u32 {
-        self.whole as u32
-    }
 }
 
 impl Numbered for Split {
@@ -113,20 +101,6 @@ pub struct CharacterClass {
     pub class: u8,
 }
 
-impl DoublyKeyed for CharacterClass {
-    ghost high = { λ _. 0 };
-
-    ghost low = { λ r. r.character };
-
-    fn high(&self) -> u32 {
-        0
-    }
-
-    fn low(&self) -> u32 {
-        self.character as u32
-    }
-}
-
 impl Numbered for CharacterClass {
     ghost number_of = { λ r. r.character };
 
@@ -158,20 +132,6 @@ pub struct Counterpart {
     pub counterpart: char,
 }
 
-impl DoublyKeyed for Counterpart {
-    ghost high = { λ _. 0 };
-
-    ghost low = { λ r. r.character };
-
-    fn high(&self) -> u32 {
-        0
-    }
-
-    fn low(&self) -> u32 {
-        self.character as u32
-    }
-}
-
 impl Numbered for Counterpart {
     ghost number_of = { λ r. r.character };
 
@@ -201,20 +161,6 @@ impl Row<2> for Counterpart {
 pub struct CharacterRange {
     pub first: char,
     pub last: char,
-}
-
-impl DoublyKeyed for CharacterRange {
-    ghost high = { λ _. 0 };
-
-    ghost low = { λ r. r.first };
-
-    fn high(&self) -> u32 {
-        0
-    }
-
-    fn low(&self) -> u32 {
-        self.first as u32
-    }
 }
 
 impl Numbered for CharacterRange {
@@ -249,20 +195,6 @@ pub struct JoiningRow {
     pub joining_type: u8,
 }
 
-impl DoublyKeyed for JoiningRow {
-    ghost high = { λ _. 0 };
-
-    ghost low = { λ r. r.character };
-
-    fn high(&self) -> u32 {
-        0
-    }
-
-    fn low(&self) -> u32 {
-        self.character as u32
-    }
-}
-
 impl Numbered for JoiningRow {
     ghost number_of = { λ r. r.character };
 
@@ -295,20 +227,6 @@ pub struct IndicRow {
     pub position: u8,
 }
 
-impl DoublyKeyed for IndicRow {
-    ghost high = { λ _. 0 };
-
-    ghost low = { λ r. r.character };
-
-    fn high(&self) -> u32 {
-        0
-    }
-
-    fn low(&self) -> u32 {
-        self.character as u32
-    }
-}
-
 impl Numbered for IndicRow {
     ghost number_of = { λ r. r.character };
 
@@ -339,20 +257,6 @@ impl Row<3> for IndicRow {
 pub struct UniversalRow {
     pub character: char,
     pub category: u8,
-}
-
-impl DoublyKeyed for UniversalRow {
-    ghost high = { λ _. 0 };
-
-    ghost low = { λ r. r.character };
-
-    fn high(&self) -> u32 {
-        0
-    }
-
-    fn low(&self) -> u32 {
-        self.character as u32
-    }
 }
 
 impl Numbered for UniversalRow {

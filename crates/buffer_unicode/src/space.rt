@@ -1,5 +1,7 @@
 //! The types of spaces, by which a space that the font lacks gets its width (rustybuzz: hb/unicode.rs,
 //! `hb_unicode_funcs_t::space_t`).
+//!
+//! Other lists of numbered names have the same form; each has its own type.
 ghost use Rattle.buffer_unicode.specs.Spaces.{SpaceTypesAreListed};
 
 /// The type of a space: for the types named `EM`, the fraction of an em.

@@ -4,8 +4,8 @@ use Rattle.std.proofs.lemmas.Bool.{cases_eq, cases_lt, cases_order, cond-true, c
 use Rattle.std.proofs.lemmas.List.{append-nil}
 use Rattle.std.proofs.lemmas.List.Elements.{filter-append}
 use Rattle.std.proofs.lemmas.Bool.Decides.{nat_tests}
-use Rattle.buffer_stable_order.specs.Orders.{none_beyond, same_key_twice, two_keys}
-use Rattle.buffer_stable_order.specs.Keys.{of_key, by_key, key_bound}
+use Rattle.buffer_rows.specs.Orders.{none_beyond, same_key_twice, two_keys}
+use Rattle.buffer_rows.specs.KeyOrder.{of_key, by_key, key_bound}
 use Rattle.buffer_unicode_tables.specs.ClassOrder.{run_order, order_after, class_order, beside_starters, OrderIsByClasses}
 
 -- a run has no starters

@@ -1,6 +1,6 @@
 -- The order of combining marks by their classes (UAX 15, canonical ordering, D108 and D109).
 use Rattle.std.specs.Prelude.{ℕ, ◌≡◌, ◌↔◌, ◌==◌, ◌||◌, if◌then◌else◌, List, [], ◌∷◌, ◌++◌, filter}
-use Rattle.buffer_stable_order.specs.Keys.{key_order}
+use Rattle.buffer_rows.specs.KeyOrder.{key_order}
 
 -- a run permuted so that classes never decrease and elements of one class keep their order
 unfoldable pub run_order : {X : Type 0} → (X → ℕ) → List X → List X

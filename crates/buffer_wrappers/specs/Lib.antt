@@ -1,1 +1,4 @@
+pub mod Pen
+pub mod Printed
+pub mod Shown
 pub mod Wrappers

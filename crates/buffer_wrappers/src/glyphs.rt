@@ -1,15 +1,17 @@
 //! The glyphs of a shaped text (rustybuzz: hb/buffer.rs, `GlyphBuffer`).
+//!
+//! It and `UnicodeBuffer` hold a buffer behind the same model, each with an invariant of its own.
 ghost use Rattle.std.specs.Prelude.{◌≡◌, ◌==◌, length, false, true, IfOk, string_bytes};
-ghost use Rattle.buffer_serialize.specs.Printed.{printed_text};
+ghost use Rattle.buffer_wrappers.specs.Printed.{printed_text};
 ghost use Rattle.buffer_core.specs.Sides.{empty_buffer, all_glyphs};
 
+use crate::printing::serialize;
 use crate::unicode_buffer::UnicodeBuffer;
 use buffer_core::buffer::hb_buffer_t;
 use buffer_glyphs::flags::SerializeFlags;
 use buffer_glyphs::info::hb_glyph_info_t;
 use buffer_glyphs::names::GlyphNames;
 use buffer_glyphs::position::GlyphPosition;
-use buffer_serialize::serialize;
 use std::alloc::{AllocError, Global};
 use std::marker::Model;
 

@@ -1,4 +1,6 @@
 //! What C reads, in its own arrays.
+//!
+//! The records of C have impls of one form.
 ghost use Rattle.std.specs.Prelude.{◌≡◌, map};
 ghost use Rattle.c_text.specs.Written.{extents_of, feature_tag, info_of, position_of, script_tag, slice_of, with_front};
 

@@ -1,4 +1,7 @@
 //! Carets, selections, and why a text has none.
+//!
+//! As each error type of the workspace `CaretFault` has conversions from want of memory of its own: rt takes no impl
+//! that a macro of a repository writes.
 use std::alloc::AllocError;
 use thiserror::Error;
 

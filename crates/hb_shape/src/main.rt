@@ -3,7 +3,7 @@
 
 use shell_readers::fault::RunFault;
 use shell_run::files::SystemFiles;
-use shell_run::program::{Ending, end, shape};
+use shell_run::program::{Ending, end, run_program};
 use std::process::ExitCode;
 use std::{env, io};
 
@@ -20,7 +20,7 @@ fn ran(rt: &HostRuntime) -> Ending {
     };
     let mut files = SystemFiles { rt };
     let mut out = io::writer(rt);
-    shape(rt.alloc(), &words, &mut files, &mut out, &mut err)
+    run_program(rt.alloc(), &words, &mut files, &mut out, &mut err)
 }
 
 /// The command-line words. One that is not UTF-8 is refused like any word that the program doesn't know.

@@ -1,4 +1,6 @@
 //! The calls that make and end tables and fonts, and shape texts, as `include/kuspveli.h` declares them.
+//!
+//! The calls for tables and for a font have one form, since their handles are two types.
 ghost use Rattle.std.specs.Prelude.{◌≡◌, ◌≢◌, Err, IfNone, IfSome, None, Some, length, map};
 ghost use Rattle.buffer_core.specs.Sides.{all_glyphs, empty_buffer};
 ghost use Rattle.c_text.specs.Written.{info_of, position_of, with_front};

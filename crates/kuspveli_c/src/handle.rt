@@ -1,4 +1,7 @@
 //! A font, and tables, that C holds by a pointer.
+//!
+//! The two handles have one form: what a handle owns is stated by the row of its type in memory, which no type
+//! parameter gives.
 ghost use Rattle.std.specs.Prelude.{◌≡◌, Option, Some, None, IfSome, IfNone, MatchOption};
 ghost use Rattle.kuspveli_c.specs.Fonts.{KeptFont};
 ghost use Rattle.kuspveli_c.specs.contracts.font.Font.{the_row};

@@ -1,5 +1,7 @@
 //! The calls that ask what a font says of itself and what its last text came to, as `include/kuspveli.h` declares them. Each
 //! leaves the font as it was.
+//!
+//! The calls for tags of features and of scripts have one form, over rows of two types.
 ghost use Rattle.std.specs.Prelude.{◌≡◌, ◌≢◌, IfNone, OnSome, Some, None, is_some, length, unwrap_or};
 ghost use Rattle.std.specs.Option.{option_copied, option_map};
 ghost use Rattle.layout_face.specs.Glyphs.{nominal_glyph};

@@ -6,7 +6,7 @@ use Rattle.std.specs.Ordering.{nat_cmp, is_lt}
 use Rattle.std.proofs.lemmas.Bool.Decides.{nat_tests}
 use Rattle.std.proofs.lemmas.List.Sorted.{sum_by-IsPermutation, IsNonDecreasingBy-from_sort}
 use Rattle.std.proofs.lemmas.List.Sums.{length-filter}
-use Rattle.buffer_stable_order.proofs.StableSort.{stable_sort_is}
+use Rattle.buffer_rows.proofs.StableSort.{stable_sort_is}
 use Rattle.layout_common.specs.Coverage.{in_order}
 
 abbrev copies : ℕ → ℕ → List ℕ

@@ -1,6 +1,6 @@
 -- Sets of glyphs (OpenType, chapter 2, coverage table).
 use Rattle.std.specs.Prelude.{ℕ, ◌==◌, ◌||◌, Bool, false, List, [], ◌∷◌}
-use Rattle.buffer_stable_order.specs.Keys.{key_order}
+use Rattle.buffer_rows.specs.KeyOrder.{key_order}
 
 -- whether a glyph is among the listed ones
 abbrev pub is_covered : ℕ → List ℕ → Bool

@@ -3,3 +3,5 @@ pub mod Lookups
 pub mod Glyphs
 pub mod Indices
 pub mod Names
+pub mod WouldApply
+pub mod WouldApplyLookups

@@ -9,6 +9,7 @@ mod names;
 pub mod parts;
 pub mod positioning;
 pub mod substitution;
+pub mod would_apply;
 
 pub use face::{Face, Face as hb_font_t};
 pub use parts::FaceParts;

@@ -1,4 +1,6 @@
 //! Whether the indices and classes of a table stay within their lists.
+//!
+//! The two tables have functions of one form, since their lookups are types of their own.
 ghost use Rattle.std.specs.Prelude.{◌≡◌, length};
 ghost use Rattle.std.specs.List.{list_all};
 ghost use Rattle.layout_tables.specs.Fits.{marks_fit_bases, marks_fit_ligatures};

@@ -1,4 +1,6 @@
 //! The GPOS table.
+//!
+//! GSUB's file has the same form: the lookups of the two tables are types of their own, as in rustybuzz.
 ghost use Rattle.std.specs.Prelude.{◌≡◌, ℕ, false, true, slice_get};
 ghost use Rattle.std.specs.Option.{option_copied};
 ghost use Rattle.layout_face.specs.Lookups.{positioning_covers, props_of};

@@ -1,4 +1,6 @@
 //! The GSUB table.
+//!
+//! GPOS's file has the same form: the lookups of the two tables are types of their own, as in rustybuzz.
 ghost use Rattle.std.specs.Prelude.{◌≡◌, ℕ, true};
 ghost use Rattle.std.specs.Option.{option_copied};
 ghost use Rattle.std.specs.Prelude.{slice_get};

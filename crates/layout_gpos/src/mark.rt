@@ -1,5 +1,7 @@
 //! Mark to base attachment (OpenType, GPOS lookup type 4; rustybuzz: hb/ot_layout_gpos_table.rs,
 //! `MarkToBaseAdjustment`).
+//!
+//! The three attachments of marks begin alike; they differ in the glyph that they seek, and in their definitions.
 ghost use Rattle.std.specs.Prelude.{ℕ, ◌≡◌, ◌<◌, ◌≤◌, IfErr, IfOk, false, true, Ok, length};
 ghost use Rattle.std.specs.Option.{option_copied};
 ghost use Rattle.buffer_rows.specs.Keys.{row_of};

@@ -1,5 +1,7 @@
 //! Mark to ligature attachment (OpenType, GPOS lookup type 5; rustybuzz: hb/ot_layout_gpos_table.rs,
 //! `MarkToLigatureAdjustment`).
+//!
+//! The three attachments of marks begin alike; they differ in the glyph that they seek, and in their definitions.
 ghost use Rattle.std.specs.Prelude.{ℕ, ◌≡◌, ◌<◌, ◌≤◌, IfErr, IfOk, Ok, false, length};
 ghost use Rattle.buffer_glyphs.specs.Items.{item_of};
 ghost use Rattle.layout_tables.specs.Marks.{component_count};

@@ -1,5 +1,7 @@
 //! Mark to mark attachment (OpenType, GPOS lookup type 6; rustybuzz: hb/ot_layout_gpos_table.rs,
 //! `MarkToMarkAdjustment`).
+//!
+//! The three attachments of marks begin alike; they differ in the glyph that they seek, and in their definitions.
 ghost use Rattle.std.specs.Prelude.{ℕ, ◌≡◌, ◌<◌, ◌≤◌, ◌&&◌, IfErr, IfOk, false, true, length};
 ghost use Rattle.buffer_core.specs.Sides.{all_glyphs, items_of};
 ghost use Rattle.buffer_glyphs.specs.Items.{item_of};

@@ -1,4 +1,6 @@
 //! Single substitution (OpenType, GSUB lookup type 1; rustybuzz: hb/ot_layout_gsub_table.rs, `SingleSubstitution`).
+//!
+//! Each type of subtable has its impl of `Apply`, by its own definition; most have the same form.
 ghost use Rattle.layout_gsub.specs.Replacements.{single_subtable};
 
 use crate::apply::{Apply, Skippable};

@@ -11,7 +11,7 @@ use Rattle.std.proofs.lemmas.List.Folds.{list_any-append}
 use Rattle.std.proofs.lemmas.List.Sums.{fold-append}
 use Rattle.std.specs.List.{list_any}
 use Rattle.std.proofs.lemmas.List.Elements.{filter-append}
-use Rattle.buffer_stable_order.specs.Keys.{of_key, key_bound}
+use Rattle.buffer_rows.specs.KeyOrder.{of_key, key_bound}
 use Rattle.layout_map_features.specs.Groups.{group_entry, entries_below}
 use Rattle.layout_map_features.specs.Entering.{entry_after, entries_with}
 use Rattle.layout_map_features.specs.declared.flags.TheConstants.{F_HAS_FALLBACK}

@@ -2,7 +2,7 @@
 use Rattle.std.proofs.Common.{ℕ, zero, suc, ◌≡◌, ◌≤◌, ◌+◌, ◌==◌, Bool, true, false, if◌then◌else◌, List, [], ◌∷◌, ◌++◌, map, filter, refl, sym, ap, ◌∙◌, arith, subst}
 use Rattle.std.proofs.lemmas.Bool.Decides.{nat_tests}
 use Rattle.std.proofs.lemmas.List.{append-nil, map-append}
-use Rattle.buffer_stable_order.specs.Keys.{of_key, key_bound}
+use Rattle.buffer_rows.specs.KeyOrder.{of_key, key_bound}
 use Rattle.layout_map_features.specs.declared.request.FeatureRequest.{FeatureRequest}
 use Rattle.layout_map_features.specs.declared.request.MergedRequest.{MergedRequest}
 use Rattle.layout_map_features.specs.declared.lookup.lookup_map_t.{lookup_map_t}

@@ -1,6 +1,6 @@
 -- Finite maps made of lists: one value for the elements of each key.
 use Rattle.std.specs.Prelude.{ℕ, zero, suc, List, [], ◌∷◌, ◌++◌, map}
-use Rattle.buffer_stable_order.specs.Keys.{of_key, key_bound}
+use Rattle.buffer_rows.specs.KeyOrder.{of_key, key_bound}
 
 -- the entry of a key, where there are elements of it: the value of the first and the later ones
 abbrev pub group_entry : {X Y : Type 0} → (X → List X → Y) → ℕ → List X → List (ℕ × Y)

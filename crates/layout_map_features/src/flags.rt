@@ -1,4 +1,6 @@
 //! The flags of a feature request (rustybuzz: hb/ot_map.rs, `F_*`).
+//!
+//! Other lists of numbered names have the same form; each has its own type.
 /// The flags of a feature request, joined by or.
 pub type hb_ot_map_feature_flags_t = u32;
 

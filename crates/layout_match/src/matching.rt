@@ -1,5 +1,7 @@
 //! Matches of input, backtrack and lookahead sequences (rustybuzz: hb/ot_layout_gsubgpos.rs, `match_input`,
 //! `match_backtrack`, `match_lookahead`).
+//!
+//! The calls have clauses of one form, by two searches and for the two sides of the cursor.
 ghost use Rattle.std.specs.Prelude.{◌≡◌, ◌<◌, ◌≤◌, ◌∷◌, [], Some, length, reverse, slice_get, IfOk, IfErr};
 ghost use Rattle.std.specs.List.{All};
 ghost use Rattle.buffer_glyphs.specs.Items.{strip};

@@ -1,5 +1,7 @@
 //! The iterator over the glyphs that a lookup does not skip (rustybuzz: hb/ot_layout_gsubgpos.rs,
 //! `skipping_iterator_t`).
+//!
+//! The two directions are calls of one form, by the searches of the two sides.
 ghost use Rattle.std.specs.Prelude.{◌≡◌, ◌<◌, ◌≤◌, length, reverse, IfOk, if◌then◌else◌};
 ghost use Rattle.buffer_glyphs.specs.Items.{item_of, strip};
 ghost use Rattle.layout_match.specs.Applied.{apply_context_of, context_search, own_search};

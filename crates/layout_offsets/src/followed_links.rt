@@ -1,5 +1,7 @@
 //! Glyphs drawn from where their links lead, on a list of positions (rustybuzz: hb/ot_layout_gpos_table.rs,
 //! `propagate_attachment_offsets`).
+//!
+//! To add advances and to subtract them are functions of one form, each a fold of a step that has its own definition.
 ghost use Rattle.std.specs.Prelude.{◌≡◌, ◌≤◌, ◌<◌, length, set, slice_range};
 ghost use Rattle.std.specs.List.{fold, list_any};
 ghost use Rattle.std.specs.Prelude.{IfSome, MatchOption, true, false, pos, ◌+ℤ◌};

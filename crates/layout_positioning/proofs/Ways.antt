@@ -1,5 +1,5 @@
 -- The stages of positioning one after another.
-use Rattle.std.proofs.Common.{ℕ, ◌≡◌, ◌≤◌, ◌<◌, ◌+◌, List, [], ◌∷◌, length, drop, get_or, Ok, Err, Option, None, sym, subst}
+use Rattle.std.proofs.Common.{ℕ, ◌≡◌, ◌≤◌, ◌<◌, ◌+◌, List, [], ◌∷◌, length, drop, get_or, Ok, Err, Option, Some, None, sym, subst}
 use Rattle.std.specs.Prelude.{slice_get, Result}
 use Rattle.std.specs.Option.{option_map_or}
 use Rattle.std.proofs.lemmas.List.{drop_more, drop_all}
@@ -62,6 +62,12 @@ pub no_table : (font : FaceParts) (maps : List lookup_map_t) (s : Sides) → IsR
 no_table font maps s ready none =
     let P : Option PositioningTable → Type 0 = λ o. IsDoneFrom 1 1 (lookups_stage font (option_map_or (λ t. t.lookups) o []) maps) s s in
     subst P (sym none) (no_lookups font maps s ready)
+
+-- what holds of the lookups of the font's table holds of the font's lookups
+pub of_table : (font : FaceParts) (table : PositioningTable) → Some table ≡ font.gpos → (P : List PositioningLookup → Type 0) → P table.lookups → P (positioning_lookups font)
+of_table font table is P h =
+    let Q : Option PositioningTable → Type 0 = λ o. P (option_map_or (λ t. t.lookups) o []) in
+    subst Q is h
 
 -- ---- the stages of a table
 

@@ -1,11 +1,10 @@
-//! Applies positioning lookups to a whole buffer (rustybuzz: hb/ot_layout.rs, `apply_string`, `apply_layout_table`).
+//! Applies a positioning lookup of a map to a whole buffer (rustybuzz: hb/ot_layout.rs, `apply_string`).
 ghost use Rattle.std.specs.Prelude.{◌≡◌, ◌≢◌, OnOk, slice_get, IfErr};
 ghost use Rattle.buffer_core.specs.Sides.{items_of};
 ghost use Rattle.layout_match.specs.Applied.{apply_context_of};
 ghost use Rattle.layout_match.specs.Skipping.{HoldsText};
 ghost use Rattle.buffer_stages.specs.Ready.{DoesGlyphStageFrom, HoldsGlyphs};
 ghost use Rattle.layout_positioning.specs.Lookups.{lookup_context, lookup_stage};
-ghost use Rattle.layout_positioning.specs.Positioning.{lookups_stage};
 
 use crate::forward::apply_forward;
 use buffer_core::buffer::hb_buffer_t;
@@ -38,7 +37,7 @@ fn context_of<'a>(
 /// Applies the lookup at an index of the table, unless it can act at no glyph of the text; an index without one does
 /// nothing.
 #[tactic(auto, using(crate::proofs::Ways::no_lookup_done))]
-fn apply_mapped<T: TextDigest>(
+pub(crate) fn apply_mapped<T: TextDigest>(
     face: &Face,
     table: &PositioningTable,
     lookup_map: &lookup_map_t,
@@ -62,28 +61,4 @@ fn apply_mapped<T: TextDigest>(
     }
     let ctx = context_of(face, lookup, lookup_map);
     apply_forward(table, lookup, &ctx, buffer)
-}
-
-/// Applies GPOS lookups of the font one after another, each at all glyphs from the left. It takes no memory, and
-/// refuses only where a list has more glyphs than it may. What is known of the text serves all of them, since they leave
-/// its glyphs.
-#[tactic(auto, using(crate::proofs::Ways::none_done, crate::proofs::Ways::one_refused, crate::proofs::Ways::all_done))]
-pub(crate) fn apply_lookups<T: TextDigest>(
-    face: &Face,
-    table: &PositioningTable,
-    lookups: &[lookup_map_t],
-    text: &mut T,
-    buffer: &mut hb_buffer_t,
-) -> Result<(), ShapeCause>
-    requires glyphs { HoldsGlyphs buffer.old }
-    requires held { HoldsText (T.sets text.old) (items_of buffer.old) }
-    ensures stage { DoesGlyphStageFrom 1 1 (lookups_stage face.now table.now.lookups lookups.now) result buffer.old
-        buffer.new }
-    ensures held { OnOk result (HoldsText (T.sets text.new) (items_of buffer.new)) }
-    ensures memory { IfErr result (λ e. e ≢ ShapeCause.OutOfMemory) }
-{
-    for lookup_map in lookups {
-        apply_mapped(face, table, lookup_map, text, buffer)?;
-    }
-    Ok(())
 }

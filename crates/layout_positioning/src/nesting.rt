@@ -1,4 +1,6 @@
 //! A nested GPOS lookup as a method of the apply context (rustybuzz: hb/ot_layout_gsubgpos.rs, `recurse`).
+//!
+//! `layout_substitution` has the same trait for GSUB: each nests by the cycle that is written for its table.
 ghost use Rattle.std.specs.Prelude.{ℕ, ◌≡◌, ◌≢◌, ◌<◌, true, false, slice_get, IfErr};
 ghost use Rattle.buffer_stages.specs.Buffers.{cut_of};
 ghost use Rattle.buffer_stages.specs.Performing.{Performs, cut_with};

@@ -7,17 +7,20 @@ ghost use Rattle.buffer_stages.specs.Settings.{text_settings};
 ghost use Rattle.layout_match.specs.Skipping.{HoldsText};
 ghost use Rattle.layout_positioning.specs.Positioning.{LeavesItems, lookups_stage, positioning_stages, positioning_lookups, table_stages};
 
-use crate::apply::apply_lookups;
+use crate::apply::apply_mapped;
 use buffer_core::buffer::hb_buffer_t;
 use buffer_glyphs::cause::ShapeCause;
-use buffer_stages::pause::{Pause, run_pause};
+use buffer_stages::pause::Pause;
 use layout_face::Face;
 use layout_map::map::hb_ot_map_t;
 use layout_map_features::lookup::lookup_map_t;
 use layout_map_features::per_table::TableIndex;
 use layout_match::{TextDigest, TextGlyphs};
 
-/// Applies the lookups of a GPOS stage one after another; a font without a GPOS table has none.
+/// Applies the lookups of a GPOS stage one after another, each at all glyphs from the left; a font without a GPOS table
+/// has none. It takes no memory, and refuses only where a list has more glyphs than it may. What is known of the text
+/// serves all of them, since they leave its glyphs.
+#[tactic(auto, using(crate::proofs::Ways::none_done))]
 fn apply_stage<T: TextDigest>(
     face: &Face,
     lookups: &[lookup_map_t],
@@ -31,14 +34,17 @@ fn apply_stage<T: TextDigest>(
     ensures held { OnOk result (HoldsText (T.sets text.new) (items_of buffer.new)) }
     ensures memory { IfErr result (λ e. e ≢ ShapeCause.OutOfMemory) }
 {
-    match face.gpos() {
-        Some(table) => apply_lookups(face, table, lookups, text, buffer),
-        None => Ok(()),
+    let Some(table) = face.gpos() else {
+        return Ok(());
+    };
+    for lookup_map in lookups {
+        apply_mapped(face, table, lookup_map, text, buffer)?;
     }
+    Ok(())
 }
 
 /// Applies the lookups of a map's GPOS stages, each stage ended by its pause. What is known of the text serves all of
-/// them.
+/// them; the loop's invariant sees its sets alone, so it is of any type.
 #[tactic(auto, using(crate::proofs::Ways::stage_lookups_refused, crate::proofs::Ways::all_stages_done))]
 fn apply_stages<P: Pause, T: TextDigest>(
     map: &hb_ot_map_t,
@@ -56,7 +62,10 @@ fn apply_stages<P: Pause, T: TextDigest>(
     for i in 0..stages.len() {
         let lookups = map.stage_lookups(TableIndex::GPOS, i);
         apply_stage(face, lookups, text, buffer)?;
-        let introduced = run_pause(pause, stages[i].pause, buffer)?;
+        let Some(number) = stages[i].pause else {
+            continue;
+        };
+        let introduced = pause.run(number, buffer)?;
         text.after_pause(introduced);
     }
     Ok(())
@@ -94,5 +103,6 @@ pub fn position<P: Pause>(
     ensures items { OnOk result (((i : ℕ) → LeavesItems (P.stage pause.now (text_settings buffer.old) i)) →
         items_of buffer.new ≡ items_of buffer.old) }
 {
-    apply_layout_table(map, face, buffer, pause)
+    let mut text = TextGlyphs::new();
+    apply_stages(map, face, &mut text, buffer, pause)
 }

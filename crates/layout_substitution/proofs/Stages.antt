@@ -1,6 +1,6 @@
 -- Lookups one after another.
 use Rattle.std.proofs.Common.{ℕ, ◌≡◌, ◌≤◌, ◌<◌, ◌+◌, List, [], ◌∷◌, length, drop, get_or, true, false, Ok, Err, refl, sym, subst, ◌∙◌}
-use Rattle.std.specs.Prelude.{slice_get, None, Option, Bool, Result, if◌then◌else◌}
+use Rattle.std.specs.Prelude.{slice_get, None, Some, Option, Bool, Result, if◌then◌else◌}
 use Rattle.std.proofs.lemmas.List.{drop_more, drop_all}
 use Rattle.buffer_glyphs.specs.declared.cause.ShapeCause.{ShapeCause}
 use Rattle.buffer_core.specs.Readings.{View, BufferState, Stage, Follows, reading_of, always, with_events}
@@ -12,11 +12,35 @@ use Rattle.layout_map_features.specs.declared.lookup.lookup_map_t.{lookup_map_t}
 use Rattle.buffer_stages.specs.Buffers.{are_glyphs}
 use Rattle.buffer_stages.specs.Ready.{DoesGlyphStage, DoesGlyphStageFrom, IsReady, IsDone, IsDoneFrom, state_with}
 use Rattle.buffer_stages.specs.Pauses.{with_own_random}
-use Rattle.layout_substitution.specs.Lookups.{lookup_stage, lookups_stage}
+use Rattle.layout_match.specs.Applied.{ApplyContext}
+use Rattle.layout_substitution.specs.Lookups.{lookup_applied, lookup_context, lookup_stage, lookups_stage}
 
 -- one of two stages
 pub either_done : (b : Bool) (back forth : Stage) (r after : ℕ) (old new : Sides) → b ≡ true → IsDoneFrom r after back old new → IsDoneFrom r after (λ v. if b then back v else forth v) old new
 either_done b back forth r after old new acts d = let P : Bool → Type 0 = λ p. IsDoneFrom r after (λ v. if p then back v else forth v) old new in subst P (sym acts) d
+
+pub otherwise_done : (b : Bool) (back forth : Stage) (r after : ℕ) (old new : Sides) → b ≡ false → IsDoneFrom r after forth old new → IsDoneFrom r after (λ v. if b then back v else forth v) old new
+otherwise_done b back forth r after old new fails d = let P : Bool → Type 0 = λ p. IsDoneFrom r after (λ v. if p then back v else forth v) old new in subst P (sym fails) d
+
+pub otherwise_refused : (b : Bool) (back forth : Stage) (r : ℕ) (old : Sides) (cause : ShapeCause) → b ≡ false → reading_of forth (state_with r old) ≡ Err cause → reading_of (λ v. if b then back v else forth v) (state_with r old) ≡ Err cause
+otherwise_refused b back forth r old cause fails e = let P : Bool → Type 0 = λ p. reading_of (λ v. if p then back v else forth v) (state_with r old) ≡ Err cause in subst P (sym fails) e
+
+-- the lookup at an index of the table, with the parameters that the map gives it, from the same random state
+pub done_at : (font : FaceParts) (table : List SubstLookup) (o : Option SubstLookup) (lookup : SubstLookup) (m : lookup_map_t) (a : ApplyContext) (q r after : ℕ) (old new : Sides) → Some lookup ≡ o → a ≡ lookup_context font lookup m → q ≡ r
+    → IsDoneFrom q after (lookup_applied table a lookup) old new → IsDoneFrom r after (lookup_stage font table o m) old new
+done_at font table o lookup m a q r after old new there of same d =
+    let R : ℕ → Type 0 = λ n. IsDoneFrom n after (lookup_applied table a lookup) old new in
+    let A : ApplyContext → Type 0 = λ b. IsDoneFrom r after (lookup_applied table b lookup) old new in
+    let P : Option SubstLookup → Type 0 = λ p. IsDoneFrom r after (lookup_stage font table p m) old new in
+    subst P there (subst A of (subst R same d))
+
+pub refused_at : (font : FaceParts) (table : List SubstLookup) (o : Option SubstLookup) (lookup : SubstLookup) (m : lookup_map_t) (a : ApplyContext) (q r : ℕ) (old : Sides) (cause : ShapeCause) → Some lookup ≡ o → a ≡ lookup_context font lookup m → q ≡ r
+    → reading_of (lookup_applied table a lookup) (state_with q old) ≡ Err cause → reading_of (lookup_stage font table o m) (state_with r old) ≡ Err cause
+refused_at font table o lookup m a q r old cause there of same e =
+    let R : ℕ → Type 0 = λ n. reading_of (lookup_applied table a lookup) (state_with n old) ≡ Err cause in
+    let A : ApplyContext → Type 0 = λ b. reading_of (lookup_applied table b lookup) (state_with r old) ≡ Err cause in
+    let P : Option SubstLookup → Type 0 = λ p. reading_of (lookup_stage font table p m) (state_with r old) ≡ Err cause in
+    subst P there (subst A of (subst R same e))
 
 pub other_does : {X : Type 0} (b : Bool) (back forth : Stage) (result : Result X ShapeCause) (r after : ℕ) (old new : Sides) → b ≡ false → DoesGlyphStageFrom r after forth result old new → DoesGlyphStageFrom r after (λ v. if b then back v else forth v) result old new
 other_does b back forth result r after old new fails d = let P : Bool → Type 0 = λ p. DoesGlyphStageFrom r after (λ v. if p then back v else forth v) result old new in subst P (sym fails) d

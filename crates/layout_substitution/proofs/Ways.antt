@@ -1,5 +1,5 @@
 -- The stages of substitution one after another.
-use Rattle.std.proofs.Common.{ℕ, ◌≡◌, ◌≤◌, ◌<◌, ◌+◌, List, [], ◌∷◌, length, drop, get_or, Err, Option, None, refl, sym, subst}
+use Rattle.std.proofs.Common.{ℕ, ◌≡◌, ◌≤◌, ◌<◌, ◌+◌, List, [], ◌∷◌, length, drop, get_or, Err, Option, Some, None, refl, sym, subst}
 use Rattle.std.proofs.lemmas.List.{drop_more, drop_all}
 use Rattle.std.specs.Option.{option_map_or}
 use Rattle.layout_face.specs.declared.substitution.SubstitutionTable.{SubstitutionTable}
@@ -34,6 +34,12 @@ pub no_table : (font : FaceParts) (maps : List lookup_map_t) (r : ℕ) (s : Side
 no_table font maps r s ready none =
     let P : Option SubstitutionTable → Type 0 = λ o. IsDoneFrom r r (lookups_stage font (option_map_or (λ t. t.lookups) o []) maps) s s in
     subst P (sym none) (no_lookups font maps r s ready)
+
+-- what holds of the lookups of the font's table holds of the font's lookups
+pub of_table : (font : FaceParts) (table : SubstitutionTable) → Some table ≡ font.gsub → (P : List SubstLookup → Type 0) → P table.lookups → P (substitution_lookups font)
+of_table font table is P h =
+    let Q : Option SubstitutionTable → Type 0 = λ o. P (option_map_or (λ t. t.lookups) o []) in
+    subst Q is h
 
 -- ---- the stages of a table
 

@@ -1,4 +1,4 @@
-//! Applies lookups to a whole buffer (rustybuzz: hb/ot_layout.rs, `apply_string`, `apply_layout_table`).
+//! Applies a lookup of a map to a whole buffer (rustybuzz: hb/ot_layout.rs, `apply_string`).
 ghost use Rattle.std.specs.Prelude.{◌≡◌, ◌&&◌, Ok, OnOk, true, false, slice_get};
 ghost use Rattle.std.specs.List.{list_any};
 ghost use Rattle.buffer_glyphs.specs.Items.{Item};
@@ -10,7 +10,7 @@ ghost use Rattle.layout_match.specs.Skipping.{HoldsText};
 ghost use Rattle.layout_match.specs.Trying.{meets};
 ghost use Rattle.buffer_stages.specs.Ready.{DoesGlyphStageFrom, HoldsGlyphs};
 ghost use Rattle.layout_substitution.specs.Steps.{HasZeroPositions};
-ghost use Rattle.layout_substitution.specs.Lookups.{lookup_context, lookup_applied, lookup_stage, lookups_stage};
+ghost use Rattle.layout_substitution.specs.Lookups.{lookup_context, lookup_stage};
 
 use crate::backward::apply_backward;
 use crate::forward::apply_forward;
@@ -51,37 +51,6 @@ fn is_idle(lookup: &SubstLookup, ctx: &hb_ot_apply_context_t, buffer: &hb_buffer
     idle_run(ctx, &lookup.subtables, buffer) == count
 }
 
-/// Tries a lookup at each glyph: one of reverse chaining from the right, in place, any other from the left. One that is
-/// to be tried at no glyph is left out. It answers whether it acted anywhere. `cleared` says that all positions are zero.
-#[tactic(auto, using(crate::proofs::Skipped::cleared_now))]
-fn apply_everywhere(
-    table: &SubstitutionTable,
-    lookup: &SubstLookup,
-    cleared: bool,
-    ctx: &mut hb_ot_apply_context_t,
-    buffer: &mut hb_buffer_t,
-) -> Result<bool, ShapeCause>
-    requires glyphs { HoldsGlyphs buffer.old }
-    requires cleared { cleared ≡ true → HasZeroPositions buffer.old }
-    ensures stage { DoesGlyphStageFrom ctx.old.random_state ctx.new.random_state (lookup_applied table.now.lookups
-        (apply_context_of ctx.old) lookup.now) result buffer.old buffer.new }
-    ensures context { apply_context_of ctx.new ≡ apply_context_of ctx.old }
-    ensures unchanged { result ≡ Ok false → items_of buffer.new ≡ items_of buffer.old }
-    ensures cleared { is_reverse lookup.now.subtables ≡ false → OnOk result (HasZeroPositions buffer.new) }
-{
-    // A list without an output is within its limit, so what is skipped would not have been refused for length.
-    let _count = buffer.len();
-    if is_idle(lookup, ctx, buffer) {
-        // That the positions are zero now is this function's clause: the answer isn't needed.
-        let _ = skip_lookup(lookup, cleared, buffer);
-        return Ok(false);
-    }
-    if lookup.is_reverse() {
-        return Ok(apply_backward(lookup, ctx, buffer));
-    }
-    apply_forward(table, lookup, ctx, buffer)
-}
-
 /// Sets the lookup to apply from now on: its own flag, and the parameters that the map gives it.
 fn set_lookup(ctx: &mut hb_ot_apply_context_t, lookup: &SubstLookup, lookup_map: &lookup_map_t)
     requires { ctx.old.table_index ≡ GSUB }
@@ -96,10 +65,11 @@ fn set_lookup(ctx: &mut hb_ot_apply_context_t, lookup: &SubstLookup, lookup_map:
     ctx.lookup_props = lookup.props();
 }
 
-/// Applies the lookup at an index of the table, unless it can act at no glyph of the text; an index without one does
-/// nothing. `cleared` says that all positions are zero, and so does the answer.
+/// Applies the lookup at an index of the table at each glyph: one of reverse chaining from the right, in place, any
+/// other from the left. One that can act at no glyph of the text, or is to be tried at none, is left out; an index
+/// without one does nothing. `cleared` says that all positions are zero, and so does the answer.
 #[tactic(auto, using(crate::proofs::Skipped::skipped_held))]
-fn apply_mapped<T: TextDigest>(
+pub(crate) fn apply_mapped<T: TextDigest>(
     table: &SubstitutionTable,
     lookup_map: &lookup_map_t,
     text: &mut T,
@@ -128,33 +98,16 @@ fn apply_mapped<T: TextDigest>(
         return Ok(skip_lookup(lookup, cleared, buffer));
     }
     set_lookup(ctx, lookup, lookup_map);
-    let acted = apply_everywhere(table, lookup, cleared, ctx, buffer)?;
-    text.after_lookup(acted);
-    Ok(!lookup.is_reverse())
-}
-
-/// Applies lookups one after another. What is known of the text serves all of them, and holds its glyphs afterwards.
-pub(crate) fn apply_all<T: TextDigest>(
-    table: &SubstitutionTable,
-    lookups: &[lookup_map_t],
-    text: &mut T,
-    ctx: &mut hb_ot_apply_context_t,
-    buffer: &mut hb_buffer_t,
-) -> Result<(), ShapeCause>
-    requires substitution { ctx.old.table_index ≡ GSUB }
-    requires glyphs { HoldsGlyphs buffer.old }
-    requires held { HoldsText (T.sets text.old) (items_of buffer.old) }
-    ensures stage { DoesGlyphStageFrom ctx.old.random_state ctx.new.random_state (lookups_stage ctx.old.face.now
-        table.now.lookups lookups.now) result buffer.old buffer.new }
-    ensures table { ctx.new.table_index ≡ GSUB }
-    ensures face { ctx.new.face.now ≡ ctx.old.face.now }
-    ensures held { OnOk result (HoldsText (T.sets text.new) (items_of buffer.new)) }
-{
-    // It only saves time: a lookup from the left leaves all positions zero, so the next ones that are skipped need not
-    // clear them again.
-    let mut cleared = false;
-    for lookup_map in lookups {
-        cleared = apply_mapped(table, lookup_map, text, cleared, ctx, buffer)?;
+    if is_idle(lookup, ctx, buffer) {
+        text.after_lookup(false);
+        return Ok(skip_lookup(lookup, cleared, buffer));
     }
-    Ok(())
+    if lookup.is_reverse() {
+        let acted = apply_backward(lookup, ctx, buffer);
+        text.after_lookup(acted);
+        return Ok(false);
+    }
+    let acted = apply_forward(table, lookup, ctx, buffer)?;
+    text.after_lookup(acted);
+    Ok(true)
 }

@@ -40,7 +40,7 @@ fn pass_idle(
 }
 
 /// Tries a lookup at the cursor, and moves over the glyph where it doesn't act. It answers whether it acted, here or
-/// before.
+/// before. The loop's goal (`loop-ctx-preserved`) needs a step with a clause of its own, `IsStep`.
 fn apply_next(
     table: &SubstitutionTable,
     lookup: &SubstLookup,

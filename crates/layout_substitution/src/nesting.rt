@@ -1,4 +1,6 @@
 //! A nested GSUB lookup as a method of the apply context (rustybuzz: hb/ot_layout_gsubgpos.rs, `recurse`).
+//!
+//! `layout_positioning` has the same trait for GPOS: each nests by the cycle that is written for its table.
 ghost use Rattle.std.specs.Prelude.{ℕ, ◌≡◌, ◌<◌, true, false, slice_get};
 ghost use Rattle.buffer_stages.specs.Buffers.{cut_of};
 ghost use Rattle.buffer_stages.specs.Performing.{Performs, cut_with};

@@ -1,8 +1,5 @@
 //! Substitution, GSUB stage after GSUB stage (rustybuzz: hb/ot_layout_gsub_table.rs, `substitute`; hb/ot_layout.rs,
 //! `apply_layout_table`).
-//!
-//! `apply_stage` repeats the parameters and clauses of `apply_all`, which it calls: a stage promises what a list of
-//! lookups does, for a font without GSUB too.
 ghost use Rattle.std.specs.Prelude.{ℕ, ◌≡◌, OnOk};
 ghost use Rattle.std.specs.Option.{option_map_or, option_map};
 ghost use Rattle.buffer_core.specs.Sides.{items_of};
@@ -13,17 +10,18 @@ ghost use Rattle.layout_substitution.specs.Lookups.{lookups_stage};
 ghost use Rattle.buffer_stages.specs.Settings.{text_settings};
 ghost use Rattle.layout_substitution.specs.Substituting.{substitution_stages, substitution_lookups, table_stage, table_stages};
 
-use crate::apply::apply_all;
+use crate::apply::apply_mapped;
 use buffer_core::buffer::hb_buffer_t;
 use buffer_glyphs::cause::ShapeCause;
-use buffer_stages::pause::{Pause, run_pause};
+use buffer_stages::pause::Pause;
 use layout_face::Face;
 use layout_map::map::hb_ot_map_t;
 use layout_map_features::lookup::lookup_map_t;
 use layout_map_features::per_table::TableIndex;
 use layout_match::{TextDigest, TextGlyphs, hb_ot_apply_context_t};
 
-/// Applies the lookups of a GSUB stage one after another; a font without a GSUB table has none.
+/// Applies the lookups of a GSUB stage one after another; a font without a GSUB table has none. What is known of the
+/// text serves all of them, and holds its glyphs afterwards.
 fn apply_stage<T: TextDigest>(
     lookups: &[lookup_map_t],
     text: &mut T,
@@ -39,14 +37,20 @@ fn apply_stage<T: TextDigest>(
     ensures face { ctx.new.face.now ≡ ctx.old.face.now }
     ensures held { OnOk result (HoldsText (T.sets text.new) (items_of buffer.new)) }
 {
-    match ctx.face.gsub() {
-        Some(table) => apply_all(table, lookups, text, ctx, buffer),
-        None => Ok(()),
+    let Some(table) = ctx.face.gsub() else {
+        return Ok(());
+    };
+    // It only saves time: a lookup from the left leaves all positions zero, so the next ones that are skipped need not
+    // clear them again.
+    let mut cleared = false;
+    for lookup_map in lookups {
+        cleared = apply_mapped(table, lookup_map, text, cleared, ctx, buffer)?;
     }
+    Ok(())
 }
 
 /// Applies the lookups of a map's GSUB stages, each stage ended by its pause. What is known of the text serves all of
-/// them.
+/// them; the loop's invariant sees its sets alone, so it is of any type.
 #[tactic(auto, using(crate::proofs::Ways::stage_lookups_refused))]
 fn apply_stages<P: Pause, T: TextDigest>(
     map: &hb_ot_map_t,
@@ -68,7 +72,10 @@ fn apply_stages<P: Pause, T: TextDigest>(
     for i in 0..stages.len() {
         let lookups = map.stage_lookups(TableIndex::GSUB, i);
         apply_stage(lookups, text, ctx, buffer)?;
-        let introduced = run_pause(pause, stages[i].pause, buffer)?;
+        let Some(number) = stages[i].pause else {
+            continue;
+        };
+        let introduced = pause.run(number, buffer)?;
         text.after_pause(introduced);
     }
     Ok(())
@@ -109,5 +116,6 @@ pub fn substitute<P: Pause>(
         result buffer.old buffer.new }
 {
     let mut ctx = hb_ot_apply_context_t::new(TableIndex::GSUB, face);
-    apply_layout_table(map, &mut ctx, buffer, pause)
+    let mut text = TextGlyphs::new();
+    apply_stages(map, &mut text, &mut ctx, buffer, pause)
 }

@@ -1,4 +1,6 @@
 //! The glyphs at which subtables can act, collected for their sets.
+//!
+//! Each type of subtable has its impl, by its own definition; most collect their rows and nothing else.
 ghost use Rattle.std.specs.Prelude.{◌≡◌, ◌==◌};
 ghost use Rattle.layout_tables.specs.Covers.{begins_with, covers_context, covers_entry, covers_first_of_pair, covers_sequence, covers_value};
 

@@ -1,4 +1,6 @@
 //! Attachment of marks (OpenType, GPOS lookup types 4, 5 and 6).
+//!
+//! Rows of other tables have the same form, each with its own key.
 ghost use Rattle.std.specs.Prelude.{◌≡◌};
 ghost use Rattle.layout_common.specs.Rows.{value_of};
 ghost use Rattle.layout_tables.specs.Marks.{anchor_at, base_anchor, component_anchor, component_at, component_count};

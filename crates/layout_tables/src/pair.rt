@@ -1,4 +1,6 @@
 //! Pair adjustment (OpenType, GPOS lookup type 2).
+//!
+//! Rows of other tables have the same form, each with its own key.
 ghost use Rattle.std.specs.Prelude.{◌≡◌};
 ghost use Rattle.layout_tables.specs.Pairs.{class_pair_values, record_at};
 

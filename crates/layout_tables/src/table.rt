@@ -1,4 +1,6 @@
 //! The lists of a layout table (OpenType, chapter 2).
+//!
+//! Rows of other tables have the same form, each with its own key.
 ghost use Rattle.std.specs.Prelude.{◌≡◌, None, true, slice_get};
 ghost use Rattle.std.specs.Option.{option_copied, option_map};
 ghost use Rattle.layout_tables.specs.Choice.{ChosenScript, first_script, default_scripts, chosen_script, has_tag_at, language_feature, required_language_feature};

@@ -16,4 +16,3 @@ pub use Rattle.layout_offsets.specs as layout_offsets
 pub use Rattle.layout_positioning.specs as layout_positioning
 pub use Rattle.layout_substitution.specs as layout_substitution
 pub use Rattle.layout_tables.specs as layout_tables
-pub use Rattle.layout_would_apply.specs as layout_would_apply

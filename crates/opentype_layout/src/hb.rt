@@ -83,6 +83,8 @@ pub mod ot_layout_gsub_table {
 
 /// Matching, and what is done at a match.
 pub mod ot_layout_gsubgpos {
+    pub use layout_face::would_apply::lookup::{context_would_apply, would_apply};
+    pub use layout_face::would_apply::{WouldApply, WouldApplyContext};
     pub use layout_gsub::context::GlyphReplacement;
     pub use layout_gsub::ligate::ligate_input;
     pub use layout_match::{
@@ -90,8 +92,6 @@ pub mod ot_layout_gsubgpos {
         match_class, match_coverage, match_glyph, match_input, match_lookahead, match_t,
         skipping_iterator_t,
     };
-    pub use layout_would_apply::lookup::{context_would_apply, would_apply};
-    pub use layout_would_apply::subtables::{WouldApply, WouldApplyContext};
 }
 
 /// Maps of features.

@@ -1,4 +1,6 @@
 //! Plans for texts in turn.
+//!
+//! The clauses of `shape` (`shape_pipeline`) stand here again, since a cache answers what that call answers.
 ghost use Rattle.std.specs.Prelude.{◌≡◌, ◌≢◌, ◌≤◌, ◌<◌, ◌-◌, ◌+◌, ◌++◌, ◌⊎◌, Err, IfErr, IfOk, MatchOption, Ok, OnErr, OnOk, [], drop, false, length, slice_index_or};
 ghost use Rattle.std.specs.List.{All, remove, slice_range};
 ghost use Rattle.shape_pipeline.specs.buffer_core.Readings.{Follows};

@@ -4,7 +4,7 @@ use Rattle.std.proofs.lemmas.List.{drop_all, take_all, length-drop}
 use Rattle.buffer_glyphs.specs.declared.info.hb_glyph_info_t.{hb_glyph_info_t}
 use Rattle.layout_face.specs.declared.parts.FaceParts.{FaceParts}
 use Rattle.buffer_glyphs.specs.Items.{Item, Position, item_of, strip}
-use Rattle.buffer_serialize.specs.Pen.{IsNear}
+use Rattle.buffer_glyphs.specs.Coordinates.{IsNear}
 use Rattle.script_arabic.specs.declared.runs.Run.{Run}
 use Rattle.script_arabic.specs.declared.runs.Before.{Before}
 use Rattle.script_arabic.specs.declared.runs.Before.TheVariants.{Word, Tiles}

@@ -50,7 +50,7 @@ pub fn setup_masks(
         buffer.old buffer.new }
 {
     let arabic_plan = data_create_arabic(map, script);
-    setup_masks_inner(&arabic_plan, script, buffer, tables);
+    script_joining::setup_masks_inner(tables, script, &arabic_plan.mask_array, buffer);
 }
 
 /// Sets each letter's form by its neighbours, with the given data, and adds the mask of the form's feature. It takes

@@ -1,4 +1,7 @@
 //! The feature requests of the Arabic shaper (rustybuzz: hb/ot_shaper_arabic.rs).
+//!
+//! A list of requests is data, in the order in which rustybuzz requests them. Those of Arabic and of Syriac differ in
+//! flags alone, and each is written whole, as its definition is.
 ghost use Rattle.std.specs.Prelude.{◌≡◌, codes, fold, OnOk};
 ghost use Rattle.buffer_common.specs.Tag.{tag_of};
 ghost use Rattle.layout_map.specs.Features.{in_any, system_features};

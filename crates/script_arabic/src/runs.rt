@@ -1,6 +1,6 @@
 //! Runs of tiles, and the word before each (rustybuzz: hb/ot_shaper_arabic.rs, apply_stch).
 ghost use Rattle.std.specs.Prelude.{ℕ, ◌≡◌, ◌≤◌, ◌<◌, ◌+◌, ◌+ℤ◌, ◌^◌, pos, length, IfOk};
-ghost use Rattle.buffer_serialize.specs.Pen.{IsNear};
+ghost use Rattle.buffer_glyphs.specs.Coordinates.{IsNear};
 ghost use Rattle.buffer_glyphs.specs.Items.{item_of, strip};
 ghost use Rattle.script_arabic.specs.Runs.{next_before, unmeasured_run, run_here, runs, tile_run, width, with_tile, with_tiles, word_before, word_after};
 

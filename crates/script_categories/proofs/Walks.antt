@@ -22,9 +22,9 @@ pub longer_found : (m : Machine) (cs : List ℕ) (i : ℕ)
     → longest_up_to m cs (i + 1) ≡ found_or (kind_of_prefix m (take (i + 1) cs)) (i + 1) (longest_up_to m cs i)
 longer_found m cs i = rw add-one refl
 
--- ---- a stretch of alike categories, each of which leads back to the state
+-- ---- a run of alike categories, each of which leads back to the state
 
--- the category at a place of the stretch
+-- the category at an index of the run
 alike_at : (cs : List ℕ) (i n k c : ℕ) → i + n ≤ length cs → k < n → All (λ x. x ≡ c) (take n (drop i cs)) → get_or cs (i + k) 0 ≡ c
 alike_at cs i n k c le lt all =
     let size : length (drop i cs) ≡ length cs - i = length-drop i cs in
@@ -70,7 +70,7 @@ back_within m cs i s n (suc k) le lt e back all =
     let last = back_once m cs (i + suc k) s (omega (arith, le, lt)) before.state (ap (state_by m (Some s)) alike ∙ back) in
     subst (IsLed m cs i s) more (back_more m cs i s (i + suc k) before last)
 
--- where the stretch ends
+-- where the run ends
 pub back_after : (m : Machine) (cs : List ℕ) (i s j : ℕ) → i < j → j ≤ length cs → Some s ≡ state_after m (take i cs)
     → state_by m (Some s) (get_or cs i 0) ≡ Some s → All (λ x. x ≡ get_or cs i 0) (take (j - i) (drop i cs)) → IsLed m cs i s j
 back_after m cs i s j lt le e back all =

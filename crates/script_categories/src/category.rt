@@ -1,4 +1,6 @@
 //! The universal shaper's categories of characters (rustybuzz: hb/ot_shaper_use.rs).
+//!
+//! Other lists of numbered names have the same form; each has its own type.
 ghost use Rattle.std.specs.Prelude.{◌≡◌};
 ghost use Rattle.script_categories.specs.Universal.{universal_categories, UniversalCategoriesAreNumbered};
 ghost use Rattle.script_categories.specs.Names.{number_of};

@@ -1,4 +1,6 @@
 //! The features of the Indic shaper, by their indices in its list of masks (rustybuzz: hb/ot_shaper_indic.rs).
+//!
+//! Other lists of numbered names have the same form; each has its own type.
 ghost use Rattle.script_categories.specs.Indic.{IndicFeaturesAreInOrder};
 
 pub const NUKT: usize = 0;

@@ -1,4 +1,6 @@
 //! The categories of characters in Indic, Khmer and Myanmar syllables (rustybuzz: hb/ot_shaper_indic.rs).
+//!
+//! Other lists of numbered names have the same form; each has its own type.
 ghost use Rattle.std.specs.Prelude.{◌≡◌};
 ghost use Rattle.script_categories.specs.Indic.{ot_categories, CategoriesAreNumbered};
 ghost use Rattle.script_categories.specs.Names.{number_of};

@@ -1,4 +1,6 @@
 //! The positions of characters around the base of a syllable (rustybuzz: hb/ot_shaper_indic.rs).
+//!
+//! Other lists of numbered names have the same form; each has its own type.
 ghost use Rattle.std.specs.Prelude.{◌≡◌};
 ghost use Rattle.script_categories.specs.Indic.{ot_positions, PositionsAreNumbered};
 ghost use Rattle.script_categories.specs.Names.{number_of};

@@ -1,4 +1,6 @@
 //! The kinds of syllables of each shaper's machine, with their names.
+//!
+//! The lists of the shapers' kinds have one form; each shaper numbers its own.
 
 /// The bits of a syllable byte that hold the kind; the others hold a serial number.
 pub const SYLLABLE_KIND: u8 = 15;

@@ -1,4 +1,6 @@
 //! The order of a run of Hebrew marks, the shaper's reorder_marks (rustybuzz: hb/ot_shaper_hebrew.rs).
+//!
+//! Arabic's order has the same types and clauses, by another rule.
 ghost use Rattle.std.specs.Prelude.{◌≤◌, length};
 ghost use Rattle.buffer_core.specs.Sides.{all_glyphs};
 ghost use Rattle.buffer_stages.specs.Ready.{IsReady};

@@ -9,7 +9,7 @@ use Rattle.layout_face.specs.declared.substitution.SubstitutionTable.{Substituti
 use Rattle.layout_map.specs.Compiled.{OtMapValue, feature_at, lookups_of_stage}
 use Rattle.layout_map.specs.declared.chosen_feature.feature_map_t.{feature_map_t}
 use Rattle.layout_map_features.specs.declared.lookup.lookup_map_t.{lookup_map_t}
-use Rattle.layout_would_apply.specs.Woulds.{lookup_would}
+use Rattle.layout_face.specs.WouldApplyLookups.{lookup_would}
 use Rattle.script_indic.specs.declared.would_substitute.IndicWouldSubstituteFeature.{IndicWouldSubstituteFeature}
 
 -- the GSUB stage of a feature, none where the map lacks the feature

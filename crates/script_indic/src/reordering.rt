@@ -6,7 +6,7 @@ ghost use Rattle.buffer_stages.specs.Ready.{DoesGlyphStage, IsReady, HoldsGlyphs
 ghost use Rattle.buffer_stages.specs.Settings.{text_settings};
 ghost use Rattle.script_indic_reordering.specs.Orders.{initial_syllable};
 ghost use Rattle.script_syllabic.specs.Quiet.{IsQuiet};
-ghost use Rattle.script_indic.specs.Reordering.{circles_order, consonants_updated, final_stage, indic_final, indic_initial, initial_stage, virama_glyph};
+ghost use Rattle.script_indic.specs.Reordering.{circles_order, consonants_updated, indic_final, indic_initial, initial_stage, virama_glyph};
 
 use crate::config::indic_config;
 use crate::font_forms::FontForms;
@@ -17,7 +17,7 @@ use buffer_glyphs::cause::ShapeCause;
 use layout_face::Face;
 use layout_map::map::hb_ot_map_t;
 use script_categories::ot_category_t::{OT_DOTTEDCIRCLE, OT_Repha};
-use script_categories::ot_position_t::{POS_END, Position};
+use script_categories::ot_position_t::POS_END;
 use script_categories::syllable_kinds::indic::BROKEN_CLUSTER;
 use script_indic_reordering::consonants::update_consonant_positions;
 use script_indic_reordering::final_order::reorder_final;
@@ -149,19 +149,6 @@ pub fn final_reordering(
 {
     let config = indic_config(script);
     let masks = indic_masks(map, config.blwf_mode);
-    reorder_finally(config.reph_pos, &masks, buffer)
-}
-
-fn reorder_finally(
-    reph_pos: Position,
-    masks: &IndicMasks,
-    buffer: &mut hb_buffer_t,
-) -> Result<bool, ShapeCause>
-    requires { IsReady buffer.old }
-    ensures stage { DoesGlyphStage (final_stage reph_pos masks.now) result buffer.old buffer.new }
-    ensures inserts_none { IfOk result (λ inserted. inserted ≡ false) }
-    ensures brings_none { result ≡ Ok false → BringsNoGlyph (items_of buffer.old) (items_of buffer.new) }
-{
-    reorder_final(reph_pos, masks, buffer)?;
+    reorder_final(config.reph_pos, &masks, buffer)?;
     Ok(false)
 }

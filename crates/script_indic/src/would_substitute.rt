@@ -5,11 +5,11 @@ ghost use Rattle.script_indic.specs.WouldSubstitute.{any_would, font_lookup_woul
 
 use buffer_common::tag::Tag;
 use layout_face::Face;
+use layout_face::would_apply::WouldApplyContext;
+use layout_face::would_apply::lookup::would_apply;
 use layout_map::map::hb_ot_map_t;
 use layout_map_features::lookup::lookup_map_t;
 use layout_map_features::per_table::TableIndex;
-use layout_would_apply::lookup::would_apply;
-use layout_would_apply::subtables::WouldApplyContext;
 
 /// A feature that a syllable is tested for before the feature is applied: the GSUB stage of its lookups.
 #[derive(Clone, Copy)]

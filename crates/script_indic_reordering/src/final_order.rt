@@ -4,10 +4,9 @@ ghost use Rattle.buffer_core.specs.Readings.{always};
 ghost use Rattle.buffer_core.specs.Sides.{all_glyphs, items_of};
 ghost use Rattle.buffer_stages.specs.Ready.{IsReady};
 ghost use Rattle.buffer_stages.specs.Stages.{IsFollowed};
-ghost use Rattle.buffer_stages.specs.Rewriting.{by_syllable};
 ghost use Rattle.buffer_stages.specs.SyllableBuffers.{IsRewritten, with_rule};
-ghost use Rattle.script_indic_reordering.specs.Final.{base_passed, final_reordered, pref_moved, reph_moved};
-ghost use Rattle.script_indic_reordering.specs.Orders.{final_order, final_syllable};
+ghost use Rattle.script_indic_reordering.specs.Final.{base_passed, pref_moved, reph_moved};
+ghost use Rattle.script_indic_reordering.specs.Orders.{final_order};
 
 use crate::formed::{begins_with_reph, formed_base, passed_by_reph, pref_form, pref_target};
 use crate::initial::first_glyph;
@@ -35,24 +34,13 @@ pub fn reorder_final(
     requires ready { IsReady buffer.old }
     ensures { OnOk result (IsFollowed (always (with_rule (final_order reph_pos masks.now))) buffer.old buffer.new) }
 {
-    reorder_syllables(reph_pos, masks, buffer)?;
-    mask_words(masks.init, buffer);
-    Ok(())
-}
-
-fn reorder_syllables(
-    reph_pos: Position,
-    masks: &IndicMasks,
-    buffer: &mut hb_buffer_t,
-) -> Result<(), AllocError>
-    requires ready { IsReady buffer.old }
-    ensures { OnOk result (IsFollowed (always (with_rule (by_syllable (final_syllable reph_pos masks.now)))) buffer.old buffer.new) }
-{
     let order = FinalOrder {
         reph_pos,
         masks: *masks,
     };
-    each_syllable(&order, buffer)
+    each_syllable(&order, buffer)?;
+    mask_words(masks.init, buffer);
+    Ok(())
 }
 
 #[derive(Clone, Copy)]
@@ -67,6 +55,7 @@ impl SyllableRule for FinalOrder {
 
     ghost rewritten = { λ o. final_syllable o.reph_pos o.masks };
 
+    #[tactic(auto, using(crate::specs::Lemmas::FinalSteps::lefts_even, crate::specs::Lemmas::FinalSteps::reph_even, crate::specs::Lemmas::FinalSteps::base_within))]
     fn rewrite(
         &self,
         buffer: &mut hb_buffer_t,
@@ -77,31 +66,14 @@ impl SyllableRule for FinalOrder {
         if !INDIC_SHAPER.is_reordered(first.syllable & SYLLABLE_KIND) {
             return Ok(());
         }
-        reorder_syllable(self.reph_pos, self.masks.pref, buffer, start, end);
+        let base = formed_base(&buffer.info_slice()[start..end]);
+        move_lefts(buffer, start, end, base);
+        let base = move_reph(self.reph_pos, buffer, start, end, base);
+        move_pref(self.masks.pref, buffer, start, end, base);
         Ok(())
     }
 
     ghost keeps_length = { λ o. final_keeps o.reph_pos o.masks };
-}
-
-#[tactic(auto, using(crate::specs::Lemmas::FinalSteps::lefts_even, crate::specs::Lemmas::FinalSteps::reph_even, crate::specs::Lemmas::FinalSteps::base_within))]
-fn reorder_syllable(
-    reph_pos: Position,
-    pref: hb_mask_t,
-    buffer: &mut hb_buffer_t,
-    start: usize,
-    end: usize,
-)
-    requires ready { IsReady buffer.old }
-    requires ordered { start ≤ end }
-    requires within { end ≤ length (all_glyphs buffer.old) }
-    ensures { IsRewritten (final_reordered reph_pos pref (slice_range (items_of buffer.old) start end)) start end buffer.old
-        buffer.new }
-{
-    let base = formed_base(&buffer.info_slice()[start..end]);
-    move_lefts(buffer, start, end, base);
-    let base = move_reph(reph_pos, buffer, start, end, base);
-    move_pref(pref, buffer, start, end, base);
 }
 
 /// Moves a reph to the position of its script, and returns the index of the base in the new order.

@@ -3,7 +3,7 @@ ghost use Rattle.std.specs.Prelude.{◌≡◌};
 ghost use Rattle.buffer_core.specs.Readings.{always};
 ghost use Rattle.buffer_stages.specs.Ready.{IsReady};
 ghost use Rattle.script_joining.specs.Glyphs.{AreFlagless, item_typed};
-ghost use Rattle.script_joining.specs.Joining.{is_mongolian, letters_joined, letters_with_forms};
+ghost use Rattle.script_joining.specs.Joining.{is_mongolian, letters_joined};
 ghost use Rattle.buffer_stages.specs.Stages.{IsFollowed, with_items_mapped};
 
 use crate::flags::flag_neighbours;
@@ -15,8 +15,11 @@ use buffer_glyphs::info::hb_mask_t;
 use buffer_stages::glyphs::map_glyphs;
 use buffer_unicode_tables::UnicodeTables;
 
-/// Sets each letter's form in a text of a script by its neighbours, and adds the mask of the form's feature
-/// (`setup_masks_inner`). It takes linear time and no memory.
+/// Sets each letter's form in a text of a script by its neighbours, as its `auxiliary`, and adds the mask of the form's
+/// feature (`setup_masks_inner`): `masks` has those of ISOL, FINA, FIN2, FIN3, MEDI, MED2 and INIT, in this order. The
+/// letters of the contexts count as neighbours. In Mongolian a variation selector gets the form of the character before
+/// it. Two neighbouring letters are flagged as safe to insert a tatweel where the second changes the form of the first,
+/// else as unsafe to concat. It takes linear time and no memory.
 pub fn setup_masks_inner(
     tables: &UnicodeTables,
     script: Option<Script>,
@@ -29,7 +32,12 @@ pub fn setup_masks_inner(
         (letters_joined masks.now script tables.now buffer.old.pre_context buffer.old.post_context)
         buffer.old buffer.new }
 {
-    join_letters(tables, is_mongolian(script), masks, buffer);
+    let before = nearest_in_context(tables, buffer.pre_context());
+    let after = nearest_in_context(tables, buffer.post_context());
+    keep_types(tables, buffer);
+    flag_neighbours(before, buffer);
+    let is_mongolian = is_mongolian(script);
+    join(is_mongolian, masks, before, after, buffer.info_slice_mut());
 }
 
 fn is_mongolian(script: Option<Script>) -> bool
@@ -39,30 +47,6 @@ fn is_mongolian(script: Option<Script>) -> bool
         Some(script) => script == MONGOLIAN,
         None => false,
     }
-}
-
-/// Sets each letter's form, as its `auxiliary`, and adds the mask of the form's feature (`setup_masks`): `masks` has
-/// those of ISOL, FINA, FIN2, FIN3, MEDI, MED2 and INIT, in this order. The letters of the contexts count as
-/// neighbours. In Mongolian a variation selector gets the form of the character before it. Two neighbouring letters are
-/// flagged as safe to insert a tatweel where the second changes the form of the first, else as unsafe to concat. It
-/// takes linear time and no memory.
-fn join_letters(
-    tables: &UnicodeTables,
-    is_mongolian: bool,
-    masks: &[hb_mask_t],
-    buffer: &mut hb_buffer_t,
-)
-    requires ready { IsReady buffer.old }
-    requires flagless { AreFlagless masks.now }
-    ensures { IsFollowed
-        (always (letters_with_forms tables.now is_mongolian masks.now buffer.old.pre_context buffer.old.post_context))
-        buffer.old buffer.new }
-{
-    let before = nearest_in_context(tables, buffer.pre_context());
-    let after = nearest_in_context(tables, buffer.post_context());
-    keep_types(tables, buffer);
-    flag_neighbours(before, buffer);
-    join(is_mongolian, masks, before, after, buffer.info_slice_mut());
 }
 
 /// Stores in each glyph its joining type, which its form replaces later.

@@ -11,8 +11,8 @@ use Rattle.script_categories.specs.declared.ot_category_t.TheConstants as catego
 use Rattle.buffer_glyphs.specs.Items.{Item, without_flags}
 use Rattle.buffer_glyphs.specs.Levels.{InList}
 use Rattle.buffer_glyphs.specs.Events.{Event, Move}
-use Rattle.buffer_stages.specs.Moves.{FrontMove, all_moved, move_events, with_range_moved, order_of_move}
-use Rattle.buffer_stages.specs.Fronts.{front_moves, fronts, elements_after_fronts}
+use Rattle.buffer_stages.specs.Moves.{MoveToFront, all_moved, move_events, with_range_moved, order_of_move}
+use Rattle.buffer_stages.specs.Fronts.{moves_to_front, fronts, elements_after_fronts}
 use Rattle.buffer_glyphs.specs.Rewriting.{Arrangement, eventless_arrangement, shifted_event, and_arranged}
 use Rattle.buffer_stages.specs.Rewriting.{within}
 use Rattle.buffer_stages.specs.Parts.{fronts_moved, item_with_features, items_with_features}
@@ -29,7 +29,7 @@ kind x = x.category
 -- what a walk of a run leaves: moves of what got its masks, and then the walk of the others
 abbrev moved_then : (Item → Item → Bool) → KhmerMasks → ℕ → ℕ → ℕ → List Item → List Item → List Item → Arrangement
 moved_then pair m k i c front zs post =
-    and_arranged (record { items = all_moved 0 (front_moves pair is_vowel i zs) (front ++ (forms_masked pair (item_with_features m.pref) zs ++ post)); events = move_events 0 (front_moves pair is_vowel i zs) }) (khmer_walk m k (i + length zs) c)
+    and_arranged (record { items = all_moved 0 (moves_to_front pair is_vowel i zs) (front ++ (forms_masked pair (item_with_features m.pref) zs ++ post)); events = move_events 0 (moves_to_front pair is_vowel i zs) }) (khmer_walk m k (i + length zs) c)
 
 abbrev Does : Bool → KhmerMasks → ℕ → ℕ → ℕ → List Item → List Item → List Item → Type 0
 Does forms m k i c front zs post = khmer_walk m (length zs + k) i c (front ++ (zs ++ post)) ≡ moved_then (together forms) m k i c front zs post
@@ -39,8 +39,8 @@ single : (forms : Bool) (m : KhmerMasks) (k i c : ℕ) (x : Item) (front zs post
     → (is_vowel x ≡ true → Does forms m k (i + 1) c (x ∷ front) zs post) → (is_vowel x ≡ false → Does forms m k (i + 1) c (front ++ x ∷ []) zs post)
     → khmer_walk m (suc (length zs) + k) i c (front ++ (x ∷ (zs ++ post)))
     ≡ and_arranged (record {
-      items = all_moved 0 (if is_vowel x && nat_lt 0 i then record { passed = i; taken = 1 } ∷ front_moves (together forms) is_vowel (i + 1) zs else front_moves (together forms) is_vowel (i + 1) zs) (front ++ (x ∷ (forms_masked (together forms) (item_with_features m.pref) zs ++ post)));
-      events = move_events 0 (if is_vowel x && nat_lt 0 i then record { passed = i; taken = 1 } ∷ front_moves (together forms) is_vowel (i + 1) zs else front_moves (together forms) is_vowel (i + 1) zs);
+      items = all_moved 0 (if is_vowel x && nat_lt 0 i then record { passed = i; taken = 1 } ∷ moves_to_front (together forms) is_vowel (i + 1) zs else moves_to_front (together forms) is_vowel (i + 1) zs) (front ++ (x ∷ (forms_masked (together forms) (item_with_features m.pref) zs ++ post)));
+      events = move_events 0 (if is_vowel x && nat_lt 0 i then record { passed = i; taken = 1 } ∷ moves_to_front (together forms) is_vowel (i + 1) zs else moves_to_front (together forms) is_vowel (i + 1) zs);
     }) (khmer_walk m k (i + suc (length zs)) c)
 single forms m k i c x front zs post at some other first later =
     let xs = front ++ (x ∷ (zs ++ post)) in
@@ -53,8 +53,8 @@ single forms m k i c x front zs post at some other first later =
     ∙ by_test (is_vowel x) first later
     ∙ ap (λ t. left_if t) test
   where
-    rest : List FrontMove
-    rest = front_moves (together forms) is_vowel (i + 1) zs
+    rest : List MoveToFront
+    rest = moves_to_front (together forms) is_vowel (i + 1) zs
 
     formed : List Item
     formed = forms_masked (together forms) (item_with_features m.pref) zs
@@ -145,7 +145,7 @@ alone_not false b e f = refl
 form_then : (m : KhmerMasks) (k i c : ℕ) (x y t : Item) (fs zs post : List Item) → i ≡ length (fs ++ t ∷ []) → IsPlain t → is_coeng c x ≡ true → together true x y ≡ true
     → Does true m k (i + 2) 2 (item_with_features m.pref x ∷ item_with_features m.pref y ∷ (fs ++ t ∷ [])) (map (item_with_features m.cfar) zs) (map (item_with_features m.cfar) post)
     → khmer_walk m (length (x ∷ y ∷ zs) + k) i c ((fs ++ t ∷ []) ++ ((x ∷ y ∷ zs) ++ post))
-    ≡ and_arranged (record { items = all_moved 0 (front_moves (together true) is_vowel i (x ∷ y ∷ zs)) ((fs ++ t ∷ []) ++ (forms_masked (together true) (item_with_features m.pref) (x ∷ y ∷ map (item_with_features m.cfar) zs) ++ map (item_with_features m.cfar) post)); events = move_events 0 (front_moves (together true) is_vowel i (x ∷ y ∷ zs)) }) (khmer_walk m k (i + length (x ∷ y ∷ zs)) 2)
+    ≡ and_arranged (record { items = all_moved 0 (moves_to_front (together true) is_vowel i (x ∷ y ∷ zs)) ((fs ++ t ∷ []) ++ (forms_masked (together true) (item_with_features m.pref) (x ∷ y ∷ map (item_with_features m.cfar) zs) ++ map (item_with_features m.cfar) post)); events = move_events 0 (moves_to_front (together true) is_vowel i (x ∷ y ∷ zs)) }) (khmer_walk m k (i + length (x ∷ y ∷ zs)) 2)
 form_then m k i c x y t fs zs post at plain coeng pair does =
     let front = fs ++ t ∷ [] in
     let far = item_with_features m.cfar in
@@ -157,8 +157,8 @@ form_then m k i c x y t fs zs post at plain coeng pair does =
     let n = length (map far zs) in
     let long : n ≡ length zs = length-map zs far in
     let formed = forms_masked (together true) (item_with_features m.pref) (map far zs) ++ map far post in
-    let rest = front_moves (together true) is_vowel (i + 2) (map far zs) in
-    let seen : rest ≡ front_moves (together true) is_vowel (i + 2) zs = sym (moves_seen far (together true) is_vowel (i + 2) zs) in
+    let rest = moves_to_front (together true) is_vowel (i + 2) (map far zs) in
+    let seen : rest ≡ moves_to_front (together true) is_vowel (i + 2) zs = sym (moves_seen far (together true) is_vowel (i + 2) zs) in
     let turned : with_range_moved 0 i 2 (front ++ (px ∷ py ∷ formed)) ≡ (px ∷ py ∷ front) ++ formed = ap (λ j. with_range_moved 0 j 2 (front ++ (px ∷ py ∷ formed))) at ∙ moved_two [] front px py formed in
     let last : i + 2 + n ≡ i + length (x ∷ y ∷ zs) = omega (arith, long) in
     let later : khmer_walk m (length zs + k) (i + 2) 2 ((px ∷ py ∷ front) ++ map far (zs ++ post)) ≡ moved_then (together true) m k (i + 2) 2 (px ∷ py ∷ front) (map far zs) (map far post) =
@@ -179,9 +179,9 @@ form_then m k i c x y t fs zs post at plain coeng pair does =
           events = move_events 0 (moves_if b);
         }) (khmer_walk m k (i + length (x ∷ y ∷ zs)) 2)
       where
-        moves_if : Bool → List FrontMove
-        moves_if d = if d then record { passed = i; taken = 2 } ∷ front_moves (together true) is_vowel (i + 2) zs
-            else if is_vowel x && nat_lt 0 i then record { passed = i; taken = 1 } ∷ front_moves (together true) is_vowel (i + 1) (y ∷ zs) else front_moves (together true) is_vowel (i + 1) (y ∷ zs)
+        moves_if : Bool → List MoveToFront
+        moves_if d = if d then record { passed = i; taken = 2 } ∷ moves_to_front (together true) is_vowel (i + 2) zs
+            else if is_vowel x && nat_lt 0 i then record { passed = i; taken = 1 } ∷ moves_to_front (together true) is_vowel (i + 1) (y ∷ zs) else moves_to_front (together true) is_vowel (i + 1) (y ∷ zs)
 
         formed_if : Bool → List Item
         formed_if d = if d then item_with_features m.pref x ∷ item_with_features m.pref y ∷ forms_masked (together true) (item_with_features m.pref) (map (item_with_features m.cfar) zs) else x ∷ forms_masked (together true) (item_with_features m.pref) (y ∷ map (item_with_features m.cfar) zs)
@@ -232,7 +232,7 @@ form_after m k i c x y front zs post at pair a later =
     let coeng : is_coeng 2 x ≡ true = ap (λ b. b && true) (both_true (x.category == category.OT_H) (y.category == category.OT_Ra) pair).0 in
     let next : Does true m k (i + 2) 2 turned zs post = later turned (omega (arith, size)) (record { count = refl; items = same_zs; rest = same_post; ends = (item_with_features m.pref x ∷ item_with_features m.pref y ∷ fs, t, refl, end.3) }) in
     let masked_next = subst (λ ws. Does true m k (i + 2) 2 turned ws (map far post)) (sym same_zs) (subst (λ ws. Does true m k (i + 2) 2 turned zs ws) (sym same_post) next) in
-    let moves = front_moves (together true) is_vowel i (x ∷ y ∷ zs) in
+    let moves = moves_to_front (together true) is_vowel i (x ∷ y ∷ zs) in
     let here : Does true m k i 2 (fs ++ t ∷ []) (x ∷ y ∷ zs) post =
     form_then m k i 2 x y t fs zs post size end.3 coeng pair masked_next
     ∙ ap (λ ws. and_arranged (record { items = all_moved 0 moves ((fs ++ t ∷ []) ++ (forms_masked (together true) (item_with_features m.pref) (x ∷ y ∷ ws) ++ map far post)); events = move_events 0 moves }) (khmer_walk m k (i + length (x ∷ y ∷ zs)) 2)) same_zs
@@ -264,9 +264,9 @@ run_walked true few m (x ∷ y ∷ zs) k i c front post at some counts run again
     formed_if : Bool → List Item
     formed_if d = if d then item_with_features m.pref x ∷ item_with_features m.pref y ∷ forms_masked (together true) (item_with_features m.pref) zs else x ∷ forms_masked (together true) (item_with_features m.pref) (y ∷ zs)
 
-    moves_if : Bool → List FrontMove
-    moves_if d = if d then record { passed = i; taken = 2 } ∷ front_moves (together true) is_vowel (i + 2) zs
-        else if is_vowel x && nat_lt 0 i then record { passed = i; taken = 1 } ∷ front_moves (together true) is_vowel (i + 1) (y ∷ zs) else front_moves (together true) is_vowel (i + 1) (y ∷ zs)
+    moves_if : Bool → List MoveToFront
+    moves_if d = if d then record { passed = i; taken = 2 } ∷ moves_to_front (together true) is_vowel (i + 2) zs
+        else if is_vowel x && nat_lt 0 i then record { passed = i; taken = 1 } ∷ moves_to_front (together true) is_vowel (i + 1) (y ∷ zs) else moves_to_front (together true) is_vowel (i + 1) (y ∷ zs)
 
     tested : Bool → Arrangement
     tested d = and_arranged (record { items = all_moved 0 (moves_if d) (front ++ (formed_if d ++ post)); events = move_events 0 (moves_if d) }) (khmer_walk m k (i + length (x ∷ y ∷ zs)) c)
@@ -292,11 +292,11 @@ unformed f (x ∷ y ∷ zs) = ap (λ ys. x ∷ ys) (unformed f (y ∷ zs))
 -- ---- as rules of a list
 
 -- moves depend on categories alone
-same_moves : (forms : Bool) (i : ℕ) (xs ys : List Item) → map kind xs ≡ map kind ys → front_moves (together forms) is_vowel i xs ≡ front_moves (together forms) is_vowel i ys
+same_moves : (forms : Bool) (i : ℕ) (xs ys : List Item) → map kind xs ≡ map kind ys → moves_to_front (together forms) is_vowel i xs ≡ moves_to_front (together forms) is_vowel i ys
 same_moves forms i xs ys e =
     let pair : ℕ → ℕ → Bool = λ a b. forms && (a == category.OT_H && b == category.OT_Ra) in
     let one : ℕ → Bool = λ a. a == category.OT_VPre in
-    moves_seen kind pair one i xs ∙ ap (front_moves pair one i) e ∙ sym (moves_seen kind pair one i ys)
+    moves_seen kind pair one i xs ∙ ap (moves_to_front pair one i) e ∙ sym (moves_seen kind pair one i ys)
 
 formed_kinds : (bits : ℕ) (zs : List Item) → map kind (forms_masked (together true) (item_with_features bits) zs) ≡ map kind zs
 formed_kinds bits [] = refl
@@ -323,25 +323,25 @@ formed_size {X = X} pair f (x ∷ y ∷ zs) = by_pair (pair x y) (formed_size pa
 
 -- what comes to the front from an index on, as moves
 run_moves : (pair : Item → Item → Bool) (one : Item → Bool) (p to : ℕ) (front zs post : List Item) → p ≡ length front → to ≡ p + length zs
-    → within 0 to (fronts_moved pair one p) (front ++ (zs ++ post)) ≡ record { items = all_moved 0 (front_moves pair one p zs) (front ++ (zs ++ post)); events = move_events 0 (front_moves pair one p zs) }
+    → within 0 to (fronts_moved pair one p) (front ++ (zs ++ post)) ≡ record { items = all_moved 0 (moves_to_front pair one p zs) (front ++ (zs ++ post)); events = move_events 0 (moves_to_front pair one p zs) }
 run_moves pair one p to front zs post at last =
     let both = front ++ zs in
     let tail : drop p both ≡ zs = ap (λ n. drop n both) at ∙ drop-append_seam front zs in
     let head : take p both ≡ front = ap (λ n. take n both) at ∙ take-append_seam front zs in
     let size = length-append front zs in
-    let moves : all_moved 0 (front_moves pair one p zs) (front ++ (zs ++ post)) ≡ (fronts pair one zs ++ (front ++ elements_after_fronts pair one zs)) ++ post =
-    ap (λ n. all_moved 0 (front_moves pair one n zs) (front ++ (zs ++ post))) at ∙ all_moved_fronts pair one [] front zs post in
+    let moves : all_moved 0 (moves_to_front pair one p zs) (front ++ (zs ++ post)) ≡ (fronts pair one zs ++ (front ++ elements_after_fronts pair one zs)) ++ post =
+    ap (λ n. all_moved 0 (moves_to_front pair one n zs) (front ++ (zs ++ post))) at ∙ all_moved_fronts pair one [] front zs post in
     within_at (fronts_moved pair one p) 0 to (front ++ (zs ++ post)) [] both post refl (omega (arith, last, at, size)) (sym (append_assoc front zs post))
-    ∙ ap (λ ys. record { items = (fronts pair one ys ++ (take p both ++ elements_after_fronts pair one ys)) ++ post; events = map (shifted_event 0) (move_events 0 (front_moves pair one p ys)) }) tail
-    ∙ ap (λ ys. record { items = (fronts pair one zs ++ (ys ++ elements_after_fronts pair one zs)) ++ post; events = map (shifted_event 0) (move_events 0 (front_moves pair one p zs)) }) head
-    ∙ ap (λ es. record { items = (fronts pair one zs ++ (front ++ elements_after_fronts pair one zs)) ++ post; events = es }) (shift_moves 0 0 (front_moves pair one p zs))
-    ∙ ap (λ ys. record { items = ys; events = move_events 0 (front_moves pair one p zs) }) (sym moves)
+    ∙ ap (λ ys. record { items = (fronts pair one ys ++ (take p both ++ elements_after_fronts pair one ys)) ++ post; events = map (shifted_event 0) (move_events 0 (moves_to_front pair one p ys)) }) tail
+    ∙ ap (λ ys. record { items = (fronts pair one zs ++ (ys ++ elements_after_fronts pair one zs)) ++ post; events = map (shifted_event 0) (move_events 0 (moves_to_front pair one p zs)) }) head
+    ∙ ap (λ es. record { items = (fronts pair one zs ++ (front ++ elements_after_fronts pair one zs)) ++ post; events = es }) (shift_moves 0 0 (moves_to_front pair one p zs))
+    ∙ ap (λ ys. record { items = ys; events = move_events 0 (moves_to_front pair one p zs) }) (sym moves)
 
 -- a run of vowels
 pub vowels_walked : (m : KhmerMasks) (c k p to : ℕ) (front zs post : List Item) → p ≡ length front → to ≡ p + length zs → 0 < p → IsRun false (nat_le c 2) zs
     → khmer_walk m (length zs + k) p c (front ++ (zs ++ post)) ≡ and_arranged (within 0 to (fronts_moved (together false) is_vowel p) (front ++ (zs ++ post))) (khmer_walk m k to c)
 vowels_walked m c k p to front zs post at last some run =
-    let moves = front_moves (together false) is_vowel p zs in
+    let moves = moves_to_front (together false) is_vowel p zs in
     run_walked false (nat_le c 2) m zs k p c front post at some refl run tt
     ∙ ap (λ ws. and_arranged (record { items = all_moved 0 moves (front ++ (ws ++ post)); events = move_events 0 moves }) (khmer_walk m k (p + length zs) c)) (unformed (item_with_features m.pref) zs)
     ∙ ap (λ r. and_arranged r (khmer_walk m k (p + length zs) c)) (sym (run_moves (together false) is_vowel p to front zs post at last))
@@ -350,7 +350,7 @@ vowels_walked m c k p to front zs post at last some run =
 -- a run of forms
 forms_are : (m : KhmerMasks) (p to : ℕ) (x y : Item) (front zs post : List Item) → p ≡ length front → to ≡ p + length (x ∷ y ∷ zs)
     → forms_moved m p to (front ++ ((x ∷ y ∷ zs) ++ post))
-    ≡ record { items = all_moved 0 (front_moves (together true) is_vowel p (x ∷ y ∷ zs)) (front ++ (forms_masked (together true) (item_with_features m.pref) (x ∷ y ∷ map (item_with_features m.cfar) zs) ++ map (item_with_features m.cfar) post)); events = move_events 0 (front_moves (together true) is_vowel p (x ∷ y ∷ zs)) }
+    ≡ record { items = all_moved 0 (moves_to_front (together true) is_vowel p (x ∷ y ∷ zs)) (front ++ (forms_masked (together true) (item_with_features m.pref) (x ∷ y ∷ map (item_with_features m.cfar) zs) ++ map (item_with_features m.cfar) post)); events = move_events 0 (moves_to_front (together true) is_vowel p (x ∷ y ∷ zs)) }
 forms_are m p to x y front zs post at last =
     let far = item_with_features m.cfar in
     let xs = front ++ (x ∷ y ∷ (zs ++ post)) in

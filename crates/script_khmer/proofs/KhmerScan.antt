@@ -13,8 +13,8 @@ use Rattle.buffer_glyphs.specs.Lemmas.Origins.{numbers_origins}
 use Rattle.buffer_core.specs.Sides.{Sides, all_glyphs, items_of}
 use Rattle.buffer_core.specs.Lending.{with_refilled}
 use Rattle.buffer_stages.specs.Ready.{IsReady}
-use Rattle.buffer_stages.specs.Moves.{FrontMove, reach}
-use Rattle.buffer_stages.specs.Fronts.{front_moves, pair_seen}
+use Rattle.buffer_stages.specs.Moves.{MoveToFront, reach}
+use Rattle.buffer_stages.specs.Fronts.{moves_to_front, pair_seen}
 use Rattle.buffer_glyphs.specs.Rewriting.{eventless_arrangement}
 use Rattle.buffer_stages.specs.Parts.{glyph_masked, item_with_features}
 use Rattle.buffer_stages.specs.SyllableBuffers.{IsRewritten}
@@ -103,23 +103,23 @@ run_is forms few (x ∷ xs) = by_test (ends_run forms few (x ∷ xs)) refl (run_
 
 -- ---- up to where glyphs come to the front
 
-abbrev pub moves_from : Bool → ℕ → List Item → List FrontMove
-moves_from forms i xs = front_moves (together forms) is_vowel i (drop i xs)
+abbrev pub moves_from : Bool → ℕ → List Item → List MoveToFront
+moves_from forms i xs = moves_to_front (together forms) is_vowel i (drop i xs)
 
-ra_stays : (forms : Bool) (i : ℕ) (y : Item) (zs : List Item) → (y.category == category.OT_Ra) ≡ true → front_moves (together forms) is_vowel (i + 1) (y ∷ zs) ≡ front_moves (together forms) is_vowel (i + 2) zs
+ra_stays : (forms : Bool) (i : ℕ) (y : Item) (zs : List Item) → (y.category == category.OT_Ra) ≡ true → moves_to_front (together forms) is_vowel (i + 1) (y ∷ zs) ≡ moves_to_front (together forms) is_vowel (i + 2) zs
 ra_stays forms i y [] e = ap (λ b. if b && nat_lt 0 (i + 1) then record { passed = i + 1; taken = 1 } ∷ [] else []) (ap (λ n. n == category.OT_VPre) (eqb-true y.category category.OT_Ra e))
 ra_stays forms i y (z ∷ zs) e =
-    let one : Bool → List FrontMove = λ b. if b && nat_lt 0 (i + 1) then record { passed = i + 1; taken = 1 } ∷ front_moves (together forms) is_vowel (i + 1 + 1) (z ∷ zs) else front_moves (together forms) is_vowel (i + 1 + 1) (z ∷ zs) in
+    let one : Bool → List MoveToFront = λ b. if b && nat_lt 0 (i + 1) then record { passed = i + 1; taken = 1 } ∷ moves_to_front (together forms) is_vowel (i + 1 + 1) (z ∷ zs) else moves_to_front (together forms) is_vowel (i + 1 + 1) (z ∷ zs) in
     let on : i + 1 + 1 ≡ i + 2 = omega arith in
-    ap (λ b. if b then record { passed = i + 1; taken = 2 } ∷ front_moves (together forms) is_vowel (i + 1 + 2) zs else one (is_vowel y)) (apart forms)
-    ∙ ap one (ap (λ n. n == category.OT_VPre) (eqb-true y.category category.OT_Ra e)) ∙ ap (λ n. front_moves (together forms) is_vowel n (z ∷ zs)) on
+    ap (λ b. if b then record { passed = i + 1; taken = 2 } ∷ moves_to_front (together forms) is_vowel (i + 1 + 2) zs else one (is_vowel y)) (apart forms)
+    ∙ ap one (ap (λ n. n == category.OT_VPre) (eqb-true y.category category.OT_Ra e)) ∙ ap (λ n. moves_to_front (together forms) is_vowel n (z ∷ zs)) on
   where
     apart : (f : Bool) → together f y z ≡ false
     apart true = ap (λ b. b && (z.category == category.OT_Ra)) (ra_no_coeng y e)
     apart false = refl
 
 reach_first : (forms : Bool) (zs : List Item) (i n : ℕ) → 0 < i → 0 < length zs
-    → reach (if nat_lt 0 (front_count forms zs) then i + front_count forms zs else n) (front_moves (together forms) is_vowel (i + 1) (drop 1 zs)) ≡ reach n (front_moves (together forms) is_vowel i zs)
+    → reach (if nat_lt 0 (front_count forms zs) then i + front_count forms zs else n) (moves_to_front (together forms) is_vowel (i + 1) (drop 1 zs)) ≡ reach n (moves_to_front (together forms) is_vowel i zs)
 reach_first forms [] i n some lt = absurd (omega (arith, lt))
 reach_first forms (x ∷ []) i n some lt = by_vowel (is_vowel x) ∙ ap (λ b. reach n (if is_vowel x && b then record { passed = i; taken = 1 } ∷ [] else [])) (sym later)
   where
@@ -134,8 +134,8 @@ reach_first forms (x ∷ y ∷ zs) i n some lt = by_form (together forms x y) re
     later : nat_lt 0 i ≡ true
     later = grind (arith, nat_tests, common_steps, some)
 
-    rest : List FrontMove
-    rest = front_moves (together forms) is_vowel (i + 1) (y ∷ zs)
+    rest : List MoveToFront
+    rest = moves_to_front (together forms) is_vowel (i + 1) (y ∷ zs)
 
     no_form : (b c d : Bool) → (b && (c && d)) ≡ true → d ≡ true
     no_form true true true f = refl
@@ -149,7 +149,7 @@ reach_first forms (x ∷ y ∷ zs) i n some lt = by_form (together forms x y) re
 
     by_form : (t : Bool) → together forms x y ≡ t
         → reach (if nat_lt 0 (if t then 2 else if is_vowel x then 1 else 0) then i + (if t then 2 else if is_vowel x then 1 else 0) else n) rest
-        ≡ reach n (if t then record { passed = i; taken = 2 } ∷ front_moves (together forms) is_vowel (i + 2) zs else if is_vowel x && nat_lt 0 i then record { passed = i; taken = 1 } ∷ rest else rest)
+        ≡ reach n (if t then record { passed = i; taken = 2 } ∷ moves_to_front (together forms) is_vowel (i + 2) zs else if is_vowel x && nat_lt 0 i then record { passed = i; taken = 1 } ∷ rest else rest)
     by_form true e = ap (reach (i + 2)) (ra_stays forms i y zs (no_form forms (x.category == category.OT_H) (y.category == category.OT_Ra) e))
     by_form false e = by_vowel (is_vowel x) ∙ ap (λ b. reach n (if is_vowel x && b then record { passed = i; taken = 1 } ∷ rest else rest)) (sym later)
 
@@ -163,8 +163,8 @@ reach_at forms (g ∷ gs) i n some lt =
     let tail : drop 1 zs ≡ drop (i + 1) (strip hs) = ap (drop 1) split ∙ sym (drop-map item_of (i + 1) hs) in
     let long : 0 < length zs = let size = ap (λ (ys : List Item). length ys) split in omega (arith, size) in
     let same : zs ≡ drop i (strip hs) = sym (drop-map item_of i hs) in
-    ap (λ ys. reach (if nat_lt 0 (front_count forms zs) then i + front_count forms zs else n) (front_moves (together forms) is_vowel (i + 1) ys)) (sym tail)
-    ∙ reach_first forms zs i n some long ∙ ap (λ ys. reach n (front_moves (together forms) is_vowel i ys)) same
+    ap (λ ys. reach (if nat_lt 0 (front_count forms zs) then i + front_count forms zs else n) (moves_to_front (together forms) is_vowel (i + 1) ys)) (sym tail)
+    ∙ reach_first forms zs i n some long ∙ ap (λ ys. reach n (moves_to_front (together forms) is_vowel i ys)) same
 
 pub none_taken : (forms : Bool) (gs : List hb_glyph_info_t) (i n t : ℕ) → 0 < i → i < length gs → t ≡ front_count forms (strip (drop i gs)) → t ≡ 0 → reach n (moves_from forms (i + 1) (strip gs)) ≡ reach n (moves_from forms i (strip gs))
 none_taken forms gs i n t some lt e none = ap (λ k. reach (if nat_lt 0 k then i + k else n) (moves_from forms (i + 1) (strip gs))) (sym none ∙ e) ∙ reach_at forms gs i n some lt
@@ -175,7 +175,7 @@ some_taken forms gs i n t some lt e more =
     ap (λ b. reach (if b then i + t else n) (moves_from forms (i + 1) (strip gs))) (sym test) ∙ ap (λ k. reach (if nat_lt 0 k then i + k else n) (moves_from forms (i + 1) (strip gs))) e ∙ reach_at forms gs i n some lt
 
 pub all_seen : (forms : Bool) (gs : List hb_glyph_info_t) (i n : ℕ) → length gs ≤ i → reach n (moves_from forms i (strip gs)) ≡ n
-all_seen forms gs i n le = let long = length-map gs item_of in ap (λ ys. reach n (front_moves (together forms) is_vowel i ys)) (drop_all i (strip gs) (omega (arith, long, le)))
+all_seen forms gs i n le = let long = length-map gs item_of in ap (λ ys. reach n (moves_to_front (together forms) is_vowel i ys)) (drop_all i (strip gs) (omega (arith, long, le)))
 
 -- ---- masks of forms
 

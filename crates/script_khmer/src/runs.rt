@@ -4,7 +4,7 @@ ghost use Rattle.buffer_glyphs.specs.Items.{item_of, strip};
 ghost use Rattle.buffer_core.specs.Sides.{all_glyphs, items_of};
 ghost use Rattle.buffer_stages.specs.Ready.{IsReady};
 ghost use Rattle.buffer_stages.specs.Moves.{reach};
-ghost use Rattle.buffer_stages.specs.Fronts.{front_moves, pair_seen};
+ghost use Rattle.buffer_stages.specs.Fronts.{moves_to_front, pair_seen};
 ghost use Rattle.buffer_glyphs.specs.Rewriting.{eventless_arrangement};
 ghost use Rattle.buffer_stages.specs.Parts.{fronts_moved, glyph_masked, item_with_features};
 ghost use Rattle.buffer_stages.specs.SyllableBuffers.{IsRewritten};
@@ -189,7 +189,7 @@ pub(crate) fn move_run(
 fn merged_length(glyphs: &[hb_glyph_info_t], index: usize, forms: bool) -> usize
     requires some { 0 < index }
     requires inside { index ≤ length glyphs.now }
-    ensures reach { result ≡ reach 1 (front_moves (together forms) is_vowel index (drop index (strip glyphs.now))) }
+    ensures reach { result ≡ reach 1 (moves_to_front (together forms) is_vowel index (drop index (strip glyphs.now))) }
     ensures within { result ≤ length glyphs.now }
 {
     let mut merged = 1;
@@ -204,8 +204,8 @@ fn merged_at(glyphs: &[hb_glyph_info_t], i: usize, forms: bool, merged: usize) -
     requires some { 0 < i }
     requires there { i < length glyphs.now }
     requires inside { merged ≤ length glyphs.now }
-    ensures reach { reach result (front_moves (together forms) is_vowel (i + 1) (drop (i + 1) (strip glyphs.now)))
-        ≡ reach merged (front_moves (together forms) is_vowel i (drop i (strip glyphs.now))) }
+    ensures reach { reach result (moves_to_front (together forms) is_vowel (i + 1) (drop (i + 1) (strip glyphs.now)))
+        ≡ reach merged (moves_to_front (together forms) is_vowel i (drop i (strip glyphs.now))) }
     ensures within { result ≤ length glyphs.now }
 {
     let count = front_count(glyphs, i, forms);

@@ -1,4 +1,7 @@
 //! The feature requests of the Myanmar shaper (rustybuzz: hb/ot_shaper_myanmar.rs).
+//!
+//! A list of requests is data, in the order in which rustybuzz requests them; those of other shapers have the same
+//! form.
 ghost use Rattle.std.specs.Prelude.{◌≡◌, fold, OnOk};
 ghost use Rattle.layout_map.specs.Requests.{with_map_request};
 ghost use Rattle.script_myanmar.specs.Requests.{myanmar_features};

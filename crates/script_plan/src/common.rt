@@ -1,4 +1,7 @@
 //! The feature requests of every text (rustybuzz: hb/ot_shape.rs).
+//!
+//! A list of requests is data, in the order in which rustybuzz requests them; those of other shapers have the same
+//! form.
 ghost use Rattle.std.specs.Prelude.{◌≡◌, fold, OnOk};
 ghost use Rattle.layout_map.specs.Requests.{with_map_request};
 ghost use Rattle.script_plan.specs.Common.{common_features_after, first_requests, of_line, of_side};

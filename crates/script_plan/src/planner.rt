@@ -1,4 +1,6 @@
 //! The planner, hb_ot_shape_planner_t (rustybuzz: hb/ot_shape.rs).
+//!
+//! `new` and `with_shaper` have the same clauses, but for the shaper, which `new` chooses.
 ghost use Rattle.std.specs.Prelude.{◌≡◌, ◌&&◌, IfOk, codes, is_some};
 ghost use Rattle.std.specs.Option.{option_copied};
 ghost use Rattle.buffer_common.specs.ScriptTags.{wanted_language_tags};

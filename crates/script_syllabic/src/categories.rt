@@ -1,5 +1,8 @@
 //! The categories of a text's characters for the Khmer and Myanmar shapers (rustybuzz: hb/ot_shaper_khmer.rs and
 //! hb/ot_shaper_myanmar.rs, setup_masks).
+//!
+//! A stage that changes each glyph by itself is a call, its walk by `map_glyphs`, and the rule for one glyph; all such
+//! stages have this form.
 ghost use Rattle.std.specs.Prelude.{◌≡◌};
 ghost use Rattle.buffer_glyphs.specs.Items.{item_of};
 ghost use Rattle.buffer_glyphs.specs.Origins.{origin_of};

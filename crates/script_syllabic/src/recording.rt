@@ -1,5 +1,7 @@
 //! Records which glyphs the features rphf and pref formed, record_rphf and record_pref (rustybuzz:
 //! hb/ot_shaper_use.rs).
+//!
+//! A rule on syllables is a type with the trait `SyllableRule`; all its impls have this form.
 ghost use Rattle.std.specs.Prelude.{◌≡◌, ◌≤◌, ◌++◌, length, take, drop, slice_range, OnOk};
 ghost use Rattle.buffer_glyphs.specs.Items.{item_of};
 ghost use Rattle.buffer_core.specs.Readings.{always};

@@ -1,4 +1,6 @@
 //! The rphf mask of a syllable's first glyphs, setup_rphf_mask (rustybuzz: hb/ot_shaper_use.rs).
+//!
+//! A rule on syllables is a type with the trait `SyllableRule`; all its impls have this form.
 ghost use Rattle.std.specs.Prelude.{◌≡◌, ◌≤◌, length, OnOk};
 ghost use Rattle.buffer_glyphs.specs.Items.{strip};
 ghost use Rattle.buffer_core.specs.Readings.{always};

@@ -12,8 +12,8 @@ use Rattle.buffer_glyphs.specs.Levels.{InList}
 use Rattle.buffer_glyphs.specs.Events.{Event, Move}
 use Rattle.buffer_core.specs.Sides.{Sides, all_glyphs, items_of}
 use Rattle.buffer_stages.specs.Ready.{IsReady}
-use Rattle.buffer_stages.specs.Moves.{FrontMove, all_moved, move_events, with_range_moved, order_of_move, reach}
-use Rattle.buffer_stages.specs.Fronts.{front_moves, with_fronts_moved_after}
+use Rattle.buffer_stages.specs.Moves.{MoveToFront, all_moved, move_events, with_range_moved, order_of_move, reach}
+use Rattle.buffer_stages.specs.Fronts.{moves_to_front, with_fronts_moved_after}
 use Rattle.buffer_stages.specs.Lemmas.Fronted.{gathered_after_length, moved_one, moves_alone, moves_grow, reach_fits}
 use Rattle.buffer_stages.specs.Lemmas.Nested.{reach_grows}
 use Rattle.buffer_glyphs.specs.Rewriting.{Arrangement, eventless_arrangement, shifted_event, and_arranged}
@@ -73,7 +73,7 @@ move_within b n xs fits =
 -- a walk over items of which none is a halant: the moves of its left vowels
 walk_range : (zs : List Item) (m b i : ℕ) (pre front post : List Item) → length pre ≡ b → i ≡ b + length front → NoHalants zs
     → left_walk (length zs + m) i b (pre ++ (front ++ (zs ++ post)))
-    ≡ and_arranged (record { items = all_moved b (front_moves together is_left (length front) zs) (pre ++ (front ++ (zs ++ post))); events = move_events b (front_moves together is_left (length front) zs) }) (left_walk m (i + length zs) b)
+    ≡ and_arranged (record { items = all_moved b (moves_to_front together is_left (length front) zs) (pre ++ (front ++ (zs ++ post))); events = move_events b (moves_to_front together is_left (length front) zs) }) (left_walk m (i + length zs) b)
 walk_range [] m b i pre front post at here h =
     let none : 0 + m ≡ m = omega arith in
     let same : i + 0 ≡ i = omega arith in
@@ -85,24 +85,24 @@ walk_range (x ∷ zs) m b i pre front post at here h =
     let got = got_at pre front x (zs ++ post) i (here ∙ ap (λ k. k + n) (sym at)) in
     let step = at_index i b xs x got h.0 in
     let test : nat_lt b i ≡ nat_lt 0 n = ap (nat_lt b) here ∙ (grind (arith, nat_tests, common_steps)) in
-    let ms = front_moves together is_left n (x ∷ zs) in
+    let ms = moves_to_front together is_left n (x ∷ zs) in
     let split = moves_alone is_left n x zs in
     let size : b + (n + 1) ≤ length xs = omega (arith, at, length-append pre (front ++ (x ∷ (zs ++ post))), length-append front (x ∷ (zs ++ post))) in
     ap (λ k. left_walk k i b xs) more
     ∙ ap (λ (s : Step). and_arranged s.rewritten (left_walk (length zs + m) (i + 1) s.after_halant)) (step ∙ ap (λ t. step_if (is_left x && t) i b xs) test)
     ∙ by_test (is_left x && nat_lt 0 n) size (walk_range zs m b (i + 1) pre (x ∷ front) post at (omega (arith, here)) h.1) (walk_range zs m b (i + 1) pre (front ++ x ∷ []) post at (omega (arith, here, length-append front (x ∷ []))) h.1)
-    ∙ ap (λ (ns : List FrontMove). and_arranged (record { items = all_moved b ns xs; events = move_events b ns }) (left_walk m (i + suc (length zs)) b)) (sym split)
+    ∙ ap (λ (ns : List MoveToFront). and_arranged (record { items = all_moved b ns xs; events = move_events b ns }) (left_walk m (i + suc (length zs)) b)) (sym split)
   where
     rest_of : ℕ → List Item → Arrangement
-    rest_of k ys = and_arranged (record { items = all_moved b (front_moves together is_left k zs) ys; events = move_events b (front_moves together is_left k zs) }) (left_walk m (i + 1 + length zs) b)
+    rest_of k ys = and_arranged (record { items = all_moved b (moves_to_front together is_left k zs) ys; events = move_events b (moves_to_front together is_left k zs) }) (left_walk m (i + 1 + length zs) b)
 
     by_test : (t : Bool) → b + (length front + 1) ≤ length (pre ++ (front ++ (x ∷ (zs ++ post))))
         → left_walk (length zs + m) (i + 1) b (pre ++ ((x ∷ front) ++ (zs ++ post))) ≡ rest_of (suc (length front)) (pre ++ ((x ∷ front) ++ (zs ++ post)))
         → left_walk (length zs + m) (i + 1) b (pre ++ ((front ++ x ∷ []) ++ (zs ++ post))) ≡ rest_of (length (front ++ x ∷ [])) (pre ++ ((front ++ x ∷ []) ++ (zs ++ post)))
         → and_arranged (step_if t i b (pre ++ (front ++ (x ∷ (zs ++ post))))).rewritten (left_walk (length zs + m) (i + 1) (step_if t i b (pre ++ (front ++ (x ∷ (zs ++ post))))).after_halant)
         ≡ and_arranged (record {
-          items = all_moved b (if t then record { passed = length front; taken = 1 } ∷ front_moves together is_left (length front + 1) zs else front_moves together is_left (length front + 1) zs) (pre ++ (front ++ (x ∷ (zs ++ post))));
-          events = move_events b (if t then record { passed = length front; taken = 1 } ∷ front_moves together is_left (length front + 1) zs else front_moves together is_left (length front + 1) zs);
+          items = all_moved b (if t then record { passed = length front; taken = 1 } ∷ moves_to_front together is_left (length front + 1) zs else moves_to_front together is_left (length front + 1) zs) (pre ++ (front ++ (x ∷ (zs ++ post))));
+          events = move_events b (if t then record { passed = length front; taken = 1 } ∷ moves_to_front together is_left (length front + 1) zs else moves_to_front together is_left (length front + 1) zs);
         }) (left_walk m (i + suc (length zs)) b)
     by_test true size first later =
         let xs = pre ++ (front ++ (x ∷ (zs ++ post))) in
@@ -117,13 +117,13 @@ walk_range (x ∷ zs) m b i pre front post at here h =
         ap (left_walk (length zs + m) (i + 1) b) turned ∙ first ∙ ap (λ k. rest_of k (pre ++ ((x ∷ front) ++ (zs ++ post)))) one ∙ ap (rest_of (n + 1)) (sym turned) in
         ap (λ r. and_arranged r (left_walk (length zs + m) (i + 1) b)) moves
         ∙ ap (λ (r : Arrangement). record { items = r.items; events = e ∷ r.events }) then_all
-        ∙ ap (λ k. and_arranged (record { items = all_moved b (record { passed = n; taken = 1 } ∷ front_moves together is_left (n + 1) zs) xs; events = move_events b (record { passed = n; taken = 1 } ∷ front_moves together is_left (n + 1) zs) }) (left_walk m k b)) last
+        ∙ ap (λ k. and_arranged (record { items = all_moved b (record { passed = n; taken = 1 } ∷ moves_to_front together is_left (n + 1) zs) xs; events = move_events b (record { passed = n; taken = 1 } ∷ moves_to_front together is_left (n + 1) zs) }) (left_walk m k b)) last
     by_test false size first later =
         let xs = pre ++ (front ++ (x ∷ (zs ++ post))) in
         let whole : pre ++ ((front ++ x ∷ []) ++ (zs ++ post)) ≡ xs = ap (λ ys. pre ++ ys) (append_assoc front (x ∷ []) (zs ++ post)) in
         let last : i + 1 + length zs ≡ i + suc (length zs) = omega arith in
         ap (left_walk (length zs + m) (i + 1) b) (sym whole) ∙ later ∙ ap (λ k. rest_of k (pre ++ ((front ++ x ∷ []) ++ (zs ++ post)))) (length-append front (x ∷ [])) ∙ ap (rest_of (length front + 1)) whole
-        ∙ ap (λ k. and_arranged (record { items = all_moved b (front_moves together is_left (length front + 1) zs) xs; events = move_events b (front_moves together is_left (length front + 1) zs) }) (left_walk m k b)) last
+        ∙ ap (λ k. and_arranged (record { items = all_moved b (moves_to_front together is_left (length front + 1) zs) xs; events = move_events b (moves_to_front together is_left (length front + 1) zs) }) (left_walk m k b)) last
 
 -- ---- up to the next halant
 
@@ -165,11 +165,11 @@ part_from start end i gs le =
 -- ---- a range that was rewritten
 
 abbrev range_done : ℕ → ℕ → List Item → Arrangement
-range_done i to xs = record { items = all_moved i (front_moves together is_left 0 (slice_range xs i to)) xs; events = move_events i (front_moves together is_left 0 (slice_range xs i to)) }
+range_done i to xs = record { items = all_moved i (moves_to_front together is_left 0 (slice_range xs i to)) xs; events = move_events i (moves_to_front together is_left 0 (slice_range xs i to)) }
 
 part_is : (i to : ℕ) (xs : List Item) → i ≤ to → to ≤ length xs → within i to (fronts_moved together is_left 0) xs ≡ range_done i to xs
 part_is i to xs le fits =
-    let ms = front_moves together is_left 0 (slice_range xs i to) in
+    let ms = moves_to_front together is_left 0 (slice_range xs i to) in
     let none : i + 0 ≡ i = omega arith in
     ap (λ es. record { items = take i xs ++ with_fronts_moved_after together is_left 0 (slice_range xs i to) ++ drop to xs; events = es }) (shift_moves i 0 ms ∙ ap (λ k. move_events k ms) none)
     ∙ ap (λ ys. record { items = ys; events = move_events i ms }) (part_moves together is_left i to 0 xs (omega (arith, le)) fits)
@@ -191,7 +191,7 @@ walk_is n i count xs le size none =
     let free : NoHalants zs = subst (λ k. NoHalants (take k (drop i xs))) (sym c) none in
     let walk = walk_range zs (n - to) i i pre [] post a (let same : i ≡ i + 0 = omega arith in same) free in
     ap (λ k. left_walk k i i xs) total
-    ∙ subst (λ ys. left_walk (length zs + (n - to)) i i ys ≡ and_arranged (record { items = all_moved i (front_moves together is_left 0 zs) ys; events = move_events i (front_moves together is_left 0 zs) }) (left_walk (n - to) (i + length zs) i)) whole walk
+    ∙ subst (λ ys. left_walk (length zs + (n - to)) i i ys ≡ and_arranged (record { items = all_moved i (moves_to_front together is_left 0 zs) ys; events = move_events i (moves_to_front together is_left 0 zs) }) (left_walk (n - to) (i + length zs) i)) whole walk
     ∙ ap (λ k. and_arranged (range_done i to xs) (left_walk (n - to) (i + k) i)) long
 
 pub record IsLeftRange (start end i count : ℕ) (a b : Sides) : Type 0 where
@@ -305,14 +305,14 @@ all_walked start end j a b le past f =
 -- ---- the last left vowel of a range
 
 abbrev pub left_reach : ℕ → ℕ → List hb_glyph_info_t → ℕ
-left_reach n i gs = reach n (front_moves together is_left i (strip (drop i gs)))
+left_reach n i gs = reach n (moves_to_front together is_left i (strip (drop i gs)))
 
 left_step : (gs : List hb_glyph_info_t) (i n : ℕ) (g : hb_glyph_info_t) (t : Bool) → slice_get gs i ≡ Some g → (is_left (item_of g) && nat_lt 0 i) ≡ t → left_reach n i gs ≡ left_reach (if t then i + 1 else n) (i + 1) gs
 left_step gs i n g t at e =
-    ap (λ hs. reach n (front_moves together is_left i (strip hs))) (split_at gs i g at) ∙ ap (reach n) (moves_alone is_left i (item_of g) (strip (drop (i + 1) gs))) ∙ ap (λ b. reach n (if b then record { passed = i; taken = 1 } ∷ rest else rest)) e ∙ by_test t
+    ap (λ hs. reach n (moves_to_front together is_left i (strip hs))) (split_at gs i g at) ∙ ap (reach n) (moves_alone is_left i (item_of g) (strip (drop (i + 1) gs))) ∙ ap (λ b. reach n (if b then record { passed = i; taken = 1 } ∷ rest else rest)) e ∙ by_test t
   where
-    rest : List FrontMove
-    rest = front_moves together is_left (i + 1) (strip (drop (i + 1) gs))
+    rest : List MoveToFront
+    rest = moves_to_front together is_left (i + 1) (strip (drop (i + 1) gs))
 
     by_test : (b : Bool) → reach n (if b then record { passed = i; taken = 1 } ∷ rest else rest) ≡ reach (if b then i + 1 else n) rest
     by_test true = refl
@@ -331,7 +331,7 @@ pub other_kept : (gs : List hb_glyph_info_t) (i n next m : ℕ) (d : hb_glyph_in
 other_kept gs i n next m d t lt is off e h = ap (λ k. left_reach k (i + 1) gs) e ∙ other_next gs i n m (get_or gs i d) (slice_get-get_or gs i d lt) (sym is ∙ off) h
 
 pub left_all : (gs : List hb_glyph_info_t) (i n m : ℕ) → length gs ≤ i → left_reach n i gs ≡ m → n ≡ m
-left_all gs i n m le h = sym (ap (λ hs. reach n (front_moves together is_left i (strip hs))) (past gs i le)) ∙ h
+left_all gs i n m le h = sym (ap (λ hs. reach n (moves_to_front together is_left i (strip hs))) (past gs i le)) ∙ h
   where
     past : (hs : List hb_glyph_info_t) (j : ℕ) → length hs ≤ j → drop j hs ≡ []
     past [] zero lt = refl
@@ -342,29 +342,29 @@ left_all gs i n m le h = sym (ap (λ hs. reach n (front_moves together is_left i
 pub left_fits : (gs : List hb_glyph_info_t) (n : ℕ) → n ≡ left_reach 1 0 gs → 1 < n → n ≤ length gs
 left_fits gs n e lt = by_size (strip gs) (length-map gs item_of) e
   where
-    by_size : (xs : List Item) → length xs ≡ length gs → n ≡ reach 1 (front_moves together is_left 0 xs) → n ≤ length gs
+    by_size : (xs : List Item) → length xs ≡ length gs → n ≡ reach 1 (moves_to_front together is_left 0 xs) → n ≤ length gs
     by_size [] len f = absurd (omega (arith, f, lt))
     by_size (x ∷ xs) len f = let le = reach_fits together is_left 1 0 (x ∷ xs) (omega arith) in omega (arith, len, f, le)
 
 -- no left vowel moves
-no_moves : (xs : List Item) → reach 1 (front_moves together is_left 0 xs) < 2 → front_moves together is_left 0 xs ≡ []
+no_moves : (xs : List Item) → reach 1 (moves_to_front together is_left 0 xs) < 2 → moves_to_front together is_left 0 xs ≡ []
 no_moves [] lt = refl
-no_moves (x ∷ xs) lt = by_moves (front_moves together is_left 0 (x ∷ xs)) grows lt
+no_moves (x ∷ xs) lt = by_moves (moves_to_front together is_left 0 (x ∷ xs)) grows lt
   where
-    grows : IsGrowing 2 (front_moves together is_left 0 (x ∷ xs))
+    grows : IsGrowing 2 (moves_to_front together is_left 0 (x ∷ xs))
     grows = subst (IsGrowing 2) (sym (moves_alone is_left 0 x xs ∙ by_left (is_left x))) (moves_grow together is_left 2 1 xs (omega arith))
       where
-        by_left : (t : Bool) → (if t && nat_lt 0 0 then record { passed = 0; taken = 1 } ∷ front_moves together is_left (0 + 1) xs else front_moves together is_left (0 + 1) xs) ≡ front_moves together is_left 1 xs
+        by_left : (t : Bool) → (if t && nat_lt 0 0 then record { passed = 0; taken = 1 } ∷ moves_to_front together is_left (0 + 1) xs else moves_to_front together is_left (0 + 1) xs) ≡ moves_to_front together is_left 1 xs
         by_left true = refl
         by_left false = refl
 
-    by_moves : (ms : List FrontMove) → IsGrowing 2 ms → reach 1 ms < 2 → ms ≡ []
+    by_moves : (ms : List MoveToFront) → IsGrowing 2 ms → reach 1 ms < 2 → ms ≡ []
     by_moves [] g less = refl
     by_moves (m ∷ ms) g less = let up = reach_grows (m.passed + m.taken) ms g.1 in let first = g.0 in absurd (omega (arith, up, first, less))
 
-pub reach_is : (start end n : ℕ) (gs hs : List hb_glyph_info_t) → gs ≡ hs → n ≡ left_reach 1 0 (slice_range gs start end) → n ≡ reach 1 (front_moves together is_left 0 (slice_range (strip hs) start end))
+pub reach_is : (start end n : ℕ) (gs hs : List hb_glyph_info_t) → gs ≡ hs → n ≡ left_reach 1 0 (slice_range gs start end) → n ≡ reach 1 (moves_to_front together is_left 0 (slice_range (strip hs) start end))
 reach_is start end n gs hs same e =
-    e ∙ ap (λ ks. left_reach 1 0 (slice_range ks start end)) same ∙ ap (λ xs. reach 1 (front_moves together is_left 0 xs)) (range_seen item_of start end hs)
+    e ∙ ap (λ ks. left_reach 1 0 (slice_range ks start end)) same ∙ ap (λ xs. reach 1 (moves_to_front together is_left 0 xs)) (range_seen item_of start end hs)
 
 pub range_stays : (start end n : ℕ) (gs : List hb_glyph_info_t) (a : Sides) → IsReady a → start ≤ end → end ≤ length (all_glyphs a) → gs ≡ all_glyphs a → n ≡ left_reach 1 0 (slice_range gs start end) → n < 2
     → IsRewritten (fronts_moved together is_left 0 (slice_range (items_of a) start end)) start end a a

@@ -1,4 +1,7 @@
 //! The categories of a text's characters for the universal shaper (rustybuzz: hb/ot_shaper_use.rs, setup_masks).
+//!
+//! A stage that changes each glyph by itself is a call, its walk by `map_glyphs`, and the rule for one glyph; all such
+//! stages have this form.
 ghost use Rattle.std.specs.Prelude.{◌≡◌};
 ghost use Rattle.buffer_glyphs.specs.Items.{item_of};
 ghost use Rattle.buffer_glyphs.specs.Origins.{origin_of};

@@ -1,4 +1,6 @@
 //! Moves a syllable's reph and its left vowels, reorder_syllable (rustybuzz: hb/ot_shaper_use.rs).
+//!
+//! A rule on syllables is a type with the trait `SyllableRule`; all its impls have this form.
 ghost use Rattle.std.specs.Prelude.{◌≡◌, ◌≤◌, ◌<◌, ◌+◌, ◌-◌, length, nat_lt, not, ◌&&◌, slice_get, slice_range, false, true, OnOk, Some};
 ghost use Rattle.std.specs.List.{prefix_len};
 ghost use Rattle.buffer_glyphs.specs.Items.{item_of, strip};
@@ -9,7 +11,7 @@ ghost use Rattle.buffer_stages.specs.Stages.{IsFollowed};
 ghost use Rattle.buffer_stages.specs.Rewriting.{by_syllable};
 ghost use Rattle.buffer_stages.specs.SyllableBuffers.{IsRewritten, with_rule};
 ghost use Rattle.buffer_stages.specs.Moves.{reach};
-ghost use Rattle.buffer_stages.specs.Fronts.{front_moves};
+ghost use Rattle.buffer_stages.specs.Fronts.{moves_to_front};
 ghost use Rattle.buffer_stages.specs.Parts.{fronts_moved};
 ghost use Rattle.script_universal.specs.Walked.{IsWalked, together};
 ghost use Rattle.script_universal.specs.Reordering.{begins_with_reph, is_halant, is_left, left_walk, reph_end, reph_moved, stops_reph, universal_reordered, universal_syllable};
@@ -194,7 +196,7 @@ fn move_range(buffer: &mut hb_buffer_t, start: usize, end: usize)
 /// The number of glyphs up to the last left vowel that moves, or 1.
 #[tactic(auto, using(crate::proofs::LeftRanges::left_next, crate::proofs::LeftRanges::other_next, crate::proofs::LeftRanges::left_all, crate::proofs::LeftRanges::left_fits))]
 fn end_of_left(glyphs: &[hb_glyph_info_t]) -> usize
-    ensures reach { result ≡ reach 1 (front_moves together is_left 0 (strip glyphs.now)) }
+    ensures reach { result ≡ reach 1 (moves_to_front together is_left 0 (strip glyphs.now)) }
     ensures within { 1 < result → result ≤ length glyphs.now }
 {
     let mut end = 1;

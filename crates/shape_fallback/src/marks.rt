@@ -1,4 +1,6 @@
 //! Positions each mark of a text around the base before it (rustybuzz: hb/ot_shape_fallback.rs).
+//!
+//! Functions repeat clauses: each requires what the one that it calls requires.
 ghost use Rattle.std.specs.Prelude.{◌≡◌, ◌≤◌, ◌<◌, ◌+◌, length, drop, [], ◌∷◌};
 ghost use Rattle.std.specs.List.{list_any};
 ghost use Rattle.buffer_properties.specs.Characters.{is_mark};

@@ -1,4 +1,7 @@
 //! The widths of spaces that the font lacks (rustybuzz: hb/ot_shape_fallback.rs).
+//!
+//! A stage on positions is a call, its walk by `map_positions`, and the rule for one glyph; all such stages have this
+//! form.
 ghost use Rattle.std.specs.Prelude.{◌≡◌, ◌<◌, ◌+◌, ◌*◌, ◌/◌, ◌^◌, true};
 ghost use Rattle.buffer_glyphs.specs.Items.{item_of};
 ghost use Rattle.buffer_core.specs.Readings.{always};

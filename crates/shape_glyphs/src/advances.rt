@@ -1,4 +1,7 @@
 //! The default advances and origins of glyphs, position_default (rustybuzz: hb/ot_shape.rs).
+//!
+//! A stage on positions is a call, its walk by `map_positions`, and the rule for one glyph; all such stages have this
+//! form.
 ghost use Rattle.std.specs.Prelude.{◌≡◌};
 ghost use Rattle.shape_glyphs.specs.Advances.{default_position, on_horizontal_line, on_line, on_vertical_line, with_default_positions};
 ghost use Rattle.buffer_glyphs.specs.Items.{item_of};

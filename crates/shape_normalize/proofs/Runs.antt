@@ -16,7 +16,7 @@ use Rattle.buffer_core.specs.Sides.{Sides, all_glyphs, items_of, origins_of, ori
 use Rattle.buffer_core.specs.Sorting.{with_spanned}
 use Rattle.buffer_core.proofs.Told.{stage_flags_ignore_glyph_flags}
 use Rattle.buffer_stages.specs.Ready.{IsReady}
-use Rattle.buffer_stable_order.specs.Keys.{key_order}
+use Rattle.buffer_rows.specs.KeyOrder.{key_order}
 use Rattle.buffer_unicode_tables.specs.ClassOrder.{run_order}
 use Rattle.buffer_glyphs.specs.Rewriting.{Arrangement, beside, in_turn, eventless_arrangement, shifted_event}
 use Rattle.buffer_properties.specs.Characters.{mark_class}

@@ -5,7 +5,7 @@ use Rattle.std.specs.List.{range_with_len}
 use Rattle.std.proofs.lemmas.Bool.{cases_Bool, cond-true, cond-false}
 use Rattle.std.proofs.lemmas.List.{map-append, length-append}
 use Rattle.buffer_lists.specs.Events.{order_of}
-use Rattle.buffer_stable_order.specs.Keys.{of_key, by_key, key_bound, key_order}
+use Rattle.buffer_rows.specs.KeyOrder.{of_key, by_key, key_bound, key_order}
 use Rattle.buffer_unicode_tables.specs.ClassOrder.{run_order}
 use Rattle.buffer_properties.specs.Ordering.{IndexedClass, indexed_classes_from, sorted_order}
 

@@ -1,5 +1,7 @@
 //! The first round: decomposes characters, and combines variation selectors with the character before them
 //! (rustybuzz: hb/ot_shape_normalize.rs).
+//!
+//! Functions repeat clauses: each requires what the one that it calls requires.
 ghost use Rattle.std.specs.Prelude.{◌≡◌, ◌<◌, ◌≤◌, ◌+◌, ◌++◌, ◌∷◌, [], List, length, map, take, true, Some, IfOk, IfErr, OnOk};
 ghost use Rattle.std.specs.List.{list_any};
 ghost use Rattle.buffer_glyphs.specs.Items.{Item, strip};

@@ -7,7 +7,7 @@ ghost use Rattle.buffer_lists.specs.Events.{order_of};
 ghost use Rattle.buffer_core.specs.Sides.{all_glyphs, items_of, origins_by, origins_of};
 ghost use Rattle.buffer_core.specs.Sorting.{with_range_sorted};
 ghost use Rattle.buffer_stages.specs.Ready.{IsReady};
-ghost use Rattle.buffer_stable_order.specs.Keys.{key_order};
+ghost use Rattle.buffer_rows.specs.KeyOrder.{key_order};
 ghost use Rattle.buffer_properties.specs.Characters.{mark_class};
 ghost use Rattle.buffer_properties.specs.Ordering.{arranged_run, ordered_list};
 ghost use Rattle.buffer_stages.specs.Rearranged.{IsRearranged, Rearranges};

@@ -3,7 +3,7 @@ use Rattle.std.proofs.Common.{ℕ, ◌≡◌, true, List, [], ◌∷◌, Err, ma
 use Rattle.std.proofs.lemmas.List.{length-map}
 use Rattle.buffer_glyphs.specs.declared.cause.ShapeCause.{ShapeCause}
 use Rattle.buffer_glyphs.specs.Items.{Item, item_masked, item_of}
-use Rattle.buffer_core.specs.Readings.{BufferState, Stage, always, reading_of}
+use Rattle.buffer_core.specs.Readings.{BufferState, Follows, Stage, always, reading_of}
 use Rattle.buffer_core.specs.Steps.{follows_events}
 use Rattle.buffer_core.specs.Sides.{Sides, all_glyphs, items_of, state_of, settings_of, view_of}
 use Rattle.buffer_core.specs.Settings.{after_enter, length_limit, steps_limit}
@@ -19,7 +19,7 @@ use Rattle.shape_pipeline.specs.Limits.{initial_view}
 use Rattle.shape_pipeline.specs.Characters.{text_begun}
 use Rattle.shape_pipeline.specs.Shaping.{Shaping}
 use Rattle.shape_pipeline.proofs.Lemmas.Chains.{done_followed, fourth_refused, six_followed}
-use Rattle.shape_pipeline.proofs.Sets.{circle_as_set, circle_refused_as_set, followed_as_set}
+use Rattle.shape_pipeline.proofs.Sets.{circle_as_set, circle_refused_as_set, followed_as_set, refused_as_set, set_as}
 
 pub entered_ready : (s : Sides) → IsReady s → IsReady (after_enter s)
 entered_ready s ready = record { closed = ready.closed; front = ready.front; unread = ready.unread; placed = ready.placed; unrefused = ready.unrefused }
@@ -64,3 +64,16 @@ text_begun_refused p m s b c cause set mask ready masked properties e =
     fourth_refused (always initial_view) (always (with_one_mask p.map.global_mask)) (always (with_properties p.tables)) (first_circle p.tables p.font p.settings.flags p.settings.pre_context)
     (always with_clusters ∷ always (native_order p.settings.script) ∷ []) s (after_enter s) b c cause (entered_followed s ready) (subst M mask (done_followed (always (with_one_mask m)) (after_enter s) b masked)) properties
     (circle_refused_as_set p s c cause set upto_c e)
+
+-- ---- with the cursor in front first, which no stage sees
+
+pub rewound_begun : (p : Shaping) (s t new : Sides) → p.settings ≡ text_settings s → state_of t ≡ state_of s → settings_of t ≡ settings_of s → IsFollowed (text_begun (set_as t p)) t new → IsFollowed (text_begun p) s new
+rewound_begun p s t new set same settings f =
+    let P : BufferState → Type 0 = λ r. Follows (reading_of (text_begun p) r) r (state_of new) in
+    let begun = followed_as_set text_begun p s t new set settings f in
+    record { follows = subst P same begun.follows; settings = begun.settings ∙ settings; ready = begun.ready }
+
+pub rewound_begun_refused : (p : Shaping) (s t : Sides) (cause : ShapeCause) → p.settings ≡ text_settings s → state_of t ≡ state_of s → settings_of t ≡ settings_of s → reading_of (text_begun (set_as t p)) (state_of t) ≡ Err cause → reading_of (text_begun p) (state_of s) ≡ Err cause
+rewound_begun_refused p s t cause set same settings e =
+    let P : BufferState → Type 0 = λ r. reading_of (text_begun p) r ≡ Err cause in
+    subst P same (refused_as_set text_begun p s t cause set settings e)

@@ -2,22 +2,15 @@
 //! pipeline stages in order with those of the plan's shaper; and `shape` with the shapers of this stack.
 #![tactic(auto)]
 
-mod characters;
 pub mod context;
-mod endings;
 pub mod fallback;
-mod glyphs;
 pub mod hb;
 pub mod laws;
-mod masks;
 pub mod normalize_context;
 mod normalizing;
-mod pausing;
-mod positioning;
 pub mod reading_laws;
 mod shape_stages;
 pub mod shaping;
-mod stages;
 
 pub use buffer_common::language::Language;
 pub use buffer_common::language_tags::LanguageTags;

@@ -235,7 +235,10 @@ pub fn shape<P: SyllableSpans, L: LanguageTags>(
         spans: shape_data.spans,
         alloc,
     };
-    shape_guessed(&stages, buffer)
+    match stages.shape_internal(&mut buffer) {
+        Ok(()) => Ok(GlyphBuffer::from_buffer(buffer)),
+        Err(cause) => Err(fault(cause, buffer)),
+    }
 }
 
 /// What `shape` leaves of a text's budget of nested lookups before it resets it: more than 0 where the reading had as many as

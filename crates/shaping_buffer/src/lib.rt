@@ -26,7 +26,6 @@ pub use buffer_glyphs::level::{
 };
 pub use buffer_glyphs::names::{GlyphId, GlyphNames, hb_glyph_extents_t};
 pub use buffer_glyphs::position::GlyphPosition;
-pub use buffer_serialize::serialize;
 pub use buffer_tags::feature::{
     Feature, HB_FEATURE_GLOBAL_END, HB_FEATURE_GLOBAL_START, InvalidFeature,
 };
@@ -40,4 +39,5 @@ pub use buffer_unicode_tables::{
     LawFault, TablesFault, UnicodeTables, compose, compose_hangul, decompose, decompose_hangul,
 };
 pub use buffer_wrappers::glyphs::GlyphBuffer;
+pub use buffer_wrappers::serialize;
 pub use buffer_wrappers::unicode_buffer::UnicodeBuffer;

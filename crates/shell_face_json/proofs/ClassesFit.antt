@@ -9,8 +9,8 @@ use Rattle.serde_json.specs.Find.{as_array, as_object, at, get}
 use Rattle.shell_json.specs.declared.fault.JsonFault.{JsonFault}
 use Rattle.shell_json.specs.declared.fault.JsonFault.TheVariants.{WrongShape}
 use Rattle.shell_json.specs.Cell.{and_then}
-use Rattle.shell_json.specs.Parts.{list_of, list_at, list_or_none}
-use Rattle.shell_face_json.specs.Lists.{number_below, or_null, is_object, items_of, part_list, rows_at, rows_in_turn, count_at}
+use Rattle.shell_json.specs.Items.{list_of, list_at, list_or_none}
+use Rattle.shell_face_json.specs.Lists.{number_below, or_null, is_object, items_of, value_list, rows_at, rows_in_turn, count_at}
 use Rattle.shell_face_json.specs.Row.{first_and_rest, no_more, row_of_two}
 use Rattle.shell_face_json.specs.Sorted.{rows_by_key}
 use Rattle.shell_face_json.specs.Lengths.{items_at, items_or_none, length_or, least_length, row_length_or, least_row_length, row_least_length, least_length_in_rows}
@@ -54,7 +54,7 @@ items_listed (Some d) ds e = of_array (as_array d) ds e
 
 records_each : (count l : ℕ) (d : Data) (r : Class1Record) → class1_record d ≡ Ok r → nat_le count (min l (length_or l d)) ≡ true → nat_le count (length r.class2_records) ≡ true
 records_each count l d r e le =
-    let step = through (part_list pair_values d) _ r e in
+    let step = through (value_list pair_values d) _ r e in
     let same : step.0 ≡ r.class2_records = cc in
     other count l (length_or l d) (length r.class2_records) le (length_read pair_values l d step.0 step.1 ∙ ap length same)
 
@@ -131,8 +131,8 @@ second_at a b (object ms) p e = absurd (cc)
 
 base_each : (glyphs count l : ℕ) (d : Data) (r : BaseRow) → base_row glyphs d ≡ Ok r → nat_le count (min l (row_length_or l (at 1 d))) ≡ true → nat_le count (length r.anchors) ≡ true
 base_each glyphs count l d r e le =
-    let step = through (row_of_two (number_below glyphs) (part_list (or_null anchor)) d) _ r e in
-    let second = second_at (number_below glyphs) (part_list (or_null anchor)) d step.0 step.1 in
+    let step = through (row_of_two (number_below glyphs) (value_list (or_null anchor)) d) _ r e in
+    let second = second_at (number_below glyphs) (value_list (or_null anchor)) d step.0 step.1 in
     let same : step.0.1.0 ≡ r.anchors = cc in
     other count l (row_length_or l (at 1 d)) (length r.anchors) le (ap (row_length_or l) second.1 ∙ length_read (or_null anchor) l second.0 step.0.1.0 second.2 ∙ ap length same)
 
@@ -157,7 +157,7 @@ mark_base_within limit d s e =
 
 component_each : (count l : ℕ) (d : Data) (c : ComponentRecord) → component d ≡ Ok c → nat_le count (min l (length_or l d)) ≡ true → nat_le count (length c.anchors) ≡ true
 component_each count l d c e le =
-    let step = through (part_list (or_null anchor) d) _ c e in
+    let step = through (value_list (or_null anchor) d) _ c e in
     let same : step.0 ≡ c.anchors = cc in
     other count l (length_or l d) (length c.anchors) le (length_read (or_null anchor) l d step.0 step.1 ∙ ap length same)
 
@@ -180,8 +180,8 @@ of_components count l (Some es) ds cs is e le = let same : es ≡ ds = cc in com
 
 ligature_each : (glyphs count l : ℕ) (d : Data) (r : LigatureRow) → ligature_row glyphs d ≡ Ok r → nat_le count (row_least_length l (at 1 d)) ≡ true → components_fit count r.components ≡ true
 ligature_each glyphs count l d r e le =
-    let step = through (row_of_two (number_below glyphs) (part_list component) d) _ r e in
-    let second = second_at (number_below glyphs) (part_list component) d step.0 step.1 in
+    let step = through (row_of_two (number_below glyphs) (value_list component) d) _ r e in
+    let second = second_at (number_below glyphs) (value_list component) d step.0 step.1 in
     let listed = through (list_of second.0) (items_of component) step.0.1.0 second.2 in
     let turn = turn_of_items component listed.0 step.0.1.0 listed.2 in
     let least = subst (λ o. nat_le count (row_least_length l o) ≡ true) second.1 le in

@@ -9,7 +9,7 @@ use Rattle.shell_json.specs.declared.fault.JsonFault.{JsonFault}
 use Rattle.shell_json.specs.declared.fault.JsonFault.TheVariants.{OutOfRange}
 use Rattle.shell_json.specs.Cell.{and_then, u16_value, i16_value}
 use Rattle.shell_json.specs.Objects.{read_or, optional_value}
-use Rattle.shell_json.specs.Parts.{list_at}
+use Rattle.shell_json.specs.Items.{list_at}
 use Rattle.shell_face_json.specs.Lists.{number_below, is_object, lookup_in_table, rows_at, rows_in_turn, count_at, within}
 use Rattle.shell_face_json.specs.Glyphs.{coverage, class_definition, classes_in, glyph_limit, subtables_of}
 use Rattle.shell_face_json.specs.Contexts.{context}

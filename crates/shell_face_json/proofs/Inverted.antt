@@ -9,9 +9,9 @@ use Rattle.shell_json.specs.declared.fault.JsonFault.{JsonFault}
 use Rattle.shell_json.specs.declared.fault.JsonFault.TheVariants.{WrongShape, OutOfRange, OutOfOrder}
 use Rattle.shell_json.specs.Cell.{and_then, both, u16_value}
 use Rattle.shell_json.specs.Objects.{optional_value}
-use Rattle.shell_json.specs.Parts.{list_of, list_or_none}
+use Rattle.shell_json.specs.Items.{list_of, list_or_none}
 use Rattle.shell_json.specs.Rows.{after, ok_cons, row_in_order, rows_after}
-use Rattle.shell_face_json.specs.Lists.{below, count_of, in_front, item_count, items_of, number_below, or_null, part_list, rows_in_turn, some_of}
+use Rattle.shell_face_json.specs.Lists.{below, count_of, in_front, item_count, items_of, number_below, or_null, value_list, rows_in_turn, some_of}
 use Rattle.shell_face_json.specs.Row.{first_and_rest}
 
 -- ---- steps
@@ -98,7 +98,7 @@ module _ {A : Type 0} (read : Data → Result A JsonFault) (P : A → Bool) (eac
       ok_cons row.0 (rows_in_turn read ds) xs (λ ys. list_all P ys ≡ true) row.2
       (λ ys was. let one = each d row.0 row.1 in let rest = all_in_turn ds ys was in rw (one, rest) refl)
 
-  pub all_in_list : (d : Data) (xs : List A) → part_list read d ≡ Ok xs → list_all P xs ≡ true
+  pub all_in_list : (d : Data) (xs : List A) → value_list read d ≡ Ok xs → list_all P xs ≡ true
   all_in_list d xs e = let step = through (list_of d) (items_of read) xs e in all_in_turn step.0 xs (turn_of_items read step.0 xs step.2)
 
   pub of_optional : (o : Option Data) (a : Option A) → optional_value read o ≡ Ok a → option_map_or P a true ≡ true

@@ -8,8 +8,8 @@ use Rattle.serde_json.specs.Find.{get}
 use Rattle.shell_json.specs.declared.fault.JsonFault.{JsonFault}
 use Rattle.shell_json.specs.declared.fault.JsonFault.TheVariants.{OutOfOrder}
 use Rattle.shell_json.specs.Cell.{both}
-use Rattle.shell_json.specs.Parts.{list_of, list_at, tag}
-use Rattle.shell_face_json.specs.Lists.{number_below, or_null, is_object, items_of, part_list, rows_at, rows_in_turn, count_at}
+use Rattle.shell_json.specs.Items.{list_of, list_at, tag}
+use Rattle.shell_face_json.specs.Lists.{number_below, or_null, is_object, items_of, value_list, rows_at, rows_in_turn, count_at}
 use Rattle.shell_face_json.specs.Row.{first_and_rest, no_more, row_of_two, row_of_three}
 use Rattle.shell_face_json.specs.Sorted.{rows_by_key}
 use Rattle.shell_face_json.specs.Scripts.{required_feature, system_features, lang_sys, lang_sys_entry, script_of_fields, script, feature, layout_of}
@@ -72,8 +72,8 @@ module _ (limit : ℕ) where
 
   script_within : (d : Data) (s : ScriptTable) → script limit d ≡ Ok s → script_fits limit s ≡ true
   script_within d s e =
-      let step = through (row_of_three tag (or_null (lang_sys limit)) (part_list (lang_sys_entry limit)) d) script_of_fields s e in
-      let fields = second_and_third tag (or_null (lang_sys limit)) (part_list (lang_sys_entry limit)) d step.0 step.1 in
+      let step = through (row_of_three tag (or_null (lang_sys limit)) (value_list (lang_sys_entry limit)) d) script_of_fields s e in
+      let fields = second_and_third tag (or_null (lang_sys limit)) (value_list (lang_sys_entry limit)) d step.0 step.1 in
       let default = of_nullable (lang_sys limit) (λ t. system_fits limit t) system_within fields.0 step.0.1.0 fields.2 in
       let systems = all_in_list (lang_sys_entry limit) (λ t. system_fits limit t.lang_sys) entry_within fields.1 step.0.1.1.0 fields.3 in
       let both_fit : script_fits limit (record { tag = step.0.0; default_lang_sys = step.0.1.0; lang_systems = step.0.1.1.0 }) ≡ true = rw (default, systems) refl in
@@ -81,8 +81,8 @@ module _ (limit : ℕ) where
 
   feature_within : (d : Data) (f : FeatureTable) → feature limit d ≡ Ok f → all_below limit f.lookups ≡ true
   feature_within d f e =
-      let step = through (row_of_two tag (part_list (number_below limit)) d) _ f e in
-      let second = second_of_two tag (part_list (number_below limit)) d step.0 step.1 in
+      let step = through (row_of_two tag (value_list (number_below limit)) d) _ f e in
+      let second = second_of_two tag (value_list (number_below limit)) d step.0 step.1 in
       let same : step.0.1.0 ≡ f.lookups = cc in
       subst (λ is. all_below limit is ≡ true) same (all_in_list (number_below limit) (λ i. nat_lt i limit) (below_limit limit) second.0 step.0.1.0 second.1)
 

@@ -12,10 +12,10 @@ use Rattle.serde_json.specs.Find.{as_array}
 use Rattle.shell_json.specs.declared.fault.JsonFault.{JsonFault}
 use Rattle.shell_json.specs.declared.fault.JsonFault.TheVariants.{WrongShape}
 use Rattle.shell_json.specs.Cell.{u16_value}
-use Rattle.shell_json.specs.Parts.{list_of}
+use Rattle.shell_json.specs.Items.{list_of}
 use Rattle.shell_json.specs.Rows.{ok_cons}
 use Rattle.buffer_rows.specs.Keys.{is_above}
-use Rattle.shell_face_json.specs.Lists.{item_count, items_of, number_below, part_list, rows_in_turn}
+use Rattle.shell_face_json.specs.Lists.{item_count, items_of, number_below, value_list, rows_in_turn}
 use Rattle.shell_face_json.specs.Row.{first_and_rest, no_more, only, row_of}
 use Rattle.shell_face_json.specs.Sorted.{rows_by_key}
 use Rattle.shell_face_json.specs.Lengths.{length_or}
@@ -111,7 +111,7 @@ of_array : (o : Option Items) (ds : Items) → ok_or o WrongShape ≡ Ok ds → 
 of_array None ds e l = absurd (cc)
 of_array (Some es) ds e l = let same : es ≡ ds = cc in ap item_count same
 
-pub length_read : {A : Type 0} (read : Data → Result A JsonFault) (l : ℕ) (d : Data) (xs : List A) → part_list read d ≡ Ok xs → length_or l d ≡ length xs
+pub length_read : {A : Type 0} (read : Data → Result A JsonFault) (l : ℕ) (d : Data) (xs : List A) → value_list read d ≡ Ok xs → length_or l d ≡ length xs
 length_read read l d xs e =
     let step = through (list_of d) (items_of read) xs e in
     let count = same_length read step.0 xs (turn_of_items read step.0 xs step.2) in

@@ -80,7 +80,7 @@ no_memory_left e f ne same = ne (ap (λ x. first_fault x f) same ∙ memory_firs
 no_memory_right : (e f : JsonFault) → first_fault e f ≢ OutOfMemory → f ≢ OutOfMemory
 no_memory_right e f ne same = ne (ap (λ x. first_fault e x) same ∙ memory_last e)
 
--- ---- parts
+-- ---- items
 
 pub means_both : {A B : Type 0} (m : Result A JsonFault) (n : Result B JsonFault) (a : Result A JsonFault) (b : Result B JsonFault) → Means m a → Means n b → Means (both m n) (both a b)
 means_both m n (Ok x) (Ok y) p q = rw (p, q) refl
@@ -104,30 +104,30 @@ front_after (Err e) (Ok xs) (Err g) = refl
 front_after (Err e) (Err f) (Ok y) = refl
 front_after (Err e) (Err f) (Err g) = ap (λ x. Err x) (sym (first_of_three e f g))
 
-first_part : {A : Type 0} (a : Result A JsonFault) → in_front a (Ok []) ≡ after_all (Ok []) a
-first_part (Ok x) = refl
-first_part (Err e) = refl
+first_item : {A : Type 0} (a : Result A JsonFault) → in_front a (Ok []) ≡ after_all (Ok []) a
+first_item (Ok x) = refl
+first_item (Err e) = refl
 
--- one part more
-parts_snoc : {A : Type 0} (read : Data → Result A JsonFault) (vs : List Value) (i : ℕ) (d : Value) → i < length vs
+-- one item more
+items_snoc : {A : Type 0} (read : Data → Result A JsonFault) (vs : List Value) (i : ℕ) (d : Value) → i < length vs
     → items_of read (items_view (take (suc i) vs)) ≡ after_all (items_of read (items_view (take i vs))) (read (view (get_or vs i d)))
-parts_snoc read [] i d h = absurd (omega (arith, h))
-parts_snoc read (v ∷ vs) zero d h = first_part (read (view v))
-parts_snoc read (v ∷ vs) (suc i) d h = ap (λ x. in_front (read (view v)) x) (parts_snoc read vs i d (omega (arith, h))) ∙ front_after (read (view v)) (items_of read (items_view (take i vs))) (read (view (get_or vs i d)))
+items_snoc read [] i d h = absurd (omega (arith, h))
+items_snoc read (v ∷ vs) zero d h = first_item (read (view v))
+items_snoc read (v ∷ vs) (suc i) d h = ap (λ x. in_front (read (view v)) x) (items_snoc read vs i d (omega (arith, h))) ∙ front_after (read (view v)) (items_of read (items_view (take i vs))) (read (view (get_or vs i d)))
 
 of_items : {A : Type 0} (m a : Result (List A) JsonFault) (answer : Result (Vec A) JsonFault) → Means m a
     → IfOk answer (λ v. a ≡ Ok v.items) → IfErr answer (λ e. e ≢ OutOfMemory → a ≡ Err e) → Means m (result_map_both (λ v. v.items) (λ e. e) answer)
 of_items m a (Ok v) h ok refused = subst (λ r. Means m r) ok h
 of_items m a (Err e) h ok refused = λ ne. let p : Means m (Err e) = subst (λ r. Means m r) (refused ne) h in p ne
 
--- a list of parts with one part more
-pub parts_step : {A : Type 0} (read : Data → Result A JsonFault) (vs : List Value) (i : ℕ) (v : Value) → i < length vs → v ≡ get_or vs i v
-    → (so_far : Result (List A) JsonFault) (part : Result A JsonFault) (answer : Result (Vec A) JsonFault)
+-- a list of items with one item more
+pub items_step : {A : Type 0} (read : Data → Result A JsonFault) (vs : List Value) (i : ℕ) (v : Value) → i < length vs → v ≡ get_or vs i v
+    → (so_far : Result (List A) JsonFault) (item : Result A JsonFault) (answer : Result (Vec A) JsonFault)
     → Means (items_of read (items_view (take i vs))) so_far
-    → IfOk part (λ p. read (view v) ≡ Ok p) → IfErr part (λ e. e ≢ OutOfMemory → read (view v) ≡ Err e)
-    → IfOk answer (λ w. after_all so_far part ≡ Ok w.items) → IfErr answer (λ e. e ≢ OutOfMemory → after_all so_far part ≡ Err e)
+    → IfOk item (λ p. read (view v) ≡ Ok p) → IfErr item (λ e. e ≢ OutOfMemory → read (view v) ≡ Err e)
+    → IfOk answer (λ w. after_all so_far item ≡ Ok w.items) → IfErr answer (λ e. e ≢ OutOfMemory → after_all so_far item ≡ Err e)
     → Means (items_of read (items_view (take (i + 1) vs))) (result_map_both (λ w. w.items) (λ e. e) answer)
-parts_step read vs i v h is so_far part answer before ok refused ok' refused' =
+items_step read vs i v h is so_far item answer before ok refused ok' refused' =
     let read_one : items_of read (items_view (take (suc i) vs)) ≡ after_all (items_of read (items_view (take i vs))) (read (view v)) =
-    parts_snoc read vs i v h ∙ ap (λ x. after_all (items_of read (items_view (take i vs))) (read (view x))) (sym is) in
-    rw (add-one, read_one) (of_items _ (after_all so_far part) answer (means_after _ _ so_far part before (means_of _ part ok refused)) ok' refused')
+    items_snoc read vs i v h ∙ ap (λ x. after_all (items_of read (items_view (take i vs))) (read (view x))) (sym is) in
+    rw (add-one, read_one) (of_items _ (after_all so_far item) answer (means_after _ _ so_far item before (means_of _ item ok refused)) ok' refused')

@@ -7,7 +7,7 @@ use Rattle.serde_json.specs.Find.{get, as_str}
 use Rattle.shell_json.specs.declared.fault.JsonFault.{JsonFault}
 use Rattle.shell_json.specs.declared.fault.JsonFault.TheVariants.{WrongShape, UnknownName}
 use Rattle.shell_json.specs.Cell.{and_then}
-use Rattle.shell_face_json.specs.Lists.{number_below, is_object, part_list, rows_at, rows_in_turn}
+use Rattle.shell_face_json.specs.Lists.{number_below, is_object, value_list, rows_at, rows_in_turn}
 use Rattle.shell_face_json.specs.Row.{row_of_two, row_of_three, row_of_four}
 use Rattle.layout_common.specs.declared.class_definition.ClassDefinition.{ClassDefinition}
 use Rattle.layout_tables.specs.declared.context.SequenceLookupRecord.{SequenceLookupRecord}
@@ -27,7 +27,7 @@ lookup_record limit d =
 -- a rule: backtrack sequence (the nearest first), input, lookahead, and lookup records
 abbrev pub rule : {I : Type 0} → (Data → Result I JsonFault) → (Data → Result SequenceLookupRecord JsonFault) → Data → Result (SequenceRule I) JsonFault
 rule item lookup d =
-    and_then (row_of_four (part_list item) (part_list item) (part_list item) (part_list lookup) d) (λ p.
+    and_then (row_of_four (value_list item) (value_list item) (value_list item) (value_list lookup) d) (λ p.
     Ok (record { backtrack = p.0; input = p.1.0; lookahead = p.1.1.0; records = p.1.1.1.0 }))
 
 -- the rules of a subtable, in turn

@@ -4,10 +4,10 @@ use Rattle.std.specs.Ordering.{nat_cmp}
 use Rattle.serde_json.specs.Data.{Data, Items}
 use Rattle.shell_json.specs.declared.fault.JsonFault.{JsonFault}
 use Rattle.shell_json.specs.Cell.{and_then, u16_value}
-use Rattle.shell_json.specs.Parts.{list_of}
-use Rattle.shell_face_json.specs.Lists.{number_below, part_list, rows_at, rows_in_turn}
+use Rattle.shell_json.specs.Items.{list_of}
+use Rattle.shell_face_json.specs.Lists.{number_below, value_list, rows_at, rows_in_turn}
 use Rattle.shell_face_json.specs.Row.{first_and_rest, only, row_of}
-use Rattle.shell_face_json.specs.Sorted.{rows_by_key, sorted_part}
+use Rattle.shell_face_json.specs.Sorted.{rows_by_key, sorted_value}
 use Rattle.layout_common.specs.Coverage.{in_order}
 use Rattle.layout_common.specs.declared.glyph_row.GlyphRow.{GlyphRow}
 use Rattle.layout_common.specs.declared.class_definition.ClassDefinition.{ClassDefinition}
@@ -26,11 +26,11 @@ glyph_rows rest ds = rows_by_key nat_cmp (λ r. r.glyph) (glyph_row rest) None d
 
 -- rows of glyphs inside a row, by rising glyphs
 abbrev pub glyph_row_list : {V : Type 0} → (Items → Result V JsonFault) → Data → Result (List (GlyphRow V)) JsonFault
-glyph_row_list rest d = sorted_part nat_cmp (λ r. r.glyph) (glyph_row rest) d
+glyph_row_list rest d = sorted_value nat_cmp (λ r. r.glyph) (glyph_row rest) d
 
 -- a set of glyphs, listed in any order
 abbrev pub coverage : ℕ → Data → Result (List ℕ) JsonFault
-coverage limit d = and_then (part_list (number_below limit) d) (λ glyphs. Ok (in_order glyphs))
+coverage limit d = and_then (value_list (number_below limit) d) (λ glyphs. Ok (in_order glyphs))
 
 -- the set of glyphs that is listed under a key
 abbrev pub coverage_at : ℕ → List ℕ → Data → Result (List ℕ) JsonFault

@@ -6,7 +6,7 @@ use Rattle.serde_json.specs.Find.{get, as_array, as_object}
 use Rattle.shell_json.specs.declared.fault.JsonFault.{JsonFault}
 use Rattle.shell_json.specs.declared.fault.JsonFault.TheVariants.{WrongShape, OutOfRange}
 use Rattle.shell_json.specs.Cell.{and_then, first_fault, u16_value}
-use Rattle.shell_json.specs.Parts.{list_of, list_at}
+use Rattle.shell_json.specs.Items.{list_of, list_at}
 use Rattle.shell_json.specs.Rows.{after}
 
 -- ---- numbers
@@ -61,8 +61,8 @@ after_all (Err e) (Ok a) = Err e
 after_all (Err e) (Err f) = Err (first_fault e f)
 
 -- a list value inside a row
-abbrev pub part_list : {A : Type 0} → (Data → Result A JsonFault) → Data → Result (List A) JsonFault
-part_list read d = and_then (list_of d) (items_of read)
+abbrev pub value_list : {A : Type 0} → (Data → Result A JsonFault) → Data → Result (List A) JsonFault
+value_list read d = and_then (list_of d) (items_of read)
 
 -- a list of rows: the fault of the first faulty row is the result
 abbrev pub rows_in_turn : {A : Type 0} → (Data → Result A JsonFault) → Items → Result (List A) JsonFault

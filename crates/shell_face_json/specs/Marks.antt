@@ -4,7 +4,7 @@ use Rattle.std.specs.Ordering.{nat_cmp}
 use Rattle.serde_json.specs.Data.{Data, Items}
 use Rattle.shell_json.specs.declared.fault.JsonFault.{JsonFault}
 use Rattle.shell_json.specs.Cell.{and_then}
-use Rattle.shell_face_json.specs.Lists.{number_below, or_null, is_object, part_list, rows_at}
+use Rattle.shell_face_json.specs.Lists.{number_below, or_null, is_object, value_list, rows_at}
 use Rattle.shell_face_json.specs.Row.{first_and_rest, no_more, row_of_two}
 use Rattle.shell_face_json.specs.Sorted.{rows_by_key}
 use Rattle.shell_face_json.specs.Lengths.{items_at, least_row_length, least_length_in_rows}
@@ -29,15 +29,15 @@ marks_of classes d = rows_at (codes "marks") (glyph_rows (mark_record classes)) 
 
 -- a base glyph, and an anchor or null for each class
 abbrev pub base_row : ℕ → Data → Result BaseRow JsonFault
-base_row limit d = and_then (row_of_two (number_below limit) (part_list (or_null anchor)) d) (λ p. Ok (record { glyph = p.0; anchors = p.1.0 }))
+base_row limit d = and_then (row_of_two (number_below limit) (value_list (or_null anchor)) d) (λ p. Ok (record { glyph = p.0; anchors = p.1.0 }))
 
 -- the anchors of a ligature component
 abbrev pub component : Data → Result ComponentRecord JsonFault
-component d = and_then (part_list (or_null anchor) d) (λ anchors. Ok (record { anchors = anchors }))
+component d = and_then (value_list (or_null anchor) d) (λ anchors. Ok (record { anchors = anchors }))
 
 -- a ligature glyph, and its components
 abbrev pub ligature_row : ℕ → Data → Result LigatureRow JsonFault
-ligature_row limit d = and_then (row_of_two (number_below limit) (part_list component) d) (λ p. Ok (record { glyph = p.0; components = p.1.0 }))
+ligature_row limit d = and_then (row_of_two (number_below limit) (value_list component) d) (λ p. Ok (record { glyph = p.0; components = p.1.0 }))
 
 -- a mark-to-base or mark-to-mark subtable: marks, whose classes are checked against each base's anchors, and bases
 abbrev pub mark_base : ℕ → Data → Result MarkBasePos JsonFault

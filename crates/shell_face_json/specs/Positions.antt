@@ -6,8 +6,8 @@ use Rattle.serde_json.specs.Data.{Data, Items}
 use Rattle.serde_json.specs.Find.{as_object}
 use Rattle.shell_json.specs.declared.fault.JsonFault.{JsonFault}
 use Rattle.shell_json.specs.Cell.{and_then, i16_value}
-use Rattle.shell_json.specs.Parts.{list_of}
-use Rattle.shell_face_json.specs.Lists.{number_below, or_null, part_list, rows_at, rows_in_turn, count_at}
+use Rattle.shell_json.specs.Items.{list_of}
+use Rattle.shell_face_json.specs.Lists.{number_below, or_null, value_list, rows_at, rows_in_turn, count_at}
 use Rattle.shell_face_json.specs.Row.{first_and_rest, no_more, only, row_of_two, row_of_four}
 use Rattle.shell_face_json.specs.Sorted.{rows_by_key}
 use Rattle.shell_face_json.specs.Lengths.{items_at, least_length}
@@ -60,7 +60,7 @@ pair_rows limit ds = rows_by_key pair_order (λ r. (r.first, r.second)) (pair_ro
 
 -- the value records of a first class, by second classes
 abbrev pub class1_record : Data → Result Class1Record JsonFault
-class1_record d = and_then (part_list pair_values d) (λ rs. Ok (record { class2_records = rs }))
+class1_record d = and_then (value_list pair_values d) (λ rs. Ok (record { class2_records = rs }))
 
 -- pairs by classes (GPOS lookup type 2, format 2): a first class has a row of records, a second class a record in each
 -- row

@@ -4,7 +4,7 @@ use Rattle.serde_json.specs.Data.{Data, Items, no_items, item}
 use Rattle.shell_json.specs.declared.fault.JsonFault.{JsonFault}
 use Rattle.shell_json.specs.declared.fault.JsonFault.TheVariants.{WrongShape}
 use Rattle.shell_json.specs.Cell.{and_then, both}
-use Rattle.shell_json.specs.Parts.{list_of}
+use Rattle.shell_json.specs.Items.{list_of}
 
 -- the row has no more items
 abbrev pub no_more : Items → Result ⊤ JsonFault

@@ -7,13 +7,13 @@ use Rattle.shell_json.specs.declared.fault.JsonFault.{JsonFault}
 use Rattle.shell_json.specs.declared.fault.JsonFault.TheVariants.{OutOfOrder}
 use Rattle.shell_json.specs.Cell.{and_then, both}
 use Rattle.shell_json.specs.Objects.{optional_value}
-use Rattle.shell_face_json.specs.Lists.{number_below, or_null, is_object, items_of, part_list, rows_at, rows_in_turn, count_at}
+use Rattle.shell_face_json.specs.Lists.{number_below, or_null, is_object, items_of, value_list, rows_at, rows_in_turn, count_at}
 use Rattle.shell_face_json.specs.Row.{row_of_two, row_of_three}
 use Rattle.shell_face_json.specs.Sorted.{rows_by_key}
 use Rattle.layout_tables.specs.Keyed.{is_rising}
 use Rattle.layout_tables.specs.Layout.{LangSysTable, LangSysEntry, ScriptTable, FeatureTable, LayoutLists}
 use Rattle.buffer_common.specs.declared.tag.Tag.{Tag}
-use Rattle.shell_json.specs.Parts.{tag}
+use Rattle.shell_json.specs.Items.{tag}
 
 -- ---- scripts, in a table whose number of features is the limit
 
@@ -45,13 +45,13 @@ script_of_fields p =
 
 -- a script: its tag, a default language system or null, and language systems by rising tags
 abbrev pub script : ℕ → Data → Result ScriptTable JsonFault
-script limit d = and_then (row_of_three tag (or_null (lang_sys limit)) (part_list (lang_sys_entry limit)) d) script_of_fields
+script limit d = and_then (row_of_three tag (or_null (lang_sys limit)) (value_list (lang_sys_entry limit)) d) script_of_fields
 
 -- ---- features, in a table whose number of lookups is the limit
 
 -- a feature: its tag and its lookup indices
 abbrev pub feature : ℕ → Data → Result FeatureTable JsonFault
-feature limit d = and_then (row_of_two tag (part_list (number_below limit)) d) (λ p. Ok (record { tag = p.0; lookups = p.1.0 }))
+feature limit d = and_then (row_of_two tag (value_list (number_below limit)) d) (λ p. Ok (record { tag = p.0; lookups = p.1.0 }))
 
 -- ---- a table
 

@@ -5,8 +5,8 @@ use Rattle.serde_json.specs.Data.{Data, Items, no_items, item}
 use Rattle.serde_json.specs.Find.{as_number}
 use Rattle.shell_json.specs.declared.fault.JsonFault.{JsonFault}
 use Rattle.shell_json.specs.Cell.{and_then}
-use Rattle.shell_json.specs.Parts.{list_of}
-use Rattle.shell_face_json.specs.Lists.{number_below, items_of, part_list}
+use Rattle.shell_json.specs.Items.{list_of}
+use Rattle.shell_face_json.specs.Lists.{number_below, items_of, value_list}
 use Rattle.shell_face_json.specs.Row.{only, row_of_two, row_of_three}
 use Rattle.shell_face_json.specs.Sorted.{rows_by_key}
 use Rattle.shell_face_json.specs.Glyphs.{glyph_rows, glyph_row_list, coverage}
@@ -24,7 +24,7 @@ single limit d = and_then (and_then (list_of d) (glyph_rows (only (number_below 
 -- a glyph, and a list of glyphs
 abbrev pub sequence_row : ℕ → Data → Result SequenceRow JsonFault
 sequence_row limit d =
-    and_then (row_of_two (number_below limit) (part_list (number_below limit)) d) (λ p. Ok (record { glyph = p.0; glyphs = p.1.0 }))
+    and_then (row_of_two (number_below limit) (value_list (number_below limit)) d) (λ p. Ok (record { glyph = p.0; glyphs = p.1.0 }))
 
 -- rows of a glyph and a list of glyphs, by rising glyphs
 abbrev pub sequence_rows : ℕ → Data → Result (List SequenceRow) JsonFault
@@ -43,7 +43,7 @@ alternate limit d = and_then (sequence_rows limit d) (λ rows. Ok (record { rows
 -- a ligature: the component glyphs after the first, and the ligature glyph
 abbrev pub ligature : ℕ → Data → Result LigatureTable JsonFault
 ligature limit d =
-    and_then (row_of_two (part_list (number_below limit)) (number_below limit) d) (λ p. Ok (record { components = p.0; glyph = p.1.0 }))
+    and_then (row_of_two (value_list (number_below limit)) (number_below limit) d) (λ p. Ok (record { components = p.0; glyph = p.1.0 }))
 
 -- a list and a number are one ligature, and no list of ligatures
 abbrev pub is_ligature : Items → Bool
@@ -72,5 +72,5 @@ ligature_subst limit d = and_then (list_of d) (rows_by_key nat_cmp (λ s. s.firs
 -- its substitute (GSUB lookup type 8)
 abbrev pub reverse : ℕ → Data → Result ReverseChainSubst JsonFault
 reverse limit d =
-    and_then (row_of_three (part_list (coverage limit)) (part_list (coverage limit)) (glyph_row_list (only (number_below limit))) d) (λ p.
+    and_then (row_of_three (value_list (coverage limit)) (value_list (coverage limit)) (glyph_row_list (only (number_below limit))) d) (λ p.
     Ok (record { backtrack = p.0; lookahead = p.1.0; rows = p.1.1.0 }))

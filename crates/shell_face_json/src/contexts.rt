@@ -8,7 +8,7 @@ ghost use Rattle.shell_face_json.specs.Lists.{number_below};
 use crate::glyphs::read_coverage_at;
 use crate::objects::{object, read_in_turn_at};
 use crate::rows::read_row;
-use crate::value::Part;
+use crate::value::FromJson;
 use layout_common::class_definition::ClassDefinition;
 use layout_tables::context::{ClassRules, ContextSubtable, SequenceLookupRecord, SequenceRule};
 use layout_tables::rules::SequenceRules;
@@ -25,10 +25,10 @@ pub enum ContextFormat {
     Coverage,
 }
 
-impl Part for SequenceLookupRecord {
-    ghost part = { lookup_record };
+impl FromJson for SequenceLookupRecord {
+    ghost font_value = { lookup_record };
 
-    fn read_part(
+    fn from_json(
         alloc: Global,
         value: &Value,
         limit: usize,
@@ -41,10 +41,10 @@ impl Part for SequenceLookupRecord {
     }
 }
 
-impl<I: Part> Part for SequenceRule<I> {
-    ghost part = { λ limit. rule (I.part limit) (lookup_record limit) };
+impl<I: FromJson> FromJson for SequenceRule<I> {
+    ghost font_value = { λ limit. rule (I.font_value limit) (lookup_record limit) };
 
-    fn read_part(alloc: Global, value: &Value, limit: usize) -> Result<SequenceRule<I>, JsonFault> {
+    fn from_json(alloc: Global, value: &Value, limit: usize) -> Result<SequenceRule<I>, JsonFault> {
         let (backtrack, (input, (lookahead, (records, ())))) = read_row(alloc, value, limit)?;
         Ok(SequenceRule {
             backtrack,
@@ -55,10 +55,10 @@ impl<I: Part> Part for SequenceRule<I> {
     }
 }
 
-impl Part for ContextSubtable {
-    ghost part = { context };
+impl FromJson for ContextSubtable {
+    ghost font_value = { context };
 
-    fn read_part(alloc: Global, value: &Value, limit: usize) -> Result<ContextSubtable, JsonFault> {
+    fn from_json(alloc: Global, value: &Value, limit: usize) -> Result<ContextSubtable, JsonFault> {
         object(value)?;
         match read_format(value)? {
             ContextFormat::Glyphs => Ok(ContextSubtable::Glyphs(read_rules(alloc, value, limit)?)),

@@ -6,7 +6,7 @@ ghost use Rattle.shell_face_json.specs.Face.{few_sets, glyph_definition, glyph_d
 
 use crate::glyphs::{GLYPH_LIMIT, read_classes_at};
 use crate::objects::{object, read_by_key_at, read_in_turn_at, read_optional_at};
-use crate::value::Part;
+use crate::value::FromJson;
 use buffer_glyphs::names::hb_glyph_extents_t;
 use buffer_rows::{PagedRows, SortedRows};
 use layout_common::array::Array;

@@ -6,19 +6,19 @@ ghost use Rattle.shell_face_json.specs.Scripts.{feature, layout_of};
 use crate::objects::{count_at, read_in_turn_at};
 use crate::rising::read_rising;
 use crate::rows::read_row;
-use crate::value::Part;
+use crate::value::FromJson;
 use buffer_common::tag::Tag;
 use layout_common::array::Array;
 use layout_tables::table::{FeatureRecord, ScriptsAndFeatures};
 use serde_json::Value;
 use shell_json::fault::JsonFault;
-use shell_json::parts::list_at;
+use shell_json::items::list_at;
 use std::alloc::Global;
 
-impl Part for FeatureRecord {
-    ghost part = { feature };
+impl FromJson for FeatureRecord {
+    ghost font_value = { feature };
 
-    fn read_part(alloc: Global, value: &Value, limit: usize) -> Result<FeatureRecord, JsonFault> {
+    fn from_json(alloc: Global, value: &Value, limit: usize) -> Result<FeatureRecord, JsonFault> {
         let (tag, (lookups, ())): (Tag, (Array<u16>, ())) = read_row(alloc, value, limit)?;
         Ok(FeatureRecord::new(tag, lookups.into_vec()))
     }

@@ -2,8 +2,8 @@
 ghost use Rattle.std.specs.Prelude.{◌≡◌, ◌≢◌, IfOk, IfErr, Ok, Err};
 ghost use Rattle.shell_face_json.specs.FontRows.{character_row, variation_row, extents, glyph_name, name_row};
 
-use crate::rows::{Parts, read_row};
-use crate::value::Part;
+use crate::rows::{FromItems, read_row};
+use crate::value::FromJson;
 use buffer_glyphs::names::hb_glyph_extents_t;
 use layout_face::parts::{CharacterRow, NameRow, VariationRow};
 use serde_json::Value;
@@ -11,19 +11,19 @@ use shell_json::fault::JsonFault;
 use std::alloc::Global;
 use std::marker::Model;
 
-impl Part for CharacterRow {
-    ghost part = { character_row };
+impl FromJson for CharacterRow {
+    ghost font_value = { character_row };
 
-    fn read_part(alloc: Global, value: &Value, limit: usize) -> Result<CharacterRow, JsonFault> {
+    fn from_json(alloc: Global, value: &Value, limit: usize) -> Result<CharacterRow, JsonFault> {
         let (character, (glyph, ())) = read_row(alloc, value, limit)?;
         Ok(CharacterRow { character, glyph })
     }
 }
 
-impl Part for VariationRow {
-    ghost part = { variation_row };
+impl FromJson for VariationRow {
+    ghost font_value = { variation_row };
 
-    fn read_part(alloc: Global, value: &Value, limit: usize) -> Result<VariationRow, JsonFault> {
+    fn from_json(alloc: Global, value: &Value, limit: usize) -> Result<VariationRow, JsonFault> {
         let (character, (selector, (glyph, ()))) = read_row(alloc, value, limit)?;
         Ok(VariationRow {
             character,
@@ -34,16 +34,16 @@ impl Part for VariationRow {
 }
 
 /// The extents of a glyph.
-impl Parts for hb_glyph_extents_t {
-    ghost parts = { λ _. extents };
+impl FromItems for hb_glyph_extents_t {
+    ghost row_items = { λ _. extents };
 
-    fn read_parts(
+    fn from_items(
         alloc: Global,
         values: &[Value],
         limit: usize,
     ) -> Result<hb_glyph_extents_t, JsonFault> {
         let (x_bearing, (y_bearing, (width, (height, ())))): (i16, (i16, (i16, (i16, ())))) =
-            Parts::read_parts(alloc, values, limit)?;
+            FromItems::from_items(alloc, values, limit)?;
         Ok(hb_glyph_extents_t {
             x_bearing: x_bearing.into(),
             y_bearing: y_bearing.into(),
@@ -67,10 +67,10 @@ impl Model for Text {
     ghost view = { λ t. string_bytes t.text };
 }
 
-impl Part for Text {
-    ghost part = { λ _. glyph_name };
+impl FromJson for Text {
+    ghost font_value = { λ _. glyph_name };
 
-    fn read_part(alloc: Global, value: &Value, _limit: usize) -> Result<Text, JsonFault> {
+    fn from_json(alloc: Global, value: &Value, _limit: usize) -> Result<Text, JsonFault> {
         match value.as_str() {
             Some(text) => Ok(Text {
                 text: String::from_str(alloc, text)?,
@@ -80,10 +80,10 @@ impl Part for Text {
     }
 }
 
-impl Part for NameRow {
-    ghost part = { name_row };
+impl FromJson for NameRow {
+    ghost font_value = { name_row };
 
-    fn read_part(alloc: Global, value: &Value, limit: usize) -> Result<NameRow, JsonFault> {
+    fn from_json(alloc: Global, value: &Value, limit: usize) -> Result<NameRow, JsonFault> {
         let (glyph, (name, ())): (u16, (Text, ())) = read_row(alloc, value, limit)?;
         Ok(NameRow::new(glyph, name.text))
     }

@@ -6,8 +6,8 @@ ghost use Rattle.shell_face_json.specs.Glyphs.{glyph_row, coverage, coverage_at,
 
 use crate::objects::read_in_turn_at;
 use crate::rising::read_by_key;
-use crate::rows::{Parts, split_row};
-use crate::value::Part;
+use crate::rows::{FromItems, split_row};
+use crate::value::FromJson;
 use layout_common::array::Array;
 use layout_common::class_definition::ClassDefinition;
 use layout_common::coverage::Coverage;
@@ -15,38 +15,38 @@ use layout_common::glyph_row::GlyphRow;
 use serde_json::Value;
 use shell_json::cell::{Cell, pair};
 use shell_json::fault::JsonFault;
-use shell_json::parts::{list, list_at};
+use shell_json::items::{list, list_at};
 use std::alloc::Global;
 
 /// Glyph numbers are below this limit: they have 16 bits.
 pub const GLYPH_LIMIT: usize = 0x1_0000;
 
 /// A glyph, followed by the fields of its row.
-impl<V: Parts> Part for GlyphRow<V> {
-    ghost part = { λ limit. glyph_row (V.parts limit) };
+impl<V: FromItems> FromJson for GlyphRow<V> {
+    ghost font_value = { λ limit. glyph_row (V.row_items limit) };
 
-    fn read_part(alloc: Global, value: &Value, limit: usize) -> Result<GlyphRow<V>, JsonFault> {
+    fn from_json(alloc: Global, value: &Value, limit: usize) -> Result<GlyphRow<V>, JsonFault> {
         let (glyph, rest) = split_row(value)?;
-        let (glyph, value) = pair(u16::read(glyph), V::read_parts(alloc, rest, limit))?;
+        let (glyph, value) = pair(u16::read(glyph), V::from_items(alloc, rest, limit))?;
         Ok(GlyphRow { glyph, value })
     }
 }
 
 /// A list of glyphs.
-impl Part for Coverage {
-    ghost part = { coverage };
+impl FromJson for Coverage {
+    ghost font_value = { coverage };
 
-    fn read_part(alloc: Global, value: &Value, limit: usize) -> Result<Coverage, JsonFault> {
-        let glyphs: Array<u16> = Part::read_part(alloc, value, limit)?;
+    fn from_json(alloc: Global, value: &Value, limit: usize) -> Result<Coverage, JsonFault> {
+        let glyphs: Array<u16> = FromJson::from_json(alloc, value, limit)?;
         Ok(Coverage::new(alloc, glyphs.into_vec())?)
     }
 }
 
 /// A list of rows of a glyph and its class.
-impl Part for ClassDefinition {
-    ghost part = { class_definition };
+impl FromJson for ClassDefinition {
+    ghost font_value = { class_definition };
 
-    fn read_part(alloc: Global, value: &Value, limit: usize) -> Result<ClassDefinition, JsonFault> {
+    fn from_json(alloc: Global, value: &Value, limit: usize) -> Result<ClassDefinition, JsonFault> {
         read_classes(alloc, list(value)?, limit)
     }
 }

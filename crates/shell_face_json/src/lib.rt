@@ -23,4 +23,4 @@ mod text;
 pub mod value;
 
 pub use face::read_face;
-pub use text::{read_by_parts, read_face_text};
+pub use text::{read_by_keys, read_face_text};

@@ -6,17 +6,17 @@ ghost use Rattle.layout_face.specs.LookupIndices.{positioning_nested_fit, set_fi
 ghost use Rattle.shell_face_json.specs.Lists.{lookup_in_table, lookups_of, rows_in_turn};
 
 use crate::objects::count_at;
-use crate::value::Part;
+use crate::value::FromJson;
 use layout_common::array::Array;
 use layout_face::positioning::PositioningLookup;
 use layout_face::substitution::SubstLookup;
 use serde_json::Value;
 use shell_json::fault::JsonFault;
-use shell_json::parts::list_at;
+use shell_json::items::list_at;
 use std::alloc::Global;
 
 /// A lookup, which may name other lookups of its table.
-pub trait Lookup: Part {
+pub trait Lookup: FromJson {
     ghost fits: { ℕ → Self → Bool };
 
     ghost set_of: { Self → Option ℕ };
@@ -89,11 +89,11 @@ fn read_lookup<L: Lookup>(
     set_count: usize,
     lookup_count: usize,
 ) -> Result<L, JsonFault>
-    ensures ok { IfOk result (λ l. lookup_in_table (L.fits lookup_count) (L.part set_count) (view value.now) ≡ Ok l) }
+    ensures ok { IfOk result (λ l. lookup_in_table (L.fits lookup_count) (L.font_value set_count) (view value.now) ≡ Ok l) }
     ensures refused { IfErr result (λ e. e ≢ JsonFault.OutOfMemory
-        → lookup_in_table (L.fits lookup_count) (L.part set_count) (view value.now) ≡ Err e) }
+        → lookup_in_table (L.fits lookup_count) (L.font_value set_count) (view value.now) ≡ Err e) }
 {
-    let lookup = L::read_part(alloc, value, set_count)?;
+    let lookup = L::from_json(alloc, value, set_count)?;
     if lookup.fits(lookup_count) {
         return Ok(lookup);
     }
@@ -107,9 +107,9 @@ pub(crate) fn read_lookups<L: Lookup>(
     table: &Value,
     set_count: usize,
 ) -> Result<Array<L>, JsonFault>
-    ensures ok { IfOk result (λ v. lookups_of L.fits (L.part set_count) (view table.now) ≡ Ok v) }
+    ensures ok { IfOk result (λ v. lookups_of L.fits (L.font_value set_count) (view table.now) ≡ Ok v) }
     ensures refused { IfErr result (λ e. e ≢ JsonFault.OutOfMemory
-        → lookups_of L.fits (L.part set_count) (view table.now) ≡ Err e) }
+        → lookups_of L.fits (L.font_value set_count) (view table.now) ≡ Err e) }
 {
     let count = count_at(table, "lookups");
     read_each(alloc, list_at(table, "lookups")?, set_count, count)
@@ -121,10 +121,10 @@ fn read_each<L: Lookup>(
     set_count: usize,
     lookup_count: usize,
 ) -> Result<Array<L>, JsonFault>
-    ensures ok { IfOk result (λ v. rows_in_turn (lookup_in_table (L.fits lookup_count) (L.part set_count))
+    ensures ok { IfOk result (λ v. rows_in_turn (lookup_in_table (L.fits lookup_count) (L.font_value set_count))
         (items_view values.now) ≡ Ok v) }
     ensures refused { IfErr result (λ e. e ≢ JsonFault.OutOfMemory
-        → rows_in_turn (lookup_in_table (L.fits lookup_count) (L.part set_count)) (items_view values.now) ≡ Err e) }
+        → rows_in_turn (lookup_in_table (L.fits lookup_count) (L.font_value set_count)) (items_view values.now) ≡ Err e) }
 {
     let mut rows = Vec::new(alloc);
     for value in values {

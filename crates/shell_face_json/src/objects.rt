@@ -10,14 +10,14 @@ ghost use Rattle.shell_face_json.specs.Glyphs.{glyph_limit, subtables_of};
 use crate::glyphs::GLYPH_LIMIT;
 use crate::lists::{read_in_turn, read_list};
 use crate::rising::read_by_key;
-use crate::value::Part;
+use crate::value::FromJson;
 use buffer_rows::{Keyed, SortedRows};
 use layout_common::array::Array;
 use layout_common::digested::Covers;
 use layout_common::subtables::Subtables;
 use serde_json::Value;
 use shell_json::fault::JsonFault;
-use shell_json::parts::list_at;
+use shell_json::items::list_at;
 use std::alloc::Global;
 
 /// Refuses a value that is no object.
@@ -32,64 +32,64 @@ pub fn object(value: &Value) -> Result<(), JsonFault>
 }
 
 /// Reads the rows under a key in turn.
-pub fn read_in_turn_at<P: Part>(
+pub fn read_in_turn_at<P: FromJson>(
     alloc: Global,
     value: &Value,
     key: &str,
     limit: usize,
 ) -> Result<Array<P>, JsonFault>
     ensures ok { IfOk result (λ v.
-        rows_at key.now (rows_in_turn (P.part limit)) (view value.now) ≡ Ok v) }
+        rows_at key.now (rows_in_turn (P.font_value limit)) (view value.now) ≡ Ok v) }
     ensures refused { IfErr result (λ e. e ≢ JsonFault.OutOfMemory
-        → rows_at key.now (rows_in_turn (P.part limit)) (view value.now) ≡ Err e) }
+        → rows_at key.now (rows_in_turn (P.font_value limit)) (view value.now) ≡ Err e) }
 {
     read_in_turn(alloc, list_at(value, key)?, limit)
 }
 
 /// Reads the rows under a key in turn; their keys must rise strictly.
-pub fn read_by_key_at<R: Part + Keyed>(
+pub fn read_by_key_at<R: FromJson + Keyed>(
     alloc: Global,
     value: &Value,
     key: &str,
     limit: usize,
 ) -> Result<SortedRows<R>, JsonFault>
     ensures ok { IfOk result (λ v.
-        rows_at key.now (rows_by_key R.Key.cmp R.key_of (R.part limit) None) (view value.now) ≡ Ok v) }
+        rows_at key.now (rows_by_key R.Key.cmp R.key_of (R.font_value limit) None) (view value.now) ≡ Ok v) }
     ensures refused { IfErr result (λ e. e ≢ JsonFault.OutOfMemory
-        → rows_at key.now (rows_by_key R.Key.cmp R.key_of (R.part limit) None) (view value.now) ≡ Err e) }
+        → rows_at key.now (rows_by_key R.Key.cmp R.key_of (R.font_value limit) None) (view value.now) ≡ Err e) }
 {
     read_by_key(alloc, list_at(value, key)?, limit)
 }
 
 /// Reads the list under a key as a list inside a row.
-pub fn read_list_at<P: Part>(
+pub fn read_list_at<P: FromJson>(
     alloc: Global,
     value: &Value,
     key: &str,
     limit: usize,
 ) -> Result<Vec<P>, JsonFault>
     ensures ok { IfOk result (λ v.
-        rows_at key.now (items_of (P.part limit)) (view value.now) ≡ Ok v.items) }
+        rows_at key.now (items_of (P.font_value limit)) (view value.now) ≡ Ok v.items) }
     ensures refused { IfErr result (λ e. e ≢ JsonFault.OutOfMemory
-        → rows_at key.now (items_of (P.part limit)) (view value.now) ≡ Err e) }
+        → rows_at key.now (items_of (P.font_value limit)) (view value.now) ≡ Err e) }
 {
     read_list(alloc, list_at(value, key)?, limit)
 }
 
 /// Reads the value under a key; `None` where the key is missing.
-pub fn read_optional_at<P: Part>(
+pub fn read_optional_at<P: FromJson>(
     alloc: Global,
     value: &Value,
     key: &str,
     limit: usize,
 ) -> Result<Option<P>, JsonFault>
     ensures ok { IfOk result (λ v.
-        optional_value (P.part limit) (get key.now (view value.now)) ≡ Ok v) }
+        optional_value (P.font_value limit) (get key.now (view value.now)) ≡ Ok v) }
     ensures refused { IfErr result (λ e. e ≢ JsonFault.OutOfMemory
-        → optional_value (P.part limit) (get key.now (view value.now)) ≡ Err e) }
+        → optional_value (P.font_value limit) (get key.now (view value.now)) ≡ Err e) }
 {
     match value.get(key) {
-        Some(value) => Ok(Some(P::read_part(alloc, value, limit)?)),
+        Some(value) => Ok(Some(P::from_json(alloc, value, limit)?)),
         None => Ok(None),
     }
 }
@@ -109,10 +109,13 @@ pub fn count_at(value: &Value, key: &str) -> usize
 }
 
 /// Reads the subtables of a lookup, whose glyph numbers have 16 bits.
-pub fn subtables<S: Part + Covers>(alloc: Global, value: &Value) -> Result<Subtables<S>, JsonFault>
-    ensures ok { IfOk result (λ v. subtables_of (S.part glyph_limit) (view value.now) ≡ Ok v) }
+pub fn subtables<S: FromJson + Covers>(
+    alloc: Global,
+    value: &Value,
+) -> Result<Subtables<S>, JsonFault>
+    ensures ok { IfOk result (λ v. subtables_of (S.font_value glyph_limit) (view value.now) ≡ Ok v) }
     ensures refused { IfErr result (λ e. e ≢ JsonFault.OutOfMemory
-        → subtables_of (S.part glyph_limit) (view value.now) ≡ Err e) }
+        → subtables_of (S.font_value glyph_limit) (view value.now) ≡ Err e) }
 {
     let items = read_in_turn_at(alloc, value, "subtables", GLYPH_LIMIT)?;
     Ok(Subtables::new(alloc, items)?)

@@ -1,4 +1,6 @@
 //! Reads the GPOS table.
+//!
+//! GSUB's file has the same form: the lookups of the two tables are types of their own, as in rustybuzz.
 ghost use Rattle.std.specs.Prelude.{◌≡◌, ◌≢◌, IfOk, IfErr, Ok, Err, codes};
 ghost use Rattle.serde_json.specs.Find.{get};
 ghost use Rattle.serde_json.specs.View.{view};
@@ -7,7 +9,7 @@ ghost use Rattle.shell_face_json.specs.PositionTable.{positioning_type_in, posit
 use crate::features::read_layout;
 use crate::lookups::read_lookups;
 use crate::objects::{object, read_optional_at, subtables};
-use crate::value::Part;
+use crate::value::FromJson;
 use layout_face::positioning::{PositioningLookup, PositioningSubtables, PositioningTable};
 use serde_json::Value;
 use shell_json::fault::JsonFault;
@@ -84,10 +86,10 @@ fn read_subtables(
     }
 }
 
-impl Part for PositioningLookup {
-    ghost part = { positioning_lookup };
+impl FromJson for PositioningLookup {
+    ghost font_value = { positioning_lookup };
 
-    fn read_part(
+    fn from_json(
         alloc: Global,
         value: &Value,
         limit: usize,
@@ -101,10 +103,10 @@ impl Part for PositioningLookup {
     }
 }
 
-impl Part for PositioningTable {
-    ghost part = { positioning_table };
+impl FromJson for PositioningTable {
+    ghost font_value = { positioning_table };
 
-    fn read_part(
+    fn from_json(
         alloc: Global,
         value: &Value,
         limit: usize,

@@ -9,8 +9,8 @@ use crate::glyphs::{read_classes_at, read_coverage_at};
 use crate::lengths::{items_at, least_length};
 use crate::objects::{count_at, read_in_turn_at};
 use crate::rising::read_by_key;
-use crate::rows::{Parts, read_only, read_row};
-use crate::value::Part;
+use crate::rows::{FromItems, read_only, read_row};
+use crate::value::FromJson;
 use layout_tables::cursive::{CursivePos, EntryExit};
 use layout_tables::pair::{Class1Record, ClassPairs, GlyphPairs, PairPos, PairRow, PairValues};
 use layout_tables::pair_rows::PairRows;
@@ -18,22 +18,22 @@ use layout_tables::single_pos::SinglePos;
 use layout_tables::value::{Anchor, ValueRecord};
 use serde_json::Value;
 use shell_json::fault::JsonFault;
-use shell_json::parts::list;
+use shell_json::items::list;
 use std::alloc::Global;
 
-impl Part for Anchor {
-    ghost part = { λ _. anchor };
+impl FromJson for Anchor {
+    ghost font_value = { λ _. anchor };
 
-    fn read_part(alloc: Global, value: &Value, limit: usize) -> Result<Anchor, JsonFault> {
+    fn from_json(alloc: Global, value: &Value, limit: usize) -> Result<Anchor, JsonFault> {
         let (x, (y, ())) = read_row(alloc, value, limit)?;
         Ok(Anchor { x, y })
     }
 }
 
-impl Part for ValueRecord {
-    ghost part = { λ _. value_record };
+impl FromJson for ValueRecord {
+    ghost font_value = { λ _. value_record };
 
-    fn read_part(alloc: Global, value: &Value, limit: usize) -> Result<ValueRecord, JsonFault> {
+    fn from_json(alloc: Global, value: &Value, limit: usize) -> Result<ValueRecord, JsonFault> {
         let (x_placement, (y_placement, (x_advance, (y_advance, ())))) = read_row(
             alloc, value, limit,
         )?;
@@ -47,36 +47,36 @@ impl Part for ValueRecord {
 }
 
 /// A row of one value record.
-impl Parts for ValueRecord {
-    ghost parts = { λ _. only value_record };
+impl FromItems for ValueRecord {
+    ghost row_items = { λ _. only value_record };
 
-    fn read_parts(alloc: Global, values: &[Value], limit: usize) -> Result<ValueRecord, JsonFault> {
+    fn from_items(alloc: Global, values: &[Value], limit: usize) -> Result<ValueRecord, JsonFault> {
         read_only(alloc, values, limit)
     }
 }
 
-impl Part for SinglePos {
-    ghost part = { λ _. single_pos };
+impl FromJson for SinglePos {
+    ghost font_value = { λ _. single_pos };
 
-    fn read_part(alloc: Global, value: &Value, limit: usize) -> Result<SinglePos, JsonFault> {
+    fn from_json(alloc: Global, value: &Value, limit: usize) -> Result<SinglePos, JsonFault> {
         let rows = read_by_key(alloc, list(value)?, limit)?;
         Ok(SinglePos { rows })
     }
 }
 
-impl Part for PairValues {
-    ghost part = { λ _. pair_values };
+impl FromJson for PairValues {
+    ghost font_value = { λ _. pair_values };
 
-    fn read_part(alloc: Global, value: &Value, limit: usize) -> Result<PairValues, JsonFault> {
+    fn from_json(alloc: Global, value: &Value, limit: usize) -> Result<PairValues, JsonFault> {
         let (first, (second, ())) = read_row(alloc, value, limit)?;
         Ok(PairValues { first, second })
     }
 }
 
-impl Part for PairRow {
-    ghost part = { pair_row };
+impl FromJson for PairRow {
+    ghost font_value = { pair_row };
 
-    fn read_part(alloc: Global, value: &Value, limit: usize) -> Result<PairRow, JsonFault> {
+    fn from_json(alloc: Global, value: &Value, limit: usize) -> Result<PairRow, JsonFault> {
         let (first, (second, (one, (other, ())))) = read_row(alloc, value, limit)?;
         Ok(PairRow {
             first,
@@ -89,19 +89,19 @@ impl Part for PairRow {
     }
 }
 
-impl Part for Class1Record {
-    ghost part = { λ _. class1_record };
+impl FromJson for Class1Record {
+    ghost font_value = { λ _. class1_record };
 
-    fn read_part(alloc: Global, value: &Value, limit: usize) -> Result<Class1Record, JsonFault> {
-        let class2_records = Part::read_part(alloc, value, limit)?;
+    fn from_json(alloc: Global, value: &Value, limit: usize) -> Result<Class1Record, JsonFault> {
+        let class2_records = FromJson::from_json(alloc, value, limit)?;
         Ok(Class1Record { class2_records })
     }
 }
 
-impl Part for PairPos {
-    ghost part = { pair_pos };
+impl FromJson for PairPos {
+    ghost font_value = { pair_pos };
 
-    fn read_part(alloc: Global, value: &Value, limit: usize) -> Result<PairPos, JsonFault> {
+    fn from_json(alloc: Global, value: &Value, limit: usize) -> Result<PairPos, JsonFault> {
         if value.is_object() {
             return Ok(PairPos::Classes(read_class_pairs(alloc, value, limit)?));
         }
@@ -130,21 +130,21 @@ fn read_class_pairs(alloc: Global, value: &Value, limit: usize) -> Result<ClassP
 }
 
 /// The entry and exit anchors of cursive attachment.
-impl Parts for EntryExit {
-    ghost parts = { λ _. entry_exit };
+impl FromItems for EntryExit {
+    ghost row_items = { λ _. entry_exit };
 
-    fn read_parts(alloc: Global, values: &[Value], limit: usize) -> Result<EntryExit, JsonFault> {
-        let (entry, (exit, ())): (Option<Anchor>, (Option<Anchor>, ())) = Parts::read_parts(
+    fn from_items(alloc: Global, values: &[Value], limit: usize) -> Result<EntryExit, JsonFault> {
+        let (entry, (exit, ())): (Option<Anchor>, (Option<Anchor>, ())) = FromItems::from_items(
             alloc, values, limit,
         )?;
         Ok(EntryExit { entry, exit })
     }
 }
 
-impl Part for CursivePos {
-    ghost part = { λ _. cursive_pos };
+impl FromJson for CursivePos {
+    ghost font_value = { λ _. cursive_pos };
 
-    fn read_part(alloc: Global, value: &Value, limit: usize) -> Result<CursivePos, JsonFault> {
+    fn from_json(alloc: Global, value: &Value, limit: usize) -> Result<CursivePos, JsonFault> {
         let rows = read_by_key(alloc, list(value)?, limit)?;
         Ok(CursivePos { rows })
     }

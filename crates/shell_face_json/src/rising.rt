@@ -2,23 +2,23 @@
 ghost use Rattle.std.specs.Prelude.{◌≡◌, ◌≢◌, IfOk, IfErr, Ok, Err, None, true};
 ghost use Rattle.serde_json.specs.View.{items_view};
 ghost use Rattle.buffer_rows.specs.Keys.{is_above, is_rising};
-ghost use Rattle.shell_face_json.specs.Sorted.{rows_by_key, sorted_part};
+ghost use Rattle.shell_face_json.specs.Sorted.{rows_by_key, sorted_value};
 
 use crate::lists::read_list;
-use crate::value::Part;
+use crate::value::FromJson;
 use buffer_rows::{Keyed, SortedRows, is_above, is_rising};
 use serde_json::Value;
 use shell_json::fault::JsonFault;
-use shell_json::parts::list;
-use shell_json::rows::{RowReader, read_rows};
+use shell_json::items::list;
+use shell_json::rows::{RowReader, read_json_rows};
 use std::alloc::Global;
 use std::marker::PhantomData;
 
 /// A list of rows inside a row, whose keys rise strictly.
-impl<R: Part + Keyed> Part for SortedRows<R> {
-    ghost part = { λ limit. sorted_part R.Key.cmp R.key_of (R.part limit) };
+impl<R: FromJson + Keyed> FromJson for SortedRows<R> {
+    ghost font_value = { λ limit. sorted_value R.Key.cmp R.key_of (R.font_value limit) };
 
-    fn read_part(alloc: Global, value: &Value, limit: usize) -> Result<SortedRows<R>, JsonFault> {
+    fn from_json(alloc: Global, value: &Value, limit: usize) -> Result<SortedRows<R>, JsonFault> {
         let rows = read_list(alloc, list(value)?, limit)?;
         if !is_rising(&rows) {
             return Err(JsonFault::OutOfOrder);
@@ -29,15 +29,15 @@ impl<R: Part + Keyed> Part for SortedRows<R> {
 
 /// Reads the rows of a list in turn; each key has to be above the one before. The fault is that of the first row that
 /// has one: a fault of the row itself, else that its key is out of order.
-pub fn read_by_key<R: Part + Keyed>(
+pub fn read_by_key<R: FromJson + Keyed>(
     alloc: Global,
     values: &[Value],
     limit: usize,
 ) -> Result<SortedRows<R>, JsonFault>
     ensures ok { IfOk result (λ v.
-        rows_by_key R.Key.cmp R.key_of (R.part limit) None (items_view values.now) ≡ Ok v) }
+        rows_by_key R.Key.cmp R.key_of (R.font_value limit) None (items_view values.now) ≡ Ok v) }
     ensures refused { IfErr result (λ e. e ≢ JsonFault.OutOfMemory
-        → rows_by_key R.Key.cmp R.key_of (R.part limit) None (items_view values.now) ≡ Err e) }
+        → rows_by_key R.Key.cmp R.key_of (R.font_value limit) None (items_view values.now) ≡ Err e) }
 {
     Ok(SortedRows::new(read_rising(alloc, values, limit)?))
 }
@@ -49,19 +49,19 @@ struct ByKey<R> {
     rows: PhantomData<R>,
 }
 
-impl<R: Part + Keyed> RowReader for ByKey<R> {
+impl<R: FromJson + Keyed> RowReader for ByKey<R> {
     type Row = R;
 
     type Key = R::Key;
 
-    ghost means = { λ reader. R.part reader.limit };
+    ghost means = { λ reader. R.font_value reader.limit };
 
     ghost key_of = { R.key_of };
 
     ghost may_follow = { is_above R.Key.cmp };
 
     fn read_row(&self, alloc: Global, value: &Value) -> Result<R, JsonFault> {
-        R::read_part(alloc, value, self.limit)
+        R::from_json(alloc, value, self.limit)
     }
 
     fn key(row: &R) -> R::Key
@@ -79,20 +79,20 @@ impl<R: Part + Keyed> RowReader for ByKey<R> {
 
 /// Reads the rows of a list with rising keys into a vector.
 #[tactic(auto, using(crate::proofs::RisingKeys::keys_rise), unfolding(crate::specs::Sorted::rows_by_key))]
-pub fn read_rising<R: Part + Keyed>(
+pub fn read_rising<R: FromJson + Keyed>(
     alloc: Global,
     values: &[Value],
     limit: usize,
 ) -> Result<Vec<R>, JsonFault>
     ensures ok { IfOk result (λ v.
-        rows_by_key R.Key.cmp R.key_of (R.part limit) None (items_view values.now) ≡ Ok v.items) }
+        rows_by_key R.Key.cmp R.key_of (R.font_value limit) None (items_view values.now) ≡ Ok v.items) }
     ensures refused { IfErr result (λ e. e ≢ JsonFault.OutOfMemory
-        → rows_by_key R.Key.cmp R.key_of (R.part limit) None (items_view values.now) ≡ Err e) }
+        → rows_by_key R.Key.cmp R.key_of (R.font_value limit) None (items_view values.now) ≡ Err e) }
     ensures rising { IfOk result (λ v. is_rising R.Key.cmp R.key_of None v.items ≡ true) }
 {
     let reader = ByKey::<R> {
         limit,
         rows: PhantomData,
     };
-    read_rows(alloc, values, &reader)
+    read_json_rows(alloc, values, &reader)
 }

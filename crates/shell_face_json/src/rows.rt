@@ -4,33 +4,33 @@ ghost use Rattle.serde_json.specs.Data.{Items};
 ghost use Rattle.serde_json.specs.View.{view, items_view};
 ghost use Rattle.shell_json.specs.declared.fault.JsonFault.{JsonFault};
 ghost use Rattle.shell_json.specs.Cell.{and_then, i16_value};
-ghost use Rattle.shell_json.specs.Parts.{list_of};
+ghost use Rattle.shell_json.specs.Items.{list_of};
 ghost use Rattle.shell_face_json.specs.Lists.{number_below};
 ghost use Rattle.shell_face_json.specs.Row.{no_more, only, first_and_rest, first_in, row_of};
 
-use crate::value::Part;
+use crate::value::FromJson;
 use serde_json::Value;
 use shell_json::cell::pair;
 use shell_json::fault::JsonFault;
-use shell_json::parts::list;
+use shell_json::items::list;
 use std::alloc::Global;
 
 /// The items of a row from one of them on.
-pub trait Parts: Drop {
-    ghost parts: { ℕ → Items → Result Self JsonFault };
+pub trait FromItems: Drop {
+    ghost row_items: { ℕ → Items → Result Self JsonFault };
 
     /// Reads the remaining items of a row. Of several faults it returns the one that is first by its kind.
-    fn read_parts(alloc: Global, values: &[Value], limit: usize) -> Result<Self, JsonFault>
-        ensures ok { IfOk result (λ p. parts limit (items_view values.now) ≡ Ok p) }
+    fn from_items(alloc: Global, values: &[Value], limit: usize) -> Result<Self, JsonFault>
+        ensures ok { IfOk result (λ p. row_items limit (items_view values.now) ≡ Ok p) }
         ensures refused { IfErr result (λ e. e ≢ JsonFault.OutOfMemory
-            → parts limit (items_view values.now) ≡ Err e) };
+            → row_items limit (items_view values.now) ≡ Err e) };
 }
 
-impl Parts for () {
-    ghost parts = { λ _. no_more };
+impl FromItems for () {
+    ghost row_items = { λ _. no_more };
 
     #[tactic(auto, using(crate::proofs::Split::none_left, crate::proofs::Split::some_left))]
-    fn read_parts(_alloc: Global, values: &[Value], _limit: usize) -> Result<(), JsonFault> {
+    fn from_items(_alloc: Global, values: &[Value], _limit: usize) -> Result<(), JsonFault> {
         if values.is_empty() {
             Ok(())
         } else {
@@ -39,51 +39,51 @@ impl Parts for () {
     }
 }
 
-impl<A: Part, R: Parts> Parts for (A, R) {
-    ghost parts = { λ limit. first_and_rest (A.part limit) (R.parts limit) };
+impl<A: FromJson, R: FromItems> FromItems for (A, R) {
+    ghost row_items = { λ limit. first_and_rest (A.font_value limit) (R.row_items limit) };
 
-    fn read_parts(alloc: Global, values: &[Value], limit: usize) -> Result<(A, R), JsonFault> {
+    fn from_items(alloc: Global, values: &[Value], limit: usize) -> Result<(A, R), JsonFault> {
         let (first, rest) = split_first(values)?;
-        let first = A::read_part(alloc, first, limit);
-        pair(first, R::read_parts(alloc, rest, limit))
+        let first = A::from_json(alloc, first, limit);
+        pair(first, R::from_items(alloc, rest, limit))
     }
 }
 
 /// A row of one number.
-impl Parts for u16 {
-    ghost parts = { λ limit. only (number_below limit) };
+impl FromItems for u16 {
+    ghost row_items = { λ limit. only (number_below limit) };
 
-    fn read_parts(alloc: Global, values: &[Value], limit: usize) -> Result<u16, JsonFault> {
+    fn from_items(alloc: Global, values: &[Value], limit: usize) -> Result<u16, JsonFault> {
         read_only(alloc, values, limit)
     }
 }
 
 /// A row of one signed number.
-impl Parts for i16 {
-    ghost parts = { λ _. only i16_value };
+impl FromItems for i16 {
+    ghost row_items = { λ _. only i16_value };
 
-    fn read_parts(alloc: Global, values: &[Value], limit: usize) -> Result<i16, JsonFault> {
+    fn from_items(alloc: Global, values: &[Value], limit: usize) -> Result<i16, JsonFault> {
         read_only(alloc, values, limit)
     }
 }
 
 /// Reads a row of exactly one item.
-pub fn read_only<P: Part>(alloc: Global, values: &[Value], limit: usize) -> Result<P, JsonFault>
-    ensures ok { IfOk result (λ p. only (P.part limit) (items_view values.now) ≡ Ok p) }
+pub fn read_only<P: FromJson>(alloc: Global, values: &[Value], limit: usize) -> Result<P, JsonFault>
+    ensures ok { IfOk result (λ p. only (P.font_value limit) (items_view values.now) ≡ Ok p) }
     ensures refused { IfErr result (λ e. e ≢ JsonFault.OutOfMemory
-        → only (P.part limit) (items_view values.now) ≡ Err e) }
+        → only (P.font_value limit) (items_view values.now) ≡ Err e) }
 {
-    let (part, ()) = Parts::read_parts(alloc, values, limit)?;
-    Ok(part)
+    let (item, ()) = FromItems::from_items(alloc, values, limit)?;
+    Ok(item)
 }
 
 /// Reads a row of the given items.
-pub fn read_row<R: Parts>(alloc: Global, value: &Value, limit: usize) -> Result<R, JsonFault>
-    ensures ok { IfOk result (λ p. row_of (R.parts limit) (view value.now) ≡ Ok p) }
+pub fn read_row<R: FromItems>(alloc: Global, value: &Value, limit: usize) -> Result<R, JsonFault>
+    ensures ok { IfOk result (λ p. row_of (R.row_items limit) (view value.now) ≡ Ok p) }
     ensures refused { IfErr result (λ e. e ≢ JsonFault.OutOfMemory
-        → row_of (R.parts limit) (view value.now) ≡ Err e) }
+        → row_of (R.row_items limit) (view value.now) ≡ Err e) }
 {
-    R::read_parts(alloc, list(value)?, limit)
+    R::from_items(alloc, list(value)?, limit)
 }
 
 /// The first item of a row, and the items after it.

@@ -3,7 +3,7 @@ ghost use Rattle.shell_face_json.specs.Scripts.{lang_sys, lang_sys_entry, script
 
 use crate::objects::{object, read_list_at, read_optional_at};
 use crate::rows::read_row;
-use crate::value::Part;
+use crate::value::FromJson;
 use buffer_common::tag::Tag;
 use layout_common::array::Array;
 use layout_tables::is_rising;
@@ -13,10 +13,10 @@ use shell_json::cell::pair;
 use shell_json::fault::JsonFault;
 use std::alloc::Global;
 
-impl Part for LangSys {
-    ghost part = { lang_sys };
+impl FromJson for LangSys {
+    ghost font_value = { lang_sys };
 
-    fn read_part(alloc: Global, value: &Value, limit: usize) -> Result<LangSys, JsonFault> {
+    fn from_json(alloc: Global, value: &Value, limit: usize) -> Result<LangSys, JsonFault> {
         object(value)?;
         let required = read_optional_at::<u16>(alloc, value, "required", limit);
         let (required, features) = pair(required, read_list_at(alloc, value, "features", limit))?;
@@ -24,19 +24,19 @@ impl Part for LangSys {
     }
 }
 
-impl Part for LangSysRecord {
-    ghost part = { lang_sys_entry };
+impl FromJson for LangSysRecord {
+    ghost font_value = { lang_sys_entry };
 
-    fn read_part(alloc: Global, value: &Value, limit: usize) -> Result<LangSysRecord, JsonFault> {
+    fn from_json(alloc: Global, value: &Value, limit: usize) -> Result<LangSysRecord, JsonFault> {
         let (tag, (lang_sys, ())): (Tag, (LangSys, ())) = read_row(alloc, value, limit)?;
         Ok(LangSysRecord::new(tag, lang_sys))
     }
 }
 
-impl Part for ScriptRecord {
-    ghost part = { script };
+impl FromJson for ScriptRecord {
+    ghost font_value = { script };
 
-    fn read_part(alloc: Global, value: &Value, limit: usize) -> Result<ScriptRecord, JsonFault> {
+    fn from_json(alloc: Global, value: &Value, limit: usize) -> Result<ScriptRecord, JsonFault> {
         let (tag, (default, (systems, ()))): (Tag, (Option<LangSys>, (Array<LangSysRecord>, ()))) =
             read_row(alloc, value, limit)?;
         let systems = systems.into_vec();

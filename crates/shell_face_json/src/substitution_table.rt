@@ -1,4 +1,6 @@
 //! Reads the GSUB table.
+//!
+//! GPOS's file has the same form: the lookups of the two tables are types of their own, as in rustybuzz.
 ghost use Rattle.std.specs.Prelude.{◌≡◌, ◌≢◌, IfOk, IfErr, Ok, Err, codes};
 ghost use Rattle.serde_json.specs.Find.{get};
 ghost use Rattle.serde_json.specs.View.{view};
@@ -8,7 +10,7 @@ use crate::features::read_layout;
 use crate::glyphs::GLYPH_LIMIT;
 use crate::lookups::read_lookups;
 use crate::objects::{object, read_optional_at, subtables};
-use crate::value::Part;
+use crate::value::FromJson;
 use layout_face::substitution::{SubstLookup, SubstitutionSubtables, SubstitutionTable};
 use serde_json::Value;
 use shell_json::fault::JsonFault;
@@ -80,10 +82,10 @@ fn read_subtables(
     }
 }
 
-impl Part for SubstLookup {
-    ghost part = { substitution_lookup };
+impl FromJson for SubstLookup {
+    ghost font_value = { substitution_lookup };
 
-    fn read_part(alloc: Global, value: &Value, limit: usize) -> Result<SubstLookup, JsonFault> {
+    fn from_json(alloc: Global, value: &Value, limit: usize) -> Result<SubstLookup, JsonFault> {
         object(value)?;
         let flags = read_key(value, "flags", 0u16)?;
         let mark_filtering_set = read_optional_at(alloc, value, "set", limit)?;
@@ -93,10 +95,10 @@ impl Part for SubstLookup {
     }
 }
 
-impl Part for SubstitutionTable {
-    ghost part = { substitution_table };
+impl FromJson for SubstitutionTable {
+    ghost font_value = { substitution_table };
 
-    fn read_part(
+    fn from_json(
         alloc: Global,
         value: &Value,
         limit: usize,

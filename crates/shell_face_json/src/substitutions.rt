@@ -8,7 +8,7 @@ ghost use Rattle.shell_face_json.specs.Substitutions.{single, sequence_row, mult
 use crate::lists::read_list;
 use crate::rising::{read_by_key, read_rising};
 use crate::rows::read_row;
-use crate::value::Part;
+use crate::value::FromJson;
 use layout_common::array::Array;
 use layout_tables::ligature::{Ligature, LigatureSet, LigatureSubst};
 use layout_tables::reverse::ReverseChainSubst;
@@ -16,50 +16,50 @@ use layout_tables::sequence::{AlternateSubst, MultipleSubst, SequenceRow};
 use layout_tables::single_subst::SingleSubst;
 use serde_json::Value;
 use shell_json::fault::JsonFault;
-use shell_json::parts::list;
+use shell_json::items::list;
 use std::alloc::Global;
 use std::marker::Model;
 
-impl Part for SingleSubst {
-    ghost part = { single };
+impl FromJson for SingleSubst {
+    ghost font_value = { single };
 
-    fn read_part(alloc: Global, value: &Value, limit: usize) -> Result<SingleSubst, JsonFault> {
+    fn from_json(alloc: Global, value: &Value, limit: usize) -> Result<SingleSubst, JsonFault> {
         let rows = read_by_key(alloc, list(value)?, limit)?;
         Ok(SingleSubst { rows })
     }
 }
 
-impl Part for SequenceRow {
-    ghost part = { sequence_row };
+impl FromJson for SequenceRow {
+    ghost font_value = { sequence_row };
 
-    fn read_part(alloc: Global, value: &Value, limit: usize) -> Result<SequenceRow, JsonFault> {
+    fn from_json(alloc: Global, value: &Value, limit: usize) -> Result<SequenceRow, JsonFault> {
         let (glyph, (glyphs, ())) = read_row(alloc, value, limit)?;
         Ok(SequenceRow { glyph, glyphs })
     }
 }
 
-impl Part for MultipleSubst {
-    ghost part = { multiple };
+impl FromJson for MultipleSubst {
+    ghost font_value = { multiple };
 
-    fn read_part(alloc: Global, value: &Value, limit: usize) -> Result<MultipleSubst, JsonFault> {
+    fn from_json(alloc: Global, value: &Value, limit: usize) -> Result<MultipleSubst, JsonFault> {
         let rows = read_by_key(alloc, list(value)?, limit)?;
         Ok(MultipleSubst { rows })
     }
 }
 
-impl Part for AlternateSubst {
-    ghost part = { alternate };
+impl FromJson for AlternateSubst {
+    ghost font_value = { alternate };
 
-    fn read_part(alloc: Global, value: &Value, limit: usize) -> Result<AlternateSubst, JsonFault> {
+    fn from_json(alloc: Global, value: &Value, limit: usize) -> Result<AlternateSubst, JsonFault> {
         let rows = read_by_key(alloc, list(value)?, limit)?;
         Ok(AlternateSubst { rows })
     }
 }
 
-impl Part for Ligature {
-    ghost part = { ligature };
+impl FromJson for Ligature {
+    ghost font_value = { ligature };
 
-    fn read_part(alloc: Global, value: &Value, limit: usize) -> Result<Ligature, JsonFault> {
+    fn from_json(alloc: Global, value: &Value, limit: usize) -> Result<Ligature, JsonFault> {
         let (components, (glyph, ())): (Array<u16>, (u16, ())) = read_row(alloc, value, limit)?;
         Ok(Ligature::new(components.into_vec(), glyph))
     }
@@ -80,10 +80,10 @@ impl Model for Ligatures {
     ghost view = { λ l. l.ligatures.items };
 }
 
-impl Part for Ligatures {
-    ghost part = { ligatures };
+impl FromJson for Ligatures {
+    ghost font_value = { ligatures };
 
-    fn read_part(alloc: Global, value: &Value, limit: usize) -> Result<Ligatures, JsonFault> {
+    fn from_json(alloc: Global, value: &Value, limit: usize) -> Result<Ligatures, JsonFault> {
         let values = list(value)?;
         let ligatures = if is_ligature(values) {
             read_one(alloc, value, limit)?
@@ -100,7 +100,7 @@ fn read_one(alloc: Global, value: &Value, limit: usize) -> Result<Vec<Ligature>,
         → and_then (ligature limit (view value.now)) (λ l. Ok (l ∷ [])) ≡ Err e) }
 {
     let mut ligatures = Vec::new(alloc);
-    ligatures.push(Ligature::read_part(alloc, value, limit)?)?;
+    ligatures.push(Ligature::from_json(alloc, value, limit)?)?;
     Ok(ligatures)
 }
 
@@ -114,28 +114,28 @@ fn is_ligature(values: &[Value]) -> bool
     values[1].is_number()
 }
 
-impl Part for LigatureSet {
-    ghost part = { ligature_set };
+impl FromJson for LigatureSet {
+    ghost font_value = { ligature_set };
 
-    fn read_part(alloc: Global, value: &Value, limit: usize) -> Result<LigatureSet, JsonFault> {
+    fn from_json(alloc: Global, value: &Value, limit: usize) -> Result<LigatureSet, JsonFault> {
         let (first, (ligatures, ())): (u16, (Ligatures, ())) = read_row(alloc, value, limit)?;
         Ok(LigatureSet::new(first, ligatures.ligatures))
     }
 }
 
-impl Part for LigatureSubst {
-    ghost part = { ligature_subst };
+impl FromJson for LigatureSubst {
+    ghost font_value = { ligature_subst };
 
-    fn read_part(alloc: Global, value: &Value, limit: usize) -> Result<LigatureSubst, JsonFault> {
+    fn from_json(alloc: Global, value: &Value, limit: usize) -> Result<LigatureSubst, JsonFault> {
         let sets = read_rising(alloc, list(value)?, limit)?;
         Ok(LigatureSubst::new(sets))
     }
 }
 
-impl Part for ReverseChainSubst {
-    ghost part = { reverse };
+impl FromJson for ReverseChainSubst {
+    ghost font_value = { reverse };
 
-    fn read_part(
+    fn from_json(
         alloc: Global,
         value: &Value,
         limit: usize,

@@ -7,4 +7,4 @@ mod keys;
 mod rows;
 mod table;
 
-pub use face::{read_by_parts, read_face_text};
+pub use face::{read_by_keys, read_face_text};

@@ -12,32 +12,32 @@ use shell_json::fault::JsonFault;
 use std::alloc::Global;
 
 /// An item of a row, or a row: a number, a text, a list.
-pub trait Part: Drop {
-    ghost part: { ℕ → Data → Result Self JsonFault };
+pub trait FromJson: Drop {
+    ghost font_value: { ℕ → Data → Result Self JsonFault };
 
     /// Reads a value, in which each index must be below a limit: the length of the list that it points into.
-    fn read_part(alloc: Global, value: &Value, limit: usize) -> Result<Self, JsonFault>
-        ensures ok { IfOk result (λ p. part limit (view value.now) ≡ Ok p) }
+    fn from_json(alloc: Global, value: &Value, limit: usize) -> Result<Self, JsonFault>
+        ensures ok { IfOk result (λ p. font_value limit (view value.now) ≡ Ok p) }
         ensures refused { IfErr result (λ e. e ≢ JsonFault.OutOfMemory
-            → part limit (view value.now) ≡ Err e) };
+            → font_value limit (view value.now) ≡ Err e) };
 }
 
-impl<P: Part> Part for Option<P> {
-    ghost part = { λ limit. or_null (P.part limit) };
+impl<P: FromJson> FromJson for Option<P> {
+    ghost font_value = { λ limit. or_null (P.font_value limit) };
 
-    fn read_part(alloc: Global, value: &Value, limit: usize) -> Result<Option<P>, JsonFault> {
+    fn from_json(alloc: Global, value: &Value, limit: usize) -> Result<Option<P>, JsonFault> {
         match value {
             Value::Null => Ok(None),
-            _ => Ok(Some(P::read_part(alloc, value, limit)?)),
+            _ => Ok(Some(P::from_json(alloc, value, limit)?)),
         }
     }
 }
 
 /// A subtable with the set of the glyphs at which it can act.
-impl<S: Part + Covers> Part for Digested<S> {
-    ghost part = { S.part };
+impl<S: FromJson + Covers> FromJson for Digested<S> {
+    ghost font_value = { S.font_value };
 
-    fn read_part(alloc: Global, value: &Value, limit: usize) -> Result<Digested<S>, JsonFault> {
-        Ok(Digested::new(S::read_part(alloc, value, limit)?))
+    fn from_json(alloc: Global, value: &Value, limit: usize) -> Result<Digested<S>, JsonFault> {
+        Ok(Digested::new(S::from_json(alloc, value, limit)?))
     }
 }

@@ -1,4 +1,4 @@
-pub mod Items
+pub mod ByLength
 pub mod Pairs
 pub mod Rising
 pub mod Steps

@@ -2,5 +2,5 @@ pub mod Fault
 pub mod Cell
 pub mod Rows
 pub mod Objects
-pub mod Parts
+pub mod Items
 pub mod TextValues

@@ -1,4 +1,7 @@
 //! The faults of JSON values.
+//!
+//! As each error type of the workspace it has conversions from want of memory of its own: rt takes no impl that a macro
+//! of a repository writes.
 
 ghost use Rattle.std.specs.Prelude.{◌≡◌};
 ghost use Rattle.shell_json.specs.Fault.{name_of};

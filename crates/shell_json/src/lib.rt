@@ -4,11 +4,11 @@
 
 pub mod cell;
 pub mod fault;
+pub mod items;
 pub mod key_takers;
 pub mod keys;
 pub mod members;
 pub mod number;
-pub mod parts;
 pub mod rows;
 pub mod unread;
 pub mod value;

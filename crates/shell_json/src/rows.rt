@@ -38,7 +38,7 @@ pub trait RowReader {
 
 /// Reads the rows of a list; the fault of the first faulty row is returned, and of that row's faults the order is the
 /// last.
-pub fn read_rows<T: RowReader>(
+pub fn read_json_rows<T: RowReader>(
     alloc: Global,
     values: &[Value],
     reader: &T,

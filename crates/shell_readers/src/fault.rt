@@ -1,4 +1,7 @@
 //! The reasons why a run of the program is refused.
+//!
+//! As each error type of the workspace it has conversions from want of memory of its own: rt takes no impl that a macro
+//! of a repository writes.
 
 ghost use Rattle.std.specs.Prelude.{◌≡◌};
 ghost use Rattle.shell_readers.specs.Fault.{name_of, name_of_cause, name_of_line, status_of, status_of_line};

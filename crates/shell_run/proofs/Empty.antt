@@ -1,7 +1,7 @@
 -- The lines of the empty text.
 use Rattle.std.proofs.Common.{refl}
 use Rattle.std.proofs.lemmas.Str.{chars-nil}
-use Rattle.buffer_serialize.specs.Printed.{printed_text}
+use Rattle.buffer_wrappers.specs.Printed.{printed_text}
 use Rattle.shape_pipeline.specs.Shaped.{text_reading}
 use Rattle.shell_run.specs.Laws.{EmptyTextGivesEmptyLine}
 

@@ -22,7 +22,7 @@ use Rattle.shell_readers.specs.Values.{then_run}
 use Rattle.buffer_glyphs.specs.Items.{Position}
 use Rattle.buffer_glyphs.specs.Origins.{numbers}
 use Rattle.buffer_core.specs.Readings.{Reading, BufferState, state_after}
-use Rattle.buffer_serialize.specs.Printed.{printed_text}
+use Rattle.buffer_wrappers.specs.Printed.{printed_text}
 use Rattle.buffer_core.specs.Sides.{Sides, empty_buffer, state_of}
 use Rattle.buffer_core.specs.Text.{fits_text}
 use Rattle.script_categories.specs.LongestMatch.{syllable_at}

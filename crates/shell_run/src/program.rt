@@ -54,7 +54,7 @@ pub fn end<E: Write>(answer: Result<(), RunFault>, err: &mut E) -> Ending
 
 /// Runs the program with its command-line words: opens tables, font and text, `-` for standard input, in this order, writes
 /// the printed lines to `out`, and the line of a fault to `err`.
-pub fn shape<F: Read + Drop, O: Files<F>, W: Write, E: Write>(
+pub fn run_program<F: Read + Drop, O: Files<F>, W: Write, E: Write>(
     alloc: Global,
     words: &[String],
     files: &mut O,

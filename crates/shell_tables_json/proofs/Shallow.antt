@@ -8,7 +8,7 @@ use Rattle.serde_json.specs.Find.{get, as_array, as_integer, as_number, as_str}
 use Rattle.shell_json.specs.declared.fault.JsonFault.{JsonFault}
 use Rattle.shell_json.specs.declared.fault.JsonFault.TheVariants.{WrongShape, FloatNumber, UnknownName, OutOfOrder, OutOfRange, SplitDepth}
 use Rattle.shell_json.specs.Cell.{and_then, both, character, first_fault, in_characters, integer, integer_of, is_scalar_value, rank_of}
-use Rattle.shell_json.specs.Parts.{four_in, in_natural_numbers_below, list_at, list_of, list_or_none, natural_number_below, row_of_four, row_of_three, row_of_two, text, three_in, two_in}
+use Rattle.shell_json.specs.Items.{four_in, in_natural_numbers_below, list_at, list_of, list_or_none, natural_number_below, row_of_four, row_of_three, row_of_two, text, three_in, two_in}
 use Rattle.shell_json.specs.Rows.{after, row_in_order, row_after, rows_after}
 use Rattle.script_categories.specs.Indic.{ot_categories, ot_positions}
 use Rattle.script_categories.specs.Joining.{joining_type_names}

@@ -16,7 +16,7 @@ use Rattle.buffer_unicode.specs.declared.rows.Split.{Split}
 use Rattle.buffer_unicode_tables.specs.Hangul.{hangul_split, is_syllable}
 use Rattle.buffer_unicode_tables.specs.Tables.{Tables, split_in}
 use Rattle.buffer_unicode_tables.proofs.Syllables.{among_bounds, no_split_without_syllable}
-use Rattle.shell_json.specs.Parts.{list_at, list_of, three_in}
+use Rattle.shell_json.specs.Items.{list_at, list_of, three_in}
 use Rattle.shell_tables_json.specs.Characters.{character_class, character_range, counterpart, indic_row, joining_row, pair, split_row, thai_row, universal_row}
 use Rattle.shell_tables_json.specs.Rows.{rows_at}
 use Rattle.std.specs.Prelude.{codes}

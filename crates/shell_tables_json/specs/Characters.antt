@@ -3,7 +3,7 @@ use Rattle.std.specs.Prelude.{Result, Ok}
 use Rattle.serde_json.specs.Data.{Data}
 use Rattle.shell_json.specs.declared.fault.JsonFault.{JsonFault}
 use Rattle.shell_json.specs.Cell.{and_then, character}
-use Rattle.shell_json.specs.Parts.{row_of_two, row_of_three, row_of_four, natural_number_below}
+use Rattle.shell_json.specs.Items.{row_of_two, row_of_three, row_of_four, natural_number_below}
 use Rattle.script_categories.specs.Indic.{ot_categories, ot_positions}
 use Rattle.script_categories.specs.Joining.{joining_type_names}
 use Rattle.script_categories.specs.Thai.{thai_actions}

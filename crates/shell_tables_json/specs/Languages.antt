@@ -8,7 +8,7 @@ use Rattle.shell_json.specs.declared.fault.JsonFault.{JsonFault}
 use Rattle.shell_json.specs.declared.fault.JsonFault.TheVariants.{WrongShape}
 use Rattle.shell_json.specs.Cell.{and_then}
 use Rattle.shell_json.specs.Objects.{of_object}
-use Rattle.shell_json.specs.Parts.{list_of, list_at, row_of_two, text, tag}
+use Rattle.shell_json.specs.Items.{list_of, list_at, row_of_two, text, tag}
 use Rattle.shell_json.specs.Rows.{after, is_above, rows_after}
 use Rattle.buffer_common.specs.declared.tag.Tag.{Tag}
 use Rattle.buffer_tags.specs.declared.language_table.LanguageRow.{LanguageRow}

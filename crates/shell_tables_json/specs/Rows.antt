@@ -5,7 +5,7 @@ use Rattle.serde_json.specs.Data.{Data}
 use Rattle.shell_json.specs.declared.fault.JsonFault.{JsonFault}
 use Rattle.shell_json.specs.declared.fault.JsonFault.TheVariants.{UnknownName}
 use Rattle.shell_json.specs.Cell.{and_then}
-use Rattle.shell_json.specs.Parts.{list_at, text}
+use Rattle.shell_json.specs.Items.{list_at, text}
 use Rattle.shell_json.specs.Rows.{rows_after}
 use Rattle.script_categories.specs.Names.{number_of}
 use Rattle.buffer_unicode.specs.Keys.{follows}

@@ -5,7 +5,7 @@ use Rattle.serde_json.specs.Find.{get}
 use Rattle.shell_json.specs.declared.fault.JsonFault.{JsonFault}
 use Rattle.shell_json.specs.Cell.{and_then}
 use Rattle.shell_json.specs.Objects.{read_or, of_object}
-use Rattle.shell_json.specs.Parts.{row_of_two, row_of_three, natural_number_below}
+use Rattle.shell_json.specs.Items.{row_of_two, row_of_three, natural_number_below}
 use Rattle.script_categories.specs.Shapers.{categories_of, kinds_of}
 use Rattle.script_categories.specs.declared.shaper.hb_ot_script_shaper_t.{hb_ot_script_shaper_t}
 use Rattle.script_categories.specs.declared.shaper.hb_ot_script_shaper_t.TheVariants.{INDIC_SHAPER, KHMER_SHAPER, MYANMAR_SHAPER, UNIVERSAL_SHAPER}

@@ -1,4 +1,6 @@
 //! Reads a row of each character table.
+//!
+//! Each kind of row has its reader, by its own definition; all have this form.
 ghost use Rattle.std.specs.Prelude.{◌≡◌};
 ghost use Rattle.serde_json.specs.View.{view};
 ghost use Rattle.shell_json.specs.Cell.{both, character};
@@ -6,7 +8,10 @@ ghost use Rattle.script_categories.specs.Thai.{thai_actions};
 ghost use Rattle.shell_tables_json.specs.Rows.{number_of_name};
 ghost use Rattle.shell_tables_json.specs.Characters.{split_row, pair, character_class, counterpart, character_range, joining_row, indic_row, universal_row, thai_row};
 
-use crate::names::{indic_category, indic_position, joining_type, thai_action, universal_category};
+use crate::names::{
+    indic_category_of_name, indic_position_of_name, joining_type_of_name, thai_action_of_name,
+    universal_category_of_name,
+};
 use crate::rows::RowReader;
 use buffer_unicode::{
     CharacterClass, CharacterRange, Counterpart, IndicRow, JoiningRow, Pair, Split, ThaiRow,
@@ -15,7 +20,7 @@ use buffer_unicode::{
 use serde_json::Value;
 use shell_json::cell::{Cell, pair};
 use shell_json::fault::JsonFault;
-use shell_json::parts::{four_parts, three_parts, two_parts};
+use shell_json::items::{four_items, three_items, two_items};
 
 /// Reads a character and the two halves of its decomposition.
 #[derive(Clone, Copy)]
@@ -27,7 +32,7 @@ impl RowReader for Splits {
     ghost means = { λ _. split_row };
 
     fn read_row(self, value: &Value) -> Result<Split, JsonFault> {
-        let (whole, first, second) = three_parts(value)?;
+        let (whole, first, second) = three_items(value)?;
         let parts = pair(char::read(first), char::read(second));
         let (whole, (first, second)) = pair(char::read(whole), parts)?;
         Ok(Split {
@@ -48,7 +53,7 @@ impl RowReader for Pairs {
     ghost means = { λ _. pair };
 
     fn read_row(self, value: &Value) -> Result<Pair, JsonFault> {
-        let (first, second, whole) = three_parts(value)?;
+        let (first, second, whole) = three_items(value)?;
         let rest = pair(char::read(second), char::read(whole));
         let (first, (second, whole)) = pair(char::read(first), rest)?;
         Ok(Pair {
@@ -69,7 +74,7 @@ impl RowReader for Classes {
     ghost means = { λ _. character_class };
 
     fn read_row(self, value: &Value) -> Result<CharacterClass, JsonFault> {
-        let (character, class) = two_parts(value)?;
+        let (character, class) = two_items(value)?;
         let (character, class) = pair(char::read(character), u8::read(class))?;
         Ok(CharacterClass { character, class })
     }
@@ -85,7 +90,7 @@ impl RowReader for Counterparts {
     ghost means = { λ _. counterpart };
 
     fn read_row(self, value: &Value) -> Result<Counterpart, JsonFault> {
-        let (character, counterpart) = two_parts(value)?;
+        let (character, counterpart) = two_items(value)?;
         let (character, counterpart) = pair(char::read(character), char::read(counterpart))?;
         Ok(Counterpart {
             character,
@@ -104,7 +109,7 @@ impl RowReader for Ranges {
     ghost means = { λ _. character_range };
 
     fn read_row(self, value: &Value) -> Result<CharacterRange, JsonFault> {
-        let (first, last) = two_parts(value)?;
+        let (first, last) = two_items(value)?;
         let (first, last) = pair(char::read(first), char::read(last))?;
         Ok(CharacterRange { first, last })
     }
@@ -120,8 +125,8 @@ impl RowReader for JoiningRows {
     ghost means = { λ _. joining_row };
 
     fn read_row(self, value: &Value) -> Result<JoiningRow, JsonFault> {
-        let (character, name) = two_parts(value)?;
-        let (character, joining_type) = pair(char::read(character), joining_type(name))?;
+        let (character, name) = two_items(value)?;
+        let (character, joining_type) = pair(char::read(character), joining_type_of_name(name))?;
         Ok(JoiningRow {
             character,
             joining_type,
@@ -139,8 +144,11 @@ impl RowReader for IndicRows {
     ghost means = { λ _. indic_row };
 
     fn read_row(self, value: &Value) -> Result<IndicRow, JsonFault> {
-        let (character, category, position) = three_parts(value)?;
-        let names = pair(indic_category(category), indic_position(position));
+        let (character, category, position) = three_items(value)?;
+        let names = pair(
+            indic_category_of_name(category),
+            indic_position_of_name(position),
+        );
         let (character, (category, position)) = pair(char::read(character), names)?;
         Ok(IndicRow {
             character,
@@ -160,8 +168,8 @@ impl RowReader for UniversalRows {
     ghost means = { λ _. universal_row };
 
     fn read_row(self, value: &Value) -> Result<UniversalRow, JsonFault> {
-        let (character, name) = two_parts(value)?;
-        let (character, category) = pair(char::read(character), universal_category(name))?;
+        let (character, name) = two_items(value)?;
+        let (character, category) = pair(char::read(character), universal_category_of_name(name))?;
         Ok(UniversalRow {
             character,
             category,
@@ -179,7 +187,7 @@ impl RowReader for ThaiRows {
     ghost means = { λ _. thai_row };
 
     fn read_row(self, value: &Value) -> Result<ThaiRow, JsonFault> {
-        let (character, action, first, second) = four_parts(value)?;
+        let (character, action, first, second) = four_items(value)?;
         let rest = action_and_forms(action, first, second);
         let (character, (action, (first, second))) = pair(char::read(character), rest)?;
         Ok(ThaiRow {
@@ -200,5 +208,5 @@ fn action_and_forms(
         (both (character (view first.now)) (character (view second.now))) }
 {
     let forms = pair(char::read(first), char::read(second));
-    pair(thai_action(action), forms)
+    pair(thai_action_of_name(action), forms)
 }

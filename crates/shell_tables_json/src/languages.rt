@@ -11,7 +11,7 @@ use buffer_tags::language_table::{LanguageRow, LanguageTable};
 use serde_json::Value;
 use shell_json::cell::{Cell, pair};
 use shell_json::fault::JsonFault;
-use shell_json::parts::{list, list_at, text, two_parts};
+use shell_json::items::{list, list_at, text, two_items};
 use std::alloc::Global;
 
 /// The greatest number of OpenType tags of a language.
@@ -25,11 +25,11 @@ pub fn read_languages(alloc: Global, value: &Value) -> Result<LanguageTable, Jso
     if !value.is_object() {
         return Err(JsonFault::WrongShape);
     }
-    let rows = read_rows(alloc, list_at(value, "languages")?)?;
+    let rows = read_language_rows(alloc, list_at(value, "languages")?)?;
     Ok(LanguageTable::new(rows))
 }
 
-fn read_rows(alloc: Global, values: &[Value]) -> Result<Vec<LanguageRow>, JsonFault>
+fn read_language_rows(alloc: Global, values: &[Value]) -> Result<Vec<LanguageRow>, JsonFault>
     ensures ok { IfOk result (λ v. languages_in_order (items_view values.now) ≡ Ok (map language_in v.items)) }
     ensures refused { IfErr result (λ e. e ≢ JsonFault.OutOfMemory
         → languages_in_order (items_view values.now) ≡ Err e) }
@@ -60,7 +60,7 @@ fn read_row(alloc: Global, value: &Value) -> Result<LanguageRow, JsonFault>
     ensures ok { IfOk result (λ r. language (view value.now) ≡ Ok (language_in r)) }
     ensures refused { IfErr result (λ e. e ≢ JsonFault.OutOfMemory → language (view value.now) ≡ Err e) }
 {
-    let (name, tags) = two_parts(value)?;
+    let (name, tags) = two_items(value)?;
     let (name, tags) = pair(text(name), read_tags(tags))?;
     Ok(LanguageRow {
         text: String::from_str(alloc, name)?,

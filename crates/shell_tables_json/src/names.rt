@@ -14,45 +14,45 @@ use script_categories::{
 };
 use serde_json::Value;
 use shell_json::fault::JsonFault;
-use shell_json::parts::text;
+use shell_json::items::text;
 
 /// The number of a joining type, by its name.
-pub fn joining_type(value: &Value) -> Result<u8, JsonFault>
+pub fn joining_type_of_name(value: &Value) -> Result<u8, JsonFault>
     ensures { result ≡ number_of_name joining_type_names (view value.now) }
 {
     joining_type_number(text(value)?).ok_or(JsonFault::UnknownName)
 }
 
 /// The number of an Indic syllabic category, by its name.
-pub fn indic_category(value: &Value) -> Result<u8, JsonFault>
+pub fn indic_category_of_name(value: &Value) -> Result<u8, JsonFault>
     ensures { result ≡ number_of_name ot_categories (view value.now) }
 {
     indic_category_number(text(value)?).ok_or(JsonFault::UnknownName)
 }
 
 /// The number of an Indic position, by its name.
-pub fn indic_position(value: &Value) -> Result<u8, JsonFault>
+pub fn indic_position_of_name(value: &Value) -> Result<u8, JsonFault>
     ensures { result ≡ number_of_name ot_positions (view value.now) }
 {
     indic_position_number(text(value)?).ok_or(JsonFault::UnknownName)
 }
 
 /// The number of a category of the universal shaper, by its name.
-pub fn universal_category(value: &Value) -> Result<u8, JsonFault>
+pub fn universal_category_of_name(value: &Value) -> Result<u8, JsonFault>
     ensures { result ≡ number_of_name universal_categories (view value.now) }
 {
     universal_category_number(text(value)?).ok_or(JsonFault::UnknownName)
 }
 
 /// The number of a Thai action, by its name.
-pub fn thai_action(value: &Value) -> Result<u8, JsonFault>
+pub fn thai_action_of_name(value: &Value) -> Result<u8, JsonFault>
     ensures { result ≡ number_of_name thai_actions (view value.now) }
 {
     thai_action_number(text(value)?).ok_or(JsonFault::UnknownName)
 }
 
 /// The number of a category of a shaper's syllables, by its name.
-pub fn category(shaper: hb_ot_script_shaper_t, value: &Value) -> Result<u8, JsonFault>
+pub fn category_of_name(shaper: hb_ot_script_shaper_t, value: &Value) -> Result<u8, JsonFault>
     ensures { result ≡ number_of_name (categories_of shaper) (view value.now) }
 {
     shaper
@@ -61,7 +61,7 @@ pub fn category(shaper: hb_ot_script_shaper_t, value: &Value) -> Result<u8, Json
 }
 
 /// The number of a kind of a shaper's syllables, by its name.
-pub fn kind(shaper: hb_ot_script_shaper_t, value: &Value) -> Result<u8, JsonFault>
+pub fn kind_of_name(shaper: hb_ot_script_shaper_t, value: &Value) -> Result<u8, JsonFault>
     ensures { result ≡ number_of_name (kinds_of shaper) (view value.now) }
 {
     shaper

@@ -9,8 +9,8 @@ ghost use Rattle.buffer_unicode.specs.Keys.{follows, is_rising};
 use buffer_unicode::{DoublyKeyed, follows};
 use serde_json::Value;
 use shell_json::fault::JsonFault;
-use shell_json::parts::list_at;
-use shell_json::rows::read_rows;
+use shell_json::items::list_at;
+use shell_json::rows::read_json_rows;
 use std::alloc::Global;
 
 /// The reader of a list's rows.
@@ -71,5 +71,5 @@ pub fn read_rows_at<T: RowReader>(
         → rows_at key.now T.Row.high T.Row.low (T.means reader) (view value.now) ≡ Err e) }
     ensures rising { IfOk result (λ v. is_rising T.Row.high T.Row.low v.items ≡ true) }
 {
-    read_rows(alloc, list_at(value, key)?, &Rising { reader })
+    read_json_rows(alloc, list_at(value, key)?, &Rising { reader })
 }

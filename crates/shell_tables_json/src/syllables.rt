@@ -7,7 +7,7 @@ ghost use Rattle.script_categories.specs.Machines.{machine_in, machines_in};
 ghost use Rattle.script_categories.specs.Sound.{AreRising, IsRising};
 ghost use Rattle.shell_tables_json.specs.Syllables.{step, accept, machine_keys, machine_at, machines_keys, syllables_key, syllables_of};
 
-use crate::names::{category, kind};
+use crate::names::{category_of_name, kind_of_name};
 use crate::rows::{RowReader, read_rows_at};
 use script_categories::hb_ot_script_shaper_t::{
     self, INDIC_SHAPER, KHMER_SHAPER, MYANMAR_SHAPER, UNIVERSAL_SHAPER,
@@ -16,8 +16,8 @@ use script_categories::{Accept, Step, SyllableMachine, SyllableMachines, Syllabl
 use serde_json::Value;
 use shell_json::cell::pair;
 use shell_json::fault::JsonFault;
+use shell_json::items::{natural_number_below, three_items, two_items};
 use shell_json::keys::read_key;
-use shell_json::parts::{natural_number_below, three_parts, two_parts};
 use std::alloc::Global;
 
 /// The steps of a machine with that many states.
@@ -33,10 +33,13 @@ impl RowReader for Steps {
     ghost means = { λ s. step s.shaper s.states };
 
     fn read_row(self, value: &Value) -> Result<Step, JsonFault> {
-        let (state, name, next) = three_parts(value)?;
+        let (state, name, next) = three_items(value)?;
         let state = natural_number_below(state, self.states);
         let next = natural_number_below(next, self.states);
-        let (state, (category, next)) = pair(state, pair(category(self.shaper, name), next))?;
+        let (state, (category, next)) = pair(
+            state,
+            pair(category_of_name(self.shaper, name), next),
+        )?;
         Ok(Step {
             state,
             category,
@@ -58,9 +61,9 @@ impl RowReader for Accepts {
     ghost means = { λ a. accept a.shaper a.states };
 
     fn read_row(self, value: &Value) -> Result<Accept, JsonFault> {
-        let (state, name) = two_parts(value)?;
+        let (state, name) = two_items(value)?;
         let state = natural_number_below(state, self.states);
-        let (state, kind) = pair(state, kind(self.shaper, name))?;
+        let (state, kind) = pair(state, kind_of_name(self.shaper, name))?;
         Ok(Accept { state, kind })
     }
 }

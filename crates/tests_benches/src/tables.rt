@@ -1,6 +1,8 @@
 //! Looks a million characters up in a table of some 5,000 characters, spread like those of Unicode's tables: running
 //! text, characters at random, and text that the table lacks, by binary search and by pages. Then the same in tables of
 //! the size of a large font's, by binary search.
+//!
+//! Its records have the form of those in `tests_text`, where the look-ups themselves are tested.
 ghost use Rattle.std.specs.Prelude.{◌≡◌, IfOk};
 ghost use Rattle.buffer_rows.specs.Keys.{numbers_rise};
 

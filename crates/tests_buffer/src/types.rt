@@ -1,4 +1,6 @@
 //! The numbers of flags, levels and bit sets, glyph records, and the names of causes.
+//!
+//! Other lists of numbered names have the same form; each has its own type.
 use bitflags::Flags;
 use buffer_glyphs::cause::ShapeCause;
 use buffer_glyphs::flags::{GlyphPropsFlags, SerializeFlags, UnicodeProps};

@@ -3,7 +3,7 @@ use crate::rows::{first_wrong, prints};
 use crate::{positions, substitutions};
 use buffer_glyphs::names::{GlyphId, GlyphNames};
 use layout_face::Face;
-use shell_face_json::read_by_parts;
+use shell_face_json::read_by_keys;
 use std::alloc::{AllocError, Global};
 use std::test::Fail;
 
@@ -173,7 +173,7 @@ static ALL_KEYS: &str =
 
 /// Reads a font that can be read by its parts, so that only want of memory can prevent it.
 fn read_font_by_parts(alloc: Global, text: &str) -> Result<(), AllocError> {
-    match read_by_parts(alloc, text) {
+    match read_by_keys(alloc, text) {
         Ok(_) => Ok(()),
         Err(_) => Err(AllocError),
     }

@@ -1,4 +1,6 @@
 //! Maps that builders compile: features with their bits, and the lookups of stages.
+//!
+//! The two tables have functions of one form, since their lookups are types of their own.
 use Asked::{Feature, Pause};
 use buffer_common::tag::Tag;
 use layout_common::array::Array;

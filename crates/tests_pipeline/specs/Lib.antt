@@ -1,1 +1,2 @@
 pub mod Decomposing
+pub mod Refused

@@ -1,4 +1,6 @@
 //! A shaper that prefers decomposed characters and has no hooks: its laws can be met outside the stack.
+//!
+//! Its calls repeat the arguments of the trait of shapers, as each impl of the trait does.
 use buffer_common::script::Script;
 use buffer_common::tag::Tag;
 use buffer_core::buffer::hb_buffer_t;

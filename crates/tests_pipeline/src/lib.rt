@@ -1,5 +1,5 @@
 //! Tests of shaping with and without plans, with a shaper of their own, and of the conditions under which canonically
-//! equivalent texts shape alike.
+//! equivalent texts shape alike; shapers whose rules the laws of `script_plan` refuse.
 //!
 //! Each module of tests has a line `#[cfg(test)]`, since the gate also proves the crate without its tests: with none of
 //! these lines it would prove every function twice.
@@ -25,6 +25,7 @@ mod plans;
 mod premises;
 #[cfg(test)]
 mod refilled;
+pub mod refused_shapers;
 #[cfg(test)]
 mod rows;
 #[cfg(test)]

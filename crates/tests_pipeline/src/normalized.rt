@@ -1,4 +1,6 @@
 //! Texts that are normalized by a plan, with a context and without one.
+//!
+//! The two ways to normalize a text have a function each, alike but for the call.
 ghost use Rattle.std.specs.Prelude.{◌≡◌, false, IfOk, OnOk};
 ghost use Rattle.buffer_stages.specs.Ready.{IsReady};
 

@@ -3,7 +3,7 @@ use crate::languages;
 use crate::rows::{is_row, part, rows_of};
 use shell_readers::fault::RunFault;
 use shell_run::files::Files;
-use shell_run::program::shape;
+use shell_run::program::run_program;
 use std::alloc::{AllocError, Global};
 use std::test::Fail;
 
@@ -110,7 +110,7 @@ fn is_followed(alloc: Global, row: &str) -> Result<bool, Fail> {
     };
     let mut written = Vec::with_capacity(alloc, ROOM)?;
     let mut reported = Vec::with_capacity(alloc, ROOM)?;
-    let ending = shape(alloc, &words, &mut files, &mut written, &mut reported);
+    let ending = run_program(alloc, &words, &mut files, &mut written, &mut reported);
     if ending.fault == Some(RunFault::OutOfMemory) {
         return Err(AllocError.into());
     }

@@ -1,4 +1,6 @@
 //! A nested positioning as a call of the apply context.
+//!
+//! `replacements` has the same test of GSUB's nested lookups, whose call is another trait's.
 ghost use Rattle.buffer_stages.specs.Ready.{IsReady};
 
 use crate::buffers::{buffer_of, set_budget};

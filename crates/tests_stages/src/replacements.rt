@@ -1,4 +1,6 @@
 //! What an apply context answers at the cursor: its replacements, and a nested substitution.
+//!
+//! `nested_positions` has the same test of GPOS's nested lookups, whose call is another trait's.
 ghost use Rattle.buffer_stages.specs.Ready.{IsReady};
 
 use crate::buffers::{buffer_of, set_budget};

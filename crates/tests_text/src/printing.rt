@@ -5,7 +5,7 @@ use buffer_glyphs::flags::SerializeFlags;
 use buffer_glyphs::info::hb_glyph_info_t;
 use buffer_glyphs::names::{GlyphId, GlyphNames, hb_glyph_extents_t};
 use buffer_glyphs::position::GlyphPosition;
-use buffer_serialize::serialize;
+use buffer_wrappers::serialize;
 use std::alloc::{AllocError, Global};
 use std::process::Abort;
 use std::test::Fail;

@@ -4,7 +4,7 @@ use serde_json::Value;
 use shell_json::cell::Cell;
 use shell_json::fault::JsonFault;
 use shell_json::keys::read_key;
-use shell_json::parts::{four_parts, list_at, natural_number_below, three_parts, two_parts};
+use shell_json::items::{four_items, list_at, natural_number_below, three_items, two_items};
 use std::alloc::Global;
 use std::process::Abort;
 use std::test::Fail;
@@ -84,9 +84,9 @@ fn is_answer(value: &Value, asked: &str, answer: &str) -> bool {
         "byte" => name_of(u8::read(value).err()) == answer,
         "number" => name_of(natural_number_below(value, 70_000).err()) == answer,
         "tag" => name_of(Tag::read(value).err()) == answer,
-        "two" => name_of(two_parts(value).err()) == answer,
-        "three" => name_of(three_parts(value).err()) == answer,
-        "four" => name_of(four_parts(value).err()) == answer,
+        "two" => name_of(two_items(value).err()) == answer,
+        "three" => name_of(three_items(value).err()) == answer,
+        "four" => name_of(four_items(value).err()) == answer,
         _ => count_in_k(value) == answer.parse::<usize>().ok(),
     }
 }

@@ -1,4 +1,6 @@
 //! Merges and glyph flags of ranges that begin in the output (rustybuzz: hb/buffer.rs).
+//!
+//! Functions repeat clauses: each requires what the one that it calls requires.
 ghost use Rattle.std.specs.Prelude.{◌≡◌, ◌+◌, ◌-◌, ◌≤◌, ◌<◌, if◌then◌else◌, nat_lt, true, false, length, ◌∷◌, []};
 ghost use Rattle.buffer_core.specs.Sides.{items_of, origins_of, origins_by};
 ghost use Rattle.buffer_core.specs.Merging.{index_in_all, with_output_merged};
@@ -26,7 +28,7 @@ impl hb_buffer_t {
         self.order.settle(&self.info);
         self.order.known = over::merge_output(
             &mut self.info,
-            self.front,
+            self.out_len,
             self.idx,
             start,
             end,
@@ -87,9 +89,9 @@ impl hb_buffer_t {
         ensures marked { self.new ≡ with_flagged_apart flags start (index_in_all end self.old) self.old }
     {
         self.order.settle(&self.info);
-        let (front, from) = (self.front, self.idx);
+        let (out_len, from) = (self.out_len, self.idx);
         let count = end + self.gap - from;
-        let any = over::mark_across(&mut self.info, front, from, start, count, flags);
+        let any = over::mark_across(&mut self.info, out_len, from, start, count, flags);
         self.scratch_flags = add_has_glyph_flags(any, self.scratch_flags);
     }
 
@@ -102,10 +104,10 @@ impl hb_buffer_t {
         ensures marked { self.new ≡ with_flagged flags start (index_in_all end self.old) self.old }
     {
         self.order.settle(&self.info);
-        let (front, from) = (self.front, self.idx);
+        let (out_len, from) = (self.out_len, self.idx);
         let count = end + self.gap - from;
-        over::flag_both(&mut self.info, front, from, start, count, flags);
-        let any = any_within(start, front, count);
+        over::flag_both(&mut self.info, out_len, from, start, count, flags);
+        let any = any_within(start, out_len, count);
         self.scratch_flags = add_has_glyph_flags(any, self.scratch_flags);
     }
 }

@@ -21,7 +21,7 @@ impl hb_buffer_t {
         ensures kept { all_glyphs self.new ≡ all_glyphs self.old }
     {
         self.have_output = true;
-        self.front = 0;
+        self.out_len = 0;
         self.idx = 0;
         Ok(true)
     }
@@ -41,7 +41,7 @@ impl hb_buffer_t {
         ensures { result ≡ length self.now.behind }
     {
         if self.have_output {
-            self.front
+            self.out_len
         } else {
             self.idx
         }
@@ -152,14 +152,14 @@ impl hb_buffer_t {
         ensures { self.new ≡ after_next_glyphs count self.old }
     {
         // In their place already, they keep their clusters, with that of a lent glyph.
-        if self.front == self.idx {
-            self.front += count;
+        if self.out_len == self.idx {
+            self.out_len += count;
             self.idx += count;
             return;
         }
         self.order.settle(&self.info);
-        over::pass(&mut self.info, self.front, self.idx, count);
-        self.front += count;
+        over::output_first(&mut self.info, self.out_len, self.idx, count);
+        self.out_len += count;
         self.idx += count;
     }
 
@@ -198,9 +198,9 @@ impl hb_buffer_t {
         ensures stays { self.old.is_apart ≡ false → IsOk result }
     {
         self.order.settle(&self.info);
-        let count = self.front + (self.info.len() - self.idx);
+        let count = self.out_len + (self.info.len() - self.idx);
         resize_positions(&mut self.pos, self.is_placed, count)?;
-        over::join(&mut self.info, self.front, self.idx);
+        over::join(&mut self.info, self.out_len, self.idx);
         self.is_placed = false;
         self.have_output = false;
         self.is_apart = false;

@@ -28,7 +28,7 @@ impl hb_buffer_t {
     {
         self.order.settle(&self.info);
         let (level, known) = (self.cluster_level, self.order.known);
-        let marked = over::delete_first(&mut self.info, self.front, self.idx, level, known);
+        let marked = over::delete_first(&mut self.info, self.out_len, self.idx, level, known);
         self.idx += 1;
         self.scratch_flags = add_has_glyph_flags(marked, self.scratch_flags);
     }

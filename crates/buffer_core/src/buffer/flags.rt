@@ -8,7 +8,7 @@ ghost use Rattle.buffer_core.specs.Sides.{all_glyphs, items_of, origins_by, orig
 use super::hb_buffer_t;
 use bitflags::Flags;
 use buffer_common::constants::BufferFlags;
-use buffer_lists::flags::{AskedFlags, propagate_flags};
+use buffer_lists::flags::{AskedFlags, spread_glyph_flags};
 
 impl hb_buffer_t {
     /// Gives all glyphs of a cluster the same glyph flags: those that one of them has. Where
@@ -28,6 +28,6 @@ impl hb_buffer_t {
                 .flags
                 .contains(BufferFlags::PRODUCE_SAFE_TO_INSERT_TATWEEL),
         };
-        propagate_flags(&mut self.info, asked);
+        spread_glyph_flags(&mut self.info, asked);
     }
 }

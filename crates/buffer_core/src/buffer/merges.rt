@@ -27,15 +27,15 @@ impl hb_buffer_t {
         ensures origins { origins_of self.new
             ≡ origins_by (Merge InList (index_in_all start self.old) (index_in_all end self.old) ∷ []) self.old }
     {
-        let (front, from) = if self.have_output {
-            (self.front, self.idx)
+        let (out_len, from) = if self.have_output {
+            (self.out_len, self.idx)
         } else {
             (0, 0)
         };
         self.order.settle(&self.info);
         let (marked, known) = over::merge_input(
             &mut self.info,
-            front,
+            out_len,
             from,
             start + self.gap - from,
             end + self.gap - from,

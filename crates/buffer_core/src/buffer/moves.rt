@@ -101,10 +101,10 @@ impl hb_buffer_t {
         ensures { self.new ≡ after_move_to i self.old }
     {
         self.order.settle(&self.info);
-        over::pass_back(&mut self.info, self.front, self.idx, i);
-        self.idx -= self.front - i;
+        over::pass_back(&mut self.info, self.out_len, self.idx, i);
+        self.idx -= self.out_len - i;
         self.gap = self.gap.min(self.idx);
-        self.front = i;
+        self.out_len = i;
     }
 
     /// Whether the input has room for the glyphs of the output from the i-th on.

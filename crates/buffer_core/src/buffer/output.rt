@@ -52,13 +52,13 @@ impl hb_buffer_t {
         ensures stays { length self.old.behind < self.old.read → IsOk result }
     {
         self.order.settle(&self.info);
-        let moved = make_room(&mut self.info, self.front, self.idx, self.gap, 1)?;
+        let moved = make_room(&mut self.info, self.out_len, self.idx, self.gap, 1)?;
         self.idx += moved;
         self.gap += moved;
         self.is_apart = has_left(self.is_apart, moved);
-        self.front = put_copies(
+        self.out_len = put_copies(
             &mut self.info,
-            self.front,
+            self.out_len,
             self.idx,
             self.idx,
             &[glyph_index],
@@ -95,15 +95,15 @@ impl hb_buffer_t {
         ensures stays { length self.old.behind < self.old.read → IsOk result }
     {
         self.order.settle(&self.info);
-        let moved = make_room(&mut self.info, self.front, self.idx, self.gap, 1)?;
+        let moved = make_room(&mut self.info, self.out_len, self.idx, self.gap, 1)?;
         self.idx += moved;
         self.gap += moved;
         self.is_apart = has_left(self.is_apart, moved);
         let known = self.order.known;
-        let (front, from) = (self.front, self.idx);
-        self.order.known = with_between(known, &self.info, front, glyph_info.cluster, from);
-        over::put(&mut self.info, front, from, glyph_info);
-        self.front += 1;
+        let (out_len, from) = (self.out_len, self.idx);
+        self.order.known = with_between(known, &self.info, out_len, glyph_info.cluster, from);
+        over::put(&mut self.info, out_len, from, glyph_info);
+        self.out_len += 1;
         Ok(())
     }
 
@@ -138,8 +138,8 @@ impl hb_buffer_t {
             glyph_id: glyph_index,
             ..self.info[self.idx]
         };
-        over::put(&mut self.info, self.front, self.idx + 1, glyph);
-        self.front += 1;
+        over::put(&mut self.info, self.out_len, self.idx + 1, glyph);
+        self.out_len += 1;
         self.idx += 1;
     }
 }
@@ -148,14 +148,14 @@ impl hb_buffer_t {
 fn with_between(
     known: KnownOrder,
     glyphs: &[hb_glyph_info_t],
-    front: usize,
+    out_len: usize,
     cluster: u32,
     from: usize,
 ) -> KnownOrder
-    requires ordered { front ≤ from }
+    requires ordered { out_len ≤ from }
     requires within { from ≤ length glyphs.now }
-    ensures { HasOrder known (clusters (take front glyphs.now) ++ clusters (drop from glyphs.now)) →
-        HasOrder result (clusters (take front glyphs.now) ++ cluster ∷ clusters (drop from glyphs.now)) }
+    ensures { HasOrder known (clusters (take out_len glyphs.now) ++ clusters (drop from glyphs.now)) →
+        HasOrder result (clusters (take out_len glyphs.now) ++ cluster ∷ clusters (drop from glyphs.now)) }
 {
-    known.with_between(&glyphs[..front], cluster, &glyphs[from..])
+    known.with_between(&glyphs[..out_len], cluster, &glyphs[from..])
 }

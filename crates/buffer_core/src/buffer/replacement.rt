@@ -57,20 +57,20 @@ impl hb_buffer_t {
     {
         self.order.settle(&self.info);
         let more = glyph_data.len().saturating_sub(num_in);
-        let moved = make_room(&mut self.info, self.front, self.idx, self.gap, more)?;
+        let moved = make_room(&mut self.info, self.out_len, self.idx, self.gap, more)?;
         self.idx += moved;
         self.gap += moved;
         self.is_apart = has_left(self.is_apart, moved);
-        let (marked, known, front) = replace_first(
+        let (marked, known, out_len) = replace_first(
             &mut self.info,
-            self.front,
+            self.out_len,
             self.idx,
             num_in,
             glyph_data,
             self.cluster_level,
             self.order.known,
         );
-        self.front = front;
+        self.out_len = out_len;
         self.idx += num_in;
         self.order.known = known;
         self.scratch_flags = add_has_glyph_flags(marked, self.scratch_flags);

@@ -33,27 +33,27 @@ impl hb_buffer_t {
 /// moves few times.
 pub(super) fn make_room(
     glyphs: &mut Vec<hb_glyph_info_t>,
-    front: usize,
+    out_len: usize,
     from: usize,
     opened: usize,
     more: usize,
 ) -> Result<usize, AllocError>
-    requires ordered { front ≤ from }
+    requires ordered { out_len ≤ from }
     requires within { from ≤ vec_len glyphs.old }
-    ensures output { OnOk result (take front glyphs.new.items ≡ take front glyphs.old.items) }
+    ensures output { OnOk result (take out_len glyphs.new.items ≡ take out_len glyphs.old.items) }
     ensures input { IfOk result (λ n. drop (from + n) glyphs.new.items ≡ drop from glyphs.old.items) }
     ensures len { IfOk result (λ n. vec_len glyphs.new ≡ vec_len glyphs.old + n) }
-    ensures room { IfOk result (λ n. front + more ≤ from + n) }
-    ensures moved { IfOk result (λ n. nat_lt 0 n ≡ nat_lt from (front + more)) }
-    ensures stays { front + more ≤ from → result ≡ Ok 0 }
+    ensures room { IfOk result (λ n. out_len + more ≤ from + n) }
+    ensures moved { IfOk result (λ n. nat_lt 0 n ≡ nat_lt from (out_len + more)) }
+    ensures stays { out_len + more ≤ from → result ≡ Ok 0 }
     ensures err { OnErr result (glyphs.new.items ≡ glyphs.old.items) }
 {
-    let room = from - front;
+    let room = from - out_len;
     if more <= room {
         return Ok(0);
     }
     let wanted = (more - room).max(opened).max((glyphs.len() - from) / 16);
-    over::open_gap(glyphs, front, from, wanted)?;
+    over::open_gap(glyphs, out_len, from, wanted)?;
     Ok(wanted)
 }
 

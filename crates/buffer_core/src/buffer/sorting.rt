@@ -3,7 +3,7 @@ ghost use Rattle.std.specs.Prelude.{◌≡◌, ◌≤◌, ◌++◌, ◌∷◌, [
 ghost use Rattle.buffer_glyphs.specs.declared.info.hb_glyph_info_t.{hb_glyph_info_t as Glyph};
 ghost use Rattle.buffer_glyphs.specs.Items.{Item, item_of};
 ghost use Rattle.buffer_glyphs.specs.Events.{Sort};
-ghost use Rattle.buffer_stable_order.specs.Keys.{key_order};
+ghost use Rattle.buffer_rows.specs.KeyOrder.{key_order};
 ghost use Rattle.buffer_lists.specs.Events.{order_of};
 ghost use Rattle.buffer_lists.specs.Sorting.{Gives};
 ghost use Rattle.buffer_core.specs.Sides.{all_glyphs, items_of, origins_by, origins_of};

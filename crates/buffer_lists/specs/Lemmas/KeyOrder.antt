@@ -9,7 +9,7 @@ use Rattle.std.proofs.lemmas.List.{append-nil, length-append, length-take-le, ta
 use Rattle.std.proofs.lemmas.List.Elements.{All-nil, All-cons, All-head, All-tail, All-append, All-filter, All-weaker, filter-append, filter_passes}
 use Rattle.std.proofs.lemmas.List.Sorted.{IsPermutation-refl, IsPermutation-sym, IsPermutation-cons, IsPermutation-trans, IsPermutation-middle, IsPermutation-append_left, All-permutation, length_permutation}
 use Rattle.std.proofs.Math.Seq.{take-append_seam}
-use Rattle.buffer_stable_order.specs.Keys.{of_key, by_key, key_bound, key_order}
+use Rattle.buffer_rows.specs.KeyOrder.{of_key, by_key, key_bound, key_order}
 
 -- what holds of each element holds of each in the order by a key
 pub all_by_key : {X : Type 0} (P : X → Type 0) (key : X → ℕ) (n : ℕ) (xs : List X) → All P xs → All P (by_key key n xs)

@@ -7,7 +7,7 @@ use Rattle.std.proofs.lemmas.List.{length-take-le, take-append-drop}
 use Rattle.std.proofs.lemmas.List.Elements.{All-nil, All-cons, All-head, All-tail, All-weaker}
 use Rattle.std.proofs.lemmas.List.FromFn.{length-range_with_len}
 use Rattle.std.proofs.lemmas.Option.{slice_get_within}
-use Rattle.buffer_stable_order.specs.Keys.{by_key, key_bound}
+use Rattle.buffer_rows.specs.KeyOrder.{by_key, key_bound}
 use Rattle.buffer_glyphs.specs.Origins.{is_seam}
 use Rattle.buffer_glyphs.specs.Events.{StaysInSpans}
 use Rattle.buffer_lists.specs.Events.{order_of}

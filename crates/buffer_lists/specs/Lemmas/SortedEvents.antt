@@ -11,8 +11,8 @@ use Rattle.std.proofs.lemmas.List.FromFn.{length-range_with_len}
 use Rattle.std.proofs.lemmas.List.Sorted.{length_permutation}
 use Rattle.std.proofs.lemmas.Option.{slice_get-get_or, slice_get-map}
 use Rattle.std.proofs.Math.Seq.{get_or-append_seam}
-use Rattle.buffer_stable_order.specs.Keys.{key_bound, key_order}
-use Rattle.buffer_stable_order.specs.Orders.{key_order_map}
+use Rattle.buffer_rows.specs.KeyOrder.{key_bound, key_order}
+use Rattle.buffer_rows.specs.Orders.{key_order_map}
 use Rattle.buffer_glyphs.specs.declared.info.hb_glyph_info_t.{hb_glyph_info_t as Glyph}
 use Rattle.buffer_glyphs.specs.declared.level.BufferClusterLevel.{BufferClusterLevel as Level}
 use Rattle.buffer_glyphs.specs.Items.{Item, clusters, item_of, strip}

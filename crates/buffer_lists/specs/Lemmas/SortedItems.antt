@@ -9,8 +9,8 @@ use Rattle.buffer_glyphs.specs.Items.{Item, item_of, strip, clusters}
 use Rattle.buffer_glyphs.specs.Glyphs.{glyphs_merged_at, is_marked_at}
 use Rattle.buffer_glyphs.specs.Lists.{get_or_mapped}
 use Rattle.buffer_glyphs.specs.Lemmas.Glyphs.{strip_merged_at}
-use Rattle.buffer_stable_order.specs.Keys.{key_order}
-use Rattle.buffer_stable_order.specs.Orders.{Agree, key_order_agree, key_order_map}
+use Rattle.buffer_rows.specs.KeyOrder.{key_order}
+use Rattle.buffer_rows.specs.Orders.{Agree, key_order_agree, key_order_map}
 use Rattle.buffer_lists.specs.declared.sorting.KeyedIndex.{KeyedIndex}
 use Rattle.buffer_lists.specs.Sorting.{keyed_indices_from, indices_by_key, is_seam, SpanMerge, span_merged, spans_merged, range_spanned, range_sorted, glyph_at, put_in_order}
 use Rattle.buffer_lists.specs.Lemmas.Neighbours.{no_glyph}

@@ -12,8 +12,8 @@ use Rattle.buffer_core.specs.Sides.{Sides, all_glyphs, flag_requests_of, items_o
 use Rattle.buffer_core.specs.Lending.{with_refilled}
 use Rattle.buffer_stages.specs.Stages.{Happens}
 use Rattle.buffer_stages.specs.Lemmas.Written.{written_all, written_ready}
-use Rattle.buffer_stages.specs.Moves.{FrontMove, all_moved, are_one_cluster, move_events, reach}
-use Rattle.buffer_stages.specs.Fronts.{front_moves, with_fronts_moved_after, one_seen, pair_seen}
+use Rattle.buffer_stages.specs.Moves.{MoveToFront, all_moved, are_one_cluster, move_events, reach}
+use Rattle.buffer_stages.specs.Fronts.{moves_to_front, with_fronts_moved_after, one_seen, pair_seen}
 use Rattle.buffer_stages.specs.Lemmas.Nested.{all_moved_seen, moves_merge_once}
 use Rattle.buffer_stages.specs.Lemmas.Fronted.{all_moved_fronts, gathered_after_length, gathered_after_seen, moves_grow, moves_seen}
 use Rattle.buffer_stages.specs.Lemmas.Ordered.{clusters_all_moved}
@@ -24,7 +24,7 @@ use Rattle.buffer_stages.specs.Lemmas.Parts.{range_seen, range_size}
 use Rattle.buffer_stages.specs.Lemmas.Rewritings.{whole_cut}
 
 -- moves told by indices that are counted from further back
-pub shift_moves : (n i : ℕ) (ms : List FrontMove) → map (shifted_event n) (move_events i ms) ≡ move_events (n + i) ms
+pub shift_moves : (n i : ℕ) (ms : List MoveToFront) → map (shifted_event n) (move_events i ms) ≡ move_events (n + i) ms
 shift_moves n i [] = refl
 shift_moves n i (m ∷ ms) = rw (shift_moves n i ms) refl
 
@@ -39,7 +39,7 @@ between from to xs ys le inside len =
 
 -- a part, of which some were moved to the front: its moves
 pub part_moves : {X : Type 0} (pair : X → X → Bool) (one : X → Bool) (start end n : ℕ) (xs : List X) → start + n ≤ end → end ≤ length xs
-    → take start xs ++ with_fronts_moved_after pair one n (slice_range xs start end) ++ drop end xs ≡ all_moved start (front_moves pair one n (drop n (slice_range xs start end))) xs
+    → take start xs ++ with_fronts_moved_after pair one n (slice_range xs start end) ++ drop end xs ≡ all_moved start (moves_to_front pair one n (drop n (slice_range xs start end))) xs
 part_moves {X = X} pair one start end n xs le fits =
     let part = slice_range xs start end in
     let pre = take start xs in
@@ -52,21 +52,21 @@ part_moves {X = X} pair one start end n xs le fits =
     let whole : pre ++ (front ++ (zs ++ post)) ≡ xs =
     ap (λ ys. pre ++ ys) (sym (append_assoc front zs post) ∙ ap (λ ys. ys ++ post) (take-append-drop n part)) ∙ sym (append_assoc pre part post) ∙ whole_cut start end xs (omega (arith, le)) in
     append_assoc pre (with_fronts_moved_after pair one n part) post ∙ sym (all_moved_fronts pair one pre front zs post)
-    ∙ ap (λ i. all_moved i (front_moves pair one (length front) zs) (pre ++ (front ++ (zs ++ post)))) a
-    ∙ ap (λ i. all_moved start (front_moves pair one i zs) (pre ++ (front ++ (zs ++ post)))) b
-    ∙ ap (all_moved start (front_moves pair one n zs)) whole
+    ∙ ap (λ i. all_moved i (moves_to_front pair one (length front) zs) (pre ++ (front ++ (zs ++ post)))) a
+    ∙ ap (λ i. all_moved start (moves_to_front pair one i zs) (pre ++ (front ++ (zs ++ post)))) b
+    ∙ ap (all_moved start (moves_to_front pair one n zs)) whole
 
 -- glyphs of which some were moved to the front: by the moves of the items
 fronts_shape : (pair : Item → Item → Bool) (one : Item → Bool) (start end walked : ℕ) (a merged : Sides) (gs : List hb_glyph_info_t) → start + walked ≤ end → end ≤ length (all_glyphs merged)
     → items_of merged ≡ items_of a
     → gs ≡ take start (all_glyphs merged) ++ with_fronts_moved_after (pair_seen pair) (one_seen one) walked (slice_range (all_glyphs merged) start end) ++ drop end (all_glyphs merged)
-    → gs ≡ all_moved start (front_moves pair one walked (drop walked (slice_range (items_of a) start end))) (all_glyphs merged)
+    → gs ≡ all_moved start (moves_to_front pair one walked (drop walked (slice_range (items_of a) start end))) (all_glyphs merged)
 fronts_shape pair one start end walked a merged gs le fits same e =
     let hs = all_glyphs merged in
     let part = slice_range (items_of a) start end in
     let seen : strip (slice_range hs start end) ≡ part = range_seen item_of start end hs ∙ ap (λ xs. slice_range xs start end) same in
-    let moves : front_moves (pair_seen pair) (one_seen one) walked (drop walked (slice_range hs start end)) ≡ front_moves pair one walked (drop walked part) =
-    moves_seen item_of pair one walked (drop walked (slice_range hs start end)) ∙ ap (front_moves pair one walked) (sym (drop-map item_of walked (slice_range hs start end)) ∙ ap (drop walked) seen) in
+    let moves : moves_to_front (pair_seen pair) (one_seen one) walked (drop walked (slice_range hs start end)) ≡ moves_to_front pair one walked (drop walked part) =
+    moves_seen item_of pair one walked (drop walked (slice_range hs start end)) ∙ ap (moves_to_front pair one walked) (sym (drop-map item_of walked (slice_range hs start end)) ∙ ap (drop walked) seen) in
     e ∙ part_moves (pair_seen pair) (one_seen one) start end walked hs le fits ∙ ap (λ ns. all_moved start ns hs) moves
 
 pub fronts_length : (pair : Item → Item → Bool) (one : Item → Bool) (start end walked : ℕ) (merged : Sides) (gs : List hb_glyph_info_t) → start + walked ≤ end → end ≤ length (all_glyphs merged)
@@ -79,25 +79,25 @@ fronts_length pair one start end walked merged gs le fits e =
 
 -- their clusters, where those that moved are of one
 pub fronts_clusters : (pair : Item → Item → Bool) (one : Item → Bool) (start end walked count : ℕ) (a merged : Sides) (gs : List hb_glyph_info_t) → start + walked ≤ end → end ≤ length (all_glyphs merged)
-    → items_of merged ≡ items_of a → count ≡ reach 1 (front_moves pair one walked (drop walked (slice_range (items_of a) start end)))
+    → items_of merged ≡ items_of a → count ≡ reach 1 (moves_to_front pair one walked (drop walked (slice_range (items_of a) start end)))
     → gs ≡ take start (all_glyphs merged) ++ with_fronts_moved_after (pair_seen pair) (one_seen one) walked (slice_range (all_glyphs merged) start end) ++ drop end (all_glyphs merged)
     → are_one_cluster (slice_range (all_glyphs merged) start (start + count)) ≡ true → clusters gs ≡ clusters (all_glyphs merged)
 fronts_clusters pair one start end walked count a merged gs le fits same at e is_one =
     let hs = all_glyphs merged in
     let zs = drop walked (slice_range (items_of a) start end) in
-    let ms = front_moves pair one walked zs in
+    let ms = moves_to_front pair one walked zs in
     let wide : reach 1 ms ≡ start + count - start = omega (arith, at) in
     ap clusters (fronts_shape pair one start end walked a merged gs le fits same e)
     ∙ clusters_all_moved start ms hs (moves_grow pair one 1 walked zs (omega arith)) (ap (λ n. are_one_cluster (take n (drop start hs))) wide ∙ is_one)
 
 pub fronts_rewrite : (pair : Item → Item → Bool) (one : Item → Bool) (start end walked count : ℕ) (a merged : Sides) (gs : List hb_glyph_info_t) → start + walked ≤ end → end ≤ length (all_glyphs a)
-    → count ≡ reach 1 (front_moves pair one walked (drop walked (slice_range (items_of a) start end))) → start + count ≤ end → Happens (Merge InList start (start + count) ∷ []) a merged
+    → count ≡ reach 1 (moves_to_front pair one walked (drop walked (slice_range (items_of a) start end))) → start + count ≤ end → Happens (Merge InList start (start + count) ∷ []) a merged
     → gs ≡ take start (all_glyphs merged) ++ with_fronts_moved_after (pair_seen pair) (one_seen one) walked (slice_range (all_glyphs merged) start end) ++ drop end (all_glyphs merged)
     → IsRewritten (fronts_moved pair one walked (slice_range (items_of a) start end)) start end a (with_refilled gs merged)
 fronts_rewrite pair one start end walked count a merged gs le fits at inside h e =
     let hs = all_glyphs merged in
     let part = slice_range (items_of a) start end in
-    let ms = front_moves pair one walked (drop walked part) in
+    let ms = moves_to_front pair one walked (drop walked part) in
     let same : items_of merged ≡ items_of a = ap (λ (v : View). v.items) h.view in
     let many : length hs ≡ length (all_glyphs a) = sym (length-map hs item_of) ∙ ap (λ (xs : List Item). length xs) same ∙ length-map (all_glyphs a) item_of in
     let there : end ≤ length hs = omega (arith, many, fits) in

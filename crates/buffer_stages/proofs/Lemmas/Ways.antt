@@ -1,12 +1,11 @@
 -- Stages one after another, each done from one random state to another.
 use Rattle.std.proofs.Common.{ℕ, ◌≡◌, true, Ok, Err, Option, Some, [], refl, subst, ◌∙◌}
-use Rattle.std.specs.Prelude.{Result}
 use Rattle.buffer_glyphs.specs.declared.cause.ShapeCause.{ShapeCause}
 use Rattle.buffer_core.specs.Readings.{View, BufferState, Reading, Stage, Follows, reading_of, always, with_events, and_then, as_it_is}
 use Rattle.buffer_core.specs.Steps.{follows_then, follows_same, refused_first, refused_then}
 use Rattle.buffer_core.specs.Sides.{Sides, Settings, settings_of, items_of, state_of}
 use Rattle.buffer_stages.specs.Buffers.{are_glyphs}
-use Rattle.buffer_stages.specs.Ready.{DoesGlyphStage, DoesGlyphStageFrom, IsReady, IsDone, IsDoneFrom, state_with}
+use Rattle.buffer_stages.specs.Ready.{IsReady, IsDone, IsDoneFrom, state_with}
 use Rattle.buffer_stages.specs.Pauses.{Pauses, pause_stage}
 use Rattle.buffer_stages.specs.Settings.{TextSettings, text_settings, text_settings_of}
 
@@ -46,10 +45,6 @@ paused pauses n r old new d = record {
 
 pub pause_refused : (pauses : Pauses) (n : ℕ) (r : ℕ) (old : Sides) (cause : ShapeCause) → reading_of (pauses n) (state_of old) ≡ Err cause → reading_of (pause_stage pauses (Some n)) (state_with r old) ≡ Err cause
 pause_refused pauses n r old cause e = refused_first (reading_of (pauses n) (state_of old)) (always (λ (w : View). with_events [] (record w { random = r }))) cause e
-
-pub does_pause : {X : Type 0} (pauses : Pauses) (n r : ℕ) (result : Result X ShapeCause) (old new : Sides) → DoesGlyphStage (pauses n) result old new → DoesGlyphStageFrom r r (pause_stage pauses (Some n)) result old new
-does_pause pauses n r (Ok x) old new d = paused pauses n r old new d
-does_pause pauses n r (Err e) old new d = λ h. pause_refused pauses n r old e (d h)
 
 -- a pause knows the settings of the text as they were before the stages
 pub paused_as_set : (stage : TextSettings → Pauses) (p : Option ℕ) (r : ℕ) (was old new : Sides) → settings_of old ≡ settings_of was → IsDoneFrom r r (pause_stage (stage (text_settings old)) p) old new

@@ -5,7 +5,7 @@ use Rattle.std.proofs.Math.Seq.{take-append_seam, drop-append_seam}
 use Rattle.std.proofs.lemmas.Bool.Decides.{nat_tests}
 use Rattle.std.proofs.lemmas.List.{append-nil, map-append, length-append, length-drop, length-take-le, drop-drop, drop-map, take-append-drop, take-map}
 use Rattle.buffer_stages.specs.Moves.{IsGrowing, all_moved, with_range_moved, reach}
-use Rattle.buffer_stages.specs.Fronts.{fronts, front_moves, with_fronts_moved, with_fronts_moved_after, elements_after_fronts}
+use Rattle.buffer_stages.specs.Fronts.{fronts, moves_to_front, with_fronts_moved, with_fronts_moved_after, elements_after_fronts}
 use Rattle.buffer_stages.specs.Lemmas.Moves.{take_both}
 use Rattle.buffer_stages.specs.Lemmas.Nested.{moved_middle}
 
@@ -216,51 +216,51 @@ moved_two pre front x y rest = ap (λ ys. with_range_moved (length pre) (length 
 
 -- elements between a front and a rest: their moves gather them
 pub all_moved_fronts : {X : Type 0} (pair : X → X → Bool) (one : X → Bool) (pre front zs post : List X)
-    → all_moved (length pre) (front_moves pair one (length front) zs) (pre ++ (front ++ (zs ++ post))) ≡ pre ++ ((fronts pair one zs ++ (front ++ elements_after_fronts pair one zs)) ++ post)
+    → all_moved (length pre) (moves_to_front pair one (length front) zs) (pre ++ (front ++ (zs ++ post))) ≡ pre ++ ((fronts pair one zs ++ (front ++ elements_after_fronts pair one zs)) ++ post)
 all_moved_fronts {X = X} pair one pre front zs post = by_list zs front
   where
     Moves : List X → List X → Type 0
-    Moves ws f = all_moved (length pre) (front_moves pair one (length f) ws) (pre ++ (f ++ (ws ++ post))) ≡ pre ++ ((fronts pair one ws ++ (f ++ elements_after_fronts pair one ws)) ++ post)
+    Moves ws f = all_moved (length pre) (moves_to_front pair one (length f) ws) (pre ++ (f ++ (ws ++ post))) ≡ pre ++ ((fronts pair one ws ++ (f ++ elements_after_fronts pair one ws)) ++ post)
 
     nested : (fs f g ss : List X) → (fs ++ g) ++ (f ++ ss) ≡ fs ++ (g ++ f ++ ss)
     nested fs f g ss = simp append_assoc
 
     one_alone : (x : X) (ws f : List X) → Moves ws (f ++ x ∷ [])
-        → all_moved (length pre) (front_moves pair one (length f + 1) ws) (pre ++ (f ++ (x ∷ ws ++ post))) ≡ pre ++ ((fronts pair one ws ++ (f ++ (x ∷ elements_after_fronts pair one ws))) ++ post)
+        → all_moved (length pre) (moves_to_front pair one (length f + 1) ws) (pre ++ (f ++ (x ∷ ws ++ post))) ≡ pre ++ ((fronts pair one ws ++ (f ++ (x ∷ elements_after_fronts pair one ws))) ++ post)
     one_alone x ws f h =
-        ap (λ ys. all_moved (length pre) (front_moves pair one (length f + 1) ws) (pre ++ ys)) (sym (append_assoc f (x ∷ []) (ws ++ post)))
-        ∙ ap (λ n. all_moved (length pre) (front_moves pair one n ws) (pre ++ ((f ++ x ∷ []) ++ (ws ++ post)))) (sym (length-append f (x ∷ [])))
+        ap (λ ys. all_moved (length pre) (moves_to_front pair one (length f + 1) ws) (pre ++ ys)) (sym (append_assoc f (x ∷ []) (ws ++ post)))
+        ∙ ap (λ n. all_moved (length pre) (moves_to_front pair one n ws) (pre ++ ((f ++ x ∷ []) ++ (ws ++ post)))) (sym (length-append f (x ∷ [])))
         ∙ h ∙ ap (λ ys. pre ++ ((fronts pair one ws ++ ys) ++ post)) (append_assoc f (x ∷ []) (elements_after_fronts pair one ws))
 
     one_first : (x : X) (ws f : List X) → Moves ws (x ∷ f)
-        → all_moved (length pre) (front_moves pair one (length f + 1) ws) (pre ++ ((x ∷ f) ++ (ws ++ post))) ≡ pre ++ (((fronts pair one ws ++ (x ∷ [])) ++ (f ++ elements_after_fronts pair one ws)) ++ post)
+        → all_moved (length pre) (moves_to_front pair one (length f + 1) ws) (pre ++ ((x ∷ f) ++ (ws ++ post))) ≡ pre ++ (((fronts pair one ws ++ (x ∷ [])) ++ (f ++ elements_after_fronts pair one ws)) ++ post)
     one_first x ws f h =
         let more : length f + 1 ≡ suc (length f) = omega arith in
-        ap (λ n. all_moved (length pre) (front_moves pair one n ws) (pre ++ ((x ∷ f) ++ (ws ++ post)))) more
+        ap (λ n. all_moved (length pre) (moves_to_front pair one n ws) (pre ++ ((x ∷ f) ++ (ws ++ post)))) more
         ∙ h ∙ ap (λ ys. pre ++ (ys ++ post)) (sym (nested (fronts pair one ws) f (x ∷ []) (elements_after_fronts pair one ws)))
 
     by_front : (x : X) (ws f : List X) → ((g : List X) → Moves ws g) → (b : Bool) → nat_lt 0 (length f) ≡ b
-        → all_moved (length pre) (if b then record { passed = length f; taken = 1 } ∷ front_moves pair one (length f + 1) ws else front_moves pair one (length f + 1) ws) (pre ++ (f ++ (x ∷ ws ++ post)))
+        → all_moved (length pre) (if b then record { passed = length f; taken = 1 } ∷ moves_to_front pair one (length f + 1) ws else moves_to_front pair one (length f + 1) ws) (pre ++ (f ++ (x ∷ ws ++ post)))
         ≡ pre ++ (((fronts pair one ws ++ (x ∷ [])) ++ (f ++ elements_after_fronts pair one ws)) ++ post)
-    by_front x ws f ih true e = ap (all_moved (length pre) (front_moves pair one (length f + 1) ws)) (moved_one pre f x (ws ++ post)) ∙ one_first x ws f (ih (x ∷ f))
+    by_front x ws f ih true e = ap (all_moved (length pre) (moves_to_front pair one (length f + 1) ws)) (moved_one pre f x (ws ++ post)) ∙ one_first x ws f (ih (x ∷ f))
     by_front x ws [] ih false e = one_first x ws [] (ih (x ∷ []))
     by_front x ws (g ∷ gs) ih false e = absurd (let none : length (g ∷ gs) ≤ 0 = grind (arith, nat_tests, e) in omega (arith, none))
 
     by_one : (x : X) (ws f : List X) → ((g : List X) → Moves ws g) → (t : Bool)
-        → all_moved (length pre) (if t && nat_lt 0 (length f) then record { passed = length f; taken = 1 } ∷ front_moves pair one (length f + 1) ws else front_moves pair one (length f + 1) ws) (pre ++ (f ++ (x ∷ ws ++ post)))
+        → all_moved (length pre) (if t && nat_lt 0 (length f) then record { passed = length f; taken = 1 } ∷ moves_to_front pair one (length f + 1) ws else moves_to_front pair one (length f + 1) ws) (pre ++ (f ++ (x ∷ ws ++ post)))
         ≡ pre ++ (((if t then fronts pair one ws ++ (x ∷ []) else fronts pair one ws) ++ (f ++ (if t then elements_after_fronts pair one ws else x ∷ elements_after_fronts pair one ws))) ++ post)
     by_one x ws f ih true = by_front x ws f ih (nat_lt 0 (length f)) refl
     by_one x ws f ih false = one_alone x ws f (ih (f ++ x ∷ []))
 
     by_pair : (x y : X) (ws f : List X) → ((g : List X) → Moves ws g) → ((g : List X) → Moves (y ∷ ws) g) → (t : Bool)
-        → all_moved (length pre) (if t then record { passed = length f; taken = 2 } ∷ front_moves pair one (length f + 2) ws
-        else if one x && nat_lt 0 (length f) then record { passed = length f; taken = 1 } ∷ front_moves pair one (length f + 1) (y ∷ ws) else front_moves pair one (length f + 1) (y ∷ ws)) (pre ++ (f ++ (x ∷ y ∷ ws ++ post)))
+        → all_moved (length pre) (if t then record { passed = length f; taken = 2 } ∷ moves_to_front pair one (length f + 2) ws
+        else if one x && nat_lt 0 (length f) then record { passed = length f; taken = 1 } ∷ moves_to_front pair one (length f + 1) (y ∷ ws) else moves_to_front pair one (length f + 1) (y ∷ ws)) (pre ++ (f ++ (x ∷ y ∷ ws ++ post)))
         ≡ pre ++ (((if t then fronts pair one ws ++ (x ∷ y ∷ []) else if one x then fronts pair one (y ∷ ws) ++ (x ∷ []) else fronts pair one (y ∷ ws))
         ++ (f ++ (if t then elements_after_fronts pair one ws else if one x then elements_after_fronts pair one (y ∷ ws) else x ∷ elements_after_fronts pair one (y ∷ ws)))) ++ post)
     by_pair x y ws f ih next true =
         let more : length f + 2 ≡ suc (suc (length f)) = omega arith in
-        ap (all_moved (length pre) (front_moves pair one (length f + 2) ws)) (moved_two pre f x y (ws ++ post))
-        ∙ ap (λ n. all_moved (length pre) (front_moves pair one n ws) (pre ++ ((x ∷ y ∷ f) ++ (ws ++ post)))) more
+        ap (all_moved (length pre) (moves_to_front pair one (length f + 2) ws)) (moved_two pre f x y (ws ++ post))
+        ∙ ap (λ n. all_moved (length pre) (moves_to_front pair one n ws) (pre ++ ((x ∷ y ∷ f) ++ (ws ++ post)))) more
         ∙ ih (x ∷ y ∷ f) ∙ ap (λ ys. pre ++ (ys ++ post)) (sym (nested (fronts pair one ws) f (x ∷ y ∷ []) (elements_after_fronts pair one ws)))
     by_pair x y ws f ih next false = by_one x (y ∷ ws) f next (one x)
 
@@ -269,7 +269,7 @@ all_moved_fronts {X = X} pair one pre front zs post = by_list zs front
     by_list (x ∷ []) f = by_one x [] f (by_list []) (one x)
     by_list (x ∷ y ∷ ws) f = by_pair x y ws f (by_list ws) (by_list (y ∷ ws)) (pair x y)
 
-pub moves_grow : {X : Type 0} (pair : X → X → Bool) (one : X → Bool) (n i : ℕ) (zs : List X) → n ≤ i + 1 → IsGrowing n (front_moves pair one i zs)
+pub moves_grow : {X : Type 0} (pair : X → X → Bool) (one : X → Bool) (n i : ℕ) (zs : List X) → n ≤ i + 1 → IsGrowing n (moves_to_front pair one i zs)
 moves_grow pair one n i [] le = tt
 moves_grow pair one n i (x ∷ []) le = by_one (one x && nat_lt 0 i)
   where
@@ -278,18 +278,18 @@ moves_grow pair one n i (x ∷ []) le = by_one (one x && nat_lt 0 i)
     by_one false = tt
 moves_grow pair one n i (x ∷ y ∷ zs) le = by_pair (pair x y) (moves_grow pair one (i + 2) (i + 2) zs (omega arith)) (moves_grow pair one (i + 1) (i + 1) (y ∷ zs) (omega arith)) (moves_grow pair one n (i + 1) (y ∷ zs) (omega (arith, le)))
   where
-    by_one : (t : Bool) → IsGrowing (i + 1) (front_moves pair one (i + 1) (y ∷ zs)) → IsGrowing n (front_moves pair one (i + 1) (y ∷ zs))
-        → IsGrowing n (if t then record { passed = i; taken = 1 } ∷ front_moves pair one (i + 1) (y ∷ zs) else front_moves pair one (i + 1) (y ∷ zs))
+    by_one : (t : Bool) → IsGrowing (i + 1) (moves_to_front pair one (i + 1) (y ∷ zs)) → IsGrowing n (moves_to_front pair one (i + 1) (y ∷ zs))
+        → IsGrowing n (if t then record { passed = i; taken = 1 } ∷ moves_to_front pair one (i + 1) (y ∷ zs) else moves_to_front pair one (i + 1) (y ∷ zs))
     by_one true a b = (le, a)
     by_one false a b = b
 
-    by_pair : (t : Bool) → IsGrowing (i + 2) (front_moves pair one (i + 2) zs) → IsGrowing (i + 1) (front_moves pair one (i + 1) (y ∷ zs)) → IsGrowing n (front_moves pair one (i + 1) (y ∷ zs))
-        → IsGrowing n (if t then record { passed = i; taken = 2 } ∷ front_moves pair one (i + 2) zs
-        else if one x && nat_lt 0 i then record { passed = i; taken = 1 } ∷ front_moves pair one (i + 1) (y ∷ zs) else front_moves pair one (i + 1) (y ∷ zs))
+    by_pair : (t : Bool) → IsGrowing (i + 2) (moves_to_front pair one (i + 2) zs) → IsGrowing (i + 1) (moves_to_front pair one (i + 1) (y ∷ zs)) → IsGrowing n (moves_to_front pair one (i + 1) (y ∷ zs))
+        → IsGrowing n (if t then record { passed = i; taken = 2 } ∷ moves_to_front pair one (i + 2) zs
+        else if one x && nat_lt 0 i then record { passed = i; taken = 1 } ∷ moves_to_front pair one (i + 1) (y ∷ zs) else moves_to_front pair one (i + 1) (y ∷ zs))
     by_pair true c a b = (omega (arith, le), c)
     by_pair false c a b = by_one (one x && nat_lt 0 i) a b
 
-pub reach_fits : {X : Type 0} (pair : X → X → Bool) (one : X → Bool) (n i : ℕ) (zs : List X) → n ≤ i + length zs → reach n (front_moves pair one i zs) ≤ i + length zs
+pub reach_fits : {X : Type 0} (pair : X → X → Bool) (one : X → Bool) (n i : ℕ) (zs : List X) → n ≤ i + length zs → reach n (moves_to_front pair one i zs) ≤ i + length zs
 reach_fits pair one n i [] le = le
 reach_fits pair one n i (x ∷ []) le = by_one (one x && nat_lt 0 i)
   where
@@ -298,15 +298,15 @@ reach_fits pair one n i (x ∷ []) le = by_one (one x && nat_lt 0 i)
     by_one false = le
 reach_fits pair one n i (x ∷ y ∷ zs) le = by_pair (pair x y) (reach_fits pair one (i + 2) (i + 2) zs (omega arith)) (reach_fits pair one (i + 1) (i + 1) (y ∷ zs) (omega arith)) (reach_fits pair one n (i + 1) (y ∷ zs) (omega (arith, le)))
   where
-    by_one : (t : Bool) → reach (i + 1) (front_moves pair one (i + 1) (y ∷ zs)) ≤ i + 1 + length (y ∷ zs) → reach n (front_moves pair one (i + 1) (y ∷ zs)) ≤ i + 1 + length (y ∷ zs)
-        → reach n (if t then record { passed = i; taken = 1 } ∷ front_moves pair one (i + 1) (y ∷ zs) else front_moves pair one (i + 1) (y ∷ zs)) ≤ i + length (x ∷ y ∷ zs)
+    by_one : (t : Bool) → reach (i + 1) (moves_to_front pair one (i + 1) (y ∷ zs)) ≤ i + 1 + length (y ∷ zs) → reach n (moves_to_front pair one (i + 1) (y ∷ zs)) ≤ i + 1 + length (y ∷ zs)
+        → reach n (if t then record { passed = i; taken = 1 } ∷ moves_to_front pair one (i + 1) (y ∷ zs) else moves_to_front pair one (i + 1) (y ∷ zs)) ≤ i + length (x ∷ y ∷ zs)
     by_one true a b = omega (arith, a)
     by_one false a b = omega (arith, b)
 
-    by_pair : (t : Bool) → reach (i + 2) (front_moves pair one (i + 2) zs) ≤ i + 2 + length zs → reach (i + 1) (front_moves pair one (i + 1) (y ∷ zs)) ≤ i + 1 + length (y ∷ zs)
-        → reach n (front_moves pair one (i + 1) (y ∷ zs)) ≤ i + 1 + length (y ∷ zs)
-        → reach n (if t then record { passed = i; taken = 2 } ∷ front_moves pair one (i + 2) zs
-        else if one x && nat_lt 0 i then record { passed = i; taken = 1 } ∷ front_moves pair one (i + 1) (y ∷ zs) else front_moves pair one (i + 1) (y ∷ zs)) ≤ i + length (x ∷ y ∷ zs)
+    by_pair : (t : Bool) → reach (i + 2) (moves_to_front pair one (i + 2) zs) ≤ i + 2 + length zs → reach (i + 1) (moves_to_front pair one (i + 1) (y ∷ zs)) ≤ i + 1 + length (y ∷ zs)
+        → reach n (moves_to_front pair one (i + 1) (y ∷ zs)) ≤ i + 1 + length (y ∷ zs)
+        → reach n (if t then record { passed = i; taken = 2 } ∷ moves_to_front pair one (i + 2) zs
+        else if one x && nat_lt 0 i then record { passed = i; taken = 1 } ∷ moves_to_front pair one (i + 1) (y ∷ zs) else moves_to_front pair one (i + 1) (y ∷ zs)) ≤ i + length (x ∷ y ∷ zs)
     by_pair true c a b = omega (arith, c)
     by_pair false c a b = by_one (one x && nat_lt 0 i) a b
 
@@ -355,7 +355,7 @@ gathered_after_seen {X = X} f pair one n xs =
     map-append f (fronts p o ys) (take n xs ++ elements_after_fronts p o ys) ∙ ap (λ zs. map f (fronts p o ys) ++ zs) (map-append f (take n xs) (elements_after_fronts p o ys))
     ∙ ap (λ zs. zs ++ (map f (take n xs) ++ map f (elements_after_fronts p o ys))) fs ∙ ap (λ zs. fronts pair one (drop n (map f xs)) ++ (zs ++ map f (elements_after_fronts p o ys))) (sym (take-map f n xs)) ∙ ap (λ zs. fronts pair one (drop n (map f xs)) ++ (take n (map f xs) ++ zs)) ss
 
-pub moves_seen : {X Y : Type 0} (f : X → Y) (pair : Y → Y → Bool) (one : Y → Bool) (i : ℕ) (xs : List X) → front_moves (λ a b. pair (f a) (f b)) (λ a. one (f a)) i xs ≡ front_moves pair one i (map f xs)
+pub moves_seen : {X Y : Type 0} (f : X → Y) (pair : Y → Y → Bool) (one : Y → Bool) (i : ℕ) (xs : List X) → moves_to_front (λ a b. pair (f a) (f b)) (λ a. one (f a)) i xs ≡ moves_to_front pair one i (map f xs)
 moves_seen f pair one i [] = refl
 moves_seen f pair one i (x ∷ []) = refl
 moves_seen f pair one i (x ∷ y ∷ zs) = rw (moves_seen f pair one (i + 2) zs, moves_seen f pair one (i + 1) (y ∷ zs)) refl
@@ -397,6 +397,6 @@ fronts_alone one x [] = refl
 fronts_alone one x (y ∷ zs) = refl
 
 pub moves_alone : {X : Type 0} (one : X → Bool) (i : ℕ) (x : X) (zs : List X)
-    → front_moves no_pair one i (x ∷ zs) ≡ (if one x && nat_lt 0 i then record { passed = i; taken = 1 } ∷ front_moves no_pair one (i + 1) zs else front_moves no_pair one (i + 1) zs)
+    → moves_to_front no_pair one i (x ∷ zs) ≡ (if one x && nat_lt 0 i then record { passed = i; taken = 1 } ∷ moves_to_front no_pair one (i + 1) zs else moves_to_front no_pair one (i + 1) zs)
 moves_alone one i x [] = refl
 moves_alone one i x (y ∷ zs) = refl

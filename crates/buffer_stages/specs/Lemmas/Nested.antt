@@ -21,7 +21,7 @@ use Rattle.buffer_glyphs.specs.Levels.{InList, manner}
 use Rattle.buffer_glyphs.specs.Origins.{Asks}
 use Rattle.buffer_glyphs.specs.Events.{origins_after}
 use Rattle.buffer_glyphs.specs.declared.level.BufferClusterLevel.{BufferClusterLevel}
-use Rattle.buffer_stages.specs.Moves.{FrontMove, IsGrowing, MovesMergeOnce, all_moved, move_events, with_range_moved, order_of_move, reach}
+use Rattle.buffer_stages.specs.Moves.{MoveToFront, IsGrowing, MovesMergeOnce, all_moved, move_events, with_range_moved, order_of_move, reach}
 use Rattle.buffer_stages.specs.Lemmas.Alone.{merged_alone}
 use Rattle.buffer_stages.specs.Lemmas.Moves.{arranged_moved, moved_length, moved_seen, order_long}
 
@@ -451,11 +451,11 @@ merged_length Marks from to os =
     sym (length-map (origins_merged_as Marks from to os) n) ∙ ap length (numbers_marked 3 from to os) ∙ length-map os n
 merged_length Keeps from to os = refl
 
-pub reach_grows : (n : ℕ) (ms : List FrontMove) → IsGrowing n ms → n ≤ reach n ms
+pub reach_grows : (n : ℕ) (ms : List MoveToFront) → IsGrowing n ms → n ≤ reach n ms
 reach_grows n [] g = omega arith
 reach_grows n (m ∷ ms) g = let rest = reach_grows (m.passed + m.taken) ms g.1 in let first = g.0 in omega (arith, first, rest)
 
-moves_after : (asks : Asks) (level : BufferClusterLevel) (b n : ℕ) (ms : List FrontMove) (os : List Origin) → IsGrowing n ms → b + reach n ms ≤ length os
+moves_after : (asks : Asks) (level : BufferClusterLevel) (b n : ℕ) (ms : List MoveToFront) (os : List Origin) → IsGrowing n ms → b + reach n ms ≤ length os
     → origins_after asks level (move_events b ms) (origins_merged_as (manner InList level) b (b + n) os) ≡ all_moved b ms (origins_merged_as (manner InList level) b (b + reach n ms) os)
 moves_after asks level b n [] os g fits = refl
 moves_after asks level b n (m ∷ ms) os g fits =
@@ -485,6 +485,6 @@ moves_merge_once asks level b ms os g fits =
     ap (origins_after asks level (move_events b ms)) (sym (merged_alone (manner InList level) b os)) ∙ moves_after asks level b 1 ms os g fits
 
 -- what is seen of elements that moved
-pub all_moved_seen : {X Y : Type 0} (f : X → Y) (b : ℕ) (ms : List FrontMove) (xs : List X) → map f (all_moved b ms xs) ≡ all_moved b ms (map f xs)
+pub all_moved_seen : {X Y : Type 0} (f : X → Y) (b : ℕ) (ms : List MoveToFront) (xs : List X) → map f (all_moved b ms xs) ≡ all_moved b ms (map f xs)
 all_moved_seen f b [] xs = refl
 all_moved_seen f b (m ∷ ms) xs = all_moved_seen f b ms (with_range_moved b m.passed m.taken xs) ∙ ap (all_moved b ms) (moved_seen f b m.passed m.taken xs)

@@ -13,7 +13,7 @@ use Rattle.buffer_lists.specs.Known.{HasOrder}
 use Rattle.buffer_core.specs.Sides.{Sides, all_glyphs}
 use Rattle.buffer_core.specs.Lending.{with_refilled}
 use Rattle.buffer_stages.specs.Lemmas.Written.{written_all}
-use Rattle.buffer_stages.specs.Moves.{FrontMove, IsGrowing, all_moved, are_one_cluster, with_range_moved, reach}
+use Rattle.buffer_stages.specs.Moves.{MoveToFront, IsGrowing, all_moved, are_one_cluster, with_range_moved, reach}
 use Rattle.buffer_stages.specs.Lemmas.Moves.{moved_seen, take_both}
 use Rattle.buffer_stages.specs.Lemmas.Nested.{all_moved_seen, reach_grows}
 
@@ -65,7 +65,7 @@ all_before : (p : ℕ → Bool) (i j : ℕ) (ns : List ℕ) → i ≤ j → list
 all_before p i j ns le e =
     ap (list_all p) (sym (take-take i j ns le)) ∙ (both_all p (take i (take j ns)) (drop i (take j ns)) (ap (list_all p) (take-append-drop i (take j ns)) ∙ e)).0
 
-numbers_all_moved : (c start n : ℕ) (ms : List FrontMove) (ns : List ℕ) → IsGrowing n ms → list_all (λ m. m == c) (take (reach n ms) (drop start ns)) ≡ true → all_moved start ms ns ≡ ns
+numbers_all_moved : (c start n : ℕ) (ms : List MoveToFront) (ns : List ℕ) → IsGrowing n ms → list_all (λ m. m == c) (take (reach n ms) (drop start ns)) ≡ true → all_moved start ms ns ≡ ns
 numbers_all_moved c start n [] ns g e = refl
 numbers_all_moved c start n (m ∷ ms) ns g e =
     let r = m.passed + m.taken in
@@ -73,7 +73,7 @@ numbers_all_moved c start n (m ∷ ms) ns g e =
     ap (all_moved start ms) (numbers_moved c start m.passed m.taken ns first) ∙ numbers_all_moved c start r ms ns g.1 e
 
 -- glyphs of one cluster that moved to the front, one after another
-pub clusters_all_moved : (start : ℕ) (ms : List FrontMove) (gs : List hb_glyph_info_t) → IsGrowing 1 ms → are_one_cluster (take (reach 1 ms) (drop start gs)) ≡ true → clusters (all_moved start ms gs) ≡ clusters gs
+pub clusters_all_moved : (start : ℕ) (ms : List MoveToFront) (gs : List hb_glyph_info_t) → IsGrowing 1 ms → are_one_cluster (take (reach 1 ms) (drop start gs)) ≡ true → clusters (all_moved start ms gs) ≡ clusters gs
 clusters_all_moved start ms gs grow e =
     let cluster_of : hb_glyph_info_t → ℕ = λ g. g.cluster in
     let n = reach 1 ms in

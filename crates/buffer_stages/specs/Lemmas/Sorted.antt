@@ -7,7 +7,7 @@ use Rattle.std.proofs.lemmas.Grind.{reverse_onto}
 use Rattle.std.proofs.lemmas.List.Concat.{flat_map-append}
 use Rattle.std.proofs.lemmas.List.Elements.{All-cons, All-nil}
 use Rattle.std.proofs.lemmas.List.Sorted.{length_permutation, IsPermutation-refl, IsPermutation-trans, IsPermutation-map, IsPermutation-append_left, IsPermutation-append_comm}
-use Rattle.buffer_stable_order.specs.Keys.{key_bound, key_order}
+use Rattle.buffer_rows.specs.KeyOrder.{key_bound, key_order}
 use Rattle.buffer_lists.specs.Groups.{group_length, joined_count}
 use Rattle.buffer_lists.specs.Turning.{in_front, groups, groups_reversed_list}
 use Rattle.buffer_lists.specs.Lemmas.GroupsTurned.{turned_onto}

@@ -7,7 +7,7 @@ use Rattle.shell_json.specs.TextValues.{IsFound, HasMember}
 use Rattle.shell_json.specs.declared.fault.JsonFault.{JsonFault}
 use Rattle.shell_json.specs.Cell.{and_then}
 use Rattle.shell_json.specs.Objects.{optional_value}
-use Rattle.shell_json.specs.Parts.{list_of, list_or_none}
+use Rattle.shell_json.specs.Items.{list_of, list_or_none}
 use Rattle.shell_face_json.specs.Lists.{number_below, rows_in_turn}
 use Rattle.shell_face_json.specs.Row.{only}
 use Rattle.shell_face_json.specs.Contexts.{no_classes}

@@ -7,7 +7,7 @@ use Rattle.json.specs.Json.{parse_map}
 use Rattle.serde_json.specs.Data.{Data, Items, no_items, item}
 use Rattle.shell_json.specs.declared.fault.JsonFault.{JsonFault}
 use Rattle.shell_json.specs.Cell.{and_then}
-use Rattle.shell_json.specs.Parts.{list_of}
+use Rattle.shell_json.specs.Items.{list_of}
 use Rattle.shell_json.specs.Rows.{after, row_in_order, rows_after, ok_cons}
 use Rattle.buffer_rows.specs.Keys.{is_above, is_rising}
 use Rattle.shell_face_json.specs.Lists.{rows_in_turn}
@@ -42,15 +42,15 @@ module _ {R K : Type 0} (order : K → K → Ordering) (key : R → K) (read : D
       → and_then (list_of d) (rows_by_key order key read None) ≡ Ok rows
   rows_in_order d rows is rising = of_list (list_of d) rows is rising
 
--- ---- parts in turn
+-- ---- items in turn
 
 module _ {R : Type 0} (read : Data → Result R JsonFault) where
   none_before : (x : Result (List R) JsonFault) → x ≡ after [] x
   none_before (Ok xs) = refl
   none_before (Err e) = refl
 
-  pub first_parts : (ds : Items) (front : List R) → front ≡ [] → rows_in_turn read ds ≡ after front (rows_in_turn read ds)
-  first_parts ds front e = none_before (rows_in_turn read ds) ∙ ap (λ xs. after xs (rows_in_turn read ds)) (sym e)
+  pub first_items : (ds : Items) (front : List R) → front ≡ [] → rows_in_turn read ds ≡ after front (rows_in_turn read ds)
+  first_items ds front e = none_before (rows_in_turn read ds) ∙ ap (λ xs. after xs (rows_in_turn read ds)) (sym e)
 
   after_twice : (front : List R) (r : R) (x : Result (List R) JsonFault) → after front (after (r ∷ []) x) ≡ after (front ++ r ∷ []) x
   after_twice front r (Ok xs) = ap (λ ys. Ok ys) (sym (append_assoc front (r ∷ []) xs))
@@ -62,8 +62,8 @@ module _ {R : Type 0} (read : Data → Result R JsonFault) where
       ap (λ x. after front (rows_in_turn read x)) is ∙ ap (λ x. after front (and_then x (λ y. after (y ∷ []) (rows_in_turn read es)))) one ∙ after_twice front r (rows_in_turn read es)
       ∙ ap (λ xs. after xs (rows_in_turn read es)) (sym pushed)
 
-  pub last_parts : (front : List R) (ds : Items) → no_items ≡ ds → after front (rows_in_turn read ds) ≡ Ok front
-  last_parts front ds e = ap (λ x. after front (rows_in_turn read x)) (sym e) ∙ ap (λ ys. Ok ys) (append-nil front)
+  pub last_items : (front : List R) (ds : Items) → no_items ≡ ds → after front (rows_in_turn read ds) ≡ Ok front
+  last_items front ds e = ap (λ x. after front (rows_in_turn read x)) (sym e) ∙ ap (λ ys. Ok ys) (append-nil front)
 
 -- an item more before those that are left
 pub item_before : (before : (Items → Items)) (d : Data) (o : Option (Items × List Token)) → parse_map before (parse_map (item d) o) ≡ parse_map (λ ds. before (item d ds)) o

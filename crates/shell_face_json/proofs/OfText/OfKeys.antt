@@ -1,16 +1,15 @@
 -- What was found of a font's keys is what the font has.
-use Rattle.std.proofs.Common.{◌≡◌, ℕ, Bool, List, [], codes, Option, Some, None, Result, Ok, option_map, refl, sym, ap, ◌∙◌}
+use Rattle.std.proofs.Common.{◌≡◌, ℕ, Bool, List, [], Option, None, Result, Ok, option_map, refl, sym, ap, ◌∙◌}
 use Rattle.std.specs.Prelude.{unwrap_or}
 use Rattle.std.specs.declared.cmp.Ordering.{Ordering}
 use Rattle.serde_json.specs.Data.{Data, no_items, Members, object}
 use Rattle.serde_json.specs.Find.{get, get_member}
 use Rattle.serde_json.specs.View.{view}
 use Rattle.serde_json.specs.declared.value.Value.{Value}
-use Rattle.shell_json.specs.TextValues.{IsFound, HasMember}
+use Rattle.shell_json.specs.TextValues.{HasMember}
 use Rattle.shell_json.specs.declared.fault.JsonFault.{JsonFault}
 use Rattle.shell_json.specs.Cell.{and_then}
-use Rattle.shell_json.specs.Objects.{optional_value}
-use Rattle.shell_json.specs.Parts.{list_of}
+use Rattle.shell_json.specs.Items.{list_of}
 use Rattle.shell_face_json.specs.Lists.{is_object, lookups_of, rows_at}
 use Rattle.shell_face_json.specs.Sorted.{rows_by_key}
 use Rattle.shell_face_json.specs.Scripts.{layout_of}

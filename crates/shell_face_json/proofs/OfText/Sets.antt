@@ -11,10 +11,9 @@ use Rattle.shell_json.specs.declared.fault.JsonFault.{JsonFault}
 use Rattle.shell_json.specs.declared.fault.JsonFault.TheVariants.{OutOfRange}
 use Rattle.shell_json.specs.Cell.{and_then, u16_value}
 use Rattle.shell_json.specs.Objects.{read_or, optional_value}
-use Rattle.shell_json.specs.Parts.{list_at}
+use Rattle.shell_json.specs.Items.{list_at}
 use Rattle.shell_json.specs.Rows.{after, ok_cons}
-use Rattle.shell_face_json.specs.Lists.{below, count_at, is_object, lookup_in_table, lookups_of, number_below, rows_at, rows_in_turn, within}
-use Rattle.shell_face_json.specs.Scripts.{layout_of}
+use Rattle.shell_face_json.specs.Lists.{below, count_at, is_object, lookup_in_table, lookups_of, number_below, rows_in_turn, within}
 use Rattle.shell_face_json.specs.SubstitutionTable.{substitution_lookup, substitution_table, substitution_type_in, substitutions}
 use Rattle.shell_face_json.specs.PositionTable.{positioning_lookup, positioning_table, positioning_type_in, positionings}
 use Rattle.shell_face_json.proofs.Inverted.{through}

@@ -11,7 +11,7 @@ use Rattle.shell_json.specs.TextValues.{IsFound, HasMember}
 use Rattle.shell_json.specs.declared.fault.JsonFault.{JsonFault}
 use Rattle.shell_json.specs.declared.fault.JsonFault.TheVariants.{WrongShape}
 use Rattle.shell_json.specs.Cell.{and_then}
-use Rattle.shell_json.specs.Parts.{list_at, list_of, list_or_none}
+use Rattle.shell_json.specs.Items.{list_at, list_of, list_or_none}
 use Rattle.shell_json.specs.Rows.{after, ok_cons}
 use Rattle.shell_face_json.specs.Lists.{item_count, count_at, count_of, is_object, lookup_in_table, lookups_of, rows_at, rows_in_turn, within}
 use Rattle.shell_face_json.specs.Sorted.{rows_by_key}

@@ -4,7 +4,7 @@ use Rattle.std.specs.Ordering.{nat_cmp}
 use Rattle.serde_json.specs.Data.{Data}
 use Rattle.shell_json.specs.declared.fault.JsonFault.{JsonFault}
 use Rattle.shell_json.specs.Cell.{and_then}
-use Rattle.shell_json.specs.Parts.{list_or_none}
+use Rattle.shell_json.specs.Items.{list_or_none}
 use Rattle.shell_face_json.specs.Lists.{count_of, rows_in_turn}
 use Rattle.shell_face_json.specs.Scripts.{script, feature}
 use Rattle.shell_face_json.specs.Sorted.{rows_by_key}

@@ -1,4 +1,7 @@
 //! Reads the glyph definitions (GDEF) of a font.
+//!
+//! The keys of an object are a tuple of three with types of their own, so GDEF's are not listed by the function for
+//! those of GSUB and GPOS.
 ghost use Rattle.std.specs.Prelude.{◌≡◌, codes, unwrap_or, IfOk, Ok};
 ghost use Rattle.shell_face_json.specs.Contexts.{no_classes};
 ghost use Rattle.shell_face_json.specs.Face.{few_sets, glyph_definition, no_definition};
@@ -7,7 +10,7 @@ ghost use Rattle.shell_face_json.specs.Glyphs.{class_definition, glyph_limit};
 use crate::face::no_definition;
 use crate::glyphs::GLYPH_LIMIT;
 use crate::text::rows::{ListTaker, RowTaker};
-use crate::text::table::parts_or_none;
+use crate::text::table::items_or_none;
 use json::Reader;
 use layout_common::array::Array;
 use layout_common::class_definition::ClassDefinition;
@@ -61,7 +64,7 @@ impl ValueTaker for DefinitionTaker {
         take_object(alloc, reader, depth, &keys, &mut found)?;
         let (classes, (attach, sets)) = found;
         let attach = classes_or_none(alloc, attach);
-        let sets = few_sets(parts_or_none(alloc, sets))?;
+        let sets = few_sets(items_or_none(alloc, sets))?;
         Ok(GlyphDefinition {
             classes,
             attach,

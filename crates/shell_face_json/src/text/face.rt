@@ -29,7 +29,7 @@ pub fn read_face_text(alloc: Global, text: &str) -> Result<Face, JsonFault>
     ensures ok { IfOk result (λ f. face_in text.now ≡ Ok f) }
     ensures refused { IfErr result (λ e. e ≢ JsonFault.OutOfMemory → face_in text.now ≡ Err e) }
 {
-    match read_by_parts(alloc, text) {
+    match read_by_keys(alloc, text) {
         Ok(face) => Ok(face),
         Err(_) => read_whole(alloc, text),
     }
@@ -48,7 +48,7 @@ fn read_whole(alloc: Global, text: &str) -> Result<Face, JsonFault>
 
 /// Reads a font from a text value by value, in one walk. An error doesn't say which: the text has a fault, or a number
 /// that is no integer of 64 bits, or memory was lacking.
-pub fn read_by_parts(alloc: Global, text: &str) -> Result<Face, Unread>
+pub fn read_by_keys(alloc: Global, text: &str) -> Result<Face, Unread>
     ensures { IfOk result (λ f. face_in text.now ≡ Ok f) }
 {
     Ok(Face::new(take_parts(alloc, text)?))

@@ -1,4 +1,6 @@
 //! The keys of a font, and what is found of them.
+//!
+//! The two tables have functions of one form, since their lookups are types of their own.
 ghost use Rattle.std.specs.Prelude.{◌≡◌, [], codes, true, unwrap_or, IfOk, Ok, pos};
 ghost use Rattle.std.specs.List.{list_all};
 ghost use Rattle.std.specs.Option.{option_map, option_map_or};
@@ -13,7 +15,7 @@ use crate::lookups::{Lookup, all_sets_fit};
 use crate::text::definition::DefinitionTaker;
 use crate::text::rows::RowTaker;
 use crate::text::table::TableTaker;
-use crate::value::Part;
+use crate::value::FromJson;
 use buffer_glyphs::names::hb_glyph_extents_t;
 use buffer_rows::{Keyed, SortedRows};
 use layout_common::array::Array;
@@ -92,7 +94,7 @@ fn whole(name: &'static str) -> Key<Whole>
     Key { name, taker: Whole }
 }
 
-fn rows_key<R: Part + Keyed>(name: &'static str) -> Key<RowTaker<R>>
+fn rows_key<R: FromJson + Keyed>(name: &'static str) -> Key<RowTaker<R>>
     ensures { (result.name.now ≡ name.now) × (result.taker.limit ≡ glyph_limit) }
 {
     Key {

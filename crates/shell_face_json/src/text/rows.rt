@@ -1,15 +1,17 @@
 //! Reads the values and rows of a font, each one by itself.
+//!
+//! The taker of a table (`table`) has the same form: it keeps a limit and the type that it reads.
 ghost use Rattle.std.specs.Prelude.{◌≡◌, ◌<◌, length, None, Some, IfOk, OnOk, Ok};
 ghost use Rattle.json.specs.Json.{value, items};
 ghost use Rattle.serde_json.specs.Data.{Data, Items};
 ghost use Rattle.serde_json.specs.Read.{of_items, converted};
 ghost use Rattle.shell_json.specs.TextValues.{BeginsWith};
 ghost use Rattle.shell_json.specs.Cell.{and_then};
-ghost use Rattle.shell_json.specs.Parts.{list_of};
+ghost use Rattle.shell_json.specs.Items.{list_of};
 ghost use Rattle.shell_face_json.specs.Lists.{rows_in_turn};
 ghost use Rattle.shell_face_json.specs.Sorted.{rows_by_key};
 
-use crate::value::Part;
+use crate::value::FromJson;
 use buffer_rows::{Keyed, SortedRows, is_rising};
 use json::{Reader, Token};
 use layout_common::array::Array;
@@ -23,25 +25,25 @@ use std::marker::PhantomData;
 #[derive(Drop)]
 pub struct ListTaker<P> {
     limit: usize,
-    parts: PhantomData<P>,
+    items: PhantomData<P>,
 }
 
-impl<P: Part> ListTaker<P> {
+impl<P: FromJson> ListTaker<P> {
     /// A reader of items whose indices are below `limit`.
     pub fn new(limit: usize) -> ListTaker<P>
         ensures { result.limit ≡ limit }
     {
         ListTaker {
             limit,
-            parts: PhantomData,
+            items: PhantomData,
         }
     }
 }
 
-impl<P: Part> ValueTaker for ListTaker<P> {
+impl<P: FromJson> ValueTaker for ListTaker<P> {
     type Output = Array<P>;
 
-    ghost means = { λ taker d parts. and_then (list_of d) (rows_in_turn (P.part taker.limit)) ≡ Ok parts };
+    ghost means = { λ taker d items. and_then (list_of d) (rows_in_turn (P.font_value taker.limit)) ≡ Ok items };
 
     fn take_value(
         &self,
@@ -60,7 +62,7 @@ pub struct RowTaker<R> {
     rows: PhantomData<R>,
 }
 
-impl<R: Part + Keyed> RowTaker<R> {
+impl<R: FromJson + Keyed> RowTaker<R> {
     /// A reader of rows whose indices are below `limit`.
     pub fn new(limit: usize) -> RowTaker<R>
         ensures { result.limit ≡ limit }
@@ -72,11 +74,11 @@ impl<R: Part + Keyed> RowTaker<R> {
     }
 }
 
-impl<R: Part + Keyed> ValueTaker for RowTaker<R> {
+impl<R: FromJson + Keyed> ValueTaker for RowTaker<R> {
     type Output = SortedRows<R>;
 
     ghost means = { λ taker d rows.
-        and_then (list_of d) (rows_by_key R.Key.cmp R.key_of (R.part taker.limit) None) ≡ Ok rows };
+        and_then (list_of d) (rows_by_key R.Key.cmp R.key_of (R.font_value taker.limit) None) ≡ Ok rows };
 
     fn take_value(
         &self,
@@ -92,14 +94,14 @@ impl<R: Part + Keyed> ValueTaker for RowTaker<R> {
     }
 }
 
-fn take_list<P: Part>(
+fn take_list<P: FromJson>(
     alloc: Global,
     reader: &mut Reader<'_>,
     depth: usize,
     limit: usize,
 ) -> Result<Vec<P>, Unread>
     ensures ok { IfOk result (λ v. (d : Data) × BeginsWith depth reader.old d reader.new
-        × (and_then (list_of d) (rows_in_turn (P.part limit)) ≡ Ok v.items)) }
+        × (and_then (list_of d) (rows_in_turn (P.font_value limit)) ≡ Ok v.items)) }
     ensures shorter { OnOk result (length reader.new < length reader.old) }
 {
     let token = reader.next().ok_or(Unread)?;
@@ -114,7 +116,7 @@ fn take_list<P: Part>(
     }
 }
 
-fn take_items<P: Part>(
+fn take_items<P: FromJson>(
     alloc: Global,
     reader: &mut Reader<'_>,
     depth: usize,
@@ -122,29 +124,29 @@ fn take_items<P: Part>(
 ) -> Result<Vec<P>, Unread>
     ensures ok { IfOk result (λ v. (ds : Items)
         × (converted of_items (items (value depth) (length reader.old) reader.old) ≡ Some (ds, reader.new))
-        × (rows_in_turn (P.part limit) ds ≡ Ok v.items)) }
+        × (rows_in_turn (P.font_value limit) ds ≡ Ok v.items)) }
     ensures shorter { OnOk result (length reader.new < length reader.old) }
 {
-    let mut parts = Vec::new(alloc);
+    let mut items = Vec::new(alloc);
     'items: while !reader.take_end_array() {
-        let part = take_part(alloc, reader, depth, limit)?;
-        parts.push(part)?;
+        let item = take_item(alloc, reader, depth, limit)?;
+        items.push(item)?;
     }
-    Ok(parts)
+    Ok(items)
 }
 
-fn take_part<P: Part>(
+fn take_item<P: FromJson>(
     alloc: Global,
     reader: &mut Reader<'_>,
     depth: usize,
     limit: usize,
 ) -> Result<P, Unread>
-    ensures ok { IfOk result (λ p. (d : Data) × BeginsWith depth reader.old d reader.new × (P.part limit d ≡ Ok p)) }
+    ensures ok { IfOk result (λ p. (d : Data) × BeginsWith depth reader.old d reader.new × (P.font_value limit d ≡ Ok p)) }
     ensures shorter { OnOk result (length reader.new < length reader.old) }
 {
     let value = read_value(alloc, reader, depth)?;
-    match P::read_part(alloc, &value, limit) {
-        Ok(part) => Ok(part),
+    match P::from_json(alloc, &value, limit) {
+        Ok(item) => Ok(item),
         Err(_) => Err(Unread),
     }
 }

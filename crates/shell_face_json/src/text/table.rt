@@ -2,7 +2,7 @@
 ghost use Rattle.std.specs.Prelude.{◌≡◌, [], length, codes, unwrap_or, IfOk, Ok};
 ghost use Rattle.std.specs.Option.{option_map};
 ghost use Rattle.serde_json.specs.View.{view, items_view};
-ghost use Rattle.shell_json.specs.Parts.{list_or_none};
+ghost use Rattle.shell_json.specs.Items.{list_or_none};
 ghost use Rattle.shell_face_json.specs.Lists.{is_object, lookups_of};
 ghost use Rattle.shell_face_json.specs.Scripts.{layout_of};
 ghost use Rattle.shell_face_json.specs.Text.Table.{layout_in};
@@ -11,15 +11,15 @@ use crate::lists::read_in_turn;
 use crate::lookups::{Lookup, all_fit};
 use crate::rising::read_rising;
 use crate::text::rows::ListTaker;
-use crate::value::Part;
+use crate::value::FromJson;
 use json::Reader;
 use layout_common::array::Array;
 use layout_tables::table::{FeatureRecord, ScriptsAndFeatures};
 use serde_json::Value;
 use shell_json::fault::JsonFault;
+use shell_json::items::list;
 use shell_json::key_takers::{Key, ValueTaker, Whole};
 use shell_json::members::take_object;
-use shell_json::parts::list;
 use shell_json::unread::Unread;
 use std::alloc::Global;
 use std::marker::PhantomData;
@@ -47,7 +47,7 @@ impl<L: Lookup> ValueTaker for TableTaker<L> {
     type Output = (ScriptsAndFeatures, Array<L>);
 
     ghost means = { λ taker d table. (is_object d ≡ Ok tt) × (layout_of d ≡ Ok table.0)
-        × (lookups_of L.fits (L.part taker.set_count) d ≡ Ok table.1) };
+        × (lookups_of L.fits (L.font_value taker.set_count) d ≡ Ok table.1) };
 
     fn take_value(
         &self,
@@ -59,7 +59,7 @@ impl<L: Lookup> ValueTaker for TableTaker<L> {
         let mut found = (None, (None, None));
         take_object(alloc, reader, depth, &keys, &mut found)?;
         let (scripts, (features, lookups)) = found;
-        let lookups = parts_or_none(alloc, lookups);
+        let lookups = items_or_none(alloc, lookups);
         let lookup_count = lookups.len();
         if !all_fit(lookups.as_slice(), lookup_count) {
             return Err(Unread);
@@ -73,7 +73,7 @@ impl<L: Lookup> ValueTaker for TableTaker<L> {
 
 type TableKeys<L> = (Key<Whole>, (Key<Whole>, Key<ListTaker<L>>));
 
-fn table_keys<L: Part>(set_count: usize) -> TableKeys<L>
+fn table_keys<L: FromJson>(set_count: usize) -> TableKeys<L>
     ensures names { (result.0.name.now ≡ codes "scripts") × (result.1.0.name.now ≡ codes "features")
         × (result.1.1.name.now ≡ codes "lookups") }
     ensures limit { result.1.1.taker.limit ≡ set_count }
@@ -94,11 +94,11 @@ fn table_keys<L: Part>(set_count: usize) -> TableKeys<L>
 }
 
 /// The values that were found, none where their key is missing.
-pub(crate) fn parts_or_none<P: Drop>(alloc: Global, found: Option<Array<P>>) -> Array<P>
+pub(crate) fn items_or_none<P: Drop>(alloc: Global, found: Option<Array<P>>) -> Array<P>
     ensures { result ≡ unwrap_or found [] }
 {
     match found {
-        Some(parts) => parts,
+        Some(items) => items,
         None => Array::new(Vec::new(alloc)),
     }
 }

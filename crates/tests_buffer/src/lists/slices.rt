@@ -8,7 +8,7 @@ use buffer_glyphs::flags::UnicodeProps;
 use buffer_glyphs::info::hb_glyph_info_t;
 use buffer_glyphs::level::BufferClusterLevel;
 use buffer_lists::deletion_within::delete_within;
-use buffer_lists::flags::{AskedFlags, propagate_flags};
+use buffer_lists::flags::{AskedFlags, spread_glyph_flags};
 use buffer_lists::groups::{group_end, next_cluster, next_grapheme, next_syllable};
 use buffer_lists::reversal::reverse_groups;
 use buffer_lists::sorting::sort;
@@ -93,7 +93,7 @@ pub fn spreads(alloc: Global, row: &str) -> Result<bool, AllocError> {
         concat: is_so(row, 0),
         tatweel: is_so(row, 1),
     };
-    propagate_flags(&mut glyphs, asked);
+    spread_glyph_flags(&mut glyphs, asked);
     Ok(are(&glyphs, part(row, 3)))
 }
 

@@ -1,6 +1,6 @@
 use Rattle.std.proofs.Common.{ℕ, rules, refl}
 use Rattle.std.proofs.lemmas.List.Sorted.{IsNonDecreasingBy-from_sort_by_key, answers_always}
-use Rattle.buffer_stable_order.proofs.StableSort.{stable_sort_is}
+use Rattle.buffer_rows.proofs.StableSort.{stable_sort_is}
 use Rattle.buffer_lists.specs.declared.sorting.KeyedIndex.{KeyedIndex}
 use Rattle.buffer_lists.proofs.sorting.sort_indices.Goals as goal
 

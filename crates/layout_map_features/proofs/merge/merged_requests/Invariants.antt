@@ -1,5 +1,5 @@
 use Rattle.std.proofs.Common.{◌≡◌, take}
-use Rattle.buffer_stable_order.specs.Keys.{key_bound}
+use Rattle.buffer_rows.specs.KeyOrder.{key_bound}
 use Rattle.layout_map_features.specs.Groups.{entries_below}
 use Rattle.layout_map_features.specs.Requests.{merged_request}
 use Rattle.layout_map_features.proofs.merge.merged_requests.Given as goal

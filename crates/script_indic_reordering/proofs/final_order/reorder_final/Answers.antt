@@ -6,4 +6,4 @@ use Rattle.script_indic_reordering.proofs.final_order.reorder_final.Goals as goa
 pub returns : goal.returns
 returns c =
     let m = c.args.masks.now in
-    followed_next (by_syllable (final_syllable c.args.reph_pos m)) (init_masked m) c.args.buffer.now c.reorder_syllables.new.buffer c.mask_words.new.buffer c.in_ok-reorder_syllables.ensures c.mask_words.ensures
+    followed_next (by_syllable (final_syllable c.args.reph_pos m)) (init_masked m) c.args.buffer.now c.each_syllable.new.buffer c.mask_words.new.buffer c.in_ok-each_syllable.ensures c.mask_words.ensures

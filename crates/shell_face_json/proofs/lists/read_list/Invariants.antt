@@ -5,6 +5,6 @@ use Rattle.shell_face_json.specs.Lists.{items_of}
 use Rattle.shell_face_json.proofs.Means.{Means}
 use Rattle.shell_face_json.proofs.lists.read_list.Given as goal
 
--- the parts so far
+-- the items so far
 abbrev pub invariant-loop-value : goal.invariant-loop-value
-invariant-loop-value g l = Means (items_of (g.P.Part.part l.limit) (items_view (take l.value-index l.values))) (result_map_both (λ v. v.items) (λ e. e) l.parts)
+invariant-loop-value g l = Means (items_of (g.P.FromJson.font_value l.limit) (items_view (take l.value-index l.values))) (result_map_both (λ v. v.items) (λ e. e) l.items)

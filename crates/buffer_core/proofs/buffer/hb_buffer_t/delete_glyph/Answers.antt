@@ -20,7 +20,7 @@ delete_first-marked-requires-clause-known c =
     let b = c.self.inside in
     let open_now : b.have_output ≡ true = rw (← c.self.view_is) at c.requires.current.opened in
     let known = settled_all b c.settle.new.self.known c.self.invariant (λ m n. (rw c.deref.ensures.value at (c.settle.ensures.order m n))) in
-    rw c.deref_mut.ensures.value (subst (HasOrder c.settle.new.self.known) (sym (parts_seen b (b.front, b.idx) (open_ends b open_now))) known)
+    rw c.deref_mut.ensures.value (subst (HasOrder c.settle.new.self.known) (sym (parts_seen b (b.out_len, b.idx) (open_ends b open_now))) known)
 
 open_now : (c : goal.After-self-3-1) → c.self.inside.have_output ≡ true
 open_now c = rw (← c.self.view_is) at c.requires.current.opened
@@ -40,7 +40,7 @@ invariant_of-self c =
     let some : 0 < length (drop b.idx b.info.items) = rw (← c.self.view_is) at c.requires.current.current in
     let new : Inside = record b { info = info; idx = b.idx + 1; order = c.settle.new.self } in
     sound_changed b info c.settle.new.self (b.idx + 1) c.add_has_glyph_flags-self-inside.result c.self.invariant long (omega arith) (omega (arith, some, length-drop b.idx b.info.items)) c.settle.ensures.back
-    (subst (HasOrder c.settle.new.self.known) (parts_seen new (b.front, b.idx + 1) (open_ends new (open_now c))) (rw (put c) done.ensures.order))
+    (subst (HasOrder c.settle.new.self.known) (parts_seen new (b.out_len, b.idx + 1) (open_ends new (open_now c))) (rw (put c) done.ensures.order))
 
 deleted : (c : goal.After-self-3-1) (g : Glyph) → c.args.self.now.ahead ≡ g ∷ drop 1 c.args.self.now.ahead
     → sides_of (record c.self.inside { info = with_items c.self.inside.info c.delete_first-marked.new.glyphs; idx = c.self.inside.idx + 1; scratch_flags = c.add_has_glyph_flags-self-inside.result; order = c.settle.new.self })

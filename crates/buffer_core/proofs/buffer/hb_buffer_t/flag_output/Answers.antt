@@ -26,9 +26,9 @@ pub returns : goal.returns
 returns c =
     let b = c.self.inside in
     let done = c.flag_both in
-    let there : c.args.start ≤ length (take b.front b.info.items) = rw (← c.self.view_is, open_now c) at c.requires.begins in
+    let there : c.args.start ≤ length (take b.out_len b.info.items) = rw (← c.self.view_is, open_now c) at c.requires.begins in
     let unread : b.idx - b.gap ≤ c.args.end = rw (← c.self.view_is, open_now c) at c.requires.unread in
-    let output = ap (take b.front) (put c) ∙ (rw c.deref_mut.ensures.value at done.ensures.output) in
+    let output = ap (take b.out_len) (put c) ∙ (rw c.deref_mut.ensures.value at done.ensures.output) in
     let input = ap (drop b.idx) (put c) ∙ (rw c.deref_mut.ensures.value at done.ensures.input) in
     let any = c.any_within-any.ensures ∙ ap (λ k. nat_lt c.args.start (k + (c.args.end + b.gap - b.idx))) (sym (front_long b c.self.invariant (open_now c))) in
     let flags = c.add_has_glyph_flags-self-inside.ensures ∙ ap (λ m. with_has_glyph_flags m b.scratch_flags) any in
@@ -44,9 +44,9 @@ invariant_of-self c =
     let info = with_items b.info done.new.glyphs in
     let long : length info.items ≡ length b.info.items = ap length (put c) ∙ done.ensures.len ∙ ap length c.deref_mut.ensures.value in
     let ahead = drop b.idx b.info.items in
-    let behind = take b.front b.info.items in
+    let behind = take b.out_len b.info.items in
     let n = c.args.end + b.gap - b.idx in
-    let output = ap (λ gs. clusters (take b.front gs)) (put c) ∙ ap clusters (rw c.deref_mut.ensures.value at done.ensures.output) ∙ rest_kept (glyph_flagged c.args.flags) (λ g. refl) c.args.start behind in
+    let output = ap (λ gs. clusters (take b.out_len gs)) (put c) ∙ ap clusters (rw c.deref_mut.ensures.value at done.ensures.output) ∙ rest_kept (glyph_flagged c.args.flags) (λ g. refl) c.args.start behind in
     let input = ap (λ gs. clusters (drop b.idx gs)) (put c) ∙ ap clusters (rw c.deref_mut.ensures.value at done.ensures.input) ∙ part_kept (glyph_flagged c.args.flags) (λ g. refl) 0 n ahead in
     sound_changed b info c.settle.new.self b.idx c.add_has_glyph_flags-self-inside.result c.self.invariant long (omega arith) c.self.invariant.cursor c.settle.ensures.back
     (subst (HasOrder c.settle.new.self.known) (same_ends b info c.settle.new.self c.add_has_glyph_flags-self-inside.result (open_now c) output input)

@@ -18,12 +18,12 @@ use Rattle.buffer_core.proofs.buffer.hb_buffer_t.merge_clusters.Goals.{then-self
 pub merge_input-marked-requires-clause-known : goal.merge_input-marked-requires-clause-known
 merge_input-marked-requires-clause-known c =
     let b = c.self.inside in
-    let ends : c.if-self.front ≡ ends_of b = elim c.if-self.branch [ then-self w ↦ rw w.if-self.true w.front-is | else-self w ↦ rw w.if-self.false w.front-is ] in
+    let ends : c.if-self.out_len ≡ ends_of b = elim c.if-self.branch [ then-self w ↦ rw w.if-self.true w.out_len-is | else-self w ↦ rw w.if-self.false w.out_len-is ] in
     let known = settled_all b c.settle.new.self.known c.self.invariant (λ m n. (rw c.deref.ensures.value at (c.settle.ensures.order m n))) in
-    rw c.deref_mut.ensures.value (subst (HasOrder c.settle.new.self.known) (sym (parts_seen b c.if-self.front ends)) known)
+    rw c.deref_mut.ensures.value (subst (HasOrder c.settle.new.self.known) (sym (parts_seen b c.if-self.out_len ends)) known)
 
-ends : (c : goal.After-self-2-1) → c.if-self.front ≡ ends_of c.self.inside
-ends c = elim c.if-self.branch [ then-self w ↦ rw w.if-self.true w.front-is | else-self w ↦ rw w.if-self.false w.front-is ]
+ends : (c : goal.After-self-2-1) → c.if-self.out_len ≡ ends_of c.self.inside
+ends c = elim c.if-self.branch [ then-self w ↦ rw w.if-self.true w.out_len-is | else-self w ↦ rw w.if-self.false w.out_len-is ]
 
 put : (c : goal.After-self-2-1) → (with_items c.self.inside.info c.merge_input-marked.new.glyphs).items ≡ c.merge_input-marked.new.glyphs
 put c =
@@ -40,14 +40,14 @@ invariant_of-self c =
     let order : ClusterOrder = record { known = done.result.1; lent = c.settle.new.self.lent } in
     let new : Inside = record b { info = info; order = order; scratch_flags = c.add_has_glyph_flags-self-inside.result } in
     sound_changed b info order b.idx c.add_has_glyph_flags-self-inside.result c.self.invariant long (omega arith) c.self.invariant.cursor c.settle.ensures.back
-    (subst (HasOrder done.result.1) (parts_seen new c.if-self.front (ends c)) (rw (put c) done.ensures.order))
+    (subst (HasOrder done.result.1) (parts_seen new c.if-self.out_len (ends c)) (rw (put c) done.ensures.order))
 
 merged : (c : goal.After-self-2-1) → sides_of (record c.self.inside { info = with_items c.self.inside.info c.merge_input-marked.new.glyphs; scratch_flags = c.add_has_glyph_flags-self-inside.result; order = record { known = c.merge_input-marked.result.1; lent = c.settle.new.self.lent } })
     ≡ with_merged (index_in_all c.args.start c.args.self.now) (index_in_all c.args.end c.args.self.now) c.args.self.now
 merged c =
     let b = c.self.inside in
     let done = c.merge_input-marked in
-    let p = c.if-self.front in
+    let p = c.if-self.out_len in
     let input = ap (drop p.1) (put c) ∙ (rw c.deref_mut.ensures.value at done.ensures.input) in
     let output = ap (take p.0) (put c) ∙ (rw c.deref_mut.ensures.value at done.ensures.output) in
     let any = rw c.deref_mut.ensures.value at done.ensures.any in

@@ -19,7 +19,7 @@ merge_output-self-inside-requires-clause-known c =
     let b = c.self.inside in
     let open_now : b.have_output ≡ true = rw (← c.self.view_is) at c.requires.open in
     let known = settled_all b c.settle.new.self.known c.self.invariant (λ m n. (rw c.deref.ensures.value at (c.settle.ensures.order m n))) in
-    rw c.deref_mut.ensures.value (subst (HasOrder c.settle.new.self.known) (sym (parts_seen b (b.front, b.idx) (open_ends b open_now))) known)
+    rw c.deref_mut.ensures.value (subst (HasOrder c.settle.new.self.known) (sym (parts_seen b (b.out_len, b.idx) (open_ends b open_now))) known)
 
 open_now : (c : goal.After-self-2-1) → c.self.inside.have_output ≡ true
 open_now c = rw (← c.self.view_is) at c.requires.open
@@ -39,16 +39,16 @@ invariant_of-self c =
     let order : ClusterOrder = record { known = done.result; lent = c.settle.new.self.lent } in
     let new : Inside = record b { info = info; order = order } in
     sound_changed b info order b.idx b.scratch_flags c.self.invariant long (omega arith) c.self.invariant.cursor c.settle.ensures.back
-    (subst (HasOrder done.result) (parts_seen new (b.front, b.idx) (open_ends b (open_now c))) (rw (put c) done.ensures.order))
+    (subst (HasOrder done.result) (parts_seen new (b.out_len, b.idx) (open_ends b (open_now c))) (rw (put c) done.ensures.order))
 
 merged : (c : goal.After-self-2-1) → sides_of (record c.self.inside { info = with_items c.self.inside.info c.merge_output-self-inside.new.glyphs; order = record { known = c.merge_output-self-inside.result; lent = c.settle.new.self.lent } })
     ≡ with_output_merged c.args.start c.args.end c.args.self.now
 merged c =
     let b = c.self.inside in
     let done = c.merge_output-self-inside in
-    let within : c.args.end ≤ length (take b.front b.info.items) = rw (← c.self.view_is, open_now c) at c.requires.within in
+    let within : c.args.end ≤ length (take b.out_len b.info.items) = rw (← c.self.view_is, open_now c) at c.requires.within in
     output_merged_view b (with_items b.info done.new.glyphs) (record { known = done.result; lent = c.settle.new.self.lent }) c.args.start c.args.end (open_now c) c.requires.ordered within
-    (ap (take b.front) (put c) ∙ (rw c.deref_mut.ensures.value at done.ensures.output)) (ap (drop b.idx) (put c) ∙ (rw c.deref_mut.ensures.value at done.ensures.input))
+    (ap (take b.out_len) (put c) ∙ (rw c.deref_mut.ensures.value at done.ensures.output)) (ap (drop b.idx) (put c) ∙ (rw c.deref_mut.ensures.value at done.ensures.input))
     ∙ ap (with_output_merged c.args.start c.args.end) c.self.view_is
 
 pub returns-clause-merged : goal.returns-clause-merged

@@ -18,10 +18,10 @@ invariant_of-self c =
     let long : length info.items ≡ length b.info.items = ap length put ∙ c.put.ensures.len ∙ count in
     let there : b.idx < length b.info.items = some_ahead b.info.items b.idx (rw (← c.self.view_is) at c.requires.current.current) in
     let settled = settled_open b c.settle.new.self.known c.self.invariant open_now (λ m n. (rw c.deref.ensures.value at (c.settle.ensures.order m n))) in
-    let output = ap (take (b.front + 1)) put ∙ (rw c.deref_mut.ensures.value at c.put.ensures.output) in
+    let output = ap (take (b.out_len + 1)) put ∙ (rw c.deref_mut.ensures.value at c.put.ensures.output) in
     let input = ap (drop (b.idx + 1)) put ∙ (rw c.deref_mut.ensures.value at c.put.ensures.input) in
     let front = front_within b c.self.invariant open_now in
     let wide = front_long b c.self.invariant open_now in
-    let fits = within (length (take b.front b.info.items) + 1) b.max_len (rw (← c.self.view_is, open_now) at c.requires.room) in
-    sound_over b info c.settle.new.self (b.front + 1) (b.idx + 1) b.scratch_flags c.self.invariant open_now long (omega (arith, front)) (omega (arith, there)) (omega (arith, c.self.invariant.opened)) (omega (arith, fits, wide)) c.settle.ensures.back
-    (order_numbered c.settle.new.self.known b.info.items info.items b.front b.idx _ _ there (ap (λ (g : hb_glyph_info_t). g.cluster) c.index.ensures) output input settled)
+    let fits = within (length (take b.out_len b.info.items) + 1) b.max_len (rw (← c.self.view_is, open_now) at c.requires.room) in
+    sound_over b info c.settle.new.self (b.out_len + 1) (b.idx + 1) b.scratch_flags c.self.invariant open_now long (omega (arith, front)) (omega (arith, there)) (omega (arith, c.self.invariant.opened)) (omega (arith, fits, wide)) c.settle.ensures.back
+    (order_numbered c.settle.new.self.known b.info.items info.items b.out_len b.idx _ _ there (ap (λ (g : hb_glyph_info_t). g.cluster) c.index.ensures) output input settled)

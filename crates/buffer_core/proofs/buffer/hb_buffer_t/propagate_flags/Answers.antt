@@ -20,32 +20,32 @@ abbrev asks : goal.After-self-1 → Asks
 asks c = record { concat = c.asks_concat.result; tatweel = c.contains.result }
 
 -- the glyphs of the vector
-put : (c : goal.After-self-1) → (with_items c.self.inside.info c.propagate_flags.new.glyphs).items ≡ c.propagate_flags.new.glyphs
+put : (c : goal.After-self-1) → (with_items c.self.inside.info c.spread_glyph_flags.new.glyphs).items ≡ c.spread_glyph_flags.new.glyphs
 put c =
     let b = c.self.inside in
     let in_info : b.info.len ≡ length b.info.items = first_of (search rules, grind (arith, common_steps)) in
-    let same : strip c.propagate_flags.new.glyphs ≡ map (item_masked 0) (strip b.info.items) = rw c.deref_mut.ensures.value at c.propagate_flags.ensures.items in
-    all_put b.info c.propagate_flags.new.glyphs c.propagate_flags.new.glyphs in_info refl (glyphs_same b.info.items c.propagate_flags.new.glyphs same)
+    let same : strip c.spread_glyph_flags.new.glyphs ≡ map (item_masked 0) (strip b.info.items) = rw c.deref_mut.ensures.value at c.spread_glyph_flags.ensures.items in
+    all_put b.info c.spread_glyph_flags.new.glyphs c.spread_glyph_flags.new.glyphs in_info refl (glyphs_same b.info.items c.spread_glyph_flags.new.glyphs same)
 
-spread : (c : goal.After-self-1) → origins (with_items c.self.inside.info c.propagate_flags.new.glyphs).items ≡ origins_spread (asks c) (origins c.self.inside.info.items)
-spread c = ap origins (put c) ∙ (rw c.deref_mut.ensures.value at c.propagate_flags.ensures.origins)
+spread : (c : goal.After-self-1) → origins (with_items c.self.inside.info c.spread_glyph_flags.new.glyphs).items ≡ origins_spread (asks c) (origins c.self.inside.info.items)
+spread c = ap origins (put c) ∙ (rw c.deref_mut.ensures.value at c.spread_glyph_flags.ensures.origins)
 
 pub returns-clause-rest : goal.returns-clause-rest
 returns-clause-rest c =
     let b = c.self.inside in
-    let info = with_items b.info c.propagate_flags.new.glyphs in
+    let info = with_items b.info c.spread_glyph_flags.new.glyphs in
     glyphs_view b info (closed c) c.self.invariant.cursor ∙ ap (with_glyphs (all_glyphs (sides_of (record b { info = info })))) c.self.view_is
 
 pub returns-clause-items : goal.returns-clause-items
 returns-clause-items c =
     let b = c.self.inside in
-    spread_items b (with_items b.info c.propagate_flags.new.glyphs) c.args.self.now c.self.view_is (closed c) (ap strip (put c) ∙ (rw c.deref_mut.ensures.value at c.propagate_flags.ensures.items))
+    spread_items b (with_items b.info c.spread_glyph_flags.new.glyphs) c.args.self.now c.self.view_is (closed c) (ap strip (put c) ∙ (rw c.deref_mut.ensures.value at c.spread_glyph_flags.ensures.items))
 
 pub returns-clause-origins : goal.returns-clause-origins
 returns-clause-origins c =
     let b = c.self.inside in
     let tatweel = c.contains.ensures tt ∙ ap (λ (s : Sides). bit_and s.flags.0 128 == 128) c.self.view_is in
-    spread_origins b (with_items b.info c.propagate_flags.new.glyphs) c.args.self.now (asks c) c.self.view_is (closed c) (asks_are c.args.self.now c.asks_concat.result c.contains.result c.asks_concat.ensures tatweel) (spread c)
+    spread_origins b (with_items b.info c.spread_glyph_flags.new.glyphs) c.args.self.now (asks c) c.self.view_is (closed c) (asks_are c.args.self.now c.asks_concat.result c.contains.result c.asks_concat.ensures tatweel) (spread c)
 
 pub invariant_of-self : goal.invariant_of-self
-invariant_of-self c = sound_same c.self.inside _ c.self.invariant (ap clusters (put c) ∙ clusters_spread (asks c) c.self.inside.info.items c.propagate_flags.new.glyphs (rw c.deref_mut.ensures.value at c.propagate_flags.ensures.origins))
+invariant_of-self c = sound_same c.self.inside _ c.self.invariant (ap clusters (put c) ∙ clusters_spread (asks c) c.self.inside.info.items c.spread_glyph_flags.new.glyphs (rw c.deref_mut.ensures.value at c.spread_glyph_flags.ensures.origins))

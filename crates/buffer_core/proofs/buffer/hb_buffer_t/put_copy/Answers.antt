@@ -29,13 +29,13 @@ invariant_of-self-2 c =
     let output = ap (take end) put ∙ (rw c.deref_mut.ensures.value at c.put_copies-self-inside.ensures.output) in
     let input = ap (drop m.idx) put ∙ (rw c.deref_mut.ensures.value at c.put_copies-self-inside.ensures.input) in
     let wide : length (take end info.items) ≡ end = length-take-le end info.items (omega (arith, long, c.put_copies-self-inside.ensures.end, s.cursor)) in
-    let some : length (take b.front b.info.items ++ drop b.idx b.info.items) ≢ 0 = rw (← c.self.view_is, open_now) at c.requires.some in
-    let some_moved : length (take m.front m.info.items ++ drop m.idx m.info.items) ≢ 0 = rw (room.output, room.input) some in
-    let past = sym wide ∙ ap length output ∙ end_of_copies (drop m.idx m.info.items) (take m.front m.info.items) (c.args.glyph_index ∷ []) some_moved in
-    let fits = within (length (take b.front b.info.items) + 1) b.max_len (rw (← c.self.view_is, open_now) at c.requires.room) in
+    let some : length (take b.out_len b.info.items ++ drop b.idx b.info.items) ≢ 0 = rw (← c.self.view_is, open_now) at c.requires.some in
+    let some_moved : length (take m.out_len m.info.items ++ drop m.idx m.info.items) ≢ 0 = rw (room.output, room.input) some in
+    let past = sym wide ∙ ap length output ∙ end_of_copies (drop m.idx m.info.items) (take m.out_len m.info.items) (c.args.glyph_index ∷ []) some_moved in
+    let fits = within (length (take b.out_len b.info.items) + 1) b.max_len (rw (← c.self.view_is, open_now) at c.requires.room) in
     let front = front_long m s open_now in
     let front_before = front_long b c.self.invariant open_now in
-    let known = order_copied c.settle.new.self.known 0 (c.args.glyph_index ∷ []) (take m.front m.info.items) (drop m.idx m.info.items) (take end info.items) output (rw (room.output, room.input) settled) in
+    let known = order_copied c.settle.new.self.known 0 (c.args.glyph_index ∷ []) (take m.out_len m.info.items) (drop m.idx m.info.items) (take end info.items) output (rw (room.output, room.input) settled) in
     sound_over m info c.settle.new.self end m.idx m.scratch_flags s open_now long c.put_copies-self-inside.ensures.end s.cursor s.opened (omega (arith, past, fits, front, front_before)) c.settle.ensures.back (rw input known)
 
 pub returns-clause-put : goal.returns-clause-put
@@ -57,8 +57,8 @@ returns-clause-put c =
     let output = ap (take end) put ∙ (rw c.deref_mut.ensures.value at c.put_copies-self-inside.ensures.output) in
     let input = ap (drop m.idx) put ∙ (rw c.deref_mut.ensures.value at c.put_copies-self-inside.ensures.input) in
     let wide : length (take end info.items) ≡ end = length-take-le end info.items (omega (arith, long, c.put_copies-self-inside.ensures.end, s.cursor)) in
-    let some : length (take b.front b.info.items ++ drop b.idx b.info.items) ≢ 0 = rw (← c.self.view_is, open_now) at c.requires.some in
-    let some_moved : length (take m.front m.info.items ++ drop m.idx m.info.items) ≢ 0 = rw (room.output, room.input) some in
-    let past : end ≡ b.front + 1 = sym wide ∙ ap length output ∙ end_of_copies (drop m.idx m.info.items) (take m.front m.info.items) (c.args.glyph_index ∷ []) some_moved ∙ ap (λ k. k + 1) (front_long m s open_now) in
-    let left = c.has_left-self-inside.ensures ∙ has_left b.is_apart b.gap b.idx c.in_ok-moved.moved 1 0 b.front end c.self.invariant.unopened (front_within b c.self.invariant open_now) room.moved past in
+    let some : length (take b.out_len b.info.items ++ drop b.idx b.info.items) ≢ 0 = rw (← c.self.view_is, open_now) at c.requires.some in
+    let some_moved : length (take m.out_len m.info.items ++ drop m.idx m.info.items) ≢ 0 = rw (room.output, room.input) some in
+    let past : end ≡ b.out_len + 1 = sym wide ∙ ap length output ∙ end_of_copies (drop m.idx m.info.items) (take m.out_len m.info.items) (c.args.glyph_index ∷ []) some_moved ∙ ap (λ k. k + 1) (front_long m s open_now) in
+    let left = c.has_left-self-inside.ensures ∙ has_left b.is_apart b.gap b.idx c.in_ok-moved.moved 1 0 b.out_len end c.self.invariant.unopened (front_within b c.self.invariant open_now) room.moved past in
     copies_view m info end c.args.glyph_index b.is_apart open_now left wide output input ∙ ap (with_output_glyph c.args.glyph_index) (moved_view b c.make_room.new.glyphs c.settle.new.self c.in_ok-moved.moved c.has_left-self-inside.result open_now room.output room.input ∙ c.self.view_is)

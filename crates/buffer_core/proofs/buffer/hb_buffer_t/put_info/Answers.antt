@@ -22,10 +22,10 @@ invariant_of-self-2 c =
     let count : length c.deref_mut.result.now ≡ length m.info.items = ap length c.deref_mut.ensures.value in
     let put : info.items ≡ c.put.new.glyphs = all_put m.info c.put.new.glyphs c.put.new.glyphs counted refl (c.put.ensures.len ∙ count) in
     let long : length info.items ≡ length m.info.items = ap length put ∙ c.put.ensures.len ∙ count in
-    let output = ap (take (m.front + 1)) put ∙ (rw c.deref_mut.ensures.value at c.put.ensures.output) in
+    let output = ap (take (m.out_len + 1)) put ∙ (rw c.deref_mut.ensures.value at c.put.ensures.output) in
     let input = ap (drop m.idx) put ∙ (rw c.deref_mut.ensures.value at c.put.ensures.input) in
-    let fits = within (length (take b.front b.info.items) + 1) b.max_len (rw (← c.self.view_is, open_now) at c.requires.room) in
+    let fits = within (length (take b.out_len b.info.items) + 1) b.max_len (rw (← c.self.view_is, open_now) at c.requires.room) in
     let front = front_long b c.self.invariant open_now in
     let known = (rw c.deref-2.ensures.value at c.with_between-self-inside.ensures) (rw (room.output, room.input) settled) in
-    sound_over m info (record { known = c.with_between-self-inside.result; lent = c.settle.new.self.lent }) (m.front + 1) m.idx m.scratch_flags s open_now long room.room s.cursor s.opened (omega (arith, fits, front)) c.settle.ensures.back
-    (rw input (order_put c.with_between-self-inside.result (take m.front m.info.items) (drop m.idx m.info.items) (take (m.front + 1) info.items) c.args.glyph_info output known))
+    sound_over m info (record { known = c.with_between-self-inside.result; lent = c.settle.new.self.lent }) (m.out_len + 1) m.idx m.scratch_flags s open_now long room.room s.cursor s.opened (omega (arith, fits, front)) c.settle.ensures.back
+    (rw input (order_put c.with_between-self-inside.result (take m.out_len m.info.items) (drop m.idx m.info.items) (take (m.out_len + 1) info.items) c.args.glyph_info output known))

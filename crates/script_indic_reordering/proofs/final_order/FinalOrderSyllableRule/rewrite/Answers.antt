@@ -1,6 +1,7 @@
 use Rattle.std.proofs.Common.{arith, sym, ◌∙◌}
 use Rattle.buffer_glyphs.specs.Items.{item_of}
 use Rattle.script_indic_reordering.specs.Final.{final_reordered}
+use Rattle.script_indic_reordering.specs.Lemmas.FinalSteps.{final_does}
 use Rattle.script_indic_reordering.specs.Lemmas.Steps.{kept_does, rule_does}
 use Rattle.script_indic_reordering.proofs.final_order.FinalOrderSyllableRule.rewrite.Goals as goal
 
@@ -12,4 +13,8 @@ returns-then-not-is_reordered c =
 pub returns : goal.returns
 returns c =
     let o = c.args.self.now in
-    rule_does (final_reordered o.reph_pos o.masks.pref) c.args.start c.args.end (item_of c.first_glyph-first.result) c.args.buffer.now c.reorder_syllable.new.buffer c.first_glyph-first.ensures (sym c.is_reordered.ensures ∙ c.if-not-is_reordered.false) c.reorder_syllable.ensures
+    let a = c.args in
+    let r = c.requires in
+    let moved = c.move_reph-base in
+    rule_does (final_reordered o.reph_pos o.masks.pref) a.start a.end (item_of c.first_glyph-first.result) a.buffer.now c.move_pref.new.buffer c.first_glyph-first.ensures (sym c.is_reordered.ensures ∙ c.if-not-is_reordered.false)
+    (final_does o.reph_pos o.masks.pref a.start a.end c.formed_base-base.result moved.result c.info_slice.result.now a.buffer.now c.move_lefts.new.buffer moved.new.buffer c.move_pref.new.buffer c.info_slice.ensures (omega (arith, r.ordered)) r.within c.formed_base-base.ensures.index c.move_lefts.ensures moved.ensures.rewritten moved.ensures.base c.move_pref.ensures)

@@ -4,8 +4,8 @@ use Rattle.shape_pipeline.proofs.shape_stages.ShapeStages.substitute_glyphs.Goal
 
 pub returns : goal.returns
 returns g c =
-    substituted_done _ c.args.buffer.now c.hb_ot_layout_substitute_start.new.buffer c.synthesize_classes.new.buffer c.apply_substitutions.new.buffer refl c.hb_ot_layout_substitute_start.ensures c.synthesize_classes.ensures c.in_ok-apply_substitutions.ensures
+    substituted_done _ c.args.buffer.now c.hb_ot_layout_substitute_start.new.buffer c.synthesize_classes.new.buffer c.substitute.new.buffer refl c.hb_ot_layout_substitute_start.ensures c.synthesize_classes.ensures c.in_ok-substitute.ensures
 
-pub returns-in_err-apply_substitutions : goal.returns-in_err-apply_substitutions
-returns-in_err-apply_substitutions g c =
-    glyph_stage_refused c.from_residual.result c.in_err-apply_substitutions.field-0.0 _ _ _ c.from_residual.ensures.1 (λ not_memory. substituted_refused _ c.args.buffer.now c.hb_ot_layout_substitute_start.new.buffer c.synthesize_classes.new.buffer c.in_err-apply_substitutions.field-0.0 refl c.hb_ot_layout_substitute_start.ensures c.synthesize_classes.ensures (c.in_err-apply_substitutions.ensures not_memory))
+pub returns-in_err-substitute : goal.returns-in_err-substitute
+returns-in_err-substitute g c =
+    glyph_stage_refused c.from_residual.result c.in_err-substitute.field-0.0 _ _ _ c.from_residual.ensures.1 (λ not_memory. substituted_refused _ c.args.buffer.now c.hb_ot_layout_substitute_start.new.buffer c.synthesize_classes.new.buffer c.in_err-substitute.field-0.0 refl c.hb_ot_layout_substitute_start.ensures c.synthesize_classes.ensures (c.in_err-substitute.ensures not_memory))

@@ -6,12 +6,12 @@ use Rattle.shell_json.specs.Rows.{after}
 use Rattle.shell_face_json.specs.Lists.{rows_in_turn}
 use Rattle.shell_face_json.proofs.text.rows.take_items.Given as goal
 
--- the items so far, which are the parts so far, and those of what is left
+-- the items so far, which gave the values so far, and those of what is left
 abbrev pub invariant-items : goal.invariant-items
 invariant-items g l =
     (n : ℕ) × (length l.reader ≤ n) × (length l.reader ≤ length l.initial.reader) × (before : (Items → Items))
     × (converted of_items (items (value l.depth) (length l.initial.reader) l.initial.reader) ≡ parse_map before (converted of_items (items (value l.depth) n l.reader)))
-    × ((ds : Items) → rows_in_turn (g.P.Part.part l.limit) (before ds) ≡ after l.parts.items (rows_in_turn (g.P.Part.part l.limit) ds))
+    × ((ds : Items) → rows_in_turn (g.P.FromJson.font_value l.limit) (before ds) ≡ after l.items.items (rows_in_turn (g.P.FromJson.font_value l.limit) ds))
 
 abbrev pub decreases-items : goal.decreases-items
 decreases-items g l = length l.reader

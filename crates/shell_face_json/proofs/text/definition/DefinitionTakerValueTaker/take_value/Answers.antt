@@ -10,6 +10,6 @@ returns-clause-ok c =
     let all = c.in_ok-take_object.ensures.ok (refl, (refl, refl)) in (
       object all.0,
       all.1,
-      definition_taken keys.1.1.taker.limit keys.0.name.now keys.1.0.name.now keys.1.1.name.now (object all.0) all.0 found.0 found.1.0 found.1.1 c.classes_or_none-attach.result c.parts_or_none.result c.in_ok-sets.sets
-          c.definition_keys-keys.ensures.names c.definition_keys-keys.ensures.limit c.classes_or_none-attach.ensures c.parts_or_none.ensures c.in_ok-sets.ensures refl all.2,
+      definition_taken keys.1.1.taker.limit keys.0.name.now keys.1.0.name.now keys.1.1.name.now (object all.0) all.0 found.0 found.1.0 found.1.1 c.classes_or_none-attach.result c.items_or_none.result c.in_ok-sets.sets
+          c.definition_keys-keys.ensures.names c.definition_keys-keys.ensures.limit c.classes_or_none-attach.ensures c.items_or_none.ensures c.in_ok-sets.ensures refl all.2,
     )

@@ -13,9 +13,9 @@ returns-in-Ok-clause-ok g c =
     let counted = subst (λ n. layout_in (option_map view found.0) (option_map view found.1.0) n ≡ Ok c.in-Ok.layout) c.len-lookup_count.ensures c.in-Ok.ensures in
     let all = c.in_ok-take_object.ensures.ok (refl, (refl, refl)) in
     let d = object all.0 in
-    let lookups = c.parts_or_none-lookups.result in
-    let table = table_taken g.L.Part.part keys.1.1.taker.limit c.args.self.now.set_count keys.0.name.now keys.1.0.name.now keys.1.1.name.now d all.0 found.0 found.1.0 found.1.1 c.parts_or_none-lookups.result c.in-Ok.layout
-    c.table_keys-keys.ensures.names c.table_keys-keys.ensures.limit c.parts_or_none-lookups.ensures refl all.2 counted in
+    let lookups = c.items_or_none-lookups.result in
+    let table = table_taken g.L.FromJson.font_value keys.1.1.taker.limit c.args.self.now.set_count keys.0.name.now keys.1.0.name.now keys.1.1.name.now d all.0 found.0 found.1.0 found.1.1 c.items_or_none-lookups.result c.in-Ok.layout
+    c.table_keys-keys.ensures.names c.table_keys-keys.ensures.limit c.items_or_none-lookups.ensures refl all.2 counted in
     let nested : list_all (λ l. g.L.Lookup.fits (length lookups) l) lookups ≡ true =
     subst (λ n. list_all (λ l. g.L.Lookup.fits n l) lookups ≡ true) c.len-lookup_count.ensures (subst (λ xs. list_all (λ l. g.L.Lookup.fits c.len-lookup_count.result l) xs ≡ true) c.as_slice.ensures (sym c.all_fit.ensures ∙ c.if-not-all_fit.false)) in
-    (d, all.1, (table.0, table.1, nested_taken (g.L.Part.part c.args.self.now.set_count) g.L.Lookup.fits d lookups table.2 nested))
+    (d, all.1, (table.0, table.1, nested_taken (g.L.FromJson.font_value c.args.self.now.set_count) g.L.Lookup.fits d lookups table.2 nested))

@@ -1,5 +1,0 @@
-use Rattle.buffer_parts.specs.Lemmas.Least.{orderly_keep_least}
-use Rattle.buffer_parts.proofs.laws.law_origins_keep_least.Goals as goal
-
-pub returns : goal.returns
-returns c = orderly_keep_least

@@ -1,4 +1,0 @@
-pub mod Appending
-pub mod Numerals
-pub mod ReadBack
-pub mod Steps

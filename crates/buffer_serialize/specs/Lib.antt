@@ -1,3 +1,0 @@
-pub mod Pen
-pub mod Printed
-pub mod Shown

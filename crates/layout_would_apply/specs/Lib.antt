@@ -1,2 +1,0 @@
-pub mod Subtables
-pub mod Woulds
