@@ -1,8 +1,9 @@
 -- The characters of a text, one after another.
-use Rattle.std.proofs.Common.{ℕ, ◌≡◌, ◌≤◌, ◌+◌, ◌&&◌, true, nat_le, IsTrue, List, [], ◌∷◌, ◌++◌, length, refl, arith, ap, suc}
-use Rattle.std.specs.Prelude.{encode_utf8}
+use Rattle.std.proofs.Common.{ℕ, ◌≡◌, ◌≤◌, ◌+◌, ◌&&◌, true, nat_le, IsTrue, List, [], ◌∷◌, ◌++◌, length, refl, sym, arith, ap, suc, ◌∙◌}
+use Rattle.std.specs.Prelude.{encode_utf8, encode_utf8_all}
+use Rattle.std.proofs.lemmas.List.{length-append}
 use Rattle.std.specs.Str.{chars, IsUtf8}
-use Rattle.std.proofs.lemmas.Str.{chars-nil, chars_past_char, IsUtf8-past_char, length-encode}
+use Rattle.std.proofs.lemmas.Str.{chars-nil, chars_past_char, IsUtf8-past_char, encodes-chars, length-encode}
 use Rattle.std.proofs.lemmas.Grind.{common_steps}
 use Rattle.std.proofs.lemmas.Bool.Decides.{nat_tests}
 use Rattle.std.specs.Char.{len_utf8}
@@ -21,6 +22,18 @@ offsets_fit_none at bs e = let nil : bs ≡ [] = empty bs e in rw (nil, chars-ni
 pub offsets_fit_step : (at next : ℕ) (bs rest : List ℕ) (c : ℕ) → IsUtf8 bs → bs ≡ encode_utf8 c ++ rest → next ≡ at + length (encode_utf8 c)
     → offsets_fit at (chars bs) ≡ (nat_le at 0xFFFF_FFFF && offsets_fit next (chars rest))
 offsets_fit_step at next bs rest c u e n = rw (chars_past_char bs rest c u e, n, length-encode) refl
+
+-- the characters of so many bytes begin where 32 bits can tell
+short_from : (at : ℕ) (cs : List ℕ) → at + length (encode_utf8_all cs) ≤ 0xFFFF_FFFF → offsets_fit at cs ≡ true
+short_from at [] le = refl
+short_from at (c ∷ cs) le =
+    let both : length (encode_utf8_all (c ∷ cs)) ≡ length (encode_utf8 c) + length (encode_utf8_all cs) = length-append (encode_utf8 c) (encode_utf8_all cs) in
+    let own : length (encode_utf8 c) ≡ len_utf8 c = length-encode c in
+    let here : nat_le at 0xFFFF_FFFF ≡ true = grind (arith, nat_tests, le) in
+    rw (here, short_from (at + len_utf8 c) cs (omega (arith, both, own, le))) refl
+
+pub short_text_fits : (bs : List ℕ) → IsUtf8 bs → length bs ≤ 0xFFFF_FFFF → true ≡ offsets_fit 0 (chars bs)
+short_text_fits bs u le = sym (short_from 0 (chars bs) (omega (arith, ap length (encodes-chars bs u), le)))
 
 pub added_none : (at : ℕ) (bs : List ℕ) → length bs ≡ 0 → added_text_from at (chars bs) ≡ []
 added_none at bs e = let nil : bs ≡ [] = empty bs e in rw (nil, chars-nil) refl

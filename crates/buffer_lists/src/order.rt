@@ -52,6 +52,10 @@ impl ClusterOrder {
             HasOrder self.new.known (take m (clusters glyphs.now) ++ drop n (clusters glyphs.now)) }
         ensures back { self.new.lent ≡ None }
     {
+        // Where no glyph was lent, which is so at most calls, nothing is written.
+        if self.lent.is_none() {
+            return;
+        }
         let known = self.known.after_loan(self.lent, glyphs);
         *self = ClusterOrder::of(known);
     }

@@ -1,5 +1,5 @@
 -- Positions that are changed one by one, each by its glyph.
-use Rattle.std.specs.Prelude.{◌≡◌, List, [], ◌∷◌}
+use Rattle.std.specs.Prelude.{◌≡◌, List, [], ◌∷◌, Option, unwrap_or}
 use Rattle.std.specs.Fn.{Shared, FnReturns}
 use denote.Ref.{Bor}
 use Rattle.buffer_glyphs.specs.declared.info.hb_glyph_info_t.{hb_glyph_info_t}
@@ -20,3 +20,8 @@ with_positions_mapped k v = with_events [] (record v { positions = positions_map
 -- each position that a function makes of a glyph and its position is the one that a map makes of the glyph's item
 abbrev pub MakesPositions : {F : Type 0} → Shared F (Bor hb_glyph_info_t × (GlyphPosition × Unit {0})) GlyphPosition → F → (Item → Position → Position) → Type 0
 MakesPositions calls f k = (g : Bor hb_glyph_info_t) (p q : GlyphPosition) → FnReturns calls f (g, (p, tt)) q → q ≡ k (item_of g.now) p
+
+-- each position that a function makes of a glyph and its position, or that position where it makes none, is the one that a
+-- map makes of the glyph's item
+abbrev pub ChangesPositions : {F : Type 0} → Shared F (Bor hb_glyph_info_t × (GlyphPosition × Unit {0})) (Option GlyphPosition) → F → (Item → Position → Position) → Type 0
+ChangesPositions calls f k = (g : Bor hb_glyph_info_t) (p : GlyphPosition) (q : Option GlyphPosition) → FnReturns calls f (g, (p, tt)) q → unwrap_or q p ≡ k (item_of g.now) p

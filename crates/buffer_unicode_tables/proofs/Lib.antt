@@ -4,5 +4,6 @@ pub mod Chains
 pub mod Decisions
 pub mod Expansions
 mod Faults
+pub mod Seconds
 pub mod Steps
 pub mod Syllables

@@ -2,6 +2,7 @@
 use Rattle.std.specs.Prelude.{◌≡◌, true}
 use Rattle.buffer_unicode.specs.Keys.{is_rising}
 use Rattle.buffer_unicode_tables.specs.declared.tables.UnicodeTables.TheInside.{Inside}
+use Rattle.buffer_unicode_tables.specs.SecondHalves.{HaveSeconds}
 use Rattle.buffer_unicode_tables.specs.Tables.{Tables, splits_of}
 use Rattle.buffer_unicode_tables.specs.Expansion.{EndWithin}
 
@@ -20,8 +21,10 @@ tables_in t = record {
   thai = t.thai.items;
 }
 
--- the keys of each table rise, and each chain of first halves ends within eight decompositions
+-- the keys of each table rise, the slots are those of the pairs, and each chain of first halves ends within eight
+-- decompositions
 pub record IsSound (t : Inside) : Type 0 where
+  pub seconds : HaveSeconds t.seconds.slots.items t.pairs.items
   pub pairs_rise : is_rising (λ r. r.first) (λ r. r.second) t.pairs.items ≡ true
   pub classes_rise : is_rising (λ _. 0) (λ r. r.character) t.classes ≡ true
   pub thai_rise : is_rising (λ r. r.character) (λ r. r.action) t.thai.items ≡ true

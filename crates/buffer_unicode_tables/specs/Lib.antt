@@ -6,6 +6,7 @@ pub mod Lawful
 pub mod Laws
 pub mod Ranges
 pub mod Records
+pub mod SecondHalves
 pub mod Tables
 pub mod Tests
 pub mod Texts

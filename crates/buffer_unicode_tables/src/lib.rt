@@ -8,6 +8,7 @@ pub mod hangul;
 pub mod law_fault;
 pub mod laws;
 pub mod records;
+mod second_halves;
 pub mod tables;
 
 pub use buffer_unicode::{TablesFault, UnicodeRows};

@@ -9,6 +9,7 @@ ghost use Rattle.buffer_unicode_tables.specs.Tables.{SplitsCharacters, are_of_ch
 use crate::depth::{MAX_SPLITS, all_chains_end, split};
 use crate::hangul::compose_hangul;
 use crate::records::UnicodeRecords;
+use crate::second_halves::SecondHalves;
 use buffer_rows::{Numbered, PagedRows};
 use buffer_unicode::{
     CharacterClass, CharacterRanges, Counterpart, IndicRow, JoiningRow, Pair, Split, TablesFault,
@@ -22,6 +23,8 @@ use std::marker::Model;
 #[derive(Drop)]
 pub struct UnicodeTables {
     splits: PagedRows<Split>,
+    // Which pairs need not be searched for. It only saves time.
+    seconds: SecondHalves,
     pairs: Vec<Pair>,
     classes: PagedRows<CharacterClass>,
     mirrored: PagedRows<Counterpart>,
@@ -93,6 +96,7 @@ impl UnicodeTables {
         see_characters(&records.splits);
         Ok(UnicodeTables {
             splits: shallow_splits(alloc, records.splits)?,
+            seconds: SecondHalves::new(alloc, &records.pairs)?,
             pairs: records.pairs,
             classes: paged(alloc, records.classes)?,
             mirrored: paged(alloc, records.mirrored)?,
@@ -235,6 +239,9 @@ pub fn compose(tables: &UnicodeTables, a: char, b: char) -> Option<char>
 {
     if let Some(syllable) = compose_hangul(a, b) {
         return Some(syllable);
+    }
+    if !tables.seconds.may_be_second(b) {
+        return None;
     }
     Some(find_by_key(&tables.pairs, a as u32, b as u32)?.whole)
 }

@@ -1,14 +1,16 @@
 -- What one step of a lookup over a buffer leaves, or a run of glyphs that it isn't tried at.
-use Rattle.std.specs.Prelude.{ℕ, suc, ◌≡◌, ◌<◌, ◌≤◌, ◌+◌, ◌-◌, true, false, nat_le, length, take, Err}
+use Rattle.std.specs.Prelude.{ℕ, suc, ◌≡◌, ◌<◌, ◌≤◌, ◌+◌, ◌-◌, true, false, nat_le, length, take, slice_get, Err, Some}
 use Rattle.buffer_glyphs.specs.declared.cause.ShapeCause.{ShapeCause}
-use Rattle.buffer_glyphs.specs.Items.{strip}
+use Rattle.buffer_glyphs.specs.declared.info.hb_glyph_info_t.{hb_glyph_info_t}
+use Rattle.buffer_glyphs.specs.Items.{item_of, strip}
 use Rattle.buffer_core.specs.Readings.{View, BufferState, Follows}
 use Rattle.buffer_core.specs.Sides.{Sides, after_next_glyphs, items_of, state_of}
 use Rattle.buffer_stages.specs.Actions.{Action}
 use Rattle.buffer_stages.specs.Buffers.{are_glyphs, IsStill}
 use Rattle.buffer_stages.specs.Performing.{cut_with}
 use Rattle.layout_match.specs.Skipping.{PassesAll}
-use Rattle.layout_match.specs.Trying.{trials}
+use Rattle.layout_match.specs.Applied.{ApplyContext}
+use Rattle.layout_match.specs.Trying.{meets, trials}
 
 -- a rule was tried at the cursor, which then moved on where it could, from one random state to another; the reading
 -- from here, or its refusal, is that from before
@@ -38,3 +40,7 @@ pub record IsIdleRunTooLong (act : Action) (old : Sides) : Type 0 where
   pub within : count ≤ length old.ahead
   pub passes : PassesAll act (take count (strip old.ahead))
   pub full : nat_le (length old.behind + count) old.max_len ≡ false
+
+-- a lookup applies to the glyph ahead at an index, if there is one
+abbrev pub MeetsGlyph : ApplyContext → ℕ → Sides → Type 0
+MeetsGlyph a k s = (g : hb_glyph_info_t) → slice_get s.ahead k ≡ Some g → meets a (item_of g) ≡ true

@@ -9,6 +9,7 @@ ghost use Rattle.buffer_stages.specs.Performing.{cut_with};
 ghost use Rattle.buffer_stages.specs.Ready.{HasGlyphAtCursor};
 ghost use Rattle.layout_match.specs.Applied.{apply_context_of};
 ghost use Rattle.layout_match.specs.Skipping.{PassesAt};
+ghost use Rattle.layout_match.specs.Steps.{MeetsGlyph};
 ghost use Rattle.layout_match.specs.Trying.{meets, met_first};
 
 use crate::hb_ot_apply_context_t;
@@ -56,8 +57,9 @@ fn may_act_at<S: Covers>(
     info: &hb_glyph_info_t,
 ) -> bool
     requires { info.now.glyph_id ≤ 65535 }
-    ensures { result ≡ false → (meets (apply_context_of ctx.now) (item_of info.now)
+    ensures idle { result ≡ false → (meets (apply_context_of ctx.now) (item_of info.now)
         && S.covers subtables.now info.now.glyph_id) ≡ false }
+    ensures met { result ≡ true → meets (apply_context_of ctx.now) (item_of info.now) ≡ true }
 {
     // In the order of `is_tried`: what costs least comes first.
     subtables.may_have_glyph(info.as_glyph().0) && meets(ctx, info)
@@ -65,7 +67,6 @@ fn may_act_at<S: Covers>(
 
 /// How many glyphs from the cursor on a lookup is not to be tried at: each is one that it doesn't apply to, or that its
 /// subtables don't cover. It only saves time: the lookup would pass at each of them.
-#[tactic(auto, using(crate::proofs::Lemmas::Idle::number_ahead_at))]
 pub fn idle_run<S: Covers>(
     ctx: &hb_ot_apply_context_t,
     subtables: &Digested<S>,
@@ -75,6 +76,22 @@ pub fn idle_run<S: Covers>(
     ensures within { result ≤ length buffer.now.ahead }
     ensures idle { list_any (λ (x : Item). meets (apply_context_of ctx.now) x && S.covers subtables.now x.number)
         (take result (strip buffer.now.ahead)) ≡ false }
+{
+    run_to_met(ctx, subtables, buffer)
+}
+
+/// How many glyphs `idle_run` passes over; the lookup applies to the glyph after them, where there is one.
+#[tactic(auto, using(crate::proofs::Lemmas::Idle::number_ahead_at, crate::proofs::Lemmas::Idle::met_at, crate::proofs::Lemmas::Idle::none_there))]
+pub fn run_to_met<S: Covers>(
+    ctx: &hb_ot_apply_context_t,
+    subtables: &Digested<S>,
+    buffer: &hb_buffer_t,
+) -> usize
+    requires { are_glyphs (items_of buffer.now) ≡ true }
+    ensures within { result ≤ length buffer.now.ahead }
+    ensures idle { list_any (λ (x : Item). meets (apply_context_of ctx.now) x && S.covers subtables.now x.number)
+        (take result (strip buffer.now.ahead)) ≡ false }
+    ensures met { MeetsGlyph (apply_context_of ctx.now) result buffer.now }
 {
     let count = buffer.lookahead_len();
     for at in 0..count {

@@ -2,6 +2,7 @@
 ghost use Rattle.std.specs.Prelude.{◌≢◌, ◌<◌, OnOk, IfErr};
 ghost use Rattle.buffer_core.specs.Sides.{items_of};
 ghost use Rattle.layout_match.specs.Applied.{apply_context_of};
+ghost use Rattle.layout_match.specs.Steps.{MeetsGlyph};
 ghost use Rattle.buffer_stages.specs.Performing.{Performs, cut_with};
 ghost use Rattle.buffer_stages.specs.Ready.{IsAtGlyphInPlace};
 ghost use Rattle.layout_gpos.specs.Bases.{AreKept};
@@ -37,6 +38,34 @@ pub fn apply_lookup(
     if !is_tried(ctx, &lookup.subtables, buffer) {
         return Ok(false);
     }
+    apply_subtables(
+        table,
+        MAX_NESTING_LEVEL,
+        lookup.subtables.inner(),
+        ctx,
+        last,
+        buffer,
+    )
+}
+
+/// Applies the first matching subtable of a lookup at the cursor, to whose glyph the lookup applies, as `apply_lookup`
+/// does.
+pub(crate) fn apply_met(
+    table: &PositioningTable,
+    lookup: &PositioningLookup,
+    ctx: &hb_ot_apply_context_t,
+    last: &mut LastSearches,
+    buffer: &mut hb_buffer_t,
+) -> Result<bool, ShapeCause>
+    requires at_glyph_in_place { IsAtGlyphInPlace buffer.old }
+    requires met { MeetsGlyph (apply_context_of ctx.now) 0 buffer.old }
+    requires kept { AreKept (apply_context_of ctx.now) (items_of buffer.old) last.old }
+    ensures performs { Performs (lookup_action table.now.lookups buffer.old.direction (apply_context_of ctx.now) lookup.now
+        (cut_with ctx.now.random_state buffer.old)) result ctx.now.random_state ctx.now.random_state buffer.old
+        buffer.new }
+    ensures kept { OnOk result (AreKept (apply_context_of ctx.now) (items_of buffer.new) last.new) }
+    ensures memory { IfErr result (λ e. e ≢ ShapeCause.OutOfMemory) }
+{
     apply_subtables(
         table,
         MAX_NESTING_LEVEL,

@@ -7,15 +7,15 @@ ghost use Rattle.buffer_glyphs.specs.declared.cause.ShapeCause.TheVariants.{TooL
 ghost use Rattle.buffer_stages.specs.Ready.{DoesGlyphStageFrom, HoldsGlyphs, IsAmongGlyphs, IsAtGlyph};
 ghost use Rattle.layout_match.specs.Trying.{forward_pass};
 ghost use Rattle.layout_substitution.specs.Lookups.{lookup_action};
-ghost use Rattle.layout_match.specs.Steps.{IsGivenUp, IsIdleRun, IsIdleRunTooLong, IsStep};
+ghost use Rattle.layout_match.specs.Steps.{IsGivenUp, IsIdleRun, IsIdleRunTooLong, IsStep, MeetsGlyph};
 ghost use Rattle.layout_substitution.specs.Steps.{HasZeroPositions};
 
-use crate::lookup::apply_lookup;
+use crate::lookup::apply_met;
 use buffer_core::buffer::hb_buffer_t;
 use buffer_glyphs::cause::ShapeCause;
 use layout_face::substitution::{SubstLookup, SubstitutionTable};
 use layout_match::hb_ot_apply_context_t;
-use layout_match::lookup::idle_run;
+use layout_match::lookup::run_to_met;
 
 /// Moves the cursor over the glyphs that a lookup is not to be tried at, to the next one where it is.
 fn pass_idle(
@@ -26,10 +26,11 @@ fn pass_idle(
     requires among_glyphs { IsAmongGlyphs buffer.old }
     ensures ok { OnOk result ((table : List Lookup) → IsIdleRun (lookup_action table (apply_context_of ctx.now) lookup.now)
         buffer.old buffer.new) }
+    ensures met { OnOk result (MeetsGlyph (apply_context_of ctx.now) 0 buffer.new) }
     ensures err { IfErr result (λ e. e ≢ ShapeCause.OutOfMemory → (e ≡ TooLong) × ((table : List Lookup)
         → IsIdleRunTooLong (lookup_action table (apply_context_of ctx.now) lookup.now) buffer.old)) }
 {
-    let count = idle_run(ctx, &lookup.subtables, buffer);
+    let count = run_to_met(ctx, &lookup.subtables, buffer);
     if count == 0 {
         return Ok(());
     }
@@ -39,8 +40,9 @@ fn pass_idle(
     Ok(())
 }
 
-/// Tries a lookup at the cursor, and moves over the glyph where it doesn't act. It answers whether it acted, here or
-/// before. The loop's goal (`loop-ctx-preserved`) needs a step with a clause of its own, `IsStep`.
+/// Tries a lookup at the cursor, to whose glyph it applies, and moves over the glyph where it doesn't act. It answers
+/// whether it acted, here or before. The loop's goal (`loop-ctx-preserved`) needs a step with a clause of its own,
+/// `IsStep`.
 fn apply_next(
     table: &SubstitutionTable,
     lookup: &SubstLookup,
@@ -49,6 +51,7 @@ fn apply_next(
     buffer: &mut hb_buffer_t,
 ) -> Result<bool, ShapeCause>
     requires at_glyph { IsAtGlyph buffer.old }
+    requires met { MeetsGlyph (apply_context_of ctx.old) 0 buffer.old }
     ensures ok { OnOk result (IsStep (lookup_action table.now.lookups
         (apply_context_of ctx.old) lookup.now) ctx.old.random_state ctx.new.random_state buffer.old buffer.new) }
     ensures err { IfErr result (λ e. e ≢ ShapeCause.OutOfMemory
@@ -58,7 +61,7 @@ fn apply_next(
     ensures before { result ≡ Ok false → acted ≡ false }
     ensures unchanged { result ≡ Ok false → items_of buffer.new ≡ items_of buffer.old }
 {
-    if apply_lookup(table, lookup, ctx, buffer)? {
+    if apply_met(table, lookup, ctx, buffer)? {
         return Ok(true);
     }
     if !buffer.next_glyph()? {

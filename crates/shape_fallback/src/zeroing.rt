@@ -1,5 +1,5 @@
 //! Zeroes the advances of marks (rustybuzz: hb/ot_shape.rs, zero_mark_widths_by_gdef; hb/ot_shape_fallback.rs).
-ghost use Rattle.std.specs.Prelude.{◌≡◌};
+ghost use Rattle.std.specs.Prelude.{◌≡◌, unwrap_or};
 ghost use Rattle.std.specs.List.{list_any};
 ghost use Rattle.buffer_glyphs.specs.LigatureWords.{is_mark};
 ghost use Rattle.buffer_glyphs.specs.Items.{item_of};
@@ -11,7 +11,7 @@ use buffer_core::buffer::hb_buffer_t;
 use buffer_glyphs::info::hb_glyph_info_t;
 use buffer_glyphs::ligature_words::_hb_glyph_info_is_mark;
 use buffer_glyphs::position::GlyphPosition;
-use buffer_stages::positions::map_positions;
+use buffer_stages::positions::change_positions;
 use layout_offsets::zeroing::zeroed;
 
 /// Zeroes the advances of glyphs of GDEF class MARK. With `adjust_offsets`, which is for forward text in a font without
@@ -38,18 +38,22 @@ fn zero_each_width(buffer: &mut hb_buffer_t, adjust_offsets: bool)
     requires { IsReady buffer.old }
     ensures { IsDone (always (with_marks_zeroed adjust_offsets)) buffer.old buffer.new }
 {
-    map_positions(
+    change_positions(
         buffer,
         |glyph, position| mark_zeroed(adjust_offsets, glyph, position),
     );
 }
 
-fn mark_zeroed(adjust: bool, glyph: &hb_glyph_info_t, position: GlyphPosition) -> GlyphPosition
-    ensures { result ≡ mark_zeroed adjust (item_of glyph.now) position }
+fn mark_zeroed(
+    adjust: bool,
+    glyph: &hb_glyph_info_t,
+    position: GlyphPosition,
+) -> Option<GlyphPosition>
+    ensures { unwrap_or result position ≡ mark_zeroed adjust (item_of glyph.now) position }
 {
     if _hb_glyph_info_is_mark(glyph) {
-        zeroed(adjust, position)
+        Some(zeroed(adjust, position))
     } else {
-        position
+        None
     }
 }

@@ -11,7 +11,7 @@ use Rattle.buffer_glyphs.specs.declared.cause.ShapeCause.{ShapeCause}
 use Rattle.buffer_glyphs.specs.declared.cause.ShapeCause.TheVariants.{OutOfMemory}
 use Rattle.buffer_glyphs.specs.declared.info.hb_glyph_info_t.{hb_glyph_info_t}
 use Rattle.buffer_glyphs.specs.Items.{clusters}
-use Rattle.buffer_core.specs.Readings.{BufferState, Follows, Reading, Stage, always, reading_of}
+use Rattle.buffer_core.specs.Readings.{BufferState, Follows, Reading, Stage, View, always, reading_of}
 use Rattle.buffer_core.specs.Sides.{Sides, all_glyphs, settings_of, state_of, view_of}
 use Rattle.buffer_stages.specs.Ready.{IsDone}
 use Rattle.buffer_stages.specs.Settings.{text_settings}
@@ -29,12 +29,14 @@ use Rattle.shape_glyphs.specs.Flags.{with_flags_spread}
 use Rattle.shape_glyphs.specs.Ignorables.{ignorables_hidden}
 use Rattle.shape_glyphs.specs.Selectors.{with_selectors}
 use Rattle.shape_pipeline.specs.Budget.{before_reset, budget_left, glyphs_hidden, left_by, reading_before_reset}
+use Rattle.shape_pipeline.specs.Chains.{in_order}
 use Rattle.shape_pipeline.specs.Glyphs.{glyphs_substituted, glyphs_taken}
 use Rattle.shape_pipeline.specs.Masks.{ranges_set}
 use Rattle.shape_pipeline.specs.Reading.{before_ranges, clusters_after, positioning_stage}
 use Rattle.shape_pipeline.specs.Shaped.{by_plan, by_text}
 use Rattle.shape_pipeline.specs.Shaping.{Shaping, postprocessing_stage}
-use Rattle.shape_pipeline.proofs.Lemmas.Chains.{done_followed, first_refused, four_done, four_followed, fourth_refused, second_refused, third_refused, three_followed}
+use Rattle.shape_pipeline.proofs.Classed.{taken_and_substituted}
+use Rattle.shape_pipeline.proofs.Lemmas.Chains.{alike_followed, done_followed, first_refused, four_done, in_order_both, second_refused, third_refused, three_followed}
 use Rattle.shape_pipeline.proofs.Sets.{done_as_set, followed_as_set, refused_as_set, set_as}
 use Rattle.shape_pipeline.proofs.Shaped.{planned_for, planned_here}
 use Rattle.shape_pipeline.proofs.Whole.{clusters_known}
@@ -60,30 +62,28 @@ hidden_refused q s a b cause set f g e =
 
 -- ---- all after the masks of ranges
 
-pub within_followed : (q : Shaping) (s a b c new : Sides) → q.settings ≡ text_settings s → IsFollowed (glyphs_taken q) s a → IsDone (glyphs_substituted (set_as a q)) a b → IsDone (positioning_stage (set_as b q)) b c → IsDone (glyphs_hidden (set_as c q)) c new → IsFollowed (before_reset q) s new
+within_grouped : (q : Shaping) (v : View) → in_order (taken_and_substituted q ∷ positioning_stage q ∷ glyphs_hidden q ∷ []) v ≡ before_reset q v
 unfolding before_reset
-within_followed q s a b c new set f g h k =
-    let upto_b : settings_of b ≡ settings_of s = g.settings ∙ f.settings in
-    four_followed (glyphs_taken q) (glyphs_substituted q) (positioning_stage q) (glyphs_hidden q) s a b c new f (done_followed (glyphs_substituted q) a b (done_as_set glyphs_substituted q s a b set f.settings g))
-    (done_followed (positioning_stage q) b c (done_as_set positioning_stage q s b c set upto_b h)) (done_followed (glyphs_hidden q) c new (done_as_set glyphs_hidden q s c new set (h.settings ∙ upto_b) k))
+within_grouped q v = sym (in_order_both (glyphs_taken q ∷ glyphs_substituted q ∷ []) (positioning_stage q ∷ glyphs_hidden q ∷ []) v)
 
-pub within_refused_then : (q : Shaping) (s a : Sides) (cause : ShapeCause) → q.settings ≡ text_settings s → IsFollowed (glyphs_taken q) s a → reading_of (glyphs_substituted (set_as a q)) (state_of a) ≡ Err cause → reading_of (before_reset q) (state_of s) ≡ Err cause
-unfolding before_reset
-within_refused_then q s a cause set f e = second_refused (glyphs_taken q) (glyphs_substituted q) (positioning_stage q ∷ glyphs_hidden q ∷ []) s a cause f (refused_as_set glyphs_substituted q s a cause set f.settings e)
+pub within_followed : (q : Shaping) (s a b new : Sides) → q.settings ≡ text_settings s → IsFollowed (taken_and_substituted q) s a → IsDone (positioning_stage (set_as a q)) a b → IsDone (glyphs_hidden (set_as b q)) b new → IsFollowed (before_reset q) s new
+within_followed q s a b new set f g h =
+    alike_followed (in_order (taken_and_substituted q ∷ positioning_stage q ∷ glyphs_hidden q ∷ [])) (before_reset q) s new (within_grouped q)
+    (three_followed (taken_and_substituted q) (positioning_stage q) (glyphs_hidden q) s a b new f (done_followed (positioning_stage q) a b (done_as_set positioning_stage q s a b set f.settings g))
+    (done_followed (glyphs_hidden q) b new (done_as_set glyphs_hidden q s b new set (g.settings ∙ f.settings) h)))
 
-pub within_refused_later : (q : Shaping) (s a b : Sides) (cause : ShapeCause) → q.settings ≡ text_settings s → IsFollowed (glyphs_taken q) s a → IsDone (glyphs_substituted (set_as a q)) a b → reading_of (positioning_stage (set_as b q)) (state_of b) ≡ Err cause → reading_of (before_reset q) (state_of s) ≡ Err cause
-unfolding before_reset
-within_refused_later q s a b cause set f g e =
-    third_refused (glyphs_taken q) (glyphs_substituted q) (positioning_stage q) (glyphs_hidden q ∷ []) s a b cause f (done_followed (glyphs_substituted q) a b (done_as_set glyphs_substituted q s a b set f.settings g))
-    (refused_as_set positioning_stage q s b cause set (g.settings ∙ f.settings) e)
+pub within_refused : (q : Shaping) (s : Sides) (cause : ShapeCause) → reading_of (taken_and_substituted q) (state_of s) ≡ Err cause → reading_of (before_reset q) (state_of s) ≡ Err cause
+within_refused q s cause e = sym (within_grouped q (view_of s)) ∙ first_refused (taken_and_substituted q) (positioning_stage q ∷ glyphs_hidden q ∷ []) s cause e
 
-pub within_refused_last : (q : Shaping) (s a b c : Sides) (cause : ShapeCause) → q.settings ≡ text_settings s → IsFollowed (glyphs_taken q) s a → IsDone (glyphs_substituted (set_as a q)) a b → IsDone (positioning_stage (set_as b q)) b c
-    → reading_of (glyphs_hidden (set_as c q)) (state_of c) ≡ Err cause → reading_of (before_reset q) (state_of s) ≡ Err cause
-unfolding before_reset
-within_refused_last q s a b c cause set f g h e =
-    let upto_b : settings_of b ≡ settings_of s = g.settings ∙ f.settings in
-    fourth_refused (glyphs_taken q) (glyphs_substituted q) (positioning_stage q) (glyphs_hidden q) [] s a b c cause f (done_followed (glyphs_substituted q) a b (done_as_set glyphs_substituted q s a b set f.settings g))
-    (done_followed (positioning_stage q) b c (done_as_set positioning_stage q s b c set upto_b h)) (refused_as_set glyphs_hidden q s c cause set (h.settings ∙ upto_b) e)
+pub within_refused_then : (q : Shaping) (s a : Sides) (cause : ShapeCause) → q.settings ≡ text_settings s → IsFollowed (taken_and_substituted q) s a → reading_of (positioning_stage (set_as a q)) (state_of a) ≡ Err cause → reading_of (before_reset q) (state_of s) ≡ Err cause
+within_refused_then q s a cause set f e =
+    sym (within_grouped q (view_of s)) ∙ second_refused (taken_and_substituted q) (positioning_stage q) (glyphs_hidden q ∷ []) s a cause f (refused_as_set positioning_stage q s a cause set f.settings e)
+
+pub within_refused_last : (q : Shaping) (s a b : Sides) (cause : ShapeCause) → q.settings ≡ text_settings s → IsFollowed (taken_and_substituted q) s a → IsDone (positioning_stage (set_as a q)) a b
+    → reading_of (glyphs_hidden (set_as b q)) (state_of b) ≡ Err cause → reading_of (before_reset q) (state_of s) ≡ Err cause
+within_refused_last q s a b cause set f g e =
+    sym (within_grouped q (view_of s))
+    ∙ third_refused (taken_and_substituted q) (positioning_stage q) (glyphs_hidden q) [] s a b cause f (done_followed (positioning_stage q) a b (done_as_set positioning_stage q s a b set f.settings g)) (refused_as_set glyphs_hidden q s b cause set (g.settings ∙ f.settings) e)
 
 -- ---- all stages
 

@@ -4,6 +4,8 @@ mod Spread
 mod Sets
 mod Begun
 mod Placed
+mod Classed
+mod Unlinked
 mod Ended
 mod Phases
 mod Whole

@@ -3,24 +3,21 @@ use Rattle.std.proofs.Common.{ℕ, ◌≡◌, [], ◌∷◌, Ok, Err, Option, sy
 use Rattle.std.specs.Prelude.{◌≢◌, IfErr, IsErrAnd, Result}
 use Rattle.buffer_glyphs.specs.declared.cause.ShapeCause.TheVariants.{OutOfMemory}
 use Rattle.buffer_glyphs.specs.declared.cause.ShapeCause.{ShapeCause}
-use Rattle.buffer_core.specs.Readings.{Stage, always, reading_of}
-use Rattle.buffer_core.specs.Sides.{Sides, state_of, settings_of}
+use Rattle.buffer_core.specs.Readings.{Stage, View, always, reading_of}
+use Rattle.buffer_core.specs.Sides.{Sides, state_of, settings_of, view_of}
 use Rattle.buffer_stages.specs.Ready.{DoesGlyphStage, IsDone}
 use Rattle.layout_offsets.specs.Finishing.{links_followed}
 use Rattle.buffer_stages.specs.Settings.{text_settings}
-use Rattle.layout_substitution.specs.Substituting.{substitution_stages}
 use Rattle.layout_positioning.specs.Positioning.{positioning_stages}
 use Rattle.buffer_stages.specs.Stages.{DoesStage, IsFollowed}
 use Rattle.shape_text.specs.Fractions.{with_fractions}
-use Rattle.layout_gsub.specs.GlyphClasses.{with_font_classes}
 use Rattle.shape_glyphs.specs.Flags.{with_flags_spread}
-use Rattle.shape_glyphs.specs.Glyphs.{with_synthesized_classes}
 use Rattle.shape_glyphs.specs.Ignorables.{ignorables_hidden}
 use Rattle.shape_glyphs.specs.Selectors.{with_selectors}
 use Rattle.shape_glyphs.specs.Widths.{zero_widths}
 use Rattle.shape_normalize.specs.Rounds.{normalization}
 use Rattle.script_plan.specs.declared.planned.TheConstants.{HB_OT_SHAPE_ZERO_WIDTH_MARKS_BY_GDEF_EARLY, HB_OT_SHAPE_ZERO_WIDTH_MARKS_BY_GDEF_LATE}
-use Rattle.shape_pipeline.specs.Chains.{only_if}
+use Rattle.shape_pipeline.specs.Chains.{in_order, only_if}
 use Rattle.shape_pipeline.specs.Limits.{final_view}
 use Rattle.shape_pipeline.specs.Characters.{characters_chosen, normalizer, text_begun, turned_to_line}
 use Rattle.shape_pipeline.specs.Masks.{fraction_masks, masks_set}
@@ -29,7 +26,8 @@ use Rattle.shape_pipeline.specs.Positioning.{visual_order, marks_positioned, mar
 use Rattle.shape_pipeline.specs.Endings.{text_ended}
 use Rattle.shape_pipeline.specs.Reading.{after_ranges, before_ranges, positioning_stage}
 use Rattle.shape_pipeline.specs.Shaping.{Shaping, pauses_of, postprocessing_stage, preprocessing_stage, shaper_masks_set}
-use Rattle.shape_pipeline.proofs.Lemmas.Chains.{done_followed, first_refused, five_done, four_done, four_followed, fourth_refused, second_refused, third_refused, three_done, three_followed, two_followed}
+use Rattle.shape_pipeline.proofs.Classed.{taken_and_substituted}
+use Rattle.shape_pipeline.proofs.Lemmas.Chains.{alike_followed, done_followed, first_refused, five_done, four_done, in_order_both, second_refused, third_refused, three_done, three_followed, two_followed}
 use Rattle.shape_pipeline.proofs.Sets.{done_as_set, followed_as_set, refused_as_set, set_as}
 
 -- a cause that `?` passes on
@@ -106,24 +104,6 @@ unfolding before_ranges
 before_refused_last q s a b cause set f g e =
     third_refused (text_begun q) (characters_chosen q) (masks_set q) [] s a b cause f (followed_as_set characters_chosen q s a b set f.settings g) (refused_as_set masks_set q s b cause set (g.settings ∙ f.settings) e)
 
--- ---- glyphs
-
-abbrev by_font : Shaping → Stage
-by_font q v = substitution_stages q.font q.map (pauses_of q) v
-
-pub substituted_done : (q : Shaping) (s a b new : Sides) → q.settings ≡ text_settings s → IsDone (always (with_font_classes q.font)) s a → IsDone (only_if q.choices.fallback_glyph_classes (always with_synthesized_classes)) a b
-    → IsDone (substitution_stages q.font q.map (pauses_of (set_as b q))) b new → IsDone (glyphs_substituted q) s new
-unfolding glyphs_substituted
-substituted_done q s a b new set f g h =
-    three_done (always (with_font_classes q.font)) (only_if q.choices.fallback_glyph_classes (always with_synthesized_classes)) (by_font q) s a b new f g (done_as_set by_font q s b new set (g.settings ∙ f.settings) h)
-
-pub substituted_refused : (q : Shaping) (s a b : Sides) (cause : ShapeCause) → q.settings ≡ text_settings s → IsDone (always (with_font_classes q.font)) s a → IsDone (only_if q.choices.fallback_glyph_classes (always with_synthesized_classes)) a b
-    → reading_of (substitution_stages q.font q.map (pauses_of (set_as b q))) (state_of b) ≡ Err cause → reading_of (glyphs_substituted q) (state_of s) ≡ Err cause
-unfolding glyphs_substituted
-substituted_refused q s a b cause set f g e =
-    third_refused (always (with_font_classes q.font)) (only_if q.choices.fallback_glyph_classes (always with_synthesized_classes)) (by_font q) [] s a b cause (done_followed (always (with_font_classes q.font)) s a f)
-    (done_followed (only_if q.choices.fallback_glyph_classes (always with_synthesized_classes)) a b g) (refused_as_set by_font q s b cause set (g.settings ∙ f.settings) e)
-
 -- ---- positions
 
 abbrev zeroed_at_early : Shaping → Stage
@@ -177,27 +157,25 @@ ended_refused q s a b cause set f g e =
 
 -- ---- all after the masks of ranges
 
-pub after_followed : (q : Shaping) (s a b c new : Sides) → q.settings ≡ text_settings s → IsFollowed (glyphs_taken q) s a → IsDone (glyphs_substituted (set_as a q)) a b → IsDone (positioning_stage (set_as b q)) b c → IsFollowed (text_ended (set_as c q)) c new → IsFollowed (after_ranges q) s new
+after_grouped : (q : Shaping) (v : View) → in_order (taken_and_substituted q ∷ positioning_stage q ∷ text_ended q ∷ []) v ≡ after_ranges q v
 unfolding after_ranges
-after_followed q s a b c new set f g h k =
-    let upto_b : settings_of b ≡ settings_of s = g.settings ∙ f.settings in
-    four_followed (glyphs_taken q) (glyphs_substituted q) (positioning_stage q) (text_ended q) s a b c new f (done_followed (glyphs_substituted q) a b (done_as_set glyphs_substituted q s a b set f.settings g))
-    (done_followed (positioning_stage q) b c (done_as_set positioning_stage q s b c set upto_b h)) (followed_as_set text_ended q s c new set (h.settings ∙ upto_b) k)
+after_grouped q v = sym (in_order_both (glyphs_taken q ∷ glyphs_substituted q ∷ []) (positioning_stage q ∷ text_ended q ∷ []) v)
 
-pub after_refused_then : (q : Shaping) (s a : Sides) (cause : ShapeCause) → q.settings ≡ text_settings s → IsFollowed (glyphs_taken q) s a → reading_of (glyphs_substituted (set_as a q)) (state_of a) ≡ Err cause → reading_of (after_ranges q) (state_of s) ≡ Err cause
-unfolding after_ranges
-after_refused_then q s a cause set f e = second_refused (glyphs_taken q) (glyphs_substituted q) (positioning_stage q ∷ text_ended q ∷ []) s a cause f (refused_as_set glyphs_substituted q s a cause set f.settings e)
+pub after_followed : (q : Shaping) (s a b new : Sides) → q.settings ≡ text_settings s → IsFollowed (taken_and_substituted q) s a → IsDone (positioning_stage (set_as a q)) a b → IsFollowed (text_ended (set_as b q)) b new → IsFollowed (after_ranges q) s new
+after_followed q s a b new set f g h =
+    alike_followed (in_order (taken_and_substituted q ∷ positioning_stage q ∷ text_ended q ∷ [])) (after_ranges q) s new (after_grouped q)
+    (three_followed (taken_and_substituted q) (positioning_stage q) (text_ended q) s a b new f (done_followed (positioning_stage q) a b (done_as_set positioning_stage q s a b set f.settings g))
+    (followed_as_set text_ended q s b new set (g.settings ∙ f.settings) h))
 
-pub after_refused_later : (q : Shaping) (s a b : Sides) (cause : ShapeCause) → q.settings ≡ text_settings s → IsFollowed (glyphs_taken q) s a → IsDone (glyphs_substituted (set_as a q)) a b → reading_of (positioning_stage (set_as b q)) (state_of b) ≡ Err cause → reading_of (after_ranges q) (state_of s) ≡ Err cause
-unfolding after_ranges
-after_refused_later q s a b cause set f g e =
-    third_refused (glyphs_taken q) (glyphs_substituted q) (positioning_stage q) (text_ended q ∷ []) s a b cause f (done_followed (glyphs_substituted q) a b (done_as_set glyphs_substituted q s a b set f.settings g))
-    (refused_as_set positioning_stage q s b cause set (g.settings ∙ f.settings) e)
+pub after_refused : (q : Shaping) (s : Sides) (cause : ShapeCause) → reading_of (taken_and_substituted q) (state_of s) ≡ Err cause → reading_of (after_ranges q) (state_of s) ≡ Err cause
+after_refused q s cause e = sym (after_grouped q (view_of s)) ∙ first_refused (taken_and_substituted q) (positioning_stage q ∷ text_ended q ∷ []) s cause e
 
-pub after_refused_last : (q : Shaping) (s a b c : Sides) (cause : ShapeCause) → q.settings ≡ text_settings s → IsFollowed (glyphs_taken q) s a → IsDone (glyphs_substituted (set_as a q)) a b → IsDone (positioning_stage (set_as b q)) b c
-    → reading_of (text_ended (set_as c q)) (state_of c) ≡ Err cause → reading_of (after_ranges q) (state_of s) ≡ Err cause
-unfolding after_ranges
-after_refused_last q s a b c cause set f g h e =
-    let upto_b : settings_of b ≡ settings_of s = g.settings ∙ f.settings in
-    fourth_refused (glyphs_taken q) (glyphs_substituted q) (positioning_stage q) (text_ended q) [] s a b c cause f (done_followed (glyphs_substituted q) a b (done_as_set glyphs_substituted q s a b set f.settings g))
-    (done_followed (positioning_stage q) b c (done_as_set positioning_stage q s b c set upto_b h)) (refused_as_set text_ended q s c cause set (h.settings ∙ upto_b) e)
+pub after_refused_then : (q : Shaping) (s a : Sides) (cause : ShapeCause) → q.settings ≡ text_settings s → IsFollowed (taken_and_substituted q) s a → reading_of (positioning_stage (set_as a q)) (state_of a) ≡ Err cause → reading_of (after_ranges q) (state_of s) ≡ Err cause
+after_refused_then q s a cause set f e =
+    sym (after_grouped q (view_of s)) ∙ second_refused (taken_and_substituted q) (positioning_stage q) (text_ended q ∷ []) s a cause f (refused_as_set positioning_stage q s a cause set f.settings e)
+
+pub after_refused_last : (q : Shaping) (s a b : Sides) (cause : ShapeCause) → q.settings ≡ text_settings s → IsFollowed (taken_and_substituted q) s a → IsDone (positioning_stage (set_as a q)) a b
+    → reading_of (text_ended (set_as b q)) (state_of b) ≡ Err cause → reading_of (after_ranges q) (state_of s) ≡ Err cause
+after_refused_last q s a b cause set f g e =
+    sym (after_grouped q (view_of s))
+    ∙ third_refused (taken_and_substituted q) (positioning_stage q) (text_ended q) [] s a b cause f (done_followed (positioning_stage q) a b (done_as_set positioning_stage q s a b set f.settings g)) (refused_as_set text_ended q s b cause set (g.settings ∙ f.settings) e)

@@ -1,27 +1,28 @@
 //! The pipeline stages of one text, in the order of its reading (rustybuzz: hb/ot_shape.rs, `shape_internal`,
 //! `substitute_pre`, `position`).
-ghost use Rattle.std.specs.Prelude.{◌≡◌, ◌≢◌, Err, IfErr, IfOk, Ok, OnOk, true, false, ◌==◌, ◌&&◌};
+ghost use Rattle.std.specs.Prelude.{◌≡◌, ◌≢◌, ◌∷◌, [], Err, IfErr, IfOk, Ok, OnOk, true, false, ◌==◌, ◌&&◌};
 ghost use Rattle.buffer_common.specs.Direction.{is_forward};
-ghost use Rattle.buffer_glyphs.specs.Items.{clusters};
+ghost use Rattle.buffer_glyphs.specs.Items.{clusters, item_of};
+ghost use Rattle.buffer_glyphs.specs.Origins.{origin_of};
 ghost use Rattle.buffer_core.specs.Readings.{Follows, always};
 ghost use Rattle.buffer_core.specs.Sides.{items_of, state_of, settings_of, all_glyphs};
 ghost use Rattle.buffer_stages.specs.Buffers.{are_glyphs};
 ghost use Rattle.buffer_stages.specs.Ready.{IsReady, DoesGlyphStage, IsDone, HoldsGlyphs};
 ghost use Rattle.buffer_stages.specs.Settings.{text_settings};
-ghost use Rattle.buffer_stages.specs.Stages.{DoesStage, IsFollowed};
+ghost use Rattle.buffer_stages.specs.Stages.{DoesStage, IsFollowed, with_items_mapped};
 ghost use Rattle.layout_positioning.specs.Positioning.{positioning_stages};
 ghost use Rattle.shape_text.specs.Fractions.{with_fractions};
 ghost use Rattle.shape_text.specs.Properties.{IsUnshaped};
 ghost use Rattle.shape_normalize.specs.Rounds.{normalization};
 ghost use Rattle.shape_fallback.specs.Classes.{with_fallback_classes};
-ghost use Rattle.shape_glyphs.specs.Glyphs.{with_synthesized_classes};
+ghost use Rattle.shape_glyphs.specs.Glyphs.{glyph_or_missing, with_synthesized_classes};
 ghost use Rattle.shape_glyphs.specs.Ignorables.{ignorables_hidden};
 ghost use Rattle.shape_glyphs.specs.Widths.{zero_widths};
 ghost use Rattle.shape_pipeline.specs.Budget.{budget_left, glyphs_hidden};
-ghost use Rattle.shape_pipeline.specs.Chains.{only_if};
+ghost use Rattle.shape_pipeline.specs.Chains.{in_order, only_if};
 ghost use Rattle.shape_pipeline.specs.Characters.{characters_chosen, normalizer, text_begun, turned_to_line};
 ghost use Rattle.shape_pipeline.specs.Endings.{text_ended};
-ghost use Rattle.shape_pipeline.specs.Glyphs.{glyphs_substituted, glyphs_taken};
+ghost use Rattle.shape_pipeline.specs.Glyphs.{as_classed_glyph, glyphs_substituted, glyphs_taken};
 ghost use Rattle.shape_pipeline.specs.Limits.{final_view};
 ghost use Rattle.shape_pipeline.specs.Masks.{fraction_masks, masks_set, ranges_set};
 ghost use Rattle.shape_pipeline.specs.Positioning.{adjusts_marks, visual_order, marks_positioned, marks_zeroed, positions_adjusted, positions_begun, positions_ended, with_zero_positions, zeroes_marks};
@@ -33,11 +34,13 @@ use crate::normalizing::PlanNormalizing;
 use buffer_common::direction::Direction;
 use buffer_core::buffer::hb_buffer_t;
 use buffer_glyphs::cause::ShapeCause;
+use buffer_glyphs::info::hb_glyph_info_t;
+use buffer_stages::glyphs::map_glyphs;
 use buffer_stages::pause::Pause;
 use buffer_unicode_tables::UnicodeTables;
 use layout_face::Face;
-use layout_gsub::glyph_classes::hb_ot_layout_substitute_start;
-use layout_offsets::finish::{position_finish_offsets, position_start};
+use layout_gsub::replacement::glyph_props;
+use layout_offsets::finish::position_finish_offsets;
 use layout_positioning::position;
 use layout_substitution::substitute::substitute;
 use script_categories::SyllableSpans;
@@ -54,7 +57,7 @@ use shape_fallback::spaces::_hb_ot_shape_fallback_spaces;
 use shape_fallback::zeroing::zero_mark_widths_by_gdef;
 use shape_glyphs::advances::position_default;
 use shape_glyphs::flags::propagate_flags;
-use shape_glyphs::glyphs::{hb_synthesize_glyph_classes, map_glyphs_fast};
+use shape_glyphs::glyphs::hb_synthesize_glyph_classes;
 use shape_glyphs::ignorables::hide_default_ignorables;
 use shape_glyphs::selectors::deal_with_variation_selectors;
 use shape_glyphs::widths::zero_width_default_ignorables;
@@ -126,8 +129,7 @@ impl<S: hb_ot_shaper_t, P: SyllableSpans> ShapeStages<'_, S, P> {
         self.choose_characters(buffer)?;
         self.setup_masks(buffer)?;
         self.setup_ranges(buffer);
-        self.take_glyphs(buffer);
-        self.substitute_glyphs(buffer)?;
+        self.substitute_pre(buffer)?;
         self.position(buffer)?;
         self.end_text(buffer)?;
         Ok(())
@@ -146,8 +148,7 @@ impl<S: hb_ot_shaper_t, P: SyllableSpans> ShapeStages<'_, S, P> {
         self.choose_characters(buffer)?;
         self.setup_masks(buffer)?;
         self.setup_ranges(buffer);
-        self.take_glyphs(buffer);
-        self.substitute_glyphs(buffer)?;
+        self.substitute_pre(buffer)?;
         self.position(buffer)?;
         self.hide_glyphs(buffer)?;
         Ok(buffer.max_ops())
@@ -308,6 +309,36 @@ fn recategorize_marks(choices: PlanChoices, buffer: &mut hb_buffer_t)
     }
 }
 
+/// Replaces each character by the glyph chosen for it, with the class that GDEF gives that glyph and no ligature word:
+/// `map_glyphs_fast` and `hb_ot_layout_substitute_start` in one pass. It takes linear time and no memory.
+fn map_classed_glyphs(face: &Face, buffer: &mut hb_buffer_t)
+    requires { IsReady buffer.old }
+    ensures stage { IsFollowed (always (with_items_mapped (as_classed_glyph face.now))) buffer.old buffer.new }
+    ensures numbers { are_glyphs (items_of buffer.new) ≡ true }
+{
+    map_glyphs(buffer, |glyph| classed_glyph(face, glyph));
+}
+
+#[tactic(auto, using(crate::proofs::Classed::chosen_class))]
+fn classed_glyph(face: &Face, glyph: &hb_glyph_info_t) -> hb_glyph_info_t
+    ensures item { item_of result ≡ as_classed_glyph face.now (item_of glyph.now) }
+    ensures origin { origin_of result ≡ origin_of glyph.now }
+{
+    let chosen = glyph_or_missing(glyph.glyph_index);
+    hb_glyph_info_t {
+        glyph_id: u32::from(chosen),
+        glyph_props: glyph_props(face, chosen),
+        lig_props: 0,
+        ..*glyph
+    }
+}
+
+fn glyph_or_missing(number: u32) -> u16
+    ensures { result ≡ glyph_or_missing number }
+{
+    if number <= 65535 { number as u16 } else { 0 }
+}
+
 /// Synthesizes glyph classes from the characters, for a font that has none.
 #[tactic(auto, using(crate::proofs::Lemmas::Chains::acts_done, crate::proofs::Lemmas::Chains::rests_done))]
 fn synthesize_classes(choices: PlanChoices, buffer: &mut hb_buffer_t)
@@ -320,25 +351,15 @@ fn synthesize_classes(choices: PlanChoices, buffer: &mut hb_buffer_t)
 }
 
 impl<S: hb_ot_shaper_t, P: SyllableSpans> ShapeStages<'_, S, P> {
-    /// Replaces each character by the glyph chosen for it.
-    #[tactic(auto, unfolding(crate::specs::Glyphs::glyphs_taken), using(crate::proofs::Lemmas::Chains::two_followed))]
-    fn take_glyphs(&self, buffer: &mut hb_buffer_t)
+    /// Replaces each character by its glyph, with its class, and applies the GSUB lookups with the shaper's pauses.
+    fn substitute_pre(&self, buffer: &mut hb_buffer_t) -> Result<(), ShapeCause>
         requires { IsReady buffer.old }
-        ensures followed { IsFollowed (glyphs_taken (⟦<Self as Shaped>⟧.shaping self.now buffer.old)) buffer.old
-            buffer.new }
-        ensures numbers { are_glyphs (items_of buffer.new) ≡ true }
+        ensures stage { DoesStage (in_order (glyphs_taken (⟦<Self as Shaped>⟧.shaping self.now buffer.old) ∷
+            glyphs_substituted (⟦<Self as Shaped>⟧.shaping self.now buffer.old) ∷ [])) result buffer.old buffer.new }
+        ensures numbers { OnOk result (are_glyphs (items_of buffer.new) ≡ true) }
     {
         recategorize_marks(self.plan.script_plan.choices, buffer);
-        map_glyphs_fast(buffer);
-    }
-
-    /// Sets glyph classes, and applies the GSUB lookups with the shaper's pauses.
-    fn substitute_glyphs(&self, buffer: &mut hb_buffer_t) -> Result<(), ShapeCause>
-        requires glyphs { HoldsGlyphs buffer.old }
-        ensures { DoesGlyphStage (glyphs_substituted (⟦<Self as Shaped>⟧.shaping self.now buffer.old)) result
-            buffer.old buffer.new }
-    {
-        hb_ot_layout_substitute_start(self.face, buffer);
+        map_classed_glyphs(self.face, buffer);
         synthesize_classes(self.plan.script_plan.choices, buffer);
         substitute(&self.plan.script_plan.map, self.face, buffer, self)?;
         Ok(())
@@ -395,7 +416,7 @@ fn draw(buffer: &mut hb_buffer_t)
 
 impl<S: hb_ot_shaper_t, P: SyllableSpans> ShapeStages<'_, S, P> {
     /// Sets the font's advances, and those of spaces that the font lacks.
-    #[tactic(auto, unfolding(crate::specs::Positioning::positions_begun), using(crate::proofs::Lemmas::Chains::four_done))]
+    #[tactic(auto, using(crate::proofs::Unlinked::begun_done))]
     fn begin_positions(&self, buffer: &mut hb_buffer_t)
         requires { IsReady buffer.old }
         ensures { IsDone (positions_begun (⟦<Self as Shaped>⟧.shaping self.now buffer.old)) buffer.old buffer.new }
@@ -403,7 +424,8 @@ impl<S: hb_ot_shaper_t, P: SyllableSpans> ShapeStages<'_, S, P> {
         clear_positions(buffer);
         position_default(self.face, buffer);
         _hb_ot_shape_fallback_spaces(self.face, buffer);
-        position_start(buffer);
+        // No position has a link yet, so `position_start` would clear none.
+        buffer.learn_order();
     }
 
     fn adjusts_marks(&self, direction: Direction) -> bool

@@ -182,9 +182,21 @@ fn count_chars(text: &str) -> usize
     text.chars().count()
 }
 
-// Whether each character begins at a byte whose index fits 32 bits.
-#[tactic(auto, using(crate::proofs::Chars::offsets_fit_none, crate::proofs::Chars::offsets_fit_step, crate::proofs::Chars::utf8_step))]
+// Whether each character begins at a byte whose index fits 32 bits: all of them do in a text of that many bytes.
+#[tactic(auto, using(crate::proofs::Chars::short_text_fits))]
 fn offsets_fit(text: &str) -> bool
+    ensures { result ≡ offsets_fit 0 (chars text.now) }
+{
+    if text.len() <= u32::MAX as usize {
+        return true;
+    }
+    each_offset_fits(text)
+}
+
+// (Not inlined: hardly any text is as long.)
+#[inline(never)]
+#[tactic(auto, using(crate::proofs::Chars::offsets_fit_none, crate::proofs::Chars::offsets_fit_step, crate::proofs::Chars::utf8_step))]
+fn each_offset_fits(text: &str) -> bool
     ensures { result ≡ offsets_fit 0 (chars text.now) }
 {
     for (at, _) in text.char_indices() {

@@ -1,12 +1,12 @@
 -- Rules that pass need not be tried.
-use Rattle.std.proofs.Common.{ℕ, zero, suc, ◌≡◌, ◌≤◌, ◌<◌, ◌+◌, ◌-◌, ◌⊎◌, false, inl, inr, List, [], ◌∷◌, drop, length, get_or, Some, None, slice_get, sym, ap, subst, ◌∙◌, arith}
-use Rattle.std.proofs.lemmas.List.{drop_all}
+use Rattle.std.proofs.Common.{ℕ, zero, suc, ◌≡◌, ◌≤◌, ◌<◌, ◌+◌, ◌-◌, ◌⊎◌, false, inl, inr, List, [], ◌∷◌, drop, length, get_or, Some, None, slice_get, refl, sym, ap, subst, ◌∙◌, arith}
+use Rattle.std.proofs.lemmas.List.{append-nil, drop_all}
 use Rattle.std.proofs.lemmas.Option.{get_or_from_slice_get, slice_get_cases, slice_get_within}
 use Rattle.buffer_glyphs.specs.declared.info.hb_glyph_info_t.{hb_glyph_info_t}
 use Rattle.buffer_glyphs.specs.Items.{Item, item_of, strip}
 use Rattle.buffer_core.specs.Sides.{Sides}
 use Rattle.layout_match.specs.Skipping.{PassesAt}
-use Rattle.buffer_stages.specs.Actions.{Action, Passes, first_rule}
+use Rattle.buffer_stages.specs.Actions.{Action, Acts, Cut, Outcome, Passes, Refuses, first_rule, or_else}
 use Rattle.buffer_stages.specs.Performing.{IsPerformed, cut_with}
 use Rattle.buffer_stages.proofs.Lemmas.Performed.{ArePassed, passed_all, passed_next, passes_nothing}
 use Rattle.layout_gsub.specs.Passing.{ArePassing}
@@ -65,3 +65,14 @@ pub jumped_all : {R : Type 0} (act : R → Action) (all : List R) (r q k next : 
 jumped_all act all r q k next start now passing le t none same =
     let P : ℕ → Type 0 = λ n. IsPerformed (first_rule act all (cut_with q start)) false q n start now in
     subst P (sym same) (passed_all act all next q start now (none_there all next (sym none)) (jumped act all q k next start now passing le t))
+
+-- ---- a list of one rule
+
+before_none : (o : Outcome) → or_else o (Passes []) ≡ o
+before_none (Passes events) = ap Passes (append-nil events)
+before_none (Acts cut events) = refl
+before_none (Refuses cause) = refl
+
+-- the first of one rule is that rule
+pub only_first : {R : Type 0} (act : R → Action) (x : R) (c : Cut) → first_rule act (x ∷ []) c ≡ act x c
+only_first act x c = before_none (act x c)

@@ -1,17 +1,18 @@
 -- Glyphs that a lookup is not tried at.
-use Rattle.std.proofs.Common.{ℕ, suc, zero, ◌≡◌, ◌≤◌, ◌+◌, ◌&&◌, ◌||◌, Bool, true, false, nat_le, List, [], ◌∷◌, take, refl, sym, ap, ◌∙◌, arith, slice_get, Some}
+use Rattle.std.proofs.Common.{ℕ, suc, zero, ◌≡◌, ◌≤◌, ◌+◌, ◌&&◌, ◌||◌, Bool, true, false, nat_le, List, [], ◌∷◌, take, refl, sym, ap, ◌∙◌, arith, slice_get, Some, length, drop}
 use Rattle.std.specs.List.{list_any}
 use Rattle.std.proofs.lemmas.Bool.Decides.{nat_tests}
 use Rattle.std.proofs.lemmas.Grind.{common_steps}
 use Rattle.std.proofs.lemmas.List.{map-append}
 use Rattle.buffer_glyphs.specs.declared.info.hb_glyph_info_t.{hb_glyph_info_t}
 use Rattle.buffer_glyphs.specs.Items.{Item, item_of, strip}
-use Rattle.buffer_core.specs.Sides.{Sides, items_of}
+use Rattle.buffer_core.specs.Sides.{Sides, after_next_glyphs, items_of}
 use Rattle.buffer_stages.specs.Actions.{Action}
 use Rattle.buffer_stages.specs.Buffers.{are_glyphs}
 use Rattle.buffer_stages.proofs.Lemmas.Glyphs.{all_of_back}
 use Rattle.layout_match.specs.Applied.{ApplyContext}
 use Rattle.layout_match.specs.Skipping.{PassesAll, PassesAt}
+use Rattle.layout_match.specs.Steps.{MeetsGlyph}
 use Rattle.layout_match.specs.Trying.{meets, met_first}
 use Rattle.layout_match.proofs.Lemmas.Held.{passes_uncovered}
 use Rattle.layout_match.proofs.Lemmas.Untouched.{rule_passes, unmet_passes}
@@ -80,3 +81,33 @@ idle_at a act covered x passes none = by_meeting (meets a x) refl none
 
 pub idle_all : (a : ApplyContext) (act : Action) (covers : ℕ → Bool) (xs : List Item) → ((x : Item) → covers x.number ≡ false → PassesAt act x) → list_any (λ (x : Item). meets a x && covers x.number) xs ≡ false → PassesAll (met_first a act) xs
 idle_all a act covers xs passes none = passes_uncovered (met_first a act) (λ x. meets a x && covers x.number) xs none (λ x off. idle_at a act (covers x.number) x (passes x) off)
+
+-- ---- the glyph at which a lookup is tried
+
+-- a lookup applies to the glyph at an index
+pub met_at : (a : ApplyContext) (k : ℕ) (g : hb_glyph_info_t) (s : Sides) → slice_get s.ahead k ≡ Some g → meets a (item_of g) ≡ true → MeetsGlyph a k s
+met_at a k g s at e h is =
+    let same : h ≡ g = cc in
+    ap (λ i. meets a (item_of i)) same ∙ e
+
+met_past : (a : ApplyContext) (gs : List hb_glyph_info_t) (k : ℕ) (g : hb_glyph_info_t) → length gs ≤ k → slice_get gs k ≡ Some g → meets a (item_of g) ≡ true
+met_past a [] k g past at = cc
+met_past a (h ∷ gs) zero g past at = absurd (omega (arith, past))
+met_past a (h ∷ gs) (suc k) g past at = met_past a gs k g (omega (arith, past)) at
+
+-- past the last glyph there is none
+pub none_there : (a : ApplyContext) (k : ℕ) (s : Sides) → length s.ahead ≤ k → MeetsGlyph a k s
+none_there a k s past g at = met_past a s.ahead k g past at
+
+first_left : (gs : List hb_glyph_info_t) (k : ℕ) → slice_get (drop k gs) 0 ≡ slice_get gs k
+first_left [] zero = refl
+first_left [] (suc k) = refl
+first_left (g ∷ gs) zero = refl
+first_left (g ∷ gs) (suc k) = first_left gs k
+
+-- once the cursor moved over the glyphs before it, it is at the cursor
+pub met_moved : (a : ApplyContext) (k : ℕ) (s new : Sides) → MeetsGlyph a k s → new ≡ after_next_glyphs k s → MeetsGlyph a 0 new
+met_moved a k s new meets_it is g at = meets_it g (sym (first_left s.ahead k) ∙ ap (λ (t : Sides). slice_get t.ahead 0) (sym is) ∙ at)
+
+pub met_here : (a : ApplyContext) (k : ℕ) (s : Sides) → k ≡ 0 → MeetsGlyph a k s → MeetsGlyph a 0 s
+met_here a k s none meets_it g at = meets_it g (ap (slice_get s.ahead) none ∙ at)

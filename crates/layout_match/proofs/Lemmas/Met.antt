@@ -1,5 +1,5 @@
 -- A rule is tried at a glyph that its lookup meets.
-use Rattle.std.proofs.Common.{ℕ, ◌≡◌, true, false, Bool, List, [], ◌∷◌, refl, sym, ap, subst, ◌∙◌, slice_get, Some}
+use Rattle.std.proofs.Common.{ℕ, ◌≡◌, true, false, Bool, List, [], ◌∷◌, refl, sym, ap, subst, ◌∙◌, slice_get, Some, length, ◌<◌, arith}
 use Rattle.std.specs.Prelude.{Result}
 use Rattle.buffer_glyphs.specs.declared.cause.ShapeCause.{ShapeCause}
 use Rattle.buffer_glyphs.specs.declared.info.hb_glyph_info_t.{hb_glyph_info_t}
@@ -13,6 +13,7 @@ use Rattle.buffer_stages.proofs.Lemmas.Does.{passed_same}
 use Rattle.buffer_stages.proofs.Lemmas.Performed.{passes_nothing}
 use Rattle.buffer_stages.proofs.Lemmas.Glyphs.{first_item}
 use Rattle.layout_match.specs.Skipping.{PassesAt}
+use Rattle.layout_match.specs.Steps.{MeetsGlyph}
 use Rattle.layout_match.specs.Trying.{meets, at_met, met_first}
 
 pub unmet : (a : ApplyContext) (act : Action) (r : ℕ) (s : Sides) (g : hb_glyph_info_t) → slice_get s.ahead 0 ≡ Some g → meets a (item_of g) ≡ false → met_first a act (cut_with r s) ≡ Passes []
@@ -20,6 +21,16 @@ unmet a act r s g at none = ap (λ o. at_first (at_met a act) o (cut_with r s)) 
 
 pub met : (a : ApplyContext) (act : Action) (r : ℕ) (s : Sides) (g : hb_glyph_info_t) → slice_get s.ahead 0 ≡ Some g → meets a (item_of g) ≡ true → met_first a act (cut_with r s) ≡ act (cut_with r s)
 met a act r s g at some = ap (λ o. at_first (at_met a act) o (cut_with r s)) (first_item s.ahead g at) ∙ rw some refl
+
+glyph_there : (gs : List hb_glyph_info_t) → 0 < length gs → (g : hb_glyph_info_t) × (slice_get gs 0 ≡ Some g)
+glyph_there [] some = absurd (omega (arith, some))
+glyph_there (g ∷ gs) some = (g, refl)
+
+-- a lookup that applies to the glyph at the cursor is tried there
+pub met_glyph : (a : ApplyContext) (act : Action) (r : ℕ) (s : Sides) → 0 < length s.ahead → MeetsGlyph a 0 s → met_first a act (cut_with r s) ≡ act (cut_with r s)
+met_glyph a act r s some applies =
+    let first = glyph_there s.ahead some in
+    met a act r s first.0 first.1 (applies first.0 first.1)
 
 -- ---- a rule that passes at the glyph at the cursor need not be tried
 

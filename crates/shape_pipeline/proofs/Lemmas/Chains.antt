@@ -1,9 +1,9 @@
 -- Stages done one after another on a buffer.
-use Rattle.std.proofs.Common.{◌≡◌, Bool, true, false, List, [], ◌∷◌, Result, Err, refl, sym, subst, ◌∙◌}
+use Rattle.std.proofs.Common.{◌≡◌, ◌++◌, Bool, true, false, List, [], ◌∷◌, Result, Ok, Err, refl, sym, ap, subst, ◌∙◌}
 use Rattle.buffer_glyphs.specs.declared.cause.ShapeCause.{ShapeCause}
-use Rattle.buffer_core.specs.Readings.{Stage, reading_of}
-use Rattle.buffer_core.specs.Steps.{follows_then, follows_same, refused_first, refused_then}
-use Rattle.buffer_core.specs.Sides.{Sides, state_of}
+use Rattle.buffer_core.specs.Readings.{Follows, Reading, Stage, View, and_then, reading_of, then_reading}
+use Rattle.buffer_core.specs.Steps.{and_then_assoc, as_it_is_then, follows_then, follows_same, refused_first, refused_then}
+use Rattle.buffer_core.specs.Sides.{Sides, state_of, view_of}
 use Rattle.buffer_stages.specs.Ready.{DoesGlyphStage, IsDone, IsReady}
 use Rattle.buffer_stages.specs.Stages.{IsFollowed}
 use Rattle.shape_pipeline.specs.Chains.{in_order, only_if}
@@ -108,3 +108,27 @@ third_refused a b c rest s t u cause f g e = later_refused a (b ∷ c ∷ rest) 
 pub fourth_refused : (a b c d : Stage) (rest : List Stage) (s t u v : Sides) (cause : ShapeCause) → IsFollowed a s t → IsFollowed b t u → IsFollowed c u v → reading_of d (state_of v) ≡ Err cause
     → reading_of (in_order (a ∷ b ∷ c ∷ d ∷ rest)) (state_of s) ≡ Err cause
 fourth_refused a b c d rest s t u v cause f g h e = later_refused a (b ∷ c ∷ d ∷ rest) s t cause f (third_refused b c d rest t u v cause g h e)
+
+-- ---- stages that are grouped
+
+then_alike : (r : Reading) (f g : Stage) → ((v : View) → f v ≡ g v) → and_then r f ≡ and_then r g
+then_alike (Ok r) f g same = ap (then_reading r) (same r.view)
+then_alike (Err e) f g same = refl
+
+-- stages in order are the first of them as one stage, and then the others
+pub in_order_both : (firsts others : List Stage) (v : View) → in_order (firsts ++ others) v ≡ in_order (in_order firsts ∷ others) v
+in_order_both [] others v = sym (as_it_is_then v (in_order others))
+in_order_both (a ∷ firsts) others v =
+    then_alike (a v) (in_order (firsts ++ others)) (in_order (in_order firsts ∷ others)) (in_order_both firsts others) ∙ sym (and_then_assoc (a v) (in_order firsts) (in_order others))
+
+-- a stage, and then stages that read the same
+pub in_order_after : (a : Stage) (these those : List Stage) → ((v : View) → in_order these v ≡ in_order those v) → (v : View) → in_order (a ∷ these) v ≡ in_order (a ∷ those) v
+in_order_after a these those same v = then_alike (a v) (in_order these) (in_order those) same
+
+-- a stage that reads the same was followed too
+pub alike_followed : (a b : Stage) (s t : Sides) → ((v : View) → a v ≡ b v) → IsFollowed a s t → IsFollowed b s t
+alike_followed a b s t same f = record {
+  follows = subst (λ q. Follows q (state_of s) (state_of t)) (same (view_of s)) f.follows;
+  settings = f.settings;
+  ready = f.ready;
+}

@@ -15,7 +15,8 @@ pub loop-last-init : goal.loop-last-init
 loop-last-init c =
     let s = c.args.buffer.now in
     record {
-      underway = first_run (lookup_action c.args.table.now.lookups s.direction (apply_context_of c.args.ctx.now) c.args.lookup.now) c.args.ctx.now.random_state s c.pass_idle.new.buffer c.requires.glyphs.ready (c.pass_idle.ensures c.args.table.now.lookups);
+      underway = first_run (lookup_action c.args.table.now.lookups s.direction (apply_context_of c.args.ctx.now) c.args.lookup.now) c.args.ctx.now.random_state s c.pass_idle.new.buffer c.requires.glyphs.ready (c.pass_idle.ensures.run c.args.table.now.lookups);
+      met = c.pass_idle.ensures.met;
       kept = c.new-last.ensures (apply_context_of c.args.ctx.now) (items_of c.pass_idle.new.buffer);
     }
 
@@ -26,10 +27,11 @@ loop-last-preserved c =
     let act = λ (d : Direction). lookup_action c.args.table.now.lookups d a c.args.lookup.now in
     let mid = c.apply_next.new.buffer in
     let next = c.pass_idle-in-loop-last.new.buffer in
-    let run = c.pass_idle-in-loop-last.ensures c.args.table.now.lookups in
+    let run = c.pass_idle-in-loop-last.ensures.run c.args.table.now.lookups in
     let there : 0 < length c.loop-last.buffer.ahead = omega (arith, c.idx.ensures, c.len.ensures.input, c.loop-last-test.true) in
     record {
       underway = step_and_run act (length (all_glyphs s)) c.args.ctx.now.random_state s c.loop-last.buffer mid next there c.loop-last.invariant.underway c.in_ok-apply_next.ensures.ok run;
+      met = c.pass_idle-in-loop-last.ensures.met;
       kept = kept_same a c.apply_next.new.last mid next (run_items (act mid.direction) mid next run) c.in_ok-apply_next.ensures.kept;
     }
 
@@ -39,7 +41,7 @@ loop-last-smaller c =
     let now = c.loop-last.buffer in
     let mid = c.apply_next.new.buffer in
     let there : 0 < length now.ahead = omega (arith, c.idx.ensures, c.len.ensures.input, c.loop-last-test.true) in
-    step_and_run_fewer (act now.direction) (act mid.direction) c.args.ctx.now.random_state now mid c.pass_idle-in-loop-last.new.buffer there c.in_ok-apply_next.ensures.ok (c.pass_idle-in-loop-last.ensures c.args.table.now.lookups)
+    step_and_run_fewer (act now.direction) (act mid.direction) c.args.ctx.now.random_state now mid c.pass_idle-in-loop-last.new.buffer there c.in_ok-apply_next.ensures.ok (c.pass_idle-in-loop-last.ensures.run c.args.table.now.lookups)
 
 pub returns-in_err-apply_next-clause-stage : goal.returns-in_err-apply_next-clause-stage
 returns-in_err-apply_next-clause-stage c =

@@ -8,11 +8,11 @@ pub returns-then-branch-clause-ok : goal.returns-then-branch-clause-ok
 returns-then-branch-clause-ok c =
     let s = c.args.buffer.now in
     let r = c.args.ctx.now.random_state in
-    step_acted (lookup_action c.args.table.now.lookups s.direction (apply_context_of c.args.ctx.now) c.args.lookup.now) r r c.in_ok-apply_lookup.field-0 s c.apply_lookup.new.buffer c.if-branch.true c.requires.at_glyph_in_place.current c.in_ok-apply_lookup.ensures.performs
+    step_acted (lookup_action c.args.table.now.lookups s.direction (apply_context_of c.args.ctx.now) c.args.lookup.now) r r c.in_ok-apply_met.field-0 s c.apply_met.new.buffer c.if-branch.true c.requires.at_glyph_in_place.current c.in_ok-apply_met.ensures.performs
 
 pub returns-clause-ok : goal.returns-clause-ok
 returns-clause-ok c =
     let s = c.args.buffer.now in
     let r = c.args.ctx.now.random_state in
     let room = room_closed r c.len-count.result s (c.len-count.ensures.count c.requires.at_glyph_in_place.closed) (c.len-count.ensures.within c.requires.at_glyph_in_place.closed) c.requires.at_glyph_in_place.current in
-    step_over (lookup_action c.args.table.now.lookups s.direction (apply_context_of c.args.ctx.now) c.args.lookup.now) r r c.in_ok-apply_lookup.field-0 s c.apply_lookup.new.buffer c.pass.new.buffer c.if-branch.false c.requires.at_glyph_in_place.current room c.in_ok-apply_lookup.ensures.performs c.pass.ensures
+    step_over (lookup_action c.args.table.now.lookups s.direction (apply_context_of c.args.ctx.now) c.args.lookup.now) r r c.in_ok-apply_met.field-0 s c.apply_met.new.buffer c.pass.new.buffer c.if-branch.false c.requires.at_glyph_in_place.current room c.in_ok-apply_met.ensures.performs c.pass.ensures

@@ -1,7 +1,8 @@
-use Rattle.std.proofs.Common.{◌≡◌, ◌<◌, true, false, length, Ok, refl, ap, sym, arith, ◌∙◌}
+use Rattle.std.proofs.Common.{◌≡◌, ◌<◌, true, false, length, Ok, refl, ap, sym, subst, arith, ◌∙◌}
 use Rattle.buffer_glyphs.specs.Items.{strip}
 use Rattle.buffer_core.specs.Sides.{all_glyphs, fits_joined, with_output}
 use Rattle.layout_match.specs.Applied.{ApplyContext, apply_context_of}
+use Rattle.layout_match.specs.Steps.{MeetsGlyph}
 use Rattle.layout_substitution.specs.Lookups.{lookup_action}
 use Rattle.layout_match.proofs.Lemmas.Passage.{looked_up_done, looked_up_long, looked_up_refused_by}
 use Rattle.layout_match.proofs.Lemmas.Runs.{run_items}
@@ -18,6 +19,7 @@ loop-ctx-init c =
     record {
       underway = first_run act ctx.random_state c.args.buffer.now c.clear_output.new.self c.pass_idle.new.buffer c.in_ok-clear_output.ensures.after run;
       context = refl;
+      met = c.in_ok-pass_idle.ensures.met;
       unchanged = λ _. run_items act c.clear_output.new.self c.pass_idle.new.buffer run ∙ ap strip c.in_ok-clear_output.ensures.kept;
     }
 
@@ -30,12 +32,14 @@ loop-ctx-preserved c =
     let next = c.pass_idle-in-loop-ctx.new.buffer in
     let context = c.apply_next.ensures.context ∙ c.loop-ctx.invariant.context in
     let run = c.in_ok-pass_idle-2.ensures.ok c.args.table.now.lookups in
+    let M : ApplyContext → Type 0 = λ k. MeetsGlyph k 0 next in
     let there : 0 < length c.loop-ctx.buffer.ahead = omega (arith, c.idx.ensures, c.len.ensures.input, c.loop-ctx-test.true) in
     record {
       underway =
           step_and_run act (apply_context_of c.loop-ctx.ctx) (apply_context_of ctx) (apply_context_of mid.ctx) (length (all_glyphs s)) ctx.random_state c.loop-ctx.ctx.random_state mid.ctx.random_state (with_output s) c.loop-ctx.buffer mid.buffer next there c.loop-ctx.invariant.context context
           c.loop-ctx.invariant.underway c.in_ok-acted.ensures.ok run;
       context = context;
+      met = subst M context c.in_ok-pass_idle-2.ensures.met;
       unchanged = λ none. run_items (act (apply_context_of mid.ctx)) mid.buffer next run ∙ c.in_ok-acted.ensures.unchanged (ap Ok none) ∙ c.loop-ctx.invariant.unchanged (c.in_ok-acted.ensures.before (ap Ok none));
     }
 

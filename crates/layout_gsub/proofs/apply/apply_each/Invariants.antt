@@ -1,7 +1,7 @@
 use Rattle.std.proofs.Common.{◌≡◌, ◌-◌, drop, length}
 use Rattle.layout_match.specs.Applied.{apply_context_of}
 use Rattle.buffer_stages.proofs.Lemmas.Performed.{ArePassed}
-use Rattle.layout_gsub.proofs.apply.apply_first.Given as goal
+use Rattle.layout_gsub.proofs.apply.apply_each.Given as goal
 
 -- none so far acted
 abbrev pub invariant-loop-k : goal.invariant-loop-k

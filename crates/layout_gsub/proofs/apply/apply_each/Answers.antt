@@ -5,7 +5,7 @@ use Rattle.buffer_stages.specs.Performing.{IsPerformed, cut_with}
 use Rattle.buffer_stages.proofs.Lemmas.Performed.{passed_all}
 use Rattle.buffer_stages.proofs.Lemmas.Firsts.{first_acts, first_refuses, first_passes}
 use Rattle.layout_gsub.proofs.Lemmas.Jumped.{is_there, jumped, jumped_all}
-use Rattle.layout_gsub.proofs.apply.apply_first.Goals as goal
+use Rattle.layout_gsub.proofs.apply.apply_each.Goals as goal
 
 pub returns-in_default-clause-performs : goal.returns-in_default-clause-performs
 returns-in_default-clause-performs g c =

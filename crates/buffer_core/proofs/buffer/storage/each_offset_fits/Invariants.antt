@@ -2,7 +2,7 @@ use Rattle.std.proofs.Common.{◌≡◌}
 use Rattle.std.specs.Str.{chars, IsUtf8}
 use Rattle.std.specs.Str.Iter.{char_indices_rest, char_indices_offset}
 use Rattle.buffer_core.specs.Text.{offsets_fit}
-use Rattle.buffer_core.proofs.buffer.storage.offsets_fit.Given as goal
+use Rattle.buffer_core.proofs.buffer.storage.each_offset_fits.Given as goal
 
 -- what is left decides
 abbrev pub invariant-loop-at : goal.invariant-loop-at

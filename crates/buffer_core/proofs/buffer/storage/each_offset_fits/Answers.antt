@@ -2,7 +2,7 @@ use Rattle.std.proofs.Common.{◌≡◌, false, true, nat_le, refl, arith, rules
 use Rattle.std.proofs.lemmas.Bool.Decides.{nat_tests}
 use Rattle.std.specs.Str.Iter.{char_indices_offset}
 use Rattle.buffer_core.proofs.Chars.{utf8_step, offsets_fit_step}
-use Rattle.buffer_core.proofs.buffer.storage.offsets_fit.Goals as goal
+use Rattle.buffer_core.proofs.buffer.storage.each_offset_fits.Goals as goal
 
 pub returns-then-at : goal.returns-then-at
 returns-then-at c =

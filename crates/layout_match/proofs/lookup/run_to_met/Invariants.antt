@@ -3,7 +3,7 @@ use Rattle.std.specs.List.{list_any}
 use Rattle.buffer_glyphs.specs.Items.{Item, strip}
 use Rattle.layout_match.specs.Applied.{apply_context_of}
 use Rattle.layout_match.specs.Trying.{meets}
-use Rattle.layout_match.proofs.lookup.idle_run.Given as goal
+use Rattle.layout_match.proofs.lookup.run_to_met.Given as goal
 
 -- the lookup is tried at none of the glyphs so far
 abbrev pub invariant-loop-at : goal.invariant-loop-at
