@@ -5,17 +5,20 @@ import tempfile
 from collections import defaultdict
 from pathlib import Path
 
+from building.command import positive
+from building.ready import ready_tests
 from common.faults import FILES, ToolFault
 from common.parsing import Words
 from growing.code import Function, all_functions, faults_of_memory
 from growing.refused import Trials
-from refusing.programs import MOST, Refusing, shown
+from refusing.programs import BUDGET, Refusing, programs_in, shown
 from sources.crates import ROOT, all_needs, read_crates
 
 NAME = "growing_calls"
 ABOUT = """Lists the public calls that may ask for memory: those that take an allocator, and those whose error may be
 want of memory. Beside each stand the tests from which it is reached, by the names that functions call: how many, and one
-of them. With --refuse it runs these tests, as the gate built them, with each of their allocations refused in turn."""
+of them. With --refuse it runs these tests with each of their allocations refused in turn, compiled as short_memory does
+it, unless --built names others."""
 
 
 def is_growing(function: Function, faults: set[str]) -> bool:
@@ -87,10 +90,11 @@ def main(words: list[str]) -> int:
     parser.add_argument("--check", action="store_true", help="print the calls that no test reaches; the status is 1 for one")
     parser.add_argument("--crate", metavar="NAME", help="the calls of one crate")
     parser.add_argument("--refuse", action="store_true", help="run the tests; the status is 1 for a wrong answer")
-    built = "where the tests' programs stand: there, or in crates there in out/ (this repository's crates)"
-    parser.add_argument("--built", type=Path, default=ROOT / "crates", metavar="FOLDER", help=built)
-    most = f"of tests that ask for memory more often refuse a sample ({MOST:,})"
-    parser.add_argument("--most", type=int, default=MOST, metavar="N", help=most)
+    built = "where tests' programs stand that are built: there, or in crates there in out/"
+    parser.add_argument("--built", type=Path, metavar="FOLDER", help=built)
+    seconds = f"processor time of a test with all its refusals: a sample of them where it takes longer ({BUDGET})"
+    parser.add_argument("--seconds", type=positive, default=BUDGET, metavar="S", help=seconds)
+    parser.add_argument("--jobs", type=positive, metavar="N", help="how many tests run at once (as many as processors)")
     options = parser.parse_args(words)
     functions = all_functions()
     faults = faults_of_memory()
@@ -99,8 +103,9 @@ def main(words: list[str]) -> int:
     unreached = [each for each in growing if not reach.tests[each]]
     if options.refuse:
         chosen = [each for each in growing if options.crate in (None, each.crate)]
+        programs = programs_of(chosen, reach, options.built)
         with tempfile.TemporaryDirectory() as folder:
-            return refuse(chosen, reach, Trials(options.built, Refusing(Path(folder), options.most)))
+            return refuse(chosen, reach, Trials(programs, Refusing(Path(folder), options.seconds, options.jobs)))
     for function in unreached if options.check else growing:
         if options.crate in (None, function.crate):
             print(line(function, reach.tests[function]))
@@ -108,10 +113,19 @@ def main(words: list[str]) -> int:
     return 1 if options.check and unreached else 0
 
 
+def programs_of(growing: list[Function], reach: Reach, built: Path | None) -> dict[str, Path]:
+    """The programs of the tests, by their crates: those that are built, or those of the sources that stand here."""
+    if built is None:
+        crates = {test.crate for function in growing for test in reach.tests[function]}
+        return {crate: ready_tests(NAME, crate, ROOT) for crate in sorted(crates)}
+    programs = programs_in(built)
+    if not programs:
+        raise ToolFault(FILES, f"no tests are built in {built}: rt ci and rt test build them")
+    return programs
+
+
 def refuse(growing: list[Function], reach: Reach, trials: Trials) -> int:
     """Runs the tests of each call with their allocations refused; the status is 1 where an answer is wrong."""
-    if not trials.programs:
-        raise ToolFault(FILES, "no tests are built there: rt ci and rt test build them")
     trials.run(test for function in growing for test in reach.tests[function])
     unasked = 0
     for function in growing:

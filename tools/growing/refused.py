@@ -4,7 +4,8 @@ from pathlib import Path, PurePosixPath
 from typing import Iterable, Iterator
 
 from growing.code import Function
-from refusing.programs import Ends, Refusing, programs_in, tests_of
+from refusing.programs import Ends, Refusing, tests_of
+
 
 def built_names(test: Function, names: list[str]) -> list[str]:
     """Under which of a program's names a test may have been built: its file is a module, or a module is in its file."""
@@ -15,12 +16,12 @@ def built_names(test: Function, names: list[str]) -> list[str]:
 
 
 class Trials:
-    """The tests that were built, and how those ended that were run."""
+    """The tests that were built, in a program for each crate, and how those ended that were run."""
 
-    def __init__(self, built: Path, refusing: Refusing) -> None:
+    def __init__(self, programs: dict[str, Path], refusing: Refusing) -> None:
         self.refusing = refusing
-        self.programs = programs_in(built)
-        self.names = {crate: tests_of(program) for crate, program in self.programs.items()}
+        self.programs = programs
+        self.names = {crate: tests_of(program) for crate, program in programs.items()}
         self.ends: dict[tuple[str, str], Ends] = {}
 
     def built(self, tests: Iterable[Function]) -> list[tuple[str, str]]:

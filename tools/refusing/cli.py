@@ -9,7 +9,7 @@ from building.ready import ready_tests
 from common.faults import FILES, WORDS, ToolFault
 from common.parsing import Words
 from common.printing import emit
-from refusing.programs import MOST, Ends, Refusing, programs_in, shown, tests_of
+from refusing.programs import BUDGET, Ends, Refusing, programs_in, shown, tests_of
 from sources.crates import ROOT, tested_crates
 
 NAME = "short_memory"
@@ -25,8 +25,8 @@ def main(words: list[str]) -> int:
     parser.add_argument("module", nargs="?", default="", help="what the names of the tests begin with")
     built = "where tests' programs stand that are built: there, or in crates there in out/"
     parser.add_argument("--built", type=Path, metavar="FOLDER", help=built)
-    most = f"of a test that asks for memory more often refuse a sample ({MOST:,})"
-    parser.add_argument("--most", type=positive, default=MOST, metavar="N", help=most)
+    seconds = f"processor time of a test with all its refusals: a sample of them where it takes longer ({BUDGET})"
+    parser.add_argument("--seconds", type=positive, default=BUDGET, metavar="S", help=seconds)
     parser.add_argument("--jobs", type=positive, metavar="N", help="how many tests run at once (as many as processors)")
     options = parser.parse_args(words)
     crates = tested_crates(ROOT)
@@ -34,7 +34,7 @@ def main(words: list[str]) -> int:
         raise ToolFault(WORDS, f"no crate {options.crate} that has tests")
     chosen = [options.crate] if options.crate else crates
     with tempfile.TemporaryDirectory() as folder:
-        refusing = Refusing(Path(folder), options.most, options.jobs)
+        refusing = Refusing(Path(folder), options.seconds, options.jobs)
         all_ends: list[Ends] = []
         for number, crate in enumerate(chosen, 1):
             program = program_of(crate, options.built)

@@ -2,18 +2,19 @@
 
 A test comes to each of its allocations once. There the process forks: the child is refused this one, alone or with all
 that follow, and runs to its end; then the process itself continues with the memory. So a refusal costs what the test
-does after it. A child shares what its parent has open, so a test that reads a file can't be tried in this way."""
+does after it, and the fork, which takes the longer the more memory the test has. Where that is more than the time that
+a test is given, allocations are passed over. A child shares what its parent has open, so a test that reads a file can't
+be tried in this way."""
 
 import os
 import subprocess
-from dataclasses import dataclass
 from pathlib import Path
 
 from streams.shim import compiler
 
 # Tests ask for memory by malloc and realloc alone. A line is written for each child: the number of the allocation,
 # whether all that follow were refused, how the child ended, and the first line of what it told on standard error; last
-# how many allocations there were, and how many milliseconds of processor time the test took.
+# how many allocations there were.
 SOURCE = r"""
 #include <errno.h>
 #include <fcntl.h>
@@ -21,7 +22,6 @@ SOURCE = r"""
 #include <stdlib.h>
 #include <sys/resource.h>
 #include <sys/wait.h>
-#include <time.h>
 #include <unistd.h>
 
 extern void *__libc_malloc(size_t size);
@@ -30,7 +30,7 @@ extern void *__libc_realloc(void *old, size_t size);
 enum { PLAIN, FORKS, REFUSED_ONE, REFUSED_ALL };
 
 static int state, report;
-static long allocations, step, edge, last, seconds;
+static long allocations, last, edge, budget, seconds;
 
 static long number(const char *name) {
     const char *text = getenv(name);
@@ -46,16 +46,28 @@ __attribute__((constructor)) static void begin(void) {
     const char *path = getenv("REFUSING_REPORT");
     report = path ? open(path, O_WRONLY | O_CREAT | O_APPEND | O_CLOEXEC, 0600) : -1;
     state = report < 0 ? PLAIN : FORKS;
-    step = number("REFUSING_STEP");
-    edge = number("REFUSING_EDGE");
     last = number("REFUSING_LAST");
+    edge = number("REFUSING_EDGE");
+    budget = number("REFUSING_BUDGET");
     seconds = number("REFUSING_SECONDS");
-    if (state == FORKS && step == 0)
+    if (state == FORKS && last == 0)
         limit_time();
 }
 
+static long long microseconds(int who) {
+    struct rusage used;
+    getrusage(who, &used);
+    return (used.ru_utime.tv_sec + used.ru_stime.tv_sec) * 1000000LL + used.ru_utime.tv_usec + used.ru_stime.tv_usec;
+}
+
+/* Whether the test and its children took at most the share of the budget that falls to the allocations so far. */
+static int is_in_time(void) {
+    long long used = microseconds(RUSAGE_SELF) + microseconds(RUSAGE_CHILDREN);
+    return used * last <= budget * 1000000LL * allocations;
+}
+
 static int is_chosen(void) {
-    return step > 0 && (allocations <= edge || allocations > last - edge || allocations % step == 0);
+    return last > 0 && (allocations <= edge || allocations > last - edge || is_in_time());
 }
 
 /* The first line from a stream, without what is not printable; the rest is read and dropped. */
@@ -114,26 +126,12 @@ void *realloc(void *old, size_t size) { return is_refused() ? 0 : __libc_realloc
 __attribute__((destructor)) static void end(void) {
     char line[64];
     if (state == FORKS) {
-        int size = snprintf(line, sizeof line, "%ld %ld\n", allocations, (long)(clock() / (CLOCKS_PER_SEC / 1000)));
+        int size = snprintf(line, sizeof line, "%ld\n", allocations);
         if (write(report, line, (size_t)size) != size)
             _exit(125);
     }
 }
 """
-
-
-@dataclass(frozen=True)
-class Choice:
-    """The allocations of a test that are refused: the first and the last ones, and those whose numbers the step divides."""
-
-    allocations: int
-    step: int = 1
-    edge: int = 0
-
-    def numbers(self) -> list[int]:
-        low, high = self.edge, self.allocations - self.edge
-        numbers = range(1, self.allocations + 1)
-        return [each for each in numbers if each <= low or each > high or each % self.step == 0]
 
 
 class Forks:
@@ -145,11 +143,11 @@ class Forks:
         source.write_text(SOURCE, encoding="ascii")
         subprocess.run([compiler() or "cc", "-O1", "-shared", "-fPIC", "-o", self.library, source], check=True)
 
-    def environment(self, report: Path, choice: Choice | None, seconds: int) -> dict[str, str]:
-        """The environment in which allocations are counted into a report, and those that are chosen are refused to
-        children. A child has some seconds of processor time, as the test has it where none is refused."""
-        settings = {"REPORT": report, "SECONDS": seconds}
-        if choice is not None:
-            settings |= {"STEP": choice.step, "EDGE": choice.edge, "LAST": choice.allocations}
-        named = {f"REFUSING_{key}": str(value) for key, value in settings.items()}
-        return {"PATH": os.environ.get("PATH", ""), "LD_PRELOAD": str(self.library), **named}
+    def environment(self, report: Path, seconds: int, **settings: int) -> dict[str, str]:
+        """The environment in which allocations are counted into a report. A child has some seconds of processor time,
+        as the test has it where none is refused. Allocations are refused to children where it is said how many there
+        are (last), how many of the first and of the last are refused in any case (edge), and how many seconds of
+        processor time all may take (budget)."""
+        named = {"REPORT": report, "SECONDS": seconds} | {key.upper(): value for key, value in settings.items()}
+        words = {f"REFUSING_{key}": str(value) for key, value in named.items()}
+        return {"PATH": os.environ.get("PATH", ""), "LD_PRELOAD": str(self.library), **words}

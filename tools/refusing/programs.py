@@ -12,7 +12,7 @@ from pathlib import Path
 from typing import Iterable, Iterator
 
 from common.faults import DATA, ToolFault
-from refusing.forks import Choice, Forks
+from refusing.forks import Forks
 
 PASSED, WANT = "as with all memory", "want of memory"
 # A test's line in the list that its program prints.
@@ -20,10 +20,9 @@ LISTED = re.compile(r"^(\S+): test$", re.MULTILINE)
 NAMED = re.compile(r"error: (?:AllocError|AllocFailed|\w*\(*OutOfMemory|Error\(out of memory\))")
 # The gate gives a test so long.
 SECONDS = 60
-# A test that takes longer, or that asks for memory more often than it is let, is a measure: its first and its last
-# allocations are refused, and of the others one in so many that they are SAMPLE at most.
-LONGEST, MOST = 2_000, 10_000
-EDGE, SAMPLE = 100, 1_000
+# A test with all its refusals may take so many seconds of processor time. One that would take longer is sampled: its
+# first and its last allocations are refused, and of the others as many as come to pass in the time, over all the test.
+BUDGET, EDGE = 60, 20
 
 
 @dataclass(frozen=True)
@@ -60,15 +59,15 @@ class Ends:
         for end in self.wrong()[:1]:
             yield f"{crate} {self.test}: {len(self.wrong())} of {len(self.ends)} otherwise, {end.shown()}"
         if self.refused < self.allocations:
-            yield f"{crate} {self.test}: {self.refused:,} of {self.allocations:,} allocations"
+            yield f"{crate} {self.test}: a sample, {self.refused:,} of {self.allocations:,} allocations"
 
 
 class Refusing:
     """Runs tests under the functions that refuse memory."""
 
-    def __init__(self, folder: Path, most: int = MOST, at_once: int | None = None) -> None:
+    def __init__(self, folder: Path, budget: int = BUDGET, at_once: int | None = None) -> None:
         self.folder = folder
-        self.most = most
+        self.budget = budget
         self.at_once = at_once or os.cpu_count() or 1
         self.forks = Forks(folder)
 
@@ -79,30 +78,24 @@ class Refusing:
 
     def ends(self, program: Path, test: str) -> Ends:
         """How a test of a program ends."""
-        _, allocations, milliseconds = self.report(program, test, None)
-        choice = self.choice(allocations, milliseconds)
-        lines, again, _ = self.report(program, test, choice)
+        _, allocations = self.report(program, test)
+        lines, again = self.report(program, test, last=allocations, edge=EDGE, budget=self.budget)
         ends = tuple(map(end_of, lines))
-        if again != allocations or [end.number for end in ends if end.is_alone] != choice.numbers():
+        alone, with_all = ([end.number for end in ends if end.is_alone is is_alone] for is_alone in (True, False))
+        numbers = range(1, allocations + 1)
+        if again != allocations or alone != with_all or not {*numbers[:EDGE], *numbers[-EDGE:]}.issubset(alone):
             raise ToolFault(DATA, f"{program.name} {test} did not ask for memory as often as before")
         return Ends(test, allocations, ends)
 
-    def choice(self, allocations: int, milliseconds: int) -> Choice:
-        """Which allocations are refused."""
-        if allocations <= self.most and milliseconds <= LONGEST:
-            return Choice(allocations)
-        return Choice(allocations, max(1, allocations // (SAMPLE - 2 * EDGE)), EDGE)
-
-    def report(self, program: Path, test: str, choice: Choice | None) -> tuple[list[str], int, int]:
-        """The lines of the children of a run, which has all its memory; how many allocations there were, and how many
-        milliseconds it took."""
+    def report(self, program: Path, test: str, **settings: int) -> tuple[list[str], int]:
+        """The lines of the children of a run, which has all its memory, and how many allocations there were."""
         with tempfile.NamedTemporaryFile(dir=self.folder, mode="r", encoding="ascii") as report:
             ran = subprocess.run(
                 [program, test],
                 stdin=subprocess.DEVNULL,
                 stdout=subprocess.DEVNULL,
                 stderr=subprocess.PIPE,
-                env=self.forks.environment(Path(report.name), choice, SECONDS),
+                env=self.forks.environment(Path(report.name), SECONDS, **settings),
                 check=False,
                 encoding="utf-8",
                 errors="replace",
@@ -111,8 +104,7 @@ class Refusing:
             if answer != PASSED:
                 raise ToolFault(DATA, f"{program.name} {test} fails with all memory: {answer}")
             *lines, last = report.read().splitlines()
-        allocations, milliseconds = map(int, last.split())
-        return lines, allocations, milliseconds
+        return lines, int(last)
 
 
 def end_of(line: str) -> End:
@@ -152,5 +144,5 @@ def shown(all_ends: list[Ends]) -> str:
     answers = Counter(end.answer for ends in all_ends for end in ends.ends)
     counts = {kind: answers.pop(kind, 0) for kind in (WANT, PASSED)} | {"otherwise": answers.total()}
     told = ", ".join(f"{times:,} {kind}" for kind, times in counts.items() if times)
-    refused = sum(ends.refused for ends in all_ends)
-    return f"{len(all_ends)} tests, {refused:,} allocations refused: {told or 'no end'}"
+    refused, allocations = (sum(getattr(ends, kind) for ends in all_ends) for kind in ("refused", "allocations"))
+    return f"{len(all_ends)} tests, {refused:,} of {allocations:,} allocations refused: {told or 'no end'}"

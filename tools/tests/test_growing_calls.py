@@ -134,9 +134,13 @@ class GrowingCalls(unittest.TestCase):
         built = f"--built={self.root / 'crates'}"
         self.build("error: AllocError")
         status, told = self.told("--refuse", "--crate=low", built)
-        ends = "1 tests, 2 allocations refused: 3 want of memory, 1 as with all memory"
+        ends = "1 tests, 2 of 2 allocations refused: 3 want of memory, 1 as with all memory"
         want = f"low: List::push: {ends}\nlow: made: {ends}\n{ends}; 2 growing calls, 0 of them in no test\n"
         self.assertEqual((status, told), (0, want))
+        program = self.root / "crates" / "tests_high" / "out" / "tests_high_tests"
+        with mock.patch.object(cli, "ready_tests", return_value=program) as ready:
+            self.assertEqual(self.told("--refuse", "--crate=low"), (0, want))
+        ready.assert_called_once_with(cli.NAME, "tests_high", cli.ROOT)
         self.build("assertion failed")
         status, told = self.told("--refuse", "--crate=low", built)
         self.assertEqual(status, 1)

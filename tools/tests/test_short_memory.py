@@ -2,6 +2,7 @@
 
 import contextlib
 import io
+import re
 import subprocess
 import tempfile
 import unittest
@@ -12,6 +13,7 @@ from support import write_files
 
 from common.faults import ToolFault
 from refusing import cli
+from refusing.programs import EDGE
 from streams.shim import compiler
 
 FILES = {
@@ -29,6 +31,7 @@ TESTS = r"""
 #include <stdio.h>
 #include <stdlib.h>
 #include <string.h>
+#include <time.h>
 #ifndef TIMES
 #define TIMES 4
 #endif
@@ -58,6 +61,8 @@ int main(int count, char **words) {
     return END;
 }
 """
+# A hundredth of a second of processor time.
+BUSY = "for (clock_t end = clock() + CLOCKS_PER_SEC / 100; clock() < end; ) ;"
 
 
 def build(program: Path, *defined: str) -> None:
@@ -88,11 +93,11 @@ class ShortMemory(unittest.TestCase):
 
     def test_refuses_each(self) -> None:
         """Each allocation is refused, alone and with all that follow."""
-        ends = "2 tests, 4 allocations refused: 6 want of memory, 2 as with all memory"
+        ends = "2 tests, 4 of 4 allocations refused: 6 want of memory, 2 as with all memory"
         self.assertEqual(self.told("low"), (0, f"low: {ends}\n"))
-        ends = "1 tests, 4 allocations refused: 6 want of memory, 2 as with all memory"
+        ends = "1 tests, 4 of 4 allocations refused: 6 want of memory, 2 as with all memory"
         self.assertEqual(self.told("low", "rows::g"), (0, f"low: {ends}\n"))
-        self.assertEqual(self.told("low", "rows::s"), (0, "low: 1 tests, 0 allocations refused: no end\n"))
+        self.assertEqual(self.told("low", "rows::s"), (0, "low: 1 tests, 0 of 0 allocations refused: no end\n"))
 
     def test_all_crates(self) -> None:
         """Each crate that has tests has its line, and then stand all together."""
@@ -100,9 +105,9 @@ class ShortMemory(unittest.TestCase):
         build(self.root / "built" / "high_tests", "TIMES=2")
         status, told = self.told(f"--built={self.root / 'built'}", "--jobs=2")
         lines = [
-            "low: 2 tests, 4 allocations refused: 6 want of memory, 2 as with all memory",
-            "high: 2 tests, 2 allocations refused: 2 want of memory, 2 as with all memory",
-            "all: 4 tests, 6 allocations refused: 8 want of memory, 4 as with all memory",
+            "low: 2 tests, 4 of 4 allocations refused: 6 want of memory, 2 as with all memory",
+            "high: 2 tests, 2 of 2 allocations refused: 2 want of memory, 2 as with all memory",
+            "all: 4 tests, 6 of 6 allocations refused: 8 want of memory, 4 as with all memory",
         ]
         self.assertEqual((status, told.splitlines()), (0, lines))
         self.assertIn("short_memory: crate 2 of 2, high: 2 tests", self.err.getvalue())
@@ -123,18 +128,24 @@ class ShortMemory(unittest.TestCase):
             self.assertIn("4 want of memory, 2 as with all memory, 2 otherwise", told)
 
     def test_sample(self) -> None:
-        """Of a test that asks often the first and last allocations are refused, and some between them."""
-        build(self.root / "low_tests", "TIMES=5000")
-        status, told = self.told("low", "--most=4999")
-        lines = [
-            "low rows::grows: 1,000 of 5,000 allocations",
-            "low: 2 tests, 1,000 allocations refused: 1,998 want of memory, 2 as with all memory",
-        ]
-        self.assertEqual((status, told.splitlines()), (0, lines))
+        """Of a test that takes 1.8 s with all refusals the first and last are tried in one, and some between them."""
+        build(self.root / "low_tests", "TIMES=90", f"WRONG={BUSY}")
+        pattern = (
+            r"low rows::grows: a sample, (\d+) of 90 allocations\n"
+            r"low: 2 tests, \1 of 90 allocations refused: (\d+) want of memory, 2 as with all memory\n"
+        )
+        status, told = self.told("low", "--seconds=1")
+        self.assertEqual(status, 0)
+        self.assertRegex(told, pattern)
+        refused, wants = map(int, re.match(pattern, told).groups())
+        self.assertEqual(wants, 2 * refused - 2)
+        self.assertGreater(refused, 2 * EDGE)
+        self.assertLess(refused, 80)
 
     def test_refuses_what_is_not_there(self) -> None:
         """No crate, none with tests, no test, none that is built, or one that fails with all memory."""
-        for words in (["middle"], ["bare"], ["low", "texts"], ["low", f"--built={self.root}/none"], ["low", "--most=0"]):
+        none = f"--built={self.root}/none"
+        for words in (["middle"], ["bare"], ["low", "texts"], ["low", none], ["low", "--seconds=0"]):
             with self.assertRaises(ToolFault):
                 self.told(*words)
         build(self.root / "low_tests", "END=1")
