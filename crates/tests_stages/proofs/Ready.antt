@@ -4,10 +4,12 @@ use Rattle.std.specs.Prelude.{ℤ, slice_set}
 use Rattle.std.proofs.lemmas.List.{length-append, length-set}
 use Rattle.buffer_glyphs.specs.declared.info.hb_glyph_info_t.{hb_glyph_info_t}
 use Rattle.buffer_glyphs.specs.Items.{Item, Position, zero_position}
-use Rattle.buffer_core.specs.Sides.{Sides, with_added, with_output}
+use Rattle.buffer_core.specs.Readings.{as_it_is}
+use Rattle.buffer_core.specs.Sides.{Sides, state_of, with_added, with_output}
+use Rattle.buffer_core.specs.Steps.{follows_same}
 use Rattle.buffer_core.specs.Settings.{with_max_ops}
 use Rattle.buffer_core.specs.Lending.{with_glyph_ahead, with_positions_refilled}
-use Rattle.buffer_stages.specs.Ready.{IsReady}
+use Rattle.buffer_stages.specs.Ready.{IsDone, IsReady}
 use Rattle.buffer_glyphs.specs.Rewriting.{Arrangement, eventless_arrangement}
 use Rattle.buffer_stages.specs.Appending.{AppendsArrangement}
 use Rattle.buffer_stages.specs.Rearranged.{Rearranges}
@@ -68,6 +70,10 @@ budget_ready n s t ready is =
       placed = ready.placed;
       unrefused = ready.unrefused;
     })
+
+-- a buffer that no call changes
+pub unchanged_done : (s : Sides) → IsReady s → IsDone as_it_is s s
+unchanged_done s ready = record { follows = follows_same (state_of s); settings = refl; ready = ready; numbers = λ h. h }
 
 -- an output that was opened and appended to is open
 pub output_open : (a : Arrangement) (xs : List Item) (s t u : Sides) → t ≡ with_output s → AppendsArrangement a xs t u → u.is_open ≡ true

@@ -27,7 +27,8 @@ fn byte(found: Option<u8>, text: &str) -> u8 {
     }
 }
 
-fn word(glyph: &str, key: &str) -> u16 {
+/// The number of a key, zero where it is missing or has more than 16 bits.
+pub fn word(glyph: &str, key: &str) -> u16 {
     u16::try_from(natural(glyph, key)).unwrap_or(0)
 }
 

@@ -15,6 +15,8 @@ mod indic;
 #[cfg(test)]
 mod joining;
 #[cfg(test)]
+mod layout_calls;
+#[cfg(test)]
 mod marks;
 #[cfg(test)]
 mod nested_positions;
