@@ -141,9 +141,10 @@ class Flags(enum.IntFlag):
     DO_NOT_INSERT_DOTTED_CIRCLE = 16
     PRODUCE_UNSAFE_TO_CONCAT = 64
     PRODUCE_SAFE_TO_INSERT_TATWEEL = 128
+    PRODUCE_SAFE_BREAKS = 256
 
 
-ALL_FLAGS = 0xDF
+ALL_FLAGS = 0x1DF
 
 
 class ClusterLevel(enum.IntEnum):

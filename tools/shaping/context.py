@@ -16,7 +16,7 @@ BINDINGS = Path(__file__).parent.parent.parent / "bindings" / "python"
 DIRECTIONS = {"l": "ltr", "r": "rtl", "t": "ttb", "b": "btt"}
 FLAGS = {
     "bot": 1, "eot": 2, "preserve-default-ignorables": 4, "remove-default-ignorables": 8, "no-dotted-circle": 16,
-    "unsafe-to-concat": 64, "safe-to-insert-tatweel": 128,
+    "unsafe-to-concat": 64, "safe-to-insert-tatweel": 128, "safe-breaks": 256,
 }  # fmt: skip
 FEATURE = re.compile(
     r"""\s*(?P<sign>[+-]?)\s*(?P<quote>["']?)(?P<tag>\w{1,4})(?P=quote)\s*"""

@@ -13,11 +13,11 @@ LEVELS = ("0", "1", "2", "3")
 MONOTONE = ("0", "1")
 # What a run prints, and what these tests set by themselves.
 SET_HERE = (
-    "--cluster-level", "--unsafe-to-concat", "--safe-to-insert-tatweel", "--no-glyph-names", "--no-clusters",
+    "--cluster-level", "--unsafe-to-concat", "--safe-to-insert-tatweel", "--safe-breaks", "--no-glyph-names", "--no-clusters",
     "--no-positions", "--no-advances", "--show-extents", "--show-flags",
 )  # fmt: skip
 PRINTED = ["--no-glyph-names", "--show-flags"]
-REQUESTS = ["--unsafe-to-concat", "--safe-to-insert-tatweel"]
+REQUESTS = ["--unsafe-to-concat", "--safe-to-insert-tatweel", "--safe-breaks"]
 # Slices of their texts need not join: the sort of their syllables may put clusters in no order.
 INDIC = {"Beng", "Deva", "Gujr", "Guru", "Knda", "Mlym", "Orya", "Taml", "Telu"}
 

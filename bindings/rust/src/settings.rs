@@ -181,10 +181,11 @@ impl Flags {
     pub const DO_NOT_INSERT_DOTTED_CIRCLE: Flags = Flags(16);
     pub const PRODUCE_UNSAFE_TO_CONCAT: Flags = Flags(64);
     pub const PRODUCE_SAFE_TO_INSERT_TATWEEL: Flags = Flags(128);
+    pub const PRODUCE_SAFE_BREAKS: Flags = Flags(256);
 
     /// The flags of a number, `hb_buffer_flags_t`; none where it has a bit that no flag has.
     pub const fn from_number(number: u32) -> Option<Flags> {
-        if number & !0xDF == 0 { Some(Flags(number)) } else { None }
+        if number & !0x1DF == 0 { Some(Flags(number)) } else { None }
     }
 }
 

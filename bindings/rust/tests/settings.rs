@@ -45,7 +45,7 @@ fn other_words_are_refused() {
 
 #[test]
 fn flags_are_those_of_the_header() {
-    assert_eq!(Flags::from_number(0xDF).is_some(), true);
+    assert_eq!(Flags::from_number(0x1DF).is_some(), true);
     assert_eq!(Flags::from_number(32), None);
     assert_eq!(Flags::from_number(1 << 31), None);
     assert_eq!(Some(Flags::BOT | Flags::EOT), Flags::from_number(3));

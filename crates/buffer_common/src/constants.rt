@@ -19,6 +19,7 @@ bitflag_items! {
         const DO_NOT_INSERT_DOTTED_CIRCLE = 16;
         const PRODUCE_UNSAFE_TO_CONCAT = 64;
         const PRODUCE_SAFE_TO_INSERT_TATWEEL = 128;
+        const PRODUCE_SAFE_BREAKS = 256;
     }
 }
 
@@ -29,7 +30,8 @@ impl Flags for BufferFlags {
 
     ghost table = { (codes "BEGINNING_OF_TEXT", 1) ∷ (codes "END_OF_TEXT", 2) ∷ (codes "PRESERVE_DEFAULT_IGNORABLES", 4)
         ∷ (codes "REMOVE_DEFAULT_IGNORABLES", 8) ∷ (codes "DO_NOT_INSERT_DOTTED_CIRCLE", 16)
-        ∷ (codes "PRODUCE_UNSAFE_TO_CONCAT", 64) ∷ (codes "PRODUCE_SAFE_TO_INSERT_TATWEEL", 128) ∷ [] };
+        ∷ (codes "PRODUCE_UNSAFE_TO_CONCAT", 64) ∷ (codes "PRODUCE_SAFE_TO_INSERT_TATWEEL", 128)
+        ∷ (codes "PRODUCE_SAFE_BREAKS", 256) ∷ [] };
 
     ghost set_of = { λ p. p.0 };
 

@@ -9,7 +9,7 @@ use Rattle.buffer_glyphs.specs.Items.{item_of, strip}
 use Rattle.buffer_glyphs.specs.Replacements.{glyph_numbered, glyphs_replaced, items_replaced}
 use Rattle.buffer_glyphs.specs.Lemmas.Replacements.{strip_replaced}
 use Rattle.buffer_core.specs.Sides.{Sides, all_glyphs, items_of, with_added, origins_of}
-use Rattle.buffer_core.specs.Merging.{with_output_glyph, with_output_info, with_replaced_glyph, with_glyph_skipped}
+use Rattle.buffer_core.specs.Merging.{with_output_glyph, with_output_info, with_replaced_glyph, with_glyph_passed}
 use Rattle.buffer_core.specs.Text.{added_glyph, added_text_from, added_text, offsets_from, text_items, unflagged_origin, text_origins}
 use Rattle.buffer_core.proofs.Replaced.{all_copied}
 use Rattle.buffer_glyphs.specs.Origins.{origin_of, origins}
@@ -40,7 +40,7 @@ put_items g s = put_seen item_of g s.behind s.ahead
 skipped_seen : {Y : Type 0} (v : hb_glyph_info_t → Y) (behind ahead : List hb_glyph_info_t) → map v (behind ++ drop 1 ahead) ≡ map v behind ++ drop 1 (map v ahead)
 skipped_seen v behind ahead = map-append v behind (drop 1 ahead) ∙ ap (λ ys. map v behind ++ ys) (sym (drop-map v 1 ahead))
 
-pub skipped_items : (s : Sides) → items_of (with_glyph_skipped s) ≡ strip s.behind ++ drop 1 (strip s.ahead)
+pub skipped_items : (s : Sides) → items_of (with_glyph_passed s) ≡ strip s.behind ++ drop 1 (strip s.ahead)
 skipped_items s = skipped_seen item_of s.behind s.ahead
 
 -- glyphs at the end

@@ -26,7 +26,7 @@ use Rattle.buffer_lists.specs.Lemmas.KeptItems.{items_all, positions_all}
 use Rattle.buffer_lists.specs.Lemmas.Regrouped.{items_turned, positions_beside}
 use Rattle.buffer_lists.specs.Lemmas.SortedItems.{items_sorted}
 use Rattle.buffer_core.specs.Grouping.{with_groups_reversed, with_picked_deleted}
-use Rattle.buffer_core.specs.Sides.{Sides, all_glyphs, flag_requests_of, items_of, origins_by, origins_of}
+use Rattle.buffer_core.specs.Sides.{Sides, all_glyphs, flag_requests_of, items_of, origins_by, origins_of, requests_breaks}
 use Rattle.buffer_core.specs.Sorting.{with_range_sorted}
 
 all_turned : (merge : Bool) (joins : Glyph → Glyph → Bool) (s : Sides) → all_glyphs (with_groups_reversed merge joins s) ≡ (turning_of merge s.level joins (all_glyphs s) s.positions).glyphs
@@ -41,14 +41,14 @@ groups_positions merge q s = positions_beside merge s.level q (all_glyphs s) s.p
 pub groups_origins : (merge : Bool) (q : Item → Item → Bool) (s : Sides) → origins_of (with_groups_reversed merge (λ g h. q (item_of g) (item_of h)) s) ≡ origins_by (groups_reversed merge q (items_of s)) s
 groups_origins merge q s = ap origins (all_turned merge (λ g h. q (item_of g) (item_of h)) s) ∙ groups_are_events (flag_requests_of s) merge s.level q (all_glyphs s) s.positions
 
-pub all_picked : (goes : Glyph → Bool) (s : Sides) → all_glyphs (with_picked_deleted goes s) ≡ (whole_walk s.level goes (all_glyphs s) s.positions).kept
-all_picked goes s = let gs = (whole_walk s.level goes (all_glyphs s) s.positions).kept in take-append-drop (min s.read (length gs)) gs
+pub all_picked : (goes : Glyph → Bool) (s : Sides) → all_glyphs (with_picked_deleted goes s) ≡ (whole_walk (requests_breaks s) s.level goes (all_glyphs s) s.positions).kept
+all_picked goes s = let gs = (whole_walk (requests_breaks s) s.level goes (all_glyphs s) s.positions).kept in take-append-drop (min s.read (length gs)) gs
 
 pub picked_items : (q : Item → Bool) (s : Sides) → items_of (with_picked_deleted (λ g. q (item_of g)) s) ≡ items_kept q (items_of s)
-picked_items q s = ap strip (all_picked (λ g. q (item_of g)) s) ∙ items_all s.level q (all_glyphs s) s.positions
+picked_items q s = ap strip (all_picked (λ g. q (item_of g)) s) ∙ items_all (requests_breaks s) s.level q (all_glyphs s) s.positions
 
 pub picked_positions : (q : Item → Bool) (s : Sides) → (with_picked_deleted (λ g. q (item_of g)) s).positions ≡ positions_kept q (items_of s) s.positions
-picked_positions q s = positions_all s.level q (all_glyphs s) s.positions
+picked_positions q s = positions_all (requests_breaks s) s.level q (all_glyphs s) s.positions
 
 pub picked_origins : (q : Item → Bool) (s : Sides) → origins_of (with_picked_deleted (λ g. q (item_of g)) s) ≡ origins_by (deletions q (items_of s)) s
 picked_origins q s = ap origins (all_picked (λ g. q (item_of g)) s) ∙ deletions_are_events (flag_requests_of s) s.level q (all_glyphs s) s.positions

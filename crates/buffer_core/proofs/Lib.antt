@@ -33,3 +33,4 @@ pub mod Stays
 pub mod Changed
 pub mod Rotated
 pub mod Lent
+pub mod HandedOn

@@ -2,10 +2,10 @@
 use Rattle.std.proofs.Common.{ℕ, ◌≡◌, ◌≤◌, ◌<◌, ◌+◌, true, false, if◌then◌else◌, [], ◌∷◌, length, refl, ap, ◌∙◌, arith}
 use Rattle.std.specs.Prelude.{Option, unwrap_or}
 use Rattle.buffer_glyphs.specs.Origins.{origins, origins_marked, origins_flagged}
-use Rattle.buffer_glyphs.specs.Events.{Break, Concat, Tatweel, concat_marked as origins_concat, tatweel_marked as origins_tatweel}
+use Rattle.buffer_glyphs.specs.Events.{Break, Concat, StrictBreak, Tatweel, concat_marked as origins_concat, strictly_marked as origins_strict, tatweel_marked as origins_tatweel}
 use Rattle.buffer_glyphs.specs.Lemmas.Origins.{origins_of_marked, origins_of_flagged}
-use Rattle.buffer_core.specs.Sides.{Sides, all_glyphs, items_of, origins_of, origins_by}
-use Rattle.buffer_core.specs.Marking.{start_or, end_or, start_in_all, end_in_all, with_flagged_apart, with_flagged, range_flagged_apart, flagged_range, after_mark_across, after_flag_across, requests_concat, requests_tatweel, concat_marked, tatweel_marked, concat_marked_across}
+use Rattle.buffer_core.specs.Sides.{Sides, all_glyphs, items_of, origins_of, origins_by, requests_breaks}
+use Rattle.buffer_core.specs.Marking.{start_or, end_or, start_in_all, end_in_all, with_flagged_apart, with_flagged, range_flagged_apart, flagged_range, after_mark_across, after_flag_across, strictly_marked, requests_concat, requests_tatweel, concat_marked, tatweel_marked, concat_marked_across}
 use Rattle.buffer_core.proofs.Marked.{all_marked, all_flagged, marked_items, flagged_items}
 
 marked_origins : (bits from to : ℕ) (s : Sides) → bits < 8 → from ≤ to → origins_of (with_flagged_apart bits from to s) ≡ origins_marked bits from to (origins_of s)
@@ -89,3 +89,18 @@ tatweel_origins start end s le =
     let ordered = input_ordered start end s le in
     elim (requests_tatweel s) as (λ b. origins_of (if b then range_flagged_apart 4 start end s else range_flagged_apart 3 start end s) ≡ origins_tatweel b from to (origins_of s))
     [ true ↦ marked_origins 4 from to s (omega arith) ordered | false ↦ marked_origins 3 from to s (omega arith) ordered ]
+
+-- ---- `unsafe_to_break_strictly`
+
+pub strict_items : (start end : Option ℕ) (s : Sides) → start_or start ≤ end_or end s → items_of (strictly_marked start end s) ≡ items_of s
+strict_items start end s le =
+    elim (requests_breaks s) as (λ b. items_of (if b then range_flagged_apart 3 start end s else s) ≡ items_of s)
+    [ true ↦ broken_items start end s le | false ↦ refl ]
+
+pub strict_origins : (start end : Option ℕ) (s : Sides) → start_or start ≤ end_or end s
+    → origins_of (strictly_marked start end s) ≡ origins_by (StrictBreak (start_in_all start s) (end_in_all end s) ∷ []) s
+strict_origins start end s le =
+    let from = start_in_all start s in
+    let to = end_in_all end s in
+    elim (requests_breaks s) as (λ b. origins_of (if b then range_flagged_apart 3 start end s else s) ≡ origins_strict b from to (origins_of s))
+    [ true ↦ marked_origins 3 from to s (omega arith) (input_ordered start end s le) | false ↦ refl ]

@@ -8,16 +8,16 @@ use Rattle.buffer_glyphs.specs.declared.info.hb_glyph_info_t.{hb_glyph_info_t}
 use Rattle.buffer_glyphs.specs.declared.level.BufferClusterLevel.{BufferClusterLevel}
 use Rattle.buffer_glyphs.specs.declared.level.BufferClusterLevel.TheVariants.{MonotoneGraphemes, MonotoneCharacters, Characters, Graphemes}
 use Rattle.buffer_glyphs.specs.Parts.{first_of, last_of, or, copies, elements_replaced, range_of}
-use Rattle.buffer_glyphs.specs.Glyphs.{glyphs_merged_at}
 use Rattle.buffer_glyphs.specs.Merges.{least_number, merged_number}
 use Rattle.buffer_glyphs.specs.Origins.{Origin, origin_of, origins, numbers, cast, added_outside, InList, InOutput, Manner, Unites, Marks, Keeps, manner, origins_merged_as}
 use Rattle.buffer_glyphs.specs.Events.{Merge, Replace, Reverse}
 use Rattle.buffer_glyphs.specs.Lemmas.Origins.{cut_in_three, origins_of_merged_at, origins_of_replaced}
-use Rattle.buffer_core.specs.Sides.{Sides, all_glyphs, after_reverse, origins_of, origins_by}
-use Rattle.buffer_core.specs.Merging.{output_merged_at, with_output_merged, with_output_glyph, with_glyph_skipped, with_merged, with_replaced, index_in_all}
+use Rattle.buffer_glyphs.specs.Lemmas.Handed.{none_handed}
+use Rattle.buffer_core.specs.Sides.{Sides, all_glyphs, after_reverse, origins_of, origins_by, requests_breaks}
+use Rattle.buffer_core.specs.Merging.{output_merged_at, with_output_merged, with_output_glyph, with_glyph_passed, with_merged, index_in_all}
 use Rattle.buffer_core.proofs.Kept.{map-reverse}
 use Rattle.buffer_core.proofs.Merged.{all_merged}
-use Rattle.buffer_core.proofs.Replaced.{all_replaced, all_copied}
+use Rattle.buffer_core.proofs.Replaced.{all_copied}
 use Rattle.buffer_core.proofs.Across.{all_output_merged}
 
 itself : (n : ℕ) → (n == n) ≡ true
@@ -78,13 +78,6 @@ merged_origins start end s le =
     let to = index_in_all end s in
     ap origins (all_merged from to s) ∙ origins_of_merged_at s.level from to (all_glyphs s) (omega arith)
 
--- `replace_glyphs`
-pub replaced_origins : (taken : ℕ) (given : List ℕ) (s : Sides) → origins_of (with_replaced taken given s) ≡ origins_by (Replace (length s.behind) taken (length given) ∷ []) s
-replaced_origins taken given s =
-    let b = length s.behind in
-    let gs = glyphs_merged_at s.level b (b + taken) (all_glyphs s) in
-    ap origins (all_replaced taken given s) ∙ origins_of_replaced b taken given gs ∙ ap (elements_replaced b taken (length given)) (origins_of_merged_at s.level b (b + taken) (all_glyphs s) (omega arith))
-
 output_origins_at : (level : BufferClusterLevel) (from to : ℕ) (gs : List hb_glyph_info_t) → from ≤ to → origins (output_merged_at level from to gs) ≡ origins_merged_as (manner InOutput level) from to (origins gs)
 output_origins_at MonotoneGraphemes from to gs le = origins_of_merged_at MonotoneGraphemes from to gs le
 output_origins_at MonotoneCharacters from to gs le = origins_of_merged_at MonotoneCharacters from to gs le
@@ -97,21 +90,25 @@ output_origins from to s le = ap origins (all_output_merged from to s) ∙ outpu
 
 -- `output_glyph`
 pub copy_origins : (n : ℕ) (s : Sides) → origins_of (with_output_glyph n s) ≡ origins_by (Replace (length s.behind) 0 1 ∷ []) s
-copy_origins n s = ap origins (all_copied 0 (n ∷ []) s) ∙ origins_of_replaced (length s.behind) 0 (n ∷ []) (all_glyphs s) ∙ ap (elements_replaced (length s.behind) 0 1) (sym (merged_none (manner InList s.level) (length s.behind) (origins (all_glyphs s))))
+copy_origins n s =
+    let b = length s.behind in
+    let os = origins_merged_as (manner InList s.level) b (b + 0) (origins_of s) in
+    ap origins (all_copied 0 (n ∷ []) s) ∙ origins_of_replaced b 0 (n ∷ []) (all_glyphs s) ∙ ap (elements_replaced b 0 1) (sym (merged_none (manner InList s.level) b (origins (all_glyphs s))))
+    ∙ sym (none_handed (requests_breaks s) (b + 1) (elements_replaced b 0 1 os))
 
 no_copies : {X : Type 0} (o : Option X) → copies 0 o ≡ []
 no_copies None = refl
 no_copies (Some x) = refl
 
--- `skip_glyph`
-pub skipped_origins : (s : Sides) → origins_of (with_glyph_skipped s) ≡ origins_by (Replace (length s.behind) 1 0 ∷ []) s
+-- the glyph at the cursor deleted, before its flags are handed on
+pub skipped_origins : (s : Sides) → origins_of (with_glyph_passed s) ≡ elements_replaced (length s.behind) 1 0 (origins_of s)
 skipped_origins s =
     let os = origins (all_glyphs s) in
     let b = length s.behind in
     let front : take b os ≡ origins s.behind = take-map origin_of b (all_glyphs s) ∙ ap origins (take-append_seam s.behind s.ahead) in
     let rest : drop (b + 1) os ≡ origins (drop 1 s.ahead) = drop-map origin_of (b + 1) (all_glyphs s) ∙ ap origins (drop-append-add s.behind s.ahead 1) in
     map-append origin_of s.behind (drop 1 s.ahead) ∙ ap (λ xs. xs ++ origins (drop 1 s.ahead)) (sym front) ∙ ap (λ xs. take b os ++ xs) (sym rest) ∙ ap (λ xs. xs ++ drop (b + 1) os) (sym (append-nil (take b os)))
-    ∙ ap (λ xs. take b os ++ xs ++ drop (b + 1) os) (sym (no_copies (or (first_of (drop b os)) (last_of (take b os))))) ∙ ap (elements_replaced b 1 0) (sym (merged_alone (manner InList s.level) b os))
+    ∙ ap (λ xs. take b os ++ xs ++ drop (b + 1) os) (sym (no_copies (or (first_of (drop b os)) (last_of (take b os)))))
 
 -- `reverse`
 pub reversed_origins : (s : Sides) → origins_of (after_reverse s) ≡ origins_by (Reverse ∷ []) s

@@ -15,7 +15,8 @@ use Rattle.buffer_glyphs.specs.Parts.{first_of, last_of, or, range_of}
 use Rattle.buffer_glyphs.specs.Glyphs.{glyphs_merged_at, beside_merged, is_marked_at}
 use Rattle.buffer_glyphs.specs.Lemmas.Glyphs.{length_beside, length_merged_at}
 use Rattle.buffer_glyphs.specs.Replacements.{glyph_numbered, numbered_copies}
-use Rattle.buffer_lists.specs.Copies.{with_copies}
+use Rattle.buffer_lists.specs.Copies.{sides_replaced, with_copies}
+use Rattle.buffer_glyphs.specs.Lemmas.Handed.{sides_front_count}
 use Rattle.buffer_lists.specs.declared.order.ClusterOrder.{ClusterOrder}
 use Rattle.buffer_lists.specs.declared.order.KnownOrder.{KnownOrder}
 use Rattle.buffer_lists.specs.Known.{HasOrder, known_clusters}
@@ -23,7 +24,7 @@ use Rattle.buffer_core.specs.declared.buffer.hb_buffer_t.TheInside.{Inside}
 use Rattle.buffer_core.specs.Inside.{sides_of, IsSound}
 use Rattle.buffer_core.specs.Merging.{with_has_glyph_flags, with_output_glyph, with_output_info, with_replaced, with_replaced_glyph}
 use Rattle.buffer_core.specs.Moving.{after_move_to}
-use Rattle.buffer_core.specs.Sides.{after_next_glyphs, after_sync, zero_positions}
+use Rattle.buffer_core.specs.Sides.{after_next_glyphs, after_sync, zero_positions, requests_breaks}
 use Rattle.buffer_core.proofs.Kept.{take_on}
 use Rattle.buffer_core.proofs.Merged.{merged_sides, same_marks}
 
@@ -245,15 +246,15 @@ end_of_copies ahead behind numbers some =
     length-append behind (numbered_copies glyph_numbered (or (first_of ahead) (last_of behind)) numbers)
     ∙ ap (λ k. length behind + k) (copies_long ahead behind numbers (λ e. some (length-append behind ahead ∙ e)))
 
-pub end_of_replaced : (level : BufferClusterLevel) (taken : ℕ) (numbers : List ℕ) (behind ahead : List hb_glyph_info_t) → length (behind ++ ahead) ≢ 0
-    → length (with_copies numbers (glyphs_merged_at level 0 taken ahead) (beside_merged level (range_of 0 taken (clusters ahead)) behind)) ≡ length behind + length numbers
-end_of_replaced level taken numbers behind ahead some =
+pub end_of_replaced : (breaks : Bool) (level : BufferClusterLevel) (taken : ℕ) (numbers : List ℕ) (behind ahead : List hb_glyph_info_t) → length (behind ++ ahead) ≢ 0
+    → length (sides_replaced breaks taken numbers (glyphs_merged_at level 0 taken ahead) (beside_merged level (range_of 0 taken (clusters ahead)) behind)).front ≡ length behind + length numbers
+end_of_replaced breaks level taken numbers behind ahead some =
     let merged = beside_merged level (range_of 0 taken (clusters ahead)) behind in
     let rest = glyphs_merged_at level 0 taken ahead in
     let wide : length merged ≡ length behind = length_beside level (range_of 0 taken (clusters ahead)) behind in
     let long : length rest ≡ length ahead = length_merged_at level 0 taken ahead (omega arith) in
     let all : length (merged ++ rest) ≡ length (behind ++ ahead) = length-append merged rest ∙ ap (λ k. k + length rest) wide ∙ ap (λ k. length behind + k) long ∙ sym (length-append behind ahead) in
-    end_of_copies rest merged numbers (λ e. some (sym all ∙ e)) ∙ ap (λ k. k + length numbers) wide
+    sides_front_count breaks (take taken rest) (record { front = with_copies numbers rest merged; back = drop taken rest }) ∙ end_of_copies rest merged numbers (λ e. some (sym all ∙ e)) ∙ ap (λ k. k + length numbers) wide
 
 -- copies that were put after the output
 pub copies_view : (b : Inside) (info : Vec hb_glyph_info_t) (front n : ℕ) (apart : Bool) → b.have_output ≡ true → b.is_apart ≡ (apart || nat_lt (b.idx - b.gap + 0) front) → length (take front info.items) ≡ front
@@ -290,16 +291,18 @@ order_numbered o gs new front idx g d lt same out in_ h =
     order_put o (take front gs) (drop (idx + 1) new) (take (front + 1) new) g out (subst (λ ns. HasOrder o (clusters (take front gs) ++ ns)) first h)
 
 -- a replacement
-pub replaced_view : (b : Inside) (info : Vec hb_glyph_info_t) (order : ClusterOrder) (front taken flags : ℕ) (numbers : List ℕ) (apart : Bool) → b.have_output ≡ true → b.gap ≤ b.idx → b.is_apart ≡ (apart || nat_lt (b.idx - b.gap + taken) front) → length (take front info.items) ≡ front
-    → drop (b.idx + taken) info.items ≡ drop taken (glyphs_merged_at b.cluster_level 0 taken (drop b.idx b.info.items))
-    → take front info.items ≡ with_copies numbers (glyphs_merged_at b.cluster_level 0 taken (drop b.idx b.info.items)) (beside_merged b.cluster_level (range_of 0 taken (clusters (drop b.idx b.info.items))) (take b.out_len b.info.items))
+pub replaced_view : (breaks : Bool) (b : Inside) (info : Vec hb_glyph_info_t) (order : ClusterOrder) (front taken flags : ℕ) (numbers : List ℕ) (apart : Bool) → breaks ≡ requests_breaks (sides_of b) → b.have_output ≡ true → b.gap ≤ b.idx → b.is_apart ≡ (apart || nat_lt (b.idx - b.gap + taken) front) → length (take front info.items) ≡ front
+    → drop (b.idx + taken) info.items ≡ (sides_replaced breaks taken numbers (glyphs_merged_at b.cluster_level 0 taken (drop b.idx b.info.items)) (beside_merged b.cluster_level (range_of 0 taken (clusters (drop b.idx b.info.items))) (take b.out_len b.info.items))).back
+    → take front info.items ≡ (sides_replaced breaks taken numbers (glyphs_merged_at b.cluster_level 0 taken (drop b.idx b.info.items)) (beside_merged b.cluster_level (range_of 0 taken (clusters (drop b.idx b.info.items))) (take b.out_len b.info.items))).front
     → flags ≡ with_has_glyph_flags (is_marked_at b.cluster_level 0 taken (clusters (drop b.idx b.info.items))) b.scratch_flags
     → sides_of (record b { info = info; out_len = front; idx = b.idx + taken; scratch_flags = flags; order = order }) ≡ with_replaced taken numbers (record (sides_of b) { is_apart = apart })
-replaced_view b info order front taken flags numbers apart h le left long i o f =
+replaced_view breaks b info order front taken flags numbers apart asked h le left long i o f =
     let out = take b.out_len b.info.items in
     let ahead = drop b.idx b.info.items in
     let m = merged_sides b.cluster_level 0 taken (length out) (length out + taken) out ahead (omega arith) refl in
     let marks = f ∙ ap (λ any. with_has_glyph_flags any b.scratch_flags) (same_marks b.cluster_level 0 taken (length out) (length out + taken) (clusters ahead) (clusters (out ++ ahead)) m.range_is) in
     let read = later b.idx b.gap taken le in
-    let count = sym long ∙ ap length o in
-    rw (h, left ∙ ap (λ k. apart || nat_lt (b.idx - b.gap + taken) k) count, o, i, read, ← m.behind_is, ← m.ahead_is, marks) refl
+    let rest = glyphs_merged_at b.cluster_level 0 taken ahead in
+    let copied = with_copies numbers rest (beside_merged b.cluster_level (range_of 0 taken (clusters ahead)) out) in
+    let count = sym long ∙ ap length o ∙ sides_front_count breaks (take taken rest) (record { front = copied; back = drop taken rest }) in
+    rw (h, left ∙ ap (λ k. apart || nat_lt (b.idx - b.gap + taken) k) count, o, i, asked, read, ← m.behind_is, ← m.ahead_is, marks) refl

@@ -38,5 +38,6 @@ clusters_spread asks gs hs e = sym (numbers_origins hs) ∙ ap numbers e ∙ num
 pub glyphs_same : (gs hs : List Glyph) → strip hs ≡ map (item_masked 0) (strip gs) → length hs ≡ length gs
 glyphs_same gs hs e = sym (length-map hs item_of) ∙ ap length e ∙ length-map (strip gs) (item_masked 0) ∙ length-map gs item_of
 
-pub asks_are : (s : Sides) (concat tatweel : Bool) → concat ≡ (bit_and s.flags.0 64 == 64) → tatweel ≡ (bit_and s.flags.0 128 == 128) → record { concat = concat; tatweel = tatweel } ≡ flag_requests_of s
-asks_are s concat tatweel c t = ap (λ (b : Bool). record { concat = b; tatweel = tatweel }) c ∙ ap (λ (b : Bool). record { concat = bit_and s.flags.0 64 == 64; tatweel = b }) t
+pub asks_are : (s : Sides) (concat tatweel breaks : Bool) → concat ≡ (bit_and s.flags.0 64 == 64) → tatweel ≡ (bit_and s.flags.0 128 == 128) → breaks ≡ (bit_and s.flags.0 256 == 256)
+    → record { concat = concat; tatweel = tatweel; breaks = breaks } ≡ flag_requests_of s
+asks_are s concat tatweel breaks c t b = rw (c, t, b) refl

@@ -6,13 +6,13 @@ use Rattle.std.proofs.lemmas.Nat.{and_or_self}
 use Rattle.std.proofs.lemmas.List.{append-nil}
 use Rattle.buffer_glyphs.specs.declared.info.hb_glyph_info_t.{hb_glyph_info_t as Glyph}
 use Rattle.buffer_glyphs.specs.Items.{Position, clusters}
-use Rattle.buffer_glyphs.specs.Deleting.{deletion_marks, glyphs_deleted}
+use Rattle.buffer_glyphs.specs.Deleting.{deletion_marks, sides_after_deletion}
 use Rattle.buffer_lists.specs.DeletionWalk.{DeletionState, many_steps, with_glyph, without_glyph}
 use Rattle.buffer_lists.specs.Lemmas.KeptItems.{back_length}
 use Rattle.buffer_core.specs.Grouping.{after_walk, with_deleted}
 use Rattle.buffer_core.specs.Laws.{DeletesAsWalk}
 use Rattle.buffer_core.specs.Merging.{with_has_glyph_flags}
-use Rattle.buffer_core.specs.Sides.{Sides, all_glyphs, after_next_glyphs, with_output}
+use Rattle.buffer_core.specs.Sides.{Sides, all_glyphs, after_next_glyphs, requests_breaks, with_output}
 use Rattle.buffer_core.proofs.Grouped.{all_picked}
 
 told_once : (f : ℕ) → bit_or (bit_or f 32) 32 ≡ bit_or f 32
@@ -28,17 +28,17 @@ abbrev Agrees : Sides → DeletionState → ℕ → Type 0
 Agrees v t f = (v.behind ++ v.ahead ≡ t.kept) × (v.scratch_flags ≡ with_has_glyph_flags t.is_marked f)
 
 walks : (n : ℕ) (goes : Glyph → Bool) (f : ℕ) (w : Sides) (gs : List Glyph) (kp pa : List Position) (m : Bool) → length gs ≤ n → w.scratch_flags ≡ with_has_glyph_flags m f
-    → Agrees (after_walk goes n (record w { ahead = gs })) (many_steps w.level goes n (record { kept = w.behind; kept_positions = kp; rest_glyphs = gs; rest_positions = pa; is_marked = m })) f
+    → Agrees (after_walk goes n (record w { ahead = gs })) (many_steps (requests_breaks w) w.level goes n (record { kept = w.behind; kept_positions = kp; rest_glyphs = gs; rest_positions = pa; is_marked = m })) f
 walks zero goes f w [] kp pa m le e = (append-nil w.behind, e)
 walks zero goes f w (g ∷ back) kp pa m le e = absurd (omega arith)
 walks (suc n) goes f w [] kp pa m le e = walks n goes f w [] kp pa m (omega arith) e
 walks (suc n) goes f w (g ∷ back) kp pa m le e =
     let s : Sides = record w { ahead = g ∷ back } in
     let t : DeletionState = record { kept = w.behind; kept_positions = kp; rest_glyphs = g ∷ back; rest_positions = pa; is_marked = m } in
-    let left = glyphs_deleted w.level w.behind g back in
+    let left = sides_after_deletion (requests_breaks w) w.level w.behind g back in
     let marks = deletion_marks w.level (clusters w.behind) g.cluster (clusters back) in
-    elim (goes g) as (λ b. Agrees (after_walk goes n (if b then with_deleted g back s else after_next_glyphs 1 s)) (many_steps w.level goes n (if b then without_glyph w.level t g back else with_glyph t g back)) f) [
-      | true ↦ walks n goes f (with_deleted g back s) left.back kp (drop 1 pa) (m || marks) (omega (arith, back_length w.level w.behind g back)) (ap (with_has_glyph_flags marks) e ∙ told_twice m marks f)
+    elim (goes g) as (λ b. Agrees (after_walk goes n (if b then with_deleted g back s else after_next_glyphs 1 s)) (many_steps (requests_breaks w) w.level goes n (if b then without_glyph (requests_breaks w) w.level t g back else with_glyph t g back)) f) [
+      | true ↦ walks n goes f (with_deleted g back s) left.back kp (drop 1 pa) (m || marks) (omega (arith, back_length (requests_breaks w) w.level w.behind g back)) (ap (with_has_glyph_flags marks) e ∙ told_twice m marks f)
       | false ↦ walks n goes f (after_next_glyphs 1 s) back (kp ++ take 1 pa) (drop 1 pa) m (omega arith) e
     ]
 

@@ -3,7 +3,7 @@ use Rattle.std.specs.Prelude.{ℕ, ◌+◌, ◌==◌, Bool, if◌then◌else◌,
 use Rattle.buffer_glyphs.specs.Items.{clusters}
 use Rattle.buffer_glyphs.specs.Parts.{range_of}
 use Rattle.buffer_glyphs.specs.Glyphs.{glyphs_marked, glyphs_flagged, has_several_numbers}
-use Rattle.buffer_core.specs.Sides.{Sides, all_glyphs}
+use Rattle.buffer_core.specs.Sides.{Sides, all_glyphs, requests_breaks}
 use Rattle.buffer_core.specs.Merging.{index_in_all, with_glyphs, with_has_glyph_flags}
 
 -- the first index of a range, 0 where none is given
@@ -54,6 +54,10 @@ concat_marked start end s = if requests_concat s then flagged_range 2 start end 
 -- (`safe_to_insert_tatweel`)
 abbrev pub tatweel_marked : Option ℕ → Option ℕ → Sides → Sides
 tatweel_marked start end s = if requests_tatweel s then range_flagged_apart 4 start end s else range_flagged_apart 3 start end s
+
+-- a range of the input flagged as unsafe to break, where safe breaks are requested (`unsafe_to_break_strictly`)
+abbrev pub strictly_marked : Option ℕ → Option ℕ → Sides → Sides
+strictly_marked start end s = if requests_breaks s then range_flagged_apart 3 start end s else s
 
 -- flags set outside the least cluster on a range that begins in the output and ends in the input
 abbrev pub after_mark_across : ℕ → Option ℕ → Option ℕ → Sides → Sides

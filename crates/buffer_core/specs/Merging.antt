@@ -6,9 +6,10 @@ use Rattle.buffer_glyphs.specs.declared.level.BufferClusterLevel.{BufferClusterL
 use Rattle.buffer_glyphs.specs.Items.{clusters}
 use Rattle.buffer_glyphs.specs.Parts.{first_of, last_of, or}
 use Rattle.buffer_glyphs.specs.Levels.{InOutput, grapheme_manner, manner}
+use Rattle.buffer_glyphs.specs.Deleting.{DeletionSides, sides_handed_if}
 use Rattle.buffer_glyphs.specs.Glyphs.{glyphs_merged_as, glyphs_merged_at, is_marked_at}
 use Rattle.buffer_glyphs.specs.Replacements.{numbered_copies, glyph_numbered}
-use Rattle.buffer_core.specs.Sides.{Sides, all_glyphs, has_output_room, with_behind}
+use Rattle.buffer_core.specs.Sides.{Sides, all_glyphs, requests_breaks, has_output_room, with_behind}
 
 -- the index among all glyphs of an index of the input; with no output open the input is all glyphs
 abbrev pub index_in_all : ℕ → Sides → ℕ
@@ -43,13 +44,25 @@ with_grapheme_merged from to s = with_glyphs (glyphs_merged_as (grapheme_manner 
 abbrev pub model : Sides → Option hb_glyph_info_t
 model s = or (first_of s.ahead) (last_of s.behind)
 
+-- other glyphs on both sides of the cursor
+abbrev pub with_sides : DeletionSides → Sides → Sides
+with_sides l s = record s { behind = l.front; ahead = l.back }
+
+-- flags of glyphs that left at the cursor handed on, where safe breaks are requested
+abbrev pub with_handed_on : List hb_glyph_info_t → Sides → Sides
+with_handed_on gone s = with_sides (sides_handed_if (requests_breaks s) gone (record { front = s.behind; back = s.ahead })) s
+
 -- the first n glyphs ahead replaced by a copy of the model for each number, with no merge
 abbrev pub with_copied : ℕ → List ℕ → Sides → Sides
 with_copied taken numbers s = with_behind (s.behind ++ numbered_copies glyph_numbered (model s) numbers) (record s { ahead = drop taken s.ahead; read = s.read + taken })
 
+-- the first n glyphs ahead replaced so, which hand on their flags
+abbrev pub with_copied_handed : ℕ → List ℕ → Sides → Sides
+with_copied_handed taken numbers s = with_handed_on (take taken s.ahead) (with_copied taken numbers s)
+
 -- the first n glyphs ahead merged, and then replaced by a copy of the model for each number (`replace_glyphs`)
 abbrev pub with_replaced : ℕ → List ℕ → Sides → Sides
-with_replaced taken numbers s = with_copied taken numbers (with_merged (length s.behind) (length s.behind + taken) s)
+with_replaced taken numbers s = with_copied_handed taken numbers (with_merged (length s.behind) (length s.behind + taken) s)
 
 -- whether n copies may be appended to the output; without a glyph to copy none is
 abbrev pub fits_copies : ℕ → Sides → Bool
@@ -67,6 +80,10 @@ with_output_glyph n s = with_behind (s.behind ++ numbered_copies glyph_numbered 
 abbrev pub with_replaced_glyph : ℕ → Sides → Sides
 with_replaced_glyph n s = record s { behind = s.behind ++ map (λ (g : hb_glyph_info_t). glyph_numbered g n) (take 1 s.ahead); ahead = drop 1 s.ahead; read = s.read + 1 }
 
+-- the glyph at the cursor deleted, with no merge, and no flag of it handed on
+abbrev pub with_glyph_passed : Sides → Sides
+with_glyph_passed s = record s { ahead = drop 1 s.ahead; read = s.read + 1 }
+
 -- the glyph at the cursor deleted, with no merge (`skip_glyph`)
 abbrev pub with_glyph_skipped : Sides → Sides
-with_glyph_skipped s = record s { ahead = drop 1 s.ahead; read = s.read + 1 }
+with_glyph_skipped s = with_handed_on (take 1 s.ahead) (with_glyph_passed s)

@@ -64,7 +64,11 @@ view_of s = record { items = items_of s; positions = s.positions; lig_id = s.lig
 
 -- the requests for glyph flags
 abbrev pub flag_requests_of : Sides → Asks
-flag_requests_of s = record { concat = bit_and s.flags.0 64 == 64; tatweel = bit_and s.flags.0 128 == 128 }
+flag_requests_of s = record { concat = bit_and s.flags.0 64 == 64; tatweel = bit_and s.flags.0 128 == 128; breaks = bit_and s.flags.0 256 == 256 }
+
+-- whether safe breaks are requested (PRODUCE_SAFE_BREAKS)
+abbrev pub requests_breaks : Sides → Bool
+requests_breaks s = bit_and s.flags.0 256 == 256
 
 -- the clusters and glyph flags of all glyphs
 abbrev pub origins_of : Sides → List Origin

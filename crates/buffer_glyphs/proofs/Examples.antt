@@ -8,12 +8,12 @@ abbrev o : ℕ → ℕ → Origin
 o c f = record { cluster = c; flags = f }
 
 abbrev none : Asks
-none = record { concat = false; tatweel = false }
+none = record { concat = false; tatweel = false; breaks = false }
 
 abbrev both : Asks
-both = record { concat = true; tatweel = true }
+both = record { concat = true; tatweel = true; breaks = false }
 
-spread : origins_after (record { concat = false; tatweel = true }) MonotoneGraphemes (Spread ∷ []) (o 0 1 ∷ o 0 4 ∷ o 1 4 ∷ []) ≡ o 0 1 ∷ o 0 1 ∷ o 1 5 ∷ []
+spread : origins_after (record { concat = false; tatweel = true; breaks = false }) MonotoneGraphemes (Spread ∷ []) (o 0 1 ∷ o 0 4 ∷ o 1 4 ∷ []) ≡ o 0 1 ∷ o 0 1 ∷ o 1 5 ∷ []
 spread = refl
 
 apart : origins_after none Characters (Merge InList 0 2 ∷ Merge InOutput 0 2 ∷ []) (o 3 0 ∷ o 1 0 ∷ []) ≡ o 3 3 ∷ o 1 0 ∷ []

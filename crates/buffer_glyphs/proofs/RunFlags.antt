@@ -2,10 +2,12 @@
 use Rattle.std.specs.List.{prefix_len}
 use Rattle.std.specs.Int.RustNames.{bit_or}
 use Rattle.std.specs.Int.Bits.{or_zero_l, or_zero_r}
-use Rattle.std.proofs.Common.{ℕ, suc, ◌≡◌, ◌+◌, ◌==◌, ◌/◌, Bool, true, false, if◌then◌else◌, List, [], ◌∷◌, fold, take, arith, ap, sym, ◌∙◌}
+use Rattle.std.proofs.Common.{ℕ, suc, ◌≡◌, ◌+◌, ◌≤◌, ◌<◌, ◌==◌, ◌&&◌, ◌/◌, Bool, true, false, if◌then◌else◌, List, [], ◌∷◌, fold, length, take, drop, get_or, arith, ap, sym, ◌∙◌}
 use Rattle.buffer_glyphs.specs.declared.info.hb_glyph_info_t.{hb_glyph_info_t as Glyph}
 use Rattle.buffer_glyphs.specs.Items.{flags_of, glyph_flags}
-use Rattle.buffer_glyphs.specs.Origins.{origins, run_flags}
+use Rattle.buffer_glyphs.specs.Origins.{is_unsafe, origins, run_flags, unsafe_flags}
+use Rattle.buffer_glyphs.specs.Lemmas.Handed.{unsafe_seen}
+use Rattle.std.proofs.lemmas.List.{drop_all, drop_more}
 use Rattle.std.proofs.lemmas.Nat.{or_shr}
 use lib.Arith.{bin_ind}
 use lib.Bits.{or_step}
@@ -31,3 +33,24 @@ run_joined c a (g ∷ gs) = by_test (g.cluster == c) (run_joined c (bit_or a (gl
 
 pub run_folded : (c : ℕ) (gs : List Glyph) → fold bit_or 0 (flags_of (take (prefix_len (λ (g : Glyph). g.cluster == c) gs) gs)) ≡ run_flags c (origins gs)
 run_folded c gs = run_joined c 0 gs ∙ or_zero_l (run_flags c (origins gs))
+
+-- the flags so far, with those of one more glyph
+pub unsafe_more : (c a own i : ℕ) (gs : List Glyph) (d g : Glyph) → own ≡ (if g.cluster == c && is_unsafe g.mask then glyph_flags g else 0) → g ≡ get_or gs i d → i < length gs → bit_or a (unsafe_flags c (origins (drop i gs))) ≡ unsafe_flags c (origins gs)
+    → bit_or (bit_or a own) (unsafe_flags c (origins (drop (i + 1) gs))) ≡ unsafe_flags c (origins gs)
+unsafe_more c a own i gs d g here is lt e =
+    let back = drop (i + 1) gs in
+    let cut : drop i gs ≡ g ∷ back = drop_more gs i d lt ∙ ap (λ h. h ∷ back) (sym is) in
+    ap (λ n. bit_or (bit_or a n) (unsafe_flags c (origins back))) here
+    ∙ ap (λ t. bit_or (bit_or a (if g.cluster == c && t then glyph_flags g else 0)) (unsafe_flags c (origins back))) (unsafe_seen g.mask)
+    ∙ by_test (g.cluster == c && is_unsafe (glyph_flags g)) (unsafe_flags c (origins back))
+    ∙ sym (ap (λ hs. bit_or a (unsafe_flags c (origins hs))) cut) ∙ e
+  where
+    by_test : (t : Bool) (n : ℕ) → bit_or (bit_or a (if t then glyph_flags g else 0)) n ≡ bit_or a (if t then bit_or (glyph_flags g) n else n)
+    by_test true n = or_assoc n a (glyph_flags g)
+    by_test false n = ap (λ m. bit_or m n) (or_zero_r a)
+
+pub unsafe_begins : (n : ℕ) → bit_or 0 n ≡ n
+unsafe_begins n = or_zero_l n
+
+pub unsafe_ends : (c a i : ℕ) (gs : List Glyph) → length gs ≤ i → bit_or a (unsafe_flags c (origins (drop i gs))) ≡ unsafe_flags c (origins gs) → a ≡ unsafe_flags c (origins gs)
+unsafe_ends c a i gs le e = sym (ap (λ hs. bit_or a (unsafe_flags c (origins hs))) (drop_all i gs le) ∙ or_zero_r a) ∙ e

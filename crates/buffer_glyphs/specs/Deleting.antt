@@ -6,7 +6,8 @@ use Rattle.buffer_glyphs.specs.declared.info.hb_glyph_info_t.{hb_glyph_info_t}
 use Rattle.buffer_glyphs.specs.declared.level.BufferClusterLevel.{BufferClusterLevel}
 use Rattle.buffer_glyphs.specs.Items.{clusters, without_flags}
 use Rattle.buffer_glyphs.specs.Parts.{first_of, last_of, is_number}
-use Rattle.buffer_glyphs.specs.Glyphs.{glyphs_merged_at, is_marked_at}
+use Rattle.buffer_glyphs.specs.Glyphs.{glyph_flagged, glyphs_merged_at, is_marked_at}
+use Rattle.buffer_glyphs.specs.Origins.{flags_for, origins, other_cluster, with_first_changed, with_last_changed}
 
 -- a glyph in a cluster: where it was in another, the three flags of a mask replace its own
 abbrev pub recast : ℕ → ℕ → hb_glyph_info_t → hb_glyph_info_t
@@ -48,6 +49,31 @@ glyphs_deleted level front g back =
     if is_number (last_of (clusters front)) g.cluster || is_number (first_of (clusters back)) g.cluster
     then record { front = front; back = back }
     else glyphs_deleted_alone level (last_of (clusters front)) front g back
+
+-- ---- flags handed on
+
+-- flags of glyphs that leave handed on to the last one before them
+abbrev pub glyphs_handed_before : List hb_glyph_info_t → List hb_glyph_info_t → List hb_glyph_info_t
+glyphs_handed_before gone front = with_last_changed (glyph_flagged (flags_for (last_of (clusters front)) (origins gone))) front
+
+-- flags of glyphs that leave handed on to the first one after them, where the one before them is of another cluster
+abbrev pub glyphs_handed_after : List hb_glyph_info_t → Option ℕ → List hb_glyph_info_t → List hb_glyph_info_t
+glyphs_handed_after gone before back = with_first_changed (glyph_flagged (flags_for (other_cluster before (first_of (clusters back))) (origins gone))) back
+
+-- flags of glyphs that leave handed on to their neighbours
+abbrev pub sides_handed_on : List hb_glyph_info_t → DeletionSides → DeletionSides
+sides_handed_on gone s = record { front = glyphs_handed_before gone s.front; back = glyphs_handed_after gone (last_of (clusters s.front)) s.back }
+
+-- `sides_handed_on` where it is requested (PRODUCE_SAFE_BREAKS)
+abbrev pub sides_handed_if : Bool → List hb_glyph_info_t → DeletionSides → DeletionSides
+sides_handed_if true gone s = sides_handed_on gone s
+sides_handed_if false gone s = s
+
+-- a glyph deleted from between others, whose flags are handed on where that is requested
+abbrev pub sides_after_deletion : Bool → BufferClusterLevel → List hb_glyph_info_t → hb_glyph_info_t → List hb_glyph_info_t → DeletionSides
+sides_after_deletion breaks level front g back = sides_handed_if breaks (g ∷ []) (glyphs_deleted level front g back)
+
+-- ---- flags by merges
 
 -- whether the deletion of a glyph whose cluster neither neighbour has flags a glyph by a merge
 abbrev pub marks_alone : BufferClusterLevel → Option ℕ → ℕ → List ℕ → Bool

@@ -5,7 +5,7 @@ use Rattle.buffer_glyphs.specs.declared.level.BufferClusterLevel.{BufferClusterL
 use Rattle.buffer_glyphs.specs.Parts.{PartEvent, JoinParts, ReplaceParts, DeletePart, CirclePart, ReverseParts}
 use Rattle.buffer_glyphs.specs.Levels.{grapheme_manner}
 use Rattle.buffer_glyphs.specs.Origins.{Origin, Span, spans, InList, Manner, Unites, Marks, Keeps, manner}
-use Rattle.buffer_glyphs.specs.Events.{Event, Merge, MergeGrapheme, Replace, Circle, Delete, Move, Arrange, Sort, Reverse, Break, Concat, Tatweel, Spread, Reset}
+use Rattle.buffer_glyphs.specs.Events.{Event, Merge, MergeGrapheme, Replace, Circle, Delete, Move, Arrange, Sort, Reverse, Break, Concat, Tatweel, StrictBreak, Spread, Reset}
 
 -- the join of a range, where its merge unites
 abbrev pub joins_of : Manner → ℕ → ℕ → List PartEvent
@@ -32,6 +32,7 @@ parts_of_event level Reverse = ReverseParts ∷ []
 parts_of_event level (Break from to) = []
 parts_of_event level (Concat from to) = []
 parts_of_event level (Tatweel from to) = []
+parts_of_event level (StrictBreak from to) = []
 parts_of_event level Spread = []
 parts_of_event level Reset = []
 

@@ -1,9 +1,9 @@
 -- Events: what one call of a buffer does to clusters and glyph flags.
-use Rattle.std.specs.Prelude.{ℕ, ◌≡◌, ◌≤◌, ◌+◌, Bool, true, false, List, [], ◌∷◌, Some, fold, length, reverse, slice_get}
+use Rattle.std.specs.Prelude.{ℕ, ◌≡◌, ◌≤◌, ◌+◌, Bool, true, false, List, [], ◌∷◌, Some, fold, length, take, drop, reverse, slice_get}
 use Rattle.buffer_glyphs.specs.declared.level.BufferClusterLevel.{BufferClusterLevel}
 use Rattle.buffer_glyphs.specs.Parts.{elements_replaced}
 use Rattle.buffer_glyphs.specs.Levels.{grapheme_manner}
-use Rattle.buffer_glyphs.specs.Origins.{Origin, Merging, InList, manner, origins_merged_as, origins_deleted, with_range_arranged, is_seam, spans, spans_merged, origins_circled, origins_marked, origins_flagged, Asks, origins_spread, without_marks}
+use Rattle.buffer_glyphs.specs.Origins.{Origin, Merging, InList, manner, origins_merged_as, origins_deleted, with_range_arranged, is_seam, spans, spans_merged, origins_circled, origins_marked, origins_flagged, handed_if, Asks, origins_spread, without_marks}
 
 -- one call, by indices of the whole list before it
 pub data Event : Type 0 where
@@ -13,11 +13,13 @@ pub data Event : Type 0 where
   -- `merge_out_grapheme_clusters`)
   MergeGrapheme : (from to : ℕ) → Event
   -- `taken` glyphs from the index `at` on are merged and replaced by copies of the first, past the end of the one before;
-  -- none may be taken, or none given (`replace_glyphs`, `output_glyph`)
+  -- none may be taken, or none given (`replace_glyphs`, `output_glyph`, `skip_glyph`); where PRODUCE_SAFE_BREAKS is
+  -- requested, those taken hand on their flags
   Replace : (at taken given : ℕ) → Event
   -- a glyph is inserted before or after that at an index, in its cluster, with the flags of another
   Circle : (after : Bool) → (beside like : ℕ) → Event
-  -- the glyph at an index is deleted, and its cluster stays somewhere (`delete_glyph`)
+  -- the glyph at an index is deleted, and its cluster stays somewhere (`delete_glyph`); where PRODUCE_SAFE_BREAKS is
+  -- requested, it hands on its flags
   Delete : (at : ℕ) → Event
   -- the glyphs from an index on, as many as the order has, are merged and then permuted to that order
   Move : (how : Merging) → (from : ℕ) → (order : List ℕ) → Event
@@ -32,6 +34,8 @@ pub data Event : Type 0 where
   Break : (from to : ℕ) → Event
   Concat : (from to : ℕ) → Event
   Tatweel : (from to : ℕ) → Event
+  -- such indices are flagged as `Break` flags them, where PRODUCE_SAFE_BREAKS is requested
+  StrictBreak : (from to : ℕ) → Event
   -- the glyphs of each cluster get the same flags (`propagate_flags`)
   Spread : Event
   -- all flags are cleared
@@ -47,13 +51,23 @@ abbrev pub tatweel_marked : Bool → ℕ → ℕ → List Origin → List Origin
 tatweel_marked true from to os = origins_marked 4 from to os
 tatweel_marked false from to os = origins_marked 3 from to os
 
+-- UNSAFE_TO_BREAK and UNSAFE_TO_CONCAT set on such indices as `Break` sets them, where that is requested
+abbrev pub strictly_marked : Bool → ℕ → ℕ → List Origin → List Origin
+strictly_marked true from to os = origins_marked 3 from to os
+strictly_marked false from to os = os
+
+-- some origins from an index on replaced by copies of the first; where it is requested, they hand on their flags at the
+-- end of the copies
+abbrev pub origins_replaced : Bool → ℕ → ℕ → ℕ → List Origin → List Origin
+origins_replaced breaks at taken given os = handed_if breaks (take taken (drop at os)) (at + given) (elements_replaced at taken given os)
+
 -- clusters and flags after one event
 abbrev pub origins_after_event : Asks → BufferClusterLevel → List Origin → Event → List Origin
 origins_after_event asks level os (Merge how from to) = origins_merged_as (manner how level) from to os
 origins_after_event asks level os (MergeGrapheme from to) = origins_merged_as (grapheme_manner level) from to os
-origins_after_event asks level os (Replace at taken given) = elements_replaced at taken given (origins_merged_as (manner InList level) at (at + taken) os)
+origins_after_event asks level os (Replace at taken given) = origins_replaced asks.breaks at taken given (origins_merged_as (manner InList level) at (at + taken) os)
 origins_after_event asks level os (Circle after beside like) = origins_circled after beside like os
-origins_after_event asks level os (Delete at) = origins_deleted level at os
+origins_after_event asks level os (Delete at) = handed_if asks.breaks (take 1 (drop at os)) at (origins_deleted level at os)
 origins_after_event asks level os (Move how from order) = with_range_arranged from order (origins_merged_as (manner how level) from (from + length order) os)
 origins_after_event asks level os (Arrange from order) = with_range_arranged from order os
 origins_after_event asks level os (Sort from order) = with_range_arranged from order (spans_merged (manner InList level) from (spans order) os)
@@ -61,6 +75,7 @@ origins_after_event asks level os Reverse = reverse os
 origins_after_event asks level os (Break from to) = origins_marked 3 from to os
 origins_after_event asks level os (Concat from to) = concat_marked asks.concat from to os
 origins_after_event asks level os (Tatweel from to) = tatweel_marked asks.tatweel from to os
+origins_after_event asks level os (StrictBreak from to) = strictly_marked asks.breaks from to os
 origins_after_event asks level os Spread = origins_spread asks os
 origins_after_event asks level os Reset = without_marks os
 
@@ -88,5 +103,6 @@ IsPlain (Reverse ∷ es) = IsPlain es
 IsPlain (Break from to ∷ es) = IsPlain es
 IsPlain (Concat from to ∷ es) = IsPlain es
 IsPlain (Tatweel from to ∷ es) = IsPlain es
+IsPlain (StrictBreak from to ∷ es) = IsPlain es
 IsPlain (Spread ∷ es) = IsPlain es
 IsPlain (Reset ∷ es) = IsPlain es

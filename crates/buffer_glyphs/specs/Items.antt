@@ -1,5 +1,5 @@
 -- Items: glyphs without their clusters and glyph flags.
-use Rattle.std.specs.Prelude.{ℕ, ℤ, pos, ◌-◌, List, map}
+use Rattle.std.specs.Prelude.{ℕ, pos, ◌-◌, List, map}
 use Rattle.std.specs.Int.RustNames.{bit_and}
 use Rattle.buffer_glyphs.specs.declared.info.hb_glyph_info_t.{hb_glyph_info_t}
 use Rattle.buffer_glyphs.specs.declared.position.GlyphPosition.{GlyphPosition}

@@ -4,7 +4,10 @@ use Rattle.buffer_glyphs.specs.declared.level.BufferClusterLevel.{BufferClusterL
 use Rattle.buffer_glyphs.specs.Parts.{PartEvent, DeletePart, joined_numbers, after_part_event, after_part_events}
 use Rattle.buffer_glyphs.specs.Deletions.{number_deleted}
 use Rattle.buffer_glyphs.specs.Levels.{IsMonotone}
-use Rattle.buffer_glyphs.specs.Origins.{Origin, Asks, numbers, origins_spread}
+use Rattle.buffer_glyphs.specs.declared.info.hb_glyph_info_t.{hb_glyph_info_t}
+use Rattle.buffer_glyphs.specs.Items.{clusters, strip}
+use Rattle.buffer_glyphs.specs.Deleting.{DeletionSides, sides_handed_on}
+use Rattle.buffer_glyphs.specs.Origins.{Origin, Asks, handed_on, numbers, origins, origins_spread}
 use Rattle.buffer_glyphs.specs.Events.{Event, IsPlain, origins_after}
 use Rattle.buffer_glyphs.specs.EventParts.{parts_of, AreEvenRuns, HaveNoConcat}
 use Rattle.buffer_glyphs.specs.Order.{IsOrdered}
@@ -61,4 +64,17 @@ SpreadIsEven = (asks : Asks) (os : List Origin) → AreEvenRuns (origins_spread 
 
 -- after a `Spread`, UNSAFE_TO_CONCAT is set only where it was requested
 abbrev pub SpreadHasNoConcat : Type 0
-SpreadHasNoConcat = (tatweel : Bool) (os : List Origin) → HaveNoConcat (origins_spread (record { concat = false; tatweel = tatweel }) os)
+SpreadHasNoConcat = (tatweel breaks : Bool) (os : List Origin) → HaveNoConcat (origins_spread (record { concat = false; tatweel = tatweel; breaks = breaks }) os)
+
+-- ---- flags handed on
+
+-- glyphs that get the flags of others are the same but for flags, and their origins get the flags that are handed on
+pub record HandOn (gone : List hb_glyph_info_t) (s : DeletionSides) : Type 0 where
+  pub same_front : strip (sides_handed_on gone s).front ≡ strip s.front
+  pub same_back : strip (sides_handed_on gone s).back ≡ strip s.back
+  pub same_clusters : clusters ((sides_handed_on gone s).front ++ (sides_handed_on gone s).back) ≡ clusters (s.front ++ s.back)
+  pub origins_by_rule : origins ((sides_handed_on gone s).front ++ (sides_handed_on gone s).back) ≡ handed_on (origins gone) (length s.front) (origins (s.front ++ s.back))
+
+-- law: so are all glyphs between which others leave
+abbrev pub FlagsAreHandedOn : Type 0
+FlagsAreHandedOn = (gone : List hb_glyph_info_t) (s : DeletionSides) → HandOn gone s

@@ -12,3 +12,4 @@ pub mod Replacements
 pub mod Origins
 pub mod Sorts
 pub mod EventParts
+pub mod Handed

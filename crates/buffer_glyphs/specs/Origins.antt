@@ -1,5 +1,5 @@
 -- Origins: the cluster and the three flags of a glyph, after merges, flags, copies and deletions.
-use Rattle.std.specs.Prelude.{ℕ, zero, suc, ◌+◌, ◌==◌, ◌||◌, max, Bool, true, false, nat_lt, if◌then◌else◌, List, [], ◌∷◌, ◌++◌, length, map, take, drop, Option, Some, None, slice_get, slice_range, unwrap_or}
+use Rattle.std.specs.Prelude.{ℕ, zero, suc, ◌+◌, ◌-◌, ◌==◌, ◌&&◌, ◌||◌, not, max, Bool, true, false, nat_lt, if◌then◌else◌, List, [], ◌∷◌, ◌++◌, length, map, take, drop, Option, Some, None, slice_get, slice_range, unwrap_or}
 use Rattle.std.specs.List.{list_all}
 use Rattle.std.specs.Int.RustNames.{bit_and, bit_or}
 use Rattle.buffer_glyphs.specs.declared.info.hb_glyph_info_t.{hb_glyph_info_t}
@@ -48,6 +48,14 @@ added_outside bits low o = if o.cluster == low then o else record o { flags = bi
 -- the elements from `from` up to before `to` changed, each by itself
 abbrev pub with_range_changed : {X : Type 0} → (X → X) → ℕ → ℕ → List X → List X
 with_range_changed f from to xs = take from xs ++ map f (slice_range xs from to) ++ drop (max from to) xs
+
+-- the first element changed
+abbrev pub with_first_changed : {X : Type 0} → (X → X) → List X → List X
+with_first_changed f xs = map f (take 1 xs) ++ drop 1 xs
+
+-- the last element changed
+abbrev pub with_last_changed : {X : Type 0} → (X → X) → List X → List X
+with_last_changed f xs = take (length xs - 1) xs ++ map f (drop (length xs - 1) xs)
 
 -- flags set on the indices from `from` up to before `to` outside the least cluster among them
 abbrev pub origins_marked : ℕ → ℕ → ℕ → List Origin → List Origin
@@ -143,12 +151,52 @@ first_circled false flags (o ∷ os) = record { cluster = o.cluster; flags = fla
 abbrev pub origins_circled : Bool → ℕ → ℕ → List Origin → List Origin
 origins_circled after beside like os = take beside os ++ first_circled after (flags_at like os) (drop beside os)
 
+-- ---- flags of glyphs that leave
+
+-- whether flags have UNSAFE_TO_BREAK, or SAFE_TO_INSERT_TATWEEL, which brings it in the end
+abbrev pub is_unsafe : ℕ → Bool
+is_unsafe flags = not (bit_and flags 5 == 0)
+
+-- the flags of those origins of a cluster that are unsafe to break
+abbrev pub unsafe_flags : ℕ → List Origin → ℕ
+unsafe_flags c [] = 0
+unsafe_flags c (o ∷ os) = if o.cluster == c && is_unsafe o.flags then bit_or o.flags (unsafe_flags c os) else unsafe_flags c os
+
+-- the flags that a neighbour of a cluster gets from origins that leave; none where there is no neighbour
+abbrev pub flags_for : Option ℕ → List Origin → ℕ
+flags_for None gone = 0
+flags_for (Some c) gone = unsafe_flags c gone
+
+-- the cluster of the neighbour after a seam, where the one before is of another
+abbrev pub other_cluster : Option ℕ → Option ℕ → Option ℕ
+other_cluster before None = None
+other_cluster before (Some c) = if is_number before c then None else Some c
+
+-- flags of origins that leave handed on to the last one before them
+abbrev pub handed_before : List Origin → List Origin → List Origin
+handed_before gone front = with_last_changed (flags_added (flags_for (last_of (numbers front)) gone)) front
+
+-- flags of origins that leave handed on to the first one after them, where the one before them is of another cluster
+abbrev pub handed_after : List Origin → Option ℕ → List Origin → List Origin
+handed_after gone before back = with_first_changed (flags_added (flags_for (other_cluster before (first_of (numbers back))) gone)) back
+
+-- where origins leave at a seam of those that are left, the neighbour before gets the flags of those of its cluster that
+-- are unsafe to break; the neighbour after gets those of its cluster, unless the neighbour before is of that cluster
+abbrev pub handed_on : List Origin → ℕ → List Origin → List Origin
+handed_on gone seam os = handed_before gone (take seam os) ++ handed_after gone (last_of (numbers (take seam os))) (drop seam os)
+
+-- `handed_on` where it is requested (PRODUCE_SAFE_BREAKS)
+abbrev pub handed_if : Bool → List Origin → ℕ → List Origin → List Origin
+handed_if true gone seam os = handed_on gone seam os
+handed_if false gone seam os = os
+
 -- ---- flags at the end
 
 -- the requests for glyph flags
 pub record Asks : Type 0 where
   pub concat : Bool
   pub tatweel : Bool
+  pub breaks : Bool
 
 -- where tatweels are requested, UNSAFE_TO_BREAK clears SAFE_TO_INSERT_TATWEEL, and where that stays the two other flags
 -- are added

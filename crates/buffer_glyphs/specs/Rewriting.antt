@@ -1,7 +1,7 @@
 -- Items that arrange others, and the events on the way to them.
 use Rattle.std.specs.Prelude.{ℕ, ◌+◌, ◌==◌, ◌&&◌, if◌then◌else◌, List, [], ◌∷◌, ◌++◌, length, map}
 use Rattle.buffer_glyphs.specs.Items.{Item}
-use Rattle.buffer_glyphs.specs.Events.{Event, Merge, MergeGrapheme, Replace, Circle, Delete, Move, Arrange, Sort, Reverse, Break, Concat, Tatweel, Spread, Reset}
+use Rattle.buffer_glyphs.specs.Events.{Event, Merge, MergeGrapheme, Replace, Circle, Delete, Move, Arrange, Sort, Reverse, Break, Concat, Tatweel, StrictBreak, Spread, Reset}
 
 -- a list of items, and the events on the way to it from the items before
 pub record Arrangement : Type 0 where
@@ -34,6 +34,7 @@ shifted_event n Reverse = Reverse
 shifted_event n (Break from to) = Break (n + from) (n + to)
 shifted_event n (Concat from to) = Concat (n + from) (n + to)
 shifted_event n (Tatweel from to) = Tatweel (n + from) (n + to)
+shifted_event n (StrictBreak from to) = StrictBreak (n + from) (n + to)
 shifted_event n Spread = Spread
 shifted_event n Reset = Reset
 

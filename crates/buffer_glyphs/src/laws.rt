@@ -1,5 +1,5 @@
 //! Laws of events, merges and deletions.
-ghost use Rattle.buffer_glyphs.specs.Laws.{DeletionIsEvent, KeepsLeast, KeepsNumbers, KeepsOrder, MergeIsJoin, MergeUnites, OriginsAreParts, OriginsKeepLeast, OriginsKeepNumbers, OriginsKeepOrder, SpreadHasNoConcat, SpreadIsEven};
+ghost use Rattle.buffer_glyphs.specs.Laws.{DeletionIsEvent, FlagsAreHandedOn, KeepsLeast, KeepsNumbers, KeepsOrder, MergeIsJoin, MergeUnites, OriginsAreParts, OriginsKeepLeast, OriginsKeepNumbers, OriginsKeepOrder, SpreadHasNoConcat, SpreadIsEven};
 
 /// Parts in order stay in order through all events, reversed whenever the list is.
 #[tactic(auto, using(crate::specs::Lemmas::Parts::keeps_order))]
@@ -69,4 +69,10 @@ pub fn law_spread_is_even()
 #[tactic(auto, using(crate::specs::Lemmas::EventParts::spread_has_no_concat))]
 pub fn law_spread_has_no_concat()
     ensures { SpreadHasNoConcat }
+{}
+
+/// Where flags of deleted glyphs are handed on, the glyphs that are left change in flags alone.
+#[tactic(auto, using(crate::specs::Lemmas::Handed::handed_by_origins))]
+pub fn law_flags_are_handed_on()
+    ensures { FlagsAreHandedOn }
 {}

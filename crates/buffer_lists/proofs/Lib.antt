@@ -15,3 +15,4 @@ pub mod Falling
 pub mod Between
 pub mod Ordered
 pub mod Fronts
+pub mod HandedOn

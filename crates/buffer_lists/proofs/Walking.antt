@@ -26,7 +26,7 @@ moved_front to from xs d le lt =
 pub moved_back : {X : Type 0} (to from : ℕ) (xs : List X) (y : X) → to ≤ from → drop (from + 1) (set xs to y) ≡ drop (from + 1) xs
 moved_back to from xs y le = drop-set-lt (from + 1) xs to y (omega arith)
 
-settled_length : (due : Option Glyph) (gs : List Glyph) → length (settled_glyphs due gs) ≡ length gs
+pub settled_length : (due : Option Glyph) (gs : List Glyph) → length (settled_glyphs due gs) ≡ length gs
 settled_length None gs = refl
 settled_length (Some d) gs = end_length d gs
 

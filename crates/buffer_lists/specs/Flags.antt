@@ -6,7 +6,7 @@ use Rattle.buffer_lists.specs.declared.flags.AskedFlags.{AskedFlags}
 
 -- the requests for glyph flags
 abbrev pub flag_requests_of : AskedFlags → Asks
-flag_requests_of a = record { concat = a.concat; tatweel = a.tatweel }
+flag_requests_of a = record { concat = a.concat; tatweel = a.tatweel; breaks = a.breaks }
 
 -- the origin of a neighbour before, if there is one
 abbrev pub before_of : Option hb_glyph_info_t → Option Origin

@@ -41,7 +41,7 @@ SeamParts = (k : hb_glyph_info_t → ℕ) (gs : List hb_glyph_info_t) (i : ℕ) 
 
 -- deletions in place are events, one for each deleted glyph
 abbrev pub DeletionsAreEvents : Type 0
-DeletionsAreEvents = (asks : Asks) (level : BufferClusterLevel) (q : Item → Bool) (gs : List hb_glyph_info_t) (ps : List Position) → origins (whole_walk level (λ g. q (item_of g)) gs ps).kept ≡ origins_after asks level (deletions q (strip gs)) (origins gs)
+DeletionsAreEvents = (asks : Asks) (level : BufferClusterLevel) (q : Item → Bool) (gs : List hb_glyph_info_t) (ps : List Position) → origins (whole_walk asks.breaks level (λ g. q (item_of g)) gs ps).kept ≡ origins_after asks level (deletions q (strip gs)) (origins gs)
 
 -- a reversal of groups is a list of events, one for each group and one for the list
 abbrev pub GroupsAreEvents : Type 0

@@ -18,6 +18,8 @@ pub struct AskedFlags {
     pub concat: bool,
     /// PRODUCE_SAFE_TO_INSERT_TATWEEL: where a tatweel may be inserted.
     pub tatweel: bool,
+    /// PRODUCE_SAFE_BREAKS: where a text may be broken, and its pieces shaped alone.
+    pub breaks: bool,
 }
 
 /// Gives all glyphs of a run of one cluster the same glyph flags: those that one of them has. Where tatweels are

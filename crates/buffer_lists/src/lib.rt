@@ -7,6 +7,7 @@ pub mod deletion_within;
 mod due;
 pub mod flags;
 pub mod groups;
+pub mod handing;
 pub mod laws;
 pub mod masks;
 pub mod merges;

@@ -2,15 +2,15 @@
 //! hb/buffer.rs, `out_info` in the room of `info`, and `shift_forward`). What stands between has no meaning.
 ghost use Rattle.std.specs.Prelude.{◌≡◌, ◌≤◌, ◌<◌, ◌+◌, ◌-◌, ◌++◌, ◌∷◌, [], ℕ, length, map, take, drop, slice_range, vec_len, OnOk, OnErr};
 ghost use Rattle.buffer_glyphs.specs.Items.{clusters};
-ghost use Rattle.buffer_glyphs.specs.Parts.{range_of};
+ghost use Rattle.buffer_glyphs.specs.Parts.{last_of, range_of};
 ghost use Rattle.buffer_glyphs.specs.Levels.{InOutput, manner};
 ghost use Rattle.buffer_glyphs.specs.Merges.{least_number};
 ghost use Rattle.buffer_glyphs.specs.Glyphs.{beside_merged, beside_merged_as, glyph_flagged, glyphs_merged_as, glyphs_merged_at, has_several_numbers, is_marked_at, marked_outside};
-ghost use Rattle.buffer_glyphs.specs.Deleting.{Deletes};
+ghost use Rattle.buffer_glyphs.specs.Deleting.{Deletes, glyphs_handed_after, glyphs_handed_before};
 ghost use Rattle.buffer_lists.specs.Known.{HasOrder};
 
 use crate::order::KnownOrder;
-use crate::{deletion, merges};
+use crate::{deletion, handing, merges};
 use buffer_glyphs::info::{hb_glyph_info_t, hb_mask_t};
 use buffer_glyphs::level::BufferClusterLevel;
 use buffer_glyphs::marks;
@@ -159,6 +159,25 @@ pub fn delete_first(
 {
     let (before, rest) = glyphs.split_at_mut(from);
     deletion::delete_first(&mut before[..front], rest, level, known)
+}
+
+/// `handing::hand_on` of the output and the input.
+pub fn hand_on(
+    glyphs: &mut [hb_glyph_info_t],
+    front: usize,
+    from: usize,
+    deleted: &[hb_glyph_info_t],
+)
+    requires apart { front ≤ from }
+    requires there { from ≤ length glyphs.old }
+    ensures output { take front glyphs.new ≡ glyphs_handed_before deleted.now (take front glyphs.old) }
+    ensures input { drop from glyphs.new
+        ≡ glyphs_handed_after deleted.now (last_of (clusters (take front glyphs.old))) (drop from glyphs.old) }
+    ensures clusters { clusters glyphs.new ≡ clusters glyphs.old }
+    ensures len { length glyphs.new ≡ length glyphs.old }
+{
+    let (before, rest) = glyphs.split_at_mut(from);
+    handing::hand_on(&mut before[..front], rest, deleted);
 }
 
 /// Sets flags on the output's glyphs from `start` on and the input's first `count`, outside the least cluster among them;

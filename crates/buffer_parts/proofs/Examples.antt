@@ -15,7 +15,7 @@ abbrev o : ℕ → Origin
 o c = record { cluster = c; flags = 0 }
 
 abbrev none : Asks
-none = record { concat = false; tatweel = false }
+none = record { concat = false; tatweel = false; breaks = false }
 
 -- "ab", right to left: each grapheme is arranged, and the list reversed
 turned : IsOrderly none MonotoneGraphemes (Arrange 0 (0 ∷ []) ∷ Arrange 1 (0 ∷ []) ∷ Reverse ∷ []) (o 0 ∷ o 1 ∷ [])

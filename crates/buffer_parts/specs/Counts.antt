@@ -1,6 +1,6 @@
 -- How many glyphs events leave, and events that drop no part.
 use Rattle.std.specs.Prelude.{ℕ, ◌<◌, ◌+◌, ◌-◌, ◌==◌, nat_lt, min, if◌then◌else◌, List, [], ◌∷◌, fold}
-use Rattle.buffer_glyphs.specs.Events.{Event, Merge, MergeGrapheme, Replace, Circle, Delete, Move, Arrange, Sort, Reverse, Break, Concat, Tatweel, Spread, Reset}
+use Rattle.buffer_glyphs.specs.Events.{Event, Merge, MergeGrapheme, Replace, Circle, Delete, Move, Arrange, Sort, Reverse, Break, Concat, Tatweel, StrictBreak, Spread, Reset}
 
 -- how many glyphs an event leaves of n
 abbrev pub count_after_event : ℕ → Event → ℕ
@@ -16,6 +16,7 @@ count_after_event n Reverse = n
 count_after_event n (Break from to) = n
 count_after_event n (Concat from to) = n
 count_after_event n (Tatweel from to) = n
+count_after_event n (StrictBreak from to) = n
 count_after_event n Spread = n
 count_after_event n Reset = n
 
@@ -38,6 +39,7 @@ AreGiving (Reverse ∷ es) = AreGiving es
 AreGiving (Break from to ∷ es) = AreGiving es
 AreGiving (Concat from to ∷ es) = AreGiving es
 AreGiving (Tatweel from to ∷ es) = AreGiving es
+AreGiving (StrictBreak from to ∷ es) = AreGiving es
 AreGiving (Spread ∷ es) = AreGiving es
 AreGiving (Reset ∷ es) = AreGiving es
 

@@ -4,7 +4,7 @@ use Rattle.std.specs.List.{list_all}
 use Rattle.buffer_glyphs.specs.declared.level.BufferClusterLevel.{BufferClusterLevel}
 use Rattle.buffer_glyphs.specs.Parts.{range_of}
 use Rattle.buffer_glyphs.specs.Origins.{Origin, Asks, numbers}
-use Rattle.buffer_glyphs.specs.Events.{Event, Merge, MergeGrapheme, Replace, Circle, Delete, Move, Arrange, Sort, Reverse, Break, Concat, Tatweel, Spread, Reset, StaysInSpans, origins_after_event}
+use Rattle.buffer_glyphs.specs.Events.{Event, Merge, MergeGrapheme, Replace, Circle, Delete, Move, Arrange, Sort, Reverse, Break, Concat, Tatweel, StrictBreak, Spread, Reset, StaysInSpans, origins_after_event}
 
 -- whether all numbers of a list are the same
 abbrev pub are_one : List ℕ → Bool
@@ -25,6 +25,7 @@ IsOrderlyAt Reverse ns = Unit {0}
 IsOrderlyAt (Break from to) ns = Unit {0}
 IsOrderlyAt (Concat from to) ns = Unit {0}
 IsOrderlyAt (Tatweel from to) ns = Unit {0}
+IsOrderlyAt (StrictBreak from to) ns = Unit {0}
 IsOrderlyAt Spread ns = Unit {0}
 IsOrderlyAt Reset ns = Unit {0}
 

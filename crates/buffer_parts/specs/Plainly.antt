@@ -1,6 +1,6 @@
 -- Events that keep the parts of a text whatever its clusters are.
 use Rattle.std.specs.Prelude.{ℕ, ◌≡◌, List, [], ◌∷◌}
-use Rattle.buffer_glyphs.specs.Events.{Event, Merge, MergeGrapheme, Replace, Circle, Delete, Move, Arrange, Sort, Reverse, Break, Concat, Tatweel, Spread, Reset, IsPlain, StaysInSpans}
+use Rattle.buffer_glyphs.specs.Events.{Event, Merge, MergeGrapheme, Replace, Circle, Delete, Move, Arrange, Sort, Reverse, Break, Concat, Tatweel, StrictBreak, Spread, Reset, IsPlain, StaysInSpans}
 use Rattle.buffer_parts.specs.Counts.{AreGiving, count_after}
 use Rattle.buffer_parts.specs.Turns.{IsUnturned}
 
@@ -26,5 +26,6 @@ AreSteady (Move how from order ∷ es) = AreSteady es
 AreSteady (Break from to ∷ es) = AreSteady es
 AreSteady (Concat from to ∷ es) = AreSteady es
 AreSteady (Tatweel from to ∷ es) = AreSteady es
+AreSteady (StrictBreak from to ∷ es) = AreSteady es
 AreSteady (Spread ∷ es) = AreSteady es
 AreSteady (Reset ∷ es) = AreSteady es

@@ -1,6 +1,6 @@
 -- Events without a reversal of the list.
 use Rattle.std.specs.Prelude.{List, [], ◌∷◌}
-use Rattle.buffer_glyphs.specs.Events.{Event, Merge, MergeGrapheme, Replace, Circle, Delete, Move, Arrange, Sort, Reverse, Break, Concat, Tatweel, Spread, Reset}
+use Rattle.buffer_glyphs.specs.Events.{Event, Merge, MergeGrapheme, Replace, Circle, Delete, Move, Arrange, Sort, Reverse, Break, Concat, Tatweel, StrictBreak, Spread, Reset}
 
 -- no event reverses the list
 abbrev pub IsUnturned : List Event → Type 0
@@ -17,5 +17,6 @@ IsUnturned (Sort from order ∷ es) = IsUnturned es
 IsUnturned (Break from to ∷ es) = IsUnturned es
 IsUnturned (Concat from to ∷ es) = IsUnturned es
 IsUnturned (Tatweel from to ∷ es) = IsUnturned es
+IsUnturned (StrictBreak from to ∷ es) = IsUnturned es
 IsUnturned (Spread ∷ es) = IsUnturned es
 IsUnturned (Reset ∷ es) = IsUnturned es

@@ -7,9 +7,11 @@ use Rattle.buffer_glyphs.specs.Parts.{first_of, last_of, or}
 use Rattle.buffer_glyphs.specs.Glyphs.{glyphs_merged_at, is_marked_at}
 use Rattle.buffer_glyphs.specs.Lemmas.Glyphs.{strip_merged_at}
 use Rattle.buffer_glyphs.specs.Replacements.{numbered_copies, glyph_numbered}
+use Rattle.buffer_glyphs.specs.Deleting.{DeletionSides}
 use Rattle.buffer_glyphs.specs.Events.{Replace}
-use Rattle.buffer_core.specs.Sides.{Sides, all_glyphs, origins_of, origins_by, view_of}
-use Rattle.buffer_core.specs.Merging.{with_replaced}
+use Rattle.buffer_glyphs.specs.Lemmas.Handed.{sides_back_items, sides_front_items}
+use Rattle.buffer_core.specs.Sides.{Sides, all_glyphs, items_of, origins_of, origins_by, requests_breaks, view_of}
+use Rattle.buffer_core.specs.Merging.{with_copied, with_merged, with_replaced}
 use Rattle.buffer_core.proofs.Told.{stage_flags_ignore_glyph_flags}
 use Rattle.buffer_stages.specs.Walks.{HasWalked, renumbered_first}
 use Rattle.buffer_stages.proofs.Lemmas.Walked.{sides_kept}
@@ -26,11 +28,14 @@ front_replaced count n s new opened le some is from_where =
     let P : Sides → Type 0 = λ t. origins_of t ≡ origins_by (Replace b count 1 ∷ []) s → HasWalked (strip s.behind ++ renumbered_first n (strip s.ahead)) (drop count (strip s.ahead)) (Replace b count 1 ∷ []) s t in
     let front : strip (take b gs ++ numbered_copies glyph_numbered (or (first_of (drop b gs)) (last_of (take b gs))) (n ∷ [])) ≡ strip s.behind ++ renumbered_first n (strip s.ahead) =
     by_rest gs (drop b gs) (take b gs) parts.0 parts.1 in
+    let copied = with_copied count (n ∷ []) (with_merged b (b + count) s) in
+    let sides : DeletionSides = record { front = copied.behind; back = copied.ahead } in
+    let gone = take count (drop b gs) in
     subst P (sym is) (λ o. record {
-      behind = front;
-      ahead = sym (drop-map item_of count (drop b gs)) ∙ ap (drop count) parts.1;
+      behind = sides_front_items (requests_breaks s) gone sides ∙ front;
+      ahead = sides_back_items (requests_breaks s) gone sides ∙ sym (drop-map item_of count (drop b gs)) ∙ ap (drop count) parts.1;
       happened = o;
-      view = ap (λ f. record (view_of s) { items = strip ((take b gs ++ numbered_copies glyph_numbered (or (first_of (drop b gs)) (last_of (take b gs))) (n ∷ [])) ++ drop count (drop b gs)); scratch_flags = f }) scratch_flags;
+      view = ap (λ f. record (view_of s) { items = items_of (with_replaced count (n ∷ []) s); scratch_flags = f }) scratch_flags;
       settings = refl;
       opened = opened;
       unrefused = refl;

@@ -1,5 +1,5 @@
 -- Numbers of glyphs and of their items.
-use Rattle.std.proofs.Common.{ℕ, ◌≡◌, ◌∙◌, ◌&&◌, Bool, List, [], ◌∷◌, nat_le, refl, sym, ap}
+use Rattle.std.proofs.Common.{◌≡◌, ◌∙◌, ◌&&◌, Bool, List, [], ◌∷◌, nat_le, refl, sym, ap}
 use Rattle.std.specs.List.{list_all}
 use Rattle.buffer_glyphs.specs.declared.info.hb_glyph_info_t.{hb_glyph_info_t}
 use Rattle.buffer_glyphs.specs.Items.{Item, item_of, strip}

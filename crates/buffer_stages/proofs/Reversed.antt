@@ -1,5 +1,5 @@
 -- Groups of glyphs in reversed order: the indices at which they stood, and the items that they are.
-use Rattle.std.proofs.Common.{ℕ, zero, suc, ◌≡◌, ◌≤◌, ◌+◌, ◌-◌, Bool, List, [], ◌∷◌, ◌++◌, length, map, take, drop, Some, slice_get, refl, sym, ap, subst, ◌∙◌, arith}
+use Rattle.std.proofs.Common.{ℕ, zero, suc, ◌≡◌, ◌≤◌, Bool, List, [], ◌∷◌, length, Some, slice_get, sym, ap, subst, ◌∙◌}
 use Rattle.std.specs.Prelude.{not, slice_range}
 use Rattle.std.specs.List.{range_with_len}
 use Rattle.std.specs.Option.{option_map_or}
@@ -12,7 +12,7 @@ use Rattle.buffer_core.specs.Sides.{Sides, all_glyphs, items_of}
 use Rattle.buffer_stages.specs.Fronts.{one_seen}
 use Rattle.buffer_stages.specs.Ordering.{begins_at, same_group}
 use Rattle.buffer_stages.specs.Turned.{leading_turned}
-use Rattle.buffer_stages.specs.Lemmas.Parts.{range_seen, range_size}
+use Rattle.buffer_stages.specs.Lemmas.Parts.{range_seen}
 use Rattle.buffer_stages.specs.Lemmas.Sorted.{groups_turned_size}
 use Rattle.buffer_stages.proofs.GroupOrder.{turned_all, turned_at, turned_seen}
 

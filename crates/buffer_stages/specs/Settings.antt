@@ -16,7 +16,8 @@ pub record TextSettings : Type 0 where
   pub not_found_variation_selector : Option ℕ
   pub flags : BufferFlags
 
--- the requests without those for glyph flags: PRODUCE_UNSAFE_TO_CONCAT (64) and PRODUCE_SAFE_TO_INSERT_TATWEEL (128)
+-- the requests without those for glyph flags: PRODUCE_UNSAFE_TO_CONCAT (64), PRODUCE_SAFE_TO_INSERT_TATWEEL (128) and
+-- PRODUCE_SAFE_BREAKS (256)
 abbrev pub text_flags : BufferFlags → BufferFlags
 text_flags flags = record { 0 = bit_and flags.0 0x3F }
 

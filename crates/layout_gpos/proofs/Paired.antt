@@ -1,11 +1,16 @@
 -- Pairs adjusted at the cursor.
 use Rattle.std.proofs.Common.{ℕ, ◌≡◌, ◌<◌, ◌≤◌, ◌+◌, ◌-◌, ◌&&◌, Bool, true, false, if◌then◌else◌, List, [], ◌∷◌, Option, Some, None, Result, Ok, Err, length, arith, refl, sym, ap, subst, ◌∙◌, slice_get}
 use Rattle.std.specs.Prelude.{option_and_then}
+use Rattle.std.proofs.lemmas.List.{length-map}
 use Rattle.buffer_common.specs.declared.direction.Direction.{Direction}
 use Rattle.buffer_glyphs.specs.declared.info.hb_glyph_info_t.{hb_glyph_info_t}
-use Rattle.buffer_glyphs.specs.Items.{Item, Position, item_of, strip}
-use Rattle.buffer_glyphs.specs.Events.{Break}
-use Rattle.buffer_core.specs.Sides.{Sides, after_next_glyphs}
+use Rattle.buffer_glyphs.specs.Items.{Item, Position, clusters, item_of, strip}
+use Rattle.buffer_glyphs.specs.Parts.{range_of}
+use Rattle.buffer_glyphs.specs.Glyphs.{glyphs_marked, has_several_numbers}
+use Rattle.buffer_glyphs.specs.Lemmas.Glyphs.{strip_marked}
+use Rattle.buffer_glyphs.specs.Events.{Break, Event, StrictBreak}
+use Rattle.buffer_core.specs.Sides.{Sides, after_next_glyphs, all_glyphs, origins_by, origins_of, requests_breaks}
+use Rattle.buffer_core.specs.Marking.{end_in_all, start_in_all, strictly_marked, with_flagged_apart}
 use Rattle.layout_match.specs.Applied.{ApplyContext}
 use Rattle.layout_tables.specs.declared.value.ValueRecord.{ValueRecord}
 use Rattle.layout_tables.specs.declared.pair.PairValues.{PairValues}
@@ -15,8 +20,8 @@ use Rattle.buffer_stages.specs.Buffers.{IsPassed, cut_of, Frame}
 use Rattle.buffer_stages.specs.Performing.{IsPerformed, cut_with}
 use Rattle.buffer_stages.proofs.Lemmas.Glyphs.{first_item}
 use Rattle.buffer_stages.proofs.Lemmas.Performed.{passes_nothing}
-use Rattle.buffer_stages.proofs.Lemmas.Does.{passed_same}
-use Rattle.layout_gpos.specs.Moving.{break_around}
+use Rattle.buffer_stages.proofs.Lemmas.Attempts.{cut_with_glyphs}
+use Rattle.layout_gpos.specs.Moving.{break_around, strict_break_around}
 use Rattle.layout_gpos.specs.Values.{is_zero}
 use Rattle.layout_tables.specs.Covers.{covers_first_of_pair}
 use Rattle.layout_gpos.specs.Pairs.{has_no_effect, next_item, pair_adjusted, pair_events, pair_from, pair_length, pair_of, pair_second, pair_subtable, pair_values}
@@ -26,11 +31,39 @@ use Rattle.layout_gpos.proofs.Lemmas.Performed.{marked_made}
 
 -- ---- a pair
 
-pub pair_marked : (v : PairValues) (apart : ℕ) (s new : Sides) → (is_zero v.first && has_no_effect v.second) ≡ false → IsPassed (Break (length s.behind - 0) (length s.behind + (apart + 1)) ∷ []) s new → IsPassed (pair_events v apart (cut_of s)) s new
-pair_marked v apart s new e p = subst (λ (b : Bool). IsPassed (if b then [] else break_around 0 (apart + 1) (cut_of s)) s new) (sym e) (break_passed 0 (apart + 1) s new p)
+-- the events of a pair, by whether it has no effect
+abbrev events_by : Bool → ℕ → Cut → List Event
+events_by none apart c = if none then strict_break_around (apart + 1) c else break_around 0 (apart + 1) c
 
-pub pair_unmarked : (v : PairValues) (apart : ℕ) (s : Sides) → (is_zero v.first && has_no_effect v.second) ≡ true → IsPassed (pair_events v apart (cut_of s)) s s
-pair_unmarked v apart s e = subst (λ (b : Bool). IsPassed (if b then [] else break_around 0 (apart + 1) (cut_of s)) s s) (sym e) (passed_same s)
+pub pair_marked : (v : PairValues) (apart : ℕ) (s new : Sides) → (is_zero v.first && has_no_effect v.second) ≡ false → IsPassed (Break (length s.behind - 0) (length s.behind + (apart + 1)) ∷ []) s new → IsPassed (pair_events v apart (cut_of s)) s new
+pair_marked v apart s new e p = subst (λ (b : Bool). IsPassed (events_by b apart (cut_of s)) s new) (sym e) (break_passed 0 (apart + 1) s new p)
+
+strictly_passed : (from to : ℕ) (s : Sides) (b : Bool) → from ≤ to → origins_of (if b then with_flagged_apart 3 from to s else s) ≡ origins_by (StrictBreak from to ∷ []) s
+    → IsPassed (StrictBreak from to ∷ []) s (if b then with_flagged_apart 3 from to s else s)
+strictly_passed from to s true le happened = record {
+  cut_is = cut_with_glyphs (has_several_numbers (range_of from to (clusters (all_glyphs s)))) (glyphs_marked 3 from to (all_glyphs s)) s (strip_marked 3 from to (all_glyphs s) (omega arith) le);
+  happened = happened;
+  still = refl;
+  read = refl;
+}
+strictly_passed from to s false le happened = record { cut_is = refl; happened = happened; still = refl; read = refl }
+
+pub pair_strictly_marked : (v : PairValues) (apart at : ℕ) (s new : Sides) → (is_zero v.first && has_no_effect v.second) ≡ true → at ≡ s.read → new ≡ strictly_marked (Some at) (Some (at + apart + 1)) s
+    → origins_of new ≡ origins_by (StrictBreak (start_in_all (Some at) s) (end_in_all (Some (at + apart + 1)) s) ∷ []) s → IsPassed (pair_events v apart (cut_of s)) s new
+pair_strictly_marked v apart at s new e here is happened =
+    let from = length s.behind in
+    let to = length s.behind + (apart + 1) in
+    let end = end_in_all (Some (at + apart + 1)) s in
+    let start_is : start_in_all (Some at) s ≡ from = omega (arith, here) in
+    let end_is : end ≡ to = omega (arith, here) in
+    let b = requests_breaks s in
+    let same : new ≡ (if b then with_flagged_apart 3 from to s else s) =
+    is ∙ ap (λ (k : ℕ). if b then with_flagged_apart 3 k end s else s) start_is ∙ ap (λ (k : ℕ). if b then with_flagged_apart 3 from k s else s) end_is in
+    let events : origins_of new ≡ origins_by (StrictBreak from to ∷ []) s =
+    happened ∙ ap (λ (k : ℕ). origins_by (StrictBreak k end ∷ []) s) start_is ∙ ap (λ (k : ℕ). origins_by (StrictBreak from k ∷ []) s) end_is in
+    let passed = subst (λ (t : Sides). IsPassed (StrictBreak from to ∷ []) s t) (sym same) (strictly_passed from to s b (omega arith) (ap origins_of (sym same) ∙ events)) in
+    let cut = subst (λ (k : ℕ). IsPassed (StrictBreak k (k + (apart + 1)) ∷ []) s new) (sym (length-map s.behind item_of)) passed in
+    subst (λ (t : Bool). IsPassed (events_by t apart (cut_of s)) s new) (sym e) cut
 
 pair_long : (apart : ℕ) (o : Option ValueRecord) (count : ℕ) → 0 < apart → apart < count → (0 < pair_length apart o) × (pair_length apart o ≤ count)
 pair_long apart None count some lt = (some, omega (arith, lt))

@@ -15,7 +15,7 @@ use Rattle.layout_match.specs.Searches.{answer, is_skippable}
 use Rattle.layout_match.specs.Matches.{nearest_from}
 use Rattle.buffer_stages.specs.Actions.{Cut, Action, Passes, Acts, at_first, attempt_around}
 use Rattle.layout_gpos.specs.Values.{with_adjusted_position, is_zero}
-use Rattle.layout_gpos.specs.Moving.{cut_with_positions, break_around}
+use Rattle.layout_gpos.specs.Moving.{cut_with_positions, break_around, strict_break_around}
 
 -- the second glyph is adjusted where it has a record
 abbrev pub second_adjusted : Direction → ℕ → Option ValueRecord → List Position → List Position
@@ -37,9 +37,10 @@ abbrev pub has_no_effect : Option ValueRecord → Bool
 has_no_effect None = true
 has_no_effect (Some v) = is_zero v
 
--- the events of a pair: with a record that isn't zero it is unsafe to break
+-- the events of a pair: with a record that isn't zero it is unsafe to break; with none, it takes its glyphs from other
+-- pairs, and is so where PRODUCE_SAFE_BREAKS is requested
 abbrev pub pair_events : PairValues → ℕ → Cut → List Event
-pair_events v apart c = if is_zero v.first && has_no_effect v.second then [] else break_around 0 (apart + 1) c
+pair_events v apart c = if is_zero v.first && has_no_effect v.second then strict_break_around (apart + 1) c else break_around 0 (apart + 1) c
 
 -- the item that is `apart` items after the cut is the second: where the two are no pair, all items from the first to it are unsafe to
 -- concat

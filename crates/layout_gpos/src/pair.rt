@@ -119,15 +119,20 @@ fn pair_length(apart: usize, value: Option<ValueRecord>) -> usize
     }
 }
 
-/// Flags a pair as unsafe to break where it has a value record that isn't zero.
-#[tactic(auto, using(crate::proofs::Paired::pair_marked, crate::proofs::Paired::pair_unmarked))]
+/// Flags a pair as unsafe to break where it has a value record that isn't zero; else where PRODUCE_SAFE_BREAKS is set,
+/// since it takes its glyphs from other pairs.
+#[tactic(auto, using(crate::proofs::Paired::pair_marked))]
 fn mark_pair(values: PairValues, apart: usize, buffer: &mut hb_buffer_t)
-    requires { apart < length buffer.old.ahead }
+    requires closed { buffer.old.is_open ≡ false }
+    requires within { apart < length buffer.old.ahead }
     ensures { IsPassed (pair_events values apart (cut_of buffer.old)) buffer.old buffer.new }
 {
     // The number of glyphs bounds `apart + 1`.
     let _end = buffer.len();
-    if !pair_has_no_effect(values) {
+    if pair_has_no_effect(values) {
+        let first = buffer.idx();
+        buffer.unsafe_to_break_strictly(Some(first), Some(first + apart + 1));
+    } else {
         mark_match(0, apart + 1, buffer);
     }
 }

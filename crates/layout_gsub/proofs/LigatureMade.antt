@@ -1,7 +1,7 @@
 -- A ligature that was made of its components.
 use Rattle.std.proofs.Common.{ℕ, zero, suc, ◌≡◌, ◌≤◌, ◌<◌, ◌+◌, ◌-◌, ◌==◌, ◌||◌, ◌&&◌, not, true, false, nat_le, Bool, if◌then◌else◌, List, [], ◌∷◌, ◌++◌, length, map, take, drop, refl, sym, ap, ◌∙◌, arith, append_assoc, Some, slice_get}
 use Rattle.std.specs.Prelude.{slice_range}
-use Rattle.std.proofs.lemmas.List.{map-append, length-append, length-map, drop-map, take-append-drop}
+use Rattle.std.proofs.lemmas.List.{map-append, length-append, length-map, take-append-drop}
 use Rattle.std.proofs.lemmas.Bool.Decides.{nat_tests}
 use Rattle.buffer_glyphs.specs.declared.cause.ShapeCause.{ShapeCause}
 use Rattle.buffer_glyphs.specs.declared.cause.ShapeCause.TheVariants.{TooLong}
@@ -113,7 +113,7 @@ ligature_made gdef glyph end r others x passed ahead s a b new g small ends le a
     let real = passed_items (has_own_number ps) id (components_at 0 xs) (components_at 0 xs) 1 others xs in
     let front : strip new.behind ≡ (strip s.behind ++ map (ligature_item gdef glyph ps id) (take 1 xs)) ++ real =
     ap (λ (t : Sides). strip t.behind) f.others ∙ u.items ∙ ap (λ ys. ys ++ x ∷ passed) front-a ∙ sym (append_assoc (strip s.behind) (x ∷ []) passed) ∙ ap (λ ys. (strip s.behind ++ ys) ++ passed) first-list ∙ ap (λ ys. (strip s.behind ++ map (ligature_item gdef glyph ps id) (take 1 xs)) ++ ys) is-passed in
-    let left : strip b.ahead ≡ drop end xs = ap (λ (t : Sides). strip t.ahead) u.others ∙ sym (drop-map item_of (end_of 1 others) a.ahead) ∙ ap (λ ys. drop (end_of 1 others) ys) rest-a ∙ ap (λ n. drop n xs) (sym ends) in
+    let left : strip b.ahead ≡ drop end xs = u.ahead ∙ ap (λ ys. drop (end_of 1 others) ys) rest-a ∙ ap (λ n. drop n xs) (sym ends) in
     let rest : strip new.ahead ≡ after_components ps id (slice_get xs (last_index (0 ∷ others))) (drop end xs) = f.items ∙ is-ahead ∙ ap (after_components ps id (slice_get xs (last_index (0 ∷ others)))) left in
     let given = last_given ps s.lig_id in
     let cut-new : cut_with r new ≡ record (cut_with r a) { front = strip new.behind; rest = strip new.ahead } = ap (λ (t : Sides). record (cut_with r t) { front = strip new.behind; rest = strip new.ahead }) (f.others ∙ ap (λ (t : Sides). record t { ahead = new.ahead }) u.others) in
@@ -136,7 +136,8 @@ ligature_made gdef glyph end r others x passed ahead s a b new g small ends le a
     let merge : HasHappened (Merge InList (length (strip s.behind)) (length (strip s.behind) + end) ∷ []) s a = m.happened ∙ ap (λ k. origins_by (Merge InList k (k + end) ∷ []) s) (sym (length-map s.behind item_of)) in
     let events : List Event = Merge InList (length c.front) (length c.front + end) ∷ component_deletions (length c.front) 0 others in
     let made : Cut = record c { front = c.front ++ map (ligature_item gdef glyph ps id) (take 1 xs) ++ real; rest = after_components ps id (slice_get xs (last_index (0 ∷ others))) (drop end xs); lig_id = given } in
-    let ahead-b : length b.ahead ≡ length a.ahead - end = ap (λ (t : Sides). length t.ahead) u.others ∙ ap (λ k. length (drop k a.ahead)) (sym ends) ∙ count_dropped end a.ahead in
+    let ahead-b : length b.ahead ≡ length a.ahead - end =
+    sym (length-map b.ahead item_of) ∙ ap length u.ahead ∙ ap (λ k. length (drop k (strip a.ahead))) (sym ends) ∙ count_dropped end (strip a.ahead) ∙ ap (λ k. k - end) (length-map a.ahead item_of) in
     let ahead-new : length new.ahead ≡ length b.ahead = sym (length-map new.ahead origin_of) ∙ ap length f.origin ∙ length-map b.ahead origin_of in
     let long-new : length new.behind ≡ length b.behind = ap length behind-new in
     let p : Item → Bool = λ y. nat_le y.number 65535 in

@@ -1,5 +1,5 @@
 -- Several glyphs where one was.
-use Rattle.std.proofs.Common.{ℕ, ◌≡◌, ◌≤◌, ◌<◌, ◌+◌, zero, suc, ◌&&◌, true, false, nat_le, Bool, List, [], ◌∷◌, ◌++◌, length, map, take, drop, replicate, refl, sym, ap, subst, ◌∙◌, arith, append_assoc, add-one, Some, get_or, slice_get}
+use Rattle.std.proofs.Common.{ℕ, ◌≡◌, ◌≤◌, ◌<◌, ◌+◌, ◌-◌, zero, suc, ◌&&◌, min, true, false, nat_le, if◌then◌else◌, Bool, Ok, List, [], ◌∷◌, ◌++◌, length, map, take, drop, replicate, refl, sym, ap, subst, ◌∙◌, arith, append_assoc, add-one, Some, get_or, slice_get}
 use Rattle.std.proofs.lemmas.List.{map-append, length-append, length-map, replicate-append-replicate, take_all}
 use Rattle.std.proofs.Math.Seq.{take-append_seam, drop-append_seam, drop-append-add}
 use Rattle.std.proofs.lemmas.Bool.Decides.{nat_tests}
@@ -9,19 +9,21 @@ use Rattle.buffer_glyphs.specs.declared.info.hb_glyph_info_t.{hb_glyph_info_t}
 use Rattle.buffer_glyphs.specs.Items.{Item, item_of, strip, clusters}
 use Rattle.buffer_glyphs.specs.Parts.{first_of, elements_replaced}
 use Rattle.buffer_glyphs.specs.Origins.{Origin, origin_of, origins, origins_merged_as, manner, InList}
-use Rattle.buffer_glyphs.specs.Events.{Replace, Delete}
-use Rattle.buffer_core.specs.Sides.{Sides, items_of, origins_of, origins_by, has_output_room}
-use Rattle.buffer_core.specs.Merging.{with_output_info, with_glyph_skipped}
+use Rattle.buffer_glyphs.specs.Events.{Event, Break, Replace, Delete, StrictBreak, strictly_marked}
+use Rattle.buffer_core.specs.Sides.{Sides, items_of, origins_of, origins_by, requests_breaks, has_output_room}
+use Rattle.buffer_core.specs.Merging.{with_glyph_passed, with_output_info, with_glyph_skipped}
+use Rattle.buffer_core.proofs.HandedOn.{put_origins, skip_passes}
 use Rattle.buffer_core.proofs.Told.{stage_flags_ignore_glyph_flags}
 use Rattle.buffer_core.specs.Grouping.{with_deleted}
 use Rattle.buffer_glyphs.specs.Deleting.{deletion_marks}
 use Rattle.layout_face.specs.declared.parts.GlyphDefinition.{GlyphDefinition}
-use Rattle.buffer_stages.specs.Actions.{Acts, Refuses}
-use Rattle.buffer_stages.specs.Buffers.{are_glyphs, frame_of, IsStill}
+use Rattle.buffer_stages.specs.Actions.{Cut, Acts, Refuses, Action, later}
+use Rattle.buffer_stages.specs.Buffers.{are_glyphs, cut_of, frame_of, HasHappened, IsPassed, IsStill}
 use Rattle.buffer_stages.specs.Performing.{cut_with, IsPerformed}
+use Rattle.buffer_stages.proofs.Lemmas.Performed.{performs_later, same_with}
 use Rattle.buffer_stages.proofs.Lemmas.Glyphs.{and_both, all_of_both, all_of_front, all_of_back, all_dropped, first_item}
 use Rattle.layout_gsub.specs.Putting.{IsPut}
-use Rattle.layout_gsub.specs.Multiples.{component_item, component_items, multiplied_item, multiple_substitution, cut_with_multiple, deletion}
+use Rattle.layout_gsub.specs.Multiples.{component_item, component_items, multiplied_item, multiple_substitution, cut_with_multiple, neighbours_flagged, deletion}
 use Rattle.layout_gsub.proofs.Replaced.{acts_within, refuses_past}
 use Rattle.layout_gsub.proofs.Merged.{one_merged}
 
@@ -129,6 +131,31 @@ dropped_length : {X : Type 0} (xs : List X) → 0 < length xs → length (drop 1
 dropped_length [] lt = absurd (omega (arith, lt))
 dropped_length (x ∷ xs) lt = omega arith
 
+-- the last of glyphs of one origin
+ends_with : (gs : List hb_glyph_info_t) (os : List Origin) (o : Origin) → origins gs ≡ os ++ o ∷ [] → (front : List hb_glyph_info_t) × (h : hb_glyph_info_t) × (gs ≡ front ++ h ∷ []) × (origin_of h ≡ o)
+ends_with [] [] o e = cc
+ends_with [] (p ∷ os) o e = cc
+ends_with (g ∷ []) [] o e = ([], g, refl, cc)
+ends_with (g ∷ k ∷ ks) [] o e = cc
+ends_with (g ∷ gs) (p ∷ os) o e =
+    let rest = ends_with gs os o (tails e) in
+    (g ∷ rest.0, rest.1, ap (λ hs. g ∷ hs) rest.2, rest.3)
+  where
+    tails : {q r : Origin} {qs rs : List Origin} → q ∷ qs ≡ r ∷ rs → qs ≡ rs
+    tails e = cc
+
+first_glyph : (gs : List hb_glyph_info_t) (g : hb_glyph_info_t) → slice_get gs 0 ≡ Some g → gs ≡ g ∷ drop 1 gs
+first_glyph [] g at = cc
+first_glyph (h ∷ gs) g at = let same : h ≡ g = cc in ap (λ k. k ∷ gs) same
+
+-- a glyph of which others are copies has no flags to hand on
+multiplied_passes : (i : ℕ) (o : Origin) (g : hb_glyph_info_t) (t : Sides) (os : List Origin) → 0 < i → origins t.behind ≡ os ++ replicate i o → slice_get t.ahead 0 ≡ Some g → o ≡ origin_of g → with_glyph_skipped t ≡ with_glyph_passed t
+multiplied_passes i o g t os some from at same =
+    let more : i - 1 + 1 ≡ i = omega (arith, some) in
+    let split : os ++ replicate i o ≡ (os ++ replicate (i - 1) o) ++ o ∷ [] = ap (λ k. os ++ replicate k o) (sym more) ∙ ap (λ ys. os ++ ys) (sym (replicate-append-replicate (i - 1) 1 o)) ∙ sym (append_assoc os (replicate (i - 1) o) (o ∷ [])) in
+    let l = ends_with t.behind (os ++ replicate (i - 1) o) o (from ∙ split) in
+    skip_passes l.1 g l.0 (drop 1 t.ahead) t l.2 (first_glyph t.ahead g at) (l.3 ∙ same)
+
 pub output_made : (gdef : GlyphDefinition) (glyphs : List ℕ) (i r : ℕ) (g : hb_glyph_info_t) (s now new : Sides) → 0 < length s.ahead → slice_get s.ahead 0 ≡ Some g → 0 < length glyphs → list_all (λ n. nat_le n 65535) glyphs ≡ true → length glyphs ≤ i → i ≤ length glyphs
     → AreOutput gdef glyphs i g s now → new ≡ with_glyph_skipped now → IsPerformed (multiple_substitution gdef glyphs (cut_with r s)) true r r s new
 output_made gdef glyphs i r g s now new there at some small all within a is =
@@ -137,7 +164,8 @@ output_made gdef glyphs i r g s now new there at some small all within a is =
     let o = origin_of g in
     let last : i ≡ n = omega (arith, all, within) in
     let taken : take i glyphs ≡ glyphs = take_all i glyphs all in
-    let after : new ≡ with_glyph_skipped (record s { behind = now.behind; is_apart = now.is_apart }) = is ∙ ap with_glyph_skipped a.others in
+    let put : Sides = record s { behind = now.behind; is_apart = now.is_apart } in
+    let after : new ≡ with_glyph_passed put = is ∙ ap with_glyph_skipped a.others ∙ multiplied_passes i o g put (origins s.behind) (omega (arith, last, some)) a.origin at refl in
     let ahead : new.ahead ≡ drop 1 s.ahead = ap (λ (t : Sides). t.ahead) after in
     let behind : new.behind ≡ now.behind = ap (λ (t : Sides). t.behind) after in
     let items : strip new.behind ≡ strip s.behind ++ component_items gdef x 0 glyphs = ap strip behind ∙ a.items ∙ ap (λ gs. strip s.behind ++ component_items gdef x 0 gs) taken in
@@ -150,13 +178,15 @@ output_made gdef glyphs i r g s now new there at some small all within a is =
     ∙ ap (λ (xs : List Item). record c { front = strip s.behind ++ component_items gdef x 0 glyphs; rest = xs }) (dropped_map item_of s.ahead)
     ∙ ap (λ q. record c { front = strip s.behind ++ multiplied_item gdef glyphs q; rest = drop 1 (strip s.ahead) }) (sym first) in
     let os = origins s.behind in
-    let f : length (strip s.behind) ≡ length os = length-map s.behind item_of ∙ sym (length-map s.behind origin_of) in
-    let from : origins_of new ≡ os ++ replicate n o ++ drop 1 (origins s.ahead) =
-    map-append origin_of new.behind new.ahead ∙ ap (λ gs. origins gs ++ origins new.ahead) behind ∙ ap (λ gs. origins now.behind ++ origins gs) ahead ∙ ap (λ q. origins now.behind ++ q) (dropped_map origin_of s.ahead)
+    let from : origins (now.behind ++ drop 1 s.ahead) ≡ os ++ replicate n o ++ drop 1 (origins s.ahead) =
+    map-append origin_of now.behind (drop 1 s.ahead) ∙ ap (λ q. origins now.behind ++ q) (dropped_map origin_of s.ahead)
     ∙ ap (λ q. q ++ drop 1 (origins s.ahead)) (a.origin ∙ ap (λ k. os ++ replicate k o) last) in
-    let happened : origins_of new ≡ origins_by (Replace (length c.front) 1 n ∷ []) s =
-    from ∙ sym (ap (λ m. elements_replaced m 1 n (origins_merged_as (manner InList s.level) m (m + 1) (origins_of s))) f ∙ ap (elements_replaced (length os) 1 n) (one_merged (manner InList s.level) (length os) (origins_of s) ∙ map-append origin_of s.behind s.ahead)
+    let b : length os ≡ length s.behind = length-map s.behind origin_of in
+    let plain : origins (now.behind ++ drop 1 s.ahead) ≡ elements_replaced (length s.behind) 1 n (origins_merged_as (manner InList s.level) (length s.behind) (length s.behind + 1) (origins_of s)) =
+    from ∙ sym (ap (elements_replaced (length s.behind) 1 n) (one_merged (manner InList s.level) (length s.behind) (origins_of s) ∙ map-append origin_of s.behind s.ahead) ∙ ap (λ m. elements_replaced m 1 n (os ++ origins s.ahead)) (sym b)
     ∙ from_one n o os (origins s.ahead) (first_origin s.ahead g at)) in
+    let happened : origins_of new ≡ origins_by (Replace (length c.front) 1 n ∷ []) s =
+    ap origins_of (is ∙ ap with_glyph_skipped a.others) ∙ put_origins n s put (a.count ∙ ap (λ k. length s.behind + k) last) refl refl plain ∙ ap (λ m. origins_by (Replace m 1 n ∷ []) s) (sym (length-map s.behind item_of)) in
     let counts = dropped_length s.ahead there in
     let le = a.room (omega (arith, last, some)) in
     let room : nat_le (length s.behind + n) s.max_len ≡ true = grind (arith, nat_tests, le, last) in
@@ -200,8 +230,12 @@ same_front xs ys zs ws e long = (
   sym (drop-append_seam xs ys) ∙ ap (drop (length xs)) e ∙ ap (λ n. drop n (zs ++ ws)) long ∙ drop-append_seam zs ws,
 )
 
+-- the glyph at the cursor is deleted, with no other event
+abbrev deleted_alone : Action
+deleted_alone c = Acts (record c { rest = drop 1 c.rest }) (Delete (length c.front) ∷ [])
+
 pub glyph_deleted : (r : ℕ) (s new : Sides) → 0 < length s.ahead → ((g : hb_glyph_info_t) (back : List hb_glyph_info_t) → s.ahead ≡ g ∷ back → new ≡ with_deleted g back s) → new.read ≡ s.read + 1 → length new.behind ≡ length s.behind → length new.ahead + 1 ≡ length s.ahead
-    → items_of new ≡ strip s.behind ++ drop 1 (strip s.ahead) → origins_of new ≡ origins_by (Delete (length s.behind) ∷ []) s → IsPerformed (deletion (cut_with r s)) true r r s new
+    → items_of new ≡ strip s.behind ++ drop 1 (strip s.ahead) → origins_of new ≡ origins_by (Delete (length s.behind) ∷ []) s → IsPerformed (deleted_alone (cut_with r s)) true r r s new
 glyph_deleted r s new there is read behind left items followed =
     let f : length (strip s.behind) ≡ length s.behind = length-map s.behind item_of in
     let p : Item → Bool = λ y. nat_le y.number 65535 in
@@ -219,3 +253,37 @@ glyph_deleted r s new there is read behind left items followed =
             ap are_glyphs items ∙ all_of_both p (strip s.behind) (drop 1 (strip s.ahead)) (all_of_front p (strip s.behind) (strip s.ahead) before) (all_dropped p 1 (strip s.ahead) (all_of_back p (strip s.behind) (strip s.ahead) before));
       },
     )
+
+-- where safe breaks are requested, `Break` is what `StrictBreak` is
+strictly_happened : (from to : ℕ) (t : Bool) (s new : Sides) → requests_breaks s ≡ t → origins_of new ≡ (if t then origins_by (Break from to ∷ []) s else origins_of s) → HasHappened (StrictBreak from to ∷ []) s new
+strictly_happened from to true s new e f = f ∙ ap (λ (b : Bool). strictly_marked b from to (origins_of s)) (sym e)
+strictly_happened from to false s new e f = f ∙ ap (λ (b : Bool). strictly_marked b from to (origins_of s)) (sym e)
+
+flagged_range : (back ahead : ℕ) (s : Sides) → back ≡ min (length s.behind) 1 → ahead ≡ min (length s.ahead) 2
+    → StrictBreak (length s.behind - back) (length s.behind + ahead) ≡ neighbours_flagged (cut_of s)
+flagged_range back ahead s b a =
+    let front : length (strip s.behind) ≡ length s.behind = length-map s.behind item_of in
+    let rest : length (strip s.ahead) ≡ length s.ahead = length-map s.ahead item_of in
+    let from : length s.behind - back ≡ length (strip s.behind) - 1 = omega (arith, front, b) in
+    let to : length s.behind + ahead ≡ length (strip s.behind) + min 2 (length (strip s.ahead)) = omega (arith, front, rest, a) in
+    ap (λ (k : ℕ). StrictBreak k (length s.behind + ahead)) from ∙ ap (λ (k : ℕ). StrictBreak (length (strip s.behind) - 1) k) to
+
+-- the glyph at the cursor was flagged with its neighbours
+pub neighbours_passed : (back ahead : ℕ) (s new : Sides) → requests_breaks s ≡ true → back ≡ min (length s.behind) 1 → ahead ≡ min (length s.ahead) 2
+    → IsPassed (Break (length s.behind - back) (length s.behind + ahead) ∷ []) s new → IsPassed (neighbours_flagged (cut_of s) ∷ []) s new
+neighbours_passed back ahead s new e b a p =
+    subst (λ (x : Event). IsPassed (x ∷ []) s new) (flagged_range back ahead s b a)
+    (record { cut_is = p.cut_is; happened = strictly_happened (length s.behind - back) (length s.behind + ahead) true s new e p.happened; still = p.still; read = p.read })
+
+-- it was not, where that isn't requested
+pub neighbours_left : (s : Sides) → requests_breaks s ≡ false → IsPassed (neighbours_flagged (cut_of s) ∷ []) s s
+neighbours_left s e =
+    let c = cut_of s in
+    record { cut_is = refl; happened = strictly_happened (length c.front - 1) (length c.front + min 2 (length c.rest)) false s s e refl; still = refl; read = refl }
+
+-- then it was deleted
+pub deleted_after : (r : ℕ) (s mid new : Sides) → IsPassed (neighbours_flagged (cut_of s) ∷ []) s mid → IsPerformed (deleted_alone (cut_with r mid)) true r r mid new → IsPerformed (deletion (cut_with r s)) true r r s new
+deleted_after r s mid new p d =
+    let es : List Event = neighbours_flagged (cut_of s) ∷ [] in
+    subst (λ (c : Cut). IsPerformed (later es (deleted_alone c)) true r r s new) (same_with r s mid p.cut_is)
+    (performs_later es (deleted_alone (cut_with r mid)) (Ok true) r r s mid new p d)

@@ -13,6 +13,7 @@ use Rattle.buffer_glyphs.specs.Events.{Replace, origins_after}
 use Rattle.buffer_core.specs.Sides.{Sides, flag_requests_of, fits_next, has_output_room, after_next_glyphs, origins_of, origins_by}
 use Rattle.buffer_core.specs.Lending.{with_glyph_ahead}
 use Rattle.buffer_core.specs.Merging.{with_glyph_skipped}
+use Rattle.buffer_core.proofs.HandedOn.{skipped_ahead, skipped_behind}
 use Rattle.buffer_glyphs.specs.LigatureWords.{lig_num_comps}
 use Rattle.layout_gsub.specs.Ligating.{component_count, components_at, component_deletions, passed_item, passed_items}
 use Rattle.layout_gsub.specs.Uniting.{ArePassedAs, AreRising, AreUnited, IsPassedAs, end_of}
@@ -120,10 +121,15 @@ pub record IsUniting (first : Item) (renumbers : Bool) (id e0 o0 : ℕ) (places 
   pub items : strip now.behind ++ passed_items renumbers id e o from (drop k places) (strip s.ahead) ≡ strip s.behind ++ first ∷ passed_items renumbers id e0 o0 1 places (strip s.ahead)
   pub origin : origins_after (flag_requests_of s) s.level (component_deletions (length s.behind) k (drop k places)) (origins_of now) ≡ origins_by (component_deletions (length s.behind) 0 places) s
   pub count : length now.behind + k ≡ length s.behind + from
-  pub others : now ≡ record s { behind = now.behind; ahead = drop from s.ahead; read = s.read + from }
+  pub ahead : strip now.ahead ≡ drop from (strip s.ahead)
+  pub others : now ≡ record s { behind = now.behind; ahead = now.ahead; read = s.read + from }
   pub rising : AreRising from (drop k places)
   pub end_is : end_of from (drop k places) ≡ end_of 1 places
   pub within : length now.behind ≤ now.max_len
+
+-- a buffer with other glyphs
+same_others : (s new : Sides) (front back : List hb_glyph_info_t) (n : ℕ) → new ≡ record s { behind = front; ahead = back; read = n } → new ≡ record s { behind = new.behind; ahead = new.ahead; read = n }
+same_others s new front back n e = let P : Sides → Type 0 = λ t. t ≡ record s { behind = t.behind; ahead = t.ahead; read = n } in subst P (sym e) refl
 
 pub none_united : (x : Item) (renumbers : Bool) (id ended own : ℕ) (places : List ℕ) (s now : Sides) → AreRising 1 places → IsPassedAs x s now → IsUniting x renumbers id ended own places s 0 1 ended own now
 none_united x renumbers id ended own places s now rising p =
@@ -132,7 +138,8 @@ none_united x renumbers id ended own places s now rising p =
       items = ap (λ xs. xs ++ passed_items renumbers id ended own 1 places (strip s.ahead)) p.items ∙ append_assoc (strip s.behind) (x ∷ []) (passed_items renumbers id ended own 1 places (strip s.ahead));
       origin = ap (origins_after (flag_requests_of s) s.level (component_deletions (length s.behind) 0 places)) (one_from x s now p);
       count = omega (arith, long);
-      others = p.others;
+      ahead = ap (λ (t : Sides). strip t.ahead) p.others ∙ sym (drop-map item_of 1 s.ahead);
+      others = same_others s now now.behind (drop 1 s.ahead) (s.read + 1) p.others;
       rising = rising;
       end_is = refl;
       within = p.within;
@@ -154,6 +161,16 @@ count_dropped zero xs = omega arith
 count_dropped (suc m) [] = omega arith
 count_dropped (suc m) (x ∷ xs) = let here = count_dropped m xs in omega (arith, here)
 
+get_further : (from n i : ℕ) (xs : List Item) → n + from ≡ i → slice_get (drop from xs) n ≡ slice_get xs i
+get_further zero n i xs e = ap (slice_get xs) (omega (arith, e))
+get_further (suc from) n i [] e = refl
+get_further (suc from) n zero (x ∷ xs) e = absurd (omega (arith, e))
+get_further (suc from) n (suc i) (x ∷ xs) e = get_further from n i xs (omega (arith, e))
+
+-- how many glyphs are ahead then
+pub ahead_left : (x : Item) (renumbers : Bool) (id ended own : ℕ) (places : List ℕ) (s : Sides) (k from e o : ℕ) (now : Sides) → IsUniting x renumbers id ended own places s k from e o now → length now.ahead ≡ length s.ahead - from
+ahead_left x renumbers id ended own places s k from e o now u = sym (length-map now.ahead item_of) ∙ ap length u.ahead ∙ count_dropped from (strip s.ahead) ∙ ap (λ n. n - from) (length-map s.ahead item_of)
+
 -- one more went
 component_gone : (x : Item) (renumbers : Bool) (id ended own : ℕ) (places : List ℕ) (s : Sides) (k from e o i : ℕ) (rest : List ℕ) (now mid next : Sides) (g : hb_glyph_info_t) → drop k places ≡ i ∷ rest → drop (k + 1) places ≡ rest → i < length s.ahead → slice_get mid.ahead 0 ≡ Some g
     → IsUniting x renumbers id ended own places s k from e o now → from ≤ i → AreRising (i + 1) rest → ArePassedAs (passed_item renumbers id e o) (i - from) now mid → next ≡ with_glyph_skipped mid → origins_of next ≡ origins_by (Replace (length mid.behind) 1 0 ∷ []) mid
@@ -164,48 +181,49 @@ component_gone x renumbers id ended own places s k from e o i rest now mid next 
     let n = i - from in
     let at-s = length s.behind in
     let c = lig_num_comps (item_of g) in
-    let ahead : now.ahead ≡ drop from s.ahead = ap (λ (t : Sides). t.ahead) u.others in
-    let items-left : strip now.ahead ≡ drop from xs = ap strip ahead ∙ sym (drop-map item_of from s.ahead) in
+    let items-left : strip now.ahead ≡ drop from xs = u.ahead in
     let sum : n + from ≡ i = omega (arith, le) in
-    let mid-ahead : mid.ahead ≡ drop i s.ahead = ap (λ (t : Sides). t.ahead) a.others ∙ ap (drop n) ahead ∙ drop-drop n from s.ahead ∙ ap (λ m. drop m s.ahead) (omega (arith, le)) in
-    let there : slice_get xs i ≡ Some (item_of g) = get_dropped i s.ahead g (ap (λ gs. slice_get gs 0) (sym mid-ahead) ∙ at) in
+    let mid-ahead : mid.ahead ≡ drop n now.ahead = ap (λ (t : Sides). t.ahead) a.others in
+    let mid-left : strip mid.ahead ≡ drop i xs = ap strip mid-ahead ∙ sym (drop-map item_of n now.ahead) ∙ ap (drop n) items-left ∙ drop-drop n from xs ∙ ap (λ m. drop m xs) (omega (arith, le)) in
+    let there : slice_get xs i ≡ Some (item_of g) = sym (get_further from n i xs sum) ∙ ap (λ ys. slice_get ys n) (sym items-left) ∙ get_dropped n now.ahead g (ap (λ gs. slice_get gs 0) (sym mid-ahead) ∙ at) in
     let own-now : components_at i xs ≡ c = components_there i xs (item_of g) there in
     let passed : map f (take n (strip now.ahead)) ≡ map f (slice_range xs from i) = ap (λ ys. map f (take n ys)) items-left in
     let whole : passed_items renumbers id e o from (drop k places) xs ≡ map f (slice_range xs from i) ++ passed_items renumbers id (e + c) c (i + 1) (drop (k + 1) places) xs =
     ap (λ ps. passed_items renumbers id e o from ps xs) left ∙ ap (λ m. map f (slice_range xs from i) ++ passed_items renumbers id (e + m) m (i + 1) rest xs) own-now ∙ ap (λ ps. map f (slice_range xs from i) ++ passed_items renumbers id (e + c) c (i + 1) ps xs) (sym after) in
-    let behind : next.behind ≡ mid.behind = ap (λ (t : Sides). t.behind) is in
+    let behind : strip next.behind ≡ strip mid.behind = ap (λ (t : Sides). strip t.behind) is ∙ skipped_behind mid in
+    let same : length next.behind ≡ length mid.behind = sym (length-map next.behind item_of) ∙ ap length behind ∙ length-map mid.behind item_of in
     let more = passed_items renumbers id (e + c) c (i + 1) (drop (k + 1) places) xs in
-    let all-ahead = ap length ahead ∙ count_dropped from s.ahead in
+    let all-ahead = ahead_left x renumbers id ended own places s k from e o now u in
     let long : length mid.behind ≡ length now.behind + n = passed_count f n now mid (omega (arith, all-ahead, lt, le)) a in
     let counted = u.count in
     let place : length mid.behind ≡ at-s + i - k = omega (arith, long, counted, le) in
-    let mid-is : mid ≡ record s { behind = mid.behind; ahead = mid.ahead; read = mid.read } = a.others ∙ ap (λ (t : Sides). record t { behind = mid.behind; ahead = drop n t.ahead; read = t.read + n }) u.others ∙ back mid now s n from a u.others in
+    let mid-is : mid ≡ record s { behind = mid.behind; ahead = mid.ahead; read = mid.read } = part_of_it mid now s n from a u.others in
     let from-mid : origins_of next ≡ origins_after (flag_requests_of s) s.level (Replace (at-s + i - k) 1 0 ∷ []) (origins_of now) =
     gone ∙ ap (λ m. origins_by (Replace m 1 0 ∷ []) mid) place ∙ ap (λ (t : Asks). origins_after t mid.level (Replace (at-s + i - k) 1 0 ∷ []) (origins_of mid)) (ap flag_requests_of mid-is) ∙ ap (λ (l : BufferClusterLevel). origins_after (flag_requests_of s) l (Replace (at-s + i - k) 1 0 ∷ []) (origins_of mid)) (ap (λ (t : Sides). t.level) mid-is)
     ∙ ap (origins_after (flag_requests_of s) s.level (Replace (at-s + i - k) 1 0 ∷ [])) (between_from f n now mid a) in
     let mid-read : mid.read ≡ s.read + from + n = ap (λ (t : Sides). t.read) a.others ∙ ap (λ (t : Sides). t.read + n) u.others in
     let read : mid.read + 1 ≡ s.read + (i + 1) = omega (arith, mid-read, le) in
     record {
-      items = ap (λ gs. strip gs ++ more) behind ∙ ap (λ ys. ys ++ more) a.items ∙ append_assoc (strip now.behind) (map f (take n (strip now.ahead))) more ∙ ap (λ ys. strip now.behind ++ (ys ++ more)) passed ∙ ap (λ ys. strip now.behind ++ ys) (sym whole) ∙ u.items;
+      items = ap (λ ys. ys ++ more) behind ∙ ap (λ ys. ys ++ more) a.items ∙ append_assoc (strip now.behind) (map f (take n (strip now.ahead))) more ∙ ap (λ ys. strip now.behind ++ (ys ++ more)) passed ∙ ap (λ ys. strip now.behind ++ ys) (sym whole) ∙ u.items;
       origin = ap (origins_after (flag_requests_of s) s.level (component_deletions at-s (k + 1) (drop (k + 1) places))) from-mid ∙ ap (λ ps. origins_after (flag_requests_of s) s.level (component_deletions at-s (k + 1) ps) (origins_after (flag_requests_of s) s.level (Replace (at-s + i - k) 1 0 ∷ []) (origins_of now))) after
           ∙ ap (λ ps. origins_after (flag_requests_of s) s.level (component_deletions at-s k ps) (origins_of now)) (sym left) ∙ u.origin;
-      count = let same = ap length behind in omega (arith, same, long, counted, le);
-      others = is ∙ ap with_glyph_skipped mid-is ∙ ap (λ (gs : List hb_glyph_info_t). record s { behind = gs; ahead = drop 1 mid.ahead; read = mid.read + 1 }) (sym behind) ∙ ap (λ (gs : List hb_glyph_info_t). record s { behind = next.behind; ahead = gs; read = mid.read + 1 }) (ap (drop 1) mid-ahead ∙ drop_next s.ahead i) ∙ ap (λ (m : ℕ). record s { behind = next.behind; ahead = drop (i + 1) s.ahead; read = m }) read;
+      count = omega (arith, same, long, counted, le);
+      ahead = ap (λ (t : Sides). strip t.ahead) is ∙ skipped_ahead mid ∙ ap (drop 1) mid-left ∙ drop_next xs i;
+      others =
+          let t : Sides = record s { behind = mid.behind; ahead = mid.ahead; read = mid.read } in
+          same_others s next (with_glyph_skipped t).behind (with_glyph_skipped t).ahead (s.read + (i + 1)) (is ∙ ap with_glyph_skipped mid-is ∙ ap (λ (m : ℕ). record (with_glyph_skipped t) { read = m }) read);
       rising = let P : List ℕ → Type 0 = AreRising (i + 1) in subst P (sym after) rising;
       end_is = ap (end_of (i + 1)) after ∙ ap (end_of from) (sym left) ∙ u.end_is;
       within =
           let w = a.within u.within in
           let limit : next.max_len ≡ mid.max_len = ap (λ (t : Sides). t.max_len) is in
-          let same = ap length behind in
           omega (arith, w, limit, same);
     }
   where
-    back : (mid now s : Sides) (n from : ℕ) → ArePassedAs (passed_item renumbers id e o) n now mid → now ≡ record s { behind = now.behind; ahead = drop from s.ahead; read = s.read + from }
-        → record s { behind = mid.behind; ahead = drop n (drop from s.ahead); read = s.read + from + n } ≡ record s { behind = mid.behind; ahead = mid.ahead; read = mid.read }
-    back mid now s n from a u =
-        let ahead : mid.ahead ≡ drop n (drop from s.ahead) = ap (λ (t : Sides). t.ahead) a.others ∙ ap (λ (t : Sides). drop n t.ahead) u in
-        let read : mid.read ≡ s.read + from + n = ap (λ (t : Sides). t.read) a.others ∙ ap (λ (t : Sides). t.read + n) u in
-        ap (λ (gs : List hb_glyph_info_t). record s { behind = mid.behind; ahead = gs; read = s.read + from + n }) (sym ahead) ∙ ap (λ (m : ℕ). record s { behind = mid.behind; ahead = mid.ahead; read = m }) (sym read)
+    part_of_it : (mid now s : Sides) (n from : ℕ) → ArePassedAs (passed_item renumbers id e o) n now mid → now ≡ record s { behind = now.behind; ahead = now.ahead; read = s.read + from } → mid ≡ record s { behind = mid.behind; ahead = mid.ahead; read = mid.read }
+    part_of_it mid now s n from a u =
+        let read : mid.read ≡ now.read + n = ap (λ (t : Sides). t.read) a.others in
+        same_others s mid mid.behind (drop n now.ahead) mid.read (a.others ∙ ap (λ (t : Sides). record t { behind = mid.behind; ahead = drop n now.ahead; read = now.read + n }) u ∙ ap (λ (m : ℕ). record s { behind = mid.behind; ahead = drop n now.ahead; read = m }) (sym read))
 
 -- the next component goes
 pub next_gone : (x : Item) (renumbers : Bool) (id ended own : ℕ) (places : List ℕ) (s : Sides) (k from e o i : ℕ) (now mid next : Sides) (g : hb_glyph_info_t) → k < length places → i ≡ get_or places k 0 → i < length s.ahead → slice_get mid.ahead 0 ≡ Some g
@@ -224,10 +242,6 @@ next_ahead x renumbers id ended own places s k from e o i now lt is u =
     let P : List ℕ → Type 0 = AreRising from in
     (subst P left u.rising).0
 
--- how many glyphs are ahead then
-pub ahead_left : (x : Item) (renumbers : Bool) (id ended own : ℕ) (places : List ℕ) (s : Sides) (k from e o : ℕ) (now : Sides) → IsUniting x renumbers id ended own places s k from e o now → length now.ahead ≡ length s.ahead - from
-ahead_left x renumbers id ended own places s k from e o now u = ap (λ (t : Sides). length t.ahead) u.others ∙ count_dropped from s.ahead
-
 -- all went
 pub all_united : (x : Item) (renumbers : Bool) (id ended own : ℕ) (places : List ℕ) (s : Sides) (k from e o : ℕ) (now : Sides) → length places ≤ k → IsUniting x renumbers id ended own places s k from e o now → AreUnited x (passed_items renumbers id ended own 1 places (strip s.ahead)) places s now
 all_united x renumbers id ended own places s k from e o now le u =
@@ -236,7 +250,8 @@ all_united x renumbers id ended own places s k from e o now le u =
     record {
       items = sym (append-nil (strip now.behind)) ∙ ap (λ ps. strip now.behind ++ passed_items renumbers id e o from ps (strip s.ahead)) (sym none) ∙ u.items;
       origin = ap (λ ps. origins_after (flag_requests_of s) s.level (component_deletions (length s.behind) k ps) (origins_of now)) (sym none) ∙ u.origin;
-      others = u.others ∙ ap (λ (n : ℕ). record s { behind = now.behind; ahead = drop n s.ahead; read = s.read + n }) end;
+      ahead = u.ahead ∙ ap (λ (n : ℕ). drop n (strip s.ahead)) end;
+      others = u.others ∙ ap (λ (n : ℕ). record s { behind = now.behind; ahead = now.ahead; read = s.read + n }) end;
       within = u.within;
     }
 

@@ -1,9 +1,9 @@
 -- Multiple substitution (OpenType, GSUB lookup type 2): a sequence of glyphs replaces one.
-use Rattle.std.specs.Prelude.{ℕ, ◌+◌, ◌==◌, is_some, if◌then◌else◌, List, [], ◌∷◌, ◌++◌, length, drop, Option, Some, None}
+use Rattle.std.specs.Prelude.{ℕ, ◌+◌, ◌-◌, ◌==◌, min, is_some, if◌then◌else◌, List, [], ◌∷◌, ◌++◌, length, drop, Option, Some, None}
 use Rattle.std.specs.Int.RustNames.{bit_and, bit_or}
 use Rattle.buffer_glyphs.specs.Items.{Item}
 use Rattle.buffer_glyphs.specs.Parts.{first_of}
-use Rattle.buffer_glyphs.specs.Events.{Replace, Delete}
+use Rattle.buffer_glyphs.specs.Events.{Event, Replace, Delete, StrictBreak}
 use Rattle.layout_face.specs.declared.parts.GlyphDefinition.{GlyphDefinition}
 use Rattle.layout_tables.specs.declared.sequence.SequenceRow.{SequenceRow}
 use Rattle.layout_tables.specs.Substitutions.{glyphs_of}
@@ -42,9 +42,14 @@ cut_with_multiple gdef glyphs c = record c { front = c.front ++ multiplied_item 
 abbrev pub multiple_substitution : GlyphDefinition → List ℕ → Action
 multiple_substitution gdef glyphs c = within_limit (length glyphs) c (Acts (cut_with_multiple gdef glyphs c) (Replace (length c.front) 1 (length glyphs) ∷ []))
 
--- the item at the cut is deleted
+-- the event that flags the item at the cut with its two neighbours, where PRODUCE_SAFE_BREAKS is requested
+abbrev pub neighbours_flagged : Cut → Event
+neighbours_flagged c = StrictBreak (length c.front - 1) (length c.front + min 2 (length c.rest))
+
+-- the item at the cut is deleted: where PRODUCE_SAFE_BREAKS is requested, its neighbours are unsafe to break, since they
+-- come to stand side by side
 abbrev pub deletion : Action
-deletion c = Acts (record c { rest = drop 1 c.rest }) (Delete (length c.front) ∷ [])
+deletion c = Acts (record c { rest = drop 1 c.rest }) (neighbours_flagged c ∷ Delete (length c.front) ∷ [])
 
 -- an empty sequence deletes the item, one glyph replaces it as a single substitution does, more replace it as its
 -- components

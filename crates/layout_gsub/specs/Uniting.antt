@@ -36,8 +36,9 @@ pub record ArePassedAs (f : Item → Item) (n : ℕ) (old new : Sides) : Type 0 
 -- deleted
 pub record AreUnited (first : Item) (passed : List Item) (places : List ℕ) (old new : Sides) : Type 0 where
   pub items : strip new.behind ≡ strip old.behind ++ first ∷ passed
+  pub ahead : strip new.ahead ≡ drop (end_of 1 places) (strip old.ahead)
   pub origin : origins_of new ≡ origins_by (component_deletions (length old.behind) 0 places) old
-  pub others : new ≡ record old { behind = new.behind; ahead = drop (end_of 1 places) old.ahead; read = old.read + end_of 1 places }
+  pub others : new ≡ record old { behind = new.behind; ahead = new.ahead; read = old.read + end_of 1 places }
   pub within : length new.behind ≤ new.max_len
 
 -- the first `end` glyphs from the cursor on were merged, and a ligature number was given out

@@ -1,12 +1,13 @@
 //! Multiple substitution (OpenType, GSUB lookup type 2; rustybuzz: hb/ot_layout_gsub_table.rs, `MultipleSubstitution`).
-ghost use Rattle.std.specs.Prelude.{ℕ, ◌≡◌, ◌≢◌, ◌<◌, ◌||◌, nat_lt, true, false, [], length, slice_get, Some, IfErr, OnOk};
+ghost use Rattle.std.specs.Prelude.{ℕ, ◌≡◌, ◌≢◌, ◌<◌, ◌||◌, nat_lt, true, false, [], ◌∷◌, length, slice_get, Some, IfErr, OnOk};
 ghost use Rattle.buffer_glyphs.specs.Items.{item_of};
 ghost use Rattle.buffer_glyphs.specs.Origins.{origin_of};
 ghost use Rattle.buffer_core.specs.Sides.{has_output_room, HasCurrent};
 ghost use Rattle.layout_gsub.specs.Putting.{IsPut};
 ghost use Rattle.buffer_stages.specs.Actions.{Refuses};
+ghost use Rattle.buffer_stages.specs.Buffers.{IsPassed, cut_of};
 ghost use Rattle.buffer_stages.specs.Performing.{IsPerformed, Performs, cut_with};
-ghost use Rattle.layout_gsub.specs.Multiples.{component_item, component_props, deletion, multiple_subtable, multiple_substitution, sequence};
+ghost use Rattle.layout_gsub.specs.Multiples.{component_item, component_props, deletion, multiple_subtable, multiple_substitution, neighbours_flagged, sequence};
 
 use crate::apply::{Apply, Skippable};
 use crate::replacement::{glyph_props, replace_glyph};
@@ -20,6 +21,7 @@ use buffer_glyphs::ligature_words::{
 };
 use layout_face::Face;
 use layout_match::hb_ot_apply_context_t;
+use layout_match::marking::mark_match;
 use layout_tables::sequence::MultipleSubst;
 
 /// The properties of one of several glyphs that replace a glyph.
@@ -96,11 +98,23 @@ fn multiply(glyphs: &[u16], face: &Face, buffer: &mut hb_buffer_t) -> Result<(),
     Ok(())
 }
 
-/// Deletes the glyph at the cursor.
+/// Flags the glyph at the cursor with its two neighbours as unsafe to break, where PRODUCE_SAFE_BREAKS is set.
+fn mark_neighbours(buffer: &mut hb_buffer_t)
+    ensures { IsPassed (neighbours_flagged (cut_of buffer.old) ∷ []) buffer.old buffer.new }
+{
+    if buffer.asks_breaks() {
+        let back = buffer.out_len().min(1);
+        let ahead = buffer.lookahead_len().min(2);
+        mark_match(back, ahead, buffer);
+    }
+}
+
+/// Deletes the glyph at the cursor; its neighbours then stand side by side.
 fn delete(buffer: &mut hb_buffer_t)
     requires current { HasCurrent buffer.old }
     ensures { (r : ℕ) → IsPerformed (deletion (cut_with r buffer.old)) true r r buffer.old buffer.new }
 {
+    mark_neighbours(buffer);
     buffer.delete_glyph();
 }
 

@@ -1,12 +1,8 @@
 -- Skipped lookups.
-use Rattle.std.proofs.Common.{ℕ, ◌≡◌, Bool, true, false, nat_le, ◌&&◌, List, [], length, Option, Some, None, Ok, refl, sym, ap, ◌∙◌, if◌then◌else◌}
+use Rattle.std.proofs.Common.{◌≡◌, Bool, true, false, ◌&&◌, [], Some, None, Ok, refl, sym, if◌then◌else◌}
 use Rattle.buffer_glyphs.specs.Items.{Item}
 use Rattle.buffer_core.specs.Readings.{View, Reading, as_it_is, with_events}
 use Rattle.layout_face.specs.Lookups.{is_reverse, positioning_covers, substitution_covers}
-use Rattle.layout_face.specs.declared.parts.FaceParts.{FaceParts}
-use Rattle.layout_face.specs.declared.positioning.PositioningLookup.{PositioningLookup}
-use Rattle.layout_face.specs.declared.substitution.SubstLookup.{SubstLookup}
-use Rattle.layout_map_features.specs.declared.lookup.lookup_map_t.{lookup_map_t}
 use Rattle.buffer_stages.specs.Actions.{Action}
 use Rattle.buffer_stages.specs.Masks.{shares_mask}
 use Rattle.layout_match.specs.Trying.{forward_pass, with_zero_positions}
@@ -17,7 +13,7 @@ use Rattle.layout_substitution.proofs.Skipped.{left_back}
 use Rattle.layout_substitution.proofs.Uncovered as Substituted
 use Rattle.layout_positioning.specs.Lookups as Positioning
 use Rattle.layout_positioning.proofs.Uncovered as Positioned
-use Rattle.layout_laws.specs.Skipping.{IsSound, SkippingPositionsAlike, SkippingSubstitutesAlike, positioning_unless_skipped, substitution_unless_skipped}
+use Rattle.layout_laws.specs.Skipping.{SkippingPositionsAlike, SkippingSubstitutesAlike}
 
 either_left : (b : Bool) (back forth : Reading) (v : View) → (b ≡ true → back ≡ Ok (with_events [] v)) → (b ≡ false → forth ≡ Ok (with_zero_positions v)) → Ok (if b then with_events [] v else with_zero_positions v) ≡ (if b then back else forth)
 either_left true back forth v left zero = sym (left refl)

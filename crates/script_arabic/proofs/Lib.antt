@@ -10,6 +10,7 @@ pub mod Wrapped
 pub mod LaidPositions
 pub mod Copied
 pub mod Underway
+pub mod WordsFlagged
 pub mod Laid
 pub mod Numbers
 pub mod Reach

@@ -1,11 +1,11 @@
 -- A run of Arabic marks between two ranges that are unchanged is reordered.
-use Rattle.std.proofs.Common.{ℕ, ◌≡◌, ◌≤◌, ◌+◌, ◌-◌, ◌==◌, Bool, true, false, if◌then◌else◌, List, [], ◌∷◌, ◌++◌, length, map, take, drop, refl, sym, ap, ◌∙◌, arith, append_assoc}
+use Rattle.std.proofs.Common.{ℕ, ◌≡◌, ◌≤◌, ◌+◌, ◌==◌, Bool, true, false, if◌then◌else◌, List, [], ◌∷◌, ◌++◌, length, map, take, drop, refl, sym, ap, ◌∙◌, arith, append_assoc}
 use Rattle.std.specs.Prelude.{slice_range}
 use Rattle.std.proofs.lemmas.List.{length-append, length-drop, length-take-le, take-append-drop, map-append}
 use Rattle.buffer_glyphs.specs.Items.{Item}
 use Rattle.buffer_glyphs.specs.Levels.{InList}
 use Rattle.buffer_glyphs.specs.declared.level.BufferClusterLevel.{BufferClusterLevel}
-use Rattle.buffer_glyphs.specs.Events.{Event, Merge, MergeGrapheme, Replace, Circle, Delete, Move, Arrange, Sort, Reverse, Break, Concat, Tatweel, Spread, Reset}
+use Rattle.buffer_glyphs.specs.Events.{Event, Merge, MergeGrapheme, Replace, Circle, Delete, Move, Arrange, Sort, Reverse, Break, Concat, Tatweel, StrictBreak, Spread, Reset}
 use Rattle.buffer_glyphs.specs.Origins.{with_range_changed}
 use Rattle.buffer_core.specs.Readings.{Read, View, always, with_events}
 use Rattle.buffer_core.specs.Sides.{Sides, items_of, view_of}
@@ -85,6 +85,7 @@ shift_event n m Reverse = refl
 shift_event n m (Break from to) = rw (further n m from, further n m to) refl
 shift_event n m (Concat from to) = rw (further n m from, further n m to) refl
 shift_event n m (Tatweel from to) = rw (further n m from, further n m to) refl
+shift_event n m (StrictBreak from to) = rw (further n m from, further n m to) refl
 shift_event n m Spread = refl
 shift_event n m Reset = refl
 

@@ -15,7 +15,8 @@ use Rattle.script_arabic.specs.declared.tile.Tile.{Tile}
 use Rattle.script_arabic.specs.Laying.{is_in_range, tiles}
 use Rattle.script_arabic.specs.Copying.{with_tile_copies, copies_in, copy_events, events_from}
 use Rattle.script_arabic.specs.TilePositions.{all_positions}
-use Rattle.script_arabic.specs.Stretch.{with_tiles_laid, text_runs}
+use Rattle.script_arabic.specs.Stretch.{text_stretch_events, with_tiles_laid, text_runs}
+use Rattle.script_arabic.proofs.WordsFlagged.{text_steady}
 use Rattle.script_arabic.specs.TileLaws.{TilesKeepPlainly}
 
 -- one copy before a glyph that is there
@@ -69,6 +70,6 @@ tiles_keep_plainly font v r level = by_test (list_all is_in_range (text_runs fon
     by_test : (b : Bool) → ◌≡◌ {A = Reading} (if b then with_tiles_laid (tiles font v.items (text_runs font v)) v else Err StretchRange) (Ok r) → ReadsPlainly (length v.items) r level
     by_test true e =
         let ts : List (Option Tile) = tiles font v.items (text_runs font v) in
-        limited_plainly (nat_le (length (with_tile_copies v.items ts)) v.max_len) TooLong (length v.items) (with_events (events_from 0 ts) (record v { items = with_tile_copies v.items ts; positions = all_positions v.positions ts })) r level
-        (all_kept v.items ts (tiles_even font v.items (text_runs font v))) e
+        limited_plainly (nat_le (length (with_tile_copies v.items ts)) v.max_len) TooLong (length v.items) (with_events (text_stretch_events v.items ++ events_from 0 ts) (record v { items = with_tile_copies v.items ts; positions = all_positions v.positions ts })) r level
+        (plainly_in_turn (text_stretch_events v.items) (events_from 0 ts) (length v.items) (length v.items) (length (with_tile_copies v.items ts)) (steady_kept (text_stretch_events v.items) (length v.items) (text_steady v.items)) (all_kept v.items ts (tiles_even font v.items (text_runs font v)))) e
     by_test false e = cc

@@ -1,5 +1,5 @@
 -- A text without tiles.
-use Rattle.std.proofs.Common.{ℕ, ℤ, zero, suc, pos, ◌≡◌, ◌≤◌, ◌+◌, ◌||◌, Bool, true, false, nat_le, if◌then◌else◌, List, [], ◌∷◌, Option, None, Ok, Err, length, refl, sym, ap, subst, ◌∙◌, arith}
+use Rattle.std.proofs.Common.{ℕ, ℤ, zero, suc, pos, ◌≡◌, ◌≤◌, ◌+◌, ◌||◌, Bool, true, false, nat_le, if◌then◌else◌, List, [], ◌∷◌, ◌++◌, Option, None, Ok, Err, length, refl, sym, ap, subst, ◌∙◌, arith}
 use Rattle.std.specs.Prelude.{replicate}
 use Rattle.std.specs.List.{list_all, list_any}
 use Rattle.std.proofs.lemmas.Bool.Decides.{nat_tests}
@@ -19,7 +19,8 @@ use Rattle.script_arabic.specs.declared.tile.Tile.{Tile}
 use Rattle.script_arabic.specs.Laying.{is_in_range, tiles}
 use Rattle.script_arabic.specs.Copying.{with_tile_copies, events_from}
 use Rattle.script_arabic.specs.TilePositions.{all_positions}
-use Rattle.script_arabic.specs.Stretch.{with_tiles_laid, text_runs, tiles_laid}
+use Rattle.script_arabic.specs.Stretch.{text_stretch_events, with_tiles_laid, text_runs, tiles_laid}
+use Rattle.script_arabic.proofs.WordsFlagged.{no_text_events}
 use Rattle.std.proofs.lemmas.Bool.{or_parts}
 
 pub any_seen : (gs : List hb_glyph_info_t) → list_any (λ (g : hb_glyph_info_t). is_tile (item_of g)) gs ≡ list_any is_tile (strip gs)
@@ -61,15 +62,17 @@ read_if b xs ps es v = if b then Ok (with_events es (record v { items = xs; posi
 abbrev laid_if : Bool → List (Option Tile) → View → Reading
 laid_if b ts v = if b then with_tiles_laid ts v else Err StretchRange
 
-stays : (v : View) → length v.positions ≡ length v.items → length v.items ≤ v.max_len → with_tiles_laid (replicate (length v.items) None) v ≡ as_it_is v
-stays v long le =
+stays : (v : View) → list_any is_tile v.items ≡ false → length v.positions ≡ length v.items → length v.items ≤ v.max_len → with_tiles_laid (replicate (length v.items) None) v ≡ as_it_is v
+stays v none long le =
     let ts : List (Option Tile) = replicate (length v.items) None in
+    let es = text_stretch_events v.items ++ events_from 0 ts in
     let items : with_tile_copies v.items ts ≡ v.items = none_copied v.items in
     let positions : all_positions v.positions ts ≡ v.positions = ap (λ n. all_positions v.positions (replicate n None)) (sym long) ∙ none_laid v.positions in
     let fits : nat_le (length v.items) v.max_len ≡ true = grind (arith, nat_tests, le) in
-    ap (λ xs. read_if (nat_le (length xs) v.max_len) xs (all_positions v.positions ts) (events_from 0 ts) v) items
-    ∙ ap (λ ps. read_if (nat_le (length v.items) v.max_len) v.items ps (events_from 0 ts) v) positions
-    ∙ ap (λ es. read_if (nat_le (length v.items) v.max_len) v.items v.positions es v) (no_events 0 (length v.items))
+    ap (λ xs. read_if (nat_le (length xs) v.max_len) xs (all_positions v.positions ts) es v) items
+    ∙ ap (λ ps. read_if (nat_le (length v.items) v.max_len) v.items ps es v) positions
+    ∙ ap (λ fs. read_if (nat_le (length v.items) v.max_len) v.items v.positions (text_stretch_events v.items ++ fs) v) (no_events 0 (length v.items))
+    ∙ ap (λ fs. read_if (nat_le (length v.items) v.max_len) v.items v.positions (fs ++ []) v) (no_text_events v.items none)
     ∙ ap (λ t. read_if t v.items v.positions [] v) fits
 
 -- without a tile a text stays as it is
@@ -83,7 +86,7 @@ untouched_done font s ready e le =
     ap (λ qs. laid_if (list_all is_in_range qs) (tiles font v.items qs) v) rs
     ∙ ap (λ t. laid_if t (tiles font v.items (replicate (length v.items) None)) v) (none_in_range (length v.items))
     ∙ ap (λ ts. with_tiles_laid ts v) (no_tiles font v.items)
-    ∙ stays v long (omega (arith, count, le)) in
+    ∙ stays v e long (omega (arith, count, le)) in
     record {
       follows = subst (λ (q : Reading). Follows q (state_of s) (state_of s)) (sym is) refl;
       settings = refl;

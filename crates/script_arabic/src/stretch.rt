@@ -1,18 +1,19 @@
 //! Lays tiles over the word before them, apply_stch (rustybuzz: hb/ot_shaper_arabic.rs).
-ghost use Rattle.std.specs.Prelude.{◌≡◌, ◌≤◌, Err, false, length, IsOk};
+ghost use Rattle.std.specs.Prelude.{◌≡◌, ◌≤◌, ◌<◌, ◌+◌, ◌^◌, Some, false, length, slice_get, IsOk};
 ghost use Rattle.std.specs.List.{list_any};
 ghost use Rattle.buffer_glyphs.specs.Items.{item_of};
 ghost use Rattle.buffer_core.specs.Sides.{all_glyphs, items_of};
 ghost use Rattle.buffer_stages.specs.Ready.{DoesGlyphStage, IsReady};
 ghost use Rattle.script_arabic.specs.Tiles.{is_tile};
-ghost use Rattle.script_arabic.specs.Stretch.{with_tiles_laid, tiles_laid};
+ghost use Rattle.buffer_stages.specs.Stages.{Happens};
+ghost use Rattle.script_arabic.specs.Stretch.{stretch_event, stretch_event_at, text_stretch_events, word_past, word_start, with_tiles_laid, tiles_laid};
 
 use crate::copying::copy_tiles;
 use crate::laying::{are_in_range, tiles_of};
 use crate::runs::runs_of;
 use crate::tile::Tile;
 use crate::tile_positions::positions_of;
-use crate::words::is_tile;
+use crate::words::{is_of_word, is_tile};
 use buffer_core::buffer::hb_buffer_t;
 use buffer_glyphs::cause::ShapeCause;
 use buffer_glyphs::info::hb_glyph_info_t;
@@ -72,11 +73,109 @@ fn lay_tiles(
     requires each { length tiles.now ≡ length (all_glyphs buffer.old) }
     ensures { DoesGlyphStage (with_tiles_laid tiles.now) result buffer.old buffer.new }
 {
+    flag_words(buffer);
     let positions = buffer.pos_slice().to_vec(alloc)?;
     copy_tiles(tiles, buffer)?;
     let laid_positions = positions_of(alloc, tiles, &positions)?;
     set_positions(&laid_positions, buffer);
     Ok(())
+}
+
+/// Flags each run of tiles and the word before it as unsafe to break where PRODUCE_SAFE_BREAKS is set: the tiles fill the
+/// word's width.
+#[tactic(auto, using(crate::proofs::WordsFlagged::text_skipped, crate::proofs::WordsFlagged::no_word_flagged))]
+fn flag_words(buffer: &mut hb_buffer_t)
+    requires ready { IsReady buffer.old }
+    ensures { Happens (text_stretch_events (items_of buffer.old)) buffer.old buffer.new }
+{
+    if !buffer.asks_breaks() {
+        return;
+    }
+    let count = buffer.len();
+    let mut word = WordWalk {
+        start: 0,
+        has_tiles: false,
+    };
+    for at in 0..count {
+        let glyph = glyph_at(buffer, at);
+        flag_before(word, &glyph, at, buffer);
+        word = word_past(word, &glyph, at);
+    }
+    flag_word(word, count, buffer);
+}
+
+/// A word on a walk: where it begins, and whether tiles of it were passed.
+#[derive(Clone, Copy)]
+pub struct WordWalk {
+    pub start: usize,
+    pub has_tiles: bool,
+}
+
+#[tactic(auto, using(crate::proofs::WordsFlagged::item_at))]
+fn glyph_at(buffer: &hb_buffer_t, at: usize) -> hb_glyph_info_t
+    requires ready { IsReady buffer.now }
+    requires within { at < length (all_glyphs buffer.now) }
+    ensures { Some (item_of result) ≡ slice_get (items_of buffer.now) at }
+{
+    buffer.info_slice()[at]
+}
+
+/// Flags the word before a glyph: the first glyph after tiles ends their word.
+#[tactic(auto, using(crate::proofs::WordsFlagged::tile_passed, crate::proofs::WordsFlagged::word_ended))]
+fn flag_before(word: WordWalk, glyph: &hb_glyph_info_t, at: usize, buffer: &mut hb_buffer_t)
+    requires ready { IsReady buffer.old }
+    requires begun { word.start ≤ at }
+    requires within { at ≤ length (all_glyphs buffer.old) }
+    ensures { Happens (stretch_event_at word at (item_of glyph.now)) buffer.old buffer.new }
+{
+    if is_tile(glyph) {
+        return;
+    }
+    flag_word(word, at, buffer);
+}
+
+/// Flags a word that ends before an index, and its tiles, if it has any.
+#[tactic(auto, using(crate::proofs::WordsFlagged::word_kept, buffer_stages::proofs::Lemmas::Happened::end_of_input))]
+fn flag_word(word: WordWalk, at: usize, buffer: &mut hb_buffer_t)
+    requires ready { IsReady buffer.old }
+    requires begun { word.start ≤ at }
+    requires within { at ≤ length (all_glyphs buffer.old) }
+    ensures { Happens (stretch_event word at) buffer.old buffer.new }
+{
+    if !word.has_tiles {
+        return;
+    }
+    buffer.unsafe_to_break_strictly(Some(word.start), Some(at));
+}
+
+/// The word after a glyph.
+#[tactic(auto, using(crate::proofs::WordsFlagged::tile_past, crate::proofs::WordsFlagged::other_past))]
+fn word_past(word: WordWalk, glyph: &hb_glyph_info_t, at: usize) -> WordWalk
+    requires small { at + 1 < 2 ^ 64 }
+    ensures { result ≡ word_past word at (item_of glyph.now) }
+{
+    if is_tile(glyph) {
+        return WordWalk {
+            has_tiles: true,
+            ..word
+        };
+    }
+    WordWalk {
+        start: word_start(word, glyph, at),
+        has_tiles: false,
+    }
+}
+
+/// The start of the word of a glyph that is no tile: of the word before it, the glyph itself, or the index after it.
+fn word_start(word: WordWalk, glyph: &hb_glyph_info_t, at: usize) -> usize
+    requires small { at + 1 < 2 ^ 64 }
+    ensures { result ≡ word_start word at (item_of glyph.now) }
+{
+    match (is_of_word(glyph), word.has_tiles) {
+        (true, true) => at,
+        (true, false) => word.start,
+        (false, _) => at + 1,
+    }
 }
 
 /// Replaces the buffer's positions by as many others.

@@ -1,10 +1,12 @@
 -- The reorderings of Indic syllables permute glyph numbers, and keep the parts of a text whatever its clusters are.
 use Rattle.std.proofs.Common.{ℕ, ◌≡◌, Bool, true, false, if◌then◌else◌, List, [], ◌∷◌, length, map, take, drop, Option, None, Some, refl}
-use Rattle.std.specs.Prelude.{◌+◌, ◌-◌, bit_and, slice_get}
+use Rattle.std.specs.Prelude.{◌+◌, ◌-◌, ◌==◌, bit_and, slice_get}
 use Rattle.buffer_unicode_tables.specs.Tables.{Tables}
 use Rattle.buffer_glyphs.specs.Items.{Item}
+use Rattle.buffer_glyphs.specs.Events.{StrictBreak}
 use Rattle.buffer_glyphs.specs.Rewriting.{Arrangement, and_arranged, eventless_arrangement, shifted_event}
 use Rattle.buffer_lists.specs.Lemmas.OrderSpans.{order_stays}
+use Rattle.buffer_parts.specs.Plainly.{AreSteady}
 use Rattle.buffer_parts.specs.Lemmas.Plainly.{both_steady}
 use Rattle.buffer_stages.specs.Ordering.{groups_reversed, auxiliary_order}
 use Rattle.buffer_stages.specs.Parts.{first_to_back}
@@ -19,7 +21,7 @@ use Rattle.script_categories.specs.Shapers.{is_reordered}
 use Rattle.script_indic_reordering.specs.declared.script.IndicMasks.{IndicMasks}
 use Rattle.script_indic_reordering.specs.declared.script.RephMode.{RephMode}
 use Rattle.script_indic_reordering.specs.Base.{Forms, reph_and_base}
-use Rattle.script_indic_reordering.specs.Final.{RephMoved, after_halant, base_passed, begins_with_reph, final_reordered, formed_base, last_halant, left_before, lefts_last, lefts_merged, lefts_moved, lefts_moved_by, lefts_moved_from, merged_to_base, passed_by_reph, pref_form, pref_moved, pref_moved_from, pref_target, reph_moved, then_pref}
+use Rattle.script_indic_reordering.specs.Final.{RephMoved, after_halant, base_passed, begins_with_reph, final_reordered, formed_base, is_left_in_word, last_halant, left_before, lefts_last, lefts_merged, lefts_moved, lefts_moved_by, lefts_moved_from, merged_to_base, passed_by_reph, pref_form, pref_moved, pref_moved_from, pref_target, reph_moved, then_pref, word_events}
 use Rattle.script_indic_reordering.specs.Glyphs.{is_consonant, is_matra, with_position}
 use Rattle.script_indic_reordering.specs.Initial.{all_placed, first_left, has_two_matras, initial_reordered, left_count, masks_set, matras_reversed, pref_pair}
 use Rattle.script_indic_reordering.specs.Orders.{consonant_position, consonant_with_position, final_order, final_syllable, if_reordered, init_masked, initial_syllable}
@@ -134,9 +136,27 @@ each_steady : (rule : List Item → Arrangement) → ((ys : List Item) → IsSte
 each_steady rule p [] = tt
 each_steady rule p (xs ∷ xss) = both_steady (rule xs).events (map (shifted_event (length (rule xs).items)) (each_rewritten rule xss).events) (p xs) (shifted_steady (length (rule xs).items) (each_rewritten rule xss).events (each_steady rule p xss))
 
+words_steady : (before : Option Item) (at : ℕ) (xs : List Item) → AreSteady (word_events (is_reordered INDIC_SHAPER) before at xs)
+words_steady before at [] = tt
+words_steady before at (x ∷ xs) =
+    let t = is_left_in_word (is_reordered INDIC_SHAPER) before x in
+    both_steady (if t then StrictBreak (at - 1) (at + 1) ∷ [] else []) (word_events (is_reordered INDIC_SHAPER) (Some x) (at + 1) xs) (one t) (words_steady (Some x) (at + 1) xs)
+  where
+    one : (t : Bool) → AreSteady (if t then StrictBreak (at - 1) (at + 1) ∷ [] else [])
+    one true = tt
+    one false = tt
+
+init_steady : (m : IndicMasks) (xs : List Item) → IsSteady (init_masked m xs)
+init_steady m xs = by_mask (m.init == 0)
+  where
+    by_mask : (t : Bool) → AreSteady (if t then [] else word_events (is_reordered INDIC_SHAPER) None 0 xs)
+    by_mask true = tt
+    by_mask false = words_steady None 0 xs
+
 final_order_steady : (reph_pos : ℕ) (m : IndicMasks) (xs : List Item) → IsSteady (final_order reph_pos m xs)
 final_order_steady reph_pos m xs =
-    then_steady (by_syllable (final_syllable reph_pos m) xs) (init_masked m) (each_steady (final_syllable reph_pos m) (final_steady reph_pos m) (in_syllables xs)) tt
+    let r = by_syllable (final_syllable reph_pos m) xs in
+    then_steady r (init_masked m) (each_steady (final_syllable reph_pos m) (final_steady reph_pos m) (in_syllables xs)) (init_steady m r.items)
 
 -- ---- stages
 

@@ -8,7 +8,7 @@ use Rattle.script_categories.specs.declared.ot_category_t.TheConstants as catego
 use Rattle.script_categories.specs.declared.ot_position_t.TheConstants as position
 use Rattle.buffer_glyphs.specs.Items.{Item}
 use Rattle.buffer_glyphs.specs.Levels.{InList}
-use Rattle.buffer_glyphs.specs.Events.{Merge}
+use Rattle.buffer_glyphs.specs.Events.{Event, Merge, StrictBreak}
 use Rattle.buffer_glyphs.specs.LigatureWords.{is_ligated}
 use Rattle.buffer_stages.specs.Masks.{shares_mask}
 use Rattle.buffer_glyphs.specs.Rewriting.{Arrangement, eventless_arrangement, and_arranged}
@@ -225,6 +225,16 @@ is_of_syllable byte (Some x) = x.syllable == byte
 -- an item is a left matra that begins a reordered syllable and a word, by the item before it
 abbrev pub begins_word : (ℕ → Bool) → Option Item → Item → Bool
 begins_word is_reordered before x = not (is_of_syllable x.syllable before) && is_reordered (kind_of_byte x.syllable) && is_left x && not (continues_word before)
+
+-- an item is a left matra that begins a reordered syllable, and no word for the item before it alone
+abbrev pub is_left_in_word : (ℕ → Bool) → Option Item → Item → Bool
+is_left_in_word is_reordered before x = not (is_of_syllable x.syllable before) && is_reordered (kind_of_byte x.syllable) && is_left x && continues_word before
+
+-- the events of such matras from an index on: each depends on the item before it (HarfBuzz: unsafe_to_break in
+-- final_reordering_syllable_indic)
+abbrev pub word_events : (ℕ → Bool) → Option Item → ℕ → List Item → List Event
+word_events is_reordered before at [] = []
+word_events is_reordered before at (x ∷ xs) = (if is_left_in_word is_reordered before x then StrictBreak (at - 1) (at + 1) ∷ [] else []) ++ word_events is_reordered (Some x) (at + 1) xs
 
 -- a list in which the left matras that begin words have the features of a mask
 abbrev pub words_begun : (ℕ → Bool) → ℕ → Option Item → List Item → List Item

@@ -12,6 +12,7 @@ pub mod Formed
 pub mod LeftPut
 pub mod FinalSteps
 pub mod Words
+pub mod Flagged
 pub mod FinalPermuted
 pub mod KnownForms
 pub mod Zwnj

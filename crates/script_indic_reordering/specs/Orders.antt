@@ -1,10 +1,11 @@
 -- The reorderings of all Indic syllables of a text, and the syllabic positions of consonants before them (HarfBuzz:
 -- initial_reordering_indic, final_reordering_indic).
-use Rattle.std.specs.Prelude.{ℕ, ◌||◌, Bool, if◌then◌else◌, List, [], ◌∷◌, map, slice_get, Option, None, Some}
+use Rattle.std.specs.Prelude.{ℕ, ◌==◌, ◌||◌, Bool, if◌then◌else◌, List, [], ◌∷◌, map, slice_get, Option, None, Some}
 use Rattle.script_categories.specs.declared.ot_position_t.TheConstants as position
 use Rattle.script_categories.specs.declared.shaper.hb_ot_script_shaper_t.TheVariants.{INDIC_SHAPER}
 use Rattle.script_categories.specs.Shapers.{is_reordered}
 use Rattle.buffer_glyphs.specs.Items.{Item}
+use Rattle.buffer_glyphs.specs.Events.{Event}
 use Rattle.buffer_stages.specs.Pieces.{ArePermuted}
 use Rattle.buffer_glyphs.specs.Rewriting.{Arrangement, eventless_arrangement, and_arranged}
 use Rattle.buffer_stages.specs.Rewriting.{in_syllables, by_syllable}
@@ -14,7 +15,7 @@ use Rattle.script_indic_reordering.specs.declared.script.IndicMasks.{IndicMasks}
 use Rattle.script_indic_reordering.specs.Glyphs.{is_consonant, with_position}
 use Rattle.script_indic_reordering.specs.Base.{Forms}
 use Rattle.script_indic_reordering.specs.Initial.{initial_reordered}
-use Rattle.script_indic_reordering.specs.Final.{final_reordered, words_begun}
+use Rattle.script_indic_reordering.specs.Final.{final_reordered, word_events, words_begun}
 
 -- ---- the positions of consonants
 
@@ -51,9 +52,13 @@ initial_order mode m forms xs = by_syllable (initial_syllable mode m forms) xs
 abbrev pub final_syllable : ℕ → IndicMasks → List Item → Arrangement
 final_syllable reph_pos m xs = if_reordered (final_reordered reph_pos m.pref) xs (slice_get xs 0)
 
+-- the events of the feature init: none where the font lacks it
+abbrev pub init_events : IndicMasks → List Item → List Event
+init_events m xs = if m.init == 0 then [] else word_events (is_reordered INDIC_SHAPER) None 0 xs
+
 -- a text in which the left matras that begin words have the feature init
 abbrev pub init_masked : IndicMasks → List Item → Arrangement
-init_masked m xs = eventless_arrangement (words_begun (is_reordered INDIC_SHAPER) m.init None xs)
+init_masked m xs = record { items = words_begun (is_reordered INDIC_SHAPER) m.init None xs; events = init_events m xs }
 
 -- the final reordering of a text, syllable by syllable, and then the feature init
 abbrev pub final_order : ℕ → IndicMasks → List Item → Arrangement

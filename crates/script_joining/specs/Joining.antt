@@ -1,9 +1,9 @@
 -- The forms of a text's letters, their masks, and the flags between neighbouring letters.
-use Rattle.std.specs.Prelude.{ℕ, ◌+◌, ◌==◌, ◌&&◌, ◌||◌, Bool, true, false, nat_le, if◌then◌else◌, List, [], ◌∷◌, ◌++◌, Option, None, Some, find, slice_get, unwrap_or, map, bit_or}
+use Rattle.std.specs.Prelude.{ℕ, ◌+◌, ◌==◌, ◌&&◌, ◌||◌, not, Bool, true, false, nat_le, if◌then◌else◌, List, [], ◌∷◌, ◌++◌, Option, None, Some, find, slice_get, unwrap_or, map, bit_or}
 use Rattle.script_categories.specs.declared.joining_types.hb_arabic_joining_type_t.TheVariants.{U, L, R, D, GroupAlaph, GroupDalathRish, T, X}
 use Rattle.buffer_unicode_tables.specs.Tables.{Tables}
 use Rattle.buffer_glyphs.specs.Items.{Item, without_flags}
-use Rattle.buffer_glyphs.specs.Events.{Event, Concat, Tatweel}
+use Rattle.buffer_glyphs.specs.Events.{Event, Concat, StrictBreak, Tatweel}
 use Rattle.buffer_common.specs.declared.script.Script.{Script}
 use Rattle.buffer_common.specs.declared.script.TheConstants as script
 use Rattle.buffer_core.specs.Readings.{Stage, View, Read, always, with_events}
@@ -33,22 +33,31 @@ abbrev pub forms : List JoiningType → List JoiningType → List JoiningType �
 forms before [] after = []
 forms before (t ∷ ts) after = letter_form (nearest before) t (nearest (ts ++ after)) ∷ forms (t ∷ before) ts after
 
+-- the form of a letter depends on the letter before it
+abbrev pub depends_on : JoiningType → JoiningType → Bool
+depends_on before t = not (letter_form before t U == letter_form U t U)
+
+-- the flags of a letter whose form depends on one that it leaves as it is, as Alaph's does, and of all from an index on
+-- before it: the context of a text that begins between them may be too short to show that one
+abbrev pub form_events : JoiningType → ℕ → JoiningType → ℕ → List Event
+form_events before from t at = if depends_on before t then StrictBreak from (at + 1) ∷ [] else []
+
 -- the flags of two neighbouring letters: safe to insert a tatweel where the second changes the first's form, else
 -- unsafe to concat
-abbrev pub neighbours_event : Letter → JoiningType → ℕ → Event
-neighbours_event p t at =
+abbrev pub neighbours_events : Letter → JoiningType → ℕ → List Event
+neighbours_events p t at =
     if letter_form p.before p.joining t == letter_form p.before p.joining U
-    then Concat p.at (at + 1)
-    else Tatweel p.at (at + 1)
+    then Concat p.at (at + 1) ∷ form_events p.joining p.at t at
+    else Tatweel p.at (at + 1) ∷ []
 
--- the flags of a letter and the previous letter of the text, if there is one
-abbrev pub event_after : Option Letter → JoiningType → ℕ → List Event
-event_after None t at = []
-event_after (Some p) t at = neighbours_event p t at ∷ []
+-- the flags of a letter and the previous letter of the text; of the first letter by the type before it, of the context
+abbrev pub events_after : JoiningType → Option Letter → JoiningType → ℕ → List Event
+events_after before None t at = form_events before 0 t at
+events_after before (Some p) t at = neighbours_events p t at
 
 -- the flags at a character, which has none where it is transparent
-abbrev pub event_at : Option Letter → JoiningType → ℕ → List Event
-event_at last t at = if is_letter t then event_after last t at else []
+abbrev pub events_at : JoiningType → Option Letter → JoiningType → ℕ → List Event
+events_at before last t at = if is_letter t then events_after before last t at else []
 
 -- the type of the nearest letter after one more character
 abbrev pub nearest_past : JoiningType → JoiningType → JoiningType
@@ -62,7 +71,7 @@ letter_after before last t at = if is_letter t then Some (record { at = at; join
 -- text, if there is one
 abbrev pub neighbour_events : JoiningType → Option Letter → ℕ → List JoiningType → List Event
 neighbour_events before last at [] = []
-neighbour_events before last at (t ∷ ts) = event_at last t at ++ neighbour_events (nearest_past before t) (letter_after before last t at) (at + 1) ts
+neighbour_events before last at (t ∷ ts) = events_at before last t at ++ neighbour_events (nearest_past before t) (letter_after before last t at) (at + 1) ts
 
 -- the Mongolian variation selectors U+180B to U+180D and U+180F
 abbrev pub is_mongolian_selector : Item → Bool

@@ -4,24 +4,25 @@ use Rattle.std.specs.Prelude.{bit_and, slice_range}
 use Rattle.std.specs.Int.RustNames.{bit_or}
 use Rattle.std.specs.Int.Bits.{and_zero_r}
 use Rattle.std.proofs.lemmas.Nat.{and_mask, and_shr, and_mod, and_le_l}
-use Rattle.std.proofs.lemmas.List.{length-map, drop_all}
+use Rattle.std.proofs.lemmas.List.{append-nil, length-map, drop_all}
 use Rattle.buffer_glyphs.specs.declared.info.hb_glyph_info_t.{hb_glyph_info_t}
 use Rattle.buffer_glyphs.specs.Items.{Item, item_of, strip, without_flags}
 use Rattle.buffer_glyphs.specs.Origins.{origin_of, origins}
-use Rattle.buffer_core.specs.Readings.{always}
+use Rattle.buffer_core.specs.Readings.{View, always}
 use Rattle.buffer_lists.specs.Runs.{run_length}
-use Rattle.buffer_core.specs.Sides.{Sides, all_glyphs, items_of}
+use Rattle.buffer_core.specs.Sides.{Sides, all_glyphs, items_of, view_of}
 use Rattle.buffer_core.specs.Lending.{with_refilled}
 use Rattle.buffer_stages.specs.Ready.{IsReady}
-use Rattle.buffer_stages.specs.Stages.{IsFollowed}
+use Rattle.buffer_stages.specs.Stages.{Happens, IsFollowed}
+use Rattle.buffer_stages.specs.Lemmas.Written.{happened_followed}
 use Rattle.buffer_glyphs.specs.Rewriting.{eventless_arrangement}
 use Rattle.buffer_stages.specs.Rewriting.{in_syllables, runs_with_first, runs_of}
 use Rattle.buffer_stages.specs.SyllableBuffers.{IsRewritten, with_rule}
 use Rattle.buffer_stages.specs.Lemmas.Parts.{part_written, range_seen, range_size, without_again, flags_again}
-use Rattle.buffer_stages.specs.Lemmas.Rewritings.{middle, items_after, rewritten_beside, rewritten_count, rewritten_follows, rewritten_nothing, rewritten_same, counted}
+use Rattle.buffer_stages.specs.Lemmas.Rewritings.{middle, items_after, rewritten_beside, rewritten_count, rewritten_nothing, rewritten_same, counted}
 use Rattle.buffer_stages.proofs.Lemmas.Syllables.{syllable_end, syllables_cut}
 use Rattle.script_syllabic.specs.declared.forms.FormMasks.{FormMasks}
-use Rattle.script_syllabic.specs.Features.{all_forms, each_formed, first_connects, form_bits, form_of, syllable_with_form, connects, topography, with_form}
+use Rattle.script_syllabic.specs.Features.{all_forms, each_formed, first_connects, form_bits, form_of, syllable_with_form, connects, topography, topography_events, with_form}
 use Rattle.script_syllabic.specs.Formed.{glyph_with_form}
 use Rattle.buffer_stages.proofs.Lemmas.Masks.{high_cleared, without_flags_is}
 
@@ -141,7 +142,7 @@ pub record IsForming (masks : FormMasks) (start : ℕ) (before : Bool) (old now 
   pub ready : IsReady now
   pub count : length (all_glyphs now) ≡ length (all_glyphs old)
   pub does : (new : Sides) → IsRewritten (eventless_arrangement (each_formed masks before (in_syllables (drop start (items_of now))))) start (length (all_glyphs old)) now new
-      → IsRewritten (topography masks (items_of old)) 0 (length (all_glyphs old)) old new
+      → IsRewritten (eventless_arrangement (each_formed masks false (in_syllables (items_of old)))) 0 (length (all_glyphs old)) old new
 
 pub forming_begun : (masks : FormMasks) (s : Sides) → IsReady s → IsForming masks 0 false s s
 forming_begun masks s ready = record { ready = ready; count = refl; does = λ new f. f }
@@ -181,10 +182,18 @@ formed_on masks before start end old now next joined u lt e f j =
           u.does new (subst R (sym (next_formed masks before start end now lt e)) (rewritten_beside r (eventless_arrangement (each_formed masks (connects (drop start (items_of now))) (in_syllables (drop end (items_of now))))) start end whole now next new le inside size (omega (arith, count, w.1)) f (subst Q j (subst P same g))));
     }
 
-pub all_formed : (masks : FormMasks) (before : Bool) (start : ℕ) (old now : Sides) → IsForming masks start before old now → length (all_glyphs old) ≤ start → IsFollowed (always (with_rule (topography masks))) old now
-all_formed masks before start old now u le =
+-- the seams were flagged first
+pub all_formed : (masks : FormMasks) (before : Bool) (start : ℕ) (first old now : Sides) → Happens (topography_events masks (in_syllables (items_of first))) first old → IsForming masks start before old now → length (all_glyphs old) ≤ start
+    → IsFollowed (always (with_rule (topography masks))) first now
+all_formed masks before start first old now h u le =
     let n = counted now in
     let count = u.count in
     let past : length (items_of now) ≤ start = omega (arith, n, count, le) in
-    let P : List Item → Type 0 = λ ys. IsRewritten (eventless_arrangement (each_formed masks before (in_syllables ys))) start (length (all_glyphs old)) now now in
-    rewritten_follows (topography masks) old now (u.does now (subst P (sym (drop_all start (items_of now) past)) (rewritten_nothing start (length (all_glyphs old)) now u.ready past (omega (arith, n, count)))))
+    let whole = length (all_glyphs old) in
+    let formed : List Item → List Item = λ xs. each_formed masks false (in_syllables xs) in
+    let P : List Item → Type 0 = λ ys. IsRewritten (eventless_arrangement (each_formed masks before (in_syllables ys))) start whole now now in
+    let f = u.does now (subst P (sym (drop_all start (items_of now) past)) (rewritten_nothing start whole now u.ready past (omega (arith, n, count)))) in
+    let items : formed (items_of old) ++ drop whole (items_of old) ≡ formed (items_of old) = ap (λ xs. formed (items_of old) ++ xs) (drop_all whole (items_of old) (omega (arith, counted old))) ∙ append-nil (formed (items_of old)) in
+    happened_followed (topography_events masks (in_syllables (items_of first))) (record (view_of first) { items = formed (items_of first) }) (always (with_rule (topography masks))) first now
+    (f.view ∙ ap (λ xs. record (view_of old) { items = xs }) items ∙ ap (λ (v : View). record v { items = formed v.items }) h.view)
+    (f.origins ∙ h.origins) (f.settings ∙ h.settings) f.ready refl

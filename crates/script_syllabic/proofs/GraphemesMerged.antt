@@ -1,8 +1,8 @@
 -- A text whose graphemes by a rule are merged one after another.
-use Rattle.std.proofs.Common.{ℕ, ◌≡◌, ◌≢◌, ◌≤◌, ◌+◌, ◌==◌, if◌then◌else◌, ne_eqb, List, [], ◌∷◌, ◌++◌, length, drop, arith, refl, sym, ap, subst, ◌∙◌, append_assoc}
+use Rattle.std.proofs.Common.{ℕ, ◌≡◌, ◌≢◌, ◌≤◌, ◌+◌, ne_eqb, List, [], ◌∷◌, ◌++◌, length, drop, arith, refl, sym, ap, subst, ◌∙◌, append_assoc}
 use Rattle.std.proofs.lemmas.List.{append-nil, drop_all, drop-drop, drop-map, length-map}
 use Rattle.buffer_glyphs.specs.Items.{Item, item_of, strip}
-use Rattle.buffer_glyphs.specs.Events.{Event, MergeGrapheme}
+use Rattle.buffer_glyphs.specs.Events.{Event, MergeGrapheme, StrictBreak}
 use Rattle.buffer_core.specs.Readings.{View, always}
 use Rattle.buffer_core.specs.Sides.{Sides, all_glyphs, items_of, view_of}
 use Rattle.buffer_stages.specs.Ready.{IsReady}
@@ -16,8 +16,12 @@ use Rattle.script_syllabic.specs.Graphemes.{merge_of, merges_by, with_graphemes_
 pub none_merged : (at n : ℕ) (s : Sides) → n ≡ 0 → IsReady s → Happens (merge_of at n) s s
 none_merged at n s e ready = subst (λ m. Happens (merge_of at m) s s) (sym e) (nothing_happens s ready)
 
-pub some_merged : (at n : ℕ) (s new : Sides) → n ≢ 0 → Happens (MergeGrapheme at (at + n) ∷ []) s new → Happens (merge_of at n) s new
-some_merged at n s new some h = rw (ne_eqb n 0 some) h
+pub some_merged : (at n : ℕ) (s mid new : Sides) → n ≢ 0 → Happens (MergeGrapheme at (at + n) ∷ []) s mid → Happens (StrictBreak at (at + n) ∷ []) mid new → Happens (merge_of at n) s new
+some_merged at n s mid new some h k = rw (ne_eqb n 0 some) (both_happen (MergeGrapheme at (at + n) ∷ []) (StrictBreak at (at + n) ∷ []) s mid new h k)
+
+-- a merge leaves as many glyphs
+pub many_as_before : (es : List Event) (s new : Sides) → Happens es s new → length (all_glyphs new) ≡ length (all_glyphs s)
+many_as_before es s new h = sym (length-map (all_glyphs new) item_of) ∙ ap (λ (v : View). length v.items) h.view ∙ length-map (all_glyphs s) item_of
 
 -- ---- the walk
 

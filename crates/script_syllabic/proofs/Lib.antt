@@ -16,4 +16,6 @@ pub mod PermutedNumbers
 pub mod Quiet
 pub mod QuietRules
 pub mod RangesBetween
+pub mod Seams
+pub mod Strict
 pub mod There

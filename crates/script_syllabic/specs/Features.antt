@@ -1,11 +1,12 @@
 -- The features that glyphs of a syllable get, and what a feature's glyphs are recorded as (OpenType specification,
 -- Universal Shaping Engine).
-use Rattle.std.specs.Prelude.{ℕ, ◌+◌, ◌-◌, ◌==◌, ◌||◌, not, Bool, true, false, min, if◌then◌else◌, List, [], ◌∷◌, ◌++◌, Option, Some, None, map, length, bit_and}
+use Rattle.std.specs.Prelude.{ℕ, ◌+◌, ◌-◌, ◌==◌, ◌&&◌, ◌||◌, not, Bool, true, false, min, if◌then◌else◌, List, [], ◌∷◌, ◌++◌, Option, Some, None, map, length, bit_and}
 use Rattle.std.specs.Int.RustNames.{bit_or}
 use Rattle.script_categories.specs.declared.category.TheConstants as category
 use Rattle.script_categories.specs.declared.syllable_kinds.universal.TheConstants as universal
 use Rattle.buffer_glyphs.specs.LigatureWords.{is_substituted}
 use Rattle.buffer_glyphs.specs.Items.{Item, without_flags}
+use Rattle.buffer_glyphs.specs.Events.{Event, StrictBreak}
 use Rattle.buffer_glyphs.specs.Rewriting.{Arrangement, eventless_arrangement}
 use Rattle.buffer_stages.specs.Rewriting.{within, in_syllables}
 use Rattle.buffer_stages.specs.Parts.{items_with_features}
@@ -94,6 +95,19 @@ abbrev pub each_formed : FormMasks → Bool → List (List Item) → List Item
 each_formed masks before [] = []
 each_formed masks before (s ∷ ss) = syllable_with_form masks before s (first_connects ss) ++ each_formed masks (connects s) ss
 
+-- the event of the seam before an index between two syllables: where both connect, each gives the other its form
+abbrev pub seam_event : Bool → ℕ → List Event
+seam_event connected at = if connected then StrictBreak (at - 1) (at + 1) ∷ [] else []
+
+-- the events of the seams between syllables from an index on, by whether the one before connects
+abbrev pub seam_events : Bool → ℕ → List (List Item) → List Event
+seam_events before at [] = []
+seam_events before at (s ∷ ss) = seam_event (before && connects s) at ++ seam_events (connects s) (at + length s) ss
+
+-- the events of topographical forms: none where the font has none of the forms
+abbrev pub topography_events : FormMasks → List (List Item) → List Event
+topography_events masks ss = if all_forms masks == 0 then [] else seam_events false 0 ss
+
 -- the stage that sets the masks of topographical forms (HarfBuzz: setup_topographical_masks)
 abbrev pub topography : FormMasks → List Item → Arrangement
-topography masks xs = eventless_arrangement (each_formed masks false (in_syllables xs))
+topography masks xs = record { items = each_formed masks false (in_syllables xs); events = topography_events masks (in_syllables xs) }

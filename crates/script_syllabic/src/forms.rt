@@ -1,14 +1,15 @@
 //! The topographical forms of syllables by their neighbours, setup_topographical_masks (rustybuzz:
 //! hb/ot_shaper_use.rs).
-ghost use Rattle.std.specs.Prelude.{◌≡◌, ◌≤◌, ◌<◌, ◌++◌, length, map, take, drop, slice_range};
+ghost use Rattle.std.specs.Prelude.{◌≡◌, ◌≤◌, ◌<◌, true, false, ◌++◌, length, map, take, drop, slice_range};
 ghost use Rattle.buffer_glyphs.specs.Items.{strip};
 ghost use Rattle.buffer_core.specs.Readings.{always};
 ghost use Rattle.buffer_core.specs.Sides.{all_glyphs, items_of};
 ghost use Rattle.buffer_stages.specs.Ready.{IsReady};
-ghost use Rattle.buffer_stages.specs.Stages.{IsFollowed};
+ghost use Rattle.buffer_stages.specs.Rewriting.{in_syllables};
+ghost use Rattle.buffer_stages.specs.Stages.{Happens, IsFollowed};
 ghost use Rattle.buffer_glyphs.specs.Rewriting.{eventless_arrangement};
 ghost use Rattle.buffer_stages.specs.SyllableBuffers.{IsRewritten, with_rule};
-ghost use Rattle.script_syllabic.specs.Features.{all_forms, form_bits, form_of, syllable_with_form, connects, topography, with_form};
+ghost use Rattle.script_syllabic.specs.Features.{all_forms, form_bits, form_of, seam_event, seam_events, syllable_with_form, connects, topography, topography_events, with_form};
 ghost use Rattle.script_syllabic.specs.Formed.{glyph_with_form};
 
 use buffer_core::buffer::hb_buffer_t;
@@ -58,11 +59,13 @@ impl FormMasks {
 
 /// Gives each joining syllable the mask of its form (`setup_topographical_masks`): isol where neither neighbour connects,
 /// init where only the next does, fina where only the previous does, else medi. Syllables of kind hieroglyph or
-/// non-cluster don't join. It takes linear time and no memory.
+/// non-cluster don't join. Where PRODUCE_SAFE_BREAKS is set, it is unsafe to break between two that connect, if the font
+/// has one of the forms. It takes linear time and no memory.
 pub fn setup_topographical_masks(masks: &FormMasks, buffer: &mut hb_buffer_t)
     requires ready { IsReady buffer.old }
     ensures { IsFollowed (always (with_rule (topography masks.now))) buffer.old buffer.new }
 {
+    flag_seams(masks, buffer);
     let count = buffer.len();
     let mut before = false;
     let mut start = 0;
@@ -71,6 +74,55 @@ pub fn setup_topographical_masks(masks: &FormMasks, buffer: &mut hb_buffer_t)
         before = form_syllable(masks, buffer, start, end, before);
         start = end;
     }
+}
+
+/// Flags each seam between two syllables that connect as unsafe to break where PRODUCE_SAFE_BREAKS is set: they give each
+/// other their forms, if the font has one.
+#[tactic(auto, using(crate::proofs::Seams::no_forms, crate::proofs::Seams::some_forms))]
+fn flag_seams(masks: &FormMasks, buffer: &mut hb_buffer_t)
+    requires ready { IsReady buffer.old }
+    ensures { Happens (topography_events masks.now (in_syllables (items_of buffer.old))) buffer.old buffer.new }
+{
+    if masks.all() == 0 {
+        return;
+    }
+    flag_each_seam(buffer);
+}
+
+/// Flags each seam between two syllables that connect. It walks only where PRODUCE_SAFE_BREAKS is set.
+fn flag_each_seam(buffer: &mut hb_buffer_t)
+    requires ready { IsReady buffer.old }
+    ensures { Happens (seam_events false 0 (in_syllables (items_of buffer.old))) buffer.old buffer.new }
+{
+    if !buffer.asks_breaks() {
+        return;
+    }
+    let count = buffer.len();
+    let mut before = false;
+    let mut start = 0;
+    while start < count {
+        let end = buffer.next_syllable(start);
+        let connects = connects_at(buffer, start);
+        flag_seam(before && connects, start, buffer);
+        before = connects;
+        start = end;
+    }
+}
+
+/// Flags the seam before an index where the syllables on both sides connect.
+#[tactic(auto, using(crate::proofs::Seams::not_connected, crate::proofs::Strict::strict_break_happens, buffer_stages::proofs::Lemmas::Happened::end_of_input))]
+fn flag_seam(connected: bool, at: usize, buffer: &mut hb_buffer_t)
+    requires ready { IsReady buffer.old }
+    requires begun { connected ≡ true → 0 < at }
+    requires within { at < length (all_glyphs buffer.old) }
+    ensures { Happens (seam_event connected at) buffer.old buffer.new }
+{
+    if !connected {
+        return;
+    }
+    // The length says that the sum fits its type.
+    let _len = buffer.len();
+    buffer.unsafe_to_break_strictly(Some(at - 1), Some(at + 1));
 }
 
 /// Gives the syllable `start..end` its form, and returns whether it connects.

@@ -15,7 +15,7 @@ use Rattle.buffer_core.specs.Grouping.{with_picked_deleted}
 use Rattle.buffer_core.specs.Merging.{with_has_glyph_flags, with_glyphs as with_all}
 use Rattle.buffer_core.proofs.Told.{stage_flags_ignore_glyph_flags}
 use Rattle.buffer_glyphs.specs.PropertyWords.{is_default_ignorable}
-use Rattle.buffer_core.specs.Sides.{Sides, all_glyphs, items_of, origins_by, origins_of, settings_of, stage_flags, view_of}
+use Rattle.buffer_core.specs.Sides.{Sides, all_glyphs, items_of, origins_by, origins_of, requests_breaks, settings_of, stage_flags, view_of}
 use Rattle.buffer_stages.specs.Buffers.{are_glyphs}
 use Rattle.buffer_stages.specs.Ready.{IsDone, IsReady}
 use Rattle.buffer_stages.specs.Stages.{IsFollowed, with_items_mapped}
@@ -132,7 +132,7 @@ deleted_followed : (s new : Sides) (goes : hb_glyph_info_t → Bool) → new ≡
     → items_of new ≡ items_kept is_default_ignorable (items_of s) → new.positions ≡ positions_kept is_default_ignorable (items_of s) s.positions
     → origins_of new ≡ origins_by (deletions is_default_ignorable (items_of s)) s → IsReady s → IsFollowed (always without_ignorables) s new
 deleted_followed s new goes e items positions from ready =
-    let t : DeletionState = whole_walk s.level goes (all_glyphs s) s.positions in
+    let t : DeletionState = whole_walk (requests_breaks s) s.level goes (all_glyphs s) s.positions in
     let none : min s.read (length t.kept) ≡ 0 = omega (arith, ready.unread) in
     let xs = items_kept is_default_ignorable (items_of s) in
     let ps = positions_kept is_default_ignorable (items_of s) s.positions in

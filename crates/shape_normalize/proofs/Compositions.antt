@@ -11,6 +11,7 @@ use Rattle.buffer_glyphs.specs.Origins.{origin_of, origins}
 use Rattle.buffer_glyphs.specs.Events.{Merge, Replace, origins_after}
 use Rattle.buffer_core.specs.Sides.{Sides, all_glyphs, flag_requests_of, items_of, origins_of, origins_by, after_next_glyphs}
 use Rattle.buffer_core.specs.Merging.{with_output_merged, with_glyph_skipped}
+use Rattle.buffer_core.proofs.HandedOn.{skipped_ahead, skipped_behind}
 use Rattle.buffer_core.specs.Lending.{with_glyph_ahead}
 use Rattle.buffer_core.specs.Moving.{after_move_to}
 use Rattle.buffer_stages.specs.Appending.{frame_of}
@@ -65,12 +66,12 @@ seen_all s a b kept items = items ∙ ap strip kept ∙ map-append item_of s.beh
 
 pub mark_behind : (s a b d e : Sides) → all_glyphs a ≡ all_glyphs s → items_of b ≡ items_of a → d ≡ after_move_to (length s.behind) b → e ≡ with_glyph_skipped d → strip e.behind ≡ strip s.behind
 mark_behind s a b d e kept items back gone =
-    ap (λ (t : Sides). strip t.behind) gone ∙ ap (λ (t : Sides). strip t.behind) back ∙ sym (take-map item_of (length s.behind) (all_glyphs b)) ∙ ap (take (length s.behind)) (seen_all s a b kept items)
+    ap (λ (t : Sides). strip t.behind) gone ∙ skipped_behind d ∙ ap (λ (t : Sides). strip t.behind) back ∙ sym (take-map item_of (length s.behind) (all_glyphs b)) ∙ ap (take (length s.behind)) (seen_all s a b kept items)
     ∙ ap (λ n. take n (strip s.behind ++ strip s.ahead)) (sym (length-map s.behind item_of)) ∙ take-append_seam (strip s.behind) (strip s.ahead)
 
 pub mark_ahead : (s a b d e : Sides) → all_glyphs a ≡ all_glyphs s → items_of b ≡ items_of a → d ≡ after_move_to (length s.behind) b → e ≡ with_glyph_skipped d → strip e.ahead ≡ drop 1 (strip s.ahead)
 mark_ahead s a b d e kept items back gone =
-    ap (λ (t : Sides). strip t.ahead) gone ∙ ap (λ (t : Sides). strip (drop 1 t.ahead)) back ∙ sym (drop-map item_of 1 (drop (length s.behind) (all_glyphs b))) ∙ ap (drop 1)
+    ap (λ (t : Sides). strip t.ahead) gone ∙ skipped_ahead d ∙ ap (λ (t : Sides). drop 1 (strip t.ahead)) back ∙ ap (drop 1)
     (sym (drop-map item_of (length s.behind) (all_glyphs b)) ∙ ap (drop (length s.behind)) (seen_all s a b kept items)
     ∙ ap (λ n. drop n (strip s.behind ++ strip s.ahead)) (sym (length-map s.behind item_of)) ∙ drop-append_seam (strip s.behind) (strip s.ahead))
 

@@ -1,6 +1,6 @@
 -- Glyphs appended to the output in place of the current one.
 use Rattle.std.proofs.Common.{ℕ, ◌≡◌, ◌≤◌, ◌<◌, ◌+◌, ◌==◌, Bool, true, false, List, [], ◌∷◌, ◌++◌, Option, Some, None, length, map, drop, refl, sym, ap, subst, ◌∙◌, append_assoc, arith, if◌then◌else◌}
-use Rattle.std.specs.Prelude.{slice_get, replicate}
+use Rattle.std.specs.Prelude.{slice_get, replicate, Result, Ok, Err, OnOk}
 use Rattle.std.proofs.lemmas.List.{map-append, length-map}
 use Rattle.std.proofs.Math.Seq.{take-append_seam, drop-append_seam, drop-append-add}
 use Rattle.buffer_glyphs.specs.declared.cause.ShapeCause.{ShapeCause}
@@ -10,58 +10,70 @@ use Rattle.buffer_glyphs.specs.Parts.{elements_replaced}
 use Rattle.buffer_glyphs.specs.Origins.{Origin, origin_of, origins, InList, manner, Asks}
 use Rattle.buffer_glyphs.specs.Events.{Replace, origins_after}
 use Rattle.buffer_glyphs.specs.declared.level.BufferClusterLevel.{BufferClusterLevel}
-use Rattle.buffer_core.specs.Sides.{Sides, all_glyphs, flag_requests_of}
+use Rattle.buffer_core.specs.Sides.{Sides, all_glyphs, flag_requests_of, origins_by, origins_of}
 use Rattle.buffer_core.specs.Sides.{after_next_glyphs}
 use Rattle.buffer_core.specs.Merging.{with_glyph_skipped}
 use Rattle.buffer_core.specs.Lending.{with_glyph_ahead}
-use Rattle.buffer_stages.specs.Lemmas.Alone.{merged_alone}
+use Rattle.buffer_core.proofs.HandedOn.{skip_passes, skipped_ahead, skipped_behind}
+use Rattle.buffer_stages.proofs.Put.{origins_passed, origins_put}
 use Rattle.buffer_glyphs.specs.Rewriting.{eventless_arrangement, replacement, shifted_event}
 use Rattle.buffer_properties.specs.Normalizer.{Normalizer, has_character}
 use Rattle.buffer_properties.specs.declared.normal_mode.Reach.{Reach}
 use Rattle.buffer_properties.specs.SupportedExpansion.{expansion}
 use Rattle.buffer_properties.specs.Expanding.{whole_item, piece_of, items_for, expanded_item, item_expansion}
-use Rattle.shape_normalize.specs.Glyphs.{piece_glyph, piece_glyphs, Puts, count_of, with_glyph_replaced}
+use Rattle.shape_normalize.specs.Glyphs.{HasHalvesOutput, piece_glyph, piece_glyphs, Puts, count_of, with_glyph_replaced}
 use Rattle.buffer_stages.specs.Appending.{AppendsArrangement, RefusesRoomFor}
 use Rattle.shape_normalize.proofs.Lemmas.Chain.{overfills_more}
-
-origins_same : (o : Origin) (front back : List Origin) (n : ℕ) → elements_replaced (length front) 1 n (front ++ o ∷ back) ≡ front ++ replicate n o ++ back
-origins_same o front back n =
-    let there : drop (length front) (front ++ o ∷ back) ≡ o ∷ back = drop-append_seam front (o ∷ back) in
-    let past : drop (length front + 1) (front ++ o ∷ back) ≡ back = drop-append-add front (o ∷ back) 1 in
-    rw (take-append_seam front (o ∷ back), there, past) refl
-
--- the event of a glyph that makes room for others
-one_replaced : (asks : Asks) (level : BufferClusterLevel) (xs : List Item) (front back : List Origin) (o : Origin)
-    → origins_after asks level (map (shifted_event (length front)) (replacement 1 xs).events) (front ++ o ∷ back) ≡ front ++ replicate (length xs) o ++ back
-one_replaced asks level xs front back o = by_test (length xs) (length xs == 1) refl
-  where
-    nothing : (b : ℕ) → b + 0 ≡ b
-    nothing b = omega arith
-
-    by_test : (n : ℕ) (t : Bool) → (n == 1) ≡ t
-        → origins_after asks level (map (shifted_event (length front)) (if t then [] else Replace 0 1 n ∷ [])) (front ++ o ∷ back) ≡ front ++ replicate n o ++ back
-    by_test n true e = let one : n ≡ 1 = grind (arith, e) in rw one (sym (append_assoc front (o ∷ []) back))
-    by_test n false e = rw (nothing (length front)) (ap (elements_replaced (length front) 1 n) (merged_alone (manner InList level) (length front) (front ++ o ∷ back)) ∙ origins_same o front back n)
 
 -- glyphs of one origin in place of the current one
 pub put_skipped : (gs : List hb_glyph_info_t) (g : hb_glyph_info_t) (rest : List hb_glyph_info_t) (left : Bool) (s new : Sides) → s.ahead ≡ g ∷ rest → origins gs ≡ replicate (length gs) (origin_of g)
     → new ≡ with_glyph_skipped (record s { behind = s.behind ++ gs; is_apart = left }) → AppendsArrangement (replacement 1 (strip gs)) (strip rest) s new
 put_skipped gs g rest left s new at same is = subst (λ (t : Sides). AppendsArrangement (replacement 1 (strip gs)) (strip rest) s t) (sym is) (record {
-  behind = map-append item_of s.behind gs;
-  ahead = rw at refl;
-  happened =
-      let after : List Origin → List Origin = origins_after (flag_requests_of s) s.level (map (shifted_event (length s.behind)) (replacement 1 (strip gs)).events) in
-      let whole : origins (all_glyphs s) ≡ origins s.behind ++ origin_of g ∷ origins rest = map-append origin_of s.behind s.ahead ∙ ap (λ hs. origins s.behind ++ origins hs) at in
-      let now : origins ((s.behind ++ gs) ++ drop 1 s.ahead) ≡ origins s.behind ++ replicate (length gs) (origin_of g) ++ origins rest =
-      ap (λ hs. origins ((s.behind ++ gs) ++ drop 1 hs)) at ∙ map-append origin_of (s.behind ++ gs) rest ∙ ap (λ os. os ++ origins rest) (map-append origin_of s.behind gs)
-      ∙ ap (λ os. origins s.behind ++ os ++ origins rest) same in
-      let n : length (strip gs) ≡ length gs = length-map gs item_of in
-      let b : length (origins s.behind) ≡ length s.behind = length-map s.behind origin_of in
-      now ∙ ap (λ k. origins s.behind ++ replicate k (origin_of g) ++ origins rest) (sym n)
-      ∙ sym (one_replaced (flag_requests_of s) s.level (strip gs) (origins s.behind) (origins rest) (origin_of g))
-      ∙ ap (λ k. origins_after (flag_requests_of s) s.level (map (shifted_event k) (replacement 1 (strip gs)).events) (origins s.behind ++ origin_of g ∷ origins rest)) b ∙ ap after (sym whole);
+  behind = skipped_behind put ∙ map-append item_of s.behind gs;
+  ahead = skipped_ahead put ∙ ap (λ hs. drop 1 (strip hs)) at;
+  happened = by_count gs same (length (strip gs) == 1) refl;
   frame = refl;
 })
+  where
+    put : Sides
+    put = record s { behind = s.behind ++ gs; is_apart = left }
+
+    there : slice_get s.ahead 0 ≡ Some g
+    there = ap (λ hs. slice_get hs 0) at
+
+    nothing : (b : ℕ) → b + 0 ≡ b
+    nothing b = omega arith
+
+    one : (hs : List hb_glyph_info_t) → origins hs ≡ replicate (length hs) (origin_of g) → length (strip hs) ≡ 1 → origins_of (with_glyph_skipped (record s { behind = s.behind ++ hs; is_apart = left })) ≡ origins_of s
+    one [] alike e = absurd (let bad : 0 ≡ 1 = e in cc)
+    one (h ∷ []) alike e = let first : origin_of h ≡ origin_of g = cc in origins_passed h g left s there first
+    one (h ∷ k ∷ hs) alike e = absurd (omega (arith, e))
+
+    by_count : (hs : List hb_glyph_info_t) → origins hs ≡ replicate (length hs) (origin_of g) → (t : Bool) → (length (strip hs) == 1) ≡ t
+        → origins_of (with_glyph_skipped (record s { behind = s.behind ++ hs; is_apart = left })) ≡ origins_after (flag_requests_of s) s.level (map (shifted_event (length s.behind)) (if t then [] else Replace 0 1 (length (strip hs)) ∷ [])) (origins (all_glyphs s))
+    by_count hs alike true e = one hs alike (grind (arith, e))
+    by_count hs alike false e =
+        let n : length (strip hs) ≡ length hs = length-map hs item_of in
+        origins_put hs g left s there alike ∙ ap (λ k. origins_by (Replace (length s.behind) 1 k ∷ []) s) (sym n) ∙ ap (λ k. origins_by (Replace k 1 (length (strip hs)) ∷ []) s) (sym (nothing (length s.behind)))
+
+-- a glyph of its origin in place of the current one: this has no flags to hand on
+pub replaced_skips : (info g : hb_glyph_info_t) (rest : List hb_glyph_info_t) (s : Sides) → s.ahead ≡ g ∷ rest → origin_of info ≡ origin_of g → with_glyph_replaced info s ≡ with_glyph_skipped (record s { behind = s.behind ++ info ∷ [] })
+replaced_skips info g rest s at same = sym (skip_passes info g s.behind rest (record s { behind = s.behind ++ info ∷ [] }) refl at same)
+
+-- the last character that replaces the current one
+pub piece_replaced : (c : Normalizer) (u : ℕ) (last : Bool) (info g : hb_glyph_info_t) (r : Result (Unit {0}) ShapeCause) (s new : Sides) → last ≡ true → slice_get s.ahead 0 ≡ Some g → info ≡ piece_glyph c g u → OnOk r (new ≡ with_glyph_replaced info s)
+    → OnOk r (HasHalvesOutput c (u ∷ []) last s new)
+piece_replaced c u last info g (Err e) s new is there made ok = tt
+piece_replaced c u last info g (Ok t) s new is there made ok = by_ahead s.ahead refl
+  where
+    by_ahead : (hs : List hb_glyph_info_t) → s.ahead ≡ hs → HasHalvesOutput c (u ∷ []) last s new
+    by_ahead [] e = absurd (let bad = ap (λ gs. slice_get gs 0) (sym e) ∙ there in cc)
+    by_ahead (h ∷ hs) e =
+        let first : h ≡ g = let same = ap (λ gs. slice_get gs 0) (sym e) ∙ there in cc in
+        let at : s.ahead ≡ g ∷ hs = e ∙ ap (λ k. k ∷ hs) first in
+        let replaced : new ≡ with_glyph_skipped (record s { behind = s.behind ++ info ∷ [] }) = ok ∙ replaced_skips info g hs s at (ap origin_of made) in
+        let apart : new.is_apart ≡ s.is_apart = ap (λ (t : Sides). t.is_apart) ok in
+        rw (is, there) (replaced ∙ ap (λ k. with_glyph_skipped (record s { behind = s.behind ++ k ∷ [] })) made ∙ ap (λ b. with_glyph_skipped (record s { behind = s.behind ++ piece_glyph c g u ∷ []; is_apart = b })) (sym apart))
 
 -- a glyph set at the cursor, over which the cursor moves
 pub replaced_ahead : (info : hb_glyph_info_t) (s mid new : Sides) → 0 < length s.ahead → mid ≡ with_glyph_ahead 0 info s → new ≡ after_next_glyphs 1 mid → new ≡ with_glyph_replaced info s
@@ -115,7 +127,7 @@ placed_brought g info y old mid new x xs at seen whole same stays is =
     let first = first_ahead g old.ahead x xs at seen in
     subst (λ z. AppendsArrangement (eventless_arrangement (z ∷ [])) xs old new) whole
     (subst (λ zs. AppendsArrangement (eventless_arrangement (item_of info ∷ [])) zs old new) (rest_ahead g old.ahead x xs first seen)
-    (put_skipped (info ∷ []) g (drop 1 old.ahead) old.is_apart old new first (ap (λ o. o ∷ []) same) (is ∙ ap (with_glyph_replaced info) stays)))
+    (put_skipped (info ∷ []) g (drop 1 old.ahead) old.is_apart old new first (ap (λ o. o ∷ []) same) (is ∙ ap (with_glyph_replaced info) stays ∙ replaced_skips info g (drop 1 old.ahead) old first same)))
 
 -- an item that stays whole
 pub whole_brought : (c : Normalizer) (reach : Reach) (b : Bool) (g info : hb_glyph_info_t) (old mid new : Sides) (x : Item) (xs : List Item) → slice_get old.ahead 0 ≡ Some g → strip old.ahead ≡ x ∷ xs

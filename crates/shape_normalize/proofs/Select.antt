@@ -15,6 +15,7 @@ use Rattle.buffer_glyphs.specs.Lemmas.Glyphs.{strip_merged_at}
 use Rattle.buffer_core.specs.Sides.{Sides, all_glyphs, flag_requests_of, origins_of, origins_by}
 use Rattle.buffer_core.proofs.Told.{stage_flags_ignore_glyph_flags}
 use Rattle.buffer_core.specs.Merging.{with_merged, with_replaced}
+use Rattle.buffer_core.proofs.HandedOn.{replaced_ahead, replaced_behind}
 use Rattle.buffer_core.specs.Lending.{with_glyph_ahead}
 use Rattle.buffer_stages.specs.Actions.{Cut}
 use Rattle.buffer_stages.specs.Buffers.{cut_of}
@@ -41,14 +42,14 @@ replaced_front : (k : ℕ) (s : Sides) (x : Item) (xs : List Item) → strip s.a
 replaced_front k s x xs e =
     let mid = with_merged (length s.behind) (length s.behind + 2) s in
     let ahead : strip mid.ahead ≡ x ∷ xs = ap (λ (c : Cut). c.rest) (merged_cut 2 s) ∙ e in
-    map-append item_of mid.behind (numbered_copies glyph_numbered (or (first_of mid.ahead) (last_of mid.behind)) (k ∷ []))
+    replaced_behind 2 (k ∷ []) s ∙ map-append item_of mid.behind (numbered_copies glyph_numbered (or (first_of mid.ahead) (last_of mid.behind)) (k ∷ []))
     ∙ ap (λ ys. ys ++ strip (numbered_copies glyph_numbered (or (first_of mid.ahead) (last_of mid.behind)) (k ∷ []))) (ap (λ (c : Cut). c.front) (merged_cut 2 s))
     ∙ ap (λ ys. strip s.behind ++ ys) (copy_item mid.ahead (last_of mid.behind) k x xs ahead)
 
 replaced_rest : (k : ℕ) (s : Sides) → strip (with_replaced 2 (k ∷ []) s).ahead ≡ drop 2 (strip s.ahead)
 replaced_rest k s =
     let mid = with_merged (length s.behind) (length s.behind + 2) s in
-    sym (drop-map item_of 2 mid.ahead) ∙ ap (drop 2) (ap (λ (c : Cut). c.rest) (merged_cut 2 s))
+    replaced_ahead 2 (k ∷ []) s ∙ sym (drop-map item_of 2 mid.ahead) ∙ ap (drop 2) (ap (λ (c : Cut). c.rest) (merged_cut 2 s))
 
 replaced_frame : (k : ℕ) (s : Sides) → frame_of (with_replaced 2 (k ∷ []) s) ≡ frame_of s
 replaced_frame k s = ap (λ n. record (frame_of s) { scratch_flags = n }) (stage_flags_ignore_glyph_flags (is_marked_at s.level (length s.behind) (length s.behind + 2) (clusters (all_glyphs s))) s.scratch_flags)

@@ -42,7 +42,7 @@ and_then a b = record { items = b.items; events = a.events ++ b.events }
 pub by_settings : (es : List Event) (a b : Sides) → settings_of b ≡ settings_of a → origins_by es b ≡ origins_after (flag_requests_of a) a.level es (origins_of b)
 by_settings es a b e =
     ap (λ (st : Settings). origins_after (flag_requests_of b) st.level es (origins_of b)) e
-    ∙ ap (λ (st : Settings). origins_after (record { concat = bit_and st.flags.0 64 == 64; tatweel = bit_and st.flags.0 128 == 128 }) a.level es (origins_of b)) e
+    ∙ ap (λ (st : Settings). origins_after (record { concat = bit_and st.flags.0 64 == 64; tatweel = bit_and st.flags.0 128 == 128; breaks = bit_and st.flags.0 256 == 256 }) a.level es (origins_of b)) e
 
 arranged_both : (a b : Arrangement) (s t u : Sides) → IsArranged a s t → IsArranged b t u → IsArranged (and_then a b) s u
 arranged_both a b s t u f g = record {

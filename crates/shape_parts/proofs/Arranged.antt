@@ -4,7 +4,7 @@ use Rattle.std.proofs.lemmas.Bool.Decides.{nat_tests}
 use Rattle.std.proofs.lemmas.Grind.{common_steps}
 use Rattle.std.proofs.lemmas.List.{length-append, map-append}
 use Rattle.std.proofs.lemmas.List.Sums.{fold-append}
-use Rattle.buffer_glyphs.specs.Events.{Event, Merge, MergeGrapheme, Replace, Circle, Delete, Move, Arrange, Sort, Reverse, Break, Concat, Tatweel, Spread, Reset, IsPlain}
+use Rattle.buffer_glyphs.specs.Events.{Event, Merge, MergeGrapheme, Replace, Circle, Delete, Move, Arrange, Sort, Reverse, Break, Concat, Tatweel, StrictBreak, Spread, Reset, IsPlain}
 use Rattle.buffer_glyphs.specs.Items.{Item}
 use Rattle.buffer_glyphs.specs.Rewriting.{Arrangement, beside, eventless_arrangement, in_turn, replacement, shifted_event}
 use Rattle.buffer_parts.specs.Counts.{AreGiving, count_after, count_after_event}
@@ -31,6 +31,7 @@ shifted_plain n (Reverse ∷ es) p = shifted_plain n es p
 shifted_plain n (Break from to ∷ es) p = shifted_plain n es p
 shifted_plain n (Concat from to ∷ es) p = shifted_plain n es p
 shifted_plain n (Tatweel from to ∷ es) p = shifted_plain n es p
+shifted_plain n (StrictBreak from to ∷ es) p = shifted_plain n es p
 shifted_plain n (Spread ∷ es) p = shifted_plain n es p
 shifted_plain n (Reset ∷ es) p = shifted_plain n es p
 
@@ -48,6 +49,7 @@ shifted_unturned n (Reverse ∷ es) p = absurd p
 shifted_unturned n (Break from to ∷ es) p = shifted_unturned n es p
 shifted_unturned n (Concat from to ∷ es) p = shifted_unturned n es p
 shifted_unturned n (Tatweel from to ∷ es) p = shifted_unturned n es p
+shifted_unturned n (StrictBreak from to ∷ es) p = shifted_unturned n es p
 shifted_unturned n (Spread ∷ es) p = shifted_unturned n es p
 shifted_unturned n (Reset ∷ es) p = shifted_unturned n es p
 
@@ -65,6 +67,7 @@ shifted_giving n (Reverse ∷ es) p = shifted_giving n es p
 shifted_giving n (Break from to ∷ es) p = shifted_giving n es p
 shifted_giving n (Concat from to ∷ es) p = shifted_giving n es p
 shifted_giving n (Tatweel from to ∷ es) p = shifted_giving n es p
+shifted_giving n (StrictBreak from to ∷ es) p = shifted_giving n es p
 shifted_giving n (Spread ∷ es) p = shifted_giving n es p
 shifted_giving n (Reset ∷ es) p = shifted_giving n es p
 

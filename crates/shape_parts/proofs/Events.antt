@@ -1,6 +1,6 @@
 -- Events one after another.
 use Rattle.std.proofs.Common.{List, [], ◌∷◌, ◌++◌}
-use Rattle.buffer_glyphs.specs.Events.{Event, Merge, MergeGrapheme, Replace, Circle, Delete, Move, Arrange, Sort, Reverse, Break, Concat, Tatweel, Spread, Reset, IsPlain}
+use Rattle.buffer_glyphs.specs.Events.{Event, Merge, MergeGrapheme, Replace, Circle, Delete, Move, Arrange, Sort, Reverse, Break, Concat, Tatweel, StrictBreak, Spread, Reset, IsPlain}
 use Rattle.buffer_parts.specs.Counts.{AreGiving}
 
 pub both_plain : (es fs : List Event) → IsPlain es → IsPlain fs → IsPlain (es ++ fs)
@@ -17,6 +17,7 @@ both_plain (Reverse ∷ es) fs p q = both_plain es fs p q
 both_plain (Break from to ∷ es) fs p q = both_plain es fs p q
 both_plain (Concat from to ∷ es) fs p q = both_plain es fs p q
 both_plain (Tatweel from to ∷ es) fs p q = both_plain es fs p q
+both_plain (StrictBreak from to ∷ es) fs p q = both_plain es fs p q
 both_plain (Spread ∷ es) fs p q = both_plain es fs p q
 both_plain (Reset ∷ es) fs p q = both_plain es fs p q
 
@@ -34,5 +35,6 @@ both_give (Reverse ∷ es) fs p q = both_give es fs p q
 both_give (Break from to ∷ es) fs p q = both_give es fs p q
 both_give (Concat from to ∷ es) fs p q = both_give es fs p q
 both_give (Tatweel from to ∷ es) fs p q = both_give es fs p q
+both_give (StrictBreak from to ∷ es) fs p q = both_give es fs p q
 both_give (Spread ∷ es) fs p q = both_give es fs p q
 both_give (Reset ∷ es) fs p q = both_give es fs p q

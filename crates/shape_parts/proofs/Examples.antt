@@ -40,7 +40,7 @@ abbrev flagged : ℕ → Origin
 flagged c = record { cluster = c; flags = 3 }
 
 abbrev none : Asks
-none = record { concat = false; tatweel = false }
+none = record { concat = false; tatweel = false; breaks = false }
 
 abbrev item : ℕ → Item
 item u = record { number = u; glyph_index = 0; unicode_props = 0; class = 0; glyph_props = 0; lig_props = 0; syllable = 0; category = 0; auxiliary = 0; mask = 0 }

@@ -22,6 +22,7 @@ pub mod GraphemeClusters
 pub mod Sources
 pub mod Unions
 pub mod Carried
+pub mod WrittenEvents
 pub mod WrittenVowels
 pub mod WrittenWalks
 pub mod WrittenSyllables

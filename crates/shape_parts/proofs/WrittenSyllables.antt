@@ -30,7 +30,7 @@ use Rattle.buffer_stages.specs.Lemmas.Alone.{merged_alone}
 use Rattle.buffer_stages.specs.Lemmas.Moves.{order_long}
 use Rattle.buffer_stage_laws.specs.Lemmas.Stages.{at_read}
 use Rattle.layout_face.specs.declared.parts.FaceParts.{FaceParts}
-use Rattle.script_syllabic.specs.Graphemes.{merge_of, merges_by, with_graphemes_merged}
+use Rattle.script_syllabic.specs.Graphemes.{merges_by, with_graphemes_merged}
 use Rattle.script_hangul.specs.declared.jamo.Letters.{Letters}
 use Rattle.script_hangul.specs.declared.jamo.Letters.TheVariants.{Two, Three}
 use Rattle.script_hangul.specs.declared.actions.Action.{Action}
@@ -43,7 +43,8 @@ use Rattle.script_hangul.proofs.Fits.{Within, character_within}
 use Rattle.shape_parts.specs.WrittenMerges.{SyllablesMergeWhereWritten, syllable_merge, written_merge, written_merge_by, written_steps, written_syllables}
 use Rattle.shape_parts.proofs.Unions.{HaveSame, IsFlagless, same_as, unions_alike}
 use Rattle.shape_parts.proofs.Carried.{Passes, begins_at, carried_passes, graphemes_flagless, have_after, have_twice, later_passes, merged_many, moving_passes, range_over, replaced_numbers, replacing_carries, whole_numbers}
-use Rattle.shape_parts.proofs.WrittenWalks.{Anything, AreWritten, IsEvenLevel, IsOrderedFrom, IsWalk, both_written, cluster_walk, exact_walk, ordered_walk}
+use Rattle.shape_parts.proofs.WrittenEvents.{AreWritten, both_written, clusters_by_requests, merge_alone, merged_unasked, merges_alone, merges_alone_written, merges_written, origins_by_requests, unasked}
+use Rattle.shape_parts.proofs.WrittenWalks.{Anything, IsEvenLevel, IsOrderedFrom, IsWalk, cluster_walk, exact_walk, ordered_walk}
 
 -- ---- characters within syllables
 
@@ -105,9 +106,9 @@ inside_rule font (Some u) xs h =
     ap (λ t. count_apart (if t then leading_action font u second (trailing_of third) else if is_syllable u then syllable_action font u (trailing_of second) else Keep false)) h.0
     ∙ ap (λ t. count_apart (if t then syllable_action font u (trailing_of second) else Keep false)) h.1
 
-inside_skipped : (font : FaceParts) (at : ℕ) (xs : List Item) → IsInside (character_at 0 xs) → merges_by (jamo_rule font) at xs ≡ merges_by (jamo_rule font) (at + 1) (drop 1 xs)
+inside_skipped : (font : FaceParts) (at : ℕ) (xs : List Item) → IsInside (character_at 0 xs) → merges_alone (jamo_rule font) at xs ≡ merges_alone (jamo_rule font) (at + 1) (drop 1 xs)
 inside_skipped font at [] h = absurd h
-inside_skipped font at (x ∷ xs) h = ap (λ n. merge_of at n ++ merges_by (jamo_rule font) (at + 1) xs) (inside_rule font (character_at 0 (x ∷ xs)) (x ∷ xs) h)
+inside_skipped font at (x ∷ xs) h = ap (λ n. merge_alone at n ++ merges_alone (jamo_rule font) (at + 1) xs) (inside_rule font (character_at 0 (x ∷ xs)) (x ∷ xs) h)
 
 inside_within : (k : ℕ) (xs : List Item) → IsInside (character_at k xs) → k < length xs
 inside_within k xs h = by_case (character_at k xs) h (character_within k xs)
@@ -193,20 +194,20 @@ second_at : (xs : List Item) → character_at 1 xs ≡ character_at 0 (drop 1 xs
 second_at [] = refl
 second_at (x ∷ xs) = refl
 
-pass_two : (font : FaceParts) (at : ℕ) (x : Item) (xs : List Item) → IsInside (character_at 1 (x ∷ xs)) → merges_by (jamo_rule font) (at + 1) xs ≡ merges_by (jamo_rule font) (at + 2) (drop 2 (x ∷ xs))
+pass_two : (font : FaceParts) (at : ℕ) (x : Item) (xs : List Item) → IsInside (character_at 1 (x ∷ xs)) → merges_alone (jamo_rule font) (at + 1) xs ≡ merges_alone (jamo_rule font) (at + 2) (drop 2 (x ∷ xs))
 pass_two font at x xs h =
     let there : at + 1 + 1 ≡ at + 2 = omega arith in
-    inside_skipped font (at + 1) xs h ∙ ap (λ k. merges_by (jamo_rule font) k (drop 1 xs)) there
+    inside_skipped font (at + 1) xs h ∙ ap (λ k. merges_alone (jamo_rule font) k (drop 1 xs)) there
 
-pass_three : (font : FaceParts) (at : ℕ) (x : Item) (xs : List Item) → IsInside (character_at 1 (x ∷ xs)) → IsInside (character_at 2 (x ∷ xs)) → merges_by (jamo_rule font) (at + 1) xs ≡ merges_by (jamo_rule font) (at + 3) (drop 3 (x ∷ xs))
+pass_three : (font : FaceParts) (at : ℕ) (x : Item) (xs : List Item) → IsInside (character_at 1 (x ∷ xs)) → IsInside (character_at 2 (x ∷ xs)) → merges_alone (jamo_rule font) (at + 1) xs ≡ merges_alone (jamo_rule font) (at + 3) (drop 3 (x ∷ xs))
 pass_three font at x xs h k =
     let there : at + 2 + 1 ≡ at + 3 = omega arith in
     pass_two font at x xs h ∙ inside_skipped font (at + 2) (drop 1 xs) (subst IsInside (second_at xs) k)
-    ∙ ap (λ ys. merges_by (jamo_rule font) (at + 2 + 1) ys) (drop-drop 1 1 xs) ∙ ap (λ j. merges_by (jamo_rule font) j (drop 2 xs)) there
+    ∙ ap (λ ys. merges_alone (jamo_rule font) (at + 2 + 1) ys) (drop-drop 1 1 xs) ∙ ap (λ j. merges_alone (jamo_rule font) j (drop 2 xs)) there
 
-pass_many : (font : FaceParts) (at n : ℕ) (x : Item) (xs : List Item) → TakesMany n (character_at 1 (x ∷ xs)) (character_at 2 (x ∷ xs)) → merges_by (jamo_rule font) (at + 1) xs ≡ merges_by (jamo_rule font) (at + n) (drop n (x ∷ xs))
-pass_many font at n x xs (inl (two, h)) = subst (λ (m : ℕ). merges_by (jamo_rule font) (at + 1) xs ≡ merges_by (jamo_rule font) (at + m) (drop m (x ∷ xs))) (sym two) (pass_two font at x xs h)
-pass_many font at n x xs (inr (three, (h, k))) = subst (λ (m : ℕ). merges_by (jamo_rule font) (at + 1) xs ≡ merges_by (jamo_rule font) (at + m) (drop m (x ∷ xs))) (sym three) (pass_three font at x xs h k)
+pass_many : (font : FaceParts) (at n : ℕ) (x : Item) (xs : List Item) → TakesMany n (character_at 1 (x ∷ xs)) (character_at 2 (x ∷ xs)) → merges_alone (jamo_rule font) (at + 1) xs ≡ merges_alone (jamo_rule font) (at + n) (drop n (x ∷ xs))
+pass_many font at n x xs (inl (two, h)) = subst (λ (m : ℕ). merges_alone (jamo_rule font) (at + 1) xs ≡ merges_alone (jamo_rule font) (at + m) (drop m (x ∷ xs))) (sym two) (pass_two font at x xs h)
+pass_many font at n x xs (inr (three, (h, k))) = subst (λ (m : ℕ). merges_alone (jamo_rule font) (at + 1) xs ≡ merges_alone (jamo_rule font) (at + m) (drop m (x ∷ xs))) (sym three) (pass_three font at x xs h k)
 
 some_taken : (n : ℕ) (second third : Option ℕ) → TakesMany n second third → 0 < n
 some_taken n second third (inl (two, h)) = omega (arith, two)
@@ -216,13 +217,6 @@ taken_there : (n : ℕ) (xs : List Item) → TakesMany n (character_at 1 xs) (ch
 taken_there n xs (inl (two, h)) = let lt = inside_within 1 xs h in omega (arith, two, lt)
 taken_there n xs (inr (three, (h, k))) = let lt = inside_within 2 xs k in omega (arith, three, lt)
 
-merges_written : (font : FaceParts) (at : ℕ) (xs : List Item) → AreWritten (merges_by (jamo_rule font) at xs)
-merges_written font at [] = tt
-merges_written font at (x ∷ xs) = both_written (merge_of at (jamo_rule font (x ∷ xs))) (merges_by (jamo_rule font) (at + 1) xs) (one (jamo_rule font (x ∷ xs))) (merges_written font (at + 1) xs)
-  where
-    one : (n : ℕ) → AreWritten (merge_of at n)
-    one n = elim (n == 0) as (λ t. AreWritten (if t then [] else MergeGrapheme at (at + n) ∷ [])) [ true ↦ tt | false ↦ tt ]
-
 -- ---- merges that pass a step
 
 -- merges of ranges from an index on pass what a step does
@@ -230,97 +224,97 @@ abbrev StepPasses : (List Origin → List Origin → Type 0) → (ℕ → List O
 StepPasses R Inv level move at need before after = (i c : ℕ) (os : List Origin) → Inv at os → need ≤ length os
     → R (move (origins_merged_as (grapheme_manner level) (before + i) (before + i + c) os)) (origins_merged_as (grapheme_manner level) (after + i) (after + i + c) (move os))
 
-exactly_passes : (asks : Asks) (level : BufferClusterLevel) (R : List Origin → List Origin → Type 0) (Inv : ℕ → List Origin → Type 0) → IsWalk asks level R Inv → (move : List Origin → List Origin) (at need before after : ℕ)
+exactly_passes : (level : BufferClusterLevel) (R : List Origin → List Origin → Type 0) (Inv : ℕ → List Origin → Type 0) → IsWalk level R Inv → (move : List Origin → List Origin) (at need before after : ℕ)
     → Passes (grapheme_manner level) move need before after → StepPasses R Inv level move at need before after
-exactly_passes asks level R Inv w move at need before after p i c os inv fits =
+exactly_passes level R Inv w move at need before after p i c os inv fits =
     let old = move (origins_merged_as (grapheme_manner level) (before + i) (before + i + c) os) in
     subst (R old) (p i c os fits) (w.same old)
 
-merges_pass : (asks : Asks) (level : BufferClusterLevel) (R : List Origin → List Origin → Type 0) (Inv : ℕ → List Origin → Type 0) → IsWalk asks level R Inv → (font : FaceParts) (move : List Origin → List Origin) (at need before after d j k : ℕ) (xs : List Item) (os : List Origin)
+merges_pass : (level : BufferClusterLevel) (R : List Origin → List Origin → Type 0) (Inv : ℕ → List Origin → Type 0) → IsWalk level R Inv → (font : FaceParts) (move : List Origin → List Origin) (at need before after d j k : ℕ) (xs : List Item) (os : List Origin)
     → StepPasses R Inv level move at need before after → at ≤ before → j ≡ before + d → k ≡ after + d → Inv at os → need ≤ length os
-    → R (move (origins_after asks level (merges_by (jamo_rule font) j xs) os)) (origins_after asks level (merges_by (jamo_rule font) k xs) (move os))
-merges_pass asks level R Inv w font move at need before after d j k [] os pass le e f inv fits = w.same (move os)
-merges_pass asks level R Inv w font move at need before after d j k (x ∷ xs) os pass le e f inv fits =
-    by_test (jamo_rule font (x ∷ xs)) (jamo_rule font (x ∷ xs) == 0) (merges_pass asks level R Inv w font move at need before after (d + 1) (j + 1) (k + 1) xs)
+    → R (move (origins_after unasked level (merges_alone (jamo_rule font) j xs) os)) (origins_after unasked level (merges_alone (jamo_rule font) k xs) (move os))
+merges_pass level R Inv w font move at need before after d j k [] os pass le e f inv fits = w.same (move os)
+merges_pass level R Inv w font move at need before after d j k (x ∷ xs) os pass le e f inv fits =
+    by_test (jamo_rule font (x ∷ xs)) (jamo_rule font (x ∷ xs) == 0) (merges_pass level R Inv w font move at need before after (d + 1) (j + 1) (k + 1) xs)
   where
     m : Manner
     m = grapheme_manner level
 
     by_test : (n : ℕ) (t : Bool)
         → ((qs : List Origin) → StepPasses R Inv level move at need before after → at ≤ before → j + 1 ≡ before + (d + 1) → k + 1 ≡ after + (d + 1) → Inv at qs → need ≤ length qs
-        → R (move (origins_after asks level (merges_by (jamo_rule font) (j + 1) xs) qs)) (origins_after asks level (merges_by (jamo_rule font) (k + 1) xs) (move qs)))
-        → R (move (origins_after asks level ((if t then [] else MergeGrapheme j (j + n) ∷ []) ++ merges_by (jamo_rule font) (j + 1) xs) os))
-        (origins_after asks level ((if t then [] else MergeGrapheme k (k + n) ∷ []) ++ merges_by (jamo_rule font) (k + 1) xs) (move os))
+        → R (move (origins_after unasked level (merges_alone (jamo_rule font) (j + 1) xs) qs)) (origins_after unasked level (merges_alone (jamo_rule font) (k + 1) xs) (move qs)))
+        → R (move (origins_after unasked level ((if t then [] else MergeGrapheme j (j + n) ∷ []) ++ merges_alone (jamo_rule font) (j + 1) xs) os))
+        (origins_after unasked level ((if t then [] else MergeGrapheme k (k + n) ∷ []) ++ merges_alone (jamo_rule font) (k + 1) xs) (move os))
     by_test n true next = next os pass le (omega (arith, e)) (omega (arith, f)) inv fits
     by_test n false next =
         let merged = origins_merged_as m j (j + n) os in
         let many = merged_many m j (j + n) os in
-        let rest = merges_by (jamo_rule font) (k + 1) xs in
+        let rest = merges_alone (jamo_rule font) (k + 1) xs in
         let here : R (move merged) (origins_merged_as m k (k + n) (move os)) =
         subst (λ (i : ℕ). R (move (origins_merged_as m i (i + n) os)) (origins_merged_as m k (k + n) (move os))) (sym e)
         (subst (λ (i : ℕ). R (move (origins_merged_as m (before + d) (before + d + n) os)) (origins_merged_as m i (i + n) (move os))) (sym f) (pass d n os inv fits)) in
-        w.chain (move (origins_after asks level (merges_by (jamo_rule font) (j + 1) xs) merged)) (origins_after asks level rest (move merged)) (origins_after asks level rest (origins_merged_as m k (k + n) (move os)))
+        w.chain (move (origins_after unasked level (merges_alone (jamo_rule font) (j + 1) xs) merged)) (origins_after unasked level rest (move merged)) (origins_after unasked level rest (origins_merged_as m k (k + n) (move os)))
         (next merged pass le (omega (arith, e)) (omega (arith, f)) (w.merged at j (j + n) os (omega (arith, e, le)) (omega arith) inv) (omega (arith, fits, many)))
-        (w.after rest (move merged) (origins_merged_as m k (k + n) (move os)) (merges_written font (k + 1) xs) here)
+        (w.after rest (move merged) (origins_merged_as m k (k + n) (move os)) (merges_alone_written (jamo_rule font) (k + 1) xs) here)
 
 -- ---- one step
 
 -- what is known of one step: with the merges before or with its own after it the origins are the same
-record IsStepped (asks : Asks) (level : BufferClusterLevel) (R : List Origin → List Origin → Type 0) (Inv : ℕ → List Origin → Type 0) (font : FaceParts) (s : Step) (merge : List Event) (at : ℕ) (all : List Item) (os : List Origin) : Type 0 where
-  passed : R (origins_after asks level (s.events level) (origins_after asks level (merges_by (jamo_rule font) at all) os))
-      (origins_after asks level (merges_by (jamo_rule font) (length s.out) (drop (s.more + 1) all)) (origins_after asks level merge (origins_after asks level (s.events level) os)))
-  kept : Inv (length s.out) (origins_after asks level merge (origins_after asks level (s.events level) os))
-  many : length (origins_after asks level merge (origins_after asks level (s.events level) os)) ≡ length s.out + length (drop (s.more + 1) all)
+record IsStepped (level : BufferClusterLevel) (R : List Origin → List Origin → Type 0) (Inv : ℕ → List Origin → Type 0) (font : FaceParts) (s : Step) (merge : List Event) (at : ℕ) (all : List Item) (os : List Origin) : Type 0 where
+  passed : R (origins_after unasked level (s.events level) (origins_after unasked level (merges_alone (jamo_rule font) at all) os))
+      (origins_after unasked level (merges_alone (jamo_rule font) (length s.out) (drop (s.more + 1) all)) (origins_after unasked level merge (origins_after unasked level (s.events level) os)))
+  kept : Inv (length s.out) (origins_after unasked level merge (origins_after unasked level (s.events level) os))
+  many : length (origins_after unasked level merge (origins_after unasked level (s.events level) os)) ≡ length s.out + length (drop (s.more + 1) all)
 
 -- a step by its parts: the merges before it, those of what follows, and what becomes of both
-record AreParts (asks : Asks) (level : BufferClusterLevel) (R : List Origin → List Origin → Type 0) (Inv : ℕ → List Origin → Type 0) (font : FaceParts) (s : Step) (first merge : List Event) (at before after need : ℕ) (all rest : List Item) (os : List Origin) : Type 0 where
+record AreParts (level : BufferClusterLevel) (R : List Origin → List Origin → Type 0) (Inv : ℕ → List Origin → Type 0) (font : FaceParts) (s : Step) (first merge : List Event) (at before after need : ℕ) (all rest : List Item) (os : List Origin) : Type 0 where
   left : rest ≡ drop (s.more + 1) all
-  merges : merges_by (jamo_rule font) at all ≡ first ++ merges_by (jamo_rule font) before rest
+  merges : merges_alone (jamo_rule font) at all ≡ first ++ merges_alone (jamo_rule font) before rest
   size : length s.out ≡ after
   later : at ≤ before
-  passes : StepPasses R Inv level (λ qs. origins_after asks level (s.events level) qs) at need before after
-  swaps : origins_after asks level (s.events level) (origins_after asks level first os) ≡ origins_after asks level merge (origins_after asks level (s.events level) os)
-  fits : need ≤ length (origins_after asks level first os)
-  begun : Inv at (origins_after asks level first os)
-  kept : Inv after (origins_after asks level (s.events level) (origins_after asks level first os))
-  many : length (origins_after asks level (s.events level) (origins_after asks level first os)) ≡ after + length rest
+  passes : StepPasses R Inv level (λ qs. origins_after unasked level (s.events level) qs) at need before after
+  swaps : origins_after unasked level (s.events level) (origins_after unasked level first os) ≡ origins_after unasked level merge (origins_after unasked level (s.events level) os)
+  fits : need ≤ length (origins_after unasked level first os)
+  begun : Inv at (origins_after unasked level first os)
+  kept : Inv after (origins_after unasked level (s.events level) (origins_after unasked level first os))
+  many : length (origins_after unasked level (s.events level) (origins_after unasked level first os)) ≡ after + length rest
 
-stepped : (asks : Asks) (level : BufferClusterLevel) (R : List Origin → List Origin → Type 0) (Inv : ℕ → List Origin → Type 0) → IsWalk asks level R Inv → (font : FaceParts) (s : Step) (first merge : List Event) (at before after need : ℕ) (all rest : List Item) (os : List Origin)
-    → AreParts asks level R Inv font s first merge at before after need all rest os → IsStepped asks level R Inv font s merge at all os
-stepped asks level R Inv w font s first merge at before after need all rest os p =
-    let ev : List Origin → List Origin = λ qs. origins_after asks level (s.events level) qs in
-    let start = origins_after asks level first os in
-    let done = origins_after asks level merge (ev os) in
-    let old : ev (origins_after asks level (merges_by (jamo_rule font) at all) os) ≡ ev (origins_after asks level (merges_by (jamo_rule font) before rest) start) =
-    ap (λ es. ev (origins_after asks level es os)) p.merges ∙ ap ev (origins_after_both asks level first (merges_by (jamo_rule font) before rest) os) in
+stepped : (level : BufferClusterLevel) (R : List Origin → List Origin → Type 0) (Inv : ℕ → List Origin → Type 0) → IsWalk level R Inv → (font : FaceParts) (s : Step) (first merge : List Event) (at before after need : ℕ) (all rest : List Item) (os : List Origin)
+    → AreParts level R Inv font s first merge at before after need all rest os → IsStepped level R Inv font s merge at all os
+stepped level R Inv w font s first merge at before after need all rest os p =
+    let ev : List Origin → List Origin = λ qs. origins_after unasked level (s.events level) qs in
+    let start = origins_after unasked level first os in
+    let done = origins_after unasked level merge (ev os) in
+    let old : ev (origins_after unasked level (merges_alone (jamo_rule font) at all) os) ≡ ev (origins_after unasked level (merges_alone (jamo_rule font) before rest) start) =
+    ap (λ es. ev (origins_after unasked level es os)) p.merges ∙ ap ev (origins_after_both unasked level first (merges_alone (jamo_rule font) before rest) os) in
     let none : before ≡ before + 0 = omega arith in
     let last : after ≡ after + 0 = omega arith in
-    let new : origins_after asks level (merges_by (jamo_rule font) after rest) (ev start) ≡ origins_after asks level (merges_by (jamo_rule font) (length s.out) (drop (s.more + 1) all)) done =
-    ap (λ qs. origins_after asks level (merges_by (jamo_rule font) after rest) qs) p.swaps ∙ ap (λ k. origins_after asks level (merges_by (jamo_rule font) k rest) done) (sym p.size) ∙ ap (λ ys. origins_after asks level (merges_by (jamo_rule font) (length s.out) ys) done) p.left in
-    let passed = merges_pass asks level R Inv w font ev at need before after 0 before after rest start p.passes p.later none last p.begun p.fits in
+    let new : origins_after unasked level (merges_alone (jamo_rule font) after rest) (ev start) ≡ origins_after unasked level (merges_alone (jamo_rule font) (length s.out) (drop (s.more + 1) all)) done =
+    ap (λ qs. origins_after unasked level (merges_alone (jamo_rule font) after rest) qs) p.swaps ∙ ap (λ k. origins_after unasked level (merges_alone (jamo_rule font) k rest) done) (sym p.size) ∙ ap (λ ys. origins_after unasked level (merges_alone (jamo_rule font) (length s.out) ys) done) p.left in
+    let passed = merges_pass level R Inv w font ev at need before after 0 before after rest start p.passes p.later none last p.begun p.fits in
     record {
-      passed = subst (λ (qs : List Origin). R qs (origins_after asks level (merges_by (jamo_rule font) (length s.out) (drop (s.more + 1) all)) done)) (sym old)
-          (subst (R (ev (origins_after asks level (merges_by (jamo_rule font) before rest) start))) new passed);
+      passed = subst (λ (qs : List Origin). R qs (origins_after unasked level (merges_alone (jamo_rule font) (length s.out) (drop (s.more + 1) all)) done)) (sym old)
+          (subst (R (ev (origins_after unasked level (merges_alone (jamo_rule font) before rest) start))) new passed);
       kept = subst (λ (k : ℕ). Inv k done) (sym p.size) (subst (Inv after) p.swaps p.kept);
       many = ap length (sym p.swaps) ∙ p.many ∙ ap (λ k. k + length rest) (sym p.size) ∙ ap (λ ys. length s.out + length ys) p.left;
     }
 
 -- ---- the steps
 
-replaced_count : (asks : Asks) (level : BufferClusterLevel) (at n k : ℕ) (os : List Origin) → 0 < n → 0 < k → at + n ≤ length os → length (origins_after asks level (Replace at n k ∷ []) os) ≡ at + k + (length os - (at + n))
-replaced_count asks level at n k os some gives fits =
-    counts_follow asks level (Replace at n k ∷ []) os ∙ (replacement_kept at n k (length os) (at + k + (length os - (at + n))) gives (omega (arith, some, fits)) (omega (arith, fits)) refl).counted
+replaced_count : (level : BufferClusterLevel) (at n k : ℕ) (os : List Origin) → 0 < n → 0 < k → at + n ≤ length os → length (origins_after unasked level (Replace at n k ∷ []) os) ≡ at + k + (length os - (at + n))
+replaced_count level at n k os some gives fits =
+    counts_follow unasked level (Replace at n k ∷ []) os ∙ (replacement_kept at n k (length os) (at + k + (length os - (at + n))) gives (omega (arith, some, fits)) (omega (arith, fits)) refl).counted
 
 -- one item is replaced in its cluster
-alone_replaced : (asks : Asks) (level : BufferClusterLevel) (at k : ℕ) (os : List Origin) → origins_after asks level (Replace at 1 k ∷ []) os ≡ elements_replaced at 1 k os
-alone_replaced asks level at k os = ap (elements_replaced at 1 k) (merged_alone (manner InList level) at os)
+alone_replaced : (level : BufferClusterLevel) (at k : ℕ) (os : List Origin) → origins_after unasked level (Replace at 1 k ∷ []) os ≡ elements_replaced at 1 k os
+alone_replaced level at k os = ap (elements_replaced at 1 k) (merged_alone (manner InList level) at os)
 
-replacing_passes : (asks : Asks) (level : BufferClusterLevel) (at k : ℕ) → Passes (grapheme_manner level) (λ qs. origins_after asks level (Replace at 1 k ∷ []) qs) (at + 1) (at + 1) (at + k)
-replacing_passes asks level at k i c os fits =
+replacing_passes : (level : BufferClusterLevel) (at k : ℕ) → Passes (grapheme_manner level) (λ qs. origins_after unasked level (Replace at 1 k ∷ []) qs) (at + 1) (at + 1) (at + k)
+replacing_passes level at k i c os fits =
     let m = grapheme_manner level in
-    alone_replaced asks level at k (origins_merged_as m (at + 1 + i) (at + 1 + i + c) os)
+    alone_replaced level at k (origins_merged_as m (at + 1 + i) (at + 1 + i + c) os)
     ∙ carried_passes m (elements_replaced at 1 k) (at + 1) (at + 1) (at + k) (graphemes_flagless level) (replacing_carries at 1 k (at + 1) (omega arith) (omega arith)) i c os fits
-    ∙ ap (origins_merged_as m (at + k + i) (at + k + i + c)) (sym (alone_replaced asks level at k os))
+    ∙ ap (origins_merged_as m (at + k + i) (at + k + i + c)) (sym (alone_replaced level at k os))
 
 -- copies of a number are that number
 have_copies : (k c : ℕ) (ns : List ℕ) → 0 < k → HaveSame (c ∷ ns) (replicate k c ++ ns)
@@ -365,18 +359,18 @@ letters_long : (n : ℕ) (xs : List Item) → length (letters_from n xs) ≡ len
 letters_long n [] = refl
 letters_long n (x ∷ xs) = ap suc (letters_long (n + 1) xs)
 
-first_is : (font : FaceParts) (at n : ℕ) (x : Item) (xs : List Item) → jamo_rule font (x ∷ xs) ≡ n → merges_by (jamo_rule font) at (x ∷ xs) ≡ merge_of at n ++ merges_by (jamo_rule font) (at + 1) xs
-first_is font at n x xs e = ap (λ k. merge_of at k ++ merges_by (jamo_rule font) (at + 1) xs) e
+first_is : (font : FaceParts) (at n : ℕ) (x : Item) (xs : List Item) → jamo_rule font (x ∷ xs) ≡ n → merges_alone (jamo_rule font) at (x ∷ xs) ≡ merge_alone at n ++ merges_alone (jamo_rule font) (at + 1) xs
+first_is font at n x xs e = ap (λ k. merge_alone at k ++ merges_alone (jamo_rule font) (at + 1) xs) e
 
-some_merged : (at n : ℕ) → 0 < n → merge_of at n ≡ MergeGrapheme at (at + n) ∷ []
+some_merged : (at n : ℕ) → 0 < n → merge_alone at n ≡ MergeGrapheme at (at + n) ∷ []
 some_merged at n some = let other : (n == 0) ≡ false = grind (arith, nat_tests, common_steps, some) in ap (λ t. if t then [] else MergeGrapheme at (at + n) ∷ []) other
 
 -- a character that stays as it is
-keep_stepped : (asks : Asks) (level : BufferClusterLevel) (R : List Origin → List Origin → Type 0) (Inv : ℕ → List Origin → Type 0) → IsWalk asks level R Inv → (font : FaceParts) (whole : Bool) (out : List Item) (x : Item) (xs : List Item) (os : List Origin)
-    → jamo_rule font (x ∷ xs) ≡ 0 → length os ≡ length out + suc (length xs) → Inv (length out) os → IsStepped asks level R Inv font (keep_step whole out (x ∷ xs)) [] (length out) (x ∷ xs) os
-keep_stepped asks level R Inv w font whole out x xs os rule long inv =
+keep_stepped : (level : BufferClusterLevel) (R : List Origin → List Origin → Type 0) (Inv : ℕ → List Origin → Type 0) → IsWalk level R Inv → (font : FaceParts) (whole : Bool) (out : List Item) (x : Item) (xs : List Item) (os : List Origin)
+    → jamo_rule font (x ∷ xs) ≡ 0 → length os ≡ length out + suc (length xs) → Inv (length out) os → IsStepped level R Inv font (keep_step whole out (x ∷ xs)) [] (length out) (x ∷ xs) os
+keep_stepped level R Inv w font whole out x xs os rule long inv =
     let at = length out in
-    stepped asks level R Inv w font (keep_step whole out (x ∷ xs)) [] [] at (at + 1) (at + 1) 0 (x ∷ xs) xs os (record {
+    stepped level R Inv w font (keep_step whole out (x ∷ xs)) [] [] at (at + 1) (at + 1) 0 (x ∷ xs) xs os (record {
       left = refl;
       merges = first_is font at 0 x xs rule;
       size = length-append out (x ∷ []);
@@ -390,10 +384,10 @@ keep_stepped asks level R Inv w font whole out x xs os rule long inv =
     })
 
 -- jamo that stay apart
-apart_stepped : (asks : Asks) (level : BufferClusterLevel) (R : List Origin → List Origin → Type 0) (Inv : ℕ → List Origin → Type 0) → IsWalk asks level R Inv → (font : FaceParts) (n : ℕ) (out : List Item) (x : Item) (xs : List Item) (os : List Origin)
+apart_stepped : (level : BufferClusterLevel) (R : List Origin → List Origin → Type 0) (Inv : ℕ → List Origin → Type 0) → IsWalk level R Inv → (font : FaceParts) (n : ℕ) (out : List Item) (x : Item) (xs : List Item) (os : List Origin)
     → jamo_rule font (x ∷ xs) ≡ n → TakesMany n (character_at 1 (x ∷ xs)) (character_at 2 (x ∷ xs)) → length os ≡ length out + suc (length xs) → Inv (length out) os
-    → IsStepped asks level R Inv font (apart_step n out (x ∷ xs)) (MergeGrapheme (length out) (length out + n) ∷ []) (length out) (x ∷ xs) os
-apart_stepped asks level R Inv w font n out x xs os rule takes long inv =
+    → IsStepped level R Inv font (apart_step n out (x ∷ xs)) (MergeGrapheme (length out) (length out + n) ∷ []) (length out) (x ∷ xs) os
+apart_stepped level R Inv w font n out x xs os rule takes long inv =
     let at = length out in
     let all = x ∷ xs in
     let m = grapheme_manner level in
@@ -402,9 +396,9 @@ apart_stepped asks level R Inv w font n out x xs os rule takes long inv =
     let taken : n ≡ n - 1 + 1 = omega (arith, some) in
     let merged = origins_merged_as m at (at + n) os in
     let begun = w.merged at at (at + n) os (omega arith) (omega arith) inv in
-    stepped asks level R Inv w font (apart_step n out all) (MergeGrapheme at (at + n) ∷ []) (MergeGrapheme at (at + n) ∷ []) at (at + n) (at + n) 0 all (drop n all) os (record {
+    stepped level R Inv w font (apart_step n out all) (MergeGrapheme at (at + n) ∷ []) (MergeGrapheme at (at + n) ∷ []) at (at + n) (at + n) 0 all (drop n all) os (record {
       left = ap (λ k. drop k all) taken;
-      merges = first_is font at n x xs rule ∙ ap (λ es. es ++ merges_by (jamo_rule font) (at + 1) xs) (some_merged at n some) ∙ ap (λ es. MergeGrapheme at (at + n) ∷ es) (pass_many font at n x xs takes);
+      merges = first_is font at n x xs rule ∙ ap (λ es. es ++ merges_alone (jamo_rule font) (at + 1) xs) (some_merged at n some) ∙ ap (λ es. MergeGrapheme at (at + n) ∷ es) (pass_many font at n x xs takes);
       size = length-append out (letters_from 1 (take n all)) ∙ ap (λ k. at + k) (letters_long 1 (take n all) ∙ length-take-le n all there);
       later = omega arith;
       passes = λ i c qs k fits. w.same (origins_merged_as m (at + n + i) (at + n + i + c) qs);
@@ -416,17 +410,17 @@ apart_stepped asks level R Inv w font n out x xs os rule takes long inv =
     })
 
 -- a syllable that is composed
-compose_stepped : (asks : Asks) (level : BufferClusterLevel) (R : List Origin → List Origin → Type 0) (Inv : ℕ → List Origin → Type 0) → IsWalk asks level R Inv → (font : FaceParts) (n u : ℕ) (out : List Item) (x : Item) (xs : List Item) (os : List Origin)
+compose_stepped : (level : BufferClusterLevel) (R : List Origin → List Origin → Type 0) (Inv : ℕ → List Origin → Type 0) → IsWalk level R Inv → (font : FaceParts) (n u : ℕ) (out : List Item) (x : Item) (xs : List Item) (os : List Origin)
     → jamo_rule font (x ∷ xs) ≡ 0 → TakesMany n (character_at 1 (x ∷ xs)) (character_at 2 (x ∷ xs)) → length os ≡ length out + suc (length xs) → Inv (length out) os
-    → IsStepped asks level R Inv font (compose_step n u out (x ∷ xs)) [] (length out) (x ∷ xs) os
-compose_stepped asks level R Inv w font n u out x xs os rule takes long inv =
+    → IsStepped level R Inv font (compose_step n u out (x ∷ xs)) [] (length out) (x ∷ xs) os
+compose_stepped level R Inv w font n u out x xs os rule takes long inv =
     let at = length out in
     let all = x ∷ xs in
     let some = some_taken n (character_at 1 all) (character_at 2 all) takes in
     let there : n ≤ suc (length xs) = taken_there n all takes in
     let fits : at + n ≤ length os = omega (arith, long, there) in
     let taken : n ≡ n - 1 + 1 = omega (arith, some) in
-    stepped asks level R Inv w font (compose_step n u out all) [] [] at (at + n) (at + 1) (at + n) all (drop n all) os (record {
+    stepped level R Inv w font (compose_step n u out all) [] [] at (at + n) (at + 1) (at + n) all (drop n all) os (record {
       left = ap (λ k. drop k all) taken;
       merges = first_is font at 0 x xs rule ∙ pass_many font at n x xs takes;
       size = length-append out (item_numbered x u ∷ []);
@@ -436,41 +430,41 @@ compose_stepped asks level R Inv w font n u out x xs os rule takes long inv =
       fits = fits;
       begun = inv;
       kept = w.replaced at n 1 os some fits (w.later at n os inv);
-      many = replaced_count asks level at n 1 os some (omega arith) fits ∙ (let rest = length-drop n all in let size : length all ≡ suc (length xs) = refl in omega (arith, long, rest, size, there));
+      many = replaced_count level at n 1 os some (omega arith) fits ∙ (let rest = length-drop n all in let size : length all ≡ suc (length xs) = refl in omega (arith, long, rest, size, there));
     })
 
 -- a syllable that is decomposed by itself
-alone_stepped : (asks : Asks) (level : BufferClusterLevel) (R : List Origin → List Origin → Type 0) (Inv : ℕ → List Origin → Type 0) → IsWalk asks level R Inv → (font : FaceParts) (letters : Letters) (out : List Item) (x : Item) (xs : List Item) (os : List Origin)
+alone_stepped : (level : BufferClusterLevel) (R : List Origin → List Origin → Type 0) (Inv : ℕ → List Origin → Type 0) → IsWalk level R Inv → (font : FaceParts) (letters : Letters) (out : List Item) (x : Item) (xs : List Item) (os : List Origin)
     → jamo_rule font (x ∷ xs) ≡ 0 → length os ≡ length out + suc (length xs) → Inv (length out) os
-    → IsStepped asks level R Inv font (split_step letters 0 out (x ∷ xs)) (MergeGrapheme (length out) (length out + (length (numbers_of letters) + 0)) ∷ []) (length out) (x ∷ xs) os
-alone_stepped asks level R Inv w font letters out x xs os rule long inv =
+    → IsStepped level R Inv font (split_step letters 0 out (x ∷ xs)) (MergeGrapheme (length out) (length out + (length (numbers_of letters) + 0)) ∷ []) (length out) (x ∷ xs) os
+alone_stepped level R Inv w font letters out x xs os rule long inv =
     let at = length out in
     let k = length (numbers_of letters) in
     let m = grapheme_manner level in
     let some = letters_some letters in
     let fits : at + 1 ≤ length os = omega (arith, long) in
     let new = letters_of_first letters (x ∷ xs) ++ [] in
-    let put = origins_after asks level (Replace at 1 k ∷ []) os in
-    let same : put ≡ elements_replaced at 1 k os = alone_replaced asks level at k os in
-    stepped asks level R Inv w font (split_step letters 0 out (x ∷ xs)) [] (MergeGrapheme at (at + (k + 0)) ∷ []) at (at + 1) (at + k) (at + 1) (x ∷ xs) xs os (record {
+    let put = origins_after unasked level (Replace at 1 k ∷ []) os in
+    let same : put ≡ elements_replaced at 1 k os = alone_replaced level at k os in
+    stepped level R Inv w font (split_step letters 0 out (x ∷ xs)) [] (MergeGrapheme at (at + (k + 0)) ∷ []) at (at + 1) (at + k) (at + 1) (x ∷ xs) xs os (record {
       left = refl;
       merges = first_is font at 0 x xs rule;
       size = length-append out (letters_from 1 new)
           ∙ ap (λ n. at + n) (letters_long 1 new ∙ ap length (append-nil (letters_of_first letters (x ∷ xs))) ∙ length-map (numbers_of letters) (item_numbered x));
       later = omega arith;
-      passes = exactly_passes asks level R Inv w (λ qs. origins_after asks level (Replace at 1 k ∷ []) qs) at (at + 1) (at + 1) (at + k) (replacing_passes asks level at k);
+      passes = exactly_passes level R Inv w (λ qs. origins_after unasked level (Replace at 1 k ∷ []) qs) at (at + 1) (at + 1) (at + k) (replacing_passes level at k);
       swaps = same ∙ ap (elements_replaced at 1 k) (sym (merged_alone m at os)) ∙ merge_copied m at k 0 os (graphemes_flagless level) some fits ∙ ap (origins_merged_as m at (at + (k + 0))) (sym same);
       fits = fits;
       begun = inv;
       kept = w.replaced at 1 k os (omega arith) fits (w.later at 1 os inv);
-      many = replaced_count asks level at 1 k os (omega arith) some fits ∙ omega (arith, long);
+      many = replaced_count level at 1 k os (omega arith) some fits ∙ omega (arith, long);
     })
 
 -- a syllable that is decomposed for the trailing consonant after it
-joined_stepped : (asks : Asks) (level : BufferClusterLevel) (R : List Origin → List Origin → Type 0) (Inv : ℕ → List Origin → Type 0) → IsWalk asks level R Inv → (font : FaceParts) (letters : Letters) (out : List Item) (x : Item) (xs : List Item) (os : List Origin)
+joined_stepped : (level : BufferClusterLevel) (R : List Origin → List Origin → Type 0) (Inv : ℕ → List Origin → Type 0) → IsWalk level R Inv → (font : FaceParts) (letters : Letters) (out : List Item) (x : Item) (xs : List Item) (os : List Origin)
     → jamo_rule font (x ∷ xs) ≡ 2 → IsInside (character_at 1 (x ∷ xs)) → length os ≡ length out + suc (length xs) → Inv (length out) os
-    → IsStepped asks level R Inv font (split_step letters 1 out (x ∷ xs)) (MergeGrapheme (length out) (length out + (length (numbers_of letters) + 1)) ∷ []) (length out) (x ∷ xs) os
-joined_stepped asks level R Inv w font letters out x xs os rule inside long inv =
+    → IsStepped level R Inv font (split_step letters 1 out (x ∷ xs)) (MergeGrapheme (length out) (length out + (length (numbers_of letters) + 1)) ∷ []) (length out) (x ∷ xs) os
+joined_stepped level R Inv w font letters out x xs os rule inside long inv =
     let at = length out in
     let k = length (numbers_of letters) in
     let all = x ∷ xs in
@@ -484,39 +478,39 @@ joined_stepped asks level R Inv w font letters out x xs os rule inside long inv 
     let new = letters_of_first letters all ++ take 1 xs in
     let begun = w.merged at at (at + 2) os (omega arith) (omega arith) inv in
     let next : at + 2 ≡ at + 1 + 1 = omega arith in
-    stepped asks level R Inv w font (split_step letters 1 out all) (MergeGrapheme at (at + 2) ∷ []) (MergeGrapheme at (at + (k + 1)) ∷ []) at (at + 1 + 1) (at + k + 1) (at + 1) all (drop 2 all) os (record {
+    stepped level R Inv w font (split_step letters 1 out all) (MergeGrapheme at (at + 2) ∷ []) (MergeGrapheme at (at + (k + 1)) ∷ []) at (at + 1 + 1) (at + k + 1) (at + 1) all (drop 2 all) os (record {
       left = refl;
-      merges = first_is font at 2 x xs rule ∙ ap (λ es. MergeGrapheme at (at + 2) ∷ es) (pass_two font at x xs inside ∙ ap (λ j. merges_by (jamo_rule font) j (drop 2 all)) next);
+      merges = first_is font at 2 x xs rule ∙ ap (λ es. MergeGrapheme at (at + 2) ∷ es) (pass_two font at x xs inside ∙ ap (λ j. merges_alone (jamo_rule font) j (drop 2 all)) next);
       size = length-append out (letters_from 1 new)
           ∙ ap (λ n. at + n) (letters_long 1 new ∙ length-append (letters_of_first letters all) (take 1 xs) ∙ ap (λ n. n + length (take 1 xs)) (length-map (numbers_of letters) (item_numbered x)) ∙ ap (λ n. k + n) (length-take-le 1 xs (omega (arith, more))))
           ∙ omega arith;
       later = omega arith;
-      passes = exactly_passes asks level R Inv w (λ qs. origins_after asks level (Replace at 1 k ∷ []) qs) at (at + 1) (at + 1 + 1) (at + k + 1)
-          (later_passes m (λ qs. origins_after asks level (Replace at 1 k ∷ []) qs) (at + 1) (at + 1) (at + k) 1 (replacing_passes asks level at k));
-      swaps = alone_replaced asks level at k merged ∙ merge_copied m at k 1 os (graphemes_flagless level) some fits ∙ ap (origins_merged_as m at (at + (k + 1))) (sym (alone_replaced asks level at k os));
+      passes = exactly_passes level R Inv w (λ qs. origins_after unasked level (Replace at 1 k ∷ []) qs) at (at + 1) (at + 1 + 1) (at + k + 1)
+          (later_passes m (λ qs. origins_after unasked level (Replace at 1 k ∷ []) qs) (at + 1) (at + 1) (at + k) 1 (replacing_passes level at k));
+      swaps = alone_replaced level at k merged ∙ merge_copied m at k 1 os (graphemes_flagless level) some fits ∙ ap (origins_merged_as m at (at + (k + 1))) (sym (alone_replaced level at k os));
       fits = enough;
       begun = begun;
-      kept = w.later (at + k) 1 (origins_after asks level (Replace at 1 k ∷ []) merged) (w.replaced at 1 k merged (omega arith) enough (w.later at 1 merged begun));
-      many = replaced_count asks level at 1 k merged (omega arith) some enough ∙ (let rest = length-drop 1 xs in omega (arith, long, size, rest, more));
+      kept = w.later (at + k) 1 (origins_after unasked level (Replace at 1 k ∷ []) merged) (w.replaced at 1 k merged (omega arith) enough (w.later at 1 merged begun));
+      many = replaced_count level at 1 k merged (omega arith) some enough ∙ (let rest = length-drop 1 xs in omega (arith, long, size, rest, more));
     })
 
 -- a tone mark that gets a circle
-circle_stepped : (asks : Asks) (level : BufferClusterLevel) (R : List Origin → List Origin → Type 0) (Inv : ℕ → List Origin → Type 0) → IsWalk asks level R Inv → (font : FaceParts) (thin : Bool) (out : List Item) (x : Item) (xs : List Item) (os : List Origin)
-    → jamo_rule font (x ∷ xs) ≡ 0 → length os ≡ length out + suc (length xs) → Inv (length out) os → IsStepped asks level R Inv font (with_circle thin out (x ∷ xs)) [] (length out) (x ∷ xs) os
-circle_stepped asks level R Inv w font thin out x xs os rule long inv =
+circle_stepped : (level : BufferClusterLevel) (R : List Origin → List Origin → Type 0) (Inv : ℕ → List Origin → Type 0) → IsWalk level R Inv → (font : FaceParts) (thin : Bool) (out : List Item) (x : Item) (xs : List Item) (os : List Origin)
+    → jamo_rule font (x ∷ xs) ≡ 0 → length os ≡ length out + suc (length xs) → Inv (length out) os → IsStepped level R Inv font (with_circle thin out (x ∷ xs)) [] (length out) (x ∷ xs) os
+circle_stepped level R Inv w font thin out x xs os rule long inv =
     let at = length out in
     let fits : at + 1 ≤ length os = omega (arith, long) in
-    stepped asks level R Inv w font (with_circle thin out (x ∷ xs)) [] [] at (at + 1) (at + 2) (at + 1) (x ∷ xs) xs os (record {
+    stepped level R Inv w font (with_circle thin out (x ∷ xs)) [] [] at (at + 1) (at + 2) (at + 1) (x ∷ xs) xs os (record {
       left = refl;
       merges = first_is font at 0 x xs rule;
       size = length-append out (circle_beside thin (x ∷ xs)) ∙ ap (λ n. at + n) (two thin);
       later = omega arith;
-      passes = exactly_passes asks level R Inv w (λ qs. origins_after asks level (Replace at 1 2 ∷ []) qs) at (at + 1) (at + 1) (at + 2) (replacing_passes asks level at 2);
+      passes = exactly_passes level R Inv w (λ qs. origins_after unasked level (Replace at 1 2 ∷ []) qs) at (at + 1) (at + 1) (at + 2) (replacing_passes level at 2);
       swaps = refl;
       fits = fits;
       begun = inv;
       kept = w.replaced at 1 2 os (omega arith) fits (w.later at 1 os inv);
-      many = replaced_count asks level at 1 2 os (omega arith) (omega arith) fits ∙ omega (arith, long);
+      many = replaced_count level at 1 2 os (omega arith) (omega arith) fits ∙ omega (arith, long);
     })
   where
     two : (t : Bool) → length (circle_beside t (x ∷ xs)) ≡ 2
@@ -524,69 +518,69 @@ circle_stepped asks level R Inv w font thin out x xs os rule long inv =
     two false = refl
 
 -- a tone mark that is moved before its syllable
-moved_stepped : (asks : Asks) (level : BufferClusterLevel) (R : List Origin → List Origin → Type 0) (Inv : ℕ → List Origin → Type 0) → IsWalk asks level R Inv → (font : FaceParts) (start : ℕ) (out : List Item) (x : Item) (xs : List Item) (os : List Origin)
-    → start ≤ length out → jamo_rule font (x ∷ xs) ≡ 0 → length os ≡ length out + suc (length xs) → Inv (length out) os → IsStepped asks level R Inv font (before_syllable start out (x ∷ xs)) [] (length out) (x ∷ xs) os
-moved_stepped asks level R Inv w font start out x xs os before rule long inv =
+moved_stepped : (level : BufferClusterLevel) (R : List Origin → List Origin → Type 0) (Inv : ℕ → List Origin → Type 0) → IsWalk level R Inv → (font : FaceParts) (start : ℕ) (out : List Item) (x : Item) (xs : List Item) (os : List Origin)
+    → start ≤ length out → jamo_rule font (x ∷ xs) ≡ 0 → length os ≡ length out + suc (length xs) → Inv (length out) os → IsStepped level R Inv font (before_syllable start out (x ∷ xs)) [] (length out) (x ∷ xs) os
+moved_stepped level R Inv w font start out x xs os before rule long inv =
     let at = length out in
     let order = order_of_move (at - start) 1 in
     let end : start + length order ≡ at + 1 = let many = order_long (at - start) 1 in omega (arith, many, before) in
-    let moved = origins_after asks level (Move InOutput start order ∷ []) os in
+    let moved = origins_after unasked level (Move InOutput start order ∷ []) os in
     let whole = sym (length-append (take start out) (drop start out)) ∙ ap length (take-append-drop start out) in
     let joined = length-append (take start out) (x ∷ drop start out) in
-    stepped asks level R Inv w font (before_syllable start out (x ∷ xs)) [] [] at (at + 1) (at + 1) (at + 1) (x ∷ xs) xs os (record {
+    stepped level R Inv w font (before_syllable start out (x ∷ xs)) [] [] at (at + 1) (at + 1) (at + 1) (x ∷ xs) xs os (record {
       left = refl;
       merges = first_is font at 0 x xs rule;
       size = omega (arith, joined, whole);
       later = omega arith;
-      passes = exactly_passes asks level R Inv w (λ qs. origins_after asks level (Move InOutput start order ∷ []) qs) at (at + 1) (at + 1) (at + 1) (moving_passes (grapheme_manner level) level start (at + 1) (at + 1) order (graphemes_flagless level) end (omega (arith, before)));
+      passes = exactly_passes level R Inv w (λ qs. origins_after unasked level (Move InOutput start order ∷ []) qs) at (at + 1) (at + 1) (at + 1) (moving_passes (grapheme_manner level) level start (at + 1) (at + 1) order (graphemes_flagless level) end (omega (arith, before)));
       swaps = refl;
       fits = omega (arith, long);
       begun = inv;
       kept = subst (λ (k : ℕ). Inv k moved) end (w.moved start order os (omega (arith, before, long)) (subst (λ (k : ℕ). Inv k os) (sym end) (w.later at 1 os inv)));
-      many = counts_follow asks level (Move InOutput start order ∷ []) os ∙ omega (arith, long);
+      many = counts_follow unasked level (Move InOutput start order ∷ []) os ∙ omega (arith, long);
     })
 
 -- ---- each step
 
-action_stepped : (asks : Asks) (level : BufferClusterLevel) (R : List Origin → List Origin → Type 0) (Inv : ℕ → List Origin → Type 0) → IsWalk asks level R Inv → (font : FaceParts) (a : Action) (out : List Item) (x : Item) (xs : List Item) (os : List Origin)
+action_stepped : (level : BufferClusterLevel) (R : List Origin → List Origin → Type 0) (Inv : ℕ → List Origin → Type 0) → IsWalk level R Inv → (font : FaceParts) (a : Action) (out : List Item) (x : Item) (xs : List Item) (os : List Origin)
     → jamo_rule font (x ∷ xs) ≡ count_apart a → Takes a (character_at 1 (x ∷ xs)) (character_at 2 (x ∷ xs)) → length os ≡ length out + suc (length xs) → Inv (length out) os
-    → IsStepped asks level R Inv font (step_of a out (x ∷ xs)) (syllable_merge a (length out)) (length out) (x ∷ xs) os
-action_stepped asks level R Inv w font (Keep whole) out x xs os rule takes long inv = keep_stepped asks level R Inv w font whole out x xs os rule long inv
-action_stepped asks level R Inv w font (Apart n) out x xs os rule takes long inv = apart_stepped asks level R Inv w font n out x xs os rule takes long inv
-action_stepped asks level R Inv w font (Compose n u) out x xs os rule takes long inv = compose_stepped asks level R Inv w font n u out x xs os rule takes long inv
-action_stepped asks level R Inv w font (Split letters true) out x xs os rule takes long inv = joined_stepped asks level R Inv w font letters out x xs os rule (takes refl) long inv
-action_stepped asks level R Inv w font (Split letters false) out x xs os rule takes long inv = alone_stepped asks level R Inv w font letters out x xs os rule long inv
+    → IsStepped level R Inv font (step_of a out (x ∷ xs)) (syllable_merge a (length out)) (length out) (x ∷ xs) os
+action_stepped level R Inv w font (Keep whole) out x xs os rule takes long inv = keep_stepped level R Inv w font whole out x xs os rule long inv
+action_stepped level R Inv w font (Apart n) out x xs os rule takes long inv = apart_stepped level R Inv w font n out x xs os rule takes long inv
+action_stepped level R Inv w font (Compose n u) out x xs os rule takes long inv = compose_stepped level R Inv w font n u out x xs os rule takes long inv
+action_stepped level R Inv w font (Split letters true) out x xs os rule takes long inv = joined_stepped level R Inv w font letters out x xs os rule (takes refl) long inv
+action_stepped level R Inv w font (Split letters false) out x xs os rule takes long inv = alone_stepped level R Inv w font letters out x xs os rule long inv
 
-tone_stepped : (asks : Asks) (level : BufferClusterLevel) (R : List Origin → List Origin → Type 0) (Inv : ℕ → List Origin → Type 0) → IsWalk asks level R Inv → (font : FaceParts) (circles : Bool) (start u : ℕ) (out : List Item) (x : Item) (xs : List Item) (os : List Origin)
-    → jamo_rule font (x ∷ xs) ≡ 0 → length os ≡ length out + suc (length xs) → Inv (length out) os → IsStepped asks level R Inv font (tone_step font circles start u out (x ∷ xs)) [] (length out) (x ∷ xs) os
-tone_stepped asks level R Inv w font circles start u out x xs os rule long inv = by_tests (nat_lt start (length out)) refl (has_no_width font u) (circles && has_character font DOTTED_CIRCLE)
+tone_stepped : (level : BufferClusterLevel) (R : List Origin → List Origin → Type 0) (Inv : ℕ → List Origin → Type 0) → IsWalk level R Inv → (font : FaceParts) (circles : Bool) (start u : ℕ) (out : List Item) (x : Item) (xs : List Item) (os : List Origin)
+    → jamo_rule font (x ∷ xs) ≡ 0 → length os ≡ length out + suc (length xs) → Inv (length out) os → IsStepped level R Inv font (tone_step font circles start u out (x ∷ xs)) [] (length out) (x ∷ xs) os
+tone_stepped level R Inv w font circles start u out x xs os rule long inv = by_tests (nat_lt start (length out)) refl (has_no_width font u) (circles && has_character font DOTTED_CIRCLE)
   where
     by_tests : (s : Bool) → nat_lt start (length out) ≡ s → (t b : Bool)
-        → IsStepped asks level R Inv font
+        → IsStepped level R Inv font
         (if s then (if t then keep_step false out (x ∷ xs) else before_syllable start out (x ∷ xs)) else (if b then with_circle (has_no_width font u) out (x ∷ xs) else keep_step false out (x ∷ xs))) [] (length out) (x ∷ xs) os
-    by_tests true e true b = keep_stepped asks level R Inv w font false out x xs os rule long inv
-    by_tests true e false b = moved_stepped asks level R Inv w font start out x xs os (let lt : start < length out = grind (arith, nat_tests, e) in omega (arith, lt)) rule long inv
-    by_tests false e t true = circle_stepped asks level R Inv w font (has_no_width font u) out x xs os rule long inv
-    by_tests false e t false = keep_stepped asks level R Inv w font false out x xs os rule long inv
+    by_tests true e true b = keep_stepped level R Inv w font false out x xs os rule long inv
+    by_tests true e false b = moved_stepped level R Inv w font start out x xs os (let lt : start < length out = grind (arith, nat_tests, e) in omega (arith, lt)) rule long inv
+    by_tests false e t true = circle_stepped level R Inv w font (has_no_width font u) out x xs os rule long inv
+    by_tests false e t false = keep_stepped level R Inv w font false out x xs os rule long inv
 
-step_stepped : (asks : Asks) (level : BufferClusterLevel) (R : List Origin → List Origin → Type 0) (Inv : ℕ → List Origin → Type 0) → IsWalk asks level R Inv → (font : FaceParts) (circles : Bool) (n : ℕ) (out : List Item) (x : Item) (xs : List Item) (os : List Origin)
-    → length os ≡ length out + suc (length xs) → Inv (length out) os → IsStepped asks level R Inv font (step font circles n out (x ∷ xs)) (written_merge font (length out) (x ∷ xs)) (length out) (x ∷ xs) os
-step_stepped asks level R Inv w font circles n out x xs os long inv = by_first (character_at 0 (x ∷ xs)) refl
+step_stepped : (level : BufferClusterLevel) (R : List Origin → List Origin → Type 0) (Inv : ℕ → List Origin → Type 0) → IsWalk level R Inv → (font : FaceParts) (circles : Bool) (n : ℕ) (out : List Item) (x : Item) (xs : List Item) (os : List Origin)
+    → length os ≡ length out + suc (length xs) → Inv (length out) os → IsStepped level R Inv font (step font circles n out (x ∷ xs)) (written_merge font (length out) (x ∷ xs)) (length out) (x ∷ xs) os
+step_stepped level R Inv w font circles n out x xs os long inv = by_first (character_at 0 (x ∷ xs)) refl
   where
     all : List Item
     all = x ∷ xs
 
     by_tone : (u : ℕ) (t : Bool) → is_tone u ≡ t → jamo_rule font (x ∷ xs) ≡ rule_by font (Some u) (x ∷ xs)
-        → IsStepped asks level R Inv font (if t then tone_step font circles n u out (x ∷ xs) else step_of (action_on font u (character_at 1 (x ∷ xs)) (character_at 2 (x ∷ xs))) out (x ∷ xs))
+        → IsStepped level R Inv font (if t then tone_step font circles n u out (x ∷ xs) else step_of (action_on font u (character_at 1 (x ∷ xs)) (character_at 2 (x ∷ xs))) out (x ∷ xs))
         (if t then [] else syllable_merge (action_on font u (character_at 1 (x ∷ xs)) (character_at 2 (x ∷ xs))) (length out)) (length out) (x ∷ xs) os
-    by_tone u true e rule = tone_stepped asks level R Inv w font circles n u out x xs os (rule ∙ inside_rule font (Some u) (x ∷ xs) (inside_tone u e)) long inv
+    by_tone u true e rule = tone_stepped level R Inv w font circles n u out x xs os (rule ∙ inside_rule font (Some u) (x ∷ xs) (inside_tone u e)) long inv
     by_tone u false e rule =
         let second = character_at 1 (x ∷ xs) in
         let third = character_at 2 (x ∷ xs) in
-        action_stepped asks level R Inv w font (action_on font u second third) out x xs os rule (action_takes font u second third) long inv
+        action_stepped level R Inv w font (action_on font u second third) out x xs os rule (action_takes font u second third) long inv
 
-    by_first : (o : Option ℕ) → character_at 0 (x ∷ xs) ≡ o → IsStepped asks level R Inv font (step_by font circles n o out (x ∷ xs)) (written_merge_by font o (length out) (x ∷ xs)) (length out) (x ∷ xs) os
-    by_first None e = keep_stepped asks level R Inv w font false out x xs os (ap (λ o. rule_by font o (x ∷ xs)) e) long inv
+    by_first : (o : Option ℕ) → character_at 0 (x ∷ xs) ≡ o → IsStepped level R Inv font (step_by font circles n o out (x ∷ xs)) (written_merge_by font o (length out) (x ∷ xs)) (length out) (x ∷ xs) os
+    by_first None e = keep_stepped level R Inv w font false out x xs os (ap (λ o. rule_by font o (x ∷ xs)) e) long inv
     by_first (Some u) e = by_tone u (is_tone u) refl (ap (λ o. rule_by font o (x ∷ xs)) e)
 
 -- ---- all steps
@@ -621,12 +615,12 @@ events_written font circles level (suc steps) n out (x ∷ xs) =
     let s = step font circles n out (x ∷ xs) in
     both_written (s.events level) (events_after font circles level steps s.start s.out (drop (s.more + 1) (x ∷ xs))) (step_written font circles level n out (x ∷ xs)) (events_written font circles level steps s.start s.out (drop (s.more + 1) (x ∷ xs)))
 
-syllables_written : (asks : Asks) (level : BufferClusterLevel) (R : List Origin → List Origin → Type 0) (Inv : ℕ → List Origin → Type 0) → IsWalk asks level R Inv → (font : FaceParts) (circles : Bool) (steps n : ℕ) (out xs : List Item) (os : List Origin)
+syllables_written : (level : BufferClusterLevel) (R : List Origin → List Origin → Type 0) (Inv : ℕ → List Origin → Type 0) → IsWalk level R Inv → (font : FaceParts) (circles : Bool) (steps n : ℕ) (out xs : List Item) (os : List Origin)
     → length xs ≤ steps → length os ≡ length out + length xs → Inv (length out) os
-    → R (origins_after asks level (merges_by (jamo_rule font) (length out) xs ++ events_after font circles level steps n out xs) os) (origins_after asks level (written_steps font circles level steps n out xs) os)
-syllables_written asks level R Inv w font circles steps n out [] os enough long inv = w.same os
-syllables_written asks level R Inv w font circles zero n out (x ∷ xs) os enough long inv = absurd (omega (arith, enough))
-syllables_written asks level R Inv w font circles (suc steps) n out (x ∷ xs) os enough long inv =
+    → R (origins_after unasked level (merges_alone (jamo_rule font) (length out) xs ++ events_after font circles level steps n out xs) os) (origins_after unasked level (written_steps font circles level steps n out xs) os)
+syllables_written level R Inv w font circles steps n out [] os enough long inv = w.same os
+syllables_written level R Inv w font circles zero n out (x ∷ xs) os enough long inv = absurd (omega (arith, enough))
+syllables_written level R Inv w font circles (suc steps) n out (x ∷ xs) os enough long inv =
     let all = x ∷ xs in
     let s = step font circles n out all in
     let at = length out in
@@ -634,55 +628,99 @@ syllables_written asks level R Inv w font circles (suc steps) n out (x ∷ xs) o
     let ev = s.events level in
     let later = events_after font circles level steps s.start s.out rest in
     let merge = written_merge font at all in
-    let pass = merges_by (jamo_rule font) at all in
-    let next = merges_by (jamo_rule font) (length s.out) rest in
+    let pass = merges_alone (jamo_rule font) at all in
+    let next = merges_alone (jamo_rule font) (length s.out) rest in
     let written = written_steps font circles level steps s.start s.out rest in
-    let st = step_stepped asks level R Inv w font circles n out x xs os long inv in
-    let done = origins_after asks level merge (origins_after asks level ev os) in
-    let old : origins_after asks level (pass ++ (ev ++ later)) os ≡ origins_after asks level later (origins_after asks level ev (origins_after asks level pass os)) =
-    origins_after_both asks level pass (ev ++ later) os ∙ origins_after_both asks level ev later (origins_after asks level pass os) in
-    let new : origins_after asks level ((ev ++ merge) ++ written) os ≡ origins_after asks level written done =
-    origins_after_both asks level (ev ++ merge) written os ∙ ap (λ qs. origins_after asks level written qs) (origins_after_both asks level ev merge os) in
-    let first = w.after later (origins_after asks level ev (origins_after asks level pass os)) (origins_after asks level next done) (events_written font circles level steps s.start s.out rest) st.passed in
+    let st = step_stepped level R Inv w font circles n out x xs os long inv in
+    let done = origins_after unasked level merge (origins_after unasked level ev os) in
+    let old : origins_after unasked level (pass ++ (ev ++ later)) os ≡ origins_after unasked level later (origins_after unasked level ev (origins_after unasked level pass os)) =
+    origins_after_both unasked level pass (ev ++ later) os ∙ origins_after_both unasked level ev later (origins_after unasked level pass os) in
+    let new : origins_after unasked level ((ev ++ merge) ++ written) os ≡ origins_after unasked level written done =
+    origins_after_both unasked level (ev ++ merge) written os ∙ ap (λ qs. origins_after unasked level written qs) (origins_after_both unasked level ev merge os) in
+    let first = w.after later (origins_after unasked level ev (origins_after unasked level pass os)) (origins_after unasked level next done) (events_written font circles level steps s.start s.out rest) st.passed in
     let size : length rest ≡ suc (length xs) - (s.more + 1) = length-drop (s.more + 1) all in
-    let others = syllables_written asks level R Inv w font circles steps s.start s.out rest done (omega (arith, enough, size)) st.many st.kept in
-    let joined = subst (λ (qs : List Origin). R qs (origins_after asks level written done)) (origins_after_both asks level next later done) others in
-    subst (λ (qs : List Origin). R qs (origins_after asks level ((ev ++ merge) ++ written) os)) (sym old)
-    (subst (R (origins_after asks level later (origins_after asks level ev (origins_after asks level pass os)))) (sym new)
-    (w.chain (origins_after asks level later (origins_after asks level ev (origins_after asks level pass os))) (origins_after asks level later (origins_after asks level next done)) (origins_after asks level written done) first joined))
+    let others = syllables_written level R Inv w font circles steps s.start s.out rest done (omega (arith, enough, size)) st.many st.kept in
+    let joined = subst (λ (qs : List Origin). R qs (origins_after unasked level written done)) (origins_after_both unasked level next later done) others in
+    subst (λ (qs : List Origin). R qs (origins_after unasked level ((ev ++ merge) ++ written) os)) (sym old)
+    (subst (R (origins_after unasked level later (origins_after unasked level ev (origins_after unasked level pass os)))) (sym new)
+    (w.chain (origins_after unasked level later (origins_after unasked level ev (origins_after unasked level pass os))) (origins_after unasked level later (origins_after unasked level next done)) (origins_after unasked level written done) first joined))
 
 -- ---- the hook
 
--- with the merges before, and with each after its syllable, the clusters are the same, and the flags but for clusters in no order at the level Graphemes
+written_merge_written : (font : FaceParts) (at : ℕ) (xs : List Item) → AreWritten (written_merge font at xs)
+written_merge_written font at xs = by_first (character_at 0 xs)
+  where
+    by_action : (a : Action) → AreWritten (syllable_merge a at)
+    by_action (Keep whole) = tt
+    by_action (Apart n) = tt
+    by_action (Compose n u) = tt
+    by_action (Split letters joins) = tt
+
+    by_tone : (u : ℕ) (t : Bool) → AreWritten (if t then [] else syllable_merge (action_on font u (character_at 1 xs) (character_at 2 xs)) at)
+    by_tone u true = tt
+    by_tone u false = by_action (action_on font u (character_at 1 xs) (character_at 2 xs))
+
+    by_first : (o : Option ℕ) → AreWritten (written_merge_by font o at xs)
+    by_first None = tt
+    by_first (Some u) = by_tone u (is_tone u)
+
+steps_written : (font : FaceParts) (circles : Bool) (level : BufferClusterLevel) (steps n : ℕ) (out xs : List Item) → AreWritten (written_steps font circles level steps n out xs)
+steps_written font circles level steps n out [] = tt
+steps_written font circles level zero n out (x ∷ xs) = tt
+steps_written font circles level (suc steps) n out (x ∷ xs) =
+    let s = step font circles n out (x ∷ xs) in
+    let merge = written_merge font (length out) (x ∷ xs) in
+    let rest = drop (s.more + 1) (x ∷ xs) in
+    both_written (s.events level ++ merge) (written_steps font circles level steps s.start s.out rest)
+    (both_written (s.events level) merge (step_written font circles level n out (x ∷ xs)) (written_merge_written font (length out) (x ∷ xs))) (steps_written font circles level steps s.start s.out rest)
+
+-- with the merges before, and with each after its syllable, the clusters are the same; so are the flags where PRODUCE_SAFE_BREAKS isn't requested, but for clusters in no order at the level Graphemes
 abbrev AreWrittenAlike : FaceParts → BufferFlags → Asks → BufferClusterLevel → List Item → List Event → List Origin → Type 0
 AreWrittenAlike font flags asks level xs es os =
     (numbers (origins_after asks level es os) ≡ numbers (origins_after asks level (written_syllables font flags level xs) os))
-    × ((level ≡ Graphemes → IsOrdered (numbers os)) → origins_after asks level es os ≡ origins_after asks level (written_syllables font flags level xs) os)
+    × (asks.breaks ≡ false → (level ≡ Graphemes → IsOrdered (numbers os)) → origins_after asks level es os ≡ origins_after asks level (written_syllables font flags level xs) os)
 
-whole_text : (font : FaceParts) (flags : BufferFlags) (asks : Asks) (level : BufferClusterLevel) (xs : List Item) (os : List Origin) → length os ≡ length xs
-    → AreWrittenAlike font flags asks level xs (merges_by (jamo_rule font) 0 xs ++ events_after font (wants_circles flags) level (length xs) 0 [] xs) os
-whole_text font flags asks level xs os long = by_level level
+-- the merges before and the events of the steps
+abbrev read_events : FaceParts → BufferFlags → BufferClusterLevel → List Item → List Event
+read_events font flags level xs = merges_by (jamo_rule font) 0 xs ++ events_after font (wants_circles flags) level (length xs) 0 [] xs
+
+without_requests : (font : FaceParts) (flags : BufferFlags) (level : BufferClusterLevel) (xs : List Item) (os : List Origin) → length os ≡ length xs → AreWrittenAlike font flags unasked level xs (read_events font flags level xs) os
+without_requests font flags level xs os long = by_level level
   where
     counted : length os ≡ 0 + length xs
     counted = omega (arith, long)
 
-    exactly : (l : BufferClusterLevel) → IsEvenLevel l → AreWrittenAlike font flags asks l xs (merges_by (jamo_rule font) 0 xs ++ events_after font (wants_circles flags) l (length xs) 0 [] xs) os
+    breaks_out : (l : BufferClusterLevel)
+        → origins_after unasked l (read_events font flags l xs) os ≡ origins_after unasked l (merges_alone (jamo_rule font) 0 xs ++ events_after font (wants_circles flags) l (length xs) 0 [] xs) os
+    breaks_out l = merged_unasked l (jamo_rule font) 0 xs (events_after font (wants_circles flags) l (length xs) 0 [] xs) os
+
+    exactly : (l : BufferClusterLevel) → IsEvenLevel l → AreWrittenAlike font flags unasked l xs (read_events font flags l xs) os
     exactly l p =
-        let same = syllables_written asks l (λ ps qs. ps ≡ qs) Anything (exact_walk asks l p) font (wants_circles flags) (length xs) 0 [] xs os (omega arith) counted tt in
-        (ap numbers same, λ ordered. same)
+        let same = breaks_out l ∙ syllables_written l (λ ps qs. ps ≡ qs) Anything (exact_walk l p) font (wants_circles flags) (length xs) 0 [] xs os (omega arith) counted tt in
+        (ap numbers same, λ none ordered. same)
 
-    in_order : (falls : Bool) → IsOrderedFrom falls 0 os
-        → origins_after asks Graphemes (merges_by (jamo_rule font) 0 xs ++ events_after font (wants_circles flags) Graphemes (length xs) 0 [] xs) os ≡ origins_after asks Graphemes (written_syllables font flags Graphemes xs) os
-    in_order falls o = syllables_written asks Graphemes (λ ps qs. ps ≡ qs) (IsOrderedFrom falls) (ordered_walk asks falls) font (wants_circles flags) (length xs) 0 [] xs os (omega arith) counted o
+    in_order : (falls : Bool) → IsOrderedFrom falls 0 os → origins_after unasked Graphemes (read_events font flags Graphemes xs) os ≡ origins_after unasked Graphemes (written_syllables font flags Graphemes xs) os
+    in_order falls o = breaks_out Graphemes ∙ syllables_written Graphemes (λ ps qs. ps ≡ qs) (IsOrderedFrom falls) (ordered_walk falls) font (wants_circles flags) (length xs) 0 [] xs os (omega arith) counted o
 
-    by_level : (l : BufferClusterLevel) → AreWrittenAlike font flags asks l xs (merges_by (jamo_rule font) 0 xs ++ events_after font (wants_circles flags) l (length xs) 0 [] xs) os
+    by_level : (l : BufferClusterLevel) → AreWrittenAlike font flags unasked l xs (read_events font flags l xs) os
     by_level MonotoneGraphemes = exactly MonotoneGraphemes tt
     by_level MonotoneCharacters = exactly MonotoneCharacters tt
     by_level Characters = exactly Characters tt
     by_level Graphemes = (
-      syllables_written asks Graphemes (λ ps qs. numbers ps ≡ numbers qs) Anything (cluster_walk asks) font (wants_circles flags) (length xs) 0 [] xs os (omega arith) counted tt,
-      λ ordered. elim (ordered refl) [ inl rises ↦ in_order false rises | inr falls ↦ in_order true falls ],
+      ap numbers (breaks_out Graphemes) ∙ syllables_written Graphemes (λ ps qs. numbers ps ≡ numbers qs) Anything cluster_walk font (wants_circles flags) (length xs) 0 [] xs os (omega arith) counted tt,
+      λ none ordered. elim (ordered refl) [ inl rises ↦ in_order false rises | inr falls ↦ in_order true falls ],
     )
+
+whole_text : (font : FaceParts) (flags : BufferFlags) (asks : Asks) (level : BufferClusterLevel) (xs : List Item) (os : List Origin) → length os ≡ length xs → AreWrittenAlike font flags asks level xs (read_events font flags level xs) os
+whole_text font flags asks level xs os long =
+    let circles = wants_circles flags in
+    let steps = events_after font circles level (length xs) 0 [] xs in
+    let es = read_events font flags level xs in
+    let fs = written_syllables font flags level xs in
+    let p = both_written (merges_by (jamo_rule font) 0 xs) steps (merges_written (jamo_rule font) 0 xs) (events_written font circles level (length xs) 0 [] xs) in
+    let q = steps_written font circles level (length xs) 0 [] xs in
+    let same = without_requests font flags level xs os long in
+    (clusters_by_requests asks level es fs os p q same.0, λ none ordered. origins_by_requests asks level es fs os p q none (same.1 refl ordered))
 
 pub syllables_merge_where_written : SyllablesMergeWhereWritten
 syllables_merge_where_written font flags text r long e = by_limit (nat_le (length formed) text.view.max_len) e

@@ -8,104 +8,35 @@ use Rattle.buffer_glyphs.specs.declared.level.BufferClusterLevel.{BufferClusterL
 use Rattle.buffer_glyphs.specs.declared.level.BufferClusterLevel.TheVariants.{MonotoneGraphemes, MonotoneCharacters, Characters, Graphemes}
 use Rattle.buffer_glyphs.specs.Parts.{elements_replaced, range_of}
 use Rattle.buffer_glyphs.specs.Merging.{order_kept_as}
-use Rattle.buffer_glyphs.specs.Merges.{least_number, merged_number, merged_numbers, numbers_merged_as}
+use Rattle.buffer_glyphs.specs.Merges.{least_number, merged_number, merged_numbers}
 use Rattle.buffer_glyphs.specs.Order.{IsChain, IsInOrder, has_number}
-use Rattle.buffer_glyphs.specs.Levels.{InList, InOutput, manner, grapheme_manner}
-use Rattle.buffer_glyphs.specs.Origins.{Asks, Origin, numbers, cast, added_outside, flags_added, origins_marked, origins_merged, Manner, Unites, origins_merged_as, with_range_arranged}
-use Rattle.buffer_glyphs.specs.Events.{Event, Merge, MergeGrapheme, Replace, Circle, Delete, Move, Arrange, Sort, Reverse, Break, Concat, Tatweel, Spread, Reset, origins_after, origins_after_event}
+use Rattle.buffer_glyphs.specs.Levels.{InOutput, grapheme_manner}
+use Rattle.buffer_glyphs.specs.Origins.{Origin, numbers, cast, added_outside, flags_added, origins_marked, origins_merged, Unites, origins_merged_as, with_range_arranged}
+use Rattle.buffer_glyphs.specs.Events.{Event, MergeGrapheme, Replace, Move, origins_after}
 use Rattle.buffer_glyphs.specs.Lemmas.Ends.{from_first}
 use Rattle.buffer_glyphs.specs.Lemmas.Merges.{chain_across, chain_right, least_number_is, stands_chain}
 use Rattle.buffer_glyphs.specs.Lemmas.Numbers.{Has, has_here, has_map, has_take, has_drop, map_has}
-use Rattle.buffer_glyphs.specs.Lemmas.Origins.{number_cast, number_outside, numbers_marked, numbers_merged, numbers_merged_by}
+use Rattle.buffer_glyphs.specs.Lemmas.Origins.{number_cast, number_outside, numbers_marked, numbers_merged}
 use Rattle.buffer_glyphs.specs.Lemmas.Parts.{Stands, stands_self}
 use Rattle.buffer_glyphs.specs.Lemmas.Replacements.{among_seen}
 use Rattle.shape_parts.proofs.Unions.{below, range_map}
 use Rattle.shape_parts.proofs.Carried.{arranged_rest, arranged_seen, begins_at, both_pass, carried_passes, merge_passes, merged_many, replaced_is, replaced_rest, replacing_carries}
-
--- ---- clusters alone
-
--- no event but merges of graphemes, replacements and moves
-abbrev pub AreWritten : List Event → Type 0
-AreWritten [] = Unit {0}
-AreWritten (MergeGrapheme from to ∷ es) = AreWritten es
-AreWritten (Replace at taken given ∷ es) = AreWritten es
-AreWritten (Move how from order ∷ es) = AreWritten es
-AreWritten (Merge how from to ∷ es) = ⊥
-AreWritten (Circle after beside like ∷ es) = ⊥
-AreWritten (Delete at ∷ es) = ⊥
-AreWritten (Arrange from order ∷ es) = ⊥
-AreWritten (Sort from order ∷ es) = ⊥
-AreWritten (Reverse ∷ es) = ⊥
-AreWritten (Break from to ∷ es) = ⊥
-AreWritten (Concat from to ∷ es) = ⊥
-AreWritten (Tatweel from to ∷ es) = ⊥
-AreWritten (Spread ∷ es) = ⊥
-AreWritten (Reset ∷ es) = ⊥
-
-pub both_written : (es fs : List Event) → AreWritten es → AreWritten fs → AreWritten (es ++ fs)
-both_written [] fs p q = q
-both_written (MergeGrapheme from to ∷ es) fs p q = both_written es fs p q
-both_written (Replace at taken given ∷ es) fs p q = both_written es fs p q
-both_written (Move how from order ∷ es) fs p q = both_written es fs p q
-both_written (Merge how from to ∷ es) fs p q = absurd p
-both_written (Circle after beside like ∷ es) fs p q = absurd p
-both_written (Delete at ∷ es) fs p q = absurd p
-both_written (Arrange from order ∷ es) fs p q = absurd p
-both_written (Sort from order ∷ es) fs p q = absurd p
-both_written (Reverse ∷ es) fs p q = absurd p
-both_written (Break from to ∷ es) fs p q = absurd p
-both_written (Concat from to ∷ es) fs p q = absurd p
-both_written (Tatweel from to ∷ es) fs p q = absurd p
-both_written (Spread ∷ es) fs p q = absurd p
-both_written (Reset ∷ es) fs p q = absurd p
-
-replaced_clusters : (level : BufferClusterLevel) (at taken given : ℕ) (os : List Origin)
-    → numbers (elements_replaced at taken given (origins_merged_as (manner InList level) at (at + taken) os)) ≡ elements_replaced at taken given (numbers_merged_as (manner InList level) at (at + taken) (numbers os))
-replaced_clusters level at taken given os =
-    among_seen (λ (o : Origin). o.cluster) at taken given (origins_merged_as (manner InList level) at (at + taken) os) ∙ ap (elements_replaced at taken given) (numbers_merged_by (manner InList level) at (at + taken) os)
-
-moved_clusters : (m : Manner) (from to : ℕ) (order : List ℕ) (os : List Origin) → numbers (with_range_arranged from order (origins_merged_as m from to os)) ≡ with_range_arranged from order (numbers_merged_as m from to (numbers os))
-moved_clusters m from to order os = sym (arranged_seen (λ (o : Origin). o.cluster) from order (origins_merged_as m from to os)) ∙ ap (with_range_arranged from order) (numbers_merged_by m from to os)
-
--- clusters after such events depend on clusters alone
-numbers_after : (asks : Asks) (level : BufferClusterLevel) (es : List Event) (os qs : List Origin) → AreWritten es → numbers os ≡ numbers qs → numbers (origins_after asks level es os) ≡ numbers (origins_after asks level es qs)
-numbers_after asks level [] os qs p e = e
-numbers_after asks level (MergeGrapheme from to ∷ es) os qs p e =
-    numbers_after asks level es (origins_merged_as (grapheme_manner level) from to os) (origins_merged_as (grapheme_manner level) from to qs) p
-    (numbers_merged_by (grapheme_manner level) from to os ∙ ap (numbers_merged_as (grapheme_manner level) from to) e ∙ sym (numbers_merged_by (grapheme_manner level) from to qs))
-numbers_after asks level (Replace at taken given ∷ es) os qs p e =
-    numbers_after asks level es (origins_after_event asks level os (Replace at taken given)) (origins_after_event asks level qs (Replace at taken given)) p
-    (replaced_clusters level at taken given os ∙ ap (λ ns. elements_replaced at taken given (numbers_merged_as (manner InList level) at (at + taken) ns)) e ∙ sym (replaced_clusters level at taken given qs))
-numbers_after asks level (Move how from order ∷ es) os qs p e =
-    numbers_after asks level es (origins_after_event asks level os (Move how from order)) (origins_after_event asks level qs (Move how from order)) p
-    (moved_clusters (manner how level) from (from + length order) order os ∙ ap (λ ns. with_range_arranged from order (numbers_merged_as (manner how level) from (from + length order) ns)) e
-    ∙ sym (moved_clusters (manner how level) from (from + length order) order qs))
-numbers_after asks level (Merge how from to ∷ es) os qs p e = absurd p
-numbers_after asks level (Circle after beside like ∷ es) os qs p e = absurd p
-numbers_after asks level (Delete at ∷ es) os qs p e = absurd p
-numbers_after asks level (Arrange from order ∷ es) os qs p e = absurd p
-numbers_after asks level (Sort from order ∷ es) os qs p e = absurd p
-numbers_after asks level (Reverse ∷ es) os qs p e = absurd p
-numbers_after asks level (Break from to ∷ es) os qs p e = absurd p
-numbers_after asks level (Concat from to ∷ es) os qs p e = absurd p
-numbers_after asks level (Tatweel from to ∷ es) os qs p e = absurd p
-numbers_after asks level (Spread ∷ es) os qs p e = absurd p
-numbers_after asks level (Reset ∷ es) os qs p e = absurd p
+use Rattle.shape_parts.proofs.WrittenEvents.{AreWritten, numbers_after, unasked}
 
 -- ---- walks
 
 -- a relation `R` of origins that a walk keeps, where `Inv` holds of the origins from an index on
-pub record IsWalk (asks : Asks) (level : BufferClusterLevel) (R : List Origin → List Origin → Type 0) (Inv : ℕ → List Origin → Type 0) : Type 0 where
+pub record IsWalk (level : BufferClusterLevel) (R : List Origin → List Origin → Type 0) (Inv : ℕ → List Origin → Type 0) : Type 0 where
   pub same : (os : List Origin) → R os os
   pub chain : (os ps qs : List Origin) → R os ps → R ps qs → R os qs
-  pub after : (es : List Event) (os qs : List Origin) → AreWritten es → R os qs → R (origins_after asks level es os) (origins_after asks level es qs)
+  pub after : (es : List Event) (os qs : List Origin) → AreWritten es → R os qs → R (origins_after unasked level es os) (origins_after unasked level es qs)
   pub merged : (at i j : ℕ) (os : List Origin) → at ≤ i → i ≤ j → Inv at os → Inv at (origins_merged_as (grapheme_manner level) i j os)
   pub later : (at d : ℕ) (os : List Origin) → Inv at os → Inv (at + d) os
-  pub replaced : (at n k : ℕ) (os : List Origin) → 0 < n → at + n ≤ length os → Inv (at + n) os → Inv (at + k) (origins_after asks level (Replace at n k ∷ []) os)
-  pub moved : (from : ℕ) (order : List ℕ) (os : List Origin) → from ≤ length os → Inv (from + length order) os → Inv (from + length order) (origins_after asks level (Move InOutput from order ∷ []) os)
+  pub replaced : (at n k : ℕ) (os : List Origin) → 0 < n → at + n ≤ length os → Inv (at + n) os → Inv (at + k) (origins_after unasked level (Replace at n k ∷ []) os)
+  pub moved : (from : ℕ) (order : List ℕ) (os : List Origin) → from ≤ length os → Inv (from + length order) os → Inv (from + length order) (origins_after unasked level (Move InOutput from order ∷ []) os)
   -- merges of what is after a syllable may come before it is composed, or after
   pub composed : (at n i c : ℕ) (os : List Origin) → 0 < n → at + n ≤ length os → Inv at os
-      → R (origins_after asks level (Replace at n 1 ∷ []) (origins_merged_as (grapheme_manner level) (at + n + i) (at + n + i + c) os)) (origins_merged_as (grapheme_manner level) (at + 1 + i) (at + 1 + i + c) (origins_after asks level (Replace at n 1 ∷ []) os))
+      → R (origins_after unasked level (Replace at n 1 ∷ []) (origins_merged_as (grapheme_manner level) (at + n + i) (at + n + i + c) os)) (origins_merged_as (grapheme_manner level) (at + 1 + i) (at + 1 + i + c) (origins_after unasked level (Replace at n 1 ∷ []) os))
 
 -- a level whose merges of graphemes unite only where those of other ranges do
 abbrev pub IsEvenLevel : BufferClusterLevel → Type 0
@@ -118,29 +49,29 @@ IsEvenLevel Graphemes = ⊥
 abbrev pub Anything : ℕ → List Origin → Type 0
 Anything at os = Unit {0}
 
-composed_exactly : (asks : Asks) (level : BufferClusterLevel) (at n i c : ℕ) (os : List Origin) → IsEvenLevel level → 0 < n → at + n ≤ length os
-    → origins_after asks level (Replace at n 1 ∷ []) (origins_merged_as (grapheme_manner level) (at + n + i) (at + n + i + c) os) ≡ origins_merged_as (grapheme_manner level) (at + 1 + i) (at + 1 + i + c) (origins_after asks level (Replace at n 1 ∷ []) os)
-composed_exactly asks MonotoneGraphemes at n i c os p some fits =
+composed_exactly : (level : BufferClusterLevel) (at n i c : ℕ) (os : List Origin) → IsEvenLevel level → 0 < n → at + n ≤ length os
+    → origins_after unasked level (Replace at n 1 ∷ []) (origins_merged_as (grapheme_manner level) (at + n + i) (at + n + i + c) os) ≡ origins_merged_as (grapheme_manner level) (at + 1 + i) (at + 1 + i + c) (origins_after unasked level (Replace at n 1 ∷ []) os)
+composed_exactly MonotoneGraphemes at n i c os p some fits =
     let need = at + n in
     both_pass Unites (origins_merged_as Unites at need) (elements_replaced at n 1) need need need need (at + 1)
     (merge_passes Unites Unites at need need need tt tt)
     (carried_passes Unites (elements_replaced at n 1) need need (at + 1) tt (replacing_carries at n 1 need some (omega arith)))
     (λ qs le. let many = merged_many Unites at need qs in omega (arith, le, many)) i c os fits
-composed_exactly asks MonotoneCharacters at n i c os p some fits = refl
-composed_exactly asks Characters at n i c os p some fits = refl
-composed_exactly asks Graphemes at n i c os p some fits = absurd p
+composed_exactly MonotoneCharacters at n i c os p some fits = refl
+composed_exactly Characters at n i c os p some fits = refl
+composed_exactly Graphemes at n i c os p some fits = absurd p
 
 -- at the other levels than Graphemes all is the same
-pub exact_walk : (asks : Asks) (level : BufferClusterLevel) → IsEvenLevel level → IsWalk asks level (λ os qs. os ≡ qs) Anything
-exact_walk asks level p = record {
+pub exact_walk : (level : BufferClusterLevel) → IsEvenLevel level → IsWalk level (λ os qs. os ≡ qs) Anything
+exact_walk level p = record {
   same = λ os. refl;
   chain = λ os ps qs e f. e ∙ f;
-  after = λ es os qs w e. ap (λ ps. origins_after asks level es ps) e;
+  after = λ es os qs w e. ap (λ ps. origins_after unasked level es ps) e;
   merged = λ at i j os le more k. tt;
   later = λ at d os k. tt;
   replaced = λ at n k os some fits inv. tt;
   moved = λ from order os fits inv. tt;
-  composed = λ at n i c os some fits inv. composed_exactly asks level at n i c os p some fits;
+  composed = λ at n i c os some fits inv. composed_exactly level at n i c os p some fits;
 }
 
 -- at the level Graphemes a composed syllable is flagged
@@ -153,11 +84,11 @@ flagged_clusters at n os =
     among_seen v at n 1 (origins_marked 3 at (at + n) os) ∙ ap (elements_replaced at n 1) (numbers_marked 3 at (at + n) os) ∙ sym (among_seen v at n 1 os)
 
 -- at the level Graphemes the clusters are the same
-pub cluster_walk : (asks : Asks) → IsWalk asks Graphemes (λ os qs. numbers os ≡ numbers qs) Anything
-cluster_walk asks = record {
+pub cluster_walk : IsWalk Graphemes (λ os qs. numbers os ≡ numbers qs) Anything
+cluster_walk = record {
   same = λ os. refl;
   chain = λ os ps qs e f. e ∙ f;
-  after = λ es os qs w e. numbers_after asks Graphemes es os qs w e;
+  after = λ es os qs w e. numbers_after unasked unasked Graphemes es os qs w e;
   merged = λ at i j os le more k. tt;
   later = λ at d os k. tt;
   replaced = λ at n k os some fits inv. tt;
@@ -167,7 +98,7 @@ cluster_walk asks = record {
       let put = elements_replaced at n 1 os in
       flagged_clusters at n merged
       ∙ ap numbers (carried_passes Unites (elements_replaced at n 1) (at + n) (at + n) (at + 1) tt (replacing_carries at n 1 (at + n) some (omega arith)) i c os fits)
-      ∙ numbers_after asks Graphemes (MergeGrapheme (at + 1 + i) (at + 1 + i + c) ∷ []) put (flagged at n os) tt (sym (flagged_clusters at n os));
+      ∙ numbers_after unasked unasked Graphemes (MergeGrapheme (at + 1 + i) (at + 1 + i + c) ∷ []) put (flagged at n os) tt (sym (flagged_clusters at n os));
 }
 
 -- ---- clusters in order
@@ -397,11 +328,11 @@ composed_in_order falls at n i c os some fits inv =
     ∙ ap (λ qs. origins_merged qs (flagged at n os)) (sym same)
 
 -- at the level Graphemes all is the same where clusters are in order
-pub ordered_walk : (asks : Asks) (falls : Bool) → IsWalk asks Graphemes (λ os qs. os ≡ qs) (IsOrderedFrom falls)
-ordered_walk asks falls = record {
+pub ordered_walk : (falls : Bool) → IsWalk Graphemes (λ os qs. os ≡ qs) (IsOrderedFrom falls)
+ordered_walk falls = record {
   same = λ os. refl;
   chain = λ os ps qs e f. e ∙ f;
-  after = λ es os qs w e. ap (λ ps. origins_after asks Graphemes es ps) e;
+  after = λ es os qs w e. ap (λ ps. origins_after unasked Graphemes es ps) e;
   merged = λ at i j os le more inv. merged_order falls at i j os le more inv;
   later = λ at d os inv. subst (IsInOrder falls) (drop-drop d at (numbers os)) (order_later falls d (drop at (numbers os)) inv);
   replaced = λ at n k os some fits inv. replaced_order falls at n k os some fits inv;

@@ -1,6 +1,6 @@
 -- The texts of Thai, Lao and Hangul with each merge of a grapheme where HarfBuzz has it: once the vowel or the syllable
 -- is written.
-use Rattle.std.specs.Prelude.{ℕ, zero, suc, ◌≡◌, ◌+◌, ◌-◌, ◌==◌, Bool, if◌then◌else◌, List, [], ◌∷◌, ◌++◌, length, drop, Option, Some, None, Ok}
+use Rattle.std.specs.Prelude.{ℕ, zero, suc, ◌≡◌, ◌+◌, ◌-◌, ◌==◌, Bool, false, if◌then◌else◌, List, [], ◌∷◌, ◌++◌, length, drop, Option, Some, None, Ok}
 use Rattle.buffer_common.specs.declared.constants.BufferFlags.{BufferFlags}
 use Rattle.buffer_common.specs.declared.script.Script.{Script}
 use Rattle.buffer_unicode_tables.specs.Tables.{Tables}
@@ -50,11 +50,12 @@ abbrev pub written_characters : List Item → List Item → List Event
 written_characters out [] = []
 written_characters out (x ∷ xs) = written_character out x ++ written_characters (with_character out x) xs
 
--- law: at every level and by all requests for flags, the origins of a Thai or Lao text that is preprocessed are those after
--- its characters were written, each merge with its character
+-- law: at every level the clusters of a Thai or Lao text that is preprocessed are those after its characters were written,
+-- each merge with its character; so are the flags, but where PRODUCE_SAFE_BREAKS is requested
 abbrev pub VowelsMergeWhereWritten : Type 0
 VowelsMergeWhereWritten = (m : OtMapValue) (script : Option Script) (t : Tables) (font : FaceParts) (text : BufferState) (r : Read) → length text.origins ≡ length text.view.items → thai_text m script t font text.view ≡ Ok r
-    → (state_after r text).origins ≡ origins_after text.asks text.level (written_characters [] text.view.items) text.origins
+    → (numbers (state_after r text).origins ≡ numbers (origins_after text.asks text.level (written_characters [] text.view.items) text.origins))
+    × (text.asks.breaks ≡ false → (state_after r text).origins ≡ origins_after text.asks text.level (written_characters [] text.view.items) text.origins)
 
 -- ---- Hangul
 
@@ -89,9 +90,9 @@ abbrev pub written_syllables : FaceParts → BufferFlags → BufferClusterLevel 
 written_syllables font flags level xs = written_steps font (wants_circles flags) level (length xs) 0 [] xs
 
 -- law: at every level the clusters of a Hangul text that is preprocessed are those after its syllables were written, each
--- merge with its syllable; so are the flags, by all requests, but for a text at the level Graphemes whose clusters are in no
--- order
+-- merge with its syllable; so are the flags, but where PRODUCE_SAFE_BREAKS is requested, and but for a text at the level
+-- Graphemes whose clusters are in no order
 abbrev pub SyllablesMergeWhereWritten : Type 0
 SyllablesMergeWhereWritten = (font : FaceParts) (flags : BufferFlags) (text : BufferState) (r : Read) → length text.origins ≡ length text.view.items → hangul_text font flags text.view ≡ Ok r
     → (numbers (state_after r text).origins ≡ numbers (origins_after text.asks text.level (written_syllables font flags text.level text.view.items) text.origins))
-    × ((text.level ≡ Graphemes → IsOrdered (numbers text.origins)) → (state_after r text).origins ≡ origins_after text.asks text.level (written_syllables font flags text.level text.view.items) text.origins)
+    × (text.asks.breaks ≡ false → (text.level ≡ Graphemes → IsOrdered (numbers text.origins)) → (state_after r text).origins ≡ origins_after text.asks text.level (written_syllables font flags text.level text.view.items) text.origins)

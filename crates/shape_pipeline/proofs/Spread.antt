@@ -80,8 +80,8 @@ results_are_even p text result f =
 asked_less : (asks : Asks) (os : List Origin) → asks.concat ≡ false → HaveNoConcat (origins_spread asks os)
 asked_less asks os none =
     let P : Asks → Type 0 = λ a. HaveNoConcat (origins_spread a os) in
-    let same : asks ≡ record { concat = false; tatweel = asks.tatweel } = ap (λ b. record { concat = b; tatweel = asks.tatweel }) none in
-    subst P (sym same) (spread_has_no_concat asks.tatweel os)
+    let same : asks ≡ record { concat = false; tatweel = asks.tatweel; breaks = asks.breaks } = ap (λ b. record { concat = b; tatweel = asks.tatweel; breaks = asks.breaks }) none in
+    subst P (sym same) (spread_has_no_concat asks.tatweel asks.breaks os)
 
 pub results_have_no_concat : (p : Shaping) (text result : BufferState) → text.asks.concat ≡ false → Follows (reading p text) text result → HaveNoConcat result.origins
 results_have_no_concat p text result none f =

@@ -66,7 +66,7 @@ value_names = codes "direction" ∷ codes "script" ∷ codes "language" ∷ code
 -- the switches, those of the text first, then those of the output
 abbrev pub switch_names : List (List ℕ)
 switch_names = codes "bot" ∷ codes "eot" ∷ codes "preserve-default-ignorables" ∷ codes "remove-default-ignorables" ∷ codes "no-dotted-circle"
-    ∷ codes "unsafe-to-concat" ∷ codes "safe-to-insert-tatweel"
+    ∷ codes "unsafe-to-concat" ∷ codes "safe-to-insert-tatweel" ∷ codes "safe-breaks"
     ∷ codes "no-clusters" ∷ codes "no-positions" ∷ codes "no-glyph-names" ∷ codes "show-extents" ∷ codes "show-flags" ∷ codes "no-advances" ∷ codes "slices"
     ∷ codes "lines" ∷ codes "keep-going" ∷ []
 
@@ -248,7 +248,8 @@ buffer_flags_in value = record {
       + (flag_of (codes "remove-default-ignorables") 8 value
       + (flag_of (codes "no-dotted-circle") 16 value
       + (flag_of (codes "unsafe-to-concat") 64 value
-      + flag_of (codes "safe-to-insert-tatweel") 128 value)))));
+      + (flag_of (codes "safe-to-insert-tatweel") 128 value
+      + flag_of (codes "safe-breaks") 256 value))))));
 }
 
 -- the options of the first value of each id and all values of `features`

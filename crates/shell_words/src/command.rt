@@ -22,7 +22,7 @@ pub(crate) enum Kind {
 
 const VALUES: [&str; 4] = ["direction", "script", "language", "cluster-level"];
 
-const SWITCHES: [&str; 16] = [
+const SWITCHES: [&str; 17] = [
     "bot",
     "eot",
     "preserve-default-ignorables",
@@ -30,6 +30,7 @@ const SWITCHES: [&str; 16] = [
     "no-dotted-circle",
     "unsafe-to-concat",
     "safe-to-insert-tatweel",
+    "safe-breaks",
     "no-clusters",
     "no-positions",
     "no-glyph-names",

@@ -38,7 +38,8 @@ pub struct CommandLine {
 /// Parses the command-line words `hb_shape [options] TABLES FONT TEXT`, the first of which is the program's name. The
 /// options may be anywhere among the names of the files, each at most once: `--direction D`, `--script S`, `--language
 /// L`, `--cluster-level 0` to `3`; for the text `--bot`, `--eot`, `--preserve-default-ignorables`,
-/// `--remove-default-ignorables`, `--no-dotted-circle`, `--unsafe-to-concat` and `--safe-to-insert-tatweel`; for the
+/// `--remove-default-ignorables`, `--no-dotted-circle`, `--unsafe-to-concat`, `--safe-to-insert-tatweel` and
+/// `--safe-breaks`; for the
 /// output `--no-clusters`, `--no-positions`, `--no-glyph-names`, `--show-extents`, `--show-flags`, `--no-advances` and
 /// `--slices`, or `--lines` and with it `--keep-going`. Only `--features F` may be repeated; each F is features separated by
 /// commas. All other words, `--help` among them, are refused, and so are `--slices` with `--lines` and `--keep-going`
@@ -307,11 +308,11 @@ fn read_buffer_flags(matches: &ArgMatches<'_>) -> BufferFlags
                     matches,
                     "unsafe-to-concat",
                     BufferFlags::PRODUCE_UNSAFE_TO_CONCAT,
-                ) + buffer_flag_of(
+                ) + (buffer_flag_of(
                     matches,
                     "safe-to-insert-tatweel",
                     BufferFlags::PRODUCE_SAFE_TO_INSERT_TATWEEL,
-                )))))),
+                ) + buffer_flag_of(matches, "safe-breaks", BufferFlags::PRODUCE_SAFE_BREAKS))))))),
     )
 }
 

@@ -57,6 +57,7 @@ pub enum Call {
     /// Sorts a range by number.
     Sort(usize, usize),
     Spread,
+    StrictBreak(Option<usize>, Option<usize>),
     Sync,
     Tatweel(Option<usize>, Option<usize>),
     UnsafeToBreak(Option<usize>, Option<usize>),
@@ -64,6 +65,8 @@ pub enum Call {
     WriteCluster(usize, u32),
     /// Sets the number of the current glyph.
     WriteCurrent(u32),
+    /// Sets the mask of the current glyph.
+    WriteCurrentMask(u32),
     /// Sets the number of the first output glyph.
     WriteFirst(u32),
     /// Sets the mask of the last output glyph.
@@ -78,13 +81,19 @@ pub fn make(buffer: &mut hb_buffer_t, alloc: Global, call: &Call) -> Result<bool
             Ok(true)
         }
         Limit(n) => Ok(limit(buffer, n)),
-        WriteCluster(..) | WriteCurrent(_) | WriteFirst(_) | WriteLast(_) | Rotate(..) => {
-            Ok(write(buffer, call))
-        }
+        WriteCluster(..)
+        | WriteCurrent(_)
+        | WriteCurrentMask(_)
+        | WriteFirst(_)
+        | WriteLast(_)
+        | Rotate(..) => Ok(write(buffer, call)),
         Next | NextMany(_) | MoveTo(_) => walk(buffer, call),
-        Merge(..) | MergeGrapheme(..) | UnsafeToBreak(..) | Concat(..) | Tatweel(..) => {
-            Ok(mark(buffer, call))
-        }
+        Merge(..)
+        | MergeGrapheme(..)
+        | UnsafeToBreak(..)
+        | StrictBreak(..)
+        | Concat(..)
+        | Tatweel(..) => Ok(mark(buffer, call)),
         _ if buffer.have_output() => make_in_output(buffer, call),
         _ => make_in_list(buffer, alloc, call),
     }
@@ -117,6 +126,7 @@ fn write(buffer: &mut hb_buffer_t, call: &Call) -> bool {
     match *call {
         WriteCluster(i, cluster) if i < left => buffer.cur_mut(i).cluster = cluster,
         WriteCurrent(number) if left > 0 => buffer.cur_mut(0).glyph_id = number,
+        WriteCurrentMask(mask) if left > 0 => buffer.cur_mut(0).mask = mask,
         WriteFirst(number) => number_first(buffer.out_info_mut(), number),
         Rotate(start, middle, end) if start <= middle && middle <= end && end <= buffer.out_len() =>
             { buffer.rotate_output(start, middle, end) }
@@ -140,7 +150,10 @@ fn walk(buffer: &mut hb_buffer_t, call: &Call) -> Result<bool, AllocError> {
 fn mark(buffer: &mut hb_buffer_t, call: &Call) -> bool {
     let (start, end) = match *call {
         Merge(start, end) | MergeGrapheme(start, end) => (Some(start), Some(end)),
-        UnsafeToBreak(start, end) | Concat(start, end) | Tatweel(start, end) => (start, end),
+        UnsafeToBreak(start, end)
+        | StrictBreak(start, end)
+        | Concat(start, end)
+        | Tatweel(start, end) => (start, end),
         _ => return false,
     };
     let (first, last) = (start.unwrap_or(0), end.unwrap_or(buffer.len()));
@@ -151,6 +164,7 @@ fn mark(buffer: &mut hb_buffer_t, call: &Call) -> bool {
         Merge(..) => buffer.merge_clusters(first, last),
         MergeGrapheme(..) => buffer.merge_grapheme_clusters(first, last),
         UnsafeToBreak(..) => buffer.unsafe_to_break(start, end),
+        StrictBreak(..) => buffer.unsafe_to_break_strictly(start, end),
         Concat(..) => buffer.unsafe_to_concat(start, end),
         _ => buffer.safe_to_insert_tatweel(start, end),
     }

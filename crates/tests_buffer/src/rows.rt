@@ -1,5 +1,6 @@
 //! Worked rows of the buffer's calls.
 
+mod breaks;
 mod lists;
 mod merges;
 mod outputs;
@@ -66,7 +67,13 @@ fn holds(alloc: Global, row: &Row) -> Result<bool, AllocError> {
 
 #[test]
 fn leaves_what_is_wanted(rt: HostRuntime) -> Result<(), Fail> {
-    for rows in [lists::ROWS, merges::ROWS, outputs::ROWS, refusals::ROWS] {
+    for rows in [
+        breaks::ROWS,
+        lists::ROWS,
+        merges::ROWS,
+        outputs::ROWS,
+        refusals::ROWS,
+    ] {
         for row in rows {
             let as_wanted = holds(rt.alloc(), row)?;
             assert!(rt; as_wanted, "{}", row.name);

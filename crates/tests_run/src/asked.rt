@@ -22,7 +22,7 @@ a failed match               ; ligatures; level=0 buffer=0 direction=l print=20;
 a failed match flagged       ; ligatures; level=0 buffer=64 direction=l print=20; fa; 3=0+300#2|1=1+500#2
 a failed match of two flagged; ligatures; level=0 buffer=64 direction=l print=20; affa;
   1=0+500|3=1+300#2|3=2+300#2|1=3+500#2
-all flags                    ; ligatures; level=1 buffer=223 direction=l print=20; a ; 1=0+500"#;
+all flags                    ; ligatures; level=1 buffer=479 direction=l print=20; a ; 1=0+500"#;
 
 #[test]
 fn glyphs_are_printed_as_asked(rt: HostRuntime) -> Result<(), Fail> {

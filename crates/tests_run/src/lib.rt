@@ -7,6 +7,8 @@
 #[cfg(test)]
 mod asked;
 #[cfg(test)]
+mod breaks;
+#[cfg(test)]
 mod equivalents;
 #[cfg(test)]
 mod faults;

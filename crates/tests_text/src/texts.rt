@@ -148,7 +148,7 @@ fn flag_bits() -> [u32; 5] {
 
 #[test]
 fn flags(rt: HostRuntime) {
-    assert_eq!(rt; flag_bits(), [223, 64, 0x8000_0000, 0, 0b11100]);
+    assert_eq!(rt; flag_bits(), [479, 64, 0x8000_0000, 0, 0b11100]);
     assert_eq!(rt; [rb_flag64(40), rb_flag64_unsafe(64)], [1 << 40, 0]);
 }
 

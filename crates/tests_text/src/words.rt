@@ -16,6 +16,9 @@ hb_shape|--language=en|--language=en|a|b|c
 hb_shape|--cluster-level=4|a|b|c
 hb_shape|--cluster-level=0|--cluster-level=0|a|b|c
 hb_shape|--eot|--eot|a|b|c
+hb_shape|--safe-breaks|--safe-breaks|a|b|c
+hb_shape|--safe-breaks=1|a|b|c
+hb_shape|--safe-break|a|b|c
 hb_shape|--no-clusters|--no-clusters|a|b|c
 hb_shape|--show-flags=1|a|b|c
 hb_shape|--slices|--slices|a|b|c
@@ -208,6 +211,33 @@ fn slices_and_lines_are_requested(rt: HostRuntime) -> Result<(), Fail> {
             [options.slices, options.lines, options.keep_going] == switches,
             "{line}"
         );
+    }
+    Ok(())
+}
+
+// Command-line words, and the buffer flags that they set.
+#[test]
+fn buffer_flags_are_read(rt: HostRuntime) -> Result<(), Fail> {
+    let cases = [
+        ("hb_shape|a|b|c", 0),
+        ("hb_shape|--bot|a|b|c", 1),
+        ("hb_shape|--eot|a|b|c", 2),
+        ("hb_shape|--preserve-default-ignorables|a|b|c", 4),
+        ("hb_shape|--remove-default-ignorables|a|b|c", 8),
+        ("hb_shape|--no-dotted-circle|a|b|c", 16),
+        ("hb_shape|--unsafe-to-concat|a|b|c", 64),
+        ("hb_shape|--safe-to-insert-tatweel|a|b|c", 128),
+        ("hb_shape|--safe-breaks|a|b|c", 256),
+        ("hb_shape|a|b|--unsafe-to-concat|c|--safe-breaks", 320),
+        (
+            "hb_shape|--safe-breaks|--safe-to-insert-tatweel|--unsafe-to-concat|--no-dotted-circle|\
+                --remove-default-ignorables|--preserve-default-ignorables|--eot|--bot|a|b|c",
+            479,
+        ),
+    ];
+    for (line, flags) in cases {
+        let found = command_line(rt.alloc(), line)??.options.buffer_flags.0;
+        assert!(rt; found == flags, "{line}");
     }
     Ok(())
 }

@@ -27,6 +27,7 @@ impl hb_buffer_t {
             tatweel: self
                 .flags
                 .contains(BufferFlags::PRODUCE_SAFE_TO_INSERT_TATWEEL),
+            breaks: self.asks_breaks(),
         };
         spread_glyph_flags(&mut self.info, asked);
     }

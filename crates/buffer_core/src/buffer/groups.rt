@@ -115,6 +115,7 @@ impl hb_buffer_t {
         ensures cursor { self.new.read ≡ min self.old.read (length (all_glyphs self.new)) }
         ensures few { length (all_glyphs self.new) ≤ length (all_glyphs self.old) }
     {
+        let breaks = self.asks_breaks();
         let known = self.walked_order();
         self.order = ClusterOrder::of(KnownOrder::Unknown);
         let (kept, marked) = delete_within(
@@ -122,6 +123,7 @@ impl hb_buffer_t {
             &mut self.pos,
             self.cluster_level,
             known.is_known(),
+            breaks,
             filter,
         );
         self.info.truncate(kept);

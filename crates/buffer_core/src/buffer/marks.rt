@@ -1,10 +1,10 @@
 //! Glyph flags on ranges of the input (rustybuzz: hb/buffer.rs, `unsafe_to_break`, `unsafe_to_concat`,
 //! `safe_to_insert_tatweel`).
 ghost use Rattle.std.specs.Prelude.{◌≡◌, ◌+◌, ◌-◌, ◌≤◌, ◌<◌, if◌then◌else◌, true, length, ◌∷◌, []};
-ghost use Rattle.buffer_core.specs.Sides.{items_of, origins_of, origins_by};
+ghost use Rattle.buffer_core.specs.Sides.{items_of, origins_of, origins_by, requests_breaks};
 ghost use Rattle.buffer_core.specs.Merging.{index_in_all};
-ghost use Rattle.buffer_core.specs.Marking.{requests_concat, concat_marked, end_or, range_flagged_apart, start_or, tatweel_marked, with_flagged, with_flagged_apart, start_in_all, end_in_all};
-ghost use Rattle.buffer_glyphs.specs.Events.{Break, Concat, Tatweel};
+ghost use Rattle.buffer_core.specs.Marking.{requests_concat, concat_marked, end_or, range_flagged_apart, start_or, strictly_marked, tatweel_marked, with_flagged, with_flagged_apart, start_in_all, end_in_all};
+ghost use Rattle.buffer_glyphs.specs.Events.{Break, Concat, StrictBreak, Tatweel};
 
 use super::hb_buffer_t;
 use super::merges::add_has_glyph_flags;
@@ -73,6 +73,30 @@ impl hb_buffer_t {
         } else {
             self.unsafe_to_break(start, end);
         }
+    }
+
+    /// Flags as unsafe to break and to concat the glyphs of a range of the input that are outside its least cluster, as
+    /// `unsafe_to_break` does, where PRODUCE_SAFE_BREAKS is set (of this project): of these HarfBuzz makes no flags.
+    #[tactic(auto, using(crate::proofs::MarkedOrigins::strict_items, crate::proofs::MarkedOrigins::strict_origins))]
+    pub fn unsafe_to_break_strictly(&mut self, start: Option<usize>, end: Option<usize>)
+        requires ordered { start_or start ≤ end_or end self.old }
+        requires within { end_or end self.old ≤ self.old.read + length self.old.ahead }
+        requires unread { self.old.is_open ≡ true → self.old.read ≤ start_or start }
+        ensures marked { self.new ≡ strictly_marked start end self.old }
+        ensures items { items_of self.new ≡ items_of self.old }
+        ensures origins { origins_of self.new
+            ≡ origins_by (StrictBreak (start_in_all start self.old) (end_in_all end self.old) ∷ []) self.old }
+    {
+        if self.asks_breaks() {
+            self.unsafe_to_break(start, end);
+        }
+    }
+
+    /// Whether PRODUCE_SAFE_BREAKS is set: without it `unsafe_to_break_strictly` changes nothing.
+    pub fn asks_breaks(&self) -> bool
+        ensures { result ≡ requests_breaks self.now }
+    {
+        self.flags.contains(BufferFlags::PRODUCE_SAFE_BREAKS)
     }
 
     pub(super) fn asks_concat(&self) -> bool

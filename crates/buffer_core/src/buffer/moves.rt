@@ -2,7 +2,8 @@
 ghost use Rattle.std.specs.Prelude.{◌≡◌, ◌<◌, ◌≤◌, ◌+◌, ◌-◌, ◌++◌, length, drop, true, false, Ok, OnOk, OnErr, IfOk, ◌∷◌, []};
 ghost use Rattle.buffer_glyphs.specs.Items.{strip};
 ghost use Rattle.buffer_core.specs.Sides.{all_glyphs, fits_next, has_output_room, items_of, after_next_glyphs, after_refusal, origins_of, origins_by, HasCurrent};
-ghost use Rattle.buffer_core.specs.Merging.{with_glyph_skipped};
+ghost use Rattle.buffer_core.specs.Merging.{with_glyph_passed, with_glyph_skipped};
+ghost use Rattle.buffer_glyphs.specs.Parts.{elements_replaced};
 ghost use Rattle.buffer_core.specs.Moving.{fits_moved, has_room_back, after_move_to};
 ghost use Rattle.buffer_glyphs.specs.Events.{Replace};
 
@@ -35,13 +36,28 @@ impl hb_buffer_t {
         Ok(true)
     }
 
-    /// Deletes the glyph at the cursor, with no merge of clusters. It takes no memory.
+    /// Deletes the glyph at the cursor, with no merge of clusters; where PRODUCE_SAFE_BREAKS is set, it hands on its flags.
+    /// It takes no memory.
     #[tactic(auto, using(buffer_glyphs::specs::Lists::drop_next))]
     pub fn skip_glyph(&mut self)
         requires current { HasCurrent self.old }
         ensures skipped { self.new ≡ with_glyph_skipped self.old }
         ensures items { items_of self.new ≡ strip self.old.behind ++ drop 1 (strip self.old.ahead) }
         ensures origins { origins_of self.new ≡ origins_by (Replace (length self.old.behind) 1 0 ∷ []) self.old }
+    {
+        let glyph = *self.cur(0);
+        self.pass_over();
+        self.hand_on(glyph);
+    }
+
+    /// Deletes the glyph at the cursor, whose flags are handed on later.
+    #[tactic(auto, using(buffer_glyphs::specs::Lists::drop_next))]
+    fn pass_over(&mut self)
+        requires current { HasCurrent self.old }
+        ensures skipped { self.new ≡ with_glyph_passed self.old }
+        ensures items { items_of self.new ≡ strip self.old.behind ++ drop 1 (strip self.old.ahead) }
+        ensures origins { origins_of self.new
+            ≡ elements_replaced (length self.old.behind) 1 0 (origins_of self.old) }
     {
         self.idx += 1;
     }

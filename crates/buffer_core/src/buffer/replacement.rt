@@ -13,10 +13,10 @@ use buffer_lists::replacement::replace_first;
 use std::alloc::AllocError;
 
 impl hb_buffer_t {
-    /// Merges the `num_in` glyphs at the cursor, deletes them, and appends a copy of the first input glyph (of the last
-    /// output glyph where the input is empty; none where there is neither) for each of the `num_out` numbers. It
-    /// answers false, and changes neither list, where the output would have more than it may. It takes no memory where
-    /// the output stays in place.
+    /// Merges the `num_in` glyphs at the cursor, deletes them (where PRODUCE_SAFE_BREAKS is set, they hand on their flags),
+    /// and appends a copy of the first input glyph (of the last output glyph where the input is empty; none where there is
+    /// neither) for each of the `num_out` numbers. It answers false, and changes neither list, where the output would have
+    /// more than it may. It takes no memory where the output stays in place.
     pub fn replace_glyphs(
         &mut self,
         num_in: usize,
@@ -55,6 +55,7 @@ impl hb_buffer_t {
         ensures err { OnErr result (self.new ≡ self.old) }
         ensures stays { length self.old.behind + length glyph_data.now ≤ self.old.read + num_in → IsOk result }
     {
+        let breaks = self.asks_breaks();
         self.order.settle(&self.info);
         let more = glyph_data.len().saturating_sub(num_in);
         let moved = make_room(&mut self.info, self.out_len, self.idx, self.gap, more)?;
@@ -69,6 +70,7 @@ impl hb_buffer_t {
             glyph_data,
             self.cluster_level,
             self.order.known,
+            breaks,
         );
         self.out_len = out_len;
         self.idx += num_in;

@@ -14,8 +14,8 @@ use Rattle.buffer_glyphs.specs.Parts.{JoinParts, ReplaceParts, DeletePart, Circl
 use Rattle.buffer_glyphs.specs.Order.{BringsNone, IsOrdered}
 use Rattle.buffer_glyphs.specs.Merges.{least_number, merged_number, merged_numbers}
 use Rattle.buffer_glyphs.specs.Deletions.{number_deleted}
-use Rattle.buffer_glyphs.specs.Origins.{Origin, numbers, Asks, Manner, Unites, Marks, Keeps, Merging, InList, InOutput, manner, origins_merged_as, origins_marked, first_deleted, origins_deleted, picked_elements, with_range_arranged, Span, spans, spans_merged, flags_at, first_circled, origins_circled, origins_spread_after, spread_flags, settled_flags, run_flags, tatweel_settled, origins_spread, without_marks}
-use Rattle.buffer_glyphs.specs.Events.{Event, StaysInSpans, Merge, MergeGrapheme, Replace, Circle, Delete, Move, Arrange, Sort, Reverse, Break, Concat, Tatweel, Spread, Reset, concat_marked, tatweel_marked, origins_after_event, origins_after, IsPlain}
+use Rattle.buffer_glyphs.specs.Origins.{Origin, numbers, Asks, Manner, Unites, Marks, Keeps, Merging, InList, InOutput, manner, origins_merged_as, first_deleted, origins_deleted, picked_elements, with_range_arranged, Span, spans, spans_merged, flags_at, first_circled, origins_circled, origins_spread_after, spread_flags, settled_flags, run_flags, tatweel_settled, origins_spread, without_marks}
+use Rattle.buffer_glyphs.specs.Events.{Event, StaysInSpans, Merge, MergeGrapheme, Replace, Circle, Delete, Move, Arrange, Sort, Reverse, Break, Concat, Tatweel, StrictBreak, Spread, Reset, concat_marked, strictly_marked, tatweel_marked, origins_after_event, origins_after, IsPlain}
 use Rattle.buffer_glyphs.specs.EventParts.{joins_of, span_joins, parts_of_event, parts_of, IsEven, AreEvenRuns, HaveNoConcat}
 use Rattle.buffer_glyphs.specs.Lemmas.Drawn.{drawn_replaced, drawn_doubled}
 use Rattle.buffer_glyphs.specs.Lemmas.Numbers.{Has, has_here, has_more, has_cases, has_either, has_take, has_drop, has_map, has_reverse, drawn_brings}
@@ -25,6 +25,7 @@ use Rattle.buffer_glyphs.specs.Lemmas.Sorts.{spans_united, sorted_alike}
 use Rattle.buffer_glyphs.specs.Lemmas.Merges.{merge_joins, merge_joins_ordered, merged_in, numbers_brought}
 use Rattle.buffer_glyphs.specs.Lemmas.Deletions.{deletion_is_event, deletion_brings_none}
 use Rattle.buffer_glyphs.specs.Lemmas.Replacements.{among_seen}
+use Rattle.buffer_glyphs.specs.Lemmas.Handed.{numbers_handed_if}
 use Rattle.buffer_glyphs.specs.Lemmas.Origins.{numbers_listed, numbers_merged, numbers_merged_by, numbers_marked, numbers_flagged, numbers_deleted}
 
 pub map-reverse : {X Y : Type 0} (f : X → Y) (xs : List X) → map f (reverse xs) ≡ reverse (map f xs)
@@ -77,6 +78,10 @@ numbers_concat false from to os = refl
 numbers_tatweel : (asked : Bool) (from to : ℕ) (os : List Origin) → numbers (tatweel_marked asked from to os) ≡ numbers os
 numbers_tatweel true from to os = numbers_marked 4 from to os
 numbers_tatweel false from to os = numbers_marked 3 from to os
+
+pub numbers_strict : (asked : Bool) (from to : ℕ) (os : List Origin) → numbers (strictly_marked asked from to os) ≡ numbers os
+numbers_strict true from to os = numbers_marked 3 from to os
+numbers_strict false from to os = refl
 
 -- ---- no number is new
 
@@ -133,9 +138,9 @@ event_brings asks level os (MergeGrapheme from to) = merged_brings (grapheme_man
 event_brings asks level os (Replace at taken given) =
     let mid = origins_merged_as (manner InList level) at (at + taken) os in
     numbers_through (numbers os) (numbers mid) _ (merged_brings (manner InList level) at (at + taken) os)
-    (λ n h. drawn_brings (drawn_replaced at taken given (numbers mid)) n (subst (λ (ns : List ℕ). Has ns n) (among_seen (λ (o : Origin). o.cluster) at taken given mid) h))
+    (λ n h. drawn_brings (drawn_replaced at taken given (numbers mid)) n (subst (λ (ns : List ℕ). Has ns n) (numbers_handed_if asks.breaks (take taken (drop at mid)) (at + given) (elements_replaced at taken given mid) ∙ among_seen (λ (o : Origin). o.cluster) at taken given mid) h))
 event_brings asks level os (Circle after beside like) = λ n h. drawn_brings (drawn_doubled beside (numbers os)) n (subst (λ (ns : List ℕ). Has ns n) (numbers_with_circle after beside like os) h)
-event_brings asks level os (Delete at) = deleted_brings level at os
+event_brings asks level os (Delete at) = λ n h. deleted_brings level at os n (subst (λ (ns : List ℕ). Has ns n) (numbers_handed_if asks.breaks (take 1 (drop at os)) at (origins_deleted level at os)) h)
 event_brings asks level os (Move how from order) =
     let mid = origins_merged_as (manner how level) from (from + length order) os in
     numbers_through (numbers os) (numbers mid) _ (merged_brings (manner how level) from (from + length order) os)
@@ -149,6 +154,7 @@ event_brings asks level os Reverse = λ n h. sym (has_reverse n (numbers os)) �
 event_brings asks level os (Break from to) = same_brings (numbers os) _ (numbers_marked 3 from to os)
 event_brings asks level os (Concat from to) = same_brings (numbers os) _ (numbers_concat asks.concat from to os)
 event_brings asks level os (Tatweel from to) = same_brings (numbers os) _ (numbers_tatweel asks.tatweel from to os)
+event_brings asks level os (StrictBreak from to) = same_brings (numbers os) _ (numbers_strict asks.breaks from to os)
 event_brings asks level os Spread = same_brings (numbers os) _ (numbers_spread asks None os)
 event_brings asks level os Reset = same_brings (numbers os) _ (numbers_reset os)
 
@@ -276,9 +282,11 @@ sorted_parts level from order os mono s o = by_manner (manner InList level) mono
 event_parts : (asks : Asks) (level : BufferClusterLevel) (os : List Origin) (e : Event) (es : List Event) → IsMonotone level → IsPlain (e ∷ es) → IsOrdered (numbers os) → numbers (origins_after_event asks level os e) ≡ after_part_events (parts_of_event level e) (numbers os)
 event_parts asks level os (Merge how from to) es mono plain o = merged_parts (manner how level) from to os o
 event_parts asks level os (MergeGrapheme from to) es mono plain o = merged_parts (grapheme_manner level) from to os o
-event_parts asks level os (Replace at taken given) es mono plain o = replaced_parts level at taken given os mono o
+event_parts asks level os (Replace at taken given) es mono plain o =
+    let mid = origins_merged_as (manner InList level) at (at + taken) os in
+    numbers_handed_if asks.breaks (take taken (drop at mid)) (at + given) (elements_replaced at taken given mid) ∙ replaced_parts level at taken given os mono o
 event_parts asks level os (Circle after beside like) es mono plain o = numbers_with_circle after beside like os
-event_parts asks level os (Delete at) es mono plain o = first_parts level at os (drop at os) mono o refl
+event_parts asks level os (Delete at) es mono plain o = numbers_handed_if asks.breaks (take 1 (drop at os)) at (origins_deleted level at os) ∙ first_parts level at os (drop at os) mono o refl
 event_parts asks level os (Move how from order) es mono plain o = moved_parts how level from order os mono o
 event_parts asks level os (Arrange from order) es mono plain o = absurd plain
 event_parts asks level os (Sort from order) es mono plain o = sorted_parts level from order os mono plain.0 o
@@ -286,6 +294,7 @@ event_parts asks level os Reverse es mono plain o = map-reverse (λ (q : Origin)
 event_parts asks level os (Break from to) es mono plain o = numbers_marked 3 from to os
 event_parts asks level os (Concat from to) es mono plain o = numbers_concat asks.concat from to os
 event_parts asks level os (Tatweel from to) es mono plain o = numbers_tatweel asks.tatweel from to os
+event_parts asks level os (StrictBreak from to) es mono plain o = numbers_strict asks.breaks from to os
 event_parts asks level os Spread es mono plain o = numbers_spread asks None os
 event_parts asks level os Reset es mono plain o = numbers_reset os
 
@@ -302,6 +311,7 @@ plain_rest Reverse es p = p
 plain_rest (Break from to) es p = p
 plain_rest (Concat from to) es p = p
 plain_rest (Tatweel from to) es p = p
+plain_rest (StrictBreak from to) es p = p
 plain_rest Spread es p = p
 plain_rest Reset es p = p
 
@@ -337,17 +347,17 @@ abbrev MayConcat : Option Origin → Type 0
 MayConcat None = Unit {0}
 MayConcat (Some p) = bit_and p.flags 2 ≡ 0
 
-none_after : (tatweel : Bool) (before : Option Origin) (os : List Origin) → MayConcat before → HaveNoConcat (origins_spread_after (record { concat = false; tatweel = tatweel }) before os)
-none_after tatweel before [] h = tt
-none_after tatweel before (o ∷ os) h =
-    let flags = settled_flags (record { concat = false; tatweel = tatweel }) (run_flags o.cluster (o ∷ os)) in
+none_after : (tatweel breaks : Bool) (before : Option Origin) (os : List Origin) → MayConcat before → HaveNoConcat (origins_spread_after (record { concat = false; tatweel = tatweel; breaks = breaks }) before os)
+none_after tatweel breaks before [] h = tt
+none_after tatweel breaks before (o ∷ os) h =
+    let flags = settled_flags (record { concat = false; tatweel = tatweel; breaks = breaks }) (run_flags o.cluster (o ∷ os)) in
     let here : bit_and (spread_flags before o.cluster flags) 2 ≡ 0 = by_before before h in
-    (here, none_after tatweel (Some (record { cluster = o.cluster; flags = spread_flags before o.cluster flags })) os here)
+    (here, none_after tatweel breaks (Some (record { cluster = o.cluster; flags = spread_flags before o.cluster flags })) os here)
   where
-    by_before : (b : Option Origin) → MayConcat b → bit_and (spread_flags b o.cluster (settled_flags (record { concat = false; tatweel = tatweel }) (run_flags o.cluster (o ∷ os)))) 2 ≡ 0
+    by_before : (b : Option Origin) → MayConcat b → bit_and (spread_flags b o.cluster (settled_flags (record { concat = false; tatweel = tatweel; breaks = breaks }) (run_flags o.cluster (o ∷ os)))) 2 ≡ 0
     by_before None k = no_concat (tatweel_settled tatweel (run_flags o.cluster (o ∷ os)))
-    by_before (Some p) k = elim (p.cluster == o.cluster) as (λ t. bit_and (if t then p.flags else settled_flags (record { concat = false; tatweel = tatweel }) (run_flags o.cluster (o ∷ os))) 2 ≡ 0)
+    by_before (Some p) k = elim (p.cluster == o.cluster) as (λ t. bit_and (if t then p.flags else settled_flags (record { concat = false; tatweel = tatweel; breaks = breaks }) (run_flags o.cluster (o ∷ os))) 2 ≡ 0)
         [ true ↦ k | false ↦ no_concat (tatweel_settled tatweel (run_flags o.cluster (o ∷ os))) ]
 
-pub spread_has_no_concat : (tatweel : Bool) (os : List Origin) → HaveNoConcat (origins_spread (record { concat = false; tatweel = tatweel }) os)
-spread_has_no_concat tatweel os = none_after tatweel None os tt
+pub spread_has_no_concat : (tatweel breaks : Bool) (os : List Origin) → HaveNoConcat (origins_spread (record { concat = false; tatweel = tatweel; breaks = breaks }) os)
+spread_has_no_concat tatweel breaks os = none_after tatweel breaks None os tt

@@ -37,7 +37,7 @@ map_kept : {X Y : Type 0} (v : X → Y) (f : X → X) (xs : List X) → ((x : X)
 map_kept v f [] same = refl
 map_kept v f (x ∷ xs) same = rw (same x, map_kept v f xs same) refl
 
-map_turned : {X Y : Type 0} (v : X → Y) (f : X → X) (h : Y → Y) (xs : List X) → ((x : X) → v (f x) ≡ h (v x)) → map v (map f xs) ≡ map h (map v xs)
+pub map_turned : {X Y : Type 0} (v : X → Y) (f : X → X) (h : Y → Y) (xs : List X) → ((x : X) → v (f x) ≡ h (v x)) → map v (map f xs) ≡ map h (map v xs)
 map_turned v f h [] same = refl
 map_turned v f h (x ∷ xs) same = rw (same x, map_turned v f h xs same) refl
 

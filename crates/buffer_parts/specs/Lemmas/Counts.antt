@@ -8,13 +8,14 @@ use Rattle.buffer_glyphs.specs.declared.level.BufferClusterLevel.{BufferClusterL
 use Rattle.buffer_glyphs.specs.Levels.{InList, Manner, Unites, Marks, Keeps, manner, grapheme_manner}
 use Rattle.buffer_glyphs.specs.Parts.{first_of, last_of, last_from, or, copies, is_number, elements_replaced}
 use Rattle.buffer_glyphs.specs.Order.{IsGiving}
-use Rattle.buffer_glyphs.specs.Origins.{Origin, Asks, Span, spans, numbers, cast, end_cast, alone_deleted, one_deleted, first_deleted, origins_deleted, origins_merged_as, origins_marked, origins_flagged, picked_elements, with_range_arranged, spans_merged, flags_at, first_circled, origins_circled, origins_spread}
-use Rattle.buffer_glyphs.specs.Events.{Event, Merge, MergeGrapheme, Replace, Circle, Delete, Move, Arrange, Sort, Reverse, Break, Concat, Tatweel, Spread, Reset, concat_marked, tatweel_marked, origins_after_event}
+use Rattle.buffer_glyphs.specs.Origins.{handed_if, Origin, Asks, Span, spans, numbers, cast, end_cast, alone_deleted, one_deleted, first_deleted, origins_deleted, origins_merged_as, origins_marked, origins_flagged, picked_elements, with_range_arranged, spans_merged, flags_at, first_circled, origins_circled, origins_spread}
+use Rattle.buffer_glyphs.specs.Events.{Event, Merge, MergeGrapheme, Replace, Circle, Delete, Move, Arrange, Sort, Reverse, Break, Concat, Tatweel, StrictBreak, Spread, Reset, concat_marked, strictly_marked, tatweel_marked, origins_after_event}
 use Rattle.buffer_glyphs.specs.EventParts.{joins_of, span_joins, parts_of}
 use Rattle.buffer_glyphs.specs.Lemmas.Origins.{numbers_marked, numbers_flagged}
 use Rattle.buffer_glyphs.specs.Lemmas.Deletions.{last_is}
 use Rattle.buffer_glyphs.specs.Lemmas.Replacements.{among_seen}
 use Rattle.buffer_glyphs.specs.Lemmas.EventParts.{numbers_spread}
+use Rattle.buffer_glyphs.specs.Lemmas.Handed.{numbers_handed_if}
 use Rattle.buffer_parts.specs.Counts.{count_after_event, count_after}
 use Rattle.buffer_parts.specs.CountLaws.{CountsFollow, GivingIsGiving}
 use Rattle.buffer_parts.specs.Lemmas.Turns.{giving_in_turn}
@@ -142,6 +143,13 @@ tatweel_count : (asked : Bool) (from to : ℕ) (os : List Origin) → length (ta
 tatweel_count true from to os = same_count os (origins_marked 4 from to os) (numbers_marked 4 from to os)
 tatweel_count false from to os = same_count os (origins_marked 3 from to os) (numbers_marked 3 from to os)
 
+strict_count : (asked : Bool) (from to : ℕ) (os : List Origin) → length (strictly_marked asked from to os) ≡ length os
+strict_count true from to os = same_count os (origins_marked 3 from to os) (numbers_marked 3 from to os)
+strict_count false from to os = refl
+
+handed_count : (asked : Bool) (gone : List Origin) (seam : ℕ) (os : List Origin) → length (handed_if asked gone seam os) ≡ length os
+handed_count asked gone seam os = same_count os (handed_if asked gone seam os) (numbers_handed_if asked gone seam os)
+
 reverse_count : (os : List Origin) → length (reverse os) ≡ length os
 reverse_count os = length-reverse os
 
@@ -150,9 +158,9 @@ event_count asks level os (Merge how from to) = merged_count (manner how level) 
 event_count asks level os (MergeGrapheme from to) = merged_count (grapheme_manner level) from to os
 event_count asks level os (Replace at taken given) =
     let mid = origins_merged_as (manner InList level) at (at + taken) os in
-    replaced_count at taken given mid ∙ ap (λ n. min at n + (if n == 0 then 0 else given) + (n - (at + taken))) (merged_count (manner InList level) at (at + taken) os)
+    handed_count asks.breaks (take taken (drop at mid)) (at + given) (elements_replaced at taken given mid) ∙ replaced_count at taken given mid ∙ ap (λ n. min at n + (if n == 0 then 0 else given) + (n - (at + taken))) (merged_count (manner InList level) at (at + taken) os)
 event_count asks level os (Circle after beside like) = with_circle_count after beside like os
-event_count asks level os (Delete at) = deleted_count level at os
+event_count asks level os (Delete at) = handed_count asks.breaks (take 1 (drop at os)) at (origins_deleted level at os) ∙ deleted_count level at os
 event_count asks level os (Move how from order) = arranged_count from order (origins_merged_as (manner how level) from (from + length order) os) ∙ merged_count (manner how level) from (from + length order) os
 event_count asks level os (Arrange from order) = arranged_count from order os
 event_count asks level os (Sort from order) = arranged_count from order (spans_merged (manner InList level) from (spans order) os) ∙ spans_count (manner InList level) from (spans order) os
@@ -160,6 +168,7 @@ event_count asks level os Reverse = reverse_count os
 event_count asks level os (Break from to) = same_count os (origins_marked 3 from to os) (numbers_marked 3 from to os)
 event_count asks level os (Concat from to) = concat_count asks.concat from to os
 event_count asks level os (Tatweel from to) = tatweel_count asks.tatweel from to os
+event_count asks level os (StrictBreak from to) = strict_count asks.breaks from to os
 event_count asks level os Spread = same_count os (origins_spread asks os) (numbers_spread asks None os)
 event_count asks level os Reset = length-map os _
 
@@ -193,5 +202,6 @@ giving_is_giving level (Reverse ∷ es) ns g = (tt, giving_is_giving level es _ 
 giving_is_giving level (Break from to ∷ es) ns g = giving_is_giving level es ns g
 giving_is_giving level (Concat from to ∷ es) ns g = giving_is_giving level es ns g
 giving_is_giving level (Tatweel from to ∷ es) ns g = giving_is_giving level es ns g
+giving_is_giving level (StrictBreak from to ∷ es) ns g = giving_is_giving level es ns g
 giving_is_giving level (Spread ∷ es) ns g = giving_is_giving level es ns g
 giving_is_giving level (Reset ∷ es) ns g = giving_is_giving level es ns g

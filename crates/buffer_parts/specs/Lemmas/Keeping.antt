@@ -35,7 +35,7 @@ numbers_of_origins (n ∷ ns) = ap (λ ms. n ∷ ms) (numbers_of_origins ns)
 -- the parts that kept events leave are as many as the glyphs
 pub parts_counted : (level : BufferClusterLevel) (es : List Event) (before after : ℕ) (ns : List ℕ) → AreKept level es before after → IsMonotone level → length ns ≡ before → IsOrdered ns → length (after_part_events (parts_of level es) ns) ≡ after
 parts_counted level es before after ns kept mono count o =
-    let asks : Asks = record { concat = false; tatweel = false } in
+    let asks : Asks = record { concat = false; tatweel = false; breaks = false } in
     let os = as_origins ns in
     let same : numbers os ≡ ns = numbers_of_origins ns in
     let ordered : IsOrdered (numbers os) = subst IsOrdered (sym same) o in

@@ -10,7 +10,7 @@ use Rattle.buffer_glyphs.specs.Parts.{range_of, after_part_event, after_part_eve
 use Rattle.buffer_glyphs.specs.Order.{IsOrdered, IsInOrder, falls_after}
 use Rattle.buffer_glyphs.specs.Levels.{IsMonotone}
 use Rattle.buffer_glyphs.specs.Origins.{Origin, Asks, numbers, picked_elements, with_range_arranged}
-use Rattle.buffer_glyphs.specs.Events.{Event, Merge, MergeGrapheme, Replace, Circle, Delete, Move, Arrange, Sort, Reverse, Break, Concat, Tatweel, Spread, Reset, IsPlain, origins_after_event, origins_after}
+use Rattle.buffer_glyphs.specs.Events.{Event, Merge, MergeGrapheme, Replace, Circle, Delete, Move, Arrange, Sort, Reverse, Break, Concat, Tatweel, StrictBreak, Spread, Reset, IsPlain, origins_after_event, origins_after}
 use Rattle.buffer_glyphs.specs.EventParts.{parts_of_event, parts_of}
 use Rattle.buffer_glyphs.specs.Lemmas.Numbers.{Has, has_here, has_more, has_cases}
 use Rattle.buffer_glyphs.specs.Lemmas.Parts.{stays_ordered, keeps_order}
@@ -34,6 +34,7 @@ plain_is_orderly asks level (Reverse ∷ es) os p = (tt, plain_is_orderly asks l
 plain_is_orderly asks level (Break from to ∷ es) os p = (tt, plain_is_orderly asks level es (origins_after_event asks level os (Break from to)) p)
 plain_is_orderly asks level (Concat from to ∷ es) os p = (tt, plain_is_orderly asks level es (origins_after_event asks level os (Concat from to)) p)
 plain_is_orderly asks level (Tatweel from to ∷ es) os p = (tt, plain_is_orderly asks level es (origins_after_event asks level os (Tatweel from to)) p)
+plain_is_orderly asks level (StrictBreak from to ∷ es) os p = (tt, plain_is_orderly asks level es (origins_after_event asks level os (StrictBreak from to)) p)
 plain_is_orderly asks level (Spread ∷ es) os p = (tt, plain_is_orderly asks level es (origins_after_event asks level os Spread) p)
 plain_is_orderly asks level (Reset ∷ es) os p = (tt, plain_is_orderly asks level es (origins_after_event asks level os Reset) p)
 
@@ -128,6 +129,7 @@ orderly_event asks level os Reverse mono h o = plain_event asks level os Reverse
 orderly_event asks level os (Break from to) mono h o = plain_event asks level os (Break from to) mono tt o
 orderly_event asks level os (Concat from to) mono h o = plain_event asks level os (Concat from to) mono tt o
 orderly_event asks level os (Tatweel from to) mono h o = plain_event asks level os (Tatweel from to) mono tt o
+orderly_event asks level os (StrictBreak from to) mono h o = plain_event asks level os (StrictBreak from to) mono tt o
 orderly_event asks level os Spread mono h o = plain_event asks level os Spread mono tt o
 orderly_event asks level os Reset mono h o = plain_event asks level os Reset mono tt o
 

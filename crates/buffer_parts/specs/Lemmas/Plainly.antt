@@ -3,7 +3,7 @@ use Rattle.std.proofs.Common.{ℕ, ◌≡◌, ◌≤◌, ◌<◌, ◌+◌, ◌-�
 use Rattle.std.proofs.lemmas.Bool.Decides.{nat_tests}
 use Rattle.std.proofs.lemmas.Grind.{common_steps}
 use Rattle.std.proofs.lemmas.List.Sums.{fold-append}
-use Rattle.buffer_glyphs.specs.Events.{Event, Merge, MergeGrapheme, Replace, Circle, Delete, Move, Arrange, Sort, Reverse, Break, Concat, Tatweel, Spread, Reset, IsPlain}
+use Rattle.buffer_glyphs.specs.Events.{Event, Merge, MergeGrapheme, Replace, Circle, Delete, Move, Arrange, Sort, Reverse, Break, Concat, Tatweel, StrictBreak, Spread, Reset, IsPlain}
 use Rattle.buffer_parts.specs.Counts.{AreGiving, count_after, count_after_event}
 use Rattle.buffer_parts.specs.Turns.{IsUnturned}
 use Rattle.buffer_parts.specs.Plainly.{ArePlainlyKept, AreSteady}
@@ -23,6 +23,7 @@ both_plain (Reverse ∷ es) fs p q = both_plain es fs p q
 both_plain (Break from to ∷ es) fs p q = both_plain es fs p q
 both_plain (Concat from to ∷ es) fs p q = both_plain es fs p q
 both_plain (Tatweel from to ∷ es) fs p q = both_plain es fs p q
+both_plain (StrictBreak from to ∷ es) fs p q = both_plain es fs p q
 both_plain (Spread ∷ es) fs p q = both_plain es fs p q
 both_plain (Reset ∷ es) fs p q = both_plain es fs p q
 
@@ -40,6 +41,7 @@ both_give (Reverse ∷ es) fs p q = both_give es fs p q
 both_give (Break from to ∷ es) fs p q = both_give es fs p q
 both_give (Concat from to ∷ es) fs p q = both_give es fs p q
 both_give (Tatweel from to ∷ es) fs p q = both_give es fs p q
+both_give (StrictBreak from to ∷ es) fs p q = both_give es fs p q
 both_give (Spread ∷ es) fs p q = both_give es fs p q
 both_give (Reset ∷ es) fs p q = both_give es fs p q
 
@@ -84,6 +86,7 @@ steady_plain (Sort from order ∷ es) p = (p.0, steady_plain es p.1)
 steady_plain (Break from to ∷ es) p = steady_plain es p
 steady_plain (Concat from to ∷ es) p = steady_plain es p
 steady_plain (Tatweel from to ∷ es) p = steady_plain es p
+steady_plain (StrictBreak from to ∷ es) p = steady_plain es p
 steady_plain (Spread ∷ es) p = steady_plain es p
 steady_plain (Reset ∷ es) p = steady_plain es p
 
@@ -101,6 +104,7 @@ steady_unturned (Sort from order ∷ es) p = steady_unturned es p.1
 steady_unturned (Break from to ∷ es) p = steady_unturned es p
 steady_unturned (Concat from to ∷ es) p = steady_unturned es p
 steady_unturned (Tatweel from to ∷ es) p = steady_unturned es p
+steady_unturned (StrictBreak from to ∷ es) p = steady_unturned es p
 steady_unturned (Spread ∷ es) p = steady_unturned es p
 steady_unturned (Reset ∷ es) p = steady_unturned es p
 
@@ -118,6 +122,7 @@ steady_giving (Sort from order ∷ es) p = steady_giving es p.1
 steady_giving (Break from to ∷ es) p = steady_giving es p
 steady_giving (Concat from to ∷ es) p = steady_giving es p
 steady_giving (Tatweel from to ∷ es) p = steady_giving es p
+steady_giving (StrictBreak from to ∷ es) p = steady_giving es p
 steady_giving (Spread ∷ es) p = steady_giving es p
 steady_giving (Reset ∷ es) p = steady_giving es p
 
@@ -135,6 +140,7 @@ steady_count n (Sort from order ∷ es) p = steady_count n es p.1
 steady_count n (Break from to ∷ es) p = steady_count n es p
 steady_count n (Concat from to ∷ es) p = steady_count n es p
 steady_count n (Tatweel from to ∷ es) p = steady_count n es p
+steady_count n (StrictBreak from to ∷ es) p = steady_count n es p
 steady_count n (Spread ∷ es) p = steady_count n es p
 steady_count n (Reset ∷ es) p = steady_count n es p
 
@@ -152,6 +158,7 @@ both_steady (Sort from order ∷ es) fs p q = (p.0, both_steady es fs p.1 q)
 both_steady (Break from to ∷ es) fs p q = both_steady es fs p q
 both_steady (Concat from to ∷ es) fs p q = both_steady es fs p q
 both_steady (Tatweel from to ∷ es) fs p q = both_steady es fs p q
+both_steady (StrictBreak from to ∷ es) fs p q = both_steady es fs p q
 both_steady (Spread ∷ es) fs p q = both_steady es fs p q
 both_steady (Reset ∷ es) fs p q = both_steady es fs p q
 

@@ -5,7 +5,7 @@ use Rattle.buffer_glyphs.specs.Levels.{Manner, Unites, Marks, Keeps, InList, man
 use Rattle.buffer_glyphs.specs.Parts.{PartEvent, JoinParts, ReplaceParts, DeletePart, CirclePart, ReverseParts, after_part_event, after_part_events}
 use Rattle.buffer_glyphs.specs.Order.{IsGiving, falls_after}
 use Rattle.buffer_glyphs.specs.Origins.{Span, spans}
-use Rattle.buffer_glyphs.specs.Events.{Event, Reverse, Merge, MergeGrapheme, Replace, Circle, Delete, Move, Arrange, Sort, Break, Concat, Tatweel, Spread, Reset}
+use Rattle.buffer_glyphs.specs.Events.{Event, Reverse, Merge, MergeGrapheme, Replace, Circle, Delete, Move, Arrange, Sort, Break, Concat, Tatweel, StrictBreak, Spread, Reset}
 use Rattle.buffer_glyphs.specs.EventParts.{joins_of, span_joins, parts_of_event, parts_of}
 use Rattle.buffer_parts.specs.Turns.{IsUnturned}
 use Rattle.buffer_parts.specs.TextLaws.{UnturnedKeepsSide, TurnsAddUp}
@@ -58,6 +58,7 @@ unturned_keeps_side level (Sort from order ∷ es) falls u =
 unturned_keeps_side level (Break from to ∷ es) falls u = unturned_keeps_side level es falls u
 unturned_keeps_side level (Concat from to ∷ es) falls u = unturned_keeps_side level es falls u
 unturned_keeps_side level (Tatweel from to ∷ es) falls u = unturned_keeps_side level es falls u
+unturned_keeps_side level (StrictBreak from to ∷ es) falls u = unturned_keeps_side level es falls u
 unturned_keeps_side level (Spread ∷ es) falls u = unturned_keeps_side level es falls u
 unturned_keeps_side level (Reset ∷ es) falls u = unturned_keeps_side level es falls u
 
@@ -75,5 +76,6 @@ unturned_in_turn (Sort from order ∷ es) fs u w = unturned_in_turn es fs u w
 unturned_in_turn (Break from to ∷ es) fs u w = unturned_in_turn es fs u w
 unturned_in_turn (Concat from to ∷ es) fs u w = unturned_in_turn es fs u w
 unturned_in_turn (Tatweel from to ∷ es) fs u w = unturned_in_turn es fs u w
+unturned_in_turn (StrictBreak from to ∷ es) fs u w = unturned_in_turn es fs u w
 unturned_in_turn (Spread ∷ es) fs u w = unturned_in_turn es fs u w
 unturned_in_turn (Reset ∷ es) fs u w = unturned_in_turn es fs u w

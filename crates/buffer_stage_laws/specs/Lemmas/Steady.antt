@@ -1,6 +1,6 @@
 -- Events that leave as many glyphs as there were, by indices that are counted from further before.
 use Rattle.std.proofs.Common.{ℕ, List, [], ◌∷◌, map}
-use Rattle.buffer_glyphs.specs.Events.{Event, Merge, MergeGrapheme, Replace, Circle, Delete, Move, Arrange, Sort, Reverse, Break, Concat, Tatweel, Spread, Reset}
+use Rattle.buffer_glyphs.specs.Events.{Event, Merge, MergeGrapheme, Replace, Circle, Delete, Move, Arrange, Sort, Reverse, Break, Concat, Tatweel, StrictBreak, Spread, Reset}
 use Rattle.buffer_glyphs.specs.Rewriting.{shifted_event}
 use Rattle.buffer_parts.specs.Plainly.{AreSteady}
 
@@ -18,5 +18,6 @@ shifted_steady n (Sort from order ∷ es) p = (p.0, shifted_steady n es p.1)
 shifted_steady n (Break from to ∷ es) p = shifted_steady n es p
 shifted_steady n (Concat from to ∷ es) p = shifted_steady n es p
 shifted_steady n (Tatweel from to ∷ es) p = shifted_steady n es p
+shifted_steady n (StrictBreak from to ∷ es) p = shifted_steady n es p
 shifted_steady n (Spread ∷ es) p = shifted_steady n es p
 shifted_steady n (Reset ∷ es) p = shifted_steady n es p

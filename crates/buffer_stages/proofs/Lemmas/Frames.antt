@@ -13,7 +13,7 @@ use Rattle.buffer_stages.specs.Actions.{Cut, whole}
 use Rattle.buffer_stages.specs.Buffers.{cut_of, Frame, IsStill, HasHappened}
 
 abbrev pub asks_with : BufferFlags → Asks
-asks_with f = record { concat = bit_and f.0 64 == 64; tatweel = bit_and f.0 128 == 128 }
+asks_with f = record { concat = bit_and f.0 64 == 64; tatweel = bit_and f.0 128 == 128; breaks = bit_and f.0 256 == 256 }
 
 -- settings that stay
 

@@ -23,7 +23,7 @@ nothing_happens s ready = record { view = refl; origins = refl; settings = refl;
 by_settings : (es : List Event) (a b : Sides) → settings_of b ≡ settings_of a → origins_by es b ≡ origins_after (flag_requests_of a) a.level es (origins_of b)
 by_settings es a b e =
     ap (λ (st : Settings). origins_after (flag_requests_of b) st.level es (origins_of b)) e
-    ∙ ap (λ (st : Settings). origins_after (record { concat = bit_and st.flags.0 64 == 64; tatweel = bit_and st.flags.0 128 == 128 }) a.level es (origins_of b)) e
+    ∙ ap (λ (st : Settings). origins_after (record { concat = bit_and st.flags.0 64 == 64; tatweel = bit_and st.flags.0 128 == 128; breaks = bit_and st.flags.0 256 == 256 }) a.level es (origins_of b)) e
 
 pub both_happen : (es fs : List Event) (a b c : Sides) → Happens es a b → Happens fs b c → Happens (es ++ fs) a c
 both_happen es fs a b c h k = record {

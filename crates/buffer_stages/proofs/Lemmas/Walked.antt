@@ -26,7 +26,7 @@ nothing_walked s opened = record { behind = refl; ahead = refl; happened = refl;
 pub by_settings : (es : List Event) (a b : Sides) → settings_of b ≡ settings_of a → origins_by es b ≡ origins_after (flag_requests_of a) a.level es (origins_of b)
 by_settings es a b e =
     ap (λ (st : Settings). origins_after (flag_requests_of b) st.level es (origins_of b)) e
-    ∙ ap (λ (st : Settings). origins_after (record { concat = bit_and st.flags.0 64 == 64; tatweel = bit_and st.flags.0 128 == 128 }) a.level es (origins_of b)) e
+    ∙ ap (λ (st : Settings). origins_after (record { concat = bit_and st.flags.0 64 == 64; tatweel = bit_and st.flags.0 128 == 128; breaks = bit_and st.flags.0 256 == 256 }) a.level es (origins_of b)) e
 
 -- one way, and then another
 pub both_walked : (o r p q : List Item) (es fs : List Event) (a b c : Sides) → HasWalked o r es a b → HasWalked p q fs b c → HasWalked p q (es ++ fs) a c
@@ -115,7 +115,7 @@ walked_followed stage out es events s t new ready w is e f =
       follows = subst (λ q. Follows q (state_of s) (state_of (after_sync t))) (sym e)
           (ap (λ w. record { view = w; origins = origins_of t; level = t.level; asks = flag_requests_of t }) view
           ∙ ap (λ os. record { view = v; origins = os; level = t.level; asks = flag_requests_of t }) (w.happened ∙ ap (λ fs. origins_by fs s) (sym f))
-          ∙ ap (λ (st : Settings). record { view = v; origins = origins_by (events s.level) s; level = st.level; asks = record { concat = bit_and st.flags.0 64 == 64; tatweel = bit_and st.flags.0 128 == 128 } }) w.settings);
+          ∙ ap (λ (st : Settings). record { view = v; origins = origins_by (events s.level) s; level = st.level; asks = record { concat = bit_and st.flags.0 64 == 64; tatweel = bit_and st.flags.0 128 == 128; breaks = bit_and st.flags.0 256 == 256 } }) w.settings);
       settings = w.settings;
       ready = record { closed = refl; front = refl; unread = refl; placed = length-replicate (length (all_glyphs t)) zero_position; unrefused = w.unrefused ∙ ready.unrefused };
     } in

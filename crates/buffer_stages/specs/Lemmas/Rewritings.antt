@@ -66,7 +66,7 @@ rewritten_count r from to a b le inside len f =
 by_settings : (es : List Event) (a b : Sides) → settings_of b ≡ settings_of a → origins_by es b ≡ origins_after (flag_requests_of a) a.level es (origins_of b)
 by_settings es a b e =
     ap (λ (st : Settings). origins_after (flag_requests_of b) st.level es (origins_of b)) e
-    ∙ ap (λ (st : Settings). origins_after (record { concat = bit_and st.flags.0 64 == 64; tatweel = bit_and st.flags.0 128 == 128 }) a.level es (origins_of b)) e
+    ∙ ap (λ (st : Settings). origins_after (record { concat = bit_and st.flags.0 64 == 64; tatweel = bit_and st.flags.0 128 == 128; breaks = bit_and st.flags.0 256 == 256 }) a.level es (origins_of b)) e
 
 -- the origins of the glyphs after both
 pub origins_then : (es fs : List Event) (a b c : Sides) → settings_of b ≡ settings_of a → origins_of b ≡ origins_by es a → origins_of c ≡ origins_by fs b → origins_of c ≡ origins_by (es ++ fs) a

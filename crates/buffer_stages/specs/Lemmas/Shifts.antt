@@ -1,6 +1,6 @@
 -- Events by indices that are counted from further back.
 use Rattle.std.proofs.Common.{ℕ, ◌≡◌, ◌+◌, List, [], ◌∷◌, map, refl, arith}
-use Rattle.buffer_glyphs.specs.Events.{Event, Merge, MergeGrapheme, Replace, Circle, Delete, Move, Arrange, Sort, Reverse, Break, Concat, Tatweel, Spread, Reset}
+use Rattle.buffer_glyphs.specs.Events.{Event, Merge, MergeGrapheme, Replace, Circle, Delete, Move, Arrange, Sort, Reverse, Break, Concat, Tatweel, StrictBreak, Spread, Reset}
 use Rattle.buffer_glyphs.specs.Rewriting.{shifted_event}
 
 further : (n m i : ℕ) → n + (m + i) ≡ n + m + i
@@ -19,6 +19,7 @@ shift_event n m Reverse = refl
 shift_event n m (Break from to) = rw (further n m from, further n m to) refl
 shift_event n m (Concat from to) = rw (further n m from, further n m to) refl
 shift_event n m (Tatweel from to) = rw (further n m from, further n m to) refl
+shift_event n m (StrictBreak from to) = rw (further n m from, further n m to) refl
 shift_event n m Spread = refl
 shift_event n m Reset = refl
 
@@ -43,6 +44,7 @@ shift_by_none Reverse = refl
 shift_by_none (Break from to) = rw (none_more from, none_more to) refl
 shift_by_none (Concat from to) = rw (none_more from, none_more to) refl
 shift_by_none (Tatweel from to) = rw (none_more from, none_more to) refl
+shift_by_none (StrictBreak from to) = rw (none_more from, none_more to) refl
 shift_by_none Spread = refl
 shift_by_none Reset = refl
 

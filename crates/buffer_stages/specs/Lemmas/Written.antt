@@ -65,7 +65,7 @@ pub happened_followed : (es : List Event) (v : View) (stage : Stage) (old new : 
     → settings_of new ≡ settings_of old → IsReady new → stage (view_of old) ≡ Ok (with_events es v) → IsFollowed stage old new
 happened_followed es v stage old new view from settings ready e = record {
   follows =
-      let asks = ap (λ (st : Settings). record { concat = bit_and st.flags.0 64 == 64; tatweel = bit_and st.flags.0 128 == 128 }) settings in
+      let asks = ap (λ (st : Settings). record { concat = bit_and st.flags.0 64 == 64; tatweel = bit_and st.flags.0 128 == 128; breaks = bit_and st.flags.0 256 == 256 }) settings in
       subst (λ q. Follows q (state_of old) (state_of new)) (sym e) (follows_events es v (state_of old) (state_of new) view from (ap (λ (st : Settings). st.level) settings) asks);
   settings = settings;
   ready = ready;
@@ -88,7 +88,7 @@ pub read_followed : (r : View → Read) (es : List Event) (v : View) (old new : 
     → (r (view_of old)).view ≡ v → (r (view_of old)).events old.level ≡ es → IsFollowed (always r) old new
 read_followed r es v old new view from settings ready e f = record {
   follows =
-      let asks = ap (λ (st : Settings). record { concat = bit_and st.flags.0 64 == 64; tatweel = bit_and st.flags.0 128 == 128 }) settings in
+      let asks = ap (λ (st : Settings). record { concat = bit_and st.flags.0 64 == 64; tatweel = bit_and st.flags.0 128 == 128; breaks = bit_and st.flags.0 256 == 256 }) settings in
       follows_events es v (state_of old) (state_of new) view from (ap (λ (st : Settings). st.level) settings) asks
       ∙ ap (λ w. record { view = w; origins = origins_by es old; level = old.level; asks = flag_requests_of old }) (sym e)
       ∙ ap (λ fs. record { view = (r (view_of old)).view; origins = origins_by fs old; level = old.level; asks = flag_requests_of old }) (sym f);

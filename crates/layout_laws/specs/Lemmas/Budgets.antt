@@ -98,6 +98,7 @@ positioned_by_budget = record {
   closed = closed_by_budget;
   placed = λ i n ps c l. (l, refl);
   broken = λ i n back ahead ps c l. (l, refl);
+  strictly_broken = λ i n ahead ps c l. (l, refl);
   attached = λ i near n back ahead ps c l. (l, refl);
 }
 

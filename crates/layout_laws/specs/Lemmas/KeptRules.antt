@@ -7,7 +7,7 @@ use Rattle.std.proofs.lemmas.Grind.{common_steps}
 use Rattle.buffer_glyphs.specs.Levels.{InList}
 use Rattle.buffer_glyphs.specs.Items.{Item, Position}
 use Rattle.buffer_glyphs.specs.Parts.{first_of}
-use Rattle.buffer_glyphs.specs.Events.{Event, Merge, Replace, Delete, Break}
+use Rattle.buffer_glyphs.specs.Events.{Event, Merge, Replace, Delete, Break, StrictBreak}
 use Rattle.buffer_parts.specs.Counts.{ligature_deletions}
 use Rattle.buffer_parts.specs.Keeping.{AreKept}
 use Rattle.buffer_parts.specs.Lemmas.Keeping.{plain_is_kept, replacements_keep_parts, ligatures_keep_parts}
@@ -19,7 +19,7 @@ use Rattle.layout_contexts.specs.Nested.{each_nested, cut_after_match}
 use Rattle.layout_tables.specs.declared.context.SequenceLookupRecord.{SequenceLookupRecord}
 use Rattle.layout_gsub.specs.Alternates.{drawn_alternate}
 use Rattle.layout_gsub.specs.Ligating.{ligature_substitution, component_deletions as gone}
-use Rattle.layout_gsub.specs.Multiples.{component_items, multiple_substitution, multiplied_item, cut_with_multiple, deletion}
+use Rattle.layout_gsub.specs.Multiples.{component_items, multiple_substitution, multiplied_item, cut_with_multiple, neighbours_flagged, deletion}
 use Rattle.layout_gsub.specs.Replacements.{single_substitution, cut_with_substitute, substituted_item}
 use Rattle.layout_gsub.specs.Reverses.{cut_with_substitute_kept}
 use Rattle.layout_gpos.specs.Anchors.{with_attachment_flag}
@@ -60,12 +60,17 @@ closed_by_parts = record {
 
 -- ---- as many items
 
--- with no event, or with a break, as many items are left
+-- with no event, with a break, or with one that is requested, as many items are left
 still_acts : (c d : Cut) → length (whole d) ≡ length (whole c) → OutcomeKeepsParts (Acts d []) (length (whole c))
 still_acts c d e level = subst (λ (n : ℕ). AreKept level [] (length (whole c)) n) (sym e) (nothing_keeps level (length (whole c)))
 
 broken_acts : (from to : ℕ) (c d : Cut) → length (whole d) ≡ length (whole c) → OutcomeKeepsParts (Acts d (Break from to ∷ [])) (length (whole c))
 broken_acts from to c d e level = subst (λ (n : ℕ). AreKept level (Break from to ∷ []) (length (whole c)) n) (sym e) (break_keeps level from to (length (whole c)))
+
+strictly_broken_acts : (from to : ℕ) (c d : Cut) → length (whole d) ≡ length (whole c) → OutcomeKeepsParts (Acts d (StrictBreak from to ∷ [])) (length (whole c))
+strictly_broken_acts from to c d e level =
+    let n = length (whole c) in
+    subst (λ (m : ℕ). AreKept level (StrictBreak from to ∷ []) n m) (sym e) (plain_is_kept level (StrictBreak from to ∷ []) n n tt tt refl)
 
 one_long : (f : Item → Item) (ys : List Item) → length (map f (take 1 ys)) + length (drop 1 ys) ≡ length ys
 one_long f [] = omega arith
@@ -125,7 +130,7 @@ none_keeps : (x : Item) (c : Cut) → first_of c.rest ≡ Some x → OutcomeKeep
 none_keeps x c there level =
     let before = length-append c.front c.rest in
     let after : length (c.front ++ drop 1 c.rest) ≡ length (whole c) - 1 = omega (arith, before, at_some c x there, drop_long c.rest, length-append c.front (drop 1 c.rest)) in
-    plain_is_kept level (Delete (length c.front) ∷ []) (length (whole c)) (length (c.front ++ drop 1 c.rest)) tt tt (one_less (length c.front) (length (whole c)) (omega (arith, before, at_some c x there)) ∙ sym after)
+    plain_is_kept level (neighbours_flagged c ∷ Delete (length c.front) ∷ []) (length (whole c)) (length (c.front ++ drop 1 c.rest)) tt tt (one_less (length c.front) (length (whole c)) (omega (arith, before, at_some c x there)) ∙ sym after)
 
 deletions_are : (at n : ℕ) (places : List ℕ) → gone at n places ≡ ligature_deletions at n places
 deletions_are at n [] = refl
@@ -160,5 +165,6 @@ positioned_by_parts = record {
   closed = closed_by_parts;
   placed = λ i n ps c. still_acts c (cut_with_positions n ps c) (past_length n ps c);
   broken = λ i n back ahead ps c. broken_acts (length c.front - back) (length c.front + ahead) c (cut_with_positions n ps c) (past_length n ps c);
+  strictly_broken = λ i n ahead ps c. strictly_broken_acts (length c.front) (length c.front + ahead) c (cut_with_positions n ps c) (past_length n ps c);
   attached = λ i near n back ahead ps c. broken_acts (length c.front - back) (length c.front + ahead) c (record (cut_with_positions n ps c) { scratch_flags = with_attachment_flag near c.scratch_flags }) (past_length n ps c);
 }

@@ -102,6 +102,7 @@ positioned_by_length = record {
   closed = closed_by_length;
   placed = λ i n ps c e. (cuts_alike (cut_with_positions n ps c) i.0 i.1 e, refl);
   broken = λ i n back ahead ps c e. (cuts_alike (cut_with_positions n ps c) i.0 i.1 e, refl);
+  strictly_broken = λ i n ahead ps c e. (cuts_alike (cut_with_positions n ps c) i.0 i.1 e, refl);
   attached = λ i near n back ahead ps c e. (record { scratch_flags = attachment_alike near c.scratch_flags i.1 e; same = refl }, refl);
 }
 

@@ -1,5 +1,5 @@
 -- Nested lookups that keep the parts of a text.
-use Rattle.std.proofs.Common.{ℕ, ◌≡◌, ◌&&◌, Bool, true, false, nat_lt, min, if◌then◌else◌, List, [], ◌∷◌, Option, Some, None, length, ap, sym, subst}
+use Rattle.std.proofs.Common.{ℕ, ◌≡◌, ◌&&◌, true, false, nat_lt, min, if◌then◌else◌, List, [], ◌∷◌, Option, Some, None, length, ap, sym, subst}
 use Rattle.std.specs.Prelude.{slice_get}
 use Rattle.std.proofs.lemmas.List.{take-append-drop}
 use Rattle.buffer_glyphs.specs.declared.level.BufferClusterLevel.{BufferClusterLevel}

@@ -182,6 +182,7 @@ positioned_by_taken = record {
   closed = closed_by_taken;
   placed = λ i n ps c. nothing_taken c.max_ops;
   broken = λ i n back ahead ps c. nothing_taken c.max_ops;
+  strictly_broken = λ i n ahead ps c. nothing_taken c.max_ops;
   attached = λ i near n back ahead ps c. nothing_taken c.max_ops;
 }
 

@@ -27,7 +27,7 @@ use Rattle.buffer_stages.specs.Actions.{Cut, Passes, Acts, Action, attempt_aroun
 use Rattle.layout_match.specs.Applied.{ApplyContext}
 use Rattle.layout_contexts.specs.Chains.{context_subtable}
 use Rattle.layout_gpos.specs.Anchors.{with_mark_attached, with_attachment_flag}
-use Rattle.layout_gpos.specs.Moving.{break_around, cut_with_positions}
+use Rattle.layout_gpos.specs.Moving.{break_around, cut_with_positions, strict_break_around}
 use Rattle.layout_gpos.specs.Values.{with_adjusted_position, is_zero}
 use Rattle.layout_gpos.specs.Singles.{single_adjusted, single_subtable}
 use Rattle.layout_tables.specs.Covers.{covers_first_of_pair}
@@ -37,11 +37,12 @@ use Rattle.layout_positioning.specs.Joins.{join_if, exit_of, on_exit, entry_of, 
 use Rattle.layout_positioning.specs.Lookups.{first_subtable, under_flag, nested_lookup, nested_actions, lookup_action}
 use Rattle.layout_laws.specs.Lemmas.Rules.{Limits, recut, IsRelated, NestRelated, IsClosed, first_related, item_related, test_related, met_related, context_related}
 
--- a relation is kept by all ways in which lookups of positioning act: positions of some glyphs that are then done, with a break between them or without, and glyphs attached to others
+-- a relation is kept by all ways in which lookups of positioning act: positions of some glyphs that are then done, with a break between them, a break that is requested or none, and glyphs attached to others
 pub record IsPositioned (w : Limits) : Type 0 where
   pub closed : IsClosed w
   pub placed : (i : w.Index) (n : ℕ) (ps : List Position) (c : Cut) → w.Holds i c (Acts (cut_with_positions n ps c) []) (Acts (cut_with_positions n ps (recut w i c)) [])
   pub broken : (i : w.Index) (n back ahead : ℕ) (ps : List Position) (c : Cut) → w.Holds i c (Acts (cut_with_positions n ps c) (break_around back ahead c)) (Acts (cut_with_positions n ps (recut w i c)) (break_around back ahead c))
+  pub strictly_broken : (i : w.Index) (n ahead : ℕ) (ps : List Position) (c : Cut) → w.Holds i c (Acts (cut_with_positions n ps c) (strict_break_around ahead c)) (Acts (cut_with_positions n ps (recut w i c)) (strict_break_around ahead c))
   pub attached : (i : w.Index) (near : Bool) (n back ahead : ℕ) (ps : List Position) (c : Cut)
       → w.Holds i c (Acts (record (cut_with_positions n ps c) { scratch_flags = with_attachment_flag near c.scratch_flags }) (break_around back ahead c)) (Acts (record (cut_with_positions n ps (recut w i c)) { scratch_flags = with_attachment_flag near (w.scratch_flags i c) }) (break_around back ahead c))
 
@@ -58,9 +59,9 @@ values_related : (w : Limits) (i : w.Index) → IsPositioned w → (d : Directio
 values_related w i ways d apart None c = ways.closed.attempts i 0 (apart + 1) c
 values_related w i ways d apart (Some v) c = by_effect (is_zero v.first && has_no_effect v.second)
   where
-    by_effect : (none : Bool) → w.Holds i c (Acts (cut_with_positions (pair_length apart v.second) (pair_adjusted d (length c.front) (length c.front + apart) v c.positions) c) (if none then [] else break_around 0 (apart + 1) c))
-        (Acts (cut_with_positions (pair_length apart v.second) (pair_adjusted d (length c.front) (length c.front + apart) v c.positions) (recut w i c)) (if none then [] else break_around 0 (apart + 1) c))
-    by_effect true = ways.placed i (pair_length apart v.second) (pair_adjusted d (length c.front) (length c.front + apart) v c.positions) c
+    by_effect : (none : Bool) → w.Holds i c (Acts (cut_with_positions (pair_length apart v.second) (pair_adjusted d (length c.front) (length c.front + apart) v c.positions) c) (if none then strict_break_around (apart + 1) c else break_around 0 (apart + 1) c))
+        (Acts (cut_with_positions (pair_length apart v.second) (pair_adjusted d (length c.front) (length c.front + apart) v c.positions) (recut w i c)) (if none then strict_break_around (apart + 1) c else break_around 0 (apart + 1) c))
+    by_effect true = ways.strictly_broken i (pair_length apart v.second) (apart + 1) (pair_adjusted d (length c.front) (length c.front + apart) v c.positions) c
     by_effect false = ways.broken i (pair_length apart v.second) 0 (apart + 1) (pair_adjusted d (length c.front) (length c.front + apart) v c.positions) c
 
 second_related : (w : Limits) (i : w.Index) → IsPositioned w → (d : Direction) (values : Item → Option PairValues) (o : Result ℕ ℕ) → IsRelated w i (pair_second d values o)

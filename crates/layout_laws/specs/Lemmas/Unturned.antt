@@ -148,6 +148,7 @@ positioned_by_turns = record {
   closed = closed_by_turns;
   placed = λ i n ps c. tt;
   broken = λ i n back ahead ps c. tt;
+  strictly_broken = λ i n ahead ps c. tt;
   attached = λ i near n back ahead ps c. tt;
 }
 

@@ -1,5 +1,5 @@
 -- The rules of scripts depend on no limit of length, and only count the budget of nested lookups.
-use Rattle.std.proofs.Common.{ℕ, Bool, List, [], length, Option, None, Some, Err, refl}
+use Rattle.std.proofs.Common.{ℕ, Bool, List, [], ◌++◌, length, Option, None, Some, Err, refl}
 use Rattle.std.specs.Prelude.{⊤, codes, nat_le}
 use Rattle.std.specs.List.{list_all, list_any}
 use Rattle.buffer_glyphs.specs.declared.cause.ShapeCause.TheVariants.{StretchRange, TooLong, UnknownSyllableKind}
@@ -56,7 +56,7 @@ use Rattle.script_syllabic.specs.Categories.{categories_set, ot_category_of, wit
 use Rattle.script_universal.specs.Categories.{universal_category_of}
 use Rattle.script_arabic.specs.Copying.{with_tile_copies, events_from}
 use Rattle.script_arabic.specs.Laying.{is_in_range, tiles}
-use Rattle.script_arabic.specs.Stretch.{with_tiles_laid, text_runs, tiles_laid}
+use Rattle.script_arabic.specs.Stretch.{text_runs, text_stretch_events, tiles_laid, with_tiles_laid}
 use Rattle.script_universal.specs.Pauses.{forms_set, universal_circles, universal_syllables_set}
 use Rattle.script_khmer.specs.Pauses.{khmer_circles}
 use Rattle.script_myanmar.specs.Pauses.{myanmar_circles}
@@ -210,7 +210,7 @@ pauses_limits shaper m s font spans settings (Some pause) = pause_limits shaper 
 tiles_limits : (font : FaceParts) → DependsOnNoLimit (tiles_laid font)
 tiles_limits font = chosen_by (λ v. list_all is_in_range (text_runs font v)) (λ v. with_tiles_laid (tiles font v.items (text_runs font v)) v) (λ v. Err StretchRange) (λ v limit scratch_flags. refl) (λ change v. refl)
     (limited_by (λ v. nat_le (length (with_tile_copies v.items (tiles font v.items (text_runs font v)))) v.max_len)
-    (λ v. let ts = tiles font v.items (text_runs font v) in with_events (events_from 0 ts) (record v { items = with_tile_copies v.items ts; positions = all_positions v.positions ts })) TooLong
+    (λ v. let ts = tiles font v.items (text_runs font v) in with_events (text_stretch_events v.items ++ events_from 0 ts) (record v { items = with_tile_copies v.items ts; positions = all_positions v.positions ts })) TooLong
     record { seen = λ v limit scratch_flags. refl; scratch_flags = λ v. refl; tested = λ change v. refl; budgeted = λ change v. refl; budget = λ v. refl })
     (refused_by StretchRange)
 

@@ -1,5 +1,5 @@
 -- Left matras that begin words, one glyph after another.
-use Rattle.std.proofs.Common.{ℕ, ◌≡◌, ◌<◌, ◌+◌, ◌-◌, Bool, true, false, if◌then◌else◌, List, [], ◌∷◌, length, take, drop, get_or, set, Option, Some, None, refl, sym, ap, subst, ◌∙◌, arith}
+use Rattle.std.proofs.Common.{ℕ, ◌≡◌, ◌<◌, ◌+◌, ◌-◌, ◌==◌, Bool, true, false, if◌then◌else◌, List, [], ◌∷◌, length, take, drop, get_or, set, Option, Some, None, refl, sym, ap, subst, ◌∙◌, arith}
 use Rattle.std.specs.Prelude.{slice_range}
 use Rattle.std.proofs.lemmas.List.{length-map, take_all}
 use Rattle.std.specs.Int.Bits.{or_zero_r}
@@ -15,7 +15,7 @@ use Rattle.buffer_stages.specs.Lemmas.Rewritings.{rewritten_same}
 use Rattle.buffer_stages.specs.Lemmas.Made.{AreWritten, next_written}
 use Rattle.script_categories.specs.declared.shaper.hb_ot_script_shaper_t.TheVariants.{INDIC_SHAPER}
 use Rattle.script_categories.specs.Shapers.{is_reordered}
-use Rattle.script_indic_reordering.specs.Final.{begins_word, words_begun}
+use Rattle.script_indic_reordering.specs.Final.{begins_word, word_events, words_begun}
 
 pub word_next : (is_reordered : ℕ → Bool) (bits : ℕ) (before : Option Item) (i : ℕ) (all : List Item) (old now : List hb_glyph_info_t) (d h : hb_glyph_info_t) → i < length now → AreWritten (words_begun is_reordered bits before) i all old now
     → item_of h ≡ (if begins_word is_reordered before (item_of (get_or now i d)) then item_with_features bits (item_of (get_or now i d)) else item_of (get_or now i d)) → origin_of h ≡ origin_of (get_or now i d)
@@ -36,7 +36,8 @@ words_same is_reordered before (x ∷ xs) = ap (λ y. y ∷ words_begun is_reord
     kept false = refl
 
 -- a mask without bits changes nothing
-pub no_words : (mask : ℕ) (a : Sides) → mask ≡ 0 → IsReady a → IsRewritten (eventless_arrangement (words_begun (is_reordered INDIC_SHAPER) mask None (items_of a))) 0 (length (all_glyphs a)) a a
+pub no_words : (mask : ℕ) (a : Sides) → mask ≡ 0 → IsReady a
+    → IsRewritten (record { items = words_begun (is_reordered INDIC_SHAPER) mask None (items_of a); events = if mask == 0 then [] else word_events (is_reordered INDIC_SHAPER) None 0 (items_of a) }) 0 (length (all_glyphs a)) a a
 no_words mask a e ready =
     let n = length (all_glyphs a) in
     let xs = items_of a in
@@ -44,4 +45,6 @@ no_words mask a e ready =
     let less : n - 0 ≡ n = omega arith in
     let whole : slice_range xs 0 n ≡ xs = ap (λ k. take k xs) less ∙ take_all n xs (omega (arith, m)) in
     let same : slice_range xs 0 n ≡ words_begun (is_reordered INDIC_SHAPER) mask None xs = whole ∙ sym (words_same (is_reordered INDIC_SHAPER) None xs) ∙ ap (λ k. words_begun (is_reordered INDIC_SHAPER) k None xs) (sym e) in
-    subst (λ ys. IsRewritten (eventless_arrangement ys) 0 n a a) same (rewritten_same 0 n a (omega arith) ready)
+    let kept = subst (λ ys. IsRewritten (eventless_arrangement ys) 0 n a a) same (rewritten_same 0 n a (omega arith) ready) in
+    let none : (mask == 0) ≡ true = ap (λ k. k == 0) e in
+    subst (λ (t : Bool). IsRewritten (record { items = words_begun (is_reordered INDIC_SHAPER) mask None xs; events = if t then [] else word_events (is_reordered INDIC_SHAPER) None 0 xs }) 0 n a a) (sym none) kept

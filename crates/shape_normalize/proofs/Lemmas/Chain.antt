@@ -4,7 +4,7 @@ use Rattle.std.proofs.lemmas.List.{append-nil, map-append, length-map, length-ap
 use Rattle.buffer_glyphs.specs.declared.cause.ShapeCause.{ShapeCause}
 use Rattle.buffer_glyphs.specs.Items.{Item, item_of, strip}
 use Rattle.buffer_glyphs.specs.Origins.{origins}
-use Rattle.buffer_glyphs.specs.Events.{Event, Merge, MergeGrapheme, Replace, Circle, Delete, Move, Arrange, Sort, Reverse, Break, Concat, Tatweel, Spread, Reset, origins_after}
+use Rattle.buffer_glyphs.specs.Events.{Event, Merge, MergeGrapheme, Replace, Circle, Delete, Move, Arrange, Sort, Reverse, Break, Concat, Tatweel, StrictBreak, Spread, Reset, origins_after}
 use Rattle.buffer_glyphs.specs.Lemmas.Origins.{origins_after_both}
 use Rattle.buffer_core.specs.Sides.{Sides, all_glyphs, flag_requests_of}
 use Rattle.buffer_glyphs.specs.Rewriting.{Arrangement, eventless_arrangement, shifted_event, beside, in_turn}
@@ -29,6 +29,7 @@ shifted_none Reverse = refl
 shifted_none (Break from to) = rw (none_further from, none_further to) refl
 shifted_none (Concat from to) = rw (none_further from, none_further to) refl
 shifted_none (Tatweel from to) = rw (none_further from, none_further to) refl
+shifted_none (StrictBreak from to) = rw (none_further from, none_further to) refl
 shifted_none Spread = refl
 shifted_none Reset = refl
 
@@ -45,6 +46,7 @@ shifted_twice m n Reverse = refl
 shifted_twice m n (Break from to) = rw (further m n from, further m n to) refl
 shifted_twice m n (Concat from to) = rw (further m n from, further m n to) refl
 shifted_twice m n (Tatweel from to) = rw (further m n from, further m n to) refl
+shifted_twice m n (StrictBreak from to) = rw (further m n from, further m n to) refl
 shifted_twice m n Spread = refl
 shifted_twice m n Reset = refl
 

@@ -79,7 +79,7 @@ pub fn deletes(alloc: Global, row: &str, has_known_order: bool) -> Result<bool, 
     let known = has_known_order && seen;
     let level = BufferClusterLevel::MonotoneGraphemes;
     let goes = |info: &hb_glyph_info_t| info.glyph_id == 0;
-    let (kept, marked) = delete_within(&mut glyphs, &mut positions, level, known, goes);
+    let (kept, marked) = delete_within(&mut glyphs, &mut positions, level, known, false, goes);
     glyphs.truncate(kept);
     positions.truncate(kept);
     Ok(are(&glyphs, part(row, 1)) && have_advances(&positions, part(row, 2)) && !marked)
@@ -92,6 +92,7 @@ pub fn spreads(alloc: Global, row: &str) -> Result<bool, AllocError> {
     let asked = AskedFlags {
         concat: is_so(row, 0),
         tatweel: is_so(row, 1),
+        breaks: false,
     };
     spread_glyph_flags(&mut glyphs, asked);
     Ok(are(&glyphs, part(row, 3)))

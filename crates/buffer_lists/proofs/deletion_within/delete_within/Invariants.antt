@@ -8,5 +8,5 @@ abbrev pub invariant-loop-at : goal.invariant-loop-at
 invariant-loop-at g l = record {
   placed : length l.positions ≡ length l.glyphs;
   sound : IsWalk l.in_order l.at l.walk l.glyphs;
-  rest : (goes : Glyph → Bool) → AnswersAs g.F.Fn l.filter goes → many_steps l.level goes (length l.glyphs - l.at) (walk_at l.at l.walk l.glyphs l.positions) ≡ whole_walk l.level goes l.fn.glyphs l.fn.positions;
+  rest : (goes : Glyph → Bool) → AnswersAs g.F.Fn l.filter goes → many_steps l.breaks l.level goes (length l.glyphs - l.at) (walk_at l.at l.walk l.glyphs l.positions) ≡ whole_walk l.breaks l.level goes l.fn.glyphs l.fn.positions;
 }

@@ -1,7 +1,7 @@
 use Rattle.std.proofs.Common.{◌≡◌, ◌≤◌, ◌-◌, ◌++◌, List, arith, ap, length, subst, sym, ◌∙◌, take, drop}
 use Rattle.std.specs.Prelude.{slice_range}
 use Rattle.buffer_glyphs.specs.declared.info.hb_glyph_info_t.{hb_glyph_info_t}
-use Rattle.buffer_glyphs.specs.Items.{Item, strip}
+use Rattle.buffer_glyphs.specs.Items.{Item}
 use Rattle.buffer_core.specs.Sides.{Sides, all_glyphs, items_of}
 use Rattle.buffer_core.specs.Lending.{with_refilled}
 use Rattle.buffer_stages.specs.Lemmas.Arranged.{arranged_order, arranged_rewrites}

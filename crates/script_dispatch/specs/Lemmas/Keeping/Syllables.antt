@@ -1,22 +1,24 @@
 -- The events of syllables' bytes and features.
-use Rattle.std.proofs.Common.{ℕ, ◌≡◌, ◌≤◌, ◌+◌, List, [], ◌∷◌, length, map, Option, None, Some, Ok, arith, subst}
+use Rattle.std.proofs.Common.{ℕ, ◌≡◌, ◌≤◌, ◌+◌, ◌==◌, ◌&&◌, Bool, true, false, if◌then◌else◌, List, [], ◌∷◌, ◌++◌, length, map, Option, None, Some, Ok, arith, subst}
 use Rattle.std.specs.List.{list_all}
 use Rattle.std.proofs.lemmas.List.{length-map}
 use Rattle.buffer_glyphs.specs.declared.level.BufferClusterLevel.{BufferClusterLevel}
 use Rattle.buffer_glyphs.specs.declared.cause.ShapeCause.TheVariants.{UnknownSyllableKind}
 use Rattle.buffer_glyphs.specs.Items.{Item}
+use Rattle.buffer_glyphs.specs.Events.{Event}
+use Rattle.buffer_parts.specs.Plainly.{AreSteady}
 use Rattle.buffer_core.specs.Readings.{Read, View}
 use Rattle.script_categories.specs.declared.shaper.hb_ot_script_shaper_t.{hb_ot_script_shaper_t}
 use Rattle.script_categories.specs.declared.shaper.hb_ot_script_shaper_t.TheVariants.{UNIVERSAL_SHAPER}
 use Rattle.buffer_stages.specs.Bytes.{syllable_byte}
 use Rattle.buffer_stages.specs.Cuts.{Syllable, syllables}
-use Rattle.buffer_stages.specs.Rewriting.{within}
+use Rattle.buffer_stages.specs.Rewriting.{in_syllables, within}
 use Rattle.buffer_stages.specs.Parts.{items_with_features}
 use Rattle.buffer_stages.specs.SyllableBuffers.{with_rule}
 use Rattle.buffer_stages.specs.SyllableLaws.{IsPermuted}
 use Rattle.script_syllabic.specs.Bytes.{bytes_of, bytes_set, is_known, itself, one_syllable, syllables_set, text_syllables}
 use Rattle.script_syllabic.specs.declared.forms.FormMasks.{FormMasks}
-use Rattle.script_syllabic.specs.Features.{pref_recorded, reph_size, rphf_masked, rphf_recorded, topography}
+use Rattle.script_syllabic.specs.Features.{all_forms, connects, pref_recorded, reph_size, rphf_masked, rphf_recorded, seam_event, seam_events, topography, topography_events}
 use Rattle.script_syllabic.specs.Spans.{categories_counted, index_or_end, counted_index, counted_indices_from, universal_set}
 use Rattle.script_syllabic.proofs.Counting.{indices_rise}
 use Rattle.script_syllabic.proofs.QuietRules.{bytes_permute, pref_recorded_permutes, rphf_permutes, rphf_recorded_permutes, topography_permutes}
@@ -55,9 +57,20 @@ universal_set_kept span_of after v r level e =
     bytes_kept UNIVERSAL_SHAPER (counted_index xs) (syllables (span_of UNIVERSAL_SHAPER cs) (length cs)) v r level
     (bytes_permute (span_of UNIVERSAL_SHAPER cs) (counted_index xs) (length cs) (after UNIVERSAL_SHAPER cs) rises (length cs) 0 0 xs) e
 
+seam_steady : (b : Bool) (at : ℕ) (es : List Event) → AreSteady es → AreSteady (seam_event b at ++ es)
+seam_steady true at es h = h
+seam_steady false at es h = h
+
+seams_steady : (before : Bool) (at : ℕ) (ss : List (List Item)) → AreSteady (seam_events before at ss)
+seams_steady before at [] = tt
+seams_steady before at (s ∷ ss) = seam_steady (before && connects s) at (seam_events (connects s) (at + length s) ss) (seams_steady (connects s) (at + length s) ss)
+
+topography_steady : (masks : FormMasks) (ss : List (List Item)) → AreSteady (topography_events masks ss)
+topography_steady masks ss = elim (all_forms masks == 0) as (λ t. AreSteady (if t then [] else seam_events false 0 ss)) [ true ↦ tt | false ↦ seams_steady false 0 ss ]
+
 forms_kept : (forms : Option FormMasks) → KeepsPlainly (forms_set forms)
 forms_kept None = same_plainly
-forms_kept (Some masks) = rule_plainly (topography masks) (λ ys. tt) (topography_permutes masks)
+forms_kept (Some masks) = rule_plainly (topography masks) (λ ys. topography_steady masks (in_syllables ys)) (topography_permutes masks)
 
 universal_kept : (span_of : Spans) (rphf : ℕ) (forms : Option FormMasks) → EndAfterStart span_of → KeepsPlainly (universal_syllables_set span_of rphf forms)
 universal_kept span_of rphf forms after =

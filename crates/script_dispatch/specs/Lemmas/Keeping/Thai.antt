@@ -5,7 +5,7 @@ use Rattle.std.proofs.lemmas.List.{length-append, take-append-drop}
 use Rattle.buffer_glyphs.specs.declared.cause.ShapeCause.TheVariants.{TooLong}
 use Rattle.buffer_glyphs.specs.Items.{Item}
 use Rattle.buffer_glyphs.specs.Levels.{InOutput}
-use Rattle.buffer_glyphs.specs.Events.{MergeGrapheme, Move, Replace}
+use Rattle.buffer_glyphs.specs.Events.{MergeGrapheme, Move, Replace, StrictBreak}
 use Rattle.buffer_stages.specs.Moves.{order_of_move}
 use Rattle.buffer_parts.specs.Plainly.{ArePlainlyKept, AreSteady}
 use Rattle.buffer_parts.specs.Lemmas.Plainly.{both_steady, plainly_in_turn, replacement_kept, steady_kept}
@@ -18,7 +18,7 @@ use Rattle.script_thai.specs.ThaiVowel.{count_above, split_events, events_of_cha
 use Rattle.script_syllabic.specs.Graphemes.{merge_of, merges_by, with_graphemes_merged}
 
 merge_steady : (at n : ℕ) → AreSteady (merge_of at n)
-merge_steady at n = elim (n == 0) as (λ t. AreSteady (if t then [] else MergeGrapheme at (at + n) ∷ [])) [ true ↦ tt | false ↦ tt ]
+merge_steady at n = elim (n == 0) as (λ t. AreSteady (if t then [] else MergeGrapheme at (at + n) ∷ StrictBreak at (at + n) ∷ [])) [ true ↦ tt | false ↦ tt ]
 
 merges_steady : (rule : List Item → ℕ) (at : ℕ) (xs : List Item) → AreSteady (merges_by rule at xs)
 merges_steady rule at [] = tt

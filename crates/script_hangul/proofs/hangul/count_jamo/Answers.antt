@@ -5,8 +5,8 @@ use Rattle.script_hangul.specs.Hangul.{character_at, count_apart}
 use Rattle.script_hangul.proofs.Merged.{count_fits}
 use Rattle.script_hangul.proofs.hangul.count_jamo.Goals as goal
 
-pub returns-in-Some-clause-within : goal.returns-in-Some-clause-within
-returns-in-Some-clause-within c =
+pub returns-else-not-begins_syllable-clause-within : goal.returns-else-not-begins_syllable-clause-within
+returns-else-not-begins_syllable-clause-within c =
     let gs = c.args.glyphs.now in
     let font = c.args.face.now in
     let u = c.in-Some.u in

@@ -17,7 +17,7 @@ closed : (c : goal.After-self-1) → c.self.inside.have_output ≡ false
 closed c = rw (← c.self.view_is) at c.requires
 
 abbrev asks : goal.After-self-1 → Asks
-asks c = record { concat = c.asks_concat.result; tatweel = c.contains.result }
+asks c = record { concat = c.asks_concat.result; tatweel = c.contains.result; breaks = c.asks_breaks.result }
 
 -- the glyphs of the vector
 put : (c : goal.After-self-1) → (with_items c.self.inside.info c.spread_glyph_flags.new.glyphs).items ≡ c.spread_glyph_flags.new.glyphs
@@ -45,7 +45,7 @@ pub returns-clause-origins : goal.returns-clause-origins
 returns-clause-origins c =
     let b = c.self.inside in
     let tatweel = c.contains.ensures tt ∙ ap (λ (s : Sides). bit_and s.flags.0 128 == 128) c.self.view_is in
-    spread_origins b (with_items b.info c.spread_glyph_flags.new.glyphs) c.args.self.now (asks c) c.self.view_is (closed c) (asks_are c.args.self.now c.asks_concat.result c.contains.result c.asks_concat.ensures tatweel) (spread c)
+    spread_origins b (with_items b.info c.spread_glyph_flags.new.glyphs) c.args.self.now (asks c) c.self.view_is (closed c) (asks_are c.args.self.now c.asks_concat.result c.contains.result c.asks_breaks.result c.asks_concat.ensures tatweel c.asks_breaks.ensures) (spread c)
 
 pub invariant_of-self : goal.invariant_of-self
 invariant_of-self c = sound_same c.self.inside _ c.self.invariant (ap clusters (put c) ∙ clusters_spread (asks c) c.self.inside.info.items c.spread_glyph_flags.new.glyphs (rw c.deref_mut.ensures.value at c.spread_glyph_flags.ensures.origins))

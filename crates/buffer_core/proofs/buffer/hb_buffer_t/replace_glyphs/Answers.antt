@@ -1,7 +1,7 @@
 use Rattle.std.proofs.Common.{◌≡◌, true, false, rules, arith, ◌∷◌, [], length, ap, sym, ◌∙◌}
 use Rattle.buffer_glyphs.specs.Events.{Replace}
 use Rattle.buffer_core.specs.Sides.{items_of, origins_by, origins_of}
-use Rattle.buffer_core.proofs.MergedOrigins.{replaced_origins}
+use Rattle.buffer_core.proofs.HandedOn.{replaced_origins}
 use Rattle.buffer_core.proofs.Replaced.{replaced_items}
 use Rattle.buffer_core.proofs.Stays.{has_room, replaced_stays}
 use Rattle.buffer_core.proofs.buffer.hb_buffer_t.replace_glyphs.Goals as goal

@@ -4,6 +4,7 @@ use Rattle.std.proofs.lemmas.Grind.{common_steps}
 use Rattle.std.proofs.lemmas.List.{length-take-le}
 use Rattle.buffer_core.specs.Inside.{IsSound}
 use Rattle.buffer_core.specs.Merging.{with_has_glyph_flags, with_replaced}
+use Rattle.buffer_core.specs.Sides.{requests_breaks}
 use Rattle.buffer_core.proofs.Open.{end_of_replaced, front_long, front_within, has_left, moved_on, moved_view, replaced_view, settled_open, sound_moved, sound_over}
 use Rattle.buffer_core.proofs.Room.{more_ahead, within}
 use Rattle.buffer_core.proofs.Slices.{all_put}
@@ -42,7 +43,7 @@ invariant_of-self-2 c =
     let wide : length (take end info.items) ≡ end = length-take-le end info.items (omega (arith, long, done.ensures.end, rest)) in
     let some : length (take b.out_len b.info.items ++ drop b.idx b.info.items) ≢ 0 = rw (← c.self.view_is, open_now) at c.requires.some in
     let some_moved : length (take m.out_len m.info.items ++ drop m.idx m.info.items) ≢ 0 = rw (room.output, room.input) some in
-    let past = sym wide ∙ ap length output ∙ end_of_replaced b.cluster_level taken numbers (take m.out_len m.info.items) (drop m.idx m.info.items) some_moved in
+    let past = sym wide ∙ ap length output ∙ end_of_replaced c.asks_breaks-breaks.result b.cluster_level taken numbers (take m.out_len m.info.items) (drop m.idx m.info.items) some_moved in
     let fits = within (length (take b.out_len b.info.items) + length numbers) b.max_len (rw (← c.self.view_is, open_now) at c.requires.room) in
     let front = front_long m s open_now in
     let front_before = front_long b c.self.invariant open_now in
@@ -75,8 +76,8 @@ returns-clause-replaced c =
     let wide : length (take end info.items) ≡ end = length-take-le end info.items (omega (arith, long, done.ensures.end, rest)) in
     let some : length (take b.out_len b.info.items ++ drop b.idx b.info.items) ≢ 0 = rw (← c.self.view_is, open_now) at c.requires.some in
     let some_moved : length (take m.out_len m.info.items ++ drop m.idx m.info.items) ≢ 0 = rw (room.output, room.input) some in
-    let past : end ≡ b.out_len + length numbers = sym wide ∙ ap length output ∙ end_of_replaced b.cluster_level taken numbers (take m.out_len m.info.items) (drop m.idx m.info.items) some_moved ∙ ap (λ k. k + length numbers) (front_long m s open_now) in
+    let past : end ≡ b.out_len + length numbers = sym wide ∙ ap length output ∙ end_of_replaced c.asks_breaks-breaks.result b.cluster_level taken numbers (take m.out_len m.info.items) (drop m.idx m.info.items) some_moved ∙ ap (λ k. k + length numbers) (front_long m s open_now) in
     let moved : nat_lt 0 c.in_ok-moved.moved ≡ nat_lt b.idx (b.out_len + (length numbers - taken)) = rw c.saturating_sub-more.ensures at room.moved in
     let left = c.has_left-self-inside.ensures ∙ has_left b.is_apart b.gap b.idx c.in_ok-moved.moved (length numbers) taken b.out_len end c.self.invariant.unopened (front_within b c.self.invariant open_now) moved past in
     let any = c.add_has_glyph_flags-self-inside.ensures ∙ ap (λ f. with_has_glyph_flags f b.scratch_flags) (rw c.deref_mut.ensures.value at done.ensures.any) in
-    replaced_view m info (record { known = done.result.1; lent = c.settle.new.self.lent }) end taken _ numbers b.is_apart open_now s.opened left wide input output any ∙ ap (with_replaced taken numbers) (moved_view b c.make_room.new.glyphs c.settle.new.self c.in_ok-moved.moved c.has_left-self-inside.result open_now room.output room.input ∙ c.self.view_is)
+    replaced_view c.asks_breaks-breaks.result m info (record { known = done.result.1; lent = c.settle.new.self.lent }) end taken _ numbers b.is_apart (c.asks_breaks-breaks.ensures ∙ ap requests_breaks (sym c.self.view_is)) open_now s.opened left wide input output any ∙ ap (with_replaced taken numbers) (moved_view b c.make_room.new.glyphs c.settle.new.self c.in_ok-moved.moved c.has_left-self-inside.result open_now room.output room.input ∙ c.self.view_is)
