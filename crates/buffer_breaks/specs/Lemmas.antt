@@ -1,0 +1,23 @@
+-- Lemmas for the laws.
+pub mod Any
+pub mod Flags
+pub mod Handed
+pub mod Merged
+pub mod Spread
+pub mod Deleted
+pub mod Events
+pub mod Bound
+pub mod Sorts
+pub mod Crossing
+pub mod Clear
+pub mod Shown
+pub mod Concat
+pub mod Concats
+pub mod Apart
+pub mod First
+pub mod Last
+pub mod Divided
+pub mod Orders
+pub mod SortOrders
+pub mod Division
+pub mod Beside

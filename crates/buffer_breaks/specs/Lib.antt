@@ -1,0 +1,14 @@
+pub mod Lemmas
+pub mod Unsafe
+pub mod Lossless
+pub mod Bound
+pub mod Laws
+pub mod OrderLaws
+pub mod Concat
+pub mod Sides
+pub mod SideLaws
+pub mod Fragments
+pub mod Divisible
+pub mod Beside
+pub mod FragmentLaws
+pub mod SortLaws
