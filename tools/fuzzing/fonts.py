@@ -11,6 +11,8 @@ FEATURES = """
     curs dist kern liga rclt vert stch isol fina fin2 fin3 medi med2 init mset ljmo vjmo tjmo pref blwf abvf pstf cfar
     pres abvs blws psts rphf nukt akhn rkrf half vatu cjct haln salt ss01
 """.split()
+# Those of them that are on for each text, so that most lookups of a font that has no others are applied.
+USUAL = ["ccmp", "locl", "rlig", "liga", "clig", "calt", "kern", "dist", "curs", "mark", "mkmk", "abvm", "blwm"]
 LANGUAGES = ["DEU ", "ROM ", "TRK ", "URD ", "MAR ", "dflt"]
 FLAGS = [0, 0, 0, 0, 1, 2, 4, 8, 9, 14, 16, 24, 0x100, 0x200, 0xFF00, 0xFFFF]
 WIDTHS = [0, 1, 250, 500, 600, 1000, 65535]
@@ -29,6 +31,7 @@ class FontDraw:
         self.alphabet = alphabet
         count = draw.choice([2, 4, 8, 16, 40])
         self.glyphs = [*range(1, count + 1), *draw.sample([0, 255, 256, 65534, 65535], draw.choice([0, 0, 0, 1, 2]))]
+        self.tags = draw.choice([FEATURES, FEATURES, USUAL])
         self.sets = [self.some(0, 6) for _ in range(draw.choice([0, 0, 1, 3]))]
 
     def chance(self, part: float) -> bool:
@@ -100,7 +103,7 @@ class FontDraw:
         """A table with scripts, features and lookups; contexts name lookups of the whole table."""
         count = self.draw.choice([1, 2, 3, 5, 9])
         lookups = [self.lookup(self.draw.choice(types), types, count) for _ in range(count)]
-        tags = [self.draw.choice(FEATURES) for _ in range(self.draw.choice([1, 2, 4, 8]))]
+        tags = [self.draw.choice(self.tags) for _ in range(self.draw.choice([1, 2, 4, 8]))]
         features = [[tag, self.indices(count)] for tag in tags]
         return {"scripts": self.scripts(len(features)), "features": features, "lookups": lookups}
 

@@ -100,9 +100,12 @@ def line_of(seed: int, case: TrialCase, promise: str) -> str:
 
 @dataclass(frozen=True)
 class BlockRan:
-    """What came of a block: how many of its cases were tested, and what to print of the wrong ones."""
+    """What came of a block: how many of its cases were tested, how many breaks were tried, how many of them
+    are unsure, and what to print of the wrong ones."""
 
     tested: int
+    breaks: int
+    unsure: int
     wrong: list[str]
 
 
@@ -113,7 +116,8 @@ def run_block(program: Path, seed: int, number: int) -> BlockRan:
     if ran.ending is not None:
         return ended_block(program, seed, block, ran.ending)
     wrong = [line_of(seed, block.case(at), promise) for at, promise in wrong_cases(ran.lines)]
-    return BlockRan(int(ran.lines[-1].split()[2]), wrong)
+    counts = ran.lines[-1].split()
+    return BlockRan(int(counts[2]), int(counts[4]), int(counts[6]), wrong)
 
 
 def ended_block(program: Path, seed: int, block: Block, ending: str) -> BlockRan:
@@ -122,8 +126,8 @@ def ended_block(program: Path, seed: int, block: Block, ending: str) -> BlockRan
         case = block.case(at)
         found = run_stream(program, case.stream()).ending
         if found is not None:
-            return BlockRan(at, [line_of(seed, case, found)])
-    return BlockRan(0, [f"wrong: {ending}: seed {seed}, cases from {block.number * CASES} on, and none of them alone"])
+            return BlockRan(at, 0, 0, [line_of(seed, case, found)])
+    return BlockRan(0, 0, 0, [f"wrong: {ending}: seed {seed}, cases from {block.number * CASES} on, and none of them alone"])
 
 
 def run_many(options: argparse.Namespace) -> int:
@@ -132,25 +136,27 @@ def run_many(options: argparse.Namespace) -> int:
     first = options.first // CASES
     numbers = range(first, first + -(-wanted // CASES))
     start = told = time.monotonic()
-    blocks = tested = wrong = 0
+    blocks = tested = breaks = unsure = wrong = 0
     work = functools.partial(run_block, options.program, options.seed)
     with multiprocessing.Pool(options.jobs, signal.signal, (signal.SIGINT, signal.SIG_IGN)) as pool:
         try:
             for ran in pool.imap_unordered(work, numbers):
                 blocks, tested, wrong = blocks + 1, tested + ran.tested, wrong + len(ran.wrong)
+                breaks, unsure = breaks + ran.breaks, unsure + ran.unsure
                 emit("".join(f"{line}\n" for line in ran.wrong))
                 if time.monotonic() >= told + TOLD:
                     told = time.monotonic()
-                    tell(NAME, summary(options.seed, blocks, tested, wrong, told - start))
+                    tell(NAME, summary(options.seed, blocks, (tested, breaks, unsure, wrong), told - start))
         except KeyboardInterrupt:
             # What was found so far is told.
             pass
-    emit(summary(options.seed, blocks, tested, wrong, time.monotonic() - start) + "\n")
+    emit(summary(options.seed, blocks, (tested, breaks, unsure, wrong), time.monotonic() - start) + "\n")
     return 1 if wrong else 0
 
 
-def summary(seed: int, blocks: int, tested: int, wrong: int, seconds: float) -> str:
+def summary(seed: int, blocks: int, counts: tuple[int, int, int, int], seconds: float) -> str:
+    tested, breaks, unsure, wrong = counts
     rate = tested / max(seconds, 0.001)
     passed = blocks * CASES - tested
     over = f", {passed:,} passed over" if passed else ""
-    return f"seed {seed}: {tested:,} cases in {blocks * FONTS:,} fonts, {rate:.0f} a second: {wrong:,} wrong{over}"
+    return f"seed {seed}: {tested:,} cases in {blocks * FONTS:,} fonts, {breaks:,} breaks ({unsure:,} unsure), {rate:.0f} a second: {wrong:,} wrong{over}"

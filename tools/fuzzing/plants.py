@@ -32,8 +32,8 @@ PLANTS = {
     # The last glyph that a ligature replaces keeps its cluster from the others.
     "merge": Plant(
         "crates/buffer_lists/src/replacement.rt",
-        "merge_input(glyphs, front, from, 0, count, level, known);\n    let end",
-        "merge_input(glyphs, front, from, 0, count.saturating_sub(1), level, known);\n    let end",
+        "merge_input(glyphs, front, from, 0, count, level, known);\n    let end = put_handed",
+        "merge_input(glyphs, front, from, 0, count.saturating_sub(1), level, known);\n    let end = put_handed",
     ),
     # A glyph after another one of its cluster keeps flags of its own.
     "flag": Plant(
@@ -59,6 +59,12 @@ PLANTS = {
         "crates/layout_gsub/src/single.rt",
         "Some(glyph) => replace_glyph(ctx, glyph, buffer),",
         "Some(glyph) => replace_glyph(ctx, glyph.saturating_add(1), buffer),",
+    ),
+    # Glyphs that leave the list don't hand on that they are unsafe to break.
+    "break": Plant(
+        "crates/buffer_lists/src/handing.rt",
+        "Some(cluster) => unsafe_flags(deleted, cluster),",
+        "Some(cluster) => unsafe_flags(deleted, cluster) & 6,",
     ),
 }
 

@@ -24,6 +24,8 @@ Row = list[Any]
 CLASSES = [0, 1, 7, 9, 10, 14, 17, 18, 22, 26, 84, 91, 103, 122, 129, 130, 200, 202, 214, 216, 220, 222, 228, 230, 232, 233]
 CLASSES += [234, 240, 254, 255]
 LAWFUL_TOGETHER = ("splits", "pairs", "classes")
+# So many of the random tables with lawful rows keep the premises of safe breaks.
+KEEPING = 0.5
 
 
 @cache
@@ -82,6 +84,7 @@ def cut_tables(alphabet: Alphabet) -> dict[str, Any]:
 def random_tables(draw: Random, alphabet: Alphabet, lawful: float) -> dict[str, Any]:
     """Rows of every key over the alphabet; some keys are missing."""
     characters = alphabet.characters
+    is_lawful = draw.random() < lawful
 
     def rows(part: float, rest: Callable[[], Row]) -> list[Row]:
         return [[u, *rest()] for u in characters if draw.random() < part]
@@ -90,7 +93,7 @@ def random_tables(draw: Random, alphabet: Alphabet, lawful: float) -> dict[str, 
         return draw.choice(characters)
 
     value = {
-        **(lawful_rows(draw, alphabet) if draw.random() < lawful else any_rows(draw, alphabet)),
+        **(lawful_rows(draw, alphabet) if is_lawful else any_rows(draw, alphabet)),
         "mirrored": rows(0.2, lambda: [letter()]),
         "vertical": rows(0.2, lambda: [letter()]),
         "joining": rows(0.7, lambda: [draw.choice(JOINING_TYPES)]),
@@ -100,7 +103,43 @@ def random_tables(draw: Random, alphabet: Alphabet, lawful: float) -> dict[str, 
         "pictographic": [[u, u] for u in characters if draw.random() < 0.2],
         "languages": [["de", ["DEU "]], ["ro", ["ROM ", "MOL "]], ["und", []]],
     }
-    return {key: part for key, part in value.items() if key in LAWFUL_TOGETHER or draw.random() < 0.8}
+    value = {key: part for key, part in value.items() if key in LAWFUL_TOGETHER or draw.random() < 0.8}
+    if is_lawful and draw.random() < KEEPING:
+        keep_premises(value)
+    return value
+
+
+def keep_premises(value: dict[str, Any]) -> None:
+    """Changes random tables with lawful rows so that most keep the premises of safe breaks (docs/TOOLS.md): marks are
+    transparent, a letter has the joining type of its first half, Hangul has none, and only counterparts that are alike
+    and joiners that continue a grapheme are left."""
+    types = {row[0]: row[1] for row in value.get("joining", []) if not is_hangul(row[0])}
+    types |= {row[0]: "T" for row in [*value["classes"], *([row[2]] for row in value["splits"] if row[2])]}
+
+    def type_of(character: int) -> str:
+        return types.get(character, "T" if unicodedata.category(chr(character)) in ("Mn", "Me", "Cf") else "U")
+
+    for character, first, _ in value["splits"]:
+        types[character] = types[first] = type_of(first)
+
+    def is_alike(row: Row) -> bool:
+        return type_of(row[0]) == type_of(row[1]) and continues(row[0]) == continues(row[1])
+
+    for key in filter(value.__contains__, ("mirrored", "vertical")):
+        value[key] = list(filter(is_alike, value[key]))
+        types |= {character: type_of(character) for row in value[key] for character in row}
+    value["joining"] = [list(row) for row in sorted(types.items())]
+    if "universal" in value:
+        value["universal"] = [row for row in value["universal"] if row[1] != "CGJ" or continues(row[0])]
+
+
+def is_hangul(character: int) -> bool:
+    return 0x1100 <= character < 0x1200 or 0xAC00 <= character < 0xD7A4
+
+
+def continues(character: int) -> bool:
+    """Whether a character continues a grapheme, as a mark or ZERO WIDTH JOINER."""
+    return is_mark(character) or character == 0x200D
 
 
 def is_mark(character: int) -> bool:

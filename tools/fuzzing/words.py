@@ -7,7 +7,7 @@ from fuzzing.fonts import FEATURES
 
 SWITCHES = """
     --bot --eot --preserve-default-ignorables --remove-default-ignorables --no-dotted-circle --unsafe-to-concat
-    --safe-to-insert-tatweel --no-glyph-names --no-clusters --no-positions --no-advances --show-extents --show-flags
+    --safe-to-insert-tatweel --safe-breaks --no-glyph-names --no-clusters --no-positions --no-advances --show-extents --show-flags
     --slices
 """.split()
 DIRECTIONS = ["ltr", "rtl", "ttb", "btt", "L", "r"]

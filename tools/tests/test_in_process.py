@@ -17,10 +17,10 @@ from fuzzing.streams import CASES, FONTS, SETTINGS, TEXTS, Block, case_of, cut_c
 from sources.crates import ROOT
 
 # A stand-in that says of each case that it is right, of some that they are wrong.
-RIGHT = "n=$(grep -c '^text '); echo $n cases, $n tested, 0 wrong"
+RIGHT = "n=$(grep -c '^text '); echo $n cases, $n tested, 0 breaks, 0 unsure, 0 wrong"
 WRONG = """n=$(grep -c '^text ')
 if [ $n -gt 1 ]; then echo wrong 3 flags; echo wrong 70 levels; else echo wrong 0 flags; fi
-echo $n cases, $n tested, 2 wrong; exit 1"""
+echo $n cases, $n tested, 0 breaks, 0 unsure, 2 wrong; exit 1"""
 
 
 class Streams(unittest.TestCase):
@@ -107,7 +107,7 @@ class Told(unittest.TestCase):
 
     def test_lines_of_a_run(self) -> None:
         """What the program prints of wrong cases."""
-        self.assertEqual(list(wrong_cases(["wrong 3 flags", "4 cases, 4 tested, 1 wrong"])), [(3, "flags")])
+        self.assertEqual(list(wrong_cases(["wrong 3 flags", "4 cases, 4 tested, 9 breaks, 0 unsure, 1 wrong"])), [(3, "flags")])
         self.assertEqual(run_stream(Path("/bin/true"), b""), Ran("status 0", []))
         case = case_of(1, 0)
         self.assertIn("tools/fuzz --in-process --seed=1 --case=0", line_of(1, case, "plan"))
@@ -126,7 +126,7 @@ class Planted(unittest.TestCase):
                 self.assertNotEqual((tree / PLANTS[name].file).read_text(), (ROOT / PLANTS[name].file).read_text())
                 self.assertRaises(ToolFault, plant, tree, name)
 
-    @unittest.skipUnless(os.environ.get("KUSPVELI_LONG"), "compiles shape_trials five times (KUSPVELI_LONG=1)")
+    @unittest.skipUnless(os.environ.get("KUSPVELI_LONG"), "compiles shape_trials six times (KUSPVELI_LONG=1)")
     def test_plants_are_found(self) -> None:
         """Each of them, by the cases of the first seed."""
         for name in PLANTS:

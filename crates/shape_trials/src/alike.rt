@@ -87,7 +87,7 @@ fn are_at_same(left: &GlyphBuffer, right: &GlyphBuffer) -> bool
     are_same_positions(left.glyph_positions(), right.glyph_positions())
 }
 
-fn are_same_positions(left: &[GlyphPosition], right: &[GlyphPosition]) -> bool
+pub(crate) fn are_same_positions(left: &[GlyphPosition], right: &[GlyphPosition]) -> bool
     ensures { IsTrue result ↔ left.now ≡ right.now }
 {
     left == right

@@ -1,14 +1,20 @@
 //! Shapes texts of a stream on standard input, and tests of each answer what the contracts of `shape` promise.
 //!
-//! A line of the stream begins with its kind: `tables` and TABLES as JSON; `font`, the font's number of glyphs and FONT as
-//! JSON; `words` and words of the program hb_shape, whose settings the texts after it have; `text` and a text, which is a
-//! case. A case whose answer breaks a promise is printed as `wrong`, its number in the stream and the promise; the last line
-//! has the counts. The status is 1 where a case is wrong.
+//! A line of the stream begins with its kind: `tables` and TABLES as JSON; `font`, the font's number of glyphs and FONT
+//! as JSON; `words` and words of the program hb_shape, whose settings the texts after it have; `text` and a text, which
+//! is a case; `premises` and any word, at which `kept` or `broken` is printed of the premises of safe breaks on the
+//! tables. A case whose answer breaks a promise is printed as `wrong`, its number in the stream and the promise; one
+//! whose pieces differ at a safe break where a premise is in doubt, as `unsure` and its number. The last line has the
+//! counts. The status is 1 where a case is wrong.
 #![tactic(auto)]
 
 mod alike;
 mod alone;
+mod breaks;
 mod counts;
+mod joined;
+mod pieces;
+mod premises;
 mod promise;
 mod session;
 mod trial;
@@ -26,9 +32,13 @@ fn main(rt: HostRuntime) -> io::Result<ExitCode> {
             let Counts {
                 cases,
                 tested,
+                breaks,
+                unsure,
                 wrong,
             } = counts;
-            println!(rt; "{cases} cases, {tested} tested, {wrong} wrong")?;
+            println!(rt;
+                "{cases} cases, {tested} tested, {breaks} breaks, {unsure} unsure, {wrong} wrong"
+            )?;
             Ok(ExitCode::from(u8::from(wrong > 0)))
         }
         Err(fault) => {
@@ -68,12 +78,23 @@ fn take_line(
     };
     match kind {
         "text" => return test_text(rt, session, counts, rest),
+        "premises" => print_premises(rt, session)?,
         "words" => session.take_words(rest)?,
         "font" => session.take_font(rest)?,
         "tables" => session.take_tables(rest)?,
         _ => return Err(RunFault::Words),
     }
     Ok(counts)
+}
+
+/// Prints whether the tables keep the premises of safe breaks.
+fn print_premises(rt: &HostRuntime, session: &Session) -> Result<(), RunFault> {
+    let word = if session.keeps_premises() {
+        "kept"
+    } else {
+        "broken"
+    };
+    println!(rt; "premises {word}").map_err(|_| RunFault::Write)
 }
 
 /// Tests a text, and prints the promise that an answer breaks; the counts after it.
@@ -84,9 +105,15 @@ fn test_text(
     text: &str,
 ) -> Result<Counts, RunFault> {
     let outcome = session.test(text)?;
-    if let Outcome::Broken(promise) = outcome {
-        let (number, name) = (counts.cases, promise.name());
-        println!(rt; "wrong {number} {name}").map_err(|_| RunFault::Write)?;
+    if let Outcome::Tested(tested) = outcome {
+        if tested.unsure > 0 {
+            let number = counts.cases;
+            println!(rt; "unsure {number}").map_err(|_| RunFault::Write)?;
+        }
+        if let Some(promise) = tested.broken {
+            let (number, name) = (counts.cases, promise.name());
+            println!(rt; "wrong {number} {name}").map_err(|_| RunFault::Write)?;
+        }
     }
     Ok(counts.with(outcome))
 }

@@ -19,6 +19,8 @@ pub(crate) enum Promise {
     Requests,
     /// The same call gives the same answer.
     Again,
+    /// Pieces of a text that is cut at safe breaks have the glyphs of the whole.
+    Breaks,
 }
 
 impl Promise {
@@ -33,6 +35,7 @@ impl Promise {
             Promise::Plan => "plan",
             Promise::Requests => "requests",
             Promise::Again => "again",
+            Promise::Breaks => "breaks",
         }
     }
 }

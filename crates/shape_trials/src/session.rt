@@ -1,5 +1,6 @@
 //! The tables, font and settings of a stream as they stand.
 
+use crate::breaks::keep_premises;
 use crate::counts::Outcome;
 use crate::trial::Trial;
 use shell_readers::fault::RunFault;
@@ -9,12 +10,17 @@ use shell_words::parse_options;
 use std::alloc::Global;
 use std::mem;
 
+/// What the JSON of a font with a lookup of ligatures has.
+const LIGATURE: &str = "\"ligature\"";
+
 /// A font with its tables.
 #[derive(Drop)]
 pub(crate) struct Font {
     pub(crate) input: RunInput,
     /// The font's number of glyphs.
     pub(crate) count: u32,
+    /// Whether the font may make ligatures.
+    pub(crate) has_ligatures: bool,
 }
 
 /// What the texts of the stream are shaped by.
@@ -58,6 +64,14 @@ impl Session {
         Ok(())
     }
 
+    /// Whether the tables stand with a font, and keep the premises of safe breaks.
+    pub(crate) fn keeps_premises(&self) -> bool {
+        match &self.font {
+            Some(font) => keep_premises(&font.input.tables.characters),
+            None => false,
+        }
+    }
+
     /// Tests a text, where lawful tables with a font, and settings, stand before it.
     pub(crate) fn test(&self, text: &str) -> Result<Outcome, RunFault> {
         let (Some(font), Some(options)) = (&self.font, &self.options) else {
@@ -74,7 +88,11 @@ fn read_font(alloc: Global, tables: &str, line: &str) -> Result<Option<Font>, Ru
     };
     let count: u32 = count.parse().map_err(|_| RunFault::Words)?;
     match read_input(alloc, tables.as_bytes(), json.as_bytes()) {
-        Ok(input) => Ok(Some(Font { input, count })),
+        Ok(input) => Ok(Some(Font {
+            input,
+            count,
+            has_ligatures: json.contains(LIGATURE),
+        })),
         Err(RunFault::Unlawful) => Ok(None),
         Err(fault) => Err(fault),
     }
@@ -92,8 +110,5 @@ fn test(alloc: Global, font: &Font, options: &Options, text: &str) -> Result<Out
         options,
         text,
     };
-    match trial.broken_promise()? {
-        Some(promise) => Ok(Outcome::Broken(promise)),
-        None => Ok(Outcome::Kept),
-    }
+    Ok(Outcome::Tested(trial.tested()?))
 }

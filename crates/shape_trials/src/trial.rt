@@ -5,6 +5,8 @@ ghost use Rattle.shape_pipeline.specs.ReadingLaws.{have_no_ranges};
 
 use crate::alike::{Answer, But, agree};
 use crate::alone::{clusters_are_among, flags_are_even, numbers_are_below, slices_join};
+use crate::breaks::try_breaks;
+use crate::counts::Tested;
 use crate::promise::Promise;
 use crate::session::Font;
 use buffer_common::constants::BufferFlags;
@@ -16,7 +18,9 @@ use buffer_tags::language_table::LanguageTable;
 use buffer_wrappers::glyphs::GlyphBuffer;
 use buffer_wrappers::unicode_buffer::UnicodeBuffer;
 use script_categories::SyllableTable;
-use shape_pipeline::{ShapeFault, ShapePlan, hb_shape_data_t, shape, shape_with_plan};
+use shape_pipeline::{
+    ShapeFault, ShapePlan, hb_shape_data_t, nested_lookups_left, shape, shape_with_plan,
+};
 use shell_readers::fault::RunFault;
 use shell_readers::options::Options;
 use std::alloc::Global;
@@ -39,22 +43,37 @@ pub(crate) struct Trial<'a> {
 }
 
 impl<'a> Trial<'a> {
-    /// The first promise that an answer breaks.
-    pub(crate) fn broken_promise(&self) -> Result<Option<Promise>, RunFault> {
+    /// The first promise that an answer breaks, and how many breaks were tried.
+    pub(crate) fn tested(&self) -> Result<Tested, RunFault> {
         let plan = self.plan()?;
+        let mut tested = Tested {
+            broken: self.broken_promise(&plan)?,
+            breaks: 0,
+            unsure: 0,
+        };
+        for (level, is_monotone) in LEVELS {
+            if is_monotone {
+                tested = tested.with_breaks(try_breaks(self, &plan, level)?);
+            }
+        }
+        Ok(tested)
+    }
+
+    /// The first promise that an answer breaks.
+    fn broken_promise(&self, plan: &ShapePlan) -> Result<Option<Promise>, RunFault> {
         let (level, flags) = (self.options.cluster_level, self.options.buffer_flags);
-        let first = self.planned(&plan, level, flags)?;
-        if let Some(promise) = self.broken_at_levels(&plan, &first)? {
+        let first = self.planned(plan, level, flags)?;
+        if let Some(promise) = self.broken_at_levels(plan, &first)? {
             return Ok(Some(promise));
         }
         if !agree(self.alloc, But::Nothing, &first, &self.shaped()?)? {
             return Ok(Some(Promise::Plan));
         }
-        let other = self.planned(&plan, level, turned(flags))?;
+        let other = self.planned(plan, level, turned(flags))?;
         if !agree(self.alloc, But::Flags, &first, &other)? {
             return Ok(Some(Promise::Requests));
         }
-        let again = self.planned(&plan, level, flags)?;
+        let again = self.planned(plan, level, flags)?;
         if !agree(self.alloc, But::Nothing, &first, &again)? {
             return Ok(Some(Promise::Again));
         }
@@ -142,7 +161,32 @@ impl<'a> Trial<'a> {
         flags: BufferFlags,
     ) -> Result<Answer, RunFault> {
         let text = self.buffer(level, flags)?;
+        self.shaped_by(plan, text)
+    }
+
+    /// What a plan makes of a text.
+    pub(crate) fn shaped_by(
+        &self,
+        plan: &ShapePlan,
+        text: UnicodeBuffer,
+    ) -> Result<Answer, RunFault> {
         answer(shape_with_plan(self.alloc, &self.font.input.face, self.data(), plan, text))
+    }
+
+    /// Whether some of the budget of nested lookups is left of a text.
+    pub(crate) fn leaves_budget(&self, text: UnicodeBuffer) -> Result<bool, RunFault> {
+        let left = nested_lookups_left(
+            self.alloc,
+            &self.font.input.face,
+            self.data(),
+            &self.options.features,
+            text,
+        );
+        match left {
+            Ok(left) => Ok(left > 0),
+            Err(ShapeCause::OutOfMemory) => Err(RunFault::OutOfMemory),
+            Err(_) => Ok(false),
+        }
     }
 
     /// What no plan gives.
@@ -175,19 +219,29 @@ impl<'a> Trial<'a> {
         level: BufferClusterLevel,
         flags: BufferFlags,
     ) -> Result<UnicodeBuffer, RunFault> {
-        let mut text = UnicodeBuffer::new(self.alloc);
-        text.set_cluster_level(level);
-        text.set_flags(flags);
+        let mut text = self.empty(level, flags)?;
         text.set_direction(self.options.direction);
         if let Some(script) = self.options.script {
             text.set_script(script);
         }
+        if !text.push_str(self.text)? {
+            return Err(RunFault::Shape(ShapeCause::TooLong));
+        }
+        Ok(text)
+    }
+
+    /// A text without characters in the language, at a level, and with requests for flags.
+    pub(crate) fn empty(
+        &self,
+        level: BufferClusterLevel,
+        flags: BufferFlags,
+    ) -> Result<UnicodeBuffer, RunFault> {
+        let mut text = UnicodeBuffer::new(self.alloc);
+        text.set_cluster_level(level);
+        text.set_flags(flags);
         if let Some(language) = &self.options.language {
             let language = Language::from_str(self.alloc, language.as_str());
             text.set_language(language.map_err(|_| RunFault::OutOfMemory)?);
-        }
-        if !text.push_str(self.text)? {
-            return Err(RunFault::Shape(ShapeCause::TooLong));
         }
         Ok(text)
     }
@@ -199,11 +253,11 @@ fn have_no_ranges(features: &[Feature]) -> bool
     features.iter().all(|feature| feature.is_global())
 }
 
-/// The flags with the requests for UNSAFE_TO_CONCAT and SAFE_TO_INSERT_TATWEEL, each turned.
+/// The flags with the requests for UNSAFE_TO_CONCAT, SAFE_TO_INSERT_TATWEEL and safe breaks, each turned.
 fn turned(flags: BufferFlags) -> BufferFlags
-    ensures { result.0 ≡ bit_xor flags.0 192 }
+    ensures { result.0 ≡ bit_xor flags.0 448 }
 {
-    BufferFlags(flags.0 ^ 192)
+    BufferFlags(flags.0 ^ 448)
 }
 
 /// The answer of a call.

@@ -1,0 +1,159 @@
+"""The command line of breaks."""
+
+import argparse
+import json
+import random
+from collections import Counter
+from concurrent.futures import ProcessPoolExecutor
+from dataclasses import dataclass
+from functools import partial
+from pathlib import Path
+from typing import Any, Callable, Iterator
+
+from beside.fonts_cli import USUAL, fonts_of
+from beside.fonts_texts import scripts_of, words_of
+from beside.fonts_try import WITH_BOXES
+from beside.pages import CLAUSE, text_of
+from beside.sets import SETS, Set
+from building.ready import ready_trials
+from common.faults import ToolFault
+from common.notes import Notes
+from common.parsing import Words
+from fontjson.cli import read_font
+from fuzzing.in_process import run_stream
+from fuzzing.streams import font_line, tables_line, text_line, words_line
+from shaping.cache import cache_folder
+from shaping.cli import tables_file
+
+NAME = "breaks"
+ABOUT = """Shapes lines in each font of some folders with PRODUCE_SAFE_BREAKS, at both monotone levels, cuts each at every
+break that is safe, and compares the glyphs of the pieces with those of the whole, by the program shape_trials. The lines
+are words of bench/beside/words that the font has all characters of, and strings of its letters and marks, the same ones at
+each run; with --pages they are the clauses of the texts of bench/real, each in its font. Printed are the breaks of each
+script that were tried, and each line whose pieces differ: as unsure where it has more than eight characters, so that
+numbers of ligatures may have run out."""
+# Words of a line, and its least and greatest lengths by chance.
+LONGEST = 8
+STRINGS = (2, 12)
+# No word of a page has more characters.
+LONG_WORD = 40
+GLYPHS = 65536
+
+
+@dataclass(frozen=True)
+class Line:
+    """A line with its script."""
+
+    script: str
+    text: str
+
+
+@dataclass(frozen=True)
+class Tried:
+    """What came of one font: breaks by script, and the lines whose pieces differ with the name for it."""
+
+    font: str
+    breaks: Counter[str]
+    differing: tuple[tuple[str, str], ...] = ()
+    refused: str = ""
+
+
+def parser() -> argparse.ArgumentParser:
+    words = Words(prog=NAME, description=ABOUT)
+    words.add_argument("folders", nargs="*", type=Path, default=[USUAL], metavar="FOLDER", help=f"or a font ({USUAL})")
+    words.add_argument("--every", type=int, default=1, metavar="N", help="each Nth font alone (1)")
+    words.add_argument("--pages", action="store_true", help="clauses of the texts of bench/real, in place of the folders")
+    words.add_argument("--lines", type=int, default=200, metavar="N", help="lines for each font (200)")
+    words.add_argument("--jobs", type=int, default=1, metavar="N", help="processes that try fonts (1)")
+    words.add_argument("--seed", type=int, default=1, metavar="N", help="which lines are drawn (1)")
+    return words
+
+
+def main(given: list[str]) -> int:
+    """Cuts; its status is 1 where the pieces of a line differ for no known reason."""
+    options = parser().parse_args(given)
+    program = ready_trials(NAME)
+    tried: list[Tried] = []
+    with cache_folder() as kept, ProcessPoolExecutor(options.jobs) as pool:
+        tables = tables_file(kept).read_bytes().replace(b"\n", b" ")
+        for each in pool.map(*works(program, tables, options)):
+            tried.append(each)
+            told(each)
+    total = sum((each.breaks for each in tried), Counter[str]())
+    for script, count in sorted(total.items()):
+        print(f"{script} {count:,}")
+    found = Counter(name for each in tried for name, _ in each.differing)
+    differing = f"lines that differ: {found['wrong']:,}, unsure: {found['unsure']:,}"
+    print(f"{sum(total.values()):,} breaks in {len({each.font for each in tried}):,} fonts; {differing}")
+    return 1 if found["wrong"] else 0
+
+
+def works(program: Path, tables: bytes, options: argparse.Namespace) -> tuple[Callable[[Any], Tried], list[Any]]:
+    """What is called, and with what: sets of bench/real, or fonts."""
+    if options.pages:
+        return partial(try_set, program, tables, options.lines), list(SETS[:: options.every])
+    return partial(try_font, program, tables, options.lines, options.seed), fonts_of(options.folders)[:: options.every]
+
+
+def told(tried: Tried) -> None:
+    """Prints what came of a font that isn't alike."""
+    if tried.refused:
+        print(f"refused: {tried.refused}", flush=True)
+    for name, text in tried.differing:
+        print(f"{name}: {tried.font}: {' '.join(f'U+{ord(each):04X}' for each in text)}", flush=True)
+
+
+def try_set(program: Path, tables: bytes, count: int, chosen: Set) -> Tried:
+    """Cuts the clauses of a set's text in its font."""
+    if not chosen.font.is_file():
+        return Tried(str(chosen.font), Counter(), refused=f"apt-get install {chosen.package}: {chosen.font} is not there")
+    lines = [Line(chosen.name, clause) for clause in clauses_of(chosen, count)]
+    return tried_lines(program, tables, chosen.font, [f"--language={chosen.language}"], lambda characters: lines)
+
+
+def clauses_of(chosen: Set, count: int) -> list[str]:
+    """The first clauses of a set's text."""
+    clauses = text_of(chosen, count * CLAUSE * LONG_WORD).split(chosen.stop)
+    return clauses[:count]
+
+
+def try_font(program: Path, tables: bytes, count: int, seed: int, font: Path) -> Tried:
+    """Cuts the lines of a font."""
+    draw = random.Random(f"{seed}/{font.name}")
+    return tried_lines(program, tables, font, [], lambda characters: list(lines_of(characters, count, draw)))
+
+
+def tried_lines(
+    program: Path, tables: bytes, font: Path, words: list[str], lines_for: Callable[[frozenset[int]], list[Line]]
+) -> Tried:
+    """Cuts lines for a font that has some characters."""
+    breaks: Counter[str] = Counter()
+    try:
+        value = read_font(str(font), 0, WITH_BOXES, Notes())
+    except ToolFault as fault:
+        return Tried(str(font), breaks, refused=str(fault))
+    lines = lines_for(frozenset(row[0] for row in value.get("cmap", [])))
+    head = [tables_line(tables), font_line(GLYPHS, json.dumps(value).encode()), words_line(["--bot", "--eot", *words])]
+    differing: list[tuple[str, str]] = []
+    for script in dict.fromkeys(line.script for line in lines):
+        texts = [line.text for line in lines if line.script == script]
+        ran = run_stream(program, b"".join([*head, *map(text_line, texts)]))
+        if ran.ending is not None:
+            return Tried(str(font), breaks, tuple(differing), f"{font}: {script}: {ran.ending}")
+        breaks[script] += int(ran.lines[-1].split()[4])
+        for each in ran.lines[:-1]:
+            name, number, *rest = each.split()
+            differing.append((name if rest in ([], ["breaks"]) else f"{name} {rest[0]}", texts[int(number)]))
+    return Tried(str(font), breaks, tuple(differing))
+
+
+def lines_of(characters: frozenset[int], count: int, draw: random.Random) -> Iterator[Line]:
+    """Lines of words and of strings, in the scripts of a font in turn."""
+    scripts = scripts_of(characters)
+    for at in range(count if scripts else 0):
+        script, letters = scripts[at % len(scripts)]
+        words = [word for word in words_of(script) if characters.issuperset(map(ord, word))]
+        if words and at % 2 == 0:
+            yield Line(script, " ".join(draw.choice(words) for _ in range(draw.randint(1, LONGEST))))
+        else:
+            yield Line(script, "".join(draw.choice(letters) for _ in range(draw.randint(*STRINGS))))

@@ -1,0 +1,281 @@
+//! The premises of the promise on breaks.
+ghost use Rattle.std.specs.Prelude.{◌≡◌, ◌↔◌, ◌&&◌, true, IsTrue, chars, length, nat_lt};
+ghost use lib.Utf8.{scalar};
+ghost use Rattle.unicode.specs.GeneralCategory.{general_category};
+ghost use Rattle.buffer_unicode.specs.Category.{category_number};
+ghost use Rattle.buffer_unicode_tables.specs.Tables.{split_of};
+ghost use Rattle.buffer_core.specs.Segment.{direction_of};
+ghost use Rattle.script_joining.specs.Types.{joining_type, type_of_character};
+ghost use Rattle.shape_trials.specs.Breaks.{AreSeenAs, ContinuesAlike, CounterpartKeepsType, HalvesKeepType, IsNative, KeepGraphemes, KeepTypes, KeepsGraphemes, KeepsType, continues, ends_with_joiner, first_half, first_letter, has_mark, has_mark_past, have_like_marks, is_passed_over, joins_nothing, may_be_cut, may_join, type_of_half};
+
+use buffer_common::direction::Direction;
+use buffer_common::script::Script;
+use buffer_core::buffer::segment::guessed_direction;
+use buffer_unicode::{CharExt, GeneralCategoryExt};
+use buffer_unicode_tables::{CharTablesExt, UnicodeTables, decompose};
+use script_categories::category::{CGJ, Category};
+use script_categories::hb_arabic_joining_type_t;
+use script_categories::hb_ot_script_shaper_t::{ARABIC_SHAPER, UNIVERSAL_SHAPER};
+use script_dispatch::hb_ot_any_shaper_t;
+use script_joining::joining_type;
+
+/// COMBINING GRAPHEME JOINER.
+const GRAPHEME_JOINER: char = '\u{34F}';
+
+/// ZERO WIDTH JOINER.
+const JOINER: char = '\u{200D}';
+
+/// How many characters a text may have that a font makes ligatures of: there are seven numbers for ligatures.
+const LIGATURES: usize = 8;
+
+/// The number after the last character's.
+const CHARACTERS: u32 = 0x110000;
+
+/// Whether a line is native: from top to bottom, or in the direction of the script, left to right where it has none.
+pub(crate) fn is_native(direction: Direction, script: Option<Script>) -> bool
+    ensures { IsTrue result ↔ IsNative direction script }
+{
+    direction == Direction::TopToBottom || direction == direction_of(script)
+}
+
+fn direction_of(script: Option<Script>) -> Direction
+    ensures { result ≡ direction_of script }
+{
+    guessed_direction(Direction::Invalid, script)
+}
+
+/// Whether the text of two pieces may be cut between them: it has no mark or both have one after their first character,
+/// so that normalization takes as many rounds for each, and no COMBINING GRAPHEME JOINER is directly before the cut.
+pub(crate) fn may_be_cut(early: &str, late: &str) -> bool
+    ensures { result ≡ may_be_cut (chars early.now) (chars late.now) }
+{
+    have_like_marks(early, late) && !ends_with_joiner(early)
+}
+
+fn have_like_marks(early: &str, late: &str) -> bool
+    ensures { result ≡ have_like_marks (chars early.now) (chars late.now) }
+{
+    if has_mark_past(early, 1) {
+        return has_mark_past(late, 1);
+    }
+    !has_mark_past(early, 0) && !has_mark_past(late, 0)
+}
+
+/// Whether a text has a mark after its first `count` characters.
+fn has_mark_past(text: &str, count: usize) -> bool
+    ensures { result ≡ has_mark_past count (chars text.now) }
+{
+    text.chars().skip(count).any(|c| has_mark(c))
+}
+
+/// Whether a character is a mark, or decomposes into a mark and a letter, as SARA AM of Thai and AM of Lao do.
+fn has_mark(c: char) -> bool
+    ensures { result ≡ has_mark c }
+{
+    c.general_category().is_mark() || matches!(c, '\u{E33}' | '\u{EB3}')
+}
+
+fn ends_with_joiner(text: &str) -> bool
+    ensures { result ≡ ends_with_joiner (chars text.now) }
+{
+    text.chars().fold(false, |_, c| c == GRAPHEME_JOINER)
+}
+
+/// Whether a text may have more ligatures than there are numbers for them.
+pub(crate) fn may_run_out_of_numbers(has_ligatures: bool, text: &str) -> bool
+    ensures { result ≡ (has_ligatures && nat_lt LIGATURES (length (chars text.now))) }
+{
+    has_ligatures && character_count(text) > LIGATURES
+}
+
+#[tactic(auto, using(std::proofs::lemmas::Str::chars_from_encodes))]
+fn character_count(text: &str) -> usize
+    ensures { result ≡ length (chars text.now) }
+{
+    text.chars().count()
+}
+
+/// Whether a shaper may join letters as Arabic ones.
+pub(crate) fn may_join(shaper: hb_ot_any_shaper_t) -> bool
+    ensures { result ≡ may_join shaper }
+{
+    matches!(
+        shaper,
+        hb_ot_any_shaper_t::Script(ARABIC_SHAPER | UNIVERSAL_SHAPER)
+    )
+}
+
+/// Whether each character is to its neighbours as what may stand for it in a text: its decomposition, its mirror image,
+/// its vertical form. A context has the character itself.
+pub(crate) fn keep_types(tables: &UnicodeTables) -> bool
+    ensures { IsTrue result ↔ KeepTypes tables.now }
+{
+    for number in 0..CHARACTERS {
+        if !number_keeps_type(tables, number) {
+            return false;
+        }
+    }
+    true
+}
+
+fn number_keeps_type(tables: &UnicodeTables, number: u32) -> bool
+    ensures { IsTrue result ↔ (scalar number ≡ true → KeepsType tables.now number) }
+{
+    match char::from_u32(number) {
+        Some(c) => keeps_type(tables, c),
+        None => true,
+    }
+}
+
+fn keeps_type(tables: &UnicodeTables, c: char) -> bool
+    ensures { IsTrue result ↔ KeepsType tables.now c }
+{
+    halves_keep_type(tables, c)
+        && counterpart_keeps_type(tables, c, c.mirrored(tables))
+        && counterpart_keeps_type(tables, c, c.vertical(tables))
+        && (c.modified_combining_class(tables) == 0 || joins_nothing(type_of(tables, c)))
+}
+
+fn halves_keep_type(tables: &UnicodeTables, c: char) -> bool
+    ensures { IsTrue result ↔ HalvesKeepType tables.now (type_of_character tables.now c) (split_of tables.now c) }
+{
+    match decompose(tables, c) {
+        Some((first, second)) => {
+            let whole = type_of(tables, c);
+            are_seen_as(whole, type_of(tables, first), type_of_half(tables, second))
+        }
+        None => true,
+    }
+}
+
+/// Whether two characters are to their neighbours as one of a type.
+fn are_seen_as(
+    whole: hb_arabic_joining_type_t,
+    first: hb_arabic_joining_type_t,
+    second: hb_arabic_joining_type_t,
+) -> bool
+    ensures { IsTrue result ↔ AreSeenAs whole first second }
+{
+    first_letter(first, second) == whole && first_letter(second, first) == whole
+}
+
+fn first_letter(
+    first: hb_arabic_joining_type_t,
+    second: hb_arabic_joining_type_t,
+) -> hb_arabic_joining_type_t
+    ensures { result ≡ first_letter first second }
+{
+    if matches!(first, hb_arabic_joining_type_t::T) {
+        second
+    } else {
+        first
+    }
+}
+
+fn type_of_half(tables: &UnicodeTables, half: char) -> hb_arabic_joining_type_t
+    ensures { result ≡ type_of_half tables.now half }
+{
+    if half == '\0' {
+        hb_arabic_joining_type_t::T
+    } else {
+        type_of(tables, half)
+    }
+}
+
+fn counterpart_keeps_type(tables: &UnicodeTables, c: char, other: Option<char>) -> bool
+    ensures { IsTrue result ↔ CounterpartKeepsType tables.now c other }
+{
+    let Some(other) = other else {
+        return true;
+    };
+    let own = type_of(tables, c);
+    type_standing_for(tables, c, other) == own && type_of(tables, other) == own
+}
+
+fn type_of(tables: &UnicodeTables, c: char) -> hb_arabic_joining_type_t
+    ensures { result ≡ type_of_character tables.now c }
+{
+    type_standing_for(tables, c, c)
+}
+
+/// The joining type of a character by the general category of another one, which it keeps where it stands for that.
+fn type_standing_for(tables: &UnicodeTables, c: char, other: char) -> hb_arabic_joining_type_t
+    ensures { result ≡ joining_type tables.now other (category_number (general_category c)) }
+{
+    joining_type(tables, u32::from(other), c.general_category().to_rb())
+}
+
+fn joins_nothing(joining: hb_arabic_joining_type_t) -> bool
+    ensures { result ≡ joins_nothing joining }
+{
+    matches!(
+        joining,
+        hb_arabic_joining_type_t::U | hb_arabic_joining_type_t::T
+    )
+}
+
+/// Whether each character that syllables of the universal shaper pass over continues a grapheme, and each character
+/// does so exactly where what may stand for it does.
+pub(crate) fn keep_graphemes(tables: &UnicodeTables) -> bool
+    ensures { IsTrue result ↔ KeepGraphemes tables.now }
+{
+    for number in 0..CHARACTERS {
+        if !number_keeps_graphemes(tables, number) {
+            return false;
+        }
+    }
+    true
+}
+
+fn number_keeps_graphemes(tables: &UnicodeTables, number: u32) -> bool
+    ensures { IsTrue result ↔ (scalar number ≡ true → KeepsGraphemes tables.now number) }
+{
+    match char::from_u32(number) {
+        Some(c) => keeps_graphemes(tables, c),
+        None => true,
+    }
+}
+
+fn keeps_graphemes(tables: &UnicodeTables, c: char) -> bool
+    ensures { IsTrue result ↔ KeepsGraphemes tables.now c }
+{
+    (!is_passed_over(tables.universal(c)) || continues(c))
+        && continues_alike(c, first_half(decompose(tables, c)))
+        && continues_alike(c, c.mirrored(tables))
+        && continues_alike(c, c.vertical(tables))
+}
+
+fn is_passed_over(category: Option<Category>) -> bool
+    ensures { result ≡ is_passed_over category }
+{
+    match category {
+        Some(category) => category == CGJ,
+        None => false,
+    }
+}
+
+/// The first half of a decomposition.
+fn first_half(halves: Option<(char, char)>) -> Option<char>
+    ensures { result ≡ first_half halves }
+{
+    match halves {
+        Some((first, _)) => Some(first),
+        None => None,
+    }
+}
+
+fn continues_alike(c: char, other: Option<char>) -> bool
+    ensures { IsTrue result ↔ ContinuesAlike c other }
+{
+    match other {
+        Some(other) => continues(other) == continues(c),
+        None => true,
+    }
+}
+
+/// Whether a character continues a grapheme, as a mark or ZERO WIDTH JOINER.
+fn continues(c: char) -> bool
+    ensures { result ≡ continues c }
+{
+    c.general_category().is_mark() || c == JOINER
+}
