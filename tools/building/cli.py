@@ -29,7 +29,7 @@ EXAMPLES = """examples:
 def main(words: list[str], root: Path = ROOT) -> int:
     """Builds; its status is 1 where a crate did not pass."""
     options = read_words(NAME, ABOUT, EXAMPLES, words)
-    place = Place(PROGRAM, not options.unproved, root)
+    place = Place(PROGRAM, not options.unproved, root, options.measured)
     return list_crates(place) if options.list else build(NAME, place, options.jobs, make_proved)
 
 

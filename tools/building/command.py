@@ -29,10 +29,14 @@ def read_words(name: str, about: str, examples: str, words: list[str]) -> argpar
     jobs = "how many checks run at once, whatever memory is free (as many as processors and memory allow)"
     parser.add_argument("--jobs", type=positive, metavar="N", help=jobs)
     parser.add_argument("--unproved", action="store_true", help="compile without proofs, into out/unproved")
+    measured = "with --unproved: as if it were proved, into out/measured, to count its instructions alone"
+    parser.add_argument("--measured", action="store_true", help=measured)
     parser.add_argument("--list", action="store_true", help="build nothing, and list what would be built")
     options = parser.parse_args(words)
     if options.unproved and options.jobs:
         parser.error("--jobs: nothing is proved with --unproved")
+    if options.measured and not options.unproved:
+        parser.error("--measured: what is proved is measured as it is; it is for --unproved")
     return options
 
 

@@ -28,7 +28,7 @@ EXAMPLES = """examples:
 def main(words: list[str], root: Path = ROOT) -> int:
     """Builds; its status is 1 where a crate did not pass."""
     options = read_words(NAME, ABOUT, EXAMPLES, words)
-    place = Place(LIBRARY, not options.unproved, root)
+    place = Place(LIBRARY, not options.unproved, root, options.measured)
     if options.list:
         return list_crates(place)
     need_commands("rt", "gcc", "ld", "objcopy", "ar")

@@ -1,4 +1,5 @@
-"""What is built and where it stands: in out/ what was proved, in out/unproved/ what was compiled without its proofs.
+"""What is built and where it stands: in out/ what was proved, in out/unproved/ what was compiled without its proofs,
+in out/measured/ what was compiled so to be measured alone.
 
 Each has a stamp beside it, which tells of what and by which kit it was built. Nothing that is run stands in
 crates/NAME/out, which rt ci clears."""
@@ -16,7 +17,7 @@ from typing import Iterator
 from building.tree import LIST, last_change, needed_lines, stamp_of
 from sources.crates import ROOT
 
-UNPROVED = "unproved"
+UNPROVED, MEASURED = "unproved", "measured"
 BUILD, BUILD_LIBRARY, FUZZ = "tools/build", "tools/build_library", "tools/fuzz --in-process"
 TESTS = "tests"
 
@@ -54,15 +55,18 @@ class Stamp:
 
 @dataclass(frozen=True)
 class Place:
-    """Where a target stands, proved or not."""
+    """Where a target stands, proved or not. One that is to be measured is unproved, and compiled as if it were proved."""
 
     target: Target
     is_proved: bool = True
     root: Path = ROOT
+    is_measured: bool = False
 
     @property
     def folder(self) -> Path:
-        return self.root / "out" if self.is_proved else self.root / "out" / UNPROVED
+        if self.is_proved:
+            return self.root / "out"
+        return self.root / "out" / (MEASURED if self.is_measured else UNPROVED)
 
     @property
     def files(self) -> list[Path]:

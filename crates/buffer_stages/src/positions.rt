@@ -20,8 +20,11 @@ pub fn map_positions<F: Fn(&hb_glyph_info_t, GlyphPosition) -> GlyphPosition>(
 {
     let count = buffer.info_slice().len();
     for i in 0..count {
-        let position = make(&buffer.info_slice()[i], buffer.pos_slice()[i]);
-        buffer.pos_slice_mut()[i] = position;
+        let glyph = buffer.info_slice()[i];
+        // Read from the lent list, so that what `make` keeps need not be written again.
+        let positions = buffer.pos_slice_mut();
+        let position = make(&glyph, positions[i]);
+        positions[i] = position;
     }
 }
 

@@ -3,6 +3,7 @@ pub mod Shifted
 pub mod Fitted
 pub mod Followed
 pub mod Matching
+pub mod Unflagged
 pub mod Cuts
 pub mod Settled
 pub mod Begun

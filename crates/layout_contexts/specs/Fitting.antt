@@ -34,6 +34,12 @@ IsInside NoAttempt ps front rest = Unit
 IsInside (Fails back ahead) ps front rest = (back ≤ front) × (ahead ≤ rest)
 IsInside (Fits back end ahead) ps front rest = (back ≤ front) × (ahead ≤ rest) × (end ≤ rest) × (1 ≤ end) × AreRising 0 rest ps
 
+-- where a rule fits, its input has at most 64 items
+abbrev pub IsShort : ChainFit → ℕ → Type 0
+IsShort NoAttempt n = Unit
+IsShort (Fails back ahead) n = Unit
+IsShort (Fits back end ahead) n = n ≤ 64
+
 -- a rule matched, and the glyphs that it matched are flagged: what its records and the move to the end of its match do
 -- from here, the rule does
 pub record IsMatched (a : ApplyContext) (r : Chain) (random end : ℕ) (indices : List ℕ) (old new : Sides) : Type 0 where

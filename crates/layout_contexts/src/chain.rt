@@ -1,12 +1,13 @@
 //! Tries a rule of a context or chained context (rustybuzz: hb/ot_layout_gsubgpos.rs, `apply_context`,
 //! `apply_chain_context`).
-ghost use Rattle.std.specs.Prelude.{◌≡◌, ◌<◌, drop, length};
-ghost use Rattle.buffer_glyphs.specs.Items.{item_of};
-ghost use Rattle.layout_match.specs.Applied.{apply_context_of};
+ghost use Rattle.std.specs.Prelude.{◌≡◌, ◌<◌, ◌≤◌, [], None, true, drop, length};
+ghost use Rattle.buffer_glyphs.specs.Items.{item_of, strip};
+ghost use Rattle.layout_match.specs.Applied.{apply_context_of, own_search};
+ghost use Rattle.layout_match.specs.Matches.{input_indices};
 ghost use Rattle.layout_match.specs.Sequences.{tests_of};
 ghost use Rattle.buffer_stages.specs.Performing.{cut_with};
 ghost use Rattle.layout_contexts.specs.Chains.{begins};
-ghost use Rattle.layout_contexts.specs.Fitting.{IsInside, MatchesOrPasses, Says, chain_of};
+ghost use Rattle.layout_contexts.specs.Fitting.{IsInside, IsShort, MatchesOrPasses, Says, chain_of};
 ghost use Rattle.layout_contexts.specs.Following.{may_follow};
 
 use crate::counts::backtrack_len;
@@ -15,8 +16,8 @@ use buffer_core::buffer::hb_buffer_t;
 use buffer_glyphs::info::hb_glyph_info_t;
 use layout_match::marking::{mark_attempt, mark_match};
 use layout_match::{
-    MAX_CONTEXT_LENGTH, MatchPositions, MatchSequence, NextGlyphs, hb_ot_apply_context_t,
-    match_backtrack, match_input, match_lookahead,
+    MAX_CONTEXT_LENGTH, MatchPositions, MatchSequence, NextGlyphs, flags_failures,
+    hb_ot_apply_context_t, input_end, match_backtrack, match_input, match_lookahead,
 };
 use layout_tables::context::SequenceLookupRecord;
 
@@ -74,9 +75,9 @@ fn behind_first<'a>(sequence: &MatchSequence<'a>) -> MatchSequence<'a>
     }
 }
 
-/// Whether the first item of a rule's input matches a glyph: where it doesn't, nothing has to be prepared for the rule.
+/// Whether the first item of a rule's input matches a glyph.
 #[tactic(auto, using(crate::proofs::Fitted::begins_by))]
-pub fn first_matches(rule: &ChainRule, info: &hb_glyph_info_t) -> bool
+fn first_matches(rule: &ChainRule, info: &hb_glyph_info_t) -> bool
     ensures { result ≡ begins (chain_of rule.now).input (item_of info.now) }
 {
     rule.input.fits(0, info)
@@ -97,19 +98,17 @@ pub fn may_follow(rule: &ChainRule, next: &NextGlyphs) -> bool
     true
 }
 
-/// Matches a rule at the cursor, and records the distance from it of each glyph of its input.
-fn find_chain(
-    ctx: &hb_ot_apply_context_t,
-    rule: &ChainRule,
-    buffer: &hb_buffer_t,
-    indices: &mut MatchPositions,
-) -> ChainFit
+/// Matches a rule at the cursor.
+fn find_chain(ctx: &hb_ot_apply_context_t, rule: &ChainRule, buffer: &hb_buffer_t) -> ChainFit
     requires { 0 < length buffer.now.ahead }
-    ensures says { Says result (apply_context_of ctx.now) (chain_of rule.now) indices.new.items
-        (cut_with ctx.now.random_state buffer.now) }
-    ensures inside { IsInside result indices.new.items (length buffer.now.behind) (length buffer.now.ahead) }
+    ensures says { Says result (apply_context_of ctx.now) (chain_of rule.now)
+        (input_indices (own_search (apply_context_of ctx.now) (strip buffer.now.ahead)) (drop 1 (tests_of rule.now.input))
+        (strip buffer.now.ahead)) (cut_with ctx.now.random_state buffer.now) }
+    ensures inside { IsInside result
+        (input_indices (own_search (apply_context_of ctx.now) (strip buffer.now.ahead)) (drop 1 (tests_of rule.now.input))
+        (strip buffer.now.ahead)) (length buffer.now.behind) (length buffer.now.ahead) }
+    ensures short { IsShort result (length (tests_of rule.now.input)) }
 {
-    // Tested again: `first_matches` only spares the caller of this the list of indices.
     if !rule.input.fits(0, buffer.cur(0)) {
         return ChainFit::NoAttempt;
     }
@@ -117,7 +116,7 @@ fn find_chain(
         return ChainFit::NoAttempt;
     }
     let input = behind_first(&rule.input);
-    let end = match match_input(ctx, &input, buffer, indices) {
+    let end = match input_end(ctx, &input, buffer) {
         Ok(end) => end,
         Err(ahead) => return ChainFit::Fails { back: 0, ahead },
     };
@@ -129,6 +128,47 @@ fn find_chain(
         Ok(back) => ChainFit::Fits { back, end, ahead },
         Err(back) => ChainFit::Fails { back, ahead: 1 },
     }
+}
+
+/// Whether a rule is known to pass at the cursor: it fails there, and its failure leaves no flag. Nothing has to be
+/// prepared for such a rule, as the list of its indices, which is cleared before it is filled.
+pub fn fails_unflagged(ctx: &hb_ot_apply_context_t, rule: &ChainRule, buffer: &hb_buffer_t) -> bool
+    requires { 0 < length buffer.now.ahead }
+    ensures { result ≡ true → MatchesOrPasses None (apply_context_of ctx.now) (chain_of rule.now) ctx.now.random_state [] buffer.now
+        buffer.now }
+{
+    if !first_matches(rule, buffer.cur(0)) {
+        return true;
+    }
+    if flags_failures(buffer) {
+        return false;
+    }
+    match find_chain(ctx, rule, buffer) {
+        ChainFit::NoAttempt => true,
+        ChainFit::Fails { back: _, ahead: _ } => true,
+        ChainFit::Fits {
+            back: _,
+            end: _,
+            ahead: _,
+        } => false,
+    }
+}
+
+/// Records the distance from the cursor of each glyph of the input of a rule that matches there.
+fn record_input(
+    ctx: &hb_ot_apply_context_t,
+    rule: &ChainRule,
+    buffer: &hb_buffer_t,
+    indices: &mut MatchPositions,
+)
+    requires there { 0 < length buffer.now.ahead }
+    requires short { length (tests_of rule.now.input) ≤ 64 }
+    ensures { indices.new.items ≡ input_indices (own_search (apply_context_of ctx.now) (strip buffer.now.ahead))
+        (drop 1 (tests_of rule.now.input)) (strip buffer.now.ahead) }
+{
+    let input = behind_first(&rule.input);
+    // That it matches, and where it ends, is known.
+    let _ = match_input(ctx, &input, buffer, indices);
 }
 
 /// Tries a rule at the cursor, and flags what it depends on: where it matches, the matched glyphs as unsafe to break,
@@ -147,13 +187,14 @@ pub fn match_chain(
     let front = backtrack_len(buffer);
     // Both counts are below 2^59, so that an index ahead counted among all glyphs fits its type.
     let _rest = buffer.lookahead_len();
-    match find_chain(ctx, rule, buffer, indices) {
+    match find_chain(ctx, rule, buffer) {
         ChainFit::NoAttempt => None,
         ChainFit::Fails { back, ahead } => {
             mark_attempt(back, ahead, buffer);
             None
         }
         ChainFit::Fits { back, end, ahead } => {
+            record_input(ctx, rule, buffer, indices);
             mark_match(back, ahead, buffer);
             move_indices(indices, front);
             Some(front + end)

@@ -8,7 +8,7 @@ pub mod match_indices;
 pub mod records;
 pub mod rules;
 
-pub use chain::{ChainRule, first_matches, match_chain, may_follow};
+pub use chain::{ChainRule, fails_unflagged, match_chain, may_follow};
 pub use counts::glyph_count;
 pub use match_indices::settle_indices;
 pub use records::{MAX_NESTING_LEVEL, begin_record, move_to_match_end, settle_match, spend};

@@ -83,7 +83,7 @@ fn may_follow(ligature: &Ligature, next: &NextGlyph) -> bool
     if components.is_empty() {
         return true;
     }
-    next.may_fit(&MatchSequence::Glyphs(components), 0)
+    next.may_begin(components)
 }
 
 /// Applies the first of some ligatures that begin with the glyph at the cursor. One whose second component can't be the

@@ -5,3 +5,4 @@ pub mod Sorted
 pub mod Compiling
 pub mod Flagless
 pub mod Apart
+mod Slotted

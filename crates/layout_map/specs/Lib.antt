@@ -5,3 +5,4 @@ pub mod Compiled
 pub mod Masks
 pub mod Requests
 pub mod Laws
+pub mod TagSlots

@@ -14,6 +14,7 @@ use crate::features::{
 };
 use crate::map::{TableMap, hb_ot_map_t};
 use crate::stages::{TableFeatures, all_stages};
+use crate::tag_slots::TagSlots;
 use buffer_common::tag::Tag;
 use layout_face::Face;
 use layout_face::positioning::PositioningTable;
@@ -26,6 +27,9 @@ use layout_map_features::request::{FeatureRequest, MergedRequest};
 use layout_map_features::required::RequiredFeature;
 use std::alloc::{AllocError, Global};
 use std::marker::Model;
+
+/// For how many requests there is room from the first one on. Most texts have so many at most.
+const REQUESTS: usize = 64;
 
 /// Collects requests for features and pauses between the stages of a font's layout tables.
 #[derive(Drop)]
@@ -110,6 +114,10 @@ impl<'a> hb_ot_map_builder_t<'a> {
         if tag.0 == 0 {
             return Ok(());
         }
+        if self.requests.is_empty() {
+            // The list then seldom grows, and isn't copied from step to step.
+            self.requests.reserve(REQUESTS)?;
+        }
         let stage = PerTable {
             gsub: self.gsub_pauses.len(),
             gpos: self.gpos_pauses.len(),
@@ -175,6 +183,7 @@ impl<'a> hb_ot_map_builder_t<'a> {
         let gpos = self.table_map(alloc, TableIndex::GPOS, &requests, &wanted, &features)?;
         Ok(hb_ot_map_t {
             global_mask: global_mask(&kept),
+            slots: TagSlots::new(&features),
             features,
             gsub,
             gpos,

@@ -11,3 +11,4 @@ pub mod map;
 pub mod masks;
 pub mod request;
 pub mod stages;
+mod tag_slots;

@@ -1,5 +1,5 @@
 //! The map of requested features (rustybuzz: hb/ot_map.rs, `hb_ot_map_t`).
-ghost use Rattle.std.specs.Prelude.{◌≡◌, ◌<◌, ◌≤◌, None, true, length, slice_get, IfSome};
+ghost use Rattle.std.specs.Prelude.{◌≡◌, ◌==◌, ◌<◌, ◌≤◌, None, true, find, length, slice_get, IfSome};
 ghost use Rattle.std.specs.Int.RustNames.{bit_and};
 ghost use Rattle.std.specs.Ordering.{nat_cmp};
 ghost use Rattle.buffer_rows.specs.Keys.{is_rising};
@@ -10,6 +10,7 @@ ghost use Rattle.buffer_glyphs.specs.declared.info.TheConstants.{DEFINED};
 
 use crate::features::feature_map_t;
 use crate::stages::StageMap;
+use crate::tag_slots::TagSlots;
 use buffer_common::tag::Tag;
 use buffer_rows::find_row;
 use layout_map_features::lookup::lookup_map_t;
@@ -68,6 +69,8 @@ impl TableMap {
 pub struct hb_ot_map_t {
     pub(crate) global_mask: u32,
     pub(crate) features: Vec<feature_map_t>,
+    // Where features may stand. It only saves time.
+    pub(crate) slots: TagSlots,
     pub(crate) gsub: TableMap,
     pub(crate) gpos: TableMap,
 }
@@ -80,6 +83,7 @@ impl Model for hb_ot_map_t {
     ghost use Rattle.std.specs.List.{All};
     ghost use Rattle.buffer_glyphs.specs.declared.info.TheConstants.{DEFINED};
     ghost use Rattle.layout_map.specs.Compiled.{IsApart, OtMapValue};
+    ghost use Rattle.layout_map.specs.TagSlots.{HaveSlots};
 
     ghost Value = { OtMapValue };
 
@@ -90,7 +94,8 @@ impl Model for hb_ot_map_t {
     } };
 
     ghost invariant = { λ m. (is_rising nat_cmp (λ f. f.tag.0) None m.features.items ≡ true)
-        × (bit_and m.global_mask DEFINED ≡ 0) × All IsApart m.features.items };
+        × (bit_and m.global_mask DEFINED ≡ 0) × All IsApart m.features.items
+        × HaveSlots m.slots.slots m.features.items };
 }
 
 impl hb_ot_map_t {
@@ -133,12 +138,16 @@ impl hb_ot_map_t {
         &self.features
     }
 
-    #[tactic(auto, using(buffer_rows::proofs::Searched::row_of_number, crate::proofs::Apart::found_apart))]
+    /// The feature of a tag, if it has bits: at once where no other one has the tag's slot.
+    #[tactic(auto, using(crate::proofs::Apart::found_apart))]
     fn feature(&self, tag: Tag) -> Option<&feature_map_t>
         ensures found { option_copied result ≡ feature_at tag self.now }
         ensures apart { IfSome (option_copied result) IsApart }
     {
-        find_row(&self.features, tag.0)
+        match self.slots.guess(tag.0) {
+            Some(guess) => find_near(&self.features, tag.0, guess),
+            None => None,
+        }
     }
 
     /// The mask of a feature, which has no glyph flag, and the index of its lowest bit; 0 and 0 where the map lacks it.
@@ -210,6 +219,18 @@ impl hb_ot_map_t {
         ensures end { result.end ≡ stage_end (for_table table self.now.tables).stages stage }
     {
         self.table(table).stage_range(stage)
+    }
+}
+
+/// The feature of a tag: at once where it stands at the guessed index, else in logarithmic time.
+#[tactic(auto, using(buffer_rows::proofs::Searched::row_of_number))]
+fn find_near(features: &[feature_map_t], tag: u32, guess: usize) -> Option<&feature_map_t>
+    requires { is_rising nat_cmp (λ f. f.tag.0) None features.now ≡ true }
+    ensures { option_copied result ≡ find (λ f. f.tag.0 == tag) features.now }
+{
+    match features.get(guess) {
+        Some(feature) if feature.tag.0 == tag => Some(feature),
+        _ => find_row(features, tag),
     }
 }
 

@@ -17,7 +17,9 @@ pub use apply_context::hb_ot_apply_context_t;
 pub use matching::{
     MAX_CONTEXT_LENGTH, MatchPositions, input_end, match_backtrack, match_input, match_lookahead,
 };
-pub use next_glyph::{NextGlyph, NextGlyphs, next_glyphs, next_input};
+pub use next_glyph::{
+    NextGlyph, NextGlyphs, flags_failures, next_for_rules, next_glyphs, next_input,
+};
 pub use search::{GlyphSearch, match_t};
 pub use sequence::{MatchSequence, match_class, match_coverage, match_glyph};
 pub use skipping::skipping_iterator_t;

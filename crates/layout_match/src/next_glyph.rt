@@ -1,6 +1,6 @@
 //! The next glyph that the search for a rule's items can find, against which rules are held before they are walked
 //! (HarfBuzz: hb-ot-layout-gsubgpos.hh, the fast path of `RuleSet::apply` and `ChainRuleSet::apply`).
-ghost use Rattle.std.specs.Prelude.{◌≡◌, ◌<◌, true, length};
+ghost use Rattle.std.specs.Prelude.{◌≡◌, ◌<◌, true, length, map};
 ghost use Rattle.std.specs.Option.{option_copied};
 ghost use Rattle.buffer_glyphs.specs.Items.{item_of, strip};
 ghost use Rattle.buffer_core.specs.Sides.{flag_requests_of};
@@ -8,11 +8,11 @@ ghost use Rattle.layout_match.specs.Applied.{apply_context_of, context_search, o
 ghost use Rattle.layout_match.specs.declared.next_glyph.NextGlyph.TheVariants.{Unknown};
 ghost use Rattle.layout_match.specs.Next.{Decides, IsAdmitted, IsNext, may_find};
 ghost use Rattle.layout_match.specs.Searches.{is_in_syllable, is_left_out, search_of};
-ghost use Rattle.layout_match.specs.Sequences.{test_at, tests_of};
+ghost use Rattle.layout_match.specs.Sequences.{is_glyph, test_at, tests_of};
 
 use crate::apply_context::hb_ot_apply_context_t;
 use crate::search::{GlyphSearch, is_left_out};
-use crate::sequence::MatchSequence;
+use crate::sequence::{MatchSequence, fits_glyph};
 use bitflags::Flags;
 use buffer_common::constants::BufferFlags;
 use buffer_core::buffer::hb_buffer_t;
@@ -41,6 +41,17 @@ impl NextGlyph {
         match self {
             NextGlyph::Missing => false,
             NextGlyph::Found(info) => sequence.fits(k, info),
+            NextGlyph::Unknown => true,
+        }
+    }
+
+    /// Whether the search may find the first of some glyphs: as `may_fit`, without the choice of a sequence's form.
+    pub fn may_begin(&self, glyphs: &[u16]) -> bool
+        ensures { result ≡ may_find self.now (test_at (map is_glyph glyphs.now) 0) }
+    {
+        match self {
+            NextGlyph::Missing => false,
+            NextGlyph::Found(info) => fits_glyph(info, glyphs, 0),
             NextGlyph::Unknown => true,
         }
     }
@@ -162,7 +173,7 @@ fn first_admitted<'a>(
 }
 
 /// Whether failed matches are flagged as unsafe to concat.
-fn flags_failures(buffer: &hb_buffer_t) -> bool
+pub fn flags_failures(buffer: &hb_buffer_t) -> bool
     ensures { result ≡ (flag_requests_of buffer.now).concat }
 {
     buffer
@@ -195,6 +206,27 @@ pub fn next_glyphs(ctx: &hb_ot_apply_context_t, buffer: &hb_buffer_t) -> NextGly
             lookahead: NextGlyph::Missing,
         },
     }
+}
+
+/// What the searches for the items of `count` rules find next after the glyph at the cursor. For one rule alone it isn't
+/// looked for: to walk the rule makes the same search.
+#[tactic(auto, using(crate::proofs::Next::nothing_told))]
+pub fn next_for_rules(ctx: &hb_ot_apply_context_t, count: usize, buffer: &hb_buffer_t) -> NextGlyphs
+    requires { 0 < length buffer.now.ahead }
+    ensures input { IsNext result.input (own_search (apply_context_of ctx.now) (strip buffer.now.ahead)) 1
+        (strip buffer.now.ahead) }
+    ensures lookahead { IsNext result.lookahead (context_search (apply_context_of ctx.now) (strip buffer.now.ahead)) 1
+        (strip buffer.now.ahead) }
+    ensures unflagged { (flag_requests_of buffer.now).concat ≡ true
+        → (result.input ≡ Unknown) × (result.lookahead ≡ Unknown) }
+{
+    if count <= 1 {
+        return NextGlyphs {
+            input: NextGlyph::Unknown,
+            lookahead: NextGlyph::Unknown,
+        };
+    }
+    next_glyphs(ctx, buffer)
 }
 
 /// What the search for a rule's input finds next after the glyph at the cursor. Where failed matches are flagged, nothing

@@ -41,7 +41,7 @@ pub fn match_coverage(info: &hb_glyph_info_t, coverage: &Coverage) -> bool
 }
 
 #[tactic(auto, using(crate::proofs::Indexed::test_there, crate::proofs::Indexed::test_past))]
-fn fits_glyph(info: &hb_glyph_info_t, glyphs: &[u16], k: usize) -> bool
+pub(crate) fn fits_glyph(info: &hb_glyph_info_t, glyphs: &[u16], k: usize) -> bool
     ensures { result ≡ test_at (map is_glyph glyphs.now) k (item_of info.now) }
 {
     match glyphs.get(k) {

@@ -27,7 +27,7 @@ use buffer_core::buffer::hb_buffer_t;
 use buffer_glyphs::cause::ShapeCause;
 use layout_common::digested::Digested;
 use layout_contexts::{
-    ChainRule, begin_record, first_matches, glyph_count, is_tried_at, match_chain, may_follow,
+    ChainRule, begin_record, fails_unflagged, glyph_count, is_tried_at, match_chain, may_follow,
     move_to_match_end, rule_at, rules_at, settle_match,
 };
 use layout_face::positioning::{PositioningLookup, PositioningSubtables, PositioningTable};
@@ -38,7 +38,7 @@ use layout_gpos::mark_lig::MarkToLigature;
 use layout_gpos::mark_mark::MarkToMark;
 use layout_gpos::pair::PairAdjustment;
 use layout_gpos::single::SingleAdjustment;
-use layout_match::{MatchPositions, hb_ot_apply_context_t, next_glyphs};
+use layout_match::{MatchPositions, hb_ot_apply_context_t, next_for_rules};
 use layout_tables::context::{ContextSubtable, SequenceLookupRecord};
 
 /// The parameters of a lookup nested in another: its own flag, and all else as the other's.
@@ -216,7 +216,7 @@ fn apply_rules(
     ensures memory { IfErr result (λ e. e ≢ ShapeCause.OutOfMemory) }
 {
     let (start, end) = rules_at(subtable, buffer.cur(0));
-    let next = next_glyphs(ctx, buffer);
+    let next = next_for_rules(ctx, end.saturating_sub(start), buffer);
     for i in start..end {
         let rule = rule_at(subtable, i);
         if !may_follow(&rule, &next) {
@@ -249,7 +249,7 @@ fn apply_rule(
     ensures kept { OnOk result (AreKept (apply_context_of ctx.now) (items_of buffer.new) last.new) }
     ensures memory { IfErr result (λ e. e ≢ ShapeCause.OutOfMemory) }
 {
-    if !first_matches(rule, buffer.cur(0)) {
+    if fails_unflagged(ctx, rule, buffer) {
         return Ok(false);
     }
     let mut indices = MatchPositions::new();

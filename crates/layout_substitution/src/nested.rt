@@ -26,12 +26,12 @@ use buffer_glyphs::cause::ShapeCause;
 use layout_common::digested::Digested;
 use layout_common::subtables::Subtables;
 use layout_contexts::{
-    ChainRule, begin_record, first_matches, glyph_count, is_tried_at, match_chain, may_follow,
+    ChainRule, begin_record, fails_unflagged, glyph_count, is_tried_at, match_chain, may_follow,
     move_to_match_end, rule_at, rules_at, settle_match,
 };
 use layout_face::substitution::{SubstitutionSubtables, SubstitutionTable};
 use layout_gsub::apply::apply_first;
-use layout_match::{MatchPositions, hb_ot_apply_context_t, next_glyphs};
+use layout_match::{MatchPositions, hb_ot_apply_context_t, next_for_rules};
 use layout_tables::context::{ContextSubtable, SequenceLookupRecord};
 
 /// Applies the lookup at an index of the table at the cursor, nested in another: with its own flag, and without a test
@@ -187,7 +187,7 @@ fn apply_rules(
     ensures context { apply_context_of ctx.new ≡ apply_context_of ctx.old }
 {
     let (start, end) = rules_at(subtable, buffer.cur(0));
-    let next = next_glyphs(ctx, buffer);
+    let next = next_for_rules(ctx, end.saturating_sub(start), buffer);
     for i in start..end {
         let rule = rule_at(subtable, i);
         if !may_follow(&rule, &next) {
@@ -217,7 +217,7 @@ fn apply_rule(
         ctx.old.random_state ctx.new.random_state buffer.old buffer.new }
     ensures context { apply_context_of ctx.new ≡ apply_context_of ctx.old }
 {
-    if !first_matches(rule, buffer.cur(0)) {
+    if fails_unflagged(ctx, rule, buffer) {
         return Ok(false);
     }
     let mut indices = MatchPositions::new();

@@ -16,6 +16,22 @@ pub(crate) fn find_keyed<R: Keyed<Key = u32>>(records: &[R], key: u32) -> Option
     find_row(records, key)
 }
 
+/// The record of a number: at once where it stands at the guessed index, else in logarithmic time.
+#[tactic(auto, using(buffer_rows::proofs::Searched::row_of_number))]
+pub(crate) fn find_keyed_near<R: Keyed<Key = u32>>(
+    records: &[R],
+    key: u32,
+    guess: usize,
+) -> Option<&R>
+    requires { is_rising R.key_of None records.now ≡ true }
+    ensures { option_copied result ≡ find (λ r. R.key_of r == key) records.now }
+{
+    match records.get(guess) {
+        Some(record) if record.key() == key => Some(record),
+        _ => find_row(records, key),
+    }
+}
+
 /// The record of the first tag that has one, in records whose key is their tag's number.
 pub(crate) fn find_first<'a, R: Keyed<Key = u32>>(records: &'a [R], tags: &[Tag]) -> Option<&'a R>
     requires { is_rising R.key_of None records.now ≡ true }

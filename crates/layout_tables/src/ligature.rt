@@ -5,7 +5,7 @@ ghost use Rattle.layout_tables.specs.Keyed.{is_rising};
 ghost use Rattle.layout_tables.specs.Covers.{covers_first_component};
 ghost use Rattle.layout_tables.specs.Layout.{LigatureTable, ligature_set_of};
 
-use crate::keyed::find_keyed;
+use crate::keyed::find_keyed_near;
 use buffer_rows::Keyed;
 use layout_common::digest::hb_set_digest_ext;
 use layout_common::digested::{Covers, collect_each};
@@ -124,12 +124,27 @@ impl LigatureSubst {
         LigatureSubst { sets }
     }
 
-    /// The set of a first glyph, none where the subtable doesn't cover the glyph.
+    /// The set of a first glyph, none where the subtable doesn't cover the glyph: at once where no glyph before it lacks
+    /// a set, as among the consonants of an Indic script, else in logarithmic time.
     pub fn set_of(&self, glyph: u16) -> Option<&LigatureSet>
         ensures { option_copied result ≡ ligature_set_of glyph self.now }
     {
-        find_keyed(&self.sets, glyph.into())
+        find_keyed_near(&self.sets, glyph.into(), likely_index(&self.sets, glyph))
     }
+}
+
+/// A guess at the index of a glyph's set. Since first glyphs rise, the set is at its distance from the first glyph or
+/// before it; the guess is right where no glyph between the set there and the glyph's own lacks a set.
+fn likely_index(sets: &[LigatureSet], glyph: u16) -> usize {
+    let (Some(first), Some(last)) = (sets.first(), sets.last()) else {
+        return 0;
+    };
+    let farthest = usize::from(glyph.saturating_sub(first.first));
+    let (index, set) = match sets.get(farthest) {
+        Some(set) => (farthest, set),
+        None => (sets.len() - 1, last),
+    };
+    index.saturating_sub(usize::from(set.first.saturating_sub(glyph)))
 }
 
 impl Covers for LigatureSet {

@@ -1,5 +1,5 @@
 -- Jamo that are merged before syllables are formed.
-use Rattle.std.proofs.Common.{ℕ, ◌≡◌, ◌<◌, ◌≤◌, true, false, List, Option, Some, None, Ok, Err, length, arith, refl, sym, ap, subst}
+use Rattle.std.proofs.Common.{ℕ, ◌≡◌, ◌<◌, ◌≤◌, ◌||◌, Bool, true, false, if◌then◌else◌, List, Option, Some, None, Ok, Err, length, arith, refl, sym, ap, subst, ◌∙◌}
 use Rattle.std.specs.Prelude.{Result}
 use Rattle.std.proofs.lemmas.Bool.Decides.{nat_tests}
 use Rattle.std.proofs.lemmas.List.{length-map}
@@ -16,7 +16,8 @@ use Rattle.script_syllabic.specs.Graphemes.{with_graphemes_merged}
 use Rattle.script_syllabic.proofs.Quiet.{followed_then}
 use Rattle.script_hangul.specs.declared.actions.Action.{Action}
 use Rattle.script_hangul.specs.declared.actions.Action.TheVariants.{Keep, Apart, Compose, Split}
-use Rattle.script_hangul.specs.Actions.{action_on}
+use Rattle.script_hangul.specs.Actions.{action_on, leading_action, syllable_action, trailing_of}
+use Rattle.script_hangul.specs.Jamo.{is_leading, is_syllable}
 use Rattle.script_hangul.specs.Hangul.{character_at, count_apart, hangul_text, jamo_rule, rule_by, syllables_formed}
 use Rattle.script_hangul.specs.Stepped.{fits_rest}
 use Rattle.script_hangul.proofs.Fits.{Within, character_within, front_fits, joined_there}
@@ -42,6 +43,19 @@ count_fits font u gs e =
 
 pub first_is : (font : FaceParts) (o : Option ℕ) (xs : List Item) → character_at 0 xs ≡ o → rule_by font o xs ≡ jamo_rule font xs
 first_is font o xs e = ap (λ p. rule_by font p xs) (sym e)
+
+kept_by : (font : FaceParts) (u : ℕ) (second third : Option ℕ) (leading syllable : Bool) → (leading || syllable) ≡ false
+    → (if leading then leading_action font u second (trailing_of third) else if syllable then syllable_action font u (trailing_of second) else Keep false) ≡ Keep false
+kept_by font u second third true syllable none = cc
+kept_by font u second third false true none = cc
+kept_by font u second third false false none = refl
+
+-- a character that is neither a leading consonant nor a syllable begins no grapheme of several
+pub other_counts_none : (font : FaceParts) (u : ℕ) (xs : List Item) (b : Bool) → b ≡ (is_leading u || is_syllable u) → b ≡ false → character_at 0 xs ≡ Some u → 0 ≡ jamo_rule font xs
+other_counts_none font u xs b is none e =
+    let kept : action_on font u (character_at 1 xs) (character_at 2 xs) ≡ Keep false = kept_by font u (character_at 1 xs) (character_at 2 xs) (is_leading u) (is_syllable u) (sym is ∙ none) in
+    let counted : jamo_rule font xs ≡ count_apart (action_on font u (character_at 1 xs) (character_at 2 xs)) = ap (λ p. rule_by font p xs) e in
+    sym (counted ∙ ap count_apart kept)
 
 -- the merges, and then the syllables
 pub hangul_done : {X : Type 0} (r : Result X ShapeCause) (font : FaceParts) (a b c : Sides) → IsFollowed (always (with_graphemes_merged (jamo_rule font))) a b → DoesStage (syllables_formed font b.flags) r b c → DoesStage (hangul_text font a.flags) r a c

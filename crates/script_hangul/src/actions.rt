@@ -1,6 +1,7 @@
 //! The choice of what is done with a jamo, a syllable or a tone mark, by the next characters and the font
 //! (rustybuzz: hb/ot_shaper_hangul.rs).
-ghost use Rattle.std.specs.Prelude.{◌≡◌};
+ghost use Rattle.std.specs.Prelude.{◌≡◌, ◌||◌};
+ghost use Rattle.script_hangul.specs.Jamo.{is_leading, is_syllable};
 ghost use Rattle.script_hangul.specs.Actions.{action_on, before_trailing, has_letters, joining_action, leading_action, letters_action, split_action, syllable_action, trailing_of};
 
 use crate::jamo::{Letters, is_leading, is_syllable, is_trailing, is_vowel, letters_of, whole_of};
@@ -31,6 +32,13 @@ pub fn action_on(face: &Face, u: char, second: Option<char>, third: Option<char>
         return syllable_action(face, u, trailing_of(second));
     }
     Action::Keep(false)
+}
+
+/// Whether a character is a leading consonant or a syllable: any other is kept.
+pub(crate) fn begins_syllable(u: char) -> bool
+    ensures { result ≡ (is_leading u || is_syllable u) }
+{
+    is_leading(u) || is_syllable(u)
 }
 
 /// The character, if it is a trailing consonant.

@@ -12,7 +12,7 @@ ghost use Rattle.script_hangul.specs.Stepped.{Passes, Refuses, IsStepped};
 ghost use Rattle.buffer_stages.specs.Walks.{RefusesLength};
 ghost use Rattle.buffer_stages.specs.Stages.{DoesStage, IsFollowed};
 
-use crate::actions::{Action, action_on};
+use crate::actions::{Action, action_on, begins_syllable};
 use crate::jamo::is_tone;
 use crate::kept::is_kept;
 use crate::performing::{keep, perform};
@@ -74,13 +74,17 @@ fn merge_jamo(face: &Face, buffer: &mut hb_buffer_t)
 }
 
 /// The number of characters that begin with one grapheme, a syllable that stays several jamo; else 0.
-#[tactic(auto, using(crate::proofs::Merged::first_is))]
+#[tactic(auto, using(crate::proofs::Merged::first_is, crate::proofs::Merged::other_counts_none))]
 fn count_jamo(face: &Face, glyphs: &[hb_glyph_info_t]) -> usize
     ensures count { result ≡ jamo_rule face.now (strip glyphs.now) }
     ensures within { result ≤ length glyphs.now }
 {
     match character_in(glyphs, 0) {
         Some(u) => {
+            // All others are kept, as the jamo after the first of a syllable: nothing after them is read.
+            if !begins_syllable(u) {
+                return 0;
+            }
             let action = action_on(face, u, character_in(glyphs, 1), character_in(glyphs, 2));
             count_apart(action)
         }

@@ -12,9 +12,8 @@ use Rattle.buffer_stages.specs.Actions.{Action, Outcome, Passes, Acts, Refuses, 
 use Rattle.buffer_stages.specs.Buffers.{cut_of, are_glyphs}
 use Rattle.buffer_stages.specs.Performing.{cut_with, IsPerformed, Performs}
 use Rattle.buffer_stages.proofs.Lemmas.Frames.{still_open, still_refused, same_numbers}
-use Rattle.buffer_stages.proofs.Lemmas.Glyphs.{first_item}
 use Rattle.buffer_stages.proofs.Lemmas.Performed.{passes_nothing}
-use Rattle.layout_contexts.specs.Chains.{Chain, begins, chain_rule, context_subtable}
+use Rattle.layout_contexts.specs.Chains.{Chain, chain_rule, context_subtable}
 use Rattle.layout_contexts.specs.Fitting.{IsMatched}
 use Rattle.layout_contexts.specs.Inside.{StaysInside}
 use Rattle.layout_contexts.specs.Nested.{each_nested, one_record}
@@ -22,7 +21,6 @@ use Rattle.layout_contexts.specs.Nesting.{Walking}
 use Rattle.layout_contexts.specs.Records.{RecordBegins, IsRecordBegun}
 use Rattle.layout_contexts.specs.Rules.{chains_of, is_tried_at}
 use Rattle.layout_contexts.specs.Shifts.{moved_end, indices_after_resize}
-use Rattle.layout_contexts.proofs.Fitted.{unbegun}
 use Rattle.layout_contexts.proofs.Lemmas.Inside.{acted_stays}
 use Rattle.layout_contexts.proofs.Lemmas.Lengths.{whole_length}
 use Rattle.layout_contexts.proofs.Lemmas.Steps.{here, performs_nests}
@@ -41,10 +39,6 @@ pub tried_there : (nest : Option (ℕ → Action)) (a : ApplyContext) (subtable 
 tried_there nest a subtable tried r after y s new g at is on d =
     let P : Outcome → Type 0 = λ o. Performs o y r after s new in
     subst P (sym (subtable_rules nest a subtable r s g at ∙ ap (λ b. if b then first_rule (chain_rule nest a) (chains_of subtable) (cut_with r s) else Passes []) (sym is ∙ on))) d
-
--- a rule that doesn't begin with the glyph at the cursor passes
-pub not_begun : (nest : Option (ℕ → Action)) (a : ApplyContext) (chain : Chain) (begun : Bool) (r : ℕ) (s : Sides) (g : hb_glyph_info_t) → slice_get s.ahead 0 ≡ Some g → begun ≡ begins chain.input (item_of g) → begun ≡ false → Performs (chain_rule nest a chain (cut_with r s)) (Ok false) r r s s
-not_begun nest a chain begun r s g at is off = passes_nothing r s (chain_rule nest a chain (cut_with r s)) (unbegun nest a chain (item_of g) (cut_with r s) (first_item s.ahead g at) (sym is ∙ off))
 
 -- ---- records
 

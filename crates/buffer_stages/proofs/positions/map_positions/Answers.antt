@@ -8,8 +8,8 @@ loop-i-preserved g c =
     let was = c.loop-i.invariant in (
       was.0,
       was.1,
-      one_placed _ c.loop-i.i c.make-position.result c.pos_slice_mut.result.now c.args.buffer.now c.loop-i.buffer c.pos_slice_mut.ensures.value was.2,
-      λ k same. next_written k _ c.loop-i.i _ _ c.make-position.result c.info_slice.result.now c.pos_slice.result.now c.pos_slice_mut.result.now c.args.buffer.now c.loop-i.buffer c.info_slice.ensures c.pos_slice.ensures.same c.pos_slice_mut.ensures.value was.2 was.0 was.1 (omega (arith, c.loop-i-test.true)) (same _ _ _ (says g.F.Fn c.make-position.ensures refl)) (was.3 k same),
+      one_placed _ c.loop-i.i c.make-position.result c.pos_slice_mut-positions.result.now c.args.buffer.now c.loop-i.buffer c.pos_slice_mut-positions.ensures.value was.2,
+      λ k same. next_written k _ c.loop-i.i _ _ c.make-position.result c.info_slice.result.now c.pos_slice_mut-positions.result.now c.pos_slice_mut-positions.result.now c.args.buffer.now c.loop-i.buffer c.info_slice.ensures c.pos_slice_mut-positions.ensures.value c.pos_slice_mut-positions.ensures.value was.2 was.0 was.1 (omega (arith, c.loop-i-test.true)) (same _ _ _ (says g.F.Fn c.make-position.ensures refl)) (was.3 k same),
     )
 
 pub returns : goal.returns

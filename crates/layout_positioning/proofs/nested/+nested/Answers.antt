@@ -15,7 +15,7 @@ use Rattle.layout_contexts.specs.Nested.{each_nested}
 use Rattle.layout_contexts.specs.Nesting.{Walking}
 use Rattle.layout_contexts.specs.Records.{IsRecordBegun}
 use Rattle.layout_contexts.specs.Rules.{chains_of, is_tried_at}
-use Rattle.layout_contexts.proofs.Lemmas.Acting.{match_inside, rule_acted, rule_failed}
+use Rattle.layout_contexts.proofs.Lemmas.Acting.{match_inside, rule_acted, rule_failed, rule_passed}
 use Rattle.layout_contexts.proofs.Lemmas.Following.{passed_over}
 use Rattle.layout_contexts.proofs.Lemmas.Inside.{then_stays}
 use Rattle.layout_contexts.proofs.Lemmas.Ranges.{passed_after, passed_before}
@@ -23,7 +23,7 @@ use Rattle.layout_contexts.proofs.Lemmas.Uncovered.{context_uncovered}
 use Rattle.layout_match.proofs.Lemmas.Met.{not_tried as glyph_not_tried}
 use Rattle.layout_tables.specs.Covers.{covers_context}
 use Rattle.buffer_glyphs.specs.Items.{item_of}
-use Rattle.layout_contexts.proofs.Lemmas.Nested.{begun_closed, begun_numbers, begun_some, begun_unrefused, get_or_any, last_walked, matched_closed, matched_numbers, matched_unrefused, next_failed, next_walked, none_nested, not_begun, not_tried, record_acted, record_inside, record_passed, tried_there}
+use Rattle.layout_contexts.proofs.Lemmas.Nested.{begun_closed, begun_numbers, begun_some, begun_unrefused, get_or_any, last_walked, matched_closed, matched_numbers, matched_unrefused, next_failed, next_walked, none_nested, not_tried, record_acted, record_inside, record_passed, tried_there}
 use Rattle.layout_positioning.specs.Lookups.{nested_actions, nested_act}
 use Rattle.layout_positioning.proofs.Kept.{begun_kept, behind_kept, matched_kept, unmatched_kept}
 use Rattle.layout_positioning.proofs.Levels.{no_depth, some_depth, record_lookup_refused}
@@ -114,10 +114,10 @@ pub apply_rules-loop-i-preserved-then-not-may_follow : goal.apply_rules-loop-i-p
 apply_rules-loop-i-preserved-then-not-may_follow t c =
     let i = c.loop-i.invariant in
     let a = apply_context_of c.args.ctx.now in
-    let told = c.next_glyphs-next.ensures in
+    let told = c.next_for_rules-next.ensures in
     record {
       passed =
-          passed_over (nested_actions c.args.table.now.lookups c.args.depth c.args.buffer.now.direction a) a (chains_of c.args.subtable.now) (chain_of c.rule_at-rule.result) c.next_glyphs-next.result c.loop-i.i c.args.ctx.now.random_state c.args.buffer.now c.loop-i.buffer c.rule_at-rule.ensures
+          passed_over (nested_actions c.args.table.now.lookups c.args.depth c.args.buffer.now.direction a) a (chains_of c.args.subtable.now) (chain_of c.rule_at-rule.result) c.next_for_rules-next.result c.loop-i.i c.args.ctx.now.random_state c.args.buffer.now c.loop-i.buffer c.rule_at-rule.ensures
           (sym c.may_follow.ensures ∙ c.if-not-may_follow.true) (record { input = told.input; lookahead = told.lookahead; unflagged = told.unflagged }) i.passed;
       kept = i.kept;
     }
@@ -203,10 +203,11 @@ apply_records-returns-clause-walks t c =
     last_walked (nested_act c.args.table.now.lookups (c.args.depth - 1) c.args.buffer.now.direction (apply_context_of c.args.ctx.now)) (nested_actions c.args.table.now.lookups c.args.depth c.args.buffer.now.direction (apply_context_of c.args.ctx.now)) c.args.records.now c.loop-lookup_record.lookup_record-index c.args.ctx.now.random_state c.args.ctx.now.random_state c.args.buffer.now c.loop-lookup_record.buffer c.args.indices.now.items c.loop-lookup_record.indices.items c.args.end c.loop-lookup_record.at
     (some_depth c.args.table.now.lookups c.args.depth c.args.buffer.now.direction (apply_context_of c.args.ctx.now) (λ e. absurd (omega (arith, e, c.if-depth-eq0.false)))) c.loop-lookup_record-test.false i.walked
 
-pub apply_rule-returns-then-not-first_matches-clause-performs : goal.apply_rule-returns-then-not-first_matches-clause-performs
-apply_rule-returns-then-not-first_matches-clause-performs t c =
+pub apply_rule-returns-then-fails_unflagged-clause-performs : goal.apply_rule-returns-then-fails_unflagged-clause-performs
+apply_rule-returns-then-fails_unflagged-clause-performs t c =
     let a = apply_context_of c.args.ctx.now in
-    not_begun (nested_actions c.args.table.now.lookups c.args.depth c.args.buffer.now.direction a) a (chain_of c.args.rule.now) c.first_matches.result c.args.ctx.now.random_state c.args.buffer.now c.cur.result.now c.cur.ensures c.first_matches.ensures c.if-not-first_matches.true
+    let nest = nested_actions c.args.table.now.lookups c.args.depth c.args.buffer.now.direction a in
+    rule_passed a nest (chain_of c.args.rule.now) c.args.ctx.now.random_state c.args.buffer.now c.args.buffer.now (c.fails_unflagged.ensures c.if-fails_unflagged.true nest)
 
 pub apply_rule-returns-in-Ok-clause-performs : goal.apply_rule-returns-in-Ok-clause-performs
 apply_rule-returns-in-Ok-clause-performs t c =

@@ -22,6 +22,7 @@ invariant_of-result c =
           (wanted_rise (is_wanted tables) c.self.inside.requests.items c.in_ok-requests.requests.items c.in_ok-wanted.wanted.items r w) k f,
       flagless c.in_ok-wanted.wanted.items c.in_ok-kept.kept.items c.global_mask.result k m,
       features_apart tables c.in_ok-wanted.wanted.items c.in_ok-kept.kept.items c.in_ok-features.features.items k f,
+      rw c.deref-12.ensures.value at c.new.ensures,
     )
 
 pub returns : goal.returns
