@@ -198,8 +198,10 @@ def chain(kerning: Kerning, records: Records, called: dict[tuple[int, ...], int]
         "format": "classes",
         "classes": [class_rows(kerning.left), class_rows(kerning.right), []],
         "first": sorted(kerning.right),
+        # In the order of the input's classes, those of the second glyph: so its rules are found by halves. At most one
+        # of them matches, whatever the order.
         "rules": [
             [[first], [second], [], [[0, called[tuple(records[distance][1])]]]]
-            for (first, second), distance in sorted(kerning.distances.items())
+            for (first, second), distance in sorted(kerning.distances.items(), key=lambda pair: pair[0][::-1])
         ],
     }
