@@ -12,7 +12,7 @@ use Rattle.buffer_breaks.specs.Fragments.{AreNamed, with_ligature_renamed, as_th
 use Rattle.buffer_breaks.specs.Divisible.{IsBreakable, IsSpared}
 
 -- the events of a fragment of m glyphs, and then those of the one after it, with the indices of both; where a reading
--- goes backward, those of the second come first
+-- runs backward, those of the second come first
 abbrev pub events_in_line : Bool → List Event → List Event → ℕ → List Event
 events_in_line false es fs m = es ++ map (shifted_event (count_after es m)) fs
 events_in_line true es fs m = map (shifted_event m) fs ++ es

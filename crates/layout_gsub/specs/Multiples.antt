@@ -47,7 +47,7 @@ abbrev pub neighbours_flagged : Cut → Event
 neighbours_flagged c = StrictBreak (length c.front - 1) (length c.front + min 2 (length c.rest))
 
 -- the item at the cut is deleted: where PRODUCE_SAFE_BREAKS is requested, its neighbours are unsafe to break, since they
--- come to stand side by side
+-- become neighbours of each other
 abbrev pub deletion : Action
 deletion c = Acts (record c { rest = drop 1 c.rest }) (neighbours_flagged c ∷ Delete (length c.front) ∷ [])
 

@@ -28,7 +28,7 @@ use layout_map_features::required::RequiredFeature;
 use std::alloc::{AllocError, Global};
 use std::marker::Model;
 
-/// For how many requests there is room from the first one on. Most texts have so many at most.
+/// For how many requests there is room from the first one on. Most texts have at most that number.
 const REQUESTS: usize = 64;
 
 /// Collects requests for features and pauses between the stages of a font's layout tables.

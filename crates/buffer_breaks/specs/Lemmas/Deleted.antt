@@ -182,12 +182,12 @@ end_gives p x (q ∷ qs) last ne h = by_test (list_all (λ (k : Origin). k.clust
         any_here (is_unsafe_of x.cluster) (cast x.cluster x.flags q) (map (cast x.cluster x.flags) qs) (cast_gives x q (λ same. ne (sym here ∙ same)) h)
     by_test false e rest = any_more (is_unsafe_of x.cluster) q (end_cast p x qs) (end_rest p x q qs last e rest)
 
--- its cluster goes on beside it
+-- its cluster keeps a glyph beside it
 both_beside : (c : ℕ) (front : List Origin) (x : Origin) (back : List Origin) → IsOrdered (numbers front ++ x.cluster ∷ numbers back) → x.cluster ≡ c → Has (numbers (front ++ back)) c → IsBeside c (length front) (front ++ back)
 both_beside c front x back o e there =
     seam_beside c front back (beside_range c (numbers front) (x.cluster ∷ []) (numbers back) o (subst (λ n. Has (x.cluster ∷ []) n) e (has_here x.cluster [])) (subst (λ (ns : List ℕ). Has ns c) (numbers_both front back) there))
 
--- the first two merged, without the first, whose number goes on
+-- the first two merged, without the first, whose number stays
 merged_first : (m : Manner) (c n : ℕ) (ns : List ℕ) → n ≡ c → IsOrdered (n ∷ ns) → Has (drop 1 (numbers_merged_as m 0 2 (n ∷ ns))) c → first_of (drop 1 (numbers_merged_as m 0 2 (n ∷ ns))) ≡ Some c
 merged_first Unites c n ns e o there =
     let range = range_of 0 2 (n ∷ ns) in

@@ -235,8 +235,8 @@ replaced_beside c at taken given os o h there = by_rest (drop at os) refl
     back : List Origin
     back = drop (at + taken) os
 
-    by_gone : (x : Origin) (rest gone : List Origin) → drop at os ≡ x ∷ rest → take taken (drop at os) ≡ x ∷ gone → IsBeside c (at + given) (elements_replaced at taken given os)
-    by_gone x rest gone e f =
+    by_left : (x : Origin) (rest gone : List Origin) → drop at os ≡ x ∷ rest → take taken (drop at os) ≡ x ∷ gone → IsBeside c (at + given) (elements_replaced at taken given os)
+    by_left x rest gone e f =
         let new = copies given (Some x) in
         let is : elements_replaced at taken given os ≡ (front ++ new) ++ back = ap (λ (xs : List Origin). (front ++ copies given (or (first_of xs) (last_of front))) ++ back) e in
         let count = length-drop at os in
@@ -257,7 +257,7 @@ replaced_beside c at taken given os o h there = by_rest (drop at os) refl
 
     by_taken : (n : ℕ) (x : Origin) (rest : List Origin) → taken ≡ n → drop at os ≡ x ∷ rest → IsBeside c (at + given) (elements_replaced at taken given os)
     by_taken zero x rest d e = let none : Has (numbers (take zero (drop at os))) c = subst (λ n. Has (numbers (take n (drop at os))) c) d h in cc
-    by_taken (suc n) x rest d e = by_gone x rest (take n rest) e (ap (λ m. take m (drop at os)) d ∙ ap (take (suc n)) e)
+    by_taken (suc n) x rest d e = by_left x rest (take n rest) e (ap (λ m. take m (drop at os)) d ∙ ap (take (suc n)) e)
 
     by_rest : (rest : List Origin) → drop at os ≡ rest → IsBeside c (at + given) (elements_replaced at taken given os)
     by_rest [] e = let none : Has [] c = subst (λ (xs : List Origin). Has (numbers xs) c) (ap (take taken) e ∙ take-nil {A = Origin} taken) h in cc
