@@ -166,7 +166,7 @@ OPTIONS = (
     Option("no-dotted-circle", "put no dotted circle before a lone mark"),
     Option("unsafe-to-concat", "mark where texts may not be put together"),
     Option("safe-to-insert-tatweel", "mark where a tatweel may stand"),
-    Option("safe-breaks", "mark each place where a text may not be cut", is_own=True),
+    Option("safe-breaks", "mark each glyph before which a text may not be cut"),
     Option("no-glyph-names", "print glyph numbers"),
     Option("utf8-clusters", "as always: clusters are bytes", is_own=True),
     Option("no-clusters", "print no clusters"),

@@ -413,7 +413,7 @@ class Verified(unittest.TestCase):
     def test_broken(self) -> None:
         cases: dict[str, Callable[[str, list[str], list[str]], list[str]]] = {
             "cluster level 2 gives other glyphs": lambda level, more, lines: ["1=0+5"] if level == "2" else lines,
-            "flags that are asked for change": lambda level, more, lines: ["1=0+5"] if len(more) == 2 else lines,
+            "flags that are asked for change": lambda level, more, lines: ["1=0+5"] if len(more) == 3 else lines,
             "cluster 2 is no byte": lambda level, more, lines: ["1=0+5|2=2+6", *lines[1:]],
             "glyphs of cluster 0 have different flags": lambda level, more, lines: ["1=0+5|2=0+6#1", *lines[1:]],
             "at cluster level 1 the slices don't join": lambda level, more, lines: lines[: 2 if level == "1" else 3],
