@@ -3,7 +3,7 @@ use Rattle.std.specs.Prelude.{ℕ, suc, ◌≡◌, ◌≤◌, ◌+◌, ◌⊎◌
 use Rattle.buffer_glyphs.specs.declared.level.BufferClusterLevel.{BufferClusterLevel}
 use Rattle.buffer_glyphs.specs.Events.{Event, Merge, MergeGrapheme, Replace, Circle, Delete, Move, Arrange, Sort, Reverse, Break, Concat, Tatweel, StrictBreak, Spread, Reset}
 use Rattle.buffer_core.specs.Readings.{View, Read, Stage, BufferState, state_after}
-use Rattle.buffer_stage_laws.specs.Counting.{is_left}
+use Rattle.buffer_parts.specs.Counting.{is_left}
 use Rattle.buffer_breaks.specs.Unsafe.{IsUnsafeAt, HaveSafeBreaks}
 use Rattle.buffer_breaks.specs.Lossless.{AreLossless}
 use Rattle.buffer_breaks.specs.Concat.{without_concats}

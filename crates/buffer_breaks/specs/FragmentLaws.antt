@@ -7,8 +7,8 @@ use Rattle.buffer_parts.specs.Orderly.{IsOrderly}
 use Rattle.buffer_parts.specs.Counts.{count_after}
 use Rattle.buffer_core.specs.Readings.{Read, Stage, BufferState, and_then, always, as_it_is, state_after}
 use Rattle.buffer_stages.specs.Stages.{with_items_mapped}
-use Rattle.buffer_stage_laws.specs.Stages.{KeepsParts}
-use Rattle.buffer_stage_laws.specs.Chains.{only_if}
+use Rattle.buffer_parts.specs.Stages.{KeepsParts}
+use Rattle.buffer_parts.specs.Chains.{only_if}
 use Rattle.buffer_breaks.specs.Unsafe.{IsUnsafeAt}
 use Rattle.buffer_breaks.specs.Lossless.{AreLossless}
 use Rattle.buffer_breaks.specs.Bound.{bound_span}

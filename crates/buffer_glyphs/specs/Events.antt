@@ -3,7 +3,7 @@ use Rattle.std.specs.Prelude.{ℕ, ◌≡◌, ◌≤◌, ◌+◌, Bool, true, fa
 use Rattle.buffer_glyphs.specs.declared.level.BufferClusterLevel.{BufferClusterLevel}
 use Rattle.buffer_glyphs.specs.Parts.{elements_replaced}
 use Rattle.buffer_glyphs.specs.Levels.{grapheme_manner}
-use Rattle.buffer_glyphs.specs.Origins.{Origin, Merging, InList, manner, origins_merged_as, origins_deleted, with_range_arranged, is_seam, spans, spans_merged, origins_circled, origins_marked, origins_flagged, handed_if, Asks, origins_spread, without_marks}
+use Rattle.buffer_glyphs.specs.Origins.{Origin, Merging, InList, manner, origins_merged_as, origins_deleted, with_range_arranged, is_seam, spans, spans_merged, origins_circled, origins_marked, origins_flagged, origins_handed_if, Asks, origins_spread, without_marks}
 
 -- one call, by indices of the whole list before it
 pub data Event : Type 0 where
@@ -59,7 +59,7 @@ strictly_marked false from to os = os
 -- some origins from an index on replaced by copies of the first; where it is requested, they hand on their flags at the
 -- end of the copies
 abbrev pub origins_replaced : Bool → ℕ → ℕ → ℕ → List Origin → List Origin
-origins_replaced breaks at taken given os = handed_if breaks (take taken (drop at os)) (at + given) (elements_replaced at taken given os)
+origins_replaced breaks at taken given os = origins_handed_if breaks (take taken (drop at os)) (at + given) (elements_replaced at taken given os)
 
 -- clusters and flags after one event
 abbrev pub origins_after_event : Asks → BufferClusterLevel → List Origin → Event → List Origin
@@ -67,7 +67,7 @@ origins_after_event asks level os (Merge how from to) = origins_merged_as (manne
 origins_after_event asks level os (MergeGrapheme from to) = origins_merged_as (grapheme_manner level) from to os
 origins_after_event asks level os (Replace at taken given) = origins_replaced asks.breaks at taken given (origins_merged_as (manner InList level) at (at + taken) os)
 origins_after_event asks level os (Circle after beside like) = origins_circled after beside like os
-origins_after_event asks level os (Delete at) = handed_if asks.breaks (take 1 (drop at os)) at (origins_deleted level at os)
+origins_after_event asks level os (Delete at) = origins_handed_if asks.breaks (take 1 (drop at os)) at (origins_deleted level at os)
 origins_after_event asks level os (Move how from order) = with_range_arranged from order (origins_merged_as (manner how level) from (from + length order) os)
 origins_after_event asks level os (Arrange from order) = with_range_arranged from order os
 origins_after_event asks level os (Sort from order) = with_range_arranged from order (spans_merged (manner InList level) from (spans order) os)

@@ -7,7 +7,7 @@ use Rattle.buffer_glyphs.specs.Levels.{IsMonotone}
 use Rattle.buffer_glyphs.specs.declared.info.hb_glyph_info_t.{hb_glyph_info_t}
 use Rattle.buffer_glyphs.specs.Items.{clusters, strip}
 use Rattle.buffer_glyphs.specs.Deleting.{DeletionSides, sides_handed_on}
-use Rattle.buffer_glyphs.specs.Origins.{Origin, Asks, handed_on, numbers, origins, origins_spread}
+use Rattle.buffer_glyphs.specs.Origins.{Origin, Asks, origins_handed_on, numbers, origins, origins_spread}
 use Rattle.buffer_glyphs.specs.Events.{Event, IsPlain, origins_after}
 use Rattle.buffer_glyphs.specs.EventParts.{parts_of, AreEvenRuns, HaveNoConcat}
 use Rattle.buffer_glyphs.specs.Order.{IsOrdered}
@@ -73,7 +73,7 @@ pub record HandOn (gone : List hb_glyph_info_t) (s : DeletionSides) : Type 0 whe
   pub same_front : strip (sides_handed_on gone s).front ≡ strip s.front
   pub same_back : strip (sides_handed_on gone s).back ≡ strip s.back
   pub same_clusters : clusters ((sides_handed_on gone s).front ++ (sides_handed_on gone s).back) ≡ clusters (s.front ++ s.back)
-  pub origins_by_rule : origins ((sides_handed_on gone s).front ++ (sides_handed_on gone s).back) ≡ handed_on (origins gone) (length s.front) (origins (s.front ++ s.back))
+  pub origins_by_rule : origins ((sides_handed_on gone s).front ++ (sides_handed_on gone s).back) ≡ origins_handed_on (origins gone) (length s.front) (origins (s.front ++ s.back))
 
 -- law: so are all glyphs between which others leave
 abbrev pub FlagsAreHandedOn : Type 0

@@ -173,22 +173,22 @@ other_cluster before None = None
 other_cluster before (Some c) = if is_number before c then None else Some c
 
 -- flags of origins that leave handed on to the last one before them
-abbrev pub handed_before : List Origin → List Origin → List Origin
-handed_before gone front = with_last_changed (flags_added (flags_for (last_of (numbers front)) gone)) front
+abbrev pub origins_handed_before : List Origin → List Origin → List Origin
+origins_handed_before gone front = with_last_changed (flags_added (flags_for (last_of (numbers front)) gone)) front
 
 -- flags of origins that leave handed on to the first one after them, where the one before them is of another cluster
-abbrev pub handed_after : List Origin → Option ℕ → List Origin → List Origin
-handed_after gone before back = with_first_changed (flags_added (flags_for (other_cluster before (first_of (numbers back))) gone)) back
+abbrev pub origins_handed_after : List Origin → Option ℕ → List Origin → List Origin
+origins_handed_after gone before back = with_first_changed (flags_added (flags_for (other_cluster before (first_of (numbers back))) gone)) back
 
 -- where origins leave at a seam of those that are left, the neighbour before gets the flags of those of its cluster that
 -- are unsafe to break; the neighbour after gets those of its cluster, unless the neighbour before is of that cluster
-abbrev pub handed_on : List Origin → ℕ → List Origin → List Origin
-handed_on gone seam os = handed_before gone (take seam os) ++ handed_after gone (last_of (numbers (take seam os))) (drop seam os)
+abbrev pub origins_handed_on : List Origin → ℕ → List Origin → List Origin
+origins_handed_on gone seam os = origins_handed_before gone (take seam os) ++ origins_handed_after gone (last_of (numbers (take seam os))) (drop seam os)
 
--- `handed_on` where it is requested (PRODUCE_SAFE_BREAKS)
-abbrev pub handed_if : Bool → List Origin → ℕ → List Origin → List Origin
-handed_if true gone seam os = handed_on gone seam os
-handed_if false gone seam os = os
+-- `origins_handed_on` where it is requested (PRODUCE_SAFE_BREAKS)
+abbrev pub origins_handed_if : Bool → List Origin → ℕ → List Origin → List Origin
+origins_handed_if true gone seam os = origins_handed_on gone seam os
+origins_handed_if false gone seam os = os
 
 -- ---- flags at the end
 

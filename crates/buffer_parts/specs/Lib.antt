@@ -12,3 +12,12 @@ pub mod Laws
 pub mod TextLaws
 pub mod CountLaws
 pub mod KeepingLaws
+pub mod Chains
+pub mod Alike
+pub mod AlikeLaws
+pub mod Counting
+pub mod BudgetLaws
+pub mod Stages
+pub mod PlainStages
+pub mod Rules
+pub mod StageLaws

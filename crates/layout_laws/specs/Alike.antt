@@ -2,7 +2,7 @@
 use Rattle.std.specs.Prelude.{ℕ, ◌≡◌, Option, Some, None}
 use Rattle.buffer_stages.specs.Actions.{Cut, Outcome, Passes, Acts, Refuses, Action}
 use Rattle.layout_contexts.specs.Nested.{RecordsOutcome, Walks, Stops}
-use Rattle.buffer_stage_laws.specs.Alike.{attachment_bit}
+use Rattle.buffer_parts.specs.Alike.{attachment_bit}
 
 -- a cut with another limit of length and other scratch flags
 abbrev pub cut_as : ℕ → ℕ → Cut → Cut

@@ -2,7 +2,7 @@
 use Rattle.std.specs.Prelude.{ℕ, ℤ, ◌≡◌, Bool, true, Option, Some, None}
 use Rattle.buffer_stages.specs.Actions.{Cut, Outcome, Passes, Acts, Refuses, Action}
 use Rattle.layout_contexts.specs.Nested.{RecordsOutcome, Walks, Stops}
-use Rattle.buffer_stage_laws.specs.Counting.{IsFair}
+use Rattle.buffer_parts.specs.Counting.{IsFair}
 
 -- a cut with its budget changed
 abbrev pub rebudgeted_cut : (ℤ → ℤ) → Cut → Cut

@@ -5,8 +5,8 @@ use Rattle.layout_map.specs.Compiled.{OtMapValue}
 use Rattle.buffer_stages.specs.Pauses.{Pauses}
 use Rattle.layout_substitution.specs.Substituting.{substitution_stages}
 use Rattle.layout_positioning.specs.Positioning.{positioning_stages}
-use Rattle.buffer_stage_laws.specs.Alike.{DependsOnNoLength}
-use Rattle.buffer_stage_laws.specs.Counting.{CountsBudget}
+use Rattle.buffer_parts.specs.Alike.{DependsOnNoLength}
+use Rattle.buffer_parts.specs.Counting.{CountsBudget}
 
 -- substitution depends on no limit of length where no pause does
 abbrev pub SubstitutionDependsOnNoLength : Type 0

@@ -11,7 +11,7 @@ use Rattle.layout_contexts.specs.Nested.{has_budget}
 use Rattle.layout_contexts.specs.Chains.{context_subtable}
 use Rattle.layout_substitution.specs.Substituting.{substitution_stages}
 use Rattle.layout_positioning.specs.Positioning.{positioning_stages}
-use Rattle.buffer_stage_laws.specs.Counting.{is_left}
+use Rattle.buffer_parts.specs.Counting.{is_left}
 
 -- units were taken of a budget, each while one was left: none of a budget of none, and never more than there were
 pub record IsTaken (given left : ℤ) : Type 0 where

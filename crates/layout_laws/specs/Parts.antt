@@ -5,7 +5,7 @@ use Rattle.layout_map.specs.Compiled.{OtMapValue}
 use Rattle.buffer_stages.specs.Pauses.{Pauses}
 use Rattle.layout_substitution.specs.Substituting.{substitution_stages}
 use Rattle.layout_positioning.specs.Positioning.{positioning_stages}
-use Rattle.buffer_stage_laws.specs.Stages.{KeepsParts, StaysUnturned}
+use Rattle.buffer_parts.specs.Stages.{KeepsParts, StaysUnturned}
 
 -- substitution keeps the parts of a text where each pause does
 abbrev pub SubstitutionKeepsParts : Type 0

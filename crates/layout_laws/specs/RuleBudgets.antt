@@ -5,7 +5,7 @@ use Rattle.buffer_stages.specs.Actions.{Action, first_rule}
 use Rattle.layout_match.specs.Applied.{ApplyContext}
 use Rattle.layout_match.specs.Trying.{met_first, forward_pass}
 use Rattle.layout_contexts.specs.Nested.{each_nested, cut_after_match}
-use Rattle.buffer_stage_laws.specs.Counting.{CountsBudget}
+use Rattle.buffer_parts.specs.Counting.{CountsBudget}
 use Rattle.layout_laws.specs.Counting.{RuleCountsBudget, NestCountsBudget}
 
 -- the first of some rules counts the budget where each does

@@ -5,8 +5,8 @@ use Rattle.layout_tables.specs.declared.context.SequenceLookupRecord.{SequenceLo
 use Rattle.buffer_stages.specs.Actions.{Cut, whole, Action}
 use Rattle.layout_match.specs.Trying.{met_first, forward_pass}
 use Rattle.layout_contexts.specs.Nested.{each_nested, cut_after_match}
-use Rattle.buffer_stage_laws.specs.Stages.{KeepsParts}
-use Rattle.buffer_stage_laws.specs.Rules.{OutcomeKeepsParts, RuleKeepsParts}
+use Rattle.buffer_parts.specs.Stages.{KeepsParts}
+use Rattle.buffer_parts.specs.Rules.{OutcomeKeepsParts, RuleKeepsParts}
 
 -- a rule that keeps the parts of a text keeps them where it is tried at the items that its lookup meets
 abbrev pub MetRulesKeepParts : Type 0

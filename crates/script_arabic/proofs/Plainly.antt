@@ -9,7 +9,7 @@ use Rattle.buffer_core.specs.Readings.{Reading, with_events}
 use Rattle.layout_face.specs.declared.parts.FaceParts.{FaceParts}
 use Rattle.buffer_parts.specs.Plainly.{ArePlainlyKept}
 use Rattle.buffer_parts.specs.Lemmas.Plainly.{plainly_in_turn, replacement_kept, steady_kept}
-use Rattle.buffer_stage_laws.specs.Lemmas.Plainly.{ReadsPlainly, limited_plainly}
+use Rattle.buffer_parts.specs.Lemmas.PlainStages.{ReadsPlainly, limited_plainly}
 use Rattle.script_arabic.specs.declared.runs.Run.{Run}
 use Rattle.script_arabic.specs.declared.tile.Tile.{Tile}
 use Rattle.script_arabic.specs.Laying.{is_in_range, tiles}

@@ -4,7 +4,7 @@ use Rattle.std.specs.List.{list_all}
 use Rattle.layout_face.specs.declared.parts.FaceParts.{FaceParts}
 use Rattle.buffer_glyphs.specs.Items.{Item, Position}
 use Rattle.buffer_glyphs.specs.Parts.{first_of}
-use Rattle.buffer_stage_laws.specs.Plainly.{KeepsPlainly}
+use Rattle.buffer_parts.specs.PlainStages.{KeepsPlainly}
 use Rattle.script_arabic.specs.declared.runs.Before.TheVariants.{Word}
 use Rattle.script_arabic.specs.Copies.{copies}
 use Rattle.script_arabic.specs.Runs.{unmeasured_run, runs, with_tiles}

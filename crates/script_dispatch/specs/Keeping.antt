@@ -7,7 +7,7 @@ use Rattle.layout_face.specs.declared.parts.FaceParts.{FaceParts}
 use Rattle.buffer_core.specs.Readings.{always}
 use Rattle.layout_map.specs.Compiled.{OtMapValue}
 use Rattle.buffer_stages.specs.Stages.{with_items_mapped}
-use Rattle.buffer_stage_laws.specs.Plainly.{KeepsPlainly}
+use Rattle.buffer_parts.specs.PlainStages.{KeepsPlainly}
 use Rattle.script_plan.specs.Rules.{EndAfterStart, Spans}
 use Rattle.script_categories.specs.declared.shaper.hb_ot_script_shaper_t.{hb_ot_script_shaper_t}
 use Rattle.script_thai.specs.ThaiPrivate.{with_private}

@@ -13,9 +13,9 @@ use Rattle.buffer_stages.specs.Parts.{first_to_back}
 use Rattle.buffer_stages.specs.Rewriting.{by_syllable, each_rewritten, in_syllables, within}
 use Rattle.buffer_stages.specs.SyllableLaws.{IsPermuted}
 use Rattle.buffer_stages.specs.Lemmas.Numbers.{same_numbers, syllables_permute, then_permutes}
-use Rattle.buffer_stage_laws.specs.Plainly.{KeepsPlainly}
-use Rattle.buffer_stage_laws.specs.Lemmas.Plainly.{IsSteady, mapped_plainly, rule_plainly, same_plainly, then_steady, within_steady}
-use Rattle.buffer_stage_laws.specs.Lemmas.Steady.{shifted_steady}
+use Rattle.buffer_parts.specs.PlainStages.{KeepsPlainly}
+use Rattle.buffer_parts.specs.Lemmas.PlainStages.{IsSteady, mapped_plainly, rule_plainly, same_plainly, then_steady, within_steady}
+use Rattle.buffer_parts.specs.Lemmas.Steady.{shifted_steady}
 use Rattle.script_categories.specs.declared.shaper.hb_ot_script_shaper_t.TheVariants.{INDIC_SHAPER}
 use Rattle.script_categories.specs.Shapers.{is_reordered}
 use Rattle.script_indic_reordering.specs.declared.script.IndicMasks.{IndicMasks}

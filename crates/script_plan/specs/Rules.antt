@@ -11,9 +11,9 @@ use Rattle.buffer_parts.specs.Turns.{IsUnturned}
 use Rattle.buffer_core.specs.Readings.{Stage, as_it_is}
 use Rattle.buffer_stages.specs.Settings.{TextSettings}
 use Rattle.buffer_stages.specs.Pauses.{Pauses}
-use Rattle.buffer_stage_laws.specs.Stages.{KeepsPartsInLine}
-use Rattle.buffer_stage_laws.specs.Alike.{DependsOnNoLength}
-use Rattle.buffer_stage_laws.specs.Counting.{CountsBudget}
+use Rattle.buffer_parts.specs.Stages.{KeepsPartsInLine}
+use Rattle.buffer_parts.specs.Alike.{DependsOnNoLength}
+use Rattle.buffer_parts.specs.Counting.{CountsBudget}
 use Rattle.buffer_glyphs.specs.Rewriting.{Arrangement, eventless_arrangement, shifted_event}
 
 -- the end and the kind of the syllable that begins at an index, by the categories of all glyphs

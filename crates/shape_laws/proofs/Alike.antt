@@ -18,10 +18,10 @@ use Rattle.buffer_core.specs.Readings.{BufferState, Follows, Read, Reading, Stag
 use Rattle.buffer_core.specs.Segment.{after_guess_segment_properties}
 use Rattle.buffer_core.specs.Sides.{Sides, all_glyphs, state_of, view_of}
 use Rattle.buffer_stages.specs.Settings.{TextSettings, text_settings}
-use Rattle.buffer_stage_laws.specs.Alike.{attachment_bit}
-use Rattle.buffer_stage_laws.specs.Counting.{SeenAlikeInAll, Uses, at_budget}
-use Rattle.buffer_stage_laws.specs.Lemmas.Both.{used_alike_are_read}
-use Rattle.buffer_stage_laws.specs.Lemmas.Counting.{counting_has_uses, counting_spares_budget, sparing_reads_the_same}
+use Rattle.buffer_parts.specs.Alike.{attachment_bit}
+use Rattle.buffer_parts.specs.Counting.{SeenAlikeInAll, Uses, at_budget}
+use Rattle.buffer_parts.specs.Lemmas.Both.{used_alike_are_read}
+use Rattle.buffer_parts.specs.Lemmas.Counting.{counting_has_uses, counting_spares_budget, sparing_reads_the_same}
 use Rattle.buffer_unicode_tables.specs.Tables.{Tables}
 use Rattle.buffer_properties.specs.Properties.{is_mark_character}
 use Rattle.layout_face.specs.declared.parts.FaceParts.{FaceParts}

@@ -9,7 +9,7 @@ use Rattle.buffer_glyphs.specs.declared.cause.ShapeCause.{ShapeCause}
 use Rattle.buffer_core.specs.Readings.{BufferState, Read, Reading, Stage, View, always}
 use Rattle.buffer_core.specs.Sides.{Sides, state_of, view_of}
 use Rattle.buffer_stages.specs.Settings.{text_settings}
-use Rattle.buffer_stage_laws.specs.Counting.{CountsBudget, IsFair, ReadingCounts, at_budget, is_left, with_budget_changed}
+use Rattle.buffer_parts.specs.Counting.{CountsBudget, IsFair, ReadingCounts, at_budget, is_left, with_budget_changed}
 use Rattle.script_dispatch.specs.Lemmas.Limits.{rules_depend_on_no_limit}
 use Rattle.script_dispatch.specs.Requests.{any_kind}
 use Rattle.script_plan.specs.Plans.{planned_shaper, text_plan}

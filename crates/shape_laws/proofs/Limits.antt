@@ -6,9 +6,9 @@ use Rattle.buffer_glyphs.specs.Events.{Break, Concat, Reverse}
 use Rattle.buffer_core.specs.Readings.{Read, Stage, View, always, then_read, with_events}
 use Rattle.buffer_stages.specs.PositionMaps.{with_positions_mapped}
 use Rattle.shape_glyphs.specs.Widths.{ignorable_position}
-use Rattle.buffer_stage_laws.specs.Alike.{ReadAlike, ReadingsAlike, attachment_bit, with_limit_and_flags}
-use Rattle.buffer_stage_laws.specs.Counting.{ReadingCounts, with_budget_changed}
-use Rattle.buffer_stage_laws.specs.Lemmas.Alike.{at_alike, views_alike}
+use Rattle.buffer_parts.specs.Alike.{ReadAlike, ReadingsAlike, attachment_bit, with_limit_and_flags}
+use Rattle.buffer_parts.specs.Counting.{ReadingCounts, with_budget_changed}
+use Rattle.buffer_parts.specs.Lemmas.Alike.{at_alike, views_alike}
 use Rattle.layout_offsets.specs.Finishing.{all_drawn_if, has_attachments, links_followed}
 use Rattle.layout_offsets.specs.Starting.{links_cleared}
 use Rattle.layout_laws.specs.Lemmas.Budgets.{positioning_counts_budget, substitution_counts_budget}

@@ -1,7 +1,7 @@
 -- Views on the way through stages in order.
 use Rattle.std.proofs.Common.{◌≡◌, List, [], ◌∷◌, Ok, Err, refl, sym, ap, ◌∙◌}
 use Rattle.buffer_core.specs.Readings.{Read, Reading, Stage, View, always, and_then, then_read, then_reading, with_events}
-use Rattle.buffer_stage_laws.specs.Lemmas.Stages.{both_read}
+use Rattle.buffer_parts.specs.Lemmas.Stages.{both_read}
 use Rattle.shape_pipeline.specs.Chains.{in_order}
 
 -- a stage does not refuse a view, and leads to another

@@ -3,7 +3,7 @@ use Rattle.std.specs.Prelude.{ℕ, ℤ, pos, negsuc, ◌≡◌, nat_le, Bool, fa
 use Rattle.buffer_core.specs.Readings.{Read, Stage, View, always}
 use Rattle.buffer_core.specs.Settings.{steps_limit}
 use Rattle.buffer_core.specs.Sides.{Sides, all_glyphs, view_of}
-use Rattle.buffer_stage_laws.specs.Counting.{Uses, at_budget}
+use Rattle.buffer_parts.specs.Counting.{Uses, at_budget}
 use Rattle.script_plan.specs.Rules.{DependsOnNoLimit, RulesDependOnNoLimit}
 use Rattle.shape_glyphs.specs.Flags.{with_flags_spread}
 use Rattle.shape_glyphs.specs.Ignorables.{ignorables_hidden}

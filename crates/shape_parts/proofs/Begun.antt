@@ -10,9 +10,9 @@ use Rattle.buffer_unicode_tables.specs.Lawful.{AsciiHasNoMarks}
 use Rattle.buffer_unicode_tables.specs.Tables.{Tables}
 use Rattle.buffer_core.specs.Readings.{Read, Stage, View, always, then_reading}
 use Rattle.buffer_core.specs.Steps.{then_as_it_is}
-use Rattle.buffer_stage_laws.specs.Lemmas.Stages.{at_read, both_read, stages_keep_parts}
-use Rattle.buffer_stage_laws.specs.Lemmas.Plainly.{even_plainly}
-use Rattle.buffer_stage_laws.specs.Stages.{KeepsParts}
+use Rattle.buffer_parts.specs.Lemmas.Stages.{at_read, both_read, stages_keep_parts}
+use Rattle.buffer_parts.specs.Lemmas.PlainStages.{even_plainly}
+use Rattle.buffer_parts.specs.Stages.{KeepsParts}
 use Rattle.layout_face.specs.declared.parts.FaceParts.{FaceParts}
 use Rattle.shape_text.specs.Masks.{with_one_mask}
 use Rattle.shape_text.specs.Circle.{first_circle}

@@ -15,9 +15,9 @@ use Rattle.buffer_parts.specs.Plainly.{ArePlainlyKept, AreSteady}
 use Rattle.buffer_parts.specs.Lemmas.Plainly.{circle_kept, steady_kept}
 use Rattle.buffer_core.specs.Readings.{View, Reading, as_it_is, with_events}
 use Rattle.buffer_core.specs.Sides.{zero_positions}
-use Rattle.buffer_stage_laws.specs.Plainly.{KeepsPlainly}
-use Rattle.buffer_stage_laws.specs.Lemmas.Plainly.{ReadsPlainly, even_plainly, limited_plainly, same_plainly}
-use Rattle.buffer_stage_laws.specs.Lemmas.Stages.{at_read}
+use Rattle.buffer_parts.specs.PlainStages.{KeepsPlainly}
+use Rattle.buffer_parts.specs.Lemmas.PlainStages.{ReadsPlainly, even_plainly, limited_plainly, same_plainly}
+use Rattle.buffer_parts.specs.Lemmas.Stages.{at_read}
 use Rattle.buffer_properties.specs.Properties.{scratch_flags_of}
 use Rattle.layout_face.specs.declared.parts.FaceParts.{FaceParts}
 use Rattle.layout_face.specs.Glyphs.{nominal_glyph}

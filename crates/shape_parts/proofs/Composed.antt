@@ -13,7 +13,7 @@ use Rattle.buffer_parts.specs.Lemmas.Keeping.{kept_in_turn, ligatures_keep_parts
 use Rattle.buffer_properties.specs.Characters.{mark_class}
 use Rattle.buffer_properties.specs.Composing.{composed_list, composite, composition_from, with_composition}
 use Rattle.buffer_properties.specs.Normalizer.{Normalizer}
-use Rattle.buffer_stage_laws.specs.Lemmas.Stages.{nothing_keeps}
+use Rattle.buffer_parts.specs.Lemmas.Stages.{nothing_keeps}
 
 -- an arrangement of n items keeps their parts, and reverses no list
 pub record ArrangesInLine (n : ℕ) (a : Arrangement) : Type 0 where

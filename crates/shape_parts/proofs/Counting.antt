@@ -3,8 +3,8 @@ use Rattle.std.proofs.Common.{◌≡◌, [], ◌∷◌, length, refl, ap, subst,
 use Rattle.std.proofs.lemmas.List.Sums.{fold-append}
 use Rattle.buffer_parts.specs.Counts.{count_after, count_after_event}
 use Rattle.buffer_core.specs.Readings.{Read, Stage, always, with_events}
-use Rattle.buffer_stage_laws.specs.Lemmas.Stages.{at_read, both_read}
-use Rattle.buffer_stage_laws.specs.Stages.{KeepsParts}
+use Rattle.buffer_parts.specs.Lemmas.Stages.{at_read, both_read}
+use Rattle.buffer_parts.specs.Stages.{KeepsParts}
 use Rattle.shape_text.specs.Circle.{first_circle}
 use Rattle.shape_text.specs.Clusters.{with_clusters}
 use Rattle.shape_text.specs.Fractions.{with_fractions}

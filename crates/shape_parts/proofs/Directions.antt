@@ -6,7 +6,7 @@ use Rattle.buffer_glyphs.specs.Items.{Item}
 use Rattle.buffer_core.specs.Readings.{Read, Reading, Stage, View, always, and_then, as_it_is, then_reading, with_events}
 use Rattle.buffer_stages.specs.Actions.{Action, Acts, Cut, Outcome, Passes, Refuses, uncut, uncut_with_positions, view_at}
 use Rattle.buffer_stages.specs.Pauses.{Pauses, with_own_random}
-use Rattle.buffer_stage_laws.specs.Lemmas.Stages.{at_read, both_read}
+use Rattle.buffer_parts.specs.Lemmas.Stages.{at_read, both_read}
 use Rattle.layout_face.specs.declared.parts.FaceParts.{FaceParts}
 use Rattle.layout_map.specs.Compiled.{OtMapValue}
 use Rattle.layout_match.specs.Trying.{after_outcome, outcome_past_item, trial_at, trials, whole_list, with_zero_positions}

@@ -15,7 +15,7 @@ use Rattle.buffer_parts.specs.Turns.{IsUnturned}
 use Rattle.buffer_parts.specs.Lemmas.Plainly.{both_steady, steady_kept}
 use Rattle.buffer_glyphs.specs.PropertyWords.{is_default_ignorable}
 use Rattle.buffer_core.specs.Readings.{View, Read, always, with_events}
-use Rattle.buffer_stage_laws.specs.Lemmas.Plainly.{ReadsPlainly, even_plainly}
+use Rattle.buffer_parts.specs.Lemmas.PlainStages.{ReadsPlainly, even_plainly}
 use Rattle.layout_offsets.specs.Finishing.{all_drawn_if, has_attachments, links_followed}
 use Rattle.layout_offsets.specs.Starting.{links_cleared}
 use Rattle.shape_fallback.specs.Classes.{item_with_fallback_class}

@@ -21,7 +21,7 @@ use Rattle.buffer_core.specs.Readings.{BufferState, Read, Reading, Stage, View, 
 use Rattle.buffer_core.specs.Sides.{all_glyphs, items_of, origins_of, state_of}
 use Rattle.buffer_core.specs.Text.{added_glyph, added_text_from, offsets_from}
 use Rattle.buffer_lists.specs.Turning.{groups, in_front}
-use Rattle.buffer_stage_laws.specs.Lemmas.Stages.{at_read, both_read}
+use Rattle.buffer_parts.specs.Lemmas.Stages.{at_read, both_read}
 use Rattle.layout_face.specs.declared.parts.FaceParts.{FaceParts}
 use Rattle.shape_text.specs.declared.graphemes.Before.{Before}
 use Rattle.shape_text.specs.Circle.{circle_like, circled_items, first_circle, needs_circle, with_circle}

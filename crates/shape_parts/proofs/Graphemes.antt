@@ -43,7 +43,7 @@ use Rattle.buffer_parts.specs.Lemmas.Turns.{turns_add_up, unturned_keeps_side}
 use Rattle.buffer_core.specs.Graphemes.{continues as continues_item}
 use Rattle.buffer_core.specs.Readings.{View, Read, Reading, always, with_events}
 use Rattle.buffer_stages.specs.Lemmas.Sorted.{groups_turned_size}
-use Rattle.buffer_stage_laws.specs.Lemmas.Stages.{at_read}
+use Rattle.buffer_parts.specs.Lemmas.Stages.{at_read}
 use Rattle.buffer_properties.specs.Properties.{bit_if, is_hidden_character, is_mark_character, properties_of, scratch_flags_of}
 use Rattle.buffer_properties.proofs.PropertyWords.{category_fits}
 use Rattle.buffer_properties.proofs.Words.{at_most_one, word_of}

@@ -14,8 +14,8 @@ use Rattle.buffer_parts.specs.Keeping.{HaveParts}
 use Rattle.buffer_parts.specs.Turns.{IsUnturned}
 use Rattle.buffer_parts.specs.Lemmas.Turns.{turns_add_up, unturned_keeps_side}
 use Rattle.buffer_core.specs.Readings.{BufferState, Read, Reading, Stage, View, always, and_then, as_it_is, state_after, with_events}
-use Rattle.buffer_stage_laws.specs.Stages.{StaysUnturned}
-use Rattle.buffer_stage_laws.specs.Lemmas.Stages.{at_read, both_read, same_unturned, stages_stay_unturned}
+use Rattle.buffer_parts.specs.Stages.{StaysUnturned}
+use Rattle.buffer_parts.specs.Lemmas.Stages.{at_read, both_read, same_unturned, stages_stay_unturned}
 use Rattle.layout_laws.specs.Lemmas.Unturned.{positioning_stays_unturned, substitution_stays_unturned}
 use Rattle.layout_offsets.specs.Finishing.{links_followed}
 use Rattle.layout_substitution.specs.Substituting.{substitution_stages}

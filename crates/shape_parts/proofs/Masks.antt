@@ -11,7 +11,7 @@ use Rattle.buffer_glyphs.specs.Items.{Item, item_masked}
 use Rattle.buffer_parts.specs.Lemmas.Plainly.{steady_kept}
 use Rattle.buffer_core.specs.Masks.{items_set}
 use Rattle.buffer_core.specs.Readings.{View, with_events}
-use Rattle.buffer_stage_laws.specs.Lemmas.Plainly.{ReadsPlainly, even_plainly}
+use Rattle.buffer_parts.specs.Lemmas.PlainStages.{ReadsPlainly, even_plainly}
 use Rattle.layout_map.specs.Compiled.{OtMapValue}
 use Rattle.shape_text.specs.declared.fractions.FractionMasks.{FractionMasks}
 use Rattle.shape_text.specs.Masks.{with_one_mask}

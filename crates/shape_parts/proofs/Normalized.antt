@@ -18,7 +18,7 @@ use Rattle.buffer_parts.specs.Lemmas.Turns.{unturned_in_turn}
 use Rattle.buffer_core.specs.Readings.{View, Read, Reading}
 use Rattle.buffer_stages.specs.Appending.{with_arranged}
 use Rattle.buffer_stages.specs.Lemmas.Sorted.{key_order_size}
-use Rattle.buffer_stage_laws.specs.Lemmas.Stages.{at_read}
+use Rattle.buffer_parts.specs.Lemmas.Stages.{at_read}
 use Rattle.buffer_properties.specs.Characters.{is_mark, is_selector, mark_class, unjoined_selector, with_glyph}
 use Rattle.buffer_properties.specs.Expanding.{expanded_group, expanded_groups, expanded_item, expanded_list, expanded_with_marks, item_expansion, items_for, meets_selector, pending_item, piece_of, selection, selections_after, unexpanded_item, with_own_glyph}
 use Rattle.buffer_properties.specs.NormalizedList.{arranged_marks, composition_if, has_later_mark, normalized_items, ordering_if}

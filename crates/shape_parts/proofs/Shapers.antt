@@ -18,7 +18,7 @@ use Rattle.buffer_stages.specs.Cuts.{Syllable, syllables}
 use Rattle.buffer_stages.specs.Settings.{TextSettings}
 use Rattle.buffer_stages.specs.Stages.{with_items_mapped}
 use Rattle.buffer_stages.specs.SyllableBuffers.{with_rule}
-use Rattle.buffer_stage_laws.specs.Lemmas.Stages.{at_read}
+use Rattle.buffer_parts.specs.Lemmas.Stages.{at_read}
 use Rattle.script_categories.specs.Pauses.{pause_of_number}
 use Rattle.script_categories.specs.declared.pause.hb_script_pause_t.{hb_script_pause_t}
 use Rattle.script_categories.specs.declared.pause.hb_script_pause_t.TheVariants.{RecordStch, SetupSyllables, ReorderKhmer, ReorderMyanmar, ClearSyllables, ClearSubstitutionFlags, RecordRphf, RecordPref, ReorderUse, InitialReordering, FinalReordering}

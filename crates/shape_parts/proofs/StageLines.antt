@@ -9,9 +9,9 @@ use Rattle.buffer_parts.specs.Lemmas.Plainly.{plainly_in_turn}
 use Rattle.buffer_parts.specs.Lemmas.Turns.{turns_add_up, unturned_keeps_side}
 use Rattle.buffer_core.specs.Readings.{View, Read, Stage, always, and_then, as_it_is, then_read, with_events}
 use Rattle.buffer_stages.specs.Stages.{with_items_mapped}
-use Rattle.buffer_stage_laws.specs.Plainly.{KeepsPlainly}
-use Rattle.buffer_stage_laws.specs.Lemmas.Plainly.{ReadsPlainly, always_plainly, even_plainly, plain_stages_keep_parts, same_plainly}
-use Rattle.buffer_stage_laws.specs.Lemmas.Stages.{at_read, both_read, stages_keep_parts}
+use Rattle.buffer_parts.specs.PlainStages.{KeepsPlainly}
+use Rattle.buffer_parts.specs.Lemmas.PlainStages.{ReadsPlainly, always_plainly, even_plainly, plain_stages_keep_parts, same_plainly}
+use Rattle.buffer_parts.specs.Lemmas.Stages.{at_read, both_read, stages_keep_parts}
 use Rattle.shape_parts.specs.Lines.{KeepsDirection, KeepsFall, KeepsPartsOnLine, StaysInLine, falls_on_line}
 use Rattle.shape_parts.specs.StageLaws.{InLineKeepsPartsOnLine, StagesKeepPartsOnLine, WantedKeepPartsOnLine}
 

@@ -26,7 +26,7 @@ use Rattle.buffer_core.specs.Sides.{zero_positions}
 use Rattle.buffer_stages.specs.Moves.{order_of_move}
 use Rattle.buffer_stages.specs.Lemmas.Alone.{merged_alone}
 use Rattle.buffer_stages.specs.Lemmas.Moves.{order_long}
-use Rattle.buffer_stage_laws.specs.Lemmas.Stages.{at_read, both_read}
+use Rattle.buffer_parts.specs.Lemmas.Stages.{at_read, both_read}
 use Rattle.script_syllabic.specs.Graphemes.{merges_by, with_graphemes_merged}
 use Rattle.script_thai.proofs.Vowel.{vowel_long}
 use Rattle.script_thai.specs.Texts.{has_private_forms, private_if}

@@ -9,7 +9,7 @@ use Rattle.buffer_parts.specs.CharacterParts.{AreUnitedByEvents}
 use Rattle.buffer_parts.specs.Fits.{FitsText}
 use Rattle.buffer_parts.specs.Slices.{ShareSlice, slices}
 use Rattle.buffer_core.specs.Readings.{BufferState, Read, state_after}
-use Rattle.buffer_stage_laws.specs.Stages.{KeepsParts}
+use Rattle.buffer_parts.specs.Stages.{KeepsParts}
 use Rattle.shape_parts.specs.Lines.{KeepsPartsOnLine}
 use Rattle.shape_pipeline.specs.Characters.{text_begun}
 use Rattle.shape_pipeline.specs.Reading.{before_ranges, clusters_after, shaping_stage}

@@ -6,7 +6,7 @@ use Rattle.buffer_glyphs.specs.declared.level.BufferClusterLevel.{BufferClusterL
 use Rattle.buffer_glyphs.specs.EventParts.{parts_of}
 use Rattle.buffer_glyphs.specs.Order.{falls_after}
 use Rattle.buffer_core.specs.Readings.{IsMonotone, View, Read, Stage}
-use Rattle.buffer_stage_laws.specs.Stages.{KeepsParts, KeepsPartsInLine}
+use Rattle.buffer_parts.specs.Stages.{KeepsParts, KeepsPartsInLine}
 
 -- a stage leaves the direction of a text as it is
 abbrev pub KeepsDirection : Stage → Type 0

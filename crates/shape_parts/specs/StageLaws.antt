@@ -11,7 +11,7 @@ use Rattle.buffer_glyphs.specs.Items.{Item}
 use Rattle.buffer_parts.specs.Keeping.{AreKept}
 use Rattle.buffer_core.specs.Readings.{View, Read, Stage, and_then, always}
 use Rattle.buffer_properties.specs.Normalizer.{Normalizer}
-use Rattle.buffer_stage_laws.specs.Chains.{only_if}
+use Rattle.buffer_parts.specs.Chains.{only_if}
 use Rattle.layout_face.specs.declared.parts.FaceParts.{FaceParts}
 use Rattle.layout_offsets.specs.Starting.{links_cleared}
 use Rattle.layout_offsets.specs.Finishing.{links_followed}

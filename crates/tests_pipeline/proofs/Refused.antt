@@ -4,7 +4,7 @@ use Rattle.buffer_glyphs.specs.declared.level.BufferClusterLevel.TheVariants.{Mo
 use Rattle.buffer_glyphs.specs.Items.{Item}
 use Rattle.buffer_glyphs.specs.Order.{IsRising}
 use Rattle.buffer_core.specs.Readings.{View}
-use Rattle.buffer_stage_laws.specs.Alike.{SeenAlike}
+use Rattle.buffer_parts.specs.Alike.{SeenAlike}
 use Rattle.tests_pipeline.specs.Refused.{DroppingIsRefused, LimitsAreRefused, ReversingIsRefused}
 
 pub reversing_is_refused : ReversingIsRefused

@@ -8,7 +8,7 @@ use Rattle.std.proofs.Math.Seq.{take-append-add, drop-append-add}
 use Rattle.buffer_glyphs.specs.Parts.{range_of, last_of, last_from, is_number}
 use Rattle.buffer_glyphs.specs.Order.{has_number}
 use Rattle.buffer_glyphs.specs.Merges.{least_number, merged_number}
-use Rattle.buffer_glyphs.specs.Origins.{Origin, numbers, cast, origins_merged, flags_added, with_last_changed, is_unsafe, unsafe_flags, flags_for, other_cluster, handed_before, handed_after, handed_if}
+use Rattle.buffer_glyphs.specs.Origins.{Origin, numbers, cast, origins_merged, flags_added, with_last_changed, is_unsafe, unsafe_flags, flags_for, other_cluster, origins_handed_before, origins_handed_after, origins_handed_if}
 use Rattle.buffer_glyphs.specs.Lemmas.Numbers.{Has, MayHave, has_here, has_more, has_left, has_last, has_take, has_drop}
 use Rattle.buffer_glyphs.specs.Lemmas.Drawn.{last_more}
 use Rattle.buffer_glyphs.specs.Lemmas.Handed.{last_fixed}
@@ -118,22 +118,22 @@ none_after : (before : Option ℕ) (c : ℕ) (gone : List Origin) → Lacks c go
 none_after before c gone none = elim (is_number before c) as (λ (t : Bool). flags_for (if t then None else Some c) gone ≡ 0) [ true ↦ refl | false ↦ none_flags c gone none ]
 
 -- nothing is handed on to a list after that lacks their clusters
-after_first : (gone : List Origin) (before : Option ℕ) (back qs : List Origin) → AreApart gone qs → handed_after gone before (back ++ qs) ≡ handed_after gone before back ++ qs
+after_first : (gone : List Origin) (before : Option ℕ) (back qs : List Origin) → AreApart gone qs → origins_handed_after gone before (back ++ qs) ≡ origins_handed_after gone before back ++ qs
 after_first gone before (b ∷ back) qs apart = refl
 after_first gone before [] [] apart = refl
 after_first gone before [] (q ∷ qs) apart =
     ap (λ (x : Origin). x ∷ qs) (none_added (flags_for (other_cluster before (Some q.cluster)) gone) q (none_after before q.cluster gone (λ h. apart q.cluster h (has_here q.cluster (numbers qs)))))
 
-pub handing_first : (asked : Bool) (gone : List Origin) (seam : ℕ) (os qs : List Origin) → AreApart gone qs → seam ≤ length os → handed_if asked gone seam (os ++ qs) ≡ handed_if asked gone seam os ++ qs
+pub handing_first : (asked : Bool) (gone : List Origin) (seam : ℕ) (os qs : List Origin) → AreApart gone qs → seam ≤ length os → origins_handed_if asked gone seam (os ++ qs) ≡ origins_handed_if asked gone seam os ++ qs
 handing_first false gone seam os qs apart l = refl
 handing_first true gone seam os qs apart l =
     let front = take seam os in
     let back = drop seam os in
     let before = last_of (numbers front) in
-    ap (λ (xs : List Origin). handed_before gone xs ++ handed_after gone (last_of (numbers xs)) (drop seam (os ++ qs))) (take-append-le seam os qs l)
-    ∙ ap (λ (xs : List Origin). handed_before gone front ++ handed_after gone before xs) (drop-append-le seam os qs l)
-    ∙ ap (λ (xs : List Origin). handed_before gone front ++ xs) (after_first gone before back qs apart)
-    ∙ sym (append_assoc (handed_before gone front) (handed_after gone before back) qs)
+    ap (λ (xs : List Origin). origins_handed_before gone xs ++ origins_handed_after gone (last_of (numbers xs)) (drop seam (os ++ qs))) (take-append-le seam os qs l)
+    ∙ ap (λ (xs : List Origin). origins_handed_before gone front ++ origins_handed_after gone before xs) (drop-append-le seam os qs l)
+    ∙ ap (λ (xs : List Origin). origins_handed_before gone front ++ xs) (after_first gone before back qs apart)
+    ∙ sym (append_assoc (origins_handed_before gone front) (origins_handed_after gone before back) qs)
 
 last_lacks : (gone os : List Origin) → AreApart gone os → MayLack (last_of (numbers os)) gone
 last_lacks gone os apart = by_last (last_of (numbers os)) (has_last (numbers os))
@@ -143,7 +143,7 @@ last_lacks gone os apart = by_last (last_of (numbers os)) (has_last (numbers os)
     by_last (Some p) h = λ k. apart p k h
 
 -- nothing is handed on to a list before that lacks their clusters
-none_before : (gone os : List Origin) → AreApart gone os → handed_before gone os ≡ os
+none_before : (gone os : List Origin) → AreApart gone os → origins_handed_before gone os ≡ os
 none_before gone os apart = last_fixed (flags_added (flags_for (last_of (numbers os)) gone)) os (λ o e. none_added (flags_for (last_of (numbers os)) gone) o (by_last (last_of (numbers os)) (last_lacks gone os apart)))
   where
     by_last : (p : Option ℕ) → MayLack p gone → flags_for p gone ≡ 0
@@ -151,7 +151,7 @@ none_before gone os apart = last_fixed (flags_added (flags_for (last_of (numbers
     by_last (Some p) h = none_flags p gone h
 
 -- a neighbour before whose cluster those that leave lack takes nothing from the one after
-after_other : (gone : List Origin) (p : Option ℕ) (back : List Origin) → MayLack p gone → handed_after gone p back ≡ handed_after gone None back
+after_other : (gone : List Origin) (p : Option ℕ) (back : List Origin) → MayLack p gone → origins_handed_after gone p back ≡ origins_handed_after gone None back
 after_other gone p [] none = refl
 after_other gone None (b ∷ back) none = refl
 after_other gone (Some p) (b ∷ back) none = ap (λ (bits : ℕ). flags_added bits b ∷ back) (by_test (p == b.cluster) refl)
@@ -171,21 +171,21 @@ changed_beyond f (o ∷ os) x xs =
 pub same_last : (os : List Origin) (f : Origin) (front : List Origin) → last_of (numbers (os ++ f ∷ front)) ≡ last_of (numbers (f ∷ front))
 same_last os f front = ap last_of (numbers_both os (f ∷ front)) ∙ lasting (numbers os) f.cluster (numbers front)
 
-seam_last : (gone os front back : List Origin) → AreApart gone os → handed_before gone (os ++ front) ++ handed_after gone (last_of (numbers (os ++ front))) back ≡ os ++ (handed_before gone front ++ handed_after gone (last_of (numbers front)) back)
+seam_last : (gone os front back : List Origin) → AreApart gone os → origins_handed_before gone (os ++ front) ++ origins_handed_after gone (last_of (numbers (os ++ front))) back ≡ os ++ (origins_handed_before gone front ++ origins_handed_after gone (last_of (numbers front)) back)
 seam_last gone os [] back apart =
-    ap (λ (xs : List Origin). handed_before gone xs ++ handed_after gone (last_of (numbers xs)) back) (append-nil os)
-    ∙ ap (λ (xs : List Origin). xs ++ handed_after gone (last_of (numbers os)) back) (none_before gone os apart)
+    ap (λ (xs : List Origin). origins_handed_before gone xs ++ origins_handed_after gone (last_of (numbers xs)) back) (append-nil os)
+    ∙ ap (λ (xs : List Origin). xs ++ origins_handed_after gone (last_of (numbers os)) back) (none_before gone os apart)
     ∙ ap (λ (xs : List Origin). os ++ xs) (after_other gone (last_of (numbers os)) back (last_lacks gone os apart))
 seam_last gone os (f ∷ front) back apart =
     let p = last_of (numbers (f ∷ front)) in
-    ap (λ (q : Option ℕ). with_last_changed (flags_added (flags_for q gone)) (os ++ f ∷ front) ++ handed_after gone q back) (same_last os f front)
-    ∙ ap (λ (xs : List Origin). xs ++ handed_after gone p back) (changed_beyond (flags_added (flags_for p gone)) os f front)
-    ∙ append_assoc os (handed_before gone (f ∷ front)) (handed_after gone p back)
+    ap (λ (q : Option ℕ). with_last_changed (flags_added (flags_for q gone)) (os ++ f ∷ front) ++ origins_handed_after gone q back) (same_last os f front)
+    ∙ ap (λ (xs : List Origin). xs ++ origins_handed_after gone p back) (changed_beyond (flags_added (flags_for p gone)) os f front)
+    ∙ append_assoc os (origins_handed_before gone (f ∷ front)) (origins_handed_after gone p back)
 
-pub handing_last : (asked : Bool) (gone : List Origin) (seam : ℕ) (os qs : List Origin) → AreApart gone os → handed_if asked gone (length os + seam) (os ++ qs) ≡ os ++ handed_if asked gone seam qs
+pub handing_last : (asked : Bool) (gone : List Origin) (seam : ℕ) (os qs : List Origin) → AreApart gone os → origins_handed_if asked gone (length os + seam) (os ++ qs) ≡ os ++ origins_handed_if asked gone seam qs
 handing_last false gone seam os qs apart = refl
 handing_last true gone seam os qs apart =
     let front = take seam qs in
-    ap (λ (xs : List Origin). handed_before gone xs ++ handed_after gone (last_of (numbers xs)) (drop (length os + seam) (os ++ qs))) (take-append-add os qs seam)
-    ∙ ap (λ (xs : List Origin). handed_before gone (os ++ front) ++ handed_after gone (last_of (numbers (os ++ front))) xs) (drop-append-add os qs seam)
+    ap (λ (xs : List Origin). origins_handed_before gone xs ++ origins_handed_after gone (last_of (numbers xs)) (drop (length os + seam) (os ++ qs))) (take-append-add os qs seam)
+    ∙ ap (λ (xs : List Origin). origins_handed_before gone (os ++ front) ++ origins_handed_after gone (last_of (numbers (os ++ front))) xs) (drop-append-add os qs seam)
     ∙ seam_last gone os front (drop seam qs) apart

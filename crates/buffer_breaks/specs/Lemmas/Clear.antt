@@ -9,7 +9,7 @@ use Rattle.buffer_glyphs.specs.declared.level.BufferClusterLevel.{BufferClusterL
 use Rattle.buffer_glyphs.specs.Levels.{grapheme_manner}
 use Rattle.buffer_glyphs.specs.Parts.{range_of, first_of, last_of, is_number, or, copies, elements_replaced}
 use Rattle.buffer_glyphs.specs.Merges.{least_number, merged_number}
-use Rattle.buffer_glyphs.specs.Origins.{Origin, Asks, numbers, cast, flags_added, added_outside, with_range_changed, origins_marked, Manner, Unites, Marks, Keeps, InList, manner, origins_merged_as, end_cast, alone_deleted, one_deleted, first_deleted, origins_deleted, picked_elements, with_range_arranged, Span, spans, spans_merged, flags_at, first_circled, with_first_changed, with_last_changed, is_unsafe, unsafe_flags, flags_for, other_cluster, handed_before, handed_after, handed_if, tatweel_settled, concat_settled, settled_flags, run_flags, spread_flags, origins_spread_after, without_marks}
+use Rattle.buffer_glyphs.specs.Origins.{Origin, Asks, numbers, cast, flags_added, added_outside, with_range_changed, origins_marked, Manner, Unites, Marks, Keeps, InList, manner, origins_merged_as, end_cast, alone_deleted, one_deleted, first_deleted, origins_deleted, picked_elements, with_range_arranged, Span, spans, spans_merged, flags_at, first_circled, with_first_changed, with_last_changed, is_unsafe, unsafe_flags, flags_for, other_cluster, origins_handed_before, origins_handed_after, origins_handed_if, tatweel_settled, concat_settled, settled_flags, run_flags, spread_flags, origins_spread_after, without_marks}
 use Rattle.buffer_glyphs.specs.Events.{Event, Merge, MergeGrapheme, Replace, Circle, Delete, Move, Arrange, Sort, Reverse, Break, Concat, Tatweel, StrictBreak, Spread, Reset, concat_marked, tatweel_marked, strictly_marked, origins_after_event}
 use Rattle.buffer_breaks.specs.Unsafe.{HaveNoTatweel}
 use Rattle.buffer_breaks.specs.Laws.{NoTatweelStays}
@@ -112,14 +112,14 @@ ends_clear bits os e h =
     let keeps : (o : Origin) → IsClear o → IsClear (f o) = λ o k. clear_or o.flags bits k e in
     (both_clear (take n os) (map f (drop n os)) (take_clear n os h) (map_clear f (drop n os) keeps (drop_clear n os h)), both_clear (map f (take 1 os)) (drop 1 os) (map_clear f (take 1 os) keeps (take_clear 1 os h)) (drop_clear 1 os h))
 
-handing_clear : (asked : Bool) (gone : List Origin) (seam : ℕ) (os : List Origin) → HaveNoTatweel gone → HaveNoTatweel os → HaveNoTatweel (handed_if asked gone seam os)
+handing_clear : (asked : Bool) (gone : List Origin) (seam : ℕ) (os : List Origin) → HaveNoTatweel gone → HaveNoTatweel os → HaveNoTatweel (origins_handed_if asked gone seam os)
 handing_clear false gone seam os l h = h
 handing_clear true gone seam os l h =
     let front = take seam os in
     let back = drop seam os in
     let before = last_of (numbers front) in
     let after = other_cluster before (first_of (numbers back)) in
-    both_clear (handed_before gone front) (handed_after gone before back) (ends_clear (flags_for before gone) front (handed_flags_clear before gone l) (take_clear seam os h)).0 (ends_clear (flags_for after gone) back (handed_flags_clear after gone l) (drop_clear seam os h)).1
+    both_clear (origins_handed_before gone front) (origins_handed_after gone before back) (ends_clear (flags_for before gone) front (handed_flags_clear before gone l) (take_clear seam os h)).0 (ends_clear (flags_for after gone) back (handed_flags_clear after gone l) (drop_clear seam os h)).1
 
 copies_clear : (n : ℕ) (o : Option Origin) → HaveNoTatweel (copies 1 o) → HaveNoTatweel (copies n o)
 copies_clear n None h = tt

@@ -9,7 +9,7 @@ use Rattle.buffer_glyphs.specs.declared.level.BufferClusterLevel.{BufferClusterL
 use Rattle.buffer_glyphs.specs.Levels.{grapheme_manner}
 use Rattle.buffer_glyphs.specs.Parts.{range_of, first_of, last_of, is_number, or, copies, elements_replaced}
 use Rattle.buffer_glyphs.specs.Merges.{least_number, merged_number}
-use Rattle.buffer_glyphs.specs.Origins.{Origin, Asks, numbers, cast, origins_merged, flags_added, added_outside, with_range_changed, origins_marked, Manner, Unites, Marks, Keeps, InList, manner, origins_merged_as, end_cast, alone_deleted, one_deleted, first_deleted, origins_deleted, picked_elements, with_range_arranged, Span, spans, spans_merged, flags_at, first_circled, with_first_changed, with_last_changed, is_unsafe, unsafe_flags, flags_for, other_cluster, handed_before, handed_after, handed_if, tatweel_settled, concat_settled, settled_flags, run_flags, spread_flags, origins_spread_after, without_marks}
+use Rattle.buffer_glyphs.specs.Origins.{Origin, Asks, numbers, cast, origins_merged, flags_added, added_outside, with_range_changed, origins_marked, Manner, Unites, Marks, Keeps, InList, manner, origins_merged_as, end_cast, alone_deleted, one_deleted, first_deleted, origins_deleted, picked_elements, with_range_arranged, Span, spans, spans_merged, flags_at, first_circled, with_first_changed, with_last_changed, is_unsafe, unsafe_flags, flags_for, other_cluster, origins_handed_before, origins_handed_after, origins_handed_if, tatweel_settled, concat_settled, settled_flags, run_flags, spread_flags, origins_spread_after, without_marks}
 use Rattle.buffer_glyphs.specs.Events.{Event, Merge, MergeGrapheme, Replace, Circle, Delete, Move, Arrange, Sort, Reverse, Break, Concat, Tatweel, StrictBreak, Spread, Reset, concat_marked, tatweel_marked, strictly_marked, origins_after_event}
 use Rattle.buffer_glyphs.specs.Lemmas.Origins.{cut_in_three}
 use Rattle.buffer_breaks.specs.Unsafe.{is_unsafe_of, has_unsafe_of}
@@ -192,7 +192,7 @@ same_end_changed f g os qs like h =
 same_first_changed : (f g : Origin → Origin) (os qs : List Origin) → ((o q : Origin) → IsLike o q → IsLike (f o) (g q)) → SameButConcat os qs → SameButConcat (with_first_changed f os) (with_first_changed g qs)
 same_first_changed f g os qs like h = same_both (map f (take 1 os)) (map g (take 1 qs)) (drop 1 os) (drop 1 qs) (same_map f g (take 1 os) (take 1 qs) like (same_take 1 os qs h)) (same_drop 1 os qs h)
 
-same_handing : (asked : Bool) (xs ys : List Origin) (seam : ℕ) (os qs : List Origin) → SameButConcat xs ys → SameButConcat os qs → SameButConcat (handed_if asked xs seam os) (handed_if asked ys seam qs)
+same_handing : (asked : Bool) (xs ys : List Origin) (seam : ℕ) (os qs : List Origin) → SameButConcat xs ys → SameButConcat os qs → SameButConcat (origins_handed_if asked xs seam os) (origins_handed_if asked ys seam qs)
 same_handing false xs ys seam os qs k h = h
 same_handing true xs ys seam os qs k h =
     let front = same_take seam os qs h in
@@ -208,7 +208,7 @@ same_handing true xs ys seam os qs k h =
     let d = flags_for (other_cluster new (first_of (numbers (drop seam qs)))) ys in
     let first = same_for old new xs ys before k in
     let second = same_for (other_cluster old (first_of (numbers (drop seam os)))) (other_cluster new (first_of (numbers (drop seam qs)))) xs ys after k in
-    same_both (handed_before xs (take seam os)) (handed_before ys (take seam qs)) (handed_after xs old (drop seam os)) (handed_after ys new (drop seam qs))
+    same_both (origins_handed_before xs (take seam os)) (origins_handed_before ys (take seam qs)) (origins_handed_after xs old (drop seam os)) (origins_handed_after ys new (drop seam qs))
     (same_end_changed (flags_added a) (flags_added b) (take seam os) (take seam qs) (λ o q l. like_added a b o q first l) front)
     (same_first_changed (flags_added c) (flags_added d) (drop seam os) (drop seam qs) (λ o q l. like_added c d o q second l) back)
 

@@ -8,7 +8,7 @@ use Rattle.buffer_glyphs.specs.declared.level.BufferClusterLevel.{BufferClusterL
 use Rattle.buffer_glyphs.specs.Parts.{range_of, first_of, last_of, is_number, last_from}
 use Rattle.buffer_glyphs.specs.Order.{IsChain, IsOrdered}
 use Rattle.buffer_glyphs.specs.Merges.{least_number, merged_number, merged_numbers, numbers_merged_as}
-use Rattle.buffer_glyphs.specs.Origins.{Origin, numbers, cast, added_outside, Manner, Unites, Marks, Keeps, InList, manner, origins_merged_as, end_cast, alone_deleted, one_deleted, first_deleted, origins_deleted, is_unsafe, handed_if}
+use Rattle.buffer_glyphs.specs.Origins.{Origin, numbers, cast, added_outside, Manner, Unites, Marks, Keeps, InList, manner, origins_merged_as, end_cast, alone_deleted, one_deleted, first_deleted, origins_deleted, is_unsafe, origins_handed_if}
 use Rattle.buffer_glyphs.specs.Lemmas.Numbers.{Has, has_here, has_more, has_cases, has_either, has_last, MayHave}
 use Rattle.buffer_glyphs.specs.Lemmas.Origins.{number_cast, numbers_merged_by}
 use Rattle.buffer_glyphs.specs.Lemmas.Merges.{chain_left, chain_right, chain_across}
@@ -206,24 +206,24 @@ rest_beside m c x back o e there =
     inr (ap first_of is ∙ merged_first m c x.cluster (numbers back) e o (subst (λ (ns : List ℕ). Has ns c) is there))
 
 one_gives : (asked : Bool) (level : BufferClusterLevel) (c : ℕ) (front : List Origin) (x : Origin) (back : List Origin) → asked ≡ true → IsOrdered (numbers front ++ x.cluster ∷ numbers back) → is_unsafe_of c x ≡ true → Has (numbers (one_deleted level front x back)) c
-    → has_unsafe_of c (handed_if asked (x ∷ []) (length front) (one_deleted level front x back)) ≡ true
+    → has_unsafe_of c (origins_handed_if asked (x ∷ []) (length front) (one_deleted level front x back)) ≡ true
 one_gives asked level c front x back e o h there = by_front front refl o there
   where
     both : (x.cluster ≡ c) × (is_unsafe x.flags ≡ true)
     both = unsafe_of c x h
 
-    gives : (seam : ℕ) (os : List Origin) → IsBeside c seam os → has_unsafe_of c (handed_if asked (x ∷ []) seam os) ≡ true
+    gives : (seam : ℕ) (os : List Origin) → IsBeside c seam os → has_unsafe_of c (origins_handed_if asked (x ∷ []) seam os) ≡ true
     gives seam os beside = handing_gives asked c (x ∷ []) seam os e (any_here (is_unsafe_of c) x [] h) beside
 
-    joined : (xs : List Origin) → IsOrdered (numbers xs ++ x.cluster ∷ numbers back) → Has (numbers (xs ++ back)) c → has_unsafe_of c (handed_if asked (x ∷ []) (length xs) (xs ++ back)) ≡ true
+    joined : (xs : List Origin) → IsOrdered (numbers xs ++ x.cluster ∷ numbers back) → Has (numbers (xs ++ back)) c → has_unsafe_of c (origins_handed_if asked (x ∷ []) (length xs) (xs ++ back)) ≡ true
     joined xs order g = gives (length xs) (xs ++ back) (both_beside c xs x back order both.0 g)
 
-    none_before : (t : Bool) → IsOrdered (x.cluster ∷ numbers back) → Has (numbers (if t then [] ++ back else alone_deleted level None [] x back)) c → has_unsafe_of c (handed_if asked (x ∷ []) 0 (if t then [] ++ back else alone_deleted level None [] x back)) ≡ true
+    none_before : (t : Bool) → IsOrdered (x.cluster ∷ numbers back) → Has (numbers (if t then [] ++ back else alone_deleted level None [] x back)) c → has_unsafe_of c (origins_handed_if asked (x ∷ []) 0 (if t then [] ++ back else alone_deleted level None [] x back)) ≡ true
     none_before true order g = joined [] order g
     none_before false order g = gives 0 (drop 1 (origins_merged_as (manner InList level) 0 2 (x ∷ back))) (rest_beside (manner InList level) c x back order both.0 g)
 
     by_less : (xs : List Origin) (p : ℕ) → last_of (numbers xs) ≡ Some p → IsOrdered (numbers xs ++ x.cluster ∷ numbers back) → (t : Bool) → nat_lt x.cluster p ≡ t → Has (numbers ((if t then end_cast p x xs else xs) ++ back)) c
-        → has_unsafe_of c (handed_if asked (x ∷ []) (length xs) ((if t then end_cast p x xs else xs) ++ back)) ≡ true
+        → has_unsafe_of c (origins_handed_if asked (x ∷ []) (length xs) ((if t then end_cast p x xs else xs) ++ back)) ≡ true
     by_less xs p last order false f g = joined xs order g
     by_less xs p last order true f g =
         let less : x.cluster < p = grind (arith, nat_tests, common_steps) in
@@ -231,23 +231,23 @@ one_gives asked level c front x back e o h there = by_front front refl o there
         handing_stays asked c (x ∷ []) (length xs) (end_cast p x xs ++ back) (any_left (is_unsafe_of c) (end_cast p x xs) back (subst (λ n. has_unsafe_of n (end_cast p x xs) ≡ true) both.0 end))
 
     by_last : (f : Origin) (xs : List Origin) (before : Option ℕ) → last_of (numbers (f ∷ xs)) ≡ before → IsOrdered (numbers (f ∷ xs) ++ x.cluster ∷ numbers back) → Has (numbers (alone_deleted level before (f ∷ xs) x back)) c
-        → has_unsafe_of c (handed_if asked (x ∷ []) (length (f ∷ xs)) (alone_deleted level before (f ∷ xs) x back)) ≡ true
+        → has_unsafe_of c (origins_handed_if asked (x ∷ []) (length (f ∷ xs)) (alone_deleted level before (f ∷ xs) x back)) ≡ true
     by_last f xs None last order g = let none : f.cluster ∷ numbers xs ≡ [] = no_last (f.cluster ∷ numbers xs) last in cc
     by_last f xs (Some p) last order g = by_less (f ∷ xs) p last order (nat_lt x.cluster p) refl g
 
     some_before : (f : Origin) (xs : List Origin) (t : Bool) → IsOrdered (numbers (f ∷ xs) ++ x.cluster ∷ numbers back) → Has (numbers (if t then (f ∷ xs) ++ back else alone_deleted level (last_of (numbers (f ∷ xs))) (f ∷ xs) x back)) c
-        → has_unsafe_of c (handed_if asked (x ∷ []) (length (f ∷ xs)) (if t then (f ∷ xs) ++ back else alone_deleted level (last_of (numbers (f ∷ xs))) (f ∷ xs) x back)) ≡ true
+        → has_unsafe_of c (origins_handed_if asked (x ∷ []) (length (f ∷ xs)) (if t then (f ∷ xs) ++ back else alone_deleted level (last_of (numbers (f ∷ xs))) (f ∷ xs) x back)) ≡ true
     some_before f xs true order g = joined (f ∷ xs) order g
     some_before f xs false order g = by_last f xs (last_of (numbers (f ∷ xs))) refl order g
 
-    by_front : (xs : List Origin) → front ≡ xs → IsOrdered (numbers xs ++ x.cluster ∷ numbers back) → Has (numbers (one_deleted level xs x back)) c → has_unsafe_of c (handed_if asked (x ∷ []) (length xs) (one_deleted level xs x back)) ≡ true
+    by_front : (xs : List Origin) → front ≡ xs → IsOrdered (numbers xs ++ x.cluster ∷ numbers back) → Has (numbers (one_deleted level xs x back)) c → has_unsafe_of c (origins_handed_if asked (x ∷ []) (length xs) (one_deleted level xs x back)) ≡ true
     by_front [] f order g = none_before (is_number (first_of (numbers back)) x.cluster) order g
     by_front (o ∷ xs) f order g = some_before o xs (is_number (last_of (numbers (o ∷ xs))) x.cluster || is_number (first_of (numbers back)) x.cluster) order g
 
 -- ---- deletions
 
 first_stays : (asked : Bool) (level : BufferClusterLevel) (c seam : ℕ) (front rest : List Origin) → asked ≡ true → (0 < length rest → seam ≡ length front) → IsOrdered (numbers (front ++ rest)) → Has (numbers (first_deleted level front rest)) c → has_unsafe_of c (front ++ rest) ≡ true
-    → has_unsafe_of c (handed_if asked (take 1 rest) seam (first_deleted level front rest)) ≡ true
+    → has_unsafe_of c (origins_handed_if asked (take 1 rest) seam (first_deleted level front rest)) ≡ true
 first_stays asked level c seam front [] e s o there h = handing_stays asked c [] seam front (elim (any_either (is_unsafe_of c) front [] h) [ inl before ↦ before | inr none ↦ cc ])
 first_stays asked level c seam front (x ∷ back) e s o there h =
     let new = one_deleted level front x back in
@@ -257,13 +257,13 @@ first_stays asked level c seam front (x ∷ back) e s o there h =
     elim (any_either p front (x ∷ back) h) [
       | inl before ↦ handing_stays asked c gone seam new (front_stays level c front x back order there before)
       | inr beyond ↦ elim (any_cases p x back beyond) [
-        | inl here ↦ subst (λ n. has_unsafe_of c (handed_if asked gone n new) ≡ true) (sym (s (omega arith))) (one_gives asked level c front x back e order here there)
+        | inl here ↦ subst (λ n. has_unsafe_of c (origins_handed_if asked gone n new) ≡ true) (sym (s (omega arith))) (one_gives asked level c front x back e order here there)
         | inr after ↦ handing_stays asked c gone seam new (back_stays level c front x back there after)
       ]
     ]
 
 pub deleting_stays : (asked : Bool) (level : BufferClusterLevel) (c at : ℕ) (os : List Origin) → asked ≡ true → IsOrdered (numbers os) → Has (numbers (origins_deleted level at os)) c → has_unsafe_of c os ≡ true
-    → has_unsafe_of c (handed_if asked (take 1 (drop at os)) at (origins_deleted level at os)) ≡ true
+    → has_unsafe_of c (origins_handed_if asked (take 1 (drop at os)) at (origins_deleted level at os)) ≡ true
 deleting_stays asked level c at os e o there h =
     let whole = take-append-drop at os in
     let count = length-drop at os in

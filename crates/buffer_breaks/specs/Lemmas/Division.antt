@@ -13,7 +13,7 @@ use Rattle.buffer_parts.specs.Counts.{count_after}
 use Rattle.buffer_parts.specs.Lemmas.Counts.{counts_follow}
 use Rattle.buffer_core.specs.Readings.{View, Read, Reading, Stage, and_then, then_read, then_reading, with_events, BufferState, state_after}
 use Rattle.buffer_stages.specs.Stages.{with_items_mapped}
-use Rattle.buffer_stage_laws.specs.Stages.{KeepsParts}
+use Rattle.buffer_parts.specs.Stages.{KeepsParts}
 use Rattle.buffer_breaks.specs.Unsafe.{IsUnsafeAt}
 use Rattle.buffer_breaks.specs.Lossless.{AreLossless}
 use Rattle.buffer_breaks.specs.Concat.{SameButConcat, without_concats}

@@ -6,7 +6,7 @@ use Rattle.buffer_glyphs.specs.declared.level.BufferClusterLevel.{BufferClusterL
 use Rattle.buffer_glyphs.specs.Levels.{grapheme_manner}
 use Rattle.buffer_glyphs.specs.Parts.{range_of, first_of, last_of, is_number, or, copies, elements_replaced}
 use Rattle.buffer_glyphs.specs.Merges.{least_number, merged_number}
-use Rattle.buffer_glyphs.specs.Origins.{Origin, Asks, numbers, cast, origins_merged, flags_added, added_outside, with_range_changed, origins_marked, Manner, Unites, Marks, Keeps, InList, manner, origins_merged_as, end_cast, alone_deleted, one_deleted, first_deleted, origins_deleted, picked_elements, with_range_arranged, is_seam, Span, spans_from, spans, spans_merged, flags_at, first_circled, origins_circled, handed_if}
+use Rattle.buffer_glyphs.specs.Origins.{Origin, Asks, numbers, cast, origins_merged, flags_added, added_outside, with_range_changed, origins_marked, Manner, Unites, Marks, Keeps, InList, manner, origins_merged_as, end_cast, alone_deleted, one_deleted, first_deleted, origins_deleted, picked_elements, with_range_arranged, is_seam, Span, spans_from, spans, spans_merged, flags_at, first_circled, origins_circled, origins_handed_if}
 use Rattle.buffer_glyphs.specs.Events.{Event, Merge, MergeGrapheme, Replace, Circle, Delete, Move, Arrange, Sort, Reverse, Break, Concat, Tatweel, StrictBreak, Spread, Reset, concat_marked, tatweel_marked, strictly_marked, origins_replaced, origins_after_event}
 use Rattle.buffer_glyphs.specs.Lemmas.Numbers.{Has, MayHave, has_here, has_last, has_drop}
 use Rattle.buffer_parts.specs.Lemmas.Counts.{counts_follow}
@@ -113,8 +113,8 @@ replacing_first asked at taken given os qs apart l m =
     let gone = take taken (drop at os) in
     let seam = at + given in
     let left : take taken (drop at (os ++ qs)) ≡ gone = ap (take taken) (drop-append-le at os qs (omega (arith, l))) ∙ take-append-le taken (drop at os) qs (let count = length-drop at os in omega (arith, count, m)) in
-    ap (λ (xs : List Origin). handed_if asked xs seam (elements_replaced at taken given (os ++ qs))) left
-    ∙ ap (λ (xs : List Origin). handed_if asked gone seam xs) (replaced_first at taken given os qs l m)
+    ap (λ (xs : List Origin). origins_handed_if asked xs seam (elements_replaced at taken given (os ++ qs))) left
+    ∙ ap (λ (xs : List Origin). origins_handed_if asked gone seam xs) (replaced_first at taken given os qs l m)
     ∙ handing_first asked gone seam (elements_replaced at taken given os) qs (taken_apart taken at os qs apart) (replaced_seam at taken given os l)
 
 -- ---- deletions
@@ -173,17 +173,17 @@ deleted_seam level at os l = by_test (nat_lt at (length os)) (counts_follow (rec
     by_test false count = omega (arith, count, l)
 
 pub deleting_first : (asked : Bool) (level : BufferClusterLevel) (at : ℕ) (os qs : List Origin) → AreApart os qs → at < length os → DeletesBeside (take at os) (drop at os)
-    → handed_if asked (take 1 (drop at (os ++ qs))) at (origins_deleted level at (os ++ qs)) ≡ handed_if asked (take 1 (drop at os)) at (origins_deleted level at os) ++ qs
+    → origins_handed_if asked (take 1 (drop at (os ++ qs))) at (origins_deleted level at (os ++ qs)) ≡ origins_handed_if asked (take 1 (drop at os)) at (origins_deleted level at os) ++ qs
 deleting_first asked level at os qs apart l some =
     let rest = drop at os in
     let count = length-drop at os in
     let cut : drop at (os ++ qs) ≡ rest ++ qs = drop-append-le at os qs (omega (arith, l)) in
     let rest_apart : AreApart rest qs = λ n h. apart n (has_drop n at (numbers os) (subst (λ (ns : List ℕ). Has ns n) (sym (drop-map (λ (o : Origin). o.cluster) at os)) h)) in
-    ap (λ (xs : List Origin). handed_if asked (take 1 xs) at (origins_deleted level at (os ++ qs))) cut
-    ∙ ap (λ (xs : List Origin). handed_if asked xs at (origins_deleted level at (os ++ qs))) (take-append-le 1 rest qs (omega (arith, count, l)))
-    ∙ ap (λ (xs : List Origin). handed_if asked (take 1 rest) at (first_deleted level xs (drop at (os ++ qs)))) (take-append-le at os qs (omega (arith, l)))
-    ∙ ap (λ (xs : List Origin). handed_if asked (take 1 rest) at (first_deleted level (take at os) xs)) cut
-    ∙ ap (λ (xs : List Origin). handed_if asked (take 1 rest) at xs) (first_first level (take at os) rest qs some rest_apart)
+    ap (λ (xs : List Origin). origins_handed_if asked (take 1 xs) at (origins_deleted level at (os ++ qs))) cut
+    ∙ ap (λ (xs : List Origin). origins_handed_if asked xs at (origins_deleted level at (os ++ qs))) (take-append-le 1 rest qs (omega (arith, count, l)))
+    ∙ ap (λ (xs : List Origin). origins_handed_if asked (take 1 rest) at (first_deleted level xs (drop at (os ++ qs)))) (take-append-le at os qs (omega (arith, l)))
+    ∙ ap (λ (xs : List Origin). origins_handed_if asked (take 1 rest) at (first_deleted level (take at os) xs)) cut
+    ∙ ap (λ (xs : List Origin). origins_handed_if asked (take 1 rest) at xs) (first_first level (take at os) rest qs some rest_apart)
     ∙ handing_first asked (take 1 rest) at (origins_deleted level at os) qs (taken_apart 1 at os qs apart) (deleted_seam level at os l)
 
 -- ---- circles

@@ -6,7 +6,7 @@ use Rattle.std.proofs.lemmas.List.{append-nil, take-append-drop, drop-drop, leng
 use Rattle.std.proofs.Math.Seq.{take-append_seam, drop-append_seam, take-nil}
 use Rattle.buffer_glyphs.specs.Parts.{first_of, last_of, is_number, last_from, or, copies, elements_replaced}
 use Rattle.buffer_glyphs.specs.Order.{IsOrdered}
-use Rattle.buffer_glyphs.specs.Origins.{Origin, numbers, flags_added, with_first_changed, with_last_changed, is_unsafe, unsafe_flags, flags_for, other_cluster, handed_before, handed_after, handed_on, handed_if}
+use Rattle.buffer_glyphs.specs.Origins.{Origin, numbers, flags_added, with_first_changed, with_last_changed, is_unsafe, unsafe_flags, flags_for, other_cluster, origins_handed_before, origins_handed_after, origins_handed_on, origins_handed_if}
 use Rattle.buffer_glyphs.specs.Lemmas.Numbers.{Has, MayHave, has_here, has_more, has_cases, has_left, has_either, has_last}
 use Rattle.buffer_glyphs.specs.Lemmas.Drawn.{last_more}
 use Rattle.buffer_glyphs.specs.Lemmas.Deletions.{last_is}
@@ -34,24 +34,24 @@ first_any p f xs keeps h = elim (any_halves p 1 xs h) [
   | inr later ↦ any_right p (map f (take 1 xs)) (drop 1 xs) later
 ]
 
-on_stays : (c : ℕ) (gone : List Origin) (seam : ℕ) (os : List Origin) → has_unsafe_of c os ≡ true → has_unsafe_of c (handed_on gone seam os) ≡ true
+on_stays : (c : ℕ) (gone : List Origin) (seam : ℕ) (os : List Origin) → has_unsafe_of c os ≡ true → has_unsafe_of c (origins_handed_on gone seam os) ≡ true
 on_stays c gone seam os h =
     let p = is_unsafe_of c in
     let front = take seam os in
     let back = drop seam os in
     let before = last_of (numbers front) in
     elim (any_halves p seam os h) [
-      | inl there ↦ any_left p (handed_before gone front) (handed_after gone before back) (last_any p (flags_added (flags_for before gone)) front (λ o g. added_stays c (flags_for before gone) o g) there)
+      | inl there ↦ any_left p (origins_handed_before gone front) (origins_handed_after gone before back) (last_any p (flags_added (flags_for before gone)) front (λ o g. added_stays c (flags_for before gone) o g) there)
       | inr there ↦
           let after = flags_for (other_cluster before (first_of (numbers back))) gone in
-          any_right p (handed_before gone front) (handed_after gone before back) (first_any p (flags_added after) back (λ o g. added_stays c after o g) there)
+          any_right p (origins_handed_before gone front) (origins_handed_after gone before back) (first_any p (flags_added after) back (λ o g. added_stays c after o g) there)
     ]
 
-pub handing_stays : (asked : Bool) (c : ℕ) (gone : List Origin) (seam : ℕ) (os : List Origin) → has_unsafe_of c os ≡ true → has_unsafe_of c (handed_if asked gone seam os) ≡ true
+pub handing_stays : (asked : Bool) (c : ℕ) (gone : List Origin) (seam : ℕ) (os : List Origin) → has_unsafe_of c os ≡ true → has_unsafe_of c (origins_handed_if asked gone seam os) ≡ true
 handing_stays true c gone seam os h = on_stays c gone seam os h
 handing_stays false c gone seam os h = h
 
-pub handed_there : (asked : Bool) (c : ℕ) (gone : List Origin) (seam : ℕ) (os : List Origin) → Has (numbers (handed_if asked gone seam os)) c → Has (numbers os) c
+pub handed_there : (asked : Bool) (c : ℕ) (gone : List Origin) (seam : ℕ) (os : List Origin) → Has (numbers (origins_handed_if asked gone seam os)) c → Has (numbers os) c
 handed_there asked c gone seam os h = subst (λ (ns : List ℕ). Has ns c) (numbers_handed_if asked gone seam os) h
 
 -- ---- what leaves gives its flags to a neighbour of its cluster
@@ -85,7 +85,7 @@ first_gets c bits (o ∷ os) some e = any_here (is_unsafe_of c) (flags_added bit
 abbrev pub IsBeside : ℕ → ℕ → List Origin → Type 0
 IsBeside c seam os = (last_of (numbers (take seam os)) ≡ Some c) ⊎ (first_of (numbers (drop seam os)) ≡ Some c)
 
-on_gives : (c : ℕ) (gone : List Origin) (seam : ℕ) (os : List Origin) → has_unsafe_of c gone ≡ true → IsBeside c seam os → has_unsafe_of c (handed_on gone seam os) ≡ true
+on_gives : (c : ℕ) (gone : List Origin) (seam : ℕ) (os : List Origin) → has_unsafe_of c gone ≡ true → IsBeside c seam os → has_unsafe_of c (origins_handed_on gone seam os) ≡ true
 on_gives c gone seam os h beside = by_side beside
   where
     front : List Origin
@@ -97,31 +97,31 @@ on_gives c gone seam os h beside = by_side beside
     some : is_unsafe (unsafe_flags c gone) ≡ true
     some = unsafe_among c gone h
 
-    to_before : last_of (numbers front) ≡ Some c → has_unsafe_of c (handed_on gone seam os) ≡ true
+    to_before : last_of (numbers front) ≡ Some c → has_unsafe_of c (origins_handed_on gone seam os) ≡ true
     to_before e =
-        any_left (is_unsafe_of c) (handed_before gone front) (handed_after gone (last_of (numbers front)) back)
+        any_left (is_unsafe_of c) (origins_handed_before gone front) (origins_handed_after gone (last_of (numbers front)) back)
         (ap (λ o. has_unsafe_of c (with_last_changed (flags_added (flags_for o gone)) front)) e ∙ last_gets c (unsafe_flags c gone) front some e)
 
-    to_after : (before : Option ℕ) → last_of (numbers front) ≡ before → is_number before c ≡ false → first_of (numbers back) ≡ Some c → has_unsafe_of c (handed_on gone seam os) ≡ true
+    to_after : (before : Option ℕ) → last_of (numbers front) ≡ before → is_number before c ≡ false → first_of (numbers back) ≡ Some c → has_unsafe_of c (origins_handed_on gone seam os) ≡ true
     to_after before d other e =
         let is : other_cluster (last_of (numbers front)) (first_of (numbers back)) ≡ Some c =
         ap (λ o. other_cluster o (first_of (numbers back))) d ∙ ap (other_cluster before) e ∙ ap (λ (t : Bool). if t then None else Some c) other in
-        any_right (is_unsafe_of c) (handed_before gone front) (handed_after gone (last_of (numbers front)) back)
+        any_right (is_unsafe_of c) (origins_handed_before gone front) (origins_handed_after gone (last_of (numbers front)) back)
         (ap (λ o. has_unsafe_of c (with_first_changed (flags_added (flags_for o gone)) back)) is ∙ first_gets c (unsafe_flags c gone) back some e)
 
-    by_number : (p : ℕ) → last_of (numbers front) ≡ Some p → (t : Bool) → (p == c) ≡ t → first_of (numbers back) ≡ Some c → has_unsafe_of c (handed_on gone seam os) ≡ true
+    by_number : (p : ℕ) → last_of (numbers front) ≡ Some p → (t : Bool) → (p == c) ≡ t → first_of (numbers back) ≡ Some c → has_unsafe_of c (origins_handed_on gone seam os) ≡ true
     by_number p d true same e = to_before (d ∙ ap (λ n. Some n) (equal_test p c same))
     by_number p d false other e = to_after (Some p) d other e
 
-    by_before : (before : Option ℕ) → last_of (numbers front) ≡ before → first_of (numbers back) ≡ Some c → has_unsafe_of c (handed_on gone seam os) ≡ true
+    by_before : (before : Option ℕ) → last_of (numbers front) ≡ before → first_of (numbers back) ≡ Some c → has_unsafe_of c (origins_handed_on gone seam os) ≡ true
     by_before None d e = to_after None d refl e
     by_before (Some p) d e = by_number p d (p == c) refl e
 
-    by_side : IsBeside c seam os → has_unsafe_of c (handed_on gone seam os) ≡ true
+    by_side : IsBeside c seam os → has_unsafe_of c (origins_handed_on gone seam os) ≡ true
     by_side (inl e) = to_before e
     by_side (inr e) = by_before (last_of (numbers front)) refl e
 
-pub handing_gives : (asked : Bool) (c : ℕ) (gone : List Origin) (seam : ℕ) (os : List Origin) → asked ≡ true → has_unsafe_of c gone ≡ true → IsBeside c seam os → has_unsafe_of c (handed_if asked gone seam os) ≡ true
+pub handing_gives : (asked : Bool) (c : ℕ) (gone : List Origin) (seam : ℕ) (os : List Origin) → asked ≡ true → has_unsafe_of c gone ≡ true → IsBeside c seam os → has_unsafe_of c (origins_handed_if asked gone seam os) ≡ true
 handing_gives true c gone seam os e h beside = on_gives c gone seam os h beside
 handing_gives false c gone seam os e h beside = cc
 

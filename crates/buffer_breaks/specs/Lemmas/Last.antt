@@ -8,7 +8,7 @@ use Rattle.buffer_glyphs.specs.declared.level.BufferClusterLevel.{BufferClusterL
 use Rattle.buffer_glyphs.specs.Levels.{grapheme_manner}
 use Rattle.buffer_glyphs.specs.Parts.{range_of, first_of, last_of, is_number, or, copies, elements_replaced}
 use Rattle.buffer_glyphs.specs.Merges.{least_number, merged_number}
-use Rattle.buffer_glyphs.specs.Origins.{Origin, Asks, numbers, cast, origins_merged, flags_added, added_outside, with_range_changed, origins_marked, Manner, Unites, Marks, Keeps, InList, manner, origins_merged_as, end_cast, alone_deleted, one_deleted, first_deleted, origins_deleted, picked_elements, with_range_arranged, Span, spans, spans_merged, flags_at, first_circled, origins_circled, handed_if}
+use Rattle.buffer_glyphs.specs.Origins.{Origin, Asks, numbers, cast, origins_merged, flags_added, added_outside, with_range_changed, origins_marked, Manner, Unites, Marks, Keeps, InList, manner, origins_merged_as, end_cast, alone_deleted, one_deleted, first_deleted, origins_deleted, picked_elements, with_range_arranged, Span, spans, spans_merged, flags_at, first_circled, origins_circled, origins_handed_if}
 use Rattle.buffer_glyphs.specs.Events.{Event, Merge, MergeGrapheme, Replace, Circle, Delete, Move, Arrange, Sort, Reverse, Break, Concat, Tatweel, StrictBreak, Spread, Reset, concat_marked, tatweel_marked, strictly_marked, origins_replaced, origins_after_event}
 use Rattle.buffer_glyphs.specs.Rewriting.{shifted_event}
 use Rattle.buffer_glyphs.specs.Lemmas.Numbers.{Has, has_here, has_more}
@@ -104,9 +104,9 @@ turned_apart os qs apart = λ n h k. apart n k h
 replacing_last : (asked : Bool) (at taken given : ℕ) (os qs : List Origin) → AreApart os qs → at < length qs → origins_replaced asked (length os + at) taken given (os ++ qs) ≡ os ++ origins_replaced asked at taken given qs
 replacing_last asked at taken given os qs apart l =
     let gone = take taken (drop at qs) in
-    ap (λ (xs : List Origin). handed_if asked (take taken xs) (length os + at + given) (elements_replaced (length os + at) taken given (os ++ qs))) (drop-append-add os qs at)
-    ∙ ap (λ (n : ℕ). handed_if asked gone n (elements_replaced (length os + at) taken given (os ++ qs))) (sum_moved (length os) at given)
-    ∙ ap (λ (xs : List Origin). handed_if asked gone (length os + (at + given)) xs) (replaced_last at taken given os qs l)
+    ap (λ (xs : List Origin). origins_handed_if asked (take taken xs) (length os + at + given) (elements_replaced (length os + at) taken given (os ++ qs))) (drop-append-add os qs at)
+    ∙ ap (λ (n : ℕ). origins_handed_if asked gone n (elements_replaced (length os + at) taken given (os ++ qs))) (sum_moved (length os) at given)
+    ∙ ap (λ (xs : List Origin). origins_handed_if asked gone (length os + (at + given)) xs) (replaced_last at taken given os qs l)
     ∙ handing_last asked gone (at + given) os (elements_replaced at taken given qs) (taken_apart taken at qs os (turned_apart os qs apart))
 
 -- ---- deletions
@@ -168,13 +168,13 @@ first_last level os front [] apart some = refl
 first_last level os front (x ∷ back) apart some = one_last level os front x back apart some
 
 pub deleting_last : (asked : Bool) (level : BufferClusterLevel) (at : ℕ) (os qs : List Origin) → AreApart os qs → CoversFirst os (take at qs) (drop at qs)
-    → handed_if asked (take 1 (drop (length os + at) (os ++ qs))) (length os + at) (origins_deleted level (length os + at) (os ++ qs)) ≡ os ++ handed_if asked (take 1 (drop at qs)) at (origins_deleted level at qs)
+    → origins_handed_if asked (take 1 (drop (length os + at) (os ++ qs))) (length os + at) (origins_deleted level (length os + at) (os ++ qs)) ≡ os ++ origins_handed_if asked (take 1 (drop at qs)) at (origins_deleted level at qs)
 deleting_last asked level at os qs apart some =
     let rest = drop at qs in
     let whole_apart : AreApart os (take at qs ++ rest) = subst (AreApart os) (sym (take-append-drop at qs)) apart in
-    ap (λ (xs : List Origin). handed_if asked (take 1 xs) (length os + at) (first_deleted level (take (length os + at) (os ++ qs)) xs)) (drop-append-add os qs at)
-    ∙ ap (λ (xs : List Origin). handed_if asked (take 1 rest) (length os + at) (first_deleted level xs rest)) (take-append-add os qs at)
-    ∙ ap (λ (xs : List Origin). handed_if asked (take 1 rest) (length os + at) xs) (first_last level os (take at qs) rest whole_apart some)
+    ap (λ (xs : List Origin). origins_handed_if asked (take 1 xs) (length os + at) (first_deleted level (take (length os + at) (os ++ qs)) xs)) (drop-append-add os qs at)
+    ∙ ap (λ (xs : List Origin). origins_handed_if asked (take 1 rest) (length os + at) (first_deleted level xs rest)) (take-append-add os qs at)
+    ∙ ap (λ (xs : List Origin). origins_handed_if asked (take 1 rest) (length os + at) xs) (first_last level os (take at qs) rest whole_apart some)
     ∙ handing_last asked (take 1 rest) at os (origins_deleted level at qs) (taken_apart 1 at qs os (turned_apart os qs apart))
 
 -- ---- circles

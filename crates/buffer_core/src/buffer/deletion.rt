@@ -7,7 +7,7 @@ ghost use Rattle.buffer_core.specs.Sides.{items_of, origins_of, origins_by, requ
 ghost use Rattle.buffer_core.specs.Grouping.{with_current_deleted, with_deleted};
 ghost use Rattle.buffer_core.specs.Merging.{with_handed_on};
 ghost use Rattle.buffer_glyphs.specs.Events.{Delete};
-ghost use Rattle.buffer_glyphs.specs.Origins.{handed_if, origin_of, origins_deleted};
+ghost use Rattle.buffer_glyphs.specs.Origins.{origins_handed_if, origin_of, origins_deleted};
 
 use super::hb_buffer_t;
 use super::merges::add_has_glyph_flags;
@@ -59,7 +59,7 @@ impl hb_buffer_t {
         requires open { self.old.is_open ≡ true }
         ensures handed { self.new ≡ with_handed_on (glyph ∷ []) self.old }
         ensures items { items_of self.new ≡ items_of self.old }
-        ensures origins { origins_of self.new ≡ handed_if (requests_breaks self.old) (origin_of glyph ∷ [])
+        ensures origins { origins_of self.new ≡ origins_handed_if (requests_breaks self.old) (origin_of glyph ∷ [])
             (length self.old.behind) (origins_of self.old) }
     {
         if self.asks_breaks() {

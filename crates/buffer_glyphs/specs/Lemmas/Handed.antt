@@ -10,7 +10,7 @@ use Rattle.buffer_glyphs.specs.declared.info.hb_glyph_info_t.{hb_glyph_info_t}
 use Rattle.buffer_glyphs.specs.Items.{clusters, glyph_flags, item_of, strip}
 use Rattle.buffer_glyphs.specs.Parts.{copies, elements_replaced, first_of, last_of, or}
 use Rattle.buffer_glyphs.specs.Glyphs.{glyph_flagged}
-use Rattle.buffer_glyphs.specs.Origins.{Origin, origin_of, origins, numbers, flags_added, flags_for, handed_after, handed_before, handed_if, handed_on, is_unsafe, other_cluster, unsafe_flags, with_first_changed, with_last_changed}
+use Rattle.buffer_glyphs.specs.Origins.{Origin, origin_of, origins, numbers, flags_added, flags_for, origins_handed_after, origins_handed_before, origins_handed_if, origins_handed_on, is_unsafe, other_cluster, unsafe_flags, with_first_changed, with_last_changed}
 use Rattle.buffer_glyphs.specs.Deleting.{DeletionSides, glyphs_handed_after, glyphs_handed_before, sides_handed_if, sides_handed_on}
 use Rattle.buffer_glyphs.specs.Laws.{FlagsAreHandedOn}
 use Rattle.buffer_glyphs.specs.Lemmas.Glyphs.{flags_set, without_flags_set}
@@ -85,13 +85,13 @@ before_clusters bits gs = last_kept (λ (g : hb_glyph_info_t). g.cluster) (glyph
 pub after_clusters : (bits : ℕ) (gs : List hb_glyph_info_t) → clusters (with_first_changed (glyph_flagged bits) gs) ≡ clusters gs
 after_clusters bits gs = first_kept (λ (g : hb_glyph_info_t). g.cluster) (glyph_flagged bits) gs (λ g. refl)
 
-before_origins : (gone gs : List hb_glyph_info_t) → origins (glyphs_handed_before gone gs) ≡ handed_before (origins gone) (origins gs)
+before_origins : (gone gs : List hb_glyph_info_t) → origins (glyphs_handed_before gone gs) ≡ origins_handed_before (origins gone) (origins gs)
 before_origins gone gs =
     let b = flags_for (last_of (clusters gs)) (origins gone) in
     last_turned origin_of (glyph_flagged b) (flags_added b) gs (origin_flagged b (handed_defined (last_of (clusters gs)) gone))
     ∙ ap (λ ns. with_last_changed (flags_added (flags_for (last_of ns) (origins gone))) (origins gs)) (sym (numbers_origins gs))
 
-after_origins : (gone : List hb_glyph_info_t) (before : Option ℕ) (gs : List hb_glyph_info_t) → origins (glyphs_handed_after gone before gs) ≡ handed_after (origins gone) before (origins gs)
+after_origins : (gone : List hb_glyph_info_t) (before : Option ℕ) (gs : List hb_glyph_info_t) → origins (glyphs_handed_after gone before gs) ≡ origins_handed_after (origins gone) before (origins gs)
 after_origins gone before gs =
     let o = other_cluster before (first_of (clusters gs)) in
     let b = flags_for o (origins gone) in
@@ -122,7 +122,7 @@ pub sides_back_clusters : (breaks : Bool) (gone : List hb_glyph_info_t) (s : Del
 sides_back_clusters false gone s = refl
 sides_back_clusters true gone s = after_clusters (flags_for (other_cluster (last_of (clusters s.front)) (first_of (clusters s.back))) (origins gone)) s.back
 
-on_both : (gone : List hb_glyph_info_t) (s : DeletionSides) → origins ((sides_handed_on gone s).front ++ (sides_handed_on gone s).back) ≡ handed_on (origins gone) (length s.front) (origins (s.front ++ s.back))
+on_both : (gone : List hb_glyph_info_t) (s : DeletionSides) → origins ((sides_handed_on gone s).front ++ (sides_handed_on gone s).back) ≡ origins_handed_on (origins gone) (length s.front) (origins (s.front ++ s.back))
 on_both gone s =
     let n = length s.front in
     let all = origins (s.front ++ s.back) in
@@ -130,12 +130,12 @@ on_both gone s =
     let back : drop n all ≡ origins s.back = drop-map origin_of n (s.front ++ s.back) ∙ ap origins (drop-append_seam s.front s.back) in
     map-append origin_of (glyphs_handed_before gone s.front) (glyphs_handed_after gone (last_of (clusters s.front)) s.back)
     ∙ ap (λ os. os ++ origins (glyphs_handed_after gone (last_of (clusters s.front)) s.back)) (before_origins gone s.front)
-    ∙ ap (λ os. handed_before (origins gone) (origins s.front) ++ os) (after_origins gone (last_of (clusters s.front)) s.back)
-    ∙ ap (λ ns. handed_before (origins gone) (origins s.front) ++ handed_after (origins gone) (last_of ns) (origins s.back)) (sym (numbers_origins s.front))
-    ∙ ap (λ os. handed_before (origins gone) os ++ handed_after (origins gone) (last_of (numbers os)) (origins s.back)) (sym front)
-    ∙ ap (λ os. handed_before (origins gone) (take n all) ++ handed_after (origins gone) (last_of (numbers (take n all))) os) (sym back)
+    ∙ ap (λ os. origins_handed_before (origins gone) (origins s.front) ++ os) (after_origins gone (last_of (clusters s.front)) s.back)
+    ∙ ap (λ ns. origins_handed_before (origins gone) (origins s.front) ++ origins_handed_after (origins gone) (last_of ns) (origins s.back)) (sym (numbers_origins s.front))
+    ∙ ap (λ os. origins_handed_before (origins gone) os ++ origins_handed_after (origins gone) (last_of (numbers os)) (origins s.back)) (sym front)
+    ∙ ap (λ os. origins_handed_before (origins gone) (take n all) ++ origins_handed_after (origins gone) (last_of (numbers (take n all))) os) (sym back)
 
-pub sides_origins : (breaks : Bool) (gone : List hb_glyph_info_t) (s : DeletionSides) → origins ((sides_handed_if breaks gone s).front ++ (sides_handed_if breaks gone s).back) ≡ handed_if breaks (origins gone) (length s.front) (origins (s.front ++ s.back))
+pub sides_origins : (breaks : Bool) (gone : List hb_glyph_info_t) (s : DeletionSides) → origins ((sides_handed_if breaks gone s).front ++ (sides_handed_if breaks gone s).back) ≡ origins_handed_if breaks (origins gone) (length s.front) (origins (s.front ++ s.back))
 sides_origins false gone s = refl
 sides_origins true gone s = on_both gone s
 
@@ -153,18 +153,18 @@ handed_by_origins gone s = record {
 
 -- ---- the clusters of origins
 
-numbers_handed : (gone : List Origin) (seam : ℕ) (os : List Origin) → numbers (handed_on gone seam os) ≡ numbers os
+numbers_handed : (gone : List Origin) (seam : ℕ) (os : List Origin) → numbers (origins_handed_on gone seam os) ≡ numbers os
 numbers_handed gone seam os =
     let n : Origin → ℕ = λ o. o.cluster in
     let front = take seam os in
     let back = drop seam os in
     let before = last_of (numbers front) in
-    map-append n (handed_before gone front) (handed_after gone before back)
-    ∙ ap (λ ns. ns ++ numbers (handed_after gone before back)) (last_kept n (flags_added (flags_for before gone)) front (λ o. refl))
+    map-append n (origins_handed_before gone front) (origins_handed_after gone before back)
+    ∙ ap (λ ns. ns ++ numbers (origins_handed_after gone before back)) (last_kept n (flags_added (flags_for before gone)) front (λ o. refl))
     ∙ ap (λ ns. numbers front ++ ns) (first_kept n (flags_added (flags_for (other_cluster before (first_of (numbers back))) gone)) back (λ o. refl))
     ∙ sym (map-append n front back) ∙ ap numbers (take-append-drop seam os)
 
-pub numbers_handed_if : (asked : Bool) (gone : List Origin) (seam : ℕ) (os : List Origin) → numbers (handed_if asked gone seam os) ≡ numbers os
+pub numbers_handed_if : (asked : Bool) (gone : List Origin) (seam : ℕ) (os : List Origin) → numbers (origins_handed_if asked gone seam os) ≡ numbers os
 numbers_handed_if true gone seam os = numbers_handed gone seam os
 numbers_handed_if false gone seam os = refl
 
@@ -196,14 +196,14 @@ none_for : (o : Option ℕ) → flags_for o [] ≡ 0
 none_for None = refl
 none_for (Some c) = refl
 
-pub none_handed : (asked : Bool) (seam : ℕ) (os : List Origin) → handed_if asked [] seam os ≡ os
+pub none_handed : (asked : Bool) (seam : ℕ) (os : List Origin) → origins_handed_if asked [] seam os ≡ os
 none_handed false seam os = refl
 none_handed true seam os =
     let front = take seam os in
     let back = drop seam os in
     let before = last_of (numbers front) in
     let after = other_cluster before (first_of (numbers back)) in
-    ap (λ qs. qs ++ handed_after [] before back) (last_fixed (flags_added (flags_for before [])) front (λ o e. no_flags_added (flags_for before []) (none_for before) o))
+    ap (λ qs. qs ++ origins_handed_after [] before back) (last_fixed (flags_added (flags_for before [])) front (λ o e. no_flags_added (flags_for before []) (none_for before) o))
     ∙ ap (λ qs. front ++ qs) (first_fixed (flags_added (flags_for after [])) back (no_flags_added (flags_for after []) (none_for after)))
     ∙ take-append-drop seam os
 
@@ -257,15 +257,15 @@ sides_same true h g s e same =
     some_is : {x y : hb_glyph_info_t} → Some x ≡ Some y → x ≡ y
     some_is e = cc
 
-pub same_handed : (asked : Bool) (o : Origin) (seam : ℕ) (os : List Origin) → last_of (take seam os) ≡ Some o → handed_if asked (o ∷ []) seam os ≡ os
+pub same_handed : (asked : Bool) (o : Origin) (seam : ℕ) (os : List Origin) → last_of (take seam os) ≡ Some o → origins_handed_if asked (o ∷ []) seam os ≡ os
 same_handed false o seam os e = refl
 same_handed true o seam os e =
     let front = take seam os in
     let back = drop seam os in
     let before : last_of (numbers front) ≡ Some o.cluster = seen_last (λ (q : Origin). q.cluster) o front e in
     let same : (q : Origin) → last_of front ≡ Some q → flags_added (unsafe_flags o.cluster (o ∷ [])) q ≡ q = λ q is. let one : q ≡ o = some_is (sym is ∙ e) in rw one (ap (λ f. record o { flags = f }) (own_flags o.cluster o)) in
-    ap (λ n. with_last_changed (flags_added (flags_for n (o ∷ []))) front ++ handed_after (o ∷ []) n back) before
-    ∙ ap (λ qs. qs ++ handed_after (o ∷ []) (Some o.cluster) back) (last_fixed (flags_added (unsafe_flags o.cluster (o ∷ []))) front same)
+    ap (λ n. with_last_changed (flags_added (flags_for n (o ∷ []))) front ++ origins_handed_after (o ∷ []) n back) before
+    ∙ ap (λ qs. qs ++ origins_handed_after (o ∷ []) (Some o.cluster) back) (last_fixed (flags_added (unsafe_flags o.cluster (o ∷ []))) front same)
     ∙ ap (λ qs. front ++ qs) (first_fixed (flags_added (flags_for (other_cluster (Some o.cluster) (first_of (numbers back))) (o ∷ []))) back (no_flags_added (flags_for (other_cluster (Some o.cluster) (first_of (numbers back))) (o ∷ [])) (other_flags o (first_of (numbers back)))))
     ∙ take-append-drop seam os
   where
@@ -284,11 +284,11 @@ taken_many (suc i) [] y ys e = cc
 taken_many (suc i) (x ∷ xs) y ys e = ap suc (taken_many i xs y ys e)
 
 -- one that is replaced by copies of itself hands on nothing
-pub copied_handed : (asked : Bool) (at n : ℕ) (os : List Origin) → handed_if asked (take 1 (drop at os)) (at + suc n) (elements_replaced at 1 (suc n) os) ≡ elements_replaced at 1 (suc n) os
+pub copied_handed : (asked : Bool) (at n : ℕ) (os : List Origin) → origins_handed_if asked (take 1 (drop at os)) (at + suc n) (elements_replaced at 1 (suc n) os) ≡ elements_replaced at 1 (suc n) os
 copied_handed asked at n os = by_rest (drop at os) refl
   where
-    by_rest : (rest : List Origin) → drop at os ≡ rest → handed_if asked (take 1 (drop at os)) (at + suc n) (elements_replaced at 1 (suc n) os) ≡ elements_replaced at 1 (suc n) os
-    by_rest [] e = ap (λ qs. handed_if asked (take 1 qs) (at + suc n) (elements_replaced at 1 (suc n) os)) e ∙ none_handed asked (at + suc n) (elements_replaced at 1 (suc n) os)
+    by_rest : (rest : List Origin) → drop at os ≡ rest → origins_handed_if asked (take 1 (drop at os)) (at + suc n) (elements_replaced at 1 (suc n) os) ≡ elements_replaced at 1 (suc n) os
+    by_rest [] e = ap (λ qs. origins_handed_if asked (take 1 qs) (at + suc n) (elements_replaced at 1 (suc n) os)) e ∙ none_handed asked (at + suc n) (elements_replaced at 1 (suc n) os)
     by_rest (o ∷ back) e =
         let front = take at os in
         let copied : elements_replaced at 1 (suc n) os ≡ (front ++ replicate (suc n) o) ++ drop (at + 1) os = ap (λ qs. front ++ copies (suc n) (or (first_of qs) (last_of front)) ++ drop (at + 1) os) e in
@@ -296,13 +296,13 @@ copied_handed asked at n os = by_rest (drop at os) refl
         let whole : length (front ++ replicate (suc n) o) ≡ at + suc n = length-append front (replicate (suc n) o) ∙ ap (λ k. k + length (replicate (suc n) o)) long ∙ ap (λ k. at + k) (length-replicate (suc n) o) in
         let before : take (at + suc n) (elements_replaced at 1 (suc n) os) ≡ front ++ replicate (suc n) o =
         ap (take (at + suc n)) copied ∙ ap (λ k. take k ((front ++ replicate (suc n) o) ++ drop (at + 1) os)) (sym whole) ∙ take-append_seam (front ++ replicate (suc n) o) (drop (at + 1) os) in
-        ap (λ qs. handed_if asked (take 1 qs) (at + suc n) (elements_replaced at 1 (suc n) os)) e
+        ap (λ qs. origins_handed_if asked (take 1 qs) (at + suc n) (elements_replaced at 1 (suc n) os)) e
         ∙ same_handed asked o (at + suc n) (elements_replaced at 1 (suc n) os) (ap last_of before ∙ last_copy front n o)
 
 -- no glyph is left
-pub handed_nowhere : (asked : Bool) (gone : List Origin) (m n : ℕ) → handed_if asked gone m [] ≡ handed_if asked gone n []
+pub handed_nowhere : (asked : Bool) (gone : List Origin) (m n : ℕ) → origins_handed_if asked gone m [] ≡ origins_handed_if asked gone n []
 handed_nowhere false gone m n = refl
 handed_nowhere true gone m n = to_none m ∙ sym (to_none n)
   where
-    to_none : (k : ℕ) → handed_on gone k [] ≡ []
+    to_none : (k : ℕ) → origins_handed_on gone k [] ≡ []
     to_none k = rw (take-nil {A = Origin} k, drop-nil {A = Origin} k) refl

@@ -5,7 +5,7 @@ use Rattle.std.proofs.Math.Seq.{drop-append_seam}
 use Rattle.buffer_glyphs.specs.declared.info.hb_glyph_info_t.{hb_glyph_info_t as Glyph}
 use Rattle.buffer_glyphs.specs.declared.level.BufferClusterLevel.{BufferClusterLevel as Level}
 use Rattle.buffer_glyphs.specs.Items.{Item, Position, item_of, strip}
-use Rattle.buffer_glyphs.specs.Origins.{Asks, origin_of, origins, origins_deleted, handed_if}
+use Rattle.buffer_glyphs.specs.Origins.{Asks, origin_of, origins, origins_deleted, origins_handed_if}
 use Rattle.buffer_glyphs.specs.Events.{Delete, origins_after, IsPlain}
 use Rattle.buffer_glyphs.specs.Deleting.{glyphs_deleted, sides_after_deletion}
 use Rattle.buffer_glyphs.specs.Deleted.{items_deleted}
@@ -24,14 +24,14 @@ front_length breaks level front g back = sides_front_count breaks (g ∷ []) (gl
 -- the origins after one deletion
 one_deleted : (breaks : Bool) (level : Level) (front : List Glyph) (g : Glyph) (back : List Glyph)
     → origins ((sides_after_deletion breaks level front g back).front ++ (sides_after_deletion breaks level front g back).back)
-    ≡ handed_if breaks (take 1 (drop (length front) (origins (front ++ g ∷ back)))) (length front) (origins_deleted level (length front) (origins (front ++ g ∷ back)))
+    ≡ origins_handed_if breaks (take 1 (drop (length front) (origins (front ++ g ∷ back)))) (length front) (origins_deleted level (length front) (origins (front ++ g ∷ back)))
 one_deleted breaks level front g back =
     let os = origins (front ++ g ∷ back) in
     let there : drop (length front) os ≡ origins (g ∷ back) = drop-map origin_of (length front) (front ++ g ∷ back) ∙ ap origins (drop-append_seam front (g ∷ back)) in
     sides_origins breaks (g ∷ []) (glyphs_deleted level front g back)
-    ∙ ap (λ n. handed_if breaks (origin_of g ∷ []) n (origins ((glyphs_deleted level front g back).front ++ (glyphs_deleted level front g back).back))) (plain_length level front g back)
-    ∙ ap (handed_if breaks (origin_of g ∷ []) (length front)) (deletion_after_front level front g back)
-    ∙ ap (λ qs. handed_if breaks (take 1 qs) (length front) (origins_deleted level (length front) os)) (sym there)
+    ∙ ap (λ n. origins_handed_if breaks (origin_of g ∷ []) n (origins ((glyphs_deleted level front g back).front ++ (glyphs_deleted level front g back).back))) (plain_length level front g back)
+    ∙ ap (origins_handed_if breaks (origin_of g ∷ []) (length front)) (deletion_after_front level front g back)
+    ∙ ap (λ qs. origins_handed_if breaks (take 1 qs) (length front) (origins_deleted level (length front) os)) (sym there)
 
 deletions_many : (n : ℕ) (asks : Asks) (level : Level) (q : Item → Bool) (ks : List Glyph) (kp : List Position) (rest_glyphs : List Glyph) (pa : List Position) (m : Bool) → length rest_glyphs ≤ n
     → origins (many_steps asks.breaks level (λ g. q (item_of g)) n (record { kept = ks; kept_positions = kp; rest_glyphs = rest_glyphs; rest_positions = pa; is_marked = m })).kept ≡ origins_after asks level (deletions_from q (length ks) (strip rest_glyphs)) (origins (ks ++ rest_glyphs))

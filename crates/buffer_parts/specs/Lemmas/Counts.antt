@@ -8,7 +8,7 @@ use Rattle.buffer_glyphs.specs.declared.level.BufferClusterLevel.{BufferClusterL
 use Rattle.buffer_glyphs.specs.Levels.{InList, Manner, Unites, Marks, Keeps, manner, grapheme_manner}
 use Rattle.buffer_glyphs.specs.Parts.{first_of, last_of, last_from, or, copies, is_number, elements_replaced}
 use Rattle.buffer_glyphs.specs.Order.{IsGiving}
-use Rattle.buffer_glyphs.specs.Origins.{handed_if, Origin, Asks, Span, spans, numbers, cast, end_cast, alone_deleted, one_deleted, first_deleted, origins_deleted, origins_merged_as, origins_marked, origins_flagged, picked_elements, with_range_arranged, spans_merged, flags_at, first_circled, origins_circled, origins_spread}
+use Rattle.buffer_glyphs.specs.Origins.{origins_handed_if, Origin, Asks, Span, spans, numbers, cast, end_cast, alone_deleted, one_deleted, first_deleted, origins_deleted, origins_merged_as, origins_marked, origins_flagged, picked_elements, with_range_arranged, spans_merged, flags_at, first_circled, origins_circled, origins_spread}
 use Rattle.buffer_glyphs.specs.Events.{Event, Merge, MergeGrapheme, Replace, Circle, Delete, Move, Arrange, Sort, Reverse, Break, Concat, Tatweel, StrictBreak, Spread, Reset, concat_marked, strictly_marked, tatweel_marked, origins_after_event}
 use Rattle.buffer_glyphs.specs.EventParts.{joins_of, span_joins, parts_of}
 use Rattle.buffer_glyphs.specs.Lemmas.Origins.{numbers_marked, numbers_flagged}
@@ -147,8 +147,8 @@ strict_count : (asked : Bool) (from to : ℕ) (os : List Origin) → length (str
 strict_count true from to os = same_count os (origins_marked 3 from to os) (numbers_marked 3 from to os)
 strict_count false from to os = refl
 
-handed_count : (asked : Bool) (gone : List Origin) (seam : ℕ) (os : List Origin) → length (handed_if asked gone seam os) ≡ length os
-handed_count asked gone seam os = same_count os (handed_if asked gone seam os) (numbers_handed_if asked gone seam os)
+handed_count : (asked : Bool) (gone : List Origin) (seam : ℕ) (os : List Origin) → length (origins_handed_if asked gone seam os) ≡ length os
+handed_count asked gone seam os = same_count os (origins_handed_if asked gone seam os) (numbers_handed_if asked gone seam os)
 
 reverse_count : (os : List Origin) → length (reverse os) ≡ length os
 reverse_count os = length-reverse os

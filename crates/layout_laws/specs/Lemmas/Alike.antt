@@ -9,8 +9,8 @@ use Rattle.buffer_core.specs.Readings.{View, Reading, with_events}
 use Rattle.buffer_stages.specs.Actions.{Cut, view_at, uncut, past_item, Outcome, Passes, Acts, Refuses, Action, attempt_around, later, or_else, first_rule, at_first}
 use Rattle.layout_match.specs.Applied.{ApplyContext}
 use Rattle.layout_match.specs.Trying.{meets, at_met, after_outcome, outcome_past_item, trial_at, trials, with_zero_positions, whole_list, forward_pass}
-use Rattle.buffer_stage_laws.specs.Alike.{attachment_bit, with_limit_and_flags, SeenAlike, ReadAlike, ReadingsAlike, DependsOnNoLength}
-use Rattle.buffer_stage_laws.specs.Lemmas.Alike.{at_alike, refused_readings, limited_readings, then_reading_alike, and_then_alike}
+use Rattle.buffer_parts.specs.Alike.{attachment_bit, with_limit_and_flags, SeenAlike, ReadAlike, ReadingsAlike, DependsOnNoLength}
+use Rattle.buffer_parts.specs.Lemmas.Alike.{at_alike, refused_readings, limited_readings, then_reading_alike, and_then_alike}
 use Rattle.layout_laws.specs.Alike.{cut_as, CutsAlike, OutcomesAlike, RuleDependsOnNoLength}
 use Rattle.layout_laws.specs.RuleLengths.{FirstRulesDependOnNoLength, MetRulesDependOnNoLength, LookupsDependOnNoLength}
 

@@ -16,8 +16,8 @@ use Rattle.layout_gsub.specs.Multiples.{multiple_substitution, cut_with_multiple
 use Rattle.layout_gsub.specs.Replacements.{single_substitution, cut_with_substitute}
 use Rattle.layout_substitution.specs.Lookups.{cut_at_index, backward_trials, backward_pass}
 use Rattle.layout_positioning.specs.Lookups.{positioning_pass}
-use Rattle.buffer_stage_laws.specs.Counting.{IsFair, with_budget_changed, CountsBudget}
-use Rattle.buffer_stage_laws.specs.Lemmas.Counting.{and_then_counts, same_counts, two_count_budget}
+use Rattle.buffer_parts.specs.Counting.{IsFair, with_budget_changed, CountsBudget}
+use Rattle.buffer_parts.specs.Lemmas.Counting.{and_then_counts, same_counts, two_count_budget}
 use Rattle.layout_laws.specs.Counting.{rebudgeted_cut, OutcomeCounts, RuleCounts, RuleCountsBudget, NestCountsBudget}
 use Rattle.layout_laws.specs.Lemmas.Counting.{limited_counts, later_counts, or_else_counts, after_counts, NextCounts, tried_counts, lookups_count_budget}
 use Rattle.layout_laws.specs.Lemmas.NestedCounting.{nested_count_budget}

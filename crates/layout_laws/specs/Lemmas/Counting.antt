@@ -9,8 +9,8 @@ use Rattle.buffer_core.specs.Readings.{View, Reading, then_reading, with_events}
 use Rattle.buffer_stages.specs.Actions.{Cut, view_at, uncut, past_item, Outcome, Passes, Acts, Refuses, Action, attempt_around, later, or_else, first_rule, at_first}
 use Rattle.layout_match.specs.Applied.{ApplyContext}
 use Rattle.layout_match.specs.Trying.{meets, at_met, after_outcome, outcome_past_item, trial_at, trials, with_zero_positions, whole_list}
-use Rattle.buffer_stage_laws.specs.Counting.{with_budget_changed, ReadingCounts, StageCounts}
-use Rattle.buffer_stage_laws.specs.Lemmas.Counting.{and_then_counts}
+use Rattle.buffer_parts.specs.Counting.{with_budget_changed, ReadingCounts, StageCounts}
+use Rattle.buffer_parts.specs.Lemmas.Counting.{and_then_counts}
 use Rattle.layout_laws.specs.Counting.{rebudgeted_cut, OutcomeCounts, RuleCounts}
 use Rattle.layout_laws.specs.RuleBudgets.{FirstRulesCountBudget, MetRulesCountBudget, LookupsCountBudget}
 

@@ -7,9 +7,9 @@ use Rattle.buffer_stages.specs.Actions.{Cut, whole, view_at, uncut_with_position
 use Rattle.buffer_stages.specs.Pauses.{with_own_random}
 use Rattle.layout_substitution.specs.Lookups.{cut_at_index, backward_trials, backward_pass}
 use Rattle.layout_positioning.specs.Lookups.{positioning_pass}
-use Rattle.buffer_stage_laws.specs.Rules.{RuleKeepsParts}
-use Rattle.buffer_stage_laws.specs.Stages.{KeepsParts}
-use Rattle.buffer_stage_laws.specs.Lemmas.Stages.{ReadsParts, nothing_keeps, read_now, then_reads, stages_keep_parts, same_keeps}
+use Rattle.buffer_parts.specs.Rules.{RuleKeepsParts}
+use Rattle.buffer_parts.specs.Stages.{KeepsParts}
+use Rattle.buffer_parts.specs.Lemmas.Stages.{ReadsParts, nothing_keeps, read_now, then_reads, stages_keep_parts, same_keeps}
 use Rattle.layout_laws.specs.Lemmas.Lookups.{after_keeps, tried_keeps, lookups_keep_parts}
 use Rattle.layout_laws.specs.Parts.{SubstitutionKeepsParts, PositioningKeepsParts}
 use Rattle.layout_laws.specs.Lemmas.Substitutions.{forward_related, backward_related}

@@ -25,9 +25,9 @@ use Rattle.layout_gsub.specs.Reverses.{cut_with_substitute_kept}
 use Rattle.layout_gpos.specs.Anchors.{with_attachment_flag}
 use Rattle.layout_gpos.specs.Moving.{cut_with_positions}
 use Rattle.layout_gpos.proofs.Lemmas.Left.{past_left}
-use Rattle.buffer_stage_laws.specs.Rules.{OutcomeKeepsParts, RuleKeepsParts}
-use Rattle.buffer_stage_laws.specs.Lemmas.Rules.{break_keeps, attempt_keeps, pass_keeps, later_keeps, or_else_keeps, limit_keeps}
-use Rattle.buffer_stage_laws.specs.Lemmas.Stages.{nothing_keeps}
+use Rattle.buffer_parts.specs.Rules.{OutcomeKeepsParts, RuleKeepsParts}
+use Rattle.buffer_parts.specs.Lemmas.Rules.{break_keeps, attempt_keeps, pass_keeps, later_keeps, or_else_keeps, limit_keeps}
+use Rattle.buffer_parts.specs.Lemmas.Stages.{nothing_keeps}
 use Rattle.layout_laws.specs.Lemmas.Rules.{Limits, NestRelated, IsClosed}
 use Rattle.layout_laws.specs.Lemmas.Substitutions.{IsSubstituted}
 use Rattle.layout_laws.specs.Lemmas.Positionings.{IsPositioned}

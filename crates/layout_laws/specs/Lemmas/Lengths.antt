@@ -20,8 +20,8 @@ use Rattle.layout_gpos.specs.Anchors.{with_attachment_flag}
 use Rattle.layout_gpos.specs.Moving.{cut_with_positions}
 use Rattle.layout_substitution.specs.Lookups.{cut_at_index, backward_trials, backward_pass}
 use Rattle.layout_positioning.specs.Lookups.{positioning_pass}
-use Rattle.buffer_stage_laws.specs.Alike.{attachment_bit, with_limit_and_flags, ReadingsAlike, DependsOnNoLength}
-use Rattle.buffer_stage_laws.specs.Lemmas.Alike.{at_alike, and_then_alike, same_depends, two_depend_on_no_length}
+use Rattle.buffer_parts.specs.Alike.{attachment_bit, with_limit_and_flags, ReadingsAlike, DependsOnNoLength}
+use Rattle.buffer_parts.specs.Lemmas.Alike.{at_alike, and_then_alike, same_depends, two_depend_on_no_length}
 use Rattle.layout_laws.specs.Alike.{cut_as, CutsAlike, OutcomesAlike, RuleDependsOnNoLength, NestDependsOnNoLength}
 use Rattle.layout_laws.specs.Lemmas.Alike.{at_alike_cut, cuts_alike, limited_outcomes, later_alike, or_else_alike, here_alike, after_alike, NextAlike, tried_alike, lookups_depend_on_no_length}
 use Rattle.layout_laws.specs.Lemmas.NestedAlike.{nested_depend_on_no_length}

@@ -8,10 +8,10 @@ use Rattle.buffer_core.specs.Readings.{View, Reading}
 use Rattle.buffer_stages.specs.Actions.{Cut, whole, view_at, uncut, past_item, Outcome, Passes, Acts, Refuses, Action}
 use Rattle.layout_match.specs.Trying.{meets, at_met, after_outcome, outcome_past_item, trial_at, trials, with_zero_positions, whole_list}
 use Rattle.buffer_parts.specs.Keeping.{AreKept}
-use Rattle.buffer_stage_laws.specs.Rules.{OutcomeKeepsParts, RuleKeepsParts}
-use Rattle.buffer_stage_laws.specs.Stages.{KeepsParts}
-use Rattle.buffer_stage_laws.specs.Lemmas.Stages.{ReadsParts, at_read, nothing_keeps, read_now, then_reading_keeps, then_reads}
-use Rattle.buffer_stage_laws.specs.Lemmas.Rules.{at_first_keeps, limit_keeps, pass_keeps}
+use Rattle.buffer_parts.specs.Rules.{OutcomeKeepsParts, RuleKeepsParts}
+use Rattle.buffer_parts.specs.Stages.{KeepsParts}
+use Rattle.buffer_parts.specs.Lemmas.Stages.{ReadsParts, at_read, nothing_keeps, read_now, then_reading_keeps, then_reads}
+use Rattle.buffer_parts.specs.Lemmas.Rules.{at_first_keeps, limit_keeps, pass_keeps}
 use Rattle.layout_laws.specs.RuleParts.{LookupsKeepParts, MetRulesKeepParts}
 
 pub met_rules_keep_parts : MetRulesKeepParts

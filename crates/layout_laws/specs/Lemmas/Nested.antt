@@ -9,8 +9,8 @@ use Rattle.buffer_stages.specs.Actions.{Cut, whole, Outcome, Passes, Acts, Refus
 use Rattle.layout_contexts.specs.Nested.{RecordsOutcome, Walks, Stops, cut_at, holds, has_budget, with_budget_spent, nested_outcome, nested_outcome_at, outcome_at_index, one_record, walked_later, then_walk, each_record, cut_after_match}
 use Rattle.buffer_parts.specs.Keeping.{AreKept}
 use Rattle.buffer_parts.specs.Lemmas.Keeping.{kept_in_turn}
-use Rattle.buffer_stage_laws.specs.Rules.{OutcomeKeepsParts, RuleKeepsParts}
-use Rattle.buffer_stage_laws.specs.Lemmas.Stages.{nothing_keeps}
+use Rattle.buffer_parts.specs.Rules.{OutcomeKeepsParts, RuleKeepsParts}
+use Rattle.buffer_parts.specs.Lemmas.Stages.{nothing_keeps}
 use Rattle.layout_laws.specs.RuleParts.{NestedKeepParts}
 
 -- the events of a walk, on n items, keep the parts of the text

@@ -8,7 +8,7 @@ use Rattle.layout_tables.specs.declared.context.SequenceLookupRecord.{SequenceLo
 use Rattle.buffer_stages.specs.Actions.{Cut, whole, Outcome, Passes, Acts, Refuses, Action}
 use Rattle.layout_contexts.specs.Nested.{RecordsOutcome, Walks, Stops, cut_at, holds, has_budget, with_budget_spent, nested_outcome, nested_outcome_at, outcome_at_index, one_record, walked_later, then_walk, each_record, cut_after_match}
 use Rattle.layout_contexts.specs.Shifts.{indices_after_resize, moved_end}
-use Rattle.buffer_stage_laws.specs.Alike.{attachment_bit}
+use Rattle.buffer_parts.specs.Alike.{attachment_bit}
 use Rattle.layout_laws.specs.Alike.{cut_as, CutsAlike, OutcomesAlike, RuleDependsOnNoLength, WalksAlike}
 use Rattle.layout_laws.specs.RuleLengths.{NestedDependOnNoLength}
 use Rattle.layout_laws.specs.Lemmas.Alike.{at_alike_cut, cuts_alike, refused_outcomes, limited_outcomes}

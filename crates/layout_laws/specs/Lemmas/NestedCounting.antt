@@ -5,7 +5,7 @@ use Rattle.buffer_glyphs.specs.declared.cause.ShapeCause.TheVariants.{TooLong}
 use Rattle.layout_tables.specs.declared.context.SequenceLookupRecord.{SequenceLookupRecord}
 use Rattle.buffer_stages.specs.Actions.{Cut, whole, Outcome, Passes, Acts, Refuses, Action}
 use Rattle.layout_contexts.specs.Nested.{RecordsOutcome, Walks, Stops, cut_at, holds, has_budget, with_budget_spent, nested_outcome, nested_outcome_at, outcome_at_index, one_record, walked_later, then_walk, each_record, cut_after_match}
-use Rattle.buffer_stage_laws.specs.Counting.{is_left, IsFair}
+use Rattle.buffer_parts.specs.Counting.{is_left, IsFair}
 use Rattle.layout_laws.specs.Counting.{rebudgeted_cut, OutcomeCounts, RuleCounts, RuleCountsBudget, WalkCounts}
 use Rattle.layout_laws.specs.RuleBudgets.{NestedCountBudget}
 

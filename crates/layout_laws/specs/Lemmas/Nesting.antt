@@ -20,8 +20,8 @@ use Rattle.layout_gsub.specs.Replacements.{single_substitution, cut_with_substit
 use Rattle.layout_face.specs.declared.parts.GlyphDefinition.{GlyphDefinition}
 use Rattle.layout_substitution.specs.Lookups.{cut_at_index, backward_trials, backward_pass}
 use Rattle.layout_positioning.specs.Lookups.{positioning_pass}
-use Rattle.buffer_stage_laws.specs.Counting.{is_left}
-use Rattle.buffer_stage_laws.specs.Lemmas.Stages.{same_read, both_read}
+use Rattle.buffer_parts.specs.Counting.{is_left}
+use Rattle.buffer_parts.specs.Lemmas.Stages.{same_read, both_read}
 use Rattle.layout_laws.specs.Nesting.{IsTaken, TakesWithinBudget, NestsWithinBudget}
 use Rattle.layout_laws.specs.Lemmas.Rules.{Limits, NestRelated, IsClosed}
 use Rattle.layout_laws.specs.Lemmas.Substitutions.{IsSubstituted, forward_related, backward_related}

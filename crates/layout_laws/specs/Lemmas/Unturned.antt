@@ -24,8 +24,8 @@ use Rattle.layout_gsub.specs.Multiples.{cut_with_multiple}
 use Rattle.layout_gsub.specs.Replacements.{single_substitution, cut_with_substitute}
 use Rattle.layout_substitution.specs.Lookups.{cut_at_index, backward_trials, backward_pass}
 use Rattle.layout_positioning.specs.Lookups.{positioning_pass}
-use Rattle.buffer_stage_laws.specs.Stages.{StaysUnturned}
-use Rattle.buffer_stage_laws.specs.Lemmas.Stages.{at_read, both_read, same_unturned, stages_stay_unturned}
+use Rattle.buffer_parts.specs.Stages.{StaysUnturned}
+use Rattle.buffer_parts.specs.Lemmas.Stages.{at_read, both_read, same_unturned, stages_stay_unturned}
 use Rattle.layout_laws.specs.Lemmas.Rules.{Limits, NestRelated, IsClosed}
 use Rattle.layout_laws.specs.Lemmas.Substitutions.{IsSubstituted, forward_related, backward_related}
 use Rattle.layout_laws.specs.Lemmas.Positionings.{IsPositioned, action_related}

@@ -10,8 +10,8 @@ use Rattle.layout_map.specs.Compiled.{OtMapValue}
 use Rattle.buffer_stages.specs.Settings.{TextSettings}
 use Rattle.layout_map.specs.Masks.{has_mask, joining_masks, mask_at_one}
 use Rattle.script_plan.specs.declared.plan.hb_script_plan_t.{hb_script_plan_t}
-use Rattle.buffer_stage_laws.specs.Plainly.{KeepsPlainly}
-use Rattle.buffer_stage_laws.specs.Lemmas.Plainly.{either_plainly, plain_stages_keep_parts, same_plainly, then_plainly}
+use Rattle.buffer_parts.specs.PlainStages.{KeepsPlainly}
+use Rattle.buffer_parts.specs.Lemmas.PlainStages.{either_plainly, plain_stages_keep_parts, same_plainly, then_plainly}
 use Rattle.buffer_glyphs.specs.Rewriting.{eventless_arrangement}
 use Rattle.script_plan.specs.Rules.{EndAfterStart, IsArrangedInLine, RulesKeepParts, Spans}
 use Rattle.script_plan.specs.Lemmas.Arranged.{steady_arranged}

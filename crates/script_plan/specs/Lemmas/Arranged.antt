@@ -4,7 +4,7 @@ use Rattle.buffer_glyphs.specs.Items.{Item}
 use Rattle.buffer_parts.specs.Plainly.{AreSteady}
 use Rattle.buffer_parts.specs.Lemmas.Plainly.{steady_count, steady_giving, steady_plain, steady_unturned}
 use Rattle.buffer_glyphs.specs.Rewriting.{Arrangement, shifted_event}
-use Rattle.buffer_stage_laws.specs.Lemmas.Steady.{shifted_steady}
+use Rattle.buffer_parts.specs.Lemmas.Steady.{shifted_steady}
 use Rattle.script_plan.specs.Rules.{IsArrangedInLine}
 
 -- events that leave as many glyphs as there were

@@ -3,10 +3,10 @@ use Rattle.std.proofs.Common.{ℕ, ℤ, ◌≡◌, Bool, true, false, if◌then�
 use Rattle.buffer_glyphs.specs.declared.cause.ShapeCause.{ShapeCause}
 use Rattle.buffer_glyphs.specs.declared.cause.ShapeCause.TheVariants.{TooLong}
 use Rattle.buffer_core.specs.Readings.{View, Read, Reading, Stage, always, and_then, as_it_is}
-use Rattle.buffer_stage_laws.specs.Alike.{DependsOnNoLength, ReadAlike, ReadingsAlike, attachment_bit, with_limit_and_flags}
-use Rattle.buffer_stage_laws.specs.Counting.{CountsBudget, ReadingCounts, with_budget_changed, rebudgeted_read}
-use Rattle.buffer_stage_laws.specs.Lemmas.Alike.{at_alike, limited_readings, same_depends, two_depend_on_no_length, views_alike}
-use Rattle.buffer_stage_laws.specs.Lemmas.Counting.{same_counts, two_count_budget}
+use Rattle.buffer_parts.specs.Alike.{DependsOnNoLength, ReadAlike, ReadingsAlike, attachment_bit, with_limit_and_flags}
+use Rattle.buffer_parts.specs.Counting.{CountsBudget, ReadingCounts, with_budget_changed, rebudgeted_read}
+use Rattle.buffer_parts.specs.Lemmas.Alike.{at_alike, limited_readings, same_depends, two_depend_on_no_length, views_alike}
+use Rattle.buffer_parts.specs.Lemmas.Counting.{same_counts, two_count_budget}
 use Rattle.script_plan.specs.Rules.{DependsOnNoLimit}
 
 -- what was read, with another limit of length and other scratch flags

@@ -12,8 +12,8 @@ use Rattle.buffer_glyphs.specs.Rewriting.{eventless_arrangement}
 use Rattle.buffer_stages.specs.Rearranged.{Rearranges}
 use Rattle.buffer_stages.specs.Stages.{IsFollowed}
 use Rattle.buffer_unicode_tables.specs.Expansion.{EndWithin, Splits, ends_by, ends_within}
-use Rattle.buffer_stage_laws.specs.Stages.{KeepsPartsInLine}
-use Rattle.buffer_stage_laws.specs.Lemmas.Plainly.{plain_stages_keep_parts, same_plainly}
+use Rattle.buffer_parts.specs.Stages.{KeepsPartsInLine}
+use Rattle.buffer_parts.specs.Lemmas.PlainStages.{plain_stages_keep_parts, same_plainly}
 use Rattle.script_plan.specs.Rules.{RulesDependOnNoLimit, RulesKeepParts, plain_rules}
 use Rattle.script_plan.specs.Lemmas.Arranged.{steady_arranged}
 use Rattle.script_plan.specs.Lemmas.Limits.{same_by}

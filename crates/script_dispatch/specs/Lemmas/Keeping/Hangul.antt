@@ -19,8 +19,8 @@ use Rattle.buffer_stages.specs.Moves.{order_of_move}
 use Rattle.buffer_stages.specs.Walks.{renumbered_first}
 use Rattle.buffer_parts.specs.Plainly.{ArePlainlyKept, AreSteady}
 use Rattle.buffer_parts.specs.Lemmas.Plainly.{plainly_in_turn, replacement_kept, steady_kept}
-use Rattle.buffer_stage_laws.specs.Plainly.{KeepsPlainly}
-use Rattle.buffer_stage_laws.specs.Lemmas.Plainly.{always_plainly, even_plainly, limited_plainly, then_plainly}
+use Rattle.buffer_parts.specs.PlainStages.{KeepsPlainly}
+use Rattle.buffer_parts.specs.Lemmas.PlainStages.{always_plainly, even_plainly, limited_plainly, then_plainly}
 use Rattle.script_arabic.proofs.Plainly.{kept_between}
 use Rattle.script_thai.specs.declared.thai_private.State.{State}
 use Rattle.script_thai.specs.declared.thai_private.Consonant.TheVariants.{NotConsonant}

@@ -6,8 +6,8 @@ use Rattle.layout_map.specs.Compiled.{OtMapValue}
 use Rattle.buffer_glyphs.specs.Items.{Item}
 use Rattle.buffer_core.specs.Readings.{always, as_it_is}
 use Rattle.buffer_stages.specs.Stages.{with_items_mapped}
-use Rattle.buffer_stage_laws.specs.Plainly.{KeepsPlainly}
-use Rattle.buffer_stage_laws.specs.Lemmas.Plainly.{always_plainly, either_plainly, even_plainly, mapped_plainly, same_plainly, then_plainly}
+use Rattle.buffer_parts.specs.PlainStages.{KeepsPlainly}
+use Rattle.buffer_parts.specs.Lemmas.PlainStages.{always_plainly, either_plainly, even_plainly, mapped_plainly, same_plainly, then_plainly}
 use Rattle.script_indic.proofs.Keeping.{properties_keep_plainly}
 use Rattle.script_joining.specs.Joining.{forms, letters_with_forms, items_with_forms, nearest, neighbour_events, settled_forms, types_of_characters, types_of_items, with_forms}
 use Rattle.script_joining.specs.Lemmas.Steady.{joining_is_steady}

@@ -46,8 +46,8 @@ use Rattle.script_khmer.specs.Pauses.{khmer_circles}
 use Rattle.script_myanmar.specs.Pauses.{myanmar_circles}
 use Rattle.script_syllabic.specs.Syllables.{syllables_by, then_syllables}
 use Rattle.script_universal.specs.Pauses.{universal_circles}
-use Rattle.buffer_stage_laws.specs.Plainly.{KeepsPlainly}
-use Rattle.buffer_stage_laws.specs.Lemmas.Plainly.{IsSteady, ReadsPlainly, limited_plainly, same_plainly, syllables_plainly, then_plainly, then_steady, within_steady}
+use Rattle.buffer_parts.specs.PlainStages.{KeepsPlainly}
+use Rattle.buffer_parts.specs.Lemmas.PlainStages.{IsSteady, ReadsPlainly, limited_plainly, same_plainly, syllables_plainly, then_plainly, then_steady, within_steady}
 use Rattle.script_dispatch.specs.Keeping.{OrdersKeepPlainly}
 
 -- ---- circles

@@ -25,8 +25,8 @@ use Rattle.script_syllabic.proofs.QuietRules.{bytes_permute, pref_recorded_permu
 use Rattle.script_universal.specs.Pauses.{forms_set, universal_syllables_set}
 use Rattle.buffer_stages.specs.LayoutStages.{item_not_substituted}
 use Rattle.script_syllabic.specs.Syllables.{syllables_by, then_syllables, without_syllable}
-use Rattle.buffer_stage_laws.specs.Plainly.{KeepsPlainly}
-use Rattle.buffer_stage_laws.specs.Lemmas.Plainly.{IsSteady, ReadsPlainly, even_plainly, limited_plainly, mapped_plainly, permuted_even, rule_plainly, same_plainly, syllables_plainly, then_plainly, then_steady, within_steady}
+use Rattle.buffer_parts.specs.PlainStages.{KeepsPlainly}
+use Rattle.buffer_parts.specs.Lemmas.PlainStages.{IsSteady, ReadsPlainly, even_plainly, limited_plainly, mapped_plainly, permuted_even, rule_plainly, same_plainly, syllables_plainly, then_plainly, then_steady, within_steady}
 use Rattle.script_plan.specs.Rules.{EndAfterStart, Spans}
 use Rattle.script_dispatch.specs.Keeping.{SyllablesKeepPlainly}
 

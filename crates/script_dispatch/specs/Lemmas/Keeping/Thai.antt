@@ -9,8 +9,8 @@ use Rattle.buffer_glyphs.specs.Events.{MergeGrapheme, Move, Replace, StrictBreak
 use Rattle.buffer_stages.specs.Moves.{order_of_move}
 use Rattle.buffer_parts.specs.Plainly.{ArePlainlyKept, AreSteady}
 use Rattle.buffer_parts.specs.Lemmas.Plainly.{both_steady, plainly_in_turn, replacement_kept, steady_kept}
-use Rattle.buffer_stage_laws.specs.Plainly.{KeepsPlainly}
-use Rattle.buffer_stage_laws.specs.Lemmas.Plainly.{always_plainly, limited_plainly, then_plainly}
+use Rattle.buffer_parts.specs.PlainStages.{KeepsPlainly}
+use Rattle.buffer_parts.specs.Lemmas.PlainStages.{always_plainly, limited_plainly, then_plainly}
 use Rattle.buffer_core.specs.Readings.{always}
 use Rattle.buffer_core.specs.Sides.{zero_positions}
 use Rattle.script_arabic.proofs.Plainly.{kept_between}

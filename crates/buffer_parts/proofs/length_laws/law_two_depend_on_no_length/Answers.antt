@@ -1,0 +1,5 @@
+use Rattle.buffer_parts.specs.Lemmas.Alike.{two_depend_on_no_length}
+use Rattle.buffer_parts.proofs.length_laws.law_two_depend_on_no_length.Goals as goal
+
+pub returns : goal.returns
+returns c = two_depend_on_no_length

@@ -1,5 +1,0 @@
-use Rattle.buffer_stage_laws.specs.Lemmas.Alike.{alike_are_read}
-use Rattle.buffer_stage_laws.proofs.length_laws.law_alike_are_read.Goals as goal
-
-pub returns : goal.returns
-returns c = alike_are_read

@@ -1,5 +1,0 @@
-use Rattle.buffer_stage_laws.specs.Lemmas.Alike.{chains_depend_on_no_length}
-use Rattle.buffer_stage_laws.proofs.length_laws.law_chains_depend_on_no_length.Goals as goal
-
-pub returns : goal.returns
-returns c = chains_depend_on_no_length

@@ -1,5 +1,0 @@
-use Rattle.buffer_stage_laws.specs.Lemmas.Counting.{counting_spares_budget}
-use Rattle.buffer_stage_laws.proofs.length_laws.law_counting_spares_budget.Goals as goal
-
-pub returns : goal.returns
-returns c = counting_spares_budget

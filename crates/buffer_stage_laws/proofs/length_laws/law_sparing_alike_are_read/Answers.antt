@@ -1,5 +1,0 @@
-use Rattle.buffer_stage_laws.specs.Lemmas.Both.{sparing_alike_are_read}
-use Rattle.buffer_stage_laws.proofs.length_laws.law_sparing_alike_are_read.Goals as goal
-
-pub returns : goal.returns
-returns c = sparing_alike_are_read

@@ -1,5 +1,0 @@
-use Rattle.buffer_stage_laws.specs.Lemmas.Rules.{first_rules_keep_parts}
-use Rattle.buffer_stage_laws.proofs.part_laws.law_first_rules_keep_parts.Goals as goal
-
-pub returns : goal.returns
-returns c = first_rules_keep_parts

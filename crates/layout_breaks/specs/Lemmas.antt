@@ -1,0 +1,23 @@
+-- Lemmas for the laws.
+pub mod Matching
+pub mod Words
+pub mod Frames
+pub mod Outcomes
+pub mod Singles
+pub mod Blind
+pub mod Components
+pub mod Ligatures
+pub mod Indices
+pub mod Records
+pub mod Contexts
+pub mod Rules
+pub mod Lookups
+pub mod Steady
+pub mod Walks
+pub mod Binding
+pub mod Passes
+pub mod Lines
+pub mod Divided
+pub mod Lossless
+pub mod Spent
+pub mod InOrder

@@ -1,0 +1,11 @@
+pub mod Lemmas
+pub mod Matching
+pub mod Binding
+pub mod Frames
+pub mod Local
+pub mod Walks
+pub mod Divided
+pub mod RuleLaws
+pub mod LookupLaws
+pub mod LookupsBeside
+pub mod InOrder

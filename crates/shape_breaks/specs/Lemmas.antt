@@ -1,0 +1,21 @@
+-- Lemmas for the laws.
+pub mod Groups
+pub mod GraphemeEvents
+pub mod Prepared
+pub mod Circled
+pub mod Formed
+pub mod Begun
+pub mod BegunTexts
+pub mod Rotated
+pub mod Ranged
+pub mod Letters
+pub mod Unnumbered
+pub mod Joined
+pub mod Rewrites
+pub mod Expanded
+pub mod Sorted
+pub mod Composed
+pub mod Normalized
+pub mod Stages
+pub mod Fractions
+pub mod Plain
