@@ -1,5 +1,5 @@
 -- Cursive attachment (OpenType, GPOS lookup type 3), on a list of positions.
-use Rattle.std.specs.Prelude.{ℕ, zero, suc, ℤ, pos, neg_ℤ, ◌-ℤ◌, ◌==◌, Bool, true, false, not, if◌then◌else◌, List, set, length, Option, Some, None, bit_and}
+use Rattle.std.specs.Prelude.{ℕ, zero, suc, ℤ, pos, neg_ℤ, ◌-ℤ◌, ◌==◌, Bool, true, false, not, if◌then◌else◌, List, set, Option, Some, None, bit_and}
 use Rattle.std.specs.Int.{int_wrap, w16}
 use Rattle.buffer_glyphs.specs.Items.{Position}
 use Rattle.buffer_common.specs.declared.direction.Direction.{Direction}
@@ -41,6 +41,11 @@ abbrev pub turned_beyond : Direction → (ℕ → Position → List Position →
 turned_beyond d turn p None ps = ps
 turned_beyond d turn p (Some j) ps = turn j (turned_position d p (position_at j ps)) ps
 
+-- more links than the reversal of a chain meets, in a text of any length: it comes to each glyph at most twice, once on
+-- the way and, where old links form a ring, once on the way back
+abbrev pub most_links : ℕ
+most_links = 0xFFFF_FFFF
+
 -- glyph i gets another position, and the chain from it on is reversed, over at most n links
 unfoldable pub chain_reversed_from : Direction → ℕ → ℕ → ℕ → Position → List Position → List Position
 chain_reversed_from d stop zero i new ps = ps
@@ -48,7 +53,7 @@ chain_reversed_from d stop (suc fuel) i new ps = turned_beyond d (chain_reversed
 
 -- the chain of a cursive child reversed, with the child as its root; of another glyph nothing changes
 abbrev pub chain_turned : Direction → ℕ → ℕ → List Position → List Position
-chain_turned d stop i ps = if (position_at i ps).attach_type == 2 then chain_reversed_from d stop (length ps) i (without_link (position_at i ps)) ps else ps
+chain_turned d stop i ps = if (position_at i ps).attach_type == 2 then chain_reversed_from d stop most_links i (without_link (position_at i ps)) ps else ps
 
 -- a child attached to its parent at an offset across the line
 abbrev pub child_position : Bool → ℤ → ℤ → ℤ → Position → Position

@@ -2,7 +2,7 @@
 ghost use Rattle.std.specs.Prelude.{◌≡◌, ◌<◌, true, length};
 ghost use Rattle.buffer_common.specs.Direction.{is_forward, is_horizontal};
 ghost use Rattle.layout_offsets.specs.Links.{is_near, parent, without_link};
-ghost use Rattle.layout_offsets.specs.Cursive.{with_cursive_attached, first_ends, with_parent_freed, freed_position, child_position, joined_advances, with_child_attached, negative, old_parent, position_from_anchor, chain_turned, with_link_reversed, chain_reversed_from, turned_link};
+ghost use Rattle.layout_offsets.specs.Cursive.{with_cursive_attached, first_ends, with_parent_freed, freed_position, child_position, joined_advances, with_child_attached, negative, old_parent, position_from_anchor, chain_turned, with_link_reversed, chain_reversed_from, most_links, turned_link};
 
 use crate::links::{is_near, link_to, linked};
 use crate::sums::{minus, plus};
@@ -65,7 +65,8 @@ fn without_link(position: GlyphPosition) -> GlyphPosition
     free
 }
 
-/// Sets a glyph's position, and reverses the chain from it on, over at most as many links as there are glyphs.
+/// Sets a glyph's position, and reverses the chain from it on. It ends where no link is left: it comes to each glyph at
+/// most twice, once on the way and, where old links form a ring, once on the way back.
 #[tactic(auto, using(crate::proofs::Lemmas::Turned::turned_none, crate::proofs::Lemmas::Turned::turned_stops, crate::proofs::Lemmas::Turned::turned_goes, crate::proofs::Lemmas::Turned::old_parent_within))]
 fn turn_from(
     positions: &mut [GlyphPosition],
@@ -75,11 +76,11 @@ fn turn_from(
     direction: Direction,
 )
     requires here { start < length positions.old }
-    ensures { positions.new ≡ chain_reversed_from direction stop (length positions.old) start first positions.old }
+    ensures { positions.new ≡ chain_reversed_from direction stop most_links start first positions.old }
 {
     let mut new = first;
     let mut at = start;
-    for _done in 0..positions.len() {
+    for _done in 0..u32::MAX {
         let old = positions[at];
         let next = old_parent(positions, stop, at);
         positions[at] = new;
@@ -91,8 +92,7 @@ fn turn_from(
     }
 }
 
-/// Reverses the chain of a cursive child, which then is its root. It ends since each link is left only once, and after
-/// as many links as there are glyphs at the latest.
+/// Reverses the chain of a cursive child, which then is its root.
 pub fn turn(positions: &mut [GlyphPosition], stop: usize, start: usize, direction: Direction)
     requires here { start < length positions.old }
     ensures { positions.new ≡ chain_turned direction stop start positions.old }

@@ -5,7 +5,7 @@ use Rattle.buffer_common.specs.declared.direction.Direction.{Direction}
 use Rattle.std.proofs.lemmas.List.{length-set}
 use Rattle.layout_offsets.specs.Links.{position_at, parent, without_link}
 use Rattle.layout_offsets.proofs.Lemmas.Linked.{linked_there}
-use Rattle.layout_offsets.specs.Cursive.{chain_turned, unless_at, old_parent, turned_position, turned_beyond, chain_reversed_from}
+use Rattle.layout_offsets.specs.Cursive.{chain_turned, unless_at, old_parent, turned_position, turned_beyond, chain_reversed_from, most_links}
 
 pub turned_none : (d : Direction) (stop i : ℕ) (new : Position) (ps : List Position) → chain_reversed_from d stop 0 i new ps ≡ ps
 unfolding chain_reversed_from
@@ -51,6 +51,6 @@ turned_from_length d stop (suc fuel) i new ps = ap length (turned_step d stop (s
 pub turned_length : (d : Direction) (stop i : ℕ) (ps : List Position) → length (chain_turned d stop i ps) ≡ length ps
 turned_length d stop i ps = by_kind ((position_at i ps).attach_type == 2)
   where
-    by_kind : (b : Bool) → length (if b then chain_reversed_from d stop (length ps) i (without_link (position_at i ps)) ps else ps) ≡ length ps
-    by_kind true = turned_from_length d stop (length ps) i (without_link (position_at i ps)) ps
+    by_kind : (b : Bool) → length (if b then chain_reversed_from d stop most_links i (without_link (position_at i ps)) ps else ps) ≡ length ps
+    by_kind true = turned_from_length d stop most_links i (without_link (position_at i ps)) ps
     by_kind false = refl

@@ -1,8 +1,8 @@
-use Rattle.std.proofs.Common.{ℕ, ◌≡◌, ◌+◌, ◌-◌, Bool, length, set, Some, arith, ap, sym, ◌∙◌, rules}
+use Rattle.std.proofs.Common.{ℕ, ◌≡◌, ◌+◌, ◌-◌, Bool, set, Some, arith, ap, sym, ◌∙◌, rules}
 use Rattle.std.proofs.lemmas.List.{length-set}
 use Rattle.buffer_glyphs.specs.Items.{Position}
 use Rattle.layout_offsets.specs.Links.{position_at}
-use Rattle.layout_offsets.specs.Cursive.{old_parent, with_link_reversed, turned_position, chain_reversed_from}
+use Rattle.layout_offsets.specs.Cursive.{old_parent, with_link_reversed, turned_position, chain_reversed_from, most_links}
 use Rattle.layout_offsets.proofs.Lemmas.Turned.{turned_none, turned_goes, old_parent_within}
 use Rattle.layout_offsets.proofs.cursive_chain.turn_from.Goals as goal
 
@@ -10,7 +10,7 @@ pub loop-done-preserved : goal.loop-done-preserved
 loop-done-preserved c =
     let d = c.args.direction in
     let stop = c.args.stop in
-    let count = length c.args.positions.now in
+    let count = most_links in
     let k = c.loop-done._done in
     let i = c.loop-done.at in
     let j = c.in-Some.there in
@@ -31,7 +31,7 @@ pub returns : goal.returns
 returns c =
     let d = c.args.direction in
     let stop = c.args.stop in
-    let count = length c.args.positions.now in
+    let count = most_links in
     let k = c.loop-done._done in
     let none : count - k ≡ 0 = search rules in
     sym (ap (λ (n : ℕ). chain_reversed_from d stop n c.loop-done.at c.loop-done.new c.loop-done.positions) none ∙ turned_none d stop c.loop-done.at c.loop-done.new c.loop-done.positions) ∙ c.loop-done.invariant.0
