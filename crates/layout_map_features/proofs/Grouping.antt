@@ -35,13 +35,13 @@ below_append : {Y : Type 0} (n : ℕ) (es fs : List (ℕ × Y)) → KeysBelow n 
 below_append n [] fs h k = k
 below_append n (e ∷ es) fs h k = (h.0, below_append n es fs h.1 k)
 
-greater_is : (a b : ℕ) → b < a → nat_cmp a b ≡ Greater
+pub greater_is : (a b : ℕ) → b < a → nat_cmp a b ≡ Greater
 greater_is a b h = grind (arith, nat_tests)
 
-equal_is : (a b : ℕ) → a ≡ b → nat_cmp a b ≡ Equal
+pub equal_is : (a b : ℕ) → a ≡ b → nat_cmp a b ≡ Equal
 equal_is a b h = grind (arith, nat_tests)
 
-lower_is : (a b : ℕ) → a < b → nat_cmp a b ≡ Less
+pub lower_is : (a b : ℕ) → a < b → nat_cmp a b ≡ Less
 lower_is a b h = grind (arith, nat_tests)
 
 insert_past : {Y : Type 0} (k : ℕ) (v : Y) (es fs : List (ℕ × Y)) → KeysBelow k es → insert_entry nat_cmp (es ++ fs) k v ≡ es ++ insert_entry nat_cmp fs k v

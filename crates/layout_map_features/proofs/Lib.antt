@@ -1,4 +1,5 @@
 pub mod Rising
 pub mod Grouping
+pub mod Inserting
 pub mod Threading
 pub mod Bits

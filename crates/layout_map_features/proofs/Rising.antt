@@ -19,7 +19,7 @@ one_more : {Y : Type 0} (key : Y → ℕ) (low n : ℕ) (ys : List Y) (y : Y) �
 one_more key low n [] y le at h = (omega (arith, le, at), omega (arith, at), tt)
 one_more key low n (z ∷ ys) y le at h = (h.0, omega (arith, h.1), one_more key (key z + 1) n ys y (omega (arith, h.1)) at h.2)
 
-from_within : {Y : Type 0} (key : Y → ℕ) (low n : ℕ) (ys : List Y) → RisesWithin key low n ys → RisesFrom key low ys
+pub from_within : {Y : Type 0} (key : Y → ℕ) (low n : ℕ) (ys : List Y) → RisesWithin key low n ys → RisesFrom key low ys
 from_within key low n [] h = tt
 from_within key low n (y ∷ ys) h = (h.0, from_within key (key y + 1) n ys h.2)
 

@@ -1,8 +1,12 @@
 -- Entries of a finite map as elements are added.
-use Rattle.std.specs.Prelude.{ℕ, ◌+◌, ◌≤◌, ◌<◌, List, [], ◌∷◌, Option, Some, None}
+use Rattle.std.specs.Prelude.{ℕ, ◌+◌, ◌≤◌, ◌<◌, List, [], ◌∷◌, Option, Some, None, map}
 use Rattle.std.specs.Ordering.{nat_cmp}
 use Rattle.std.specs.BTreeMap.{insert_entry, is_at}
 use Rattle.std.specs.Map.{lookup}
+
+-- values as entries of a finite map, each at its key
+abbrev pub entries_of : {Y : Type 0} → (Y → ℕ) → List Y → List (ℕ × Y)
+entries_of key ys = map (λ y. (key y, y)) ys
 
 -- the value of an element added to those before it
 abbrev pub entry_after : {X Y : Type 0} → (X → List X → Y) → (Y → X → Y) → Option Y → X → Y

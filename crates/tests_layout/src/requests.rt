@@ -232,6 +232,26 @@ fn flags_are_those_of_the_first(rt: HostRuntime) -> Result<(), Fail> {
     Ok(())
 }
 
+/// More requests than are merged in a list: 300 of 150 tags, which fall.
+#[test]
+fn many_requests_are_merged(rt: HostRuntime) -> Result<(), Fail> {
+    let mut asked = Vec::new(rt.alloc());
+    for number in (0..300u32).rev() {
+        asked.push(FeatureRequest {
+            tag: Tag(number / 2),
+            flags: 0,
+            value: number,
+            stage: PerTable { gsub: 0, gpos: 0 },
+        })?;
+    }
+    let merged = merged_requests(rt.alloc(), &asked)?;
+    assert_eq!(rt; merged.len(), 150);
+    for (tag, request) in (0u32..).zip(merged.iter()) {
+        assert_eq!(rt; (request.tag.0, request.max_value), (tag, 2 * tag + 1));
+    }
+    Ok(())
+}
+
 /// Index, mask, whether ZWNJ is skipped, random.
 type Use = (u16, u32, bool, bool);
 
@@ -270,6 +290,21 @@ fn one_lookup_stands_once(rt: HostRuntime) -> Result<(), Fail> {
             assert!(rt; is_used(second, &(3, 80, false, false)));
         }
         _ => assert!(rt; false, "two lookups"),
+    }
+    Ok(())
+}
+
+/// More lookups than are merged in a list: 300 of 150 indices, which fall; the table has 140.
+#[test]
+fn many_lookups_are_merged(rt: HostRuntime) -> Result<(), Fail> {
+    let mut uses = Vec::new(rt.alloc());
+    for number in (0..300u16).rev() {
+        uses.push(lookup(&(number / 2, 16 << (number % 2), true, false)))?;
+    }
+    let merged = merged_lookups(rt.alloc(), 140, &uses)?;
+    assert_eq!(rt; merged.len(), 140);
+    for (index, lookup) in (0u16..).zip(merged.iter()) {
+        assert!(rt; is_used(lookup, &(index, 48, true, false)));
     }
     Ok(())
 }

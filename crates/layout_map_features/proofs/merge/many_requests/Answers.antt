@@ -1,5 +1,5 @@
 use Rattle.layout_map_features.proofs.Grouping.{request_step}
-use Rattle.layout_map_features.proofs.merge.merged_requests.Goals as goal
+use Rattle.layout_map_features.proofs.merge.many_requests.Goals as goal
 
 pub loop-request-preserved : goal.loop-request-preserved
 loop-request-preserved c =

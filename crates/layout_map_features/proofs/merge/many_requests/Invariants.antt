@@ -2,7 +2,7 @@ use Rattle.std.proofs.Common.{◌≡◌, take}
 use Rattle.buffer_rows.specs.KeyOrder.{key_bound}
 use Rattle.layout_map_features.specs.Groups.{entries_below}
 use Rattle.layout_map_features.specs.Requests.{merged_request}
-use Rattle.layout_map_features.proofs.merge.merged_requests.Given as goal
+use Rattle.layout_map_features.proofs.merge.many_requests.Given as goal
 
 -- the requests so far are entered
 abbrev pub invariant-loop-request : goal.invariant-loop-request

@@ -1,5 +1,5 @@
 use Rattle.layout_map_features.proofs.Grouping.{lookup_step}
-use Rattle.layout_map_features.proofs.merge.merged_lookups.Goals as goal
+use Rattle.layout_map_features.proofs.merge.many_lookups.Goals as goal
 
 pub loop-lookup-preserved : goal.loop-lookup-preserved
 loop-lookup-preserved c =
