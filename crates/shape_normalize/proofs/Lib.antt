@@ -18,6 +18,7 @@ pub mod Runs
 pub mod Shown
 pub mod Whole
 pub mod Taken
+pub mod Remembered
 pub mod Own
 pub mod Given
 pub mod Kept

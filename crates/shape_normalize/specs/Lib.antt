@@ -6,3 +6,4 @@ pub mod Starters
 pub mod Runs
 pub mod Fronts
 pub mod KeptRuns
+pub mod Undecomposed

@@ -12,6 +12,7 @@ ghost use Rattle.buffer_properties.specs.Normalizer.{has_character, reach_alone,
 ghost use Rattle.buffer_properties.specs.SupportedExpansion.{alone, by_supported, supported_expansion, expansion};
 ghost use Rattle.buffer_stages.specs.Appending.{AppendsArrangement, RefusesRoomFor};
 ghost use Rattle.shape_normalize.specs.KeptRuns.{Advances, HasOwn};
+ghost use Rattle.shape_normalize.specs.Undecomposed.{AreUndecomposed};
 ghost use Rattle.shape_normalize.specs.Walking.{Groups, GroupsTooMany};
 ghost use Rattle.shape_normalize.specs.Glyphs.{HasHalvesOutput, Puts, count_of};
 ghost use Rattle.buffer_core.specs.Sides.{HasCurrent};
@@ -21,6 +22,7 @@ use crate::kept_runs::{count_marks, give_ahead, kept_run};
 use crate::normalizing::Normalizing;
 use crate::outputting::output_replacement;
 use crate::selecting::expand_selected;
+use crate::undecomposed::ROWS;
 use buffer_core::buffer::hb_buffer_t;
 use buffer_glyphs::cause::ShapeCause;
 use buffer_properties::{NormalizationMode, Reach};
@@ -279,14 +281,20 @@ fn has_selector(count: usize, buffer: &hb_buffer_t) -> bool
 /// Outputs the characters at the cursor that stay whole, or else replaces the first, and the marks after it, by their
 /// decompositions.
 #[tactic(auto, using(crate::proofs::Advance::run_too_many))]
-fn expand_next<N: Normalizing>(by: &N, buffer: &mut hb_buffer_t) -> Result<(), ShapeCause>
+fn expand_next<N: Normalizing>(
+    by: &N,
+    known: &mut [Option<u32>],
+    buffer: &mut hb_buffer_t,
+) -> Result<(), ShapeCause>
     requires current { HasCurrent buffer.old }
     requires given { HasOwn (N.normalizer by.now) (strip buffer.old.ahead) }
+    requires known { AreUndecomposed (N.normalizer by.now) known.old }
+    ensures known { AreUndecomposed (N.normalizer by.now) known.new }
     ensures ok { OnOk result (Advances (N.normalizer by.now) buffer.old buffer.new) }
     ensures err { IfErr result (λ e. RefusesRoomFor (length (expanded_list (N.normalizer by.now)
         (strip buffer.old.ahead)).items) e buffer.old) }
 {
-    let count = kept_run(by, buffer);
+    let count = kept_run(by, known, buffer);
     if count == 0 {
         let marks = count_marks(1, buffer);
         expand_group(by, marks, buffer)?;
@@ -299,6 +307,27 @@ fn expand_next<N: Normalizing>(by: &N, buffer: &mut hb_buffer_t) -> Result<(), S
 }
 
 /// The first round over characters that have the font's glyphs already.
+fn expand_by_rows<N: Normalizing>(
+    by: &N,
+    known: &mut [Option<u32>],
+    buffer: &mut hb_buffer_t,
+) -> Result<(), ShapeCause>
+    requires open { buffer.old.is_open ≡ true }
+    requires known { AreUndecomposed (N.normalizer by.now) known.old }
+    requires given { HasOwn (N.normalizer by.now) (strip buffer.old.ahead) }
+    ensures ok { OnOk result (AppendsArrangement (expanded_list (N.normalizer by.now) (strip buffer.old.ahead)) []
+        buffer.old buffer.new) }
+    ensures err { IfErr result (λ e. RefusesRoomFor (length (expanded_list (N.normalizer by.now)
+        (strip buffer.old.ahead)).items) e buffer.old) }
+{
+    while 0 < buffer.lookahead_len() {
+        expand_next(by, known, buffer)?;
+    }
+    Ok(())
+}
+
+/// `expand_by_rows`, where characters of a long text are remembered.
+#[tactic(auto, using(crate::proofs::Remembered::none_known))]
 pub(crate) fn expand_given<N: Normalizing>(
     by: &N,
     buffer: &mut hb_buffer_t,
@@ -310,10 +339,11 @@ pub(crate) fn expand_given<N: Normalizing>(
     ensures err { IfErr result (λ e. RefusesRoomFor (length (expanded_list (N.normalizer by.now)
         (strip buffer.old.ahead)).items) e buffer.old) }
 {
-    while 0 < buffer.lookahead_len() {
-        expand_next(by, buffer)?;
+    if buffer.lookahead_len() < ROWS {
+        return expand_by_rows(by, &mut [], buffer);
     }
-    Ok(())
+    let mut known = [None; ROWS];
+    expand_by_rows(by, &mut known, buffer)
 }
 
 /// The first round, from the cursor of an open output on: each character is decomposed as far as the shaper and the font

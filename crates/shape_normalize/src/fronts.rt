@@ -9,12 +9,14 @@ ghost use Rattle.buffer_properties.specs.Normalizer.{reach_alone};
 ghost use Rattle.buffer_stages.specs.Appending.{AppendsArrangement, RefusesRoomFor};
 ghost use Rattle.buffer_stages.specs.Ready.{IsReady};
 ghost use Rattle.shape_normalize.specs.Composed.{HasRoom};
-ghost use Rattle.shape_normalize.specs.Fronts.{StaysWhole, TakesFront, TakesGlyphs, expansion_after, glyph_with_index, glyph_with_own, is_undecomposed, is_whole, is_whole_character};
+ghost use Rattle.shape_normalize.specs.Fronts.{StaysWhole, TakesFront, TakesGlyphs, expansion_after, glyph_with_index, glyph_with_own, is_whole, is_whole_character};
+ghost use Rattle.shape_normalize.specs.Undecomposed.{AreUndecomposed};
 
 use crate::characters::is_selector;
 use crate::composing::pass_glyphs;
 use crate::expanding::{expand_list, reach_alone, reach_with_marks};
 use crate::normalizing::Normalizing;
+use crate::undecomposed::{ROWS, is_undecomposed};
 use buffer_core::buffer::hb_buffer_t;
 use buffer_glyphs::cause::ShapeCause;
 use buffer_glyphs::info::hb_glyph_info_t;
@@ -30,31 +32,30 @@ fn count_marks(glyphs: &[hb_glyph_info_t]) -> usize
     glyphs.iter().take_while(|glyph| is_mark(glyph)).count()
 }
 
-/// Whether a decomposition is not looked for, or there is none.
-pub(crate) fn is_undecomposed<N: Normalizing>(by: &N, reach: Reach, u: u32) -> bool
-    ensures { result ≡ is_undecomposed reach ((N.normalizer by.now).splits u) }
-{
-    match reach {
-        Reach::Least => true,
-        Reach::Greatest => by.decompose(u).is_none(),
-    }
-}
-
 /// Whether a character stays whole: the font has it, and it isn't decomposed.
-fn is_whole<N: Normalizing>(by: &N, reach: Reach, glyph: &hb_glyph_info_t) -> bool
-    ensures { result ≡ is_whole (N.normalizer by.now) reach (item_of glyph.now) }
+fn is_whole<N: Normalizing>(
+    by: &N,
+    reach: Reach,
+    known: &mut [Option<u32>],
+    glyph: &hb_glyph_info_t,
+) -> bool
+    requires { AreUndecomposed (N.normalizer by.now) known.old }
+    ensures value { result ≡ is_whole (N.normalizer by.now) reach (item_of glyph.now) }
+    ensures known { AreUndecomposed (N.normalizer by.now) known.new }
 {
-    by.glyph(glyph.glyph_id).is_some() && is_undecomposed(by, reach, glyph.glyph_id)
+    by.glyph(glyph.glyph_id).is_some() && is_undecomposed(by, reach, known, glyph.glyph_id)
 }
 
 /// The font's glyph of a character without marks that stays whole.
 #[tactic(auto, using(crate::proofs::Taken::no_glyph, crate::proofs::Taken::split_glyph, crate::proofs::Taken::own_glyph))]
-fn whole_alone<N: Normalizing>(by: &N, u: u32) -> Option<u32>
-    ensures { result ≡ (if is_whole_character (N.normalizer by.now) (reach_alone (N.normalizer by.now).mode) u
+fn whole_alone<N: Normalizing>(by: &N, known: &mut [Option<u32>], u: u32) -> Option<u32>
+    requires { AreUndecomposed (N.normalizer by.now) known.old }
+    ensures glyph { result ≡ (if is_whole_character (N.normalizer by.now) (reach_alone (N.normalizer by.now).mode) u
         then (N.normalizer by.now).glyph_of u else None) }
+    ensures known { AreUndecomposed (N.normalizer by.now) known.new }
 {
     let glyph_index = by.glyph(u)?;
-    if !is_undecomposed(by, reach_alone(by.mode()), u) {
+    if !is_undecomposed(by, reach_alone(by.mode()), known, u) {
         return None;
     }
     Some(glyph_index)
@@ -67,10 +68,22 @@ fn set_glyph(glyph_index: u32, glyph: &mut hb_glyph_info_t)
     glyph.glyph_index = glyph_index;
 }
 
-fn are_whole<N: Normalizing>(by: &N, reach: Reach, glyphs: &[hb_glyph_info_t]) -> bool
-    ensures { result ≡ list_all (λ g. is_whole (N.normalizer by.now) reach (item_of g)) glyphs.now }
+fn are_whole<N: Normalizing>(
+    by: &N,
+    reach: Reach,
+    known: &mut [Option<u32>],
+    glyphs: &[hb_glyph_info_t],
+) -> bool
+    requires { AreUndecomposed (N.normalizer by.now) known.old }
+    ensures value { result ≡ list_all (λ g. is_whole (N.normalizer by.now) reach (item_of g)) glyphs.now }
+    ensures known { AreUndecomposed (N.normalizer by.now) known.new }
 {
-    glyphs.iter().all(|glyph| is_whole(by, reach, glyph))
+    for glyph in glyphs {
+        if !is_whole(by, reach, known, glyph) {
+            return false;
+        }
+    }
+    true
 }
 
 fn has_selector(glyphs: &[hb_glyph_info_t]) -> bool
@@ -81,13 +94,15 @@ fn has_selector(glyphs: &[hb_glyph_info_t]) -> bool
 
 /// Whether a character, with the marks after it, stays whole.
 #[tactic(auto, using(crate::proofs::Taken::lone_stays, crate::proofs::Taken::marked_stays))]
-fn stays_whole<N: Normalizing>(by: &N, group: &[hb_glyph_info_t]) -> bool
-    ensures { result ≡ true → StaysWhole (N.normalizer by.now) group.now }
+fn stays_whole<N: Normalizing>(by: &N, known: &mut [Option<u32>], group: &[hb_glyph_info_t]) -> bool
+    requires { AreUndecomposed (N.normalizer by.now) known.old }
+    ensures whole { result ≡ true → StaysWhole (N.normalizer by.now) group.now }
+    ensures known { AreUndecomposed (N.normalizer by.now) known.new }
 {
     if group.len() < 2 {
-        return are_whole(by, reach_alone(by.mode()), group);
+        return are_whole(by, reach_alone(by.mode()), known, group);
     }
-    !has_selector(group) && are_whole(by, reach_with_marks(by.mode()), group)
+    !has_selector(group) && are_whole(by, reach_with_marks(by.mode()), known, group)
 }
 
 /// Gives a character the font's glyph, or glyph 0.
@@ -108,8 +123,14 @@ fn give_glyphs<N: Normalizing>(by: &N, glyphs: &mut [hb_glyph_info_t])
 
 /// Gives the character that a list begins with, and the marks after it, the font's glyphs, where all of them stay whole;
 /// returns how many they are, or 0.
-fn take_group<N: Normalizing>(by: &N, glyphs: &mut [hb_glyph_info_t]) -> usize
-    ensures { TakesGlyphs (N.normalizer by.now) result glyphs.old glyphs.new }
+fn take_group<N: Normalizing>(
+    by: &N,
+    known: &mut [Option<u32>],
+    glyphs: &mut [hb_glyph_info_t],
+) -> usize
+    requires { AreUndecomposed (N.normalizer by.now) known.old }
+    ensures taken { TakesGlyphs (N.normalizer by.now) result glyphs.old glyphs.new }
+    ensures known { AreUndecomposed (N.normalizer by.now) known.new }
 {
     let Some((first, rest)) = glyphs.split_first() else {
         return 0;
@@ -117,13 +138,13 @@ fn take_group<N: Normalizing>(by: &N, glyphs: &mut [hb_glyph_info_t]) -> usize
     let count = count_marks(rest) + 1;
     // Most characters have no mark, and then one look-up is enough.
     if count == 1 {
-        let Some(glyph_index) = whole_alone(by, first.glyph_id) else {
+        let Some(glyph_index) = whole_alone(by, known, first.glyph_id) else {
             return 0;
         };
         set_glyph(glyph_index, &mut glyphs[0]);
         return 1;
     }
-    if !stays_whole(by, &glyphs[..count]) {
+    if !stays_whole(by, known, &glyphs[..count]) {
         return 0;
     }
     give_glyphs(by, &mut glyphs[..count]);
@@ -132,18 +153,35 @@ fn take_group<N: Normalizing>(by: &N, glyphs: &mut [hb_glyph_info_t]) -> usize
 
 /// Gives the characters before the first that may not stay whole, with the marks after it, the font's glyphs; returns
 /// how many they are.
-fn take_each<N: Normalizing>(by: &N, glyphs: &mut [hb_glyph_info_t]) -> usize
+fn take_each<N: Normalizing>(
+    by: &N,
+    known: &mut [Option<u32>],
+    glyphs: &mut [hb_glyph_info_t],
+) -> usize
+    requires { AreUndecomposed (N.normalizer by.now) known.old }
     ensures { TakesGlyphs (N.normalizer by.now) result glyphs.old glyphs.new }
 {
     let mut at = 0;
     while at < glyphs.len() {
-        let count = take_group(by, &mut glyphs[at..]);
+        let count = take_group(by, known, &mut glyphs[at..]);
         if count == 0 {
             return at;
         }
         at += count;
     }
     at
+}
+
+/// `take_each`, where characters of a long text are remembered.
+#[tactic(auto, using(crate::proofs::Remembered::none_known))]
+fn take_by_rows<N: Normalizing>(by: &N, glyphs: &mut [hb_glyph_info_t]) -> usize
+    ensures { TakesGlyphs (N.normalizer by.now) result glyphs.old glyphs.new }
+{
+    if glyphs.len() < ROWS {
+        return take_each(by, &mut [], glyphs);
+    }
+    let mut known = [None; ROWS];
+    take_each(by, &mut known, glyphs)
 }
 
 /// Gives the characters before the first that may not stay whole, with the marks after it, the font's glyphs; returns
@@ -154,7 +192,7 @@ pub(crate) fn take_front<N: Normalizing>(by: &N, buffer: &mut hb_buffer_t) -> us
 {
     // No cluster changes, so what is known of their order still holds.
     let known = buffer.known_order();
-    let count = take_each(by, buffer.info_slice_mut());
+    let count = take_by_rows(by, buffer.info_slice_mut());
     buffer.keep_order(known);
     count
 }

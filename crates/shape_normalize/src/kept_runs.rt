@@ -8,11 +8,13 @@ ghost use Rattle.buffer_glyphs.specs.declared.info.hb_glyph_info_t.{hb_glyph_inf
 ghost use Rattle.buffer_properties.specs.Characters.{is_mark};
 ghost use Rattle.shape_normalize.specs.Fronts.{glyph_with_own};
 ghost use Rattle.shape_normalize.specs.KeptRuns.{group_reach, is_kept, IsGiven, Keeps};
+ghost use Rattle.shape_normalize.specs.Undecomposed.{AreUndecomposed};
 
 use crate::characters::is_selector;
 use crate::expanding::{reach_alone, reach_with_marks};
-use crate::fronts::{give_glyph, is_undecomposed};
+use crate::fronts::give_glyph;
 use crate::normalizing::Normalizing;
+use crate::undecomposed::is_undecomposed;
 use buffer_core::buffer::hb_buffer_t;
 use buffer_glyphs::info::hb_glyph_info_t;
 use buffer_properties::Reach;
@@ -55,10 +57,19 @@ pub(crate) fn count_marks(from: usize, buffer: &hb_buffer_t) -> usize
 
 /// Whether a character that was given the font's glyph, or glyph 0, is known to stay whole. One that the font lacks, or
 /// has as glyph 0, is not, and neither is a selector: these are looked at alone.
-fn is_kept<N: Normalizing>(by: &N, reach: Reach, glyph: &hb_glyph_info_t) -> bool
-    ensures { result ≡ is_kept (N.normalizer by.now) reach (item_of glyph.now) }
+fn is_kept<N: Normalizing>(
+    by: &N,
+    reach: Reach,
+    known: &mut [Option<u32>],
+    glyph: &hb_glyph_info_t,
+) -> bool
+    requires { AreUndecomposed (N.normalizer by.now) known.old }
+    ensures value { result ≡ is_kept (N.normalizer by.now) reach (item_of glyph.now) }
+    ensures known { AreUndecomposed (N.normalizer by.now) known.new }
 {
-    glyph.glyph_index != 0 && !is_selector(glyph) && is_undecomposed(by, reach, glyph.glyph_id)
+    glyph.glyph_index != 0
+        && !is_selector(glyph)
+        && is_undecomposed(by, reach, known, glyph.glyph_id)
 }
 
 /// Whether that many characters from an index on stay whole.
@@ -66,17 +77,21 @@ fn is_kept<N: Normalizing>(by: &N, reach: Reach, glyph: &hb_glyph_info_t) -> boo
 fn are_kept<N: Normalizing>(
     by: &N,
     reach: Reach,
+    known: &mut [Option<u32>],
     from: usize,
     count: usize,
     buffer: &hb_buffer_t,
 ) -> bool
-    requires { from + count ≤ length buffer.now.ahead }
-    ensures { result ≡ list_all (is_kept (N.normalizer by.now) reach) (take count (drop from (strip buffer.now.ahead))) }
+    requires there { from + count ≤ length buffer.now.ahead }
+    requires known { AreUndecomposed (N.normalizer by.now) known.old }
+    ensures value { result
+        ≡ list_all (is_kept (N.normalizer by.now) reach) (take count (drop from (strip buffer.now.ahead))) }
+    ensures known { AreUndecomposed (N.normalizer by.now) known.new }
 {
     // The length bounds the indices.
     let _end = buffer.lookahead_len();
     for i in 0..count {
-        if !is_kept(by, reach, buffer.cur(from + i)) {
+        if !is_kept(by, reach, known, buffer.cur(from + i)) {
             return false;
         }
     }
@@ -96,28 +111,41 @@ fn group_reach<N: Normalizing>(by: &N, count: usize) -> Reach
 
 /// How many characters the group at an index has, a character and the marks after it; 0 where one of them may not stay
 /// whole.
-fn kept_group<N: Normalizing>(by: &N, at: usize, buffer: &hb_buffer_t) -> usize
-    requires { at < length buffer.now.ahead }
-    ensures { Keeps (N.normalizer by.now) result (drop at (strip buffer.now.ahead)) }
+fn kept_group<N: Normalizing>(
+    by: &N,
+    known: &mut [Option<u32>],
+    at: usize,
+    buffer: &hb_buffer_t,
+) -> usize
+    requires there { at < length buffer.now.ahead }
+    requires known { AreUndecomposed (N.normalizer by.now) known.old }
+    ensures kept { Keeps (N.normalizer by.now) result (drop at (strip buffer.now.ahead)) }
+    ensures known { AreUndecomposed (N.normalizer by.now) known.new }
 {
     // The length bounds the indices.
     let _end = buffer.lookahead_len();
     let count = count_marks(at + 1, buffer) + 1;
     let reach = group_reach(by, count);
-    if !are_kept(by, reach, at, count, buffer) {
+    if !are_kept(by, reach, known, at, count, buffer) {
         return 0;
     }
     count
 }
 
 /// How many characters there are before the next group that may not stay whole.
-pub(crate) fn kept_run<N: Normalizing>(by: &N, buffer: &hb_buffer_t) -> usize
-    ensures { Keeps (N.normalizer by.now) result (strip buffer.now.ahead) }
+pub(crate) fn kept_run<N: Normalizing>(
+    by: &N,
+    known: &mut [Option<u32>],
+    buffer: &hb_buffer_t,
+) -> usize
+    requires { AreUndecomposed (N.normalizer by.now) known.old }
+    ensures kept { Keeps (N.normalizer by.now) result (strip buffer.now.ahead) }
+    ensures known { AreUndecomposed (N.normalizer by.now) known.new }
 {
     let end = buffer.lookahead_len();
     let mut at = 0;
     while at < end {
-        let count = kept_group(by, at, buffer);
+        let count = kept_group(by, known, at, buffer);
         if count == 0 {
             return at;
         }

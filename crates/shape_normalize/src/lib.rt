@@ -16,3 +16,4 @@ pub mod rounds;
 mod searching;
 mod selecting;
 pub mod starters;
+mod undecomposed;

@@ -1,23 +1,5 @@
-use Rattle.std.proofs.Common.{arith}
-use Rattle.shape_normalize.proofs.Advance.{advancing_begun, advancing_less, advancing_more, advancing_too_many}
-use Rattle.shape_normalize.proofs.Lemmas.Refusals.{passed_on}
+use Rattle.shape_normalize.proofs.Remembered.{nothing_known}
 use Rattle.shape_normalize.proofs.expanding.expand_given.Goals as goal
 
-pub loop-buffer-init : goal.loop-buffer-init
-loop-buffer-init g c = advancing_begun (g.N.Normalizing.normalizer c.args.by.now) c.args.buffer.now c.requires.open c.requires.given
-
-pub loop-buffer-smaller : goal.loop-buffer-smaller
-loop-buffer-smaller g c =
-    let some = c.loop-buffer-test.true in
-    let count = c.lookahead_len.ensures.count in
-    advancing_less (g.N.Normalizing.normalizer c.args.by.now) c.loop-buffer.buffer c.expand_next.new.buffer (omega (arith, some, count)) c.in_ok-expand_next.ensures.ok
-
-pub loop-buffer-preserved : goal.loop-buffer-preserved
-loop-buffer-preserved g c =
-    advancing_more (g.N.Normalizing.normalizer c.args.by.now) c.args.buffer.now c.loop-buffer.buffer c.expand_next.new.buffer c.loop-buffer.invariant c.in_ok-expand_next.ensures.ok
-
-pub returns-in_err-expand_next-clause-err : goal.returns-in_err-expand_next-clause-err
-returns-in_err-expand_next-clause-err g c =
-    let e = c.in_err-expand_next.field-0.0 in
-    passed_on c.from_residual.result e _ c.from_residual.ensures.1
-    (advancing_too_many (g.N.Normalizing.normalizer c.args.by.now) e c.args.buffer.now c.loop-buffer.buffer c.loop-buffer.invariant c.in_err-expand_next.ensures.err)
+pub expand_by_rows-requires-2-clause-known : goal.expand_by_rows-requires-2-clause-known
+expand_by_rows-requires-2-clause-known g c = nothing_known (g.N.Normalizing.normalizer c.args.by.now) 64

@@ -16,5 +16,5 @@ returns-then-count-eq0-clause-ok g c =
 pub returns-clause-ok : goal.returns-clause-ok
 returns-clause-ok g c =
     let there = c.in_ok-next_glyphs.was ∙ ap Ok c.if-not-branch.false in
-    run_passed (g.N.Normalizing.normalizer c.args.by.now) c.kept_run-count.result c.args.buffer.now c.next_glyphs.new.self c.kept_run-count.ensures c.requires.given c.if-count-eq0.false
+    run_passed (g.N.Normalizing.normalizer c.args.by.now) c.kept_run-count.result c.args.buffer.now c.next_glyphs.new.self c.kept_run-count.ensures.kept c.requires.given c.if-count-eq0.false
     (c.next_glyphs.ensures.moved there) c.next_glyphs.ensures.kept

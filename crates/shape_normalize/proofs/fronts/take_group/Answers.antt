@@ -2,18 +2,18 @@ use Rattle.std.proofs.Common.{sym, ◌∙◌}
 use Rattle.shape_normalize.proofs.Taken.{given_group, lone_taken, nothing_taken}
 use Rattle.shape_normalize.proofs.fronts.take_group.Goals as goal
 
-pub returns-then-not-stays_whole : goal.returns-then-not-stays_whole
-returns-then-not-stays_whole g c = nothing_taken (g.N.Normalizing.normalizer c.args.by.now) c.args.glyphs.now
+pub returns-then-not-stays_whole-clause-taken : goal.returns-then-not-stays_whole-clause-taken
+returns-then-not-stays_whole-clause-taken g c = nothing_taken (g.N.Normalizing.normalizer c.args.by.now) c.args.glyphs.now
 
-pub returns : goal.returns
-returns g c =
+pub returns-clause-taken : goal.returns-clause-taken
+returns-clause-taken g c =
     given_group (g.N.Normalizing.normalizer c.args.by.now) c.count_marks-count.result c.args.glyphs.now c.in-Some.first.now c.in-Some.rest.now c.give_glyphs.new.glyphs c.in-Some.ensures.cases.0 c.count_marks-count.ensures.front
-    (c.stays_whole.ensures c.if-not-stays_whole.false) c.give_glyphs.ensures
+    (c.stays_whole.ensures.whole c.if-not-stays_whole.false) c.give_glyphs.ensures
 
-pub returns-then-count-eq1 : goal.returns-then-count-eq1
-returns-then-count-eq1 g c =
+pub returns-then-count-eq1-clause-taken : goal.returns-then-count-eq1-clause-taken
+returns-then-count-eq1-clause-taken g c =
     lone_taken (g.N.Normalizing.normalizer c.args.by.now) c.count_marks-count.result c.in-Some-whole_alone.glyph_index c.args.glyphs.now c.in-Some.first.now c.set_glyph.new.glyph _ c.in-Some.rest.now c.in-Some.ensures.cases.0
-    c.count_marks-count.ensures.front c.if-count-eq1.true (sym c.in-Some-whole_alone.is ∙ c.whole_alone.ensures) c.set_glyph.ensures
+    c.count_marks-count.ensures.front c.if-count-eq1.true (sym c.in-Some-whole_alone.is ∙ c.whole_alone.ensures.glyph) c.set_glyph.ensures
 
-pub returns-in_default-whole_alone : goal.returns-in_default-whole_alone
-returns-in_default-whole_alone g c = nothing_taken (g.N.Normalizing.normalizer c.args.by.now) c.args.glyphs.now
+pub returns-in_default-whole_alone-clause-taken : goal.returns-in_default-whole_alone-clause-taken
+returns-in_default-whole_alone-clause-taken g c = nothing_taken (g.N.Normalizing.normalizer c.args.by.now) c.args.glyphs.now
