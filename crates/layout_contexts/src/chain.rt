@@ -1,20 +1,25 @@
 //! Tries a rule of a context or chained context (rustybuzz: hb/ot_layout_gsubgpos.rs, `apply_context`,
 //! `apply_chain_context`).
-ghost use Rattle.std.specs.Prelude.{◌≡◌, ◌<◌, ◌≤◌, [], None, true, drop, length};
+ghost use Rattle.std.specs.Prelude.{◌≡◌, ◌<◌, ◌≤◌, ◌&&◌, [], None, true, not, drop, length};
 ghost use Rattle.buffer_glyphs.specs.Items.{item_of, strip};
-ghost use Rattle.layout_match.specs.Applied.{apply_context_of, own_search};
+ghost use Rattle.buffer_glyphs.specs.PropertyWords.{is_default_ignorable};
+ghost use Rattle.layout_match.specs.Applied.{apply_context_of, own_search, own_syllable};
 ghost use Rattle.layout_match.specs.Matches.{input_indices};
+ghost use Rattle.layout_match.specs.Searches.{is_in_syllable, is_left_out};
 ghost use Rattle.layout_match.specs.Sequences.{tests_of};
 ghost use Rattle.buffer_stages.specs.Performing.{cut_with};
 ghost use Rattle.layout_contexts.specs.Chains.{begins};
 ghost use Rattle.layout_contexts.specs.Fitting.{IsInside, IsShort, MatchesOrPasses, Says, chain_of};
-ghost use Rattle.layout_contexts.specs.Following.{may_follow};
+ghost use Rattle.layout_contexts.specs.Following.{NeverMatches, may_follow};
 
 use crate::counts::backtrack_len;
 use crate::match_indices::move_indices;
 use buffer_core::buffer::hb_buffer_t;
 use buffer_glyphs::info::hb_glyph_info_t;
+use buffer_glyphs::property_words::_hb_glyph_info_is_default_ignorable;
+use buffer_stages::mask::shares_mask;
 use layout_match::marking::{mark_attempt, mark_match};
+use layout_match::search::is_left_out;
 use layout_match::{
     MAX_CONTEXT_LENGTH, MatchPositions, MatchSequence, NextGlyphs, flags_failures,
     hb_ot_apply_context_t, input_end, match_backtrack, match_input, match_lookahead,
@@ -130,6 +135,79 @@ fn find_chain(ctx: &hb_ot_apply_context_t, rule: &ChainRule, buffer: &hb_buffer_
     }
 }
 
+/// Whether a glyph beside the cursor ends each search that it doesn't match: none skips it.
+fn ends_searches(ctx: &hb_ot_apply_context_t, info: &hb_glyph_info_t) -> bool
+    ensures { result ≡ (not (is_default_ignorable (item_of info.now))
+        && not (is_left_out ctx.now.lookup_props ctx.now.face.now.gdef.sets (item_of info.now))) }
+{
+    !_hb_glyph_info_is_default_ignorable(info) && !is_left_out(ctx.face, ctx.lookup_props, info)
+}
+
+/// Whether a glyph is of the syllable of the one at the cursor, or a match may leave that.
+fn is_in_own_syllable(
+    ctx: &hb_ot_apply_context_t,
+    info: &hb_glyph_info_t,
+    buffer: &hb_buffer_t,
+) -> bool
+    requires { 0 < length buffer.now.ahead }
+    ensures { result ≡ is_in_syllable (own_syllable (apply_context_of ctx.now) (strip buffer.now.ahead)) (item_of info.now) }
+{
+    !ctx.per_syllable || info.syllable == buffer.cur(0).syllable
+}
+
+/// Whether a rule fails by the glyph before the cursor: it ends the search for the first item of the backtrack sequence,
+/// and isn't that item.
+fn is_excluded_behind(ctx: &hb_ot_apply_context_t, rule: &ChainRule, buffer: &hb_buffer_t) -> bool
+    requires { 0 < length buffer.now.ahead }
+    ensures { result ≡ true → NeverMatches (apply_context_of ctx.now) (chain_of rule.now)
+        (cut_with ctx.now.random_state buffer.now) }
+{
+    if rule.backtrack.len() == 0 {
+        return false;
+    }
+    if buffer.out_len() == 0 {
+        return true;
+    }
+    let info = buffer.prev();
+    if !ends_searches(ctx, info) {
+        return false;
+    }
+    if !is_in_own_syllable(ctx, info, buffer) {
+        return true;
+    }
+    !rule.backtrack.fits(0, info)
+}
+
+/// Whether a rule fails by the glyph after the one at the cursor: it ends the search for the second item of the input, or
+/// where that has one item, for the first of the lookahead sequence, and isn't that item.
+fn is_excluded_ahead(ctx: &hb_ot_apply_context_t, rule: &ChainRule, buffer: &hb_buffer_t) -> bool
+    requires { 0 < length buffer.now.ahead }
+    ensures { result ≡ true → NeverMatches (apply_context_of ctx.now) (chain_of rule.now)
+        (cut_with ctx.now.random_state buffer.now) }
+{
+    let inputs = rule.input.len();
+    if inputs <= 1 && rule.lookahead.len() == 0 {
+        return false;
+    }
+    if buffer.lookahead_len() < 2 {
+        return true;
+    }
+    let info = buffer.cur(1);
+    if !ends_searches(ctx, info) {
+        return false;
+    }
+    if !is_in_own_syllable(ctx, info, buffer) {
+        return true;
+    }
+    if inputs <= 1 {
+        return !rule.lookahead.fits(0, info);
+    }
+    if !shares_mask(ctx.lookup_mask(), info) {
+        return true;
+    }
+    !rule.input.fits(1, info)
+}
+
 /// Whether a rule is known to pass at the cursor: it fails there, and its failure leaves no flag. Nothing has to be
 /// prepared for such a rule, as the list of its indices, which is cleared before it is filled.
 pub fn fails_unflagged(ctx: &hb_ot_apply_context_t, rule: &ChainRule, buffer: &hb_buffer_t) -> bool
@@ -142,6 +220,13 @@ pub fn fails_unflagged(ctx: &hb_ot_apply_context_t, rule: &ChainRule, buffer: &h
     }
     if flags_failures(buffer) {
         return false;
+    }
+    // Most rules fail by a neighbour, which is looked at without a search.
+    if is_excluded_behind(ctx, rule, buffer) {
+        return true;
+    }
+    if is_excluded_ahead(ctx, rule, buffer) {
+        return true;
     }
     match find_chain(ctx, rule, buffer) {
         ChainFit::NoAttempt => true,
