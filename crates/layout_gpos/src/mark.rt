@@ -96,12 +96,21 @@ pub fn attach_if(
     true
 }
 
-/// The row of a base, found by one search.
+/// A guess at the index of a base's row: right where each glyph from the first base to this one is a base.
+fn likely_index(rows: &[BaseRow], glyph: u16) -> usize {
+    match rows.first() {
+        Some(first) => usize::from(glyph.saturating_sub(first.glyph)),
+        None => 0,
+    }
+}
+
+/// The row of a base: at once where it stands at the likely index, else found by one search.
 #[tactic(auto, using(buffer_rows::proofs::Searched::row_of_number))]
 fn base_row(subtable: &MarkBasePos, glyph: u16) -> Option<&BaseRow>
     ensures { option_copied result ≡ row_of (λ r. r.glyph) glyph subtable.now.bases }
 {
-    subtable.bases.get(glyph)
+    let rows = &subtable.bases;
+    rows.get_near(glyph, likely_index(rows.as_slice(), glyph))
 }
 
 /// The anchor of a base for marks of a class, if it has one.
