@@ -1,5 +1,6 @@
 pub mod Words
 pub mod Prepared
+pub mod KnownCharacters
 pub mod Formed
 pub mod Circled
 pub mod Turned

@@ -7,3 +7,4 @@ pub mod Rotation
 pub mod Masks
 pub mod Ranges
 pub mod Fractions
+pub mod KnownCharacters

@@ -7,6 +7,7 @@ use Rattle.buffer_common.specs.declared.direction.Direction.{Direction}
 use Rattle.buffer_unicode_tables.specs.Tables.{Tables, counterpart_in}
 use Rattle.layout_face.specs.declared.parts.FaceParts.{FaceParts}
 use Rattle.layout_face.specs.Glyphs.{nominal_glyph}
+use Rattle.buffer_glyphs.specs.declared.info.hb_glyph_info_t.{hb_glyph_info_t}
 use Rattle.buffer_glyphs.specs.Items.{Item, without_flags}
 use Rattle.buffer_core.specs.Readings.{View, Read, then_read, with_events}
 use Rattle.buffer_stages.specs.Stages.{with_items_mapped}
@@ -28,6 +29,10 @@ vertical_form t font u = if scalar u then if_known font (counterpart_in t.vertic
 abbrev pub mirrored_or : ℕ → Item → Option ℕ → Item
 mirrored_or mask x None = record x { mask = without_flags (bit_or x.mask mask) }
 mirrored_or mask x (Some c) = record x { number = c }
+
+-- a glyph record with a mask added
+abbrev pub glyph_with_mask : ℕ → hb_glyph_info_t → hb_glyph_info_t
+glyph_with_mask mask g = record g { mask = bit_or g.mask mask }
 
 -- an item of a backward text: its mirror image, or the mask of rtlm; its properties are unchanged
 abbrev pub mirrored_item : Tables → FaceParts → ℕ → Item → Item

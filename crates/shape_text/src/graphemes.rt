@@ -28,13 +28,26 @@ pub(crate) fn continues(
     requires { category ≡ general_category u }
     ensures { result ≡ continues tables.now before u }
 {
+    extender_continues(tables, is_extender(category, u), before, u)
+}
+
+/// `continues`, where it is known whether the character continues any grapheme.
+pub(crate) fn extender_continues(
+    tables: &UnicodeTables,
+    extends: bool,
+    before: Option<Before>,
+    u: char,
+) -> bool
+    requires { extends ≡ is_extender u }
+    ensures { result ≡ continues tables.now before u }
+{
     match before {
-        None => is_extender(category, u),
-        Some(before) => is_extender(category, u) || is_joined(tables, before, u),
+        None => extends,
+        Some(before) => extends || is_joined(tables, before, u),
     }
 }
 
-fn is_extender(category: hb_unicode_general_category_t, u: char) -> bool
+pub(crate) fn is_extender(category: hb_unicode_general_category_t, u: char) -> bool
     requires { category ≡ general_category u }
     ensures { result ≡ is_extender u }
 {

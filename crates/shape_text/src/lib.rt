@@ -8,6 +8,7 @@ pub mod clusters;
 pub mod direction;
 pub mod fractions;
 pub mod graphemes;
+mod known_characters;
 pub mod masks;
 pub mod properties;
 pub mod ranges;

@@ -7,10 +7,12 @@ ghost use Rattle.buffer_properties.specs.Properties.{CONTINUATION, bit_if, chara
 ghost use Rattle.std.specs.Int.RustNames.{bit_or};
 ghost use Rattle.buffer_glyphs.specs.Items.{strip};
 ghost use Rattle.buffer_core.specs.Readings.{always};
+ghost use Rattle.shape_text.specs.KnownCharacters.{AreKnown};
 ghost use Rattle.shape_text.specs.Properties.{are_characters, glyph_prepared, glyphs_prepared, scratch_flags_of_glyphs, with_properties, HoldsCharacters};
 ghost use Rattle.buffer_stages.specs.Stages.{IsFollowed};
 
-use crate::graphemes::{Before, continues};
+use crate::graphemes::{Before, continues, extender_continues};
+use crate::known_characters::{KnownCharacter, ROWS, known_of, remembered};
 use buffer_common::constants::{
     HB_BUFFER_SCRATCH_FLAG_HAS_CGJ, HB_BUFFER_SCRATCH_FLAG_HAS_DEFAULT_IGNORABLES,
     HB_BUFFER_SCRATCH_FLAG_HAS_NON_ASCII, hb_buffer_scratch_flags_t,
@@ -32,9 +34,56 @@ pub fn set_unicode_props(tables: &UnicodeTables, buffer: &mut hb_buffer_t)
 {
     let mut scratch_flags = buffer.scratch_flags();
     let known = buffer.known_order();
-    prepare(tables, buffer.info_slice_mut(), &mut scratch_flags);
+    prepare_text(tables, buffer.info_slice_mut(), &mut scratch_flags);
     buffer.keep_order(known);
     buffer.set_scratch_flags(scratch_flags);
+}
+
+/// Prepares each character; those of a long text are remembered, since few different ones make it up.
+fn prepare_text(
+    tables: &UnicodeTables,
+    glyphs: &mut [hb_glyph_info_t],
+    scratch_flags: &mut hb_buffer_scratch_flags_t,
+)
+    requires { are_characters (strip glyphs.old) ≡ true }
+    ensures glyphs { glyphs.new ≡ glyphs_prepared tables.now None glyphs.old }
+    ensures scratch_flags { scratch_flags.new ≡ scratch_flags_of_glyphs glyphs.old scratch_flags.old }
+{
+    // To fill the rows costs more than they save in a shorter text.
+    if glyphs.len() < ROWS {
+        prepare(tables, glyphs, scratch_flags);
+        return;
+    }
+    let first = known_of(tables, '\0');
+    let mut rows = [first; ROWS];
+    prepare_by_rows(tables, &mut rows, glyphs, scratch_flags);
+}
+
+#[tactic(auto, using(crate::proofs::Prepared::none_prepared, crate::proofs::Prepared::next_character, crate::proofs::Prepared::next_prepared, crate::proofs::Prepared::all_prepared))]
+fn prepare_by_rows(
+    tables: &UnicodeTables,
+    rows: &mut [KnownCharacter; ROWS],
+    glyphs: &mut [hb_glyph_info_t],
+    scratch_flags: &mut hb_buffer_scratch_flags_t,
+)
+    requires characters { are_characters (strip glyphs.old) ≡ true }
+    requires known { AreKnown tables.now rows.old }
+    ensures glyphs { glyphs.new ≡ glyphs_prepared tables.now None glyphs.old }
+    ensures scratch_flags { scratch_flags.new ≡ scratch_flags_of_glyphs glyphs.old scratch_flags.old }
+{
+    let mut before = None;
+    for glyph in glyphs.iter_mut() {
+        let u = glyph.as_char();
+        let row = remembered(tables, u, rows);
+        let is_continuation = extender_continues(tables, row.extends, before, u);
+        glyph.unicode_props = UnicodeProps(with_continuation(is_continuation, row.word));
+        glyph.modified_combining_class = row.class;
+        *scratch_flags |= row.scratch_flags;
+        before = Some(Before {
+            character: u,
+            continues: is_continuation,
+        });
+    }
 }
 
 #[tactic(auto, using(crate::proofs::Prepared::none_prepared, crate::proofs::Prepared::next_character, crate::proofs::Prepared::next_prepared, crate::proofs::Prepared::all_prepared))]
@@ -83,7 +132,11 @@ fn prepare_glyph(
 
 /// The property word of a character of that general category: all bits above the category belong to default ignorables.
 #[tactic(auto, using(crate::proofs::Words::plain_word))]
-fn property_word(category: hb_unicode_general_category_t, is_ignorable: bool, u: char) -> u16
+pub(crate) fn property_word(
+    category: hb_unicode_general_category_t,
+    is_ignorable: bool,
+    u: char,
+) -> u16
     requires category { category ≡ general_category u }
     requires ignorable { is_ignorable ≡ is_default_ignorable_character u }
     ensures { result ≡ properties_of u }
@@ -107,7 +160,11 @@ fn with_continuation(is_continuation: bool, word: u16) -> u16
 
 /// The modified combining class of a character of that general category, 0 for one that is no combining mark.
 #[tactic(auto, unfolding(buffer_properties::specs::Properties::character_class))]
-fn class_of(tables: &UnicodeTables, category: hb_unicode_general_category_t, u: char) -> u8
+pub(crate) fn class_of(
+    tables: &UnicodeTables,
+    category: hb_unicode_general_category_t,
+    u: char,
+) -> u8
     requires { category ≡ general_category u }
     ensures { result ≡ character_class tables.now u }
 {
@@ -120,7 +177,7 @@ fn class_of(tables: &UnicodeTables, category: hb_unicode_general_category_t, u: 
 
 /// The scratch flags that a character sets.
 #[tactic(auto, using(crate::proofs::Words::plain_flags, crate::proofs::Words::ignorable_flags))]
-fn scratch_flags_of(is_ignorable: bool, u: char) -> hb_buffer_scratch_flags_t
+pub(crate) fn scratch_flags_of(is_ignorable: bool, u: char) -> hb_buffer_scratch_flags_t
     requires { is_ignorable ≡ is_default_ignorable_character u }
     ensures { result ≡ scratch_flags_of u }
 {

@@ -8,8 +8,8 @@ ghost use Rattle.buffer_glyphs.specs.Origins.{origin_of};
 ghost use Rattle.buffer_core.specs.Readings.{always};
 ghost use Rattle.buffer_stages.specs.Ready.{IsReady};
 ghost use Rattle.buffer_common.specs.Direction.{is_backward, is_vertical};
-ghost use Rattle.buffer_stages.specs.Stages.{IsFollowed};
-ghost use Rattle.shape_text.specs.Rotation.{if_known, mapped_where, mirror_image, mirrored_item, with_rotated_characters, with_vertical_form, vertical_form};
+ghost use Rattle.buffer_stages.specs.Stages.{AreMapped, IsFollowed, with_items_mapped};
+ghost use Rattle.shape_text.specs.Rotation.{glyph_with_mask, if_known, mapped_where, mirror_image, mirrored_item, with_rotated_characters, with_vertical_form, vertical_form};
 
 use buffer_common::direction::Direction;
 use buffer_core::buffer::hb_buffer_t;
@@ -58,8 +58,51 @@ fn mirror_chars(rotation: Rotation, face: &Face, tables: &UnicodeTables, buffer:
         buffer.old buffer.new }
 {
     if rotation.target_direction.is_backward() {
-        let mask = rotation.rtlm_mask;
-        map_glyphs(buffer, |glyph| mirrored(tables, face, mask, glyph));
+        mirror_text(tables, face, rotation.rtlm_mask, buffer);
+    }
+}
+
+/// Mirrors each character that has a mirror image, and gives the mask of rtlm to the others.
+#[tactic(auto, using(buffer_stages::specs::Lemmas::Written::mapped_followed))]
+fn mirror_text(tables: &UnicodeTables, face: &Face, mask: hb_mask_t, buffer: &mut hb_buffer_t)
+    requires ready { IsReady buffer.old }
+    requires flagless { bit_and mask DEFINED ≡ 0 }
+    ensures { IsFollowed (always (with_items_mapped (mirrored_item tables.now face.now mask))) buffer.old buffer.new }
+{
+    // No cluster changes, so what is known of their order still holds.
+    let known = buffer.known_order();
+    mirror_each(tables, face, mask, buffer.info_slice_mut());
+    buffer.keep_order(known);
+}
+
+fn mirror_each(tables: &UnicodeTables, face: &Face, mask: hb_mask_t, glyphs: &mut [hb_glyph_info_t])
+    requires { bit_and mask DEFINED ≡ 0 }
+    ensures { AreMapped (mirrored_item tables.now face.now mask) glyphs.old glyphs.new }
+{
+    for glyph in glyphs.iter_mut() {
+        mirror(tables, face, mask, glyph);
+    }
+}
+
+/// Puts a character's mirror image in its place, or adds the mask of rtlm. Most characters have no mirror image, and
+/// aren't written where the font lacks the feature.
+#[tactic(auto, using(buffer_stages::proofs::Lemmas::Masks::mask_above, std::proofs::lemmas::Nat::and_or_apart))]
+fn mirror(tables: &UnicodeTables, face: &Face, mask: hb_mask_t, glyph: &mut hb_glyph_info_t)
+    ensures item { item_of glyph.new ≡ mirrored_item tables.now face.now mask (item_of glyph.old) }
+    ensures origin { bit_and mask DEFINED ≡ 0 → origin_of glyph.new ≡ origin_of glyph.old }
+{
+    match mirror_image(tables, face, glyph.glyph_id) {
+        Some(image) => glyph.glyph_id = u32::from(image),
+        None => add_mask(mask, glyph),
+    }
+}
+
+#[tactic(auto, using(crate::proofs::Rotated::none_added))]
+fn add_mask(mask: hb_mask_t, glyph: &mut hb_glyph_info_t)
+    ensures { glyph.new ≡ glyph_with_mask mask glyph.old }
+{
+    if mask != 0 {
+        glyph.mask |= mask;
     }
 }
 
@@ -80,28 +123,6 @@ fn raises_chars(rotation: Rotation) -> bool
     ensures { result ≡ (is_vertical rotation.target_direction && not rotation.has_vert) }
 {
     rotation.target_direction.is_vertical() && !rotation.has_vert
-}
-
-#[tactic(auto, using(buffer_stages::proofs::Lemmas::Masks::mask_above, std::proofs::lemmas::Nat::and_or_apart))]
-fn mirrored(
-    tables: &UnicodeTables,
-    face: &Face,
-    mask: hb_mask_t,
-    glyph: &hb_glyph_info_t,
-) -> hb_glyph_info_t
-    ensures item { item_of result ≡ mirrored_item tables.now face.now mask (item_of glyph.now) }
-    ensures origin { bit_and mask DEFINED ≡ 0 → origin_of result ≡ origin_of glyph.now }
-{
-    match mirror_image(tables, face, glyph.glyph_id) {
-        Some(image) => hb_glyph_info_t {
-            glyph_id: u32::from(image),
-            ..*glyph
-        },
-        None => hb_glyph_info_t {
-            mask: glyph.mask | mask,
-            ..*glyph
-        },
-    }
 }
 
 fn upright(tables: &UnicodeTables, face: &Face, glyph: &hb_glyph_info_t) -> hb_glyph_info_t

@@ -15,14 +15,14 @@ returns c =
     let s = c.args.buffer.now in
     let t = c.args.tables.now in
     let same = c.known_order-known.ensures.same in
-    let gs = c.prepare.new.glyphs in
-    let flags = c.prepare.new.scratch_flags in
+    let gs = c.prepare_text.new.glyphs in
+    let flags = c.prepare_text.new.scratch_flags in
     let lent = c.info_slice_mut.ensures.value ∙ ap all_glyphs same in
     let done : Sides → Type 0 = λ u. IsFollowed (always (with_properties t)) s (with_scratch_flags flags u) in
     rw c.set_scratch_flags.ensures (subst done (sym c.keep_order.ensures) (subst (λ u. done (with_refilled gs u)) (sym same)
     (prepared_followed t gs flags s
-    (c.prepare.ensures.glyphs ∙ ap (glyphs_prepared t None) lent)
-    (c.prepare.ensures.scratch_flags ∙ ap (λ f. scratch_flags_of_glyphs c.info_slice_mut.result.now f) c.scratch_flags-scratch_flags.ensures ∙ ap (λ hs. scratch_flags_of_glyphs hs s.scratch_flags) lent)
+    (c.prepare_text.ensures.glyphs ∙ ap (glyphs_prepared t None) lent)
+    (c.prepare_text.ensures.scratch_flags ∙ ap (λ f. scratch_flags_of_glyphs c.info_slice_mut.result.now f) c.scratch_flags-scratch_flags.ensures ∙ ap (λ hs. scratch_flags_of_glyphs hs s.scratch_flags) lent)
     c.requires.characters.ready)))
 
 pub keep_order-requires : goal.keep_order-requires
@@ -30,5 +30,5 @@ keep_order-requires c =
     let t = c.known_order-known.new.self in
     let known : HasOrder c.known_order-known.result (clusters (all_glyphs t)) =
     subst (λ (u : Sides). HasOrder c.known_order-known.result (clusters (all_glyphs u))) (sym c.known_order-known.ensures.same) c.known_order-known.ensures.order in
-    let same_clusters = ap clusters c.prepare.ensures.glyphs ∙ prepared_clusters c.args.tables.now None c.info_slice_mut.result.now ∙ ap clusters c.info_slice_mut.ensures.value in
-    order_kept c.known_order-known.result c.prepare.new.glyphs t same_clusters known
+    let same_clusters = ap clusters c.prepare_text.ensures.glyphs ∙ prepared_clusters c.args.tables.now None c.info_slice_mut.result.now ∙ ap clusters c.info_slice_mut.ensures.value in
+    order_kept c.known_order-known.result c.prepare_text.new.glyphs t same_clusters known
