@@ -1,8 +1,9 @@
 -- The flags between letters, one after another.
 use Rattle.std.proofs.Common.{ℕ, zero, suc, ◌≡◌, ◌<◌, ◌≤◌, ◌+◌, ◌==◌, Bool, true, false, if◌then◌else◌, List, [], ◌∷◌, ◌++◌, Option, Some, None, length, drop, map, slice_get, get_or, arith, add-one, refl, sym, ap, subst, ◌∙◌, append_assoc}
 use Rattle.std.specs.Prelude.{nat_lt}
+use Rattle.std.proofs.lemmas.Bool.Decides.{nat_tests}
 use Rattle.std.proofs.lemmas.List.{append-nil, drop_all, length-map}
-use Rattle.script_categories.specs.declared.joining_types.hb_arabic_joining_type_t.TheVariants.{U}
+use Rattle.script_categories.specs.declared.joining_types.hb_arabic_joining_type_t.TheVariants.{U, L, R, D, GroupAlaph, GroupDalathRish, T, X}
 use Rattle.buffer_glyphs.specs.declared.info.hb_glyph_info_t.{hb_glyph_info_t}
 use Rattle.buffer_glyphs.specs.Items.{Item, clusters, item_of, strip}
 use Rattle.buffer_glyphs.specs.Glyphs.{glyphs_flagged, glyphs_marked, has_several_numbers}
@@ -18,7 +19,7 @@ use Rattle.buffer_stages.specs.Stages.{Happens}
 use Rattle.buffer_stages.proofs.Lemmas.Happened.{both_happen, call_happens, nothing_happens}
 use Rattle.script_joining.specs.declared.flags.Letter.{Letter}
 use Rattle.script_joining.specs.Types.{JoiningType}
-use Rattle.script_joining.specs.Forms.{letter_form}
+use Rattle.script_joining.specs.Forms.{alaph_form, joined_form, joins_before, joins_next, letter_form}
 use Rattle.script_joining.specs.Joining.{depends_on, events_at, form_events, is_letter, letter_after, nearest_past, neighbour_events, neighbours_events}
 use Rattle.script_joining.specs.Flagged.{IsEarlier, type_of_typed}
 use Rattle.script_joining.specs.Glyphs.{type_kept}
@@ -174,3 +175,19 @@ all_flagged from s start at before last le f =
     let types = map type_of_typed (items_of from) in
     let none : drop at types ≡ [] = drop_all at types (omega (arith, length-map (items_of from) type_of_typed, length-map (all_glyphs from) item_of, le)) in
     subst (λ es. Happens es from s) (sym (append-nil f.events) ∙ ap (λ ts. f.events ++ neighbour_events before last at ts) (sym none) ∙ f.rest) f.happened
+
+-- ---- a letter before one that doesn't connect to it
+
+form_before_unjoined : (before joining next : JoiningType) → joins_before next ≡ false → letter_form before joining next ≡ letter_form before joining U
+form_before_unjoined before U next e = refl
+form_before_unjoined before L next e = ap (joined_form false) e
+form_before_unjoined before R next e = refl
+form_before_unjoined before D next e = ap (joined_form (joins_next before)) e
+form_before_unjoined before GroupAlaph next e = ap (alaph_form before) e
+form_before_unjoined before GroupDalathRish next e = refl
+form_before_unjoined before T next e = refl
+form_before_unjoined before X next e = refl
+
+pub unjoined_keeps : (before joining next : JoiningType) → joins_before next ≡ false → true ≡ (letter_form before joining next == letter_form before joining U)
+unjoined_keeps before joining next e =
+    let same : letter_form before joining next ≡ letter_form before joining U = form_before_unjoined before joining next e in sym (grind (arith, nat_tests, same))

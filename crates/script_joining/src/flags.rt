@@ -9,7 +9,7 @@ ghost use Rattle.script_joining.specs.Forms.{letter_form};
 ghost use Rattle.script_joining.specs.Joining.{depends_on, events_at, form_events, letter_after, neighbour_events, neighbours_events};
 ghost use Rattle.buffer_stages.specs.Stages.{Happens};
 
-use crate::forms::letter_form;
+use crate::forms::{joins_before, letter_form};
 use crate::types::{is_letter, nearest_past, type_kept};
 use buffer_core::buffer::hb_buffer_t;
 use script_categories::hb_arabic_joining_type_t;
@@ -152,10 +152,15 @@ fn depends_on(before: hb_arabic_joining_type_t, joining: hb_arabic_joining_type_
 }
 
 /// Whether a letter keeps its isolated form before a letter of the type `joining`.
+#[tactic(auto, using(crate::proofs::Marked::unjoined_keeps))]
 fn keeps_form(letter: Letter, joining: hb_arabic_joining_type_t) -> bool
     ensures { result
         ≡ (letter_form letter.before letter.joining joining == letter_form letter.before letter.joining U) }
 {
+    // A letter that doesn't connect to the one before it is to that one as none at all.
+    if !joins_before(joining) {
+        return true;
+    }
     letter_form(letter.before, letter.joining, joining)
         == letter_form(letter.before, letter.joining, hb_arabic_joining_type_t::U)
 }

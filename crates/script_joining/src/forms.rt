@@ -35,7 +35,7 @@ fn joins_next(joining: hb_arabic_joining_type_t) -> bool
     )
 }
 
-fn joins_before(joining: hb_arabic_joining_type_t) -> bool
+pub(crate) fn joins_before(joining: hb_arabic_joining_type_t) -> bool
     ensures { result ≡ joins_before joining }
 {
     matches!(

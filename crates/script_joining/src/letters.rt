@@ -121,18 +121,16 @@ fn add_masks(masks: &[hb_mask_t], glyphs: &mut [hb_glyph_info_t])
     ensures { glyphs.new ≡ map (glyph_joined masks.now) glyphs.old }
 {
     for glyph in glyphs.iter_mut() {
-        *glyph = joined(masks, glyph);
+        add_mask(masks, glyph);
     }
 }
 
-/// A glyph with the mask of its form's feature.
-fn joined(masks: &[hb_mask_t], glyph: &hb_glyph_info_t) -> hb_glyph_info_t
-    ensures { result ≡ glyph_joined masks.now glyph.now }
+/// Adds the mask of the feature of a glyph's form. No other part of the record is written, which takes less than to copy
+/// it.
+fn add_mask(masks: &[hb_mask_t], glyph: &mut hb_glyph_info_t)
+    ensures { glyph.new ≡ glyph_joined masks.now glyph.old }
 {
-    hb_glyph_info_t {
-        mask: glyph.mask | mask_of(masks, glyph.auxiliary),
-        ..*glyph
-    }
+    glyph.mask |= mask_of(masks, glyph.auxiliary);
 }
 
 /// The mask of a form's feature.

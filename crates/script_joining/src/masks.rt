@@ -4,15 +4,14 @@ ghost use Rattle.buffer_core.specs.Readings.{always};
 ghost use Rattle.buffer_stages.specs.Ready.{IsReady};
 ghost use Rattle.script_joining.specs.Glyphs.{AreFlagless, item_typed};
 ghost use Rattle.script_joining.specs.Joining.{is_mongolian, letters_joined};
-ghost use Rattle.buffer_stages.specs.Stages.{IsFollowed, with_items_mapped};
+ghost use Rattle.buffer_stages.specs.Stages.{AreMapped, IsFollowed, with_items_mapped};
 
 use crate::flags::flag_neighbours;
 use crate::letters::join;
-use crate::types::{nearest_in_context, typed};
+use crate::types::{keep_type, nearest_in_context};
 use buffer_common::script::{MONGOLIAN, Script};
 use buffer_core::buffer::hb_buffer_t;
-use buffer_glyphs::info::hb_mask_t;
-use buffer_stages::glyphs::map_glyphs;
+use buffer_glyphs::info::{hb_glyph_info_t, hb_mask_t};
 use buffer_unicode_tables::UnicodeTables;
 
 /// Sets each letter's form in a text of a script by its neighbours, as its `auxiliary`, and adds the mask of the form's
@@ -50,9 +49,21 @@ fn is_mongolian(script: Option<Script>) -> bool
 }
 
 /// Stores in each glyph its joining type, which its form replaces later.
+#[tactic(auto, using(buffer_stages::specs::Lemmas::Written::mapped_followed))]
 fn keep_types(tables: &UnicodeTables, buffer: &mut hb_buffer_t)
     requires ready { IsReady buffer.old }
     ensures { IsFollowed (always (with_items_mapped (item_typed tables.now))) buffer.old buffer.new }
 {
-    map_glyphs(buffer, |glyph| typed(tables, glyph));
+    // No cluster changes, so what is known of their order still holds.
+    let known = buffer.known_order();
+    type_each(tables, buffer.info_slice_mut());
+    buffer.keep_order(known);
+}
+
+fn type_each(tables: &UnicodeTables, glyphs: &mut [hb_glyph_info_t])
+    ensures { AreMapped (item_typed tables.now) glyphs.old glyphs.new }
+{
+    for glyph in glyphs.iter_mut() {
+        keep_type(tables, glyph);
+    }
 }

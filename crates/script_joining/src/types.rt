@@ -83,16 +83,13 @@ fn type_of_character(tables: &UnicodeTables, u: char) -> hb_arabic_joining_type_
     joining_type(tables, u32::from(u), u.general_category().to_rb())
 }
 
-/// A glyph that stores its joining type.
-pub(crate) fn typed(tables: &UnicodeTables, glyph: &hb_glyph_info_t) -> hb_glyph_info_t
-    ensures item { item_of result ≡ item_typed tables.now (item_of glyph.now) }
-    ensures origin { origin_of result ≡ origin_of glyph.now }
+/// Stores in a glyph its joining type. No other part of the record is written, which takes less than to copy it.
+pub(crate) fn keep_type(tables: &UnicodeTables, glyph: &mut hb_glyph_info_t)
+    ensures item { item_of glyph.new ≡ item_typed tables.now (item_of glyph.old) }
+    ensures origin { origin_of glyph.new ≡ origin_of glyph.old }
 {
     let category = u32::from(glyph.unicode_props.0 & 0x1F);
-    hb_glyph_info_t {
-        auxiliary: number_of(joining_type(tables, glyph.glyph_id, category)),
-        ..*glyph
-    }
+    glyph.auxiliary = number_of(joining_type(tables, glyph.glyph_id, category));
 }
 
 fn number_of(joining: hb_arabic_joining_type_t) -> u8

@@ -15,7 +15,7 @@ use buffer_core::buffer::hb_buffer_t;
 use buffer_glyphs::cause::ShapeCause;
 use buffer_glyphs::info::hb_glyph_info_t;
 use script_categories::{SyllableSpans, hb_ot_script_shaper_t};
-use std::alloc::{AllocFailed, Global};
+use std::alloc::{AllocError, Global};
 
 /// The index in the buffer of the i-th glyph that counts for syllables.
 pub trait SyllableIndices {
@@ -64,14 +64,11 @@ pub fn setup_syllables<S: SyllableSpans>(
 pub(crate) fn categories_of(
     alloc: Global,
     glyphs: &[hb_glyph_info_t],
-) -> Result<Vec<u8>, AllocFailed<u8>>
+) -> Result<Vec<u8>, AllocError>
     ensures { IfOk result (λ cs. cs.items ≡ map (λ g. g.category) glyphs.now) }
 {
-    let mut categories = Vec::new(alloc);
-    for glyph in glyphs {
-        categories.push(glyph.category)?;
-    }
-    Ok(categories)
+    // A collected list has its length from the first on, and isn't copied as it grows.
+    glyphs.iter().map(|glyph| glyph.category).collect(alloc)
 }
 
 /// Sets the bytes of the syllables of a list of categories, whose indices in the buffer `P` gives.

@@ -1,6 +1,16 @@
-use Rattle.std.proofs.Common.{rules}
-use Rattle.script_joining.specs.Glyphs.{item_typed}
+use Rattle.std.proofs.Common.{ap, subst, sym, ◌∙◌}
+use Rattle.buffer_glyphs.specs.Items.{clusters}
+use Rattle.buffer_glyphs.specs.Origins.{origins}
+use Rattle.buffer_lists.specs.Known.{HasOrder}
+use Rattle.buffer_core.specs.Sides.{Sides, all_glyphs}
+use Rattle.buffer_stages.specs.Lemmas.Made.{made_clusters}
+use Rattle.buffer_stages.specs.Lemmas.Parts.{order_kept}
 use Rattle.script_joining.proofs.masks.keep_types.Goals as goal
 
-pub returns : goal.returns
-returns c = c.map_glyphs.ensures (item_typed c.args.tables.now) (λ g h r. search rules)
+pub keep_order-requires : goal.keep_order-requires
+keep_order-requires c =
+    let t = c.known_order-known.new.self in
+    let gs = c.type_each.new.glyphs in
+    let known : HasOrder c.known_order-known.result (clusters (all_glyphs t)) =
+    subst (λ (u : Sides). HasOrder c.known_order-known.result (clusters (all_glyphs u))) (sym c.known_order-known.ensures.same) c.known_order-known.ensures.order in
+    order_kept c.known_order-known.result gs t (made_clusters (all_glyphs t) gs (c.type_each.ensures.origins ∙ ap origins c.info_slice_mut.ensures.value)) known
