@@ -30,8 +30,8 @@ ABOUT = """Shapes lines in each font of some folders with PRODUCE_SAFE_BREAKS, a
 break that is safe, and compares the glyphs of the pieces with those of the whole, by the program shape_trials. The lines
 are words of bench/beside/words that the font has all characters of, and strings of its letters and marks, the same ones at
 each run; with --pages they are the clauses of the texts of bench/real, each in its font. Printed are the breaks of each
-script that were tried, and each line whose pieces differ: as unsure where it has more than eight characters, so that
-numbers of ligatures may have run out."""
+script that were tried, each line whose pieces differ, as unsure where that may be for a known reason, and each line at
+which the program ends or whose answer breaks another promise. The status is 1 where a line is printed that isn't unsure."""
 # Words of a line, and its least and greatest lengths by chance.
 LONGEST = 8
 STRINGS = (2, 12)
@@ -50,7 +50,7 @@ class Line:
 
 @dataclass(frozen=True)
 class Tried:
-    """What came of one font: breaks by script, and the lines whose pieces differ with the name for it."""
+    """What came of one font: breaks by script, and the lines that aren't as they should be, each after what it shows."""
 
     font: str
     breaks: Counter[str]
@@ -70,7 +70,7 @@ def parser() -> argparse.ArgumentParser:
 
 
 def main(given: list[str]) -> int:
-    """Cuts; its status is 1 where the pieces of a line differ for no known reason."""
+    """Cuts; its status is 1 where a line isn't as it should be for no known reason."""
     options = parser().parse_args(given)
     program = ready_trials(NAME)
     tried: list[Tried] = []
@@ -83,9 +83,10 @@ def main(given: list[str]) -> int:
     for script, count in sorted(total.items()):
         print(f"{script} {count:,}")
     found = Counter(name for each in tried for name, _ in each.differing)
-    differing = f"lines that differ: {found['wrong']:,}, unsure: {found['unsure']:,}"
-    print(f"{sum(total.values()):,} breaks in {len({each.font for each in tried}):,} fonts; {differing}")
-    return 1 if found["wrong"] else 0
+    wrong = found.total() - found["unsure"]
+    fonts = {each.font for each in tried if not each.refused}
+    print(f"{sum(total.values()):,} breaks in {len(fonts):,} fonts; wrong lines: {wrong:,}, unsure: {found['unsure']:,}")
+    return 1 if wrong else 0
 
 
 def works(program: Path, tables: bytes, options: argparse.Namespace) -> tuple[Callable[[Any], Tried], list[Any]]:
@@ -139,12 +140,22 @@ def tried_lines(
         texts = [line.text for line in lines if line.script == script]
         ran = run_stream(program, b"".join([*head, *map(text_line, texts)]))
         if ran.ending is not None:
-            return Tried(str(font), breaks, tuple(differing), f"{font}: {script}: {ran.ending}")
+            differing.append(ended_line(program, head, texts, ran.ending))
+            continue
         breaks[script] += int(ran.lines[-1].split()[4])
         for each in ran.lines[:-1]:
             name, number, *rest = each.split()
             differing.append((name if rest in ([], ["breaks"]) else f"{name} {rest[0]}", texts[int(number)]))
     return Tried(str(font), breaks, tuple(differing))
+
+
+def ended_line(program: Path, head: list[bytes], texts: list[str], ending: str) -> tuple[str, str]:
+    """The first text at which the program ends by itself, after how it does; no text where it ends at none alone."""
+    for text in texts:
+        alone = run_stream(program, b"".join([*head, text_line(text)])).ending
+        if alone is not None:
+            return alone, text
+    return ending, ""
 
 
 def lines_of(characters: frozenset[int], count: int, draw: random.Random) -> Iterator[Line]:

@@ -4,7 +4,7 @@ from functools import cache
 from typing import Callable
 
 from attacks.attack import Attack, Files, Value, font, lookup, table
-from fuzzing.tables import machines, whole_tables
+from fuzzing.tables import whole_tables
 
 CIRCLE = "\u25cc"
 STRETCHED = frozenset({"ok", "S3 StretchRange", "S2 TooLong"})
@@ -12,9 +12,8 @@ STRETCHED = frozenset({"ok", "S3 StretchRange", "S2 TooLong"})
 
 @cache
 def real_tables() -> Value:
-    """The tables of the Unicode Character Database, or the machines alone where it isn't there."""
-    whole = whole_tables()
-    return {key: part for key, part in whole.items() if key != "unicode"} if whole else {"syllables": machines()}
+    """The tables of the Unicode Character Database."""
+    return {key: part for key, part in whole_tables().items() if key != "unicode"}
 
 
 def script_font(letters: str, tag: str) -> Value:

@@ -1,13 +1,13 @@
 """Tables for a text: none, those of the Unicode Character Database for its characters, or random rows of the format."""
 
+import json
 import unicodedata
 from functools import cache
 from random import Random
 from typing import Any, Callable
 
-from common.notes import Progress
 from fuzzing.alphabets import Alphabet
-from unicodejson.cli import DEBIAN, MAKERS, make_tables
+from sources.crates import ROOT
 from unicodejson.lists import (
     CATEGORIES,
     INDIC_CATEGORIES,
@@ -20,6 +20,8 @@ from unicodejson.lists import (
 )
 
 Row = list[Any]
+# They come with the repository, so that a case is the same on each machine, whichever version Debian's unicode-data has.
+SHIPPED = ROOT / "data" / "tables.json"
 # Classes that some rule names, and others.
 CLASSES = [0, 1, 7, 9, 10, 14, 17, 18, 22, 26, 84, 91, 103, 122, 129, 130, 200, 202, 214, 216, 220, 222, 228, 230, 232, 233]
 CLASSES += [234, 240, 254, 255]
@@ -29,9 +31,9 @@ KEEPING = 0.5
 
 
 @cache
-def whole_tables() -> dict[str, Any] | None:
-    """The tables of the Unicode Character Database; None where Debian's unicode-data is not there."""
-    return make_tables(DEBIAN, list(MAKERS), Progress("fuzz")) if DEBIAN.is_dir() else None
+def whole_tables() -> dict[str, Any]:
+    """The tables of the Unicode Character Database."""
+    return dict(json.loads(SHIPPED.read_bytes()))
 
 
 @cache
@@ -44,7 +46,7 @@ def machines() -> dict[str, Any]:
 def rows_by_character() -> dict[str, dict[int, list[Row]]]:
     """The rows of the whole tables by their first character, for each key."""
     found: dict[str, dict[int, list[Row]]] = {}
-    for key, rows in (whole_tables() or {}).items():
+    for key, rows in whole_tables().items():
         if key not in ("unicode", "syllables", "languages", "pictographic"):
             by_first = found.setdefault(key, {})
             for row in rows:
@@ -57,7 +59,7 @@ def draw_tables(draw: Random, alphabet: Alphabet, lawful: float = 0.7) -> tuple[
     kind = draw.random()
     if kind < 0.1:
         return {}, True
-    if kind < 0.65 and whole_tables() is not None:
+    if kind < 0.65:
         return {**cut_tables(alphabet), "syllables": machines_of(alphabet)}, False
     value = random_tables(draw, alphabet, lawful)
     value["syllables"] = machines_of(alphabet) if draw.random() < 0.5 else random_machines(draw, alphabet)
@@ -75,7 +77,7 @@ def cut_tables(alphabet: Alphabet) -> dict[str, Any]:
         for key, by_first in rows_by_character().items()
     }
     value["pairs"] = [row for row in value["pairs"] if row[2] in alphabet.characters]
-    whole = whole_tables() or {}
+    whole = whole_tables()
     value["pictographic"] = whole["pictographic"]
     value["languages"] = whole["languages"][::16]
     return value

@@ -9,14 +9,17 @@ import unittest
 from dataclasses import dataclass, field
 from pathlib import Path
 from typing import Any
+from unittest import mock
 
-from support import json_of  # it puts the tools and bench/ on the path
+from support import DEJAVU, told_by, write_stand_in  # it puts the tools and bench/ on the path
 
+from beside import breaks_cli
 from beside.breaks_cli import clauses_of, lines_of
 from beside.sets import SETS
 from building.places import PROGRAM, TRIALS, Place, standing
 from fuzzing.in_process import run_stream
 from fuzzing.streams import TrialCase
+from fuzzing.tables import SHIPPED
 
 GLYPHS = 65536
 
@@ -269,7 +272,7 @@ class Pieces(unittest.TestCase):
 
     def test_tables_of_unicode(self) -> None:
         """Each character of the Unicode Character Database keeps the premises."""
-        self.assertEqual(self.premises(json.dumps(json_of("unicode_to_json")).encode()), ["premises kept"])
+        self.assertEqual(self.premises(SHIPPED.read_bytes()), ["premises kept"])
 
     def test_other_tables(self) -> None:
         """Letters that a context wouldn't show, and syllables that would go on past the start of a grapheme."""
@@ -294,8 +297,29 @@ BROKEN = {
 }
 
 
+# Stand-ins for shape_trials, with what bench/breaks says of the first line, and its status.
+STAND_INS = {
+    "echo 2 cases, 2 tested, 7 breaks, 0 unsure, 0 wrong": ("", 0),
+    "echo unsure 0; echo 2 cases, 2 tested, 7 breaks, 1 unsure, 0 wrong": ("unsure", 0),
+    "echo wrong 0 breaks; echo 2 cases, 2 tested, 7 breaks, 0 unsure, 1 wrong; exit 1": ("wrong", 1),
+    "echo wrong 0 flags; echo 2 cases, 2 tested, 7 breaks, 0 unsure, 1 wrong; exit 1": ("wrong flags", 1),
+    "kill -SEGV $$": ("signal 11", 1),
+}
+
+
 class Lines(unittest.TestCase):
     """The lines of bench/breaks."""
+
+    def test_stand_ins(self) -> None:
+        """A line that is wrong or ends the program is printed, and the status is 1; one that is unsure is printed."""
+        for body, (name, status) in STAND_INS.items():
+            with self.subTest(body), tempfile.TemporaryDirectory() as folder:
+                program = Path(write_stand_in(Path(folder) / "program", f"cat >/dev/null; {body}"))
+                with mock.patch.object(breaks_cli, "ready_trials", lambda name: program):
+                    given, told = told_by(breaks_cli.main, "--lines=1", DEJAVU)
+                printed = [line for line in told.splitlines() if DEJAVU in line]
+                self.assertEqual((given, len(printed)), (status, 1 if name else 0), told)
+                self.assertTrue(all(line.startswith(f"{name}: {DEJAVU}: U+") for line in printed), told)
 
     def test_clauses(self) -> None:
         """Each set has as many clauses as are wanted, of more than a word."""
