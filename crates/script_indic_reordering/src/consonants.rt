@@ -11,7 +11,7 @@ ghost use Rattle.script_indic_reordering.specs.Orders.{consonant_with_position};
 ghost use Rattle.script_indic_reordering.specs.KnownForms.{AreKnown, formed_position};
 
 use crate::forms::IndicForms;
-use crate::glyphs::{is_consonant, with_position};
+use crate::glyphs::is_consonant;
 use buffer_core::buffer::hb_buffer_t;
 use buffer_glyphs::info::hb_glyph_info_t;
 use script_categories::ot_position_t::{POS_BELOW_C, POS_POST_C, Position};
@@ -53,46 +53,46 @@ fn update_each<F: IndicForms>(
     ensures { AreMapped (consonant_with_position (F.forms_of forms.now) virama) glyphs.old glyphs.new }
 {
     for glyph in glyphs.iter_mut() {
-        *glyph = updated_glyph(forms, virama, known, *glyph);
+        update_glyph(forms, virama, known, glyph);
     }
 }
 
-/// A glyph that has the position of its forms where it is a consonant.
+/// Gives a consonant the position of its forms, if the font has some. No other glyph is written.
 #[tactic(auto, using(crate::specs::Lemmas::KnownForms::other_item))]
-fn updated_glyph<F: IndicForms>(
+fn update_glyph<F: IndicForms>(
     forms: &F,
     virama: u32,
     known: &mut [KnownForm; ROWS],
-    glyph: hb_glyph_info_t,
-) -> hb_glyph_info_t
+    glyph: &mut hb_glyph_info_t,
+)
     requires { AreKnown (F.forms_of forms.now) virama known.old }
-    ensures item { item_of result ≡ consonant_with_position (F.forms_of forms.now) virama (item_of glyph) }
-    ensures origin { origin_of result ≡ origin_of glyph }
+    ensures item { item_of glyph.new ≡ consonant_with_position (F.forms_of forms.now) virama (item_of glyph.old) }
+    ensures origin { origin_of glyph.new ≡ origin_of glyph.old }
     ensures known { AreKnown (F.forms_of forms.now) virama known.new }
 {
-    if !is_consonant(&glyph) {
-        return glyph;
+    if !is_consonant(glyph) {
+        return;
     }
-    formed_glyph(forms, virama, known, glyph)
+    update_consonant(forms, virama, known, glyph);
 }
 
-/// A consonant with the position of its forms.
+/// Gives a consonant the position of its forms, if the font has some.
 #[tactic(auto, using(crate::specs::Lemmas::KnownForms::formed_item, crate::specs::Lemmas::KnownForms::unformed_item))]
-fn formed_glyph<F: IndicForms>(
+fn update_consonant<F: IndicForms>(
     forms: &F,
     virama: u32,
     known: &mut [KnownForm; ROWS],
-    glyph: hb_glyph_info_t,
-) -> hb_glyph_info_t
+    glyph: &mut hb_glyph_info_t,
+)
     requires known { AreKnown (F.forms_of forms.now) virama known.old }
-    requires consonant { is_consonant (item_of glyph) ≡ true }
-    ensures item { item_of result ≡ consonant_with_position (F.forms_of forms.now) virama (item_of glyph) }
-    ensures origin { origin_of result ≡ origin_of glyph }
+    requires consonant { is_consonant (item_of glyph.old) ≡ true }
+    ensures item { item_of glyph.new ≡ consonant_with_position (F.forms_of forms.now) virama (item_of glyph.old) }
+    ensures origin { origin_of glyph.new ≡ origin_of glyph.old }
     ensures remembered { AreKnown (F.forms_of forms.now) virama known.new }
 {
     match known_position(forms, virama, known, glyph.glyph_id) {
-        Some(position) => with_position(position, glyph),
-        None => glyph,
+        Some(position) => glyph.auxiliary = position,
+        None => {}
     }
 }
 

@@ -5,6 +5,7 @@ mod Sets
 mod Begun
 mod Placed
 mod Classed
+mod KnownGlyphs
 mod Unlinked
 mod Ended
 mod Phases

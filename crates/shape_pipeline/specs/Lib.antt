@@ -18,6 +18,7 @@ pub mod Limits
 pub mod Characters
 pub mod Masks
 pub mod Glyphs
+pub mod KnownGlyphs
 pub mod Positioning
 pub mod Endings
 pub mod Reading

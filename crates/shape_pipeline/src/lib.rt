@@ -2,6 +2,7 @@
 //! pipeline stages in order with those of the plan's shaper; and `shape` with the shapers of this stack.
 #![tactic(auto)]
 
+mod classed_glyphs;
 pub mod context;
 pub mod fallback;
 pub mod hb;

@@ -2,27 +2,26 @@
 //! `substitute_pre`, `position`).
 ghost use Rattle.std.specs.Prelude.{◌≡◌, ◌≢◌, ◌∷◌, [], Err, IfErr, IfOk, Ok, OnOk, true, false, ◌==◌, ◌&&◌};
 ghost use Rattle.buffer_common.specs.Direction.{is_forward};
-ghost use Rattle.buffer_glyphs.specs.Items.{clusters, item_of};
-ghost use Rattle.buffer_glyphs.specs.Origins.{origin_of};
+ghost use Rattle.buffer_glyphs.specs.Items.{clusters};
 ghost use Rattle.buffer_core.specs.Readings.{Follows, always};
 ghost use Rattle.buffer_core.specs.Sides.{items_of, state_of, settings_of, all_glyphs};
 ghost use Rattle.buffer_stages.specs.Buffers.{are_glyphs};
 ghost use Rattle.buffer_stages.specs.Ready.{IsReady, DoesGlyphStage, IsDone, HoldsGlyphs};
 ghost use Rattle.buffer_stages.specs.Settings.{text_settings};
-ghost use Rattle.buffer_stages.specs.Stages.{DoesStage, IsFollowed, with_items_mapped};
+ghost use Rattle.buffer_stages.specs.Stages.{DoesStage, IsFollowed};
 ghost use Rattle.layout_positioning.specs.Positioning.{positioning_stages};
 ghost use Rattle.shape_text.specs.Fractions.{with_fractions};
 ghost use Rattle.shape_text.specs.Properties.{IsUnshaped};
 ghost use Rattle.shape_normalize.specs.Rounds.{normalization};
 ghost use Rattle.shape_fallback.specs.Classes.{with_fallback_classes};
-ghost use Rattle.shape_glyphs.specs.Glyphs.{glyph_or_missing, with_synthesized_classes};
+ghost use Rattle.shape_glyphs.specs.Glyphs.{with_synthesized_classes};
 ghost use Rattle.shape_glyphs.specs.Ignorables.{ignorables_hidden};
 ghost use Rattle.shape_glyphs.specs.Widths.{zero_widths};
 ghost use Rattle.shape_pipeline.specs.Budget.{budget_left, glyphs_hidden};
 ghost use Rattle.shape_pipeline.specs.Chains.{in_order, only_if};
 ghost use Rattle.shape_pipeline.specs.Characters.{characters_chosen, normalizer, text_begun, turned_to_line};
 ghost use Rattle.shape_pipeline.specs.Endings.{text_ended};
-ghost use Rattle.shape_pipeline.specs.Glyphs.{as_classed_glyph, glyphs_substituted, glyphs_taken};
+ghost use Rattle.shape_pipeline.specs.Glyphs.{glyphs_substituted, glyphs_taken};
 ghost use Rattle.shape_pipeline.specs.Limits.{final_view};
 ghost use Rattle.shape_pipeline.specs.Masks.{fraction_masks, masks_set, ranges_set};
 ghost use Rattle.shape_pipeline.specs.Positioning.{adjusts_marks, visual_order, marks_positioned, marks_zeroed, positions_adjusted, positions_begun, positions_ended, with_zero_positions, zeroes_marks};
@@ -30,16 +29,14 @@ ghost use Rattle.shape_pipeline.specs.Reading.{reading, positioning_stage};
 ghost use Rattle.shape_pipeline.specs.Results.{IsLeft, IsResultOf};
 ghost use Rattle.shape_pipeline.specs.Shaping.{preprocessing_stage, shaper_masks_set, pauses_of, postprocessing_stage};
 
+use crate::classed_glyphs::map_classed_glyphs;
 use crate::normalizing::PlanNormalizing;
 use buffer_common::direction::Direction;
 use buffer_core::buffer::hb_buffer_t;
 use buffer_glyphs::cause::ShapeCause;
-use buffer_glyphs::info::hb_glyph_info_t;
-use buffer_stages::glyphs::map_glyphs;
 use buffer_stages::pause::Pause;
 use buffer_unicode_tables::UnicodeTables;
 use layout_face::Face;
-use layout_gsub::replacement::glyph_props;
 use layout_offsets::finish::position_finish_offsets;
 use layout_positioning::position;
 use layout_substitution::substitute::substitute;
@@ -307,36 +304,6 @@ fn recategorize_marks(choices: PlanChoices, buffer: &mut hb_buffer_t)
     if choices.fallback_mark_positioning {
         _hb_ot_shape_fallback_mark_position_recategorize_marks(buffer);
     }
-}
-
-/// Replaces each character by the glyph chosen for it, with the class that GDEF gives that glyph and no ligature word:
-/// `map_glyphs_fast` and `hb_ot_layout_substitute_start` in one pass. It takes linear time and no memory.
-fn map_classed_glyphs(face: &Face, buffer: &mut hb_buffer_t)
-    requires { IsReady buffer.old }
-    ensures stage { IsFollowed (always (with_items_mapped (as_classed_glyph face.now))) buffer.old buffer.new }
-    ensures numbers { are_glyphs (items_of buffer.new) ≡ true }
-{
-    map_glyphs(buffer, |glyph| classed_glyph(face, glyph));
-}
-
-#[tactic(auto, using(crate::proofs::Classed::chosen_class))]
-fn classed_glyph(face: &Face, glyph: &hb_glyph_info_t) -> hb_glyph_info_t
-    ensures item { item_of result ≡ as_classed_glyph face.now (item_of glyph.now) }
-    ensures origin { origin_of result ≡ origin_of glyph.now }
-{
-    let chosen = glyph_or_missing(glyph.glyph_index);
-    hb_glyph_info_t {
-        glyph_id: u32::from(chosen),
-        glyph_props: glyph_props(face, chosen),
-        lig_props: 0,
-        ..*glyph
-    }
-}
-
-fn glyph_or_missing(number: u32) -> u16
-    ensures { result ≡ glyph_or_missing number }
-{
-    if number <= 65535 { number as u16 } else { 0 }
 }
 
 /// Synthesizes glyph classes from the characters, for a font that has none.
