@@ -21,3 +21,4 @@ pub mod Stages
 pub mod PlainStages
 pub mod Rules
 pub mod StageLaws
+pub mod Breaks

@@ -3,6 +3,7 @@
 //! nested lookups. All are laws of our own, which rustybuzz has not.
 #![tactic(auto)]
 
+pub mod breaks;
 pub mod count_laws;
 pub mod keeping_laws;
 pub mod laws;

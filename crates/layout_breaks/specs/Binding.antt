@@ -4,7 +4,7 @@ use Rattle.buffer_glyphs.specs.Levels.{InList, InOutput}
 use Rattle.buffer_glyphs.specs.Events.{Event, Merge, MergeGrapheme, Replace, Circle, Delete, Move, Arrange, Sort, Reverse, Break, Concat, Tatweel, StrictBreak, Spread, Reset}
 use Rattle.buffer_glyphs.specs.Rewriting.{shifted_event}
 use Rattle.buffer_parts.specs.Counts.{count_after_event}
-use Rattle.buffer_breaks.specs.Sides.{IsBounded}
+use Rattle.buffer_parts.specs.Breaks.Sides.{IsBounded}
 
 -- an event of n items binds items on both sides of an index: it flags a range of them as unsafe to break, or unites it
 abbrev pub BindsAt : ℕ → ℕ → Event → Type 0

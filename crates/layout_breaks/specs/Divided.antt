@@ -2,8 +2,8 @@
 use Rattle.std.specs.Prelude.{Bool, false}
 use Rattle.buffer_stages.specs.Actions.{Action}
 use Rattle.buffer_parts.specs.Stages.{KeepsParts}
-use Rattle.buffer_breaks.specs.Divisible.{LosesNoFlag}
-use Rattle.buffer_breaks.specs.Beside.{ReadsBeside}
+use Rattle.buffer_parts.specs.Breaks.Divisible.{LosesNoFlag}
+use Rattle.buffer_parts.specs.Breaks.Beside.{ReadsBeside}
 use Rattle.layout_match.specs.Trying.{forward_pass}
 use Rattle.layout_breaks.specs.Local.{Unplaced, IsLocal, IsSteady}
 

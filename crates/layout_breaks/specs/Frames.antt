@@ -3,7 +3,7 @@ use Rattle.std.specs.Prelude.{ℕ, ℤ, ◌≡◌, ◌≤◌, ◌<◌, ◌+◌, 
 use Rattle.buffer_glyphs.specs.Items.{Item, Position}
 use Rattle.buffer_glyphs.specs.LigatureWords.{lig_id}
 use Rattle.buffer_stages.specs.Actions.{Cut}
-use Rattle.buffer_breaks.specs.Fragments.{with_ligature_renamed, IsNaming, AreGiven}
+use Rattle.buffer_parts.specs.Breaks.Fragments.{with_ligature_renamed, IsNaming, AreGiven}
 
 -- what stands around a fragment of a text
 pub record Outside : Type 0 where

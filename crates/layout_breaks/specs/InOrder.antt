@@ -5,7 +5,7 @@ use Rattle.layout_face.specs.declared.parts.FaceParts.{FaceParts}
 use Rattle.layout_face.specs.declared.substitution.SubstLookup.{SubstLookup}
 use Rattle.layout_map_features.specs.declared.lookup.lookup_map_t.{lookup_map_t}
 use Rattle.layout_substitution.specs.Lookups.{lookups_stage}
-use Rattle.buffer_breaks.specs.Divisible.{IsDivisible}
+use Rattle.buffer_parts.specs.Breaks.Divisible.{IsDivisible}
 
 -- a lookup, if there is one, is tried from the left
 abbrev pub IsForward : Option SubstLookup → Type 0

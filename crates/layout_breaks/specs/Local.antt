@@ -5,9 +5,9 @@ use Rattle.buffer_glyphs.specs.Rewriting.{shifted_event}
 use Rattle.buffer_stages.specs.Actions.{Cut, whole, Outcome, Passes, Acts, Refuses, Action}
 use Rattle.buffer_parts.specs.Counts.{count_after}
 use Rattle.buffer_parts.specs.Counting.{is_left}
-use Rattle.buffer_breaks.specs.Concat.{without_concats}
-use Rattle.buffer_breaks.specs.Divisible.{merges}
-use Rattle.buffer_breaks.specs.Sides.{AreBounded}
+use Rattle.buffer_parts.specs.Breaks.Concat.{without_concats}
+use Rattle.buffer_parts.specs.Breaks.Divisible.{merges}
+use Rattle.buffer_parts.specs.Breaks.Sides.{AreBounded}
 use Rattle.layout_breaks.specs.Frames.{Outside, Inside, framed, IsFramed, IsExtended}
 use Rattle.layout_breaks.specs.Binding.{BindOutside}
 

@@ -4,8 +4,8 @@ use Rattle.layout_face.specs.declared.substitution.SubstLookup.{SubstLookup}
 use Rattle.layout_match.specs.Applied.{ApplyContext}
 use Rattle.layout_match.specs.Trying.{forward_pass}
 use Rattle.layout_substitution.specs.Lookups.{lookup_action}
-use Rattle.buffer_breaks.specs.Divisible.{IsDivisible}
-use Rattle.buffer_breaks.specs.Beside.{ReadsBeside}
+use Rattle.buffer_parts.specs.Breaks.Divisible.{IsDivisible}
+use Rattle.buffer_parts.specs.Breaks.Beside.{ReadsBeside}
 
 -- law: a lookup that is applied to a text from the left does what it does to the two fragments of the text, one beside the other, or makes it
 -- unsafe to break between them

@@ -3,7 +3,7 @@ use Rattle.std.specs.Prelude.{ℕ, ◌≡◌, ◌≤◌, ◌<◌, ◌+◌, List,
 use Rattle.buffer_glyphs.specs.Items.{Item}
 use Rattle.layout_match.specs.declared.search.match_t.{match_t}
 use Rattle.layout_match.specs.Matches.{nearest, sequence_end, indices}
-use Rattle.buffer_breaks.specs.Fragments.{with_ligature_renamed}
+use Rattle.buffer_parts.specs.Breaks.Fragments.{with_ligature_renamed}
 
 -- a function of items reads no ligature number
 abbrev pub IsBlind : {R : Type 0} → (Item → R) → Type 0

@@ -5,8 +5,8 @@ use Rattle.buffer_unicode_tables.specs.Tables.{Tables}
 use Rattle.buffer_glyphs.specs.Origins.{numbers}
 use Rattle.buffer_core.specs.Readings.{BufferState, Read, state_after}
 use Rattle.buffer_properties.specs.Normalizer.{Normalizer}
-use Rattle.buffer_breaks.specs.Divisible.{IsBreakable}
-use Rattle.buffer_breaks.specs.Fragments.{AreFragments}
+use Rattle.buffer_parts.specs.Breaks.Divisible.{IsBreakable}
+use Rattle.buffer_parts.specs.Breaks.Fragments.{AreFragments}
 use Rattle.layout_map.specs.Compiled.{OtMapValue}
 use Rattle.script_joining.specs.Joining.{letters_with_forms}
 use Rattle.shape_text.specs.declared.fractions.FractionMasks.{FractionMasks}

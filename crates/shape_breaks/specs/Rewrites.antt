@@ -9,10 +9,10 @@ use Rattle.buffer_core.specs.Readings.{as_it_is}
 use Rattle.buffer_stages.specs.Settings.{TextSettings}
 use Rattle.layout_face.specs.declared.parts.FaceParts.{FaceParts}
 use Rattle.script_plan.specs.Rules.{ShaperRules}
-use Rattle.buffer_breaks.specs.Concat.{without_concats}
-use Rattle.buffer_breaks.specs.Fragments.{AreGiven}
-use Rattle.buffer_breaks.specs.Lossless.{AreLossless}
-use Rattle.buffer_breaks.specs.Sides.{AreBounded}
+use Rattle.buffer_parts.specs.Breaks.Concat.{without_concats}
+use Rattle.buffer_parts.specs.Breaks.Fragments.{AreGiven}
+use Rattle.buffer_parts.specs.Breaks.Lossless.{AreLossless}
+use Rattle.buffer_parts.specs.Breaks.Sides.{AreBounded}
 
 -- an arrangement of `taken` items, wherever they are in a list of n: its events have indices of these, lose no flag,
 -- permute none without a merge, set no UNSAFE_TO_CONCAT, and leave as many more as it has more; none has a ligature number

@@ -10,8 +10,8 @@ use Rattle.buffer_parts.specs.Groups.{AreSingle}
 use Rattle.buffer_core.specs.Readings.{BufferState, Read, View}
 use Rattle.buffer_core.specs.Sides.{zero_positions}
 use Rattle.buffer_stages.specs.Settings.{TextSettings}
-use Rattle.buffer_breaks.specs.Fragments.{AreGiven, IsWhole, IsFragmentOf}
-use Rattle.buffer_breaks.specs.Divisible.{IsBreakable, StaysDivided}
+use Rattle.buffer_parts.specs.Breaks.Fragments.{AreGiven, IsWhole, IsFragmentOf}
+use Rattle.buffer_parts.specs.Breaks.Divisible.{IsBreakable, StaysDivided}
 use Rattle.layout_face.specs.declared.parts.FaceParts.{FaceParts}
 use Rattle.shape_text.specs.Circle.{first_circle}
 use Rattle.shape_text.specs.Clusters.{grapheme_lengths, has_non_ascii}

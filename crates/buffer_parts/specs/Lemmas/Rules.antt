@@ -1,5 +1,5 @@
 -- Outcomes and rules that keep the parts of a text.
-use Rattle.std.proofs.Common.{ℕ, ◌+◌, ◌-◌, Bool, true, false, nat_le, if◌then◌else◌, List, [], ◌∷◌, Option, Some, None, length, refl}
+use Rattle.std.proofs.Common.{ℕ, ◌+◌, ◌-◌, true, false, nat_le, if◌then◌else◌, List, [], ◌∷◌, Option, Some, None, length, refl}
 use Rattle.buffer_glyphs.specs.declared.level.BufferClusterLevel.{BufferClusterLevel}
 use Rattle.buffer_glyphs.specs.declared.cause.ShapeCause.TheVariants.{TooLong}
 use Rattle.buffer_glyphs.specs.Items.{Item}

@@ -14,17 +14,17 @@ use Rattle.buffer_parts.specs.Counts.{count_after, count_after_event}
 use Rattle.buffer_parts.specs.Lemmas.Counts.{counts_follow}
 use Rattle.buffer_parts.specs.Lemmas.Orderly.{orderly_in_turn}
 use Rattle.buffer_core.specs.Readings.{Read, BufferState, state_after}
-use Rattle.buffer_breaks.specs.Unsafe.{IsUnsafeAt, HaveSafeBreaks}
-use Rattle.buffer_breaks.specs.Lossless.{IsLossless, AreLossless}
-use Rattle.buffer_breaks.specs.Bound.{merged_span, requested_span}
-use Rattle.buffer_breaks.specs.Concat.{SameButConcat, without_concats}
-use Rattle.buffer_breaks.specs.Sides.{AreBounded, AreCutAt}
-use Rattle.buffer_breaks.specs.Lemmas.Bound.{bound_is_unsafe}
-use Rattle.buffer_breaks.specs.Lemmas.Crossing.{ranges_cross}
-use Rattle.buffer_breaks.specs.Lemmas.Events.{unsafe_stays, safe_breaks_stay, lossless_in_turn}
-use Rattle.buffer_breaks.specs.Lemmas.Divided.{both_change_alone, first_changes_alone}
-use Rattle.buffer_breaks.specs.Lemmas.Concat.{same_numbers, same_any, concat_is_apart}
-use Rattle.buffer_breaks.specs.Lemmas.Concats.{same_trans, concats_are_apart}
+use Rattle.buffer_parts.specs.Breaks.Unsafe.{IsUnsafeAt, HaveSafeBreaks}
+use Rattle.buffer_parts.specs.Breaks.Lossless.{IsLossless, AreLossless}
+use Rattle.buffer_parts.specs.Breaks.Bound.{merged_span, requested_span}
+use Rattle.buffer_parts.specs.Breaks.Concat.{SameButConcat, without_concats}
+use Rattle.buffer_parts.specs.Breaks.Sides.{AreBounded, AreCutAt}
+use Rattle.buffer_parts.specs.Breaks.Lemmas.Bound.{bound_is_unsafe}
+use Rattle.buffer_parts.specs.Breaks.Lemmas.Crossing.{ranges_cross}
+use Rattle.buffer_parts.specs.Breaks.Lemmas.Events.{unsafe_stays, safe_breaks_stay, lossless_in_turn}
+use Rattle.buffer_parts.specs.Breaks.Lemmas.Divided.{both_change_alone, first_changes_alone}
+use Rattle.buffer_parts.specs.Breaks.Lemmas.Concat.{same_numbers, same_any, concat_is_apart}
+use Rattle.buffer_parts.specs.Breaks.Lemmas.Concats.{same_trans, concats_are_apart}
 use Rattle.layout_breaks.specs.Binding.{BindsAt, BindsOutside, BindOutside}
 
 -- ---- one event

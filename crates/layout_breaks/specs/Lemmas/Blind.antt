@@ -7,7 +7,7 @@ use Rattle.layout_match.specs.declared.search.match_t.TheVariants.{MATCH, SKIP, 
 use Rattle.layout_match.specs.Matches.{answers_of}
 use Rattle.layout_match.specs.Sequences.{is_glyph, is_of_class, is_covered_by}
 use Rattle.std.specs.Prelude.{◌&&◌, if◌then◌else◌}
-use Rattle.buffer_breaks.specs.Fragments.{with_ligature_renamed}
+use Rattle.buffer_parts.specs.Breaks.Fragments.{with_ligature_renamed}
 use Rattle.layout_breaks.specs.Matching.{IsBlind, AreBlind}
 
 mask_blind : (o : Option ℕ) → IsBlind (has_mask o)

@@ -9,7 +9,7 @@ use Rattle.buffer_glyphs.specs.LigatureWords.{component_word, is_base_glyph, is_
 use Rattle.layout_face.specs.declared.parts.GlyphDefinition.{GlyphDefinition}
 use Rattle.layout_contexts.specs.MatchIndices.{AreRising}
 use Rattle.layout_gsub.specs.Ligating.{items_at, are_marks, is_base_with_marks, has_own_number, component_count, ligature_props, ligature_category, ligature_item, component_now, with_component, passed_item, components_at, passed_items, following_items, after_components}
-use Rattle.buffer_breaks.specs.Fragments.{with_ligature_renamed, AreGiven}
+use Rattle.buffer_parts.specs.Breaks.Fragments.{with_ligature_renamed, AreGiven}
 use Rattle.layout_breaks.specs.Frames.{AreForeign}
 use Rattle.layout_breaks.specs.Lemmas.Words.{number_of_component, number_named, component_named, components_named, component_word_named, ligature_word_named}
 use Rattle.layout_breaks.specs.Lemmas.Frames.{given_both, given_take, given_drop}

@@ -16,8 +16,8 @@ use Rattle.layout_match.specs.declared.search.match_t.{match_t}
 use Rattle.layout_contexts.specs.MatchIndices.{AreRising}
 use Rattle.layout_contexts.specs.Nested.{RecordsOutcome, Walks, Stops, cut_at, holds, each_nested, cut_after_match}
 use Rattle.layout_contexts.specs.Chains.{Chain, glyph_chain, class_chain, coverage_chain, begins, nested_lookups, by_backtrack, by_lookahead, by_input, chain_at, chain_rule, class_rules, context_subtable}
-use Rattle.buffer_breaks.specs.Concat.{without_concats}
-use Rattle.buffer_breaks.specs.Fragments.{with_ligature_renamed}
+use Rattle.buffer_parts.specs.Breaks.Concat.{without_concats}
+use Rattle.buffer_parts.specs.Breaks.Fragments.{with_ligature_renamed}
 use Rattle.layout_breaks.specs.Matching.{IsBlind, AreBlind, EndsSame}
 use Rattle.layout_breaks.specs.Frames.{Outside, Inside, framed, IsFramed}
 use Rattle.layout_breaks.specs.Binding.{BindOutside}

@@ -9,16 +9,16 @@ use Rattle.buffer_parts.specs.Counts.{count_after}
 use Rattle.buffer_core.specs.Readings.{View, Read}
 use Rattle.buffer_core.specs.Sides.{zero_positions}
 use Rattle.buffer_stages.specs.Actions.{Action}
-use Rattle.buffer_breaks.specs.Unsafe.{HaveSafeBreaks}
-use Rattle.buffer_breaks.specs.Lossless.{AreLossless}
-use Rattle.buffer_breaks.specs.Concat.{SameButConcat, without_concats}
-use Rattle.buffer_breaks.specs.Sides.{AreBounded}
-use Rattle.buffer_breaks.specs.Fragments.{with_ligature_renamed}
-use Rattle.buffer_breaks.specs.Divisible.{IsSpared}
-use Rattle.buffer_breaks.specs.Beside.{IsReadAlone}
-use Rattle.buffer_breaks.specs.Lemmas.Concat.{same_numbers, same_length}
-use Rattle.buffer_breaks.specs.Lemmas.Concats.{orderly_without, lossless_without}
-use Rattle.buffer_breaks.specs.Lemmas.Division.{orderly_at, lossless_at}
+use Rattle.buffer_parts.specs.Breaks.Unsafe.{HaveSafeBreaks}
+use Rattle.buffer_parts.specs.Breaks.Lossless.{AreLossless}
+use Rattle.buffer_parts.specs.Breaks.Concat.{SameButConcat, without_concats}
+use Rattle.buffer_parts.specs.Breaks.Sides.{AreBounded}
+use Rattle.buffer_parts.specs.Breaks.Fragments.{with_ligature_renamed}
+use Rattle.buffer_parts.specs.Breaks.Divisible.{IsSpared}
+use Rattle.buffer_parts.specs.Breaks.Beside.{IsReadAlone}
+use Rattle.buffer_parts.specs.Breaks.Lemmas.Concat.{same_numbers, same_length}
+use Rattle.buffer_parts.specs.Breaks.Lemmas.Concats.{orderly_without, lossless_without}
+use Rattle.buffer_parts.specs.Breaks.Lemmas.Division.{orderly_at, lossless_at}
 use Rattle.layout_match.specs.Trying.{forward_pass}
 use Rattle.layout_breaks.specs.Walks.{IsEnough}
 use Rattle.layout_breaks.specs.Divided.{PassesReadBeside}

@@ -3,7 +3,7 @@ use Rattle.std.proofs.Common.{ℕ, ◌≡◌, ◌≤◌, ◌<◌, ◌+◌, inl, 
 use Rattle.std.proofs.lemmas.List.{map-append, length-map, length-append, reverse-append, take-append-drop}
 use Rattle.buffer_glyphs.specs.Items.{Item}
 use Rattle.buffer_stages.specs.Actions.{Cut, whole}
-use Rattle.buffer_breaks.specs.Fragments.{with_ligature_renamed, AreGiven, IsNaming}
+use Rattle.buffer_parts.specs.Breaks.Fragments.{with_ligature_renamed, AreGiven, IsNaming}
 use Rattle.layout_breaks.specs.Frames.{Outside, Inside, named, framed, AreForeign, IsFramed, IsExtended}
 
 -- ---- pieces of a framed cut

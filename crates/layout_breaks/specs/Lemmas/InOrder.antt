@@ -7,8 +7,8 @@ use Rattle.layout_map_features.specs.declared.lookup.lookup_map_t.{lookup_map_t}
 use Rattle.buffer_core.specs.Readings.{View, Stage, as_it_is, with_events}
 use Rattle.layout_match.specs.Trying.{forward_pass}
 use Rattle.layout_substitution.specs.Lookups.{lookup_action, reverse_action, backward_pass, lookup_context, lookup_stage, lookups_stage}
-use Rattle.buffer_breaks.specs.Divisible.{IsSpent, OnlySpends, IsDivisible}
-use Rattle.buffer_breaks.specs.Lemmas.Division.{divisible_in_turn, free_is_divisible, same_is_divisible}
+use Rattle.buffer_parts.specs.Breaks.Divisible.{IsSpent, OnlySpends, IsDivisible}
+use Rattle.buffer_parts.specs.Breaks.Lemmas.Division.{divisible_in_turn, free_is_divisible, same_is_divisible}
 use Rattle.layout_breaks.specs.InOrder.{IsForward, LookupsInOrderAreDivisible}
 use Rattle.layout_breaks.specs.Lemmas.Spent.{lookups_are_divisible}
 use Rattle.layout_breaks.specs.Lemmas.Walks.{read_same}

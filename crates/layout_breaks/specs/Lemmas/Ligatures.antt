@@ -21,9 +21,9 @@ use Rattle.layout_match.specs.Sequences.{is_glyph}
 use Rattle.layout_contexts.specs.MatchIndices.{AreRising}
 use Rattle.layout_gsub.specs.Replacements.{single_substitution}
 use Rattle.layout_gsub.specs.Ligating.{items_at, has_own_number, last_given, own_number, ligature_item, components_at, component_count, passed_items, after_components, component_deletions, last_index, ligature_category, ligature_props, ligature_substitution, ligature_found, ligature_over, ligatures_over, ligature_subst}
-use Rattle.buffer_breaks.specs.Concat.{without_concats}
-use Rattle.buffer_breaks.specs.Sides.{AreBounded}
-use Rattle.buffer_breaks.specs.Fragments.{with_ligature_renamed, IsNaming, AreGiven}
+use Rattle.buffer_parts.specs.Breaks.Concat.{without_concats}
+use Rattle.buffer_parts.specs.Breaks.Sides.{AreBounded}
+use Rattle.buffer_parts.specs.Breaks.Fragments.{with_ligature_renamed, IsNaming, AreGiven}
 use Rattle.layout_breaks.specs.Frames.{Outside, Inside, named, framed, AreForeign, IsFramed, IsExtended}
 use Rattle.layout_breaks.specs.Binding.{BindOutside}
 use Rattle.layout_breaks.specs.Local.{Unplaced, IsMadeInside, IsBeside, IsLocal}

@@ -10,11 +10,11 @@ use Rattle.buffer_parts.specs.Counts.{count_after}
 use Rattle.buffer_core.specs.Readings.{View, Read, BufferState, state_after, with_events}
 use Rattle.buffer_core.specs.Sides.{zero_positions}
 use Rattle.buffer_stages.specs.Actions.{Cut, whole, view_at, uncut, Action}
-use Rattle.buffer_breaks.specs.Unsafe.{IsUnsafeAt, HaveSafeBreaks}
-use Rattle.buffer_breaks.specs.Lossless.{AreLossless}
-use Rattle.buffer_breaks.specs.Concat.{SameButConcat, without_concats}
-use Rattle.buffer_breaks.specs.Sides.{AreBounded, AreCutAt}
-use Rattle.buffer_breaks.specs.Fragments.{with_ligature_renamed, IsNaming, AreGiven}
+use Rattle.buffer_parts.specs.Breaks.Unsafe.{IsUnsafeAt, HaveSafeBreaks}
+use Rattle.buffer_parts.specs.Breaks.Lossless.{AreLossless}
+use Rattle.buffer_parts.specs.Breaks.Concat.{SameButConcat, without_concats}
+use Rattle.buffer_parts.specs.Breaks.Sides.{AreBounded, AreCutAt}
+use Rattle.buffer_parts.specs.Breaks.Fragments.{with_ligature_renamed, IsNaming, AreGiven}
 use Rattle.layout_match.specs.Trying.{trials}
 use Rattle.layout_breaks.specs.Frames.{Outside, Inside, named, framed, IsFramed}
 use Rattle.layout_breaks.specs.Binding.{BindOutside}

@@ -24,8 +24,8 @@ use Rattle.buffer_parts.specs.Counting.{is_left}
 use Rattle.layout_laws.specs.Lemmas.Rules.{Limits, NestRelated, IsClosed}
 use Rattle.layout_laws.specs.Lemmas.Substitutions.{IsSubstituted, nest_related}
 use Rattle.layout_laws.specs.Lemmas.KeptRules.{by_parts, substituted_by_parts}
-use Rattle.buffer_breaks.specs.Concat.{without_concats}
-use Rattle.buffer_breaks.specs.Divisible.{merges}
+use Rattle.buffer_parts.specs.Breaks.Concat.{without_concats}
+use Rattle.buffer_parts.specs.Breaks.Divisible.{merges}
 use Rattle.layout_breaks.specs.Local.{Unplaced, IsLocal}
 use Rattle.layout_breaks.specs.LookupLaws.{LookupsAreLocal}
 use Rattle.layout_breaks.specs.Lemmas.Outcomes.{without_both, first_local, passes_local}

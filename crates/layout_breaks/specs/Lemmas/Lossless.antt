@@ -20,9 +20,9 @@ use Rattle.layout_laws.specs.Lemmas.Rules.{Limits, NestRelated}
 use Rattle.layout_laws.specs.Lemmas.Substitutions.{IsSubstituted, forward_related}
 use Rattle.layout_laws.specs.Lemmas.KeptRules.{by_parts, substituted_by_parts}
 use Rattle.layout_laws.specs.Lemmas.Lookups.{lookups_keep_parts}
-use Rattle.buffer_breaks.specs.Lossless.{AreLossless}
-use Rattle.buffer_breaks.specs.Divisible.{LosesNoFlag}
-use Rattle.buffer_breaks.specs.Lemmas.Events.{both_lossless}
+use Rattle.buffer_parts.specs.Breaks.Lossless.{AreLossless}
+use Rattle.buffer_parts.specs.Breaks.Divisible.{LosesNoFlag}
+use Rattle.buffer_parts.specs.Breaks.Lemmas.Events.{both_lossless}
 use Rattle.layout_breaks.specs.LookupsBeside.{LookupsReadBeside}
 use Rattle.layout_breaks.specs.Lemmas.Passes.{pass_read, pass_events}
 use Rattle.layout_breaks.specs.Lemmas.Divided.{passes_read_beside}

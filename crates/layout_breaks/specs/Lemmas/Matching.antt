@@ -6,7 +6,7 @@ use Rattle.layout_match.specs.declared.search.match_t.{match_t}
 use Rattle.layout_match.specs.declared.search.match_t.TheVariants.{MATCH, SKIP, NOT_MATCH}
 use Rattle.layout_contexts.specs.MatchIndices.{AreRising}
 use Rattle.layout_match.specs.Matches.{by_answer, nearest, nearest_from, then_sequence_end, sequence_end, with_index, indices}
-use Rattle.buffer_breaks.specs.Fragments.{with_ligature_renamed}
+use Rattle.buffer_parts.specs.Breaks.Fragments.{with_ligature_renamed}
 use Rattle.layout_breaks.specs.Matching.{IsBlind, AreBlind, FindsSame, EndsSame, SearchesAgree, MatchesAgree}
 
 -- ---- searches

@@ -7,10 +7,10 @@ use Rattle.buffer_glyphs.specs.Parts.{first_of}
 use Rattle.buffer_glyphs.specs.Events.{Event, Merge, MergeGrapheme, Replace, Circle, Delete, Move, Arrange, Sort, Reverse, Break, Concat, Tatweel, StrictBreak, Spread, Reset}
 use Rattle.buffer_glyphs.specs.Rewriting.{shifted_event}
 use Rattle.buffer_stages.specs.Actions.{Cut, whole, Outcome, Passes, Acts, Refuses, Action, within_limit, attempt_around, later, or_else, first_rule, at_first}
-use Rattle.buffer_breaks.specs.Concat.{without_concats}
-use Rattle.buffer_breaks.specs.Divisible.{merges}
-use Rattle.buffer_breaks.specs.Sides.{AreBounded}
-use Rattle.buffer_breaks.specs.Fragments.{with_ligature_renamed}
+use Rattle.buffer_parts.specs.Breaks.Concat.{without_concats}
+use Rattle.buffer_parts.specs.Breaks.Divisible.{merges}
+use Rattle.buffer_parts.specs.Breaks.Sides.{AreBounded}
+use Rattle.buffer_parts.specs.Breaks.Fragments.{with_ligature_renamed}
 use Rattle.layout_breaks.specs.Frames.{Outside, Inside, framed, IsFramed}
 use Rattle.layout_breaks.specs.Binding.{BindOutside}
 use Rattle.layout_breaks.specs.Local.{Placing, Binds, IsMadeInside, IsBeside, IsLocal}

@@ -10,9 +10,9 @@ use Rattle.buffer_parts.specs.Counts.{count_after, count_after_event}
 use Rattle.buffer_core.specs.Readings.{View, Read, Reading, then_read, then_reading, and_then}
 use Rattle.buffer_core.specs.Sides.{zero_positions}
 use Rattle.buffer_stages.specs.Actions.{uncut, Action}
-use Rattle.buffer_breaks.specs.Concat.{without_concats}
-use Rattle.buffer_breaks.specs.Divisible.{merges, IsSpared}
-use Rattle.buffer_breaks.specs.Fragments.{IsNaming, AreGiven}
+use Rattle.buffer_parts.specs.Breaks.Concat.{without_concats}
+use Rattle.buffer_parts.specs.Breaks.Divisible.{merges, IsSpared}
+use Rattle.buffer_parts.specs.Breaks.Fragments.{IsNaming, AreGiven}
 use Rattle.buffer_parts.specs.Counting.{is_left}
 use Rattle.layout_match.specs.Trying.{trials, with_zero_positions, whole_list, forward_pass}
 use Rattle.layout_breaks.specs.Frames.{Inside, named, AreForeign}

@@ -20,10 +20,10 @@ use Rattle.buffer_parts.specs.Rules.{OutcomeKeepsParts, RuleKeepsParts}
 use Rattle.layout_contexts.specs.MatchIndices.{AreRising}
 use Rattle.layout_contexts.specs.Shifts.{indices_after_resize, moved_end}
 use Rattle.layout_contexts.specs.Nested.{RecordsOutcome, Walks, Stops, cut_at, holds, has_budget, with_budget_spent, nested_outcome, nested_outcome_at, outcome_at_index, one_record, walked_later, then_walk, each_record, each_nested, cut_after_match}
-use Rattle.buffer_breaks.specs.Concat.{without_concats}
-use Rattle.buffer_breaks.specs.Divisible.{merges}
-use Rattle.buffer_breaks.specs.Sides.{AreBounded}
-use Rattle.buffer_breaks.specs.Fragments.{with_ligature_renamed}
+use Rattle.buffer_parts.specs.Breaks.Concat.{without_concats}
+use Rattle.buffer_parts.specs.Breaks.Divisible.{merges}
+use Rattle.buffer_parts.specs.Breaks.Sides.{AreBounded}
+use Rattle.buffer_parts.specs.Breaks.Fragments.{with_ligature_renamed}
 use Rattle.layout_breaks.specs.Frames.{Outside, Inside, named, framed, IsFramed, IsExtended}
 use Rattle.layout_breaks.specs.Binding.{BindOutside}
 use Rattle.layout_breaks.specs.Local.{Placing, Binds, IsAmple, IsMadeInside, IsBeside, IsLocal, IsOfWhole}

@@ -20,9 +20,9 @@ use Rattle.layout_match.specs.Applied.{next_random}
 use Rattle.layout_gsub.specs.Replacements.{substituted_item, cut_with_substitute, single_substitution, single_subtable}
 use Rattle.layout_gsub.specs.Multiples.{component_props, component_item, component_items, cut_with_multiple, multiple_substitution, neighbours_flagged, deletion, covered_sequence, multiple_subtable}
 use Rattle.layout_gsub.specs.Alternates.{feature_value, alternate_of_value, is_drawn, drawn_alternate, alternate_set, alternate_subtable}
-use Rattle.buffer_breaks.specs.Concat.{without_concats}
-use Rattle.buffer_breaks.specs.Sides.{AreBounded}
-use Rattle.buffer_breaks.specs.Fragments.{with_ligature_renamed, AreGiven, IsNaming}
+use Rattle.buffer_parts.specs.Breaks.Concat.{without_concats}
+use Rattle.buffer_parts.specs.Breaks.Sides.{AreBounded}
+use Rattle.buffer_parts.specs.Breaks.Fragments.{with_ligature_renamed, AreGiven, IsNaming}
 use Rattle.layout_breaks.specs.Frames.{Outside, Inside, named, framed, IsFramed}
 use Rattle.layout_breaks.specs.Binding.{BindOutside}
 use Rattle.layout_breaks.specs.Local.{Unplaced, Binds, IsBeside, IsLocal}

@@ -11,9 +11,9 @@ use Rattle.buffer_parts.specs.Counting.{is_left}
 use Rattle.layout_laws.specs.Lemmas.Substitutions.{forward_related}
 use Rattle.layout_laws.specs.Lemmas.KeptRules.{by_parts, substituted_by_parts}
 use Rattle.layout_laws.specs.Lemmas.Lookups.{lookups_keep_parts}
-use Rattle.buffer_breaks.specs.Concat.{without_concats}
-use Rattle.buffer_breaks.specs.Divisible.{merges, OnlySpends, KeepsPositions}
-use Rattle.buffer_breaks.specs.Lemmas.Beside.{beside_is_divisible}
+use Rattle.buffer_parts.specs.Breaks.Concat.{without_concats}
+use Rattle.buffer_parts.specs.Breaks.Divisible.{merges, OnlySpends, KeepsPositions}
+use Rattle.buffer_parts.specs.Breaks.Lemmas.Beside.{beside_is_divisible}
 use Rattle.layout_breaks.specs.Local.{Steps, IsSteady}
 use Rattle.layout_breaks.specs.LookupsBeside.{LookupsAreDivisible}
 use Rattle.layout_breaks.specs.Lemmas.Outcomes.{without_both}

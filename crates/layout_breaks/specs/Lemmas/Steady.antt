@@ -31,7 +31,7 @@ use Rattle.layout_gsub.specs.Ligating.{items_at, are_marks, own_number, componen
 use Rattle.layout_gsub.specs.Multiples.{covered_sequence, cut_with_multiple, multiple_subtable}
 use Rattle.layout_gsub.specs.Replacements.{single_substitution, single_subtable, cut_with_substitute}
 use Rattle.layout_substitution.specs.Lookups.{first_subtable, nested_actions, lookup_action}
-use Rattle.buffer_breaks.specs.Concat.{without_concats}
+use Rattle.buffer_parts.specs.Breaks.Concat.{without_concats}
 use Rattle.layout_breaks.specs.Lemmas.Outcomes.{none_more}
 use Rattle.layout_breaks.specs.Lemmas.Matching.{match_lies}
 use Rattle.layout_breaks.specs.Lemmas.Frames.{at_item}

@@ -10,10 +10,10 @@ use Rattle.buffer_parts.specs.Counts.{count_after, count_after_event}
 use Rattle.buffer_core.specs.Readings.{View, Read, Reading, with_events, then_read, then_reading}
 use Rattle.buffer_stages.specs.Actions.{Cut, whole, view_at, past_item, Outcome, Passes, Acts, Refuses, Action}
 use Rattle.buffer_parts.specs.Counting.{is_left}
-use Rattle.buffer_breaks.specs.Concat.{without_concats}
-use Rattle.buffer_breaks.specs.Divisible.{merges}
-use Rattle.buffer_breaks.specs.Sides.{AreBounded}
-use Rattle.buffer_breaks.specs.Fragments.{with_ligature_renamed}
+use Rattle.buffer_parts.specs.Breaks.Concat.{without_concats}
+use Rattle.buffer_parts.specs.Breaks.Divisible.{merges}
+use Rattle.buffer_parts.specs.Breaks.Sides.{AreBounded}
+use Rattle.buffer_parts.specs.Breaks.Fragments.{with_ligature_renamed}
 use Rattle.layout_match.specs.Trying.{after_outcome, outcome_past_item, trial_at, trials}
 use Rattle.layout_breaks.specs.Frames.{Outside, Inside, named, framed, IsFramed}
 use Rattle.layout_breaks.specs.Binding.{BindOutside}

@@ -3,7 +3,7 @@ use Rattle.std.proofs.Common.{ℕ, ◌≡◌, ◌<◌, ◌+◌, ◌*◌, ◌==�
 use Rattle.std.specs.Prelude.{◌/◌, ◌%◌}
 use Rattle.buffer_glyphs.specs.Items.{Item}
 use Rattle.buffer_glyphs.specs.LigatureWords.{component_bound, component_word, is_lig_base, is_ligature, lig_comp, lig_id, lig_num_comps, ligature_word}
-use Rattle.buffer_breaks.specs.Fragments.{with_ligature_renamed}
+use Rattle.buffer_parts.specs.Breaks.Fragments.{with_ligature_renamed}
 
 -- ---- words
 

@@ -15,12 +15,12 @@ use Rattle.buffer_parts.specs.Lemmas.Orderly.{plain_is_orderly}
 use Rattle.buffer_core.specs.Readings.{View, Read, Reading, BufferState, state_after, with_events}
 use Rattle.buffer_core.specs.Sides.{zero_positions}
 use Rattle.buffer_parts.specs.Lemmas.Stages.{same_read}
-use Rattle.buffer_breaks.specs.Concat.{SameButConcat}
-use Rattle.buffer_breaks.specs.Fragments.{AreFragments, AreGiven, IsWhole, with_ligature_renamed}
-use Rattle.buffer_breaks.specs.Divisible.{IsBreakable}
-use Rattle.buffer_breaks.specs.Lemmas.Concat.{same_refl}
-use Rattle.buffer_breaks.specs.Lemmas.Division.{unnumbered}
-use Rattle.buffer_breaks.specs.Lemmas.Events.{safe_breaks_stay}
+use Rattle.buffer_parts.specs.Breaks.Concat.{SameButConcat}
+use Rattle.buffer_parts.specs.Breaks.Fragments.{AreFragments, AreGiven, IsWhole, with_ligature_renamed}
+use Rattle.buffer_parts.specs.Breaks.Divisible.{IsBreakable}
+use Rattle.buffer_parts.specs.Breaks.Lemmas.Concat.{same_refl}
+use Rattle.buffer_parts.specs.Breaks.Lemmas.Division.{unnumbered}
+use Rattle.buffer_parts.specs.Breaks.Lemmas.Events.{safe_breaks_stay}
 use Rattle.layout_face.specs.declared.parts.FaceParts.{FaceParts}
 use Rattle.shape_breaks.specs.Lemmas.Circled.{circle_view, circled_if, circled_many, nat_positive, zeros_both, zeros_many}
 use Rattle.shape_breaks.specs.Lemmas.Formed.{BeginsGrapheme, ContinuesGrapheme}

@@ -16,12 +16,12 @@ use Rattle.buffer_parts.specs.Lemmas.Plainly.{steady_count, steady_plain}
 use Rattle.buffer_core.specs.Readings.{View, Read, Stage, BufferState, always, and_then, as_it_is, state_after, then_read, with_events}
 use Rattle.buffer_stages.specs.Stages.{with_items_mapped}
 use Rattle.buffer_parts.specs.Lemmas.Stages.{both_read, same_read}
-use Rattle.buffer_breaks.specs.Unsafe.{IsUnsafeAt}
-use Rattle.buffer_breaks.specs.Lossless.{AreLossless}
-use Rattle.buffer_breaks.specs.Fragments.{AreFragments, AreGiven}
-use Rattle.buffer_breaks.specs.Divisible.{IsBreakable, IsFreelyDivisible, StaysDivided}
-use Rattle.buffer_breaks.specs.Lemmas.Division.{items_are_divisible}
-use Rattle.buffer_breaks.specs.Lemmas.Events.{unsafe_stays}
+use Rattle.buffer_parts.specs.Breaks.Unsafe.{IsUnsafeAt}
+use Rattle.buffer_parts.specs.Breaks.Lossless.{AreLossless}
+use Rattle.buffer_parts.specs.Breaks.Fragments.{AreFragments, AreGiven}
+use Rattle.buffer_parts.specs.Breaks.Divisible.{IsBreakable, IsFreelyDivisible, StaysDivided}
+use Rattle.buffer_parts.specs.Breaks.Lemmas.Division.{items_are_divisible}
+use Rattle.buffer_parts.specs.Breaks.Lemmas.Events.{unsafe_stays}
 use Rattle.layout_face.specs.declared.parts.FaceParts.{FaceParts}
 use Rattle.shape_text.specs.Circle.{first_circle, flags_want_circle, needs_circle}
 use Rattle.shape_text.specs.Clusters.{grapheme_events, grapheme_lengths, has_non_ascii, with_clusters}

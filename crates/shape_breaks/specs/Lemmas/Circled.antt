@@ -9,9 +9,9 @@ use Rattle.buffer_glyphs.specs.Events.{Circle}
 use Rattle.buffer_core.specs.Readings.{View, Read, BufferState, state_after, with_events}
 use Rattle.buffer_core.specs.Sides.{zero_positions}
 use Rattle.buffer_properties.specs.Properties.{scratch_flags_of}
-use Rattle.buffer_breaks.specs.Fragments.{AreFragments, AreGiven, with_ligature_renamed}
-use Rattle.buffer_breaks.specs.Divisible.{IsBreakable, StaysDivided}
-use Rattle.buffer_breaks.specs.Lemmas.Beside.{beside_stays_divided}
+use Rattle.buffer_parts.specs.Breaks.Fragments.{AreFragments, AreGiven, with_ligature_renamed}
+use Rattle.buffer_parts.specs.Breaks.Divisible.{IsBreakable, StaysDivided}
+use Rattle.buffer_parts.specs.Breaks.Lemmas.Beside.{beside_stays_divided}
 use Rattle.shape_breaks.specs.Texts.{IsUnplaced}
 use Rattle.shape_text.specs.Circle.{DOTTED_CIRCLE, circle_like, circled_items}
 

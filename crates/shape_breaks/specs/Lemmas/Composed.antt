@@ -9,9 +9,9 @@ use Rattle.buffer_glyphs.specs.Levels.{InOutput}
 use Rattle.buffer_glyphs.specs.LigatureWords.{lig_id}
 use Rattle.buffer_glyphs.specs.Rewriting.{Arrangement, beside, eventless_arrangement, shifted_event}
 use Rattle.buffer_parts.specs.Counts.{count_after, count_after_event}
-use Rattle.buffer_breaks.specs.Fragments.{AreGiven}
-use Rattle.buffer_breaks.specs.Sides.{AreBounded}
-use Rattle.buffer_breaks.specs.Lossless.{AreLossless}
+use Rattle.buffer_parts.specs.Breaks.Fragments.{AreGiven}
+use Rattle.buffer_parts.specs.Breaks.Sides.{AreBounded}
+use Rattle.buffer_parts.specs.Breaks.Lossless.{AreLossless}
 use Rattle.buffer_properties.specs.Characters.{is_mark, mark_class, standing_for, with_glyph}
 use Rattle.buffer_properties.specs.Composing.{becoming, composed_list, composite, composition_from, is_not_blocked, with_composition}
 use Rattle.buffer_properties.specs.Normalizer.{Normalizer}

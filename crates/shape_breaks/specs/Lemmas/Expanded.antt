@@ -7,7 +7,7 @@ use Rattle.std.proofs.lemmas.List.{length-append, length-map}
 use Rattle.buffer_unicode_tables.specs.Expansion.{Splits, with_second_piece}
 use Rattle.buffer_glyphs.specs.Items.{Item}
 use Rattle.buffer_glyphs.specs.Rewriting.{Arrangement, beside, in_turn, replacement}
-use Rattle.buffer_breaks.specs.Fragments.{AreGiven}
+use Rattle.buffer_parts.specs.Breaks.Fragments.{AreGiven}
 use Rattle.buffer_properties.specs.Characters.{is_mark, is_selector, unjoined_selector, with_glyph}
 use Rattle.buffer_properties.specs.Expanding.{expanded_group, expanded_groups, expanded_item, expanded_list, expanded_with_marks, item_expansion, items_for, meets_selector, pending_item, piece_of, selection, selections_after, space_glyph, unexpanded_item, whole_item, with_found_glyph, with_glyph_of_space, with_own_glyph}
 use Rattle.buffer_properties.specs.Normalizer.{Normalizer, has_character, reach_alone, reach_with_marks}

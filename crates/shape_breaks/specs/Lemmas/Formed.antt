@@ -12,13 +12,13 @@ use Rattle.buffer_parts.specs.Lemmas.Orderly.{plain_is_orderly}
 use Rattle.buffer_parts.specs.Lemmas.Plainly.{steady_count, steady_plain}
 use Rattle.buffer_core.specs.Graphemes.{continues}
 use Rattle.buffer_core.specs.Readings.{View, Read, BufferState, state_after}
-use Rattle.buffer_breaks.specs.Unsafe.{IsUnsafeAt}
-use Rattle.buffer_breaks.specs.Concat.{without_concats}
-use Rattle.buffer_breaks.specs.Sides.{AreBounded}
-use Rattle.buffer_breaks.specs.Fragments.{AreFragments, IsWhole, with_ligature_renamed}
-use Rattle.buffer_breaks.specs.Divisible.{IsBreakable, StaysDivided}
-use Rattle.buffer_breaks.specs.Beside.{IsReadAlone, events_in_line}
-use Rattle.buffer_breaks.specs.Lemmas.Beside.{beside_stays_divided, crossing_is_unsafe}
+use Rattle.buffer_parts.specs.Breaks.Unsafe.{IsUnsafeAt}
+use Rattle.buffer_parts.specs.Breaks.Concat.{without_concats}
+use Rattle.buffer_parts.specs.Breaks.Sides.{AreBounded}
+use Rattle.buffer_parts.specs.Breaks.Fragments.{AreFragments, IsWhole, with_ligature_renamed}
+use Rattle.buffer_parts.specs.Breaks.Divisible.{IsBreakable, StaysDivided}
+use Rattle.buffer_parts.specs.Breaks.Beside.{IsReadAlone, events_in_line}
+use Rattle.buffer_parts.specs.Breaks.Lemmas.Beside.{beside_stays_divided, crossing_is_unsafe}
 use Rattle.shape_text.specs.Clusters.{grapheme_event, grapheme_events, grapheme_lengths, has_non_ascii, with_clusters}
 use Rattle.shape_breaks.specs.Texts.{IsKnown}
 use Rattle.shape_breaks.specs.Lemmas.Groups.{GoesPast, IsFree, groups_are_all, groups_go_past, lengths_apart, lengths_mapped, total, total_both}

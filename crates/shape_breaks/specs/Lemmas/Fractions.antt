@@ -16,16 +16,16 @@ use Rattle.buffer_glyphs.specs.Lemmas.Origins.{origins_after_both}
 use Rattle.buffer_parts.specs.Counts.{count_after}
 use Rattle.buffer_parts.specs.Lemmas.Orderly.{plain_is_orderly}
 use Rattle.buffer_core.specs.Readings.{View, Read, BufferState, state_after, with_events}
-use Rattle.buffer_breaks.specs.Unsafe.{IsUnsafeAt}
-use Rattle.buffer_breaks.specs.Concat.{without_concats}
-use Rattle.buffer_breaks.specs.Lossless.{AreLossless}
-use Rattle.buffer_breaks.specs.Sides.{AreBounded}
-use Rattle.buffer_breaks.specs.Fragments.{AreFragments, AreGiven, IsWhole}
-use Rattle.buffer_breaks.specs.Beside.{IsReadAlone}
+use Rattle.buffer_parts.specs.Breaks.Unsafe.{IsUnsafeAt}
+use Rattle.buffer_parts.specs.Breaks.Concat.{without_concats}
+use Rattle.buffer_parts.specs.Breaks.Lossless.{AreLossless}
+use Rattle.buffer_parts.specs.Breaks.Sides.{AreBounded}
+use Rattle.buffer_parts.specs.Breaks.Fragments.{AreFragments, AreGiven, IsWhole}
+use Rattle.buffer_parts.specs.Breaks.Beside.{IsReadAlone}
 use Rattle.shape_breaks.specs.Lemmas.Rewrites.{given_both}
-use Rattle.buffer_breaks.specs.Divisible.{IsBreakable, StaysDivided}
-use Rattle.buffer_breaks.specs.Lemmas.Beside.{beside_stays_divided, crossing_is_unsafe}
-use Rattle.buffer_breaks.specs.Lemmas.Events.{unsafe_stays}
+use Rattle.buffer_parts.specs.Breaks.Divisible.{IsBreakable, StaysDivided}
+use Rattle.buffer_parts.specs.Breaks.Lemmas.Beside.{beside_stays_divided, crossing_is_unsafe}
+use Rattle.buffer_parts.specs.Breaks.Lemmas.Events.{unsafe_stays}
 use Rattle.buffer_properties.specs.Categories.{is_decimal_number}
 use Rattle.shape_text.specs.declared.fractions.FractionMasks.{FractionMasks}
 use Rattle.shape_text.specs.Fractions.{around_slash, digits, digits_after, digits_before, first_mask, fraction_at, fraction_items, fractions_to, is_slash, is_slash_at, last_mask, with_features, with_features_within}

@@ -12,10 +12,10 @@ use Rattle.buffer_glyphs.specs.Events.{origins_after, origins_after_event}
 use Rattle.buffer_glyphs.specs.Rewriting.{shifted_event}
 use Rattle.buffer_parts.specs.Groups.{AreSingle}
 use Rattle.buffer_parts.specs.Plainly.{AreSteady}
-use Rattle.buffer_breaks.specs.Lossless.{AreLossless}
-use Rattle.buffer_breaks.specs.Bound.{bound_span}
-use Rattle.buffer_breaks.specs.Concat.{without_concats}
-use Rattle.buffer_breaks.specs.Sides.{AreBounded}
+use Rattle.buffer_parts.specs.Breaks.Lossless.{AreLossless}
+use Rattle.buffer_parts.specs.Breaks.Bound.{bound_span}
+use Rattle.buffer_parts.specs.Breaks.Concat.{without_concats}
+use Rattle.buffer_parts.specs.Breaks.Sides.{AreBounded}
 use Rattle.buffer_glyphs.specs.Lemmas.Origins.{cut_in_three}
 use Rattle.shape_text.specs.Clusters.{grapheme_event, grapheme_events}
 use Rattle.shape_breaks.specs.Lemmas.Groups.{total}

@@ -10,11 +10,11 @@ use Rattle.buffer_parts.specs.Orderly.{IsOrderly}
 use Rattle.buffer_parts.specs.Lemmas.Orderly.{plain_is_orderly}
 use Rattle.buffer_parts.specs.Lemmas.Plainly.{steady_count, steady_plain}
 use Rattle.buffer_core.specs.Readings.{View, Read, BufferState, state_after}
-use Rattle.buffer_breaks.specs.Concat.{without_concats}
-use Rattle.buffer_breaks.specs.Fragments.{AreFragments, AreGiven, IsWhole}
-use Rattle.buffer_breaks.specs.Divisible.{IsBreakable, StaysDivided}
-use Rattle.buffer_breaks.specs.Beside.{IsReadAlone}
-use Rattle.buffer_breaks.specs.Lemmas.Beside.{beside_stays_divided, crossing_is_unsafe}
+use Rattle.buffer_parts.specs.Breaks.Concat.{without_concats}
+use Rattle.buffer_parts.specs.Breaks.Fragments.{AreFragments, AreGiven, IsWhole}
+use Rattle.buffer_parts.specs.Breaks.Divisible.{IsBreakable, StaysDivided}
+use Rattle.buffer_parts.specs.Breaks.Beside.{IsReadAlone}
+use Rattle.buffer_parts.specs.Breaks.Lemmas.Beside.{beside_stays_divided, crossing_is_unsafe}
 use Rattle.script_joining.specs.declared.flags.Letter.{Letter}
 use Rattle.script_joining.specs.Types.{JoiningType, type_of_item}
 use Rattle.script_joining.specs.Forms.{letter_form}

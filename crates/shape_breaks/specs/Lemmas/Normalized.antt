@@ -12,15 +12,15 @@ use Rattle.buffer_core.specs.Readings.{Read, Reading, BufferState, state_after}
 use Rattle.buffer_core.specs.Sides.{zero_positions}
 use Rattle.buffer_stages.specs.Appending.{with_arranged}
 use Rattle.buffer_parts.specs.Lemmas.Stages.{same_read}
-use Rattle.buffer_breaks.specs.Unsafe.{IsUnsafeAt}
-use Rattle.buffer_breaks.specs.Concat.{without_concats}
-use Rattle.buffer_breaks.specs.Sides.{AreBounded}
-use Rattle.buffer_breaks.specs.Lossless.{AreLossless}
-use Rattle.buffer_breaks.specs.Fragments.{AreFragments, AreGiven}
-use Rattle.buffer_breaks.specs.Divisible.{IsBreakable, StaysDivided}
-use Rattle.buffer_breaks.specs.Beside.{IsReadAlone, events_in_line}
-use Rattle.buffer_breaks.specs.Lemmas.Beside.{beside_stays_divided}
-use Rattle.buffer_breaks.specs.Lemmas.Events.{unsafe_stays}
+use Rattle.buffer_parts.specs.Breaks.Unsafe.{IsUnsafeAt}
+use Rattle.buffer_parts.specs.Breaks.Concat.{without_concats}
+use Rattle.buffer_parts.specs.Breaks.Sides.{AreBounded}
+use Rattle.buffer_parts.specs.Breaks.Lossless.{AreLossless}
+use Rattle.buffer_parts.specs.Breaks.Fragments.{AreFragments, AreGiven}
+use Rattle.buffer_parts.specs.Breaks.Divisible.{IsBreakable, StaysDivided}
+use Rattle.buffer_parts.specs.Breaks.Beside.{IsReadAlone, events_in_line}
+use Rattle.buffer_parts.specs.Breaks.Lemmas.Beside.{beside_stays_divided}
+use Rattle.buffer_parts.specs.Breaks.Lemmas.Events.{unsafe_stays}
 use Rattle.buffer_properties.specs.Characters.{is_mark}
 use Rattle.buffer_properties.specs.Expanding.{expanded_list}
 use Rattle.buffer_properties.specs.NormalizedList.{arranged_marks, composition_if, has_later_mark, normalized_items, ordering_if}

@@ -11,7 +11,7 @@ use Rattle.buffer_core.specs.Graphemes.{continues as continues_item}
 use Rattle.buffer_properties.specs.Properties.{bit_if, is_hidden_character, properties_of}
 use Rattle.buffer_properties.proofs.PropertyWords.{category_fits}
 use Rattle.buffer_properties.proofs.Words.{at_most_one, word_of}
-use Rattle.buffer_breaks.specs.Fragments.{AreGiven, with_ligature_renamed}
+use Rattle.buffer_parts.specs.Breaks.Fragments.{AreGiven, with_ligature_renamed}
 use Rattle.shape_text.specs.declared.graphemes.Before.{Before}
 use Rattle.shape_text.specs.Graphemes.{continues, is_extender, is_joined}
 use Rattle.shape_text.specs.Properties.{items_prepared, next_before, prepared_item}

@@ -9,8 +9,8 @@ use Rattle.buffer_glyphs.specs.Origins.{Origin, numbers}
 use Rattle.buffer_lists.specs.Masks.{is_within, item_set, items_set}
 use Rattle.buffer_core.specs.Readings.{BufferState, state_after}
 use Rattle.layout_map.specs.Compiled.{OtMapValue}
-use Rattle.buffer_breaks.specs.Fragments.{AreFragments, AreGiven, IsWhole, as_they_stand, with_ligature_renamed}
-use Rattle.buffer_breaks.specs.Lemmas.Concat.{same_numbers}
+use Rattle.buffer_parts.specs.Breaks.Fragments.{AreFragments, AreGiven, IsWhole, as_they_stand, with_ligature_renamed}
+use Rattle.buffer_parts.specs.Breaks.Lemmas.Concat.{same_numbers}
 use Rattle.shape_text.specs.Ranges.{bits_of, shifted_value, with_all_ranges, with_range, with_ranges}
 
 -- ---- one feature

@@ -9,11 +9,11 @@ use Rattle.buffer_glyphs.specs.Items.{Item}
 use Rattle.buffer_glyphs.specs.Rewriting.{Arrangement, beside, eventless_arrangement, in_turn, replacement, shifted_event}
 use Rattle.buffer_parts.specs.Counts.{count_after, count_after_event}
 use Rattle.buffer_stages.specs.Lemmas.Shifts.{shift_events, shift_none}
-use Rattle.buffer_breaks.specs.Concat.{without_concats}
-use Rattle.buffer_breaks.specs.Fragments.{AreGiven}
-use Rattle.buffer_breaks.specs.Lossless.{AreLossless}
-use Rattle.buffer_breaks.specs.Sides.{AreBounded}
-use Rattle.buffer_breaks.specs.Lemmas.Events.{both_lossless}
+use Rattle.buffer_parts.specs.Breaks.Concat.{without_concats}
+use Rattle.buffer_parts.specs.Breaks.Fragments.{AreGiven}
+use Rattle.buffer_parts.specs.Breaks.Lossless.{AreLossless}
+use Rattle.buffer_parts.specs.Breaks.Sides.{AreBounded}
+use Rattle.buffer_parts.specs.Breaks.Lemmas.Events.{both_lossless}
 use Rattle.shape_breaks.specs.Rewrites.{IsRewrite, IsWholeRewrite}
 use Rattle.shape_breaks.specs.Lemmas.Letters.{without_shifted}
 use Rattle.shape_breaks.specs.Lemmas.Unnumbered.{without_both}

@@ -6,8 +6,8 @@ use Rattle.buffer_unicode_tables.specs.Tables.{Tables}
 use Rattle.buffer_glyphs.specs.Items.{Item}
 use Rattle.buffer_core.specs.Readings.{always}
 use Rattle.layout_face.specs.declared.parts.FaceParts.{FaceParts}
-use Rattle.buffer_breaks.specs.Divisible.{IsFreelyDivisible}
-use Rattle.buffer_breaks.specs.Lemmas.Division.{freely_divisible_in_turn, items_are_divisible, same_is_divisible}
+use Rattle.buffer_parts.specs.Breaks.Divisible.{IsFreelyDivisible}
+use Rattle.buffer_parts.specs.Breaks.Lemmas.Division.{freely_divisible_in_turn, items_are_divisible, same_is_divisible}
 use Rattle.shape_text.specs.Rotation.{mapped_where, mirror_image, mirrored_item, mirrored_or, upright_or, vertical_form, with_rotated_characters, with_vertical_form}
 
 -- a change of items where a condition holds

@@ -14,8 +14,8 @@ use Rattle.buffer_glyphs.specs.LigatureWords.{lig_id}
 use Rattle.buffer_glyphs.specs.Rewriting.{Arrangement, beside, eventless_arrangement, in_turn}
 use Rattle.buffer_lists.specs.Lemmas.KeyOrder.{all_below, by_key_moves}
 use Rattle.buffer_lists.specs.Lemmas.OrderSpans.{order_stays}
-use Rattle.buffer_breaks.specs.Fragments.{AreGiven}
-use Rattle.buffer_breaks.specs.Lemmas.SortOrders.{mark_orders_permute}
+use Rattle.buffer_parts.specs.Breaks.Fragments.{AreGiven}
+use Rattle.buffer_parts.specs.Breaks.Lemmas.SortOrders.{mark_orders_permute}
 use Rattle.buffer_properties.specs.Characters.{is_mark, mark_class, visible_item}
 use Rattle.buffer_properties.specs.Ordering.{arranged_run, arranged_runs, joiner_between, joiners_shown, ordered_list, separates_nothing, sorted_order, sorted_run, with_joiners_shown}
 use Rattle.buffer_properties.specs.declared.normal_mode.TheConstants.{MAX_COMBINING_MARKS}

@@ -12,9 +12,9 @@ use Rattle.buffer_parts.specs.Lemmas.Orderly.{plain_is_orderly}
 use Rattle.buffer_parts.specs.Lemmas.Plainly.{steady_count, steady_plain}
 use Rattle.buffer_core.specs.Readings.{View, Read, state_after}
 use Rattle.buffer_stages.specs.Settings.{TextSettings}
-use Rattle.buffer_breaks.specs.Fragments.{AreGiven}
-use Rattle.buffer_breaks.specs.Divisible.{StaysDivided}
-use Rattle.buffer_breaks.specs.Lemmas.Events.{unsafe_stays}
+use Rattle.buffer_parts.specs.Breaks.Fragments.{AreGiven}
+use Rattle.buffer_parts.specs.Breaks.Divisible.{StaysDivided}
+use Rattle.buffer_parts.specs.Breaks.Lemmas.Events.{unsafe_stays}
 use Rattle.layout_face.specs.declared.parts.FaceParts.{FaceParts}
 use Rattle.layout_map.specs.Masks.{mask_at_one}
 use Rattle.script_joining.specs.Joining.{forms, letters_with_forms, nearest, settled_forms, types_of_characters, types_of_items}

@@ -7,10 +7,10 @@ use Rattle.buffer_glyphs.specs.Items.{Item}
 use Rattle.buffer_glyphs.specs.LigatureWords.{lig_id}
 use Rattle.buffer_parts.specs.Counts.{count_after, count_after_event}
 use Rattle.buffer_core.specs.Readings.{Read, BufferState}
-use Rattle.buffer_breaks.specs.Concat.{without_concats}
-use Rattle.buffer_breaks.specs.Fragments.{AreFragments, AreGiven, with_ligature_renamed}
-use Rattle.buffer_breaks.specs.Beside.{IsReadAlone, IsReadBeside, events_in_line}
-use Rattle.buffer_breaks.specs.Lemmas.Division.{unnumbered}
+use Rattle.buffer_parts.specs.Breaks.Concat.{without_concats}
+use Rattle.buffer_parts.specs.Breaks.Fragments.{AreFragments, AreGiven, with_ligature_renamed}
+use Rattle.buffer_parts.specs.Breaks.Beside.{IsReadAlone, IsReadBeside, events_in_line}
+use Rattle.buffer_parts.specs.Breaks.Lemmas.Division.{unnumbered}
 use Rattle.shape_breaks.specs.Texts.{AreUnnumbered}
 
 -- an item without a number stays as it is under each name that leaves 0

@@ -1,5 +1,0 @@
-use Rattle.buffer_breaks.specs.Lemmas.Beside.{crossing_is_unsafe}
-use Rattle.buffer_breaks.proofs.fragment_laws.law_crossing_is_unsafe.Goals as goal
-
-pub returns : goal.returns
-returns c = crossing_is_unsafe

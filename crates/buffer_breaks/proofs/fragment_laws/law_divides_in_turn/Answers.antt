@@ -1,5 +1,0 @@
-use Rattle.buffer_breaks.specs.Lemmas.Division.{divides_in_turn}
-use Rattle.buffer_breaks.proofs.fragment_laws.law_divides_in_turn.Goals as goal
-
-pub returns : goal.returns
-returns c = divides_in_turn

@@ -1,5 +1,0 @@
-use Rattle.buffer_breaks.specs.Lemmas.Division.{freely_divisible_in_turn}
-use Rattle.buffer_breaks.proofs.fragment_laws.law_freely_divisible_in_turn.Goals as goal
-
-pub returns : goal.returns
-returns c = freely_divisible_in_turn

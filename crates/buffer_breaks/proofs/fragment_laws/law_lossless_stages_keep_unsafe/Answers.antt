@@ -1,5 +1,0 @@
-use Rattle.buffer_breaks.specs.Lemmas.Division.{lossless_stages_keep_unsafe}
-use Rattle.buffer_breaks.proofs.fragment_laws.law_lossless_stages_keep_unsafe.Goals as goal
-
-pub returns : goal.returns
-returns c = lossless_stages_keep_unsafe

@@ -1,5 +1,0 @@
-use Rattle.buffer_breaks.specs.Lemmas.Divided.{both_change_alone}
-use Rattle.buffer_breaks.proofs.side_laws.law_both_change_alone.Goals as goal
-
-pub returns : goal.returns
-returns c = both_change_alone

@@ -1,5 +1,0 @@
-use Rattle.buffer_breaks.specs.Lemmas.SortOrders.{walks_are_lossless}
-use Rattle.buffer_breaks.proofs.sort_laws.law_walks_are_lossless.Goals as goal
-
-pub returns : goal.returns
-returns c = walks_are_lossless

@@ -1,0 +1,5 @@
+use Rattle.buffer_parts.specs.Breaks.Lemmas.Sorts.{sort_is_unsafe}
+use Rattle.buffer_parts.proofs.breaks.laws.law_sort_is_unsafe.Goals as goal
+
+pub returns : goal.returns
+returns c = sort_is_unsafe

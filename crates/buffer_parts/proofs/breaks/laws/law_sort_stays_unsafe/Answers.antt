@@ -1,0 +1,5 @@
+use Rattle.buffer_parts.specs.Breaks.Lemmas.Crossing.{sort_stays_unsafe}
+use Rattle.buffer_parts.proofs.breaks.laws.law_sort_stays_unsafe.Goals as goal
+
+pub returns : goal.returns
+returns c = sort_stays_unsafe

@@ -1,0 +1,5 @@
+use Rattle.buffer_parts.specs.Breaks.Lemmas.Divided.{first_changes_alone}
+use Rattle.buffer_parts.proofs.breaks.side_laws.law_first_changes_alone.Goals as goal
+
+pub returns : goal.returns
+returns c = first_changes_alone

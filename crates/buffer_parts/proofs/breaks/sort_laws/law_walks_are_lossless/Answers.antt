@@ -1,0 +1,5 @@
+use Rattle.buffer_parts.specs.Breaks.Lemmas.SortOrders.{walks_are_lossless}
+use Rattle.buffer_parts.proofs.breaks.sort_laws.law_walks_are_lossless.Goals as goal
+
+pub returns : goal.returns
+returns c = walks_are_lossless
