@@ -1,21 +1,20 @@
 //! A font's answers about characters and glyphs.
 use crate::rows::{first_wrong, prints};
-use crate::{positions, substitutions};
 use buffer_glyphs::names::{GlyphId, GlyphNames};
 use layout_face::Face;
-use shell_face_json::read_by_keys;
 use std::alloc::{AllocError, Global};
 use std::test::Fail;
 
-static FONT: &str =
-    r#"{"upem":1000,"ascender":-800,"cmap":[[97,1],[98,2]],"variants":[[97,65024,7]],
-"h":[[1,501]],"v":[[1,900]],"origins":[[1,880]],"extents":[[1,10,700,480,-710]],"names":[[1,"alpha"]],"kern":1.5,
-"gdef":{"classes":[[1,1],[5,300],[7,0],[9,3]],"attach":[[9,2]],"sets":[[9,3,65535,3,0],[4],[]]}}"#;
-
 /// For a character and a selector: the glyph, whether it has one, and the glyph with the selector. For lengths: the
 /// units per em, the advances and the origin of a glyph. For classes: the class of a glyph and its attachment class.
-/// For sets: whether a glyph is in the sets 0 to 3, of which the third is empty and the last is none of the font's.
-static ANSWERS: &str = r#"character 97 65024: (Some(1), true, Some(7))
+/// For sets: whether a glyph is in the sets 0 to 3, of which the third is empty and the last is none of the font's. For
+/// tables: whether the font has glyph classes, GSUB and GPOS. The last font has each key of the format and some others.
+pub(crate) static TABLES: &str =
+    r#"{"upem":1000,"ascender":-800,"cmap":[[97,1],[98,2]],"variants":[[97,65024,7]],
+"h":[[1,501]],"v":[[1,900]],"origins":[[1,880]],"extents":[[1,10,700,480,-710]],"names":[[1,"alpha"]],"kern":1.5,
+"gdef":{"classes":[[1,1],[5,300],[7,0],[9,3]],"attach":[[9,2]],"sets":[[9,3,65535,3,0],[4],[]]}}
+answers:
+character 97 65024: (Some(1), true, Some(7))
 character 97 65025: (Some(1), true, None)
 character 98 65024: (Some(2), true, None)
 character 99 65024: (None, false, None)
@@ -42,7 +41,31 @@ font sets 9: [true, false, false, false]
 font classes 10: (0, 0)
 font sets 10: [false, false, false, false]
 font classes 65535: (0, 0)
-font sets 65535: [true, false, false, false]"#;
+font sets 65535: [true, false, false, false]
+
+{}
+answers by parts:
+font tables: (false, false, false)
+
+{"gdef":{"classes":[]}}
+answers:
+font tables: (true, false, false)
+
+{"gdef":{},"gsub":{}}
+answers:
+font tables: (false, true, false)
+
+{"gpos":{}}
+answers:
+font tables: (false, false, true)
+
+{"names":[[1,"\u0061lpha"],[2,"beta"]],"kern":[{"a":[null,true,[]]},"b"],"upem":1000,"h":[[1,501]],
+"v":[[1,900]],"origins":[[1,-880]],"extents":[[1,10,700,480,-710]],"cmap":[[97,1]],"variants":[[97,65024,7]],
+"ascender":-8,"gsub":{"lookups":[{"set":1,"flags":16,"type":"single","subtables":[[[1,2]]]}],"features":[["liga",[0]],["kern",[]]],
+"scripts":[["DFLT",null,[]],["latn",{"required":1,"features":[0]},[["DEU ",{}]]]],"size":3},"gpos":{"scripts":[]},
+"gdef":{"sets":[[9],[]],"attach":[[9,2]],"classes":[[1,1],[9,3]],"carets":{"1":[250]}}}
+answers by parts:
+font tables: (true, true, true)"#;
 
 fn glyphs_of(font: &Face, character: char, selector: char) -> (Option<u16>, bool, Option<u16>) {
     (
@@ -121,7 +144,7 @@ pub(crate) fn answers(
     alloc: Global,
     font: &Face,
     question: &str,
-    [glyph, _, _]: [u16; 3],
+    glyph: u16,
     answer: &str,
 ) -> Result<bool, AllocError> {
     match question {
@@ -133,59 +156,6 @@ pub(crate) fn answers(
         "tables" => prints(alloc, &tables_of(font), answer),
         _ => Ok(false),
     }
-}
-
-#[test]
-fn answers_of_a_font(rt: HostRuntime) -> Result<(), Fail> {
-    assert_eq!(rt; first_wrong(rt.alloc(), FONT, ANSWERS)?, None);
-    Ok(())
-}
-
-/// Fonts, and whether they have glyph classes, GSUB and GPOS.
-static TABLES: [(&str, &str); 4] = [
-    ("{}", "font tables: (false, false, false)"),
-    (
-        r#"{"gdef":{"classes":[]}}"#,
-        "font tables: (true, false, false)",
-    ),
-    (
-        r#"{"gdef":{},"gsub":{}}"#,
-        "font tables: (false, true, false)",
-    ),
-    (r#"{"gpos":{}}"#, "font tables: (false, false, true)"),
-];
-
-#[test]
-fn tables_of_a_font(rt: HostRuntime) -> Result<(), Fail> {
-    for (text, row) in &TABLES {
-        assert_eq!(rt; first_wrong(rt.alloc(), text, row)?, None, "{text}");
-    }
-    Ok(())
-}
-
-// A font with each key of the format and some others.
-static ALL_KEYS: &str =
-    r#"{"names":[[1,"\u0061lpha"],[2,"beta"]],"kern":[{"a":[null,true,[]]},"b"],"upem":1000,"h":[[1,501]],
-"v":[[1,900]],"origins":[[1,-880]],"extents":[[1,10,700,480,-710]],"cmap":[[97,1]],"variants":[[97,65024,7]],"ascender":-8,
-"gsub":{"lookups":[{"set":1,"flags":16,"type":"single","subtables":[[[1,2]]]}],"features":[["liga",[0]],["kern",[]]],
-"scripts":[["DFLT",null,[]],["latn",{"required":1,"features":[0]},[["DEU ",{}]]]],"size":3},"gpos":{"scripts":[]},
-"gdef":{"sets":[[9],[]],"attach":[[9,2]],"classes":[[1,1],[9,3]],"carets":{"1":[250]}}}"#;
-
-/// Reads a font that can be read by its parts, so that only want of memory can prevent it.
-fn read_font_by_parts(alloc: Global, text: &str) -> Result<(), AllocError> {
-    match read_by_keys(alloc, text) {
-        Ok(_) => Ok(()),
-        Err(_) => Err(AllocError),
-    }
-}
-
-// A font that is read whole takes several times the memory.
-#[test]
-fn fonts_are_read_by_parts(rt: HostRuntime) -> Result<(), Fail> {
-    for text in ["{}", ALL_KEYS, substitutions::FONT, positions::FONT] {
-        read_font_by_parts(rt.alloc(), text)?;
-    }
-    Ok(())
 }
 
 fn many_rows(alloc: Global) -> Result<String, AllocError> {

@@ -13,8 +13,6 @@ mod fonts;
 #[cfg(test)]
 mod maps;
 #[cfg(test)]
-mod pair_rows;
-#[cfg(test)]
 mod positions;
 #[cfg(test)]
 mod requests;
@@ -24,5 +22,3 @@ mod rows;
 mod scripts;
 #[cfg(test)]
 mod substitutions;
-#[cfg(test)]
-mod would_apply;

@@ -1,690 +1,244 @@
 //! Maps that builders compile: features with their bits, and the lookups of stages.
-//!
-//! The two tables have functions of one form, since their lookups are types of their own.
-use Asked::{Feature, Pause};
+use crate::scripts::{tag, tags_of};
 use buffer_common::tag::Tag;
-use layout_common::array::Array;
-use layout_common::subtables::Subtables;
-use layout_face::positioning::{PositioningLookup, PositioningSubtables, PositioningTable};
-use layout_face::substitution::{SubstLookup, SubstitutionSubtables, SubstitutionTable};
+use layout_face::Face;
 use layout_map::builder::hb_ot_map_builder_t;
 use layout_map::features::feature_map_t;
 use layout_map::map::hb_ot_map_t;
-use layout_map::stages::StageMap;
-use layout_map_features::flags::{F_GLOBAL_HAS_FALLBACK, F_HAS_FALLBACK};
 use layout_map_features::lookup::lookup_map_t;
 use layout_map_features::per_table::TableIndex;
-use layout_tables::is_rising;
-use layout_tables::script::{LangSys, LangSysRecord, ScriptRecord};
-use layout_tables::table::{FeatureRecord, ScriptsAndFeatures};
 use std::alloc::{AllocError, Global};
-use std::process::Abort;
-use std::test::Fail;
 
-type Text = &'static [u8; 4];
+/// Languages and requests, and the map for them and the script `grek`: the mask of all glyphs; each feature, by its tag,
+/// with its indices and stages in GSUB and GPOS, its lowest bit, its mask and that of the value 1, and its ways to match;
+/// and for each table the script, whether it was requested, and the lookups with their masks and ways to match, where a
+/// slash and a number stand for a pause between stages.
+///
+/// A request has a tag, flags and a value. The ways to match are whether ZWNJ and ZWJ are skipped, random, and per
+/// syllable. Masks are hexadecimal. The first font has a required feature without a request, which is in the first
+/// stage. For the second one requests of one tag are merged, and two features have one lookup; in the third one a feature
+/// is found in the whole list, and a pause precedes features; in the fourth one a required feature has no request, since
+/// the bits don't suffice.
+pub(crate) static TABLES: &str =
+    r#"{"gsub":{"lookups":[{"type":"single"}],"features":[["bbbb",[0]]],
+"scripts":[["DFLT",{"required":0,"features":[0]},[]],["grek",{"features":[0]},[]]]},
+"gpos":{"lookups":[{"type":"single"},{"type":"single"},{"type":"single"}],"features":[["x   ",[1,2]]],
+"scripts":[["DFLT",{"features":[0,0,0]},[["DEU ",{"required":0,"features":[0]}]]],
+["latn",{},[["dflt",{"features":[0,0,0]}]]]]}}
+answers:
+map DEU; bbbb 33 5: 80000050;
+  bbbb [Some(0), None] [0, 0] 4 70 10 1110;
+  gsub grek true 0 70 1110; gpos DFLT false 1 80000000 1100, 2 80000000 1100
 
-/// The required feature, and the others.
-type System = (Option<u16>, &'static [u16]);
+{"gsub":{"lookups":[{"type":"single"},{"type":"single"}],
+"features":[["aaaa",[0,1]],["ccmp",[0,1]],["ccmp",[0]],["ccmp",[]],["aaaa",[1]]],
+"scripts":[["DFLT",{"required":4,"features":[3,3]},[]],
+["grek",{"features":[0,1,2,3,4]},[["TRK ",{"features":[0,1,4]}]]]]},
+"gpos":{"lookups":[{"type":"single"}],"features":[["aaaa",[0]],["ccmp",[0]],["ccmp",[0]],["ccmp",[0]]],
+"scripts":[["latn",{"features":[0,1,2,3]},[]]]}}
+answers:
+map DEU; aaaa 1 4294967295, ccmp 5 2, aaaa 3 1, pause 7: 80000020;
+  aaaa [Some(0), Some(0)] [0, 0] 31 80000000 80000000 1100; ccmp [Some(1), Some(1)] [0, 0] 4 30 10 0100;
+  gsub grek true 0 80000030 0100, 1 80000030 0100 /7; gpos latn false 0 80000030 0100
 
-type Script = (Text, Option<System>, &'static [(Text, System)]);
+{"gsub":{"lookups":[{"type":"single"},{"type":"single"},{"type":"single"},{"type":"single"},{"type":"single"}],
+"features":[["aaaa",[]],["x   ",[4]]],
+"scripts":[["DFLT",{"features":[0,1]},[["DEU ",{"required":0,"features":[0,1]}]]]]},
+"gpos":{"lookups":[{"type":"single"},{"type":"single"}],
+"features":[["kern",[1]],["kern",[0,1]],["x   ",[1,1]],["kern",[0]],["aaaa",[0]]],
+"scripts":[["grek",{"required":3},[["dflt",{"features":[4,3,2]}]]]]}}
+answers:
+map ; kern 1 5, kern 1 3, pause 7, x 49 1, aaaa 0 1: 80000060;
+  aaaa [Some(0), Some(4)] [1, 0] 4 10 10 1100; kern [None, Some(3)] [0, 0] 5 60 20 1100;
+  x    [Some(1), Some(2)] [1, 0] 31 80000000 80000000 1110;
+  gsub DFLT false /7 4 80000000 1110; gpos grek true 0 70 1100, 1 80000000 1110
 
-/// Whether ZWNJ and ZWJ are skipped, random, per syllable.
-type Ways = [bool; 4];
+{"gsub":{"lookups":[{"type":"single"},{"type":"single"}],
+"features":[["t002",[1]],["t002",[0]],["mark",[1]],["t000",[]]],
+"scripts":[["DFLT",{"required":3,"features":[0,1,2,3]},[["dflt",{"required":1,"features":[0,1,2,3]}]]]]},
+"gpos":{"lookups":[{"type":"single"}],
+"features":[["t004",[0]],["t000",[0]],["t001",[]],["bbbb",[0]],["t003",[0]]],
+"scripts":[["grek",{"required":0,"features":[0,1,2,3,4]},[["dflt",{"required":2,"features":[0,4,1]}]]]]}}
+answers:
+map ; mark 1 2, bbbb 2 1, mark 4 3, t000 1 255, t001 1 255, t002 1 255, t003 1 127, t004 1 255: bfffffc0;
+  bbbb [None, None] [0, 0] 4 10 10 1100; mark [Some(2), None] [0, 0] 5 60 20 1100;
+  t000 [Some(3), Some(1)] [0, 0] 7 7f80 80 1100; t002 [Some(0), None] [0, 0] 15 7f8000 8000 1100;
+  t003 [None, Some(4)] [0, 0] 23 3f800000 800000 1100;
+  gsub DFLT false 0 80000000 1100, 1 7f8060 1100; gpos grek true 0 3f807f80 1100
 
-/// Index, mask, ways to match.
-type Run = (u16, u32, Ways);
+{}
+answers:
+map ; gpos-pause 3, enable kern 2 1, disable liga, no-tag 3 1: 80000000;
+  kern [None, None] [0, 1] 31 80000000 80000000 1100; gsub none false; gpos none false /3"#;
 
-/// Tag, indices and stages by table, lowest bit with mask and mask of value 1, ways to match.
-type Kept = (Text, [Option<u16>; 2], [usize; 2], [u32; 3], Ways);
-
-struct Table {
-    scripts: &'static [Script],
-    features: &'static [(Text, &'static [u16])],
-    lookups: usize,
+fn number(word: Option<&str>) -> u32 {
+    word.unwrap_or("").parse::<u32>().unwrap_or(0)
 }
 
-enum Asked {
-    /// Tag, flags, value.
-    Feature(Text, u32, u32),
-    Pause,
+/// The tag of a request, its flags and its value.
+fn feature_of(text: &str) -> (Tag, u32, u32) {
+    let mut words = text.split_whitespace();
+    let first = words.next().unwrap_or("");
+    let tag = if first == "no-tag" {
+        Tag(0)
+    } else {
+        tag(first)
+    };
+    (tag, number(words.next()), number(words.next()))
 }
 
-/// The script of a table, and the lookups of its stages.
-struct Wanted {
-    chosen: Option<Text>,
-    found: bool,
-    stages: &'static [&'static [Run]],
+fn pause_of(text: &str) -> u8 {
+    text.parse::<u8>().unwrap_or(0)
 }
 
-struct Case {
-    gsub: Option<Table>,
-    gpos: Option<Table>,
-    languages: &'static [Text],
-    asked: &'static [Asked],
-    global_mask: u32,
-    features: &'static [Kept],
-    wanted_gsub: Wanted,
-    wanted_gpos: Wanted,
-}
-
-/// A required feature without a request runs in the first stage; a font of two tables.
-static REQUIRED: Case = Case {
-    gsub: Some(Table {
-        scripts: &[
-            (b"DFLT", Some((Some(0), &[0])), &[]),
-            (b"grek", Some((None, &[0])), &[]),
-        ],
-        features: &[(b"bbbb", &[0])],
-        lookups: 1,
-    }),
-    gpos: Some(Table {
-        scripts: &[
-            (
-                b"DFLT",
-                Some((None, &[0, 0, 0])),
-                &[(b"DEU ", (Some(0), &[0]))],
-            ),
-            (b"latn", Some((None, &[])), &[(b"dflt", (None, &[0, 0, 0]))]),
-        ],
-        features: &[(b"x   ", &[1, 2])],
-        lookups: 3,
-    }),
-    languages: &[b"DEU "],
-    asked: &[Feature(b"bbbb", 33, 5)],
-    global_mask: 0x80000050,
-    features: &[(
-        b"bbbb",
-        [Some(0), None],
-        [0, 0],
-        [4, 0x70, 0x10],
-        [true, true, true, false],
-    )],
-    wanted_gsub: Wanted {
-        chosen: Some(b"grek"),
-        found: true,
-        stages: &[&[(0, 0x70, [true, true, true, false])]],
-    },
-    wanted_gpos: Wanted {
-        chosen: Some(b"DFLT"),
-        found: false,
-        stages: &[&[
-            (1, 0x80000000, [true, true, false, false]),
-            (2, 0x80000000, [true, true, false, false]),
-        ]],
-    },
-};
-
-/// Requests of one tag that are merged, and lookups that two features apply.
-static JOINED: Case = Case {
-    gsub: Some(Table {
-        scripts: &[
-            (b"DFLT", Some((Some(4), &[3, 3])), &[]),
-            (
-                b"grek",
-                Some((None, &[0, 1, 2, 3, 4])),
-                &[(b"TRK ", (None, &[0, 1, 4]))],
-            ),
-        ],
-        features: &[
-            (b"aaaa", &[0, 1]),
-            (b"ccmp", &[0, 1]),
-            (b"ccmp", &[0]),
-            (b"ccmp", &[]),
-            (b"aaaa", &[1]),
-        ],
-        lookups: 2,
-    }),
-    gpos: Some(Table {
-        scripts: &[(b"latn", Some((None, &[0, 1, 2, 3])), &[])],
-        features: &[
-            (b"aaaa", &[0]),
-            (b"ccmp", &[0]),
-            (b"ccmp", &[0]),
-            (b"ccmp", &[0]),
-        ],
-        lookups: 1,
-    }),
-    languages: &[b"DEU "],
-    asked: &[
-        Feature(b"aaaa", 1, u32::MAX),
-        Feature(b"ccmp", 5, 2),
-        Feature(b"aaaa", 3, 1),
-        Pause,
-    ],
-    global_mask: 0x80000020,
-    features: &[
-        (
-            b"aaaa",
-            [Some(0), Some(0)],
-            [0, 0],
-            [31, 0x80000000, 0x80000000],
-            [true, true, false, false],
-        ),
-        (
-            b"ccmp",
-            [Some(1), Some(1)],
-            [0, 0],
-            [4, 0x30, 0x10],
-            [false, true, false, false],
-        ),
-    ],
-    wanted_gsub: Wanted {
-        chosen: Some(b"grek"),
-        found: true,
-        stages: &[
-            &[
-                (0, 0x80000030, [false, true, false, false]),
-                (1, 0x80000030, [false, true, false, false]),
-            ],
-            &[],
-        ],
-    },
-    wanted_gpos: Wanted {
-        chosen: Some(b"latn"),
-        found: false,
-        stages: &[&[(0, 0x80000030, [false, true, false, false])]],
-    },
-};
-
-/// A feature found by the search in the whole list; features in the stage after a pause.
-static SEARCHED: Case = Case {
-    gsub: Some(Table {
-        scripts: &[(
-            b"DFLT",
-            Some((None, &[0, 1])),
-            &[(b"DEU ", (Some(0), &[0, 1]))],
-        )],
-        features: &[(b"aaaa", &[]), (b"x   ", &[4])],
-        lookups: 5,
-    }),
-    gpos: Some(Table {
-        scripts: &[(
-            b"grek",
-            Some((Some(3), &[])),
-            &[(b"dflt", (None, &[4, 3, 2]))],
-        )],
-        features: &[
-            (b"kern", &[1]),
-            (b"kern", &[0, 1]),
-            (b"x   ", &[1, 1]),
-            (b"kern", &[0]),
-            (b"aaaa", &[0]),
-        ],
-        lookups: 2,
-    }),
-    languages: &[],
-    asked: &[
-        Feature(b"kern", 1, 5),
-        Feature(b"kern", 1, 3),
-        Pause,
-        Feature(b"x   ", 49, 1),
-        Feature(b"aaaa", 0, 1),
-    ],
-    global_mask: 0x80000060,
-    features: &[
-        (
-            b"aaaa",
-            [Some(0), Some(4)],
-            [1, 0],
-            [4, 0x10, 0x10],
-            [true, true, false, false],
-        ),
-        (
-            b"kern",
-            [None, Some(3)],
-            [0, 0],
-            [5, 0x60, 0x20],
-            [true, true, false, false],
-        ),
-        (
-            b"x   ",
-            [Some(1), Some(2)],
-            [1, 0],
-            [31, 0x80000000, 0x80000000],
-            [true, true, true, false],
-        ),
-    ],
-    wanted_gsub: Wanted {
-        chosen: Some(b"DFLT"),
-        found: false,
-        stages: &[&[], &[(4, 0x80000000, [true, true, true, false])]],
-    },
-    wanted_gpos: Wanted {
-        chosen: Some(b"grek"),
-        found: true,
-        stages: &[&[
-            (0, 0x70, [true, true, false, false]),
-            (1, 0x80000000, [true, true, true, false]),
-        ]],
-    },
-};
-
-/// A required feature whose request is dropped for lack of bits.
-static FULL: Case = Case {
-    gsub: Some(Table {
-        scripts: &[(
-            b"DFLT",
-            Some((Some(3), &[0, 1, 2, 3])),
-            &[(b"dflt", (Some(1), &[0, 1, 2, 3]))],
-        )],
-        features: &[
-            (b"t002", &[1]),
-            (b"t002", &[0]),
-            (b"mark", &[1]),
-            (b"t000", &[]),
-        ],
-        lookups: 2,
-    }),
-    gpos: Some(Table {
-        scripts: &[(
-            b"grek",
-            Some((Some(0), &[0, 1, 2, 3, 4])),
-            &[(b"dflt", (Some(2), &[0, 4, 1]))],
-        )],
-        features: &[
-            (b"t004", &[0]),
-            (b"t000", &[0]),
-            (b"t001", &[]),
-            (b"bbbb", &[0]),
-            (b"t003", &[0]),
-        ],
-        lookups: 1,
-    }),
-    languages: &[],
-    asked: &[
-        Feature(b"mark", 1, 2),
-        Feature(b"bbbb", 2, 1),
-        Feature(b"mark", 4, 3),
-        Feature(b"t000", 1, 255),
-        Feature(b"t001", 1, 255),
-        Feature(b"t002", 1, 255),
-        Feature(b"t003", 1, 127),
-        Feature(b"t004", 1, 255),
-    ],
-    global_mask: 0xbfffffc0,
-    features: &[
-        (
-            b"bbbb",
-            [None, None],
-            [0, 0],
-            [4, 0x10, 0x10],
-            [true, true, false, false],
-        ),
-        (
-            b"mark",
-            [Some(2), None],
-            [0, 0],
-            [5, 0x60, 0x20],
-            [true, true, false, false],
-        ),
-        (
-            b"t000",
-            [Some(3), Some(1)],
-            [0, 0],
-            [7, 0x7f80, 0x80],
-            [true, true, false, false],
-        ),
-        (
-            b"t002",
-            [Some(0), None],
-            [0, 0],
-            [15, 0x7f8000, 0x8000],
-            [true, true, false, false],
-        ),
-        (
-            b"t003",
-            [None, Some(4)],
-            [0, 0],
-            [23, 0x3f800000, 0x800000],
-            [true, true, false, false],
-        ),
-    ],
-    wanted_gsub: Wanted {
-        chosen: Some(b"DFLT"),
-        found: false,
-        stages: &[&[
-            (0, 0x80000000, [true, true, false, false]),
-            (1, 0x7f8060, [true, true, false, false]),
-        ]],
-    },
-    wanted_gpos: Wanted {
-        chosen: Some(b"grek"),
-        found: true,
-        stages: &[&[(0, 0x3f807f80, [true, true, false, false])]],
-    },
-};
-
-fn cases() -> [&'static Case; 4] {
-    [&REQUIRED, &JOINED, &SEARCHED, &FULL]
-}
-
-fn lang_sys(alloc: Global, system: &System) -> Result<LangSys, AllocError> {
-    let features = system.1.to_vec(alloc)?;
-    Ok(LangSys::new(system.0, features))
-}
-
-fn default_system(alloc: Global, system: &Option<System>) -> Result<Option<LangSys>, AllocError> {
-    match system {
-        Some(system) => Ok(Some(lang_sys(alloc, system)?)),
-        None => Ok(None),
-    }
-}
-
-fn system_records(
-    alloc: Global,
-    systems: &[(Text, System)],
-) -> Result<Vec<LangSysRecord>, AllocError> {
-    let mut records = Vec::new(alloc);
-    for (tag, system) in systems {
-        let system = lang_sys(alloc, system)?;
-        records.push(LangSysRecord::new(Tag::from_bytes(tag), system))?;
-    }
-    Ok(records)
-}
-
-/// A script whose systems are in order.
-fn script(alloc: Global, script: &Script) -> Result<Option<ScriptRecord>, AllocError> {
-    let default = default_system(alloc, &script.1)?;
-    let records = system_records(alloc, script.2)?;
-    if !is_rising(&records) {
-        return Ok(None);
-    }
-    Ok(Some(ScriptRecord::new(Tag::from_bytes(script.0), default, records)))
-}
-
-fn scripts(alloc: Global, table: &Table) -> Result<Vec<ScriptRecord>, AllocError> {
-    let mut scripts = Vec::new(alloc);
-    for row in table.scripts {
-        if let Some(record) = script(alloc, row)? {
-            scripts.push(record)?;
+fn add_request(builder: &mut hb_ot_map_builder_t<'_>, text: &str) -> Result<(), AllocError> {
+    let (first, rest) = text.split_once(' ').unwrap_or((text, ""));
+    match first {
+        "pause" => builder.add_gsub_pause(pause_of(rest)),
+        "gpos-pause" => builder.add_gpos_pause(pause_of(rest)),
+        "disable" => builder.disable_feature(tag(rest)),
+        "enable" => {
+            let (tag, flags, value) = feature_of(rest);
+            builder.enable_feature(tag, flags, value)
+        }
+        _ => {
+            let (tag, flags, value) = feature_of(text);
+            builder.add_feature(tag, flags, value)
         }
     }
-    Ok(scripts)
 }
 
-fn features(alloc: Global, table: &Table) -> Result<Vec<FeatureRecord>, AllocError> {
-    let mut features = Vec::new(alloc);
-    for (tag, lookups) in table.features {
-        features.push(FeatureRecord::new(Tag::from_bytes(tag), lookups.to_vec(alloc)?))?;
-    }
-    Ok(features)
-}
-
-fn layout_table(alloc: Global, table: &Table) -> Result<ScriptsAndFeatures, AllocError> {
-    let scripts = scripts(alloc, table)?;
-    let features = features(alloc, table)?;
-    if !is_rising(&scripts) {
-        return Ok(ScriptsAndFeatures::new(Vec::new(alloc), features));
-    }
-    Ok(ScriptsAndFeatures::new(scripts, features))
-}
-
-fn substitution_lookups(alloc: Global, count: usize) -> Result<Vec<SubstLookup>, AllocError> {
-    let mut lookups = Vec::new(alloc);
-    for _ in 0..count {
-        let subtables = SubstitutionSubtables::Single(Subtables::new(
-            alloc,
-            Array::new(Vec::new(alloc)),
-        )?);
-        lookups.push(SubstLookup::parse(0, None, subtables))?;
-    }
-    Ok(lookups)
-}
-
-fn substitution_table(
+fn builder_of<'a>(
     alloc: Global,
-    table: &Option<Table>,
-) -> Result<Option<SubstitutionTable>, AllocError> {
-    let Some(table) = table else {
-        return Ok(None);
-    };
-    let inner = layout_table(alloc, table)?;
-    let lookups = substitution_lookups(alloc, table.lookups)?;
-    Ok(Some(SubstitutionTable {
-        inner,
-        lookups: Array::new(lookups),
-    }))
-}
-
-fn positioning_lookups(alloc: Global, count: usize) -> Result<Vec<PositioningLookup>, AllocError> {
-    let mut lookups = Vec::new(alloc);
-    for _ in 0..count {
-        let subtables = PositioningSubtables::Single(Subtables::new(
-            alloc,
-            Array::new(Vec::new(alloc)),
-        )?);
-        lookups.push(PositioningLookup::parse(0, None, subtables))?;
-    }
-    Ok(lookups)
-}
-
-fn positioning_table(
-    alloc: Global,
-    table: &Option<Table>,
-) -> Result<Option<PositioningTable>, AllocError> {
-    let Some(table) = table else {
-        return Ok(None);
-    };
-    let inner = layout_table(alloc, table)?;
-    let lookups = positioning_lookups(alloc, table.lookups)?;
-    Ok(Some(PositioningTable {
-        inner,
-        lookups: Array::new(lookups),
-    }))
-}
-
-fn tags(alloc: Global, texts: &[Text]) -> Result<Vec<Tag>, AllocError> {
-    let mut tags = Vec::new(alloc);
-    for text in texts {
-        tags.push(Tag::from_bytes(text))?;
-    }
-    Ok(tags)
-}
-
-fn ask(builder: &mut hb_ot_map_builder_t, asked: &[Asked]) -> Result<(), AllocError> {
-    for one in asked {
-        match one {
-            Feature(tag, flags, value) => {
-                builder.add_feature(Tag::from_bytes(tag), *flags, *value)?
-            }
-            Pause => builder.add_gsub_pause(7)?,
-        }
-    }
-    Ok(())
-}
-
-fn asked_builder<'a>(
-    alloc: Global,
-    case: &Case,
-    gsub: Option<&'a SubstitutionTable>,
-    gpos: Option<&'a PositioningTable>,
+    font: &'a Face,
+    languages: &str,
+    requests: &str,
 ) -> Result<hb_ot_map_builder_t<'a>, AllocError> {
-    let scripts = [Tag::from_bytes(b"grek")];
-    let languages = tags(alloc, case.languages)?;
-    let mut builder = hb_ot_map_builder_t::of_tables(alloc, gsub, gpos, &scripts, &languages);
-    ask(&mut builder, case.asked)?;
+    let languages = tags_of(alloc, languages)?;
+    let mut builder = hb_ot_map_builder_t::new(alloc, font, &[tag("grek")], &languages);
+    for request in requests.split(',') {
+        add_request(&mut builder, request.trim())?;
+    }
     Ok(builder)
 }
 
-fn is_feature(feature: &feature_map_t, wanted: &Kept) -> bool {
-    let (text, index, stage, bits, ways) = wanted;
-    feature.tag == Tag::from_bytes(text)
-        && feature.index.gsub == index[0]
-        && feature.index.gpos == index[1]
-        && feature.stage.gsub == stage[0]
-        && feature.stage.gpos == stage[1]
-        && feature.shift == bits[0]
-        && feature.mask == bits[1]
-        && feature.one_mask == bits[2]
-        && feature.auto_zwnj == ways[0]
-        && feature.auto_zwj == ways[1]
-        && feature.random == ways[2]
-        && feature.per_syllable == ways[3]
+/// Whether a map says of a tag what its feature is.
+fn is_found(map: &hb_ot_map_t, feature: &feature_map_t) -> bool {
+    map.get_mask(feature.tag) == (feature.mask, feature.shift)
+        && map.get_1_mask(feature.tag) == feature.one_mask
+        && map.get_feature_index(TableIndex::GSUB, feature.tag) == feature.index.gsub
+        && map.get_feature_index(TableIndex::GPOS, feature.tag) == feature.index.gpos
+        && map.get_feature_stage(TableIndex::GSUB, feature.tag) == Some(feature.stage.gsub)
+        && map.get_feature_stage(TableIndex::GPOS, feature.tag) == Some(feature.stage.gpos)
 }
 
-fn has_features(map: &hb_ot_map_t, wanted: &[Kept]) -> bool {
-    for (i, wanted) in wanted.iter().enumerate() {
-        match map.features().get(i) {
-            Some(feature) if is_feature(feature, wanted) => {}
-            _ => return false,
-        }
-    }
-    map.features().len() == wanted.len()
-}
-
-fn finds_feature(map: &hb_ot_map_t, wanted: &Kept) -> bool {
-    let (text, index, stage, bits, _) = wanted;
-    let tag = Tag::from_bytes(text);
-    let (mask, shift) = map.get_mask(tag);
-    shift == bits[0]
-        && mask == bits[1]
-        && map.get_1_mask(tag) == bits[2]
-        && map.get_feature_index(TableIndex::GSUB, tag) == index[0]
-        && map.get_feature_index(TableIndex::GPOS, tag) == index[1]
-        && map.get_feature_stage(TableIndex::GSUB, tag) == Some(stage[0])
-        && map.get_feature_stage(TableIndex::GPOS, tag) == Some(stage[1])
-}
-
-fn finds_features(map: &hb_ot_map_t, wanted: &[Kept]) -> bool {
-    for wanted in wanted {
-        if !finds_feature(map, wanted) {
+/// Whether a builder and its map agree on the scripts and the features. A language system has each feature that a table
+/// has, since none of the rows finds one by a search alone.
+fn agree(builder: &hb_ot_map_builder_t<'_>, map: &hb_ot_map_t) -> bool {
+    for feature in map.features() {
+        let is_in_table = feature.index.gsub.is_some() || feature.index.gpos.is_some();
+        if !is_found(map, feature) || builder.has_feature(feature.tag) != is_in_table {
             return false;
         }
     }
-    true
+    builder.chosen_script(TableIndex::GSUB) == map.chosen_script(TableIndex::GSUB)
+        && builder.chosen_script(TableIndex::GPOS) == map.chosen_script(TableIndex::GPOS)
 }
 
-fn is_run(lookup: &lookup_map_t, wanted: &Run) -> bool {
-    let (index, mask, ways) = wanted;
-    lookup.index == *index
-        && lookup.mask == *mask
-        && lookup.auto_zwnj == ways[0]
-        && lookup.auto_zwj == ways[1]
-        && lookup.random == ways[2]
-        && lookup.per_syllable == ways[3]
-}
-
-fn is_stage(lookups: &[lookup_map_t], wanted: &[Run]) -> bool {
-    for (i, wanted) in wanted.iter().enumerate() {
-        match lookups.get(i) {
-            Some(lookup) if is_run(lookup, wanted) => {}
-            _ => return false,
-        }
+/// The characters of a tag.
+pub(crate) fn tag_text(alloc: Global, tag: Tag) -> Result<String, AllocError> {
+    let mut text = String::new(alloc);
+    for byte in tag.to_bytes() {
+        text.push(char::from(byte))?;
     }
-    lookups.len() == wanted.len()
+    Ok(text)
 }
 
-fn has_stages(map: &hb_ot_map_t, table: TableIndex, wanted: &[&[Run]]) -> bool {
-    for (stage, wanted) in wanted.iter().enumerate() {
-        if stage >= map.stages(table).len() || !is_stage(map.stage_lookups(table, stage), wanted) {
-            return false;
-        }
-    }
-    map.stages(table).len() == wanted.len()
-}
-
-fn is_script(chosen: Option<Tag>, wanted: &Wanted) -> bool {
-    match (chosen, wanted.chosen) {
-        (Some(tag), Some(text)) => tag == Tag::from_bytes(text),
-        (None, None) => true,
-        _ => false,
-    }
-}
-
-fn has_table(map: &hb_ot_map_t, table: TableIndex, wanted: &Wanted) -> bool {
-    map.found_script(table) == wanted.found
-        && is_script(map.chosen_script(table), wanted)
-        && has_stages(map, table, wanted.stages)
-}
-
-fn is_as_wanted(map: &hb_ot_map_t, case: &Case) -> bool {
-    map.get_global_mask() == case.global_mask
-        && has_table(map, TableIndex::GSUB, &case.wanted_gsub)
-        && has_table(map, TableIndex::GPOS, &case.wanted_gpos)
-        && has_features(map, case.features)
-        && finds_features(map, case.features)
-}
-
-/// A language system has each feature that a table has, since none of the cases finds one by a search alone.
-fn has_found(builder: &hb_ot_map_builder_t, wanted: &[Kept]) -> bool {
-    for (text, index, _, _, _) in wanted {
-        let is_found = index[0].is_some() || index[1].is_some();
-        if builder.has_feature(Tag::from_bytes(text)) != is_found {
-            return false;
-        }
-    }
-    true
-}
-
-fn chooses_scripts(builder: &hb_ot_map_builder_t, case: &Case) -> bool {
-    is_script(builder.chosen_script(TableIndex::GSUB), &case.wanted_gsub)
-        && is_script(builder.chosen_script(TableIndex::GPOS), &case.wanted_gpos)
-}
-
-fn is_compiled(
-    alloc: Global,
-    case: &Case,
-    builder: &hb_ot_map_builder_t<'_>,
-) -> Result<bool, AllocError> {
-    let map = builder.compile(alloc)?;
-    Ok(is_as_wanted(&map, case))
-}
-
-fn is_built(
-    alloc: Global,
-    case: &Case,
-    gsub: Option<&SubstitutionTable>,
-    gpos: Option<&PositioningTable>,
-) -> Result<bool, AllocError> {
-    let builder = asked_builder(alloc, case, gsub, gpos)?;
-    Ok(
-        chooses_scripts(&builder, case)
-            && has_found(&builder, case.features)
-            && is_compiled(alloc, case, &builder)?,
+fn feature_text(alloc: Global, feature: &feature_map_t) -> Result<String, AllocError> {
+    let (index, stage) = (feature.index, feature.stage);
+    let tag = tag_text(alloc, feature.tag)?;
+    format!(in alloc;
+        " {tag} [{:?}, {:?}] [{}, {}] {} {:x} {:x} {}{}{}{};",
+        index.gsub,
+        index.gpos,
+        stage.gsub,
+        stage.gpos,
+        feature.shift,
+        feature.mask,
+        feature.one_mask,
+        u8::from(feature.auto_zwnj),
+        u8::from(feature.auto_zwj),
+        u8::from(feature.random),
+        u8::from(feature.per_syllable)
     )
 }
 
-fn is_mapped(alloc: Global, case: &Case) -> Result<bool, AllocError> {
-    let gsub = substitution_table(alloc, &case.gsub)?;
-    let gpos = positioning_table(alloc, &case.gpos)?;
-    is_built(alloc, case, gsub.as_ref(), gpos.as_ref())
+/// The index of a lookup, its mask and its ways to match.
+pub(crate) fn lookup_text(alloc: Global, lookup: &lookup_map_t) -> Result<String, AllocError> {
+    format!(in alloc;
+        " {} {:x} {}{}{}{}",
+        lookup.index,
+        lookup.mask,
+        u8::from(lookup.auto_zwnj),
+        u8::from(lookup.auto_zwj),
+        u8::from(lookup.random),
+        u8::from(lookup.per_syllable)
+    )
 }
 
-#[test]
-fn requests_become_maps(rt: HostRuntime) -> Result<(), Fail> {
-    for (i, case) in cases().iter().enumerate() {
-        assert!(rt; is_mapped(rt.alloc(), case)?, "case {i}");
+/// Lookups, with commas between.
+pub(crate) fn lookups_text(alloc: Global, lookups: &[lookup_map_t]) -> Result<String, AllocError> {
+    let mut text = String::new(alloc);
+    for (i, lookup) in lookups.iter().enumerate() {
+        if i > 0 {
+            text.push(',')?;
+        }
+        text.push_str(&lookup_text(alloc, lookup)?)?;
     }
-    Ok(())
+    Ok(text)
 }
 
-/// A map without a font, in whose GPOS the pause 3 precedes the feature `kern`.
-fn paused_map(alloc: Global) -> Result<hb_ot_map_t, AllocError> {
-    let mut builder = hb_ot_map_builder_t::of_tables(alloc, None, None, &[], &[]);
-    builder.add_gpos_pause(3)?;
-    builder.enable_feature(Tag::from_bytes(b"kern"), F_HAS_FALLBACK, 1)?;
-    builder.disable_feature(Tag::from_bytes(b"liga"))?;
-    builder.add_feature(Tag(0), F_GLOBAL_HAS_FALLBACK, 1)?;
-    builder.compile(alloc)
-}
-
-fn is_paused(stages: &[StageMap]) -> bool {
-    match stages {
-        [first, last] => first.pause == Some(3) && last.pause.is_none(),
-        _ => false,
+fn script_text(alloc: Global, script: Option<Tag>) -> Result<String, AllocError> {
+    match script {
+        Some(tag) => tag_text(alloc, tag),
+        None => String::from_str(alloc, "none"),
     }
 }
 
-fn pauses_before_kern(rt: &impl Abort, map: &hb_ot_map_t) {
-    let kern = Tag::from_bytes(b"kern");
-    assert!(rt; is_paused(map.stages(TableIndex::GPOS)));
-    assert!(rt; map.get_feature_stage(TableIndex::GPOS, kern) == Some(1));
-    assert!(rt; map.features().len() == 1);
+/// The script of a table, whether it was requested, and the table's stages.
+fn table_text(alloc: Global, map: &hb_ot_map_t, table: TableIndex) -> Result<String, AllocError> {
+    let script = script_text(alloc, map.chosen_script(table))?;
+    let mut text = format!(in alloc; "{script} {}", map.found_script(table))?;
+    for (i, stage) in map.stages(table).iter().enumerate() {
+        text.push_str(&lookups_text(alloc, map.stage_lookups(table, i))?)?;
+        if let Some(pause) = stage.pause {
+            text.push_str(&format!(in alloc; " /{pause}")?)?;
+        }
+    }
+    Ok(text)
 }
 
-#[test]
-fn pauses_end_stages(rt: HostRuntime) -> Result<(), Fail> {
-    let map = paused_map(rt.alloc())?;
-    pauses_before_kern(&rt, &map);
-    Ok(())
+fn map_text(alloc: Global, map: &hb_ot_map_t) -> Result<String, AllocError> {
+    let mut text = format!(in alloc; "{:x};", map.get_global_mask())?;
+    for feature in map.features() {
+        text.push_str(&feature_text(alloc, feature)?)?;
+    }
+    let gsub = table_text(alloc, map, TableIndex::GSUB)?;
+    let gpos = table_text(alloc, map, TableIndex::GPOS)?;
+    text.push_str(&format!(in alloc; " gsub {gsub}; gpos {gpos}")?)?;
+    Ok(text)
+}
+
+/// Whether the map of requests is that of a row.
+pub(crate) fn answers(
+    alloc: Global,
+    font: &Face,
+    question: &str,
+    answer: &str,
+) -> Result<bool, AllocError> {
+    let (languages, requests) = question.split_once(';').unwrap_or(("", question));
+    let builder = builder_of(alloc, font, languages, requests)?;
+    let map = builder.compile(alloc)?;
+    let text = map_text(alloc, &map)?;
+    Ok(text.as_str() == answer && agree(&builder, &map))
 }

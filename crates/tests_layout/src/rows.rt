@@ -1,27 +1,74 @@
-//! Rows of a font's answers: the font, the question with its numbers, and the answer as it prints. One function owns
-//! the fonts, since each function that does is dear to prove.
-use crate::{fonts, positions, substitutions};
+//! Fonts and what they answer: each question with its words, and the answer as it prints. One function owns the fonts,
+//! since each function that does is dear to prove.
+use crate::{digests, fonts, maps, positions, requests, scripts, substitutions};
 use layout_face::Face;
-use shell_face_json::read_face_text;
+use shell_face_json::{read_by_keys, read_face_text};
 use shell_json::fault::JsonFault;
 use std::alloc::{AllocError, Global};
 use std::fmt::Debug;
+use std::test::Fail;
+
+/// Texts of tables, separated by an empty line: each has a font, a line `answers:`, and rows, or `answers by parts:` for
+/// a font that is read by its parts as well, which takes less memory. An indented line continues a row.
+fn tables() -> [&'static str; 7] {
+    [
+        digests::TABLES,
+        fonts::TABLES,
+        maps::TABLES,
+        positions::TABLES,
+        requests::TABLES,
+        scripts::TABLES,
+        substitutions::TABLES,
+    ]
+}
+
+#[test]
+fn fonts_answer(rt: HostRuntime) -> Result<(), Fail> {
+    for text in tables() {
+        for table in text.split("\n\n") {
+            assert_eq!(rt; wrong_in(rt.alloc(), table)?, None);
+        }
+    }
+    Ok(())
+}
+
+/// The first row of a table whose answer its font doesn't give.
+fn wrong_in(alloc: Global, table: &str) -> Result<Option<String>, Fail> {
+    let (font, rows) = table.split_once("\nanswers").ok_or("no answers")?;
+    let (way, rows) = rows.split_once('\n').ok_or("no rows")?;
+    if way == " by parts:" {
+        read_by_parts(alloc, font)?;
+    }
+    let rows = rows.replace(alloc, "\n  ", " ")?;
+    match first_wrong(alloc, font, &rows)? {
+        Some(row) => Ok(Some(String::from_str(alloc, row)?)),
+        None => Ok(None),
+    }
+}
+
+/// Reads a font that can be read by its parts, so that only want of memory can prevent it.
+fn read_by_parts(alloc: Global, font: &str) -> Result<(), AllocError> {
+    match read_by_keys(alloc, font) {
+        Ok(_) => Ok(()),
+        Err(_) => Err(AllocError),
+    }
+}
 
 /// The first row whose answer a font doesn't give, or the fault for which the font is refused.
-pub(crate) fn first_wrong(
+pub(crate) fn first_wrong<'a>(
     alloc: Global,
     text: &str,
-    rows: &'static str,
-) -> Result<Option<&'static str>, JsonFault> {
+    rows: &'a str,
+) -> Result<Option<&'a str>, JsonFault> {
     let font = read_face_text(alloc, text)?;
     Ok(first_wrong_row(alloc, &font, rows)?)
 }
 
-fn first_wrong_row(
+fn first_wrong_row<'a>(
     alloc: Global,
     font: &Face,
-    rows: &'static str,
-) -> Result<Option<&'static str>, AllocError> {
+    rows: &'a str,
+) -> Result<Option<&'a str>, AllocError> {
     for row in rows.lines() {
         if !is_answered(alloc, font, row)? {
             return Ok(Some(row));
@@ -30,50 +77,62 @@ fn first_wrong_row(
     Ok(None)
 }
 
-/// Whether a font's answer is that of a row.
+/// Whether the answer to a question is that of its row.
 fn is_answered(alloc: Global, font: &Face, row: &str) -> Result<bool, AllocError> {
-    let Some((part, question, answer)) = parts_of(row) else {
+    let Some((kind, question, answer)) = parts_of(row) else {
         return Ok(false);
     };
-    if part == "character" {
-        return fonts::answers_of_characters(alloc, font, question, answer);
-    }
-    let (question, numbers) = question.split_once(' ').unwrap_or((question, ""));
-    match numbers_of(numbers) {
-        Some(numbers) => part_answers(alloc, font, part, question, numbers, answer),
-        None => Ok(false),
+    match kind {
+        "character" => fonts::answers_of_characters(alloc, font, question, answer),
+        "map" => maps::answers(alloc, font, question, answer),
+        "fields" | "lookups" | "merged" => requests::answers(alloc, kind, question, answer),
+        "list" => scripts::answers(alloc, font, question, answer),
+        "set" => digests::answers(alloc, question, answer),
+        _ => {
+            let (question, words) = question.split_once(' ').unwrap_or((question, ""));
+            numbers_answer(alloc, font, kind, question, words, answer)
+        }
     }
 }
 
-/// The part of the font that a row is about, its question with the numbers, and the answer.
+/// What a row asks about, its question with the words, and the answer.
 fn parts_of(row: &str) -> Option<(&str, &str, &str)> {
     let (question, answer) = row.split_once(": ")?;
-    let (part, question) = question.split_once(' ')?;
-    Some((part, question, answer))
+    let (kind, question) = question.split_once(' ')?;
+    Some((kind, question, answer))
 }
 
-/// The numbers of a question, up to three; the others are 0.
-fn numbers_of(text: &str) -> Option<[u16; 3]> {
-    let mut numbers = [0; 3];
-    for (i, word) in text.split_whitespace().enumerate() {
-        *numbers.get_mut(i)? = word.parse::<u16>().ok()?;
-    }
-    Some(numbers)
-}
-
-fn part_answers(
+/// Whether the answer to a question of numbers is that of its row.
+fn numbers_answer(
     alloc: Global,
     font: &Face,
-    part: &str,
+    kind: &str,
     question: &str,
-    numbers: [u16; 3],
+    words: &str,
     answer: &str,
 ) -> Result<bool, AllocError> {
-    match (part, font.gsub(), font.gpos()) {
-        ("gsub", Some(table), _) => substitutions::answers(alloc, table, question, numbers, answer),
-        ("gpos", _, Some(table)) => positions::answers(alloc, table, question, numbers, answer),
-        _ => fonts::answers(alloc, font, question, numbers, answer),
+    let numbers = numbers_of(alloc, words)?;
+    match (kind, font.gsub(), font.gpos()) {
+        ("gsub", Some(table), _) => {
+            substitutions::answers(alloc, table, question, &numbers, answer)
+        }
+        ("gpos", _, Some(table)) => positions::answers(alloc, table, question, &numbers, answer),
+        _ => fonts::answers(alloc, font, question, number(&numbers, 0), answer),
     }
+}
+
+/// The numbers of a question; 65535 for a word that is none.
+fn numbers_of(alloc: Global, words: &str) -> Result<Vec<u16>, AllocError> {
+    let mut numbers = Vec::new(alloc);
+    for word in words.split_whitespace() {
+        numbers.push(word.parse::<u16>().unwrap_or(u16::MAX))?;
+    }
+    Ok(numbers)
+}
+
+/// A number of a question; 0 where it has no more.
+pub(crate) fn number(numbers: &[u16], at: usize) -> u16 {
+    numbers.get(at).copied().unwrap_or(0)
 }
 
 /// Whether a value prints as a text.

@@ -1,29 +1,70 @@
 //! Feature requests as they are written.
+use crate::rows::prints;
 use buffer_common::tag::Tag;
 use buffer_tags::feature::{Feature, InvalidFeature};
 use buffer_tags::text_parser::TextParser;
+use std::alloc::Global;
 use std::ops::Bound;
+use std::test::Fail;
 
-const NO_END: u32 = u32::MAX;
-
-// Texts of feature requests, with their tags, values, starts and ends.
-static REQUESTS: &str = r#"kern|kern|1|0|4294967295
--kern|kern|0|0|4294967295
- + kern |kern|1|0|4294967295
-kern[3;5]=2|kern|2|3|5
-kern=oFf|kern|0|0|4294967295
-aalt on|aalt|1|0|4294967295
--aalt = 4294967295|aalt|4294967295|0|4294967295
-'ss'2|ss  |2|0|4294967295
-"c_2" [] = 07|c_2 |7|0|4294967295
-kern[]|kern|1|0|4294967295
-kern[:]|kern|1|0|4294967295
-kern[5:]|kern|1|5|4294967295
-kern[:5]|kern|1|0|5
-kern[+3:5]|kern|1|3|5
-kern[3]|kern|1|3|4
-kern[-1]|kern|1|4294967295|4294967295
-kern[-2:2147483647]|kern|1|4294967294|2147483647"#;
+/// Texts of feature requests, with their tags, values, starts and ends, and texts that are refused, of which the
+/// first is empty, and the second a space. Bounds of a range, `[` for an included one and `(` for an excluded one,
+/// with the start, the end, and whether they are of all the text. Parts of a text that are taken in turn: a tag
+/// between quotes, a signed number, an unsigned one, a word for true or false, and the number of characters left.
+pub(crate) static ROWS: &str = "\
+request|kern|kern|1|0|4294967295
+request|-kern|kern|0|0|4294967295
+request| + kern |kern|1|0|4294967295
+request|kern[3;5]=2|kern|2|3|5
+request|kern=oFf|kern|0|0|4294967295
+request|aalt on|aalt|1|0|4294967295
+request|-aalt = 4294967295|aalt|4294967295|0|4294967295
+request|'ss'2|ss  |2|0|4294967295
+request|\"c_2\" [] = 07|c_2 |7|0|4294967295
+request|kern[]|kern|1|0|4294967295
+request|kern[:]|kern|1|0|4294967295
+request|kern[5:]|kern|1|5|4294967295
+request|kern[:5]|kern|1|0|5
+request|kern[+3:5]|kern|1|3|5
+request|kern[3]|kern|1|3|4
+request|kern[-1]|kern|1|4294967295|4294967295
+request|kern[-2:2147483647]|kern|1|4294967294|2147483647
+refused|
+refused|\u{20}
+refused|-
+refused|kern1
+refused|ke-n
+refused|'kern
+refused|'kern\"
+refused|' kern'
+refused|--kern
+refused|kern=
+refused|kern= x
+refused|kern=-1
+refused|kern=4294967296
+refused|kern=1 2
+refused|kern 1x
+refused|kern==1
+refused|kern[
+refused|kern[3
+refused|kern[;]
+refused|kern[3;]
+refused|kern[;5]
+refused|kern[+:5]
+refused|kern[ 3]
+refused|kern[3:5:7]
+refused|kern[2147483648]
+refused|kern[]]
+refused|kern onx
+refused|kern,liga
+range|none none|0 4294967295 true
+range|[3 [5|3 5 false
+range|(3 (5|4 4 false
+range|(18446744073709551615 (0|4294967295 0 false
+range|[4294967296 [1099511627776|4294967295 4294967295 false
+parts| 'liga'-12 007 oN!|liga Some(-12) Some(7) Some(true) 1
+parts|liga!!|liga None None None 1
+parts|'|none None None None 0";
 
 fn part(row: &str, at: usize) -> &str {
     row.split('|').nth(at).unwrap_or("")
@@ -35,83 +76,35 @@ fn number(row: &str, at: usize) -> Option<u32> {
 
 fn wanted_feature(row: &str) -> Option<Feature> {
     Some(Feature {
-        tag: Tag::from_bytes_lossy(part(row, 1).as_bytes()),
-        value: number(row, 2)?,
-        start: number(row, 3)?,
-        end: number(row, 4)?,
+        tag: Tag::from_bytes_lossy(part(row, 2).as_bytes()),
+        value: number(row, 3)?,
+        start: number(row, 4)?,
+        end: number(row, 5)?,
     })
 }
 
 fn is_request(row: &str) -> bool {
-    match (part(row, 0).parse::<Feature>(), wanted_feature(row)) {
+    match (part(row, 1).parse::<Feature>(), wanted_feature(row)) {
         (Ok(found), Some(wanted)) => found == wanted,
         _ => false,
     }
 }
 
-#[test]
-fn requests(rt: HostRuntime) {
-    for row in REQUESTS.lines() {
-        assert!(rt; is_request(row), "{row}");
+fn bound(word: &str) -> Bound<usize> {
+    if let Some(number) = word.strip_prefix('[') {
+        return Bound::Included(number.parse::<usize>().unwrap_or(0));
+    }
+    match word.strip_prefix('(') {
+        Some(number) => Bound::Excluded(number.parse::<usize>().unwrap_or(0)),
+        None => Bound::Unbounded,
     }
 }
 
-// The first is empty, and the second a space.
-static REFUSED: &str = "
-\u{20}
--
-kern1
-ke-n
-'kern
-'kern\"
-' kern'
---kern
-kern=
-kern= x
-kern=-1
-kern=4294967296
-kern=1 2
-kern 1x
-kern==1
-kern[
-kern[3
-kern[;]
-kern[3;]
-kern[;5]
-kern[+:5]
-kern[ 3]
-kern[3:5:7]
-kern[2147483648]
-kern[]]
-kern onx
-kern,liga";
-
-#[test]
-fn refused_texts(rt: HostRuntime) {
-    for text in REFUSED.lines() {
-        let is_refused = text.parse::<Feature>() == Err(InvalidFeature);
-        assert!(rt; is_refused, "{text}");
-    }
-}
-
-#[test]
-fn ranges(rt: HostRuntime) {
-    let tag = Tag::from_bytes(b"liga");
-    for (start, end, want) in [
-        (Bound::Unbounded, Bound::Unbounded, (0, NO_END)),
-        (Bound::Included(3), Bound::Included(5), (3, 5)),
-        (Bound::Excluded(3), Bound::Excluded(5), (4, 4)),
-        (Bound::Excluded(usize::MAX), Bound::Excluded(0), (NO_END, 0)),
-        (
-            Bound::Included(1 << 32),
-            Bound::Included(1 << 40),
-            (NO_END, NO_END),
-        ),
-    ] {
-        let request = Feature::new(tag, 1, start, end);
-        assert_eq!(rt; (request.start, request.end), want);
-        assert_eq!(rt; request.is_global(), want == (0, NO_END));
-    }
+fn range_text(alloc: Global, words: &str) -> Result<String, Fail> {
+    let (start, end) = words.split_once(' ').ok_or("one bound")?;
+    let request = Feature::new(Tag::from_bytes(b"liga"), 1, bound(start), bound(end));
+    let is_global = request.is_global();
+    Ok(format!(in alloc; "{} {} {is_global}", request.start, request.end)?)
 }
 
 /// A tag between quotes, a signed number, an unsigned one, a text for true or false, and the number of characters left.
@@ -136,21 +129,22 @@ fn parts_of(text: &'static str) -> Parts {
     )
 }
 
-fn are_parts(text: &'static str, want: Parts) -> bool {
-    parts_of(text) == want
+fn parts_text(alloc: Global, text: &'static str) -> Result<String, Fail> {
+    let (tag, signed, number, word, left) = parts_of(text);
+    let name = if tag == Some(Tag::from_bytes(b"liga")) {
+        "liga"
+    } else {
+        "none"
+    };
+    Ok(format!(in alloc; "{name} {signed:?} {number:?} {word:?} {left}")?)
 }
 
-#[test]
-fn parts_of_a_text(rt: HostRuntime) {
-    let liga = Some(Tag::from_bytes(b"liga"));
-    for (text, want) in [
-        (
-            " 'liga'-12 007 oN!",
-            (liga, Some(-12), Some(7), Some(true), 1),
-        ),
-        ("liga!!", (liga, None, None, None, 1)),
-        ("'", (None, None, None, None, 0)),
-    ] {
-        assert!(rt; are_parts(text, want), "{text}");
+/// Whether a text is read as a row says.
+pub(crate) fn is_so(alloc: Global, row: &'static str) -> Result<bool, Fail> {
+    match part(row, 0) {
+        "request" => Ok(is_request(row)),
+        "range" => Ok(range_text(alloc, part(row, 1))?.as_str() == part(row, 2)),
+        "parts" => Ok(parts_text(alloc, part(row, 1))?.as_str() == part(row, 2)),
+        _ => Ok(part(row, 1).parse::<Feature>() == Err(InvalidFeature)),
     }
 }

@@ -17,9 +17,9 @@ mod machines;
 #[cfg(test)]
 mod names;
 #[cfg(test)]
-mod printing;
+mod number_rows;
 #[cfg(test)]
-mod properties;
+mod printing;
 #[cfg(test)]
 mod rows;
 #[cfg(test)]

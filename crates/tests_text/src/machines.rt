@@ -36,12 +36,16 @@ fn steps(alloc: Global, shaper: hb_ot_script_shaper_t, text: &str) -> Result<Vec
     Ok(steps)
 }
 
-/// A number and a kind.
+/// A number and a kind, by its name, or by its number where it is none of the shaper's.
 fn kind(shaper: hb_ot_script_shaper_t, words: &[&str]) -> Option<(u32, u8)> {
-    let [number, kind] = words else {
+    let [number, name] = words else {
         return None;
     };
-    Some((number.parse::<u32>().ok()?, shaper.kind_number(kind)?))
+    let kind = match shaper.kind_number(name) {
+        Some(kind) => kind,
+        None => name.parse::<u8>().ok()?,
+    };
+    Some((number.parse::<u32>().ok()?, kind))
 }
 
 fn kinds(alloc: Global, shaper: hb_ot_script_shaper_t, text: &str) -> Result<Vec<(u32, u8)>, Fail> {
@@ -151,25 +155,6 @@ fn agrees(alloc: Global, case: &str) -> Result<bool, Fail> {
     Ok(found.as_slice() == wanted.as_slice())
 }
 
-#[test]
-fn longest_matches(rt: HostRuntime) -> Result<(), Fail> {
-    for case in cases::cases().lines() {
-        let agrees = agrees(rt.alloc(), case)?;
-        assert!(rt; agrees, "{case}");
-    }
-    Ok(())
-}
-
-// Machines with their faults.
-static REFUSED: &str = "khmer|2|0 C 2||OutOfRange
-khmer|2|2 C 0||OutOfRange
-khmer|2|0 H 1 0 C 1||OutOfOrder
-khmer|2|0 C 1 0 C 1||OutOfOrder
-khmer|2|1 C 1 0 C 2||OutOfRange
-khmer|2||2 non|OutOfRange
-khmer|2||1 non 1 broken|OutOfOrder
-indic|2|1 C 1 0 C 1|2 non|OutOfOrder";
-
 fn fault_named(name: &str) -> Option<TablesFault> {
     match name {
         "OutOfRange" => Some(TablesFault::OutOfRange),
@@ -185,32 +170,18 @@ fn is_refused(alloc: Global, case: &str) -> Result<bool, Fail> {
     Ok(fault.is_some() && fault == fault_named(part(case, 4)))
 }
 
-#[test]
-fn refuses_machines(rt: HostRuntime) -> Result<(), Fail> {
-    for case in REFUSED.lines() {
-        let is_refused = is_refused(rt.alloc(), case)?;
-        assert!(rt; is_refused, "{case}");
+/// The cases, one on each line.
+pub(crate) fn rows() -> &'static str {
+    cases::cases()
+}
+
+/// Whether a machine finds the syllables of a case, or is refused as it says.
+pub(crate) fn is_so(alloc: Global, row: &str) -> Result<bool, Fail> {
+    let (question, case) = row.split_once('|').ok_or("no case")?;
+    match question {
+        "spans" => agrees(alloc, case),
+        _ => is_refused(alloc, case),
     }
-    Ok(())
-}
-
-/// The universal machine of one state that accepts a kind.
-fn accepts_kind(alloc: Global, kind: u8) -> Result<SyllableMachines, Fail> {
-    let mut accept = Vec::new(alloc);
-    accept.push(Accept { state: 0, kind })?;
-    let machine = SyllableMachine {
-        states: 1,
-        next: Vec::new(alloc),
-        accept,
-    };
-    Ok(machines(alloc, UNIVERSAL_SHAPER, machine))
-}
-
-#[test]
-fn unknown_kind(rt: HostRuntime) -> Result<(), Fail> {
-    let refused = SyllableTable::new(accepts_kind(rt.alloc(), 10)?).err();
-    assert_eq!(rt; refused, Some(TablesFault::OutOfRange));
-    Ok(())
 }
 
 fn next_syllables(table: &SyllableTable, categories: &[u8; 2]) -> [(usize, u8); 2] {

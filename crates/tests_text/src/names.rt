@@ -1,92 +1,90 @@
 //! Numbers of names.
+use crate::rows::prints;
 use script_categories::hb_ot_script_shaper_t::{
     self, HEBREW_SHAPER, INDIC_SHAPER, KHMER_SHAPER, MYANMAR_SHAPER, UNIVERSAL_SHAPER,
 };
 use script_categories::*;
+use std::alloc::Global;
+use std::test::Fail;
 
-static KINDS: [(hb_ot_script_shaper_t, &str, Option<u8>); 12] = [
-    (INDIC_SHAPER, "consonant", Some(0)),
-    (INDIC_SHAPER, "non", Some(5)),
-    (INDIC_SHAPER, "virama", None),
-    (KHMER_SHAPER, "broken", Some(1)),
-    (KHMER_SHAPER, "vowel", None),
-    (MYANMAR_SHAPER, "non", Some(2)),
-    (MYANMAR_SHAPER, "non ", None),
-    (UNIVERSAL_SHAPER, "number_joiner", Some(4)),
-    (UNIVERSAL_SHAPER, "broken", Some(8)),
-    (UNIVERSAL_SHAPER, "", None),
-    (UNIVERSAL_SHAPER, "Broken", None),
-    (HEBREW_SHAPER, "non", None),
-];
+/// Of a shaper: the number of a kind of syllables and of a category by its name, and whether it has a kind or
+/// reorders one; the kind of what is no cluster. The shaper of a machine; the numbers of names; the joining type of
+/// a number, and whether one is of a stretching glyph.
+pub(crate) static ROWS: &str = "\
+kind indic consonant: Some(0)
+kind indic non: Some(5)
+kind indic virama: None
+kind khmer broken: Some(1)
+kind khmer vowel: None
+kind myanmar non: Some(2)
+kind myanmar non : None
+kind universal number_joiner: Some(4)
+kind universal broken: Some(8)
+kind universal : None
+kind universal Broken: None
+kind hebrew non: None
+has universal 9: true
+has universal 15: false
+has hebrew 0: false
+category indic Repha: Some(15)
+category universal Repha: None
+reordered universal 6: true
+reordered indic 3: false
+non-cluster universal: 9
+non-cluster hebrew: 0
+machine myanmar: Some(MYANMAR_SHAPER)
+machine thai: None
+number indic ML: Some(34)
+number indic QQ: None
+number position END: Some(14)
+number universal HR: Some(44)
+number joining DALATH_RISH: Some(5)
+number joining X: None
+number thai RD: Some(3)
+joining 6: Some(T)
+joining 8: None
+stretching 9: true";
 
-// Whether a shaper has a kind.
-static KNOWN_KINDS: [(hb_ot_script_shaper_t, u8, bool); 3] = [
-    (UNIVERSAL_SHAPER, 9, true),
-    (UNIVERSAL_SHAPER, 15, false),
-    (HEBREW_SHAPER, 0, false),
-];
-
-#[test]
-fn kinds_of_shapers(rt: HostRuntime) {
-    for (shaper, name, kind) in &KINDS {
-        assert_eq!(rt; shaper.kind_number(name), *kind);
+fn shaper_of(name: &str) -> hb_ot_script_shaper_t {
+    match name {
+        "indic" => INDIC_SHAPER,
+        "khmer" => KHMER_SHAPER,
+        "myanmar" => MYANMAR_SHAPER,
+        "universal" => UNIVERSAL_SHAPER,
+        _ => HEBREW_SHAPER,
     }
-    for (shaper, kind, is_known) in &KNOWN_KINDS {
-        assert_eq!(rt; shaper.has_kind(*kind), *is_known);
+}
+
+fn number_of(list: &str, name: &str) -> Option<u8> {
+    match list {
+        "indic" => indic_category_number(name),
+        "position" => indic_position_number(name),
+        "universal" => universal_category_number(name),
+        "joining" => joining_type_number(name),
+        _ => thai_action_number(name),
     }
 }
 
-fn shapers_of_machines() -> [Option<hb_ot_script_shaper_t>; 2] {
-    [machine_shaper("myanmar"), machine_shaper("thai")]
-}
-
-fn other_kinds() -> [u8; 2] {
-    [
-        UNIVERSAL_SHAPER.non_cluster_kind(),
-        HEBREW_SHAPER.non_cluster_kind(),
-    ]
-}
-
-#[test]
-fn shapers(rt: HostRuntime) {
-    assert_eq!(rt; shapers_of_machines(), [Some(MYANMAR_SHAPER), None]);
-    assert_eq!(rt; other_kinds(), [9, 0]);
-    assert!(rt; UNIVERSAL_SHAPER.is_reordered(6));
-    assert!(rt; !INDIC_SHAPER.is_reordered(3));
-}
-
-fn numbers_of_names() -> [Option<u8>; 9] {
-    [
-        indic_category_number("ML"),
-        indic_category_number("QQ"),
-        indic_position_number("END"),
-        universal_category_number("HR"),
-        joining_type_number("DALATH_RISH"),
-        joining_type_number("X"),
-        thai_action_number("RD"),
-        INDIC_SHAPER.category_number("Repha"),
-        UNIVERSAL_SHAPER.category_number("Repha"),
-    ]
-}
-
-fn joining_types() -> [Option<hb_arabic_joining_type_t>; 2] {
-    [joining_type_of_number(6), joining_type_of_number(8)]
-}
-
-#[test]
-fn names(rt: HostRuntime) {
-    let numbers = [
-        Some(34),
-        None,
-        Some(14),
-        Some(44),
-        Some(5),
-        None,
-        Some(3),
-        Some(15),
-        None,
-    ];
-    assert_eq!(rt; numbers_of_names(), numbers);
-    assert_eq!(rt; joining_types(), [Some(hb_arabic_joining_type_t::T), None]);
-    assert!(rt; arabic_action_t::is_stch(9));
+/// Whether a name has a number, or a shaper a kind, as a row says.
+pub(crate) fn is_so(alloc: Global, row: &str) -> Result<bool, Fail> {
+    let (question, answer) = row.split_once(": ").ok_or("no answer")?;
+    let (question, words) = question.split_once(' ').ok_or("no question")?;
+    let (word, name) = words.split_once(' ').unwrap_or((words, ""));
+    let shaper = shaper_of(word);
+    let number = name.parse::<u8>().unwrap_or(0);
+    match question {
+        "kind" => prints(alloc, &shaper.kind_number(name), answer),
+        "has" => prints(alloc, &shaper.has_kind(number), answer),
+        "category" => prints(alloc, &shaper.category_number(name), answer),
+        "reordered" => prints(alloc, &shaper.is_reordered(number), answer),
+        "non-cluster" => prints(alloc, &shaper.non_cluster_kind(), answer),
+        "machine" => prints(alloc, &machine_shaper(word), answer),
+        "number" => prints(alloc, &number_of(word, name), answer),
+        "joining" => prints(alloc, &joining_type_of_number(word.parse::<u8>()?), answer),
+        _ => prints(
+            alloc,
+            &arabic_action_t::is_stch(word.parse::<u8>()?),
+            answer,
+        ),
+    }
 }

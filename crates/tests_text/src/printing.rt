@@ -1,14 +1,32 @@
 //! The printed text of runs of glyphs.
 ghost use Rattle.std.specs.Prelude.{Option, None, Some, codes, pos, negsuc, if◌then◌else◌, ◌==◌};
 
+use crate::rows::{hexadecimal, part};
 use buffer_glyphs::flags::SerializeFlags;
 use buffer_glyphs::info::hb_glyph_info_t;
 use buffer_glyphs::names::{GlyphId, GlyphNames, hb_glyph_extents_t};
 use buffer_glyphs::position::GlyphPosition;
 use buffer_wrappers::serialize;
 use std::alloc::{AllocError, Global};
-use std::process::Abort;
 use std::test::Fail;
+
+/// Serialize flags, a run of glyphs, and what is printed of it. A glyph has its number, its cluster, its mask, its
+/// advances and its offsets. Sums of advances can be beyond their type.
+pub(crate) static ROWS: &str = "\
+4; 1 0 0 500 0 0 0, 2 1 0 600 0 0 0; 1=0+500|2=1+600
+4; ; 
+4; 1 0 0 0 -1000 -250 -800; 1=0@-250,-800+0,-1000
+0; 7 3 fffffff8 500 0 0 20, 2 3 d -600 1 -500 0; gid7=3@0,20+500|two=3@-500,0+-600,1
+1; 7 3 fffffff8 500 0 0 20, 2 3 d -600 1 -500 0; gid7@0,20+500|two@-500,0+-600,1
+2; 7 3 fffffff8 500 0 0 20, 2 3 d -600 1 -500 0; gid7=3|two=3
+4; 7 3 fffffff8 500 0 0 20, 2 3 d -600 1 -500 0; 7=3@0,20+500|2=3@-500,0+-600,1
+8; 7 3 fffffff8 500 0 0 20, 2 3 d -600 1 -500 0; gid7=3@0,20+500<0,0,0,0>|two=3@-500,0+-600,1<10,700,480,-710>
+16; 7 3 fffffff8 500 0 0 20, 2 3 d -600 1 -500 0; gid7=3@0,20+500|two=3@-500,0+-600,1#5
+32; 7 3 fffffff8 500 0 0 20, 2 3 d -600 1 -500 0; gid7=3@0,20|two=3
+34; 7 3 fffffff8 500 0 0 20, 2 3 d -600 1 -500 0; gid7=3|two=3
+63; 7 3 fffffff8 500 0 0 20, 2 3 d -600 1 -500 0; 7<0,0,0,0>|2#5<10,700,480,-710>
+36; 1 0 0 2147483647 -2147483648 0 0, 1 0 0 2147483647 -2147483648 0 0, 1 0 0 2147483647 -2147483648 0 0;\
+    1=0|1=0@2147483647,-2147483648|1=0@4294967294,-4294967296";
 
 /// A font whose glyph 2 has a name and extents.
 struct TwoGlyphs;
@@ -36,23 +54,27 @@ impl GlyphNames for TwoGlyphs {
     }
 }
 
-fn glyph(glyph_id: u32, cluster: u32, mask: u32) -> hb_glyph_info_t {
-    hb_glyph_info_t {
-        glyph_id,
-        cluster,
-        mask,
-        ..hb_glyph_info_t::default()
-    }
+fn number(word: Option<&str>) -> i32 {
+    word.unwrap_or("").parse::<i32>().unwrap_or(0)
 }
 
-fn glyph_position(x_advance: i32, y_advance: i32, x_offset: i32, y_offset: i32) -> GlyphPosition {
-    GlyphPosition {
-        x_advance,
-        y_advance,
-        x_offset,
-        y_offset,
+/// A glyph and its position.
+fn glyph(text: &str) -> (hb_glyph_info_t, GlyphPosition) {
+    let mut words = text.split_whitespace();
+    let info = hb_glyph_info_t {
+        glyph_id: number(words.next()).unsigned_abs(),
+        cluster: number(words.next()).unsigned_abs(),
+        mask: hexadecimal(words.next().unwrap_or("")).unwrap_or(0),
+        ..hb_glyph_info_t::default()
+    };
+    let position = GlyphPosition {
+        x_advance: number(words.next()),
+        y_advance: number(words.next()),
+        x_offset: number(words.next()),
+        y_offset: number(words.next()),
         ..GlyphPosition::default()
-    }
+    };
+    (info, position)
 }
 
 fn is_printed(
@@ -69,88 +91,27 @@ fn is_printed(
     Ok(text.as_str() == want)
 }
 
-/// Asserts what is printed of a run.
-fn prints(
-    rt: &impl Abort,
-    alloc: Global,
-    glyphs: &[hb_glyph_info_t],
-    positions: &[GlyphPosition],
-    flags: u8,
-    want: &str,
-) -> Result<(), AllocError> {
-    let as_wanted = is_printed(alloc, glyphs, positions, flags, want)?;
-    assert!(rt; as_wanted, "{flags}: {want}");
-    Ok(())
-}
-
-#[test]
-fn prints_runs(rt: HostRuntime) -> Result<(), Fail> {
-    let glyphs = [glyph(1, 0, 0), glyph(2, 1, 0)];
-    let positions = [glyph_position(500, 0, 0, 0), glyph_position(600, 0, 0, 0)];
-    prints(&rt, rt.alloc(), &glyphs, &positions, 4, "1=0+500|2=1+600")?;
-    prints(&rt, rt.alloc(), &[], &[], 4, "")?;
-    prints(
-        &rt,
-        rt.alloc(),
-        &[glyph(1, 0, 0)],
-        &[glyph_position(0, -1000, -250, -800)],
-        4,
-        "1=0@-250,-800+0,-1000",
-    )?;
-    Ok(())
-}
-
-#[test]
-fn prints_what_the_flags_ask(rt: HostRuntime) -> Result<(), Fail> {
-    let glyphs = [glyph(7, 3, 0xFFFF_FFF8), glyph(2, 3, 13)];
-    let positions = [
-        glyph_position(500, 0, 0, 20),
-        glyph_position(-600, 1, -500, 0),
-    ];
-    for (flags, want) in [
-        (0, "gid7=3@0,20+500|two=3@-500,0+-600,1"),
-        (1, "gid7@0,20+500|two@-500,0+-600,1"),
-        (2, "gid7=3|two=3"),
-        (4, "7=3@0,20+500|2=3@-500,0+-600,1"),
-        (
-            8,
-            "gid7=3@0,20+500<0,0,0,0>|two=3@-500,0+-600,1<10,700,480,-710>",
-        ),
-        (16, "gid7=3@0,20+500|two=3@-500,0+-600,1#5"),
-        (32, "gid7=3@0,20|two=3"),
-        (34, "gid7=3|two=3"),
-        (63, "7<0,0,0,0>|2#5<10,700,480,-710>"),
-    ] {
-        prints(&rt, rt.alloc(), &glyphs, &positions, flags, want)?;
+/// Whether a run is printed as a row says.
+pub(crate) fn is_so(alloc: Global, row: &str) -> Result<bool, Fail> {
+    let (mut glyphs, mut positions) = (Vec::new(alloc), Vec::new(alloc));
+    for text in part(row, 1).trim().split_terminator(',') {
+        let (info, position) = glyph(text);
+        glyphs.push(info)?;
+        positions.push(position)?;
     }
-    Ok(())
+    let flags = part(row, 0).parse::<u8>()?;
+    Ok(is_printed(alloc, &glyphs, &positions, flags, part(row, 2).trim())?)
 }
 
-#[test]
-fn sums_advances_beyond_their_type(rt: HostRuntime) -> Result<(), Fail> {
-    let glyphs = [glyph(1, 0, 0); 3];
-    let positions = [glyph_position(2147483647, -2147483648, 0, 0); 3];
-    prints(
-        &rt,
-        rt.alloc(),
-        &glyphs,
-        &positions,
-        36,
-        "1=0|1=0@2147483647,-2147483648|1=0@4294967294,-4294967296",
-    )?;
-    Ok(())
-}
-
-fn long_run(alloc: Global) -> Result<Vec<hb_glyph_info_t>, AllocError> {
-    (0..70_000u32)
-        .map(|cluster| glyph(1, cluster, 0))
-        .collect(alloc)
-}
-
-fn many_positions(alloc: Global) -> Result<Vec<GlyphPosition>, AllocError> {
-    (0..70_000u32)
-        .map(|_| glyph_position(500, 0, 0, 0))
-        .collect(alloc)
+/// A run of one glyph at more than 65,536 clusters.
+fn is_long_run_printed(alloc: Global, want: &str) -> Result<bool, AllocError> {
+    let (mut glyphs, mut positions) = (Vec::new(alloc), Vec::new(alloc));
+    let (info, position) = glyph("1 0 0 500 0 0 0");
+    for cluster in 0..70_000u32 {
+        glyphs.push(hb_glyph_info_t { cluster, ..info })?;
+        positions.push(position)?;
+    }
+    is_printed(alloc, &glyphs, &positions, 6, want)
 }
 
 fn text_of_long_run(alloc: Global) -> Result<String, Fail> {
@@ -160,12 +121,6 @@ fn text_of_long_run(alloc: Global) -> Result<String, Fail> {
         text.push_str(&format!(in alloc; "|1={cluster}")?)?;
     }
     Ok(text)
-}
-
-fn is_long_run_printed(alloc: Global, want: &str) -> Result<bool, AllocError> {
-    let glyphs = long_run(alloc)?;
-    let positions = many_positions(alloc)?;
-    is_printed(alloc, &glyphs, &positions, 6, want)
 }
 
 // A text of more than 65,536 glyphs, with names and clusters only.

@@ -1,129 +1,91 @@
-//! Rows of numbers that are read, found and refused.
-use buffer_unicode::{CharacterRange, CharacterRanges, Pair, Split, find_by_key, read_rows};
-use buffer_unicode_tables::{TablesFault, UnicodeRows, UnicodeTables};
+//! Tables of rows: what is asked, and the answer. Each module has a table, and says whether a row of it is so.
+use crate::{
+    characters, features, glyph_words, machines, names, number_rows, printing, table_faults, texts,
+    unicode_characters, values, words,
+};
 use std::alloc::{AllocError, Global};
+use std::fmt::Debug;
 use std::test::Fail;
 
-fn split_rows(alloc: Global, splits: &[[u32; 3]]) -> Result<UnicodeRows, AllocError> {
-    let mut rows = UnicodeRows::new(alloc);
-    rows.splits.extend_from_slice(splits)?;
-    Ok(rows)
+/// The tables, by their modules.
+#[derive(Clone, Copy)]
+enum Table {
+    Characters,
+    Words,
+    Features,
+    GlyphWords,
+    Machines,
+    Names,
+    NumberRows,
+    Printing,
+    TableFaults,
+    Texts,
+    UnicodeCharacters,
+    Values,
 }
 
-/// A fault, where it isn't want of memory.
-fn but_for_memory(fault: Option<TablesFault>) -> Result<Option<TablesFault>, AllocError> {
-    match fault {
-        Some(TablesFault::OutOfMemory) => Err(AllocError),
-        _ => Ok(fault),
+fn tables() -> [(Table, &'static str); 12] {
+    [
+        (Table::Characters, characters::ROWS),
+        (Table::Words, words::ROWS),
+        (Table::Features, features::ROWS),
+        (Table::GlyphWords, glyph_words::ROWS),
+        (Table::Machines, machines::rows()),
+        (Table::Names, names::ROWS),
+        (Table::NumberRows, number_rows::ROWS),
+        (Table::Printing, printing::ROWS),
+        (Table::TableFaults, table_faults::ROWS),
+        (Table::Texts, texts::ROWS),
+        (Table::UnicodeCharacters, unicode_characters::ROWS),
+        (Table::Values, values::ROWS),
+    ]
+}
+
+fn is_so(alloc: Global, table: Table, row: &'static str) -> Result<bool, Fail> {
+    match table {
+        Table::Characters => characters::is_so(alloc, row),
+        Table::Words => words::is_so(alloc, row),
+        Table::Features => features::is_so(alloc, row),
+        Table::GlyphWords => glyph_words::is_so(alloc, row),
+        Table::Machines => machines::is_so(alloc, row),
+        Table::Names => names::is_so(alloc, row),
+        Table::NumberRows => number_rows::is_so(alloc, row),
+        Table::Printing => printing::is_so(alloc, row),
+        Table::TableFaults => table_faults::is_so(alloc, row),
+        Table::Texts => texts::is_so(alloc, row),
+        Table::UnicodeCharacters => unicode_characters::is_so(alloc, row),
+        Table::Values => values::is_so(alloc, row),
     }
 }
 
-fn fault(alloc: Global, splits: &[[u32; 3]]) -> Result<Option<TablesFault>, AllocError> {
-    let rows = split_rows(alloc, splits)?;
-    but_for_memory(UnicodeTables::new(alloc, &rows).err())
-}
-
-static SPLITS: &[([[u32; 3]; 2], Option<TablesFault>)] = &[
-    ([[0x41, 0x61, 0], [0x42, 0x62, 0]], None),
-    (
-        [[0xE1, 0x61, 0x301], [0xC1, 0x41, 0x301]],
-        Some(TablesFault::OutOfOrder),
-    ),
-    (
-        [[0xE1, 0x61, 0x301], [0xC1, 0x41, 0x110000]],
-        Some(TablesFault::OutOfRange),
-    ),
-    (
-        [[0x61, 0x61, 0x62], [0x62, 0x63, 0]],
-        Some(TablesFault::SplitDepth),
-    ),
-];
-
 #[test]
-fn faults_of_rows(rt: HostRuntime) -> Result<(), Fail> {
-    for (splits, want) in SPLITS {
-        assert_eq!(rt; fault(rt.alloc(), splits)?, *want);
-    }
-    Ok(())
-}
-
-fn second_of(alloc: Global, whole: u32) -> Result<Option<char>, TablesFault> {
-    let rows = [[0x41, 1, 2], [0xE1, 0x61, 0x301], [0x1B06, 0x1B05, 0x1B35]];
-    let splits: Vec<Split> = read_rows(alloc, &rows)?;
-    Ok(find_by_key(&splits, 0, whole).map(|row| row.second))
-}
-
-fn whole_of(alloc: Global, first: u32, second: u32) -> Result<Option<char>, TablesFault> {
-    let rows = [[0x41, 0x300, 0xC0], [0x61, 0x300, 0xE0]];
-    let pairs: Vec<Pair> = read_rows(alloc, &rows)?;
-    Ok(find_by_key(&pairs, first, second).map(|row| row.whole))
-}
-
-fn found(alloc: Global) -> Result<[Option<char>; 4], TablesFault> {
-    Ok([
-        second_of(alloc, 0xE1)?,
-        second_of(alloc, 0xE2)?,
-        whole_of(alloc, 0x61, 0x300)?,
-        whole_of(alloc, 0x61, 0x301)?,
-    ])
-}
-
-#[test]
-fn finds_rows(rt: HostRuntime) -> Result<(), Fail> {
-    assert_eq!(rt;
-        found(rt.alloc())?,
-        [Some('\u{301}'), None, Some('\u{E0}'), None]
-    );
-    Ok(())
-}
-
-fn fault_of(alloc: Global, rows: &[[u32; 3]]) -> Result<Option<TablesFault>, AllocError> {
-    let splits: Result<Vec<Split>, TablesFault> = read_rows(alloc, rows);
-    but_for_memory(splits.err())
-}
-
-#[test]
-fn refuses_rows(rt: HostRuntime) -> Result<(), Fail> {
-    for (rows, want) in [
-        ([[1, 2, 3], [1, 2, 3]], TablesFault::OutOfOrder),
-        ([[1, 2, 3], [1, 0xD800, 3]], TablesFault::OutOfRange),
-    ] {
-        assert_eq!(rt; fault_of(rt.alloc(), &rows)?, Some(want));
+fn rows_are_so(rt: HostRuntime) -> Result<(), Fail> {
+    for (table, rows) in tables() {
+        for row in rows.lines() {
+            let is_so = is_so(rt.alloc(), table, row)?;
+            assert!(rt; is_so, "{row}");
+        }
     }
     Ok(())
 }
 
-fn ranges(alloc: Global) -> Result<CharacterRanges, AllocError> {
-    let mut rows = Vec::new(alloc);
-    rows.push(CharacterRange {
-        first: 'b',
-        last: 'x',
-    })?;
-    rows.push(CharacterRange {
-        first: 'd',
-        last: 'e',
-    })?;
-    rows.push(CharacterRange {
-        first: 'z',
-        last: 'a',
-    })?;
-    CharacterRanges::new(alloc, rows)
+/// Whether a value prints as a text.
+pub(crate) fn prints<T: Debug>(alloc: Global, value: &T, text: &str) -> Result<bool, Fail> {
+    let printed = format!(in alloc; "{value:?}")?;
+    Ok(printed.as_str() == text)
 }
 
-static WITHIN_RANGES: &[(char, bool)] = &[
-    ('a', false),
-    ('b', true),
-    ('d', true),
-    ('x', true),
-    ('y', false),
-    ('z', false),
-];
+/// A field of a row, between semicolons.
+pub(crate) fn part(row: &str, at: usize) -> &str {
+    row.split(';').nth(at).unwrap_or("")
+}
 
-#[test]
-fn overlapping_ranges(rt: HostRuntime) -> Result<(), Fail> {
-    let ranges = ranges(rt.alloc())?;
-    for (c, within) in WITHIN_RANGES {
-        assert!(rt; ranges.contains(*c) == *within);
-    }
-    Ok(())
+/// A hexadecimal number.
+pub(crate) fn hexadecimal(digits: &str) -> Option<u32> {
+    u32::from_str_radix(digits, 16).ok()
+}
+
+/// A character by its hexadecimal number.
+pub(crate) fn character(digits: &str) -> Option<char> {
+    char::from_u32(hexadecimal(digits)?)
 }

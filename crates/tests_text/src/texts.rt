@@ -1,4 +1,5 @@
 //! Tags, scripts, directions, flags and languages.
+use crate::rows::{part, prints};
 use arrayvec::ArrayVec;
 use bitflags::Flags;
 use buffer_common::constants::*;
@@ -10,146 +11,99 @@ use buffer_common::script_tags::tags_from_script_and_language;
 use buffer_common::tag::{Tag, TagExt};
 use buffer_tags::language_table::{LanguageRow, LanguageTable};
 use std::alloc::{AllocError, Global};
-use std::process::Abort;
 use std::test::Fail;
 
-// Tags are compared by their numbers.
-fn number_of_text(text: &str) -> u32 {
-    Tag::from_bytes_lossy(text.as_bytes()).0
-}
+/// A text and what it is: the tag of its script, none where it is refused; the number of the tag; its direction,
+/// and that of a script; a language; its first tag by a table; the tags of a script, one after the other, beside
+/// the language `de-AT`, and that of a language beside a script; what a direction is reversed, and whether it is
+/// vertical, horizontal, forward and backward; and hexadecimal constants.
+pub(crate) static ROWS: &str = "\
+script;Arab;Arab
+script;aran;Arab
+script;QAAI;Zinh
+script;Qaac;Copt
+script;Cyrs;Cyrl
+script;Hant;Hani
+script;jamo;Hang
+script;Latg;Latn
+script;Syrn;Syrc
+script;Latin;Lati
+script;Lat;Zzzz
+script;La-n;Zzzz
+script;;
+script;\0\0\0\0;
+tag;;0
+tag;yi;79692020
+tag;liga;6c696761
+tag;kern;6b65726e
+tag;kern1;6b65726e
+direction;ltr;Some(LeftToRight)
+direction;Right;Some(RightToLeft)
+direction;TTB;Some(TopToBottom)
+direction;b;Some(BottomToTop)
+direction;;None
+direction; ltr;None
+direction of script;Latn;Some(LeftToRight)
+direction of script;Arab;Some(RightToLeft)
+direction of script;Hebr;Some(RightToLeft)
+direction of script;Hung;None
+direction of script;Runr;None
+direction of script;Zzzz;Some(LeftToRight)
+first tag;de;DEU 
+first tag;de-ch;DEU 
+first tag;zh-hant;ZHT 
+first tag;zh-hant-hk;ZHS 
+first tag;d;
+language;EN-us;en-us
+language;;
+script tags;Beng;bng3bng2beng
+script tags;Mymr;mym2mymr
+script tags;Hira;kana
+script tags;Laoo;lao 
+script tags;Zmth;math
+script tags;Latn;latn
+script tags;Zyyy;
+script tags;;
+language tag;de-AT;DEU 
+language tag;;
+kinds;ttb;(BottomToTop, [true, false, true, false])
+default direction;;Invalid
+constant;liga;6c696761
+constant;deu in capitals;44455520
+constant;default script;44464c54
+constant;default language;64666c74
+constant;Arabic;41726162
+constant;no script;1
+constant;all flags;1df
+constant;unsafe to concat;40
+constant;bit 31;80000000
+constant;bit 32;0
+constant;bits 2 to 4;1c
+constant;bit 40 of 64;10000000000
+constant;bit 64 of 64;0";
 
-fn numbers_of_texts() -> [u32; 5] {
-    [
-        number_of_text(""),
-        number_of_text("yi"),
-        number_of_text("liga"),
-        number_of_text("kern"),
-        number_of_text("kern1"),
-    ]
-}
-
-fn other_numbers() -> [u32; 4] {
-    [
-        Tag::from_bytes(b"liga").0,
-        Tag::from_bytes(b"deu ").to_uppercase().0,
-        <Tag as TagExt>::default_script().0,
-        <Tag as TagExt>::default_language().0,
-    ]
-}
-
-#[test]
-fn tags(rt: HostRuntime) {
-    let numbers = [0, 0x79692020, 0x6C696761, 0x6B65726E, 0x6B65726E];
-    assert_eq!(rt; numbers_of_texts(), numbers);
-    let others = [0x6C696761, 0x44455520, 0x44464C54, 0x64666C74];
-    assert_eq!(rt; other_numbers(), others);
-    assert_eq!(rt; Tag(0x6C696761).to_bytes(), *b"liga");
-}
-
-// The tag of each text's script; `None` where it is refused.
-static SCRIPTS_OF_TEXTS: &str = "Arab;Arab
-aran;Arab
-QAAI;Zinh
-Qaac;Copt
-Cyrs;Cyrl
-Hant;Hani
-jamo;Hang
-Latg;Latn
-Syrn;Syrc
-Latin;Lati
-Lat;Zzzz
-La-n;Zzzz
-;
-\0\0\0\0;";
-
-fn has_script(text: &str, tag: &str) -> bool {
+/// The script of a text; none where it is refused.
+fn script_in(text: &str) -> Option<Script> {
     match text.parse::<Script>() {
-        Ok(script) => script.tag().to_bytes().as_slice() == tag.as_bytes(),
-        Err(InvalidScript) => tag.is_empty(),
+        Ok(script) => Some(script),
+        Err(InvalidScript) => None,
     }
 }
 
-#[test]
-fn scripts(rt: HostRuntime) -> Result<(), Fail> {
-    for row in SCRIPTS_OF_TEXTS.lines() {
-        let (text, tag) = row.split_once(';').ok_or("no row")?;
-        assert!(rt; has_script(text, tag), "{row}");
-    }
-    assert_eq!(rt; Script::from_iso15924_tag(Tag(0)), None);
-    assert_eq!(rt; ARABIC.tag().to_bytes(), *b"Arab");
-    Ok(())
-}
-
-static TEXTS_OF_DIRECTIONS: [(&str, Option<Direction>); 6] = [
-    ("ltr", Some(Direction::LeftToRight)),
-    ("Right", Some(Direction::RightToLeft)),
-    ("TTB", Some(Direction::TopToBottom)),
-    ("b", Some(Direction::BottomToTop)),
-    ("", None),
-    (" ltr", None),
-];
-
-fn direction_of_text(text: &str) -> Option<Direction> {
+fn direction_in(text: &str) -> Option<Direction> {
     match text.parse::<Direction>() {
         Ok(direction) => Some(direction),
         Err(InvalidDirection) => None,
     }
 }
 
-#[test]
-fn directions_of_texts(rt: HostRuntime) {
-    for (text, want) in &TEXTS_OF_DIRECTIONS {
-        assert_eq!(rt; direction_of_text(text), *want, "{text}");
+/// Whether a text is a language as it is wanted, or no language where none is wanted.
+fn is_language(alloc: Global, text: &str, wanted: &str) -> Result<bool, AllocError> {
+    match Language::from_str(alloc, text) {
+        Ok(language) => Ok(language.as_str() == wanted),
+        Err(LanguageFault::Invalid) => Ok(wanted.is_empty()),
+        Err(LanguageFault::OutOfMemory) => Err(AllocError),
     }
-}
-
-static DIRECTIONS_OF_SCRIPTS: [(Script, Option<Direction>); 6] = [
-    (LATIN, Some(Direction::LeftToRight)),
-    (ARABIC, Some(Direction::RightToLeft)),
-    (HEBREW, Some(Direction::RightToLeft)),
-    (OLD_HUNGARIAN, None),
-    (RUNIC, None),
-    (UNKNOWN, Some(Direction::LeftToRight)),
-];
-
-#[test]
-fn directions_of_scripts(rt: HostRuntime) {
-    for (script, want) in &DIRECTIONS_OF_SCRIPTS {
-        assert_eq!(rt; Direction::from_script(*script), *want);
-    }
-}
-
-/// Whether a direction is vertical, horizontal, forward, backward.
-fn kinds(direction: Direction) -> [bool; 4] {
-    [
-        direction.is_vertical(),
-        direction.is_horizontal(),
-        direction.is_forward(),
-        direction.is_backward(),
-    ]
-}
-
-#[test]
-fn directions(rt: HostRuntime) {
-    assert_eq!(rt; Direction::default(), Direction::Invalid);
-    assert_eq!(rt; Direction::TopToBottom.reverse(), Direction::BottomToTop);
-    assert_eq!(rt; kinds(Direction::TopToBottom), [true, false, true, false]);
-}
-
-fn flag_bits() -> [u32; 5] {
-    [
-        BufferFlags::all().bits(),
-        BufferFlags::PRODUCE_UNSAFE_TO_CONCAT.bits(),
-        rb_flag(31),
-        rb_flag_unsafe(32),
-        rb_flag_range(2, 4),
-    ]
-}
-
-#[test]
-fn flags(rt: HostRuntime) {
-    assert_eq!(rt; flag_bits(), [479, 64, 0x8000_0000, 0, 0b11100]);
-    assert_eq!(rt; [rb_flag64(40), rb_flag64_unsafe(64)], [1 << 40, 0]);
 }
 
 fn row(alloc: Global, text: &str, tag: Tag) -> Result<LanguageRow, Fail> {
@@ -180,63 +134,35 @@ fn german_and_chinese(alloc: Global) -> Result<LanguageTable, Fail> {
     Ok(LanguageTable::new(rows))
 }
 
-static TAGS_OF_LANGUAGES: &[(&str, Option<Tag>)] = &[
-    ("de", Some(GERMAN)),
-    ("de-ch", Some(GERMAN)),
-    ("zh-hant", Some(CHINESE_TRADITIONAL)),
-    ("zh-hant-hk", Some(CHINESE_SIMPLIFIED)),
-    ("d", None),
-];
-
-fn have_first_tags(rt: &impl Abort, table: &LanguageTable) {
-    for (text, want) in TAGS_OF_LANGUAGES {
-        assert!(rt; table.tags(text).first().copied() == *want, "{text}");
-    }
+/// The script of a tag; none of no tag.
+fn script_of(tag: &str) -> Option<Script> {
+    Script::from_iso15924_tag(Tag::from_bytes_lossy(tag.as_bytes()))
 }
 
-/// Whether a text is a language as it is wanted, or no language where none is wanted.
-fn is_read_as(alloc: Global, text: &str, want: Option<&str>) -> Result<bool, AllocError> {
-    match Language::from_str(alloc, text) {
-        Ok(language) => Ok(Some(language.as_str()) == want),
-        Err(LanguageFault::Invalid) => Ok(want.is_none()),
-        Err(LanguageFault::OutOfMemory) => Err(AllocError),
+/// The language of a text; none of no text.
+fn language_of(alloc: Global, text: &str) -> Result<Option<Language>, Fail> {
+    if text.is_empty() {
+        return Ok(None);
     }
+    Ok(Some(Language::from_str(alloc, text)?))
 }
 
-#[test]
-fn languages(rt: HostRuntime) -> Result<(), Fail> {
-    let table = german_and_chinese(rt.alloc())?;
-    have_first_tags(&rt, &table);
-    for (text, want) in [("EN-us", Some("en-us")), ("", None)] {
-        assert!(rt; is_read_as(rt.alloc(), text, want)?, "{text}");
-    }
-    Ok(())
-}
-
-// Scripts with their tags, one after the other.
-static TAGS_OF_SCRIPTS: [(Option<Script>, &str); 8] = [
-    (Some(BENGALI), "bng3bng2beng"),
-    (Some(MYANMAR), "mym2mymr"),
-    (Some(HIRAGANA), "kana"),
-    (Some(LAO), "lao "),
-    (Some(SCRIPT_MATH), "math"),
-    (Some(LATIN), "latn"),
-    (Some(COMMON), ""),
-    (None, ""),
-];
-
-fn script_tags(
-    script: Option<Script>,
+/// The first tag of a text, the tags of a script, or those of a language.
+fn tags_of(
+    question: &str,
+    text: &str,
     language: Option<&Language>,
     table: &LanguageTable,
 ) -> ArrayVec<Tag, 3> {
-    let (scripts, _) = tags_from_script_and_language(script, language, table);
-    scripts
-}
-
-fn language_tag(language: Option<&Language>, table: &LanguageTable) -> Option<Tag> {
+    if question == "first tag" {
+        return table.tags(text);
+    }
+    if question == "script tags" {
+        let (scripts, _) = tags_from_script_and_language(script_of(text), language, table);
+        return scripts;
+    }
     let (_, languages) = tags_from_script_and_language(Some(BENGALI), language, table);
-    languages.first().copied()
+    languages
 }
 
 fn text_of(alloc: Global, tags: &[Tag]) -> Result<String, AllocError> {
@@ -249,36 +175,89 @@ fn text_of(alloc: Global, tags: &[Tag]) -> Result<String, AllocError> {
     Ok(text)
 }
 
-fn has_tags(
-    alloc: Global,
-    script: Option<Script>,
-    want: &str,
-    german: &Language,
-    table: &LanguageTable,
-) -> Result<bool, AllocError> {
-    let tags = script_tags(script, Some(german), table);
-    let text = text_of(alloc, &tags)?;
-    Ok(text.as_str() == want)
+/// Whether the tags that a table of languages gives are those of an answer, one after the other.
+fn are_tags(alloc: Global, question: &str, text: &str, answer: &str) -> Result<bool, Fail> {
+    let table = german_and_chinese(alloc)?;
+    let language = language_of(
+        alloc,
+        if question == "script tags" {
+            "de-AT"
+        } else {
+            text
+        },
+    )?;
+    let tags = tags_of(question, text, language.as_ref(), &table);
+    let tags = if question == "first tag" {
+        tags.get(..1).unwrap_or(&[])
+    } else {
+        tags.as_slice()
+    };
+    Ok(text_of(alloc, tags)?.as_str() == answer)
 }
 
-fn have_tags(
-    rt: &impl Abort,
-    alloc: Global,
-    german: &Language,
-    table: &LanguageTable,
-) -> Result<(), Fail> {
-    assert_eq!(rt; language_tag(Some(german), table), Some(GERMAN));
-    assert_eq!(rt; language_tag(None, table), None);
-    for (script, want) in &TAGS_OF_SCRIPTS {
-        let as_wanted = has_tags(alloc, *script, want, german, table)?;
-        assert!(rt; as_wanted, "{want}");
+/// Whether a direction is vertical, horizontal, forward, backward.
+fn kinds(direction: Direction) -> [bool; 4] {
+    [
+        direction.is_vertical(),
+        direction.is_horizontal(),
+        direction.is_forward(),
+        direction.is_backward(),
+    ]
+}
+
+fn constant(name: &str) -> u64 {
+    let number = match name {
+        "liga" => Tag::from_bytes(b"liga").0,
+        "deu in capitals" => Tag::from_bytes(b"deu ").to_uppercase().0,
+        "default script" => <Tag as TagExt>::default_script().0,
+        "default language" => <Tag as TagExt>::default_language().0,
+        "Arabic" => ARABIC.tag().0,
+        "no script" => u32::from(Script::from_iso15924_tag(Tag(0)).is_none()),
+        "all flags" => BufferFlags::all().bits(),
+        "unsafe to concat" => BufferFlags::PRODUCE_UNSAFE_TO_CONCAT.bits(),
+        "bit 31" => rb_flag(31),
+        "bit 32" => rb_flag_unsafe(32),
+        "bits 2 to 4" => rb_flag_range(2, 4),
+        "bit 40 of 64" => return rb_flag64(40),
+        _ => return rb_flag64_unsafe(64),
+    };
+    u64::from(number)
+}
+
+fn is_number(alloc: Global, number: u64, answer: &str) -> Result<bool, Fail> {
+    Ok(format!(in alloc; "{number:x}")?.as_str() == answer)
+}
+
+fn is_script(script: Option<Script>, tag: &str) -> bool {
+    match script {
+        Some(script) => script.tag().to_bytes().as_slice() == tag.as_bytes(),
+        None => tag.is_empty(),
     }
-    Ok(())
 }
 
-#[test]
-fn wanted_tags(rt: HostRuntime) -> Result<(), Fail> {
-    let table = german_and_chinese(rt.alloc())?;
-    let german = Language::from_str(rt.alloc(), "de-AT")?;
-    have_tags(&rt, rt.alloc(), &german, &table)
+/// Whether a text is what a row says.
+pub(crate) fn is_so(alloc: Global, row: &str) -> Result<bool, Fail> {
+    let (question, text, answer) = (part(row, 0), part(row, 1), part(row, 2));
+    match question {
+        "script" => Ok(is_script(script_in(text), answer)),
+        "tag" => is_number(
+            alloc,
+            u64::from(Tag::from_bytes_lossy(text.as_bytes()).0),
+            answer,
+        ),
+        "direction" => prints(alloc, &direction_in(text), answer),
+        "direction of script" => prints(
+            alloc,
+            &Direction::from_script(script_of(text).unwrap_or(UNKNOWN)),
+            answer,
+        ),
+        "language" => Ok(is_language(alloc, text, answer)?),
+        "kinds" => {
+            let direction = direction_in(text).unwrap_or_default();
+            prints(alloc, &(direction.reverse(), kinds(direction)), answer)
+        }
+        "default direction" => prints(alloc, &Direction::default(), answer),
+        "constant" => is_number(alloc, constant(text), answer),
+        _ => are_tags(alloc, question, text, answer),
+    }
 }

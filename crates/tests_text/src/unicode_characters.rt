@@ -1,12 +1,19 @@
-//! Properties of characters by tables.
-use crate::properties::characters_have_words;
+//! Properties of characters by tables, and their property words in glyph records.
+ghost use Rattle.std.specs.Char.{IsScalar};
+
+use crate::rows::{character, hexadecimal, prints};
+use buffer_common::constants::{
+    HB_BUFFER_SCRATCH_FLAG_HAS_CGJ, HB_BUFFER_SCRATCH_FLAG_HAS_DEFAULT_IGNORABLES,
+    HB_BUFFER_SCRATCH_FLAG_HAS_NON_ASCII,
+};
+use buffer_glyphs::info::hb_glyph_info_t;
+use buffer_properties::info::{clear_continuation, init_unicode_props};
 use buffer_unicode_tables::{
     CharTablesExt, UnicodeTables, compose, compose_hangul, decompose, decompose_hangul,
 };
 use serde_json::Value;
 use shell_tables_json::read_tables;
 use std::alloc::Global;
-use std::process::Abort;
 use std::test::Fail;
 
 static TABLES: &str = r#"{"splits":[[225,97,769],[6918,6917,6965],[8491,197,0]],
@@ -20,65 +27,55 @@ static TABLES: &str = r#"{"splits":[[225,97,769],[6918,6917,6965],[8491,197,0]],
     "universal":[[6917,"HR"]],
     "thai":[[3640,"SD",63256,63257],[3640,"RD",63258,63259]]}"#;
 
-fn characters_split(rt: &impl Abort, tables: &UnicodeTables) {
-    for (c, parts) in [
-        ('\u{E1}', Some(('a', '\u{301}'))),
-        ('\u{212B}', Some(('\u{C5}', '\0'))),
-        ('\u{AC00}', Some(('\u{1100}', '\u{1161}'))),
-        ('a', None),
-    ] {
-        assert_eq!(rt; decompose(tables, c), parts);
-    }
-}
-
-fn characters_compose(rt: &impl Abort, tables: &UnicodeTables) {
-    for (a, b, whole) in [
-        ('\u{1B05}', '\u{1B35}', Some('\u{1B06}')),
-        ('\u{AC00}', '\u{11A8}', Some('\u{AC01}')),
-        ('a', '\u{323}', None),
-    ] {
-        assert_eq!(rt; compose(tables, a, b), whole);
-    }
-}
-
-fn classes(tables: &UnicodeTables) -> [u8; 2] {
-    [
-        '\u{301}'.modified_combining_class(tables),
-        'a'.modified_combining_class(tables),
-    ]
-}
-
-fn other_forms(tables: &UnicodeTables) -> [Option<char>; 2] {
-    ['('.mirrored(tables), '\u{3001}'.vertical(tables)]
-}
-
-fn are_pictographic(tables: &UnicodeTables) -> [bool; 2] {
-    [
-        '\u{1000}'.is_emoji_extended_pictographic(tables),
-        '\u{1100}'.is_emoji_extended_pictographic(tables),
-    ]
-}
-
-fn types(tables: &UnicodeTables) -> [Option<u8>; 3] {
-    [
-        tables.joining('\u{628}'),
-        tables.joining('a'),
-        tables.universal('\u{1B05}'),
-    ]
-}
-
-/// Whether characters have the classes, the counterparts, the property, the types and the rows that the tables have.
-fn are_known(tables: &UnicodeTables) -> [bool; 7] {
-    [
-        classes(tables) == [230, 0],
-        other_forms(tables) == [Some(')'), Some('\u{FE11}')],
-        are_pictographic(tables) == [true, false],
-        types(tables) == [Some(3), None, Some(44)],
-        tables.indic('\u{915}') == Some((34, 14)),
-        tables.thai('\u{E38}', 3) == Some(('\u{F71A}', '\u{F71B}')),
-        tables.thai('\u{E38}', 2).is_none(),
-    ]
-}
+/// What is known of characters, by hexadecimal numbers. `properties` are the property word, that with the
+/// continuation bit cleared, the class, and which scratch flags are set. The categories are those of
+/// UnicodeData.txt, as numbers in the order Cc Cf Cn Co Cs Ll Lm Lo Lt Lu Mc Me Mn and so on. U+0301 is a mark with
+/// its class, U+0903 a spacing mark without a class in the tables; the soft hyphen is a default ignorable and
+/// nothing else; the grapheme joiner, Mongolian selectors and tags are hidden.
+pub(crate) static ROWS: &str = "\
+decompose e1: 61 301
+decompose 212b: c5 0
+decompose ac00: 1100 1161
+decompose 61: none
+compose 1b05 1b35: 1b06
+compose ac00 11a8: ac01
+compose 61 323: none
+class 301: 230
+class 61: 0
+mirrored 28: 29
+vertical 3001: fe11
+pictographic 1000: true
+pictographic 1100: false
+joining 628: Some(3)
+joining 61: None
+universal 1b05: Some(44)
+indic 915: Some((34, 14))
+thai e38 3: f71a f71b
+thai e38 2: none
+compose-hangul 1112 1175: d788
+compose-hangul d788 11c2: d7a3
+compose-hangul ac00 11a7: none
+compose-hangul ac01 11a8: none
+decompose-hangul d7a3: d788 11c2
+decompose-hangul d788: 1112 1175
+decompose-hangul d7a4: none
+properties 61: 5 5 0 ascii
+properties 7f: 0 0 0 ascii
+properties 80: 0 0 0 plain
+properties e9: 5 5 0 plain
+properties 301: 8c c 230 plain
+properties 903: 8a a 0 plain
+properties ad: 21 21 0 ignorable
+properties 200b: 21 21 0 ignorable
+properties 200c: 221 221 0 ignorable
+properties 200d: 121 121 0 ignorable
+properties 34f: ec 6c 0 joiner
+properties 180b: ec 6c 0 ignorable
+properties 180e: 21 21 0 ignorable
+properties 180f: ec 6c 0 ignorable
+properties e0020: 61 61 0 ignorable
+properties e001f: 22 22 0 ignorable
+properties fe00: ac 2c 0 ignorable";
 
 /// The tables of a text.
 pub(crate) fn tables_of(alloc: Global, text: &str) -> Result<UnicodeTables, Fail> {
@@ -87,35 +84,99 @@ pub(crate) fn tables_of(alloc: Global, text: &str) -> Result<UnicodeTables, Fail
     Ok(tables)
 }
 
-fn characters_of(rt: &impl Abort, tables: &UnicodeTables) {
-    characters_split(rt, tables);
-    characters_compose(rt, tables);
-    assert_eq!(rt; are_known(tables), [true; 7]);
-    characters_have_words(rt, tables);
+/// Whether a character is that of an answer.
+fn is_character(found: Option<char>, answer: &str) -> bool {
+    match found {
+        Some(c) => hexadecimal(answer) == Some(u32::from(c)),
+        None => answer == "none",
+    }
 }
 
-#[test]
-fn characters_by_tables(rt: HostRuntime) -> Result<(), Fail> {
-    let tables = tables_of(rt.alloc(), TABLES)?;
-    characters_of(&rt, &tables);
-    Ok(())
+/// Whether two characters are those of an answer.
+fn are_characters(found: Option<(char, char)>, answer: &str) -> bool {
+    match (found, answer.split_once(' ')) {
+        (Some((a, b)), Some((first, second))) => {
+            is_character(Some(a), first) && is_character(Some(b), second)
+        }
+        (None, None) => answer == "none",
+        _ => false,
+    }
 }
 
-#[test]
-fn hangul_syllables(rt: HostRuntime) {
-    for (a, b, whole) in [
-        ('\u{1112}', '\u{1175}', Some('\u{D788}')),
-        ('\u{D788}', '\u{11C2}', Some('\u{D7A3}')),
-        ('\u{AC00}', '\u{11A7}', None),
-        ('\u{AC01}', '\u{11A8}', None),
-    ] {
-        assert_eq!(rt; compose_hangul(a, b), whole);
+fn standing_for(u: char) -> hb_glyph_info_t
+    ensures { IsScalar result.glyph_id }
+{
+    hb_glyph_info_t {
+        glyph_id: u32::from(u),
+        cluster: 7,
+        modified_combining_class: 1,
+        ..hb_glyph_info_t::default()
     }
-    for (whole, parts) in [
-        ('\u{D7A3}', Some(('\u{D788}', '\u{11C2}'))),
-        ('\u{D788}', Some(('\u{1112}', '\u{1175}'))),
-        ('\u{D7A4}', None),
-    ] {
-        assert_eq!(rt; decompose_hangul(whole), parts);
+}
+
+/// The scratch flags of a character, by a name.
+fn flags_of(name: &str) -> u32 {
+    match name {
+        "ascii" => 0,
+        "plain" => HB_BUFFER_SCRATCH_FLAG_HAS_NON_ASCII,
+        "ignorable" => {
+            HB_BUFFER_SCRATCH_FLAG_HAS_NON_ASCII | HB_BUFFER_SCRATCH_FLAG_HAS_DEFAULT_IGNORABLES
+        }
+        _ => {
+            HB_BUFFER_SCRATCH_FLAG_HAS_NON_ASCII
+                | HB_BUFFER_SCRATCH_FLAG_HAS_DEFAULT_IGNORABLES
+                | HB_BUFFER_SCRATCH_FLAG_HAS_CGJ
+        }
     }
+}
+
+/// Whether a character's record gets the words of an answer, and keeps its number and its cluster.
+fn has_words(tables: &UnicodeTables, u: char, answer: &str) -> bool {
+    let mut info = standing_for(u);
+    let mut scratch_flags = 0x1000000;
+    init_unicode_props(&mut info, tables, &mut scratch_flags);
+    let props = u32::from(info.unicode_props.0);
+    clear_continuation(&mut info);
+    let mut words = answer.split(' ');
+    hexadecimal(words.next().unwrap_or("")) == Some(props)
+        && hexadecimal(words.next().unwrap_or("")) == Some(u32::from(info.unicode_props.0))
+        && words.next().unwrap_or("").parse::<u8>() == Ok(info.modified_combining_class)
+        && scratch_flags == 0x1000000 | flags_of(words.next().unwrap_or(""))
+        && (info.glyph_id, info.cluster) == (u32::from(u), 7)
+}
+
+/// Whether a character, or two, are as the tables have them.
+fn is_known(
+    alloc: Global,
+    tables: &UnicodeTables,
+    question: &str,
+    (a, second): (char, &str),
+    answer: &str,
+) -> Result<bool, Fail> {
+    let b = character(second).unwrap_or('\0');
+    match question {
+        "decompose" => Ok(are_characters(decompose(tables, a), answer)),
+        "compose" => Ok(is_character(compose(tables, a, b), answer)),
+        "decompose-hangul" => Ok(are_characters(decompose_hangul(a), answer)),
+        "compose-hangul" => Ok(is_character(compose_hangul(a, b), answer)),
+        "mirrored" => Ok(is_character(a.mirrored(tables), answer)),
+        "vertical" => Ok(is_character(a.vertical(tables), answer)),
+        "thai" => Ok(are_characters(tables.thai(a, second.parse::<u8>()?), answer)),
+        "properties" => Ok(has_words(tables, a, answer)),
+        "class" => prints(alloc, &a.modified_combining_class(tables), answer),
+        "pictographic" => prints(alloc, &a.is_emoji_extended_pictographic(tables), answer),
+        "joining" => prints(alloc, &tables.joining(a), answer),
+        "universal" => prints(alloc, &tables.universal(a), answer),
+        _ => prints(alloc, &tables.indic(a), answer),
+    }
+}
+
+/// Whether characters are as a row says.
+pub(crate) fn is_so(alloc: Global, row: &str) -> Result<bool, Fail> {
+    let (question, answer) = row.split_once(": ").ok_or("no answer")?;
+    let (question, words) = question.split_once(' ').ok_or("no question")?;
+    let (first, second) = words.split_once(' ').unwrap_or((words, ""));
+    let first = character(first).ok_or("no character")?;
+    let tables = tables_of(alloc, TABLES)?;
+    is_known(alloc, &tables, question, (first, second), answer)
 }

@@ -1,4 +1,5 @@
 //! JSON values, each with its fault.
+use crate::rows::part;
 use buffer_common::tag::Tag;
 use serde_json::Value;
 use shell_json::cell::Cell;
@@ -6,13 +7,13 @@ use shell_json::fault::JsonFault;
 use shell_json::items::{four_items, list_at, natural_number_below, three_items, two_items};
 use shell_json::keys::read_key;
 use std::alloc::Global;
-use std::process::Abort;
 use std::test::Fail;
 
-// What is read of a value, the answer, and the value, separated by semicolons: a character followed by a number of 16
-// bits, of two faults the one that is first by its kind; a byte, a number below 70000 and a tag; a row of two, of three
-// and of four; and the number of items in `k`, none where that is no list.
-static ANSWERS: &str = r#"pair;read;[97,-2]
+/// What is read of a value, the answer, and the value, separated by semicolons: a character followed by a number of
+/// 16 bits, of two faults the one that is first by its kind; a byte, a number below 70000 and a tag; a row of two,
+/// of three and of four; the number of items in `k`, none where that is no list; and the character of a key, 120
+/// where it is missing.
+pub(crate) static ROWS: &str = r#"pair;read;[97,-2]
 pair;U2 OutOfRange;[97,-32769]
 pair;U2 OutOfRange;[55296,0]
 pair;J2 WrongShape;[55296,"x"]
@@ -58,11 +59,10 @@ three;J2 WrongShape;[1,2,3,4,5]
 four;J2 WrongShape;[1,2,3,4,5]
 list;0;{}
 list;3;{"k":[1,2,3]}
-list;none;{"k":1}"#;
-
-fn part(row: &str, at: usize) -> &str {
-    row.split(';').nth(at).unwrap_or("")
-}
+list;none;{"k":1}
+key a;read 65;{"a":65,"b":55296}
+key b;U2 OutOfRange;{"a":65,"b":55296}
+key c;read 120;{"a":65,"b":55296}"#;
 
 fn name_of(fault: Option<JsonFault>) -> &'static str {
     match fault {
@@ -78,8 +78,20 @@ fn count_in_k(value: &Value) -> Option<usize> {
     }
 }
 
+fn is_key(value: &Value, key: &str, answer: &str) -> bool {
+    match read_key(value, key, 'x') {
+        Ok(c) => answer
+            .strip_prefix("read ")
+            .is_some_and(|number| number.parse::<u32>() == Ok(u32::from(c))),
+        Err(fault) => fault.name() == answer,
+    }
+}
+
 fn is_answer(value: &Value, asked: &str, answer: &str) -> bool {
     match asked {
+        "key a" => is_key(value, "a", answer),
+        "key b" => is_key(value, "b", answer),
+        "key c" => is_key(value, "c", answer),
         "pair" => name_of(<(char, i16)>::read(value).err()) == answer,
         "byte" => name_of(u8::read(value).err()) == answer,
         "number" => name_of(natural_number_below(value, 70_000).err()) == answer,
@@ -91,33 +103,8 @@ fn is_answer(value: &Value, asked: &str, answer: &str) -> bool {
     }
 }
 
-fn is_answered(alloc: Global, row: &str) -> Result<bool, Fail> {
+/// Whether a value is read as a row says.
+pub(crate) fn is_so(alloc: Global, row: &str) -> Result<bool, Fail> {
     let value = Value::from_str(alloc, part(row, 2))?;
     Ok(is_answer(&value, part(row, 0), part(row, 1)))
-}
-
-#[test]
-fn parts(rt: HostRuntime) -> Result<(), Fail> {
-    for row in ANSWERS.lines() {
-        let is_answered = is_answered(rt.alloc(), row)?;
-        assert!(rt; is_answered, "{row}");
-    }
-    Ok(())
-}
-
-fn keys_are_read(rt: &impl Abort, value: &Value) {
-    for (key, want) in [
-        ("a", Ok('A')),
-        ("b", Err(JsonFault::OutOfRange)),
-        ("c", Ok('x')),
-    ] {
-        assert_eq!(rt; read_key(value, key, 'x'), want);
-    }
-}
-
-#[test]
-fn missing_keys(rt: HostRuntime) -> Result<(), Fail> {
-    let value = Value::from_str(rt.alloc(), r#"{"a":65,"b":55296}"#)?;
-    keys_are_read(&rt, &value);
-    Ok(())
 }
