@@ -29,3 +29,10 @@ pub mod texts {
 pub mod lookups {
     pub use opentype_layout::laws;
 }
+
+/// Breaks: where a text may be cut, and its pieces give the glyphs of the whole (`shape_laws`).
+pub mod breaks {
+    pub use shape_laws::breaks::{
+        break_laws, chain_laws, glyph_laws, laws, pause_laws, seam_plan_laws,
+    };
+}

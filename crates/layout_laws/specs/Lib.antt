@@ -8,3 +8,4 @@ pub mod Lengths
 pub mod Nesting
 pub mod Parts
 pub mod Skipping
+pub mod Breaks

@@ -8,6 +8,7 @@
 //! - A text is within its limit: the clause `within` of `UnicodeBuffer::len`.
 #![tactic(auto)]
 
+pub mod breaks;
 pub mod length_laws;
 pub mod part_laws;
 pub mod rule_length_laws;

@@ -3,3 +3,4 @@ pub mod Stages
 pub mod Texts
 pub mod Laws
 pub mod PlainTexts
+pub mod Breaks

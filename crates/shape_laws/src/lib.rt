@@ -18,5 +18,6 @@
 //!   the budget at its end, so its result does not show this.
 #![tactic(auto)]
 
+pub mod breaks;
 pub mod equivalent_texts;
 pub mod plain_texts;

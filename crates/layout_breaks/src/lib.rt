@@ -1,9 +1,0 @@
-//! The lookups of a text are divisible: what they do to a text that may be broken at a cluster, they do to its fragments.
-//!
-//! What a caller can test of their premises: that PRODUCE_SAFE_BREAKS is set, and the level monotone; that a fragment has a
-//! glyph; and what was spent of the limits, by `nested_lookups_left`.
-#![tactic(auto)]
-
-pub mod matching_laws;
-pub mod pass_laws;
-pub mod rule_laws;

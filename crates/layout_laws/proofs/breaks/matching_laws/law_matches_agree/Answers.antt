@@ -1,0 +1,5 @@
+use Rattle.layout_laws.specs.Breaks.Lemmas.Matching.{matches_agree}
+use Rattle.layout_laws.proofs.breaks.matching_laws.law_matches_agree.Goals as goal
+
+pub returns : goal.returns
+returns c = matches_agree

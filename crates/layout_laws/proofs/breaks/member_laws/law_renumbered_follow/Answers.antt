@@ -1,0 +1,5 @@
+use Rattle.layout_laws.specs.Breaks.Lemmas.Members.{renumbered_follow}
+use Rattle.layout_laws.proofs.breaks.member_laws.law_renumbered_follow.Goals as goal
+
+pub returns : goal.returns
+returns c = renumbered_follow

@@ -1,0 +1,5 @@
+use Rattle.layout_laws.specs.Breaks.Lemmas.Positionings.{adjustments_are_local}
+use Rattle.layout_laws.proofs.breaks.position_laws.law_adjustments_are_local.Goals as goal
+
+pub returns : goal.returns
+returns c = adjustments_are_local

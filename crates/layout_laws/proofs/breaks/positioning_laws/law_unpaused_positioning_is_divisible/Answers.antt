@@ -1,0 +1,5 @@
+use Rattle.layout_laws.specs.Breaks.Lemmas.PositionStages.{unpaused_positioning_is_divisible}
+use Rattle.layout_laws.proofs.breaks.positioning_laws.law_unpaused_positioning_is_divisible.Goals as goal
+
+pub returns : goal.returns
+returns c = unpaused_positioning_is_divisible

@@ -1,0 +1,5 @@
+use Rattle.layout_laws.specs.Breaks.Lemmas.Seams.{nothing_at_seam}
+use Rattle.layout_laws.proofs.breaks.seam_laws.law_nothing_keeps_seams.Goals as goal
+
+pub returns : goal.returns
+returns c = nothing_at_seam

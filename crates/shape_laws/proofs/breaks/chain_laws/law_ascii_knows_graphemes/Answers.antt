@@ -1,0 +1,5 @@
+use Rattle.shape_laws.specs.Breaks.Lemmas.Known.{ascii_knows_graphemes}
+use Rattle.shape_laws.proofs.breaks.chain_laws.law_ascii_knows_graphemes.Goals as goal
+
+pub returns : goal.returns
+returns c = ascii_knows_graphemes

@@ -1,0 +1,5 @@
+use Rattle.shape_laws.specs.Breaks.Lemmas.Scripts.{mark_orders_end_unjoined}
+use Rattle.shape_laws.proofs.breaks.chain_laws.law_mark_orders_end_unjoined.Goals as goal
+
+pub returns : goal.returns
+returns c = mark_orders_end_unjoined

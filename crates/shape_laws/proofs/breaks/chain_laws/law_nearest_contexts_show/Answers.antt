@@ -1,0 +1,5 @@
+use Rattle.shape_laws.specs.Breaks.Lemmas.Contexts.{nearest_show}
+use Rattle.shape_laws.proofs.breaks.chain_laws.law_nearest_contexts_show.Goals as goal
+
+pub returns : goal.returns
+returns c = nearest_show

@@ -1,0 +1,5 @@
+use Rattle.shape_laws.specs.Breaks.Lemmas.Chain.{texts_divide}
+use Rattle.shape_laws.proofs.breaks.chain_laws.law_texts_divide.Goals as goal
+
+pub returns : goal.returns
+returns c = texts_divide

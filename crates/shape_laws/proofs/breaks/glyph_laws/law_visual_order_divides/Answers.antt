@@ -1,0 +1,5 @@
+use Rattle.shape_laws.specs.Breaks.Lemmas.VisualOrder.{order_divides}
+use Rattle.shape_laws.proofs.breaks.glyph_laws.law_visual_order_divides.Goals as goal
+
+pub returns : goal.returns
+returns c = order_divides

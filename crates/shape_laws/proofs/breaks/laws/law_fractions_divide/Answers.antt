@@ -1,0 +1,5 @@
+use Rattle.shape_laws.specs.Breaks.Lemmas.Fractions.{fractions_divide}
+use Rattle.shape_laws.proofs.breaks.laws.law_fractions_divide.Goals as goal
+
+pub returns : goal.returns
+returns c = fractions_divide

@@ -1,0 +1,75 @@
+-- What has to hold of the glyphs of a text that is broken into two, for the text to show what its pieces show.
+use Rattle.std.specs.Prelude.{ℕ, ◌≡◌, ◌⊎◌, Bool, true, false, List, Ok}
+use Rattle.buffer_glyphs.specs.Items.{Item}
+use Rattle.buffer_core.specs.Readings.{BufferState, Read, View, always, as_it_is, state_after}
+use Rattle.buffer_parts.specs.Breaks.Divisible.{IsBreakable, IsFreelyDivisible, IsSpared, KeepsUnsafe, OnlySpends, StaysBreakable}
+use Rattle.buffer_parts.specs.Breaks.Fragments.{AreFragments}
+use Rattle.buffer_parts.specs.Breaks.Unsafe.{IsUnsafeAt}
+use Rattle.layout_offsets.specs.Finishing.{has_attachments}
+use Rattle.shape_pipeline.specs.Glyphs.{glyphs_substituted}
+use Rattle.shape_pipeline.specs.Positioning.{marks_positioned, positions_adjusted}
+use Rattle.shape_pipeline.specs.Shaping.{Shaping, postprocessing_stage}
+use Rattle.shape_laws.specs.Breaks.Links.{AllLeadInside, AreUnlinked}
+use Rattle.shape_laws.specs.Breaks.Texts.{AreUnnumbered}
+
+-- a test of the items of two texts, one after the other
+abbrev pub Seam : Type 0
+Seam = List Item → List Item → Bool
+
+-- the glyphs of a text are substituted as those of its fragments, and then these pass a test at the break, or it is unsafe
+-- to break there
+pub record SubstitutesApart (seam : Seam) (p p1 p2 : Shaping) : Type 0 where
+  pub divides : (c : ℕ) (whole earlier later : BufferState) (r e l : Read) → IsBreakable whole → AreFragments false c whole earlier later → AreUnnumbered whole.view earlier.view later.view
+      → glyphs_substituted p whole.view ≡ Ok r → glyphs_substituted p1 earlier.view ≡ Ok e → glyphs_substituted p2 later.view ≡ Ok l
+      → IsSpared whole.level whole.view r → IsSpared earlier.level earlier.view e → IsSpared later.level later.view l
+      → IsUnsafeAt c (state_after r whole).origins ⊎ (AreFragments false c (state_after r whole) (state_after e earlier) (state_after l later) × (seam e.view.items l.view.items ≡ true))
+  pub breakable : StaysBreakable (glyphs_substituted p)
+  pub unsafe : KeepsUnsafe (glyphs_substituted p)
+  pub spends : OnlySpends (glyphs_substituted p)
+  pub early_spends : OnlySpends (glyphs_substituted p1)
+  pub late_spends : OnlySpends (glyphs_substituted p2)
+
+-- no glyph is attached to another, in a text and in its fragments
+pub record AreUnattached (whole earlier later : View) : Type 0 where
+  pub whole_none : AreUnlinked whole.positions
+  pub early_none : AreUnlinked earlier.positions
+  pub late_none : AreUnlinked later.positions
+
+-- links lead inside each fragment of a text; and there is none in the text, or in a fragment, where no glyph of it is
+-- said to be attached
+pub record AreLinkedApart (whole earlier later : View) : Type 0 where
+  pub early_inside : AllLeadInside earlier.positions
+  pub late_inside : AllLeadInside later.positions
+  pub whole_flagged : has_attachments whole.scratch_flags ≡ false → AreUnlinked whole.positions
+  pub early_flagged : has_attachments earlier.scratch_flags ≡ false → AreUnlinked earlier.positions
+  pub late_flagged : has_attachments later.scratch_flags ≡ false → AreUnlinked later.positions
+
+-- the glyphs of a text without attachments are positioned as those of its fragments, where these pass a test at the break:
+-- glyphs are attached to others of their fragment alone, or it is unsafe to break there
+pub record PositionsApart (seam : Seam) (p p1 p2 : Shaping) : Type 0 where
+  pub divides : (c : ℕ) (whole earlier later : BufferState) (r e l : Read) → IsBreakable whole → AreFragments false c whole earlier later → seam earlier.view.items later.view.items ≡ true → AreUnattached whole.view earlier.view later.view
+      → positions_adjusted p whole.view ≡ Ok r → positions_adjusted p1 earlier.view ≡ Ok e → positions_adjusted p2 later.view ≡ Ok l
+      → IsSpared whole.level whole.view r → IsSpared earlier.level earlier.view e → IsSpared later.level later.view l
+      → IsUnsafeAt c (state_after r whole).origins ⊎ (AreFragments false c (state_after r whole) (state_after e earlier) (state_after l later) × AreLinkedApart r.view e.view l.view)
+  pub breakable : StaysBreakable (positions_adjusted p)
+  pub unsafe : KeepsUnsafe (positions_adjusted p)
+  pub spends : OnlySpends (positions_adjusted p)
+  pub early_spends : OnlySpends (positions_adjusted p1)
+  pub late_spends : OnlySpends (positions_adjusted p2)
+
+-- marks get no fallback positions, or get them in a text as in its fragments
+abbrev pub MarksApart : Shaping → Shaping → Shaping → Type 0
+MarksApart p p1 p2 = (p.choices.fallback_mark_positioning ≡ true) → IsFreelyDivisible false false (always (marks_positioned p)) (always (marks_positioned p1)) (always (marks_positioned p2))
+
+-- a shaper has no stage after positioning, in a text and in its fragments
+pub record HaveNoEnd (p p1 p2 : Shaping) : Type 0 where
+  pub whole_none : postprocessing_stage p ≡ as_it_is
+  pub early_none : postprocessing_stage p1 ≡ as_it_is
+  pub late_none : postprocessing_stage p2 ≡ as_it_is
+
+-- glyphs are substituted and positioned apart, by a shaper without a stage after it
+pub record GlyphsApart (seam : Seam) (p p1 p2 : Shaping) : Type 0 where
+  pub substitutes : SubstitutesApart seam p p1 p2
+  pub positions : PositionsApart seam p p1 p2
+  pub marks : MarksApart p p1 p2
+  pub ends : HaveNoEnd p p1 p2
