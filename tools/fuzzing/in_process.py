@@ -3,6 +3,7 @@
 import argparse
 import functools
 import multiprocessing
+import resource
 import signal
 import subprocess
 import time
@@ -12,10 +13,11 @@ from typing import Iterator
 
 from common.printing import emit, tell
 from fuzzing.cases import FILES as NAMES
+from fuzzing.running import CLOCK
 from fuzzing.streams import CASES, FONTS, Block, TrialCase, case_of
 
 NAME = "fuzz"
-# The program is stopped where it takes longer for a block, which takes it a second.
+# The program is stopped where it takes so many seconds of processor time for a block, which takes it less than one.
 PATIENCE = 300
 # How far it is is told after so many seconds.
 TOLD = 60
@@ -35,11 +37,21 @@ class Ran:
     lines: list[str]
 
 
+def confine() -> None:
+    """Limits the processor time of the process that is to be the program: on a clock it may take long beside others."""
+    resource.setrlimit(resource.RLIMIT_CPU, (PATIENCE, PATIENCE + 1))
+    resource.setrlimit(resource.RLIMIT_CORE, (0, 0))
+
+
 def run_stream(program: Path, stream: bytes) -> Ran:
     """Runs the program over a stream."""
     try:
-        ran = subprocess.run([program], input=stream, capture_output=True, timeout=PATIENCE, check=False)
+        ran = subprocess.run(
+            [program], input=stream, capture_output=True, timeout=CLOCK * PATIENCE, check=False, preexec_fn=confine
+        )
     except subprocess.TimeoutExpired:
+        return Ran(STOPPED, [])
+    if ran.returncode == -signal.SIGXCPU:
         return Ran(STOPPED, [])
     lines = ran.stdout.decode().splitlines()
     if lines and lines[-1].endswith(" wrong"):

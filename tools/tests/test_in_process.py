@@ -1,16 +1,19 @@
 """Many cases in one process: the stream, what is told of stand-ins for shape_trials, and bugs that are planted."""
 
+import hashlib
 import os
+import re
 import tempfile
 import unittest
 from pathlib import Path
+from unittest import mock
 
 from support import told_by, write_stand_in
 
 from building.places import TRIALS, Place
 from building.tree import lay_tree
 from common.faults import ToolFault
-from fuzzing import cli
+from fuzzing import cli, in_process
 from fuzzing.in_process import Ran, line_of, run_stream, wrong_cases
 from fuzzing.plants import PLANTS, plant
 from fuzzing.streams import CASES, FONTS, SETTINGS, TEXTS, Block, case_of, cut_cycles
@@ -105,6 +108,15 @@ class Told(unittest.TestCase):
             self.assertEqual(status, 1)
             self.assertIn(f"wrong: {what}: seed 1, font 0, ", told)
 
+    def test_a_case_without_end(self) -> None:
+        """The program is stopped by its processor time, and not by the clock."""
+        with mock.patch.object(in_process, "PATIENCE", 1):
+            status, told = self.told("while :; do :; done", "--cases=1")
+            self.assertEqual(status, 1)
+            self.assertIn("wrong: no end: seed 1, font 0, ", told)
+            slow = Path(write_stand_in(self.folder / "slow", f"sleep 3; {RIGHT}"))
+            self.assertIsNone(run_stream(slow, b"text a\n").ending)
+
     def test_lines_of_a_run(self) -> None:
         """What the program prints of wrong cases."""
         self.assertEqual(list(wrong_cases(["wrong 3 flags", "4 cases, 4 tested, 9 breaks, 0 unsure, 1 wrong"])), [(3, "flags")])
@@ -113,8 +125,25 @@ class Told(unittest.TestCase):
         self.assertIn("tools/fuzz --in-process --seed=1 --case=0", line_of(1, case, "plan"))
 
 
+# The sum of the first cases of the first seed for which docs/TOOLS.md was written. Where cases are drawn in another way it
+# is another one, and so may be those that find the plants: run `tools/fuzz --plant=NAME` for each, and write them down.
+DRAWN = "6eafd1ba4c9b98e82509546dc8378eb6e465655aaa6d37018c0864fafefdf974"
+
+
+def documented() -> dict[str, tuple[str, int]]:
+    """For each plant of the table in docs/TOOLS.md the promise and the case of the first seed that find it."""
+    text = (ROOT / "docs" / "TOOLS.md").read_text(encoding="utf-8")
+    rows = re.findall(r"^\| `(\w+)` \| .+ \| `(\w+)` \| ([\d,]+) \|$", text, re.MULTILINE)
+    return {name: (promise, int(case.replace(",", ""))) for name, promise, case in rows}
+
+
 class Planted(unittest.TestCase):
     """Bugs in copies of the sources."""
+
+    def test_documented_cases(self) -> None:
+        """Each plant has the case that finds it, of cases that are drawn as they were then."""
+        self.assertEqual(list(documented()), list(PLANTS))
+        self.assertEqual(hashlib.sha256(Block(1, 0).stream() + Block(1, 1).stream()).hexdigest(), DRAWN)
 
     def test_plants_have_their_places(self) -> None:
         """Each stands in the sources as they are, changes them, and is planted once alone."""
@@ -128,10 +157,11 @@ class Planted(unittest.TestCase):
 
     @unittest.skipUnless(os.environ.get("KUSPVELI_LONG"), "compiles shape_trials six times (KUSPVELI_LONG=1)")
     def test_plants_are_found(self) -> None:
-        """Each of them, by the cases of the first seed."""
-        for name in PLANTS:
+        """Each of them, by the documented case of the first seed."""
+        for name, (promise, case) in documented().items():
             status, told = told_by(cli.main, f"--plant={name}")
             self.assertEqual(status, 0, told)
+            self.assertTrue(told.startswith(f"{name}: found by case {case}: wrong: {promise}: "), told)
 
 
 @unittest.skipUnless(Place(TRIALS, False).is_current(), "needs shape_trials (tools/fuzz --in-process)")
