@@ -20,3 +20,4 @@ pub mod SafeBreaks
 pub mod Seams
 pub mod SafeTexts
 pub mod SeamPlans
+pub mod ByShaper

@@ -1,13 +1,18 @@
 -- What has to hold of the glyphs of a text that is broken into two, for the text to show what its pieces show.
-use Rattle.std.specs.Prelude.{ℕ, ◌≡◌, ◌⊎◌, Bool, true, false, List, Ok}
+use Rattle.std.specs.Prelude.{ℕ, ◌≡◌, ◌⊎◌, Bool, true, false, List, [], ◌∷◌, length, Ok}
 use Rattle.buffer_glyphs.specs.Items.{Item}
-use Rattle.buffer_core.specs.Readings.{BufferState, Read, View, always, as_it_is, state_after}
+use Rattle.buffer_core.specs.Readings.{BufferState, Read, Stage, View, always, as_it_is, state_after, with_events}
 use Rattle.buffer_parts.specs.Breaks.Divisible.{IsBreakable, IsFreelyDivisible, IsSpared, KeepsUnsafe, OnlySpends, StaysBreakable}
 use Rattle.buffer_parts.specs.Breaks.Fragments.{AreFragments}
 use Rattle.buffer_parts.specs.Breaks.Unsafe.{IsUnsafeAt}
+use Rattle.buffer_parts.specs.Counting.{is_left}
 use Rattle.layout_offsets.specs.Finishing.{has_attachments}
-use Rattle.shape_pipeline.specs.Glyphs.{glyphs_substituted}
+use Rattle.shape_glyphs.specs.Ignorables.{ignorables_hidden}
+use Rattle.shape_glyphs.specs.Selectors.{with_selectors}
+use Rattle.shape_pipeline.specs.Chains.{in_order}
+use Rattle.shape_pipeline.specs.Glyphs.{glyphs_substituted, glyphs_taken}
 use Rattle.shape_pipeline.specs.Positioning.{marks_positioned, positions_adjusted}
+use Rattle.shape_pipeline.specs.Reading.{positioning_stage}
 use Rattle.shape_pipeline.specs.Shaping.{Shaping, postprocessing_stage}
 use Rattle.shape_laws.specs.Breaks.Links.{AllLeadInside, AreUnlinked}
 use Rattle.shape_laws.specs.Breaks.Texts.{AreUnnumbered}
@@ -61,15 +66,30 @@ pub record PositionsApart (seam : Seam) (p p1 p2 : Shaping) : Type 0 where
 abbrev pub MarksApart : Shaping → Shaping → Shaping → Type 0
 MarksApart p p1 p2 = (p.choices.fallback_mark_positioning ≡ true) → IsFreelyDivisible false false (always (marks_positioned p)) (always (marks_positioned p1)) (always (marks_positioned p2))
 
--- a shaper has no stage after positioning, in a text and in its fragments
-pub record HaveNoEnd (p p1 p2 : Shaping) : Type 0 where
-  pub whole_none : postprocessing_stage p ≡ as_it_is
-  pub early_none : postprocessing_stage p1 ≡ as_it_is
-  pub late_none : postprocessing_stage p2 ≡ as_it_is
-
--- glyphs are substituted and positioned apart, by a shaper without a stage after it
+-- glyphs are substituted and positioned apart
 pub record GlyphsApart (seam : Seam) (p p1 p2 : Shaping) : Type 0 where
   pub substitutes : SubstitutesApart seam p p1 p2
   pub positions : PositionsApart seam p p1 p2
   pub marks : MarksApart p p1 p2
-  pub ends : HaveNoEnd p p1 p2
+
+-- ---- the shaper's last stage
+
+-- the pipeline stages from glyphs on, up to the shaper's last stage
+abbrev pub before_end : Shaping → Stage
+before_end p = in_order (
+    glyphs_taken p ∷
+    glyphs_substituted p ∷
+    positioning_stage p ∷
+    always (with_selectors p.settings.not_found_variation_selector) ∷
+    always (ignorables_hidden p.settings.flags p.settings.invisible p.font) ∷
+    [])
+
+-- the shaper's last stage leaves a text as it is, which comes to its glyphs at a view; whatever it reads, it gives back no
+-- budget of nested lookups
+pub record EndsPlainly (p : Shaping) (v : View) : Type 0 where
+  pub same : (a r : Read) → before_end p v ≡ Ok a → length a.view.positions ≡ length a.view.items → postprocessing_stage p a.view ≡ Ok r → r ≡ with_events [] a.view
+  pub budget : (w : View) (r : Read) → postprocessing_stage p w ≡ Ok r → is_left r.view.max_ops ≡ true → is_left w.max_ops ≡ true
+
+-- a shaper has no last stage
+abbrev pub HasNoEnd : Shaping → Type 0
+HasNoEnd p = postprocessing_stage p ≡ as_it_is

@@ -1,6 +1,6 @@
 -- What holds of the stages of a text that is broken into two, up to the masks of ranges, for shapers with stages of their
 -- own.
-use Rattle.std.specs.Prelude.{ℕ, ◌≡◌, ◌&&◌, ◌⊎◌, ⊤, false, List, [], ◌∷◌, Ok}
+use Rattle.std.specs.Prelude.{ℕ, ◌≡◌, ◌&&◌, ◌⊎◌, ⊤, true, false, List, [], ◌∷◌, Ok}
 use Rattle.buffer_common.specs.Direction.{is_backward, is_vertical}
 use Rattle.buffer_unicode_tables.specs.Lawful.{AsciiHasNoMarks}
 use Rattle.buffer_unicode_tables.specs.Tables.{Tables}
@@ -8,6 +8,7 @@ use Rattle.buffer_glyphs.specs.Items.{Item}
 use Rattle.buffer_properties.specs.Properties.{is_mark_character}
 use Rattle.buffer_stages.specs.Stages.{with_items_mapped}
 use Rattle.script_hangul.specs.declared.masks.JamoMasks.{JamoMasks}
+use Rattle.script_hangul.specs.Jamo.{is_tone}
 use Rattle.script_hangul.specs.Masks.{with_letter_mask}
 use Rattle.script_thai.specs.declared.thai_private.Mark.TheVariants.{NotMark}
 use Rattle.script_thai.specs.ThaiPrivate.{mark_of}
@@ -15,7 +16,7 @@ use Rattle.script_thai.specs.ThaiVowel.{is_mark_above}
 use Rattle.buffer_core.specs.Readings.{BufferState, Read, always, state_after}
 use Rattle.buffer_parts.specs.Breaks.Divisible.{IsBreakable}
 use Rattle.buffer_parts.specs.Breaks.Fragments.{AreFragments}
-use Rattle.script_categories.specs.declared.shaper.hb_ot_script_shaper_t.TheVariants.{ARABIC_SHAPER, HEBREW_SHAPER, THAI_SHAPER}
+use Rattle.script_categories.specs.declared.shaper.hb_ot_script_shaper_t.TheVariants.{ARABIC_SHAPER, HANGUL_SHAPER, HEBREW_SHAPER, THAI_SHAPER}
 use Rattle.script_dispatch.specs.declared.any_shaper.hb_ot_any_shaper_t.{hb_ot_any_shaper_t}
 use Rattle.script_dispatch.specs.Rules.{rules_of, script_rules}
 use Rattle.script_joining.specs.Joining.{is_mongolian}
@@ -140,6 +141,16 @@ ThaiCharactersDivide = (plan : hb_script_plan_t ⊤) (p p1 p2 : Shaping) (c : �
     → before_ranges p whole.view ≡ Ok r → before_ranges p1 earlier.view ≡ Ok e → before_ranges p2 later.view ≡ Ok l → StaysBroken c (state_after r whole) (state_after e earlier) (state_after l later)
 
 -- ---- Hangul
+
+-- the tone marks of Hangul are marks
+abbrev pub TonesAreMarks : Type 0
+TonesAreMarks = (u : ℕ) → is_tone u ≡ true → is_mark_character u ≡ true
+
+-- a text of the Hangul shaper, up to the masks of ranges
+abbrev pub HangulTextsDivide : Type 0
+HangulTextsDivide = (plan : hb_script_plan_t ⊤) (p p1 p2 : Shaping) (c : ℕ) (whole earlier later : BufferState) (r e l : Read) → p.rules ≡ script_rules HANGUL_SHAPER plan → AreBrokenShapings p p1 p2 → TonesAreMarks
+    → KnowsGraphemes p.tables → IsBreakable whole → AreBroken c whole earlier later → IsNativeLine p.settings.script whole.view.direction → NormalizesApart c p p1 p2 whole earlier later
+    → before_ranges p whole.view ≡ Ok r → before_ranges p1 earlier.view ≡ Ok e → before_ranges p2 later.view ≡ Ok l → StaysBroken c (state_after r whole) (state_after e earlier) (state_after l later)
 
 -- the masks of jamo keep a text broken
 abbrev pub JamoMasksKeepBroken : Type 0

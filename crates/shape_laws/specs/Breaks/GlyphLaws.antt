@@ -22,14 +22,14 @@ use Rattle.shape_glyphs.specs.Widths.{zero_widths}
 use Rattle.shape_pipeline.specs.Budget.{before_reset}
 use Rattle.shape_pipeline.specs.Positioning.{marks_zeroed, visual_order, with_zero_positions}
 use Rattle.shape_pipeline.specs.Shaping.{Shaping}
-use Rattle.shape_laws.specs.Breaks.Apart.{AreLinkedApart, GlyphsApart, Seam}
+use Rattle.shape_laws.specs.Breaks.Apart.{AreLinkedApart, EndsPlainly, GlyphsApart, Seam}
 use Rattle.shape_laws.specs.Breaks.InLine.{MayBeCutAt, ShowsBoth, final_state}
 use Rattle.shape_laws.specs.Breaks.Texts.{AreBrokenShapings, StaysBroken}
 
 -- the pipeline stages from glyphs on: a text that is still broken into two shows at the end what these show, wherever it
--- may be cut there, if the limits were enough for all three
+-- may be cut there, if the shaper's last stage leaves all three as they are, and the limits were enough for them
 abbrev pub GlyphsShowBoth : Type 0
-GlyphsShowBoth = (seam : Seam) (p p1 p2 : Shaping) (c : ℕ) (whole earlier later : BufferState) (r e l : Read) (falls : Bool) → AreBrokenShapings p p1 p2 → StaysBroken c whole earlier later → GlyphsApart seam p p1 p2
+GlyphsShowBoth = (seam : Seam) (p p1 p2 : Shaping) (c : ℕ) (whole earlier later : BufferState) (r e l : Read) (falls : Bool) → AreBrokenShapings p p1 p2 → StaysBroken c whole earlier later → GlyphsApart seam p p1 p2 → EndsPlainly p whole.view → EndsPlainly p1 earlier.view → EndsPlainly p2 later.view
     → before_reset p whole.view ≡ Ok r → before_reset p1 earlier.view ≡ Ok e → before_reset p2 later.view ≡ Ok l
     → IsSpared whole.level whole.view r → IsSpared earlier.level earlier.view e → IsSpared later.level later.view l → (whole.asks.tatweel ≡ true) ⊎ HaveNoTatweel whole.origins
     → MayBeCutAt c (final_state p r whole) → IsInOrder falls (numbers (final_state p r whole).origins) → ShowsBoth falls (final_state p r whole) (final_state p1 e earlier) (final_state p2 l later)

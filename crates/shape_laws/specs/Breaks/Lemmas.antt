@@ -56,7 +56,11 @@ pub mod SafeTexts
 pub mod SeamPlans
 pub mod Thai
 pub mod ThaiTexts
+pub mod Untiled
 pub mod ThaiMarks
 pub mod ThaiRaw
 pub mod ThaiApart
 pub mod HangulSteps
+pub mod HangulWalk
+pub mod Hangul
+pub mod HangulTexts

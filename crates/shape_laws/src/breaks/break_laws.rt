@@ -1,7 +1,7 @@
 //! Laws of our own, which rustybuzz has not: a text shows what the two texts show that it is cut into, wherever none of the
 //! glyphs of a cluster is unsafe to break.
 ghost use Rattle.shape_laws.specs.Breaks.SafeBreaks.{TextsShowBoth};
-ghost use Rattle.shape_laws.specs.Breaks.SafeTexts.{PlannedTextsHaveSafeBreaks, PlansHaveSafeBreaks, TextsHaveSafeBreaks};
+ghost use Rattle.shape_laws.specs.Breaks.SafeTexts.{PlannedTextsHaveSafeBreaks, SafeBreaks, SafeBreaksOfPlans};
 ghost use Rattle.shape_laws.specs.Breaks.Seams.{GlyphsArePositionedApart, GlyphsAreSubstitutedApart};
 
 /// Glyphs are substituted apart, where the first item of the later text stays its own.
@@ -24,12 +24,12 @@ pub fn law_planned_texts_have_safe_breaks()
     ensures { PlannedTextsHaveSafeBreaks }
 {}
 
-/// Safe breaks of `shape_with_plan`: of texts whose shapers have no stages of their own.
-pub fn law_plans_have_safe_breaks()
-    ensures { PlansHaveSafeBreaks }
+/// Safe breaks of `shape_with_plan`, where the shaper's premises hold (`MayBeCutBy`).
+pub fn law_planned_safe_breaks()
+    ensures { SafeBreaksOfPlans }
 {}
 
-/// Safe breaks of `shape`: of texts whose shapers have no stages of their own.
-pub fn law_texts_have_safe_breaks()
-    ensures { TextsHaveSafeBreaks }
+/// Safe breaks of `shape`, where the shaper's premises hold (`MayBeCutBy`).
+pub fn law_safe_breaks()
+    ensures { SafeBreaks }
 {}

@@ -1,5 +1,5 @@
 //! Laws of our own, which rustybuzz has not: texts that are broken into two, up to the masks of ranges, by their shapers.
-ghost use Rattle.shape_laws.specs.Breaks.ChainLaws.{ArabicCharactersDivide, ArabicTextsDivide, AsciiKnowsGraphemes, CharactersAreShown, CharactersDivide, CharactersNormalizeApart, HebrewRulesHaveNoStages, JamoMasksKeepBroken, MarkOrdersEndUnjoined, MarkOrdersKeepTypes, MarkOrdersRewrite, NearestContextsShow, StagesDivide, TextsDivide, ThaiCharactersDivide, ThaiTextsDivide};
+ghost use Rattle.shape_laws.specs.Breaks.ChainLaws.{ArabicCharactersDivide, ArabicTextsDivide, AsciiKnowsGraphemes, CharactersAreShown, CharactersDivide, CharactersNormalizeApart, HangulTextsDivide, HebrewRulesHaveNoStages, JamoMasksKeepBroken, MarkOrdersEndUnjoined, MarkOrdersKeepTypes, MarkOrdersRewrite, NearestContextsShow, StagesDivide, TextsDivide, ThaiCharactersDivide, ThaiTextsDivide};
 
 /// The order of a run of marks by each shaper.
 pub fn law_mark_orders_rewrite()
@@ -79,4 +79,9 @@ pub fn law_jamo_masks_keep_broken()
 /// A text of the Thai shaper, up to the masks of ranges, by the characters of the two.
 pub fn law_thai_characters_divide()
     ensures { ThaiCharactersDivide }
+{}
+
+/// A text of the Hangul shaper, up to the masks of ranges.
+pub fn law_hangul_texts_divide()
+    ensures { HangulTextsDivide }
 {}

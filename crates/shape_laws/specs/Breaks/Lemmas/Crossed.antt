@@ -121,7 +121,7 @@ across_is_unsafe c whole earlier later r b f h lossless x =
 -- a rule that arranges each list as a whole, and leaves items
 pub record ArrangesTexts (f : List Item → Arrangement) : Type 0 where
   pub rewrites : (xs : List Item) → AreGiven 0 xs → IsWholeRewrite (length xs) (f xs)
-  pub some : (xs : List Item) → 0 < length xs → 0 < length (f xs).items
+  pub some : (xs : List Item) → AreGiven 0 xs → 0 < length xs → 0 < length (f xs).items
 
 -- a rule arranges two lists, one after the other, each by itself, or an event is across both
 abbrev pub DividesOrCrosses : (List Item → Arrangement) → List Item → List Item → Type 0
@@ -179,8 +179,8 @@ ruled_stay f c whole earlier later h divides stays =
                 whole = h.rewrites (xs ++ ys);
                 first = h.rewrites xs;
                 second = h.rewrites ys;
-                first_some = h.some xs some;
-                second_some = h.some ys more;
+                first_some = h.some xs (given_early c whole earlier later j stays.numbers) some;
+                second_some = h.some ys (given_late c whole earlier later j stays.numbers) more;
               })).divided
           | inr across ↦ inl (ruled_unsafe f c whole earlier later h stays (λ k. subst (λ zs. IsAcross (length xs) (length ys) (f zs).events) (sym plain) across))
         ]

@@ -1,5 +1,5 @@
 -- The glyphs of a text that is broken into two, from characters to the end.
-use Rattle.std.proofs.Common.{ℕ, ◌≡◌, ◌≤◌, ◌+◌, ◌==◌, ◌||◌, ◌⊎◌, inl, inr, Bool, true, false, if◌then◌else◌, List, [], ◌∷◌, Option, None, Some, Ok, arith, refl, sym, ap, subst, ◌∙◌}
+use Rattle.std.proofs.Common.{ℕ, ◌≡◌, ◌≤◌, ◌+◌, ◌==◌, ◌||◌, ◌⊎◌, inl, inr, Bool, true, false, if◌then◌else◌, List, [], ◌∷◌, Option, None, Some, Ok, length, arith, refl, sym, ap, subst, ◌∙◌}
 use Rattle.std.specs.Prelude.{reverse}
 use Rattle.std.specs.Option.{option_or}
 use Rattle.std.specs.Int.RustNames.{bit_and}
@@ -16,6 +16,7 @@ use Rattle.buffer_stages.specs.PositionMaps.{with_positions_mapped}
 use Rattle.buffer_stages.specs.Settings.{TextSettings}
 use Rattle.buffer_parts.specs.Counting.{is_left}
 use Rattle.buffer_parts.specs.Breaks.Divisible.{IsFreelyDivisible, IsSpared, OnlySpends, StaysDivided}
+use Rattle.buffer_parts.specs.Breaks.Fragments.{AreFragments, IsWhole}
 use Rattle.buffer_parts.specs.Breaks.Unsafe.{HaveNoTatweel}
 use Rattle.buffer_parts.specs.Breaks.Lemmas.Clear.{no_tatweel_stays}
 use Rattle.buffer_parts.specs.Breaks.Lemmas.Division.{same_is_divisible}
@@ -26,6 +27,7 @@ use Rattle.layout_offsets.specs.Starting.{links_cleared}
 use Rattle.shape_fallback.specs.Classes.{with_fallback_classes}
 use Rattle.shape_fallback.specs.Spaces.{with_spaces}
 use Rattle.shape_glyphs.specs.Advances.{with_default_positions}
+use Rattle.shape_glyphs.specs.Flags.{with_flags_spread}
 use Rattle.shape_glyphs.specs.Glyphs.{with_glyphs}
 use Rattle.shape_glyphs.specs.Ignorables.{ignorables_hidden, ignorables_hidden_by, preserves_ignorables, removes_ignorables}
 use Rattle.shape_glyphs.specs.Selectors.{with_selectors}
@@ -34,8 +36,8 @@ use Rattle.shape_pipeline.specs.Budget.{before_reset}
 use Rattle.shape_pipeline.specs.Glyphs.{glyphs_substituted}
 use Rattle.shape_pipeline.specs.Limits.{final_view}
 use Rattle.shape_pipeline.specs.Positioning.{marks_positioned, positions_adjusted, visual_order, with_zero_positions}
-use Rattle.shape_pipeline.specs.Shaping.{Shaping}
-use Rattle.shape_laws.specs.Breaks.Apart.{AreLinkedApart, AreUnattached, GlyphsApart, PositionsApart, Seam, SubstitutesApart}
+use Rattle.shape_pipeline.specs.Shaping.{Shaping, postprocessing_stage}
+use Rattle.shape_laws.specs.Breaks.Apart.{AreLinkedApart, AreUnattached, EndsPlainly, GlyphsApart, PositionsApart, Seam, SubstitutesApart}
 use Rattle.shape_laws.specs.Breaks.GlyphLaws.{GlyphsShowBoth}
 use Rattle.shape_laws.specs.Breaks.InLine.{MayBeCutAt, ShowsBoth, final_state}
 use Rattle.shape_laws.specs.Breaks.Texts.{AreUnnumbered, StaysBroken}
@@ -152,8 +154,8 @@ record AreSpared (p : Shaping) (s : BufferState) (r : Read) (q : IsRoute p s r) 
 taken_level : (p : Shaping) (s : BufferState) → (glyph_state p s).level ≡ s.level
 taken_level p s = elim p.choices.fallback_mark_positioning as (λ b. (state_by with_glyphs (if b then state_by with_fallback_classes s else s)).level ≡ s.level) [ true ↦ refl | false ↦ refl ]
 
-spared_of : (p : Shaping) (s : BufferState) (r : Read) (q : IsRoute p s r) → OnlySpends (glyphs_substituted p) → OnlySpends (positions_adjusted p) → s.view.lig_id ≡ 0 → IsSpared s.level s.view r → AreSpared p s r q
-spared_of p s r q first second none h =
+spared_of : (p : Shaping) (s : BufferState) (r : Read) (q : IsRoute p s r) → EndsPlainly p s.view → OnlySpends (glyphs_substituted p) → OnlySpends (positions_adjusted p) → s.view.lig_id ≡ 0 → IsSpared s.level s.view r → AreSpared p s r q
+spared_of p s r q ends first second none h =
     let v1 = (glyph_state p s).view in
     let s2 = state_after q.substituted (glyph_state p s) in
     let v3 = (advance_state p s2).view in
@@ -164,7 +166,8 @@ spared_of p s r q first second none h =
     let number = taken_number p s in
     let some : v1.lig_id + merge_count s.level q.substituted ≤ 7 = omega (arith, all, many, number, none) in
     let given = one.numbers some in
-    let left : is_left q.adjusted.view.max_ops ≡ true = ap is_left (sym (ap (λ (t : BufferState). t.view.max_ops) q.end ∙ end_budget p (state_after q.adjusted (advance_state p s2)))) ∙ h.budget in
+    let all_left : is_left q.finished.view.max_ops ≡ true = ap is_left (sym (ap (λ (t : BufferState). t.view.max_ops) q.end)) ∙ h.budget in
+    let left : is_left q.adjusted.view.max_ops ≡ true = ap is_left (sym (end_budget p (state_after q.adjusted (advance_state p s2)))) ∙ ends.budget (shown_state p (ordered_state p (linked_state p (state_after q.adjusted (advance_state p s2))))).view q.finished q.finished_is all_left in
     record {
       first = subst (λ (level : BufferClusterLevel). IsSpared level v1 q.substituted) (sym (taken_level p s)) (record { budget = two.budget left; numbers = some });
       second = subst (λ (level : BufferClusterLevel). IsSpared level v3 q.adjusted) (sym (taken_level p s)) (record { budget = left; numbers = omega (arith, all, many, number, none, given) });
@@ -275,8 +278,8 @@ begun_apart p p1 p2 c whole earlier later P e g q =
 shown_apart : (p : Shaping) (early_context late_context : List ℕ) (f1 f2 : BufferFlags) (c : ℕ) (whole earlier later : BufferState) → HaveSameRequests p.settings.flags f1 → HaveSameRequests p.settings.flags f2
     → (p.choices.fallback_mark_positioning ≡ true → IsFreelyDivisible false false (always (marks_positioned p)) (always (marks_positioned (early_shaping p early_context f1))) (always (marks_positioned (late_shaping p late_context f2))))
     → Carries false c whole earlier later (AreLinkedApart whole.view earlier.view later.view)
-    → (turned : Bool) × StaysDivided turned c (shown_state p (ordered_state p (linked_state p whole))) (shown_state (early_shaping p early_context f1) (ordered_state (early_shaping p early_context f1) (linked_state (early_shaping p early_context f1) earlier)))
-    (shown_state (late_shaping p late_context f2) (ordered_state (late_shaping p late_context f2) (linked_state (late_shaping p late_context f2) later)))
+    → (turned : Bool) × Carries turned c (shown_state p (ordered_state p (linked_state p whole))) (shown_state (early_shaping p early_context f1) (ordered_state (early_shaping p early_context f1) (linked_state (early_shaping p early_context f1) earlier)))
+    (shown_state (late_shaping p late_context f2) (ordered_state (late_shaping p late_context f2) (linked_state (late_shaping p late_context f2) later))) (Unit {0})
 shown_apart p early_context late_context f1 f2 c whole earlier later same1 same2 marks q =
     let p1 = early_shaping p early_context f1 in
     let p2 = late_shaping p late_context f2 in
@@ -314,25 +317,44 @@ shown_apart p early_context late_context f1 f2 c whole earlier later same1 same2
     let l5 = state_by (with_selectors set) l4 in
     let i = p.settings.invisible in
     let hidden = carried turned turned (ignorables_hidden f i p.font) (ignorables_hidden f1 i p.font) (ignorables_hidden f2 i p.font) c w5 e5 l5 (Unit {0}) (ignorables_of turned f f1 f2 i p.font same1 same2) selected in
-    (turned, carried_plain turned c (state_by (ignorables_hidden f i p.font) w5) (state_by (ignorables_hidden f1 i p.font) e5) (state_by (ignorables_hidden f2 i p.font) l5) (Unit {0}) hidden)
+    (turned, hidden)
+
+-- ---- the shaper's last stage
+
+-- it leaves a text that it comes to, where each glyph has a position
+finished_same : (p : Shaping) (s : BufferState) (r : Read) (q : IsRoute p s r) (t : BufferState) → EndsPlainly p s.view → q.reached.view ≡ t.view → postprocessing_stage p t.view ≡ Ok q.finished → IsWhole t → state_after q.finished t ≡ t
+finished_same p s r q t h there is w =
+    let many : length q.reached.view.positions ≡ length q.reached.view.items = ap (λ (v : View). length v.positions) there ∙ w.positions ∙ sym (ap (λ (v : View). length v.items) there) in
+    let same = h.same q.reached q.finished q.reached_is many (ap (postprocessing_stage p) there ∙ is) in
+    ap (λ (x : Read). state_after x t) same ∙ ap (λ (v : View). state_after (with_events [] v) t) there
+
+-- a text and its fragments after it
+finished_apart : (turned : Bool) (c : ℕ) (whole earlier later earlier' later' : BufferState) → Carries turned c whole earlier later (Unit {0}) → (IsWhole earlier → earlier' ≡ earlier) → (IsWhole later → later' ≡ later) → StaysDivided turned c whole earlier' later'
+finished_apart turned c whole earlier later earlier' later' q early late = elim q.divided [
+  | inl unsafe ↦ inl unsafe
+  | inr both ↦
+      let j = both.0 in
+      inr (subst (λ (s : BufferState). AreFragments turned c whole s later') (sym (early j.early_whole)) (subst (λ (s : BufferState). AreFragments turned c whole earlier s) (sym (late j.late_whole)) j))
+]
 
 -- ---- from characters to the end
 
 -- what a text shows at the end, and what its fragments show, where these are shaped as the whole
 shows_for : (seam : Seam) (p : Shaping) (early_context late_context : List ℕ) (f1 f2 : BufferFlags) (c : ℕ) (whole earlier later : BufferState) (r e l : Read) (falls : Bool) → HaveSameRequests p.settings.flags f1 → HaveSameRequests p.settings.flags f2
     → StaysBroken c whole earlier later → GlyphsApart seam p (early_shaping p early_context f1) (late_shaping p late_context f2)
+    → EndsPlainly p whole.view → EndsPlainly (early_shaping p early_context f1) earlier.view → EndsPlainly (late_shaping p late_context f2) later.view
     → before_reset p whole.view ≡ Ok r → before_reset (early_shaping p early_context f1) earlier.view ≡ Ok e → before_reset (late_shaping p late_context f2) later.view ≡ Ok l
     → IsSpared whole.level whole.view r → IsSpared earlier.level earlier.view e → IsSpared later.level later.view l → (whole.asks.tatweel ≡ true) ⊎ HaveNoTatweel whole.origins
     → MayBeCutAt c (final_state p r whole) → IsInOrder falls (numbers (final_state p r whole).origins) → ShowsBoth falls (final_state p r whole) (final_state (early_shaping p early_context f1) e earlier) (final_state (late_shaping p late_context f2) l later)
-shows_for seam p early_context late_context f1 f2 c whole earlier later r e l falls same1 same2 stays h is_r is_e is_l spared_r spared_e spared_l tatweel cut order =
+shows_for seam p early_context late_context f1 f2 c whole earlier later r e l falls same1 same2 stays h ends early_ends late_ends is_r is_e is_l spared_r spared_e spared_l tatweel cut order =
     let p1 = early_shaping p early_context f1 in
     let p2 = late_shaping p late_context f2 in
-    let rr = route p whole r h.ends.whole_none is_r in
-    let ee = route p1 earlier e h.ends.early_none is_e in
-    let ll = route p2 later l h.ends.late_none is_l in
-    let sr = spared_of p whole r rr h.substitutes.spends h.positions.spends stays.numbers.whole_none spared_r in
-    let se = spared_of p1 earlier e ee h.substitutes.early_spends h.positions.early_spends stays.numbers.early_none spared_e in
-    let sl = spared_of p2 later l ll h.substitutes.late_spends h.positions.late_spends stays.numbers.late_none spared_l in
+    let rr = route p whole r is_r in
+    let ee = route p1 earlier e is_e in
+    let ll = route p2 later l is_l in
+    let sr = spared_of p whole r rr ends h.substitutes.spends h.positions.spends stays.numbers.whole_none spared_r in
+    let se = spared_of p1 earlier e ee early_ends h.substitutes.early_spends h.positions.early_spends stays.numbers.early_none spared_e in
+    let sl = spared_of p2 later l ll late_ends h.substitutes.late_spends h.positions.late_spends stays.numbers.late_none spared_l in
     let b = p.choices.fallback_mark_positioning in
     let first : Carries false c whole earlier later (Unit {0}) = record { ready = stays.breakable; divided = elim stays.divided [ inl unsafe ↦ inl unsafe | inr j ↦ inr (j, tt) ] } in
     let classed = carried_if b false with_fallback_classes with_fallback_classes with_fallback_classes c whole earlier later (Unit {0}) (λ wanted. fallback_classes_divide false) first in
@@ -366,14 +388,19 @@ shows_for seam p early_context late_context f1 f2 c whole earlier later r e l fa
     let l4 = state_after ll.adjusted l3 in
     let last = shown_apart p early_context late_context f1 f2 c w4 e4 l4 same1 same2 h.marks placed in
     let d = p.direction in
-    let whole_end : final_state p r whole ≡ end_state d (shown_state p (ordered_state p (linked_state p w4))) = ap (state_by (final_view d)) rr.end in
-    let early_end : final_state p1 e earlier ≡ end_state d (shown_state p1 (ordered_state p1 (linked_state p1 e4))) = ap (state_by (final_view d)) ee.end in
-    let late_end : final_state p2 l later ≡ end_state d (shown_state p2 (ordered_state p2 (linked_state p2 l4))) = ap (state_by (final_view d)) ll.end in
-    let shows = ends_show last.0 falls d d d c (shown_state p (ordered_state p (linked_state p w4))) (shown_state p1 (ordered_state p1 (linked_state p1 e4))) (shown_state p2 (ordered_state p2 (linked_state p2 l4))) last.1 (tatweel_at_end p whole rr.substituted rr.adjusted tatweel)
-    (subst (MayBeCutAt c) whole_end cut) (subst (λ (s : BufferState). IsInOrder falls (numbers s.origins)) whole_end order) in
+    let w5 = shown_state p (ordered_state p (linked_state p w4)) in
+    let e5 = shown_state p1 (ordered_state p1 (linked_state p1 e4)) in
+    let l5 = shown_state p2 (ordered_state p2 (linked_state p2 l4)) in
+    let e6 = state_after ee.finished e5 in
+    let l6 = state_after ll.finished l5 in
+    let w6_is : state_after rr.finished w5 ≡ w5 = finished_same p whole r rr w5 ends rr.there rr.finished_is last.1.ready.whole in
+    let divided = finished_apart last.0 c w5 e5 l5 e6 l6 last.1 (finished_same p1 earlier e ee e5 early_ends ee.there ee.finished_is) (finished_same p2 later l ll l5 late_ends ll.there ll.finished_is) in
+    let whole_end : final_state p r whole ≡ end_state d w5 = ap (state_by (final_view d)) (rr.end ∙ ap (state_by with_flags_spread) w6_is) in
+    let early_end : final_state p1 e earlier ≡ end_state d e6 = ap (state_by (final_view d)) ee.end in
+    let late_end : final_state p2 l later ≡ end_state d l6 = ap (state_by (final_view d)) ll.end in
+    let shows = ends_show last.0 falls d d d c w5 e6 l6 divided (tatweel_at_end p whole rr.substituted rr.adjusted tatweel) (subst (MayBeCutAt c) whole_end cut) (subst (λ (s : BufferState). IsInOrder falls (numbers s.origins)) whole_end order) in
     subst (λ (s : BufferState). ShowsBoth falls s (final_state p1 e earlier) (final_state p2 l later)) (sym whole_end)
-    (subst (λ (s : BufferState). ShowsBoth falls (end_state d (shown_state p (ordered_state p (linked_state p w4)))) s (final_state p2 l later)) (sym early_end)
-    (subst (λ (s : BufferState). ShowsBoth falls (end_state d (shown_state p (ordered_state p (linked_state p w4)))) (end_state d (shown_state p1 (ordered_state p1 (linked_state p1 e4)))) s) (sym late_end) shows))
+    (subst (λ (s : BufferState). ShowsBoth falls (end_state d w5) s (final_state p2 l later)) (sym early_end) (subst (λ (s : BufferState). ShowsBoth falls (end_state d w5) (end_state d e6) s) (sym late_end) shows))
 
 -- two shapings of fragments, as their settings are
 early_as : (p q : Shaping) → q ≡ record p { settings = q.settings } → q.settings ≡ record p.settings { post_context = q.settings.post_context; flags = q.settings.flags } → q ≡ early_shaping p q.settings.post_context q.settings.flags
@@ -386,10 +413,10 @@ pub glyphs_show_both : GlyphsShowBoth
 glyphs_show_both seam p p1 p2 c whole earlier later r e l falls shapings =
     subst (λ (q : Shaping). Shows q p2) (sym (early_as p p1 shapings.early_is shapings.settings.early_is))
     (subst (λ (q : Shaping). Shows (early_shaping p p1.settings.post_context p1.settings.flags) q) (sym (late_as p p2 shapings.late_is shapings.settings.late_is))
-    (λ stays h is_r is_e is_l spared_r spared_e spared_l tatweel cut order. shows_for seam p p1.settings.post_context p2.settings.pre_context p1.settings.flags p2.settings.flags c whole earlier later r e l falls shapings.settings.early_requests
-    shapings.settings.late_requests stays h is_r is_e is_l spared_r spared_e spared_l tatweel cut order))
+    (λ stays h ends early_ends late_ends is_r is_e is_l spared_r spared_e spared_l tatweel cut order. shows_for seam p p1.settings.post_context p2.settings.pre_context p1.settings.flags p2.settings.flags c whole earlier later r e l falls shapings.settings.early_requests
+    shapings.settings.late_requests stays h ends early_ends late_ends is_r is_e is_l spared_r spared_e spared_l tatweel cut order))
   where
     Shows : Shaping → Shaping → Type 0
-    Shows q1 q2 = StaysBroken c whole earlier later → GlyphsApart seam p q1 q2 → before_reset p whole.view ≡ Ok r → before_reset q1 earlier.view ≡ Ok e → before_reset q2 later.view ≡ Ok l
+    Shows q1 q2 = StaysBroken c whole earlier later → GlyphsApart seam p q1 q2 → EndsPlainly p whole.view → EndsPlainly q1 earlier.view → EndsPlainly q2 later.view → before_reset p whole.view ≡ Ok r → before_reset q1 earlier.view ≡ Ok e → before_reset q2 later.view ≡ Ok l
         → IsSpared whole.level whole.view r → IsSpared earlier.level earlier.view e → IsSpared later.level later.view l → (whole.asks.tatweel ≡ true) ⊎ HaveNoTatweel whole.origins
         → MayBeCutAt c (final_state p r whole) → IsInOrder falls (numbers (final_state p r whole).origins) → ShowsBoth falls (final_state p r whole) (final_state q1 e earlier) (final_state q2 l later)

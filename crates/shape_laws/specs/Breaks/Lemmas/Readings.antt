@@ -33,16 +33,13 @@ use Rattle.shape_laws.specs.Breaks.SafeBreaks.{HasEnough, TextsShowBoth}
 use Rattle.shape_laws.specs.Breaks.Texts.{StaysBroken}
 use Rattle.shape_laws.specs.Breaks.Lemmas.Glyphs.{glyphs_show_both}
 use Rattle.shape_laws.specs.Breaks.Lemmas.PlainDivision.{state_by}
-use Rattle.shape_laws.specs.Breaks.Lemmas.Route.{both_of, merge_count, nothing_then, state_by_then}
+use Rattle.shape_laws.specs.Breaks.Lemmas.Route.{both_of, in_turn_is, merge_count, nothing_then, state_by_then}
 use Rattle.shape_laws.specs.Breaks.Lemmas.Stages.{ranges_of_both_divide}
 
 -- ---- stages, and the same without the last one
 
 state_in_turn : (a b : Read) (s : BufferState) → state_after (then_read a b) s ≡ state_after b (state_after a s)
 state_in_turn a b s = ap (λ (os : List Origin). record { view = b.view; origins = os; level = s.level; asks = s.asks }) (origins_after_both s.asks s.level (a.events s.level) (b.events s.level) s.origins)
-
-in_turn_is : (first rest : Stage) (v : View) (a b : Read) → first v ≡ Ok a → rest a.view ≡ Ok b → and_then (first v) rest ≡ Ok (then_read a b)
-in_turn_is first rest v a b e f = ap (λ (x : Reading). and_then x rest) e ∙ ap (then_reading a) f
 
 -- what is read without the last stage, of which some was read
 record IsSplit (short : Stage) (f : View → Read) (s : BufferState) (b : Read) : Type 0 where
@@ -223,7 +220,7 @@ ranged_as : (p q : Shaping) (s : BufferState) → q ≡ record p { settings = q.
 ranged_as p q s e = ap (λ (k : Shaping). ranged_state k s) (sym e)
 
 pub texts_show_both : TextsShowBoth
-texts_show_both seam p p1 p2 c whole earlier later result first second falls shapings texts apart enough early_enough late_enough follows_r follows_e follows_l cut order =
+texts_show_both seam p p1 p2 c whole earlier later result first second falls shapings texts apart ends early_ends late_ends enough early_enough late_enough follows_r follows_e follows_l cut order =
     let rr = is_result p whole result follows_r in
     let ee = is_result p1 earlier first follows_e in
     let ll = is_result p2 later second follows_l in
@@ -234,7 +231,7 @@ texts_show_both seam p p1 p2 c whole earlier later result first second falls sha
     let ranges = ranges_of_both_divide p.map p.features c w1 e1 l1 stays in
     let broken : StaysBroken c (ranged_state p w1) (ranged_state p1 e1) (ranged_state p2 l1) =
     subst (λ (s : BufferState). StaysBroken c (ranged_state p w1) s (ranged_state p2 l1)) (ranged_as p p1 e1 shapings.early_is) (subst (λ (s : BufferState). StaysBroken c (ranged_state p w1) (ranged_state p e1) s) (ranged_as p p2 l1 shapings.late_is) ranges) in
-    let shows = glyphs_show_both seam p p1 p2 c (ranged_state p w1) (ranged_state p1 e1) (ranged_state p2 l1) rr.parts.last ee.parts.last ll.parts.last falls shapings broken apart rr.parts.last_is ee.parts.last_is ll.parts.last_is
+    let shows = glyphs_show_both seam p p1 p2 c (ranged_state p w1) (ranged_state p1 e1) (ranged_state p2 l1) rr.parts.last ee.parts.last ll.parts.last falls shapings broken apart (ends rr.parts.chars rr.parts.chars_is) (early_ends ee.parts.chars ee.parts.chars_is) (late_ends ll.parts.chars ll.parts.chars_is) rr.parts.last_is ee.parts.last_is ll.parts.last_is
     (enough_spared p whole rr.all rr.parts rr.all_is enough stays.numbers.whole_none) (enough_spared p1 earlier ee.all ee.parts ee.all_is early_enough stays.numbers.early_none)
     (enough_spared p2 later ll.all ll.parts ll.all_is late_enough stays.numbers.late_none) (tatweel_of p whole rr.parts.chars rr.parts.chars_is)
     (subst (MayBeCutAt c) rr.state cut) (subst (λ (s : BufferState). IsInOrder falls (numbers s.origins)) rr.state order) in

@@ -5,7 +5,7 @@ use Rattle.buffer_glyphs.specs.Events.{Event, Merge, MergeGrapheme, Replace, Cir
 use Rattle.buffer_glyphs.specs.Origins.{Origin}
 use Rattle.buffer_glyphs.specs.Lemmas.Origins.{origins_after_both}
 use Rattle.buffer_parts.specs.Lemmas.Stages.{both_read, same_read}
-use Rattle.buffer_core.specs.Readings.{View, Read, Stage, BufferState, always, and_then, as_it_is, state_after, with_events}
+use Rattle.buffer_core.specs.Readings.{View, Read, Stage, BufferState, always, and_then, as_it_is, state_after, then_read, then_reading, with_events, Reading}
 use Rattle.buffer_parts.specs.Breaks.Concat.{without_concats}
 use Rattle.buffer_parts.specs.Breaks.Divisible.{merges}
 use Rattle.layout_offsets.specs.Finishing.{links_followed}
@@ -24,6 +24,7 @@ use Rattle.shape_pipeline.specs.Glyphs.{glyphs_substituted, glyphs_taken}
 use Rattle.shape_pipeline.specs.Positioning.{marks_positioned, positions_adjusted, positions_begun, positions_ended, visual_order, with_zero_positions}
 use Rattle.shape_pipeline.specs.Reading.{positioning_stage}
 use Rattle.shape_pipeline.specs.Shaping.{Shaping, postprocessing_stage}
+use Rattle.shape_laws.specs.Breaks.Apart.{before_end}
 use Rattle.shape_laws.specs.Breaks.Lemmas.PlainDivision.{state_by}
 
 -- ---- merges of events
@@ -148,17 +149,22 @@ ordered_state p s = state_by visual_order (state_if p.choices.fallback_mark_posi
 abbrev pub shown_state : Shaping → BufferState → BufferState
 shown_state p s = state_by (ignorables_hidden p.settings.flags p.settings.invisible p.font) (state_by (with_selectors p.settings.not_found_variation_selector) s)
 
--- what is read of a text up to the reset of limits, where the shaper has no postprocessing
+-- what is read of a text up to the reset of limits
 pub record IsRoute (p : Shaping) (s : BufferState) (r : Read) : Type 0 where
   pub substituted : Read
   pub adjusted : Read
+  pub reached : Read
+  pub finished : Read
   pub substituted_is : glyphs_substituted p (glyph_state p s).view ≡ Ok substituted
   pub adjusted_is : positions_adjusted p (advance_state p (state_after substituted (glyph_state p s))).view ≡ Ok adjusted
-  pub end : state_after r s ≡ state_by with_flags_spread (shown_state p (ordered_state p (linked_state p (state_after adjusted (advance_state p (state_after substituted (glyph_state p s)))))))
+  pub reached_is : before_end p s.view ≡ Ok reached
+  pub there : reached.view ≡ (shown_state p (ordered_state p (linked_state p (state_after adjusted (advance_state p (state_after substituted (glyph_state p s))))))).view
+  pub finished_is : postprocessing_stage p (shown_state p (ordered_state p (linked_state p (state_after adjusted (advance_state p (state_after substituted (glyph_state p s))))))).view ≡ Ok finished
+  pub end : state_after r s ≡ state_by with_flags_spread (state_after finished (shown_state p (ordered_state p (linked_state p (state_after adjusted (advance_state p (state_after substituted (glyph_state p s))))))))
   pub many : merge_count s.level substituted + merge_count s.level adjusted ≤ merge_count s.level r
 
-same_left : (stage : Stage) (s : BufferState) (r : Read) → stage ≡ as_it_is → stage s.view ≡ Ok r → state_after r s ≡ s
-same_left stage s r e is = ap (λ (x : Read). state_after x s) (sym (same_read (with_events [] s.view) r (ap (λ (t : Stage). t s.view) (sym e) ∙ is)))
+pub in_turn_is : (first rest : Stage) (v : View) (a b : Read) → first v ≡ Ok a → rest a.view ≡ Ok b → and_then (first v) rest ≡ Ok (then_read a b)
+in_turn_is first rest v a b e f = ap (λ (x : Reading). and_then x rest) e ∙ ap (then_reading a) f
 
 taken_once : (p : Shaping) (s : BufferState) (r : Read) → glyphs_taken p s.view ≡ Ok r → state_after r s ≡ glyph_state p s
 unfolding glyphs_taken
@@ -199,9 +205,15 @@ ended_once p s r e =
     let four = state_by_then visual_order (in_order []) s3 three.again three.again_is in
     one.both ∙ two.both ∙ three.both ∙ four.both ∙ nothing_then (state_by visual_order s3) four.again four.again_is
 
-hidden_once : (p : Shaping) (s : BufferState) (r : Read) → postprocessing_stage p ≡ as_it_is → glyphs_hidden p s.view ≡ Ok r → state_after r s ≡ state_by with_flags_spread (shown_state p s)
+-- what hiding default ignorables and the shaper's last stage leave
+record IsHidden (p : Shaping) (s : BufferState) (r : Read) : Type 0 where
+  finished : Read
+  finished_is : postprocessing_stage p (shown_state p s).view ≡ Ok finished
+  both : state_after r s ≡ state_by with_flags_spread (state_after finished (shown_state p s))
+
+is_hidden : (p : Shaping) (s : BufferState) (r : Read) → glyphs_hidden p s.view ≡ Ok r → IsHidden p s r
 unfolding glyphs_hidden
-hidden_once p s r none e =
+is_hidden p s r e =
     let hides = ignorables_hidden p.settings.flags p.settings.invisible p.font in
     let selects = with_selectors p.settings.not_found_variation_selector in
     let post = postprocessing_stage p in
@@ -213,13 +225,37 @@ hidden_once p s r none e =
     let two = state_by_then hides rest2 s1 one.again one.again_is in
     let s2 = state_by hides s1 in
     let three = both_of post rest3 s2 two.again two.again_is in
-    let same : state_after three.once s2 ≡ s2 = same_left post s2 three.once none three.once_is in
-    let four = state_by_then with_flags_spread (in_order []) (state_after three.once s2) three.again three.again_is in
-    one.both ∙ two.both ∙ three.both ∙ four.both ∙ nothing_then (state_by with_flags_spread (state_after three.once s2)) four.again four.again_is ∙ ap (state_by with_flags_spread) same
+    let s3 = state_after three.once s2 in
+    let four = state_by_then with_flags_spread (in_order []) s3 three.again three.again_is in
+    record {
+      finished = three.once;
+      finished_is = three.once_is;
+      both = one.both ∙ two.both ∙ three.both ∙ four.both ∙ nothing_then (state_by with_flags_spread s3) four.again four.again_is;
+    }
 
-pub route : (p : Shaping) (s : BufferState) (r : Read) → postprocessing_stage p ≡ as_it_is → before_reset p s.view ≡ Ok r → IsRoute p s r
+-- what is read up to the shaper's last stage
+end_reached : (p : Shaping) (v : View) (a b c : Read) → glyphs_taken p v ≡ Ok a → glyphs_substituted p a.view ≡ Ok b → positioning_stage p b.view ≡ Ok c
+    → (r : Read) × (before_end p v ≡ Ok r) × (r.view ≡ (ignorables_hidden p.settings.flags p.settings.invisible p.font (with_selectors p.settings.not_found_variation_selector c.view).view).view)
+end_reached p v a b c e f g =
+    let hides = ignorables_hidden p.settings.flags p.settings.invisible p.font in
+    let selects = with_selectors p.settings.not_found_variation_selector in
+    let x = selects c.view in
+    let y = hides x.view in
+    let none = with_events [] y.view in
+    let rest5 = in_order [] in
+    let rest4 = in_order (always hides ∷ []) in
+    let rest3 = in_order (always selects ∷ always hides ∷ []) in
+    let rest2 = in_order (positioning_stage p ∷ always selects ∷ always hides ∷ []) in
+    let rest1 = in_order (glyphs_substituted p ∷ positioning_stage p ∷ always selects ∷ always hides ∷ []) in
+    let last = in_turn_is (always hides) rest5 x.view y none refl refl in
+    let four = in_turn_is (always selects) rest4 c.view x (then_read y none) refl last in
+    let three = in_turn_is (positioning_stage p) rest3 b.view c (then_read x (then_read y none)) g four in
+    let two = in_turn_is (glyphs_substituted p) rest2 a.view b (then_read c (then_read x (then_read y none))) f three in
+    (then_read a (then_read b (then_read c (then_read x (then_read y none)))), in_turn_is (glyphs_taken p) rest1 v a (then_read b (then_read c (then_read x (then_read y none)))) e two, refl)
+
+pub route : (p : Shaping) (s : BufferState) (r : Read) → before_reset p s.view ≡ Ok r → IsRoute p s r
 unfolding before_reset positioning_stage
-route p s r none e =
+route p s r e =
     let rest3 = in_order (glyphs_hidden p ∷ []) in
     let positions = in_order (positions_begun p ∷ positions_adjusted p ∷ positions_ended p ∷ []) in
     let rest2 = in_order (positions ∷ glyphs_hidden p ∷ []) in
@@ -239,8 +275,10 @@ route p s r none e =
     let six = both_of (positions_ended p) (in_order []) s4 five.again five.again_is in
     let s5_is : s5 ≡ ordered_state p (linked_state p s4) = four.both ∙ five.both ∙ six.both ∙ nothing_then (state_after six.once s4) six.again six.again_is ∙ ended_once p s4 six.once six.once_is in
     let seven = both_of (glyphs_hidden p) (in_order []) s5 three.again three.again_is in
-    let s6_is : state_after seven.once s5 ≡ state_by with_flags_spread (shown_state p s5) = hidden_once p s5 seven.once none seven.once_is in
-    let last : state_after r s ≡ state_by with_flags_spread (shown_state p s5) = one.both ∙ two.both ∙ three.both ∙ seven.both ∙ nothing_then (state_after seven.once s5) seven.again seven.again_is ∙ s6_is in
+    let hidden = is_hidden p s5 seven.once seven.once_is in
+    let last : state_after r s ≡ state_by with_flags_spread (state_after hidden.finished (shown_state p s5)) = one.both ∙ two.both ∙ three.both ∙ seven.both ∙ nothing_then (state_after seven.once s5) seven.again seven.again_is ∙ hidden.both in
+    let all : s5 ≡ ordered_state p (linked_state p (state_after five.once (advance_state p (state_after two.once (glyph_state p s))))) = s5_is ∙ ap (λ (t : BufferState). ordered_state p (linked_state p (state_after five.once t))) (s3_is ∙ ap (λ (t : BufferState). advance_state p (state_after two.once t)) s1_is) in
+    let reached = end_reached p s.view one.once two.once three.once one.once_is two.once_is three.once_is in
     let m1 = one.many in
     let m2 = two.many in
     let m3 = three.many in
@@ -249,8 +287,13 @@ route p s r none e =
     record {
       substituted = two.once;
       adjusted = five.once;
+      reached = reached.0;
+      finished = hidden.finished;
       substituted_is = ap (λ (t : BufferState). glyphs_substituted p t.view) (sym s1_is) ∙ two.once_is;
       adjusted_is = ap (λ (t : BufferState). positions_adjusted p (advance_state p (state_after two.once t)).view) (sym s1_is) ∙ ap (λ (t : BufferState). positions_adjusted p t.view) (sym s3_is) ∙ five.once_is;
-      end = last ∙ ap (λ (t : BufferState). state_by with_flags_spread (shown_state p t)) s5_is ∙ ap (λ (t : BufferState). state_by with_flags_spread (shown_state p (ordered_state p (linked_state p (state_after five.once t))))) (s3_is ∙ ap (λ (t : BufferState). advance_state p (state_after two.once t)) s1_is);
+      reached_is = reached.1;
+      there = reached.2 ∙ ap (λ (t : BufferState). (shown_state p t).view) all;
+      finished_is = ap (λ (t : BufferState). postprocessing_stage p (shown_state p t).view) (sym all) ∙ hidden.finished_is;
+      end = last ∙ ap (λ (t : BufferState). state_by with_flags_spread (state_after hidden.finished (shown_state p t))) all;
       many = omega (arith, m1, m2, m3, m4, m5);
     }

@@ -1,5 +1,5 @@
 -- Safe breaks of texts, by the plans of their shapers.
-use Rattle.std.proofs.Common.{ℕ, ◌≡◌, ◌<◌, ◌==◌, ◌+◌, Bool, true, false, if◌then◌else◌, List, Option, Ok, length, arith, refl, sym, ap, subst, ◌∙◌}
+use Rattle.std.proofs.Common.{ℕ, ◌≡◌, ◌<◌, ◌==◌, ◌+◌, Bool, true, false, if◌then◌else◌, List, [], Option, Ok, length, arith, refl, sym, ap, subst, ◌∙◌}
 use Rattle.std.specs.Prelude.{⊤}
 use Rattle.std.proofs.lemmas.Bool.Decides.{nat_tests}
 use Rattle.std.proofs.lemmas.List.{length-append}
@@ -8,10 +8,13 @@ use Rattle.buffer_common.specs.declared.direction.Direction.{Direction}
 use Rattle.buffer_common.specs.declared.script.Script.{Script}
 use Rattle.buffer_common.specs.declared.tag.Tag.{Tag}
 use Rattle.buffer_tags.specs.declared.feature.Feature.{Feature}
+use Rattle.buffer_glyphs.specs.Origins.{numbers}
 use Rattle.buffer_unicode_tables.specs.Lawful.{AsciiHasNoMarks}
 use Rattle.buffer_unicode_tables.specs.Tables.{Tables}
-use Rattle.buffer_core.specs.Readings.{BufferState, Follows, Reading, Stage, as_it_is}
-use Rattle.buffer_core.specs.Sides.{Sides, items_of, state_of}
+use Rattle.buffer_parts.specs.Counting.{is_left}
+use Rattle.buffer_parts.specs.Lemmas.Stages.{same_read}
+use Rattle.buffer_core.specs.Readings.{BufferState, Follows, Read, Reading, Stage, View, as_it_is, state_after, with_events}
+use Rattle.buffer_core.specs.Sides.{Sides, state_of}
 use Rattle.buffer_stages.specs.Settings.{TextSettings, text_settings}
 use Rattle.layout_laws.specs.Breaks.Seams.{IsDivisibleAtSeam}
 use Rattle.layout_face.specs.declared.parts.FaceParts.{FaceParts}
@@ -21,34 +24,52 @@ use Rattle.script_categories.specs.declared.shaper.hb_ot_script_shaper_t.TheVari
 use Rattle.script_dispatch.specs.declared.any_shaper.hb_ot_any_shaper_t.{hb_ot_any_shaper_t}
 use Rattle.script_dispatch.specs.declared.any_shaper.hb_ot_any_shaper_t.TheVariants as any
 use Rattle.script_dispatch.specs.Requests.{any_kind}
-use Rattle.script_dispatch.specs.Rules.{rules_of}
+use Rattle.script_dispatch.specs.Rules.{rules_of, script_rules}
 use Rattle.script_plan.specs.Plans.{planned_map, planned_shaper, text_map, text_plan}
-use Rattle.script_plan.specs.Rules.{Spans}
+use Rattle.script_plan.specs.Rules.{ShaperRules, Spans}
 use Rattle.script_plan.specs.declared.plan.hb_script_plan_t.{hb_script_plan_t}
 use Rattle.script_plan.specs.declared.plan.hb_ot_shape_plan_t.{hb_ot_shape_plan_t}
 use Rattle.shape_pipeline.specs.Characters.{normalizer}
+use Rattle.shape_text.specs.Ranges.{with_ranges}
 use Rattle.shape_pipeline.specs.Limits.{unshaped_text}
 use Rattle.shape_pipeline.specs.Plans.{IsPlanOf}
 use Rattle.shape_pipeline.specs.Reading.{reading}
 use Rattle.shape_pipeline.specs.Shaped.{by_shaper, by_text, language_tags, text_reading}
 use Rattle.shape_pipeline.specs.Shaping.{Shaping, pauses_of, postprocessing_stage}
-use Rattle.shape_laws.specs.Breaks.Apart.{HaveNoEnd, MarksApart}
-use Rattle.shape_laws.specs.Breaks.Characters.{KeepsMarks, MayBreak, OrderEndsUnjoined, characters}
+use Rattle.shape_laws.specs.Breaks.Apart.{EndsPlainly, HasNoEnd, MarksApart}
+use Rattle.shape_laws.specs.Breaks.ByShaper.{ArabicMayBeCut, HasNoTiles, MarksMayBeCut, MayBeCutBy, ThaiMayBeCut}
+use Rattle.shape_laws.specs.Breaks.Characters.{KeepsMarks, OrderEndsUnjoined}
 use Rattle.shape_laws.specs.Breaks.PlannedPauses.{FindsNoSyllables}
 use Rattle.shape_laws.specs.Breaks.Rewrites.{HasNoStages}
-use Rattle.shape_laws.specs.Breaks.SafeBreaks.{TextsStayBroken}
-use Rattle.shape_laws.specs.Breaks.SafeTexts.{AreCut, AreOfOneLanguage, AreShapedBy, HasNoOwnStages, HaveEnough, IsSafelyCut, PlannedTextsHaveSafeBreaks, PlansHaveSafeBreaks, TextsHaveSafeBreaks, planned_shaping}
+use Rattle.shape_laws.specs.Breaks.SafeBreaks.{TextEndsPlainly, TextsStayBroken}
+use Rattle.shape_laws.specs.Breaks.SafeTexts.{AreCut, AreOfOneLanguage, AreShapedBy, HaveEnough, HavePlainEnds, IsSafelyCut, PlannedTextsHaveSafeBreaks, SafeBreaks, SafeBreaksOfPlans, planned_shaping}
 use Rattle.shape_laws.specs.Breaks.Seams.{EndPlainly, are_apart}
 use Rattle.shape_laws.specs.Breaks.Texts.{AreBrokenShapings, IsNativeLine, KnowsGraphemes}
 use Rattle.shape_laws.specs.Breaks.Lemmas.Adjusted.{glyphs_are_positioned_apart}
 use Rattle.shape_laws.specs.Breaks.Lemmas.Known.{ascii_knows_graphemes}
 use Rattle.shape_laws.specs.Breaks.Lemmas.Plain.{plain_rules_have_no_stages}
 use Rattle.shape_laws.specs.Breaks.Lemmas.Readings.{texts_show_both}
-use Rattle.shape_laws.specs.Breaks.Lemmas.Scripts.{characters_divide, hebrew_rules_have_no_stages, mark_orders_end_unjoined, none_rewrites}
+use Rattle.shape_laws.specs.Breaks.Lemmas.Scripts.{arabic_characters_divide, characters_divide, hebrew_rules_have_no_stages, mark_orders_end_unjoined, none_rewrites}
 use Rattle.shape_laws.specs.Breaks.Lemmas.SeamPlans.{planned_positioning_ends_plainly, planned_substitution_keeps_seams}
 use Rattle.shape_laws.specs.Breaks.Lemmas.Substituted.{glyphs_are_substituted_apart}
+use Rattle.shape_laws.specs.Breaks.Lemmas.ThaiApart.{thai_characters_divide}
+use Rattle.shape_laws.specs.Breaks.Lemmas.Untiled.{untiled_end}
 
 -- ---- shapers
+
+-- a shaper has no stage of its own but an order of marks: the default one, the dumber one, and those of Hebrew and Zawgyi
+abbrev HasNoOwnStages : hb_ot_any_shaper_t → Type 0
+HasNoOwnStages any.Default = Unit {0}
+HasNoOwnStages any.Dumber = Unit {0}
+HasNoOwnStages (any.Script HEBREW_SHAPER) = Unit {0}
+HasNoOwnStages (any.Script MYANMAR_ZAWGYI_SHAPER) = Unit {0}
+HasNoOwnStages (any.Script ARABIC_SHAPER) = ⊥
+HasNoOwnStages (any.Script HANGUL_SHAPER) = ⊥
+HasNoOwnStages (any.Script THAI_SHAPER) = ⊥
+HasNoOwnStages (any.Script INDIC_SHAPER) = ⊥
+HasNoOwnStages (any.Script KHMER_SHAPER) = ⊥
+HasNoOwnStages (any.Script MYANMAR_SHAPER) = ⊥
+HasNoOwnStages (any.Script UNIVERSAL_SHAPER) = ⊥
 
 no_stages : (shaper : hb_ot_any_shaper_t) (plan : hb_script_plan_t ⊤) → HasNoOwnStages shaper → HasNoStages (rules_of shaper plan)
 no_stages any.Default plan h = plain_rules_have_no_stages
@@ -129,6 +150,19 @@ gsub_at_seam p p1 p2 e f h =
 no_end_of : (p q : Shaping) → q ≡ record p { settings = q.settings } → ((font : FaceParts) (settings : TextSettings) → p.rules.postprocesses font settings ≡ as_it_is) → postprocessing_stage q ≡ as_it_is
 no_end_of p q e h = ap (λ (k : Shaping). postprocessing_stage k) e ∙ h p.font q.settings
 
+-- a shaper without a last stage leaves texts as they are
+plain_end : (p : Shaping) → HasNoEnd p → (v : View) → EndsPlainly p v
+plain_end p none v = record {
+  same = λ a r is_a many is. sym (nothing p none a.view r is);
+  budget = λ w r is left. subst (λ (x : Read). is_left x.view.max_ops ≡ true) (sym (nothing p none w r is)) left;
+}
+  where
+    nothing : (p : Shaping) → HasNoEnd p → (w : View) (r : Read) → postprocessing_stage p w ≡ Ok r → with_events [] w ≡ r
+    nothing p none w r is = same_read (with_events [] w) r (sym (ap (λ (f : Stage). f w) none) ∙ is)
+
+plain_text_end : (p : Shaping) → HasNoEnd p → (t : BufferState) → TextEndsPlainly p t
+plain_text_end p none t r is = plain_end p none (with_ranges p.map p.features (numbers (state_after r t).origins) r.view).view
+
 -- ---- texts
 
 -- a text with characters is read as it is shaped
@@ -144,7 +178,7 @@ reading_of_text p s some = by_test (length s.view.items == 0) refl
 shows_by : (shaper : hb_ot_any_shaper_t) (plan : hb_script_plan_t ⊤) (own : List Feature) (font : FaceParts) (tables : Tables) (spans : Spans) (languages : List Tag) (d : Direction) (script : Option Script) (features : List Feature)
     (p p1 p2 : Shaping) (c : ℕ) (whole earlier later result first second : Sides) → p ≡ by_shaper shaper plan own font tables spans (text_settings whole) → AreBrokenShapings p p1 p2
     → plan.map ≡ planned_map (any_kind.asking shaper) font languages d script features → FindsNoSyllables shaper → AreCut c whole earlier later
-    → TextsStayBroken p p1 p2 c (state_of whole) (state_of earlier) (state_of later) → MarksApart p p1 p2 → HaveNoEnd p p1 p2 → HaveEnough p p1 p2 whole earlier later → AreShapedBy p p1 p2 whole earlier later result first second
+    → TextsStayBroken p p1 p2 c (state_of whole) (state_of earlier) (state_of later) → MarksApart p p1 p2 → HavePlainEnds p p1 p2 whole earlier later → HaveEnough p p1 p2 whole earlier later → AreShapedBy p p1 p2 whole earlier later result first second
     → IsSafelyCut c result first second
 shows_by shaper plan own font tables spans languages d script features p p1 p2 c whole earlier later result first second by shapings is none cut texts marks ends enough shaped falls at order =
     let b = cut.broken in
@@ -158,26 +192,96 @@ shows_by shaper plan own font tables spans languages d script features p p1 p2 c
     let gsub = gsub_at_seam p p1 p2 shapings.early_is shapings.late_is seams in
     let gpos = subst (λ (q : Shaping). EndPlainly q.map.tables.gpos.stages) (sym by) (subst (λ (m : OtMapValue). EndPlainly m.tables.gpos.stages) (sym is) (planned_positioning_ends_plainly shaper font languages d script features)) in
     texts_show_both are_apart p p1 p2 c (state_of whole) (state_of earlier) (state_of later) (state_of result) (state_of first) (state_of second) falls shapings texts
-    (record { substitutes = glyphs_are_substituted_apart p p1 p2 shapings gsub; positions = glyphs_are_positioned_apart p p1 p2 shapings gpos; marks = marks; ends = ends })
+    (record { substitutes = glyphs_are_substituted_apart p p1 p2 shapings gsub; positions = glyphs_are_positioned_apart p p1 p2 shapings gpos; marks = marks }) ends.all ends.early ends.late
     enough.all enough.early enough.late (subst (λ (a : Reading). Follows a (state_of whole) (state_of result)) (reading_of_text p (state_of whole) items) shaped.all)
     (subst (λ (a : Reading). Follows a (state_of earlier) (state_of first)) (reading_of_text p1 (state_of earlier) early_items) shaped.early)
     (subst (λ (a : Reading). Follows a (state_of later) (state_of second)) (reading_of_text p2 (state_of later) late_items) shaped.late) at order
 
--- shapers without stages of their own
-plainly_by : (shaper : hb_ot_any_shaper_t) (plan : hb_script_plan_t ⊤) (own : List Feature) (font : FaceParts) (tables : Tables) (spans : Spans) (languages : List Tag) (d : Direction) (script : Option Script) (features : List Feature)
+-- ---- by shaper
+
+-- what is known of a shaper's text that is cut
+record IsReadyToCut (shaper : hb_ot_any_shaper_t) (p p1 p2 : Shaping) (c : ℕ) (whole earlier later : Sides) : Type 0 where
+  none : FindsNoSyllables shaper
+  texts : TextsStayBroken p p1 p2 c (state_of whole) (state_of earlier) (state_of later)
+  ends : HavePlainEnds p p1 p2 whole earlier later
+
+-- what is known of each shaper's text
+record IsKnownCut (p p1 p2 : Shaping) (c : ℕ) (whole earlier later : Sides) : Type 0 where
+  shapings : AreBrokenShapings p p1 p2
+  cut : AreCut c whole earlier later
+  native : IsNativeLine p.settings.script whole.direction
+  graphemes : KnowsGraphemes p.tables
+  keeps : KeepsMarks (normalizer p)
+
+-- texts of shapers without a last stage
+plain_ends : (p p1 p2 : Shaping) (whole earlier later : Sides) → AreBrokenShapings p p1 p2 → ((font : FaceParts) (settings : TextSettings) → p.rules.postprocesses font settings ≡ as_it_is) → HavePlainEnds p p1 p2 whole earlier later
+plain_ends p p1 p2 whole earlier later shapings none = record {
+  all = plain_text_end p (none p.font p.settings) (state_of whole);
+  early = plain_text_end p1 (no_end_of p p1 shapings.early_is none) (state_of earlier);
+  late = plain_text_end p2 (no_end_of p p2 shapings.late_is none) (state_of later);
+}
+
+-- texts of shapers without stages of their own
+ready_plainly : (shaper : hb_ot_any_shaper_t) (plan : hb_script_plan_t ⊤) (p p1 p2 : Shaping) (c : ℕ) (whole earlier later : Sides) → HasNoOwnStages shaper → p.rules ≡ rules_of shaper plan → IsKnownCut p p1 p2 c whole earlier later → MarksMayBeCut earlier later
+    → IsReadyToCut shaper p p1 p2 c whole earlier later
+ready_plainly shaper plan p p1 p2 c whole earlier later none rules k may =
+    let stages : HasNoStages p.rules = subst HasNoStages (sym rules) (no_stages shaper plan none) in
+    let unjoined : OrderEndsUnjoined p.rules.reorders = subst (λ (q : ShaperRules). OrderEndsUnjoined q.reorders) (sym rules) (mark_orders_end_unjoined shaper plan) in
+    record {
+      none = no_syllables shaper none;
+      texts = λ r e l is_r is_e is_l. characters_divide p p1 p2 c (state_of whole) (state_of earlier) (state_of later) r e l k.shapings stages k.keeps unjoined k.graphemes k.cut.ready k.cut.broken k.native may is_r is_e is_l;
+      ends = plain_ends p p1 p2 whole earlier later k.shapings (λ font settings. ap (λ (q : ShaperRules). q.postprocesses font settings) rules ∙ no_end shaper plan none font settings);
+    }
+
+-- a text of the Arabic shaper without tiles
+untiled_text_end : (plan : hb_script_plan_t ⊤) (p : Shaping) (text : Sides) → p.rules ≡ script_rules ARABIC_SHAPER plan → HasNoTiles p text → TextEndsPlainly p (state_of text)
+untiled_text_end plan p text rules none r is =
+    untiled_end p (with_ranges p.map p.features (numbers (state_after r (state_of text)).origins) r.view).view (λ w. ap (λ (q : ShaperRules). q.postprocesses p.font p.settings w) rules) (λ a is_a. none r a is is_a)
+
+ready_joined : (plan : hb_script_plan_t ⊤) (p p1 p2 : Shaping) (c : ℕ) (whole earlier later : Sides) → p.rules ≡ script_rules ARABIC_SHAPER plan → IsKnownCut p p1 p2 c whole earlier later → ArabicMayBeCut plan p p1 p2 whole earlier later
+    → IsReadyToCut (any.Script ARABIC_SHAPER) p p1 p2 c whole earlier later
+ready_joined plan p p1 p2 c whole earlier later rules k may = record {
+  none = tt;
+  texts = λ r e l is_r is_e is_l. arabic_characters_divide plan p p1 p2 c (state_of whole) (state_of earlier) (state_of later) r e l rules may.script k.shapings k.keeps may.types may.direction k.graphemes k.cut.ready k.cut.broken k.native may.marks may.shown is_r is_e is_l;
+  ends = record {
+    all = untiled_text_end plan p whole rules may.untiled;
+    early = untiled_text_end plan p1 earlier (ap (λ (q : Shaping). q.rules) k.shapings.early_is ∙ rules) may.early_untiled;
+    late = untiled_text_end plan p2 later (ap (λ (q : Shaping). q.rules) k.shapings.late_is ∙ rules) may.late_untiled;
+  };
+}
+
+ready_thai : (plan : hb_script_plan_t ⊤) (p p1 p2 : Shaping) (c : ℕ) (whole earlier later : Sides) → p.rules ≡ script_rules THAI_SHAPER plan → IsKnownCut p p1 p2 c whole earlier later → ThaiMayBeCut p earlier later
+    → IsReadyToCut (any.Script THAI_SHAPER) p p1 p2 c whole earlier later
+ready_thai plan p p1 p2 c whole earlier later rules k may = record {
+  none = tt;
+  texts = λ r e l is_r is_e is_l. thai_characters_divide plan p p1 p2 c (state_of whole) (state_of earlier) (state_of later) r e l rules k.shapings k.keeps may.forms k.graphemes k.cut.ready k.cut.broken k.native may.begins may.marks is_r is_e is_l;
+  ends = plain_ends p p1 p2 whole earlier later k.shapings (λ font settings. ap (λ (q : ShaperRules). q.postprocesses font settings) rules);
+}
+
+ready_by : (shaper : hb_ot_any_shaper_t) (plan : hb_script_plan_t ⊤) (p p1 p2 : Shaping) (c : ℕ) (whole earlier later : Sides) → p.rules ≡ rules_of shaper plan → IsKnownCut p p1 p2 c whole earlier later → MayBeCutBy shaper plan p p1 p2 whole earlier later
+    → IsReadyToCut shaper p p1 p2 c whole earlier later
+ready_by any.Default plan p p1 p2 c whole earlier later rules k may = ready_plainly any.Default plan p p1 p2 c whole earlier later tt rules k may
+ready_by any.Dumber plan p p1 p2 c whole earlier later rules k may = ready_plainly any.Dumber plan p p1 p2 c whole earlier later tt rules k may
+ready_by (any.Script HEBREW_SHAPER) plan p p1 p2 c whole earlier later rules k may = ready_plainly (any.Script HEBREW_SHAPER) plan p p1 p2 c whole earlier later tt rules k may
+ready_by (any.Script MYANMAR_ZAWGYI_SHAPER) plan p p1 p2 c whole earlier later rules k may = ready_plainly (any.Script MYANMAR_ZAWGYI_SHAPER) plan p p1 p2 c whole earlier later tt rules k may
+ready_by (any.Script ARABIC_SHAPER) plan p p1 p2 c whole earlier later rules k may = ready_joined plan p p1 p2 c whole earlier later rules k may
+ready_by (any.Script THAI_SHAPER) plan p p1 p2 c whole earlier later rules k may = ready_thai plan p p1 p2 c whole earlier later rules k may
+ready_by (any.Script HANGUL_SHAPER) plan p p1 p2 c whole earlier later rules k may = absurd may
+ready_by (any.Script INDIC_SHAPER) plan p p1 p2 c whole earlier later rules k may = absurd may
+ready_by (any.Script KHMER_SHAPER) plan p p1 p2 c whole earlier later rules k may = absurd may
+ready_by (any.Script MYANMAR_SHAPER) plan p p1 p2 c whole earlier later rules k may = absurd may
+ready_by (any.Script UNIVERSAL_SHAPER) plan p p1 p2 c whole earlier later rules k may = absurd may
+
+-- safe breaks by what a shaper asks
+cut_by : (shaper : hb_ot_any_shaper_t) (plan : hb_script_plan_t ⊤) (own : List Feature) (font : FaceParts) (tables : Tables) (spans : Spans) (languages : List Tag) (d : Direction) (script : Option Script) (features : List Feature)
     (p p1 p2 : Shaping) (c : ℕ) (whole earlier later result first second : Sides) → p ≡ by_shaper shaper plan own font tables spans (text_settings whole) → AreBrokenShapings p p1 p2
-    → plan.map ≡ planned_map (any_kind.asking shaper) font languages d script features → HasNoOwnStages shaper → AreCut c whole earlier later → MayBreak (characters (items_of earlier)) (characters (items_of later)) → AsciiHasNoMarks
+    → plan.map ≡ planned_map (any_kind.asking shaper) font languages d script features → AreCut c whole earlier later → MayBeCutBy shaper plan p p1 p2 whole earlier later → AsciiHasNoMarks
     → KeepsMarks (normalizer p) → MarksApart p p1 p2 → HaveEnough p p1 p2 whole earlier later → AreShapedBy p p1 p2 whole earlier later result first second → IsSafelyCut c result first second
-plainly_by shaper plan own font tables spans languages d script features p p1 p2 c whole earlier later result first second by shapings is none cut may ascii keeps marks enough shaped =
-    let stages : HasNoStages p.rules = subst (λ (q : Shaping). HasNoStages q.rules) (sym by) (no_stages shaper plan none) in
-    let unjoined : OrderEndsUnjoined p.rules.reorders = subst (λ (q : Shaping). OrderEndsUnjoined q.rules.reorders) (sym by) (mark_orders_end_unjoined shaper plan) in
-    let ends : (f : FaceParts) (settings : TextSettings) → p.rules.postprocesses f settings ≡ as_it_is = λ f settings. subst (λ (q : Shaping). q.rules.postprocesses f settings ≡ as_it_is) (sym by) (no_end shaper plan none f settings) in
-    let native : IsNativeLine p.settings.script (state_of whole).view.direction = subst (λ (q : Shaping). IsNativeLine q.settings.script whole.direction) (sym by) cut.native in
-    let graphemes : KnowsGraphemes p.tables = ascii_knows_graphemes p.tables ascii in
-    let texts : TextsStayBroken p p1 p2 c (state_of whole) (state_of earlier) (state_of later) =
-    λ r e l is_r is_e is_l. characters_divide p p1 p2 c (state_of whole) (state_of earlier) (state_of later) r e l shapings stages keeps unjoined graphemes cut.ready cut.broken native may is_r is_e is_l in
-    shows_by shaper plan own font tables spans languages d script features p p1 p2 c whole earlier later result first second by shapings is (no_syllables shaper none) cut texts marks
-    (record { whole_none = ends p.font p.settings; early_none = no_end_of p p1 shapings.early_is ends; late_none = no_end_of p p2 shapings.late_is ends }) enough shaped
+cut_by shaper plan own font tables spans languages d script features p p1 p2 c whole earlier later result first second by shapings is cut may ascii keeps marks enough shaped =
+    let native : IsNativeLine p.settings.script whole.direction = subst (λ (q : Shaping). IsNativeLine q.settings.script whole.direction) (sym by) cut.native in
+    let known : IsKnownCut p p1 p2 c whole earlier later = record { shapings = shapings; cut = cut; native = native; graphemes = ascii_knows_graphemes p.tables ascii; keeps = keeps } in
+    let ready = ready_by shaper plan p p1 p2 c whole earlier later (ap (λ (q : Shaping). q.rules) by) known may in
+    shows_by shaper plan own font tables spans languages d script features p p1 p2 c whole earlier later result first second by shapings is ready.none cut ready.texts marks ready.ends enough shaped
 
 -- ---- by a plan
 
@@ -200,17 +304,17 @@ planned_texts_have_safe_breaks font tables spans plan c whole earlier later resu
     (planned_shaping plan font tables spans whole) (planned_shaping plan font tables spans earlier) (planned_shaping plan font tables spans later) c whole earlier later result first second refl
     (plan_shapings plan font tables spans c whole earlier later cut) (plan_map_is font plan of) none cut texts marks ends enough shaped
 
-pub plans_have_safe_breaks : PlansHaveSafeBreaks
-plans_have_safe_breaks font tables spans plan c whole earlier later result first second of none cut may ascii keeps marks enough shaped =
-    plainly_by plan.shaper plan.script_plan plan.user_features.items font tables spans plan.language_tags.items plan.script_plan.direction plan.script_plan.script plan.user_features.items
+pub safe_breaks_of_plans : SafeBreaksOfPlans
+safe_breaks_of_plans font tables spans plan c whole earlier later result first second of cut may ascii keeps marks enough shaped =
+    cut_by plan.shaper plan.script_plan plan.user_features.items font tables spans plan.language_tags.items plan.script_plan.direction plan.script_plan.script plan.user_features.items
     (planned_shaping plan font tables spans whole) (planned_shaping plan font tables spans earlier) (planned_shaping plan font tables spans later) c whole earlier later result first second refl
-    (plan_shapings plan font tables spans c whole earlier later cut) (plan_map_is font plan of) none cut may ascii keeps marks enough shaped
+    (plan_shapings plan font tables spans c whole earlier later cut) (plan_map_is font plan of) cut may ascii keeps marks enough shaped
 
 -- ---- without a plan
 
-pub texts_have_safe_breaks : TextsHaveSafeBreaks
-texts_have_safe_breaks font tables tags spans features c whole earlier later result first second none cut one may ascii keeps marks enough shaped =
+pub safe_breaks : SafeBreaks
+safe_breaks font tables tags spans features c whole earlier later result first second cut one may ascii keeps marks enough shaped =
     let languages = language_tags tags whole in
-    plainly_by (planned_shaper any_kind font languages whole.direction whole.script) (text_plan any_kind font languages whole.direction whole.script features) features font tables spans languages whole.direction whole.script features
+    cut_by (planned_shaper any_kind font languages whole.direction whole.script) (text_plan any_kind font languages whole.direction whole.script features) features font tables spans languages whole.direction whole.script features
     (by_text font tables tags spans features whole) (by_text font tables tags spans features earlier) (by_text font tables tags spans features later) c whole earlier later result first second refl
-    (shapings_of font tables tags spans features c whole earlier later cut one) (planned_is font languages whole.direction whole.script features) none cut may ascii keeps marks enough shaped
+    (shapings_of font tables tags spans features c whole earlier later cut one) (planned_is font languages whole.direction whole.script features) cut may ascii keeps marks enough shaped

@@ -38,7 +38,7 @@ use Rattle.shape_laws.specs.Breaks.Lemmas.Rotated.{rotation_divides}
 -- ---- settings
 
 -- a bit among those of the requests is that of other flags with the same requests
-same_bit : (f g bit : ℕ) → bit_and 0x3C bit ≡ bit → bit_and g 0x3C ≡ bit_and f 0x3C → bit_and g bit ≡ bit_and f bit
+pub same_bit : (f g bit : ℕ) → bit_and 0x3C bit ≡ bit → bit_and g 0x3C ≡ bit_and f 0x3C → bit_and g bit ≡ bit_and f bit
 same_bit f g bit inside e =
     ap (bit_and g) (sym inside) ∙ sym (and_assoc bit g 0x3C) ∙ ap (λ n. bit_and n bit) e ∙ and_assoc bit f 0x3C ∙ ap (bit_and f) inside
 

@@ -15,7 +15,7 @@ use Rattle.shape_laws.specs.Breaks.ThaiCharacters.{IsMarkedText, IsUnmarkedText,
 use Rattle.shape_laws.specs.Breaks.Lemmas.Marks.{AreOf, marks_are}
 use Rattle.shape_laws.specs.Breaks.Lemmas.Thai.{none_above}
 use Rattle.shape_laws.specs.Breaks.Lemmas.ThaiMarks.{IsMarkedLater, is_other_mark, marked_later, vowelless_stays}
-use Rattle.shape_laws.specs.Breaks.Lemmas.Vowels.{vowels_arrange}
+use Rattle.shape_laws.specs.Breaks.Lemmas.Vowels.{vowels_left}
 
 -- ---- tests of numbers
 
@@ -153,4 +153,4 @@ plain_unmarked xs zs p e h =
 
 -- a text that has characters has items once vowels are decomposed
 pub vowels_some : (zs : List Item) → 0 < length zs → 0 < length (text_with_splits [] zs)
-vowels_some zs some = vowels_arrange.some zs some
+vowels_some zs some = vowels_left zs some

@@ -158,15 +158,15 @@ vowels_rewrite out (x ∷ xs) n e h k = elim (cases_Bool (is_sara_am x)) [
       (subst (λ (fs : List Event). IsWholeRewrite n (record { items = text_with_splits out2 xs; events = fs ++ split_events out2 xs })) (sym (cond-false _ _ _ lacks)) rest)
 ]
 
+pub vowels_left : (xs : List Item) → 0 < length xs → 0 < length (text_with_splits [] xs)
+vowels_left [] some = absurd (omega (arith, some))
+vowels_left (x ∷ xs) some = let here = character_many [] x in let rest = grows (with_character [] x) xs in omega (arith, here, rest)
+
 pub vowels_arrange : ArrangesTexts vowels_arranged
 vowels_arrange = record {
   rewrites = λ xs h. vowels_rewrite [] xs (length xs) (omega arith) tt h;
-  some = some_left;
+  some = λ xs h. vowels_left xs;
 }
-  where
-    some_left : (xs : List Item) → 0 < length xs → 0 < length (text_with_splits [] xs)
-    some_left [] some = absurd (omega (arith, some))
-    some_left (x ∷ xs) some = let here = character_many [] x in let rest = grows (with_character [] x) xs in omega (arith, here, rest)
 
 -- ---- two texts
 

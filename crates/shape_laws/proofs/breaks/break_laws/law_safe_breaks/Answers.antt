@@ -1,0 +1,5 @@
+use Rattle.shape_laws.specs.Breaks.Lemmas.SafeTexts.{safe_breaks}
+use Rattle.shape_laws.proofs.breaks.break_laws.law_safe_breaks.Goals as goal
+
+pub returns : goal.returns
+returns c = safe_breaks

@@ -1,5 +1,0 @@
-use Rattle.shape_laws.specs.Breaks.Lemmas.SafeTexts.{texts_have_safe_breaks}
-use Rattle.shape_laws.proofs.breaks.break_laws.law_texts_have_safe_breaks.Goals as goal
-
-pub returns : goal.returns
-returns c = texts_have_safe_breaks
