@@ -1,0 +1,5 @@
+pub mod Lines
+pub mod Steps
+pub mod Breaks
+pub mod Cuts
+pub mod Laws

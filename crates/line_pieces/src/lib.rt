@@ -1,0 +1,16 @@
+//! Lines of a paragraph that was shaped as a whole with safe breaks (PRODUCE_SAFE_BREAKS): which of them are the
+//! whole's own glyphs, and which have to be shaped again. Where a line may end is handed in (UAX 14). rustybuzz leaves
+//! this to its callers. The crate stands on the calls and laws of `kuspveli` alone.
+#![tactic(auto)]
+
+mod cuts;
+mod filling;
+pub mod laws;
+mod lines;
+#[cfg(test)]
+mod rows;
+mod steps;
+mod tests_of_order;
+
+pub use filling::cut_lines;
+pub use lines::{GlyphRange, Line, LineFault};

@@ -1,0 +1,53 @@
+//! Lines, and why a paragraph isn't cut into some.
+//!
+//! As each error type of the workspace `LineFault` has conversions from want of memory of its own: rt takes no impl
+//! that a macro of a repository writes.
+use std::alloc::AllocError;
+use thiserror::Error;
+
+/// A range of glyphs: the index of the first, and one past the last.
+#[derive(Clone, Copy, PartialEq, Eq, Debug)]
+pub struct GlyphRange {
+    pub start: usize,
+    pub end: usize,
+}
+
+/// A line of a paragraph.
+#[derive(Clone, Copy, PartialEq, Eq, Debug)]
+pub struct Line {
+    /// The index of its first byte.
+    pub start: usize,
+    /// The index after its last byte.
+    pub end: usize,
+    /// The sum of the advances of the paragraph's glyphs of these bytes.
+    pub width: i64,
+    /// The paragraph's glyphs of these bytes; none where the line has to be shaped again.
+    pub glyphs: Option<GlyphRange>,
+}
+
+/// Why a paragraph isn't cut into lines.
+#[derive(Clone, Copy, PartialEq, Eq, Debug, Error)]
+pub enum LineFault {
+    #[error("out of memory")]
+    OutOfMemory,
+    /// There are 2^31 glyphs or more, so a sum of their advances might not fit.
+    #[error("too many glyphs")]
+    TooManyGlyphs,
+    /// The clusters of the glyphs aren't in order along a line of this direction.
+    #[error("clusters out of order")]
+    ClustersOutOfOrder,
+    /// A byte at which a line may end isn't after byte 0 and the one before it, or no character of the text ends there.
+    #[error("invalid breaks")]
+    InvalidBreaks,
+}
+
+impl From<AllocError> for LineFault {
+    ghost use Rattle.std.specs.Prelude.{◌≡◌};
+    ghost use Rattle.line_pieces.specs.declared.lines.LineFault.TheVariants.{OutOfMemory};
+
+    ghost from_gives = { λ _ e. e ≡ OutOfMemory };
+
+    fn from(_error: AllocError) -> LineFault {
+        LineFault::OutOfMemory
+    }
+}

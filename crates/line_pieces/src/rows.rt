@@ -1,0 +1,257 @@
+//! Lines of a few paragraphs by hand: clusters, advances and flags of glyphs, and what they are cut into.
+use crate::{Line, LineFault, cut_lines};
+use kuspveli::{Direction, GlyphBuffer, GlyphInfo, GlyphPosition, UnicodeBuffer};
+use std::alloc::{AllocError, Global};
+use std::process::Abort;
+use std::test::Fail;
+
+/// A text of a direction, with the clusters and advances of its glyphs, and those that are unsafe to break before.
+#[derive(Clone, Copy)]
+struct Row<'a> {
+    text: &'a str,
+    direction: Direction,
+    clusters: &'a [u32],
+    advances: &'a [i32],
+    is_unsafe: &'a [bool],
+}
+
+const fn make_row<'a>(
+    text: &'a str,
+    direction: Direction,
+    clusters: &'a [u32],
+    advances: &'a [i32],
+    is_unsafe: &'a [bool],
+) -> Row<'a> {
+    Row {
+        text,
+        direction,
+        clusters,
+        advances,
+        is_unsafe,
+    }
+}
+
+/// Five letters of a Latin font.
+const FORWARD: Row<'static> = Row {
+    text: "ab cd",
+    direction: Direction::LeftToRight,
+    clusters: &[0, 1, 2, 3, 4],
+    advances: &[500, 600, 250, 500, 600],
+    is_unsafe: &[],
+};
+
+/// A ligature of the second and the third of four letters.
+const LIGATURE: Row<'static> = Row {
+    text: "afib",
+    direction: Direction::LeftToRight,
+    clusters: &[0, 1, 3],
+    advances: &[500, 520, 600],
+    is_unsafe: &[],
+};
+
+fn set_advances(positions: &mut [GlyphPosition], advances: &[i32], is_horizontal: bool) {
+    for (position, advance) in positions.iter_mut().zip(advances) {
+        if is_horizontal {
+            position.x_advance = *advance;
+        } else {
+            position.y_advance = *advance;
+        }
+    }
+}
+
+fn set_flags(infos: &mut [GlyphInfo], flags: &[bool]) {
+    for (info, flag) in infos.iter_mut().zip(flags) {
+        if *flag {
+            info.mask = 1;
+        }
+    }
+}
+
+fn glyphs_of(alloc: Global, row: Row<'_>) -> Result<GlyphBuffer, AllocError> {
+    let mut text = UnicodeBuffer::new(alloc);
+    for cluster in row.clusters {
+        let _added = text.add('x', *cluster)?;
+    }
+    let mut buffer = text.into_buffer();
+    set_advances(
+        buffer.pos_slice_mut(),
+        row.advances,
+        row.direction.is_horizontal(),
+    );
+    set_flags(buffer.info_slice_mut(), row.is_unsafe);
+    Ok(GlyphBuffer::from_buffer(buffer))
+}
+
+/// A line's bytes, its width, and its glyphs.
+fn push_line(text: &mut String, line: Line) -> Result<(), AllocError> {
+    let Line {
+        start,
+        end,
+        width,
+        ..
+    } = line;
+    if !text.is_empty() {
+        text.push(' ')?;
+    }
+    write!(text, "{start}-{end}@{width}")?;
+    let Some(glyphs) = line.glyphs else {
+        return Ok(());
+    };
+    let (first, last) = (glyphs.start, glyphs.end);
+    write!(text, "={first}-{last}")
+}
+
+fn cut(
+    alloc: Global,
+    row: Row<'_>,
+    breaks: &[usize],
+    width: i64,
+) -> Result<Result<Vec<Line>, LineFault>, AllocError> {
+    let glyphs = glyphs_of(alloc, row)?;
+    Ok(cut_lines(alloc, &glyphs, row.text, row.direction, breaks, width))
+}
+
+fn has_lines(
+    rt: &impl Abort,
+    alloc: Global,
+    row: Row<'_>,
+    breaks: &[usize],
+    width: i64,
+    want: &str,
+) -> Result<(), Fail> {
+    let lines = cut(alloc, row, breaks, width)??;
+    let mut text = String::new(alloc);
+    for line in &lines {
+        push_line(&mut text, *line)?;
+    }
+    assert_eq!(rt; text.as_str(), want);
+    Ok(())
+}
+
+fn has_fault(
+    rt: &impl Abort,
+    alloc: Global,
+    row: Row<'_>,
+    breaks: &[usize],
+    want: LineFault,
+) -> Result<(), Fail> {
+    let found = match cut(alloc, row, breaks, 1000)? {
+        Ok(_) => None,
+        Err(LineFault::OutOfMemory) => return Err(Fail::from(LineFault::OutOfMemory)),
+        Err(fault) => Some(fault),
+    };
+    assert!(rt; found == Some(want));
+    Ok(())
+}
+
+#[test]
+fn forward_lines_are_filled(rt: HostRuntime) -> Result<(), Fail> {
+    let alloc = rt.alloc();
+    // the piece "ab " has 1350 units, "cd" has 1100
+    let both = "0-3@1350=0-3 3-5@1100=3-5";
+    has_lines(&rt, alloc, FORWARD, &[3], 1400, both)?;
+    has_lines(&rt, alloc, FORWARD, &[3], 2449, both)?;
+    has_lines(&rt, alloc, FORWARD, &[3], 2450, "0-5@2450=0-5")?;
+    has_lines(&rt, alloc, FORWARD, &[], 1400, "0-5@2450=0-5")?;
+    // the end of the text is a break with or without being handed in
+    has_lines(&rt, alloc, FORWARD, &[3, 5], 1400, both)?;
+    // each piece is wider than the width
+    has_lines(&rt, alloc, FORWARD, &[3], 100, both)?;
+    has_lines(&rt, alloc, FORWARD, &[3], -1, both)?;
+    // two pieces in the first line, and one in the second: 500 + 600, 250 + 500, 600
+    let three = "0-2@1100=0-2 2-4@750=2-4 4-5@600=4-5";
+    has_lines(&rt, alloc, FORWARD, &[1, 2, 3, 4], 1100, three)?;
+    let empty = make_row("", Direction::LeftToRight, &[], &[], &[]);
+    has_lines(&rt, alloc, empty, &[], 1000, "")
+}
+
+#[test]
+fn unsafe_lines_are_to_be_shaped_again(rt: HostRuntime) -> Result<(), Fail> {
+    let alloc = rt.alloc();
+    // a break inside a ligature, and one after it
+    has_lines(&rt, alloc, LIGATURE, &[2], 1100, "0-2@1020 2-4@600")?;
+    has_lines(&rt, alloc, LIGATURE, &[3], 1100, "0-3@1020=0-2 3-4@600=2-3")?;
+    has_lines(
+        &rt,
+        alloc,
+        LIGATURE,
+        &[2, 3],
+        1100,
+        "0-3@1020=0-2 3-4@600=2-3",
+    )?;
+    // a flag on a break, and on one glyph of two of a cluster
+    let kerned = make_row(
+        "abc",
+        Direction::LeftToRight,
+        &[0, 1, 2],
+        &[500, 600, 500],
+        &[false, true, false],
+    );
+    has_lines(
+        &rt,
+        alloc,
+        kerned,
+        &[1, 2],
+        600,
+        "0-1@500 1-2@600 2-3@500=2-3",
+    )?;
+    let marked = make_row(
+        "a\u{E1}",
+        Direction::LeftToRight,
+        &[0, 1, 1],
+        &[500, 600, 0],
+        &[false, false, true],
+    );
+    has_lines(&rt, alloc, marked, &[1], 600, "0-1@500 1-3@600")
+}
+
+#[test]
+fn other_directions_have_lines(rt: HostRuntime) -> Result<(), Fail> {
+    let alloc = rt.alloc();
+    // backward, where the first line has the last glyphs
+    let backward = make_row(
+        "ab cd",
+        Direction::RightToLeft,
+        &[4, 3, 2, 1, 0],
+        &[600, 500, 250, 600, 500],
+        &[],
+    );
+    has_lines(
+        &rt,
+        alloc,
+        backward,
+        &[3],
+        1400,
+        "0-3@1350=2-5 3-5@1100=0-2",
+    )?;
+    has_lines(&rt, alloc, backward, &[3], 2450, "0-5@2450=0-5")?;
+    let flagged = make_row(
+        "ab cd",
+        Direction::RightToLeft,
+        &[4, 3, 2, 1, 0],
+        &[600, 500, 250, 600, 500],
+        &[false, true],
+    );
+    has_lines(&rt, alloc, flagged, &[3], 1400, "0-3@1350 3-5@1100")?;
+    // downward, where advances are below zero
+    let downward = make_row("ab", Direction::TopToBottom, &[0, 1], &[-1000, -900], &[]);
+    has_lines(&rt, alloc, downward, &[1], 1000, "0-1@1000=0-1 1-2@900=1-2")?;
+    has_lines(&rt, alloc, downward, &[1], 1900, "0-2@1900=0-2")?;
+    let upward = make_row("ab", Direction::BottomToTop, &[1, 0], &[-900, -1000], &[]);
+    has_lines(&rt, alloc, upward, &[1], 1000, "0-1@1000=1-2 1-2@900=0-1")
+}
+
+#[test]
+fn other_breaks_and_clusters_are_refused(rt: HostRuntime) -> Result<(), Fail> {
+    let alloc = rt.alloc();
+    has_fault(&rt, alloc, FORWARD, &[0], LineFault::InvalidBreaks)?;
+    has_fault(&rt, alloc, FORWARD, &[3, 3], LineFault::InvalidBreaks)?;
+    has_fault(&rt, alloc, FORWARD, &[3, 1], LineFault::InvalidBreaks)?;
+    has_fault(&rt, alloc, FORWARD, &[6], LineFault::InvalidBreaks)?;
+    let accented = make_row("\u{E1}", Direction::LeftToRight, &[0], &[500], &[]);
+    has_fault(&rt, alloc, accented, &[1], LineFault::InvalidBreaks)?;
+    let turned = make_row("ab", Direction::LeftToRight, &[1, 0], &[500, 600], &[]);
+    has_fault(&rt, alloc, turned, &[1], LineFault::ClustersOutOfOrder)?;
+    let forward = make_row("ab", Direction::RightToLeft, &[0, 1], &[500, 600], &[]);
+    has_fault(&rt, alloc, forward, &[0], LineFault::ClustersOutOfOrder)
+}
