@@ -1,38 +1,29 @@
 -- A text that leaves some of its budget of nested lookups has enough of it.
-use Rattle.std.proofs.Common.{ℕ, zero, suc, ℤ, pos, negsuc, ◌≡◌, ◌≤◌, ◌+◌, ◌-◌, ◌-ℤ◌, nat_le, Bool, true, false, List, [], ◌∷◌, Ok, Err, arith, refl, sym, ap, subst, ◌∙◌}
-use Rattle.std.specs.Prelude.{⊤, Result}
+use Rattle.std.proofs.Common.{ℕ, zero, suc, ℤ, pos, negsuc, ◌≡◌, ◌≤◌, ◌+◌, ◌-◌, ◌-ℤ◌, nat_le, true, [], ◌∷◌, Ok, Err, arith, refl, sym, ap, subst, ◌∙◌}
+use Rattle.std.specs.Prelude.{Result}
 use Rattle.std.proofs.lemmas.Int.{ints}
 use Rattle.std.proofs.lemmas.Bool.Decides.{nat_tests}
 use Rattle.std.proofs.lemmas.Grind.{common_steps}
-use Rattle.buffer_common.specs.declared.direction.Direction.TheVariants.{LeftToRight}
 use Rattle.buffer_glyphs.specs.declared.cause.ShapeCause.{ShapeCause}
-use Rattle.buffer_core.specs.Readings.{BufferState, Read, Reading, Stage, View, always}
-use Rattle.buffer_core.specs.Sides.{Sides, state_of, view_of}
-use Rattle.buffer_stages.specs.Settings.{text_settings}
-use Rattle.buffer_parts.specs.Counting.{CountsBudget, IsFair, ReadingCounts, at_budget, is_left, with_budget_changed}
+use Rattle.buffer_core.specs.Readings.{BufferState, Read, Reading, Stage, View}
+use Rattle.buffer_core.specs.Sides.{state_of}
+use Rattle.buffer_parts.specs.Counting.{CountsBudget, IsFair, ReadingCounts, at_budget, with_budget_changed}
 use Rattle.script_dispatch.specs.Lemmas.Limits.{rules_depend_on_no_limit}
 use Rattle.script_dispatch.specs.Requests.{any_kind}
 use Rattle.script_plan.specs.Plans.{planned_shaper, text_plan}
-use Rattle.script_plan.specs.Rules.{RulesDependOnNoLimit}
-use Rattle.shape_glyphs.specs.Flags.{with_flags_spread}
-use Rattle.shape_glyphs.specs.Ignorables.{ignorables_hidden}
-use Rattle.shape_glyphs.specs.Selectors.{with_selectors}
-use Rattle.shape_pipeline.specs.Budget.{before_reset, budget_left, glyphs_hidden, left_by, reading_before_reset}
+use Rattle.shape_pipeline.specs.Budget.{before_reset, glyphs_hidden, left_by, reading_before_reset}
 use Rattle.shape_pipeline.specs.Glyphs.{glyphs_substituted, glyphs_taken}
 use Rattle.shape_pipeline.specs.Masks.{masks_set, ranges_set}
 use Rattle.shape_pipeline.specs.Reading.{before_ranges, clusters_after, positioning_stage}
 use Rattle.shape_pipeline.specs.ReadingLaws.{have_no_ranges}
 use Rattle.shape_pipeline.specs.Shaped.{by_text, language_tags}
-use Rattle.shape_pipeline.specs.Shaping.{Shaping, postprocessing_stage}
-use Rattle.shape_premises.specs.Texts.{starts_with_mark}
+use Rattle.shape_pipeline.specs.Shaping.{Shaping}
 use Rattle.shape_laws.specs.Laws.{ReadTextsHaveEnoughBudget, TextsHaveEnoughBudget}
-use Rattle.shape_laws.specs.Shapers.{NormalizesAsUnicode}
 use Rattle.shape_laws.specs.Stages.{allows, budget_of, characters_stage, glyphs_stage}
-use Rattle.shape_laws.specs.Texts.{HasEnoughBudget, RunsFromLeft, text_characters}
 use Rattle.shape_laws.proofs.Alike.{allowed_is, hiding_stages, own_budget, parted_before, planned_line, ranges_led, runs_count_nested}
 use Rattle.shape_laws.proofs.Chosen.{chosen_is}
 use Rattle.shape_laws.proofs.Limits.{glyphs_depend_on_no_limit}
-use Rattle.shape_laws.proofs.Passing.{Passes, Reaches, in_order_passes, passes_in_order, reaches_read}
+use Rattle.shape_laws.proofs.Passing.{Passes, Reaches, in_order_passes, passes_in_order}
 use Rattle.shape_laws.proofs.Shapers.{shapers_normalize_as_unicode}
 
 -- ---- the way of a text up to the reset

@@ -187,11 +187,12 @@ fn are_tags(alloc: Global, question: &str, text: &str, answer: &str) -> Result<b
         },
     )?;
     let tags = tags_of(question, text, language.as_ref(), &table);
-    let tags = if question == "first tag" {
-        tags.get(..1).unwrap_or(&[])
+    let wanted = if question == "first tag" {
+        1
     } else {
-        tags.as_slice()
+        tags.len()
     };
+    let tags = tags.get(..wanted).unwrap_or(&[]);
     Ok(text_of(alloc, tags)?.as_str() == answer)
 }
 

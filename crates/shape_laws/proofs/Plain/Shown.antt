@@ -1,6 +1,6 @@
 -- What `shape` leaves of a plain text.
 use Rattle.std.proofs.Common.{ℕ, ◌≡◌, ◌≤◌, ◌==◌, ◌&&◌, Bool, true, false, not, if◌then◌else◌, List, [], ◌∷◌, map, length, Ok, refl, sym, ap, subst, ◌∙◌, arith}
-use Rattle.std.specs.Prelude.{⊤, Option, Some, None, is_some}
+use Rattle.std.specs.Prelude.{⊤, Option, None, is_some}
 use Rattle.std.specs.List.{list_all}
 use Rattle.std.proofs.lemmas.Bool.{eqb-true}
 use Rattle.std.proofs.lemmas.List.{length-map, nil_from_length}
@@ -15,16 +15,15 @@ use Rattle.layout_face.specs.declared.positioning.PositioningTable.{PositioningT
 use Rattle.layout_face.specs.declared.substitution.SubstitutionTable.{SubstitutionTable}
 use Rattle.buffer_unicode_tables.specs.Tables.{Tables}
 use Rattle.buffer_glyphs.specs.declared.info.hb_glyph_info_t.{hb_glyph_info_t}
-use Rattle.buffer_glyphs.specs.Items.{Item, Position, item_of, strip}
-use Rattle.buffer_core.specs.Readings.{Follows, Read, Reading, BufferState}
+use Rattle.buffer_glyphs.specs.Items.{Item, item_of, strip}
+use Rattle.buffer_core.specs.Readings.{Follows, Read, BufferState}
 use Rattle.buffer_core.specs.Segment.{after_guess_segment_properties}
 use Rattle.buffer_core.specs.Sides.{Sides, all_glyphs, items_of, state_of, view_of}
 use Rattle.layout_map.specs.Chosen.{chosen_substitution, script_tag}
 use Rattle.layout_map.specs.Compiled.{OtMapValue}
-use Rattle.buffer_stages.specs.Settings.{text_settings}
 use Rattle.script_plan.specs.Plans.{choices, disables_gpos, planned_shaper, text_map, text_plan}
 use Rattle.script_plan.specs.declared.plan.hb_script_plan_t.{hb_script_plan_t}
-use Rattle.script_plan.specs.Rules.{ShaperRules, Spans, plain_rules}
+use Rattle.script_plan.specs.Rules.{Spans}
 use Rattle.script_plan.specs.Traits.{ShaperTraits}
 use Rattle.script_dispatch.specs.Dispatch.{shaper_of}
 use Rattle.script_dispatch.specs.Requests.{any_kind}
@@ -37,7 +36,7 @@ use Rattle.shape_pipeline.specs.Reading.{reading}
 use Rattle.shape_pipeline.specs.Results.{IsResultOf, IsShapedBy}
 use Rattle.shape_pipeline.specs.Shaped.{by_text, language_tags, text_reading}
 use Rattle.shape_pipeline.specs.Shaping.{Shaping}
-use Rattle.shape_laws.specs.PlainTexts.{IsPlainShaping, IsPlainText, PlainTextsShowGlyphs, ShowsCharacters, ShowsGlyphs, characters, glyph_numbers, glyph_of, is_plain, position_of_character}
+use Rattle.shape_laws.specs.PlainTexts.{IsPlainShaping, IsPlainText, PlainTextsShowGlyphs, ShowsCharacters, characters, glyph_numbers, glyph_of, is_plain, position_of_character}
 
 -- ---- the plan of a plain text
 

@@ -1,5 +1,5 @@
 -- What each shaper asks of a text that is cut into two.
-use Rattle.std.specs.Prelude.{ℕ, ⊤, ◌≡◌, ◌&&◌, false, Ok}
+use Rattle.std.specs.Prelude.{⊤, ◌≡◌, ◌&&◌, false, Ok}
 use Rattle.std.specs.List.{list_any}
 use Rattle.buffer_common.specs.Direction.{is_backward, is_vertical}
 use Rattle.buffer_glyphs.specs.Origins.{numbers}

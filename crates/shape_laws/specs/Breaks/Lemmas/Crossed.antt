@@ -1,7 +1,6 @@
 -- Stages with events across both of the texts that a text is broken into, or beside each other.
-use Rattle.std.proofs.Common.{ℕ, suc, ◌≡◌, ◌≤◌, ◌<◌, ◌+◌, ◌-◌, ◌==◌, ◌⊎◌, inl, inr, Bool, true, false, if◌then◌else◌, List, [], ◌∷◌, ◌++◌, length, map, Some, Ok, append_assoc, arith, refl, sym, ap, subst, ◌∙◌}
-use Rattle.std.proofs.lemmas.List.{length-append, map-append}
-use Rattle.std.proofs.lemmas.List.Sums.{fold-append}
+use Rattle.std.proofs.Common.{ℕ, ◌≡◌, ◌≤◌, ◌<◌, ◌+◌, ◌⊎◌, inl, inr, true, false, List, ◌∷◌, ◌++◌, length, map, Some, arith, sym, subst, ◌∙◌}
+use Rattle.std.proofs.lemmas.List.{length-append}
 use Rattle.buffer_glyphs.specs.declared.level.BufferClusterLevel.{BufferClusterLevel}
 use Rattle.buffer_glyphs.specs.Levels.{IsMonotone}
 use Rattle.buffer_glyphs.specs.Order.{IsOrdered}
@@ -12,11 +11,11 @@ use Rattle.buffer_glyphs.specs.Rewriting.{Arrangement, beside, shifted_event}
 use Rattle.buffer_glyphs.specs.Lemmas.EventParts.{origins_keep_numbers}
 use Rattle.buffer_glyphs.specs.Lemmas.Numbers.{Has}
 use Rattle.buffer_glyphs.specs.Lemmas.Origins.{origins_after_both}
-use Rattle.buffer_parts.specs.Counts.{count_after, count_after_event}
+use Rattle.buffer_parts.specs.Counts.{count_after}
 use Rattle.buffer_parts.specs.Orderly.{IsOrderly}
 use Rattle.buffer_parts.specs.Lemmas.Counts.{counts_follow}
 use Rattle.buffer_parts.specs.Lemmas.Orderly.{orderly_in_turn, plain_is_orderly}
-use Rattle.buffer_core.specs.Readings.{BufferState, Read, Stage, View, state_after}
+use Rattle.buffer_core.specs.Readings.{BufferState, Read, state_after}
 use Rattle.buffer_stages.specs.Appending.{with_arranged}
 use Rattle.buffer_parts.specs.Breaks.Unsafe.{HaveSafeBreaks, IsUnsafeAt}
 use Rattle.buffer_parts.specs.Breaks.Lossless.{AreLossless}
@@ -30,12 +29,10 @@ use Rattle.buffer_parts.specs.Breaks.Lemmas.Concats.{concats_are_apart, lossless
 use Rattle.buffer_parts.specs.Breaks.Lemmas.Crossing.{bound_stays_unsafe, ranges_cross}
 use Rattle.buffer_parts.specs.Breaks.Lemmas.Divided.{both_change_alone}
 use Rattle.buffer_parts.specs.Breaks.Lemmas.Events.{lossless_in_turn, safe_breaks_stay, unsafe_stays}
-use Rattle.shape_laws.specs.Breaks.Chains.{KeepsBroken}
 use Rattle.shape_laws.specs.Breaks.Rewrites.{IsWholeRewrite}
 use Rattle.shape_laws.specs.Breaks.Texts.{StaysBroken}
 use Rattle.shape_laws.specs.Breaks.Lemmas.Normalized.{rule_breakable, rule_divides, rule_keeps}
-use Rattle.shape_laws.specs.Breaks.Lemmas.Normalized.{DividesRule, rule_breakable, rule_divides, rule_keeps}
-use Rattle.shape_laws.specs.Breaks.Lemmas.Rewrites.{given_both}
+use Rattle.shape_laws.specs.Breaks.Lemmas.Normalized.{rule_breakable, rule_divides, rule_keeps}
 use Rattle.shape_laws.specs.Breaks.Lemmas.Unnumbered.{given_early, given_late, plain_items}
 
 -- ---- an event across both, after events of both

@@ -125,10 +125,10 @@ positions_renamed goes spares f [] ps = refl
 positions_renamed goes spares f (x ∷ xs) [] = refl
 positions_renamed goes spares f (x ∷ xs) (p ∷ ps) = rw (spares (with_ligature_renamed f x).lig_props x, positions_renamed goes spares f xs ps) refl
 
-pub positions_many : (goes : Item → Bool) (xs : List Item) (ps : List Position) → length ps ≡ length xs → length (positions_kept goes xs ps) ≡ length (items_kept goes xs)
-positions_many goes [] [] e = refl
-positions_many goes [] (p ∷ ps) e = absurd (omega (arith, e))
-positions_many goes (x ∷ xs) [] e = absurd (omega (arith, e))
-positions_many goes (x ∷ xs) (p ∷ ps) e =
-    let rest = positions_many goes xs ps (omega (arith, e)) in
+pub positions_count : (goes : Item → Bool) (xs : List Item) (ps : List Position) → length ps ≡ length xs → length (positions_kept goes xs ps) ≡ length (items_kept goes xs)
+positions_count goes [] [] e = refl
+positions_count goes [] (p ∷ ps) e = absurd (omega (arith, e))
+positions_count goes (x ∷ xs) [] e = absurd (omega (arith, e))
+positions_count goes (x ∷ xs) (p ∷ ps) e =
+    let rest = positions_count goes xs ps (omega (arith, e)) in
     elim (goes x) as (λ b. length (if b then positions_kept goes xs ps else p ∷ positions_kept goes xs ps) ≡ length (if not b then x ∷ items_kept goes xs else items_kept goes xs)) [ true ↦ rest | false ↦ ap suc rest ]

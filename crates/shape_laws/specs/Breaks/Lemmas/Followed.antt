@@ -357,11 +357,11 @@ both_followed : (draw : Drawing) → IsLocal draw → (ps qs : List Position) �
 both_followed draw k ps qs first second =
     let n = length ps in
     let m = length qs in
-    let done = with_links_followed_from draw 0 n ps in
+    let state_by = with_links_followed_from draw 0 n ps in
     let clears = from_clears draw k n 0 ps in
-    let here : 0 + n ≡ length done + 0 = let long = clears.long in omega (arith, long) in
+    let here : 0 + n ≡ length state_by + 0 = let long = clears.long in omega (arith, long) in
     firsts_followed draw k n m (length (ps ++ qs)) 0 ps qs (length-append ps qs) (omega arith) first
-    ∙ ap (λ (s : ℕ). with_links_followed_from draw s m (done ++ qs)) here ∙ seconds_followed draw k m 0 done qs (omega arith) second
+    ∙ ap (λ (s : ℕ). with_links_followed_from draw s m (state_by ++ qs)) here ∙ seconds_followed draw k m 0 state_by qs (omega arith) second
 
 -- ---- how glyphs are drawn
 

@@ -66,22 +66,22 @@ record IsListwise (h : List Position → List Position) : Type 0 where
   many : (ps : List Position) → length (h ps) ≡ length ps
 
 -- a view with another list of positions
-abbrev pub with_position_list : (List Position → List Position) → View → View
-with_position_list h v = record v { positions = h v.positions }
+abbrev pub with_list : (List Position → List Position) → View → View
+with_list h v = record v { positions = h v.positions }
 
 line_listed : (falls : Bool) (h : List Position → List Position) → IsListwise h → (ps qs : List Position) → h (as_they_stand falls ps qs) ≡ as_they_stand falls (h ps) (h qs)
 line_listed false h k ps qs = k.both ps qs
 line_listed true h k ps qs = k.both qs ps
 
-listed_apart : (falls : Bool) (h : List Position → List Position) → IsListwise h → ChangesApart falls (with_position_list h) (with_position_list h) (with_position_list h)
+listed_apart : (falls : Bool) (h : List Position → List Position) → IsListwise h → ChangesApart falls (with_list h) (with_list h) (with_list h)
 listed_apart falls h k = record {
   like = λ v e. like v;
   apart = λ c whole earlier later w j.
-      changed_fragments falls c whole earlier later (with_position_list h whole.view) (with_position_list h earlier.view) (with_position_list h later.view) j (like whole.view) (like earlier.view) (like later.view) j.names.early_given j.names.late_given j.items
+      changed_fragments falls c whole earlier later (with_list h whole.view) (with_list h earlier.view) (with_list h later.view) j (like whole.view) (like earlier.view) (like later.view) j.names.early_given j.names.late_given j.items
       (ap h j.positions ∙ line_listed falls h k earlier.view.positions later.view.positions);
 }
   where
-    like : (v : View) → IsLikeView v (with_position_list h v)
+    like : (v : View) → IsLikeView v (with_list h v)
     like v = record { direction = refl; lig_id = refl; items = refl; positions = k.many v.positions }
 
 zeros_both : (ps qs : List Position) → zero_positions (length (ps ++ qs)) ≡ zero_positions (length ps) ++ zero_positions (length qs)
@@ -92,11 +92,11 @@ zeros_many : (ps : List Position) → length (zero_positions (length ps)) ≡ le
 zeros_many [] = refl
 zeros_many (p ∷ ps) = ap suc (zeros_many ps)
 
-pub zeros_divide : (falls : Bool) → IsFreelyDivisible falls falls (always (λ v. with_events [] (with_position_list (λ ps. zero_positions (length ps)) v))) (always (λ v. with_events [] (with_position_list (λ ps. zero_positions (length ps)) v))) (always (λ v. with_events [] (with_position_list (λ ps. zero_positions (length ps)) v)))
-zeros_divide falls = eventless_is_divisible falls (with_position_list (λ ps. zero_positions (length ps))) (with_position_list (λ ps. zero_positions (length ps))) (with_position_list (λ ps. zero_positions (length ps))) (listed_apart falls (λ ps. zero_positions (length ps)) (record { both = zeros_both; many = zeros_many }))
+pub zeros_divide : (falls : Bool) → IsFreelyDivisible falls falls (always (λ v. with_events [] (with_list (λ ps. zero_positions (length ps)) v))) (always (λ v. with_events [] (with_list (λ ps. zero_positions (length ps)) v))) (always (λ v. with_events [] (with_list (λ ps. zero_positions (length ps)) v)))
+zeros_divide falls = eventless_is_divisible falls (with_list (λ ps. zero_positions (length ps))) (with_list (λ ps. zero_positions (length ps))) (with_list (λ ps. zero_positions (length ps))) (listed_apart falls (λ ps. zero_positions (length ps)) (record { both = zeros_both; many = zeros_many }))
 
 pub cleared_divide : (falls : Bool) → IsFreelyDivisible falls falls (always links_cleared) (always links_cleared) (always links_cleared)
-cleared_divide falls = eventless_is_divisible falls (with_position_list (map unattached_position)) (with_position_list (map unattached_position)) (with_position_list (map unattached_position)) (listed_apart falls (map unattached_position) (record { both = map-append unattached_position; many = λ ps. length-map ps unattached_position }))
+cleared_divide falls = eventless_is_divisible falls (with_list (map unattached_position)) (with_list (map unattached_position)) (with_list (map unattached_position)) (listed_apart falls (map unattached_position) (record { both = map-append unattached_position; many = λ ps. length-map ps unattached_position }))
 
 -- ---- positions, each by its item
 
@@ -131,13 +131,13 @@ given_if true f last x h g = h
 given_if false f last x h g = g
 
 -- a selector as it is shown
-abbrev shown_item : ℕ → Item → Item
-shown_item glyph x = record x { number = glyph; unicode_props = without_bits 0x400 (with_category (category_number NonspacingMark) x.unicode_props) }
+abbrev visible_selector : ℕ → Item → Item
+visible_selector glyph x = record x { number = glyph; unicode_props = without_bits 0x400 (with_category (category_number NonspacingMark) x.unicode_props) }
 
 shown_alike : (glyph : ℕ) → RenamesAlike (shown_selector glyph)
 shown_alike glyph = record {
-  renamed = λ name x none. renamed_if (is_recorded_selector x) (shown_item glyph) name x refl;
-  given = λ last x h. given_if (is_recorded_selector x) (shown_item glyph) last x h h;
+  renamed = λ name x none. renamed_if (is_recorded_selector x) (visible_selector glyph) name x refl;
+  given = λ last x h. given_if (is_recorded_selector x) (visible_selector glyph) last x h h;
 }
 
 shown_divide : (falls : Bool) (glyph : ℕ) → IsFreelyDivisible falls falls (always (with_selectors_shown glyph)) (always (with_selectors_shown glyph)) (always (with_selectors_shown glyph))

@@ -47,7 +47,7 @@ use Rattle.shape_laws.specs.Breaks.Lemmas.Results.{end_state, ends_show}
 use Rattle.shape_laws.specs.Breaks.Lemmas.GlyphStages.{advances_divide, cleared_divide, fallback_classes_divide, glyphs_divide, hidden_divide, selectors_divide, spaces_divide, widths_divide, zeros_divide}
 use Rattle.shape_laws.specs.Breaks.Lemmas.PlainDivision.{state_by, state_by_breakable, state_by_unsafe}
 use Rattle.shape_laws.specs.Breaks.Lemmas.Removed.{removed_divides}
-use Rattle.shape_laws.specs.Breaks.Lemmas.Route.{IsRoute, advance_state, glyph_state, linked_state, merge_count, ordered_state, route, shown_state, state_if}
+use Rattle.shape_laws.specs.Breaks.Lemmas.Route.{IsRoute, advance_state, state_if, link_state, merge_count, visual_state, route, ignorables_state, glyph_state}
 use Rattle.shape_laws.specs.Breaks.Lemmas.VisualOrder.{order_divides, order_is_plain}
 
 -- ---- settings that decide what is hidden
@@ -71,11 +71,11 @@ keeps_alike : (f g : BufferFlags) → HaveSameRequests f g → keeps_widths g �
 keeps_alike f g e = ap (λ b. b || removes_ignorables g) (preserves_alike f g e) ∙ ap (λ b. preserves_ignorables f || b) (removes_alike f g e)
 
 -- default ignorables hidden, by what the flags request
-abbrev hidden_ignorables : Bool → Bool → Option ℕ → FaceParts → View → Read
-hidden_ignorables preserves removes set font v = if preserves then with_events [] v else ignorables_hidden_by (if removes then None else option_or set (nominal_glyph 0x20 font)) v
+abbrev ignorables_by : Bool → Bool → Option ℕ → FaceParts → View → Read
+ignorables_by preserves removes set font v = if preserves then with_events [] v else ignorables_hidden_by (if removes then None else option_or set (nominal_glyph 0x20 font)) v
 
 hidden_alike : (f g : BufferFlags) (set : Option ℕ) (font : FaceParts) → HaveSameRequests f g → (v : View) → ignorables_hidden g set font v ≡ ignorables_hidden f set font v
-hidden_alike f g set font e v = ap (λ b. hidden_ignorables b (removes_ignorables g) set font v) (preserves_alike f g e) ∙ ap (λ b. hidden_ignorables (preserves_ignorables f) b set font v) (removes_alike f g e)
+hidden_alike f g set font e v = ap (λ b. ignorables_by b (removes_ignorables g) set font v) (preserves_alike f g e) ∙ ap (λ b. ignorables_by (preserves_ignorables f) b set font v) (removes_alike f g e)
 
 hidden_for : (falls : Bool) (o : Option ℕ) → IsFreelyDivisible falls falls (always (ignorables_hidden_by o)) (always (ignorables_hidden_by o)) (always (ignorables_hidden_by o))
 hidden_for falls None = removed_divides is_default_ignorable (λ n x. refl) falls
@@ -92,10 +92,10 @@ ignorables_of : (falls : Bool) (f f1 f2 : BufferFlags) (set : Option ℕ) (font 
     → IsFreelyDivisible falls falls (always (ignorables_hidden f set font)) (always (ignorables_hidden f1 set font)) (always (ignorables_hidden f2 set font))
 ignorables_of falls f f1 f2 set font e g =
     let whole = always (ignorables_hidden f set font) in
-    subst (λ (b : Bool). IsFreelyDivisible falls falls whole (always (ignorables_hidden f1 set font)) (always (hidden_ignorables (preserves_ignorables f2) b set font))) (sym (removes_alike f f2 g))
-    (subst (λ (b : Bool). IsFreelyDivisible falls falls whole (always (ignorables_hidden f1 set font)) (always (hidden_ignorables b (removes_ignorables f) set font))) (sym (preserves_alike f f2 g))
-    (subst (λ (b : Bool). IsFreelyDivisible falls falls whole (always (hidden_ignorables (preserves_ignorables f1) b set font)) whole) (sym (removes_alike f f1 e))
-    (subst (λ (b : Bool). IsFreelyDivisible falls falls whole (always (hidden_ignorables b (removes_ignorables f) set font)) whole) (sym (preserves_alike f f1 e)) (ignorables_divide falls f set font))))
+    subst (λ (b : Bool). IsFreelyDivisible falls falls whole (always (ignorables_hidden f1 set font)) (always (ignorables_by (preserves_ignorables f2) b set font))) (sym (removes_alike f f2 g))
+    (subst (λ (b : Bool). IsFreelyDivisible falls falls whole (always (ignorables_hidden f1 set font)) (always (ignorables_by b (removes_ignorables f) set font))) (sym (preserves_alike f f2 g))
+    (subst (λ (b : Bool). IsFreelyDivisible falls falls whole (always (ignorables_by (preserves_ignorables f1) b set font)) whole) (sym (removes_alike f f1 e))
+    (subst (λ (b : Bool). IsFreelyDivisible falls falls whole (always (ignorables_by b (removes_ignorables f) set font)) whole) (sym (preserves_alike f f1 e)) (ignorables_divide falls f set font))))
 
 -- positions of default ignorables zeroed, by what the flags request
 abbrev widths_with : Bool → View → Read
@@ -136,7 +136,7 @@ ignorables_budget flags set font v =
     let o = if removes_ignorables flags then None else option_or set (nominal_glyph 0x20 font) in
     elim (preserves_ignorables flags) as (λ b. (if b then with_events [] v else ignorables_hidden_by o v).view.max_ops ≡ v.max_ops) [ true ↦ refl | false ↦ hidden_budget o v ]
 
-end_budget : (p : Shaping) (s : BufferState) → (shown_state p (ordered_state p (linked_state p s))).view.max_ops ≡ s.view.max_ops
+end_budget : (p : Shaping) (s : BufferState) → (ignorables_state p (visual_state p (link_state p s))).view.max_ops ≡ s.view.max_ops
 end_budget p s =
     let flags = p.settings.flags in
     let s1 = state_by (zero_widths flags) s in
@@ -167,7 +167,7 @@ spared_of p s r q ends first second none h =
     let some : v1.lig_id + merge_count s.level q.substituted ≤ 7 = omega (arith, all, many, number, none) in
     let given = one.numbers some in
     let all_left : is_left q.finished.view.max_ops ≡ true = ap is_left (sym (ap (λ (t : BufferState). t.view.max_ops) q.end)) ∙ h.budget in
-    let left : is_left q.adjusted.view.max_ops ≡ true = ap is_left (sym (end_budget p (state_after q.adjusted (advance_state p s2)))) ∙ ends.budget (shown_state p (ordered_state p (linked_state p (state_after q.adjusted (advance_state p s2))))).view q.finished q.finished_is all_left in
+    let left : is_left q.adjusted.view.max_ops ≡ true = ap is_left (sym (end_budget p (state_after q.adjusted (advance_state p s2)))) ∙ ends.budget (ignorables_state p (visual_state p (link_state p (state_after q.adjusted (advance_state p s2))))).view q.finished q.finished_is all_left in
     record {
       first = subst (λ (level : BufferClusterLevel). IsSpared level v1 q.substituted) (sym (taken_level p s)) (record { budget = two.budget left; numbers = some });
       second = subst (λ (level : BufferClusterLevel). IsSpared level v3 q.adjusted) (sym (taken_level p s)) (record { budget = left; numbers = omega (arith, all, many, number, none, given) });
@@ -186,7 +186,7 @@ asks_if : (b : Bool) (f : View → Read) (s : BufferState) → (state_if b f s).
 asks_if true f s = refl
 asks_if false f s = refl
 
-no_tatweel : (p : Shaping) (s : BufferState) (a b : Read) → s.asks.tatweel ≡ false → HaveNoTatweel s.origins → HaveNoTatweel (shown_state p (ordered_state p (linked_state p (state_after b (advance_state p (state_after a (glyph_state p s))))))).origins
+no_tatweel : (p : Shaping) (s : BufferState) (a b : Read) → s.asks.tatweel ≡ false → HaveNoTatweel s.origins → HaveNoTatweel (ignorables_state p (visual_state p (link_state p (state_after b (advance_state p (state_after a (glyph_state p s))))))).origins
 no_tatweel p s a b e h =
     let w = p.choices.fallback_mark_positioning in
     let s0 = state_if w with_fallback_classes s in
@@ -200,26 +200,26 @@ no_tatweel p s a b e h =
     let h4 : HaveNoTatweel s4.origins = tatweel_step b s3 e0 h2 in
     let s5 = state_by (zero_widths p.settings.flags) s4 in
     let h5 = tatweel_step (zero_widths p.settings.flags s4.view) s4 e0 h4 in
-    let s6 = linked_state p s4 in
+    let s6 = link_state p s4 in
     let h6 = tatweel_step (links_followed s5.view) s5 e0 h5 in
     let s7 = state_if w (marks_positioned p) s6 in
     let e7 : s7.asks.tatweel ≡ false = ap (λ (k : Asks). k.tatweel) (asks_if w (marks_positioned p) s6) ∙ e0 in
     let h7 = tatweel_if w (marks_positioned p) s6 e0 h6 in
-    let s8 = ordered_state p s6 in
+    let s8 = visual_state p s6 in
     let h8 = tatweel_step (visual_order s7.view) s7 e7 h7 in
     let s9 = state_by (with_selectors p.settings.not_found_variation_selector) s8 in
     let h9 = tatweel_step (with_selectors p.settings.not_found_variation_selector s8.view) s8 e7 h8 in
     tatweel_step (ignorables_hidden p.settings.flags p.settings.invisible p.font s9.view) s9 e7 h9
 
-asks_kept : (p : Shaping) (s : BufferState) (a b : Read) → (shown_state p (ordered_state p (linked_state p (state_after b (advance_state p (state_after a (glyph_state p s))))))).asks ≡ s.asks
-asks_kept p s a b = asks_if p.choices.fallback_mark_positioning (marks_positioned p) (linked_state p (state_after b (advance_state p (state_after a (glyph_state p s))))) ∙ asks_if p.choices.fallback_mark_positioning with_fallback_classes s
+asks_kept : (p : Shaping) (s : BufferState) (a b : Read) → (ignorables_state p (visual_state p (link_state p (state_after b (advance_state p (state_after a (glyph_state p s))))))).asks ≡ s.asks
+asks_kept p s a b = asks_if p.choices.fallback_mark_positioning (marks_positioned p) (link_state p (state_after b (advance_state p (state_after a (glyph_state p s))))) ∙ asks_if p.choices.fallback_mark_positioning with_fallback_classes s
 
 tatweel_at_end : (p : Shaping) (s : BufferState) (a b : Read) → (s.asks.tatweel ≡ true) ⊎ HaveNoTatweel s.origins
-    → ((shown_state p (ordered_state p (linked_state p (state_after b (advance_state p (state_after a (glyph_state p s))))))).asks.tatweel ≡ true) ⊎ HaveNoTatweel (shown_state p (ordered_state p (linked_state p (state_after b (advance_state p (state_after a (glyph_state p s))))))).origins
+    → ((ignorables_state p (visual_state p (link_state p (state_after b (advance_state p (state_after a (glyph_state p s))))))).asks.tatweel ≡ true) ⊎ HaveNoTatweel (ignorables_state p (visual_state p (link_state p (state_after b (advance_state p (state_after a (glyph_state p s))))))).origins
 tatweel_at_end p s a b (inl asked) = inl (ap (λ (k : Asks). k.tatweel) (asks_kept p s a b) ∙ asked)
 tatweel_at_end p s a b (inr none) = by_test s.asks.tatweel refl
   where
-    by_test : (t : Bool) → s.asks.tatweel ≡ t → ((shown_state p (ordered_state p (linked_state p (state_after b (advance_state p (state_after a (glyph_state p s))))))).asks.tatweel ≡ true) ⊎ HaveNoTatweel (shown_state p (ordered_state p (linked_state p (state_after b (advance_state p (state_after a (glyph_state p s))))))).origins
+    by_test : (t : Bool) → s.asks.tatweel ≡ t → ((ignorables_state p (visual_state p (link_state p (state_after b (advance_state p (state_after a (glyph_state p s))))))).asks.tatweel ≡ true) ⊎ HaveNoTatweel (ignorables_state p (visual_state p (link_state p (state_after b (advance_state p (state_after a (glyph_state p s))))))).origins
     by_test true e = inl (ap (λ (k : Asks). k.tatweel) (asks_kept p s a b) ∙ e)
     by_test false e = inr (no_tatweel p s a b e none)
 
@@ -278,8 +278,8 @@ begun_apart p p1 p2 c whole earlier later P e g q =
 shown_apart : (p : Shaping) (early_context late_context : List ℕ) (f1 f2 : BufferFlags) (c : ℕ) (whole earlier later : BufferState) → HaveSameRequests p.settings.flags f1 → HaveSameRequests p.settings.flags f2
     → (p.choices.fallback_mark_positioning ≡ true → IsFreelyDivisible false false (always (marks_positioned p)) (always (marks_positioned (early_shaping p early_context f1))) (always (marks_positioned (late_shaping p late_context f2))))
     → Carries false c whole earlier later (AreLinkedApart whole.view earlier.view later.view)
-    → (turned : Bool) × Carries turned c (shown_state p (ordered_state p (linked_state p whole))) (shown_state (early_shaping p early_context f1) (ordered_state (early_shaping p early_context f1) (linked_state (early_shaping p early_context f1) earlier)))
-    (shown_state (late_shaping p late_context f2) (ordered_state (late_shaping p late_context f2) (linked_state (late_shaping p late_context f2) later))) (Unit {0})
+    → (turned : Bool) × Carries turned c (ignorables_state p (visual_state p (link_state p whole))) (ignorables_state (early_shaping p early_context f1) (visual_state (early_shaping p early_context f1) (link_state (early_shaping p early_context f1) earlier)))
+    (ignorables_state (late_shaping p late_context f2) (visual_state (late_shaping p late_context f2) (link_state (late_shaping p late_context f2) later))) (Unit {0})
 shown_apart p early_context late_context f1 f2 c whole earlier later same1 same2 marks q =
     let p1 = early_shaping p early_context f1 in
     let p2 = late_shaping p late_context f2 in
@@ -388,9 +388,9 @@ shows_for seam p early_context late_context f1 f2 c whole earlier later r e l fa
     let l4 = state_after ll.adjusted l3 in
     let last = shown_apart p early_context late_context f1 f2 c w4 e4 l4 same1 same2 h.marks placed in
     let d = p.direction in
-    let w5 = shown_state p (ordered_state p (linked_state p w4)) in
-    let e5 = shown_state p1 (ordered_state p1 (linked_state p1 e4)) in
-    let l5 = shown_state p2 (ordered_state p2 (linked_state p2 l4)) in
+    let w5 = ignorables_state p (visual_state p (link_state p w4)) in
+    let e5 = ignorables_state p1 (visual_state p1 (link_state p1 e4)) in
+    let l5 = ignorables_state p2 (visual_state p2 (link_state p2 l4)) in
     let e6 = state_after ee.finished e5 in
     let l6 = state_after ll.finished l5 in
     let w6_is : state_after rr.finished w5 ≡ w5 = finished_same p whole r rr w5 ends rr.there rr.finished_is last.1.ready.whole in

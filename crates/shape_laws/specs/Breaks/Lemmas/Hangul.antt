@@ -1,6 +1,5 @@
 -- Texts of Hangul that are broken into two, before they are normalized.
-use Rattle.std.proofs.Common.{ℕ, zero, suc, ◌≡◌, ◌≤◌, ◌<◌, ◌+◌, ◌-◌, ◌==◌, ◌||◌, ◌&&◌, ◌⊎◌, inl, inr, nat_le, nat_lt, Bool, true, false, if◌then◌else◌, List, [], ◌∷◌, ◌++◌, length, map, take, drop, Option, None, Some, Ok, Err, append_assoc, append-nil, arith, refl, sym, ap, ap₂, subst, ◌∙◌}
-use Rattle.std.proofs.lemmas.Bool.{cases_Bool, cond-true, cond-false}
+use Rattle.std.proofs.Common.{ℕ, zero, suc, ◌≡◌, ◌≤◌, ◌<◌, ◌+◌, ◌-◌, ◌&&◌, ◌⊎◌, inl, inr, nat_le, nat_lt, Bool, true, false, if◌then◌else◌, List, [], ◌∷◌, ◌++◌, length, map, take, drop, Option, None, Some, Ok, Err, append_assoc, append-nil, arith, refl, sym, ap, ap₂, subst, ◌∙◌}
 use Rattle.std.proofs.lemmas.Bool.Decides.{nat_tests}
 use Rattle.std.proofs.lemmas.Grind.{common_steps}
 use Rattle.std.proofs.lemmas.List.{drop-append-le, length-append, length-drop, take-append-le}
@@ -12,7 +11,7 @@ use Rattle.buffer_glyphs.specs.declared.level.BufferClusterLevel.TheVariants.{Mo
 use Rattle.buffer_glyphs.specs.Events.{Event, Replace, origins_after}
 use Rattle.buffer_glyphs.specs.Items.{Item}
 use Rattle.buffer_glyphs.specs.Levels.{IsMonotone}
-use Rattle.buffer_glyphs.specs.Origins.{Asks, Origin, Span}
+use Rattle.buffer_glyphs.specs.Origins.{Asks}
 use Rattle.buffer_glyphs.specs.Rewriting.{Arrangement, beside, shifted_event}
 use Rattle.buffer_parts.specs.Counts.{count_after, count_after_event}
 use Rattle.buffer_core.specs.Readings.{BufferState, Read, Reading, state_after, with_events}
@@ -26,7 +25,7 @@ use Rattle.buffer_parts.specs.Breaks.Divisible.{StaysDivided}
 use Rattle.buffer_parts.specs.Breaks.Sides.{AreBounded}
 use Rattle.script_hangul.specs.declared.actions.Action.{Action}
 use Rattle.script_hangul.specs.declared.actions.Action.TheVariants.{Keep, Apart, Compose, Split}
-use Rattle.script_hangul.specs.Jamo.{is_leading, is_syllable, is_tone}
+use Rattle.script_hangul.specs.Jamo.{is_tone}
 use Rattle.script_hangul.specs.Actions.{action_on, has_character}
 use Rattle.script_hangul.specs.Hangul.{character_at, character_by, count_apart, events_after, hangul_text, is_character, jamo_rule, rule_by, step, step_by, syllables_formed, text_after, wants_circles}
 use Rattle.script_hangul.specs.Steps.{DOTTED_CIRCLE, Step, before_syllable, has_no_width, keep_step, letters_from, letters_of_first, numbers_of, step_of, tone_step, with_circle}
@@ -37,11 +36,11 @@ use Rattle.shape_laws.specs.Breaks.Texts.{StaysBroken}
 use Rattle.shape_laws.specs.Breaks.Lemmas.BegunTexts.{always_done}
 use Rattle.shape_laws.specs.Breaks.Lemmas.Crossed.{IsAcross, ArrangesTexts, ruled_state, ruled_unsafe}
 use Rattle.shape_laws.specs.Breaks.Lemmas.HangulSteps.{AreFed, BeginsNone, IsFed, TakesMore, action_fed, none_kept, second_decides, taken_count, third_decides}
-use Rattle.shape_laws.specs.Breaks.Lemmas.HangulWalk.{fed_within, step_is, steps_enough, walk_shifted, walked, walked_free, walked_grows, walked_rewrite, walked_some}
+use Rattle.shape_laws.specs.Breaks.Lemmas.HangulWalk.{fed_within, step_is, steps_enough, walk_shifted, walked_text, walked_free, walked_rewrite, walked_some}
 use Rattle.shape_laws.specs.Breaks.Lemmas.MarkOrders.{given_from}
 use Rattle.shape_laws.specs.Breaks.Lemmas.Merged.{AreWithin, FitsTexts, MergesAcross, merged_breakable, merged_keeps, merged_state, merges_cross, merges_divide, merges_in, within_or_across}
 use Rattle.shape_laws.specs.Breaks.Lemmas.Normalized.{rule_breakable, rule_divides, rule_keeps}
-use Rattle.shape_laws.specs.Breaks.Lemmas.Rewrites.{both_bounded, given_both}
+use Rattle.shape_laws.specs.Breaks.Lemmas.Rewrites.{both_bounded}
 use Rattle.shape_laws.specs.Breaks.Lemmas.Unnumbered.{given_early, given_late, plain_items}
 
 -- ---- graphemes of syllables
@@ -327,8 +326,8 @@ walk_outcome level font circles (suc f) (suc g) n out (x ∷ xs) ys a b h k =
           let d : length rest ≡ suc (length xs) - (r.more + 1) = length-drop (r.more + 1) (x ∷ xs) in
           let both = length-append rest ys in
           let all = length-append xs ys in
-          let line : walked font circles level f s.start s.out (drop (s.more + 1) (x ∷ (xs ++ ys))) ≡ walked font circles level f r.start r.out (rest ++ ys) =
-          ap (λ (t : Step). walked font circles level f t.start t.out (drop (t.more + 1) (x ∷ (xs ++ ys)))) same.same ∙ ap (λ zs. walked font circles level f r.start r.out zs) cut in
+          let line : walked_text font circles level f s.start s.out (drop (s.more + 1) (x ∷ (xs ++ ys))) ≡ walked_text font circles level f r.start r.out (rest ++ ys) =
+          ap (λ (t : Step). walked_text font circles level f t.start t.out (drop (t.more + 1) (x ∷ (xs ++ ys)))) same.same ∙ ap (λ zs. walked_text font circles level f r.start r.out zs) cut in
           let events : events_after font circles level (suc f) n out (x ∷ (xs ++ ys)) ≡ r.events level ++ events_after font circles level f r.start r.out (rest ++ ys) =
           ap₂ (λ es fs. es ++ fs) (ap (λ (t : Step). t.events level) same.same) (ap (λ (w : Arrangement). w.events) line) in
           let counted : count_after (r.events level) (length out + suc (length xs)) ≡ length r.out + length rest = p.counted ∙ ap (λ (m : ℕ). length r.out + m) (sym d) in
@@ -353,7 +352,7 @@ step_anew font circles m n out y ys e = by_test (is_character y.number)
         ∙ ap (λ t. if t then tone_step font circles n y.number out (y ∷ ys) else step_of (action_on font y.number (character_at 1 (y ∷ ys)) (character_at 2 (y ∷ ys))) out (y ∷ ys)) (sym e)
     by_test false = refl
 
-walk_anew : (level : BufferClusterLevel) (font : FaceParts) (circles : Bool) (f m n : ℕ) (out ys : List Item) → BeginsToneless ys → walked font circles level f m out ys ≡ walked font circles level f n out ys
+walk_anew : (level : BufferClusterLevel) (font : FaceParts) (circles : Bool) (f m n : ℕ) (out ys : List Item) → BeginsToneless ys → walked_text font circles level f m out ys ≡ walked_text font circles level f n out ys
 walk_anew level font circles f m n out [] h = refl
 walk_anew level font circles zero m n out (y ∷ ys) h = refl
 walk_anew level font circles (suc f) m n out (y ∷ ys) h =
@@ -363,7 +362,7 @@ walk_anew level font circles (suc f) m n out (y ∷ ys) h =
 
 -- a text with its syllables formed
 abbrev pub formed_text : FaceParts → Bool → List Item → Arrangement
-formed_text font circles xs = walked font circles MonotoneGraphemes (length xs) 0 [] xs
+formed_text font circles xs = walked_text font circles MonotoneGraphemes (length xs) 0 [] xs
 
 pub texts_formed : (font : FaceParts) (circles : Bool) → ArrangesTexts (formed_text font circles)
 texts_formed font circles = record {
@@ -406,10 +405,10 @@ texts_apart font circles xs ys toneless w =
     let level = MonotoneGraphemes in
     let front = text_after font circles (length xs) 0 [] xs in
     let start : length front ≡ length front + 0 = omega arith in
-    let moved : walked font circles level w.steps w.start front ys ≡ walked font circles level w.steps (length front + 0) (front ++ []) ys =
-    walk_anew level font circles w.steps w.start (length front) front ys toneless ∙ ap (λ (i : ℕ). walked font circles level w.steps i front ys) start ∙ ap (λ o. walked font circles level w.steps (length front + 0) o ys) (sym (append-nil front)) in
+    let moved : walked_text font circles level w.steps w.start front ys ≡ walked_text font circles level w.steps (length front + 0) (front ++ []) ys =
+    walk_anew level font circles w.steps w.start (length front) front ys toneless ∙ ap (λ (i : ℕ). walked_text font circles level w.steps i front ys) start ∙ ap (λ o. walked_text font circles level w.steps (length front + 0) o ys) (sym (append-nil front)) in
     let p = walk_shifted front level font circles w.steps 0 [] ys in
-    let enough : walked font circles level w.steps 0 [] ys ≡ formed_text font circles ys = steps_enough font circles level w.steps (length ys) 0 [] ys w.enough (omega arith) in
+    let enough : walked_text font circles level w.steps 0 [] ys ≡ formed_text font circles ys = steps_enough font circles level w.steps (length ys) 0 [] ys w.enough (omega arith) in
     ap₂ (λ us es. record { items = us; events = es })
     (w.items ∙ ap (λ (a : Arrangement). a.items) moved ∙ p.items ∙ ap (λ (a : Arrangement). front ++ a.items) enough)
     (w.events ∙ ap (λ (a : Arrangement). events_after font circles level (length xs) 0 [] xs ++ a.events) moved ∙ ap (λ es. events_after font circles level (length xs) 0 [] xs ++ es) (p.events ∙ ap (λ (a : Arrangement). map (shifted_event (length front)) a.events) enough))

@@ -1,35 +1,16 @@
 -- Steps through a text of Hangul.
-use Rattle.std.proofs.Common.{ℕ, zero, suc, ◌≡◌, ◌≤◌, ◌<◌, ◌+◌, ◌-◌, ◌==◌, ◌||◌, ◌&&◌, ◌⊎◌, inl, inr, nat_le, nat_lt, Bool, true, false, if◌then◌else◌, List, [], ◌∷◌, ◌++◌, length, map, take, drop, Option, None, Some, is_some, append_assoc, arith, refl, sym, ap, subst, ◌∙◌}
-use Rattle.std.specs.Prelude.{slice_get}
+use Rattle.std.proofs.Common.{ℕ, ◌≡◌, ◌≤◌, ◌+◌, ◌⊎◌, inl, inr, Bool, true, false, if◌then◌else◌, Option, None, Some, is_some, arith, refl, sym, ap, subst, ◌∙◌}
 use Rattle.std.proofs.lemmas.Bool.{cases_Bool, cond-true, cond-false}
 use Rattle.std.proofs.lemmas.Bool.Decides.{nat_tests}
 use Rattle.std.proofs.lemmas.Grind.{common_steps}
-use Rattle.std.proofs.lemmas.List.{length-append, length-drop, length-map, length-take, length-take-le, take-append-drop, take-append-le}
-use Rattle.buffer_glyphs.specs.declared.level.BufferClusterLevel.TheVariants.{MonotoneGraphemes}
-use Rattle.buffer_glyphs.specs.Events.{Event, IsPlain, Move, Replace}
-use Rattle.buffer_glyphs.specs.Items.{Item}
-use Rattle.buffer_glyphs.specs.Levels.{InOutput}
-use Rattle.buffer_glyphs.specs.Replacements.{item_numbered}
-use Rattle.buffer_parts.specs.Counts.{count_after, count_after_event}
-use Rattle.buffer_stages.specs.Moves.{order_of_move}
-use Rattle.buffer_stages.specs.Walks.{renumbered_first}
 use Rattle.buffer_unicode_tables.specs.Hangul.{hangul_pair}
 use Rattle.layout_face.specs.declared.parts.FaceParts.{FaceParts}
-use Rattle.buffer_parts.specs.Breaks.Concat.{without_concats}
-use Rattle.buffer_parts.specs.Breaks.Fragments.{AreGiven}
-use Rattle.buffer_parts.specs.Breaks.Lossless.{AreLossless}
-use Rattle.buffer_parts.specs.Breaks.Sides.{AreBounded}
-use Rattle.buffer_parts.specs.Breaks.Lemmas.Orders.{moves_permute}
 use Rattle.script_hangul.specs.declared.jamo.Letters.{Letters}
 use Rattle.script_hangul.specs.declared.jamo.Letters.TheVariants.{Two, Three}
 use Rattle.script_hangul.specs.declared.actions.Action.{Action}
 use Rattle.script_hangul.specs.declared.actions.Action.TheVariants.{Keep, Apart, Compose, Split}
-use Rattle.script_hangul.specs.Jamo.{is_leading, is_syllable, is_tone, is_trailing, is_vowel, letters_of, whole_of}
+use Rattle.script_hangul.specs.Jamo.{is_leading, is_syllable, is_trailing, is_vowel, letters_of, whole_of}
 use Rattle.script_hangul.specs.Actions.{action_on, before_trailing, has_character, has_letters, joining_action, leading_action, letters_action, open_by, split_action, split_action_of, syllable_action, trailing_of}
-use Rattle.script_hangul.specs.Hangul.{character_at, character_by, count_apart, step, step_by}
-use Rattle.script_hangul.specs.Steps.{DOTTED_CIRCLE, Step, apart_step, before_syllable, circle_beside, compose_step, has_no_width, keep_step, letters_from, letters_of_first, numbers_of, split_step, step_of, tone_step, with_circle, with_tone_first}
-use Rattle.shape_laws.specs.Breaks.Lemmas.MarkOrders.{given_first, given_from}
-use Rattle.shape_laws.specs.Breaks.Lemmas.Rewrites.{given_both, replaced_count}
 
 -- ---- characters that no syllable begins with
 

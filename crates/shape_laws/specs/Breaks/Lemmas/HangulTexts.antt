@@ -4,7 +4,7 @@ use Rattle.std.specs.Prelude.{⊤}
 use Rattle.buffer_glyphs.specs.Items.{Item, item_masked}
 use Rattle.buffer_properties.specs.Properties.{is_mark_character}
 use Rattle.buffer_unicode_tables.specs.Tables.{Tables}
-use Rattle.buffer_core.specs.Readings.{BufferState, Read, View, always, state_after}
+use Rattle.buffer_core.specs.Readings.{BufferState, View, always, state_after}
 use Rattle.buffer_stages.specs.Settings.{TextSettings}
 use Rattle.buffer_stages.specs.Stages.{with_items_mapped}
 use Rattle.buffer_parts.specs.Breaks.Unsafe.{IsUnsafeAt}

@@ -1,14 +1,13 @@
 -- A walk through a text of Hangul, and through the two texts that it is broken into.
-use Rattle.std.proofs.Common.{ℕ, zero, suc, ◌≡◌, ◌≤◌, ◌<◌, ◌+◌, ◌-◌, ◌==◌, ◌&&◌, ◌⊎◌, inl, inr, nat_lt, Bool, true, false, if◌then◌else◌, List, [], ◌∷◌, ◌++◌, length, map, take, drop, Option, None, Some, append_assoc, append-nil, arith, refl, sym, ap, ap₂, subst, ◌∙◌}
-use Rattle.std.proofs.lemmas.Bool.{cases_Bool}
+use Rattle.std.proofs.Common.{ℕ, zero, suc, ◌≡◌, ◌≤◌, ◌<◌, ◌+◌, ◌-◌, ◌&&◌, inl, inr, nat_lt, Bool, true, false, if◌then◌else◌, List, [], ◌∷◌, ◌++◌, length, map, take, drop, Option, None, Some, append_assoc, arith, refl, sym, ap, ap₂, subst, ◌∙◌}
 use Rattle.std.proofs.lemmas.Bool.Decides.{nat_tests}
 use Rattle.std.proofs.lemmas.Grind.{common_steps}
-use Rattle.std.proofs.lemmas.List.{drop-append-le, length-append, length-drop, length-map, length-take-le, map-append, take-append-drop, take-append-le}
+use Rattle.std.proofs.lemmas.List.{length-append, length-drop, length-map, length-take-le, map-append, take-append-drop}
 use Rattle.std.proofs.lemmas.List.Sums.{fold-append}
 use Rattle.std.proofs.Math.Seq.{take-append-add}
 use Rattle.buffer_glyphs.specs.declared.level.BufferClusterLevel.{BufferClusterLevel}
 use Rattle.buffer_glyphs.specs.declared.level.BufferClusterLevel.TheVariants.{MonotoneGraphemes}
-use Rattle.buffer_glyphs.specs.Events.{Event, IsPlain, Move, Replace}
+use Rattle.buffer_glyphs.specs.Events.{IsPlain, Move, Replace}
 use Rattle.buffer_glyphs.specs.Items.{Item}
 use Rattle.buffer_glyphs.specs.Levels.{InOutput}
 use Rattle.buffer_glyphs.specs.Replacements.{item_numbered}
@@ -29,10 +28,10 @@ use Rattle.script_hangul.specs.declared.actions.Action.{Action}
 use Rattle.script_hangul.specs.declared.actions.Action.TheVariants.{Keep, Apart, Compose, Split}
 use Rattle.script_hangul.specs.Jamo.{is_tone}
 use Rattle.script_hangul.specs.Actions.{action_on, has_character}
-use Rattle.script_hangul.specs.Hangul.{character_at, character_by, count_apart, events_after, jamo_rule, rule_by, step, step_by, text_after}
-use Rattle.script_hangul.specs.Steps.{DOTTED_CIRCLE, Step, apart_step, before_syllable, circle_beside, circle_for, compose_step, has_no_width, keep_step, letters_from, letters_of_first, numbers_of, split_step, step_of, tone_step, with_circle, with_tone_first}
+use Rattle.script_hangul.specs.Hangul.{character_at, events_after, step, step_by, text_after}
+use Rattle.script_hangul.specs.Steps.{DOTTED_CIRCLE, Step, apart_step, before_syllable, circle_beside, compose_step, has_no_width, keep_step, letters_from, letters_of_first, numbers_of, split_step, step_of, tone_step, with_circle, with_tone_first}
 use Rattle.shape_laws.specs.Breaks.Rewrites.{IsWholeRewrite}
-use Rattle.shape_laws.specs.Breaks.Lemmas.HangulSteps.{AreFed, IsFed, TakesMore, action_fed, none_kept, second_decides, taken_count, third_decides}
+use Rattle.shape_laws.specs.Breaks.Lemmas.HangulSteps.{AreFed, action_fed, taken_count}
 use Rattle.shape_laws.specs.Breaks.Lemmas.MarkOrders.{given_first, given_from}
 use Rattle.shape_laws.specs.Breaks.Lemmas.Rewrites.{both_bounded, both_plain, given_both, replaced_count}
 use Rattle.shape_laws.specs.Breaks.Lemmas.Unnumbered.{without_both}
@@ -176,10 +175,10 @@ step_is level font circles n out x xs h k = by_first (character_at 0 (x ∷ xs))
 -- ---- a walk
 
 -- a text of Hangul after some steps, with their events
-abbrev pub walked : FaceParts → Bool → BufferClusterLevel → ℕ → ℕ → List Item → List Item → Arrangement
-walked font circles level steps n out xs = record { items = text_after font circles steps n out xs; events = events_after font circles level steps n out xs }
+abbrev pub walked_text : FaceParts → Bool → BufferClusterLevel → ℕ → ℕ → List Item → List Item → Arrangement
+walked_text font circles level steps n out xs = record { items = text_after font circles steps n out xs; events = events_after font circles level steps n out xs }
 
-pub walked_rewrite : (font : FaceParts) (circles : Bool) (level : BufferClusterLevel) (steps n : ℕ) (out xs : List Item) → length xs ≤ steps → AreGiven 0 out → AreGiven 0 xs → IsWholeRewrite (length out + length xs) (walked font circles level steps n out xs)
+pub walked_rewrite : (font : FaceParts) (circles : Bool) (level : BufferClusterLevel) (steps n : ℕ) (out xs : List Item) → length xs ≤ steps → AreGiven 0 out → AreGiven 0 xs → IsWholeRewrite (length out + length xs) (walked_text font circles level steps n out xs)
 walked_rewrite font circles level steps n out [] le h k = record { bounded = tt; lossless = tt; counted = omega arith; plain = tt; no_concat = refl; given = h }
 walked_rewrite font circles level zero n out (x ∷ xs) le h k = absurd (omega (arith, le))
 walked_rewrite font circles level (suc steps) n out (x ∷ xs) le h k =
@@ -221,7 +220,7 @@ walked_some font circles (x ∷ xs) h some =
     omega (arith, here, rest)
 
 -- as many steps as there are items are enough
-pub steps_enough : (font : FaceParts) (circles : Bool) (level : BufferClusterLevel) (f g n : ℕ) (out xs : List Item) → length xs ≤ f → length xs ≤ g → walked font circles level f n out xs ≡ walked font circles level g n out xs
+pub steps_enough : (font : FaceParts) (circles : Bool) (level : BufferClusterLevel) (f g n : ℕ) (out xs : List Item) → length xs ≤ f → length xs ≤ g → walked_text font circles level f n out xs ≡ walked_text font circles level g n out xs
 steps_enough font circles level f g n out [] a b = refl
 steps_enough font circles level zero g n out (x ∷ xs) a b = absurd (omega (arith, a))
 steps_enough font circles level (suc f) zero n out (x ∷ xs) a b = absurd (omega (arith, b))
@@ -317,7 +316,7 @@ pub record IsShiftedWalk (front : List Item) (a b : Arrangement) : Type 0 where
   pub items : a.items ≡ front ++ b.items
   pub events : a.events ≡ map (shifted_event (length front)) b.events
 
-pub walk_shifted : (front : List Item) (level : BufferClusterLevel) (font : FaceParts) (circles : Bool) (f n : ℕ) (out xs : List Item) → IsShiftedWalk front (walked font circles level f (length front + n) (front ++ out) xs) (walked font circles level f n out xs)
+pub walk_shifted : (front : List Item) (level : BufferClusterLevel) (font : FaceParts) (circles : Bool) (f n : ℕ) (out xs : List Item) → IsShiftedWalk front (walked_text font circles level f (length front + n) (front ++ out) xs) (walked_text font circles level f n out xs)
 walk_shifted front level font circles f n out [] = record { items = refl; events = refl }
 walk_shifted front level font circles zero n out (x ∷ xs) = record { items = refl; events = refl }
 walk_shifted front level font circles (suc f) n out (x ∷ xs) =
@@ -326,8 +325,8 @@ walk_shifted front level font circles (suc f) n out (x ∷ xs) =
     let p = step_shifted front level font circles n out (x ∷ xs) in
     let rest = drop (r.more + 1) (x ∷ xs) in
     let next = walk_shifted front level font circles f r.start r.out rest in
-    let same : walked font circles level f s.start s.out (drop (s.more + 1) (x ∷ xs)) ≡ walked font circles level f (length front + r.start) (front ++ r.out) rest =
-    ap (λ (i : ℕ). walked font circles level f i s.out (drop (s.more + 1) (x ∷ xs))) p.start ∙ ap (λ o. walked font circles level f (length front + r.start) o (drop (s.more + 1) (x ∷ xs))) p.out ∙ ap (λ (i : ℕ). walked font circles level f (length front + r.start) (front ++ r.out) (drop (i + 1) (x ∷ xs))) p.more in
+    let same : walked_text font circles level f s.start s.out (drop (s.more + 1) (x ∷ xs)) ≡ walked_text font circles level f (length front + r.start) (front ++ r.out) rest =
+    ap (λ (i : ℕ). walked_text font circles level f i s.out (drop (s.more + 1) (x ∷ xs))) p.start ∙ ap (λ o. walked_text font circles level f (length front + r.start) o (drop (s.more + 1) (x ∷ xs))) p.out ∙ ap (λ (i : ℕ). walked_text font circles level f (length front + r.start) (front ++ r.out) (drop (i + 1) (x ∷ xs))) p.more in
     record {
       items = ap (λ (w : Arrangement). w.items) same ∙ next.items;
       events = ap₂ (λ es fs. es ++ fs) p.events (ap (λ (w : Arrangement). w.events) same ∙ next.events) ∙ sym (map-append (shifted_event (length front)) (r.events level) (events_after font circles level f r.start r.out rest));

@@ -5,7 +5,7 @@ use Rattle.buffer_glyphs.specs.Origins.{Origin, numbers, without_marks}
 use Rattle.buffer_glyphs.specs.Order.{IsInOrder}
 use Rattle.buffer_glyphs.specs.Lemmas.Origins.{origins_after_both}
 use Rattle.buffer_parts.specs.Counting.{is_left}
-use Rattle.buffer_core.specs.Readings.{BufferState, Follows, Read, Reading, Stage, View, always, and_then, state_after, then_read, then_reading, with_events}
+use Rattle.buffer_core.specs.Readings.{BufferState, Follows, Read, Reading, Stage, View, always, state_after, then_read, with_events}
 use Rattle.buffer_parts.specs.Breaks.Concat.{without_concats}
 use Rattle.buffer_parts.specs.Breaks.Divisible.{IsSpared, merges}
 use Rattle.buffer_parts.specs.Breaks.Unsafe.{HaveNoTatweel}
@@ -113,15 +113,15 @@ reading_splits p s b e =
 -- ---- the reading of a text up to the reset of its limits
 
 -- a text with the masks of ranges
-abbrev ranged_state : Shaping → BufferState → BufferState
-ranged_state p s = state_after (with_ranges p.map p.features (numbers s.origins) s.view) s
+abbrev range_state : Shaping → BufferState → BufferState
+range_state p s = state_after (with_ranges p.map p.features (numbers s.origins) s.view) s
 
 record IsRead (p : Shaping) (s : BufferState) (r : Read) : Type 0 where
   chars : Read
   last : Read
   chars_is : before_ranges p s.view ≡ Ok chars
-  last_is : before_reset p (ranged_state p (state_after chars s)).view ≡ Ok last
-  both : state_after r s ≡ state_after last (ranged_state p (state_after chars s))
+  last_is : before_reset p (range_state p (state_after chars s)).view ≡ Ok last
+  both : state_after r s ≡ state_after last (range_state p (state_after chars s))
   many : merge_count s.level last ≤ merge_count s.level r
 
 is_read : (p : Shaping) (s : BufferState) (r : Read) → reading_before_reset p s ≡ Ok r → IsRead p s r
@@ -133,7 +133,7 @@ is_read p s r e =
     let here : clusters ≡ numbers s1.origins = ap (λ (x : Reading). clusters_after x s) one.once_is in
     let two = state_by_then (with_ranges p.map p.features clusters) (in_order (before_reset p ∷ [])) s1 one.again one.again_is in
     let s2 = state_by (with_ranges p.map p.features clusters) s1 in
-    let s2_is : s2 ≡ ranged_state p s1 = ap (λ ns. state_by (with_ranges p.map p.features ns) s1) here in
+    let s2_is : s2 ≡ range_state p s1 = ap (λ ns. state_by (with_ranges p.map p.features ns) s1) here in
     let three = both_of (before_reset p) (in_order []) s2 two.again two.again_is in
     let m1 = one.many in
     let m2 = two.many in
@@ -148,7 +148,7 @@ is_read p s r e =
     }
 
 -- the limits are enough for its glyphs
-enough_spared : (p : Shaping) (s : BufferState) (r : Read) (q : IsRead p s r) → reading_before_reset p s ≡ Ok r → HasEnough p s → (state_after q.chars s).view.lig_id ≡ 0 → IsSpared s.level (ranged_state p (state_after q.chars s)).view q.last
+enough_spared : (p : Shaping) (s : BufferState) (r : Read) (q : IsRead p s r) → reading_before_reset p s ≡ Ok r → HasEnough p s → (state_after q.chars s).view.lig_id ≡ 0 → IsSpared s.level (range_state p (state_after q.chars s)).view q.last
 enough_spared p s r q is h none =
     let left : is_left r.view.max_ops ≡ true = subst (λ (x : Reading). IfOk (left_by x) (λ n. is_left n ≡ true)) is h.budget in
     let most : merges (without_concats (r.events s.level)) ≤ 7 = subst (λ (x : Reading). IfOk x (λ (y : Read). merges (without_concats (y.events s.level)) ≤ 7)) is h.numbers in
@@ -206,7 +206,7 @@ record IsResult (p : Shaping) (s result : BufferState) : Type 0 where
   all : Read
   all_is : reading_before_reset p s ≡ Ok all
   parts : IsRead p s all
-  state : result ≡ final_state p parts.last (ranged_state p (state_after parts.chars s))
+  state : result ≡ final_state p parts.last (range_state p (state_after parts.chars s))
 
 is_result : (p : Shaping) (s result : BufferState) → Follows (reading p s) s result → IsResult p s result
 is_result p s result h =
@@ -216,8 +216,8 @@ is_result p s result h =
     let parts = is_read p s split.read is in
     record { all = split.read; all_is = is; parts = parts; state = followed.state ∙ split.last ∙ ap (state_by (final_view p.direction)) parts.both }
 
-ranged_as : (p q : Shaping) (s : BufferState) → q ≡ record p { settings = q.settings } → ranged_state p s ≡ ranged_state q s
-ranged_as p q s e = ap (λ (k : Shaping). ranged_state k s) (sym e)
+ranged_as : (p q : Shaping) (s : BufferState) → q ≡ record p { settings = q.settings } → range_state p s ≡ range_state q s
+ranged_as p q s e = ap (λ (k : Shaping). range_state k s) (sym e)
 
 pub texts_show_both : TextsShowBoth
 texts_show_both seam p p1 p2 c whole earlier later result first second falls shapings texts apart ends early_ends late_ends enough early_enough late_enough follows_r follows_e follows_l cut order =
@@ -229,13 +229,13 @@ texts_show_both seam p p1 p2 c whole earlier later result first second falls sha
     let l1 = state_after ll.parts.chars later in
     let stays = texts rr.parts.chars ee.parts.chars ll.parts.chars rr.parts.chars_is ee.parts.chars_is ll.parts.chars_is in
     let ranges = ranges_of_both_divide p.map p.features c w1 e1 l1 stays in
-    let broken : StaysBroken c (ranged_state p w1) (ranged_state p1 e1) (ranged_state p2 l1) =
-    subst (λ (s : BufferState). StaysBroken c (ranged_state p w1) s (ranged_state p2 l1)) (ranged_as p p1 e1 shapings.early_is) (subst (λ (s : BufferState). StaysBroken c (ranged_state p w1) (ranged_state p e1) s) (ranged_as p p2 l1 shapings.late_is) ranges) in
-    let shows = glyphs_show_both seam p p1 p2 c (ranged_state p w1) (ranged_state p1 e1) (ranged_state p2 l1) rr.parts.last ee.parts.last ll.parts.last falls shapings broken apart (ends rr.parts.chars rr.parts.chars_is) (early_ends ee.parts.chars ee.parts.chars_is) (late_ends ll.parts.chars ll.parts.chars_is) rr.parts.last_is ee.parts.last_is ll.parts.last_is
+    let broken : StaysBroken c (range_state p w1) (range_state p1 e1) (range_state p2 l1) =
+    subst (λ (s : BufferState). StaysBroken c (range_state p w1) s (range_state p2 l1)) (ranged_as p p1 e1 shapings.early_is) (subst (λ (s : BufferState). StaysBroken c (range_state p w1) (range_state p e1) s) (ranged_as p p2 l1 shapings.late_is) ranges) in
+    let shows = glyphs_show_both seam p p1 p2 c (range_state p w1) (range_state p1 e1) (range_state p2 l1) rr.parts.last ee.parts.last ll.parts.last falls shapings broken apart (ends rr.parts.chars rr.parts.chars_is) (early_ends ee.parts.chars ee.parts.chars_is) (late_ends ll.parts.chars ll.parts.chars_is) rr.parts.last_is ee.parts.last_is ll.parts.last_is
     (enough_spared p whole rr.all rr.parts rr.all_is enough stays.numbers.whole_none) (enough_spared p1 earlier ee.all ee.parts ee.all_is early_enough stays.numbers.early_none)
     (enough_spared p2 later ll.all ll.parts ll.all_is late_enough stays.numbers.late_none) (tatweel_of p whole rr.parts.chars rr.parts.chars_is)
     (subst (MayBeCutAt c) rr.state cut) (subst (λ (s : BufferState). IsInOrder falls (numbers s.origins)) rr.state order) in
-    let w2 = final_state p rr.parts.last (ranged_state p w1) in
-    let e2 = final_state p1 ee.parts.last (ranged_state p1 e1) in
-    let l2 = final_state p2 ll.parts.last (ranged_state p2 l1) in
+    let w2 = final_state p rr.parts.last (range_state p w1) in
+    let e2 = final_state p1 ee.parts.last (range_state p1 e1) in
+    let l2 = final_state p2 ll.parts.last (range_state p2 l1) in
     subst (λ (s : BufferState). ShowsBoth falls s first second) (sym rr.state) (subst (λ (s : BufferState). ShowsBoth falls w2 s second) (sym ee.state) (subst (λ (s : BufferState). ShowsBoth falls w2 e2 s) (sym ll.state) shows))

@@ -30,22 +30,22 @@ use Rattle.buffer_parts.specs.Breaks.Unsafe.{HaveSafeBreaks, IsUnsafeAt}
 use Rattle.buffer_parts.specs.Breaks.Lemmas.Apart.{numbers_both}
 use Rattle.buffer_parts.specs.Breaks.Lemmas.Concat.{concat_is_apart, same_any, same_numbers}
 use Rattle.buffer_parts.specs.Breaks.Lemmas.Divided.{both_change_alone}
-use Rattle.shape_laws.specs.Breaks.Lemmas.Deletions.{SparesWord, deletions_both, deletions_bounded, deletions_count, deletions_give, deletions_lossless, deletions_no_concat, deletions_plain, deletions_renamed, deletions_shifted, kept_both, kept_given, kept_renamed, positions_both, positions_many, positions_renamed}
-use Rattle.shape_laws.specs.Breaks.Lemmas.PlainDivision.{IsPlainStage, beside_divides, plain_is_divisible, state_by}
+use Rattle.shape_laws.specs.Breaks.Lemmas.Deletions.{SparesWord, deletions_both, deletions_bounded, deletions_count, deletions_give, deletions_lossless, deletions_no_concat, deletions_plain, deletions_renamed, deletions_shifted, kept_both, kept_given, kept_renamed, positions_both, positions_count, positions_renamed}
+use Rattle.shape_laws.specs.Breaks.Lemmas.PlainDivision.{IsPlainStage, beside_divides, state_by, plain_is_divisible}
 
 -- the view without the glyphs that a test picks
-abbrev pub glyphs_removed : (Item → Bool) → View → Read
-glyphs_removed goes v = with_events (deletions_from goes 0 v.items) (record v { items = items_kept goes v.items; positions = positions_kept goes v.items v.positions })
+abbrev pub view_without : (Item → Bool) → View → Read
+view_without goes v = with_events (deletions_from goes 0 v.items) (record v { items = items_kept goes v.items; positions = positions_kept goes v.items v.positions })
 
 count_is : (goes : Item → Bool) (xs : List Item) (n : ℕ) → n ≡ length xs → count_after (deletions_from goes 0 xs) n ≡ length (items_kept goes xs)
 count_is goes xs n e = let count = deletions_count goes 0 xs n (omega (arith, e)) in omega (arith, count)
 
-removed_is_plain : (goes : Item → Bool) → IsPlainStage (glyphs_removed goes)
+removed_is_plain : (goes : Item → Bool) → IsPlainStage (view_without goes)
 removed_is_plain goes = record {
   plain = λ v level. deletions_plain goes 0 v.items;
   lossless = λ v level. deletions_lossless goes 0 v.items (length v.items);
   counted = λ v level. count_is goes v.items (length v.items) refl;
-  positions = λ v e. positions_many goes v.items v.positions e;
+  positions = λ v e. positions_count goes v.items v.positions e;
 }
 
 -- ---- the list of both fragments
@@ -104,16 +104,16 @@ no_concats_line goes falls xs ys m n =
     ap (λ es. events_as_they_stand false falls es (deletions_from goes 0 ys) m n) (sym (deletions_no_concat goes 0 xs))
     ∙ ap (λ es. events_as_they_stand false falls (without_concats (deletions_from goes 0 xs)) es m n) (sym (deletions_no_concat goes 0 ys))
 
-removed_alone : (goes : Item → Bool) (level : BufferClusterLevel) (s : BufferState) (n : ℕ) → n ≡ length s.view.items → length s.view.positions ≡ length s.view.items → 0 < length (items_kept goes s.view.items) → IsReadAlone level n (glyphs_removed goes s.view)
+removed_alone : (goes : Item → Bool) (level : BufferClusterLevel) (s : BufferState) (n : ℕ) → n ≡ length s.view.items → length s.view.positions ≡ length s.view.items → 0 < length (items_kept goes s.view.items) → IsReadAlone level n (view_without goes s.view)
 removed_alone goes level s n e p some = record {
   bounded = subst (λ es. AreBounded es n) (sym (deletions_no_concat goes 0 s.view.items)) (deletions_bounded goes 0 s.view.items n (omega (arith, e)));
-  positions = positions_many goes s.view.items s.view.positions p;
+  positions = positions_count goes s.view.items s.view.positions p;
   counted = count_is goes s.view.items n e;
   some = some;
 }
 
 removed_beside : (goes : Item → Bool) → SparesWord goes → (falls : Bool) (c : ℕ) (whole earlier later : BufferState) → AreFragments falls c whole earlier later → 0 < length (items_kept goes earlier.view.items) → 0 < length (items_kept goes later.view.items)
-    → IsReadBeside false falls whole.level (length earlier.origins) (length later.origins) (glyphs_removed goes whole.view) (glyphs_removed goes earlier.view) (glyphs_removed goes later.view)
+    → IsReadBeside false falls whole.level (length earlier.origins) (length later.origins) (view_without goes whole.view) (view_without goes earlier.view) (view_without goes later.view)
 removed_beside goes spares falls c whole earlier later j early_some late_some =
     let line = are_removed goes spares falls c whole earlier later j in
     record {
@@ -191,10 +191,10 @@ still_least asks level es os m safe orderly giving least some = elim safe.ordere
 ]
 
 emptied : (goes : Item → Bool) → SparesWord goes → (falls : Bool) (c : ℕ) (whole earlier later : BufferState) → IsBreakable whole → AreFragments falls c whole earlier later
-    → (length (items_kept goes earlier.view.items) ≡ 0) ⊎ (length (items_kept goes later.view.items) ≡ 0) → IsUnsafeAt c (state_by (glyphs_removed goes) whole).origins
+    → (length (items_kept goes earlier.view.items) ≡ 0) ⊎ (length (items_kept goes later.view.items) ≡ 0) → IsUnsafeAt c (state_by (view_without goes) whole).origins
 emptied goes spares falls c whole earlier later ready j none = elim changes [
   | inl unsafe ↦ λ h. same_any c old new same ∙ unsafe (subst (λ (ns : List ℕ). Has ns c) (same_numbers old new same) h)
-  | inr alone ↦ λ h. absurd (cluster_absent alone none (subst (λ (ns : List ℕ). Has ns c) (same_numbers old new same) h))
+  | inr alone ↦ λ h. absurd (alone_without alone none (subst (λ (ns : List ℕ). Has ns c) (same_numbers old new same) h))
 ]
   where
     asks : Asks
@@ -246,8 +246,8 @@ emptied goes spares falls c whole earlier later ready j none = elim changes [
     left : (xs : List Item) (rs : List Origin) → length rs ≡ length xs → length (items_kept goes xs) ≡ 0 → origins_after asks level (deletions_from goes 0 xs) rs ≡ []
     left xs rs e f = none_there (origins_after asks level (deletions_from goes 0 xs) rs) (counts_follow asks level (deletions_from goes 0 xs) rs ∙ count_is goes xs (length rs) e ∙ f)
 
-    cluster_absent : new ≡ as_they_stand falls (origins_after asks level es os) (origins_after asks level fs qs) → (length (items_kept goes earlier.view.items) ≡ 0) ⊎ (length (items_kept goes later.view.items) ≡ 0) → Has (numbers new) c → ⊥
-    cluster_absent alone (inl early) h =
+    alone_without : new ≡ as_they_stand falls (origins_after asks level es os) (origins_after asks level fs qs) → (length (items_kept goes earlier.view.items) ≡ 0) ⊎ (length (items_kept goes later.view.items) ≡ 0) → Has (numbers new) c → ⊥
+    alone_without alone (inl early) h =
         let some = some_number os j.early_some in
         let low = j.below some.0 some.1 in
         let least = least_below c (numbers line) some.0 (in_first falls os qs some.0 some.1) low in
@@ -256,7 +256,7 @@ emptied goes spares falls c whole earlier later ready j none = elim changes [
           | inl there ↦ has_none (origins_after asks level es os) least.0 (left earlier.view.items os j.early_whole.origins early) there
           | inr there ↦ let high = j.above least.0 (origins_keep_numbers asks level fs qs least.0 there) in let below = least.1.0 in omega (arith, high, below)
         ]
-    cluster_absent alone (inr late) h = elim (line_cases falls (origins_after asks level es os) (origins_after asks level fs qs) c (subst (λ (xs : List Origin). Has (numbers xs) c) alone h)) [
+    alone_without alone (inr late) h = elim (line_cases falls (origins_after asks level es os) (origins_after asks level fs qs) c (subst (λ (xs : List Origin). Has (numbers xs) c) alone h)) [
       | inl there ↦ let low = j.below c (origins_keep_numbers asks level es os c there) in omega (arith, low)
       | inr there ↦ has_none (origins_after asks level fs qs) c (left later.view.items qs j.late_whole.origins late) there
     ]
@@ -264,7 +264,7 @@ emptied goes spares falls c whole earlier later ready j none = elim changes [
 -- ---- the stage divides
 
 removed_apart : (goes : Item → Bool) → SparesWord goes → (falls : Bool) (c : ℕ) (whole earlier later : BufferState) → IsBreakable whole → AreFragments falls c whole earlier later
-    → IsUnsafeAt c (state_by (glyphs_removed goes) whole).origins ⊎ IsReadBeside false falls whole.level (length earlier.origins) (length later.origins) (glyphs_removed goes whole.view) (glyphs_removed goes earlier.view) (glyphs_removed goes later.view)
+    → IsUnsafeAt c (state_by (view_without goes) whole).origins ⊎ IsReadBeside false falls whole.level (length earlier.origins) (length later.origins) (view_without goes whole.view) (view_without goes earlier.view) (view_without goes later.view)
 removed_apart goes spares falls c whole earlier later ready j = by_early (some_or_none (items_kept goes earlier.view.items)) (some_or_none (items_kept goes later.view.items))
   where
     some_or_none : (xs : List Item) → (length xs ≡ 0) ⊎ (0 < length xs)
@@ -272,14 +272,14 @@ removed_apart goes spares falls c whole earlier later ready j = by_early (some_o
     some_or_none (x ∷ xs) = inr (omega arith)
 
     by_early : (length (items_kept goes earlier.view.items) ≡ 0) ⊎ (0 < length (items_kept goes earlier.view.items)) → (length (items_kept goes later.view.items) ≡ 0) ⊎ (0 < length (items_kept goes later.view.items))
-        → IsUnsafeAt c (state_by (glyphs_removed goes) whole).origins ⊎ IsReadBeside false falls whole.level (length earlier.origins) (length later.origins) (glyphs_removed goes whole.view) (glyphs_removed goes earlier.view) (glyphs_removed goes later.view)
+        → IsUnsafeAt c (state_by (view_without goes) whole).origins ⊎ IsReadBeside false falls whole.level (length earlier.origins) (length later.origins) (view_without goes whole.view) (view_without goes earlier.view) (view_without goes later.view)
     by_early (inl none) late = inl (emptied goes spares falls c whole earlier later ready j (inl none))
     by_early (inr some) (inl none) = inl (emptied goes spares falls c whole earlier later ready j (inr none))
     by_early (inr some) (inr more) = inr (removed_beside goes spares falls c whole earlier later j some more)
 
 -- glyphs that a test picks, which doesn't read ligature words, are deleted from a text as from its fragments
-pub removed_divides : (goes : Item → Bool) → SparesWord goes → (falls : Bool) → IsFreelyDivisible falls falls (always (glyphs_removed goes)) (always (glyphs_removed goes)) (always (glyphs_removed goes))
+pub removed_divides : (goes : Item → Bool) → SparesWord goes → (falls : Bool) → IsFreelyDivisible falls falls (always (view_without goes)) (always (view_without goes)) (always (view_without goes))
 removed_divides goes spares falls =
-    let f = glyphs_removed goes in
+    let f = view_without goes in
     let plain = removed_is_plain goes in
     plain_is_divisible falls falls f f f plain (λ c whole earlier later ready j. beside_divides false falls f f f plain c whole earlier later ready j (removed_apart goes spares falls c whole earlier later ready j))

@@ -5,7 +5,7 @@ use Rattle.buffer_glyphs.specs.Events.{Event, Merge, MergeGrapheme, Replace, Cir
 use Rattle.buffer_glyphs.specs.Origins.{Origin}
 use Rattle.buffer_glyphs.specs.Lemmas.Origins.{origins_after_both}
 use Rattle.buffer_parts.specs.Lemmas.Stages.{both_read, same_read}
-use Rattle.buffer_core.specs.Readings.{View, Read, Stage, BufferState, always, and_then, as_it_is, state_after, then_read, then_reading, with_events, Reading}
+use Rattle.buffer_core.specs.Readings.{View, Read, Stage, BufferState, always, and_then, state_after, then_read, then_reading, with_events, Reading}
 use Rattle.buffer_parts.specs.Breaks.Concat.{without_concats}
 use Rattle.buffer_parts.specs.Breaks.Divisible.{merges}
 use Rattle.layout_offsets.specs.Finishing.{links_followed}
@@ -34,7 +34,7 @@ without_both [] fs = refl
 without_both (Concat from to ∷ es) fs = without_both es fs
 without_both (Merge how from to ∷ es) fs = ap (λ xs. Merge how from to ∷ xs) (without_both es fs)
 without_both (MergeGrapheme from to ∷ es) fs = ap (λ xs. MergeGrapheme from to ∷ xs) (without_both es fs)
-without_both (Replace at taken given ∷ es) fs = ap (λ xs. Replace at taken given ∷ xs) (without_both es fs)
+without_both (Replace at glyph_state given ∷ es) fs = ap (λ xs. Replace at glyph_state given ∷ xs) (without_both es fs)
 without_both (Circle after beside like ∷ es) fs = ap (λ xs. Circle after beside like ∷ xs) (without_both es fs)
 without_both (Delete at ∷ es) fs = ap (λ xs. Delete at ∷ xs) (without_both es fs)
 without_both (Move how from order ∷ es) fs = ap (λ xs. Move how from order ∷ xs) (without_both es fs)
@@ -52,7 +52,7 @@ merges_both [] fs = omega arith
 merges_both (Concat from to ∷ es) fs = merges_both es fs
 merges_both (Merge how from to ∷ es) fs = let rest = merges_both es fs in omega (arith, rest)
 merges_both (MergeGrapheme from to ∷ es) fs = merges_both es fs
-merges_both (Replace at taken given ∷ es) fs = merges_both es fs
+merges_both (Replace at glyph_state given ∷ es) fs = merges_both es fs
 merges_both (Circle after beside like ∷ es) fs = merges_both es fs
 merges_both (Delete at ∷ es) fs = merges_both es fs
 merges_both (Move how from order ∷ es) fs = merges_both es fs
@@ -138,16 +138,16 @@ abbrev pub advance_state : Shaping → BufferState → BufferState
 advance_state p s = state_by links_cleared (state_by (with_spaces p.font) (state_by (with_default_positions p.font) (state_by with_zero_positions s)))
 
 -- the state of a text when the links of its glyphs are followed
-abbrev pub linked_state : Shaping → BufferState → BufferState
-linked_state p s = state_by links_followed (state_by (zero_widths p.settings.flags) s)
+abbrev pub link_state : Shaping → BufferState → BufferState
+link_state p s = state_by links_followed (state_by (zero_widths p.settings.flags) s)
 
 -- the state of a text when its glyphs are in visual order
-abbrev pub ordered_state : Shaping → BufferState → BufferState
-ordered_state p s = state_by visual_order (state_if p.choices.fallback_mark_positioning (marks_positioned p) s)
+abbrev pub visual_state : Shaping → BufferState → BufferState
+visual_state p s = state_by visual_order (state_if p.choices.fallback_mark_positioning (marks_positioned p) s)
 
 -- the state of a text when default ignorables are hidden
-abbrev pub shown_state : Shaping → BufferState → BufferState
-shown_state p s = state_by (ignorables_hidden p.settings.flags p.settings.invisible p.font) (state_by (with_selectors p.settings.not_found_variation_selector) s)
+abbrev pub ignorables_state : Shaping → BufferState → BufferState
+ignorables_state p s = state_by (ignorables_hidden p.settings.flags p.settings.invisible p.font) (state_by (with_selectors p.settings.not_found_variation_selector) s)
 
 -- what is read of a text up to the reset of limits
 pub record IsRoute (p : Shaping) (s : BufferState) (r : Read) : Type 0 where
@@ -158,9 +158,9 @@ pub record IsRoute (p : Shaping) (s : BufferState) (r : Read) : Type 0 where
   pub substituted_is : glyphs_substituted p (glyph_state p s).view ≡ Ok substituted
   pub adjusted_is : positions_adjusted p (advance_state p (state_after substituted (glyph_state p s))).view ≡ Ok adjusted
   pub reached_is : before_end p s.view ≡ Ok reached
-  pub there : reached.view ≡ (shown_state p (ordered_state p (linked_state p (state_after adjusted (advance_state p (state_after substituted (glyph_state p s))))))).view
-  pub finished_is : postprocessing_stage p (shown_state p (ordered_state p (linked_state p (state_after adjusted (advance_state p (state_after substituted (glyph_state p s))))))).view ≡ Ok finished
-  pub end : state_after r s ≡ state_by with_flags_spread (state_after finished (shown_state p (ordered_state p (linked_state p (state_after adjusted (advance_state p (state_after substituted (glyph_state p s))))))))
+  pub there : reached.view ≡ (ignorables_state p (visual_state p (link_state p (state_after adjusted (advance_state p (state_after substituted (glyph_state p s))))))).view
+  pub finished_is : postprocessing_stage p (ignorables_state p (visual_state p (link_state p (state_after adjusted (advance_state p (state_after substituted (glyph_state p s))))))).view ≡ Ok finished
+  pub end : state_after r s ≡ state_by with_flags_spread (state_after finished (ignorables_state p (visual_state p (link_state p (state_after adjusted (advance_state p (state_after substituted (glyph_state p s))))))))
   pub many : merge_count s.level substituted + merge_count s.level adjusted ≤ merge_count s.level r
 
 pub in_turn_is : (first rest : Stage) (v : View) (a b : Read) → first v ≡ Ok a → rest a.view ≡ Ok b → and_then (first v) rest ≡ Ok (then_read a b)
@@ -189,7 +189,7 @@ begun_once p s r e =
     let four = state_by_then links_cleared (in_order []) s3 three.again three.again_is in
     one.both ∙ two.both ∙ three.both ∙ four.both ∙ nothing_then (state_by links_cleared s3) four.again four.again_is
 
-ended_once : (p : Shaping) (s : BufferState) (r : Read) → positions_ended p s.view ≡ Ok r → state_after r s ≡ ordered_state p (linked_state p s)
+ended_once : (p : Shaping) (s : BufferState) (r : Read) → positions_ended p s.view ≡ Ok r → state_after r s ≡ visual_state p (link_state p s)
 unfolding positions_ended
 ended_once p s r e =
     let marks = only_if p.choices.fallback_mark_positioning (always (marks_positioned p)) in
@@ -208,8 +208,8 @@ ended_once p s r e =
 -- what hiding default ignorables and the shaper's last stage leave
 record IsHidden (p : Shaping) (s : BufferState) (r : Read) : Type 0 where
   finished : Read
-  finished_is : postprocessing_stage p (shown_state p s).view ≡ Ok finished
-  both : state_after r s ≡ state_by with_flags_spread (state_after finished (shown_state p s))
+  finished_is : postprocessing_stage p (ignorables_state p s).view ≡ Ok finished
+  both : state_after r s ≡ state_by with_flags_spread (state_after finished (ignorables_state p s))
 
 is_hidden : (p : Shaping) (s : BufferState) (r : Read) → glyphs_hidden p s.view ≡ Ok r → IsHidden p s r
 unfolding glyphs_hidden
@@ -273,11 +273,11 @@ route p s r e =
     let five = both_of (positions_adjusted p) (in_order (positions_ended p ∷ [])) s3 four.again four.again_is in
     let s4 = state_after five.once s3 in
     let six = both_of (positions_ended p) (in_order []) s4 five.again five.again_is in
-    let s5_is : s5 ≡ ordered_state p (linked_state p s4) = four.both ∙ five.both ∙ six.both ∙ nothing_then (state_after six.once s4) six.again six.again_is ∙ ended_once p s4 six.once six.once_is in
+    let s5_is : s5 ≡ visual_state p (link_state p s4) = four.both ∙ five.both ∙ six.both ∙ nothing_then (state_after six.once s4) six.again six.again_is ∙ ended_once p s4 six.once six.once_is in
     let seven = both_of (glyphs_hidden p) (in_order []) s5 three.again three.again_is in
     let hidden = is_hidden p s5 seven.once seven.once_is in
-    let last : state_after r s ≡ state_by with_flags_spread (state_after hidden.finished (shown_state p s5)) = one.both ∙ two.both ∙ three.both ∙ seven.both ∙ nothing_then (state_after seven.once s5) seven.again seven.again_is ∙ hidden.both in
-    let all : s5 ≡ ordered_state p (linked_state p (state_after five.once (advance_state p (state_after two.once (glyph_state p s))))) = s5_is ∙ ap (λ (t : BufferState). ordered_state p (linked_state p (state_after five.once t))) (s3_is ∙ ap (λ (t : BufferState). advance_state p (state_after two.once t)) s1_is) in
+    let last : state_after r s ≡ state_by with_flags_spread (state_after hidden.finished (ignorables_state p s5)) = one.both ∙ two.both ∙ three.both ∙ seven.both ∙ nothing_then (state_after seven.once s5) seven.again seven.again_is ∙ hidden.both in
+    let all : s5 ≡ visual_state p (link_state p (state_after five.once (advance_state p (state_after two.once (glyph_state p s))))) = s5_is ∙ ap (λ (t : BufferState). visual_state p (link_state p (state_after five.once t))) (s3_is ∙ ap (λ (t : BufferState). advance_state p (state_after two.once t)) s1_is) in
     let reached = end_reached p s.view one.once two.once three.once one.once_is two.once_is three.once_is in
     let m1 = one.many in
     let m2 = two.many in
@@ -292,8 +292,8 @@ route p s r e =
       substituted_is = ap (λ (t : BufferState). glyphs_substituted p t.view) (sym s1_is) ∙ two.once_is;
       adjusted_is = ap (λ (t : BufferState). positions_adjusted p (advance_state p (state_after two.once t)).view) (sym s1_is) ∙ ap (λ (t : BufferState). positions_adjusted p t.view) (sym s3_is) ∙ five.once_is;
       reached_is = reached.1;
-      there = reached.2 ∙ ap (λ (t : BufferState). (shown_state p t).view) all;
-      finished_is = ap (λ (t : BufferState). postprocessing_stage p (shown_state p t).view) (sym all) ∙ hidden.finished_is;
-      end = last ∙ ap (λ (t : BufferState). state_by with_flags_spread (state_after hidden.finished (shown_state p t))) all;
+      there = reached.2 ∙ ap (λ (t : BufferState). (ignorables_state p t).view) all;
+      finished_is = ap (λ (t : BufferState). postprocessing_stage p (ignorables_state p t).view) (sym all) ∙ hidden.finished_is;
+      end = last ∙ ap (λ (t : BufferState). state_by with_flags_spread (state_after hidden.finished (ignorables_state p t))) all;
       many = omega (arith, m1, m2, m3, m4, m5);
     }

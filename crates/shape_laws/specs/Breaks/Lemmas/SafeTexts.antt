@@ -118,16 +118,16 @@ unfolding text_plan text_map
 planned_is font languages d script features = refl
 
 -- what a text is shaped by, of its language, its direction, its script and its settings
-abbrev text_shaping : (font : FaceParts) (tables : Tables) (tags : List ℕ → List Tag) (spans : Spans) (features : List Feature) → List Tag → Direction → Option Script → TextSettings → Shaping
-text_shaping font tables tags spans features languages d script settings =
+abbrev shaping_in : (font : FaceParts) (tables : Tables) (tags : List ℕ → List Tag) (spans : Spans) (features : List Feature) → List Tag → Direction → Option Script → TextSettings → Shaping
+shaping_in font tables tags spans features languages d script settings =
     by_shaper (planned_shaper any_kind font languages d script) (text_plan any_kind font languages d script features) features font tables spans settings
 
 shaped_alike : (font : FaceParts) (tables : Tables) (tags : List ℕ → List Tag) (spans : Spans) (features : List Feature) (a b : Sides) → b.language ≡ a.language → b.direction ≡ a.direction → b.script ≡ a.script
     → by_text font tables tags spans features b ≡ record (by_text font tables tags spans features a) { settings = (by_text font tables tags spans features b).settings }
 shaped_alike font tables tags spans features a b l d s =
-    ap (λ languages. text_shaping font tables tags spans features (wanted_language_tags tags languages) b.direction b.script (text_settings b)) l
-    ∙ ap (λ (e : Direction). text_shaping font tables tags spans features (language_tags tags a) e b.script (text_settings b)) d
-    ∙ ap (λ (script : Option Script). text_shaping font tables tags spans features (language_tags tags a) a.direction script (text_settings b)) s
+    ap (λ languages. shaping_in font tables tags spans features (wanted_language_tags tags languages) b.direction b.script (text_settings b)) l
+    ∙ ap (λ (e : Direction). shaping_in font tables tags spans features (language_tags tags a) e b.script (text_settings b)) d
+    ∙ ap (λ (script : Option Script). shaping_in font tables tags spans features (language_tags tags a) a.direction script (text_settings b)) s
 
 shapings_of : (font : FaceParts) (tables : Tables) (tags : List ℕ → List Tag) (spans : Spans) (features : List Feature) (c : ℕ) (whole earlier later : Sides) → AreCut c whole earlier later → AreOfOneLanguage whole earlier later
     → AreBrokenShapings (by_text font tables tags spans features whole) (by_text font tables tags spans features earlier) (by_text font tables tags spans features later)

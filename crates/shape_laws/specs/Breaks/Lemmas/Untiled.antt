@@ -1,5 +1,5 @@
 -- The last stage of Arabic texts that have no tiles.
-use Rattle.std.proofs.Common.{ℕ, ℤ, zero, suc, pos, ◌≡◌, ◌+◌, ◌||◌, Bool, true, false, nat_le, if◌then◌else◌, List, [], ◌∷◌, ◌++◌, Option, None, Ok, Err, length, arith, refl, sym, ap, subst, ◌∙◌}
+use Rattle.std.proofs.Common.{ℕ, ℤ, zero, suc, pos, ◌≡◌, ◌+◌, Bool, true, false, nat_le, if◌then◌else◌, List, [], ◌∷◌, ◌++◌, Option, None, Ok, Err, length, arith, refl, sym, ap, subst, ◌∙◌}
 use Rattle.std.specs.Prelude.{replicate}
 use Rattle.std.specs.List.{list_all, list_any}
 use Rattle.std.proofs.lemmas.Bool.{or_parts}
@@ -11,7 +11,6 @@ use Rattle.buffer_parts.specs.Lemmas.Stages.{same_read}
 use Rattle.buffer_core.specs.Readings.{Read, Reading, View, with_events}
 use Rattle.layout_face.specs.declared.parts.FaceParts.{FaceParts}
 use Rattle.script_arabic.specs.declared.runs.Before.TheVariants.{Tiles, Word}
-use Rattle.script_arabic.specs.declared.runs.Run.{Run}
 use Rattle.script_arabic.specs.declared.stretch.WordWalk.{WordWalk}
 use Rattle.script_arabic.specs.declared.tile.Tile.{Tile}
 use Rattle.script_arabic.specs.Copying.{events_from, with_tile_copies}
@@ -70,8 +69,8 @@ no_words start at (x ∷ xs) e =
 abbrev read_if : Bool → List Item → List Position → List Event → View → Reading
 read_if b xs ps es v = if b then Ok (with_events es (record v { items = xs; positions = ps })) else Err TooLong
 
-abbrev laid_if : Bool → List (Option Tile) → View → Reading
-laid_if b ts v = if b then with_tiles_laid ts v else Err StretchRange
+abbrev laying_if : Bool → List (Option Tile) → View → Reading
+laying_if b ts v = if b then with_tiles_laid ts v else Err StretchRange
 
 laid_is : (v : View) → list_any is_tile v.items ≡ false → length v.positions ≡ length v.items → with_tiles_laid (replicate (length v.items) None) v ≡ read_if (nat_le (length v.items) v.max_len) v.items v.positions [] v
 laid_is v none long =
@@ -86,8 +85,8 @@ laid_is v none long =
 untiled_is : (font : FaceParts) (v : View) → list_any is_tile v.items ≡ false → length v.positions ≡ length v.items → tiles_laid font v ≡ read_if (nat_le (length v.items) v.max_len) v.items v.positions [] v
 untiled_is font v none long =
     let rs : text_runs font v ≡ replicate (length v.items) None = no_runs font (pos 0) v.items v.positions none long in
-    ap (λ qs. laid_if (list_all is_in_range qs) (tiles font v.items qs) v) rs
-    ∙ ap (λ t. laid_if t (tiles font v.items (replicate (length v.items) None)) v) (none_in_range (length v.items))
+    ap (λ qs. laying_if (list_all is_in_range qs) (tiles font v.items qs) v) rs
+    ∙ ap (λ t. laying_if t (tiles font v.items (replicate (length v.items) None)) v) (none_in_range (length v.items))
     ∙ ap (λ ts. with_tiles_laid ts v) (no_tiles font v.items)
     ∙ laid_is v none long
 
@@ -105,7 +104,7 @@ laid_budget : (b : Bool) (xs : List Item) (ps : List Position) (es : List Event)
 laid_budget true xs ps es v r e = sym (ap (λ (x : Read). x.view.max_ops) (same_read (with_events es (record v { items = xs; positions = ps })) r e))
 laid_budget false xs ps es v r e = cc
 
-tiled_budget : (b : Bool) (ts : List (Option Tile)) (v : View) (r : Read) → laid_if b ts v ≡ Ok r → r.view.max_ops ≡ v.max_ops
+tiled_budget : (b : Bool) (ts : List (Option Tile)) (v : View) (r : Read) → laying_if b ts v ≡ Ok r → r.view.max_ops ≡ v.max_ops
 tiled_budget true ts v r e = laid_budget (nat_le (length (with_tile_copies v.items ts)) v.max_len) (with_tile_copies v.items ts) (all_positions v.positions ts) (text_stretch_events v.items ++ events_from 0 ts) v r e
 tiled_budget false ts v r e = cc
 
