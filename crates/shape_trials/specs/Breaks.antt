@@ -66,9 +66,18 @@ have_like_marks us vs = if has_mark_past 1 us then has_mark_past 1 vs else (not 
 abbrev pub ends_with_joiner : List ℕ → Bool
 ends_with_joiner us = fold (λ _ u. u == 0x34F) false us
 
+-- U+0E3B and U+0EC7 are no characters, so they continue no grapheme, but the Thai shaper takes them for marks above
+abbrev pub is_taken_for_mark : ℕ → Bool
+is_taken_for_mark u = u == 0xE3B || u == 0xEC7
+
+-- a text begins with none of them
+abbrev pub begins_plainly : List ℕ → Bool
+begins_plainly [] = true
+begins_plainly (u ∷ us) = not (is_taken_for_mark u)
+
 -- a text may be cut between two pieces
 abbrev pub may_be_cut : List ℕ → List ℕ → Bool
-may_be_cut us vs = have_like_marks us vs && not (ends_with_joiner us)
+may_be_cut us vs = have_like_marks us vs && (not (ends_with_joiner us) && begins_plainly vs)
 
 -- shapers that may join letters as Arabic ones
 abbrev pub may_join : hb_ot_any_shaper_t → Bool

@@ -6,7 +6,7 @@ ghost use Rattle.buffer_unicode.specs.Category.{category_number};
 ghost use Rattle.buffer_unicode_tables.specs.Tables.{split_of};
 ghost use Rattle.buffer_core.specs.Segment.{direction_of};
 ghost use Rattle.script_joining.specs.Types.{joining_type, type_of_character};
-ghost use Rattle.shape_trials.specs.Breaks.{AreSeenAs, ContinuesAlike, CounterpartKeepsType, HalvesKeepType, IsNative, KeepGraphemes, KeepTypes, KeepsGraphemes, KeepsType, continues, ends_with_joiner, first_half, first_letter, has_mark, has_mark_past, have_like_marks, is_passed_over, joins_nothing, may_be_cut, may_join, type_of_half};
+ghost use Rattle.shape_trials.specs.Breaks.{AreSeenAs, ContinuesAlike, CounterpartKeepsType, HalvesKeepType, IsNative, KeepGraphemes, KeepTypes, KeepsGraphemes, KeepsType, begins_plainly, continues, ends_with_joiner, first_half, first_letter, has_mark, has_mark_past, have_like_marks, is_passed_over, is_taken_for_mark, joins_nothing, may_be_cut, may_join, type_of_half};
 
 use buffer_common::direction::Direction;
 use buffer_common::script::Script;
@@ -45,11 +45,29 @@ fn direction_of(script: Option<Script>) -> Direction
 }
 
 /// Whether the text of two pieces may be cut between them: it has no mark or both have one after their first character,
-/// so that normalization takes as many rounds for each, and no COMBINING GRAPHEME JOINER is directly before the cut.
+/// so that normalization takes as many rounds for each; no COMBINING GRAPHEME JOINER is directly before the cut; and
+/// directly after it is none of two numbers that the Thai shaper takes for marks above, and SARA AM may pass.
 pub(crate) fn may_be_cut(early: &str, late: &str) -> bool
     ensures { result ≡ may_be_cut (chars early.now) (chars late.now) }
 {
-    have_like_marks(early, late) && !ends_with_joiner(early)
+    have_like_marks(early, late) && (!ends_with_joiner(early) && begins_plainly(late))
+}
+
+/// Whether a text begins with none of the two numbers that are no characters and that the Thai shaper takes for marks
+/// above.
+fn begins_plainly(text: &str) -> bool
+    ensures { result ≡ begins_plainly (chars text.now) }
+{
+    match text.chars().next() {
+        Some(c) => !is_taken_for_mark(c),
+        None => true,
+    }
+}
+
+fn is_taken_for_mark(c: char) -> bool
+    ensures { result ≡ is_taken_for_mark c }
+{
+    matches!(c, '\u{E3B}' | '\u{EC7}')
 }
 
 fn have_like_marks(early: &str, late: &str) -> bool
