@@ -1,3 +1,4 @@
+pub mod Lemmas
 pub mod Classes
 pub mod Spaces
 pub mod Zeroing

@@ -9,6 +9,7 @@ pub mod Characters
 pub mod Types
 pub mod Chains
 pub mod ThaiCharacters
+pub mod HangulCharacters
 pub mod ChainLaws
 pub mod Lemmas
 pub mod Links

@@ -2,7 +2,7 @@
 use Rattle.std.specs.Prelude.{ℕ, ◌≡◌, ◌⊎◌, Bool, true, false, List, [], ◌∷◌, length, Ok}
 use Rattle.buffer_glyphs.specs.Items.{Item}
 use Rattle.buffer_core.specs.Readings.{BufferState, Read, Stage, View, always, as_it_is, state_after, with_events}
-use Rattle.buffer_parts.specs.Breaks.Divisible.{IsBreakable, IsFreelyDivisible, IsSpared, KeepsUnsafe, OnlySpends, StaysBreakable}
+use Rattle.buffer_parts.specs.Breaks.Divisible.{IsBreakable, IsSpared, KeepsUnsafe, OnlySpends, StaysBreakable}
 use Rattle.buffer_parts.specs.Breaks.Fragments.{AreFragments}
 use Rattle.buffer_parts.specs.Breaks.Unsafe.{IsUnsafeAt}
 use Rattle.buffer_parts.specs.Counting.{is_left}
@@ -11,7 +11,7 @@ use Rattle.shape_glyphs.specs.Ignorables.{ignorables_hidden}
 use Rattle.shape_glyphs.specs.Selectors.{with_selectors}
 use Rattle.shape_pipeline.specs.Chains.{in_order}
 use Rattle.shape_pipeline.specs.Glyphs.{glyphs_substituted, glyphs_taken}
-use Rattle.shape_pipeline.specs.Positioning.{marks_positioned, positions_adjusted}
+use Rattle.shape_pipeline.specs.Positioning.{positions_adjusted}
 use Rattle.shape_pipeline.specs.Reading.{positioning_stage}
 use Rattle.shape_pipeline.specs.Shaping.{Shaping, postprocessing_stage}
 use Rattle.shape_laws.specs.Breaks.Links.{AllLeadInside, AreUnlinked}
@@ -62,15 +62,10 @@ pub record PositionsApart (seam : Seam) (p p1 p2 : Shaping) : Type 0 where
   pub early_spends : OnlySpends (positions_adjusted p1)
   pub late_spends : OnlySpends (positions_adjusted p2)
 
--- marks get no fallback positions, or get them in a text as in its fragments
-abbrev pub MarksApart : Shaping → Shaping → Shaping → Type 0
-MarksApart p p1 p2 = (p.choices.fallback_mark_positioning ≡ true) → IsFreelyDivisible false false (always (marks_positioned p)) (always (marks_positioned p1)) (always (marks_positioned p2))
-
 -- glyphs are substituted and positioned apart
 pub record GlyphsApart (seam : Seam) (p p1 p2 : Shaping) : Type 0 where
   pub substitutes : SubstitutesApart seam p p1 p2
   pub positions : PositionsApart seam p p1 p2
-  pub marks : MarksApart p p1 p2
 
 -- ---- the shaper's last stage
 

@@ -18,6 +18,7 @@ use Rattle.shape_pipeline.specs.Shaping.{Shaping}
 use Rattle.shape_laws.specs.Breaks.Apart.{before_end}
 use Rattle.shape_laws.specs.Breaks.ChainLaws.{BeginsPlainly}
 use Rattle.shape_laws.specs.Breaks.Characters.{MayBreak, characters}
+use Rattle.shape_laws.specs.Breaks.HangulCharacters.{MayBreakHangul, begins_toned}
 use Rattle.shape_laws.specs.Breaks.ThaiCharacters.{KeepsPrivateMarks, MayBreakThai}
 use Rattle.shape_laws.specs.Breaks.Types.{CharactersShow, KeepsTypes}
 
@@ -48,7 +49,14 @@ pub record ThaiMayBeCut (p : Shaping) (earlier later : Sides) : Type 0 where
   pub begins : BeginsPlainly (items_of later)
   pub forms : KeepsPrivateMarks p.tables
 
--- what a shaper asks of a text that is cut into two; nothing is promised where it finds syllables, or composes jamo
+-- Hangul: both texts have a mark after their first character, where a tone mark that is moved before their first syllable
+-- doesn't count, or neither text has a mark; U+034F is not directly before the cut; and no tone mark is moved before a
+-- syllable that begins the later text
+pub record HangulMayBeCut (p : Shaping) (earlier later : Sides) : Type 0 where
+  pub marks : MayBreakHangul p.font (characters (items_of earlier)) (characters (items_of later))
+  pub begins : begins_toned p.font (characters (items_of later)) ≡ false
+
+-- what a shaper asks of a text that is cut into two; nothing is promised where it finds syllables
 abbrev pub MayBeCutBy : hb_ot_any_shaper_t → hb_script_plan_t ⊤ → (p p1 p2 : Shaping) (whole earlier later : Sides) → Type 0
 MayBeCutBy any.Default plan p p1 p2 whole earlier later = MarksMayBeCut earlier later
 MayBeCutBy any.Dumber plan p p1 p2 whole earlier later = MarksMayBeCut earlier later
@@ -56,7 +64,7 @@ MayBeCutBy (any.Script HEBREW_SHAPER) plan p p1 p2 whole earlier later = MarksMa
 MayBeCutBy (any.Script MYANMAR_ZAWGYI_SHAPER) plan p p1 p2 whole earlier later = MarksMayBeCut earlier later
 MayBeCutBy (any.Script ARABIC_SHAPER) plan p p1 p2 whole earlier later = ArabicMayBeCut plan p p1 p2 whole earlier later
 MayBeCutBy (any.Script THAI_SHAPER) plan p p1 p2 whole earlier later = ThaiMayBeCut p earlier later
-MayBeCutBy (any.Script HANGUL_SHAPER) plan p p1 p2 whole earlier later = ⊥
+MayBeCutBy (any.Script HANGUL_SHAPER) plan p p1 p2 whole earlier later = HangulMayBeCut p earlier later
 MayBeCutBy (any.Script INDIC_SHAPER) plan p p1 p2 whole earlier later = ⊥
 MayBeCutBy (any.Script KHMER_SHAPER) plan p p1 p2 whole earlier later = ⊥
 MayBeCutBy (any.Script MYANMAR_SHAPER) plan p p1 p2 whole earlier later = ⊥

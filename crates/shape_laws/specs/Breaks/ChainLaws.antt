@@ -25,6 +25,7 @@ use Rattle.shape_pipeline.specs.Characters.{normalizer}
 use Rattle.shape_pipeline.specs.Reading.{before_ranges}
 use Rattle.shape_pipeline.specs.Shaping.{Shaping, preprocessing_stage}
 use Rattle.shape_laws.specs.Breaks.Chains.{CharacterReads, KeepsBroken, MasksKeepBroken, NormalizesApart, PreprocessingKeepsBroken, unmasked_state}
+use Rattle.shape_laws.specs.Breaks.HangulCharacters.{MayBreakHangul, begins_toned}
 use Rattle.shape_laws.specs.Breaks.Characters.{KeepsMarks, MayBreak, OrderEndsUnjoined, PreprocessesNothing, characters}
 use Rattle.shape_laws.specs.Breaks.Joining.{BeginsUnselected, ContextsShow}
 use Rattle.shape_laws.specs.Breaks.Rewrites.{HasNoStages, RewritesRuns}
@@ -148,8 +149,15 @@ TonesAreMarks = (u : ℕ) → is_tone u ≡ true → is_mark_character u ≡ tru
 
 -- a text of the Hangul shaper, up to the masks of ranges
 abbrev pub HangulTextsDivide : Type 0
-HangulTextsDivide = (plan : hb_script_plan_t ⊤) (p p1 p2 : Shaping) (c : ℕ) (whole earlier later : BufferState) (r e l : Read) → p.rules ≡ script_rules HANGUL_SHAPER plan → AreBrokenShapings p p1 p2 → TonesAreMarks
+HangulTextsDivide = (plan : hb_script_plan_t ⊤) (p p1 p2 : Shaping) (c : ℕ) (whole earlier later : BufferState) (r e l : Read) → p.rules ≡ script_rules HANGUL_SHAPER plan → AreBrokenShapings p p1 p2
     → KnowsGraphemes p.tables → IsBreakable whole → AreBroken c whole earlier later → IsNativeLine p.settings.script whole.view.direction → NormalizesApart c p p1 p2 whole earlier later
+    → before_ranges p whole.view ≡ Ok r → before_ranges p1 earlier.view ≡ Ok e → before_ranges p2 later.view ≡ Ok l → StaysBroken c (state_after r whole) (state_after e earlier) (state_after l later)
+
+-- a text of the Hangul shaper, up to the masks of ranges, by the characters of the two
+abbrev pub HangulCharactersDivide : Type 0
+HangulCharactersDivide = (plan : hb_script_plan_t ⊤) (p p1 p2 : Shaping) (c : ℕ) (whole earlier later : BufferState) (r e l : Read) → p.rules ≡ script_rules HANGUL_SHAPER plan → AreBrokenShapings p p1 p2
+    → KeepsMarks (normalizer p) → KnowsGraphemes p.tables → IsBreakable whole → AreBroken c whole earlier later → IsNativeLine p.settings.script whole.view.direction
+    → begins_toned p.font (characters later.view.items) ≡ false → MayBreakHangul p.font (characters earlier.view.items) (characters later.view.items)
     → before_ranges p whole.view ≡ Ok r → before_ranges p1 earlier.view ≡ Ok e → before_ranges p2 later.view ≡ Ok l → StaysBroken c (state_after r whole) (state_after e earlier) (state_after l later)
 
 -- the masks of jamo keep a text broken

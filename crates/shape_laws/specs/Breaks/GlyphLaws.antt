@@ -20,7 +20,7 @@ use Rattle.shape_glyphs.specs.Ignorables.{ignorables_hidden}
 use Rattle.shape_glyphs.specs.Selectors.{with_selectors}
 use Rattle.shape_glyphs.specs.Widths.{zero_widths}
 use Rattle.shape_pipeline.specs.Budget.{before_reset}
-use Rattle.shape_pipeline.specs.Positioning.{marks_zeroed, visual_order, with_zero_positions}
+use Rattle.shape_pipeline.specs.Positioning.{marks_positioned, marks_zeroed, visual_order, with_zero_positions}
 use Rattle.shape_pipeline.specs.Shaping.{Shaping}
 use Rattle.shape_laws.specs.Breaks.Apart.{AreLinkedApart, EndsPlainly, GlyphsApart, Seam}
 use Rattle.shape_laws.specs.Breaks.InLine.{MayBeCutAt, ShowsBoth, final_state}
@@ -58,6 +58,10 @@ IgnorablesDivide = (falls : Bool) (flags : BufferFlags) (set : Option ℕ) (font
 abbrev pub LinksDivide : Type 0
 LinksDivide = (falls : Bool) (c : ℕ) (whole earlier later : BufferState) → AreFragments falls c whole earlier later → AreLinkedApart whole.view earlier.view later.view
     → AreFragments falls c (state_after (links_followed whole.view) whole) (state_after (links_followed earlier.view) earlier) (state_after (links_followed later.view) later)
+
+-- marks get the fallback positions around their bases in a text that they get in its fragments
+abbrev pub FallbackMarksDivide : Type 0
+FallbackMarksDivide = (p : Shaping) → IsFreelyDivisible false false (always (marks_positioned p)) (always (marks_positioned p)) (always (marks_positioned p))
 
 -- glyphs are put in visual order in a text as in its fragments: clusters that rose fall after it where the line is backward
 abbrev pub VisualOrderDivides : Type 0

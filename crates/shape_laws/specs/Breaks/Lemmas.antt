@@ -43,6 +43,8 @@ pub mod PlainDivision
 pub mod Deletions
 pub mod Removed
 pub mod GlyphStages
+pub mod MarkEvents
+pub mod FallbackMarks
 pub mod VisualOrder
 pub mod Route
 pub mod Carried
@@ -59,8 +61,13 @@ pub mod ThaiTexts
 pub mod Untiled
 pub mod ThaiMarks
 pub mod ThaiRaw
+pub mod Seen
 pub mod ThaiApart
 pub mod HangulSteps
 pub mod HangulWalk
 pub mod Hangul
+pub mod HangulMarks
 pub mod HangulTexts
+pub mod HangulForms
+pub mod HangulRaw
+pub mod HangulApart

@@ -23,7 +23,6 @@ use Rattle.shape_pipeline.specs.Plans.{IsPlanOf}
 use Rattle.shape_pipeline.specs.Results.{IsShapedBy}
 use Rattle.shape_pipeline.specs.Shaped.{by_plan, by_text, language_tags}
 use Rattle.shape_pipeline.specs.Shaping.{Shaping}
-use Rattle.shape_laws.specs.Breaks.Apart.{MarksApart}
 use Rattle.shape_laws.specs.Breaks.ByShaper.{MayBeCutBy}
 use Rattle.shape_laws.specs.Breaks.Characters.{KeepsMarks}
 use Rattle.shape_laws.specs.Breaks.InLine.{MayBeCutAt, ShowsBoth}
@@ -77,7 +76,6 @@ planned_shaping plan font tables spans text = by_plan (traits_of plan.shaper) (r
 abbrev pub PlannedTextsHaveSafeBreaks : Type 0
 PlannedTextsHaveSafeBreaks = (font : FaceParts) (tables : Tables) (spans : Spans) (plan : hb_ot_shape_plan_t hb_ot_any_shaper_t ⊤) (c : ℕ) (whole earlier later result first second : Sides) → IsPlanOf font plan → FindsNoSyllables plan.shaper → AreCut c whole earlier later
     → TextsStayBroken (planned_shaping plan font tables spans whole) (planned_shaping plan font tables spans earlier) (planned_shaping plan font tables spans later) c (state_of whole) (state_of earlier) (state_of later)
-    → MarksApart (planned_shaping plan font tables spans whole) (planned_shaping plan font tables spans earlier) (planned_shaping plan font tables spans later)
     → HavePlainEnds (planned_shaping plan font tables spans whole) (planned_shaping plan font tables spans earlier) (planned_shaping plan font tables spans later) whole earlier later
     → HaveEnough (planned_shaping plan font tables spans whole) (planned_shaping plan font tables spans earlier) (planned_shaping plan font tables spans later) whole earlier later
     → AreShapedBy (planned_shaping plan font tables spans whole) (planned_shaping plan font tables spans earlier) (planned_shaping plan font tables spans later) whole earlier later result first second → IsSafelyCut c result first second
@@ -89,7 +87,6 @@ abbrev pub SafeBreaksOfPlans : Type 0
 SafeBreaksOfPlans = (font : FaceParts) (tables : Tables) (spans : Spans) (plan : hb_ot_shape_plan_t hb_ot_any_shaper_t ⊤) (c : ℕ) (whole earlier later result first second : Sides) → IsPlanOf font plan → AreCut c whole earlier later
     → MayBeCutBy plan.shaper plan.script_plan (planned_shaping plan font tables spans whole) (planned_shaping plan font tables spans earlier) (planned_shaping plan font tables spans later) whole earlier later
     → AsciiHasNoMarks → KeepsMarks (normalizer (planned_shaping plan font tables spans whole))
-    → MarksApart (planned_shaping plan font tables spans whole) (planned_shaping plan font tables spans earlier) (planned_shaping plan font tables spans later)
     → HaveEnough (planned_shaping plan font tables spans whole) (planned_shaping plan font tables spans earlier) (planned_shaping plan font tables spans later) whole earlier later
     → AreShapedBy (planned_shaping plan font tables spans whole) (planned_shaping plan font tables spans earlier) (planned_shaping plan font tables spans later) whole earlier later result first second → IsSafelyCut c result first second
 
@@ -99,6 +96,5 @@ SafeBreaks = (font : FaceParts) (tables : Tables) (tags : List ℕ → List Tag)
     → MayBeCutBy (planned_shaper any_kind font (language_tags tags whole) whole.direction whole.script) (text_plan any_kind font (language_tags tags whole) whole.direction whole.script features)
     (by_text font tables tags spans features whole) (by_text font tables tags spans features earlier) (by_text font tables tags spans features later) whole earlier later
     → AsciiHasNoMarks → KeepsMarks (normalizer (by_text font tables tags spans features whole))
-    → MarksApart (by_text font tables tags spans features whole) (by_text font tables tags spans features earlier) (by_text font tables tags spans features later)
     → HaveEnough (by_text font tables tags spans features whole) (by_text font tables tags spans features earlier) (by_text font tables tags spans features later) whole earlier later
     → AreShapedBy (by_text font tables tags spans features whole) (by_text font tables tags spans features earlier) (by_text font tables tags spans features later) whole earlier later result first second → IsSafelyCut c result first second

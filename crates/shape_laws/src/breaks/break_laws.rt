@@ -13,12 +13,12 @@
 //!   none, and the earlier piece doesn't end with U+034F. Of Arabic and Syriac, also: each piece's context has the nearest
 //!   characters of the other one up to a letter (`law_nearest_contexts_show`), tables and font keep joining types
 //!   (`KeepsTypes`), the line doesn't run from bottom to top, and no glyph is a tile of the feature `stch`. Of Thai and Lao:
-//!   marks as `MayBreakThai` has it, and the later piece begins with no unassigned mark above. Nothing is promised for Hangul
-//!   and Mongolian, nor for shapers that find syllables.
+//!   marks as `MayBreakThai` has it, and the later piece begins with no unassigned mark above. Of Hangul: marks as
+//!   `MayBreakHangul` has it, and the later piece doesn't begin with a syllable and its tone mark, unless the font's glyph of
+//!   that mark has advance 0 (`Face::glyph_h_advance`). Nothing is promised for Mongolian, nor for shapers that find
+//!   syllables.
 //! - Tables and font: no ASCII character is a mark (`AsciiHasNoMarks`); what stands for a character is a mark only where the
 //!   character is one, and never U+034F in place of another (`KeepsMarks`).
-//! - Fallback positions of marks (`MarksApart`): nothing to test where the plan has no `fallback_mark_positioning`, so of each
-//!   font whose GPOS positions the text.
 //! - The limits (`HaveEnough`), of each of the three: more than 0 from `nested_lookups_left`; and shaping merges clusters at
 //!   most 7 times, as often as there are numbers of ligatures. No call gives the number of these.
 //! - The result: it has a glyph of the cluster, and none of these is `unsafe_to_break` (`MayBeCutAt`).

@@ -1,5 +1,5 @@
 //! Laws of our own, which rustybuzz has not: texts that are broken into two, up to the masks of ranges, by their shapers.
-ghost use Rattle.shape_laws.specs.Breaks.ChainLaws.{ArabicCharactersDivide, ArabicTextsDivide, AsciiKnowsGraphemes, CharactersAreShown, CharactersDivide, CharactersNormalizeApart, HangulTextsDivide, HebrewRulesHaveNoStages, JamoMasksKeepBroken, MarkOrdersEndUnjoined, MarkOrdersKeepTypes, MarkOrdersRewrite, NearestContextsShow, StagesDivide, TextsDivide, ThaiCharactersDivide, ThaiTextsDivide};
+ghost use Rattle.shape_laws.specs.Breaks.ChainLaws.{ArabicCharactersDivide, ArabicTextsDivide, AsciiKnowsGraphemes, CharactersAreShown, CharactersDivide, CharactersNormalizeApart, HangulCharactersDivide, HangulTextsDivide, HebrewRulesHaveNoStages, JamoMasksKeepBroken, MarkOrdersEndUnjoined, MarkOrdersKeepTypes, MarkOrdersRewrite, NearestContextsShow, StagesDivide, TextsDivide, ThaiCharactersDivide, ThaiTextsDivide, TonesAreMarks};
 
 /// The order of a run of marks by each shaper.
 pub fn law_mark_orders_rewrite()
@@ -84,4 +84,14 @@ pub fn law_thai_characters_divide()
 /// A text of the Hangul shaper, up to the masks of ranges.
 pub fn law_hangul_texts_divide()
     ensures { HangulTextsDivide }
+{}
+
+/// The tone marks of Hangul.
+pub fn law_tones_are_marks()
+    ensures { TonesAreMarks }
+{}
+
+/// A text of the Hangul shaper, up to the masks of ranges, by the characters of the two.
+pub fn law_hangul_characters_divide()
+    ensures { HangulCharactersDivide }
 {}

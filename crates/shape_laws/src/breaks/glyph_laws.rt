@@ -1,5 +1,5 @@
 //! Laws of our own, which rustybuzz has not: stages on glyphs of a text that is broken into two, up to what it shows.
-ghost use Rattle.shape_laws.specs.Breaks.GlyphLaws.{GlyphStagesDivide, GlyphsShowBoth, IgnorablesDivide, LinksDivide, VisualOrderDivides};
+ghost use Rattle.shape_laws.specs.Breaks.GlyphLaws.{FallbackMarksDivide, GlyphStagesDivide, GlyphsShowBoth, IgnorablesDivide, LinksDivide, VisualOrderDivides};
 
 /// Stages that change glyphs and positions each by itself.
 pub fn law_glyph_stages_divide()
@@ -14,6 +14,11 @@ pub fn law_ignorables_divide()
 /// Links of attached glyphs, where they lead inside the pieces.
 pub fn law_links_divide()
     ensures { LinksDivide }
+{}
+
+/// Fallback positions of marks around their bases.
+pub fn law_fallback_marks_divide()
+    ensures { FallbackMarksDivide }
 {}
 
 /// The visual order of a line.

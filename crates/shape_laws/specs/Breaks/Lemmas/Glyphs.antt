@@ -43,6 +43,7 @@ use Rattle.shape_laws.specs.Breaks.InLine.{MayBeCutAt, ShowsBoth, final_state}
 use Rattle.shape_laws.specs.Breaks.Texts.{AreUnnumbered, StaysBroken}
 use Rattle.shape_laws.specs.Breaks.Lemmas.Attached.{cleared_unlinked, followed_is_plain, links_divide, widths_linked}
 use Rattle.shape_laws.specs.Breaks.Lemmas.Carried.{Carries, carried, carried_as, carried_if, carried_plain}
+use Rattle.shape_laws.specs.Breaks.Lemmas.FallbackMarks.{fallback_marks_divide}
 use Rattle.shape_laws.specs.Breaks.Lemmas.Results.{end_state, ends_show}
 use Rattle.shape_laws.specs.Breaks.Lemmas.GlyphStages.{advances_divide, cleared_divide, fallback_classes_divide, glyphs_divide, hidden_divide, selectors_divide, spaces_divide, widths_divide, zeros_divide}
 use Rattle.shape_laws.specs.Breaks.Lemmas.PlainDivision.{state_by, state_by_breakable, state_by_unsafe}
@@ -276,11 +277,10 @@ begun_apart p p1 p2 c whole earlier later P e g q =
 
 -- from positions that are adjusted to what is shown
 shown_apart : (p : Shaping) (early_context late_context : List ℕ) (f1 f2 : BufferFlags) (c : ℕ) (whole earlier later : BufferState) → HaveSameRequests p.settings.flags f1 → HaveSameRequests p.settings.flags f2
-    → (p.choices.fallback_mark_positioning ≡ true → IsFreelyDivisible false false (always (marks_positioned p)) (always (marks_positioned (early_shaping p early_context f1))) (always (marks_positioned (late_shaping p late_context f2))))
     → Carries false c whole earlier later (AreLinkedApart whole.view earlier.view later.view)
     → (turned : Bool) × Carries turned c (ignorables_state p (visual_state p (link_state p whole))) (ignorables_state (early_shaping p early_context f1) (visual_state (early_shaping p early_context f1) (link_state (early_shaping p early_context f1) earlier)))
     (ignorables_state (late_shaping p late_context f2) (visual_state (late_shaping p late_context f2) (link_state (late_shaping p late_context f2) later))) (Unit {0})
-shown_apart p early_context late_context f1 f2 c whole earlier later same1 same2 marks q =
+shown_apart p early_context late_context f1 f2 c whole earlier later same1 same2 q =
     let p1 = early_shaping p early_context f1 in
     let p2 = late_shaping p late_context f2 in
     let f = p.settings.flags in
@@ -298,7 +298,7 @@ shown_apart p early_context late_context f1 f2 c whole earlier later same1 same2
       divided = elim zeroed.divided [ inl unsafe ↦ inl (state_by_unsafe links_followed followed_is_plain w1 c zeroed.ready unsafe) | inr both ↦ inr (links_divide false c w1 e1 l1 both.0 both.1, tt) ];
     } in
     let b = p.choices.fallback_mark_positioning in
-    let marked = carried_if b false (marks_positioned p) (marks_positioned p1) (marks_positioned p2) c w2 e2 l2 (Unit {0}) marks followed in
+    let marked = carried_if b false (marks_positioned p) (marks_positioned p1) (marks_positioned p2) c w2 e2 l2 (Unit {0}) (λ wanted. fallback_marks_divide p) followed in
     let w3 = state_if b (marks_positioned p) w2 in
     let e3 = state_if b (marks_positioned p1) e2 in
     let l3 = state_if b (marks_positioned p2) l2 in
@@ -386,7 +386,7 @@ shows_for seam p early_context late_context f1 f2 c whole earlier later r e l fa
     let w4 = state_after rr.adjusted w3 in
     let e4 = state_after ee.adjusted e3 in
     let l4 = state_after ll.adjusted l3 in
-    let last = shown_apart p early_context late_context f1 f2 c w4 e4 l4 same1 same2 h.marks placed in
+    let last = shown_apart p early_context late_context f1 f2 c w4 e4 l4 same1 same2 placed in
     let d = p.direction in
     let w5 = ignorables_state p (visual_state p (link_state p w4)) in
     let e5 = ignorables_state p1 (visual_state p1 (link_state p1 e4)) in

@@ -21,7 +21,7 @@ use Rattle.layout_face.specs.declared.parts.FaceParts.{FaceParts}
 use Rattle.buffer_parts.specs.Breaks.Unsafe.{IsUnsafeAt}
 use Rattle.buffer_parts.specs.Breaks.Bound.{bound_span}
 use Rattle.buffer_parts.specs.Breaks.Fragments.{AreFragments, AreGiven}
-use Rattle.buffer_parts.specs.Breaks.Divisible.{StaysDivided}
+use Rattle.buffer_parts.specs.Breaks.Divisible.{IsBreakable, StaysDivided}
 use Rattle.buffer_parts.specs.Breaks.Sides.{AreBounded}
 use Rattle.script_hangul.specs.declared.actions.Action.{Action}
 use Rattle.script_hangul.specs.declared.actions.Action.TheVariants.{Keep, Apart, Compose, Split}
@@ -35,7 +35,7 @@ use Rattle.shape_laws.specs.Breaks.Rewrites.{IsWholeRewrite}
 use Rattle.shape_laws.specs.Breaks.Texts.{StaysBroken}
 use Rattle.shape_laws.specs.Breaks.Lemmas.BegunTexts.{always_done}
 use Rattle.shape_laws.specs.Breaks.Lemmas.Crossed.{IsAcross, ArrangesTexts, ruled_state, ruled_unsafe}
-use Rattle.shape_laws.specs.Breaks.Lemmas.HangulSteps.{AreFed, BeginsNone, IsFed, TakesMore, action_fed, none_kept, second_decides, taken_count, third_decides}
+use Rattle.shape_laws.specs.Breaks.Lemmas.HangulSteps.{AreFed, BeginsNone, IsFed, TakesMore, action_fed, continuing_begins_none, none_kept, second_decides, taken_count, third_decides}
 use Rattle.shape_laws.specs.Breaks.Lemmas.HangulWalk.{fed_within, step_is, steps_enough, walk_shifted, walked_text, walked_free, walked_rewrite, walked_some}
 use Rattle.shape_laws.specs.Breaks.Lemmas.MarkOrders.{given_from}
 use Rattle.shape_laws.specs.Breaks.Lemmas.Merged.{AreWithin, FitsTexts, MergesAcross, merged_breakable, merged_keeps, merged_state, merges_cross, merges_divide, merges_in, within_or_across}
@@ -77,7 +77,7 @@ fed_quiet font z h ws = by_first (character_by (Some z)) h
   where
     by_first : (o : Option ℕ) → IsFed o → rule_by font o (z ∷ ws) ≡ 0
     by_first None k = absurd k
-    by_first (Some v) k = ap count_apart (none_kept font v (character_at 1 (z ∷ ws)) (character_at 2 (z ∷ ws)) k)
+    by_first (Some v) k = ap count_apart (none_kept font v (character_at 1 (z ∷ ws)) (character_at 2 (z ∷ ws)) (continuing_begins_none v k))
 
 -- the items that are taken beside the first are quiet
 fed_are_quiet : (font : FaceParts) (n : ℕ) (x : Item) (xs : List Item) → AreFed n (character_at 1 (x ∷ xs)) (character_at 2 (x ∷ xs)) → AreQuiet font (take (n - 1) xs)
@@ -418,7 +418,7 @@ texts_apart font circles xs ys toneless w =
 pub hangul_state : FaceParts → Bool → BufferState → BufferState
 hangul_state font circles s = ruled_state (formed_text font circles) (merged_state (jamo_rule font) s)
 
-hangul_read : (font : FaceParts) (flags : BufferFlags) (s : BufferState) (r : Read) → hangul_text font flags s.view ≡ Ok r → state_after r s ≡ hangul_state font (wants_circles flags) s
+pub hangul_read : (font : FaceParts) (flags : BufferFlags) (s : BufferState) (r : Read) → hangul_text font flags s.view ≡ Ok r → state_after r s ≡ hangul_state font (wants_circles flags) s
 unfolding hangul_state
 hangul_read font flags s r e =
     let two = always_done (with_graphemes_merged (jamo_rule font)) (syllables_formed font flags) s r e in
@@ -445,6 +445,18 @@ hangul_read font flags s r e =
             ∙ ap (λ (es : List Event). record { view = record t.view { items = text_after font (wants_circles flags) (length t.view.items) 0 [] t.view.items; positions = zero_positions (length (text_after font (wants_circles flags) (length t.view.items) 0 [] t.view.items)) }; origins = origins_after t.asks t.level es t.origins; level = t.level; asks = t.asks })
             (walked_free t.level MonotoneGraphemes font (wants_circles flags) (length t.view.items) 0 [] t.view.items)
         by_room false g = cc
+
+-- a text that is unsafe to break stays so
+pub hangul_unsafe : (font : FaceParts) (circles : Bool) (c : ℕ) (s : BufferState) → IsBreakable s → AreGiven 0 s.view.items → IsUnsafeAt c s.origins → IsUnsafeAt c (hangul_state font circles s).origins
+unfolding hangul_state
+hangul_unsafe font circles c s ready given unsafe =
+    let rule = jamo_rule font in
+    rule_keeps (formed_text font circles) c (merged_state rule s) ((texts_formed font circles).rewrites s.view.items given) (merged_breakable rule s ready) (merged_keeps rule c s ready unsafe)
+
+-- the items of a text with its syllables formed
+pub hangul_items : (font : FaceParts) (circles : Bool) (s : BufferState) → (hangul_state font circles s).view.items ≡ text_after font circles (length s.view.items) 0 [] s.view.items
+unfolding hangul_state
+hangul_items font circles s = refl
 
 -- the preprocessing of Hangul keeps a text broken, where it is unsafe to break or the later text begins with no tone mark
 pub hangul_stay : (font : FaceParts) (circles : Bool) (c : ℕ) (whole earlier later : BufferState) → StaysBroken c whole earlier later → IsUnsafeAt c whole.origins ⊎ BeginsToneless later.view.items

@@ -1,6 +1,6 @@
 -- Steps through a text of Hangul.
 use Rattle.std.proofs.Common.{ℕ, ◌≡◌, ◌≤◌, ◌+◌, ◌⊎◌, inl, inr, Bool, true, false, if◌then◌else◌, Option, None, Some, is_some, arith, refl, sym, ap, subst, ◌∙◌}
-use Rattle.std.proofs.lemmas.Bool.{cases_Bool, cond-true, cond-false}
+use Rattle.std.proofs.lemmas.Bool.{cases_Bool, cond-true, cond-false, or_left, or_right}
 use Rattle.std.proofs.lemmas.Bool.Decides.{nat_tests}
 use Rattle.std.proofs.lemmas.Grind.{common_steps}
 use Rattle.buffer_unicode_tables.specs.Hangul.{hangul_pair}
@@ -10,6 +10,7 @@ use Rattle.script_hangul.specs.declared.jamo.Letters.TheVariants.{Two, Three}
 use Rattle.script_hangul.specs.declared.actions.Action.{Action}
 use Rattle.script_hangul.specs.declared.actions.Action.TheVariants.{Keep, Apart, Compose, Split}
 use Rattle.script_hangul.specs.Jamo.{is_leading, is_syllable, is_trailing, is_vowel, letters_of, whole_of}
+use Rattle.shape_laws.specs.Breaks.HangulCharacters.{continues_syllable}
 use Rattle.script_hangul.specs.Actions.{action_on, before_trailing, has_character, has_letters, joining_action, leading_action, letters_action, open_by, split_action, split_action_of, syllable_action, trailing_of}
 
 -- ---- characters that no syllable begins with
@@ -18,18 +19,17 @@ use Rattle.script_hangul.specs.Actions.{action_on, before_trailing, has_characte
 abbrev pub BeginsNone : ℕ → Type 0
 BeginsNone u = (is_leading u ≡ false) × (is_syllable u ≡ false)
 
-vowel_begins_none : (u : ℕ) → is_vowel u ≡ true → BeginsNone u
-vowel_begins_none u e = (grind (arith, nat_tests, common_steps, e), grind (arith, nat_tests, common_steps, e))
+-- a character that continues a syllable begins none
+pub continuing_begins_none : (u : ℕ) → continues_syllable u ≡ true → BeginsNone u
+continuing_begins_none u e = (grind (arith, nat_tests, common_steps, e), grind (arith, nat_tests, common_steps, e))
 
-trailing_begins_none : (u : ℕ) → is_trailing u ≡ true → BeginsNone u
-trailing_begins_none u e = (grind (arith, nat_tests, common_steps, e), grind (arith, nat_tests, common_steps, e))
-
--- there is such a character
+-- there is a character that continues a syllable
 abbrev pub IsFed : Option ℕ → Type 0
 IsFed None = ⊥
-IsFed (Some u) = BeginsNone u
+IsFed (Some u) = continues_syllable u ≡ true
 
--- the characters that are taken beside the first: none, the second, or the second and the third; none begins a syllable
+-- the characters that are taken beside the first: none, the second, or the second and the third; each continues
+-- a syllable
 abbrev pub AreFed : ℕ → Option ℕ → Option ℕ → Type 0
 AreFed n s t = (n ≡ 1) ⊎ (((n ≡ 2) × IsFed s) ⊎ ((n ≡ 3) × (IsFed s × IsFed t)))
 
@@ -47,18 +47,18 @@ letters_taken font (Some u) n = elim (has_character font u) as (λ b. taken_coun
 trailing_fed : (o : Option ℕ) (w : ℕ) → trailing_of o ≡ Some w → IsFed o
 trailing_fed None w e = cc
 trailing_fed (Some u) w e = elim (cases_Bool (is_trailing u)) [
-  | inl found ↦ trailing_begins_none u found
+  | inl found ↦ or_right (is_vowel u) (is_trailing u) found
   | inr lacks ↦ absurd (let none : None ≡ Some w = sym (cond-false _ _ _ lacks) ∙ e in cc)
 ]
 
 leading_fed : (font : FaceParts) (l : ℕ) (s t : Option ℕ) → AreFed (taken_count (leading_action font l s (trailing_of t))) s t
 leading_fed font l None t = inl refl
 leading_fed font l (Some v) t = elim (cases_Bool (is_vowel v)) [
-  | inl found ↦ subst (λ a. AreFed (taken_count a) (Some v) t) (sym (cond-true _ _ _ found)) (by_trailing (trailing_of t) refl (vowel_begins_none v found))
+  | inl found ↦ subst (λ a. AreFed (taken_count a) (Some v) t) (sym (cond-true _ _ _ found)) (by_trailing (trailing_of t) refl (or_left (is_vowel v) (is_trailing v) found))
   | inr lacks ↦ subst (λ a. AreFed (taken_count a) (Some v) t) (sym (cond-false _ _ _ lacks)) (inl refl)
 ]
   where
-    by_trailing : (o : Option ℕ) → trailing_of t ≡ o → BeginsNone v → AreFed (taken_count (letters_action font (whole_of l v o) (if is_some o then 3 else 2))) (Some v) t
+    by_trailing : (o : Option ℕ) → trailing_of t ≡ o → IsFed (Some v) → AreFed (taken_count (letters_action font (whole_of l v o) (if is_some o then 3 else 2))) (Some v) t
     by_trailing None e h = inr (inl (letters_taken font (whole_of l v None) 2, h))
     by_trailing (Some w) e h = inr (inr (letters_taken font (whole_of l v (Some w)) 3, (h, trailing_fed t w e)))
 
@@ -102,7 +102,7 @@ syllable_fed font u s t = by_trailing (trailing_of s) refl
     ]
     by_trailing (Some w) e = by_whole (hangul_pair u w) (trailing_fed s w e)
 
--- an action takes only characters beside the first that begin no syllable
+-- an action takes only characters beside the first that continue a syllable
 pub action_fed : (font : FaceParts) (u : ℕ) (s t : Option ℕ) → AreFed (taken_count (action_on font u s t)) s t
 action_fed font u s t = by_tests (is_leading u) (is_syllable u)
   where

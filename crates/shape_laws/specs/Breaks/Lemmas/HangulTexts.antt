@@ -1,8 +1,7 @@
 -- Texts of the Hangul shaper, up to the masks of ranges.
-use Rattle.std.proofs.Common.{ℕ, ◌≡◌, ◌==◌, ◌⊎◌, inl, inr, Bool, true, false, not, List, [], ◌∷◌, map, None, refl, sym, ap, subst, ◌∙◌}
+use Rattle.std.proofs.Common.{ℕ, ◌≡◌, ◌==◌, ◌⊎◌, inl, inr, not, List, [], ◌∷◌, map, None, refl, sym, ap, subst, ◌∙◌}
 use Rattle.std.specs.Prelude.{⊤}
 use Rattle.buffer_glyphs.specs.Items.{Item, item_masked}
-use Rattle.buffer_properties.specs.Properties.{is_mark_character}
 use Rattle.buffer_unicode_tables.specs.Tables.{Tables}
 use Rattle.buffer_core.specs.Readings.{BufferState, View, always, state_after}
 use Rattle.buffer_stages.specs.Settings.{TextSettings}
@@ -13,7 +12,6 @@ use Rattle.layout_face.specs.declared.parts.FaceParts.{FaceParts}
 use Rattle.script_categories.specs.declared.shaper.hb_ot_script_shaper_t.TheVariants.{HANGUL_SHAPER}
 use Rattle.script_dispatch.specs.Rules.{script_rules}
 use Rattle.script_hangul.specs.Hangul.{hangul_text, wants_circles}
-use Rattle.script_hangul.specs.Jamo.{is_tone}
 use Rattle.script_hangul.specs.MapMasks.{jamo_masks}
 use Rattle.script_hangul.specs.Masks.{with_letter_mask}
 use Rattle.script_plan.specs.Rules.{ShaperRules}
@@ -22,12 +20,13 @@ use Rattle.shape_text.specs.NativeOrder.{without_continuation}
 use Rattle.shape_text.specs.Properties.{items_prepared}
 use Rattle.shape_pipeline.specs.Shaping.{Shaping, preprocessing_stage, shaper_masks_set}
 use Rattle.shape_laws.specs.Breaks.Chains.{KeepsBroken, PreprocessingKeepsBroken, unmasked_state}
-use Rattle.shape_laws.specs.Breaks.ChainLaws.{HangulTextsDivide, TonesAreMarks}
+use Rattle.shape_laws.specs.Breaks.ChainLaws.{HangulTextsDivide}
 use Rattle.shape_laws.specs.Breaks.Rewrites.{RewritesRuns}
 use Rattle.shape_laws.specs.Breaks.Texts.{AreBroken, AreBrokenSettings, AreBrokenShapings, IsNativeLine, KnowsGraphemes}
 use Rattle.shape_laws.specs.Breaks.Lemmas.BegunTexts.{BeginsCluster}
 use Rattle.shape_laws.specs.Breaks.Lemmas.Chain.{stages_divide}
 use Rattle.shape_laws.specs.Breaks.Lemmas.Hangul.{BeginsToneless, hangul_keeps}
+use Rattle.shape_laws.specs.Breaks.Lemmas.HangulMarks.{no_tone}
 use Rattle.shape_laws.specs.Breaks.Lemmas.Raw.{begun_plainly, extends_not}
 use Rattle.shape_laws.specs.Breaks.Lemmas.Scripts.{early_rules, late_rules, none_rewrites}
 use Rattle.shape_laws.specs.Breaks.Lemmas.Stages.{begun_all, late_wants, same_bit}
@@ -35,18 +34,10 @@ use Rattle.shape_laws.specs.Breaks.Lemmas.ThaiTexts.{jamo_masks_keep}
 
 -- ---- the first character
 
--- a character that continues no grapheme is no tone mark
-no_tone : (u : ℕ) → TonesAreMarks → is_mark_character u ≡ false → is_tone u ≡ false
-no_tone u marks none = by_test (is_tone u) refl
-  where
-    by_test : (b : Bool) → is_tone u ≡ b → b ≡ false
-    by_test true e = let m = marks u e in cc
-    by_test false e = refl
-
 -- a later text begins so after the first pipeline stage
-hangul_begins : (t : Tables) (mask : ℕ) (ys : List Item) → TonesAreMarks → BeginsCluster ys → BeginsToneless (map without_continuation (items_prepared t None (map (item_masked mask) ys)))
-hangul_begins t mask [] marks begins = tt
-hangul_begins t mask (y ∷ ys) marks begins = no_tone y.number marks (extends_not y.number begins)
+hangul_begins : (t : Tables) (mask : ℕ) (ys : List Item) → BeginsCluster ys → BeginsToneless (map without_continuation (items_prepared t None (map (item_masked mask) ys)))
+hangul_begins t mask [] begins = tt
+hangul_begins t mask (y ∷ ys) begins = no_tone y.number (extends_not y.number begins)
 
 -- ---- preprocessing
 
@@ -57,19 +48,19 @@ late_circles : (w e l : TextSettings) → AreBrokenSettings w e l → wants_circ
 late_circles w e l s = ap (λ n. not (n == 16)) (same_bit w.flags.0 l.flags.0 16 refl s.late_requests)
 
 -- the stage of the shaper in a shaping
-hangul_stage : (plan : hb_script_plan_t ⊤) (p q : Shaping) (v : View) → p.rules ≡ script_rules HANGUL_SHAPER plan → q.font ≡ p.font → q.rules ≡ p.rules → preprocessing_stage q v ≡ hangul_text p.font q.settings.flags v
+pub hangul_stage : (plan : hb_script_plan_t ⊤) (p q : Shaping) (v : View) → p.rules ≡ script_rules HANGUL_SHAPER plan → q.font ≡ p.font → q.rules ≡ p.rules → preprocessing_stage q v ≡ hangul_text p.font q.settings.flags v
 hangul_stage plan p q v rules font same = ap (λ (k : ShaperRules). k.preprocesses q.font q.tables q.settings v) (same ∙ rules) ∙ ap (λ (f : FaceParts). hangul_text f q.settings.flags v) font
 
-hangul_preprocesses : (plan : hb_script_plan_t ⊤) (p p1 p2 : Shaping) (c : ℕ) (whole earlier later : BufferState) → p.rules ≡ script_rules HANGUL_SHAPER plan → AreBrokenShapings p p1 p2 → TonesAreMarks → KnowsGraphemes p.tables → IsBreakable whole
+hangul_preprocesses : (plan : hb_script_plan_t ⊤) (p p1 p2 : Shaping) (c : ℕ) (whole earlier later : BufferState) → p.rules ≡ script_rules HANGUL_SHAPER plan → AreBrokenShapings p p1 p2 → KnowsGraphemes p.tables → IsBreakable whole
     → AreBroken c whole earlier later → IsNativeLine p.settings.script whole.view.direction → PreprocessingKeepsBroken c p p1 p2 whole earlier later
-hangul_preprocesses plan p p1 p2 c whole earlier later rules h marks knows ready broken native w e l r a b stays is_r is_a is_b =
+hangul_preprocesses plan p p1 p2 c whole earlier later rules h knows ready broken native w e l r a b stays is_r is_a is_b =
     let begun = begun_all p p1 p2 c whole earlier later w.begun e.begun l.begun h knows ready broken native w.begun_is e.begun_is l.begun_is in
     let late_script : p2.settings.script ≡ p.settings.script = ap (λ (t : TextSettings). t.script) h.settings.late_is in
     let late_line : IsNativeLine p2.settings.script later.view.direction = subst (λ s. IsNativeLine s later.view.direction) (sym late_script) (subst (IsNativeLine p.settings.script) (sym broken.late_of.direction) native) in
     let items = begun_plainly p2 later l.begun late_line (late_wants p.settings p1.settings p2.settings h.settings) l.begun_is in
     let begins : IsUnsafeAt c (state_after w.begun whole).origins ⊎ BeginsToneless (state_after l.begun later).view.items = elim begun.1 [
       | inl unsafe ↦ inl unsafe
-      | inr cluster ↦ inr (subst BeginsToneless (sym items) (hangul_begins p2.tables p2.map.global_mask later.view.items marks cluster))
+      | inr cluster ↦ inr (subst BeginsToneless (sym items) (hangul_begins p2.tables p2.map.global_mask later.view.items cluster))
     ] in
     hangul_keeps p.font p.settings.flags p1.settings.flags p2.settings.flags c (state_after w.begun whole) (state_after e.begun earlier) (state_after l.begun later)
     (early_circles p.settings p1.settings p2.settings h.settings) (late_circles p.settings p1.settings p2.settings h.settings) begins r a b stays
@@ -91,10 +82,10 @@ masks_keep plan p p1 p2 rules early late =
 -- ---- a text
 
 pub hangul_texts_divide : HangulTextsDivide
-hangul_texts_divide plan p p1 p2 c whole earlier later r e l rules h marks knows ready broken native apart is_r is_e is_l =
+hangul_texts_divide plan p p1 p2 c whole earlier later r e l rules h knows ready broken native apart is_r is_e is_l =
     let mine = script_rules HANGUL_SHAPER plan in
     let early = early_rules p p1 p2 mine h rules in
     let late = late_rules p p1 p2 mine h rules in
     stages_divide p p1 p2 c whole earlier later r e l h (subst (λ (k : ShaperRules). RewritesRuns k.reorders) (sym rules) none_rewrites)
-    (hangul_preprocesses plan p p1 p2 c whole earlier later rules h marks knows ready broken native) knows ready broken native apart
+    (hangul_preprocesses plan p p1 p2 c whole earlier later rules h knows ready broken native) knows ready broken native apart
     (λ w a b. masks_keep plan p p1 p2 rules early late c (unmasked_state p whole w) (unmasked_state p1 earlier a) (unmasked_state p2 later b)) is_r is_e is_l

@@ -202,7 +202,7 @@ none_later (z ∷ zs) e = by_test (is_mark z) e
     by_test true f = cc
     by_test false f = f
 
-any_both : (xs ys : List Item) → list_any is_mark (xs ++ ys) ≡ (list_any is_mark xs || list_any is_mark ys)
+pub any_both : (xs ys : List Item) → list_any is_mark (xs ++ ys) ≡ (list_any is_mark xs || list_any is_mark ys)
 any_both [] ys = refl
 any_both (x ∷ xs) ys = ap (λ b. is_mark x || b) (any_both xs ys) ∙ by_test (is_mark x)
   where

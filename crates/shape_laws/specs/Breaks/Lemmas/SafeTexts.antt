@@ -36,8 +36,8 @@ use Rattle.shape_pipeline.specs.Plans.{IsPlanOf}
 use Rattle.shape_pipeline.specs.Reading.{reading}
 use Rattle.shape_pipeline.specs.Shaped.{by_shaper, by_text, language_tags, text_reading}
 use Rattle.shape_pipeline.specs.Shaping.{Shaping, pauses_of, postprocessing_stage}
-use Rattle.shape_laws.specs.Breaks.Apart.{EndsPlainly, HasNoEnd, MarksApart}
-use Rattle.shape_laws.specs.Breaks.ByShaper.{ArabicMayBeCut, HasNoTiles, MarksMayBeCut, MayBeCutBy, ThaiMayBeCut}
+use Rattle.shape_laws.specs.Breaks.Apart.{EndsPlainly, HasNoEnd}
+use Rattle.shape_laws.specs.Breaks.ByShaper.{ArabicMayBeCut, HangulMayBeCut, HasNoTiles, MarksMayBeCut, MayBeCutBy, ThaiMayBeCut}
 use Rattle.shape_laws.specs.Breaks.Characters.{KeepsMarks, OrderEndsUnjoined}
 use Rattle.shape_laws.specs.Breaks.PlannedPauses.{FindsNoSyllables}
 use Rattle.shape_laws.specs.Breaks.Rewrites.{HasNoStages}
@@ -46,6 +46,7 @@ use Rattle.shape_laws.specs.Breaks.SafeTexts.{AreCut, AreOfOneLanguage, AreShape
 use Rattle.shape_laws.specs.Breaks.Seams.{EndPlainly, are_apart}
 use Rattle.shape_laws.specs.Breaks.Texts.{AreBrokenShapings, IsNativeLine, KnowsGraphemes}
 use Rattle.shape_laws.specs.Breaks.Lemmas.Adjusted.{glyphs_are_positioned_apart}
+use Rattle.shape_laws.specs.Breaks.Lemmas.HangulApart.{hangul_characters_divide}
 use Rattle.shape_laws.specs.Breaks.Lemmas.Known.{ascii_knows_graphemes}
 use Rattle.shape_laws.specs.Breaks.Lemmas.Plain.{plain_rules_have_no_stages}
 use Rattle.shape_laws.specs.Breaks.Lemmas.Readings.{texts_show_both}
@@ -178,9 +179,9 @@ reading_of_text p s some = by_test (length s.view.items == 0) refl
 shows_by : (shaper : hb_ot_any_shaper_t) (plan : hb_script_plan_t ⊤) (own : List Feature) (font : FaceParts) (tables : Tables) (spans : Spans) (languages : List Tag) (d : Direction) (script : Option Script) (features : List Feature)
     (p p1 p2 : Shaping) (c : ℕ) (whole earlier later result first second : Sides) → p ≡ by_shaper shaper plan own font tables spans (text_settings whole) → AreBrokenShapings p p1 p2
     → plan.map ≡ planned_map (any_kind.asking shaper) font languages d script features → FindsNoSyllables shaper → AreCut c whole earlier later
-    → TextsStayBroken p p1 p2 c (state_of whole) (state_of earlier) (state_of later) → MarksApart p p1 p2 → HavePlainEnds p p1 p2 whole earlier later → HaveEnough p p1 p2 whole earlier later → AreShapedBy p p1 p2 whole earlier later result first second
+    → TextsStayBroken p p1 p2 c (state_of whole) (state_of earlier) (state_of later) → HavePlainEnds p p1 p2 whole earlier later → HaveEnough p p1 p2 whole earlier later → AreShapedBy p p1 p2 whole earlier later result first second
     → IsSafelyCut c result first second
-shows_by shaper plan own font tables spans languages d script features p p1 p2 c whole earlier later result first second by shapings is none cut texts marks ends enough shaped falls at order =
+shows_by shaper plan own font tables spans languages d script features p p1 p2 c whole earlier later result first second by shapings is none cut texts ends enough shaped falls at order =
     let b = cut.broken in
     let early_items : 0 < length (state_of earlier).view.items = let some = b.early_some in let many = b.early_whole.origins in omega (arith, some, many) in
     let late_items : 0 < length (state_of later).view.items = let some = b.late_some in let many = b.late_whole.origins in omega (arith, some, many) in
@@ -192,7 +193,7 @@ shows_by shaper plan own font tables spans languages d script features p p1 p2 c
     let gsub = gsub_at_seam p p1 p2 shapings.early_is shapings.late_is seams in
     let gpos = subst (λ (q : Shaping). EndPlainly q.map.tables.gpos.stages) (sym by) (subst (λ (m : OtMapValue). EndPlainly m.tables.gpos.stages) (sym is) (planned_positioning_ends_plainly shaper font languages d script features)) in
     texts_show_both are_apart p p1 p2 c (state_of whole) (state_of earlier) (state_of later) (state_of result) (state_of first) (state_of second) falls shapings texts
-    (record { substitutes = glyphs_are_substituted_apart p p1 p2 shapings gsub; positions = glyphs_are_positioned_apart p p1 p2 shapings gpos; marks = marks }) ends.all ends.early ends.late
+    (record { substitutes = glyphs_are_substituted_apart p p1 p2 shapings gsub; positions = glyphs_are_positioned_apart p p1 p2 shapings gpos }) ends.all ends.early ends.late
     enough.all enough.early enough.late (subst (λ (a : Reading). Follows a (state_of whole) (state_of result)) (reading_of_text p (state_of whole) items) shaped.all)
     (subst (λ (a : Reading). Follows a (state_of earlier) (state_of first)) (reading_of_text p1 (state_of earlier) early_items) shaped.early)
     (subst (λ (a : Reading). Follows a (state_of later) (state_of second)) (reading_of_text p2 (state_of later) late_items) shaped.late) at order
@@ -258,6 +259,14 @@ ready_thai plan p p1 p2 c whole earlier later rules k may = record {
   ends = plain_ends p p1 p2 whole earlier later k.shapings (λ font settings. ap (λ (q : ShaperRules). q.postprocesses font settings) rules);
 }
 
+ready_hangul : (plan : hb_script_plan_t ⊤) (p p1 p2 : Shaping) (c : ℕ) (whole earlier later : Sides) → p.rules ≡ script_rules HANGUL_SHAPER plan → IsKnownCut p p1 p2 c whole earlier later → HangulMayBeCut p earlier later
+    → IsReadyToCut (any.Script HANGUL_SHAPER) p p1 p2 c whole earlier later
+ready_hangul plan p p1 p2 c whole earlier later rules k may = record {
+  none = tt;
+  texts = λ r e l is_r is_e is_l. hangul_characters_divide plan p p1 p2 c (state_of whole) (state_of earlier) (state_of later) r e l rules k.shapings k.keeps k.graphemes k.cut.ready k.cut.broken k.native may.begins may.marks is_r is_e is_l;
+  ends = plain_ends p p1 p2 whole earlier later k.shapings (λ font settings. ap (λ (q : ShaperRules). q.postprocesses font settings) rules);
+}
+
 ready_by : (shaper : hb_ot_any_shaper_t) (plan : hb_script_plan_t ⊤) (p p1 p2 : Shaping) (c : ℕ) (whole earlier later : Sides) → p.rules ≡ rules_of shaper plan → IsKnownCut p p1 p2 c whole earlier later → MayBeCutBy shaper plan p p1 p2 whole earlier later
     → IsReadyToCut shaper p p1 p2 c whole earlier later
 ready_by any.Default plan p p1 p2 c whole earlier later rules k may = ready_plainly any.Default plan p p1 p2 c whole earlier later tt rules k may
@@ -266,7 +275,7 @@ ready_by (any.Script HEBREW_SHAPER) plan p p1 p2 c whole earlier later rules k m
 ready_by (any.Script MYANMAR_ZAWGYI_SHAPER) plan p p1 p2 c whole earlier later rules k may = ready_plainly (any.Script MYANMAR_ZAWGYI_SHAPER) plan p p1 p2 c whole earlier later tt rules k may
 ready_by (any.Script ARABIC_SHAPER) plan p p1 p2 c whole earlier later rules k may = ready_joined plan p p1 p2 c whole earlier later rules k may
 ready_by (any.Script THAI_SHAPER) plan p p1 p2 c whole earlier later rules k may = ready_thai plan p p1 p2 c whole earlier later rules k may
-ready_by (any.Script HANGUL_SHAPER) plan p p1 p2 c whole earlier later rules k may = absurd may
+ready_by (any.Script HANGUL_SHAPER) plan p p1 p2 c whole earlier later rules k may = ready_hangul plan p p1 p2 c whole earlier later rules k may
 ready_by (any.Script INDIC_SHAPER) plan p p1 p2 c whole earlier later rules k may = absurd may
 ready_by (any.Script KHMER_SHAPER) plan p p1 p2 c whole earlier later rules k may = absurd may
 ready_by (any.Script MYANMAR_SHAPER) plan p p1 p2 c whole earlier later rules k may = absurd may
@@ -276,12 +285,12 @@ ready_by (any.Script UNIVERSAL_SHAPER) plan p p1 p2 c whole earlier later rules 
 cut_by : (shaper : hb_ot_any_shaper_t) (plan : hb_script_plan_t ⊤) (own : List Feature) (font : FaceParts) (tables : Tables) (spans : Spans) (languages : List Tag) (d : Direction) (script : Option Script) (features : List Feature)
     (p p1 p2 : Shaping) (c : ℕ) (whole earlier later result first second : Sides) → p ≡ by_shaper shaper plan own font tables spans (text_settings whole) → AreBrokenShapings p p1 p2
     → plan.map ≡ planned_map (any_kind.asking shaper) font languages d script features → AreCut c whole earlier later → MayBeCutBy shaper plan p p1 p2 whole earlier later → AsciiHasNoMarks
-    → KeepsMarks (normalizer p) → MarksApart p p1 p2 → HaveEnough p p1 p2 whole earlier later → AreShapedBy p p1 p2 whole earlier later result first second → IsSafelyCut c result first second
-cut_by shaper plan own font tables spans languages d script features p p1 p2 c whole earlier later result first second by shapings is cut may ascii keeps marks enough shaped =
+    → KeepsMarks (normalizer p) → HaveEnough p p1 p2 whole earlier later → AreShapedBy p p1 p2 whole earlier later result first second → IsSafelyCut c result first second
+cut_by shaper plan own font tables spans languages d script features p p1 p2 c whole earlier later result first second by shapings is cut may ascii keeps enough shaped =
     let native : IsNativeLine p.settings.script whole.direction = subst (λ (q : Shaping). IsNativeLine q.settings.script whole.direction) (sym by) cut.native in
     let known : IsKnownCut p p1 p2 c whole earlier later = record { shapings = shapings; cut = cut; native = native; graphemes = ascii_knows_graphemes p.tables ascii; keeps = keeps } in
     let ready = ready_by shaper plan p p1 p2 c whole earlier later (ap (λ (q : Shaping). q.rules) by) known may in
-    shows_by shaper plan own font tables spans languages d script features p p1 p2 c whole earlier later result first second by shapings is ready.none cut ready.texts marks ready.ends enough shaped
+    shows_by shaper plan own font tables spans languages d script features p p1 p2 c whole earlier later result first second by shapings is ready.none cut ready.texts ready.ends enough shaped
 
 -- ---- by a plan
 
@@ -299,22 +308,22 @@ plan_shapings : (plan : hb_ot_shape_plan_t hb_ot_any_shaper_t ⊤) (font : FaceP
 plan_shapings plan font tables spans c whole earlier later cut = record { early_is = refl; late_is = refl; settings = cut.settings }
 
 pub planned_texts_have_safe_breaks : PlannedTextsHaveSafeBreaks
-planned_texts_have_safe_breaks font tables spans plan c whole earlier later result first second of none cut texts marks ends enough shaped =
+planned_texts_have_safe_breaks font tables spans plan c whole earlier later result first second of none cut texts ends enough shaped =
     shows_by plan.shaper plan.script_plan plan.user_features.items font tables spans plan.language_tags.items plan.script_plan.direction plan.script_plan.script plan.user_features.items
     (planned_shaping plan font tables spans whole) (planned_shaping plan font tables spans earlier) (planned_shaping plan font tables spans later) c whole earlier later result first second refl
-    (plan_shapings plan font tables spans c whole earlier later cut) (plan_map_is font plan of) none cut texts marks ends enough shaped
+    (plan_shapings plan font tables spans c whole earlier later cut) (plan_map_is font plan of) none cut texts ends enough shaped
 
 pub safe_breaks_of_plans : SafeBreaksOfPlans
-safe_breaks_of_plans font tables spans plan c whole earlier later result first second of cut may ascii keeps marks enough shaped =
+safe_breaks_of_plans font tables spans plan c whole earlier later result first second of cut may ascii keeps enough shaped =
     cut_by plan.shaper plan.script_plan plan.user_features.items font tables spans plan.language_tags.items plan.script_plan.direction plan.script_plan.script plan.user_features.items
     (planned_shaping plan font tables spans whole) (planned_shaping plan font tables spans earlier) (planned_shaping plan font tables spans later) c whole earlier later result first second refl
-    (plan_shapings plan font tables spans c whole earlier later cut) (plan_map_is font plan of) cut may ascii keeps marks enough shaped
+    (plan_shapings plan font tables spans c whole earlier later cut) (plan_map_is font plan of) cut may ascii keeps enough shaped
 
 -- ---- without a plan
 
 pub safe_breaks : SafeBreaks
-safe_breaks font tables tags spans features c whole earlier later result first second cut one may ascii keeps marks enough shaped =
+safe_breaks font tables tags spans features c whole earlier later result first second cut one may ascii keeps enough shaped =
     let languages = language_tags tags whole in
     cut_by (planned_shaper any_kind font languages whole.direction whole.script) (text_plan any_kind font languages whole.direction whole.script features) features font tables spans languages whole.direction whole.script features
     (by_text font tables tags spans features whole) (by_text font tables tags spans features earlier) (by_text font tables tags spans features later) c whole earlier later result first second refl
-    (shapings_of font tables tags spans features c whole earlier later cut one) (planned_is font languages whole.direction whole.script features) cut may ascii keeps marks enough shaped
+    (shapings_of font tables tags spans features c whole earlier later cut one) (planned_is font languages whole.direction whole.script features) cut may ascii keeps enough shaped

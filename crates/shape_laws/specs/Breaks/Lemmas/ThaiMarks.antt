@@ -13,38 +13,18 @@ use Rattle.buffer_glyphs.specs.Replacements.{item_numbered}
 use Rattle.buffer_unicode_tables.specs.Tables.{Tables, thai_of}
 use Rattle.buffer_properties.specs.Characters.{is_mark, is_mark_number, with_category}
 use Rattle.buffer_properties.specs.NormalizedList.{has_later_mark}
-use Rattle.buffer_properties.specs.Normalizer.{Normalizer}
 use Rattle.buffer_properties.specs.Properties.{CONTINUATION, is_mark_character}
 use Rattle.layout_face.specs.declared.parts.FaceParts.{FaceParts}
 use Rattle.layout_face.specs.Glyphs.{nominal_glyph}
 use Rattle.script_thai.specs.declared.thai_private.State.{State}
 use Rattle.script_thai.specs.ThaiPrivate.{action_on, character_after, character_shaped, first_known, items_shaped, mark_of, numbers_of, state_after as state_next}
 use Rattle.script_thai.specs.ThaiVowel.{count_above, is_sara_am, nikhahit, sara_aa, text_with_splits, thai_or_lao, with_character, with_vowel}
-use Rattle.shape_laws.specs.Breaks.Characters.{KeepsMarks, OrderEndsUnjoined, last_joined}
-use Rattle.shape_laws.specs.Breaks.Normalizing.{AreNormalizedApart, is_joiner}
+use Rattle.shape_laws.specs.Breaks.Characters.{last_joined}
+use Rattle.shape_laws.specs.Breaks.Normalizing.{is_joiner}
 use Rattle.shape_laws.specs.Breaks.ThaiCharacters.{KeepsPrivateMarks, PrivateKeepsMarks}
-use Rattle.shape_laws.specs.Breaks.Lemmas.Marks.{later_both, none_later}
-use Rattle.shape_laws.specs.Breaks.Lemmas.Unjoined.{AreLow, IsLow, IsPlainly, begins_alone, expanded_begins, last_anyway, last_both, low_both, ordered_ends}
+use Rattle.shape_laws.specs.Breaks.Lemmas.Marks.{any_both}
+use Rattle.shape_laws.specs.Breaks.Lemmas.Unjoined.{AreLow, IsLow, IsPlainly, last_anyway, last_both, low_both, low_first, low_from}
 use Rattle.shape_laws.specs.Breaks.Lemmas.Vowels.{above_both, above_within, vowel_many}
-
--- ---- two texts by their marks
-
--- both texts have a mark after their first item, or neither has one
-abbrev pub AreLike : List Item → List Item → Type 0
-AreLike xs ys = ((has_later_mark xs ≡ true) × (has_later_mark ys ≡ true)) ⊎ ((list_any is_mark xs ≡ false) × (list_any is_mark ys ≡ false))
-
-like_both : (xs ys : List Item) → 0 < length xs → AreLike xs ys → (has_later_mark xs ≡ has_later_mark (xs ++ ys)) × (has_later_mark ys ≡ has_later_mark (xs ++ ys))
-like_both xs ys some (inl both) = let all : has_later_mark (xs ++ ys) ≡ true = later_both xs ys some ∙ ap (λ b. b || list_any is_mark ys) both.0 in (both.0 ∙ sym all, both.1 ∙ sym all)
-like_both xs ys some (inr neither) =
-    let early = none_later xs neither.0 in
-    let all : has_later_mark (xs ++ ys) ≡ false = later_both xs ys some ∙ ap (λ b. b || list_any is_mark ys) early ∙ neither.1 in
-    (early ∙ sym all, none_later ys neither.1 ∙ sym all)
-
--- two texts are normalized each by itself
-pub like_apart : (k : Normalizer) (xs : List Item) (y : Item) (ys : List Item) → KeepsMarks k → OrderEndsUnjoined k.reorders → AreLike xs (y ∷ ys) → 0 < length xs → AreLow xs → last_joined false xs ≡ false → IsPlainly y → AreNormalizedApart k xs (y ∷ ys)
-like_apart k xs y ys h ends like some low last plainly =
-    let both = like_both xs (y ∷ ys) some like in
-    record { begins = begins_alone k y ys h plainly; expanded = expanded_begins k y ys h plainly; early_marks = both.0; late_marks = both.1; ends = ordered_ends (has_later_mark (xs ++ y ∷ ys)) k xs h ends low last }
 
 -- ---- vowels
 
@@ -66,16 +46,6 @@ last_unjoined x e = let le = vowel_high x e in high_unjoined (x.number - 1) (ome
 
 unjoined_low : (x : Item) → is_joiner x ≡ false → IsLow x
 unjoined_low x e joined = cc
-
-low_first : (n : ℕ) (xs : List Item) → AreLow xs → AreLow (take n xs)
-low_first zero xs h = tt
-low_first (suc n) [] h = tt
-low_first (suc n) (x ∷ xs) h = (h.0, low_first n xs h.1)
-
-low_from : (n : ℕ) (xs : List Item) → AreLow xs → AreLow (drop n xs)
-low_from zero xs h = h
-low_from (suc n) [] h = tt
-low_from (suc n) (x ∷ xs) h = low_from n xs h.1
 
 vowel_low : (out : List Item) (x : Item) → is_sara_am x ≡ true → AreLow out → AreLow (with_vowel out x)
 vowel_low out x e h =
@@ -113,14 +83,6 @@ first_marks : (x : Item) → is_mark (nikhahit x) ≡ true
 first_marks x =
     let p = x.unicode_props in
     ap is_mark_number (and_or_apart 0x1F (with_category 12 p) CONTINUATION refl ∙ and_mask (with_category 12 p) 5 ∙ low_bits p (bit_and p 0x1F) (and_mask p 5))
-
-any_both : (xs ys : List Item) → list_any is_mark (xs ++ ys) ≡ (list_any is_mark xs || list_any is_mark ys)
-any_both [] ys = refl
-any_both (x ∷ xs) ys = ap (λ b. is_mark x || b) (any_both xs ys) ∙ by_test (is_mark x)
-  where
-    by_test : (b : Bool) → (b || (list_any is_mark xs || list_any is_mark ys)) ≡ ((b || list_any is_mark xs) || list_any is_mark ys)
-    by_test true = refl
-    by_test false = refl
 
 any_second : (xs ys : List Item) → list_any is_mark ys ≡ true → list_any is_mark (xs ++ ys) ≡ true
 any_second xs ys e = any_both xs ys ∙ ap (λ b. list_any is_mark xs || b) e ∙ or_true (list_any is_mark xs)

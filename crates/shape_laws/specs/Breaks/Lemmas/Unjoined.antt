@@ -1,5 +1,5 @@
 -- Where U+034F ends a text that is expanded and ordered, and how it begins.
-use Rattle.std.proofs.Common.{ℕ, zero, suc, ◌≡◌, ◌<◌, ◌==◌, ◌||◌, ◌⊎◌, inl, inr, nat_le, Bool, true, false, if◌then◌else◌, eqb-true, List, [], ◌∷◌, ◌++◌, length, map, Option, None, Some, is_some, append_assoc, append-nil, arith, refl, sym, ap, subst, ◌∙◌}
+use Rattle.std.proofs.Common.{ℕ, zero, suc, ◌≡◌, ◌<◌, ◌==◌, ◌||◌, ◌⊎◌, inl, inr, nat_le, Bool, true, false, if◌then◌else◌, eqb-true, List, [], ◌∷◌, ◌++◌, length, map, take, drop, Option, None, Some, is_some, append_assoc, append-nil, arith, refl, sym, ap, subst, ◌∙◌}
 use Rattle.std.specs.List.{list_any}
 use Rattle.std.specs.List.Sorted.{IsPermutation}
 use Rattle.std.proofs.lemmas.Bool.{cases_Bool, cond-true, cond-false, and_parts}
@@ -133,6 +133,16 @@ AreLow (x ∷ xs) = IsLow x × AreLow xs
 pub low_both : (xs ys : List Item) → AreLow xs → AreLow ys → AreLow (xs ++ ys)
 low_both [] ys h k = k
 low_both (x ∷ xs) ys h k = (h.0, low_both xs ys h.1 k)
+
+pub low_first : (n : ℕ) (xs : List Item) → AreLow xs → AreLow (take n xs)
+low_first zero xs h = tt
+low_first (suc n) [] h = tt
+low_first (suc n) (x ∷ xs) h = (h.0, low_first n xs h.1)
+
+pub low_from : (n : ℕ) (xs : List Item) → AreLow xs → AreLow (drop n xs)
+low_from zero xs h = h
+low_from (suc n) [] h = tt
+low_from (suc n) (x ∷ xs) h = low_from n xs h.1
 
 -- an item is of a character that is a mark exactly where the item is one; and what stands for the character begins with no
 -- mark where it is none
