@@ -4,3 +4,7 @@ pub mod Walks
 pub mod Spans
 pub mod Filled
 pub mod OneWay
+pub mod Shown
+pub mod Middles
+pub mod Rests
+pub mod Alone

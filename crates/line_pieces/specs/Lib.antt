@@ -3,3 +3,4 @@ pub mod Steps
 pub mod Breaks
 pub mod Cuts
 pub mod Laws
+pub mod Alone

@@ -1,7 +1,19 @@
 //! What holds of the lines of a paragraph.
 //!
-//! What a caller tests of the premise: the lines are what `cut_lines` answers, for a text as long as the paragraph's.
-ghost use Rattle.line_pieces.specs.Laws.{LinesAreOne, LinesAreText};
+//! What a caller tests of their premises:
+//! - The lines are what `cut_lines` answers, for a text as long as the paragraph's (`HasOwnGlyphs`).
+//! - The texts (`IsTextOf`): the paragraph's was pushed by `push_str`, and shaped with PRODUCE_SAFE_BREAKS; a line's has
+//!   its characters, pushed by `UnicodeBuffer::add` with the bytes at which they begin in the paragraph, or by `push_str`
+//!   for `law_own_lines_look_alike`. The line's text has the direction, the script, the language and the flags of the
+//!   paragraph's, but BEGINNING_OF_TEXT and END_OF_TEXT at the ends of the paragraph alone; and the text before it and
+//!   after it as its contexts.
+//! - The cuts (`IsCutAt`), as `kuspveli::laws::breaks::break_laws` lists it for each: the paragraph's text is cut at the
+//!   line's start, and what is left at the line's end. At an end of the paragraph there is no cut.
+ghost use Rattle.line_pieces.specs.Alone.{OwnLinesAreShapedAlone, OwnLinesLookAlike};
+ghost use Rattle.line_pieces.specs.Laws.{FlagsShowSafeBreaks, LinesAreOne, LinesAreText};
+
+use kuspveli::laws::breaks::break_laws::law_safe_breaks;
+use kuspveli::laws::shaping::laws::{law_texts_keep_numbers, law_texts_read_alike};
 
 /// The bytes of the lines of a text, one line after another, are the text.
 #[tactic(auto, using(crate::proofs::OneWay::lines_are_text))]
@@ -14,3 +26,27 @@ pub fn law_lines_are_text()
 pub fn law_lines_are_one()
     ensures { LinesAreOne }
 {}
+
+/// Where a break is safe, by the glyphs as they stand along the line.
+#[tactic(auto, using(crate::proofs::Shown::flags_show_safe_breaks))]
+pub fn law_flags_show_safe_breaks()
+    ensures { FlagsShowSafeBreaks }
+{}
+
+/// The glyphs that a line has of its paragraph (`Line::glyphs`) are those that shaping the line's text alone gives, at the
+/// same positions and with the same clusters.
+pub fn law_own_lines_are_shaped_alone()
+    ensures { OwnLinesAreShapedAlone }
+{
+    law_safe_breaks();
+    law_texts_keep_numbers();
+}
+
+/// So are they, at the same positions, where the line's text has other clusters, another cluster level or other requests
+/// for glyph flags, and no feature is requested for a range of the text.
+pub fn law_own_lines_look_alike()
+    ensures { OwnLinesLookAlike }
+{
+    law_own_lines_are_shaped_alone();
+    law_texts_read_alike();
+}
