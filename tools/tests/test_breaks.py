@@ -202,6 +202,43 @@ UNFLAGGED = {
             "pairs": [[97, 0x302, 0xE2], [97, 0x323, 0x1EA1], [0x1EA1, 0x302, 0x1EAD]],
         },
     ),
+    # A letter by this shaper, which doesn't split it.
+    "SARA AM in the place of a mark": Row(
+        "--script=Latn", "\u1ead\u0e33e\u0301", 6, 0,
+        {"cmap": [[97, 1], [101, 5], [0xE2, 2], [0x301, 6], [0x302, 4], [0x323, 3], [0xE33, 7]]},
+        {
+            "classes": [[0x301, 230], [0x302, 230], [0x323, 220]],
+            "splits": [[0xE2, 97, 0x302], [0x1EA1, 97, 0x323], [0x1EAD, 0x1EA1, 0x302]],
+            "pairs": [[97, 0x302, 0xE2], [97, 0x323, 0x1EA1], [0x1EA1, 0x302, 0x1EAD]],
+        },
+    ),
+    "SARA AM by the shaper of its script": Row(
+        "--script=Thai", "\u0e01\u0e33\u0e01\u0e33", 6, 2,
+        {"cmap": [[0xE01, 1], [0xE32, 3], [0xE4D, 2]], "gpos": NO_KERNING},
+    ),
+    # It is moved before its syllable, so that no mark is left in the piece, and those of its letter are not ordered.
+    "a tone mark in the place of a mark": Row(
+        "--script=Hang", "\uac00\u302e\u1eade\u0301", 9, 0,
+        {
+            "upem": 1000,
+            "cmap": [[97, 1], [101, 5], [0x301, 6], [0x302, 4], [0x323, 3], [0x302E, 7], [0xAC00, 8]],
+            "h": [[7, 500]],
+            "gpos": NO_KERNING,
+        },
+        {
+            "classes": [[0x301, 230], [0x302, 230], [0x323, 220]],
+            "splits": [[0xE2, 97, 0x302], [0x1EAD, 0xE2, 0x323]],
+        },
+    ),
+    "a tone mark of the syllable after the cut": Row(
+        "--script=Hang", "e\u0301\uac00\u302ee\u0301", 3, 2,
+        {
+            "upem": 1000,
+            "cmap": [[101, 5], [0x301, 6], [0x302E, 7], [0xAC00, 8]],
+            "h": [[7, 500]],
+            "gpos": NO_KERNING,
+        },
+    ),
     "a vowel in one piece": Row(
         "--script=Bali", "\u1b06\u1b13\u1b36", 3, 0,
         {

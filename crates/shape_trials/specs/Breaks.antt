@@ -1,7 +1,7 @@
 -- Where a text is cut, and what its pieces show.
 use Rattle.std.specs.Prelude.{ℕ, pos, ◌≡◌, ◌==◌, ◌&&◌, ◌||◌, ◌⊎◌, ⊤, Bool, true, false, not, if◌then◌else◌, nat_lt, List, [], ◌∷◌, ◌++◌, drop, fold, map, Option, None, Some}
 use Rattle.std.specs.Int.RustNames.{bit_and}
-use Rattle.std.specs.List.{list_all, list_any}
+use Rattle.std.specs.List.{find, list_all, list_any}
 use lib.Utf8.{scalar}
 use Rattle.unicode.specs.GeneralCategory.{general_category}
 use Rattle.buffer_common.specs.declared.direction.Direction.{Direction}
@@ -15,6 +15,7 @@ use Rattle.buffer_core.specs.Sides.{Sides, all_glyphs}
 use Rattle.buffer_properties.specs.Properties.{is_mark_character}
 use Rattle.buffer_unicode.specs.Category.{category_number}
 use Rattle.buffer_unicode_tables.specs.Tables.{Tables, class_of, counterpart_in, split_of, universal_of}
+use Rattle.script_hangul.specs.Jamo.{is_tone, is_trailing, is_vowel}
 use Rattle.script_joining.specs.Joining.{is_letter}
 use Rattle.script_joining.specs.Types.{JoiningType, joining_type, type_of_character}
 use Rattle.script_categories.specs.declared.category.TheConstants as category
@@ -50,34 +51,89 @@ cuts_after all last (g ∷ gs) = cut_before all last g.cluster ++ cuts_after all
 abbrev pub IsNative : Direction → Option Script → Type 0
 IsNative d s = (d ≡ TopToBottom) ⊎ (d ≡ direction_of s)
 
--- a mark, or one of the two vowels that decompose into a mark and a letter
-abbrev pub has_mark : ℕ → Bool
-has_mark u = is_mark_character u || ((u == 0xE33) || (u == 0xEB3))
+-- the shaper that decomposes SARA AM of Thai and AM of Lao into a mark and a letter, in a text of any script
+abbrev pub splits_sara_am : hb_ot_any_shaper_t → Bool
+splits_sara_am Default = false
+splits_sara_am Dumber = false
+splits_sara_am (OfScript ARABIC_SHAPER) = false
+splits_sara_am (OfScript HANGUL_SHAPER) = false
+splits_sara_am (OfScript HEBREW_SHAPER) = false
+splits_sara_am (OfScript INDIC_SHAPER) = false
+splits_sara_am (OfScript KHMER_SHAPER) = false
+splits_sara_am (OfScript MYANMAR_SHAPER) = false
+splits_sara_am (OfScript MYANMAR_ZAWGYI_SHAPER) = false
+splits_sara_am (OfScript THAI_SHAPER) = true
+splits_sara_am (OfScript UNIVERSAL_SHAPER) = false
 
--- a text has a mark after its first characters
-abbrev pub has_mark_past : ℕ → List ℕ → Bool
-has_mark_past n us = list_any has_mark (drop n us)
-
--- two pieces have no mark, or both have one after their first characters
-abbrev pub have_like_marks : List ℕ → List ℕ → Bool
-have_like_marks us vs = if has_mark_past 1 us then has_mark_past 1 vs else (not (has_mark_past 0 us) && not (has_mark_past 0 vs))
-
--- a text ends with COMBINING GRAPHEME JOINER
-abbrev pub ends_with_joiner : List ℕ → Bool
-ends_with_joiner us = fold (λ _ u. u == 0x34F) false us
+-- SARA AM of Thai or AM of Lao
+abbrev pub is_sara_am : ℕ → Bool
+is_sara_am u = u == 0xE33 || u == 0xEB3
 
 -- U+0E3B and U+0EC7 are no characters, so they continue no grapheme, but the Thai shaper takes them for marks above
 abbrev pub is_taken_for_mark : ℕ → Bool
 is_taken_for_mark u = u == 0xE3B || u == 0xEC7
 
--- a text begins with none of them
+-- a text begins with neither of these two numbers
 abbrev pub begins_plainly : List ℕ → Bool
 begins_plainly [] = true
 begins_plainly (u ∷ us) = not (is_taken_for_mark u)
 
--- a text may be cut between two pieces
-abbrev pub may_be_cut : List ℕ → List ℕ → Bool
-may_be_cut us vs = have_like_marks us vs && (not (ends_with_joiner us) && begins_plainly vs)
+-- a text begins neither with a mark nor with what the Thai shaper takes for one
+abbrev pub begins_unmarked : List ℕ → Bool
+begins_unmarked [] = true
+begins_unmarked (u ∷ us) = not (is_mark_character u || is_taken_for_mark u)
+
+-- what follows the syllable of Hangul that begins a text: the first character after the first one that is neither a vowel nor
+-- a trailing consonant
+abbrev pub after_syllable : List ℕ → Option ℕ
+after_syllable us = find (λ u. not (is_vowel u || is_trailing u)) (drop 1 us)
+
+-- a character, where there is one, is a tone mark of Hangul
+abbrev pub is_tone_mark : Option ℕ → Bool
+is_tone_mark None = false
+is_tone_mark (Some u) = is_tone u
+
+-- a mark, and none of Hangul's tone marks, which may be moved before the first character of a text
+abbrev pub is_staying_mark : ℕ → Bool
+is_staying_mark u = is_mark_character u && not (is_tone u)
+
+-- a text has a mark after its first character that stays after it
+abbrev pub has_later_mark : List ℕ → Bool
+has_later_mark us = list_any is_staying_mark (drop 1 us)
+
+-- a text has SARA AM after a number of characters
+abbrev pub has_sara_am_past : ℕ → List ℕ → Bool
+has_sara_am_past n us = list_any is_sara_am (drop n us)
+
+-- a text has a mark that stays after its first character; or SARA AM, where that is decomposed and no mark begins the
+-- text, before which its own mark might be moved
+abbrev pub is_marked : Bool → List ℕ → Bool
+is_marked splits us = has_later_mark us || (splits && (begins_unmarked us && has_sara_am_past 1 us))
+
+-- a text has a mark
+abbrev pub has_mark : List ℕ → Bool
+has_mark us = list_any is_mark_character us
+
+-- a text has no mark, and no SARA AM where that is decomposed
+abbrev pub is_unmarked : Bool → List ℕ → Bool
+is_unmarked splits us = not (has_mark us) && not (splits && has_sara_am_past 0 us)
+
+-- both pieces have marks as normalization counts them, or neither has one
+abbrev pub have_like_marks : Bool → List ℕ → List ℕ → Bool
+have_like_marks splits us vs = (is_marked splits us && is_marked splits vs) || (is_unmarked splits us && is_unmarked splits vs)
+
+-- a text ends with COMBINING GRAPHEME JOINER
+abbrev pub ends_with_joiner : List ℕ → Bool
+ends_with_joiner us = fold (λ _ u. u == 0x34F) false us
+
+-- what begins a text stays there: it is neither of the two numbers before which SARA AM may be moved, nor a syllable before
+-- which a tone mark of Hangul may be moved
+abbrev pub keeps_beginning : List ℕ → Bool
+keeps_beginning us = begins_plainly us && not (is_tone_mark (after_syllable us))
+
+-- a text may be cut between two pieces by a shaper
+abbrev pub may_be_cut : hb_ot_any_shaper_t → List ℕ → List ℕ → Bool
+may_be_cut shaper us vs = have_like_marks (splits_sara_am shaper) us vs && (not (ends_with_joiner us) && keeps_beginning vs)
 
 -- shapers that may join letters as Arabic ones
 abbrev pub may_join : hb_ot_any_shaper_t → Bool

@@ -124,7 +124,7 @@ fn found_at(
     let Some((early, late)) = pieces_at(trial.text, cut as usize, level) else {
         return Ok(Found::Different);
     };
-    if !may_be_cut(early.text, late.text) {
+    if !may_be_cut(plan.shaper, early.text, late.text) {
         return Ok(Found::PassedOver);
     }
     let (Ok(first), Ok(second)) = (early.shaped(trial, plan)?, late.shaped(trial, plan)?) else {

@@ -6,7 +6,7 @@ ghost use Rattle.buffer_unicode.specs.Category.{category_number};
 ghost use Rattle.buffer_unicode_tables.specs.Tables.{split_of};
 ghost use Rattle.buffer_core.specs.Segment.{direction_of};
 ghost use Rattle.script_joining.specs.Types.{joining_type, type_of_character};
-ghost use Rattle.shape_trials.specs.Breaks.{AreSeenAs, ContinuesAlike, CounterpartKeepsType, HalvesKeepType, IsNative, KeepGraphemes, KeepTypes, KeepsGraphemes, KeepsType, begins_plainly, continues, ends_with_joiner, first_half, first_letter, has_mark, has_mark_past, have_like_marks, is_passed_over, is_taken_for_mark, joins_nothing, may_be_cut, may_join, type_of_half};
+ghost use Rattle.shape_trials.specs.Breaks.{AreSeenAs, ContinuesAlike, CounterpartKeepsType, HalvesKeepType, IsNative, KeepGraphemes, KeepTypes, KeepsGraphemes, KeepsType, after_syllable, begins_plainly, begins_unmarked, continues, ends_with_joiner, first_half, first_letter, has_later_mark, has_mark, has_sara_am_past, have_like_marks, is_marked, is_passed_over, is_sara_am, is_staying_mark, is_taken_for_mark, is_tone_mark, is_unmarked, joins_nothing, keeps_beginning, may_be_cut, may_join, splits_sara_am, type_of_half};
 
 use buffer_common::direction::Direction;
 use buffer_common::script::Script;
@@ -15,8 +15,9 @@ use buffer_unicode::{CharExt, GeneralCategoryExt};
 use buffer_unicode_tables::{CharTablesExt, UnicodeTables, decompose};
 use script_categories::category::{CGJ, Category};
 use script_categories::hb_arabic_joining_type_t;
-use script_categories::hb_ot_script_shaper_t::{ARABIC_SHAPER, UNIVERSAL_SHAPER};
+use script_categories::hb_ot_script_shaper_t::{ARABIC_SHAPER, THAI_SHAPER, UNIVERSAL_SHAPER};
 use script_dispatch::hb_ot_any_shaper_t;
+use script_hangul::jamo::{is_tone, is_trailing, is_vowel};
 use script_joining::joining_type;
 
 /// COMBINING GRAPHEME JOINER.
@@ -44,13 +45,100 @@ fn direction_of(script: Option<Script>) -> Direction
     guessed_direction(Direction::Invalid, script)
 }
 
-/// Whether the text of two pieces may be cut between them: it has no mark or both have one after their first character,
-/// so that normalization takes as many rounds for each; no COMBINING GRAPHEME JOINER is directly before the cut; and
-/// directly after it is none of two numbers that the Thai shaper takes for marks above, and SARA AM may pass.
-pub(crate) fn may_be_cut(early: &str, late: &str) -> bool
-    ensures { result ≡ may_be_cut (chars early.now) (chars late.now) }
+/// Whether the text of two pieces may be cut between them by a shaper: both have a mark that stays after their first
+/// character or neither has one, so that normalization takes as many rounds for each; no COMBINING GRAPHEME JOINER is
+/// directly before the cut; and what begins the later piece stays there.
+pub(crate) fn may_be_cut(shaper: hb_ot_any_shaper_t, early: &str, late: &str) -> bool
+    ensures { result ≡ may_be_cut shaper (chars early.now) (chars late.now) }
 {
-    have_like_marks(early, late) && (!ends_with_joiner(early) && begins_plainly(late))
+    have_like_marks(splits_sara_am(shaper), early, late)
+        && (!ends_with_joiner(early) && keeps_beginning(late))
+}
+
+/// Whether a shaper decomposes SARA AM of Thai and AM of Lao into a mark and a letter, before normalization.
+fn splits_sara_am(shaper: hb_ot_any_shaper_t) -> bool
+    ensures { result ≡ splits_sara_am shaper }
+{
+    matches!(shaper, hb_ot_any_shaper_t::Script(THAI_SHAPER))
+}
+
+fn have_like_marks(splits: bool, early: &str, late: &str) -> bool
+    ensures { result ≡ have_like_marks splits (chars early.now) (chars late.now) }
+{
+    (is_marked(splits, early) && is_marked(splits, late))
+        || (is_unmarked(splits, early) && is_unmarked(splits, late))
+}
+
+/// Whether a text has a mark after its first character, or SARA AM, where that is decomposed and no mark begins the text:
+/// its own mark might be moved before that.
+fn is_marked(splits: bool, text: &str) -> bool
+    ensures { result ≡ is_marked splits (chars text.now) }
+{
+    has_later_mark(text) || (splits && (begins_unmarked(text) && has_sara_am_past(text, 1)))
+}
+
+/// Whether a text has a mark after its first character, but for tone marks of Hangul: they may be moved before a syllable.
+fn has_later_mark(text: &str) -> bool
+    ensures { result ≡ has_later_mark (chars text.now) }
+{
+    text.chars().skip(1).any(|c| is_staying_mark(c))
+}
+
+fn is_staying_mark(c: char) -> bool
+    ensures { result ≡ is_staying_mark c }
+{
+    c.general_category().is_mark() && !is_tone(c)
+}
+
+/// Whether a text has SARA AM after its first `count` characters.
+fn has_sara_am_past(text: &str, count: usize) -> bool
+    ensures { result ≡ has_sara_am_past count (chars text.now) }
+{
+    text.chars().skip(count).any(|c| is_sara_am(c))
+}
+
+fn is_unmarked(splits: bool, text: &str) -> bool
+    ensures { result ≡ is_unmarked splits (chars text.now) }
+{
+    !has_mark(text) && !(splits && has_sara_am_past(text, 0))
+}
+
+fn has_mark(text: &str) -> bool
+    ensures { result ≡ has_mark (chars text.now) }
+{
+    text.chars().any(|c| c.general_category().is_mark())
+}
+
+fn is_sara_am(c: char) -> bool
+    ensures { result ≡ is_sara_am c }
+{
+    matches!(c, '\u{E33}' | '\u{EB3}')
+}
+
+/// Whether what begins a text stays there: it is neither of the two numbers before which SARA AM may be moved, nor a
+/// syllable before which a tone mark of Hangul may be moved.
+fn keeps_beginning(text: &str) -> bool
+    ensures { result ≡ keeps_beginning (chars text.now) }
+{
+    begins_plainly(text) && !is_tone_mark(after_syllable(text))
+}
+
+/// The character after the syllable of Hangul that begins a text.
+fn after_syllable(text: &str) -> Option<char>
+    ensures { result ≡ after_syllable (chars text.now) }
+{
+    text.chars()
+        .skip(1)
+        .find(|c| !(is_vowel(*c) || is_trailing(*c)))
+}
+
+fn is_tone_mark(c: Option<char>) -> bool
+    ensures { result ≡ is_tone_mark c }
+{
+    match c {
+        Some(c) => is_tone(c),
+        None => false,
+    }
 }
 
 /// Whether a text begins with none of the two numbers that are no characters and that the Thai shaper takes for marks
@@ -64,33 +152,20 @@ fn begins_plainly(text: &str) -> bool
     }
 }
 
+/// Whether a text begins neither with a mark nor with what the Thai shaper takes for one.
+fn begins_unmarked(text: &str) -> bool
+    ensures { result ≡ begins_unmarked (chars text.now) }
+{
+    match text.chars().next() {
+        Some(c) => !(c.general_category().is_mark() || is_taken_for_mark(c)),
+        None => true,
+    }
+}
+
 fn is_taken_for_mark(c: char) -> bool
     ensures { result ≡ is_taken_for_mark c }
 {
     matches!(c, '\u{E3B}' | '\u{EC7}')
-}
-
-fn have_like_marks(early: &str, late: &str) -> bool
-    ensures { result ≡ have_like_marks (chars early.now) (chars late.now) }
-{
-    if has_mark_past(early, 1) {
-        return has_mark_past(late, 1);
-    }
-    !has_mark_past(early, 0) && !has_mark_past(late, 0)
-}
-
-/// Whether a text has a mark after its first `count` characters.
-fn has_mark_past(text: &str, count: usize) -> bool
-    ensures { result ≡ has_mark_past count (chars text.now) }
-{
-    text.chars().skip(count).any(|c| has_mark(c))
-}
-
-/// Whether a character is a mark, or decomposes into a mark and a letter, as SARA AM of Thai and AM of Lao do.
-fn has_mark(c: char) -> bool
-    ensures { result ≡ has_mark c }
-{
-    c.general_category().is_mark() || matches!(c, '\u{E33}' | '\u{EB3}')
 }
 
 fn ends_with_joiner(text: &str) -> bool
