@@ -16,9 +16,9 @@ use std::alloc::{AllocError, Global};
 ///
 /// A request has a tag, flags and a value. The ways to match are whether ZWNJ and ZWJ are skipped, random, and per
 /// syllable. Masks are hexadecimal. The first font has a required feature without a request, which is in the first
-/// stage. For the second one requests of one tag are merged, and two features have one lookup; in the third one a feature
-/// is found in the whole list, and a pause precedes features; in the fourth one a required feature has no request, since
-/// the bits don't suffice.
+/// stage alone. For the second one requests of one tag are merged, and two features have one lookup; in the third one a
+/// feature is found in the whole list, and a pause precedes features; in the fourth one a required feature has no
+/// request, since the bits don't suffice.
 pub(crate) static TABLES: &str =
     r#"{"gsub":{"lookups":[{"type":"single"}],"features":[["bbbb",[0]]],
 "scripts":[["DFLT",{"required":0,"features":[0]},[]],["grek",{"features":[0]},[]]]},
@@ -26,9 +26,9 @@ pub(crate) static TABLES: &str =
 "scripts":[["DFLT",{"features":[0,0,0]},[["DEU ",{"required":0,"features":[0]}]]],
 ["latn",{},[["dflt",{"features":[0,0,0]}]]]]}}
 answers:
-map DEU; bbbb 33 5: 80000050;
+map DEU; bbbb 33 5, gpos-pause 3: 80000050;
   bbbb [Some(0), None] [0, 0] 4 70 10 1110;
-  gsub grek true 0 70 1110; gpos DFLT false 1 80000000 1100, 2 80000000 1100
+  gsub grek true 0 70 1110; gpos DFLT false 1 80000000 1100, 2 80000000 1100 /3
 
 {"gsub":{"lookups":[{"type":"single"},{"type":"single"}],
 "features":[["aaaa",[0,1]],["ccmp",[0,1]],["ccmp",[0]],["ccmp",[]],["aaaa",[1]]],
