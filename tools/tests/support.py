@@ -1,6 +1,7 @@
 """Where the tools and the fonts are, and running a tool."""
 
 import contextlib
+import importlib.util
 import io
 import json
 import os
@@ -9,6 +10,8 @@ import signal
 import subprocess
 import sys
 import tempfile
+import unittest
+from importlib.abc import MetaPathFinder
 from pathlib import Path
 from typing import Any, Callable
 
@@ -21,6 +24,23 @@ NASKH = "/usr/share/fonts/truetype/noto/NotoNaskhArabic-Regular.ttf"
 DEVANAGARI = "/usr/share/fonts/truetype/noto/NotoSansDevanagari-Regular.ttf"
 FONTS = (DEJAVU, NASKH, DEVANAGARI)
 NOTO = "/usr/share/fonts/truetype/noto/"
+UNICODE = "/usr/share/unicode/UnicodeData.txt"
+HAS_FONTS = importlib.util.find_spec("fontTools") is not None and all(Path(font).is_file() for font in FONTS)
+FONTS_NEED = "needs python3-fonttools, fonts-dejavu-core and fonts-noto-core"
+needs_fonts = unittest.skipUnless(HAS_FONTS, FONTS_NEED)
+needs_unicode = unittest.skipUnless(Path(UNICODE).is_file(), "needs unicode-data")
+
+
+class WithoutFonts(MetaPathFinder):
+    """Skips each module of tests that imports fontTools."""
+
+    def find_spec(self, fullname: str, *_: object) -> None:
+        if fullname == "fontTools":
+            raise unittest.SkipTest(FONTS_NEED)
+
+
+if not HAS_FONTS:
+    sys.meta_path.insert(0, WithoutFonts())
 
 
 def run(tool: str, *words: str | bytes) -> subprocess.CompletedProcess[bytes]:

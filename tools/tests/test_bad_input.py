@@ -5,11 +5,12 @@ import tempfile
 import unittest
 from pathlib import Path
 
-from support import DEVANAGARI, NASKH, run
+from support import DEVANAGARI, NASKH, needs_fonts, needs_unicode, run
 
 WORDS, DATA, TEXT, FILES = 2, 3, 4, 6
 
 
+@needs_fonts
 class BadInput(unittest.TestCase):
     def setUp(self) -> None:
         folder = tempfile.TemporaryDirectory()
@@ -73,6 +74,7 @@ class BadInput(unittest.TestCase):
     def test_text(self) -> None:
         self.assert_refused(TEXT, "no UTF-8 at byte 1", "shape", NASKH, b"a\xc3(")
 
+    @needs_unicode
     def test_unicode_files(self) -> None:
         """Files of the UCD that are cut, not UTF-8, or of several versions."""
         known = Path("/usr/share/unicode")

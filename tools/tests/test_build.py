@@ -83,6 +83,7 @@ class Built(unittest.TestCase):
         ):
             patch.start()
             self.addCleanup(patch.stop)
+        os.environ.pop("RT_JOBS", None)  # as the gate sets it; the patch of the environment gives it back
 
     def write(self, crate: str, text: str) -> None:
         write_files(self.root, {f"crates/{crate}/src/lib.rt": text})

@@ -19,6 +19,7 @@ from building.kit import Kit
 from building.linking import link_library
 from building.places import LIBRARY, Place
 from building.tree import tree_of
+from common.faults import ToolFault
 from library_tests import cli, drivers, times
 from library_tests.cases import SETTINGS, WORDS, Words, scripts, turns
 from library_tests.drivers import Beside, Tested
@@ -61,6 +62,16 @@ void inner (void) {}
 HEAP = "#include <stdlib.h>\nvoid *rattle_alloc (size_t n) { return malloc (n); }\n"
 
 
+def has_fonts() -> bool:
+    with contextlib.suppress(ToolFault):
+        return bool(scripts() and turns())
+    return False
+
+
+needs_their_fonts = unittest.skipUnless(has_fonts(), "needs the fonts of test_library (docs/TOOLS.md)")
+
+
+@needs_their_fonts
 class Cases(unittest.TestCase):
     def test_count(self) -> None:
         """There are texts enough, and each kind of setting occurs in several scripts."""
@@ -81,6 +92,7 @@ class Cases(unittest.TestCase):
         self.assertIn("Devanagari", WORDS.read_text(encoding="utf-8"))
 
 
+@needs_their_fonts
 class Timed(unittest.TestCase):
     def test_judged(self) -> None:
         """Of each word the least of three runs counts, of both sides; each that costs twice as much is a fault."""

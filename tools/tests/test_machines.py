@@ -10,7 +10,7 @@ import unicodedata
 import unittest
 from pathlib import Path
 
-from support import DEJAVU, NOTO, TOOLS, json_of
+from support import DEJAVU, NOTO, TOOLS, json_of, needs_unicode
 
 from fontTools.ttLib import TTFont
 from syllables.grammar import Category, Choice, Expression, GrammarFault, Repeat, read_grammar
@@ -84,6 +84,7 @@ def by_expressions(kinds: list[tuple[str, re.Pattern[str]]], text: str) -> list[
     return found
 
 
+@needs_unicode
 class Words(unittest.TestCase):
     """Words of four scripts, with the ends of their syllables as the script specifications cut them."""
 

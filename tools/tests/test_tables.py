@@ -5,7 +5,7 @@ import unicodedata
 import unittest
 from pathlib import Path
 
-from support import json_of
+from support import json_of, needs_unicode
 
 from formats.rules import tables_faults
 from unicodejson.cli import CRATE_VERSION, DEBIAN
@@ -79,6 +79,7 @@ CIRCLED = {
 }
 
 
+@needs_unicode
 class TheTables(unittest.TestCase):
     @classmethod
     def setUpClass(cls) -> None:
