@@ -16,6 +16,7 @@ from shaping.reasons import reason_of, swapped
 
 NAME = "hb_shape"
 HELP, VERSION = ("--help", "-h"), ("--version", "-V")
+ENDS = (signal.SIGTERM, signal.SIGHUP)
 
 
 def main(words: list[str]) -> int:
@@ -40,15 +41,22 @@ def main(words: list[str]) -> int:
 def run(program: Path, words: list[str]) -> int:
     """Runs the program with the streams of this process."""
     end_by_exit()
-    with subprocess.Popen([program, *map(os.fsencode, words)]) as ran:
+    # While the program begins, a signal waits, so that it ends the program too.
+    signal.pthread_sigmask(signal.SIG_BLOCK, ENDS)
+    with subprocess.Popen([program, *map(os.fsencode, words)], preexec_fn=take_signals) as ran:
         # An interrupt from the terminal is the program's too, and it tells by its status.
         signal.signal(signal.SIGINT, signal.SIG_IGN)
         try:
+            take_signals()
             status = ran.wait()
         except SystemExit:
             ran.terminate()
             raise
     return status if status >= 0 else 128 - status
+
+
+def take_signals() -> None:
+    signal.pthread_sigmask(signal.SIG_UNBLOCK, ENDS)
 
 
 def told_version() -> list[str]:
