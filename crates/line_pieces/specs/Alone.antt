@@ -96,8 +96,7 @@ pub record HasGlyphsOf (whole : Sides) (r : GlyphRange) (line : Sides) : Type 0 
 abbrev pub HasClustersOf : (whole : Sides) (r : GlyphRange) (line : Sides) → Type 0
 HasClustersOf whole r line = slice_range (clusters (all_glyphs whole)) r.start r.end ≡ clusters (all_glyphs line)
 
--- lines have a line with the glyphs of the paragraph in a range: they are the paragraph's along a direction, as
--- `cut_lines` gives them
+-- the lines of a paragraph along a direction, as `cut_lines` gives them, have a line with the paragraph's glyphs in a range
 pub record HasOwnGlyphs (d : Direction) (end : ℕ) (breaks : List ℕ) (width : ℤ) (whole : Sides) (ls : List Line) (l : Line) (r : GlyphRange) : Type 0 where
   pub line : IsInLine d whole
   pub lines : AreLines (paragraph_of d whole end breaks width) ls
@@ -111,8 +110,8 @@ OwnLinesAreShapedAlone = (s : Setup) (d : Direction) (end : ℕ) (breaks : List 
     → AsciiHasNoMarks → HasOwnGlyphs d end breaks width whole.result ls l r → IsTextOf s end l whole line
     → HasGlyphsOf whole.result r line.result × HasClustersOf whole.result r line.result
 
--- law: so are the glyphs of the line's text with other clusters, at another level, or with other requests for glyph
--- flags, where no feature is requested for a range of the text
+-- law: the glyphs that a line has of its paragraph are, at the same positions, those that the line's text has with other
+-- clusters, at another level, or with other requests for glyph flags, where no feature is requested for a range of the text
 abbrev pub OwnLinesLookAlike : Type 0
 OwnLinesLookAlike = (s : Setup) (d : Direction) (end : ℕ) (breaks : List ℕ) (width : ℤ) (whole line other : ShapedText s) (ls : List Line) (l : Line) (r : GlyphRange)
     → AsciiHasNoMarks → HasOwnGlyphs d end breaks width whole.result ls l r → IsTextOf s end l whole line

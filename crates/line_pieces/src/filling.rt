@@ -27,8 +27,9 @@ pub struct Frame {
 }
 
 /// Cuts a paragraph into lines. `glyphs` is what shaping the whole text along the direction gave, where safe breaks
-/// were requested; a line may end at each of `breaks` and at the end of the text. A line takes the pieces between these
-/// as long as they fit the width, in font units, and one at least.
+/// were requested; a line may end at each of `breaks`, which are indices of bytes of the text (those of UAX 14), and at
+/// the end of the text. A line takes the pieces between these as long as they fit the width, in font units, and one at
+/// least. `LineFault` says why none is cut.
 pub fn cut_lines(
     alloc: Global,
     glyphs: &GlyphBuffer,

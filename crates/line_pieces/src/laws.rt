@@ -42,8 +42,8 @@ pub fn law_own_lines_are_shaped_alone()
     law_texts_keep_numbers();
 }
 
-/// So are they, at the same positions, where the line's text has other clusters, another cluster level or other requests
-/// for glyph flags, and no feature is requested for a range of the text.
+/// The glyphs that a line has of its paragraph are, at the same positions, those of the line's text with other clusters,
+/// another cluster level or other requests for glyph flags, where no feature is requested for a range of the text.
 pub fn law_own_lines_look_alike()
     ensures { OwnLinesLookAlike }
 {
