@@ -60,26 +60,26 @@ pub record IsCutAt (s : Setup) (c : ℕ) (whole earlier later : ShapedText s) : 
   pub limits : HaveEnough (shaping_of s whole.text) (shaping_of s earlier.text) (shaping_of s later.text) whole.text earlier.text later.text
 
 -- a text is the later of two that the whole is cut into before byte c
-pub record IsLater (s : Setup) (c : ℕ) (whole later : ShapedText s) : Type 0 where
+pub record IsLaterText (s : Setup) (c : ℕ) (whole later : ShapedText s) : Type 0 where
   pub earlier : ShapedText s
   pub cut : IsCutAt s c whole earlier later
 
 -- a text is the earlier of two that the whole is cut into before byte c
-pub record IsEarlier (s : Setup) (c : ℕ) (whole earlier : ShapedText s) : Type 0 where
+pub record IsEarlierText (s : Setup) (c : ℕ) (whole earlier : ShapedText s) : Type 0 where
   pub later : ShapedText s
   pub cut : IsCutAt s c whole earlier later
 
 -- a text is the whole from byte c on: at the start of the whole nothing is cut off
 abbrev pub IsFrom : (s : Setup) (c : ℕ) (whole rest : ShapedText s) → Type 0
-IsFrom s c whole rest = ((c ≡ 0) × (rest ≡ whole)) ⊎ IsLater s c whole rest
+IsFrom s c whole rest = ((c ≡ 0) × (rest ≡ whole)) ⊎ IsLaterText s c whole rest
 
 -- a text is the whole up to byte c: at the end of the whole nothing is cut off
 abbrev pub IsUpTo : (s : Setup) (c end : ℕ) (whole front : ShapedText s) → Type 0
-IsUpTo s c end whole front = ((c ≡ end) × (front ≡ whole)) ⊎ IsEarlier s c whole front
+IsUpTo s c end whole front = ((c ≡ end) × (front ≡ whole)) ⊎ IsEarlierText s c whole front
 
 -- a text is that of a line: it is cut out of the paragraph's text of `end` bytes, at the line's start and then at its
 -- end
-pub record IsTextOf (s : Setup) (end : ℕ) (l : Line) (whole line : ShapedText s) : Type 0 where
+pub record IsTextOfLine (s : Setup) (end : ℕ) (l : Line) (whole line : ShapedText s) : Type 0 where
   -- each cluster of the paragraph's text is one of its bytes
   pub bytes : (n : ℕ) → IsTrue (has_number (clusters (all_glyphs whole.text)) n) → n < end
   -- the text from the line's start on
@@ -107,12 +107,12 @@ pub record HasOwnGlyphs (d : Direction) (end : ℕ) (breaks : List ℕ) (width :
 -- clusters
 abbrev pub OwnLinesAreShapedAlone : Type 0
 OwnLinesAreShapedAlone = (s : Setup) (d : Direction) (end : ℕ) (breaks : List ℕ) (width : ℤ) (whole line : ShapedText s) (ls : List Line) (l : Line) (r : GlyphRange)
-    → AsciiHasNoMarks → HasOwnGlyphs d end breaks width whole.result ls l r → IsTextOf s end l whole line
+    → AsciiHasNoMarks → HasOwnGlyphs d end breaks width whole.result ls l r → IsTextOfLine s end l whole line
     → HasGlyphsOf whole.result r line.result × HasClustersOf whole.result r line.result
 
 -- law: the glyphs that a line has of its paragraph are, at the same positions, those that the line's text has with other
 -- clusters, at another level, or with other requests for glyph flags, where no feature is requested for a range of the text
 abbrev pub OwnLinesLookAlike : Type 0
 OwnLinesLookAlike = (s : Setup) (d : Direction) (end : ℕ) (breaks : List ℕ) (width : ℤ) (whole line other : ShapedText s) (ls : List Line) (l : Line) (r : GlyphRange)
-    → AsciiHasNoMarks → HasOwnGlyphs d end breaks width whole.result ls l r → IsTextOf s end l whole line
+    → AsciiHasNoMarks → HasOwnGlyphs d end breaks width whole.result ls l r → IsTextOfLine s end l whole line
     → have_no_ranges s.features ≡ true → AreAlike line.text other.text → HasGlyphsOf whole.result r other.result

@@ -2,11 +2,11 @@
 //!
 //! What a caller tests of their premises:
 //! - The lines are what `cut_lines` answers, for a text as long as the paragraph's (`HasOwnGlyphs`).
-//! - The texts (`IsTextOf`): the paragraph's was pushed by `push_str`, and shaped with PRODUCE_SAFE_BREAKS; a line's has
-//!   its characters, pushed by `UnicodeBuffer::add` with the bytes at which they begin in the paragraph, or by `push_str`
-//!   for `law_own_lines_look_alike`. The line's text has the direction, the script, the language and the flags of the
-//!   paragraph's, but BEGINNING_OF_TEXT and END_OF_TEXT at the ends of the paragraph alone; and the text before it and
-//!   after it as its contexts.
+//! - The texts (`IsTextOfLine`): the paragraph's was pushed by `push_str`, and shaped with PRODUCE_SAFE_BREAKS. A line's
+//!   has its characters, pushed by `UnicodeBuffer::add` with the bytes at which they begin in the paragraph, or by
+//!   `push_str` for `law_own_lines_look_alike`. The line's text has the direction, the script, the language and the
+//!   flags of the paragraph's, but BEGINNING_OF_TEXT and END_OF_TEXT at the ends of the paragraph alone; and the text
+//!   before it and after it as its contexts.
 //! - The cuts (`IsCutAt`), as `kuspveli::laws::breaks::break_laws` lists it for each: the paragraph's text is cut at the
 //!   line's start, and what is left at the line's end. At an end of the paragraph there is no cut.
 ghost use Rattle.line_pieces.specs.Alone.{OwnLinesAreShapedAlone, OwnLinesLookAlike};

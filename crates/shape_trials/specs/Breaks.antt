@@ -51,7 +51,7 @@ cuts_after all last (g ∷ gs) = cut_before all last g.cluster ++ cuts_after all
 abbrev pub IsNative : Direction → Option Script → Type 0
 IsNative d s = (d ≡ TopToBottom) ⊎ (d ≡ direction_of s)
 
--- the shaper that decomposes SARA AM of Thai and AM of Lao into a mark and a letter, in a text of any script
+-- whether a shaper decomposes SARA AM of Thai and AM of Lao into a mark and a letter, in a text of any script
 abbrev pub splits_sara_am : hb_ot_any_shaper_t → Bool
 splits_sara_am Default = false
 splits_sara_am Dumber = false
@@ -73,7 +73,7 @@ is_sara_am u = u == 0xE33 || u == 0xEB3
 abbrev pub is_taken_for_mark : ℕ → Bool
 is_taken_for_mark u = u == 0xE3B || u == 0xEC7
 
--- a text begins with neither of these two numbers
+-- a text begins with neither U+0E3B nor U+0EC7
 abbrev pub begins_plainly : List ℕ → Bool
 begins_plainly [] = true
 begins_plainly (u ∷ us) = not (is_taken_for_mark u)
@@ -85,8 +85,8 @@ begins_unmarked (u ∷ us) = not (is_mark_character u || is_taken_for_mark u)
 
 -- what follows the syllable of Hangul that begins a text: the first character after the first one that is neither a vowel nor
 -- a trailing consonant
-abbrev pub after_syllable : List ℕ → Option ℕ
-after_syllable us = find (λ u. not (is_vowel u || is_trailing u)) (drop 1 us)
+abbrev pub character_after_syllable : List ℕ → Option ℕ
+character_after_syllable us = find (λ u. not (is_vowel u || is_trailing u)) (drop 1 us)
 
 -- a character, where there is one, is a tone mark of Hangul
 abbrev pub is_tone_mark : Option ℕ → Bool
@@ -98,8 +98,8 @@ abbrev pub is_staying_mark : ℕ → Bool
 is_staying_mark u = is_mark_character u && not (is_tone u)
 
 -- a text has a mark after its first character that stays after it
-abbrev pub has_later_mark : List ℕ → Bool
-has_later_mark us = list_any is_staying_mark (drop 1 us)
+abbrev pub has_staying_mark : List ℕ → Bool
+has_staying_mark us = list_any is_staying_mark (drop 1 us)
 
 -- a text has SARA AM after a number of characters
 abbrev pub has_sara_am_past : ℕ → List ℕ → Bool
@@ -108,7 +108,7 @@ has_sara_am_past n us = list_any is_sara_am (drop n us)
 -- a text has a mark that stays after its first character; or SARA AM, where that is decomposed and no mark begins the
 -- text, before which its own mark might be moved
 abbrev pub is_marked : Bool → List ℕ → Bool
-is_marked splits us = has_later_mark us || (splits && (begins_unmarked us && has_sara_am_past 1 us))
+is_marked splits us = has_staying_mark us || (splits && (begins_unmarked us && has_sara_am_past 1 us))
 
 -- a text has a mark
 abbrev pub has_mark : List ℕ → Bool
@@ -129,7 +129,7 @@ ends_with_joiner us = fold (λ _ u. u == 0x34F) false us
 -- what begins a text stays there: it is neither of the two numbers before which SARA AM may be moved, nor a syllable before
 -- which a tone mark of Hangul may be moved
 abbrev pub keeps_beginning : List ℕ → Bool
-keeps_beginning us = begins_plainly us && not (is_tone_mark (after_syllable us))
+keeps_beginning us = begins_plainly us && not (is_tone_mark (character_after_syllable us))
 
 -- a text may be cut between two pieces by a shaper
 abbrev pub may_be_cut : hb_ot_any_shaper_t → List ℕ → List ℕ → Bool

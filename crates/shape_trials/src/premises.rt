@@ -6,7 +6,7 @@ ghost use Rattle.buffer_unicode.specs.Category.{category_number};
 ghost use Rattle.buffer_unicode_tables.specs.Tables.{split_of};
 ghost use Rattle.buffer_core.specs.Segment.{direction_of};
 ghost use Rattle.script_joining.specs.Types.{joining_type, type_of_character};
-ghost use Rattle.shape_trials.specs.Breaks.{AreSeenAs, ContinuesAlike, CounterpartKeepsType, HalvesKeepType, IsNative, KeepGraphemes, KeepTypes, KeepsGraphemes, KeepsType, after_syllable, begins_plainly, begins_unmarked, continues, ends_with_joiner, first_half, first_letter, has_later_mark, has_mark, has_sara_am_past, have_like_marks, is_marked, is_passed_over, is_sara_am, is_staying_mark, is_taken_for_mark, is_tone_mark, is_unmarked, joins_nothing, keeps_beginning, may_be_cut, may_join, splits_sara_am, type_of_half};
+ghost use Rattle.shape_trials.specs.Breaks.{AreSeenAs, ContinuesAlike, CounterpartKeepsType, HalvesKeepType, IsNative, KeepGraphemes, KeepTypes, KeepsGraphemes, KeepsType, begins_plainly, begins_unmarked, character_after_syllable, continues, ends_with_joiner, first_half, first_letter, has_mark, has_sara_am_past, has_staying_mark, have_like_marks, is_marked, is_passed_over, is_sara_am, is_staying_mark, is_taken_for_mark, is_tone_mark, is_unmarked, joins_nothing, keeps_beginning, may_be_cut, may_join, splits_sara_am, type_of_half};
 
 use buffer_common::direction::Direction;
 use buffer_common::script::Script;
@@ -70,16 +70,16 @@ fn have_like_marks(splits: bool, early: &str, late: &str) -> bool
 }
 
 /// Whether a text has a mark after its first character, or SARA AM, where that is decomposed and no mark begins the text:
-/// its own mark might be moved before that.
+/// the mark that SARA AM gives might be moved before one that begins it.
 fn is_marked(splits: bool, text: &str) -> bool
     ensures { result ≡ is_marked splits (chars text.now) }
 {
-    has_later_mark(text) || (splits && (begins_unmarked(text) && has_sara_am_past(text, 1)))
+    has_staying_mark(text) || (splits && (begins_unmarked(text) && has_sara_am_past(text, 1)))
 }
 
 /// Whether a text has a mark after its first character, but for tone marks of Hangul: they may be moved before a syllable.
-fn has_later_mark(text: &str) -> bool
-    ensures { result ≡ has_later_mark (chars text.now) }
+fn has_staying_mark(text: &str) -> bool
+    ensures { result ≡ has_staying_mark (chars text.now) }
 {
     text.chars().skip(1).any(|c| is_staying_mark(c))
 }
@@ -120,12 +120,12 @@ fn is_sara_am(c: char) -> bool
 fn keeps_beginning(text: &str) -> bool
     ensures { result ≡ keeps_beginning (chars text.now) }
 {
-    begins_plainly(text) && !is_tone_mark(after_syllable(text))
+    begins_plainly(text) && !is_tone_mark(character_after_syllable(text))
 }
 
 /// The character after the syllable of Hangul that begins a text.
-fn after_syllable(text: &str) -> Option<char>
-    ensures { result ≡ after_syllable (chars text.now) }
+fn character_after_syllable(text: &str) -> Option<char>
+    ensures { result ≡ character_after_syllable (chars text.now) }
 {
     text.chars()
         .skip(1)

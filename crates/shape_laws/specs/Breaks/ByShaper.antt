@@ -22,7 +22,7 @@ use Rattle.shape_laws.specs.Breaks.HangulCharacters.{MayBreakHangul, begins_tone
 use Rattle.shape_laws.specs.Breaks.ThaiCharacters.{KeepsPrivateMarks, MayBreakThai}
 use Rattle.shape_laws.specs.Breaks.Types.{CharactersShow, KeepsTypes}
 
--- both texts have a mark, or neither has one, and U+034F is not directly before the cut
+-- both texts have a mark after their first character, or neither has a mark, and U+034F is not directly before the cut
 abbrev pub MarksMayBeCut : (earlier later : Sides) → Type 0
 MarksMayBeCut earlier later = MayBreak (characters (items_of earlier)) (characters (items_of later))
 

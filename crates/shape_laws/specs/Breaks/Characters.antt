@@ -29,8 +29,8 @@ abbrev pub ends_with_joiner : Bool → List ℕ → Bool
 ends_with_joiner before [] = before
 ends_with_joiner before (u ∷ us) = ends_with_joiner (u == 0x34F) us
 
--- a text may be broken into two texts of some characters as far as normalizing is concerned: both have marks or neither
--- has, and the earlier one doesn't end with U+034F
+-- a text may be broken into two texts of some characters as far as normalizing is concerned: both have a mark after
+-- their first character, or neither has a mark; and the earlier one doesn't end with U+034F
 pub record MayBreak (us vs : List ℕ) : Type 0 where
   pub marks : HaveLikeMarks us vs
   pub ends : ends_with_joiner false us ≡ false

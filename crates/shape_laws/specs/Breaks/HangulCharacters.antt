@@ -42,7 +42,8 @@ has_later_mark_of_hangul font [] = false
 has_later_mark_of_hangul font (u ∷ us) = list_any is_mark_character (if begins_syllable u then after_syllable font us else us)
 
 -- a text of Hangul may be broken into two texts of some characters as far as normalizing is concerned: both have a mark
--- after their first character so, or neither has a mark; and the earlier one doesn't end with U+034F
+-- after their first character (`has_later_mark_of_hangul`), or neither has a mark; and the earlier one doesn't end with
+-- U+034F
 pub record MayBreakHangul (font : FaceParts) (us vs : List ℕ) : Type 0 where
   pub marks : ((has_later_mark_of_hangul font us ≡ true) × (has_later_mark_of_hangul font vs ≡ true)) ⊎ ((list_any is_mark_character us ≡ false) × (list_any is_mark_character vs ≡ false))
   pub ends : ends_with_joiner false us ≡ false

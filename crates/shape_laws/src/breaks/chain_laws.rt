@@ -86,7 +86,7 @@ pub fn law_hangul_texts_divide()
     ensures { HangulTextsDivide }
 {}
 
-/// The tone marks of Hangul.
+/// The tone marks of Hangul (U+302E, U+302F) are marks.
 pub fn law_tones_are_marks()
     ensures { TonesAreMarks }
 {}
