@@ -37,5 +37,5 @@ pub use shape_premises::{are_equivalent, has_full_expansion, has_short_runs, is_
 pub use shell_face_json::read_face_text;
 pub use shell_json::fault::JsonFault;
 pub use shell_readers::fault::RunFault;
-pub use shell_readers::input::{RunInput, read_input};
-pub use shell_readers::tables::TextTables;
+pub use shell_readers::input::{RunInput, read_font, read_input};
+pub use shell_readers::tables::{TextTables, read_lawful_tables};

@@ -1,16 +1,46 @@
 //! paragraph_example TABLES FONT TEXT WIDTH: sets a paragraph in lines of a width in font units, over the crates
 //! `kuspveli` and `line_pieces` alone. The paragraph is shaped once; a line that may not have its glyphs is shaped
-//! again.
+//! again. The lines are printed together, so where something is wrong none is: one line says what, and of which word.
 #![tactic(auto)]
 
-use anyhow::{Context, Result, bail, ensure};
 use kuspveli::{
-    BufferFlags, Direction, Face, GlyphBuffer, GlyphInfo, GlyphPosition, LanguageTable, RunInput,
-    Script, SyllableTable, UnicodeBuffer, hb_shape_data_t, read_input, shape,
+    BufferFlags, Direction, Face, GlyphBuffer, GlyphInfo, GlyphPosition, LanguageTable, RunFault,
+    Script, ShapeCause, SyllableTable, TextTables, UnicodeBuffer, hb_shape_data_t, read_font,
+    read_lawful_tables, shape,
 };
-use line_pieces::{Line, cut_lines};
+use line_pieces::{Line, LineFault, cut_lines};
 use std::alloc::{AllocError, Global};
-use std::{env, fs};
+use std::process::ExitCode;
+use std::{env, fs, io};
+use thiserror::Error;
+
+/// Why no lines are printed, with the word that is wrong or names the file.
+#[derive(Clone, Copy, Debug, Error)]
+enum Fault<'a> {
+    #[error("expected TABLES FONT TEXT WIDTH")]
+    Words,
+    #[error("{0:?}: not a number of font units")]
+    Width(&'a str),
+    #[error("{0:?}: {1}")]
+    Read(&'a str, io::Error),
+    #[error("{0:?}: {1}")]
+    Format(&'a str, RunFault),
+    #[error("{0:?}: {1}")]
+    Text(&'a str, TextFault),
+    #[error("standard output: {0}")]
+    Write(io::Error),
+}
+
+/// Why a text isn't set in lines.
+#[derive(Clone, Copy, Debug, Error)]
+enum TextFault {
+    #[error(transparent)]
+    Shape(#[from] ShapeCause),
+    #[error(transparent)]
+    Cut(#[from] LineFault),
+    #[error(transparent)]
+    Memory(#[from] AllocError),
+}
 
 /// What all texts are shaped with.
 #[derive(Clone, Copy)]
@@ -28,45 +58,74 @@ struct Paragraph<'a> {
     direction: Direction,
 }
 
-fn main(rt: HostRuntime) -> Result<()> {
-    let words = env::args(&rt)?.collect::<Vec<_>>(rt.alloc())?;
-    let [_, tables, font, text, width] = words.as_slice() else {
-        bail!("usage: paragraph_example TABLES FONT TEXT WIDTH");
-    };
-    let width = width
-        .parse::<i64>()
-        .context("WIDTH is no number of font units")?;
-    let input = read_files(&rt, tables, font)?;
-    set_file(&rt, &input, text, width)
+fn main(rt: HostRuntime) -> ExitCode {
+    match words(&rt) {
+        Ok(words) => end(&rt, run(&rt, &words)),
+        Err(_) => end(&rt, Err(Fault::Words)),
+    }
 }
 
-/// Reads tables and a font.
-fn read_files(rt: &HostRuntime, tables: &str, font: &str) -> Result<RunInput> {
-    let tables = fs::read(rt, tables).context("TABLES can't be read")?;
-    let font = fs::read(rt, font).context("FONT can't be read")?;
-    let input = read_input(rt.alloc(), &tables, &font)?;
-    Ok(input)
+/// The command-line words, which have to be UTF-8.
+fn words(rt: &HostRuntime) -> io::Result<Vec<String>> {
+    let words = env::args(rt)?.collect(rt.alloc())?;
+    Ok(words)
+}
+
+/// Writes the line of a fault to standard error; where that fails, the status alone tells.
+fn end(rt: &HostRuntime, done: Result<(), Fault<'_>>) -> ExitCode {
+    let Err(fault) = done else {
+        return ExitCode::SUCCESS;
+    };
+    let _ = eprintln!(rt; "paragraph_example: {fault}");
+    ExitCode::FAILURE
+}
+
+/// Reads the files, and prints the paragraph.
+fn run<'a>(rt: &HostRuntime, words: &'a [String]) -> Result<(), Fault<'a>> {
+    let [_, tables, font, text, width] = words else {
+        return Err(Fault::Words);
+    };
+    let width = width.parse().map_err(|_| Fault::Width(width))?;
+    let tables = read_tables(rt, tables)?;
+    let face = read_face(rt, font)?;
+    let lines = set_file(rt, &tables, &face, text, width)?;
+    print!(rt; "{lines}").map_err(Fault::Write)
+}
+
+fn read_tables<'a>(rt: &HostRuntime, name: &'a str) -> Result<TextTables, Fault<'a>> {
+    let bytes = fs::read(rt, name).map_err(|error| Fault::Read(name, error))?;
+    read_lawful_tables(rt.alloc(), &bytes).map_err(|fault| Fault::Format(name, fault))
+}
+
+fn read_face<'a>(rt: &HostRuntime, name: &'a str) -> Result<Face, Fault<'a>> {
+    let bytes = fs::read(rt, name).map_err(|error| Fault::Read(name, error))?;
+    read_font(rt.alloc(), &bytes).map_err(|fault| Fault::Format(name, fault))
 }
 
 /// Reads the text of a paragraph, and sets it in lines.
-fn set_file(rt: &HostRuntime, input: &RunInput, text: &str, width: i64) -> Result<()> {
-    let text = fs::read_to_string(rt, text).context("TEXT can't be read")?;
+fn set_file<'a>(
+    rt: &HostRuntime,
+    tables: &TextTables,
+    face: &Face,
+    name: &'a str,
+    width: i64,
+) -> Result<String, Fault<'a>> {
+    let text = fs::read_to_string(rt, name).map_err(|error| Fault::Read(name, error))?;
     let setup = Setup {
         alloc: rt.alloc(),
-        face: &input.face,
+        face,
         data: hb_shape_data_t {
-            tables: &input.tables.characters,
-            spans: &input.tables.syllables,
-            languages: &input.tables.languages,
+            tables: &tables.characters,
+            spans: &tables.syllables,
+            languages: &tables.languages,
         },
     };
-    set_paragraph(rt, setup, text.trim_end(), width)
+    set_text(setup, text.trim_end(), width).map_err(|fault| Fault::Text(name, fault))
 }
 
-/// Shapes a paragraph with safe breaks, cuts it into lines, and prints each.
-fn set_paragraph(rt: &HostRuntime, setup: Setup<'_>, text: &str, width: i64) -> Result<()> {
-    let mut buffer = UnicodeBuffer::new(setup.alloc);
-    ensure!(buffer.push_str(text)?, "TEXT is too long");
+/// Shapes a paragraph with safe breaks, and cuts it into lines.
+fn set_text(setup: Setup<'_>, text: &str, width: i64) -> Result<String, TextFault> {
+    let mut buffer = text_buffer(setup.alloc, text)?;
     buffer.set_flags(BufferFlags::PRODUCE_SAFE_BREAKS);
     let paragraph = Paragraph {
         text,
@@ -74,30 +133,28 @@ fn set_paragraph(rt: &HostRuntime, setup: Setup<'_>, text: &str, width: i64) -> 
         direction: buffer.guessed_direction(),
     };
     let glyphs = shape_buffer(setup, buffer)?;
-    print_lines(rt, setup, paragraph, &glyphs, width)
+    set_lines(setup, paragraph, &glyphs, width)
 }
 
-/// Cuts a paragraph into lines, and prints each.
-fn print_lines(
-    rt: &HostRuntime,
+/// Cuts a paragraph into lines.
+fn set_lines(
     setup: Setup<'_>,
     paragraph: Paragraph<'_>,
     glyphs: &GlyphBuffer,
     width: i64,
-) -> Result<()> {
-    let breaks = bytes_after_spaces(setup.alloc, paragraph.text)?;
-    let lines = cut_lines(
-        setup.alloc,
-        glyphs,
-        paragraph.text,
-        paragraph.direction,
-        &breaks,
-        width,
-    )?;
+) -> Result<String, TextFault> {
+    let Paragraph {
+        text,
+        direction,
+        ..
+    } = paragraph;
+    let breaks = bytes_after_spaces(setup.alloc, text)?;
+    let lines = cut_lines(setup.alloc, glyphs, text, direction, &breaks, width)?;
+    let mut shown = String::new(setup.alloc);
     for line in &lines {
-        print_line(rt, setup, paragraph, glyphs, *line)?;
+        push_line(&mut shown, setup, paragraph, glyphs, *line)?;
     }
-    Ok(())
+    Ok(shown)
 }
 
 /// The bytes at which a line may end: those after spaces. UAX 14 has more.
@@ -111,36 +168,25 @@ fn bytes_after_spaces(alloc: Global, text: &str) -> Result<Vec<usize>, AllocErro
     Ok(bytes)
 }
 
-/// Prints the text of a line, and its glyphs: those of the paragraph, or what shaping the text again gives.
-fn print_line(
-    rt: &HostRuntime,
+/// Appends the text of a line, and its glyphs: those of the paragraph, or what shaping the text again gives.
+fn push_line(
+    shown: &mut String,
     setup: Setup<'_>,
     paragraph: Paragraph<'_>,
     glyphs: &GlyphBuffer,
     line: Line,
-) -> Result<()> {
+) -> Result<(), TextFault> {
     let text = paragraph.text.get(line.start..line.end).unwrap_or("");
     let Some(own) = line.glyphs else {
-        return print_again(rt, setup, paragraph, line, text);
+        let glyphs = shape_line(setup, paragraph, line, text)?;
+        write!(shown, "\"{text}\" shaped again")?;
+        push_glyphs(shown, glyphs.glyph_infos(), glyphs.glyph_positions())?;
+        return Ok(());
     };
     let infos = glyphs.glyph_infos().get(own.start..own.end);
     let positions = glyphs.glyph_positions().get(own.start..own.end);
-    let shown = glyph_text(setup.alloc, infos.unwrap_or(&[]), positions.unwrap_or(&[]))?;
-    println!(rt; "\"{text}\" own{shown}")?;
-    Ok(())
-}
-
-/// Shapes a line again, and prints its text and its glyphs.
-fn print_again(
-    rt: &HostRuntime,
-    setup: Setup<'_>,
-    paragraph: Paragraph<'_>,
-    line: Line,
-    text: &str,
-) -> Result<()> {
-    let glyphs = shape_line(setup, paragraph, line, text)?;
-    let shown = glyph_text(setup.alloc, glyphs.glyph_infos(), glyphs.glyph_positions())?;
-    println!(rt; "\"{text}\" shaped again{shown}")?;
+    write!(shown, "\"{text}\" own")?;
+    push_glyphs(shown, infos.unwrap_or(&[]), positions.unwrap_or(&[]))?;
     Ok(())
 }
 
@@ -150,9 +196,8 @@ fn shape_line(
     paragraph: Paragraph<'_>,
     line: Line,
     text: &str,
-) -> Result<GlyphBuffer> {
-    let mut buffer = UnicodeBuffer::new(setup.alloc);
-    ensure!(buffer.push_str(text)?, "TEXT is too long");
+) -> Result<GlyphBuffer, TextFault> {
+    let mut buffer = text_buffer(setup.alloc, text)?;
     if let Some(script) = paragraph.script {
         buffer.set_script(script);
     }
@@ -162,23 +207,31 @@ fn shape_line(
     shape_buffer(setup, buffer)
 }
 
+/// A buffer with the characters of a text.
+fn text_buffer(alloc: Global, text: &str) -> Result<UnicodeBuffer, TextFault> {
+    let mut buffer = UnicodeBuffer::new(alloc);
+    if !buffer.push_str(text)? {
+        return Err(TextFault::Shape(ShapeCause::TooLong));
+    }
+    Ok(buffer)
+}
+
 /// Shapes a text with the features that are on by default.
-fn shape_buffer(setup: Setup<'_>, buffer: UnicodeBuffer) -> Result<GlyphBuffer> {
+fn shape_buffer(setup: Setup<'_>, buffer: UnicodeBuffer) -> Result<GlyphBuffer, TextFault> {
     let glyphs = shape(setup.alloc, setup.face, setup.data, &[], buffer);
     let glyphs = glyphs.map_err(|fault| fault.cause)?;
     Ok(glyphs)
 }
 
-/// The number of each glyph and its advance.
-fn glyph_text(
-    alloc: Global,
+/// Appends the number of each glyph and its advance, and ends the line.
+fn push_glyphs(
+    shown: &mut String,
     infos: &[GlyphInfo],
     positions: &[GlyphPosition],
-) -> Result<String, AllocError> {
-    let mut text = String::new(alloc);
+) -> Result<(), AllocError> {
     for (info, position) in infos.iter().zip(positions) {
         let (glyph, advance) = (info.glyph_id, position.x_advance);
-        write!(text, " {glyph}+{advance}")?;
+        write!(shown, " {glyph}+{advance}")?;
     }
-    Ok(text)
+    shown.push_str("\n")
 }
