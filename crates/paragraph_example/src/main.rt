@@ -60,7 +60,7 @@ struct Paragraph<'a> {
 
 fn main(rt: HostRuntime) -> ExitCode {
     match words(&rt) {
-        Ok(words) => end(&rt, run(&rt, &words)),
+        Ok(words) => end(&rt, print_lines(&rt, &words)),
         Err(_) => end(&rt, Err(Fault::Words)),
     }
 }
@@ -71,7 +71,7 @@ fn words(rt: &HostRuntime) -> io::Result<Vec<String>> {
     Ok(words)
 }
 
-/// Writes the line of a fault to standard error; where that fails, the status alone tells.
+/// The status, once the line of a fault is written to standard error; where that fails, the status alone shows it.
 fn end(rt: &HostRuntime, done: Result<(), Fault<'_>>) -> ExitCode {
     let Err(fault) = done else {
         return ExitCode::SUCCESS;
@@ -80,16 +80,24 @@ fn end(rt: &HostRuntime, done: Result<(), Fault<'_>>) -> ExitCode {
     ExitCode::FAILURE
 }
 
-/// Reads the files, and prints the paragraph.
-fn run<'a>(rt: &HostRuntime, words: &'a [String]) -> Result<(), Fault<'a>> {
+/// Sets the paragraph in lines, and prints them.
+fn print_lines<'a>(rt: &HostRuntime, words: &'a [String]) -> Result<(), Fault<'a>> {
+    let lines = set_files(rt, words)?;
+    match print!(rt; "{lines}") {
+        Ok(()) => Ok(()),
+        Err(error) => Err(Fault::Write(error)),
+    }
+}
+
+/// Reads the files, and sets the paragraph in lines.
+fn set_files<'a>(rt: &HostRuntime, words: &'a [String]) -> Result<String, Fault<'a>> {
     let [_, tables, font, text, width] = words else {
         return Err(Fault::Words);
     };
     let width = width.parse().map_err(|_| Fault::Width(width))?;
     let tables = read_tables(rt, tables)?;
     let face = read_face(rt, font)?;
-    let lines = set_file(rt, &tables, &face, text, width)?;
-    print!(rt; "{lines}").map_err(Fault::Write)
+    set_file(rt, &tables, &face, text, width)
 }
 
 fn read_tables<'a>(rt: &HostRuntime, name: &'a str) -> Result<TextTables, Fault<'a>> {
