@@ -96,8 +96,19 @@ fn set_files<'a>(rt: &HostRuntime, words: &'a [String]) -> Result<String, Fault<
     };
     let width = width.parse().map_err(|_| Fault::Width(width))?;
     let tables = read_tables(rt, tables)?;
+    set_by_tables(rt, &tables, font, text, width)
+}
+
+/// Reads a font and a text, and sets the text in lines.
+fn set_by_tables<'a>(
+    rt: &HostRuntime,
+    tables: &TextTables,
+    font: &'a str,
+    text: &'a str,
+    width: i64,
+) -> Result<String, Fault<'a>> {
     let face = read_face(rt, font)?;
-    set_file(rt, &tables, &face, text, width)
+    set_file(rt, tables, &face, text, width)
 }
 
 fn read_tables<'a>(rt: &HostRuntime, name: &'a str) -> Result<TextTables, Fault<'a>> {
