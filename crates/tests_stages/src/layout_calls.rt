@@ -21,6 +21,7 @@ use layout_map_features::per_table::TableIndex;
 use layout_match::hb_ot_apply_context_t;
 use script_categories::hb_ot_script_shaper_t::ARABIC_SHAPER;
 use std::alloc::{AllocError, Global};
+use std::process::Abort;
 use std::test::Fail;
 
 /// A font with two lookups in each table. In GSUB the first one gives glyph 4 for 3, and the second one the ligature 3
@@ -47,15 +48,19 @@ impl Pause for NoChange {
     }
 }
 
-/// A map in which the second lookup of each table is in a stage before that of the first one.
-fn map_of(alloc: Global, face: &Face) -> Result<hb_ot_map_t, AllocError> {
-    let mut builder = hb_ot_map_builder_t::new(alloc, face, &[], &[]);
+/// Requests the second lookup of each table in a stage before that of the first one.
+fn request_features(builder: &mut hb_ot_map_builder_t<'_>) -> Result<(), AllocError> {
     builder.enable_feature(Tag::from_bytes(b"ccmp"), F_NONE, 1)?;
     builder.enable_feature(Tag::from_bytes(b"dist"), F_NONE, 1)?;
     builder.add_gsub_pause(1)?;
     builder.add_gpos_pause(1)?;
     builder.enable_feature(Tag::from_bytes(b"liga"), F_NONE, 1)?;
-    builder.enable_feature(Tag::from_bytes(b"kern"), F_NONE, 1)?;
+    builder.enable_feature(Tag::from_bytes(b"kern"), F_NONE, 1)
+}
+
+fn map_of(alloc: Global, face: &Face) -> Result<hb_ot_map_t, AllocError> {
+    let mut builder = hb_ot_map_builder_t::new(alloc, face, &[], &[]);
+    request_features(&mut builder)?;
     builder.compile(alloc)
 }
 
@@ -85,27 +90,36 @@ fn is_as_said(wanted: &str, buffer: &hb_buffer_t) -> bool {
     has_glyphs(ARABIC_SHAPER, "n@aboq", wanted, buffer)
 }
 
-fn stages_agree_in_font(alloc: Global, face: &Face, row: &str) -> Result<bool, Fail> {
-    let map = map_of(alloc, face)?;
+fn stages_agree(alloc: Global, map: &hb_ot_map_t, face: &Face, row: &str) -> Result<bool, Fail> {
     let words = part(row, 1);
     let mut buffer = buffer_of(alloc, ARABIC_SHAPER, words, part(row, 2))?;
-    apply_stages(words, &map, face, &mut buffer)?;
+    apply_stages(words, map, face, &mut buffer)?;
     Ok(is_as_said(part(row, 3), &buffer))
 }
 
-fn stages_agree(alloc: Global, row: &str) -> Result<bool, Fail> {
-    let face = face_of(alloc, FONT)?;
-    stages_agree_in_font(alloc, &face, row)
+fn tables_are_applied_by_map(
+    rt: &impl Abort,
+    alloc: Global,
+    map: &hb_ot_map_t,
+    face: &Face,
+) -> Result<(), Fail> {
+    let rows = rows_of(alloc, STAGES)?;
+    for row in rows.lines() {
+        let agrees = !is_row(row) || stages_agree(alloc, map, face, row)?;
+        assert!(rt; agrees, "{row}");
+    }
+    Ok(())
+}
+
+fn tables_are_applied_in_font(rt: &impl Abort, alloc: Global, face: &Face) -> Result<(), Fail> {
+    let map = map_of(alloc, face)?;
+    tables_are_applied_by_map(rt, alloc, &map, face)
 }
 
 #[test]
 fn tables_are_applied(rt: HostRuntime) -> Result<(), Fail> {
-    let rows = rows_of(rt.alloc(), STAGES)?;
-    for row in rows.lines() {
-        let agrees = !is_row(row) || stages_agree(rt.alloc(), row)?;
-        assert!(rt; agrees, "{row}");
-    }
-    Ok(())
+    let face = face_of(rt.alloc(), FONT)?;
+    tables_are_applied_in_font(&rt, rt.alloc(), &face)
 }
 
 // Features that are on for every glyph share the highest bit of masks. An advance along x is of horizontal text alone.
@@ -181,11 +195,10 @@ fn close_output(buffer: &mut hb_buffer_t) -> Result<(), AllocError> {
     Ok(())
 }
 
-fn lookup_agrees(alloc: Global, row: &str) -> Result<bool, Fail> {
+fn lookup_agrees(alloc: Global, face: &Face, row: &str) -> Result<bool, Fail> {
     let words = part(row, 1);
-    let face = face_of(alloc, FONT)?;
     let mut buffer = buffer_of(alloc, ARABIC_SHAPER, words, part(row, 2))?;
-    let acted = apply(words, &face, &mut buffer)?;
+    let acted = apply(words, face, &mut buffer)?;
     let passed = buffer.out_len();
     close_output(&mut buffer)?;
     Ok(
@@ -195,14 +208,19 @@ fn lookup_agrees(alloc: Global, row: &str) -> Result<bool, Fail> {
     )
 }
 
-#[test]
-fn lookups_are_applied(rt: HostRuntime) -> Result<(), Fail> {
-    let rows = rows_of(rt.alloc(), LOOKUPS)?;
+fn lookups_are_applied_in_font(rt: &impl Abort, alloc: Global, face: &Face) -> Result<(), Fail> {
+    let rows = rows_of(alloc, LOOKUPS)?;
     for row in rows.lines() {
-        let agrees = !is_row(row) || lookup_agrees(rt.alloc(), row)?;
+        let agrees = !is_row(row) || lookup_agrees(alloc, face, row)?;
         assert!(rt; agrees, "{row}");
     }
     Ok(())
+}
+
+#[test]
+fn lookups_are_applied(rt: HostRuntime) -> Result<(), Fail> {
+    let face = face_of(rt.alloc(), FONT)?;
+    lookups_are_applied_in_font(&rt, rt.alloc(), &face)
 }
 
 // `passed` is how many glyphs are then before the cursor: the second glyph of a pair without a value of its own can be

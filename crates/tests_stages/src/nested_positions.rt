@@ -15,6 +15,7 @@ use layout_match::hb_ot_apply_context_t;
 use layout_positioning::nesting::Nesting;
 use script_categories::hb_ot_script_shaper_t::ARABIC_SHAPER;
 use std::alloc::Global;
+use std::process::Abort;
 use std::test::Fail;
 
 fn nest(face: &Face, index: u16, buffer: &mut hb_buffer_t) -> Result<bool, ShapeCause>
@@ -32,20 +33,24 @@ fn nest(face: &Face, index: u16, buffer: &mut hb_buffer_t) -> Result<bool, Shape
 
 /// Whether the lookup at an index acts at the first glyph with `steps` steps of the budget, and how many are then
 /// left.
-fn acts(alloc: Global, index: u16, steps: i32) -> Result<(bool, i32), Fail> {
-    let face = face_of(alloc, FONT)?;
+fn acts(alloc: Global, face: &Face, index: u16, steps: i32) -> Result<(bool, i32), Fail> {
     let mut buffer = buffer_of(alloc, ARABIC_SHAPER, "", TEXT)?;
     set_budget(steps, &mut buffer);
-    let acted = nest(&face, index, &mut buffer)?;
+    let acted = nest(face, index, &mut buffer)?;
     Ok((acted, buffer.max_ops()))
 }
 
 // A nested lookup takes one step, also where there is no lookup at the index; without a step it does nothing.
-#[test]
-fn positionings_nest(rt: HostRuntime) -> Result<(), Fail> {
-    let first = acts(rt.alloc(), 0, 1)?;
-    let missing = acts(rt.alloc(), 1, 2)?;
-    let spent = acts(rt.alloc(), 0, 0)?;
+fn positionings_nest_in_font(rt: &impl Abort, alloc: Global, face: &Face) -> Result<(), Fail> {
+    let first = acts(alloc, face, 0, 1)?;
+    let missing = acts(alloc, face, 1, 2)?;
+    let spent = acts(alloc, face, 0, 0)?;
     assert!(rt; first == (true, 0) && missing == (false, 1) && spent == (false, 0));
     Ok(())
+}
+
+#[test]
+fn positionings_nest(rt: HostRuntime) -> Result<(), Fail> {
+    let face = face_of(rt.alloc(), FONT)?;
+    positionings_nest_in_font(&rt, rt.alloc(), &face)
 }

@@ -16,6 +16,7 @@ use layout_match::hb_ot_apply_context_t;
 use layout_substitution::nesting::Nesting;
 use script_categories::hb_ot_script_shaper_t::ARABIC_SHAPER;
 use std::alloc::Global;
+use std::process::Abort;
 use std::test::Fail;
 
 /// A font whose one lookup of substitution gives glyph 8 for glyph 7.
@@ -44,19 +45,23 @@ fn replace(face: &Face, kind: &str, buffer: &mut hb_buffer_t) -> Result<bool, Sh
     }
 }
 
-fn is_replaced(alloc: Global, kind: &str) -> Result<bool, Fail> {
-    let face = face_of(alloc, FONT)?;
+fn is_replaced(alloc: Global, face: &Face, kind: &str) -> Result<bool, Fail> {
     let mut buffer = buffer_of(alloc, ARABIC_SHAPER, "", TEXT)?;
-    Ok(replace(&face, kind, &mut buffer)?)
+    Ok(replace(face, kind, &mut buffer)?)
+}
+
+fn glyphs_are_replaced_in_font(rt: &impl Abort, alloc: Global, face: &Face) -> Result<(), Fail> {
+    for kind in ["ligature", "component", "glyph"] {
+        let replaced = is_replaced(alloc, face, kind)?;
+        assert!(rt; replaced, "{kind}");
+    }
+    Ok(())
 }
 
 #[test]
 fn glyphs_are_replaced(rt: HostRuntime) -> Result<(), Fail> {
-    for kind in ["ligature", "component", "glyph"] {
-        let replaced = is_replaced(rt.alloc(), kind)?;
-        assert!(rt; replaced, "{kind}");
-    }
-    Ok(())
+    let face = face_of(rt.alloc(), FONT)?;
+    glyphs_are_replaced_in_font(&rt, rt.alloc(), &face)
 }
 
 fn nest(face: &Face, index: u16, buffer: &mut hb_buffer_t) -> Result<bool, ShapeCause>
@@ -75,20 +80,24 @@ fn nest(face: &Face, index: u16, buffer: &mut hb_buffer_t) -> Result<bool, Shape
 
 /// Whether the lookup at an index acts at the first glyph with `steps` steps of the budget, and how many are then
 /// left.
-fn acts(alloc: Global, index: u16, steps: i32) -> Result<(bool, i32), Fail> {
-    let face = face_of(alloc, FONT)?;
+fn acts(alloc: Global, face: &Face, index: u16, steps: i32) -> Result<(bool, i32), Fail> {
     let mut buffer = buffer_of(alloc, ARABIC_SHAPER, "", TEXT)?;
     set_budget(steps, &mut buffer);
-    let acted = nest(&face, index, &mut buffer)?;
+    let acted = nest(face, index, &mut buffer)?;
     Ok((acted, buffer.max_ops()))
 }
 
 // A nested lookup takes one step, also where there is no lookup at the index; without a step it does nothing.
-#[test]
-fn substitutions_nest(rt: HostRuntime) -> Result<(), Fail> {
-    let first = acts(rt.alloc(), 0, 1)?;
-    let missing = acts(rt.alloc(), 1, 2)?;
-    let spent = acts(rt.alloc(), 0, 0)?;
+fn substitutions_nest_in_font(rt: &impl Abort, alloc: Global, face: &Face) -> Result<(), Fail> {
+    let first = acts(alloc, face, 0, 1)?;
+    let missing = acts(alloc, face, 1, 2)?;
+    let spent = acts(alloc, face, 0, 0)?;
     assert!(rt; first == (true, 0) && missing == (false, 1) && spent == (false, 0));
     Ok(())
+}
+
+#[test]
+fn substitutions_nest(rt: HostRuntime) -> Result<(), Fail> {
+    let face = face_of(rt.alloc(), FONT)?;
+    substitutions_nest_in_font(&rt, rt.alloc(), &face)
 }

@@ -20,7 +20,7 @@ use shape_text::direction::ensure_native_direction;
 use shape_text::fractions::{FractionMasks, setup_masks_fraction};
 use shape_text::properties::set_unicode_props;
 use shell_face_json::read_face_text;
-use shell_readers::tables::tables_in;
+use shell_readers::tables::{TextTables, tables_in};
 use std::alloc::Global;
 use std::test::Fail;
 
@@ -332,19 +332,30 @@ pub(crate) fn face_of(alloc: Global, text: &str) -> Result<Face, Fail> {
     Ok(read_face_text(alloc, text)?)
 }
 
+/// The font of a name, from fonts that have a line each.
+pub(crate) fn named_face(alloc: Global, fonts: &str, name: &str) -> Result<Face, Fail> {
+    face_of(alloc, named(fonts, name)?)
+}
+
+/// The tables of characters of a text.
+pub(crate) fn tables_of(alloc: Global, text: &str) -> Result<UnicodeTables, Fail> {
+    let TextTables { characters, .. } = tables_in(alloc, text.as_bytes())?;
+    Ok(characters)
+}
+
 fn agrees_with_tables(
     alloc: Global,
     fonts: &str,
     row: &str,
     tables: &UnicodeTables,
 ) -> Result<bool, Fail> {
-    let face = face_of(alloc, named(fonts, part(row, 4))?)?;
+    let face = named_face(alloc, fonts, part(row, 4))?;
     stage_agrees(alloc, row, &face, tables)
 }
 
 fn agrees(alloc: Global, fonts: &str, row: &str) -> Result<bool, Fail> {
-    let tables = tables_in(alloc, part(row, 5).as_bytes())?;
-    agrees_with_tables(alloc, fonts, row, &tables.characters)
+    let tables = tables_of(alloc, part(row, 5))?;
+    agrees_with_tables(alloc, fonts, row, &tables)
 }
 
 #[test]

@@ -21,7 +21,7 @@ use std::alloc::Global;
 use std::test::Fail;
 
 /// How many glyphs a syllable has beside the few others.
-const COUNT: usize = 200;
+const COUNT: u32 = 200;
 
 const MASKS: IndicMasks = IndicMasks {
     rphf: 16,
@@ -39,7 +39,7 @@ const LEVELS: [BufferClusterLevel; 3] = [
 ];
 
 /// Glyphs of a category and a position, a number of times in turn.
-type Part<'a> = (&'a [(u8, Position)], usize);
+type Part<'a> = (&'a [(u8, Position)], u32);
 
 fn glyphs_of(alloc: Global, parts: &[Part<'_>]) -> Result<Vec<(u8, Position)>, Fail> {
     let mut glyphs = Vec::new(alloc);
@@ -144,11 +144,6 @@ fn final_ends(
     Ok(true)
 }
 
-/// The number of a glyph by its index.
-fn number(index: usize) -> Result<u32, Fail> {
-    Ok(u32::try_from(index)?)
-}
-
 const C: (u8, Position) = (OT_C, POS_END);
 
 const H: (u8, Position) = (OT_H, POS_END);
@@ -178,25 +173,20 @@ const WHOLE: usize = usize::MAX;
 fn orders_long_syllables_before_their_forms(rt: HostRuntime) -> Result<(), Fail> {
     let alloc = rt.alloc();
     let n = COUNT;
-    let zwnjs = initial_ends(alloc, &[(&[C], 1), (&[ZWNJ], n)], WHOLE, (0, number(n)?))?;
-    let matras = initial_ends(alloc, &[(&[C], 1), (&[LEFT], n)], WHOLE, (number(n)?, 0))?;
-    let pairs = initial_ends(
-        alloc,
-        &[(&[C], 1), (&[H, BELOW], n)],
-        WHOLE,
-        (0, number(2 * n)?),
-    )?;
+    let zwnjs = initial_ends(alloc, &[(&[C], 1), (&[ZWNJ], n)], WHOLE, (0, n))?;
+    let matras = initial_ends(alloc, &[(&[C], 1), (&[LEFT], n)], WHOLE, (n, 0))?;
+    let pairs = initial_ends(alloc, &[(&[C], 1), (&[H, BELOW], n)], WHOLE, (0, 2 * n))?;
     let signs = initial_ends(
         alloc,
         &[(&[C], 1), (&[SIGN, ABOVE], n)],
         WHOLE,
-        (0, number(2 * n - 1)?),
+        (0, 2 * n - 1),
     )?;
     let led = initial_ends(
         alloc,
         &[(&[C], 1), (&[ABOVE], n), (&[BELOW], 1)],
         WHOLE,
-        (0, number(n + 1)?),
+        (0, n + 1),
     )?;
     assert!(rt; zwnjs);
     assert!(rt; matras);
@@ -214,19 +204,19 @@ fn orders_long_syllables_after_their_forms(rt: HostRuntime) -> Result<(), Fail> 
         alloc,
         &[(&[LEFT], n), (&[PRE, PRE_H, BASE], 1)],
         WHOLE,
-        (number(n)?, number(n + 2)?),
+        (n, n + 2),
     )?;
     let mixed = final_ends(
         alloc,
         &[(&[LEFT, PRE], n), (&[PRE_H, BASE], 1)],
         WHOLE,
-        (1, number(2 * n + 1)?),
+        (1, 2 * n + 1),
     )?;
     let nuktas = final_ends(
         alloc,
         &[(&[PRE], 1), (&[PRE_N, PRE_H], n), (&[ABOVE], 1)],
         WHOLE,
-        (0, number(2 * n + 1)?),
+        (0, 2 * n + 1),
     )?;
     assert!(rt; lefts);
     assert!(rt; mixed);
@@ -238,13 +228,8 @@ fn orders_long_syllables_after_their_forms(rt: HostRuntime) -> Result<(), Fail> 
 fn orders_many_syllables(rt: HostRuntime) -> Result<(), Fail> {
     let alloc = rt.alloc();
     let n = COUNT;
-    let before = initial_ends(alloc, &[(&[C, LEFT], n)], 2, (1, number(2 * n - 2)?))?;
-    let after = final_ends(
-        alloc,
-        &[(&[LEFT, PRE, PRE_H, BASE], n)],
-        4,
-        (1, number(4 * n - 1)?),
-    )?;
+    let before = initial_ends(alloc, &[(&[C, LEFT], n)], 2, (1, 2 * n - 2))?;
+    let after = final_ends(alloc, &[(&[LEFT, PRE, PRE_H, BASE], n)], 4, (1, 4 * n - 1))?;
     assert!(rt; before);
     assert!(rt; after);
     Ok(())

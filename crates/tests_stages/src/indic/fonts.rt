@@ -4,7 +4,8 @@ ghost use Rattle.buffer_stages.specs.Ready.{IsReady};
 
 use crate::buffers::{buffer_of, has_glyphs};
 use crate::indic::font_rows::{FONTS, ROWS};
-use crate::rows::{hexadecimal, is_row, named, part, rows_of, value};
+use crate::rows::{hexadecimal, is_row, part, rows_of, value};
+use crate::stages::named_face;
 use buffer_common::script::{KANNADA, Script, TELUGU};
 use buffer_common::script_tags::script_tags;
 use buffer_core::buffer::hb_buffer_t;
@@ -19,7 +20,6 @@ use script_indic::masks::indic_masks;
 use script_indic::reordering::{final_reordering, initial_reordering};
 use script_indic::requests::collect_features;
 use script_indic_reordering::script::IndicMasks;
-use shell_face_json::read_face_text;
 use std::alloc::{AllocError, Global};
 use std::test::Fail;
 
@@ -112,7 +112,7 @@ fn agrees_in_font(alloc: Global, face: &Face, row: &str) -> Result<bool, Fail> {
 }
 
 fn agrees(alloc: Global, fonts: &str, row: &str) -> Result<bool, Fail> {
-    let face = read_face_text(alloc, named(fonts, part(row, 2))?)?;
+    let face = named_face(alloc, fonts, part(row, 2))?;
     agrees_in_font(alloc, &face, row)
 }
 

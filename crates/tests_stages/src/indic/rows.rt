@@ -21,6 +21,7 @@ use script_indic_reordering::final_order::reorder_final;
 use script_indic_reordering::initial::reorder_initial;
 use script_indic_reordering::script::{IndicMasks, RephMode};
 use std::alloc::Global;
+use std::process::Abort;
 use std::test::Fail;
 
 fn masks_of(words: &str) -> IndicMasks {
@@ -97,26 +98,32 @@ fn agrees_finally(alloc: Global, row: &str) -> Result<bool, Fail> {
     Ok(has_glyphs(INDIC_SHAPER, "n@mfcx", part(row, 3), &buffer))
 }
 
+fn rows_agree_initially(rt: &impl Abort, alloc: Global, table: &str) -> Result<(), Fail> {
+    let rows = rows_of(alloc, table)?;
+    for row in rows.lines() {
+        let agrees = !is_row(row) || agrees_initially(alloc, row)?;
+        assert!(rt; agrees, "{row}");
+    }
+    Ok(())
+}
+
 #[test]
 fn orders_syllables_before_their_forms(rt: HostRuntime) -> Result<(), Fail> {
-    for table in [before_forms::ROWS, several_before_forms::ROWS] {
-        let rows = rows_of(rt.alloc(), table)?;
-        for row in rows.lines() {
-            let agrees = !is_row(row) || agrees_initially(rt.alloc(), row)?;
-            assert!(rt; agrees, "{row}");
-        }
+    rows_agree_initially(&rt, rt.alloc(), before_forms::ROWS)?;
+    rows_agree_initially(&rt, rt.alloc(), several_before_forms::ROWS)
+}
+
+fn rows_agree_finally(rt: &impl Abort, alloc: Global, table: &str) -> Result<(), Fail> {
+    let rows = rows_of(alloc, table)?;
+    for row in rows.lines() {
+        let agrees = !is_row(row) || agrees_finally(alloc, row)?;
+        assert!(rt; agrees, "{row}");
     }
     Ok(())
 }
 
 #[test]
 fn orders_syllables_after_their_forms(rt: HostRuntime) -> Result<(), Fail> {
-    for table in [after_forms::ROWS, several_after_forms::ROWS] {
-        let rows = rows_of(rt.alloc(), table)?;
-        for row in rows.lines() {
-            let agrees = !is_row(row) || agrees_finally(rt.alloc(), row)?;
-            assert!(rt; agrees, "{row}");
-        }
-    }
-    Ok(())
+    rows_agree_finally(&rt, rt.alloc(), after_forms::ROWS)?;
+    rows_agree_finally(&rt, rt.alloc(), several_after_forms::ROWS)
 }

@@ -1,11 +1,11 @@
 //! Whether a feature would form glyphs of a small font.
 use crate::indic::fonts::map_of;
+use crate::stages::face_of;
 use buffer_common::script::DEVANAGARI;
 use buffer_common::tag::Tag;
 use layout_face::Face;
 use layout_map::map::hb_ot_map_t;
 use script_indic::would_substitute::IndicWouldSubstituteFeature;
-use shell_face_json::read_face_text;
 use std::alloc::Global;
 use std::process::Abort;
 use std::test::Fail;
@@ -54,6 +54,6 @@ fn hold_in_font(rt: &impl Abort, alloc: Global, face: &Face) -> Result<(), Fail>
 
 #[test]
 fn features_would_substitute(rt: HostRuntime) -> Result<(), Fail> {
-    let face = read_face_text(rt.alloc(), FONT)?;
+    let face = face_of(rt.alloc(), FONT)?;
     hold_in_font(&rt, rt.alloc(), &face)
 }

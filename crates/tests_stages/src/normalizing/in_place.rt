@@ -3,12 +3,12 @@
 //! in turn.
 use super::rows::RowNormalizer;
 use super::texts::{buffer_of, normalized};
+use crate::stages::tables_of;
 use buffer_glyphs::cause::ShapeCause;
 use buffer_glyphs::level::BufferClusterLevel;
 use buffer_properties::NormalizationMode;
 use buffer_unicode_tables::UnicodeTables;
 use shape_normalize::expanding::expand_list;
-use shell_readers::tables::{TextTables, tables_in};
 use std::alloc::Global;
 use std::test::Fail;
 
@@ -68,11 +68,6 @@ fn font(tables: &UnicodeTables) -> RowNormalizer<'_> {
     }
 }
 
-fn no_tables(alloc: Global) -> Result<UnicodeTables, Fail> {
-    let TextTables { characters, .. } = tables_in(alloc, b"{}")?;
-    Ok(characters)
-}
-
 /// Whether the output of the first round is in place at its end.
 #[tactic(auto, using(crate::proofs::Ready::output_open))]
 fn expands_in_place(
@@ -88,7 +83,7 @@ fn expands_in_place(
 }
 
 /// Whether each text's output stays in place where it is to.
-fn stays(alloc: Global, tables: &UnicodeTables) -> Result<bool, ShapeCause> {
+fn stays_by_tables(alloc: Global, tables: &UnicodeTables) -> Result<bool, Fail> {
     let by = font(tables);
     let mut is_right = expands_in_place(alloc, &by, LETTERS)?;
     for (text, stays) in TEXTS {
@@ -97,26 +92,34 @@ fn stays(alloc: Global, tables: &UnicodeTables) -> Result<bool, ShapeCause> {
     Ok(is_right)
 }
 
+fn stays(alloc: Global) -> Result<bool, Fail> {
+    let tables = tables_of(alloc, "{}")?;
+    stays_by_tables(alloc, &tables)
+}
+
 #[test]
 fn stays_in_place(rt: HostRuntime) -> Result<(), Fail> {
-    let tables = no_tables(rt.alloc())?;
-    let is_right = stays(rt.alloc(), &tables)?;
+    let is_right = stays(rt.alloc())?;
     assert!(rt; is_right);
     Ok(())
 }
 
 /// How many glyphs of the normalized letters are the font's glyphs of them, in order.
-fn letters_with_glyphs(alloc: Global, tables: &UnicodeTables) -> Result<usize, ShapeCause> {
+fn letters_with_glyphs_by_tables(alloc: Global, tables: &UnicodeTables) -> Result<usize, Fail> {
     let level = BufferClusterLevel::MonotoneCharacters;
     let buffer = normalized(alloc, &font(tables), level, LETTERS)?;
     let glyphs = buffer.info_slice().iter().zip(GLYPHS);
     Ok(glyphs.filter(|pair| pair.0.glyph_index == pair.1.1).count())
 }
 
+fn letters_with_glyphs(alloc: Global) -> Result<usize, Fail> {
+    let tables = tables_of(alloc, "{}")?;
+    letters_with_glyphs_by_tables(alloc, &tables)
+}
+
 #[test]
 fn normalizes_ten_letters(rt: HostRuntime) -> Result<(), Fail> {
-    let tables = no_tables(rt.alloc())?;
-    let count = letters_with_glyphs(rt.alloc(), &tables)?;
+    let count = letters_with_glyphs(rt.alloc())?;
     assert!(rt; count == 10);
     Ok(())
 }

@@ -122,6 +122,35 @@ fn normalizer<'a>(
     })
 }
 
+/// Adds characters with their decompositions.
+fn add_splits(alloc: Global, text: &str, rows: &mut UnicodeRows) -> Result<(), Fail> {
+    let splits = splits(alloc, text)?;
+    for (whole, first, second) in &splits {
+        rows.splits
+            .push([u32::from(*whole), u32::from(*first), u32::from(*second)])?;
+    }
+    Ok(())
+}
+
+/// Adds pairs of characters with their compositions.
+fn add_pairs(alloc: Global, text: &str, rows: &mut UnicodeRows) -> Result<(), Fail> {
+    let pairs = compositions(alloc, text)?;
+    for (first, second, whole) in &pairs {
+        rows.pairs
+            .push([u32::from(*first), u32::from(*second), u32::from(*whole)])?;
+    }
+    Ok(())
+}
+
+/// Adds characters with their classes.
+fn add_classes(alloc: Global, text: &str, rows: &mut UnicodeRows) -> Result<(), Fail> {
+    let classes = numbered(alloc, text, '=')?;
+    for (character, class) in &classes {
+        rows.classes.push([u32::from(*character), *class])?;
+    }
+    Ok(())
+}
+
 /// Tables with decompositions, compositions and classes.
 pub(super) fn tables_of(
     alloc: Global,
@@ -130,20 +159,9 @@ pub(super) fn tables_of(
     classes: &str,
 ) -> Result<UnicodeTables, Fail> {
     let mut rows = UnicodeRows::new(alloc);
-    let halves = splits(alloc, halves)?;
-    for (whole, first, second) in &halves {
-        rows.splits
-            .push([u32::from(*whole), u32::from(*first), u32::from(*second)])?;
-    }
-    let wholes = compositions(alloc, wholes)?;
-    for (first, second, whole) in &wholes {
-        rows.pairs
-            .push([u32::from(*first), u32::from(*second), u32::from(*whole)])?;
-    }
-    let classes = numbered(alloc, classes, '=')?;
-    for (character, class) in &classes {
-        rows.classes.push([u32::from(*character), *class])?;
-    }
+    add_splits(alloc, halves, &mut rows)?;
+    add_pairs(alloc, wholes, &mut rows)?;
+    add_classes(alloc, classes, &mut rows)?;
     Ok(UnicodeTables::new(alloc, &rows)?)
 }
 
