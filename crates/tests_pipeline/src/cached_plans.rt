@@ -137,6 +137,49 @@ fn printed(
     }
 }
 
+/// Shapes a turn's text without a plan, which gives its glyphs.
+fn alone_agrees(
+    rt: &impl Abort,
+    alloc: Global,
+    face: &Face,
+    shape_data: hb_shape_data_t<'_, SyllableTable, LanguageTable>,
+    features: &[Feature],
+    turn: &str,
+) -> Result<(), Fail> {
+    let text = text_of(alloc, turn)?;
+    let shaped = shape(alloc, face, shape_data, features, text);
+    let alone = printed(alloc, face, shaped)?;
+    assert_eq!(rt; alone.as_str(), part(turn, 3), "{turn}");
+    Ok(())
+}
+
+/// Shapes a turn's text by the cache, which gives its glyphs.
+fn cached_agrees(
+    rt: &impl Abort,
+    alloc: Global,
+    face: &Face,
+    shape_data: hb_shape_data_t<'_, SyllableTable, LanguageTable>,
+    cache: &mut PlanCache,
+    features: &[Feature],
+    turn: &str,
+) -> Result<(), Fail>
+    requires { IsCacheOf face.now (tags_of_table shape_data.languages.now) cache.old }
+    ensures { IsCacheOf face.now (tags_of_table shape_data.entry.languages.now) cache.new }
+{
+    let text = text_of(alloc, turn)?;
+    let shaped = cache.shape(alloc, face, shape_data, features, text);
+    let cached = printed(alloc, face, shaped)?;
+    assert_eq!(rt; cached.as_str(), part(turn, 3), "{turn}");
+    Ok(())
+}
+
+/// The cache has a turn's plans.
+fn keys_agree(rt: &impl Abort, alloc: Global, cache: &PlanCache, turn: &str) -> Result<(), Fail> {
+    let keys = keys_of(alloc, cache)?;
+    assert_eq!(rt; keys.as_str(), part(turn, 4), "{turn}");
+    Ok(())
+}
+
 /// Shapes a turn's text without a plan and by the cache: both give its glyphs, and the cache has its plans.
 fn turn_agrees(
     rt: &impl Abort,
@@ -150,15 +193,9 @@ fn turn_agrees(
     ensures { IsCacheOf face.now (tags_of_table shape_data.entry.languages.now) cache.new }
 {
     let features = features_of(alloc, turn)?;
-    let alone = shape(alloc, face, shape_data, &features, text_of(alloc, turn)?);
-    let cached = cache.shape(alloc, face, shape_data, &features, text_of(alloc, turn)?);
-    let alone = printed(alloc, face, alone)?;
-    let cached = printed(alloc, face, cached)?;
-    let keys = keys_of(alloc, cache)?;
-    assert_eq!(rt; alone.as_str(), part(turn, 3), "{turn}");
-    assert_eq!(rt; cached.as_str(), part(turn, 3), "{turn}");
-    assert_eq!(rt; keys.as_str(), part(turn, 4), "{turn}");
-    Ok(())
+    alone_agrees(rt, alloc, face, shape_data, &features, turn)?;
+    cached_agrees(rt, alloc, face, shape_data, cache, &features, turn)?;
+    keys_agree(rt, alloc, cache, turn)
 }
 
 /// Shapes the text of each turn by one cache.

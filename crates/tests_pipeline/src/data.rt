@@ -6,7 +6,7 @@ use script_categories::SyllableTable;
 use shape_pipeline::hb_shape_data_t;
 use shell_face_json::read_face_text;
 use shell_readers::tables::{TextTables, tables_in};
-use std::alloc::Global;
+use std::alloc::{AllocError, Global};
 use std::test::Fail;
 
 /// Tables for characters of the Latin script.
@@ -31,15 +31,17 @@ impl<'a> Tables<'a> {
     }
 }
 
-/// Tables that are read from a text.
+/// Tables that are read from a text. They are in a box, as fonts are, so that a function that owns them frees one value
+/// on each way out, and not each of their lists.
 #[derive(Drop)]
 pub(crate) struct ReadTables {
-    tables: TextTables,
+    tables: Box<TextTables>,
 }
 
 impl ReadTables {
     pub(crate) fn from_text(alloc: Global, text: &str) -> Result<ReadTables, Fail> {
         let tables = tables_in(alloc, text.as_bytes())?;
+        let tables = Box::new(alloc, tables).map_err(AllocError::from)?;
         Ok(ReadTables { tables })
     }
 
@@ -52,6 +54,7 @@ impl ReadTables {
     }
 }
 
-pub(crate) fn face_of(alloc: Global, font: &str) -> Result<Face, Fail> {
-    Ok(read_face_text(alloc, font)?)
+pub(crate) fn face_of(alloc: Global, font: &str) -> Result<Box<Face>, Fail> {
+    let face = read_face_text(alloc, font)?;
+    Ok(Box::new(alloc, face).map_err(AllocError::from)?)
 }

@@ -66,42 +66,6 @@ fn prepared(alloc: Global, tables: &UnicodeTables, text: &str) -> Result<hb_buff
     Ok(buffer)
 }
 
-/// The characters of a text that a context has normalized.
-fn normalized_in_context(
-    alloc: Global,
-    face: &Face,
-    tables: Tables<'_>,
-    plan: &hb_ot_shape_plan_t<hb_ot_any_shaper_t>,
-    text: &str,
-) -> Result<hb_buffer_t, ShapeCause>
-    ensures { IfOk result (λ b. b.is_open ≡ false) }
-{
-    let mut buffer = prepared(alloc, tables.characters, text)?;
-    let mut context = hb_ot_shape_normalize_context_t {
-        plan,
-        buffer: &mut buffer,
-        face,
-        shape_data: tables.data(),
-    };
-    context.normalize(alloc)?;
-    Ok(buffer)
-}
-
-/// The characters of a text that is normalized.
-fn normalized(
-    alloc: Global,
-    face: &Face,
-    tables: Tables<'_>,
-    plan: &hb_ot_shape_plan_t<hb_ot_any_shaper_t>,
-    text: &str,
-) -> Result<hb_buffer_t, ShapeCause>
-    ensures { IfOk result (λ b. b.is_open ≡ false) }
-{
-    let mut buffer = prepared(alloc, tables.characters, text)?;
-    _hb_ot_shape_normalize(alloc, plan, &mut buffer, face, tables.data())?;
-    Ok(buffer)
-}
-
 /// Whether a buffer has the characters of a text.
 fn spells(buffer: &hb_buffer_t, text: &str) -> bool
     requires { buffer.now.is_open ≡ false }
@@ -111,6 +75,40 @@ fn spells(buffer: &hb_buffer_t, text: &str) -> bool
         .iter()
         .map(|glyph| glyph.glyph_id)
         .eq(text.chars().map(u32::from))
+}
+
+/// Whether a text becomes its normal form in a context.
+fn is_normalized_in_context(
+    alloc: Global,
+    face: &Face,
+    tables: Tables<'_>,
+    plan: &hb_ot_shape_plan_t<hb_ot_any_shaper_t>,
+    text: &str,
+    normal: &str,
+) -> Result<bool, ShapeCause> {
+    let mut buffer = prepared(alloc, tables.characters, text)?;
+    let mut context = hb_ot_shape_normalize_context_t {
+        plan,
+        buffer: &mut buffer,
+        face,
+        shape_data: tables.data(),
+    };
+    context.normalize(alloc)?;
+    Ok(spells(&buffer, normal))
+}
+
+/// Whether a text becomes its normal form without a context.
+fn is_normalized_without_context(
+    alloc: Global,
+    face: &Face,
+    tables: Tables<'_>,
+    plan: &hb_ot_shape_plan_t<hb_ot_any_shaper_t>,
+    text: &str,
+    normal: &str,
+) -> Result<bool, ShapeCause> {
+    let mut buffer = prepared(alloc, tables.characters, text)?;
+    _hb_ot_shape_normalize(alloc, plan, &mut buffer, face, tables.data())?;
+    Ok(spells(&buffer, normal))
 }
 
 fn is_normalized(
@@ -129,9 +127,9 @@ fn is_normalized(
         None,
         &[],
     )?;
-    let alone = normalized(alloc, face, tables, &plan, text)?;
-    let in_context = normalized_in_context(alloc, face, tables, &plan, text)?;
-    Ok(spells(&alone, normal) && spells(&in_context, normal))
+    let alone = is_normalized_without_context(alloc, face, tables, &plan, text, normal)?;
+    let in_context = is_normalized_in_context(alloc, face, tables, &plan, text, normal)?;
+    Ok(alone && in_context)
 }
 
 fn is_followed(alloc: Global, tables: Tables<'_>, row: &str) -> Result<bool, Fail> {

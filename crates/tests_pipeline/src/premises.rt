@@ -1,8 +1,7 @@
 //! Texts that are regular, and those of which one condition fails.
-use crate::data::face_of;
+use crate::data::{ReadTables, face_of};
 use buffer_unicode_tables::UnicodeTables;
 use shape_premises::{are_equivalent, has_full_expansion, has_short_runs, is_regular};
-use shell_readers::tables::{TextTables, tables_in};
 use std::alloc::Global;
 use std::test::Fail;
 
@@ -16,18 +15,14 @@ static FONT: &str = "{\"cmap\":[[4133,1],[4142,2],[4150,3],[6917,4],[6964,5],[69
 // A composite, without the first half of its decomposition.
 static POOR_FONT: &str = "{\"cmap\":[[4134,1],[4142,2],[4150,3]]}";
 
-fn read_tables(alloc: Global) -> Result<TextTables, Fail> {
-    Ok(tables_in(alloc, TABLES.as_bytes())?)
-}
-
 fn passes_with(alloc: Global, tables: &UnicodeTables, text: &str) -> Result<bool, Fail> {
     let face = face_of(alloc, FONT)?;
     Ok(is_regular(&face, tables, text))
 }
 
 fn passes(alloc: Global, text: &str) -> Result<bool, Fail> {
-    let tables = read_tables(alloc)?;
-    passes_with(alloc, &tables.characters, text)
+    let tables = ReadTables::from_text(alloc, TABLES)?;
+    passes_with(alloc, tables.borrowed().characters, text)
 }
 
 // The first two are equivalent, and so are the last two.
@@ -62,8 +57,8 @@ fn has_halves_with(alloc: Global, tables: &UnicodeTables, text: &str) -> Result<
 }
 
 fn has_halves(alloc: Global, text: &str) -> Result<bool, Fail> {
-    let tables = read_tables(alloc)?;
-    has_halves_with(alloc, &tables.characters, text)
+    let tables = ReadTables::from_text(alloc, TABLES)?;
+    has_halves_with(alloc, tables.borrowed().characters, text)
 }
 
 #[test]
@@ -83,9 +78,9 @@ fn with_marks(alloc: Global, count: usize) -> Result<String, Fail> {
 }
 
 fn is_short(alloc: Global, count: usize) -> Result<bool, Fail> {
-    let tables = read_tables(alloc)?;
+    let tables = ReadTables::from_text(alloc, TABLES)?;
     let text = with_marks(alloc, count)?;
-    Ok(has_short_runs(&tables.characters, &text))
+    Ok(has_short_runs(tables.borrowed().characters, &text))
 }
 
 #[test]
@@ -111,8 +106,8 @@ fn agree_with(
 }
 
 fn agree(alloc: Global, first: &str, second: &str) -> Result<Option<bool>, Fail> {
-    let tables = read_tables(alloc)?;
-    agree_with(alloc, &tables.characters, first, second)
+    let tables = ReadTables::from_text(alloc, TABLES)?;
+    agree_with(alloc, tables.borrowed().characters, first, second)
 }
 
 // A decomposition, and marks of two classes in another order.
