@@ -224,7 +224,7 @@ fn is_set(alloc: Global, found: &CommandLine, row: &str) -> Result<bool, Fail> {
 pub(crate) fn is_so(alloc: Global, row: &str) -> Result<bool, Fail> {
     match command_line(alloc, part(row, 0))? {
         Ok(found) => is_set(alloc, &found, row),
-        Err(fault) => Ok(part(row, 1) == "refused" && is_refused(fault)?),
+        Err(fault) => Ok(is_refused(fault)? && part(row, 1) == "refused"),
     }
 }
 
