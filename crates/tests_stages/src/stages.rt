@@ -21,7 +21,7 @@ use shape_text::fractions::{FractionMasks, setup_masks_fraction};
 use shape_text::properties::set_unicode_props;
 use shell_face_json::read_face_text;
 use shell_readers::tables::{TextTables, tables_in};
-use std::alloc::Global;
+use std::alloc::{AllocError, Global};
 use std::test::Fail;
 
 static FONTS: &str = r#"
@@ -328,19 +328,22 @@ fn stage_agrees(
     Ok(is_as_said(row, &buffer))
 }
 
-pub(crate) fn face_of(alloc: Global, text: &str) -> Result<Face, Fail> {
-    Ok(read_face_text(alloc, text)?)
+/// The font of a text. It is in a box, as tables are, so that a function that owns it frees one value on each way out,
+/// and not each of its lists.
+pub(crate) fn face_of(alloc: Global, text: &str) -> Result<Box<Face>, Fail> {
+    let face = read_face_text(alloc, text)?;
+    Ok(Box::new(alloc, face).map_err(AllocError::from)?)
 }
 
 /// The font of a name, from fonts that have a line each.
-pub(crate) fn named_face(alloc: Global, fonts: &str, name: &str) -> Result<Face, Fail> {
+pub(crate) fn named_face(alloc: Global, fonts: &str, name: &str) -> Result<Box<Face>, Fail> {
     face_of(alloc, named(fonts, name)?)
 }
 
 /// The tables of characters of a text.
-pub(crate) fn tables_of(alloc: Global, text: &str) -> Result<UnicodeTables, Fail> {
+pub(crate) fn tables_of(alloc: Global, text: &str) -> Result<Box<UnicodeTables>, Fail> {
     let TextTables { characters, .. } = tables_in(alloc, text.as_bytes())?;
-    Ok(characters)
+    Ok(Box::new(alloc, characters).map_err(AllocError::from)?)
 }
 
 fn agrees_with_tables(
