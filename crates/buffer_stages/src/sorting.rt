@@ -12,8 +12,8 @@ ghost use Rattle.buffer_stages.specs.SyllableBuffers.{IsRewritten};
 use buffer_core::buffer::hb_buffer_t;
 use std::alloc::{AllocError, Global};
 
-/// Puts the glyphs from `start` up to before `end` in stable order by their `auxiliary` numbers, and merges each smallest span that the
-/// order permutes.
+/// Puts the glyphs from `start` up to before `end` in stable order by their `auxiliary` numbers, and merges each
+/// smallest span that the order permutes.
 ///
 /// # Errors
 ///

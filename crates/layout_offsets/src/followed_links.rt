@@ -2,6 +2,8 @@
 //! `propagate_attachment_offsets`).
 //!
 //! To add advances and to subtract them are functions of one form, each a fold of a step that has its own definition.
+//! A mark is drawn by two functions of one form too: by the advances between, or by sums where a link leads far back
+//! (`NEAR`).
 ghost use Rattle.std.specs.Prelude.{◌≡◌, ◌≤◌, ◌<◌, length, set, slice_range};
 ghost use Rattle.std.specs.List.{fold, list_any};
 ghost use Rattle.std.specs.Prelude.{IfSome, MatchOption, true, false, pos, ◌+ℤ◌};

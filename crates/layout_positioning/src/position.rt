@@ -1,5 +1,8 @@
 //! Positioning, GPOS stage after GPOS stage (rustybuzz: hb/ot_layout_gpos_table.rs, `position`; hb/ot_layout.rs,
 //! `apply_layout_table`).
+//!
+//! `substitute` of `layout_substitution` has the same loop for GSUB, and leads one apply context through all lookups,
+//! since each leaves a random state to the next. In positioning nothing is drawn at random, so this loop needs none.
 ghost use Rattle.std.specs.Prelude.{ℕ, ◌≡◌, ◌≢◌, OnOk, IfErr};
 ghost use Rattle.buffer_core.specs.Sides.{items_of};
 ghost use Rattle.buffer_stages.specs.Ready.{DoesGlyphStage, DoesGlyphStageFrom, HoldsGlyphs};

@@ -1,5 +1,8 @@
 //! Substitution, GSUB stage after GSUB stage (rustybuzz: hb/ot_layout_gsub_table.rs, `substitute`; hb/ot_layout.rs,
 //! `apply_layout_table`).
+//!
+//! `position` of `layout_positioning` has the same loop for GPOS, without the apply context that this one leads through
+//! all lookups: in positioning nothing is drawn at random, so no lookup leaves a random state to the next.
 ghost use Rattle.std.specs.Prelude.{ℕ, ◌≡◌, OnOk};
 ghost use Rattle.std.specs.Option.{option_map_or, option_map};
 ghost use Rattle.buffer_core.specs.Sides.{items_of};

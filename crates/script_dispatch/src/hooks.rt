@@ -1,5 +1,8 @@
 //! The hooks of the scripts' shapers as methods, and which of them each shaper has: those of rustybuzz's table of it
 //! (rustybuzz: hb/ot_shaper.rs).
+//!
+//! The tests of which hooks a shaper has (`has_collect_features` and its like) have clauses of one form, each by its
+//! own definition.
 ghost use Rattle.std.specs.Prelude.{◌≡◌, Bool};
 ghost use Rattle.script_dispatch.specs.Present.{collects_features, composes, creates_data, decomposes, overrides_features, postprocesses_glyphs, preprocesses_text, reorders_marks, sets_masks};
 ghost use Rattle.script_dispatch.specs.Present.{RequestsNothing, ComposesAsUnicode, LeavesGlyphs, LeavesMarks, LeavesMasks, LeavesText, OverridesNothing, SplitsAsUnicode};

@@ -1,7 +1,7 @@
 //! Khmer: decomposes split vowels, and moves coeng forms and left matras to the start of their syllable
 //! (rustybuzz: hb/ot_shaper_khmer.rs).
 //!
-//! The steps for coeng forms and for left matras have clauses of one form.
+//! The steps for coeng forms and for left matras have clauses of one form, each by its own definition.
 ghost use Rattle.std.specs.Prelude.{◌≡◌, ◌≤◌, ◌<◌, ◌+◌, ◌-◌, length, nat_le, slice_range, true, OnOk};
 ghost use Rattle.buffer_glyphs.specs.Items.{item_of};
 ghost use Rattle.buffer_core.specs.Readings.{always};

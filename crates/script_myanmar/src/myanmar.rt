@@ -1,7 +1,8 @@
 //! Myanmar: the glyphs of a syllable get positions around its base and are sorted by them
 //! (rustybuzz: hb/ot_shaper_myanmar.rs).
 //!
-//! A rule on syllables is a type with the trait `SyllableRule`; all its impls have this form.
+//! A rule on syllables is a type with the trait `SyllableRule`; all its impls have this form. Functions repeat clauses:
+//! each requires what the one that it calls requires, down to `sort_by_auxiliary` (`buffer_stages`).
 ghost use Rattle.std.specs.Prelude.{◌≡◌, ◌≤◌, ◌++◌, length, map, take, drop, slice_range, OnOk};
 ghost use Rattle.buffer_glyphs.specs.Items.{item_of, strip};
 ghost use Rattle.buffer_core.specs.Readings.{always};

@@ -1,6 +1,7 @@
 //! The calls that apply a map's lookups stage by stage, and one lookup at a glyph, in both layout tables.
 //!
-//! Shaping reaches lookups by shorter ways; whoever calls the layer by rustybuzz's names has these.
+//! Shaping reaches lookups by shorter ways; whoever calls the layer by rustybuzz's names has these. `substitute` and
+//! `position` begin alike: the lookups of the two tables are types of their own, and a substitution opens the output.
 ghost use Rattle.buffer_stages.specs.Ready.{IsReady};
 
 use crate::buffers::{buffer_of, has_glyphs};

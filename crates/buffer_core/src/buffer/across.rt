@@ -1,6 +1,7 @@
 //! Merges and glyph flags of ranges that begin in the output (rustybuzz: hb/buffer.rs).
 //!
-//! Functions repeat clauses: each requires what the one that it calls requires.
+//! Functions repeat clauses: each requires what the one that it calls requires. `mark_output` and `flag_output` have
+//! one form: the first flags the glyphs outside the least cluster of a range, the second all glyphs of it.
 ghost use Rattle.std.specs.Prelude.{◌≡◌, ◌+◌, ◌-◌, ◌≤◌, ◌<◌, if◌then◌else◌, nat_lt, true, false, length, ◌∷◌, []};
 ghost use Rattle.buffer_core.specs.Sides.{items_of, origins_of, origins_by};
 ghost use Rattle.buffer_core.specs.Merging.{index_in_all, with_output_merged};

@@ -1,4 +1,6 @@
 //! The state of a walk of deletions in place.
+//!
+//! Functions repeat clauses: each requires what the one that it calls requires.
 ghost use Rattle.std.specs.Prelude.{◌≡◌, ◌+◌, ◌<◌, ◌≤◌, ◌++◌, ◌||◌, ◌∷◌, [], None, true, false, ℕ, Bool, List, Some, length, take, drop};
 ghost use Rattle.buffer_glyphs.specs.declared.info.hb_glyph_info_t.{hb_glyph_info_t as Glyph};
 ghost use Rattle.buffer_glyphs.specs.declared.level.BufferClusterLevel.{BufferClusterLevel as Level};

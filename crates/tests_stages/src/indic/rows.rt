@@ -1,4 +1,7 @@
 //! The two orders of syllables, by listed forms.
+//!
+//! The rows of the two orders have other options and need other calls, so each order has functions of its own that
+//! read its rows and walk over them.
 mod after_forms;
 mod before_forms;
 mod several_after_forms;
