@@ -93,7 +93,7 @@ pub(crate) fn face_parts(
     }
 }
 
-type Characters = (PagedRows<CharacterRow>, SortedRows<VariationRow>);
+pub(crate) type Characters = (PagedRows<CharacterRow>, SortedRows<VariationRow>);
 
 /// Reads the glyphs of characters, and those of characters with variation selectors.
 fn read_characters(alloc: Global, value: &Value) -> Result<Characters, JsonFault>
@@ -118,7 +118,7 @@ pub(crate) fn index_characters(
 
 type Rows<V> = SortedRows<GlyphRow<V>>;
 
-type Advances = (Rows<u16>, Rows<u16>);
+pub(crate) type Advances = (Rows<u16>, Rows<u16>);
 
 /// Reads the horizontal and the vertical advances of glyphs.
 fn read_advances(alloc: Global, value: &Value) -> Result<Advances, JsonFault>
@@ -131,7 +131,7 @@ fn read_advances(alloc: Global, value: &Value) -> Result<Advances, JsonFault>
     Ok((h, v))
 }
 
-type Drawing = (Rows<i16>, (Rows<hb_glyph_extents_t>, SortedRows<NameRow>));
+pub(crate) type Drawing = (Rows<i16>, (Rows<hb_glyph_extents_t>, SortedRows<NameRow>));
 
 /// Reads the vertical origins, extents and names of glyphs.
 fn read_drawing(alloc: Global, value: &Value) -> Result<Drawing, JsonFault>
@@ -145,7 +145,7 @@ fn read_drawing(alloc: Global, value: &Value) -> Result<Drawing, JsonFault>
     Ok((origins, (extents, names)))
 }
 
-type Layouts = (
+pub(crate) type Layouts = (
     GlyphDefinition,
     (Option<SubstitutionTable>, Option<PositioningTable>),
 );

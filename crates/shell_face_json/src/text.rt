@@ -3,6 +3,7 @@
 
 mod definition;
 mod face;
+mod found;
 mod keys;
 mod rows;
 mod table;

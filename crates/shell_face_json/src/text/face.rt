@@ -6,12 +6,10 @@ ghost use Rattle.shell_face_json.specs.Lists.{is_object};
 ghost use Rattle.shell_face_json.specs.Face.{face_keys};
 ghost use Rattle.shell_face_json.specs.Text.Face.{face_in};
 
-use crate::face::{face_parts, index_characters};
+use crate::face::face_parts;
 use crate::read_face;
-use crate::text::definition::definition_or_none;
-use crate::text::keys::{
-    FontKeys, font_keys, positioning, read_metrics, rows_or_none, substitution, two_or_none,
-};
+use crate::text::found::groups_of;
+use crate::text::keys::{FontKeys, font_keys};
 use json::Scratch;
 use layout_face::Face;
 use layout_face::parts::FaceParts;
@@ -64,24 +62,7 @@ fn take_parts(alloc: Global, text: &str) -> Result<FaceParts, Unread>
         ((None, None), (((None, None), None), (None, (None, None)))),
     );
     take_text(alloc, text, &mut scratch, &font_keys(), &mut found)?;
-    let ((metrics, characters), (advances, (drawing, layouts))) = found;
-    let metrics = read_metrics(&metrics)?;
-    let (cmap, variants) = two_or_none(alloc, characters);
-    let cmap = index_characters(alloc, cmap)?;
-    let advances = two_or_none(alloc, advances);
-    let (outlines, names) = drawing;
-    let (origins, extents) = two_or_none(alloc, outlines);
-    let names = rows_or_none(alloc, names);
-    let (gdef, (gsub, gpos)) = layouts;
-    let gdef = definition_or_none(alloc, gdef);
-    let set_count = gdef.sets.len();
-    let gsub = substitution(gsub, set_count)?;
-    let gpos = positioning(gpos, set_count)?;
-    Ok(face_parts(
-        metrics,
-        (cmap, variants),
-        advances,
-        (origins, (extents, names)),
-        (gdef, (gsub, gpos)),
-    ))
+    let groups = groups_of(alloc, found)?;
+    let (metrics, characters, advances, drawing, layouts) = groups;
+    Ok(face_parts(metrics, characters, advances, drawing, layouts))
 }

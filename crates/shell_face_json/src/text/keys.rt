@@ -1,34 +1,20 @@
-//! The keys of a font, and what is found of them.
-//!
-//! The two tables have functions of one form, since their lookups are types of their own.
-ghost use Rattle.std.specs.Prelude.{◌≡◌, [], codes, true, unwrap_or, IfOk, Ok, pos};
-ghost use Rattle.std.specs.List.{list_all};
-ghost use Rattle.std.specs.Option.{option_map, option_map_or};
-ghost use Rattle.serde_json.specs.View.{view};
-ghost use Rattle.layout_face.specs.LookupIndices.{set_fits};
-ghost use Rattle.shell_json.specs.Cell.{u16_value, i16_value};
-ghost use Rattle.shell_json.specs.Objects.{read_or};
+//! The keys of a font.
+ghost use Rattle.std.specs.Prelude.{◌≡◌, codes};
 ghost use Rattle.shell_face_json.specs.Glyphs.{glyph_limit};
 
 use crate::glyphs::GLYPH_LIMIT;
-use crate::lookups::{Lookup, all_sets_fit};
+use crate::lookups::Lookup;
 use crate::text::definition::DefinitionTaker;
 use crate::text::rows::RowTaker;
 use crate::text::table::TableTaker;
 use crate::value::FromJson;
 use buffer_glyphs::names::hb_glyph_extents_t;
-use buffer_rows::{Keyed, SortedRows};
-use layout_common::array::Array;
+use buffer_rows::Keyed;
 use layout_common::glyph_row::GlyphRow;
 use layout_face::parts::{CharacterRow, NameRow, VariationRow};
-use layout_face::positioning::{PositioningLookup, PositioningTable};
-use layout_face::substitution::{SubstLookup, SubstitutionTable};
-use layout_tables::table::ScriptsAndFeatures;
-use serde_json::Value;
-use shell_json::cell::Cell;
+use layout_face::positioning::PositioningLookup;
+use layout_face::substitution::SubstLookup;
 use shell_json::key_takers::{Key, Whole};
-use shell_json::unread::Unread;
-use std::alloc::Global;
 
 /// A limit that no index of a mark glyph set reaches.
 const ANY_SET: usize = 0x1_0000;
@@ -110,84 +96,4 @@ fn table_key<L: Lookup>(name: &'static str) -> Key<TableTaker<L>>
         name,
         taker: TableTaker::new(ANY_SET),
     }
-}
-
-/// The units per em and the ascender by the values of their keys.
-pub fn read_metrics(found: &(Option<Value>, Option<Value>)) -> Result<(u16, i16), Unread>
-    ensures { IfOk result (λ p. (read_or 0 u16_value (option_map view found.now.0) ≡ Ok p.0)
-        × (read_or (pos 0) i16_value (option_map view found.now.1) ≡ Ok p.1)) }
-{
-    let upem = cell_or(&found.0, 0u16)?;
-    let ascender = cell_or(&found.1, 0i16)?;
-    Ok((upem, ascender))
-}
-
-fn cell_or<T: Cell>(value: &Option<Value>, missing: T) -> Result<T, Unread>
-    ensures { IfOk result (λ cell. read_or missing T.cell (option_map view value.now) ≡ Ok cell) }
-{
-    let Some(value) = value else {
-        return Ok(missing);
-    };
-    match T::read(value) {
-        Ok(cell) => Ok(cell),
-        Err(_) => Err(Unread),
-    }
-}
-
-/// The rows that were found, none where their key is missing.
-pub fn rows_or_none<R: Keyed>(alloc: Global, found: Option<SortedRows<R>>) -> SortedRows<R>
-    ensures { result ≡ unwrap_or found [] }
-{
-    match found {
-        Some(rows) => rows,
-        None => SortedRows::new(Vec::new(alloc)),
-    }
-}
-
-/// The rows that were found of two keys.
-pub fn two_or_none<A: Keyed, B: Keyed>(
-    alloc: Global,
-    found: (Option<SortedRows<A>>, Option<SortedRows<B>>),
-) -> (SortedRows<A>, SortedRows<B>)
-    ensures { (result.0 ≡ unwrap_or found.0 []) × (result.1 ≡ unwrap_or found.1 []) }
-{
-    let (first, second) = found;
-    let first = rows_or_none(alloc, first);
-    (first, rows_or_none(alloc, second))
-}
-
-type Found<L> = Option<(ScriptsAndFeatures, Array<L>)>;
-
-/// The GSUB table that was found, in a font with `set_count` mark glyph sets.
-pub fn substitution(
-    found: Found<SubstLookup>,
-    set_count: usize,
-) -> Result<Option<SubstitutionTable>, Unread>
-    ensures { IfOk result (λ t. (t ≡ option_map (λ x. record { inner = x.0; lookups = x.1 }) found)
-        × (option_map_or (λ x. list_all (λ l. set_fits set_count l.mark_filtering_set) x.1) found true ≡ true)) }
-{
-    let Some((inner, lookups)) = found else {
-        return Ok(None);
-    };
-    if !all_sets_fit(lookups.as_slice(), set_count) {
-        return Err(Unread);
-    }
-    Ok(Some(SubstitutionTable { inner, lookups }))
-}
-
-/// The GPOS table that was found, in a font with `set_count` mark glyph sets.
-pub fn positioning(
-    found: Found<PositioningLookup>,
-    set_count: usize,
-) -> Result<Option<PositioningTable>, Unread>
-    ensures { IfOk result (λ t. (t ≡ option_map (λ x. record { inner = x.0; lookups = x.1 }) found)
-        × (option_map_or (λ x. list_all (λ l. set_fits set_count l.mark_filtering_set) x.1) found true ≡ true)) }
-{
-    let Some((inner, lookups)) = found else {
-        return Ok(None);
-    };
-    if !all_sets_fit(lookups.as_slice(), set_count) {
-        return Err(Unread);
-    }
-    Ok(Some(PositioningTable { inner, lookups }))
 }
