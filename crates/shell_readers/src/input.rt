@@ -46,6 +46,12 @@ pub fn read_input(alloc: Global, tables: &[u8], font: &[u8]) -> Result<RunInput,
     ensures kind { IfErr result IsOfRun }
 {
     let tables = read_lawful_tables(alloc, tables)?;
-    let face = read_font(alloc, font)?;
-    Ok(RunInput { tables, face })
+    match read_font(alloc, font) {
+        Ok(face) => Ok(RunInput { tables, face }),
+        Err(fault) => {
+            // In one step: left to the end of the function, each of their lists is a step of its proof.
+            drop(tables);
+            Err(fault)
+        }
+    }
 }

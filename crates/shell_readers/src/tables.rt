@@ -56,12 +56,18 @@ fn read_all_tables(alloc: Global, value: &Value) -> Result<TextTables, JsonFault
     ensures refused { IfErr result (λ e. e ≢ JsonFault.OutOfMemory → IsValueOf (view value.now) (Err e)) }
 {
     let characters = read_tables(alloc, value)?;
-    let others = read_other_tables(alloc, value)?;
-    Ok(TextTables {
-        characters,
-        syllables: others.syllables,
-        languages: others.languages,
-    })
+    match read_other_tables(alloc, value) {
+        Ok(others) => Ok(TextTables {
+            characters,
+            syllables: others.syllables,
+            languages: others.languages,
+        }),
+        Err(fault) => {
+            // In one step, as where the font is refused (`read_input`).
+            drop(characters);
+            Err(fault)
+        }
+    }
 }
 
 /// The tables of bytes.
@@ -98,6 +104,12 @@ pub fn read_lawful_tables(alloc: Global, bytes: &[u8]) -> Result<TextTables, Run
     ensures kind { IfErr result IsOfRun }
 {
     let tables = tables_in(alloc, bytes)?;
-    check_laws(&tables.characters)?;
-    Ok(tables)
+    match check_laws(&tables.characters) {
+        Ok(()) => Ok(tables),
+        Err(fault) => {
+            // In one step, as where the font is refused (`read_input`).
+            drop(tables);
+            Err(fault)
+        }
+    }
 }

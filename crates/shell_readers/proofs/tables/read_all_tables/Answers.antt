@@ -10,11 +10,8 @@ returns-in_err-characters-clause-refused c =
     passed_on c.from_residual.result fault _ c.from_residual.ensures.1
     (λ not_memory. rows_refused _ fault (λ other. c.in_err-characters.ensures.refused not_memory other) (λ same. c.in_err-characters.ensures.deep (ap Err same)))
 
-pub returns-in_err-others-clause-refused : goal.returns-in_err-others-clause-refused
-returns-in_err-others-clause-refused c =
-    let fault : JsonFault = c.in_err-others.field-0.0 in
-    passed_on c.from_residual-in_err-others.result fault _ c.from_residual-in_err-others.ensures.1
-    (λ not_memory. rest_read _ _ (Err fault) c.in_ok-characters.ensures.ok c.in_ok-characters.ensures.shallow (c.in_err-others.ensures.refused not_memory _))
+pub returns-in-Err-clause-refused : goal.returns-in-Err-clause-refused
+returns-in-Err-clause-refused c = λ not_memory. rest_read _ _ (Err c.in-Err.fault) c.in_ok-characters.ensures.ok c.in_ok-characters.ensures.shallow (c.in-Err.ensures.refused not_memory _)
 
-pub returns-clause-ok : goal.returns-clause-ok
-returns-clause-ok c = rest_read _ _ _ c.in_ok-characters.ensures.ok c.in_ok-characters.ensures.shallow (c.in_ok-others.ensures.ok _)
+pub returns-in-Ok-clause-ok : goal.returns-in-Ok-clause-ok
+returns-in-Ok-clause-ok c = rest_read _ _ _ c.in_ok-characters.ensures.ok c.in_ok-characters.ensures.shallow (c.in-Ok.ensures.ok _)

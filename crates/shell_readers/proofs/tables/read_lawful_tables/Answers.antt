@@ -9,11 +9,8 @@ returns-in_err-tables-clause-refused c =
     let fault : RunFault = c.in_err-tables.field-0.0 in
     passed_on c.from_residual.result fault _ c.from_residual.ensures.1 (λ not_memory. refused _ fault (c.in_err-tables.ensures.refused not_memory))
 
-pub returns-in_err-check_laws-clause-refused : goal.returns-in_err-check_laws-clause-refused
-returns-in_err-check_laws-clause-refused c =
-    let fault : RunFault = c.in_err-check_laws.field-0.0 in
-    passed_on c.from_residual-in_err-check_laws.result fault _ c.from_residual-in_err-check_laws.ensures.1
-    (λ not_memory. laws_refused _ _ fault c.in_ok-tables.ensures.ok c.in_err-check_laws.ensures.unlawful.0 c.in_err-check_laws.ensures.unlawful.1)
+pub returns-in-Err-clause-refused : goal.returns-in-Err-clause-refused
+returns-in-Err-clause-refused c = λ not_memory. laws_refused _ _ c.in-Err.fault c.in_ok-tables.ensures.ok c.in-Err.ensures.unlawful.0 c.in-Err.ensures.unlawful.1
 
-pub returns-clause-ok : goal.returns-clause-ok
-returns-clause-ok c = lawful_read _ _ c.in_ok-tables.ensures.ok c.in_ok-check_laws.ensures.lawful
+pub returns-in-Ok-clause-ok : goal.returns-in-Ok-clause-ok
+returns-in-Ok-clause-ok c = lawful_read _ _ c.in_ok-tables.ensures.ok c.in-Ok.ensures.lawful
