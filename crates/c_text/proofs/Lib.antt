@@ -1,2 +1,9 @@
+pub mod Pointers
+pub mod Handles
+pub mod FontHandles
+pub mod TablesHandles
+mod Fonts
+mod Plans
+mod Slices
 mod Putting
 pub mod Writing

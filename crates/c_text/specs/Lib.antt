@@ -1,3 +1,7 @@
 pub mod Numbers
 pub mod Texts
 pub mod Written
+pub mod Ownership
+pub mod Plans
+pub mod Fonts
+pub mod Queries

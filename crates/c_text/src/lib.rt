@@ -1,10 +1,15 @@
-//! The texts that C passes, the glyphs that it reads, and its numbers of settings and faults. rustybuzz has no interface for
-//! C.
+//! What the library for C is made of: the texts that C passes, the fonts and tables that it holds by handles, the glyphs that
+//! it reads, and its numbers of settings and faults. rustybuzz has no interface for C.
 #![tactic(auto)]
 
+pub mod font;
+pub mod handle;
+pub mod input;
 pub mod numbers;
-#[cfg(test)]
-mod tests;
+mod plan;
+pub mod pointer;
+pub mod queries;
+pub mod segment;
 pub mod texts;
 pub mod types;
 pub mod written;

@@ -1,4 +1,4 @@
-//! C's numbers of settings and of faults.
+//! C's numbers of settings, of faults and of what else a call answers.
 ghost use Rattle.std.specs.Prelude.{◌≡◌, ◌<◌};
 ghost use Rattle.c_text.specs.Numbers.{direction_number, direction_numbered, fault_number, level_numbered, script_number, script_numbered};
 
@@ -9,6 +9,22 @@ use buffer_glyphs::cause::ShapeCause;
 use buffer_glyphs::level::BufferClusterLevel;
 use shell_json::fault::JsonFault;
 use shell_readers::fault::RunFault;
+
+/// The status of a call that did what it was asked for.
+pub const OK: u32 = 0;
+
+pub const OUT_OF_MEMORY: u32 = 1;
+
+pub const NOT_UTF8: u32 = 10;
+
+/// The status where a handle has no font.
+pub const NO_FONT: u32 = 16;
+
+/// The status where a handle has no tables.
+pub const NO_TABLES: u32 = 17;
+
+/// The status where glyphs don't fit the text whose slices are wanted.
+pub const NO_SLICES: u32 = 18;
 
 /// The direction of a number, `Invalid` for one that no direction has.
 pub fn direction_numbered(number: u32) -> Direction

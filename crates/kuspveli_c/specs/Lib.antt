@@ -1,4 +1,0 @@
-pub mod Ownership
-pub mod Plans
-pub mod Fonts
-pub mod Queries

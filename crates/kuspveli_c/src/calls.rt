@@ -6,26 +6,18 @@ ghost use Rattle.buffer_core.specs.Sides.{all_glyphs, empty_buffer};
 ghost use Rattle.c_text.specs.Written.{info_of, position_of, with_front};
 ghost use Rattle.shell_readers.specs.Input.{IsInput, font_in};
 ghost use Rattle.shell_readers.specs.Tables.{AreLawfulTables};
-ghost use Rattle.kuspveli_c.specs.Fonts.{AreGlyphsOf, HasRead, HasReadOver, HasReadTables, HasSegmentOf, IsFaultOf, IsNumberOf, glyphs_of, input_of, new_font, segment_in};
+ghost use Rattle.c_text.specs.Fonts.{AreGlyphsOf, HasRead, HasReadOver, HasReadTables, HasSegmentOf, IsFaultOf, IsNumberOf, glyphs_of, input_of, new_font, segment_in};
 
-use crate::font::Font;
-use crate::handle::{Handle, TablesHandle};
-use crate::input::Tables;
-use c_text::numbers::fault_number;
+use c_text::font::Font;
+use c_text::handle::{Handle, TablesHandle};
+use c_text::input::Tables;
+use c_text::numbers::{NO_FONT, NO_TABLES, OK, OUT_OF_MEMORY, fault_number};
 use c_text::types::{kus_glyph_info_t, kus_glyph_position_t, kus_text_t};
 use std::alloc::Global;
 
-const OK: u32 = 0;
-
-const OUT_OF_MEMORY: u32 = 1;
-
-const NO_FONT: u32 = 16;
-
-const NO_TABLES: u32 = 17;
-
 /// Reads tables, which must be lawful, and keeps them; tables that were there are let go. On a fault the handle stays as it
 /// was.
-#[tactic(auto, using(crate::proofs::Texts::number_of_fault, crate::proofs::Texts::tables_were_read))]
+#[tactic(auto, using(crate::proofs::Results::number_of_fault, crate::proofs::Results::tables_were_read))]
 #[unsafe(no_mangle)]
 pub extern "C" fn kus_tables_create(alloc: Global, tables: &mut TablesHandle, json: &[u8]) -> u32
     ensures read { result ≡ 0 → HasReadTables json.now tables.new.value }
@@ -81,7 +73,7 @@ pub extern "C" fn kus_tables_destroy(alloc: Global, tables: &mut TablesHandle)
 }
 
 /// Reads a font over tables, which it shares; a font that was there is dropped. On a fault the handles stay as they were.
-#[tactic(auto, using(crate::proofs::Texts::number_of_fault, crate::proofs::Texts::font_was_read_over))]
+#[tactic(auto, using(crate::proofs::Results::number_of_fault, crate::proofs::Results::font_was_read_over))]
 #[unsafe(no_mangle)]
 pub extern "C" fn kus_font_create_with_tables(
     alloc: Global,
@@ -105,15 +97,12 @@ pub extern "C" fn kus_font_create_with_tables(
         Ok(read) => read,
         Err(fault) => return fault_number(fault),
     };
-    let Ok(read) = Box::new(alloc, read) else {
-        return OUT_OF_MEMORY;
-    };
     font.put(alloc, read);
     OK
 }
 
 /// Reads tables and a font, and keeps them; a font that was there is dropped. On a fault the handle stays as it was.
-#[tactic(auto, using(crate::proofs::Texts::number_of_fault))]
+#[tactic(auto, using(crate::proofs::Results::number_of_fault))]
 #[unsafe(no_mangle)]
 pub extern "C" fn kus_font_create(
     alloc: Global,
@@ -128,9 +117,6 @@ pub extern "C" fn kus_font_create(
     let read = match Font::read(alloc, tables, json) {
         Ok(read) => read,
         Err(fault) => return fault_number(fault),
-    };
-    let Ok(read) = Box::new(alloc, read) else {
-        return OUT_OF_MEMORY;
     };
     font.put(alloc, read);
     OK
@@ -154,9 +140,6 @@ pub extern "C" fn kus_font_reference(alloc: Global, font: &mut Handle, other: &m
     let Ok(another) = another else {
         return OUT_OF_MEMORY;
     };
-    let Ok(another) = Box::new(alloc, another) else {
-        return OUT_OF_MEMORY;
-    };
     other.put(alloc, another);
     OK
 }
@@ -172,7 +155,7 @@ pub extern "C" fn kus_font_destroy(alloc: Global, font: &mut Handle)
 
 /// Shapes a text, and writes its glyphs and their positions, as many as there is room for, and how many there are; on a
 /// fault there are none.
-#[tactic(auto, using(crate::proofs::Texts::number_of_fault, crate::proofs::Texts::no_infos, crate::proofs::Texts::no_positions))]
+#[tactic(auto, using(crate::proofs::Results::number_of_fault, crate::proofs::Results::no_infos, crate::proofs::Results::no_positions))]
 #[unsafe(no_mangle)]
 pub extern "C" fn kus_shape(
     alloc: Global,
@@ -207,7 +190,7 @@ pub extern "C" fn kus_shape(
 }
 
 /// Writes the glyphs of the last text and their positions, as many as there is room for; answers how many there are.
-#[tactic(auto, using(crate::proofs::Texts::no_infos, crate::proofs::Texts::no_positions))]
+#[tactic(auto, using(crate::proofs::Results::no_infos, crate::proofs::Results::no_positions))]
 #[unsafe(no_mangle)]
 pub extern "C" fn kus_get_glyphs(
     alloc: Global,

@@ -2,36 +2,21 @@
 //! leaves the font as it was.
 //!
 //! The calls for tags of features and of scripts have one form, over rows of two types.
-ghost use Rattle.std.specs.Prelude.{◌≡◌, ◌≢◌, IfNone, OnSome, Some, None, is_some, length, unwrap_or};
-ghost use Rattle.std.specs.Option.{option_copied, option_map};
-ghost use Rattle.layout_face.specs.Glyphs.{nominal_glyph};
+ghost use Rattle.std.specs.Prelude.{◌≡◌, ◌≢◌, is_some, length, unwrap_or};
+ghost use Rattle.std.specs.Option.{option_map};
 ghost use Rattle.c_text.specs.Numbers.{direction_number, script_number};
 ghost use Rattle.c_text.specs.Written.{extents_of, with_front};
-ghost use Rattle.kuspveli_c.specs.Fonts.{glyphs_of, segment_in};
-ghost use Rattle.kuspveli_c.specs.Queries.{AreSlicesOf, IsSlicesFault, IsSlicesRefusal, ascender_in, extents_in, feature_tags, feature_tags_in, glyph_in, layout_in, name_in, script_tags, script_tags_in, upem_in};
+ghost use Rattle.c_text.specs.Fonts.{glyphs_of, segment_in};
+ghost use Rattle.c_text.specs.Queries.{AreSlicesOf, IsSlicesFault, ascender_in, extents_in, feature_tags_in, glyph_in, name_in, script_tags_in, upem_in};
 
-use crate::font::Font;
-use crate::handle::Handle;
-use buffer_wrappers::glyphs::GlyphBuffer;
-use c_text::numbers::{direction_number, script_number};
+use c_text::handle::Handle;
+use c_text::numbers::{NO_FONT, direction_number, script_number};
+use c_text::queries::{
+    glyph_extents, glyph_name, layout_in, nominal_glyph, write_feature_tags, write_script_tags,
+};
 use c_text::types::{kus_glyph_extents_t, kus_slice_t};
-use c_text::written::{extents_of, write_front};
-use layout_face::Face;
-use layout_tables::table::ScriptsAndFeatures;
-use shape_slices::fitting::slices_fit;
-use shape_slices::slices::source_slices;
-use shell_readers::values::utf8;
+use c_text::written::write_front;
 use std::alloc::Global;
-
-const OK: u32 = 0;
-
-const OUT_OF_MEMORY: u32 = 1;
-
-const NOT_UTF8: u32 = 10;
-
-const NO_FONT: u32 = 16;
-
-const NO_SLICES: u32 = 18;
 
 /// The version of the library: each of its three numbers in a byte, 0.1.0 as 0x000100.
 #[unsafe(no_mangle)]
@@ -71,7 +56,7 @@ pub extern "C" fn kus_get_script(alloc: Global, font: &mut Handle) -> u32
 
 /// Each run of the last text's glyphs with one cluster, and the bytes of the text that it comes from, as many as there is room
 /// for, and how many there are; none where the glyphs don't fit the text.
-#[tactic(auto, using(crate::proofs::Slices::glyphs_put_back, crate::proofs::Slices::slices_of_font, crate::proofs::Slices::font_refuses_slices))]
+#[tactic(auto, using(crate::proofs::Slices::slices_of_font, crate::proofs::Slices::font_refuses_slices))]
 #[unsafe(no_mangle)]
 pub extern "C" fn kus_get_slices(
     alloc: Global,
@@ -89,38 +74,9 @@ pub extern "C" fn kus_get_slices(
     let Some(mut shown) = font.take(alloc) else {
         return NO_FONT;
     };
-    let glyphs = shown.take_glyphs(alloc);
-    let status = write_slices(alloc, &glyphs, text, slices, count);
-    shown.put_glyphs(glyphs);
+    let status = shown.write_slices(alloc, text, slices, count);
     font.put(alloc, shown);
     status
-}
-
-#[tactic(auto, using(crate::proofs::Slices::slices_of_bytes))]
-fn write_slices(
-    alloc: Global,
-    glyphs: &GlyphBuffer,
-    text: &[u8],
-    slices: &mut [kus_slice_t],
-    count: &mut usize,
-) -> u32
-    requires { count.old ≡ 0 }
-    ensures slices { result ≡ 0 → AreSlicesOf glyphs.now text.now slices.old slices.new count.new }
-    ensures refused { result ≢ 0 → result ≢ 1 → IsSlicesRefusal glyphs.now text.now result }
-    ensures none { result ≢ 0 → (count.new ≡ 0) × (slices.new ≡ slices.old) }
-{
-    let Some(text) = utf8(text) else {
-        return NOT_UTF8;
-    };
-    if !slices_fit(glyphs, text) {
-        return NO_SLICES;
-    }
-    let Ok(found) = source_slices(alloc, glyphs, text) else {
-        return OUT_OF_MEMORY;
-    };
-    *count = found.len();
-    write_front(found.as_slice(), slices);
-    OK
 }
 
 /// The units of the font's em, 0 where there is no font.
@@ -176,12 +132,6 @@ pub extern "C" fn kus_font_get_nominal_glyph(
     true
 }
 
-fn nominal_glyph(font: &Font, unicode: u32) -> Option<u16>
-    ensures { result ≡ glyph_in (Some font.now) unicode }
-{
-    font.face().get_nominal_glyph(char::from_u32(unicode)?)
-}
-
 /// The name of a glyph in UTF-8, as many bytes as there is room for; answers how many there are, 0 where the font gives none.
 #[unsafe(no_mangle)]
 pub extern "C" fn kus_font_get_glyph_name(
@@ -202,18 +152,6 @@ pub extern "C" fn kus_font_get_glyph_name(
     let count = found.len();
     font.put(alloc, shown);
     count
-}
-
-fn glyph_name(font: &Font, glyph: u32) -> &[u8]
-    ensures { result.now ≡ name_in (Some font.now) glyph }
-{
-    let Ok(glyph) = u16::try_from(glyph) else {
-        return b"";
-    };
-    match font.face().glyph_name(glyph) {
-        Some(name) => name.as_bytes(),
-        None => b"",
-    }
 }
 
 /// Whether the font gives the box of a glyph's ink, which is then written.
@@ -238,18 +176,6 @@ pub extern "C" fn kus_font_get_glyph_extents(
     };
     *extents = found;
     true
-}
-
-fn glyph_extents(font: &Font, glyph: u32) -> Option<kus_glyph_extents_t>
-    ensures { result ≡ option_map extents_of (extents_in (Some font.now) glyph) }
-{
-    let Ok(glyph) = u16::try_from(glyph) else {
-        return None;
-    };
-    match font.face().glyph_extents(glyph) {
-        Some(extents) => Some(extents_of(extents)),
-        None => None,
-    }
 }
 
 /// The tags of the features of a layout table, GSUB or GPOS, as many as there is room for, in the order of their indices;
@@ -291,37 +217,4 @@ pub extern "C" fn kus_font_get_script_tags(
     let count = write_script_tags(layout_in(shown.face(), table), tags);
     font.put(alloc, shown);
     count
-}
-
-/// The lists of the layout table that a tag names.
-fn layout_in(face: &Face, table: u32) -> Option<&ScriptsAndFeatures>
-    ensures { option_copied result ≡ layout_in face.now table }
-{
-    match table {
-        0x47535542 => face.gsub().map(|gsub| &gsub.inner),
-        0x47504F53 => face.gpos().map(|gpos| &gpos.inner),
-        _ => None,
-    }
-}
-
-fn write_feature_tags(layout: Option<&ScriptsAndFeatures>, tags: &mut [u32]) -> usize
-    ensures count { result ≡ length (feature_tags (option_copied layout.entry)) }
-    ensures tags { tags.new ≡ with_front (feature_tags (option_copied layout.entry)) tags.old }
-{
-    let Some(layout) = layout else {
-        return 0;
-    };
-    write_front(layout.features(), tags);
-    layout.features().len()
-}
-
-fn write_script_tags(layout: Option<&ScriptsAndFeatures>, tags: &mut [u32]) -> usize
-    ensures count { result ≡ length (script_tags (option_copied layout.entry)) }
-    ensures tags { tags.new ≡ with_front (script_tags (option_copied layout.entry)) tags.old }
-{
-    let Some(layout) = layout else {
-        return 0;
-    };
-    write_front(layout.scripts(), tags);
-    layout.scripts().len()
 }

@@ -1,5 +1,5 @@
 use Rattle.std.proofs.Common.{Some, ap, ◌∙◌}
-use Rattle.kuspveli_c.proofs.Texts.{tables_were_read}
+use Rattle.kuspveli_c.proofs.Results.{tables_were_read}
 use Rattle.kuspveli_c.proofs.calls.kus_tables_create.Goals as goal
 
 pub returns-clause-read : goal.returns-clause-read

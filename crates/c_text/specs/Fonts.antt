@@ -1,0 +1,113 @@
+-- Fonts as C keeps them, and what a call gives.
+use Rattle.std.specs.Prelude.{ℕ, ◌≡◌, ◌⊎◌, List, Option, Some, None, Ok}
+use Rattle.std.specs.Option.{option_map, option_map_or}
+use Rattle.buffer_core.specs.Segment.{after_guess_segment_properties}
+use Rattle.buffer_core.specs.Sides.{Sides, empty_buffer}
+use Rattle.buffer_glyphs.specs.declared.cause.ShapeCause.{ShapeCause}
+use Rattle.buffer_tags.specs.declared.feature.Feature.{Feature}
+use Rattle.buffer_tags.specs.LanguageTable.{tags_of_table}
+use Rattle.script_categories.specs.LongestMatch.{syllable_at}
+use Rattle.shape_pipeline.specs.Results.{IsRefusedBy, IsShapedBy}
+use Rattle.shape_pipeline.specs.Shaped.{by_text}
+use Rattle.shape_pipeline.specs.Shaping.{Shaping}
+use Rattle.shell_readers.specs.declared.fault.RunFault.{RunFault}
+use Rattle.shell_readers.specs.declared.input.RunInput.{RunInput}
+use Rattle.shell_readers.specs.Fault.{fault_of_cause}
+use Rattle.shell_readers.specs.Input.{IsInput, font_in, input_value}
+use Rattle.shell_readers.specs.declared.tables.TextTables.{TextTables}
+use Rattle.shell_readers.specs.Tables.{AreLawfulTables, tables_value}
+use Rattle.c_text.specs.declared.segment.Segment.{Segment}
+use Rattle.c_text.specs.declared.segment.TheConstants.{NO_SEGMENT}
+use Rattle.c_text.specs.declared.types.kus_text_t.{kus_text_t}
+use Rattle.c_text.specs.Numbers.{fault_number}
+use Rattle.c_text.specs.Texts.{IsTextOf, features_of, text_fault}
+
+-- a font with its tables, and of the last text that was shaped in it the glyphs, the direction and the script
+pub record KeptFont : Type 0 where
+  pub input : RunInput
+  pub glyphs : Sides
+  pub segment : Segment
+
+-- a font in which no text was shaped
+abbrev pub new_font : RunInput → KeptFont
+new_font input = record { input = input; glyphs = empty_buffer; segment = NO_SEGMENT }
+
+-- the glyphs of a font's last text; none where there is no font
+abbrev pub glyphs_of : Option KeptFont → Sides
+glyphs_of None = empty_buffer
+glyphs_of (Some f) = f.glyphs
+
+-- what was read of the font, if there is one
+abbrev pub input_of : Option KeptFont → Option RunInput
+input_of font = option_map (λ (f : KeptFont). f.input) font
+
+-- the direction and the script by which a font's last text was shaped; none where there is no font or no text
+abbrev pub segment_in : Option KeptFont → Segment
+segment_in font = option_map_or (λ (f : KeptFont). f.segment) font NO_SEGMENT
+
+-- a font is what the reader answers to the bytes of tables and of a font
+pub record HasRead (tables font : List ℕ) (kept : Option KeptFont) : Type 0 where
+  pub input : RunInput
+  pub read : IsInput tables font (Ok (input_value input))
+  pub new : kept ≡ Some (new_font input)
+
+-- a font is what the reader answers to its bytes, over tables that are there
+pub record HasReadOver (shared : Option TextTables) (font : List ℕ) (kept : Option KeptFont) : Type 0 where
+  pub input : RunInput
+  pub tables : shared ≡ Some input.tables
+  pub read : font_in font ≡ Ok input.face
+  pub new : kept ≡ Some (new_font input)
+
+-- tables are lawful, and what the reader answers to bytes
+pub record HasReadTables (bytes : List ℕ) (kept : Option TextTables) : Type 0 where
+  pub tables : TextTables
+  pub read : AreLawfulTables bytes (Ok (tables_value tables))
+  pub same : kept ≡ Some tables
+
+-- ---- texts
+
+-- the `Shaping` of a text with features, by what was read
+abbrev pub shaping : RunInput → List Feature → Sides → Shaping
+shaping input features text =
+    by_text input.face input.tables.characters (tags_of_table input.tables.languages) (syllable_at input.tables.syllables) features text
+
+-- glyphs, their positions, clusters and flags are those of a buffer's reading, with its script and direction guessed where
+-- they are not set
+abbrev pub AreShaped : RunInput → List Feature → Sides → Sides → Type 0
+AreShaped input features text glyphs =
+    IsShapedBy (shaping input features (after_guess_segment_properties text)) (after_guess_segment_properties text) glyphs
+
+-- a fault names the cause for which a buffer's reading is refused
+pub record IsUnshaped (input : RunInput) (features : List Feature) (text : Sides) (e : RunFault) : Type 0 where
+  pub cause : ShapeCause
+  pub refused : IsRefusedBy (shaping input features (after_guess_segment_properties text)) (after_guess_segment_properties text) cause
+  pub named : e ≡ fault_of_cause cause
+
+-- glyphs are those of a text of C, with the features that it requests
+pub record AreGlyphsOf (input : RunInput) (t : kus_text_t) (glyphs : Sides) : Type 0 where
+  pub buffer : Sides
+  pub of_text : IsTextOf t buffer
+  pub shaped : AreShaped input (features_of t) buffer glyphs
+
+-- a text of C has a direction and a script: those that it sets, else those that its characters have
+pub record HasSegmentOf (t : kus_text_t) (segment : Segment) : Type 0 where
+  pub buffer : Sides
+  pub of_text : IsTextOf t buffer
+  pub direction : segment.direction ≡ (after_guess_segment_properties buffer).direction
+  pub script : segment.script ≡ (after_guess_segment_properties buffer).script
+
+-- a text of C has a buffer, whose reading is refused with a fault
+pub record IsUnshapedText (input : RunInput) (t : kus_text_t) (e : RunFault) : Type 0 where
+  pub buffer : Sides
+  pub of_text : IsTextOf t buffer
+  pub unshaped : IsUnshaped input (features_of t) buffer e
+
+-- the fault of a text of C: that of its bytes, or the one with which its reading is refused
+abbrev pub IsFaultOf : RunInput → kus_text_t → RunFault → Type 0
+IsFaultOf input t e = (text_fault t ≡ Some e) ⊎ IsUnshapedText input t e
+
+-- a number is that of a fault for which something holds
+pub record IsNumberOf (Holds : RunFault → Type 0) (number : ℕ) : Type 0 where
+  pub fault : RunFault
+  pub same : number ≡ fault_number fault
+  pub holds : Holds fault

@@ -1,0 +1,231 @@
+//! A font as handles keep it: what was read, which they share; plans for texts like the last ones; the last text's glyphs.
+ghost use Rattle.std.specs.Prelude.{◌≡◌, ◌≢◌, IfErr, IfOk, Ok, Err, OnErr, OnOk, false, length, map};
+ghost use Rattle.buffer_core.specs.Sides.{all_glyphs, empty_buffer};
+ghost use Rattle.c_text.specs.Written.{info_of, position_of, with_front};
+ghost use Rattle.shell_readers.specs.Input.{IsInput, font_in, input_value};
+ghost use Rattle.c_text.specs.Fonts.{AreGlyphsOf, HasSegmentOf, IsFaultOf, new_font};
+ghost use Rattle.c_text.specs.Plans.{HasPlansOf};
+ghost use Rattle.c_text.specs.Queries.{AreSlicesOf, IsSlicesRefusal};
+
+use crate::input::{Input, Tables};
+use crate::plan::{KEPT_PLANS, shape_kept};
+use crate::queries::write_slices;
+use crate::segment::{NO_SEGMENT, Segment, segment_of};
+use crate::texts::{features_of, put_text};
+use crate::types::{kus_glyph_info_t, kus_glyph_position_t, kus_slice_t, kus_text_t};
+use crate::written::write_front;
+use buffer_core::buffer::hb_buffer_t;
+use buffer_wrappers::glyphs::GlyphBuffer;
+use layout_face::Face;
+use plan_cache::PlanCache;
+use shell_readers::fault::RunFault;
+use std::alloc::{AllocError, Global};
+use std::marker::Model;
+use std::mem;
+
+/// A font with its tables, and the glyphs of the last text that was shaped in it.
+#[derive(Drop)]
+pub struct Font {
+    input: Input,
+    plans: PlanCache,
+    // The last text's glyphs, in the buffer in which the next text is shaped.
+    buffer: hb_buffer_t,
+    segment: Segment,
+}
+
+impl Model for Font {
+    ghost use Rattle.c_text.specs.Fonts.{KeptFont};
+
+    ghost Value = { KeptFont };
+
+    ghost use Rattle.c_text.specs.Plans.{HasPlansOf};
+    ghost use Rattle.std.specs.Prelude.{◌≡◌, false};
+
+    ghost view = { λ f. record { input = f.input; glyphs = f.buffer; segment = f.segment } };
+
+    ghost invariant = { λ f. (HasPlansOf f.input f.plans) × (f.buffer.is_open ≡ false) };
+}
+
+impl Font {
+    /// Of tables and a font; no text was shaped.
+    fn new(alloc: Global, input: Input) -> Result<Box<Font>, AllocError>
+        ensures { IfOk result (λ f. f.value ≡ new_font input) }
+    {
+        let font = Font {
+            input,
+            plans: PlanCache::new(alloc, KEPT_PLANS),
+            buffer: hb_buffer_t::new(alloc),
+            segment: NO_SEGMENT,
+        };
+        let made = Box::new(alloc, font)?;
+        Ok(made)
+    }
+
+    /// Reads tables and a font.
+    #[tactic(auto, using(crate::proofs::Fonts::input_of_font, crate::proofs::Fonts::fault_of_tables, crate::proofs::Fonts::fault_of_font))]
+    pub fn read(alloc: Global, tables: &[u8], font: &[u8]) -> Result<Box<Font>, RunFault>
+        ensures new { IfOk result (λ f. f.value ≡ new_font f.value.input) }
+        ensures ok { IfOk result (λ f. IsInput tables.now font.now (Ok (input_value f.value.input))) }
+        ensures refused { IfErr result (λ e. e ≢ RunFault.OutOfMemory → IsInput tables.now font.now (Err e)) }
+    {
+        let tables = Tables::read(alloc, tables)?;
+        let input = Input::read(alloc, tables, font)?;
+        let made = Font::new(alloc, input)?;
+        Ok(made)
+    }
+
+    /// Reads a font over tables, which it shares.
+    pub fn read_over(alloc: Global, tables: &Tables, font: &[u8]) -> Result<Box<Font>, RunFault>
+        ensures new { IfOk result (λ f. f.value ≡ new_font f.value.input) }
+        ensures tables { IfOk result (λ f. f.value.input.tables ≡ tables.now) }
+        ensures ok { IfOk result (λ f. font_in font.now ≡ Ok f.value.input.face) }
+        ensures refused { IfErr result (λ e. e ≢ RunFault.OutOfMemory → font_in font.now ≡ Err e) }
+    {
+        let tables = tables.another()?;
+        let input = Input::read(alloc, tables, font)?;
+        let made = Font::new(alloc, input)?;
+        Ok(made)
+    }
+
+    /// The same font for another handle, which shares what was read.
+    pub fn another(&self, alloc: Global) -> Result<Box<Font>, AllocError>
+        ensures { IfOk result (λ f. f.value ≡ new_font self.now.input) }
+    {
+        let input = self.input.another()?;
+        Font::new(alloc, input)
+    }
+
+    /// What was read of the font.
+    pub fn face(&self) -> &Face
+        ensures { result.now ≡ self.now.input.face }
+    {
+        self.input.face()
+    }
+
+    /// Takes the last text's glyphs out, and leaves none.
+    fn take_glyphs(&mut self, alloc: Global) -> GlyphBuffer
+        ensures glyphs { result ≡ self.old.glyphs }
+        ensures left { self.new ≡ record self.old { glyphs = empty_buffer } }
+    {
+        GlyphBuffer::from_buffer(mem::replace(&mut self.buffer, hb_buffer_t::new(alloc)))
+    }
+
+    /// Puts the last text's glyphs back.
+    fn put_glyphs(&mut self, glyphs: GlyphBuffer)
+        ensures { self.new ≡ record self.old { glyphs = glyphs } }
+    {
+        self.buffer = glyphs.into_buffer();
+    }
+
+    /// Writes the slices of the last text, as many as there is room for, and how many there are; answers a status.
+    #[tactic(auto, using(crate::proofs::Slices::glyphs_put_back, crate::proofs::Slices::slices_of_taken, crate::proofs::Slices::taken_refuse_slices))]
+    pub fn write_slices(
+        &mut self,
+        alloc: Global,
+        text: &[u8],
+        slices: &mut [kus_slice_t],
+        count: &mut usize,
+    ) -> u32
+        requires { count.old ≡ 0 }
+        ensures same { self.new ≡ self.old }
+        ensures slices { result ≡ 0 → AreSlicesOf self.old.glyphs text.now slices.old slices.new count.new }
+        ensures refused { result ≢ 0 → result ≢ 1 → IsSlicesRefusal self.old.glyphs text.now result }
+        ensures none { result ≢ 0 → (count.new ≡ 0) × (slices.new ≡ slices.old) }
+    {
+        let glyphs = self.take_glyphs(alloc);
+        let status = write_slices(alloc, &glyphs, text, slices, count);
+        self.put_glyphs(glyphs);
+        status
+    }
+
+    /// The direction and the script by which the last text was shaped.
+    pub fn segment(&self) -> Segment
+        ensures { result ≡ self.now.segment }
+    {
+        self.segment
+    }
+
+    /// Shapes a text, whose glyphs are then the last ones; on a fault there are none.
+    pub fn shape(&mut self, alloc: Global, text: &kus_text_t<'_>) -> Result<(), RunFault>
+        ensures input { self.new.input ≡ self.old.input }
+        ensures ok { OnOk result (AreGlyphsOf self.old.input text.now self.new.glyphs) }
+        ensures segment { OnOk result (HasSegmentOf text.now self.new.segment) }
+        ensures none { OnErr result (self.new ≡ new_font self.old.input) }
+        ensures refused { IfErr result (λ e. e ≢ RunFault.OutOfMemory → IsFaultOf self.old.input text.now e) }
+    {
+        self.segment = NO_SEGMENT;
+        self.segment = shape_into(alloc, &self.input, &mut self.plans, &mut self.buffer, text)?;
+        Ok(())
+    }
+
+    /// Writes the last text's glyphs and their positions, as many as there is room for; answers how many there are.
+    pub fn write_glyphs(
+        &self,
+        infos: &mut [kus_glyph_info_t],
+        positions: &mut [kus_glyph_position_t],
+    ) -> usize
+        ensures count { result ≡ length (all_glyphs self.now.glyphs) }
+        ensures infos { infos.new ≡ with_front (map info_of (all_glyphs self.now.glyphs)) infos.old }
+        ensures positions { positions.new ≡ with_front (map position_of self.now.glyphs.positions) positions.old }
+    {
+        write_front(self.buffer.info_slice(), infos);
+        write_front(self.buffer.pos_slice(), positions);
+        self.buffer.len()
+    }
+}
+
+/// Shapes a text in the storage of the glyphs before it; answers by which direction and script.
+fn shape_into(
+    alloc: Global,
+    input: &Input,
+    plans: &mut PlanCache,
+    buffer: &mut hb_buffer_t,
+    text: &kus_text_t<'_>,
+) -> Result<Segment, RunFault>
+    requires { HasPlansOf input.now plans.old }
+    ensures plans { HasPlansOf input.now plans.new }
+    ensures ok { OnOk result (AreGlyphsOf input.now text.now buffer.new) }
+    ensures segment { IfOk result (HasSegmentOf text.now) }
+    ensures none { OnErr result (buffer.new ≡ empty_buffer) }
+    ensures refused { IfErr result (λ e. e ≢ RunFault.OutOfMemory → IsFaultOf input.now text.now e) }
+    ensures closed { buffer.new.is_open ≡ false }
+{
+    buffer.clear();
+    match shape_text(alloc, input, plans, text, buffer) {
+        Ok(segment) => Ok(segment),
+        Err(fault) => {
+            buffer.clear();
+            Err(fault)
+        }
+    }
+}
+
+/// Shapes a text in an empty buffer.
+#[tactic(auto, using(crate::proofs::Fonts::glyphs_of_text, crate::proofs::Fonts::segment_of_text, crate::proofs::Fonts::fault_of_bytes, crate::proofs::Fonts::fault_of_reading))]
+fn shape_text(
+    alloc: Global,
+    input: &Input,
+    plans: &mut PlanCache,
+    text: &kus_text_t<'_>,
+    buffer: &mut hb_buffer_t,
+) -> Result<Segment, RunFault>
+    requires plans { HasPlansOf input.now plans.old }
+    requires empty { buffer.old ≡ empty_buffer }
+    ensures plans { HasPlansOf input.now plans.new }
+    ensures ok { OnOk result (AreGlyphsOf input.now text.now buffer.new) }
+    ensures segment { IfOk result (HasSegmentOf text.now) }
+    ensures refused { IfErr result (λ e. e ≢ RunFault.OutOfMemory → IsFaultOf input.now text.now e) }
+    ensures closed { OnOk result (buffer.new.is_open ≡ false) }
+{
+    let features = features_of(alloc, text)?;
+    put_text(alloc, text, buffer)?;
+    shape_kept(alloc, input, plans, &features, buffer)?;
+    Ok(segment_of(buffer))
+}
+
+fn is_send<T: Send>(_value: &T) {}
+
+/// A font may be moved to another thread.
+pub fn law_fonts_cross_threads(font: &Font) {
+    is_send(font);
+}

@@ -1,0 +1,47 @@
+-- What the calls leave in handles and arrays, and the numbers that they answer.
+use Rattle.std.proofs.Common.{ℕ, ◌≡◌, ◌≢◌, ◌++◌, List, [], map, length, sym, ap, subst, ◌∙◌}
+use Rattle.std.specs.Prelude.{Option, Some, None, Ok}
+use Rattle.std.proofs.Math.Seq.{take-nil}
+use Rattle.buffer_core.specs.Sides.{all_glyphs}
+use Rattle.c_text.specs.declared.types.kus_glyph_info_t.{kus_glyph_info_t}
+use Rattle.c_text.specs.declared.types.kus_glyph_position_t.{kus_glyph_position_t}
+use Rattle.c_text.specs.Fonts.{HasRead, HasReadOver, HasReadTables, IsNumberOf, KeptFont, glyphs_of, new_font}
+use Rattle.c_text.specs.Numbers.{fault_number}
+use Rattle.c_text.specs.Written.{info_of, position_of, with_front}
+use Rattle.shell_readers.specs.declared.fault.RunFault.{RunFault}
+use Rattle.shell_readers.specs.declared.fault.RunFault.TheVariants.{OutOfMemory}
+use Rattle.shell_readers.specs.declared.tables.TextTables.{TextTables}
+use Rattle.shell_readers.specs.Input.{IsInput, font_in, input_value}
+use Rattle.shell_readers.specs.Tables.{AreLawfulTables, tables_value}
+
+-- a fault whose number is not that of lack of memory is no lack of memory
+pub number_of_fault : (Holds : RunFault → Type 0) (e : RunFault) (number : ℕ) → number ≡ fault_number e → (e ≢ OutOfMemory → Holds e) → number ≢ 1 → IsNumberOf Holds number
+number_of_fault Holds e number same holds memory =
+    record { fault = e; same = same; holds = holds (λ none. memory (same ∙ ap fault_number none)) }
+
+-- ---- tables, and fonts over them
+
+pub tables_were_read : (bytes : List ℕ) (t : TextTables) (kept : Option TextTables) → kept ≡ Some t → AreLawfulTables bytes (Ok (tables_value t)) → HasReadTables bytes kept
+tables_were_read bytes t kept same read = record { tables = t; read = read; same = same }
+
+pub font_was_read_over : (tables : Option TextTables) (t : TextTables) (font : List ℕ) (f : KeptFont) (kept : Option KeptFont) → tables ≡ Some t → kept ≡ Some f
+    → f ≡ new_font f.input → f.input.tables ≡ t → font_in font ≡ Ok f.input.face → HasReadOver tables font kept
+font_was_read_over tables t font f kept there same new shared read = record { input = f.input; tables = there ∙ ap Some (sym shared); read = read; new = same ∙ ap Some new }
+
+pub font_was_read : (tables font : List ℕ) (f : KeptFont) (kept : Option KeptFont) → kept ≡ Some f → f ≡ new_font f.input → IsInput tables font (Ok (input_value f.input)) → HasRead tables font kept
+font_was_read tables font f kept same new read = record { input = f.input; read = read; new = same ∙ ap Some new }
+
+-- ---- where there is no font, nothing is written
+
+none_written : {A : Type 0} (room : List A) → with_front [] room ≡ room
+none_written room = ap (λ l. l ++ room) (take-nil (length room))
+
+pub no_infos : (font : Option KeptFont) (room now : List kus_glyph_info_t) → font ≡ None → now ≡ room → now ≡ with_front (map info_of (all_glyphs (glyphs_of font))) room
+no_infos font room now none same =
+    let P : Option KeptFont → Type 0 = λ f. now ≡ with_front (map info_of (all_glyphs (glyphs_of f))) room in
+    subst P (sym none) (same ∙ sym (none_written room))
+
+pub no_positions : (font : Option KeptFont) (room now : List kus_glyph_position_t) → font ≡ None → now ≡ room → now ≡ with_front (map position_of (glyphs_of font).positions) room
+no_positions font room now none same =
+    let P : Option KeptFont → Type 0 = λ f. now ≡ with_front (map position_of (glyphs_of f).positions) room in
+    subst P (sym none) (same ∙ sym (none_written room))
