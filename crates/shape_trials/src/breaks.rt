@@ -3,6 +3,7 @@
 ghost use Rattle.std.specs.Prelude.{◌≡◌, ◌↔◌, ◌++◌, None, IfOk, IsTrue, OnOk};
 ghost use Rattle.shape_trials.specs.Breaks.{KeepGraphemes, KeepTypes, cut_before, cuts_after, is_cut, is_safe_at};
 
+use crate::alike::Answer;
 use crate::joined::are_of_pieces;
 use crate::pieces::{Piece, pieces_at};
 use crate::premises::{
@@ -18,7 +19,7 @@ use shell_readers::fault::RunFault;
 use std::alloc::{AllocError, Global};
 
 /// The breaks of a text that were tried.
-#[derive(Clone, Copy, PartialEq, Eq, Debug, Default)]
+#[derive(Clone, Copy, Default)]
 pub(crate) struct Tried {
     pub(crate) count: u64,
     /// At how many of them pieces differ where a premise is in doubt.
@@ -33,17 +34,17 @@ impl Tried {
         Tried {
             count: self
                 .count
-                .saturating_add(u64::from(found != Found::PassedOver)),
+                .saturating_add(u64::from(!matches!(found, Found::PassedOver))),
             unsure: self
                 .unsure
-                .saturating_add(u64::from(found == Found::Unsure)),
-            is_different: self.is_different || found == Found::Different,
+                .saturating_add(u64::from(matches!(found, Found::Unsure))),
+            is_different: self.is_different || matches!(found, Found::Different),
         }
     }
 }
 
 /// What was found at a break.
-#[derive(Clone, Copy, PartialEq, Eq, Debug)]
+#[derive(Clone, Copy)]
 enum Found {
     /// The text may not be cut there.
     PassedOver,
@@ -59,16 +60,26 @@ pub(crate) fn try_breaks(
     plan: &ShapePlan,
     level: BufferClusterLevel,
 ) -> Result<Tried, RunFault> {
-    let mut tried = Tried::default();
     if !is_native(plan.script_plan.direction, plan.script_plan.script) {
-        return Ok(tried);
+        return Ok(Tried::default());
     }
     let whole = Piece::whole(trial.text, level);
-    let Ok(glyphs) = whole.shaped(trial, plan)? else {
-        return Ok(tried);
-    };
+    match whole.shaped(trial, plan)? {
+        Ok(glyphs) => try_cuts(trial, plan, level, &glyphs),
+        Err(_) => Ok(Tried::default()),
+    }
+}
+
+/// Tries each safe break of a text with the glyphs of the whole.
+fn try_cuts(
+    trial: &Trial<'_>,
+    plan: &ShapePlan,
+    level: BufferClusterLevel,
+    glyphs: &GlyphBuffer,
+) -> Result<Tried, RunFault> {
+    let mut tried = Tried::default();
     for cut in cuts(trial.alloc, glyphs.glyph_infos())? {
-        tried = tried.with(found_at(trial, plan, level, &glyphs, cut)?);
+        tried = tried.with(found_at(trial, plan, level, glyphs, cut)?);
     }
     Ok(tried)
 }
@@ -127,12 +138,10 @@ fn found_at(
     if !may_be_cut(plan.shaper, early.text, late.text) {
         return Ok(Found::PassedOver);
     }
-    let (Ok(first), Ok(second)) = (early.shaped(trial, plan)?, late.shaped(trial, plan)?) else {
-        return Ok(Found::Unsure);
-    };
-    let is_backward = plan.script_plan.direction.is_backward();
-    if are_of_pieces(trial.alloc, is_backward, glyphs, &first, &second)? {
-        return Ok(Found::Alike);
+    match are_alike(trial, plan, glyphs, &early, &late)? {
+        Some(true) => return Ok(Found::Alike),
+        Some(false) => {}
+        None => return Ok(Found::Unsure),
     }
     let is_sure = leave_budget(trial, plan, level, &early, &late)? && is_sure(trial, plan);
     Ok(if is_sure {
@@ -140,6 +149,35 @@ fn found_at(
     } else {
         Found::Unsure
     })
+}
+
+/// Whether the pieces have the glyphs of the whole, `None` where one is refused.
+fn are_alike(
+    trial: &Trial<'_>,
+    plan: &ShapePlan,
+    glyphs: &GlyphBuffer,
+    early: &Piece<'_>,
+    late: &Piece<'_>,
+) -> Result<Option<bool>, RunFault> {
+    let first = early.shaped(trial, plan)?;
+    let second = late.shaped(trial, plan)?;
+    are_of_answers(trial, plan, glyphs, &first, &second)
+}
+
+/// Whether the glyphs of the whole are those of two answers, `None` where one is a refusal.
+fn are_of_answers(
+    trial: &Trial<'_>,
+    plan: &ShapePlan,
+    glyphs: &GlyphBuffer,
+    first: &Answer,
+    second: &Answer,
+) -> Result<Option<bool>, RunFault> {
+    let (Ok(first), Ok(second)) = (first, second) else {
+        return Ok(None);
+    };
+    let is_backward = plan.script_plan.direction.is_backward();
+    let is_same = are_of_pieces(trial.alloc, is_backward, glyphs, first, second)?;
+    Ok(Some(is_same))
 }
 
 /// Whether the whole and its pieces each leave some of their budget of nested lookups.

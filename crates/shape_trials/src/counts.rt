@@ -4,7 +4,7 @@ use crate::breaks::Tried;
 use crate::promise::Promise;
 
 /// What a case showed.
-#[derive(Clone, Copy, PartialEq, Eq, Debug)]
+#[derive(Clone, Copy)]
 pub(crate) enum Outcome {
     /// No lawful tables with a font, or no settings, stand before its text.
     PassedOver,
@@ -13,7 +13,7 @@ pub(crate) enum Outcome {
 }
 
 /// What the answers to a case showed.
-#[derive(Clone, Copy, PartialEq, Eq, Debug)]
+#[derive(Clone, Copy)]
 pub(crate) struct Tested {
     /// The first promise that an answer breaks.
     pub(crate) broken: Option<Promise>,
@@ -39,7 +39,7 @@ impl Tested {
 }
 
 /// How many cases there were.
-#[derive(Clone, Copy, PartialEq, Eq, Debug, Default)]
+#[derive(Clone, Copy, Default)]
 pub(crate) struct Counts {
     pub(crate) cases: u64,
     /// How many of them stood over lawful tables, and were tested.

@@ -10,7 +10,7 @@ use buffer_wrappers::glyphs::GlyphBuffer;
 use std::alloc::{AllocError, Global};
 
 /// What a caller reads of a glyph.
-#[derive(Clone, Copy, PartialEq, Eq, Debug)]
+#[derive(Clone, Copy, PartialEq, Eq)]
 pub(crate) struct SeenGlyph {
     pub(crate) glyph_id: u32,
     pub(crate) cluster: u32,
@@ -67,7 +67,7 @@ fn have_glyphs(
 fn seen_glyphs(alloc: Global, glyphs: &[hb_glyph_info_t]) -> Result<Vec<SeenGlyph>, AllocError>
     ensures { IfOk result (λ v. v.items ≡ map seen_glyph glyphs.now) }
 {
-    glyphs.iter().map(|glyph| seen_glyph(glyph)).collect(alloc)
+    glyphs.iter().map(seen_glyph).collect(alloc)
 }
 
 fn joined_glyphs(
@@ -119,10 +119,7 @@ fn positions_without_links(
 ) -> Result<Vec<GlyphPosition>, AllocError>
     ensures { IfOk result (λ v. v.items ≡ map without_link positions.now) }
 {
-    positions
-        .iter()
-        .map(|position| without_link(position))
-        .collect(alloc)
+    positions.iter().map(without_link).collect(alloc)
 }
 
 fn joined_positions(

@@ -77,12 +77,17 @@ impl<'a> Piece<'a> {
         }
         text.set_pre_context(self.before);
         text.set_post_context(self.after);
+        self.add_characters(&mut text)?;
+        Ok(text)
+    }
+
+    fn add_characters(&self, text: &mut UnicodeBuffer) -> Result<(), RunFault> {
         for (at, c) in self.text.char_indices() {
             if !text.add(c, self.cluster(at)?)? {
                 return Err(RunFault::Shape(ShapeCause::TooLong));
             }
         }
-        Ok(text)
+        Ok(())
     }
 
     /// The cluster of a character of the piece by its byte: its byte in the whole.

@@ -81,7 +81,7 @@ fn is_marked(splits: bool, text: &str) -> bool
 fn has_staying_mark(text: &str) -> bool
     ensures { result ≡ has_staying_mark (chars text.now) }
 {
-    text.chars().skip(1).any(|c| is_staying_mark(c))
+    text.chars().skip(1).any(is_staying_mark)
 }
 
 fn is_staying_mark(c: char) -> bool
@@ -94,7 +94,7 @@ fn is_staying_mark(c: char) -> bool
 fn has_sara_am_past(text: &str, count: usize) -> bool
     ensures { result ≡ has_sara_am_past count (chars text.now) }
 {
-    text.chars().skip(count).any(|c| is_sara_am(c))
+    text.chars().skip(count).any(is_sara_am)
 }
 
 fn is_unmarked(splits: bool, text: &str) -> bool

@@ -1,7 +1,7 @@
 //! What the contracts of `shape` promise of an answer.
 
 /// A promise that an answer can break.
-#[derive(Clone, Copy, PartialEq, Eq, Debug)]
+#[derive(Clone, Copy)]
 pub(crate) enum Promise {
     /// Glyph numbers are the font's.
     Numbers,

@@ -30,7 +30,7 @@ pub(crate) struct Session {
     /// TABLES as JSON, which is read with each font.
     tables: String,
     /// The font over the tables, `None` where these are unlawful.
-    font: Option<Font>,
+    font: Option<Box<Font>>,
     options: Option<Options>,
 }
 
@@ -82,20 +82,27 @@ impl Session {
 }
 
 /// The font of a line; `None` where the tables are unlawful.
-fn read_font(alloc: Global, tables: &str, line: &str) -> Result<Option<Font>, RunFault> {
+fn read_font(alloc: Global, tables: &str, line: &str) -> Result<Option<Box<Font>>, RunFault> {
+    match read_lawful_font(alloc, tables, line) {
+        Ok(font) => Ok(Some(font)),
+        Err(RunFault::Unlawful) => Ok(None),
+        Err(fault) => Err(fault),
+    }
+}
+
+fn read_lawful_font(alloc: Global, tables: &str, line: &str) -> Result<Box<Font>, RunFault> {
     let Some((count, json)) = line.split_once(' ') else {
         return Err(RunFault::Words);
     };
     let count: u32 = count.parse().map_err(|_| RunFault::Words)?;
-    match read_input(alloc, tables.as_bytes(), json.as_bytes()) {
-        Ok(input) => Ok(Some(Font {
-            input,
-            count,
-            has_ligatures: json.contains(LIGATURE),
-        })),
-        Err(RunFault::Unlawful) => Ok(None),
-        Err(fault) => Err(fault),
-    }
+    let has_ligatures = json.contains(LIGATURE);
+    let input = read_input(alloc, tables.as_bytes(), json.as_bytes())?;
+    let font = Font {
+        input,
+        count,
+        has_ligatures,
+    };
+    Ok(Box::new(alloc, font)?)
 }
 
 fn read_words(alloc: Global, line: &str) -> Result<Options, RunFault> {

@@ -23,7 +23,7 @@ use shape_pipeline::{
 };
 use shell_readers::fault::RunFault;
 use shell_readers::options::Options;
-use std::alloc::Global;
+use std::alloc::{AllocError, Global};
 
 /// The cluster levels, and whether each is monotone.
 const LEVELS: [(BufferClusterLevel, bool); 4] = [
@@ -46,14 +46,18 @@ impl<'a> Trial<'a> {
     /// The first promise that an answer breaks, and how many breaks were tried.
     pub(crate) fn tested(&self) -> Result<Tested, RunFault> {
         let plan = self.plan()?;
+        self.tested_by(&plan)
+    }
+
+    fn tested_by(&self, plan: &ShapePlan) -> Result<Tested, RunFault> {
         let mut tested = Tested {
-            broken: self.broken_promise(&plan)?,
+            broken: self.broken_promise(plan)?,
             breaks: 0,
             unsure: 0,
         };
         for (level, is_monotone) in LEVELS {
             if is_monotone {
-                tested = tested.with_breaks(try_breaks(self, &plan, level)?);
+                tested = tested.with_breaks(try_breaks(self, plan, level)?);
             }
         }
         Ok(tested)
@@ -63,41 +67,75 @@ impl<'a> Trial<'a> {
     fn broken_promise(&self, plan: &ShapePlan) -> Result<Option<Promise>, RunFault> {
         let (level, flags) = (self.options.cluster_level, self.options.buffer_flags);
         let first = self.planned(plan, level, flags)?;
-        if let Some(promise) = self.broken_at_levels(plan, &first)? {
+        self.broken_beside(plan, &first)
+    }
+
+    /// The first promise that an answer breaks beside the first one.
+    fn broken_beside(&self, plan: &ShapePlan, first: &Answer) -> Result<Option<Promise>, RunFault> {
+        let (level, flags) = (self.options.cluster_level, self.options.buffer_flags);
+        if let Some(promise) = self.broken_at_levels(plan, first)? {
             return Ok(Some(promise));
         }
-        if !agree(self.alloc, But::Nothing, &first, &self.shaped()?)? {
+        if !self.agrees(But::Nothing, first, self.shaped()?)? {
             return Ok(Some(Promise::Plan));
         }
-        let other = self.planned(plan, level, turned(flags))?;
-        if !agree(self.alloc, But::Flags, &first, &other)? {
+        if !self.agrees(But::Flags, first, self.planned(plan, level, turned(flags))?)? {
             return Ok(Some(Promise::Requests));
         }
-        let again = self.planned(plan, level, flags)?;
-        if !agree(self.alloc, But::Nothing, &first, &again)? {
+        if !self.agrees(But::Nothing, first, self.planned(plan, level, flags)?)? {
             return Ok(Some(Promise::Again));
         }
         Ok(None)
     }
 
-    /// The first promise that the answer at some level breaks; all have the same glyphs where no feature has a range.
+    /// Whether another answer agrees with the first one, but for what they may differ in.
+    fn agrees(&self, but: But, first: &Answer, other: Answer) -> Result<bool, AllocError> {
+        agree(self.alloc, but, first, &other)
+    }
+
+    /// The first promise that the answer at some level breaks.
     fn broken_at_levels(
         &self,
         plan: &ShapePlan,
         first: &Answer,
     ) -> Result<Option<Promise>, RunFault> {
         for (level, is_monotone) in LEVELS {
-            let answer = self.planned(plan, level, self.options.buffer_flags)?;
-            if let Ok(glyphs) = &answer {
-                if let Some(promise) = self.broken_alone(plan, is_monotone, glyphs)? {
-                    return Ok(Some(promise));
-                }
+            if let Some(promise) = self.broken_at(plan, level, is_monotone, first)? {
+                return Ok(Some(promise));
             }
-            if have_no_ranges(&self.options.features)
-                && !agree(self.alloc, But::ClustersAndFlags, first, &answer)?
-            {
-                return Ok(Some(Promise::Levels));
+        }
+        Ok(None)
+    }
+
+    /// The first promise that the answer at a level breaks.
+    fn broken_at(
+        &self,
+        plan: &ShapePlan,
+        level: BufferClusterLevel,
+        is_monotone: bool,
+        first: &Answer,
+    ) -> Result<Option<Promise>, RunFault> {
+        let answer = self.planned(plan, level, self.options.buffer_flags)?;
+        self.broken_by(plan, is_monotone, first, &answer)
+    }
+
+    /// The first promise that the answer at a level breaks; all have the same glyphs where no feature has a range.
+    fn broken_by(
+        &self,
+        plan: &ShapePlan,
+        is_monotone: bool,
+        first: &Answer,
+        answer: &Answer,
+    ) -> Result<Option<Promise>, RunFault> {
+        if let Ok(glyphs) = answer {
+            if let Some(promise) = self.broken_alone(plan, is_monotone, glyphs)? {
+                return Ok(Some(promise));
             }
+        }
+        if have_no_ranges(&self.options.features)
+            && !agree(self.alloc, But::ClustersAndFlags, first, answer)?
+        {
+            return Ok(Some(Promise::Levels));
         }
         Ok(None)
     }
@@ -141,6 +179,10 @@ impl<'a> Trial<'a> {
     /// The plan for the text.
     fn plan(&self) -> Result<ShapePlan, RunFault> {
         let text = self.buffer(self.options.cluster_level, self.options.buffer_flags)?;
+        self.plan_for(&text)
+    }
+
+    fn plan_for(&self, text: &UnicodeBuffer) -> Result<ShapePlan, RunFault> {
         let plan = ShapePlan::new(
             self.alloc,
             &self.font.input.face,
