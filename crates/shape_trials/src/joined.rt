@@ -1,4 +1,7 @@
 //! Tests of the glyphs of two pieces of a text against those of the whole.
+//!
+//! Glyphs and positions are joined by functions of one form, each after what a caller reads of its kind is taken: of a
+//! glyph its number, cluster and flags, of a position all but the link to another glyph.
 ghost use Rattle.std.specs.Prelude.{◌≡◌, ◌++◌, ◌↔◌, IfOk, IsTrue, if◌then◌else◌, map};
 ghost use Rattle.buffer_core.specs.Sides.{all_glyphs};
 ghost use Rattle.shape_trials.specs.Breaks.{ArePieces, AreInOrder, seen_glyph, without_link};

@@ -1,4 +1,7 @@
 //! The premises of the promise on breaks.
+//!
+//! Two of them are of all characters, that joining types are kept and that graphemes are. Each is walked by functions of
+//! one form, which say its own definition.
 ghost use Rattle.std.specs.Prelude.{◌≡◌, ◌↔◌, ◌&&◌, true, IsTrue, chars, length, nat_lt};
 ghost use lib.Utf8.{scalar};
 ghost use Rattle.unicode.specs.GeneralCategory.{general_category};
