@@ -123,7 +123,7 @@ fn sort(rt: &HostRuntime, name: &str, buffer: &mut hb_buffer_t) -> io::Result<()
     let start = Instant::now(rt)?;
     let count = buffer.len();
     buffer.sort(rt.alloc(), 0, count, |glyph| glyph.glyph_id)?;
-    print_time_of(rt, "sort", name, start, buffer.len())
+    print_time(rt, name, start, buffer.len())
 }
 
 /// Reverses the order of pairs.
@@ -135,7 +135,7 @@ fn turn(rt: &HostRuntime, name: &str, buffer: &mut hb_buffer_t) -> io::Result<()
         |before, after| before.glyph_id / 2 == after.glyph_id / 2,
         true,
     );
-    print_time_of(rt, "reverse_groups", name, start, buffer.len())
+    print_time(rt, name, start, buffer.len())
 }
 
 fn time_sort(rt: &HostRuntime, name: &str, going: Going) -> io::Result<()> {
@@ -152,18 +152,6 @@ fn print_time(rt: &HostRuntime, name: &str, start: Instant, left: usize) -> io::
     let nanoseconds = start.elapsed(rt)?.as_nanos() / COUNT as u128;
     println!(rt; "{name}: {left} glyphs")?;
     eprintln!(rt; "{name}: {nanoseconds} ns a glyph")
-}
-
-fn print_time_of(
-    rt: &HostRuntime,
-    call: &str,
-    name: &str,
-    start: Instant,
-    left: usize,
-) -> io::Result<()> {
-    let nanoseconds = start.elapsed(rt)?.as_nanos() / COUNT as u128;
-    println!(rt; "{call}, {name}: {left} glyphs")?;
-    eprintln!(rt; "{call}, {name}: {nanoseconds} ns a glyph")
 }
 
 fn time_walk(rt: &HostRuntime, buffer: &mut hb_buffer_t) -> io::Result<()>
@@ -211,9 +199,8 @@ pub(crate) fn run(rt: &HostRuntime) -> io::Result<()> {
     for task in [Task::Walk, Task::Ligate, Task::Compose] {
         time(rt, task)?;
     }
-    for (name, going) in [("rising", Going::Rising), ("falling", Going::Falling)] {
-        time_sort(rt, name, going)?;
-        time_turn(rt, name, going)?;
-    }
-    Ok(())
+    time_sort(rt, "sort, rising", Going::Rising)?;
+    time_turn(rt, "reverse_groups, rising", Going::Rising)?;
+    time_sort(rt, "sort, falling", Going::Falling)?;
+    time_turn(rt, "reverse_groups, falling", Going::Falling)
 }

@@ -149,12 +149,19 @@ fn compare_texts(
 
 fn ask_characters(rt: &HostRuntime) -> io::Result<()> {
     let halves = rows(rt.alloc())?;
+    if !is_rising(&halves) {
+        return Ok(());
+    }
+    ask_both(rt, &SortedRows::new(halves))
+}
+
+fn ask_both(rt: &HostRuntime, halves: &SortedRows<Class>) -> io::Result<()> {
     let pages = rows(rt.alloc())?;
-    if !is_rising(&halves) || !is_rising(&pages) {
+    if !is_rising(&pages) {
         return Ok(());
     }
     let pages = PagedRows::new(rt.alloc(), pages)?;
-    compare_texts(rt, &SortedRows::new(halves), &pages)
+    compare_texts(rt, halves, &pages)
 }
 
 pub(crate) fn run(rt: &HostRuntime) -> io::Result<()> {

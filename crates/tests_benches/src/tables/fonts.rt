@@ -81,13 +81,21 @@ fn time_classes(rt: &HostRuntime, classes: &ClassDefinition, glyphs: &[u16]) -> 
 /// Performs a million look-ups of each kind.
 pub(crate) fn ask_font(rt: &HostRuntime) -> io::Result<()> {
     let glyphs = asked_glyphs(rt.alloc())?;
+    ask_rows(rt, &glyphs)?;
+    ask_coverage(rt, &glyphs)
+}
+
+fn ask_rows(rt: &HostRuntime, glyphs: &[u16]) -> io::Result<()> {
     let rows = glyph_rows(rt.alloc())?;
     if !is_rising(&rows) {
         return Ok(());
     }
     let rows = SortedRows::new(rows);
-    time_rows(rt, &rows, &glyphs)?;
-    time_classes(rt, &ClassDefinition::new(rt.alloc(), rows)?, &glyphs)?;
+    time_rows(rt, &rows, glyphs)?;
+    time_classes(rt, &ClassDefinition::new(rt.alloc(), rows)?, glyphs)
+}
+
+fn ask_coverage(rt: &HostRuntime, glyphs: &[u16]) -> io::Result<()> {
     let coverage = Coverage::new(rt.alloc(), covered_glyphs(rt.alloc())?)?;
-    time_coverage(rt, &coverage, &glyphs)
+    time_coverage(rt, &coverage, glyphs)
 }
