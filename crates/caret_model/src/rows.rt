@@ -160,20 +160,29 @@ fn caret(byte: usize, position: i64) -> Option<Caret> {
     Some(Caret { byte, position })
 }
 
-#[test]
-fn carets_move_along_a_line(rt: HostRuntime) -> Result<(), Fail> {
-    // a ligature of the last two of three letters
-    let line = make_row("afi", Direction::LeftToRight, &[0, 1], &[500, 520]);
-    let model = model_of(rt.alloc(), line)??;
+/// Carets move from left to right along a ligature of the last two of three letters.
+fn carets_move(rt: &impl Abort, model: &CaretModel) {
     assert!(rt; model.caret_at(1) == caret(1, 500) && model.caret_at(2).is_none());
     assert!(rt; model.next_visual(1) == caret(3, 1020) && model.next_visual(3).is_none());
     assert!(rt; model.previous_visual(1) == caret(0, 0) && model.previous_visual(0).is_none());
     assert!(rt; model.next_logical(1) == caret(3, 1020) && model.next_logical(3).is_none());
     assert!(rt; model.previous_logical(2) == caret(1, 500) && model.previous_logical(0).is_none());
+}
+
+/// The carets that are nearest to positions in the same line.
+fn carets_are_nearest(rt: &impl Abort, model: &CaretModel) {
     assert!(rt; Some(model.nearest(-7)) == caret(0, 0) && Some(model.nearest(250)) == caret(0, 0));
     assert!(rt;
         Some(model.nearest(251)) == caret(1, 500) && Some(model.nearest(i64::MAX)) == caret(3, 1020)
     );
+}
+
+#[test]
+fn carets_move_along_a_line(rt: HostRuntime) -> Result<(), Fail> {
+    let line = make_row("afi", Direction::LeftToRight, &[0, 1], &[500, 520]);
+    let model = model_of(rt.alloc(), line)??;
+    carets_move(&rt, &model);
+    carets_are_nearest(&rt, &model);
     Ok(())
 }
 
@@ -189,15 +198,16 @@ fn carets_move_along_a_backward_line(rt: HostRuntime) -> Result<(), Fail> {
     Ok(())
 }
 
-#[test]
-fn slices_and_selections_are_of_bytes(rt: HostRuntime) -> Result<(), Fail> {
-    let line = make_row("afi", Direction::LeftToRight, &[0, 1], &[500, 520]);
-    let model = model_of(rt.alloc(), line)??;
+fn slices_are_of_bytes(rt: &impl Abort, model: &CaretModel) -> Result<(), Fail> {
     let slice = model.slice_at(2).ok_or("no slice")?;
     assert!(rt;
         (slice.first_glyph, slice.end_glyph) == (1, 2) && (slice.start, slice.end) == (1, 3)
     );
     assert!(rt; model.slice_at(3).is_none());
+    Ok(())
+}
+
+fn selections_are_of_bytes(rt: &impl Abort, model: &CaretModel) -> Result<(), Fail> {
     let whole = model.selection(0, 3).ok_or("none")?;
     let first = model.selection(0, 1).ok_or("none")?;
     let second = model.selection(1, 3).ok_or("none")?;
@@ -205,4 +215,12 @@ fn slices_and_selections_are_of_bytes(rt: HostRuntime) -> Result<(), Fail> {
     assert!(rt; (whole.start, whole.end) == (0, 1020));
     assert!(rt; model.selection(0, 2).is_none() && model.selection(1, 0).is_none());
     Ok(())
+}
+
+#[test]
+fn slices_and_selections_are_of_bytes(rt: HostRuntime) -> Result<(), Fail> {
+    let line = make_row("afi", Direction::LeftToRight, &[0, 1], &[500, 520]);
+    let model = model_of(rt.alloc(), line)??;
+    slices_are_of_bytes(&rt, &model)?;
+    selections_are_of_bytes(&rt, &model)
 }
