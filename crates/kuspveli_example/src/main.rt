@@ -7,8 +7,8 @@ ghost use Rattle.kuspveli.specs.plan_cache.Cache.{IsCacheOf};
 
 use caret_model::{Caret, CaretModel};
 use kuspveli::{
-    Face, LanguageTable, PlanCache, RunFault, RunInput, SerializeFlags, ShapeCause, SyllableTable,
-    TextTables, UnicodeBuffer, hb_shape_data_t, read_input,
+    Direction, Face, GlyphBuffer, LanguageTable, PlanCache, RunFault, RunInput, SerializeFlags,
+    ShapeCause, SyllableTable, TextTables, UnicodeBuffer, hb_shape_data_t, read_input,
 };
 use std::alloc::{AllocError, Global};
 use std::fs;
@@ -20,11 +20,12 @@ fn main(rt: HostRuntime) -> Result<(), RunFault> {
     shape_texts(&rt, &input.face, &input.tables)
 }
 
-/// Reads tables and font from their files.
-fn read(rt: &HostRuntime) -> Result<RunInput, RunFault> {
+/// Reads tables and font from their files, into a box, since they are large.
+fn read(rt: &HostRuntime) -> Result<Box<RunInput>, RunFault> {
     let tables = fs::read(rt, "tables.json").map_err(|_| RunFault::Read)?;
     let font = fs::read(rt, "font.json").map_err(|_| RunFault::Read)?;
-    read_input(rt.alloc(), &tables, &font)
+    let input = read_input(rt.alloc(), &tables, &font)?;
+    Ok(Box::new(rt.alloc(), input)?)
 }
 
 /// Shapes the texts in turn, with plans that are made once.
@@ -53,15 +54,32 @@ fn shape_line(
     requires { IsCacheOf face.now (tags_of_table shape_data.languages.now) plans.old }
     ensures { IsCacheOf face.now (tags_of_table shape_data.entry.languages.now) plans.new }
 {
+    let buffer = text_buffer(alloc, text)?;
+    let direction = buffer.guessed_direction();
+    let glyphs = plans.shape(alloc, face, shape_data, &[], buffer);
+    let glyphs = glyphs.map_err(|fault| fault.cause)?;
+    print_line(alloc, face, &glyphs, text, direction)
+}
+
+/// A buffer with the characters of a text.
+fn text_buffer(alloc: Global, text: &str) -> Result<UnicodeBuffer, RunFault> {
     let mut buffer = UnicodeBuffer::new(alloc);
     if !buffer.push_str(text)? {
         return Err(RunFault::Shape(ShapeCause::TooLong));
     }
-    let direction = buffer.guessed_direction();
-    let glyphs = plans.shape(alloc, face, shape_data, &[], buffer);
-    let glyphs = glyphs.map_err(|fault| fault.cause)?;
+    Ok(buffer)
+}
+
+/// Prints the glyphs and the carets of a text into a line.
+fn print_line(
+    alloc: Global,
+    face: &Face,
+    glyphs: &GlyphBuffer,
+    text: &str,
+    direction: Direction,
+) -> Result<String, RunFault> {
     let mut line = glyphs.serialize(alloc, face, SerializeFlags::NO_GLYPH_NAMES)?;
-    if let Ok(model) = CaretModel::new(alloc, &glyphs, text, direction) {
+    if let Ok(model) = CaretModel::new(alloc, glyphs, text, direction) {
         push_carets(&mut line, model.carets())?;
     }
     Ok(line)
