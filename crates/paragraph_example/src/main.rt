@@ -1,6 +1,7 @@
 //! paragraph_example TABLES FONT TEXT WIDTH: sets a paragraph in lines of a width in font units, over the crates
 //! `kuspveli` and `line_pieces` alone. The paragraph is shaped once; a line that may not have its glyphs is shaped
-//! again. The lines are printed together, so where something is wrong none is: one line says what, and of which word.
+//! again. All lines are printed at once, at the end. Where something is wrong none is: a line on standard error says
+//! what, and of which word.
 #![tactic(auto)]
 
 use kuspveli::{
@@ -111,14 +112,26 @@ fn set_by_tables<'a>(
     set_file(rt, tables, &face, text, width)
 }
 
-fn read_tables<'a>(rt: &HostRuntime, name: &'a str) -> Result<TextTables, Fault<'a>> {
+fn read_tables<'a>(rt: &HostRuntime, name: &'a str) -> Result<Box<TextTables>, Fault<'a>> {
     let bytes = fs::read(rt, name).map_err(|error| Fault::Read(name, error))?;
-    read_lawful_tables(rt.alloc(), &bytes).map_err(|fault| Fault::Format(name, fault))
+    tables_in(rt.alloc(), &bytes).map_err(|fault| Fault::Format(name, fault))
 }
 
-fn read_face<'a>(rt: &HostRuntime, name: &'a str) -> Result<Face, Fault<'a>> {
+fn read_face<'a>(rt: &HostRuntime, name: &'a str) -> Result<Box<Face>, Fault<'a>> {
     let bytes = fs::read(rt, name).map_err(|error| Fault::Read(name, error))?;
-    read_font(rt.alloc(), &bytes).map_err(|fault| Fault::Format(name, fault))
+    face_in(rt.alloc(), &bytes).map_err(|fault| Fault::Format(name, fault))
+}
+
+/// The tables of bytes, in a box, since they are large.
+fn tables_in(alloc: Global, bytes: &[u8]) -> Result<Box<TextTables>, RunFault> {
+    let tables = read_lawful_tables(alloc, bytes)?;
+    Ok(Box::new(alloc, tables)?)
+}
+
+/// The font of bytes, in a box, since it is large.
+fn face_in(alloc: Global, bytes: &[u8]) -> Result<Box<Face>, RunFault> {
+    let face = read_font(alloc, bytes)?;
+    Ok(Box::new(alloc, face)?)
 }
 
 /// Reads the text of a paragraph, and sets it in lines.
@@ -169,8 +182,18 @@ fn set_lines(
     } = paragraph;
     let breaks = bytes_after_spaces(setup.alloc, text)?;
     let lines = cut_lines(setup.alloc, glyphs, text, direction, &breaks, width)?;
+    show_lines(setup, paragraph, glyphs, &lines)
+}
+
+/// Prints lines into a text.
+fn show_lines(
+    setup: Setup<'_>,
+    paragraph: Paragraph<'_>,
+    glyphs: &GlyphBuffer,
+    lines: &[Line],
+) -> Result<String, TextFault> {
     let mut shown = String::new(setup.alloc);
-    for line in &lines {
+    for line in lines {
         push_line(&mut shown, setup, paragraph, glyphs, *line)?;
     }
     Ok(shown)
@@ -197,16 +220,14 @@ fn push_line(
 ) -> Result<(), TextFault> {
     let text = paragraph.text.get(line.start..line.end).unwrap_or("");
     let Some(own) = line.glyphs else {
-        let glyphs = shape_line(setup, paragraph, line, text)?;
         write!(shown, "\"{text}\" shaped again")?;
-        push_glyphs(shown, glyphs.glyph_infos(), glyphs.glyph_positions())?;
-        return Ok(());
+        let glyphs = shape_line(setup, paragraph, line, text)?;
+        return push_glyphs(shown, glyphs.glyph_infos(), glyphs.glyph_positions());
     };
     let infos = glyphs.glyph_infos().get(own.start..own.end);
     let positions = glyphs.glyph_positions().get(own.start..own.end);
     write!(shown, "\"{text}\" own")?;
-    push_glyphs(shown, infos.unwrap_or(&[]), positions.unwrap_or(&[]))?;
-    Ok(())
+    push_glyphs(shown, infos.unwrap_or(&[]), positions.unwrap_or(&[]))
 }
 
 /// Shapes the text of a line, between the texts before and after it.
@@ -247,10 +268,11 @@ fn push_glyphs(
     shown: &mut String,
     infos: &[GlyphInfo],
     positions: &[GlyphPosition],
-) -> Result<(), AllocError> {
+) -> Result<(), TextFault> {
     for (info, position) in infos.iter().zip(positions) {
         let (glyph, advance) = (info.glyph_id, position.x_advance);
         write!(shown, " {glyph}+{advance}")?;
     }
-    shown.push_str("\n")
+    shown.push_str("\n")?;
+    Ok(())
 }
