@@ -15,32 +15,33 @@ use std::process::ExitCode;
 use std::{env, fs, io};
 use thiserror::Error;
 
-/// Why no lines are printed, with the word that is wrong or names the file.
+/// Why no lines are printed.
 #[derive(Clone, Copy, Debug, Error)]
 enum Fault<'a> {
     #[error("expected TABLES FONT TEXT WIDTH")]
     Words,
-    #[error("{0:?}: not a number of font units")]
-    Width(&'a str),
+    /// The word that is wrong, or that names the file.
     #[error("{0:?}: {1}")]
-    Read(&'a str, io::Error),
-    #[error("{0:?}: {1}")]
-    Format(&'a str, RunFault),
-    #[error("{0:?}: {1}")]
-    Text(&'a str, TextFault),
+    Word(&'a str, WordFault),
     #[error("standard output: {0}")]
     Write(io::Error),
 }
 
-/// Why a text isn't set in lines.
+/// What is wrong with a word, or with the file that it names.
 #[derive(Clone, Copy, Debug, Error)]
-enum TextFault {
+enum WordFault {
+    #[error("not a number of font units")]
+    Width,
+    #[error(transparent)]
+    Read(#[from] io::Error),
+    #[error(transparent)]
+    Format(#[from] RunFault),
     #[error(transparent)]
     Shape(#[from] ShapeCause),
     #[error(transparent)]
     Cut(#[from] LineFault),
     #[error(transparent)]
-    Memory(#[from] AllocError),
+    Memory(#[from(alloc)] AllocError),
 }
 
 /// What all texts are shaped with.
@@ -95,9 +96,11 @@ fn set_files<'a>(rt: &HostRuntime, words: &'a [String]) -> Result<String, Fault<
     let [_, tables, font, text, width] = words else {
         return Err(Fault::Words);
     };
-    let width = width.parse().map_err(|_| Fault::Width(width))?;
-    let tables = read_tables(rt, tables)?;
-    set_by_tables(rt, &tables, font, text, width)
+    let units = width
+        .parse()
+        .map_err(|_| Fault::Word(width, WordFault::Width))?;
+    let tables = read_tables(rt, tables).map_err(|fault| Fault::Word(tables, fault))?;
+    set_by_tables(rt, &tables, font, text, units)
 }
 
 /// Reads a font and a text, and sets the text in lines.
@@ -108,41 +111,33 @@ fn set_by_tables<'a>(
     text: &'a str,
     width: i64,
 ) -> Result<String, Fault<'a>> {
-    let face = read_face(rt, font)?;
-    set_file(rt, tables, &face, text, width)
+    let face = read_face(rt, font).map_err(|fault| Fault::Word(font, fault))?;
+    set_file(rt, tables, &face, text, width).map_err(|fault| Fault::Word(text, fault))
 }
 
-fn read_tables<'a>(rt: &HostRuntime, name: &'a str) -> Result<Box<TextTables>, Fault<'a>> {
-    let bytes = fs::read(rt, name).map_err(|error| Fault::Read(name, error))?;
-    tables_in(rt.alloc(), &bytes).map_err(|fault| Fault::Format(name, fault))
+/// Reads tables into a box, since they are large.
+fn read_tables(rt: &HostRuntime, name: &str) -> Result<Box<TextTables>, WordFault> {
+    let bytes = fs::read(rt, name)?;
+    let tables = read_lawful_tables(rt.alloc(), &bytes)?;
+    Ok(Box::new(rt.alloc(), tables)?)
 }
 
-fn read_face<'a>(rt: &HostRuntime, name: &'a str) -> Result<Box<Face>, Fault<'a>> {
-    let bytes = fs::read(rt, name).map_err(|error| Fault::Read(name, error))?;
-    face_in(rt.alloc(), &bytes).map_err(|fault| Fault::Format(name, fault))
-}
-
-/// The tables of bytes, in a box, since they are large.
-fn tables_in(alloc: Global, bytes: &[u8]) -> Result<Box<TextTables>, RunFault> {
-    let tables = read_lawful_tables(alloc, bytes)?;
-    Ok(Box::new(alloc, tables)?)
-}
-
-/// The font of bytes, in a box, since it is large.
-fn face_in(alloc: Global, bytes: &[u8]) -> Result<Box<Face>, RunFault> {
-    let face = read_font(alloc, bytes)?;
-    Ok(Box::new(alloc, face)?)
+/// Reads a font into a box, since it is large.
+fn read_face(rt: &HostRuntime, name: &str) -> Result<Box<Face>, WordFault> {
+    let bytes = fs::read(rt, name)?;
+    let face = read_font(rt.alloc(), &bytes)?;
+    Ok(Box::new(rt.alloc(), face)?)
 }
 
 /// Reads the text of a paragraph, and sets it in lines.
-fn set_file<'a>(
+fn set_file(
     rt: &HostRuntime,
     tables: &TextTables,
     face: &Face,
-    name: &'a str,
+    name: &str,
     width: i64,
-) -> Result<String, Fault<'a>> {
-    let text = fs::read_to_string(rt, name).map_err(|error| Fault::Read(name, error))?;
+) -> Result<String, WordFault> {
+    let text = fs::read_to_string(rt, name)?;
     let setup = Setup {
         alloc: rt.alloc(),
         face,
@@ -152,11 +147,11 @@ fn set_file<'a>(
             languages: &tables.languages,
         },
     };
-    set_text(setup, text.trim_end(), width).map_err(|fault| Fault::Text(name, fault))
+    set_text(setup, text.trim_end(), width)
 }
 
 /// Shapes a paragraph with safe breaks, and cuts it into lines.
-fn set_text(setup: Setup<'_>, text: &str, width: i64) -> Result<String, TextFault> {
+fn set_text(setup: Setup<'_>, text: &str, width: i64) -> Result<String, WordFault> {
     let mut buffer = text_buffer(setup.alloc, text)?;
     buffer.set_flags(BufferFlags::PRODUCE_SAFE_BREAKS);
     let paragraph = Paragraph {
@@ -174,7 +169,7 @@ fn set_lines(
     paragraph: Paragraph<'_>,
     glyphs: &GlyphBuffer,
     width: i64,
-) -> Result<String, TextFault> {
+) -> Result<String, WordFault> {
     let Paragraph {
         text,
         direction,
@@ -191,7 +186,7 @@ fn show_lines(
     paragraph: Paragraph<'_>,
     glyphs: &GlyphBuffer,
     lines: &[Line],
-) -> Result<String, TextFault> {
+) -> Result<String, WordFault> {
     let mut shown = String::new(setup.alloc);
     for line in lines {
         push_line(&mut shown, setup, paragraph, glyphs, *line)?;
@@ -217,7 +212,7 @@ fn push_line(
     paragraph: Paragraph<'_>,
     glyphs: &GlyphBuffer,
     line: Line,
-) -> Result<(), TextFault> {
+) -> Result<(), WordFault> {
     let text = paragraph.text.get(line.start..line.end).unwrap_or("");
     let Some(own) = line.glyphs else {
         write!(shown, "\"{text}\" shaped again")?;
@@ -236,7 +231,7 @@ fn shape_line(
     paragraph: Paragraph<'_>,
     line: Line,
     text: &str,
-) -> Result<GlyphBuffer, TextFault> {
+) -> Result<GlyphBuffer, WordFault> {
     let mut buffer = text_buffer(setup.alloc, text)?;
     if let Some(script) = paragraph.script {
         buffer.set_script(script);
@@ -248,16 +243,16 @@ fn shape_line(
 }
 
 /// A buffer with the characters of a text.
-fn text_buffer(alloc: Global, text: &str) -> Result<UnicodeBuffer, TextFault> {
+fn text_buffer(alloc: Global, text: &str) -> Result<UnicodeBuffer, WordFault> {
     let mut buffer = UnicodeBuffer::new(alloc);
     if !buffer.push_str(text)? {
-        return Err(TextFault::Shape(ShapeCause::TooLong));
+        return Err(WordFault::Shape(ShapeCause::TooLong));
     }
     Ok(buffer)
 }
 
 /// Shapes a text with the features that are on by default.
-fn shape_buffer(setup: Setup<'_>, buffer: UnicodeBuffer) -> Result<GlyphBuffer, TextFault> {
+fn shape_buffer(setup: Setup<'_>, buffer: UnicodeBuffer) -> Result<GlyphBuffer, WordFault> {
     let glyphs = shape(setup.alloc, setup.face, setup.data, &[], buffer);
     let glyphs = glyphs.map_err(|fault| fault.cause)?;
     Ok(glyphs)
@@ -268,7 +263,7 @@ fn push_glyphs(
     shown: &mut String,
     infos: &[GlyphInfo],
     positions: &[GlyphPosition],
-) -> Result<(), TextFault> {
+) -> Result<(), WordFault> {
     for (info, position) in infos.iter().zip(positions) {
         let (glyph, advance) = (info.glyph_id, position.x_advance);
         write!(shown, " {glyph}+{advance}")?;
