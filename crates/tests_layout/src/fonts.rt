@@ -161,7 +161,7 @@ pub(crate) fn answers(
 fn many_rows(alloc: Global) -> Result<String, AllocError> {
     let mut text = String::from_str(alloc, r#"{"cmap":[[131072,0]"#)?;
     for row in 1..70_000u32 {
-        text.push_str(&format!(in alloc; ",[{},{}]", 131072 + row, row % 1000)?)?;
+        write!(text, ",[{},{}]", 131072 + row, row % 1000)?;
     }
     text.push_str("]}")?;
     Ok(text)

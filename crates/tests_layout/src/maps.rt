@@ -145,20 +145,21 @@ fn agree(builder: &hb_ot_map_builder_t<'_>, map: &hb_ot_map_t) -> bool {
         && builder.chosen_script(TableIndex::GPOS) == map.chosen_script(TableIndex::GPOS)
 }
 
-/// The characters of a tag.
-pub(crate) fn tag_text(alloc: Global, tag: Tag) -> Result<String, AllocError> {
-    let mut text = String::new(alloc);
+/// Appends the characters of a tag.
+pub(crate) fn push_tag(text: &mut String, tag: Tag) -> Result<(), AllocError> {
     for byte in tag.to_bytes() {
         text.push(char::from(byte))?;
     }
-    Ok(text)
+    Ok(())
 }
 
-fn feature_text(alloc: Global, feature: &feature_map_t) -> Result<String, AllocError> {
+fn push_feature(text: &mut String, feature: &feature_map_t) -> Result<(), AllocError> {
     let (index, stage) = (feature.index, feature.stage);
-    let tag = tag_text(alloc, feature.tag)?;
-    format!(in alloc;
-        " {tag} [{:?}, {:?}] [{}, {}] {} {:x} {:x} {}{}{}{};",
+    text.push(' ')?;
+    push_tag(text, feature.tag)?;
+    write!(
+        text,
+        " [{:?}, {:?}] [{}, {}] {} {:x} {:x} {}{}{}{};",
         index.gsub,
         index.gpos,
         stage.gsub,
@@ -173,9 +174,10 @@ fn feature_text(alloc: Global, feature: &feature_map_t) -> Result<String, AllocE
     )
 }
 
-/// The index of a lookup, its mask and its ways to match.
-pub(crate) fn lookup_text(alloc: Global, lookup: &lookup_map_t) -> Result<String, AllocError> {
-    format!(in alloc;
+/// Appends the index of a lookup, its mask and its ways to match.
+fn push_lookup(text: &mut String, lookup: &lookup_map_t) -> Result<(), AllocError> {
+    write!(
+        text,
         " {} {:x} {}{}{}{}",
         lookup.index,
         lookup.mask,
@@ -186,47 +188,65 @@ pub(crate) fn lookup_text(alloc: Global, lookup: &lookup_map_t) -> Result<String
     )
 }
 
-/// Lookups, with commas between.
-pub(crate) fn lookups_text(alloc: Global, lookups: &[lookup_map_t]) -> Result<String, AllocError> {
-    let mut text = String::new(alloc);
+/// Appends lookups, with commas between.
+pub(crate) fn push_lookups(text: &mut String, lookups: &[lookup_map_t]) -> Result<(), AllocError> {
     for (i, lookup) in lookups.iter().enumerate() {
         if i > 0 {
             text.push(',')?;
         }
-        text.push_str(&lookup_text(alloc, lookup)?)?;
+        push_lookup(text, lookup)?;
     }
-    Ok(text)
+    Ok(())
 }
 
-fn script_text(alloc: Global, script: Option<Tag>) -> Result<String, AllocError> {
-    match script {
-        Some(tag) => tag_text(alloc, tag),
-        None => String::from_str(alloc, "none"),
+/// Appends the script of a table, and whether it was requested.
+fn push_script(text: &mut String, map: &hb_ot_map_t, table: TableIndex) -> Result<(), AllocError> {
+    match map.chosen_script(table) {
+        Some(tag) => push_tag(text, tag)?,
+        None => text.push_str("none")?,
     }
+    write!(text, " {}", map.found_script(table))
 }
 
-/// The script of a table, whether it was requested, and the table's stages.
-fn table_text(alloc: Global, map: &hb_ot_map_t, table: TableIndex) -> Result<String, AllocError> {
-    let script = script_text(alloc, map.chosen_script(table))?;
-    let mut text = format!(in alloc; "{script} {}", map.found_script(table))?;
+/// Appends the stages of a table.
+fn push_stages(text: &mut String, map: &hb_ot_map_t, table: TableIndex) -> Result<(), AllocError> {
     for (i, stage) in map.stages(table).iter().enumerate() {
-        text.push_str(&lookups_text(alloc, map.stage_lookups(table, i))?)?;
+        push_lookups(text, map.stage_lookups(table, i))?;
         if let Some(pause) = stage.pause {
-            text.push_str(&format!(in alloc; " /{pause}")?)?;
+            write!(text, " /{pause}")?;
         }
     }
-    Ok(text)
+    Ok(())
 }
 
 fn map_text(alloc: Global, map: &hb_ot_map_t) -> Result<String, AllocError> {
     let mut text = format!(in alloc; "{:x};", map.get_global_mask())?;
-    for feature in map.features() {
-        text.push_str(&feature_text(alloc, feature)?)?;
-    }
-    let gsub = table_text(alloc, map, TableIndex::GSUB)?;
-    let gpos = table_text(alloc, map, TableIndex::GPOS)?;
-    text.push_str(&format!(in alloc; " gsub {gsub}; gpos {gpos}")?)?;
+    push_map(&mut text, map)?;
     Ok(text)
+}
+
+/// Appends the features and the stages of a map.
+fn push_map(text: &mut String, map: &hb_ot_map_t) -> Result<(), AllocError> {
+    for feature in map.features() {
+        push_feature(text, feature)?;
+    }
+    for (name, table) in [(" gsub ", TableIndex::GSUB), ("; gpos ", TableIndex::GPOS)] {
+        text.push_str(name)?;
+        push_script(text, map, table)?;
+        push_stages(text, map, table)?;
+    }
+    Ok(())
+}
+
+/// Whether a builder's map is that of a row.
+fn is_compiled(
+    alloc: Global,
+    builder: &hb_ot_map_builder_t<'_>,
+    answer: &str,
+) -> Result<bool, AllocError> {
+    let map = builder.compile(alloc)?;
+    let text = map_text(alloc, &map)?;
+    Ok(text.as_str() == answer && agree(builder, &map))
 }
 
 /// Whether the map of requests is that of a row.
@@ -238,7 +258,5 @@ pub(crate) fn answers(
 ) -> Result<bool, AllocError> {
     let (languages, requests) = question.split_once(';').unwrap_or(("", question));
     let builder = builder_of(alloc, font, languages, requests)?;
-    let map = builder.compile(alloc)?;
-    let text = map_text(alloc, &map)?;
-    Ok(text.as_str() == answer && agree(&builder, &map))
+    is_compiled(alloc, &builder, answer)
 }

@@ -1,5 +1,5 @@
 //! Requests that are merged, the bits that features get, and lookups that several features run.
-use crate::maps::{lookup_text, lookups_text, tag_text};
+use crate::maps::{push_lookups, push_tag};
 use crate::scripts::tag;
 use buffer_common::tag::Tag;
 use layout_map_features::field::GLOBAL_BIT;
@@ -7,7 +7,7 @@ use layout_map_features::kept_fields::{KeptField, kept_fields};
 use layout_map_features::lookup::lookup_map_t;
 use layout_map_features::merge::{merged_lookups, merged_requests};
 use layout_map_features::per_table::PerTable;
-use layout_map_features::request::FeatureRequest;
+use layout_map_features::request::{FeatureRequest, MergedRequest};
 use std::alloc::{AllocError, Global};
 use std::test::Fail;
 
@@ -82,45 +82,38 @@ fn global_mask(kept: &[KeptField]) -> u32 {
     mask
 }
 
-fn field_text(alloc: Global, kept: &KeptField) -> Result<String, AllocError> {
-    let tag = tag_text(alloc, kept.request.tag)?;
-    let (field, stage) = (kept.field, kept.request.stage.gsub);
-    format!(in alloc;
-        " {tag} {} {:x} {:x} {stage}",
-        field.shift, field.mask, field.one_mask
-    )
-}
-
-fn fields_text(alloc: Global, text: &str) -> Result<String, AllocError> {
-    let requests = requests(alloc, text)?;
-    let kept = kept_of(alloc, &requests)?;
-    let mut text = format!(in alloc; "{:x};", global_mask(&kept))?;
+/// Appends the mask of all glyphs, and the fields of features, with commas between.
+fn push_fields(text: &mut String, kept: &[KeptField]) -> Result<(), AllocError> {
+    write!(text, "{:x};", global_mask(kept))?;
     for (i, kept) in kept.iter().enumerate() {
-        if i > 0 {
-            text.push(',')?;
-        }
-        text.push_str(&field_text(alloc, kept)?)?;
+        text.push_str(if i > 0 { ", " } else { " " })?;
+        push_tag(text, kept.request.tag)?;
+        let (field, stage) = (kept.field, kept.request.stage.gsub);
+        write!(
+            text,
+            " {} {:x} {:x} {stage}",
+            field.shift, field.mask, field.one_mask
+        )?;
     }
-    Ok(text)
+    Ok(())
 }
 
-fn merged_text(alloc: Global, text: &str) -> Result<String, AllocError> {
-    let requests = requests(alloc, text)?;
-    let merged = merged_requests(alloc, &requests)?;
-    let mut text = String::new(alloc);
-    for request in &merged {
-        let tag = tag_text(alloc, request.tag)?;
-        text.push_str(&format!(in alloc;
-            "{tag} {}{}{}{}{}{}",
+/// Appends merged requests and for what each of them is.
+fn push_merged(text: &mut String, merged: &[MergedRequest]) -> Result<(), AllocError> {
+    for request in merged {
+        push_tag(text, request.tag)?;
+        write!(
+            text,
+            " {}{}{}{}{}{}",
             u8::from(request.is_global),
             u8::from(request.has_fallback),
             u8::from(request.random),
             u8::from(request.auto_zwnj),
             u8::from(request.auto_zwj),
             u8::from(request.per_syllable)
-        )?)?;
+        )?;
     }
-    Ok(text)
+    Ok(())
 }
 
 /// A lookup by its index, its mask and its ways to match.
@@ -149,11 +142,19 @@ fn plain_lookup(index: u16, mask: u32) -> lookup_map_t {
     }
 }
 
-fn merged_lookups_text(alloc: Global, text: &str) -> Result<String, AllocError> {
+fn merged_lookups_of(alloc: Global, text: &str) -> Result<Vec<lookup_map_t>, AllocError> {
     let (limit, text) = text.split_once(';').unwrap_or(("", text));
     let lookups: Vec<lookup_map_t> = text.split(',').map(|text| lookup(text)).collect(alloc)?;
-    let merged = merged_lookups(alloc, number(Some(limit)) as usize, &lookups)?;
-    lookups_text(alloc, &merged)
+    merged_lookups(alloc, number(Some(limit)) as usize, &lookups)
+}
+
+/// Appends what requests or lookups become.
+fn push_found(alloc: Global, found: &mut String, kind: &str, text: &str) -> Result<(), AllocError> {
+    match kind {
+        "fields" => push_fields(found, &kept_of(alloc, &requests(alloc, text)?)?),
+        "merged" => push_merged(found, &merged_requests(alloc, &requests(alloc, text)?)?),
+        _ => push_lookups(found, &merged_lookups_of(alloc, text)?),
+    }
 }
 
 /// Whether requests or lookups become what a row says.
@@ -163,18 +164,14 @@ pub(crate) fn answers(
     text: &str,
     answer: &str,
 ) -> Result<bool, AllocError> {
-    let found = match kind {
-        "fields" => fields_text(alloc, text)?,
-        "merged" => merged_text(alloc, text)?,
-        _ => merged_lookups_text(alloc, text)?,
-    };
+    let mut found = String::new(alloc);
+    push_found(alloc, &mut found, kind, text)?;
     Ok(found.as_str().trim() == answer)
 }
 
 /// More requests than are merged in a list: 300 of 150 tags, which fall.
-#[test]
-fn many_requests_are_merged(rt: HostRuntime) -> Result<(), Fail> {
-    let mut asked = Vec::new(rt.alloc());
+fn many_requests(alloc: Global) -> Result<Vec<FeatureRequest>, AllocError> {
+    let mut asked = Vec::new(alloc);
     for number in (0..300u32).rev() {
         asked.push(FeatureRequest {
             tag: Tag(number / 2),
@@ -183,7 +180,12 @@ fn many_requests_are_merged(rt: HostRuntime) -> Result<(), Fail> {
             stage: PerTable { gsub: 0, gpos: 0 },
         })?;
     }
-    let merged = merged_requests(rt.alloc(), &asked)?;
+    Ok(asked)
+}
+
+#[test]
+fn many_requests_are_merged(rt: HostRuntime) -> Result<(), Fail> {
+    let merged = merged_requests(rt.alloc(), &many_requests(rt.alloc())?)?;
     assert_eq!(rt; merged.len(), 150);
     for (tag, request) in (0u32..).zip(merged.iter()) {
         assert_eq!(rt; (request.tag.0, request.max_value), (tag, 2));
@@ -191,20 +193,29 @@ fn many_requests_are_merged(rt: HostRuntime) -> Result<(), Fail> {
     Ok(())
 }
 
-/// More lookups than are merged in a list: 300 of 150 indices, which fall; the table has 140.
-#[test]
-fn many_lookups_are_merged(rt: HostRuntime) -> Result<(), Fail> {
-    let mut uses = Vec::new(rt.alloc());
+/// More lookups than are merged in a list: 300 of 150 indices, which fall.
+fn many_lookups(alloc: Global) -> Result<Vec<lookup_map_t>, AllocError> {
+    let mut uses = Vec::new(alloc);
     for number in (0..300u16).rev() {
         uses.push(plain_lookup(number / 2, 16 << (number % 2)))?;
     }
-    let merged = merged_lookups(rt.alloc(), 140, &uses)?;
+    Ok(uses)
+}
+
+/// Whether a lookup skips ZWNJ and ZWJ, is not random and not per syllable.
+fn is_plain(lookup: &lookup_map_t) -> bool {
+    lookup.auto_zwnj && lookup.auto_zwj && !lookup.random && !lookup.per_syllable
+}
+
+// The table has 140 lookups.
+#[test]
+fn many_lookups_are_merged(rt: HostRuntime) -> Result<(), Fail> {
+    let merged = merged_lookups(rt.alloc(), 140, &many_lookups(rt.alloc())?)?;
     assert_eq!(rt; merged.len(), 140);
     for (index, lookup) in (0u16..).zip(merged.iter()) {
-        let text = lookup_text(rt.alloc(), lookup)?;
         assert_eq!(rt;
-            text.as_str(),
-            format!(in rt.alloc(); " {index} 30 1100")?.as_str()
+            (lookup.index, lookup.mask, is_plain(lookup)),
+            (index, 0x30, true)
         );
     }
     Ok(())

@@ -6,6 +6,7 @@ use shell_face_json::{read_by_keys, read_face_text};
 use shell_json::fault::JsonFault;
 use std::alloc::{AllocError, Global};
 use std::fmt::Debug;
+use std::process::Abort;
 use std::test::Fail;
 
 /// Texts of tables, separated by an empty line: each has a font, a line `answers:`, and rows, or `answers by parts:` for
@@ -26,24 +27,22 @@ fn tables() -> [&'static str; 7] {
 fn fonts_answer(rt: HostRuntime) -> Result<(), Fail> {
     for text in tables() {
         for table in text.split("\n\n") {
-            assert_eq!(rt; wrong_in(rt.alloc(), table)?, None);
+            follow(&rt, rt.alloc(), table)?;
         }
     }
     Ok(())
 }
 
-/// The first row of a table whose answer its font doesn't give.
-fn wrong_in(alloc: Global, table: &str) -> Result<Option<String>, Fail> {
+/// The font of a table gives the answer of each row.
+fn follow(rt: &impl Abort, alloc: Global, table: &str) -> Result<(), Fail> {
     let (font, rows) = table.split_once("\nanswers").ok_or("no answers")?;
     let (way, rows) = rows.split_once('\n').ok_or("no rows")?;
     if way == " by parts:" {
         read_by_parts(alloc, font)?;
     }
     let rows = rows.replace(alloc, "\n  ", " ")?;
-    match first_wrong(alloc, font, &rows)? {
-        Some(row) => Ok(Some(String::from_str(alloc, row)?)),
-        None => Ok(None),
-    }
+    assert_eq!(rt; first_wrong(alloc, font, &rows)?, None);
+    Ok(())
 }
 
 /// Reads a font that can be read by its parts, so that only want of memory can prevent it.
@@ -61,14 +60,14 @@ pub(crate) fn first_wrong<'a>(
     rows: &'a str,
 ) -> Result<Option<&'a str>, JsonFault> {
     let font = read_face_text(alloc, text)?;
-    Ok(first_wrong_row(alloc, &font, rows)?)
+    first_wrong_row(alloc, &font, rows)
 }
 
 fn first_wrong_row<'a>(
     alloc: Global,
     font: &Face,
     rows: &'a str,
-) -> Result<Option<&'a str>, AllocError> {
+) -> Result<Option<&'a str>, JsonFault> {
     for row in rows.lines() {
         if !is_answered(alloc, font, row)? {
             return Ok(Some(row));
