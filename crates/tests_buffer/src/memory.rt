@@ -4,12 +4,10 @@
 //! that memory is refused in its sort alone.
 use crate::call::Call::*;
 use crate::call::{Call, make};
+use crate::rows::{Glyph, are, make_all};
 use buffer_core::buffer::hb_buffer_t;
 use std::alloc::{AllocError, Global};
 use std::test::Fail;
-
-/// Number, cluster and mask.
-type Glyph = (u32, u32, u32);
 
 struct Row {
     /// The calls that lead to the list.
@@ -118,29 +116,15 @@ static IN_ORDER_APART: Row = Row {
     ],
 };
 
-fn prepared(alloc: Global, calls: &[Call]) -> Result<hb_buffer_t, AllocError> {
-    let mut buffer = hb_buffer_t::new(alloc);
-    for call in calls {
-        make(&mut buffer, alloc, call)?;
-    }
-    Ok(buffer)
-}
-
 fn is(buffer: &hb_buffer_t, want: &[Glyph]) -> bool {
-    if buffer.have_output() {
-        return false;
-    }
-    buffer
-        .info_slice()
-        .iter()
-        .map(|glyph| (glyph.glyph_id, glyph.cluster, glyph.mask))
-        .eq(want.iter().copied())
+    !buffer.have_output() && are(buffer.info_slice(), want)
 }
 
 /// Sorts the list of a row by number. Returns the sort's answer, and whether the list and the scratch flags are those
 /// that belong to it: as before where memory was refused.
 fn sorts(alloc: Global, row: &Row) -> Result<(bool, Result<bool, AllocError>), AllocError> {
-    let mut buffer = prepared(alloc, row.calls)?;
+    let mut buffer = hb_buffer_t::new(alloc);
+    make_all(&mut buffer, alloc, row.calls)?;
     let flags = buffer.scratch_flags();
     let was = is(&buffer, row.before);
     let end = buffer.len();

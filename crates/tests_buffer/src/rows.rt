@@ -13,7 +13,7 @@ use std::alloc::{AllocError, Global};
 use std::test::Fail;
 
 /// Number, cluster and mask.
-type Glyph = (u32, u32, u32);
+pub type Glyph = (u32, u32, u32);
 
 struct Row {
     name: &'static str,
@@ -35,7 +35,11 @@ fn started(alloc: Global, clusters: &[u32]) -> Result<hb_buffer_t, AllocError> {
 }
 
 /// Makes the calls, and counts those that return false.
-fn make_all(buffer: &mut hb_buffer_t, alloc: Global, calls: &[Call]) -> Result<usize, AllocError> {
+pub fn make_all(
+    buffer: &mut hb_buffer_t,
+    alloc: Global,
+    calls: &[Call],
+) -> Result<usize, AllocError> {
     let mut refused: usize = 0;
     for call in calls {
         if !make(buffer, alloc, call)? {
@@ -52,7 +56,7 @@ fn shown(buffer: &hb_buffer_t) -> &[hb_glyph_info_t] {
     buffer.info_slice()
 }
 
-fn are(glyphs: &[hb_glyph_info_t], want: &[Glyph]) -> bool {
+pub fn are(glyphs: &[hb_glyph_info_t], want: &[Glyph]) -> bool {
     glyphs
         .iter()
         .map(|glyph| (glyph.glyph_id, glyph.cluster, glyph.mask))

@@ -162,7 +162,10 @@ fn keeps_what_was_set(rt: HostRuntime) {
 }
 
 fn is_turkish(language: Option<&Language>) -> bool {
-    language.is_some_and(|language| language.as_str() == "tr")
+    match language {
+        Some(language) => language.as_str() == "tr",
+        None => false,
+    }
 }
 
 fn keeps_language(alloc: Global, language: Language) -> bool {

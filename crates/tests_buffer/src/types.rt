@@ -70,11 +70,21 @@ static CAUSES: [(ShapeCause, &str); 4] = [
 
 #[test]
 fn have_their_numbers(rt: HostRuntime) {
-    assert!(rt; NUMBERS.iter().all(|row| row.0 == row.1));
-    assert!(rt; LEVELS.iter().all(|row| row.0 as u32 == row.1));
-    assert!(rt; GLYPH_PROPS.iter().all(|row| row.0.bits() == row.1));
-    assert!(rt; CHARACTER_PROPS.iter().all(|row| row.0.bits() == row.1));
-    assert!(rt; PRINTED.iter().all(|row| row.0.bits() == row.1));
+    for (found, number) in &NUMBERS {
+        assert_eq!(rt; *found, *number);
+    }
+    for (level, number) in &LEVELS {
+        assert_eq!(rt; *level as u32, *number);
+    }
+    for (props, number) in &GLYPH_PROPS {
+        assert_eq!(rt; props.bits(), *number);
+    }
+    for (props, number) in &CHARACTER_PROPS {
+        assert_eq!(rt; props.bits(), *number);
+    }
+    for (flags, number) in &PRINTED {
+        assert_eq!(rt; flags.bits(), *number);
+    }
     let all = (
         GlyphPropsFlags::all().bits(),
         UnicodeProps::all().bits(),

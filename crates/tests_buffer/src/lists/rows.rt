@@ -51,7 +51,7 @@ pub fn glyphs_of(alloc: Global, list: &str) -> Result<Vec<hb_glyph_info_t>, Allo
 }
 
 pub fn are(glyphs: &[hb_glyph_info_t], list: &str) -> bool {
-    let wanted = list.split_terminator(' ').map(|text| glyph(text));
+    let wanted = list.split_terminator(' ').map(glyph);
     glyphs.iter().copied().eq(wanted)
 }
 
@@ -72,7 +72,7 @@ pub fn positions_of(alloc: Global, count: usize) -> Result<Vec<GlyphPosition>, A
 }
 
 pub fn have_advances(positions: &[GlyphPosition], list: &str) -> bool {
-    let wanted = list.split_terminator(' ').map(|advance| position(advance));
+    let wanted = list.split_terminator(' ').map(position);
     positions.iter().copied().eq(wanted)
 }
 

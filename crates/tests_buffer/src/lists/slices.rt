@@ -98,16 +98,23 @@ pub fn spreads(alloc: Global, row: &str) -> Result<bool, AllocError> {
     Ok(are(&glyphs, part(row, 3)))
 }
 
+fn run_glyph(syllable: u8, props: u16, cluster: u32) -> hb_glyph_info_t {
+    hb_glyph_info_t {
+        syllable,
+        unicode_props: UnicodeProps(props),
+        cluster,
+        ..hb_glyph_info_t::default()
+    }
+}
+
 /// Glyphs by syllable and properties, in one cluster up to the second.
 fn run_glyphs() -> [hb_glyph_info_t; 4] {
-    [(3, 0, 0), (3, 0x80, 0), (4, 0x81, 5), (4, 1, 5)].map(|(syllable, props, cluster)| {
-        hb_glyph_info_t {
-            syllable,
-            unicode_props: UnicodeProps(props),
-            cluster,
-            ..hb_glyph_info_t::default()
-        }
-    })
+    [
+        run_glyph(3, 0, 0),
+        run_glyph(3, 0x80, 0),
+        run_glyph(4, 0x81, 5),
+        run_glyph(4, 1, 5),
+    ]
 }
 
 // The start of a run, and the end of its cluster, of its syllable, and of its grapheme.
