@@ -82,13 +82,16 @@ fn stacked(alloc: Global, count: u32) -> Result<String, AllocError> {
     Ok(text)
 }
 
+fn mark_font(alloc: Global) -> Result<String, Fail> {
+    let lookups = rows_of(alloc, LOOKUPS)?;
+    Ok(font_of(alloc, font_in(&lookups, "mark_on_a")?)?)
+}
+
 /// Whether the line of a base with that many marks ends with these glyphs.
 fn is_stacked(alloc: Global, count: u32, last: &str) -> Result<bool, Fail> {
     let text = stacked(alloc, count)?;
-    let lookups = rows_of(alloc, LOOKUPS)?;
-    let font = font_of(alloc, font_in(&lookups, "mark_on_a")?)?;
-    let options = plain_options(alloc);
-    let (answer, out) = ran(alloc, options, "{}", &font, text.as_bytes())?;
+    let font = mark_font(alloc)?;
+    let (answer, out) = ran(alloc, plain_options(alloc), "{}", &font, text.as_bytes())?;
     Ok(answer == Ok(()) && out.as_slice().ends_with(last.as_bytes()))
 }
 

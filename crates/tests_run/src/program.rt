@@ -12,16 +12,16 @@ const FONT: &[u8] = b"{\"upem\":1000,\"cmap\":[[97,1],[98,2]],\"h\":[[1,500],[2,
 // Files in memory, one of which may be missing, and standard input. It records the names that were opened, each with
 // a comma.
 #[derive(Drop)]
-struct MemoryFiles {
-    missing: String,
+struct MemoryFiles<'a> {
+    missing: &'a str,
     asked: String,
 }
 
-impl Files<&'static [u8]> for MemoryFiles {
+impl Files<&'static [u8]> for MemoryFiles<'_> {
     fn open(&mut self, name: &str) -> Option<&'static [u8]> {
         self.asked.push_str(name).ok()?;
         self.asked.push_str(",").ok()?;
-        if name == self.missing.as_str() {
+        if name == self.missing {
             return None;
         }
         match name {
@@ -40,7 +40,7 @@ impl Files<&'static [u8]> for MemoryFiles {
 
     fn input(&mut self) -> Option<&'static [u8]> {
         self.asked.push_str("(input),").ok()?;
-        if self.missing.as_str() == "(input)" {
+        if self.missing == "(input)" {
             return None;
         }
         Some(b"ba\n".as_slice())
@@ -102,17 +102,17 @@ fn are_lines(bytes: &[u8], lines: &str) -> bool {
 /// More bytes than a row's line, its fault or its files have, so that recording them asks for no memory.
 const ROOM: usize = 64;
 
-fn is_followed(alloc: Global, row: &str) -> Result<bool, Fail> {
-    let words = words_of(alloc, part(row, 1))?;
+/// Whether the program with these words ends as a row says.
+fn ends_as(alloc: Global, words: &[String], row: &str) -> Result<bool, AllocError> {
     let mut files = MemoryFiles {
-        missing: String::from_str(alloc, part(row, 2))?,
+        missing: part(row, 2),
         asked: String::with_capacity(alloc, ROOM)?,
     };
     let mut written = Vec::with_capacity(alloc, ROOM)?;
     let mut reported = Vec::with_capacity(alloc, ROOM)?;
-    let ending = run_program(alloc, &words, &mut files, &mut written, &mut reported);
+    let ending = run_program(alloc, words, &mut files, &mut written, &mut reported);
     if ending.fault == Some(RunFault::OutOfMemory) {
-        return Err(AllocError.into());
+        return Err(AllocError);
     }
     Ok(
         part(row, 3).parse() == Ok(ending.status())
@@ -121,6 +121,11 @@ fn is_followed(alloc: Global, row: &str) -> Result<bool, Fail> {
             && are_lines(&reported, part(row, 5))
             && files.asked.as_str() == part(row, 6),
     )
+}
+
+fn is_followed(alloc: Global, row: &str) -> Result<bool, AllocError> {
+    let words = words_of(alloc, part(row, 1))?;
+    ends_as(alloc, &words, row)
 }
 
 #[test]

@@ -28,10 +28,15 @@ fn number(glyph: &str, at: usize) -> &str {
 }
 
 /// Puts a glyph of the characters from a byte on after a line.
-fn push_glyph(alloc: Global, line: &mut String, glyph: &str, start: u32) -> Result<(), Fail> {
+fn push_glyph(line: &mut String, glyph: &str, start: u32) -> Result<(), Fail> {
     let cluster = start.saturating_add(number(glyph, 1).parse::<u32>()?);
-    line.push_str(if line.is_empty() { "" } else { "|" })?;
-    line.push_str(&format!(in alloc; "{}={cluster}+{}", number(glyph, 0), number(glyph, 2))?)?;
+    let bar = if line.is_empty() { "" } else { "|" };
+    write!(
+        line,
+        "{bar}{}={cluster}+{}",
+        number(glyph, 0),
+        number(glyph, 2)
+    )?;
     Ok(())
 }
 
@@ -41,7 +46,7 @@ fn line_of(alloc: Global, characters: &str, glyphs: &str, count: u32) -> Result<
     let mut line = String::new(alloc);
     for i in 0..count {
         for glyph in glyphs.split(' ') {
-            push_glyph(alloc, &mut line, glyph, i.saturating_mul(length))?;
+            push_glyph(&mut line, glyph, i.saturating_mul(length))?;
         }
     }
     Ok(line)
@@ -49,10 +54,10 @@ fn line_of(alloc: Global, characters: &str, glyphs: &str, count: u32) -> Result<
 
 fn is_followed(alloc: Global, fonts: &str, row: &str) -> Result<bool, Fail> {
     let count = part(row, 2).parse::<u32>()?;
+    let font = font_in(fonts, part(row, 1))?;
     let text = text_of(alloc, part(row, 4), count)?;
     let line = line_of(alloc, part(row, 4), part(row, 5), count)?;
     let options = asked(alloc, part(row, 3))?;
-    let font = font_in(fonts, part(row, 1))?;
     Ok(prints(alloc, options, "{}", font, &text, &line)?)
 }
 

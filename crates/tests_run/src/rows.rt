@@ -80,12 +80,16 @@ pub(crate) fn asked(alloc: Global, words: &str) -> Result<Options, Fail> {
     Ok(options)
 }
 
+/// The character that a hexadecimal number names.
+fn character(number: &str) -> Option<char> {
+    char::from_u32(u32::from_str_radix(number, 16).ok()?)
+}
+
 /// A text of the characters that these hexadecimal numbers name.
 pub(crate) fn characters(alloc: Global, numbers: &str) -> Result<String, Fail> {
     let mut text = String::new(alloc);
     for number in numbers.split(' ') {
-        let number = u32::from_str_radix(number, 16)?;
-        text.push(char::from_u32(number).ok_or("no character")?)?;
+        text.push(character(number).ok_or("no character")?)?;
     }
     Ok(text)
 }

@@ -111,17 +111,17 @@ fn many_lines(alloc: Global) -> Result<Vec<u8>, AllocError> {
     Ok(text)
 }
 
-// The result of a run over many lines, and what it writes with room for a number of bytes.
+// The result of a run over a text, and what it writes with room for a number of bytes.
 fn ran_with_room(
     alloc: Global,
     words: &str,
+    font: &str,
+    text: &[u8],
     room: usize,
 ) -> Result<(Result<(), RunFault>, Vec<u8>), Fail> {
-    let options = asked(alloc, words)?;
-    let text = many_lines(alloc)?;
-    let font = font(alloc)?;
-    let (mut tables, mut font, mut text) = (b"{}".as_slice(), font.as_bytes(), text.as_slice());
     let mut out = ByteWriter::new(alloc, room)?;
+    let options = asked(alloc, words)?;
+    let (mut tables, mut font, mut text) = (b"{}".as_slice(), font.as_bytes(), text);
     let answer = run(alloc, options, &mut tables, &mut font, &mut text, &mut out);
     Ok((with_memory(answer)?, out.taken))
 }
@@ -136,6 +136,8 @@ fn is_front(written: &[u8], room: usize) -> bool {
 // A write that fails after one part, after two, and in the first; and one that has room for all.
 #[test]
 fn writes_that_fail_leave_a_front(rt: HostRuntime) -> Result<(), Fail> {
+    let font = font(rt.alloc())?;
+    let text = many_lines(rt.alloc())?;
     let whole = COUNT * LINE.len();
     for words in ["lines keep-going print=12", "lines print=12"] {
         for (room, answer) in [
@@ -146,7 +148,7 @@ fn writes_that_fail_leave_a_front(rt: HostRuntime) -> Result<(), Fail> {
             (17, Err(RunFault::Write)),
             (0, Err(RunFault::Write)),
         ] {
-            let (got, written) = ran_with_room(rt.alloc(), words, room)?;
+            let (got, written) = ran_with_room(rt.alloc(), words, &font, &text, room)?;
             assert!(rt; got == answer && is_front(&written, room), "{words} {room}");
         }
     }

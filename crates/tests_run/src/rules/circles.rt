@@ -4,40 +4,54 @@ use std::alloc::Global;
 use std::process::Abort;
 use std::test::Fail;
 
-/// Appends the row of a step: a state, a category and the next state. What it answers is the greater state.
-fn push_step(steps: &mut String, step: &str) -> Result<u32, Fail> {
-    let mut words = step.split_whitespace();
-    let state = words.next().ok_or("no state")?.parse::<u32>()?;
-    let category = words.next().ok_or("no category")?;
-    let next = words.next().ok_or("no next state")?.parse::<u32>()?;
-    let comma = if steps.is_empty() { "" } else { "," };
-    write!(steps, "{comma}[{state},\"{category}\",{next}]")?;
+/// A step: a state, a category and the next state.
+fn step_of(step: &str) -> Option<(u32, &str, u32)> {
+    let (state, step) = step.trim().split_once(' ')?;
+    let (category, next) = step.split_once(' ')?;
+    Some((
+        state.parse::<u32>().ok()?,
+        category,
+        next.parse::<u32>().ok()?,
+    ))
+}
+
+/// Appends the row of a step. What it answers is the greater state.
+fn push_step(tables: &mut String, step: &str) -> Result<u32, Fail> {
+    let (state, category, next) = step_of(step).ok_or("no step")?;
+    let comma = if tables.ends_with(']') { "," } else { "" };
+    write!(tables, "{comma}[{state},\"{category}\",{next}]")?;
     Ok(state.max(next))
 }
 
 /// Appends the row of an accepting state and its kind.
-fn push_accepting(accepting: &mut String, row: &str) -> Result<(), Fail> {
-    let mut words = row.split_whitespace();
-    let state = words.next().ok_or("no state")?.parse::<u32>()?;
-    let kind = words.next().ok_or("no kind")?;
-    let comma = if accepting.is_empty() { "" } else { "," };
-    write!(accepting, "{comma}[{state},\"{kind}\"]")?;
+fn push_accepting(tables: &mut String, row: &str) -> Result<(), Fail> {
+    let (state, kind) = row.trim().split_once(' ').ok_or("no kind")?;
+    let comma = if tables.ends_with(']') { "," } else { "" };
+    write!(tables, "{comma}[{state},\"{kind}\"]")?;
     Ok(())
 }
 
-/// A machine of the steps and the accepting states of a row, each separated by commas.
-fn machine_of(alloc: Global, row: &str) -> Result<String, Fail> {
-    let mut steps = String::new(alloc);
+/// Appends a machine of the steps and the accepting states of a row, each separated by commas.
+fn push_machine(tables: &mut String, row: &str) -> Result<(), Fail> {
     let mut last = 0_u32;
+    tables.push_str("{\"next\":[")?;
     for step in part(row, 1).split(',') {
-        last = last.max(push_step(&mut steps, step)?);
+        last = last.max(push_step(tables, step)?);
     }
-    let mut accepting = String::new(alloc);
+    tables.push_str("],\"accept\":[")?;
     for state in part(row, 2).split(',') {
-        push_accepting(&mut accepting, state)?;
+        push_accepting(tables, state)?;
     }
-    let states = last.saturating_add(1);
-    Ok(format!(in alloc; "{{\"states\":{states},\"next\":[{steps}],\"accept\":[{accepting}]}}")?)
+    write!(tables, "],\"states\":{}}}", last.saturating_add(1))?;
+    Ok(())
+}
+
+/// Tables of categories and of the machine of a row.
+fn tables_of(alloc: Global, categories: &str, shaper: &str, row: &str) -> Result<String, Fail> {
+    let mut tables = format!(in alloc; "{categories},\"syllables\":{{\"{shaper}\":")?;
+    push_machine(&mut tables, row)?;
+    tables.push_str("}}")?;
+    Ok(tables)
 }
 
 fn is_followed(
@@ -47,9 +61,8 @@ fn is_followed(
     words: &str,
     row: &str,
 ) -> Result<bool, Fail> {
-    let machine = machine_of(alloc, row)?;
-    let tables = format!(in alloc; "{categories},\"syllables\":{{\"{shaper}\":{machine}}}}}")?;
     let font = font_in(FONTS, part(row, 3))?;
+    let tables = tables_of(alloc, categories, shaper, row)?;
     shows(alloc, &tables, font, words, after(row, 4))
 }
 

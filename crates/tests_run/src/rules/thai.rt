@@ -16,20 +16,25 @@ static LETTERS: &str =
   [3655,3655],[3656,3656],[3659,3659],[3660,3660],[3661,3661],[3662,3662],[3713,3713],[3714,3714],[3761,3761],
   [3762,3762],[3763,3763],[3764,3764],[3768,3768],[3771,3771],[3784,3784],[3789,3789]"#;
 
-fn number_of(word: &str) -> Result<u32, Fail> {
-    Ok(u32::from_str_radix(word, 16)?)
+/// A hexadecimal number.
+fn number_of(word: &str) -> Option<u32> {
+    u32::from_str_radix(word, 16).ok()
 }
 
 /// Appends the row of a form: the character, the form's name, and the forms with and without Thai's number.
 fn push_form(tables: &mut String, form: &str) -> Result<(), Fail> {
-    let mut words = form.split_whitespace();
-    let character = number_of(words.next().ok_or("no character")?)?;
-    let name = words.next().ok_or("no form")?;
-    let first = number_of(words.next().ok_or("no number")?)?;
-    let second = number_of(words.next().ok_or("no number")?)?;
+    let (character, name, first, second) = form_of(form).ok_or("no form")?;
     let comma = if tables.ends_with(']') { "," } else { "" };
     write!(tables, "{comma}[{character},\"{name}\",{first},{second}]")?;
     Ok(())
+}
+
+fn form_of(form: &str) -> Option<(u32, &str, u32, u32)> {
+    let mut words = form.split_whitespace();
+    let character = number_of(words.next()?)?;
+    let name = words.next()?;
+    let first = number_of(words.next()?)?;
+    Some((character, name, first, number_of(words.next()?)?))
 }
 
 /// Tables with these forms of characters, separated by commas.
@@ -43,7 +48,7 @@ fn tables_of(alloc: Global, forms: &str) -> Result<String, Fail> {
 
 /// Appends the row of a private-use character's glyph: U+F700 has glyph 1, and so on.
 fn push_private(font: &mut String, word: &str) -> Result<(), Fail> {
-    let character = number_of(word)?;
+    let character = number_of(word).ok_or("no character")?;
     let glyph = character.saturating_sub(0xF6FF);
     write!(font, ",[{character},{glyph}]")?;
     Ok(())
