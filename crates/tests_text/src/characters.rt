@@ -1,5 +1,5 @@
 //! What is known of characters without tables.
-use crate::rows::{character, prints};
+use crate::rows::{asked, character, prints};
 use buffer_unicode::{CharExt, GeneralCategoryExt};
 use std::alloc::Global;
 use std::test::Fail;
@@ -85,9 +85,12 @@ fn category_number(c: char) -> Option<u32> {
 
 /// Whether a character is as a row says.
 pub(crate) fn is_so(alloc: Global, row: &str) -> Result<bool, Fail> {
-    let (question, answer) = row.split_once(": ").ok_or("no answer")?;
-    let (question, digits) = question.split_once(' ').ok_or("no question")?;
-    let c = character(digits).ok_or("no character")?;
+    let Some((question, digits, answer)) = asked(row) else {
+        return Ok(false);
+    };
+    let Some(c) = character(digits) else {
+        return Ok(false);
+    };
     match question {
         "category" => prints(alloc, &category_number(c), answer),
         "script" => Ok(c.script().tag().to_bytes().as_slice() == answer.as_bytes()),

@@ -129,14 +129,20 @@ fn substituted(info: hb_glyph_info_t) -> hb_glyph_info_t {
     }
 }
 
+/// What is asked, and a glyph with the word and the class that follow; the class is 7 where it isn't given.
+fn asked(text: &str) -> Option<(&str, hb_glyph_info_t)> {
+    let (question, words) = text.split_once(' ')?;
+    let (word, class) = words.split_once(' ').unwrap_or((words, "7"));
+    let word = u16::try_from(hexadecimal(word)?).ok()?;
+    Some((question, record(word, class.parse::<u8>().ok()?)))
+}
+
 /// Whether a glyph with a word and a class is as a row says.
 pub(crate) fn is_so(alloc: Global, row: &str) -> Result<bool, Fail> {
-    let (question, answer) = row.split_once(": ").ok_or("no answer")?;
-    let mut words = question.split(' ');
-    let question = words.next().unwrap_or("");
-    let word = hexadecimal(words.next().unwrap_or("")).ok_or("no word")?;
-    let class = words.next().unwrap_or("7").parse::<u8>()?;
-    let info = record(u16::try_from(word)?, class);
+    let (question, answer) = row.split_once(": ").unwrap_or((row, ""));
+    let Some((question, info)) = asked(question) else {
+        return Ok(false);
+    };
     match question {
         "word" => prints(alloc, &said(&info), answer),
         "category" => prints(alloc, &category_of(&info), answer),
@@ -147,9 +153,6 @@ pub(crate) fn is_so(alloc: Global, row: &str) -> Result<bool, Fail> {
             &_hb_glyph_info_is_default_ignorable(&substituted(info)),
             answer,
         ),
-        change => {
-            let word = written(info, change).unicode_props.0;
-            Ok(format!(in alloc; "{word:x}")?.as_str() == answer)
-        }
+        change => Ok(hexadecimal(answer) == Some(u32::from(written(info, change).unicode_props.0))),
     }
 }

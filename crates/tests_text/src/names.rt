@@ -1,5 +1,5 @@
 //! Numbers of names.
-use crate::rows::prints;
+use crate::rows::{asked, prints};
 use script_categories::hb_ot_script_shaper_t::{
     self, HEBREW_SHAPER, INDIC_SHAPER, KHMER_SHAPER, MYANMAR_SHAPER, UNIVERSAL_SHAPER,
 };
@@ -65,10 +65,19 @@ fn number_of(list: &str, name: &str) -> Option<u8> {
     }
 }
 
+/// Whether a number is of a joining type, or of a stretching glyph, as an answer says.
+fn is_of_number(alloc: Global, question: &str, number: u8, answer: &str) -> Result<bool, Fail> {
+    match question {
+        "joining" => prints(alloc, &joining_type_of_number(number), answer),
+        _ => prints(alloc, &arabic_action_t::is_stch(number), answer),
+    }
+}
+
 /// Whether a name has a number, or a shaper a kind, as a row says.
 pub(crate) fn is_so(alloc: Global, row: &str) -> Result<bool, Fail> {
-    let (question, answer) = row.split_once(": ").ok_or("no answer")?;
-    let (question, words) = question.split_once(' ').ok_or("no question")?;
+    let Some((question, words, answer)) = asked(row) else {
+        return Ok(false);
+    };
     let (word, name) = words.split_once(' ').unwrap_or((words, ""));
     let shaper = shaper_of(word);
     let number = name.parse::<u8>().unwrap_or(0);
@@ -80,11 +89,6 @@ pub(crate) fn is_so(alloc: Global, row: &str) -> Result<bool, Fail> {
         "non-cluster" => prints(alloc, &shaper.non_cluster_kind(), answer),
         "machine" => prints(alloc, &machine_shaper(word), answer),
         "number" => prints(alloc, &number_of(word, name), answer),
-        "joining" => prints(alloc, &joining_type_of_number(word.parse::<u8>()?), answer),
-        _ => prints(
-            alloc,
-            &arabic_action_t::is_stch(word.parse::<u8>()?),
-            answer,
-        ),
+        _ => is_of_number(alloc, question, word.parse::<u8>()?, answer),
     }
 }

@@ -1,5 +1,5 @@
 //! Rows of numbers that are read, found and refused.
-use crate::rows::{character, hexadecimal, prints};
+use crate::rows::{asked, character, hexadecimal, prints};
 use buffer_unicode::{CharacterRange, CharacterRanges, Pair, Split, find_by_key, read_rows};
 use buffer_unicode_tables::{TablesFault, UnicodeRows, UnicodeTables};
 use std::alloc::{AllocError, Global};
@@ -26,16 +26,19 @@ within 78: true
 within 79: false
 within 7a: false";
 
+/// Three hexadecimal numbers.
+fn three_numbers(text: &str) -> Option<[u32; 3]> {
+    let mut words = text.split_whitespace();
+    let first = hexadecimal(words.next()?)?;
+    let second = hexadecimal(words.next()?)?;
+    Some([first, second, hexadecimal(words.next()?)?])
+}
+
 /// Rows of three hexadecimal numbers.
 fn numbers(alloc: Global, text: &str) -> Result<Vec<[u32; 3]>, Fail> {
     let mut rows = Vec::new(alloc);
     for row in text.split(',') {
-        let mut words = row.split_whitespace();
-        rows.push([
-            hexadecimal(words.next().unwrap_or("")).ok_or("no first number")?,
-            hexadecimal(words.next().unwrap_or("")).ok_or("no second number")?,
-            hexadecimal(words.next().unwrap_or("")).ok_or("no third number")?,
-        ])?;
+        rows.push(three_numbers(row).ok_or("no three numbers")?)?;
     }
     Ok(rows)
 }
@@ -78,18 +81,9 @@ fn whole_of(alloc: Global, first: u32, second: u32) -> Result<Option<char>, Tabl
 
 fn ranges(alloc: Global) -> Result<CharacterRanges, AllocError> {
     let mut rows = Vec::new(alloc);
-    rows.push(CharacterRange {
-        first: 'b',
-        last: 'x',
-    })?;
-    rows.push(CharacterRange {
-        first: 'd',
-        last: 'e',
-    })?;
-    rows.push(CharacterRange {
-        first: 'z',
-        last: 'a',
-    })?;
+    for (first, last) in [('b', 'x'), ('d', 'e'), ('z', 'a')] {
+        rows.push(CharacterRange { first, last })?;
+    }
     CharacterRanges::new(alloc, rows)
 }
 
@@ -117,10 +111,13 @@ fn fault_in(alloc: Global, question: &str, words: &str) -> Result<Option<TablesF
 
 /// Whether rows are read, found or refused as a row says.
 pub(crate) fn is_so(alloc: Global, row: &str) -> Result<bool, Fail> {
-    let (question, answer) = row.split_once(": ").ok_or("no answer")?;
-    let (question, words) = question.split_once(' ').ok_or("no question")?;
+    let Some((question, words, answer)) = asked(row) else {
+        return Ok(false);
+    };
     let (first, second) = words.split_once(' ').unwrap_or((words, "0"));
-    let first = hexadecimal(first).ok_or("no number")?;
+    let Some(first) = hexadecimal(first) else {
+        return Ok(false);
+    };
     let second = hexadecimal(second).unwrap_or(0);
     match question {
         "second" => Ok(is_character(second_of(alloc, first)?, answer)),

@@ -75,6 +75,13 @@ pub(crate) fn prints<T: Debug>(alloc: Global, value: &T, text: &str) -> Result<b
     Ok(printed.as_str() == text)
 }
 
+/// The question of a row, its words and the answer: `question words: answer`.
+pub(crate) fn asked(row: &str) -> Option<(&str, &str, &str)> {
+    let (question, answer) = row.split_once(": ")?;
+    let (question, words) = question.split_once(' ')?;
+    Some((question, words, answer))
+}
+
 /// A field of a row, between semicolons.
 pub(crate) fn part(row: &str, at: usize) -> &str {
     row.split(';').nth(at).unwrap_or("")

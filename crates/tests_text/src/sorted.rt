@@ -37,10 +37,14 @@ impl Keyed for Kern {
     }
 }
 
+fn advance_of(glyph: u16) -> Advance {
+    Advance { glyph, width: 7 }
+}
+
 fn advances(alloc: Global) -> Result<SortedRows<Advance>, Fail> {
     let mut rows = Vec::new(alloc);
     for glyph in [3, 5, 9, 65535] {
-        rows.push(Advance { glyph, width: 7 })?;
+        rows.push(advance_of(glyph))?;
     }
     if !is_rising(&rows) {
         return Err("not rising".into());
@@ -107,9 +111,8 @@ fn pairs(rt: HostRuntime) -> Result<(), Fail> {
 
 #[test]
 fn equal_and_falling_keys(rt: HostRuntime) {
-    let at = |glyph| Advance { glyph, width: 0 };
-    assert!(rt; !is_rising(&[at(1), at(1)]));
-    assert!(rt; !is_rising(&[at(2), at(3), at(1)]));
+    assert!(rt; !is_rising(&[advance_of(1), advance_of(1)]));
+    assert!(rt; !is_rising(&[advance_of(2), advance_of(3), advance_of(1)]));
 }
 
 #[derive(Clone, Copy)]
@@ -155,10 +158,13 @@ fn letter_of(page: u32) -> u32 {
 
 /// Whether each page's character is found, and the one after it is not.
 fn are_found(table: &PagedRows<Letter>, count: u32) -> bool {
-    (0..count).all(|page| {
+    for page in 0..count {
         let character = letter_of(page);
-        table.get(character).is_some() && table.get(character.wrapping_add(1)).is_none()
-    })
+        if table.get(character).is_none() || table.get(character.wrapping_add(1)).is_some() {
+            return false;
+        }
+    }
+    true
 }
 
 fn has_pages(alloc: Global, count: u32) -> Result<bool, Fail> {

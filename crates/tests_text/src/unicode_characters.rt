@@ -1,7 +1,7 @@
 //! Properties of characters by tables, and their property words in glyph records.
 ghost use Rattle.std.specs.Char.{IsScalar};
 
-use crate::rows::{character, hexadecimal, prints};
+use crate::rows::{asked, character, hexadecimal, prints};
 use buffer_common::constants::{
     HB_BUFFER_SCRATCH_FLAG_HAS_CGJ, HB_BUFFER_SCRATCH_FLAG_HAS_DEFAULT_IGNORABLES,
     HB_BUFFER_SCRATCH_FLAG_HAS_NON_ASCII,
@@ -13,7 +13,7 @@ use buffer_unicode_tables::{
 };
 use serde_json::Value;
 use shell_tables_json::read_tables;
-use std::alloc::Global;
+use std::alloc::{AllocError, Global};
 use std::test::Fail;
 
 static TABLES: &str = r#"{"splits":[[225,97,769],[6918,6917,6965],[8491,197,0]],
@@ -77,11 +77,11 @@ properties e0020: 61 61 0 ignorable
 properties e001f: 22 22 0 ignorable
 properties fe00: ac 2c 0 ignorable";
 
-/// The tables of a text.
-pub(crate) fn tables_of(alloc: Global, text: &str) -> Result<UnicodeTables, Fail> {
+/// The tables of a text, in a box, which is freed by one call.
+pub(crate) fn tables_of(alloc: Global, text: &str) -> Result<Box<UnicodeTables>, Fail> {
     let value = Value::from_str(alloc, text)?;
     let tables = read_tables(alloc, &value)?;
-    Ok(tables)
+    Ok(Box::new(alloc, tables).map_err(AllocError::from)?)
 }
 
 /// Whether a character is that of an answer.
@@ -173,10 +173,13 @@ fn is_known(
 
 /// Whether characters are as a row says.
 pub(crate) fn is_so(alloc: Global, row: &str) -> Result<bool, Fail> {
-    let (question, answer) = row.split_once(": ").ok_or("no answer")?;
-    let (question, words) = question.split_once(' ').ok_or("no question")?;
+    let Some((question, words, answer)) = asked(row) else {
+        return Ok(false);
+    };
     let (first, second) = words.split_once(' ').unwrap_or((words, ""));
-    let first = character(first).ok_or("no character")?;
+    let Some(first) = character(first) else {
+        return Ok(false);
+    };
     let tables = tables_of(alloc, TABLES)?;
     is_known(alloc, &tables, question, (first, second), answer)
 }

@@ -80,9 +80,10 @@ fn count_in_k(value: &Value) -> Option<usize> {
 
 fn is_key(value: &Value, key: &str, answer: &str) -> bool {
     match read_key(value, key, 'x') {
-        Ok(c) => answer
-            .strip_prefix("read ")
-            .is_some_and(|number| number.parse::<u32>() == Ok(u32::from(c))),
+        Ok(c) => match answer.strip_prefix("read ") {
+            Some(number) => number.parse::<u32>() == Ok(u32::from(c)),
+            None => false,
+        },
         Err(fault) => fault.name() == answer,
     }
 }
