@@ -125,5 +125,8 @@ pub fn run<T: Read, F: Read, X: Read, W: Write>(
     // Their bytes are no longer needed, and a long text's glyphs need the memory.
     drop(tables);
     drop(font);
-    write_answer(alloc, &options, &input, &text, out)
+    let written = write_answer(alloc, &options, &input, &text, out);
+    // In one step: left to the end, each list of the tables and the font is a step of this function's proof.
+    drop(input);
+    written
 }
