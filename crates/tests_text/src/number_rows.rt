@@ -81,9 +81,18 @@ fn whole_of(alloc: Global, first: u32, second: u32) -> Result<Option<char>, Tabl
 
 fn ranges(alloc: Global) -> Result<CharacterRanges, AllocError> {
     let mut rows = Vec::new(alloc);
-    for (first, last) in [('b', 'x'), ('d', 'e'), ('z', 'a')] {
-        rows.push(CharacterRange { first, last })?;
-    }
+    rows.push(CharacterRange {
+        first: 'b',
+        last: 'x',
+    })?;
+    rows.push(CharacterRange {
+        first: 'd',
+        last: 'e',
+    })?;
+    rows.push(CharacterRange {
+        first: 'z',
+        last: 'a',
+    })?;
     CharacterRanges::new(alloc, rows)
 }
 
