@@ -1,4 +1,7 @@
 //! Reads context and chained-context subtables.
+//!
+//! The name of a format is read as that of a lookup's type is (`position_table`, `substitution_table`): each under its
+//! own key, into its own type, and with names of its own.
 ghost use Rattle.std.specs.Prelude.{◌≡◌, ◌≢◌, IfOk, IfErr, Ok, Err, codes};
 ghost use Rattle.serde_json.specs.Find.{get};
 ghost use Rattle.serde_json.specs.View.{view};

@@ -1,4 +1,7 @@
 //! Reads the GSUB and GPOS tables.
+//!
+//! The taker of a table has the form of the taker of a list (`rows`): each keeps a limit and the type that it reads.
+//! The keys of a table are listed apart from GDEF's (`definition`), which have types of their own.
 ghost use Rattle.std.specs.Prelude.{◌≡◌, [], length, codes, unwrap_or, IfOk, Ok};
 ghost use Rattle.std.specs.Option.{option_map};
 ghost use Rattle.serde_json.specs.View.{view, items_view};
