@@ -1,0 +1,3 @@
+mod Numbers
+pub mod Inverted
+pub mod Recorded

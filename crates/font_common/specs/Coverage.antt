@@ -1,0 +1,79 @@
+-- Coverage tables (OpenType, chapter 2, coverage table).
+use Rattle.std.specs.Prelude.{ℕ, zero, suc, ◌+◌, ◌-◌, ◌*◌, ◌==◌, ◌&&◌, nat_le, Bool, true, if◌then◌else◌, List, [], ◌∷◌, length, Result, Ok, Err}
+use Rattle.std.specs.List.{flat_map}
+use Rattle.font_bytes.specs.declared.fault.TableFault.{TableFault}
+use Rattle.font_bytes.specs.declared.fault.TableFault.TheVariants.{Kind, Order}
+use Rattle.font_bytes.specs.Results.{and_then}
+use Rattle.font_bytes.specs.Words.{need, word}
+use Rattle.font_bytes.specs.Records.{records}
+use Rattle.font_bytes.specs.Room.{taken}
+use Rattle.layout_common.specs.Coverage.{in_order}
+use Rattle.font_common.specs.declared.coverage.RangeRecord.{RangeRecord}
+
+-- ---- format 1
+
+-- whether no number is below the one before it, nor the first below a least one: the specification wants them to rise, and
+-- fonts repeat glyphs
+abbrev pub never_fall : ℕ → List ℕ → Bool
+never_fall least [] = true
+never_fall least (g ∷ gs) = nat_le least g && never_fall g gs
+
+-- glyphArray: glyphCount glyphs from an offset on
+abbrev pub glyph_array : List ℕ → ℕ → ℕ → List ℕ
+glyph_array table at count = records (word table) 2 at count
+
+-- format 1: glyphCount at 2, glyphArray at 4; glyphs never fall
+abbrev pub listed_glyphs : List ℕ → ℕ → Result (List ℕ) TableFault
+listed_glyphs table at = and_then (need table (at + 4) (2 * word table (at + 2)))
+    (λ _. if never_fall 0 (glyph_array table (at + 4) (word table (at + 2))) then Ok (glyph_array table (at + 4) (word table (at + 2))) else Err (Order at))
+
+-- ---- format 2
+
+-- RangeRecord: startGlyphID at 0, endGlyphID at 2, startCoverageIndex at 4
+abbrev pub range_record : List ℕ → ℕ → RangeRecord
+range_record table at = record { first = word table at; last = word table (at + 2); start_index = word table (at + 4) }
+
+-- so many glyphs from one on
+abbrev pub glyph_run : ℕ → ℕ → List ℕ
+glyph_run first zero = []
+glyph_run first (suc count) = first ∷ glyph_run (first + 1) count
+
+-- how many glyphs a range has
+abbrev pub range_length : RangeRecord → ℕ
+range_length r = r.last + 1 - r.first
+
+-- the glyphs of a range
+abbrev pub run_of : RangeRecord → List ℕ
+run_of r = glyph_run r.first (range_length r)
+
+-- whether a range may follow glyphs up to a greatest one, as many as an index: it has glyphs, and the index is its first one's
+abbrev pub is_next : ℕ → ℕ → RangeRecord → Bool
+is_next least index r = nat_le least r.first && nat_le r.first r.last && r.start_index == index
+
+-- whether ranges never fall and each has as its start index the number of the glyphs before it
+abbrev pub are_ranges : ℕ → ℕ → List RangeRecord → Bool
+are_ranges least index [] = true
+are_ranges least index (r ∷ rs) = is_next least index r && are_ranges r.last (index + range_length r) rs
+
+-- rangeRecords: rangeCount records from an offset on
+abbrev pub range_array : List ℕ → ℕ → ℕ → List RangeRecord
+range_array table at count = records (range_record table) 6 at count
+
+-- format 2: rangeCount at 2, rangeRecords at 4
+abbrev pub range_glyphs : List ℕ → ℕ → Result (List ℕ) TableFault
+range_glyphs table at = and_then (need table (at + 4) (6 * word table (at + 2)))
+    (λ _. if are_ranges 0 0 (range_array table (at + 4) (word table (at + 2))) then Ok (flat_map run_of (range_array table (at + 4) (word table (at + 2)))) else Err (Order at))
+
+-- ---- both
+
+-- the glyphs of a coverage table, by its format at 0
+abbrev pub glyphs_of_format : List ℕ → ℕ → ℕ → Result (List ℕ) TableFault
+glyphs_of_format table at format = if format == 1 then listed_glyphs table at else (if format == 2 then range_glyphs table at else Err (Kind at))
+
+-- the glyphs of the coverage table at an offset
+abbrev pub glyphs_at : List ℕ → ℕ → Result (List ℕ) TableFault
+glyphs_at table at = and_then (need table at 4) (λ _. glyphs_of_format table at (word table at))
+
+-- the set of glyphs of the coverage table at an offset, and the room that its glyphs leave
+abbrev pub coverage_at : ℕ → List ℕ → ℕ → Result (List ℕ × ℕ) TableFault
+coverage_at room table at = and_then (glyphs_at table at) (λ gs. and_then (taken room (length gs)) (λ left. Ok (in_order gs, left)))

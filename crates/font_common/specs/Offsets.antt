@@ -1,0 +1,28 @@
+-- Tables that are read by an offset, and arrays of offsets (Offset16).
+use Rattle.std.specs.Prelude.{ℕ, ◌+◌, ◌*◌, List, [], ◌∷◌, ◌++◌, Result, Ok}
+use Rattle.font_bytes.specs.declared.fault.TableFault.{TableFault}
+use Rattle.font_bytes.specs.Results.{and_then}
+use Rattle.font_bytes.specs.Room.{taken}
+use Rattle.font_bytes.specs.Words.{need, word}
+use Rattle.font_bytes.specs.Records.{records}
+
+-- values after others, with the room that is left
+abbrev pub after : {A : Type 0} → List A → Result (List A × ℕ) TableFault → Result (List A × ℕ) TableFault
+after done rest = and_then rest (λ r. Ok (done ++ r.0, r.1))
+
+-- the values of tables at offsets, one after another in the room that those before them leave
+abbrev pub tables_in : {A : Type 0} → (ℕ → ℕ → Result (A × ℕ) TableFault) → ℕ → List ℕ → Result (List A × ℕ) TableFault
+tables_in read room [] = Ok ([], room)
+tables_in read room (o ∷ os) = and_then (read room o) (λ a. after (a.0 ∷ []) (tables_in read a.1 os))
+
+-- the array of offsets
+abbrev pub offset_array : List ℕ → ℕ → ℕ → List ℕ
+offset_array bytes at count = records (word bytes) 2 at count
+
+-- the values of the tables of an array of so many offsets from a base; each offset takes a row of room
+abbrev pub tables_at : {A : Type 0} → (ℕ → List ℕ → ℕ → Result (A × ℕ) TableFault) → List ℕ → ℕ → ℕ → ℕ → ℕ → Result (List A × ℕ) TableFault
+tables_at read bytes base at count room = and_then (taken room count) (λ left. tables_in (λ r o. read r bytes (base + o)) left (offset_array bytes at count))
+
+-- the values of the tables of a count and that many offsets
+abbrev pub list_at : {A : Type 0} → (ℕ → List ℕ → ℕ → Result (A × ℕ) TableFault) → List ℕ → ℕ → ℕ → ℕ → Result (List A × ℕ) TableFault
+list_at read bytes base at room = and_then (need bytes at 2) (λ _. and_then (need bytes (at + 2) (2 * word bytes at)) (λ _. tables_at read bytes base (at + 2) (word bytes at) room))

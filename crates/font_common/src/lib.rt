@@ -1,0 +1,11 @@
+//! What the tables GDEF, GSUB and GPOS share, from their bytes: coverages, and tables at offsets (OpenType, chapter 2).
+#![tactic(auto)]
+
+pub mod coverage;
+pub mod offsets;
+
+pub use coverage::{read_coverage, read_coverage_glyphs};
+pub use offsets::{FromTable, read_list, read_tables};
+
+#[cfg(test)]
+mod tests;
