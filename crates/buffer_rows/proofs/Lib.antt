@@ -1,4 +1,5 @@
 pub mod Searched
 pub mod Paged
 pub mod DenseSlots
+pub mod Passes
 pub mod StableSort

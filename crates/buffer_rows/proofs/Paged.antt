@@ -43,7 +43,7 @@ module _ {R : Type 0} (number : R → ℕ) where
   none_after k (r ∷ rows) (suc e) h = none_after k rows e (λ i d le lt. h (suc i) d (omega (arith, le)) (omega (arith, lt)))
 
   -- a number has no record where the records from it on begin where those from a greater number on begin
-  none_between : (k : ℕ) (rows : List R) (low high s : ℕ) → low ≤ k → k < high → IsStart number rows low s → IsStart number rows high s → row_of number k rows ≡ None
+  pub none_between : (k : ℕ) (rows : List R) (low high s : ℕ) → low ≤ k → k < high → IsStart number rows low s → IsStart number rows high s → row_of number k rows ≡ None
   none_between k rows low high s le lt from to =
       let before : row_of number k (take s rows) ≡ None = none_before k rows s (λ i d l. let under = from.below i d l in omega (arith, under, le)) in
       let after : row_of number k (drop s rows) ≡ None = none_after k rows s (λ i d l m. let over = to.rest i d l m in omega (arith, over, lt)) in
@@ -78,6 +78,14 @@ never_falls number (r ∷ rows) zero (suc j) d h le lt =
     omega (arith, later)
 never_falls number (r ∷ rows) (suc i) zero d h le lt = absurd (omega (arith, le))
 never_falls number (r ∷ rows) (suc i) (suc j) d h le lt = never_falls number rows i j d (rises_alone number (Some (number r)) rows h) (omega (arith, le)) (omega (arith, lt))
+
+-- and rise strictly
+pub strictly_rises : {R : Type 0} (number : R → ℕ) (rows : List R) (i j : ℕ) (d : R) → numbers_rise number rows ≡ true → i < j → j < length rows → number (get_or rows i d) < number (get_or rows j d)
+strictly_rises number [] i j d h below lt = absurd (omega (arith, lt))
+strictly_rises number (r ∷ rows) zero zero d h below lt = absurd (omega (arith, below))
+strictly_rises number (r ∷ rows) zero (suc j) d h below lt = below_each number (number r) rows j d h (omega (arith, lt))
+strictly_rises number (r ∷ rows) (suc i) zero d h below lt = absurd (omega (arith, below))
+strictly_rises number (r ∷ rows) (suc i) (suc j) d h below lt = strictly_rises number rows i j d (rises_alone number (Some (number r)) rows h) (omega (arith, below)) (omega (arith, lt))
 
 -- a test by a number parts the rows
 pub rows_are_partitioned : {R : Type 0} (number : R → ℕ) (rows : List R) (first : ℕ) → numbers_rise number rows ≡ true → IsPartitionedBy (λ r. nat_lt (number r) first) rows
@@ -133,9 +141,9 @@ block_grows number rows slots at first count slot e is h = λ low lt.
           rw here (ap (λ o. Some o) (rw same is))
     ]
 
-pub empty_page : {R : Type 0} (number : R → ℕ) (rows : List R) (slots : List ℕ) (first start end : ℕ) → IsStart number rows first start → IsStart number rows (first + 128) end → start ≡ end → IsPage number rows slots first 0
-empty_page number rows slots first start end from to e = record {
-  none = λ z k le lt. none_between number k rows first (first + 128) start le lt from (rw (sym e) at to);
+pub empty_page : {R : Type 0} (number : R → ℕ) (rows : List R) (slots : List ℕ) (first start : ℕ) {end : ℕ} → end ≡ first + 128 → IsStart number rows first start → IsStart number rows end start → IsPage number rows slots first 0
+empty_page number rows slots first start {end} is from to = record {
+  none = λ z k le lt. none_between number k rows first end start le (omega (arith, lt, is)) from to;
   some = λ n. absurd (n refl);
 }
 

@@ -2,7 +2,7 @@
 ghost use Rattle.std.specs.Prelude.{◌≡◌, ◌<◌, ◌≤◌, ◌+◌, [], true, IfOk, IfSome, length};
 ghost use Rattle.buffer_rows.specs.Keys.{numbers_rise, row_of};
 ghost use Rattle.buffer_rows.specs.Dense.{AreWithin};
-ghost use Rattle.buffer_rows.specs.Pages.{IsBlock};
+ghost use Rattle.buffer_rows.specs.Pages.{IsBlock, IsStart};
 
 use crate::numbered::{Numbered, find_number_near};
 use crate::slots::{entry, push_slots, record_in};
@@ -90,10 +90,11 @@ impl<R: Numbered> DenseRows<R> {
 }
 
 /// The numbers of the first and the last record, 1 and 0 where there are none.
-#[tactic(auto, using(crate::proofs::DenseSlots::within_ends, crate::proofs::DenseSlots::none_first, crate::proofs::DenseSlots::none_last))]
+#[tactic(auto, using(crate::proofs::DenseSlots::within_ends, crate::proofs::DenseSlots::none_first, crate::proofs::DenseSlots::none_last, crate::proofs::Passes::start_of_first, crate::proofs::Passes::start_of_none))]
 fn ends_of<R: Numbered>(rows: &[R]) -> (u32, u32)
     requires { numbers_rise R.number_of rows.now ≡ true }
-    ensures { AreWithin R.number_of rows.now result.0 result.1 }
+    ensures within { AreWithin R.number_of rows.now result.0 result.1 }
+    ensures start { IsStart R.number_of rows.now result.0 0 }
 {
     let Some(first) = rows.first() else {
         return (1, 0);
@@ -128,13 +129,14 @@ fn slots_between<R: Numbered>(
     first: u32,
     last: u32,
 ) -> Result<Vec<u16>, AllocError>
-    requires { numbers_rise R.number_of rows.now ≡ true }
+    requires rising { numbers_rise R.number_of rows.now ≡ true }
+    requires start { IsStart R.number_of rows.now first 0 }
     ensures { IfOk result (λ slots. IsBlock R.number_of rows.now slots.items 0 first (length slots.items)) }
 {
     let Some(count) = slot_count(rows.len(), first, last) else {
         return Ok(Vec::new(alloc));
     };
     let mut slots = Vec::with_capacity(alloc, count as usize)?;
-    push_slots(rows, first, count, &mut slots)?;
+    push_slots(rows, 0, first, count, &mut slots)?;
     Ok(slots)
 }

@@ -1,10 +1,10 @@
 //! A table of records in the strict order of their numbers, with an index of its pages.
 ghost use Rattle.std.specs.Prelude.{◌≡◌, ◌≤◌, ◌<◌, ◌+◌, ◌%◌, ◌^◌, true, IfOk, length};
 ghost use Rattle.buffer_rows.specs.Keys.{numbers_rise, row_of};
-ghost use Rattle.buffer_rows.specs.Pages.{ArePages, Extends, IsPage};
+ghost use Rattle.buffer_rows.specs.Pages.{ArePages, Extends, IsPage, IsStart};
 
-use crate::numbered::{Numbered, find_number, first_from};
-use crate::slots::{entry, push_slots, record_in};
+use crate::numbered::{Numbered, find_number};
+use crate::slots::{are_above, entry, push_slots, record_in};
 use std::alloc::{AllocError, Global};
 use std::marker::Model;
 
@@ -115,32 +115,42 @@ fn index_of<R: Numbered>(alloc: Global, rows: &[R]) -> Result<Index, AllocError>
     // Neither list grows past its room, so that no more than this is ever allocated.
     let mut pages = Vec::with_capacity(alloc, PAGES as usize)?;
     let mut slots = Vec::with_capacity(alloc, slots_of(rows))?;
+    let mut at = 0;
     for page in 0..PAGES {
         if slots.len() >= MAX_SLOTS {
             return Ok(Index { pages, slots });
         }
-        let block = push_page(rows, page * PAGE, &mut slots)?;
+        let (block, next) = push_page(rows, at, page * PAGE, &mut slots)?;
         pages.push(block)?;
+        at = next;
     }
     Ok(Index { pages, slots })
 }
 
-/// Appends the slots of a page that has records, and gives the count of its block.
-#[tactic(auto, using(crate::proofs::Paged::full_page, crate::proofs::Paged::itself))]
-fn push_page<R: Numbered>(rows: &[R], first: u32, slots: &mut Vec<u16>) -> Result<u16, AllocError>
+/// Appends the slots of a page if it has records, which begin at the index `from`. Gives the count of its block, or 0,
+/// and where the records of the pages after it begin.
+#[tactic(auto, using(crate::proofs::Paged::empty_page, crate::proofs::Paged::full_page, crate::proofs::Paged::itself))]
+fn push_page<R: Numbered>(
+    rows: &[R],
+    from: usize,
+    first: u32,
+    slots: &mut Vec<u16>,
+) -> Result<(u16, usize), AllocError>
     requires rising { numbers_rise R.number_of rows.now ≡ true }
     requires few { length rows.now < 65535 }
     requires fits { first + 128 < 2 ^ 32 }
+    requires start { IsStart R.number_of rows.now first from }
     requires room { length slots.old.items < 131072 }
     requires whole { length slots.old.items % 128 ≡ 0 }
-    ensures page { IfOk result (λ block. IsPage R.number_of rows.now slots.new.items first block) }
+    ensures page { IfOk result (λ r. IsPage R.number_of rows.now slots.new.items first r.0) }
     ensures kept { IfOk result (λ _. Extends slots.old.items slots.new.items) }
     ensures whole { IfOk result (λ _. length slots.new.items % 128 ≡ 0) }
+    ensures start { IfOk result (λ r. IsStart R.number_of rows.now (first + 128) r.1) }
 {
-    if first_from(rows, first) == first_from(rows, first + PAGE) {
-        return Ok(0);
+    if are_above(rows, from, first, first + (PAGE - 1)) {
+        return Ok((0, from));
     }
     let block = slots.len() / PAGE as usize + 1;
-    push_slots(rows, first, PAGE, slots)?;
-    Ok(block as u16)
+    let next = push_slots(rows, from, first, PAGE, slots)?;
+    Ok((block as u16, next))
 }
