@@ -2,28 +2,28 @@
 
 from collections import Counter
 
-from common.documents import add_modes, deliver
 from common.parsing import Words
 from sources.crates import ROOT
 from sources.document import document, unclear
 from sources.reach import Sources
 
 NAME = "definitions"
-TARGET = ROOT / "docs" / "DEFINITIONS.md"
-ABOUT = """Makes docs/DEFINITIONS.md from the comments in crates/*/specs: what contracts cite (by the `ghost use` lines
+TARGET = ROOT / "out" / "DEFINITIONS.md"
+ABOUT = """Makes out/DEFINITIONS.md from the comments in crates/*/specs: what contracts cite (by the `ghost use` lines
 of src), with what that rests on."""
 
 
 def main(words: list[str]) -> int:
-    """Writes the document, or tells what differs; its status is 1 where it does."""
+    """Writes the document, or lists the definitions whose comment says too little."""
     parser = Words(prog=NAME, description=ABOUT)
-    modes = add_modes(parser)
-    modes.add_argument("--unclear", action="store_true", help="list definitions whose comment doesn't stand by itself")
+    parser.add_argument("--unclear", action="store_true", help="list definitions whose comment doesn't stand by itself")
     options = parser.parse_args(words)
     sources = Sources(ROOT)
     if options.unclear:
         return list_unclear(sources)
-    return deliver(NAME, TARGET, document(sources), options)
+    TARGET.parent.mkdir(exist_ok=True)
+    TARGET.write_text(document(sources), encoding="utf-8")
+    return 0
 
 
 def list_unclear(sources: Sources) -> int:

@@ -1,4 +1,4 @@
-"""docs/DEFINITIONS.md, made from the comments in specs/."""
+"""out/DEFINITIONS.md, made from the comments in specs/."""
 
 import re
 from typing import Iterable, Iterator
@@ -10,8 +10,7 @@ from sources.specs import Definition, Module, Place
 HEAD = """# Definitions
 
 What contracts cite, with what that rests on: each definition in the words of the comment above it. Lemmas are left out.
-The crates stand in the order of crates.txt, lowest first. Made by `tools/definitions` from `crates/*/specs`; change the
-comment there, and run it again.
+The crates stand in the order of crates.txt, lowest first. Made by `tools/definitions` from `crates/*/specs`.
 """
 BARE = "Without a comment"
 # A comment that says what the definition is only beside the one before it.

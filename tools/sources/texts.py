@@ -14,8 +14,6 @@ SPEC_NAME = re.compile(
 )
 SPEC_WORDS = ("abbrev", "pub", "record", "data", "unfoldable", "use", "mod", "class", "def", "mutual", "syntax")
 DOCUMENTS = ("README.md", "CONTRIBUTING.md", "docs/*.md")
-# DEFINITIONS.md is made of the comments in specs/.
-MADE = "DEFINITIONS.md"
 
 
 @dataclass(frozen=True)
@@ -40,9 +38,7 @@ def code_files(root: Path) -> Iterator[tuple[str, Path]]:
 
 def documents(root: Path) -> Iterator[Path]:
     for pattern in DOCUMENTS:
-        for path in sorted(root.glob(pattern)):
-            if path.name != MADE:
-                yield path
+        yield from sorted(root.glob(pattern))
 
 
 def said_in_code(crate: str, path: Path) -> Iterator[Said]:

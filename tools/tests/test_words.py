@@ -73,7 +73,6 @@ And what is behind it.
 
 The output stands behind the cursor.
 """,
-    "docs/DEFINITIONS.md": "It tells.\n",
 }
 EXPECTED = [
     ("goes", "crates/low/src/lib.rt", 6, "goes"),
