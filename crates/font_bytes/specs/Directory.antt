@@ -15,6 +15,11 @@ is_collection bytes = long bytes 0 == 0x74746366
 abbrev pub is_font_version : ℕ → Bool
 is_font_version version = version == 0x00010000 || version == 0x74727565 || version == 0x4f54544f
 
+-- how many fonts a file has (TTC header: numFonts at 8)
+abbrev pub font_count : List ℕ → Result ℕ TableFault
+font_count bytes = and_then (need bytes 0 12) (λ _. if is_collection bytes then Ok (long bytes 8)
+    else (if is_font_version (long bytes 0) then Ok 1 else Err (Kind 0)))
+
 -- the offset of a font's table directory (TTC header: numFonts at 8, then an offset for each font)
 abbrev pub font_start : List ℕ → ℕ → Result ℕ TableFault
 font_start bytes index = and_then (need bytes 0 12) (λ _. if is_collection bytes

@@ -2,7 +2,7 @@
 ghost use Rattle.std.specs.Prelude.{◌≡◌, ◌≤◌, ◌<◌, ◌+◌, ◌*◌, length, IfOk, IfErr, Ok, Err, find, ◌==◌};
 ghost use Rattle.std.specs.Option.{option_map, option_copied};
 ghost use Rattle.font_bytes.specs.Records.{records};
-ghost use Rattle.font_bytes.specs.Directory.{table_record, font_start, directory, table_bytes, table_of};
+ghost use Rattle.font_bytes.specs.Directory.{table_record, is_font_version, font_count, font_start, directory, table_bytes, table_of};
 
 use crate::fault::TableFault;
 use crate::words::{long, need, word};
@@ -22,6 +22,29 @@ pub struct TableRecord {
     pub tag: u32,
     pub offset: usize,
     pub length: usize,
+}
+
+/// Whether a table directory of this version is known: outlines of TrueType or CFF.
+fn is_font_version(version: u32) -> bool
+    ensures { result ≡ is_font_version version }
+{
+    version == TRUETYPE || version == APPLE || version == CFF
+}
+
+/// How many fonts a file has.
+pub fn font_count(bytes: &[u8]) -> Result<usize, TableFault>
+    ensures { result ≡ font_count bytes.now }
+{
+    need(bytes, 0, 12)?;
+    let version = long(bytes, 0);
+    if version == COLLECTION {
+        return Ok(long(bytes, 8) as usize);
+    }
+    if is_font_version(version) {
+        Ok(1)
+    } else {
+        Err(TableFault::Kind(0))
+    }
 }
 
 /// The offset of the table directory of a font: 0 in a file of one font.
@@ -52,8 +75,7 @@ pub fn table_directory(bytes: &[u8], index: usize) -> Result<(usize, usize), Tab
 {
     let start = font_start(bytes, index)?;
     need(bytes, start, 12)?;
-    let version = long(bytes, start);
-    if version != TRUETYPE && version != APPLE && version != CFF {
+    if !is_font_version(long(bytes, start)) {
         return Err(TableFault::Kind(start));
     }
     let count = usize::from(word(bytes, start + 4));

@@ -6,7 +6,7 @@ pub mod fault;
 pub mod room;
 pub mod words;
 
-pub use directory::{font_table, table_directory};
+pub use directory::{font_count, font_table, table_directory};
 pub use fault::TableFault;
 pub use room::Room;
 

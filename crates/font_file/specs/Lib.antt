@@ -1,0 +1,4 @@
+pub mod Tables
+pub mod Fault
+pub mod Found
+pub mod Count
