@@ -1,8 +1,8 @@
 -- How many fonts a file has.
 use Rattle.std.specs.Prelude.{ℕ, List, None, Result}
 use Rattle.font_bytes.specs.Directory as directory
-use Rattle.font_file.specs.declared.fault.FontFault.{FontFault}
-use Rattle.font_file.specs.Fault.{in_table}
+use Rattle.font_bytes.specs.declared.font_fault.FontFault.{FontFault}
+use Rattle.font_bytes.specs.Fault.{in_table}
 
 -- how many fonts a file has: as many as a collection says, one in any other font file
 abbrev pub font_count : List ℕ → Result ℕ FontFault

@@ -3,10 +3,10 @@ use Rattle.std.specs.Prelude.{ℕ, List, Option, Some, None, Result, Ok, Err}
 use Rattle.font_bytes.specs.declared.fault.TableFault.TheVariants.{Missing}
 use Rattle.font_bytes.specs.Results.{and_then}
 use Rattle.font_bytes.specs.Directory.{table_of}
-use Rattle.font_file.specs.declared.fault.FontFault.{FontFault}
-use Rattle.font_file.specs.declared.table.FontTable.{FontTable}
-use Rattle.font_file.specs.Tables.{tag_of_table}
-use Rattle.font_file.specs.Fault.{in_table}
+use Rattle.font_bytes.specs.declared.font_fault.FontFault.{FontFault}
+use Rattle.font_bytes.specs.declared.table_names.FontTable.{FontTable}
+use Rattle.font_bytes.specs.Tables.{tag_of_table}
+use Rattle.font_bytes.specs.Fault.{in_table}
 
 -- the bytes of a table of the font with an index, if it has the table
 abbrev pub table_in : List ℕ → ℕ → FontTable → Result (Option (List ℕ)) FontFault

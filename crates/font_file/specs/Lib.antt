@@ -1,4 +1,2 @@
-pub mod Tables
-pub mod Fault
 pub mod Found
 pub mod Count

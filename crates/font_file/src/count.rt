@@ -2,8 +2,8 @@
 ghost use Rattle.std.specs.Prelude.{◌≡◌};
 ghost use Rattle.font_file.specs.Count.{font_count};
 
-use crate::fault::{FontFault, in_table};
-use font_bytes::directory;
+use font_bytes::font_fault::in_table;
+use font_bytes::{FontFault, directory};
 
 /// How many fonts a file has: as many as the header of a collection says (OpenType, chapter 4, font collections), one in
 /// any other font file.

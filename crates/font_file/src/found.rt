@@ -3,10 +3,9 @@ ghost use Rattle.std.specs.Prelude.{◌≡◌, IfOk, IfErr, Ok, Err};
 ghost use Rattle.std.specs.Option.{option_copied};
 ghost use Rattle.font_file.specs.Found.{required_in, table_in};
 
-use crate::fault::FontFault;
-use crate::table::FontTable;
 use font_bytes::directory::font_table;
 use font_bytes::fault::TableFault;
+use font_bytes::{FontFault, FontTable};
 
 /// The bytes of a table of the font with an index, none where it has no such table.
 pub(crate) fn table_in(

@@ -3,10 +3,7 @@
 #![tactic(auto)]
 
 mod count;
-pub mod fault;
 mod found;
-pub mod table;
 
 pub use count::font_count;
-pub use fault::FontFault;
-pub use table::FontTable;
+pub use font_bytes::{FontFault, FontTable};

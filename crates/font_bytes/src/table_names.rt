@@ -1,6 +1,6 @@
 //! The tables of a font file that are read (OpenType, chapter 4, font tables).
 ghost use Rattle.std.specs.Prelude.{◌≡◌};
-ghost use Rattle.font_file.specs.Tables.{name_of_table, tag_of_table};
+ghost use Rattle.font_bytes.specs.Tables.{name_of_table, tag_of_table};
 
 /// A table that is read.
 #[derive(Clone, Copy, PartialEq, Eq, Debug)]

@@ -1,8 +1,8 @@
 -- The tables of a font file that are read (OpenType, chapter 4, font tables).
 use Rattle.std.specs.Prelude.{ℕ, List, codes}
 use Rattle.buffer_common.specs.Tag.{tag_of_text}
-use Rattle.font_file.specs.declared.table.FontTable.{FontTable}
-use Rattle.font_file.specs.declared.table.FontTable.TheVariants.{Head, Maxp, Hhea, Hmtx, Vhea, Vmtx, Os2, Vorg, Cmap, Loca, Glyf, Cff, Cff2, Post, Gdef, Gsub, Gpos, Kern}
+use Rattle.font_bytes.specs.declared.table_names.FontTable.{FontTable}
+use Rattle.font_bytes.specs.declared.table_names.FontTable.TheVariants.{Head, Maxp, Hhea, Hmtx, Vhea, Vmtx, Os2, Vorg, Cmap, Loca, Glyf, Cff, Cff2, Post, Gdef, Gsub, Gpos, Kern}
 
 -- the name of a table
 abbrev pub name_of_table : FontTable → List ℕ

@@ -3,9 +3,9 @@ use Rattle.std.specs.Prelude.{ℕ, List, [], ◌++◌, codes, Option, Some, None
 use Rattle.std.specs.Fmt.{decimal}
 use Rattle.font_bytes.specs.declared.fault.TableFault.{TableFault}
 use Rattle.font_bytes.specs.declared.fault.TableFault.TheVariants.{Short, Kind, Order, Index, Missing, TooLarge, OutOfMemory}
-use Rattle.font_file.specs.declared.fault.FontFault.{FontFault}
-use Rattle.font_file.specs.declared.table.FontTable.{FontTable}
-use Rattle.font_file.specs.Tables.{name_of_table}
+use Rattle.font_bytes.specs.declared.font_fault.FontFault.{FontFault}
+use Rattle.font_bytes.specs.declared.table_names.FontTable.{FontTable}
+use Rattle.font_bytes.specs.Tables.{name_of_table}
 
 -- a value of a table, whose fault is the file's
 abbrev pub in_table : {A : Type 0} → Option FontTable → Result A TableFault → Result A FontFault

@@ -1,10 +1,10 @@
 //! Why a font file isn't read.
 ghost use Rattle.std.specs.Prelude.{◌≡◌, Result, IfOk, IfErr, Ok, Err, OnOk};
 ghost use Rattle.font_bytes.specs.declared.fault.TableFault.{TableFault};
-ghost use Rattle.font_file.specs.Fault.{in_table, name_of, number_of, offset_of};
+ghost use Rattle.font_bytes.specs.Fault.{in_table, name_of, number_of, offset_of};
 
-use crate::table::FontTable;
-use font_bytes::fault::TableFault;
+use crate::fault::TableFault;
+use crate::table_names::FontTable;
 use std::alloc::{AllocError, AllocFailed};
 use std::error::Error;
 use std::fmt;
@@ -64,7 +64,7 @@ impl FontFault {
 }
 
 /// A table's fault as that of the file.
-pub(crate) fn in_table<A: Drop>(
+pub fn in_table<A: Drop>(
     table: Option<FontTable>,
     read: Result<A, TableFault>,
 ) -> Result<A, FontFault>
@@ -78,7 +78,7 @@ pub(crate) fn in_table<A: Drop>(
 
 impl fmt::Display for FontFault {
     ghost use Rattle.std.specs.Prelude.{Some};
-    ghost use Rattle.font_file.specs.Fault.{message_of};
+    ghost use Rattle.font_bytes.specs.Fault.{message_of};
 
     ghost output = { λ fault. Some (message_of fault) };
 
@@ -103,7 +103,7 @@ impl Error for FontFault {}
 
 impl From<AllocError> for FontFault {
     ghost use Rattle.std.specs.Prelude.{◌≡◌};
-    ghost use Rattle.font_file.specs.Fault.{out_of_memory};
+    ghost use Rattle.font_bytes.specs.Fault.{out_of_memory};
 
     ghost from_gives = { λ _ e. e ≡ out_of_memory };
 
@@ -117,7 +117,7 @@ impl From<AllocError> for FontFault {
 
 impl<T: Drop> From<AllocFailed<T>> for FontFault {
     ghost use Rattle.std.specs.Prelude.{◌≡◌};
-    ghost use Rattle.font_file.specs.Fault.{out_of_memory};
+    ghost use Rattle.font_bytes.specs.Fault.{out_of_memory};
 
     ghost from_gives = { λ _ e. e ≡ out_of_memory };
 
