@@ -1,10 +1,15 @@
 -- Tables that are read by an offset, and arrays of offsets (Offset16).
-use Rattle.std.specs.Prelude.{ℕ, ◌+◌, ◌*◌, List, [], ◌∷◌, ◌++◌, Result, Ok}
+use Rattle.std.specs.Prelude.{ℕ, ◌+◌, ◌*◌, ◌==◌, if◌then◌else◌, List, [], ◌∷◌, ◌++◌, Result, Ok}
 use Rattle.font_bytes.specs.declared.fault.TableFault.{TableFault}
 use Rattle.font_bytes.specs.Results.{and_then}
 use Rattle.font_bytes.specs.Room.{taken}
 use Rattle.font_bytes.specs.Words.{need, word}
 use Rattle.font_bytes.specs.Records.{records}
+
+-- the value of the table at an offset from a base, by what a null offset leads to and how a table is read at an offset of
+-- bytes in the room that is left
+abbrev pub value_at_offset : {A : Type 0} → A → (ℕ → List ℕ → ℕ → Result (A × ℕ) TableFault) → ℕ → List ℕ → ℕ → ℕ → Result (A × ℕ) TableFault
+value_at_offset null read room bytes base offset = if offset == 0 then Ok (null, room) else read room bytes (base + offset)
 
 -- values after others, with the room that is left
 abbrev pub after : {A : Type 0} → List A → Result (List A × ℕ) TableFault → Result (List A × ℕ) TableFault
@@ -20,9 +25,11 @@ abbrev pub offset_array : List ℕ → ℕ → ℕ → List ℕ
 offset_array bytes at count = records (word bytes) 2 at count
 
 -- the values of the tables of an array of so many offsets from a base; each offset takes a row of room
-abbrev pub tables_at : {A : Type 0} → (ℕ → List ℕ → ℕ → Result (A × ℕ) TableFault) → List ℕ → ℕ → ℕ → ℕ → ℕ → Result (List A × ℕ) TableFault
-tables_at read bytes base at count room = and_then (taken room count) (λ left. tables_in (λ r o. read r bytes (base + o)) left (offset_array bytes at count))
+abbrev pub tables_at : {A : Type 0} → A → (ℕ → List ℕ → ℕ → Result (A × ℕ) TableFault) → List ℕ → ℕ → ℕ → ℕ → ℕ → Result (List A × ℕ) TableFault
+tables_at null read bytes base at count room =
+    and_then (taken room count) (λ left. tables_in (λ r o. value_at_offset null read r bytes base o) left (offset_array bytes at count))
 
 -- the values of the tables of a count and that many offsets
-abbrev pub list_at : {A : Type 0} → (ℕ → List ℕ → ℕ → Result (A × ℕ) TableFault) → List ℕ → ℕ → ℕ → ℕ → Result (List A × ℕ) TableFault
-list_at read bytes base at room = and_then (need bytes at 2) (λ _. and_then (need bytes (at + 2) (2 * word bytes at)) (λ _. tables_at read bytes base (at + 2) (word bytes at) room))
+abbrev pub list_at : {A : Type 0} → A → (ℕ → List ℕ → ℕ → Result (A × ℕ) TableFault) → List ℕ → ℕ → ℕ → ℕ → Result (List A × ℕ) TableFault
+list_at null read bytes base at room =
+    and_then (need bytes at 2) (λ _. and_then (need bytes (at + 2) (2 * word bytes at)) (λ _. tables_at null read bytes base (at + 2) (word bytes at) room))

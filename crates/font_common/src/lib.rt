@@ -5,7 +5,7 @@ pub mod coverage;
 pub mod offsets;
 
 pub use coverage::{read_coverage, read_coverage_glyphs};
-pub use offsets::{FromTable, read_list, read_tables};
+pub use offsets::{CoverageReader, TableReader, read_at_offset, read_list, read_tables};
 
 #[cfg(test)]
 mod tests;

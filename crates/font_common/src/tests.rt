@@ -1,9 +1,8 @@
 //! Coverage tables, by the examples of the OpenType specification (chapter 2, examples 5 and 6) and by damaged ones.
 use crate::coverage::{read_coverage, read_coverage_glyphs};
-use crate::offsets::read_list;
+use crate::offsets::{CoverageReader, read_list};
 use font_bytes::fault::TableFault;
 use font_bytes::room::Room;
-use layout_common::coverage::Coverage;
 use std::alloc::Global;
 use std::process::Abort;
 use std::test::Fail;
@@ -88,16 +87,14 @@ fn glyphs_take_room(rt: HostRuntime) -> Result<(), Fail> {
 fn offsets_lead_to_tables(rt: HostRuntime) -> Result<(), Fail> {
     let bytes = [0, 2, 0, 6, 0, 6, 0, 1, 0, 2, 0, 3, 0, 4];
     let mut room = Room { left: 6 };
-    let read: Result<Vec<Coverage>, TableFault> = read_list(rt.alloc(), &bytes, 0, 0, &mut room);
-    match read {
+    match read_list(&CoverageReader, rt.alloc(), &bytes, 0, 0, &mut room) {
         Ok(coverages) => {
             assert_eq!(rt; coverages.len(), 2);
         }
         Err(_fault) => return Err("refused".into()),
     }
     assert_eq!(rt; room.left, 0);
-    let again: Result<Vec<Coverage>, TableFault> = read_list(rt.alloc(), &bytes, 0, 0, &mut room);
-    match again {
+    match read_list(&CoverageReader, rt.alloc(), &bytes, 0, 0, &mut room) {
         Ok(_coverages) => Err("read".into()),
         Err(fault) => {
             assert!(rt; fault == TableFault::TooLarge);
