@@ -74,6 +74,10 @@ glyphs_of_format table at format = if format == 1 then listed_glyphs table at el
 abbrev pub glyphs_at : List ℕ → ℕ → Result (List ℕ) TableFault
 glyphs_at table at = and_then (need table at 4) (λ _. glyphs_of_format table at (word table at))
 
+-- the glyphs of the coverage table at an offset from a base, none where the offset is null
+abbrev pub glyphs_at_offset : List ℕ → ℕ → ℕ → Result (List ℕ) TableFault
+glyphs_at_offset table base offset = if offset == 0 then Ok [] else glyphs_at table (base + offset)
+
 -- the set of glyphs of the coverage table at an offset, and the room that its glyphs leave
 abbrev pub coverage_at : ℕ → List ℕ → ℕ → Result (List ℕ × ℕ) TableFault
 coverage_at room table at = and_then (glyphs_at table at) (λ gs. and_then (taken room (length gs)) (λ left. Ok (in_order gs, left)))

@@ -1,7 +1,7 @@
 //! Reads coverage tables (OpenType, chapter 2, coverage table).
 ghost use Rattle.std.specs.Prelude.{◌≡◌, ◌≢◌, ◌≤◌, ◌<◌, ◌+◌, ◌-◌, ◌*◌, ◌^◌, ◌++◌, length, IfOk, IfErr, OnOk, Ok, Err};
 ghost use Rattle.font_bytes.specs.Words.{word};
-ghost use Rattle.font_common.specs.Coverage.{is_next, range_record, glyph_run, listed_glyphs, range_glyphs, glyphs_at, coverage_at};
+ghost use Rattle.font_common.specs.Coverage.{is_next, range_record, glyph_run, listed_glyphs, range_glyphs, glyphs_at, glyphs_at_offset, coverage_at};
 
 use font_bytes::fault::TableFault;
 use font_bytes::room::Room;
@@ -108,6 +108,24 @@ pub fn read_coverage_glyphs(alloc: Global, table: &[u8], at: usize) -> Result<Ve
         2 => read_ranges(alloc, table, at),
         _ => Err(TableFault::Kind(at)),
     }
+}
+
+/// Reads the glyphs of the coverage table at an offset from a base, no glyph where the offset is null.
+pub fn read_glyphs_at_offset(
+    alloc: Global,
+    table: &[u8],
+    base: usize,
+    offset: u32,
+) -> Result<Vec<u16>, TableFault>
+    requires { base ≤ length table.now }
+    ensures ok { IfOk result (λ v. glyphs_at_offset table.now base offset ≡ Ok v.items) }
+    ensures refused { IfErr result (λ e. e ≢ TableFault.OutOfMemory
+        → glyphs_at_offset table.now base offset ≡ Err e) }
+{
+    if offset == 0 {
+        return Ok(Vec::new(alloc));
+    }
+    read_coverage_glyphs(alloc, table, base + offset as usize)
 }
 
 /// Reads a coverage table into a set of glyphs, which takes a row of room for each glyph.

@@ -1,10 +1,13 @@
 //! What the tables GDEF, GSUB and GPOS share, from their bytes: coverages, and tables at offsets (OpenType, chapter 2).
 #![tactic(auto)]
 
+pub mod class_definition;
 pub mod coverage;
 pub mod offsets;
+pub mod rows;
 
-pub use coverage::{read_coverage, read_coverage_glyphs};
+pub use class_definition::{ClassReader, read_class_definition, read_class_rows};
+pub use coverage::{read_coverage, read_coverage_glyphs, read_glyphs_at_offset};
 pub use offsets::{CoverageReader, TableReader, read_at_offset, read_list, read_tables};
 
 #[cfg(test)]
