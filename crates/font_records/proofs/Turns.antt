@@ -1,0 +1,47 @@
+-- Values that are read in turn, one at a time.
+use Rattle.std.proofs.Common.{◌≡◌, ℕ, zero, suc, ◌+◌, ◌-◌, ◌*◌, ◌<◌, ◌≤◌, ◌≢◌, List, [], ◌∷◌, ◌++◌, Option, Result, Ok, Err, refl, arith}
+use Rattle.std.specs.Option.{option_to_list}
+use Rattle.font_bytes.specs.declared.fault.TableFault.{TableFault}
+use Rattle.font_bytes.specs.Records.{records}
+use Rattle.font_bytes.proofs.Recorded.{records_step, records_none}
+use Rattle.font_common.specs.Offsets.{after}
+use Rattle.font_common.proofs.Tables.{after_after}
+use Rattle.font_records.specs.Turns.{in_turn}
+
+-- one more place is read
+pub turn_done : {X A : Type 0} (read : ℕ → X → Result (Option A × ℕ) TableFault) (done : List A) (room left : ℕ) (x : X) (xs : List X) (o : Option A) → read room x ≡ Ok (o, left)
+    → after done (in_turn read room (x ∷ xs)) ≡ after (done ++ option_to_list o) (in_turn read left xs)
+turn_done read done room left x xs o h = rw h (after_after done (option_to_list o) (in_turn read left xs))
+
+-- a place is refused
+pub turn_refused : {X A : Type 0} (read : ℕ → X → Result (Option A × ℕ) TableFault) (done : List A) (room : ℕ) (x : X) (xs : List X) (e : TableFault) → read room x ≡ Err e
+    → after done (in_turn read room (x ∷ xs)) ≡ Err e
+turn_refused read done room x xs e h = rw h refl
+
+-- ---- records of a width
+
+-- the offset of a record, and those after it
+pub offsets_more : (width at count index : ℕ) → index < count
+    → records (λ o. o) width at (count - index) ≡ at ∷ records (λ o. o) width (at + width) (count - (index + 1))
+offsets_more width at count index inside =
+    let some : count - index ≢ 0 = omega arith in
+    let left : count - index - 1 ≡ count - (index + 1) = omega arith in
+    let e : records (λ (o : ℕ). o) width at (count - index) ≡ at ∷ records (λ (o : ℕ). o) width (at + width) (count - index - 1) = records_step (λ (o : ℕ). o) width at (count - index) some in
+    rw left at e
+
+-- no record is left
+pub offsets_end : (width at count index : ℕ) → count ≤ index → records (λ o. o) width at (count - index) ≡ []
+offsets_end width at count index past = records_none (λ (o : ℕ). o) width at (count - index) (omega arith)
+
+less_one : (width n : ℕ) → 0 < n → width * n ≡ width + width * (n - 1)
+less_one width zero some = absurd (omega arith)
+less_one width (suc n) some = let e : suc n - 1 ≡ n = omega arith in rw e (omega arith)
+
+-- a record and those after it are within the bytes
+pub within_more : (width at count index bound : ℕ) → index < count → at + width * (count - index) ≤ bound
+    → (at + width ≤ bound) × (at + width + width * (count - (index + 1)) ≤ bound)
+within_more width at count index bound inside h =
+    let e = less_one width (count - index) (omega arith) in
+    let left : count - index - 1 ≡ count - (index + 1) = omega arith in
+    let f = rw left at e in
+    (omega (arith, f), omega (arith, f))

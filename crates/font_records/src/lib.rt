@@ -1,0 +1,11 @@
+//! Arrays of records: values that are read in turn, and rows of the glyphs of a coverage (OpenType, chapter 2).
+#![tactic(auto)]
+
+pub mod array;
+pub mod rows;
+
+pub use array::{RecordReader, read_array};
+pub use rows::{RowReader, read_covered, read_rows, read_rows_of};
+
+#[cfg(test)]
+mod tests;

@@ -1,0 +1,1 @@
+//! Rows and arrays, by a subtable written out.

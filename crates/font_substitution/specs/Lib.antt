@@ -1,0 +1,5 @@
+pub mod Glyphs
+pub mod Single
+pub mod Sequence
+pub mod Ligature
+pub mod Reverse

@@ -1,0 +1,1 @@
+//! The subtables, by the examples of the OpenType specification.
