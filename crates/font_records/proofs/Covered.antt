@@ -10,7 +10,7 @@ use Rattle.font_bytes.specs.Records.{records}
 use Rattle.font_common.specs.Offsets.{after}
 use Rattle.font_common.proofs.Tables.{after_none}
 use Rattle.buffer_rows.specs.Keys.{numbers_rise, is_above, is_rising}
-use Rattle.font_records.specs.Turns.{in_turn}
+use Rattle.font_records.specs.Turns.{in_turn, if_any}
 use Rattle.font_records.specs.Covered.{first_records}
 use Rattle.font_records.proofs.Turns.{turn_done, turn_refused, offsets_more, offsets_end}
 
@@ -39,30 +39,30 @@ first_passed least g o gs os low =
     let m : max least (g + 1) ≡ least = omega arith in
     rw (e, m) refl
 
--- the row of a glyph at its record, none of one below the least
-abbrev pub row_if : {R : Type 0} → (ℕ → ℕ → ℕ → Result (Option R × ℕ) TableFault) → ℕ → ℕ → ℕ → ℕ → Result (Option R × ℕ) TableFault
-row_if row least room at g = if nat_le least g then row room at g else Ok (None, room)
-
 -- the rows of glyphs by the records of a width from an offset on, after those so far
-abbrev pub rows_from : {R : Type 0} → (ℕ → ℕ → ℕ → Result (Option R × ℕ) TableFault) → List R → ℕ → ℕ → List ℕ → List ℕ → Result (List R × ℕ) TableFault
+abbrev pub rows_from : {R : Type 0} → (ℕ → ℕ → ℕ → Result (List R × ℕ) TableFault) → List R → ℕ → ℕ → List ℕ → List ℕ → Result (List R × ℕ) TableFault
 rows_from row done room least gs os = after done (in_turn (λ r p. row r p.1 p.0) room (first_records least gs os))
 
-pub row_done : {R : Type 0} (row : ℕ → ℕ → ℕ → Result (Option R × ℕ) TableFault) (done : List R) (room left least g o : ℕ) (gs os : List ℕ) (r : Option R) → row_if row least room o g ≡ Ok (r, left)
-    → rows_from row done room least (g ∷ gs) (o ∷ os) ≡ rows_from row (done ++ option_to_list r) left (max least (g + 1)) gs os
-row_done row done room left least g o gs os r h =
+-- the rows of a glyph at its record, none of one below the least
+abbrev pub rows_if : {R : Type 0} → (ℕ → ℕ → ℕ → Result (List R × ℕ) TableFault) → ℕ → ℕ → ℕ → ℕ → Result (List R × ℕ) TableFault
+rows_if row least room at g = if nat_le least g then row room at g else Ok ([], room)
+
+pub row_done : {R : Type 0} (row : ℕ → ℕ → ℕ → Result (List R × ℕ) TableFault) (done : List R) (room left least g o : ℕ) (gs os : List ℕ) (rows : List R) → rows_if row least room o g ≡ Ok (rows, left)
+    → rows_from row done room least (g ∷ gs) (o ∷ os) ≡ rows_from row (done ++ rows) left (max least (g + 1)) gs os
+row_done row done room left least g o gs os rows h =
     elim (cases_lt g least) [
       | inl low ↦
           let e : nat_le least g ≡ false = grind (arith, nat_tests, low) in
           let f = rw e at h in
-          let same = same_read None r room left f in
+          let same = same_read [] rows room left f in
           rw (first_passed least g o gs os low, ← same.0, ← same.1, append-nil) refl
       | inr high ↦
           let e : nat_le least g ≡ true = grind (arith, nat_tests, high) in
           let f = rw e at h in
-          rw (first_taken least g o gs os high) (turn_done (λ (n : ℕ) (p : ℕ × ℕ). row n p.1 p.0) done room left (g, o) (first_records (max least (g + 1)) gs os) r f)
+          rw (first_taken least g o gs os high) (turn_done (λ (n : ℕ) (p : ℕ × ℕ). row n p.1 p.0) done room left (g, o) (first_records (max least (g + 1)) gs os) rows f)
     ]
 
-pub row_refused : {R : Type 0} (row : ℕ → ℕ → ℕ → Result (Option R × ℕ) TableFault) (done : List R) (room least g o : ℕ) (gs os : List ℕ) (e : TableFault) → row_if row least room o g ≡ Err e
+pub row_refused : {R : Type 0} (row : ℕ → ℕ → ℕ → Result (List R × ℕ) TableFault) (done : List R) (room least g o : ℕ) (gs os : List ℕ) (e : TableFault) → rows_if row least room o g ≡ Err e
     → rows_from row done room least (g ∷ gs) (o ∷ os) ≡ Err e
 row_refused row done room least g o gs os e h =
     elim (cases_lt g least) [
@@ -76,10 +76,19 @@ row_refused row done room least g o gs os e h =
           rw (first_taken least g o gs os high) (turn_refused (λ (n : ℕ) (p : ℕ × ℕ). row n p.1 p.0) done room (g, o) (first_records (max least (g + 1)) gs os) e f)
     ]
 
+-- ---- one row at most for each glyph
+
+-- the row of a glyph at its record, none of one below the least
+abbrev pub row_if : {R : Type 0} → (ℕ → ℕ → ℕ → Result (Option R × ℕ) TableFault) → ℕ → ℕ → ℕ → ℕ → Result (Option R × ℕ) TableFault
+row_if row least room at g = if nat_le least g then row room at g else Ok (None, room)
+
+pub any_if : {R : Type 0} (row : ℕ → ℕ → ℕ → Result (Option R × ℕ) TableFault) (least room at g : ℕ) → if_any (row_if row least room at g) ≡ rows_if (λ r o n. if_any (row r o n)) least room at g
+any_if row least room at g = elim (nat_le least g) as (λ t. if_any (if t then row room at g else Ok (None, room)) ≡ (if t then if_any (row room at g) else Ok ([], room))) [ true ↦ refl | false ↦ refl ]
+
 -- ---- the glyphs by their index
 
 -- the glyph with an index and its record, and those after them
-pub rows_more : {R : Type 0} (row : ℕ → ℕ → ℕ → Result (Option R × ℕ) TableFault) (done : List R) (room least width at count index g : ℕ) (glyphs : List ℕ) → index < count → index < length glyphs → get_or glyphs index 0 ≡ g
+pub rows_more : {R : Type 0} (row : ℕ → ℕ → ℕ → Result (List R × ℕ) TableFault) (done : List R) (room least width at count index g : ℕ) (glyphs : List ℕ) → index < count → index < length glyphs → get_or glyphs index 0 ≡ g
     → rows_from row done room least (drop index glyphs) (records (λ o. o) width at (count - index))
     ≡ rows_from row done room least (g ∷ drop (index + 1) glyphs) (at ∷ records (λ o. o) width (at + width) (count - (index + 1)))
 rows_more row done room least width at count index g glyphs inside within is = rw (offsets_more width at count index inside, drop_more glyphs index 0 within, is) refl
@@ -90,7 +99,7 @@ first_ended least [] = refl
 first_ended least (g ∷ gs) = refl
 
 -- no glyph or no record is left
-pub rows_end : {R : Type 0} (row : ℕ → ℕ → ℕ → Result (Option R × ℕ) TableFault) (done : List R) (room least width at count index : ℕ) (glyphs : List ℕ) → Prim.Native.Nat.min count (length glyphs) ≤ index
+pub rows_end : {R : Type 0} (row : ℕ → ℕ → ℕ → Result (List R × ℕ) TableFault) (done : List R) (room least width at count index : ℕ) (glyphs : List ℕ) → Prim.Native.Nat.min count (length glyphs) ≤ index
     → rows_from row done room least (drop index glyphs) (records (λ o. o) width at (count - index)) ≡ Ok (done, room)
 rows_end row done room least width at count index glyphs past =
     elim (cases_lt index count) [

@@ -6,17 +6,25 @@ use Rattle.font_bytes.specs.Records.{records}
 use Rattle.font_bytes.proofs.Recorded.{records_step, records_none}
 use Rattle.font_common.specs.Offsets.{after}
 use Rattle.font_common.proofs.Tables.{after_after}
-use Rattle.font_records.specs.Turns.{in_turn}
+use Rattle.font_records.specs.Turns.{in_turn, if_any}
 
 -- one more place is read
-pub turn_done : {X A : Type 0} (read : ℕ → X → Result (Option A × ℕ) TableFault) (done : List A) (room left : ℕ) (x : X) (xs : List X) (o : Option A) → read room x ≡ Ok (o, left)
-    → after done (in_turn read room (x ∷ xs)) ≡ after (done ++ option_to_list o) (in_turn read left xs)
-turn_done read done room left x xs o h = rw h (after_after done (option_to_list o) (in_turn read left xs))
+pub turn_done : {X A : Type 0} (read : ℕ → X → Result (List A × ℕ) TableFault) (done : List A) (room left : ℕ) (x : X) (xs : List X) (more : List A) → read room x ≡ Ok (more, left)
+    → after done (in_turn read room (x ∷ xs)) ≡ after (done ++ more) (in_turn read left xs)
+turn_done read done room left x xs more h = rw h (after_after done more (in_turn read left xs))
 
 -- a place is refused
-pub turn_refused : {X A : Type 0} (read : ℕ → X → Result (Option A × ℕ) TableFault) (done : List A) (room : ℕ) (x : X) (xs : List X) (e : TableFault) → read room x ≡ Err e
+pub turn_refused : {X A : Type 0} (read : ℕ → X → Result (List A × ℕ) TableFault) (done : List A) (room : ℕ) (x : X) (xs : List X) (e : TableFault) → read room x ≡ Err e
     → after done (in_turn read room (x ∷ xs)) ≡ Err e
 turn_refused read done room x xs e h = rw h refl
+
+-- a value is read, or none
+pub any_done : {A : Type 0} (read : Result (Option A × ℕ) TableFault) (value : Option A) (left : ℕ) → read ≡ Ok (value, left) → if_any read ≡ Ok (option_to_list value, left)
+any_done read value left h = rw h refl
+
+-- it is refused
+pub any_refused : {A : Type 0} (read : Result (Option A × ℕ) TableFault) (e : TableFault) → read ≡ Err e → if_any read ≡ Err e
+any_refused read e h = rw h refl
 
 -- ---- records of a width
 

@@ -6,7 +6,7 @@ use Rattle.font_bytes.specs.Results.{and_then}
 use Rattle.font_bytes.specs.Words.{word}
 use Rattle.font_bytes.specs.Room.{taken}
 use Rattle.font_common.specs.Coverage.{glyphs_at_offset}
-use Rattle.font_records.specs.Turns.{in_turn, record_offsets}
+use Rattle.font_records.specs.Turns.{in_turn, if_any, record_offsets}
 
 -- the glyphs of the coverage table at an offset from a table's start, by their coverage indices, and the room that they
 -- leave; a null offset is an empty coverage
@@ -23,7 +23,7 @@ first_records least (g ∷ gs) (o ∷ os) = if nat_le least g then (g, o) ∷ fi
 -- the rows of glyphs by an array of records: how a glyph's row is read at its record, the width of a record, the offset
 -- of the first one, how many there are
 abbrev pub rows_in : {R : Type 0} → (ℕ → ℕ → ℕ → Result (Option R × ℕ) TableFault) → ℕ → ℕ → ℕ → List ℕ → ℕ → Result (List R × ℕ) TableFault
-rows_in row width at count glyphs room = in_turn (λ r p. row r p.1 p.0) room (first_records 0 glyphs (record_offsets width at count))
+rows_in row width at count glyphs room = in_turn (λ r p. if_any (row r p.1 p.0)) room (first_records 0 glyphs (record_offsets width at count))
 
 -- the rows of the glyphs of a coverage. Each record takes a row of room, and each glyph
 abbrev pub rows_at : {R : Type 0} → (ℕ → ℕ → ℕ → Result (Option R × ℕ) TableFault) → List ℕ → ℕ → ℕ → ℕ → ℕ → ℕ → ℕ → Result (List R × ℕ) TableFault

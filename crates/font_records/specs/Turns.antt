@@ -7,10 +7,14 @@ use Rattle.font_bytes.specs.Room.{taken}
 use Rattle.font_bytes.specs.Records.{records}
 use Rattle.font_common.specs.Offsets.{after}
 
--- the values at places, one after another; a place may have none
-abbrev pub in_turn : {X A : Type 0} → (ℕ → X → Result (Option A × ℕ) TableFault) → ℕ → List X → Result (List A × ℕ) TableFault
+-- the values at places, one after another
+abbrev pub in_turn : {X A : Type 0} → (ℕ → X → Result (List A × ℕ) TableFault) → ℕ → List X → Result (List A × ℕ) TableFault
 in_turn read room [] = Ok ([], room)
-in_turn read room (x ∷ xs) = and_then (read room x) (λ a. after (option_to_list a.0) (in_turn read a.1 xs))
+in_turn read room (x ∷ xs) = and_then (read room x) (λ a. after a.0 (in_turn read a.1 xs))
+
+-- the value at a place, where it has one, as a list
+abbrev pub if_any : {A : Type 0} → Result (Option A × ℕ) TableFault → Result (List A × ℕ) TableFault
+if_any read = and_then read (λ a. Ok (option_to_list a.0, a.1))
 
 -- the offsets of records of a width: that of the first one, how many there are
 abbrev pub record_offsets : ℕ → ℕ → ℕ → List ℕ
@@ -18,4 +22,4 @@ record_offsets width at count = records (λ o. o) width at count
 
 -- the values of an array of records, each of which takes a row of room
 abbrev pub array_at : {A : Type 0} → (ℕ → ℕ → Result (Option A × ℕ) TableFault) → ℕ → ℕ → ℕ → ℕ → Result (List A × ℕ) TableFault
-array_at read width at count room = and_then (taken room count) (λ left. in_turn read left (record_offsets width at count))
+array_at read width at count room = and_then (taken room count) (λ left. in_turn (λ r o. if_any (read r o)) left (record_offsets width at count))

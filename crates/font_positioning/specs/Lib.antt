@@ -1,0 +1,8 @@
+pub mod Values
+pub mod Anchors
+pub mod Subtables
+pub mod Single
+pub mod Pairs
+pub mod ClassPairs
+pub mod Cursive
+pub mod Marks
