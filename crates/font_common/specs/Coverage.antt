@@ -78,6 +78,10 @@ glyphs_at table at = and_then (need table at 4) (λ _. glyphs_of_format table at
 abbrev pub glyphs_at_offset : List ℕ → ℕ → ℕ → Result (List ℕ) TableFault
 glyphs_at_offset table base offset = if offset == 0 then Ok [] else glyphs_at table (base + offset)
 
+-- these glyphs, and the room that they leave
+abbrev pub covered_at : ℕ → List ℕ → ℕ → ℕ → Result (List ℕ × ℕ) TableFault
+covered_at room table base offset = and_then (glyphs_at_offset table base offset) (λ gs. and_then (taken room (length gs)) (λ left. Ok (gs, left)))
+
 -- the set of glyphs of the coverage table at an offset, and the room that its glyphs leave
 abbrev pub coverage_at : ℕ → List ℕ → ℕ → Result (List ℕ × ℕ) TableFault
 coverage_at room table at = and_then (glyphs_at table at) (λ gs. and_then (taken room (length gs)) (λ left. Ok (in_order gs, left)))

@@ -3,6 +3,7 @@ use Rattle.std.specs.Prelude.{ℕ, if◌then◌else◌, List, [], ◌∷◌, map
 use Rattle.std.specs.List.{zip}
 use Rattle.std.specs.declared.cmp.Ordering.{Ordering}
 use Rattle.buffer_rows.specs.Keys.{is_above}
+use Rattle.layout_common.specs.declared.glyph_row.GlyphRow.{GlyphRow}
 
 -- the row, unless its key isn't above the key before
 abbrev pub row_above : {R K : Type 0} → (K → K → Ordering) → (R → K) → Option K → R → List R
@@ -22,3 +23,7 @@ first_rows order key before (r ∷ rows) =
 -- both
 abbrev pub covered_rows : {R V : Type 0} → (ℕ → V → R) → List ℕ → List V → List R
 covered_rows row_of glyphs values = map (λ p. row_of p.0 p.1) (zip glyphs values)
+
+-- a glyph with a number
+abbrev pub word_row : ℕ → ℕ → GlyphRow ℕ
+word_row glyph value = record { glyph = glyph; value = value }

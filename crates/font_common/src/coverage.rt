@@ -1,7 +1,7 @@
 //! Reads coverage tables (OpenType, chapter 2, coverage table).
 ghost use Rattle.std.specs.Prelude.{◌≡◌, ◌≢◌, ◌≤◌, ◌<◌, ◌+◌, ◌-◌, ◌*◌, ◌^◌, ◌++◌, length, IfOk, IfErr, OnOk, Ok, Err};
 ghost use Rattle.font_bytes.specs.Words.{word};
-ghost use Rattle.font_common.specs.Coverage.{is_next, range_record, glyph_run, listed_glyphs, range_glyphs, glyphs_at, glyphs_at_offset, coverage_at};
+ghost use Rattle.font_common.specs.Coverage.{is_next, range_record, glyph_run, listed_glyphs, range_glyphs, glyphs_at, glyphs_at_offset, coverage_at, covered_at};
 
 use font_bytes::fault::TableFault;
 use font_bytes::room::Room;
@@ -66,6 +66,20 @@ fn push_run(glyphs: &mut Vec<u16>, first: u16, last: u16) -> Result<(), TableFau
     Ok(())
 }
 
+/// The numbers from 0 on, so many.
+pub fn numbers_below(alloc: Global, count: usize) -> Result<Vec<u16>, TableFault>
+    requires { count ≤ 65536 }
+    ensures ok { IfOk result (λ v. v.items ≡ glyph_run 0 count) }
+    ensures refused { IfErr result (λ e. e ≡ TableFault.OutOfMemory) }
+{
+    let mut numbers = Vec::with_capacity(alloc, count)?;
+    if count == 0 {
+        return Ok(numbers);
+    }
+    push_run(&mut numbers, 0, (count - 1) as u16)?;
+    Ok(numbers)
+}
+
 /// Reads the glyphs of format 2.
 #[tactic(auto, using(font_bytes::proofs::Recorded::records_more, font_bytes::proofs::Recorded::records_end))]
 fn read_ranges(alloc: Global, table: &[u8], at: usize) -> Result<Vec<u16>, TableFault>
@@ -126,6 +140,25 @@ pub fn read_glyphs_at_offset(
         return Ok(Vec::new(alloc));
     }
     read_coverage_glyphs(alloc, table, base + offset as usize)
+}
+
+/// Reads the glyphs of the coverage table at an offset from a base, which take a row of room each. A null offset leads to
+/// no glyph.
+pub fn read_covered(
+    alloc: Global,
+    table: &[u8],
+    base: usize,
+    offset: u32,
+    room: &mut Room,
+) -> Result<Vec<u16>, TableFault>
+    requires { base ≤ length table.now }
+    ensures ok { IfOk result (λ v. covered_at room.old.left table.now base offset ≡ Ok (v.items, room.new.left)) }
+    ensures refused { IfErr result (λ e. e ≢ TableFault.OutOfMemory
+        → covered_at room.old.left table.now base offset ≡ Err e) }
+{
+    let glyphs = read_glyphs_at_offset(alloc, table, base, offset)?;
+    room.take(glyphs.len())?;
+    Ok(glyphs)
 }
 
 /// Reads a coverage table into a set of glyphs, which takes a row of room for each glyph.
