@@ -1,0 +1,152 @@
+//! Rules by glyphs and by classes (OpenType, chapter 2, sequence rule and chained sequence rule tables).
+ghost use Rattle.std.specs.Prelude.{◌≡◌, ◌≢◌, ◌≤◌, ◌+◌, ◌*◌, ◌++◌, [], ◌∷◌, IfOk, IfErr, OnOk, Ok, Err, length};
+ghost use Rattle.font_bytes.specs.declared.fault.TableFault.{TableFault};
+ghost use Rattle.font_contexts.specs.Rules.{empty_rule, known_records, lookup_record, lookup_records, rule_at, rule_of, words_of};
+
+use crate::places::{ArrayPlace, RulePlaces, element_count, places_at};
+use font_bytes::fault::TableFault;
+use font_bytes::room::Room;
+use font_bytes::words::word;
+use font_common::offsets::TableReader;
+use font_common::words::{push_words, read_words};
+use layout_common::array::Array;
+use layout_tables::context::{SequenceLookupRecord, SequenceRule};
+use std::alloc::Global;
+
+/// The lookup record at an offset.
+fn lookup_record(table: &[u8], at: usize) -> SequenceLookupRecord
+    requires { at + 4 ≤ length table.now }
+    ensures { result ≡ lookup_record table.now at }
+{
+    SequenceLookupRecord {
+        sequence_index: word(table, at),
+        lookup_index: word(table, at + 2),
+    }
+}
+
+/// Appends a lookup record whose lookup exists.
+fn push_known(
+    records: &mut Vec<SequenceLookupRecord>,
+    lookup: SequenceLookupRecord,
+    lookup_count: usize,
+) -> Result<(), TableFault>
+    ensures ok { OnOk result (records.new.items ≡ records.old.items ++ known_records lookup_count (lookup ∷ [])) }
+    ensures refused { IfErr result (λ e. e ≡ TableFault.OutOfMemory) }
+{
+    if usize::from(lookup.lookup_index) < lookup_count {
+        records.push(lookup)?;
+    }
+    Ok(())
+}
+
+/// Reads the lookup records of an array whose lookups exist, in a table of so many lookups.
+pub fn read_records(
+    alloc: Global,
+    table: &[u8],
+    place: ArrayPlace,
+    lookup_count: usize,
+) -> Result<Array<SequenceLookupRecord>, TableFault>
+    requires { place.at + 4 * place.count ≤ length table.now }
+    ensures ok { IfOk result (λ v. v ≡ lookup_records lookup_count table.now place) }
+    ensures refused { IfErr result (λ e. e ≡ TableFault.OutOfMemory) }
+{
+    let mut records = Vec::with_capacity(alloc, place.count)?;
+    for index in 0..place.count {
+        let lookup = lookup_record(table, place.at + 4 * index);
+        push_known(&mut records, lookup, lookup_count)?;
+    }
+    Ok(Array::new(records))
+}
+
+/// Reads the glyphs or classes of an array.
+fn read_items(alloc: Global, table: &[u8], place: ArrayPlace) -> Result<Array<u16>, TableFault>
+    requires { place.at + 2 * place.count ≤ length table.now }
+    ensures ok { IfOk result (λ v. v ≡ words_of table.now place) }
+    ensures refused { IfErr result (λ e. e ≡ TableFault.OutOfMemory) }
+{
+    Ok(Array::new(read_words(alloc, table, place.at, place.count)?))
+}
+
+/// Reads the glyphs or classes of an input sequence after its first.
+fn read_input(
+    alloc: Global,
+    table: &[u8],
+    place: ArrayPlace,
+    first: u16,
+) -> Result<Array<u16>, TableFault>
+    requires { place.at + 2 * place.count ≤ length table.now }
+    ensures ok { IfOk result (λ v. v ≡ first ∷ words_of table.now place) }
+    ensures refused { IfErr result (λ e. e ≡ TableFault.OutOfMemory) }
+{
+    let mut items = Vec::with_capacity(alloc, place.count + 1)?;
+    items.push(first)?;
+    push_words(&mut items, table, place.at, place.count)?;
+    Ok(Array::new(items))
+}
+
+/// Reads a rule by the places of its arrays.
+fn read_rule_of(
+    alloc: Global,
+    table: &[u8],
+    places: RulePlaces,
+    first: u16,
+    lookup_count: usize,
+) -> Result<SequenceRule<u16>, TableFault>
+    requires backtrack { places.backtrack.at + 2 * places.backtrack.count ≤ length table.now }
+    requires input { places.input.at + 2 * places.input.count ≤ length table.now }
+    requires lookahead { places.lookahead.at + 2 * places.lookahead.count ≤ length table.now }
+    requires records { places.records.at + 4 * places.records.count ≤ length table.now }
+    ensures ok { IfOk result (λ r. r ≡ rule_of lookup_count first table.now places) }
+    ensures refused { IfErr result (λ e. e ≡ TableFault.OutOfMemory) }
+{
+    let backtrack = read_items(alloc, table, places.backtrack)?;
+    let input = read_input(alloc, table, places.input, first)?;
+    let lookahead = read_items(alloc, table, places.lookahead)?;
+    let records = read_records(alloc, table, places.records, lookup_count)?;
+    Ok(SequenceRule {
+        backtrack,
+        input,
+        lookahead,
+        records,
+    })
+}
+
+/// Rules by glyphs or by classes, of a table of so many lookups, whose inputs begin with an item that their tables leave
+/// out.
+#[derive(Clone, Copy)]
+pub struct RuleReader {
+    pub chained: bool,
+    pub lookup_count: usize,
+    pub first: u16,
+}
+
+impl TableReader for RuleReader {
+    type Value = SequenceRule<u16>;
+
+    ghost value_at = { λ r. rule_at r.chained r.lookup_count r.first };
+
+    ghost null_value = { λ r. empty_rule r.first };
+
+    fn read(
+        &self,
+        alloc: Global,
+        bytes: &[u8],
+        at: usize,
+        room: &mut Room,
+    ) -> Result<SequenceRule<u16>, TableFault> {
+        let places = places_at(self.chained, 1, bytes, at)?;
+        room.take(element_count(places))?;
+        read_rule_of(alloc, bytes, places, self.first, self.lookup_count)
+    }
+
+    fn null(&self, alloc: Global) -> Result<SequenceRule<u16>, TableFault> {
+        let mut input = Vec::new(alloc);
+        input.push(self.first)?;
+        Ok(SequenceRule {
+            backtrack: Array::new(Vec::new(alloc)),
+            input: Array::new(input),
+            lookahead: Array::new(Vec::new(alloc)),
+            records: Array::new(Vec::new(alloc)),
+        })
+    }
+}
