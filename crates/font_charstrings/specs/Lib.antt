@@ -1,0 +1,6 @@
+pub mod Pen
+pub mod Paths
+pub mod Numbers
+pub mod Index
+pub mod Operators
+pub mod Machine
