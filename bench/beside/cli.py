@@ -24,6 +24,7 @@ from building.places import LIBRARY, PROGRAM, standing
 from building.ready import usable
 from common.documents import replace_part
 from common.faults import FILES, WORDS, ToolFault
+from common.files import write_file
 from common.notes import Notes
 from common.parsing import Words
 from fontjson.cli import read_font
@@ -169,8 +170,8 @@ def need(sets: list[Set], program: Path, library: Path) -> None:
 def write_texts(folder: Path, sets: list[Set]) -> None:
     folder.mkdir(parents=True, exist_ok=True)
     for chosen in sets:
-        (folder / f"{chosen.title}.txt").write_text(text_of(chosen, PAGE) + "\n", encoding="utf-8")
-        (folder / f"{chosen.title}, words.txt").write_text("\n".join(words_of(chosen)) + "\n", encoding="utf-8")
+        write_file(folder / f"{chosen.title}.txt", text_of(chosen, PAGE) + "\n")
+        write_file(folder / f"{chosen.title}, words.txt", "\n".join(words_of(chosen)) + "\n")
 
 
 def command_of(options: argparse.Namespace) -> str:
@@ -220,7 +221,7 @@ def keep(kept: Kept, options: argparse.Namespace) -> None:
 def show(kept: Kept, options: argparse.Namespace) -> None:
     """Prints what was measured with its tables; writes and draws them where that is asked."""
     if options.chart is not None:
-        options.chart.write_text(chart(kept), encoding="utf-8")
+        write_file(options.chart, chart(kept))
     lines = [*kept.told(), "", *tables(kept.rows)]
     if options.table is not None:
         replace_part(options.table, BEGIN, END, lines)

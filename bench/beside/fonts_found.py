@@ -5,6 +5,8 @@ from dataclasses import asdict, dataclass
 from pathlib import Path
 from typing import Iterator
 
+from common.files import faults_of
+
 
 @dataclass(frozen=True)
 class Unlike:
@@ -51,5 +53,5 @@ def from_line(line: str) -> Iterator[Found]:
 
 
 def add_found(path: Path, found: Found) -> None:
-    with open(path, "a", encoding="utf-8") as file:
+    with faults_of(path), open(path, "a", encoding="utf-8") as file:
         file.write(json.dumps(asdict(found)) + "\n")

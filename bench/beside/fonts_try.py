@@ -13,6 +13,7 @@ from beside.differences import difference
 from beside.fonts_found import Found, Unlike
 from beside.fonts_texts import texts_of
 from common.faults import ToolFault
+from common.files import faults_of
 from common.notes import Notes
 from fontjson.cli import read_font
 from fontjson.keep import KEYS, Kept
@@ -114,8 +115,9 @@ def lines_by(by: Trial, value: Path, texts: list[Text]) -> list[Line]:
 def lines_of(font: Path, texts: list[str]) -> list[str] | None:
     """What hb-shape prints of each text; None where it refuses the font."""
     with tempfile.NamedTemporaryFile() as file:
-        file.write("".join(f"{text}\n" for text in texts).encode())
-        file.flush()
+        with faults_of(file.name):
+            file.write("".join(f"{text}\n" for text in texts).encode())
+            file.flush()
         words = ["--shapers=ot", "--utf8-clusters", "--no-glyph-names", f"--text-file={file.name}", str(font)]
         ran = subprocess.run([THEIRS, *words], capture_output=True, text=True, check=False, env=environment())
     lines = [line.strip("[]") + "\n" for line in ran.stdout.splitlines()]

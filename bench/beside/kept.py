@@ -11,6 +11,7 @@ from beside.table import MARKS, ONCE, Pair, Row
 from building.places import UNPROVED
 from common.documents import wrapped
 from common.faults import DATA, ToolFault
+from common.files import write_file
 from common.host import first_line, host
 from sources.crates import ROOT
 
@@ -60,7 +61,7 @@ def run_of(command: str, unit: str, program: Path) -> dict[str, str]:
 
 def write_kept(path: Path, kept: Kept) -> None:
     value = {"run": kept.run, "sets": [set_of(row) for row in kept.rows]}
-    path.write_text(json.dumps(value, indent=1, ensure_ascii=False) + "\n", encoding="utf-8")
+    write_file(path, json.dumps(value, indent=1, ensure_ascii=False) + "\n")
 
 
 def set_of(row: Row) -> dict[str, Any]:

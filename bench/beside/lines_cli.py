@@ -18,6 +18,7 @@ from beside.pages import WORDS, read_words
 from beside.programs import used_by
 from building.places import BUILD, PROGRAM, standing
 from common.faults import FILES, ToolFault
+from common.files import faults_of, write_over
 from common.parsing import Words
 from shaping.cache import TOOLS, cache_folder
 from shaping.cli import font_value, tables_file
@@ -63,8 +64,8 @@ def main(words: list[str]) -> int:
 def beside(read: list[str], folder: Path, count: int, runs: int) -> str:
     """The processor time of lines of one word, by hb-shape, the program and the tool."""
     one, many = folder / "one", folder / "many"
-    one.write_text(f"{WORD}\n")
-    many.write_text(f"{WORD}\n" * (count + 1))
+    write_over(one, f"{WORD}\n")
+    write_over(many, f"{WORD}\n" * (count + 1))
     of: dict[str, Callable[[Path], list[str]]] = {
         THEIRS: lambda text: [THEIRS, "--shapers=ot", "--utf8-clusters", f"--text-file={text}", FONT],
         "hb_shape": lambda text: [*read, str(text)],
@@ -92,7 +93,7 @@ def farmed(words: list[str], folder: Path, count: int, runs: int) -> tuple[str, 
     taken: dict[int, Times] = {}
     for jobs in JOBS:
         few, out = folder / f"few{jobs}", folder / f"out{jobs}"
-        few.write_text(f"{WORD}\n" * jobs)
+        write_over(few, f"{WORD}\n" * jobs)
         # A block ends with a line, so the last one may be shorter than the others.
         blocks = {few: len(f"{WORD}\n"), text: text.stat().st_size // jobs + LONGEST}
         taken[jobs] = past(lambda given: timed(words, given, out, jobs, blocks[given]), few, text, runs)
@@ -109,7 +110,7 @@ def farmed(words: list[str], folder: Path, count: int, runs: int) -> tuple[str, 
 def write_lines(file: Path, count: int) -> None:
     """Lines of a word each, in an order that looks like chance."""
     words = read_words(WORDS / "latin.txt")
-    with open(file, "w", encoding="utf-8") as out:
+    with faults_of(file), open(file, "w", encoding="utf-8") as out:
         out.writelines(f"{words[at]}\n" for at in islice(chances(len(words)), count))
 
 

@@ -6,6 +6,7 @@ from pathlib import Path
 from beside.pages import text_of, turns_of, words_of
 from beside.programs import Files, counted_by, counts_of_rounds, printed_by, used_by
 from beside.table import Pair
+from common.files import write_over
 
 PAGE = 10_000
 LARGE = 1_000_000
@@ -86,7 +87,7 @@ def measure_of(files: Files, characters: frozenset[int], pages: int, folder: Pat
 
 def work_of(name: str, kind: str, texts: list[str], folder: Path) -> Work:
     path = folder / f"{name}.txt"
-    path.write_text("".join(f"{text}\n" for text in texts), encoding="utf-8")
+    write_over(path, "".join(f"{text}\n" for text in texts))
     return Work(name, kind, path, len(texts[0]) if name in ("page", "more") else len(texts))
 
 
@@ -116,6 +117,6 @@ def take_counts(measure: Measure) -> None:
 def take_peaks(measure: Measure) -> None:
     """The peaks of memory for a large text, in bytes."""
     files, text = measure.files, measure.folder / "large.txt"
-    text.write_text(text_of(files.chosen, LARGE) + "\n", encoding="utf-8")
+    write_over(text, text_of(files.chosen, LARGE) + "\n")
     measure.note("memory", Pair(used_by(files.theirs(text)).bytes, used_by(files.own(text)).bytes))
     text.unlink()

@@ -5,6 +5,7 @@ from pathlib import Path
 from attacks.attack import Files, as_bytes
 from attacks.opentype import Unwritten, write_opentype
 from attacks.texts import real_tables
+from common.files import write_over
 
 FONT, TEXT = "font.ttf", "text.txt"
 # By OpenType's rules alone, with what the program prints.
@@ -20,6 +21,6 @@ def write_beside(folder: Path, files: Files) -> list[str] | None:
         write_opentype(files.font, folder / FONT)
     except Unwritten:
         return None
-    (folder / TEXT).write_bytes(as_bytes(files.text))
+    write_over(folder / TEXT, as_bytes(files.text))
     return [*OPTIONS, *files.options, f"--text-file={folder / TEXT}", str(folder / FONT)]
 

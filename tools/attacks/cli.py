@@ -17,6 +17,7 @@ from building.places import PROGRAM, standing
 from building.ready import usable
 from common.faults import FILES as NO_FILE
 from common.faults import WORDS, ToolFault
+from common.files import write_file
 from common.parsing import Words
 from fuzzing.cases import FILES
 from fuzzing.cli import MEMORY
@@ -112,13 +113,13 @@ def write_all(folder: Path, attacks: list[Attack]) -> None:
         here.mkdir(parents=True, exist_ok=True)
         files = attack.files(attack.size)
         write_files(here, files)
-        (here / "options").write_text("".join(f"{word}\n" for word in files.options), encoding="utf-8")
+        write_file(here / "options", "".join(f"{word}\n" for word in files.options))
 
 
 def write_files(folder: Path, files: Files) -> list[str]:
     """Writes the three files; the words of the command line for them."""
     for name, content in zip(FILES, files.contents()):
-        (folder / name).write_bytes(content)
+        write_file(folder / name, content)
     return ["--no-glyph-names", *files.options, *(str(folder / name) for name in FILES)]
 
 

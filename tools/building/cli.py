@@ -12,6 +12,7 @@ from building.places import PROGRAM, Place
 from building.progress import Teller
 from building.tree import clear, lay_tree, stamp_of, tree_of
 from common.faults import FILES, ToolFault
+from common.files import faults_of
 from sources.crates import ROOT
 
 NAME = "build"
@@ -45,9 +46,10 @@ def make_proved(place: Place, kit: Kit, jobs: int | None, teller: Teller, held: 
             if not made.is_file():
                 raise ToolFault(FILES, f"rt ci passed and built no {made.name}: see {place.log.relative_to(root)}")
             new = place.file.with_suffix(".new")
-            shutil.copy(made, new)
-            os.utime(new, (begun, begun))
-            os.replace(new, place.file)
+            with faults_of(place.file):
+                shutil.copy(made, new)
+                os.utime(new, (begun, begun))
+                os.replace(new, place.file)
             place.write_stamp(stamp_of(tree, lines, kit.line), kit.line)
     finally:
         clear(tree)

@@ -13,6 +13,7 @@ from building.estimate import Check, Work, in_words, work_of
 from building.kit import keeps_proofs
 from building.processes import running_checks
 from building.progress import Teller, clock
+from common.files import faults_of
 
 # What the gate prints of a crate begins with its name, and ends with how it ended.
 SECTION = "== "
@@ -112,8 +113,9 @@ class Gate:
         for printed in ran.stdout or ():
             # The tree is gone when this is read.
             line = printed.replace(str(self.tree), str(self.root))
-            log.write(line)
-            log.flush()
+            with faults_of(self.log):
+                log.write(line)
+                log.flush()
             if line.startswith(SECTION):
                 section.clear()
             section.append(line)

@@ -8,6 +8,7 @@ from pathlib import Path
 
 from building.gate import Failure
 from building.kit import Kit
+from common.files import faults_of
 from sources.crates import all_needs, read_crates
 
 
@@ -48,6 +49,6 @@ def build_archive(
     printed = ran.stdout.replace(str(tree), str(root))
     if ran.returncode < 0:
         printed += f"rattle was killed by signal {-ran.returncode}\n"
-    with open(log, "a", encoding="utf-8") as file:
+    with faults_of(log), open(log, "a", encoding="utf-8") as file:
         file.write(printed)
     return Failure(name, printed.splitlines(keepends=True), ran.returncode) if ran.returncode else None

@@ -15,6 +15,7 @@ from pathlib import Path
 from typing import Iterator
 
 from building.tree import LIST, last_change, needed_lines, stamp_of
+from common.files import write_file
 from sources.crates import ROOT
 
 UNPROVED, MEASURED = "unproved", "measured"
@@ -99,9 +100,7 @@ class Place:
 
     def write_stamp(self, sources: str, kit: str) -> None:
         stamp = {"sources": sources, "kit": kit, "made": sums_of(self.files)}
-        new = self.stamp_file.with_suffix(".new")
-        new.write_text(json.dumps(stamp, indent=1) + "\n", encoding="utf-8")
-        os.replace(new, self.stamp_file)
+        write_file(self.stamp_file, json.dumps(stamp, indent=1) + "\n")
 
     def is_built(self, kit: str) -> bool:
         """Whether what stands here was built of the sources that stand in the repository, by that kit."""

@@ -13,6 +13,7 @@ import tempfile
 from pathlib import Path
 from typing import Iterable
 
+from common.files import faults_of, write_over
 from sources.crates import all_needs, read_crates
 
 # What the gate reads of a crate: code and proofs, and what a program is run on.
@@ -85,11 +86,12 @@ def lay_tree(root: Path, tree: Path, lines: dict[str, str]) -> None:
     tree.mkdir(mode=0o700)
     # By this folder the gate knows the top of a repository.
     (tree / ".git").mkdir()
-    (tree / LIST).write_text("".join(f"{line}\n" for line in lines.values()), encoding="utf-8")
+    write_over(tree / LIST, "".join(f"{line}\n" for line in lines.values()))
     for path in files_of(root, lines):
         target = tree / path.relative_to(root)
         target.parent.mkdir(parents=True, exist_ok=True)
-        shutil.copyfile(path, target, follow_symlinks=False)
+        with faults_of(target):
+            shutil.copyfile(path, target, follow_symlinks=False)
 
 
 def clear(tree: Path) -> None:

@@ -9,6 +9,8 @@ from textwrap import wrap
 from typing import Any
 
 from common.faults import DATA, ToolFault
+from common.files import write_file
+from common.printing import emit
 
 WIDTH = 120
 # How many lines that differ are told.
@@ -26,11 +28,11 @@ def add_modes(parser: argparse.ArgumentParser) -> Any:
 def deliver(tool: str, path: Path, made: str, modes: argparse.Namespace) -> int:
     """Writes a document, prints it, or tells what differs; the status is 1 where it does."""
     if modes.print:
-        sys.stdout.write(made)
+        emit(made)
         return 0
     if modes.check:
         return check(tool, path, made)
-    path.write_text(made, encoding="utf-8")
+    write_file(path, made)
     return 0
 
 
@@ -65,4 +67,4 @@ def replace_part(path: Path, begin: str, end: str, lines: list[str]) -> None:
     if text.count(begin) != 1 or text.count(end) != 1 or text.index(begin) > text.index(end):
         raise ToolFault(DATA, f"{path}: the lines {begin} and {end} don't stand there once each, in this order")
     before, after = text.partition(begin)[0], text.partition(end)[2]
-    path.write_text("\n".join([f"{before}{begin}", "", *lines, "", f"{end}{after}"]), encoding="utf-8")
+    write_file(path, "\n".join([f"{before}{begin}", "", *lines, "", f"{end}{after}"]))

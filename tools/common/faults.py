@@ -4,6 +4,7 @@ import sys
 from typing import Callable
 
 from common.printing import clean, emit, flush_streams, open_streams, tell
+from common.start import INTERRUPTED, interrupts_end, interrupts_raise
 
 # The statuses are those of hb_shape: words, data, text, what can't be shaped, files.
 WORDS = 2
@@ -11,7 +12,6 @@ DATA = 3
 TEXT = 4
 SHAPING = 5
 FILES = 6
-INTERRUPTED = 130
 
 
 class ToolFault(Exception):
@@ -26,6 +26,7 @@ def run_tool(name: str, main: Callable[[list[str]], int]) -> None:
     """Runs a tool on the command line's words, and ends the process with its status."""
     open_streams()
     try:
+        interrupts_raise()
         status = ended(main)
         emit("")
     except ToolFault as fault:
@@ -39,6 +40,7 @@ def run_tool(name: str, main: Callable[[list[str]], int]) -> None:
         status = SHAPING
     except KeyboardInterrupt:
         status = INTERRUPTED
+    interrupts_end()
     flush_streams()
     sys.exit(status)
 

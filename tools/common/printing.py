@@ -4,9 +4,10 @@ import contextlib
 import io
 import os
 import sys
-from typing import Iterator
+from typing import Any, Iterator, TextIO
 
 OUTPUT, INPUT = "standard output", "standard input"
+UTF8 = {"encoding": "utf-8", "errors": "backslashreplace"}
 # What separates glyphs in a printed line or ends a name there, and what escapes it here. Where a name has no cluster
 # after it the others end it too; else they may stand in it, as in fonts in use (A+slashtall, acute#1).
 LINE_MARKS = frozenset("|=[]\\")
@@ -65,6 +66,24 @@ def naming(name: str) -> Iterator[None]:
         raise
 
 
+class Output(io.FileIO):
+    """Standard output without a buffer. A fault of it has its name."""
+
+    def write(self, content: Any) -> int | None:
+        with naming(OUTPUT):
+            return super().write(content)
+
+
+class Errors(io.FileIO):
+    """Standard error without a buffer. What can't be written is lost, so that a fault keeps its status."""
+
+    def write(self, content: Any) -> int | None:
+        try:
+            return super().write(content)
+        except OSError:
+            return len(content)
+
+
 def open_streams() -> None:
     """Opens the standard streams that are closed, so that no other file gets their numbers.
 
@@ -76,11 +95,14 @@ def open_streams() -> None:
         except OSError:
             os.open(os.devnull, mode)
     sys.stdin = sys.stdin or open(0, encoding="utf-8", closefd=False)
-    sys.stdout = sys.stdout or open(1, "w", encoding="utf-8", closefd=False)
-    sys.stderr = sys.stderr or open(2, "w", encoding="utf-8", closefd=False)
-    for stream in (sys.stdout, sys.stderr):
-        if isinstance(stream, io.TextIOWrapper):
-            stream.reconfigure(encoding="utf-8", errors="backslashreplace")
+    sys.stdout, sys.stderr = whole(sys.stdout, Output(1, "w", closefd=False)), whole(sys.stderr, Errors(2, "w", closefd=False))
+
+
+def whole(before: TextIO | None, raw: io.FileIO) -> TextIO:
+    """A stream in the place of Python's own one: its buffer writes on where the system takes a part alone. Without it,
+    as PYTHONUNBUFFERED asks for, Python drops the rest; here each line is written at its end then."""
+    by_lines = isinstance(before, io.TextIOWrapper) and (before.line_buffering or before.write_through)
+    return io.TextIOWrapper(io.BufferedWriter(raw), **UTF8, line_buffering=by_lines)
 
 
 def flush_streams() -> None:

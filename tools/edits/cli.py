@@ -10,6 +10,7 @@ from pathlib import Path
 from typing import Iterator
 
 from common.faults import DATA, FILES, ToolFault
+from common.files import faults_of
 from common.parsing import Words
 from sources.crates import ROOT
 
@@ -68,7 +69,8 @@ def laid(crate: str, edits: list[Path]) -> Iterator[None]:
     try:
         folder.mkdir(exist_ok=True)
         for edit, copy in zip(edits, copies, strict=True):
-            shutil.copyfile(edit, copy)
+            with faults_of(copy):
+                shutil.copyfile(edit, copy)
         yield
     finally:
         for copy in copies:

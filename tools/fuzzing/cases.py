@@ -7,6 +7,7 @@ from pathlib import Path
 from random import Random
 from typing import Any, Callable
 
+from common.files import write_over
 from formats.rules import font_faults, tables_faults
 from formats.where import fault_of
 from fuzzing.alphabets import Alphabet, draw_alphabet
@@ -119,7 +120,7 @@ class Cases:
         changed = json.loads(as_json(value))
         damage_value(draw, changed)
         path = self.folder / "damaged.json"
-        path.write_bytes(as_json(changed))
+        write_over(path, as_json(changed))
         found = fault_of(path, rules)
         return File(path.read_bytes(), State.VALID if found is None else State.FAULTY)
 

@@ -13,6 +13,7 @@ from building.places import PROGRAM, standing
 from building.ready import ready_trials, usable
 from common.faults import FILES as FILES_STATUS
 from common.faults import WORDS, ToolFault
+from common.files import write_file, write_over
 from common.notes import Progress
 from common.parsing import Words
 from fuzzing import tables
@@ -132,7 +133,7 @@ class Work:
         for name, content in zip(FILES, case.files):
             path = str(self.folder / (name if any(content is each for each in shared) else f"{slot}-{name}"))
             if self.written.get(path) is not content:
-                Path(path).write_bytes(content)
+                write_over(path, content)
                 self.written[path] = content
             names.append(path)
         if case.missing is not None:
@@ -262,7 +263,7 @@ def write_tally(options: argparse.Namespace, tally: Tally, seconds: float) -> No
     """What is told at the end, as it stands now, beside the cases that are kept."""
     options.keep.mkdir(parents=True, exist_ok=True)
     text = "\n".join(told_lines(options, tally, seconds)) + "\n"
-    (options.keep / f"seed-{options.seed}.txt").write_text(text, encoding="utf-8")
+    write_file(options.keep / f"seed-{options.seed}.txt", text)
 
 
 def told_lines(options: argparse.Namespace, tally: Tally, seconds: float) -> Iterator[str]:

@@ -6,6 +6,7 @@ from collections import Counter
 from dataclasses import dataclass, field
 from pathlib import Path
 
+from common.files import write_file
 from fuzzing.cases import FILES, Case
 from fuzzing.running import FAULTS, Answer, is_line
 
@@ -80,7 +81,7 @@ def write_case(folder: Path, kind: str, seed: int, case: Case, answer: Answer) -
     """Writes the files of a case, and what tells of it."""
     folder.mkdir(parents=True, exist_ok=True)
     for name, content in zip(FILES, case.files):
-        (folder / name).write_bytes(content)
+        write_file(folder / name, content)
     told = {
         "kind": kind,
         "seed": seed,
@@ -96,4 +97,4 @@ def write_case(folder: Path, kind: str, seed: int, case: Case, answer: Answer) -
         "seconds": round(answer.seconds, 3),
         "bytes of memory": answer.memory,
     }
-    (folder / "case.json").write_text(json.dumps(told, indent=1) + "\n", encoding="utf-8")
+    write_file(folder / "case.json", json.dumps(told, indent=1) + "\n")

@@ -11,6 +11,7 @@ from dataclasses import dataclass
 from pathlib import Path
 from typing import Iterator
 
+from common.files import write_file
 from common.printing import emit, tell
 from fuzzing.cases import FILES as NAMES
 from fuzzing.running import CLOCK
@@ -78,7 +79,7 @@ def write_files(case: TrialCase, folder: Path) -> Path:
     """Writes the files of a case for hb_shape."""
     folder.mkdir(parents=True, exist_ok=True)
     for name, content in zip(NAMES, (case.tables, case.face, case.text.encode())):
-        (folder / name).write_bytes(content)
+        write_file(folder / name, content)
     return folder
 
 

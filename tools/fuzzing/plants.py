@@ -10,6 +10,7 @@ from building.places import TRIALS, Place
 from building.ready import make
 from building.tree import lay_tree
 from common.faults import FILES, ToolFault
+from common.files import write_over
 from common.printing import emit
 from fuzzing.in_process import NAME, run_block
 from fuzzing.streams import CASES
@@ -101,4 +102,4 @@ def plant(tree: Path, name: str) -> None:
     text = (tree / bug.file).read_text(encoding="utf-8")
     if text.count(bug.old) != 1:
         raise ToolFault(FILES, f"{bug.file} has no place for the bug {name}")
-    (tree / bug.file).write_text(text.replace(bug.old, bug.new), encoding="utf-8")
+    write_over(tree / bug.file, text.replace(bug.old, bug.new))

@@ -11,6 +11,7 @@ from typing import Iterator
 
 from building.places import Place
 from common.faults import FILES, ToolFault
+from common.files import write_over
 from common.version import version
 
 # The repository's own folders, as its tools know them, with what they need of them.
@@ -84,7 +85,7 @@ def shared_library(archive: Path, number: str) -> bytes:
     calls."""
     with tempfile.TemporaryDirectory() as folder:
         symbols, made = Path(folder) / "symbols", Path(folder) / "made.so"
-        symbols.write_text(f"KUSPVELI_{interface(number)} {{ global: kus_*; local: *; }};\n", encoding="utf-8")
+        write_over(symbols, f"KUSPVELI_{interface(number)} {{ global: kus_*; local: *; }};\n")
         whole = ("-Wl,--whole-archive", archive, "-Wl,--no-whole-archive")
         named = (f"-Wl,-soname,{soname(number)}", f"-Wl,--version-script={symbols}")
         words: list[str | Path] = ["gcc", "-shared", "-Wl,-z,defs", *named, "-s", "-o", made, *whole]

@@ -13,6 +13,7 @@ from building.places import LIBRARY, PROGRAM, Place, Target
 from building.ready import ready_place, unproved_place
 from common.documents import replace_part
 from common.faults import FILES, ToolFault
+from common.files import write_over
 from common.parsing import Words
 from library_tests import drivers
 from library_tests.cases import SETTINGS, Case, Script, scripts
@@ -132,7 +133,7 @@ def tell_stacks(tested: Tested, tables: Path, font: Path) -> int:
     for name, texts in files.items():
         paths = [tested.work / f"stack.{at}" for at in range(len(texts))]
         for path, text in zip(paths, texts, strict=True):
-            path.write_text(text, encoding="utf-8")
+            write_over(path, text)
         statuses, *taken = drivers.stack_taken(tested.work, tested.library, *paths)
         most = [max(pair) for pair in zip(most, taken, strict=True)]
         if statuses != (refused if name == "too deep" else read):

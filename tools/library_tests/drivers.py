@@ -10,6 +10,7 @@ from pathlib import Path
 
 from building.places import Place
 from common.faults import DATA, ToolFault
+from common.files import write_over
 from library_tests.cases import Case, Words
 from sources.crates import ROOT
 
@@ -66,7 +67,7 @@ def call(words: list[str | Path], given: str = "", environment: dict[str, str] |
 def check_header(work: Path) -> None:
     """The header by itself in each language, and beside HarfBuzz's."""
     alone = work / "alone.c"
-    alone.write_text('#include "kuspveli.h"\n', encoding="utf-8")
+    write_over(alone, '#include "kuspveli.h"\n')
     for words in (["gcc", "-std=c99"], ["gcc", "-std=c11"], ["g++", "-std=c++11", "-x", "c++"]):
         call([*words, "-pedantic-errors", *WARNINGS, f"-I{INCLUDE}", "-fsyntax-only", alone])
     call(["gcc", "-std=c11", *WARNINGS, f"-I{INCLUDE}", *harfbuzz("--cflags"), "-fsyntax-only", SOURCES / "layouts.c"])

@@ -10,6 +10,7 @@ import os
 import subprocess
 from pathlib import Path
 
+from common.files import write_over
 from streams.shim import compiler
 
 # Tests ask for memory by malloc and realloc alone. A line is written for each child: the number of the allocation,
@@ -140,7 +141,7 @@ class Forks:
     def __init__(self, folder: Path) -> None:
         self.library = folder / "forks.so"
         source = folder / "forks.c"
-        source.write_text(SOURCE, encoding="ascii")
+        write_over(source, SOURCE)
         subprocess.run([compiler() or "cc", "-O1", "-shared", "-fPIC", "-o", self.library, source], check=True)
 
     def environment(self, report: Path, seconds: int, **settings: int) -> dict[str, str]:

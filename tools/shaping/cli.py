@@ -8,7 +8,7 @@ from typing import Any
 
 from building.ready import ready_program
 from common.faults import DATA, SHAPING, WORDS, ToolFault
-from common.files import check_regular
+from common.files import check_regular, write_file
 from common.notes import Notes, Progress
 from common.printing import emit, emit_bytes, naming, tell
 from fontjson.cli import instance_of, read_font
@@ -190,7 +190,7 @@ def write(path: str, content: bytes) -> None:
         emit_bytes(content)
         return
     with naming(path):
-        Path(path).write_bytes(content)
+        write_file(Path(path), content)
 
 
 # ---- fonts and tables

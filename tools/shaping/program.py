@@ -8,6 +8,7 @@ from pathlib import Path
 from typing import Callable
 
 from common.faults import DATA, SHAPING, one_line
+from common.files import faults_of
 from formats.where import font_fault, tables_fault
 from shaping.texts import Text, Texts
 
@@ -90,8 +91,9 @@ def line_of(text: Text, shown: str) -> Line:
 def run(program: Path, tables: Path, font: Path, text: bytes, options: list[str]) -> Ran:
     """Runs the program on files."""
     with tempfile.NamedTemporaryFile() as file:
-        file.write(text)
-        file.flush()
+        with faults_of(file.name):
+            file.write(text)
+            file.flush()
         words = [program, *options, tables, font, file.name]
         ran = subprocess.run(words, stdin=subprocess.DEVNULL, capture_output=True, check=False)
     fault = one_line(ran.stderr.decode("utf-8", "replace")).removeprefix(OWN)

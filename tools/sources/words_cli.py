@@ -5,6 +5,7 @@ from collections import Counter
 from pathlib import Path
 
 from common.faults import DATA, ToolFault
+from common.files import write_file
 from common.parsing import Words
 from sources import wording
 from sources.crates import ROOT
@@ -78,7 +79,7 @@ def lower(hits: list[Hit]) -> int:
     counts = Counter(hit.kind for hit in hits)
     allowed = read_allowed(ALLOWED) if ALLOWED.exists() else dict(counts)
     lines = [f"{kind} {min(counts[kind], allowed.get(kind, 0))}\n" for kind in CLASSES]
-    ALLOWED.write_text("".join(lines), encoding="utf-8")
+    write_file(ALLOWED, "".join(lines))
     return 0
 
 

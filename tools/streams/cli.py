@@ -11,6 +11,7 @@ from typing import Callable, Iterator
 
 from building.places import PROGRAM, standing
 from building.ready import usable
+from common.files import write_over
 from common.parsing import Words
 from fuzzing.cases import FILES
 from streams import system
@@ -46,7 +47,7 @@ class Trial:
 
     def write(self, given: Row) -> None:
         for name, content in zip(FILES, given.files()):
-            (self.folder / name).write_bytes(content)
+            write_over(self.folder / name, content)
 
     def expect(self, group: str, where: str, ended: Ended, is_right: bool) -> None:
         """Counts a run, and tells of it where it is not right."""
@@ -108,7 +109,7 @@ def unopened(trial: Trial) -> None:
         path.mkdir()
         trial.expect_fault("a folder as a file", name, system.run(trial.words()), 6, READ)
         path.rmdir()
-        path.write_bytes(content)
+        write_over(path, content)
 
 
 def cut(trial: Trial) -> None:
@@ -117,7 +118,7 @@ def cut(trial: Trial) -> None:
     for name, content in zip(FILES[:2], given.files()):
         for end in range(len(content)):
             trial.write(given)
-            (trial.folder / name).write_bytes(content[:end])
+            write_over(trial.folder / name, content[:end])
             ended = system.run(trial.words())
             trial.expect_fault(f"{name} cut short", f"byte {end}", ended, 3, b"hb_shape: J1 NotJson\n")
 

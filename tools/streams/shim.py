@@ -5,6 +5,8 @@ import shutil
 import subprocess
 from pathlib import Path
 
+from common.files import write_over
+
 # The program asks for memory by malloc and realloc alone, and for files by read and write.
 SOURCE = r"""
 #include <errno.h>
@@ -72,7 +74,7 @@ class Shim:
         self.library = folder / "shim.so"
         self.met = folder / "met"
         source = folder / "shim.c"
-        source.write_text(SOURCE, encoding="ascii")
+        write_over(source, SOURCE)
         subprocess.run([compiler() or "cc", "-O1", "-shared", "-fPIC", "-o", self.library, source], check=True)
 
     def environment(self, **settings: int) -> dict[str, str]:

@@ -14,6 +14,8 @@ from dataclasses import dataclass
 from pathlib import Path
 from typing import Sequence
 
+from common.files import write_over
+
 SECONDS = 60
 Words = Sequence[str | Path]
 
@@ -51,7 +53,7 @@ def run_limited(words: Words, out: Path, size: int) -> Ended:
         signal.signal(signal.SIGXFSZ, signal.SIG_IGN)
         resource.setrlimit(resource.RLIMIT_FSIZE, (size, size))
 
-    out.write_bytes(b"")
+    write_over(out, b"")
     with out.open("wb") as stream:
         # pylint: disable-next=subprocess-popen-preexec-fn
         ran = subprocess.run(
