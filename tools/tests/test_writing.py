@@ -16,9 +16,9 @@ from common.files import NEW, write_file, write_over
 FILES = 6
 UNBUFFERED = {"PYTHONUNBUFFERED": "1"}
 # What prints more than a pipe or a small file holds.
-LONG = (("definitions", "--print"), ("where", "--print"), ("words",), ("hostile", "--list"), ("growing_calls",))
+LONG = (("definitions", "--print"), ("where", "--print"), ("hostile", "--list"), ("growing_calls",))
 # Bytes that a file may have.
-SMALL = 50
+SMALL = 1000
 
 
 def tools() -> list[Path]:
