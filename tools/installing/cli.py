@@ -6,9 +6,11 @@ import sys
 from pathlib import Path
 
 from building.places import LIBRARY, PROGRAM, Place
+from building.progress import end_by_exit
 from common.faults import FILES, ToolFault
 from common.parsing import Words
-from installing.layout import COMMANDS, layout
+from common.plan import Entries
+from installing.layout import COMMANDS, check_prefix, layout
 from installing.placing import SUMS, place_all, remove_all
 from sources.crates import ROOT
 
@@ -29,18 +31,29 @@ def main(words: list[str]) -> int:
     parser.add_argument("--uninstall", action="store_true", help="remove what was installed below PREFIX")
     options = parser.parse_args(words)
     prefix = options.prefix.absolute()
+    end_by_exit()
     if options.uninstall:
         return uninstall(prefix)
+    check_prefix(prefix)
     if not shutil.which("gcc"):
         raise ToolFault(FILES, "the command gcc is not on the path, and no shared library is linked without it")
     places = [Place(target, not options.unproved, ROOT) for target in (PROGRAM, LIBRARY)]
     for place in places:
         check_built(place)
     entries = layout(ROOT, prefix, *places)
-    changed = place_all(prefix, entries)
+    changed = put_entries(prefix, entries)
     how = "unproved, and its uses say so" if options.unproved else "proved"
     print(f"{len(entries)} files stand below {prefix} ({how}); {changed} of them changed")
     return 0
+
+
+def put_entries(prefix: Path, entries: Entries) -> int:
+    """Puts the entries there. What a run wrote before it failed stands in its list."""
+    try:
+        return place_all(prefix, entries)
+    except OSError as error:
+        error.strerror = f"{error.strerror or error}; {NAME} run again goes on, with --uninstall it takes away what it wrote"
+        raise
 
 
 def check_built(place: Place) -> None:

@@ -2,16 +2,17 @@
 
 import ast
 import os
+import re
 import stat
 import subprocess
 import tempfile
-from dataclasses import dataclass
 from pathlib import Path
 from typing import Iterator
 
 from building.places import Place
-from common.faults import FILES, ToolFault
+from common.faults import FILES, WORDS, ToolFault
 from common.files import write_over
+from common.plan import Entries, Entry
 from common.version import version
 
 # The repository's own folders, as its tools know them, with what they need of them.
@@ -26,26 +27,19 @@ COMMANDS = {
 DATA = ("VERSION", "LICENSE", "data/tables.json", "data/LICENSE.txt")
 # By which tools/shape calls the library, for what the program has no word for.
 BINDING = ("bindings/python/kuspveli.py", "bindings/python/kuspveli_library.py")
+# What stands after a backslash in a .pc file, and what can't be said there.
+SPECIAL, QUOTED = re.compile(r"[^\w/.+-]", re.ASCII), r"\\\g<0>"
+UNSAID = re.compile(r"[\n\r$()]")
 # A folder of tools that no tool imports.
 GRAMMARS = "machines"
 
-
-@dataclass(frozen=True)
-class Entry:
-    """A file, or a link to another path."""
-
-    text: bytes = b""
-    mode: int = 0o644
-    link: str = ""
-
-
-def layout(root: Path, prefix: Path, program: Place, library: Place) -> dict[str, Entry]:
+def layout(root: Path, prefix: Path, program: Place, library: Place) -> Entries:
     """All entries by their paths below the prefix."""
     number = version()
     entries = {f"bin/{name}": Entry(link=f"../{OWN}/tools/{tool}") for name, tool in COMMANDS.items()}
     entries["include/kuspveli.h"] = entry_of(root / "include" / "kuspveli.h")
     entries |= library_entries(library, number)
-    entries["lib/pkgconfig/kuspveli.pc"] = Entry(pkg_config(prefix, number, library.is_proved).encode())
+    entries["lib/pkgconfig/kuspveli.pc"] = Entry(pkg_config(prefix, number, library.is_proved), 0o644)
     for path in (*tool_files(root / "tools"), *(root / name for name in (*DATA, *BINDING)), program.file, program.stamp_file):
         entries[f"{OWN}/{path.relative_to(root)}"] = entry_of(path)
     return entries
@@ -58,7 +52,7 @@ def entry_of(path: Path) -> Entry:
 # ---- the library
 
 
-def library_entries(library: Place, number: str) -> dict[str, Entry]:
+def library_entries(library: Place, number: str) -> Entries:
     """The archive, the shared library under its whole version, and the links by which it is linked and loaded."""
     archive = library.folder / "libkuspveli.a"
     whole, loaded = f"libkuspveli.so.{number}", soname(number)
@@ -95,13 +89,20 @@ def shared_library(archive: Path, number: str) -> bytes:
         return made.read_bytes()
 
 
-def pkg_config(prefix: Path, number: str, is_proved: bool) -> str:
+def pkg_config(prefix: Path, number: str, is_proved: bool) -> bytes:
     about = "A text shaper that is proved right" + ("" if is_proved else "; this one was built without its proofs")
-    return (
-        f"prefix={str(prefix).replace(' ', chr(92) + ' ')}\nlibdir=${{prefix}}/lib\nincludedir=${{prefix}}/include\n\n"
+    return os.fsencode(
+        f"prefix={SPECIAL.sub(QUOTED, str(prefix))}\nlibdir=${{prefix}}/lib\nincludedir=${{prefix}}/include\n\n"
         f"Name: kuspveli\nDescription: {about}\nVersion: {number}\n"
         "Libs: -L${libdir} -lkuspveli\nCflags: -I${includedir}\n"
     )
+
+
+def check_prefix(prefix: Path) -> None:
+    """Refuses a prefix that the .pc file can't say: pkg-config reads or prints these characters as others."""
+    found = UNSAID.search(str(prefix))
+    if found:
+        raise ToolFault(WORDS, f"{prefix}: no prefix for pkg-config, which can't say {found[0]!r} in a file's path")
 
 
 # ---- the tools

@@ -16,7 +16,8 @@ from building.places import LIBRARY, PROGRAM, Place, standing
 from common.faults import ToolFault
 from common.version import version
 from installing import cli, layout, placing
-from installing.layout import COMMANDS, Entry, interface, pkg_config
+from common.plan import Entry
+from installing.layout import COMMANDS, check_prefix, interface, pkg_config
 from sources.crates import ROOT
 
 VERSION = version()
@@ -61,13 +62,13 @@ class Placing(unittest.TestCase):
         self.entries = {
             "bin/tool": Entry(link="../lib/kuspveli/tools/tool"),
             "lib/kuspveli/tools/tool": Entry(b"#!/bin/sh\n", 0o755),
-            "lib/kuspveli/tools/part/deep.py": Entry(b"x = 1\n"),
+            "lib/kuspveli/tools/part/deep.py": Entry(b"x = 1\n", 0o644),
         }
 
     def test_placed(self) -> None:
         """Files with their modes and links; a second time nothing changes; sha256sum reads the list."""
         self.assertEqual(placing.place_all(self.prefix, self.entries), 3)
-        noted = {placing.SUMS, placing.FOLDERS}
+        noted = {placing.SUMS}
         self.assertEqual(files_below(self.prefix), self.before | set(self.entries) | noted)
         self.assertTrue(os.access(self.prefix / "bin/tool", os.X_OK))
         self.assertEqual(os.readlink(self.prefix / "bin/tool"), "../lib/kuspveli/tools/tool")
@@ -127,9 +128,9 @@ class Words(unittest.TestCase):
 
     def test_pkg_config(self) -> None:
         text = pkg_config(Path("/opt/a b"), "0.1.0", is_proved=False)
-        self.assertIn("prefix=/opt/a\\ b\n", text)
-        self.assertIn("built without its proofs", text)
-        self.assertNotIn("without", pkg_config(Path("/opt"), "0.1.0", is_proved=True))
+        self.assertIn(b"prefix=/opt/a\\ b\n", text)
+        self.assertIn(b"built without its proofs", text)
+        self.assertNotIn(b"without", pkg_config(Path("/opt"), "0.1.0", is_proved=True))
 
     def test_not_built(self) -> None:
         """What is not built, or of older sources, is named with what builds it, and nothing is written."""

@@ -3,13 +3,15 @@
 import argparse
 from pathlib import Path
 
+from building.progress import end_by_exit
 from building.tree import needed_lines
+from common.below import Below
 from common.faults import FILES, ToolFault
 from common.parsing import Words
-from common.sums import read_sums
+from common.plan import decoded, lay, read_list
 from common.version import version
 from sources.crates import ROOT
-from vendoring.copies import SUMS, find_strangers, sources_of, write_copies
+from vendoring.copies import CRATES, SUMS, TOPS, crates_of, entries_of, find_strangers
 from vendoring.lines import LIST, with_lines
 
 NAME = "vendor"
@@ -27,14 +29,10 @@ def main(words: list[str]) -> int:
     parser.add_argument("folder", type=Path, metavar="FOLDER", help=f"the top of the other repository, with its {LIST}")
     target = parser.parse_args(words).folder
     check_folder(target)
-    lines = needed_lines(ROOT, CRATE)
-    listed, sources = read_sums(target / SUMS), sources_of(ROOT, list(lines))
-    text = with_lines(target / LIST, version(), lines, listed)
-    find_strangers(target, listed, sources)
-    changed = write_copies(target, listed, sources)
-    if (target / LIST).read_text(encoding="utf-8") != text:
-        (target / LIST).write_text(text, encoding="utf-8")
-    print(f"{len(lines)} crates stand in {target / 'crates'} and in {target / LIST}; {changed} files changed")
+    end_by_exit()
+    with Below(target) as below:
+        crates, changed = vendor(below)
+    print(f"{crates} crates stand in {target / CRATES} and in {target / LIST}; {changed} files changed")
     return 0
 
 
@@ -43,5 +41,20 @@ def check_folder(target: Path) -> None:
         raise ToolFault(FILES, f"{target}: no such folder")
     if target.resolve() == ROOT:
         raise ToolFault(FILES, f"{target}: this is the repository that is copied from")
-    if not (target / LIST).is_file():
-        raise ToolFault(FILES, f"{target}: no {LIST} is there, so it is not the top of a Rattle repository")
+
+
+def vendor(below: Below) -> tuple[int, int]:
+    """Lays the crates and their lines; how many crates there are, and how many files changed."""
+    before = below.read(LIST)
+    if before is None:
+        raise ToolFault(FILES, f"{below.top}: no {LIST} is there, so it is not the top of a Rattle repository")
+    lines = needed_lines(ROOT, CRATE)
+    listed, entries = read_list(below, SUMS, TOPS), entries_of(ROOT, list(lines))
+    path = below.path(LIST)
+    text = with_lines(path, decoded(before, path), version(), lines, crates_of(listed.files)).encode()
+    find_strangers(below, listed, entries)
+
+    def write_lines(new: str) -> None:
+        below.write(LIST, new, text, below.mode(LIST))
+
+    return len(lines), sum(lay(below, SUMS, listed, entries, last=None if text == before else write_lines))

@@ -1,87 +1,59 @@
-"""The files of crates in another repository: what stands there, and what is written."""
+"""The files of crates in another repository: what stands there, and what is laid."""
 
-import os
 from pathlib import Path
 
+from common.below import LINK, OTHER, Below
 from common.faults import DATA, ToolFault
-from common.sums import sum_of, write_sums
+from common.plan import Entries, Entry, Listed, Tops
 
 # A crate without what is the gate's alone: must-fail edits, and what a program is run on.
 PARTS = ("src", "specs", "proofs")
-OWN = Path("crates") / "kuspveli"
-SUMS = OWN / "vendored.sha256"
+CRATES = "crates"
+OWN = f"{CRATES}/kuspveli"
+SUMS = f"{OWN}/vendored.sha256"
+# A list names files of crates alone.
+TOPS = Tops((CRATES,), 3)
 # What rt makes in a crate's folder.
 MADE = "out"
 
 
-def sources_of(root: Path, names: list[str]) -> dict[str, Path]:
-    """The files to copy, by their paths in the other repository: those of the crates, and the licence."""
-    found = {str(OWN / "LICENSE"): root / "LICENSE"}
+def entries_of(root: Path, names: list[str]) -> Entries:
+    """The files to lay, by their paths in the other repository: those of the crates, and the licence."""
+    found = {f"{OWN}/LICENSE": Entry((root / "LICENSE").read_bytes())}
     for name in names:
         for part in PARTS:
-            for path in sorted((root / "crates" / name / part).rglob("*")):
+            for path in sorted((root / CRATES / name / part).rglob("*")):
                 if path.is_file():
-                    found[str(path.relative_to(root))] = path
+                    found[str(path.relative_to(root))] = Entry(path.read_bytes())
     return found
 
 
-def find_strangers(target: Path, listed: dict[str, str], sources: dict[str, Path]) -> None:
-    """Refuses where a crate's folder has what vendor didn't write. What it wrote has the sum of its list, or is
-    the same as what it would write now, as where it was ended while it wrote."""
-    vendored = {Path(name).parts[1] for name in listed}
-    for crate in sorted({Path(name).parts[1] for name in sources} | vendored):
-        folder = target / "crates" / crate
-        for path in files_in(folder):
-            name = str(path.relative_to(target))
-            if path.is_symlink() or not is_known(path, listed.get(name), sources.get(name)):
+def crates_of(names: Entries | dict[str, frozenset[str]]) -> set[str]:
+    """The crates of paths, whose second part they are."""
+    return {name.split("/")[1] for name in names}
+
+
+def find_strangers(below: Below, listed: Listed, entries: Entries) -> None:
+    """Refuses where a crate's folder has what vendor didn't write. What it wrote has a sum of its list, or is the same as
+    what it would write now. After a run that was ended a file may be missing."""
+    vendored = crates_of(listed.files)
+    for crate in sorted(crates_of(entries) | vendored):
+        for name in below.files(f"{CRATES}/{crate}"):
+            if is_own(name, listed) and not is_known(below.identity(name), name, listed, entries):
                 what = "was edited since vendor wrote it" if crate in vendored else "was not written by vendor"
-                raise ToolFault(DATA, f"crates/{crate} {what}, and nothing is changed: {path}")
-    for name in listed.keys() & sources.keys():
-        if not (target / name).exists():
-            raise ToolFault(DATA, f"{target / name} is gone since vendor wrote it, and nothing is changed")
+                raise ToolFault(DATA, f"crates/{crate} {what}, and nothing is changed: {below.path(name)}")
+    for name in sorted(listed.files.keys() & entries.keys()) if not listed.new else ():
+        if below.identity(name) is None:
+            raise ToolFault(DATA, f"{below.path(name)} is gone since vendor wrote it, and nothing is changed")
 
 
-def files_in(folder: Path) -> list[Path]:
-    """What a crate's folder has but folders and what rt makes; a link in its place is itself such a thing."""
-    if folder.is_symlink() or folder.is_file():
-        return [folder]
-    found = [path for path in folder.rglob("*") if path.is_symlink() or not path.is_dir()]
-    own = [path for path in found if path.relative_to(folder).parts[0] != MADE]
-    return sorted(path for path in own if path.parts[-3:] != SUMS.parts)
+def is_own(name: str, listed: Listed) -> bool:
+    """Whether a file is the crate's: not vendor's list, nor of what rt makes, nor what a run of vendor left."""
+    _, _, *parts = name.split("/")
+    return name != SUMS and parts[0] != MADE and (not listed.new or parts[-1] != listed.new)
 
 
-def is_known(path: Path, listed: str | None, source: Path | None) -> bool:
-    made = sum_of(path)
-    return made == listed or (source is not None and made == sum_of(source))
-
-
-def write_copies(target: Path, listed: dict[str, str], sources: dict[str, Path]) -> int:
-    """Writes what is not the same yet, removes what is no longer of the crates, and writes the list; how many files
-    changed."""
-    changed = 0
-    for name, source in sources.items():
-        path, text = target / name, source.read_bytes()
-        if not path.is_file() or path.read_bytes() != text:
-            write_whole(target / "crates" / ".vendor.new", path, text)
-            changed += 1
-    for name in listed.keys() - sources.keys():
-        remove(target, target / name)
-        changed += 1
-    write_sums(target / SUMS, {name: sum_of(source) for name, source in sources.items()})
-    return changed
-
-
-def write_whole(new: Path, path: Path, text: bytes) -> None:
-    """Writes a file under another name first, so that no half of it stands there."""
-    path.parent.mkdir(parents=True, exist_ok=True)
-    new.write_bytes(text)
-    os.replace(new, path)
-
-
-def remove(target: Path, path: Path) -> None:
-    """Removes a file, and the folders below crates/ that are empty then."""
-    path.unlink(missing_ok=True)
-    folder = path.parent
-    while folder != target / "crates" and folder.is_dir() and not any(folder.iterdir()):
-        folder.rmdir()
-        folder = folder.parent
+def is_known(found: str | None, name: str, listed: Listed, entries: Entries) -> bool:
+    if found is None or found == OTHER or found.startswith(LINK):
+        return False
+    return found in listed.files.get(name, ()) or (name in entries and found == entries[name].identity)

@@ -12,10 +12,9 @@ BEGIN = re.compile(
 END = "# Kuspveli ends."
 
 
-def with_lines(path: Path, version: str, lines: dict[str, str], listed: dict[str, str]) -> str:
+def with_lines(path: Path, text: str, version: str, lines: dict[str, str], vendored: set[str]) -> str:
     """The text of crates.txt with the crates' lines in place of those that were written before, else at its end."""
-    before, old, after = parts_of(path)
-    vendored = {Path(name).parts[1] for name in listed}
+    before, old, after = parts_of(path, text)
     for line in old:
         if name_of(line) not in {"", *vendored}:
             raise ToolFault(
@@ -31,9 +30,9 @@ def with_lines(path: Path, version: str, lines: dict[str, str], listed: dict[str
     return "".join(f"{line}\n" for line in [*before, *gap, begin, *lines.values(), END, *after])
 
 
-def parts_of(path: Path) -> tuple[list[str], list[str], list[str]]:
+def parts_of(path: Path, text: str) -> tuple[list[str], list[str], list[str]]:
     """The lines before those that vendor wrote, these without their marks, and the lines after them."""
-    lines = path.read_text(encoding="utf-8").splitlines()
+    lines = text.removesuffix("\n").split("\n") if text else []
     begins = [at for at, line in enumerate(lines) if BEGIN.fullmatch(line)]
     ends = [at for at, line in enumerate(lines) if line == END]
     if not begins and not ends:
