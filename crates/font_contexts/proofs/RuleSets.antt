@@ -21,13 +21,19 @@ known_step lookup_count r rs =
     ]
 
 -- values that were appended, and those that follow them
-appended_next : {A : Type 0} (done pushed : List A) (left : ℕ) (x : Result (List A × ℕ) TableFault) (next : ℕ → Result (List A × ℕ) TableFault)
+pub appended_next : {A : Type 0} (done pushed : List A) (left : ℕ) (x : Result (List A × ℕ) TableFault) (next : ℕ → Result (List A × ℕ) TableFault)
     → after done x ≡ Ok (pushed, left) → after done (and_then x (λ a. after a.0 (next a.1))) ≡ after pushed (next left)
-appended_next done pushed left (Ok a) next h =
-    let items : done ++ a.0 ≡ pushed = cc in
-    let room : a.1 ≡ left = cc in
+appended_next {A} done pushed left (Ok a) next h =
+    let both : (done ++ a.0, a.1) ≡ (pushed, left) = cc in
+    let items = ap (λ (p : List A × ℕ). p.0) both in
+    let room = ap (λ (p : List A × ℕ). p.1) both in
     after_after done a.0 (next a.1) ∙ (ap (λ xs. after xs (next a.1)) items ∙ ap (λ r. after pushed (next r)) room)
-appended_next done pushed left (Err e) next h = cc
+appended_next {A} done pushed left (Err e) next h = cc
+
+-- values after which others are refused
+pub after_refused : {A : Type 0} (done : List A) (x : Result (List A × ℕ) TableFault) (e : TableFault) → after done x ≡ Err e → x ≡ Err e
+after_refused done (Ok a) e h = cc
+after_refused done (Err f) e h = h
 
 -- the rules of one more set
 pub set_done : (read : ℕ → ℕ → ℕ → Result (List (SequenceRule ℕ) × ℕ) TableFault) (done : List (SequenceRule ℕ)) (room left : ℕ) (s : GlyphRow ℕ)
