@@ -1,4 +1,6 @@
-//! Coverage tables, by the examples of the OpenType specification (chapter 2, examples 5 and 6) and by damaged ones.
+//! Coverage and class definition tables, by the examples of the OpenType specification (chapter 2, examples 5, 6 and 8)
+//! and by damaged ones.
+use crate::class_definition::read_class_definition;
 use crate::coverage::{read_coverage, read_coverage_glyphs};
 use crate::offsets::{CoverageReader, read_list};
 use font_bytes::fault::TableFault;
@@ -101,4 +103,34 @@ fn offsets_lead_to_tables(rt: HostRuntime) -> Result<(), Fail> {
             Ok(())
         }
     }
+}
+
+fn classes(
+    rt: &impl Abort,
+    alloc: Global,
+    table: &[u8],
+    expected: &[(u16, u16)],
+) -> Result<(), Fail> {
+    let mut room = Room { left: 100 };
+    match read_class_definition(alloc, table, 0, &mut room) {
+        Ok(classes) => {
+            for (glyph, class) in expected {
+                assert_eq!(rt; classes.class_of(*glyph), *class);
+            }
+            Ok(())
+        }
+        Err(_fault) => Err("refused".into()),
+    }
+}
+
+#[test]
+fn classes_are_read(rt: HostRuntime) -> Result<(), Fail> {
+    let listed = [0, 1, 0, 50, 0, 3, 0, 7, 0, 0, 0, 2];
+    classes(&rt, rt.alloc(), &listed, &[(49, 0), (50, 7), (51, 0), (52, 2)])?;
+    let ranges = [
+        0, 2, 0, 3, 0, 0x30, 0, 0x31, 0, 2, 0, 0x40, 0, 0x41, 0, 3, 0, 0xd2, 0, 0xd3, 0, 1,
+    ];
+    classes(&rt, rt.alloc(), &ranges, &[(0x31, 2), (0x32, 0), (0x40, 3), (0xd3, 1)])?;
+    let shared = [0, 2, 0, 2, 0, 1, 0, 2, 0, 8, 0, 2, 0, 3, 0, 9];
+    classes(&rt, rt.alloc(), &shared, &[(1, 8), (2, 8), (3, 9)])
 }

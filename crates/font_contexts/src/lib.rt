@@ -10,3 +10,6 @@ pub mod rules;
 pub mod sets;
 
 pub use contexts::read_context;
+
+#[cfg(test)]
+mod tests;
