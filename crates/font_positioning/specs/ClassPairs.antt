@@ -59,8 +59,11 @@ class_pairs room table at = and_then (need table at 16) (λ _.
     and_then (covered left table at (word table (at + 2))) (λ c.
     and_then (class_rows c.1 table at (word table (at + 8))) (λ one.
     and_then (class_rows one.1 table at (word table (at + 10))) (λ two.
-    Ok (classes_of c.0 one.0 two.0 (word table (at + 12)) (word table (at + 14))
-        (class1_records (word table (at + 4)) (word table (at + 6)) table (word table (at + 12)) (word table (at + 14)) (at + 16)), two.1)))))))
+    Ok (
+      classes_of c.0 one.0 two.0 (word table (at + 12)) (word table (at + 14))
+          (class1_records (word table (at + 4)) (word table (at + 6)) table (word table (at + 12)) (word table (at + 14)) (at + 16)),
+      two.1,
+    )))))))
 
 -- ---- both formats
 

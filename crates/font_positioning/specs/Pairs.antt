@@ -1,11 +1,11 @@
 -- Pair adjustment subtables by glyphs (OpenType, GPOS lookup type 2, format 1).
-use Rattle.std.specs.Prelude.{ℕ, ◌+◌, ◌*◌, ◌==◌, ◌&&◌, nat_le, Bool, true, if◌then◌else◌, List, [], ◌∷◌, length, Option, Some, None, Result, Ok, Err}
+use Rattle.std.specs.Prelude.{ℕ, ◌+◌, ◌*◌, ◌==◌, ◌&&◌, nat_le, Bool, true, if◌then◌else◌, List, [], ◌∷◌, length, Option, Some, None, Result, Ok}
 use Rattle.font_bytes.specs.declared.fault.TableFault.{TableFault}
-use Rattle.font_bytes.specs.declared.fault.TableFault.TheVariants.{Order}
 use Rattle.font_bytes.specs.Results.{and_then}
 use Rattle.font_bytes.specs.Words.{need, word}
 use Rattle.font_bytes.specs.Records.{records}
 use Rattle.font_bytes.specs.Room.{taken}
+use Rattle.buffer_rows.specs.KeyOrder.{key_order}
 use Rattle.font_common.specs.Rows.{first_rows}
 use Rattle.font_records.specs.Turns.{in_turn, record_offsets}
 use Rattle.font_records.specs.Covered.{covered, first_records}
@@ -33,21 +33,19 @@ abbrev pub pair_row : ℕ → ℕ → List ℕ → ℕ → ℕ → PairRow
 pair_row format1 format2 table first at =
     record { first = first; second = word table at; values = pair_values format1 format2 table (at + 2) }
 
--- whether second glyphs never fall from a least one on; a pair that is repeated has its first values
-abbrev pub seconds_never_fall : ℕ → List PairRow → Bool
-seconds_never_fall least [] = true
-seconds_never_fall least (r ∷ rows) = nat_le least r.second && seconds_never_fall r.second rows
-
 -- the pairs of an array of records of a first glyph
 abbrev pub pair_array : ℕ → ℕ → List ℕ → ℕ → ℕ → ℕ → List PairRow
 pair_array format1 format2 table first at count = records (pair_row format1 format2 table first) (2 + pair_size format1 format2) at count
+
+-- rows in the order of their second glyphs: in some fonts these fall
+abbrev pub by_second : List PairRow → List PairRow
+by_second rows = key_order (λ r. r.second) rows
 
 -- the rows of the pair set at an offset: pairValueCount at 0, pairValueRecords at 2
 abbrev pub pair_set : ℕ → ℕ → List ℕ → ℕ → ℕ → ℕ → Result (List PairRow × ℕ) TableFault
 pair_set format1 format2 table room at first = and_then (need table at 2) (λ _.
     and_then (need table (at + 2) ((2 + pair_size format1 format2) * word table at)) (λ _. and_then (taken room (word table at)) (λ left.
-    if seconds_never_fall 0 (pair_array format1 format2 table first (at + 2) (word table at))
-    then Ok (pair_array format1 format2 table first (at + 2) (word table at), left) else Err (Order at))))
+    Ok (by_second (pair_array format1 format2 table first (at + 2) (word table at)), left))))
 
 -- the rows of a first glyph: its record is the offset of a pair set from the subtable's start; a null one is an empty set
 abbrev pub set_rows : ℕ → ℕ → ℕ → List ℕ → ℕ → ℕ → ℕ → Result (List PairRow × ℕ) TableFault
@@ -66,3 +64,10 @@ glyph_pairs room table at = and_then (need table at 10) (λ _. and_then (need ta
     and_then (taken room (word table (at + 8))) (λ left. and_then (covered left table at (word table (at + 2))) (λ c.
     and_then (pairs_in (word table (at + 4)) (word table (at + 6)) at table (at + 10) (word table (at + 8)) c.0 c.1) (λ r.
     Ok (first_rows pair_order (λ row. (row.first, row.second)) None r.0, r.1))))))
+
+-- ---- sets in order
+
+-- whether second glyphs never fall from a least one on
+abbrev pub seconds_never_fall : ℕ → List PairRow → Bool
+seconds_never_fall least [] = true
+seconds_never_fall least (r ∷ rows) = nat_le least r.second && seconds_never_fall r.second rows

@@ -11,7 +11,7 @@ use Rattle.font_common.specs.Offsets.{after}
 use Rattle.font_common.proofs.Tables.{after_none}
 use Rattle.buffer_rows.specs.Keys.{numbers_rise, is_above, is_rising}
 use Rattle.font_records.specs.Turns.{in_turn, if_any}
-use Rattle.font_records.specs.Covered.{first_records}
+use Rattle.font_records.specs.Covered.{first_records, rows_if}
 use Rattle.font_records.proofs.Turns.{turn_done, turn_refused, offsets_more, offsets_end}
 
 -- whether keys rise strictly from a least one on
@@ -22,7 +22,7 @@ rise_from key least (r ∷ rows) = nat_le least (key r) && rise_from key (key r 
 -- ---- one glyph and its record
 
 -- the parts of what was read
-same_read : {A B E : Type 0} (a c : A) (b d : B) → ◌≡◌ {A = Result (A × B) E} (Ok (a, b)) (Ok (c, d)) → (a ≡ c) × (b ≡ d)
+pub same_read : {A B E : Type 0} (a c : A) (b d : B) → ◌≡◌ {A = Result (A × B) E} (Ok (a, b)) (Ok (c, d)) → (a ≡ c) × (b ≡ d)
 same_read a c b d h = let p : ◌≡◌ {A = _ × _} (a, b) (c, d) = cc in (ap (λ x. x.0) p, ap (λ x. x.1) p)
 
 -- a glyph that isn't below the least one has a record
@@ -42,10 +42,6 @@ first_passed least g o gs os low =
 -- the rows of glyphs by the records of a width from an offset on, after those so far
 abbrev pub rows_from : {R : Type 0} → (ℕ → ℕ → ℕ → Result (List R × ℕ) TableFault) → List R → ℕ → ℕ → List ℕ → List ℕ → Result (List R × ℕ) TableFault
 rows_from row done room least gs os = after done (in_turn (λ r p. row r p.1 p.0) room (first_records least gs os))
-
--- the rows of a glyph at its record, none of one below the least
-abbrev pub rows_if : {R : Type 0} → (ℕ → ℕ → ℕ → Result (List R × ℕ) TableFault) → ℕ → ℕ → ℕ → ℕ → Result (List R × ℕ) TableFault
-rows_if row least room at g = if nat_le least g then row room at g else Ok ([], room)
 
 pub row_done : {R : Type 0} (row : ℕ → ℕ → ℕ → Result (List R × ℕ) TableFault) (done : List R) (room left least g o : ℕ) (gs os : List ℕ) (rows : List R) → rows_if row least room o g ≡ Ok (rows, left)
     → rows_from row done room least (g ∷ gs) (o ∷ os) ≡ rows_from row (done ++ rows) left (max least (g + 1)) gs os

@@ -29,3 +29,7 @@ rows_in row width at count glyphs room = in_turn (λ r p. if_any (row r p.1 p.0)
 abbrev pub rows_at : {R : Type 0} → (ℕ → ℕ → ℕ → Result (Option R × ℕ) TableFault) → List ℕ → ℕ → ℕ → ℕ → ℕ → ℕ → ℕ → Result (List R × ℕ) TableFault
 rows_at row table start coverage width at count room =
     and_then (taken room count) (λ left. and_then (covered left table start coverage) (λ c. rows_in row width at count c.0 c.1))
+
+-- the rows of a glyph at its record, none of one below the least
+abbrev pub rows_if : {R : Type 0} → (ℕ → ℕ → ℕ → Result (List R × ℕ) TableFault) → ℕ → ℕ → ℕ → ℕ → Result (List R × ℕ) TableFault
+rows_if row least room at g = if nat_le least g then row room at g else Ok ([], room)

@@ -150,7 +150,16 @@ fn read_sets(
     let count = usize::from(word(table, at + 4));
     need(table, at + 6, 2 * count)?;
     let reader = LigatureSets { start: at };
-    let sets = read_rows(&reader, alloc, table, at, word(table, at + 2), at + 6, count, room)?;
+    let sets = read_rows(
+        &reader,
+        alloc,
+        table,
+        at,
+        word(table, at + 2),
+        at + 6,
+        count,
+        room,
+    )?;
     Ok(LigatureSubst::new(sets))
 }
 

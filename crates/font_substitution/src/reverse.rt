@@ -31,7 +31,16 @@ fn read_reverse_rows(
     let count = usize::from(word(table, at));
     need(table, at + 2, 2 * count)?;
     let coverage = word(table, start + 2);
-    let rows = read_rows(&SubstituteRows, alloc, table, start, coverage, at + 2, count, room)?;
+    let rows = read_rows(
+        &SubstituteRows,
+        alloc,
+        table,
+        start,
+        coverage,
+        at + 2,
+        count,
+        room,
+    )?;
     Ok(SortedRows::new(rows))
 }
 

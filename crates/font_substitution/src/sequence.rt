@@ -85,7 +85,16 @@ fn read_sequence_rows(
     let count = usize::from(word(table, at + 4));
     need(table, at + 6, 2 * count)?;
     let reader = SequenceRows { start: at };
-    let rows = read_rows(&reader, alloc, table, at, word(table, at + 2), at + 6, count, room)?;
+    let rows = read_rows(
+        &reader,
+        alloc,
+        table,
+        at,
+        word(table, at + 2),
+        at + 6,
+        count,
+        room,
+    )?;
     Ok(SortedRows::new(rows))
 }
 

@@ -82,20 +82,34 @@ impl RowReader for SubstituteRows {
 }
 
 /// Reads format 1: a difference for all glyphs.
-fn read_delta(alloc: Global, table: &[u8], at: usize, room: &mut Room) -> Result<Option<SingleSubst>, TableFault>
+fn read_delta(
+    alloc: Global,
+    table: &[u8],
+    at: usize,
+    room: &mut Room,
+) -> Result<Option<SingleSubst>, TableFault>
     ensures ok { IfOk result (λ v. single_delta room.old.left table.now at ≡ Ok (v, room.new.left)) }
     ensures refused { IfErr result (λ e. e ≢ TableFault.OutOfMemory
         → single_delta room.old.left table.now at ≡ Err e) }
 {
     need(table, at, 6)?;
-    let reader = DeltaRows { delta: word(table, at + 4) };
+    let reader = DeltaRows {
+        delta: word(table, at + 4),
+    };
     let glyphs = read_covered(alloc, table, at, word(table, at + 2), room)?;
     let rows = read_rows_of(&reader, alloc, table, &glyphs, 0, glyphs.len(), room)?;
-    Ok(Some(SingleSubst { rows: SortedRows::new(rows) }))
+    Ok(Some(SingleSubst {
+        rows: SortedRows::new(rows),
+    }))
 }
 
 /// Reads format 2: a substitute for each glyph.
-fn read_listed(alloc: Global, table: &[u8], at: usize, room: &mut Room) -> Result<Option<SingleSubst>, TableFault>
+fn read_listed(
+    alloc: Global,
+    table: &[u8],
+    at: usize,
+    room: &mut Room,
+) -> Result<Option<SingleSubst>, TableFault>
     ensures ok { IfOk result (λ v. single_listed room.old.left table.now at ≡ Ok (v, room.new.left)) }
     ensures refused { IfErr result (λ e. e ≢ TableFault.OutOfMemory
         → single_listed room.old.left table.now at ≡ Err e) }
@@ -103,8 +117,19 @@ fn read_listed(alloc: Global, table: &[u8], at: usize, room: &mut Room) -> Resul
     need(table, at, 6)?;
     let count = usize::from(word(table, at + 4));
     need(table, at + 6, 2 * count)?;
-    let rows = read_rows(&SubstituteRows, alloc, table, at, word(table, at + 2), at + 6, count, room)?;
-    Ok(Some(SingleSubst { rows: SortedRows::new(rows) }))
+    let rows = read_rows(
+        &SubstituteRows,
+        alloc,
+        table,
+        at,
+        word(table, at + 2),
+        at + 6,
+        count,
+        room,
+    )?;
+    Ok(Some(SingleSubst {
+        rows: SortedRows::new(rows),
+    }))
 }
 
 /// Reads the single substitution subtable at an offset, none where its format is unknown.

@@ -50,5 +50,5 @@ returns-in_err-item-clause-refused g c =
     let next = records (λ (o : ℕ). o) width (c.loop-index.at + width) (c.args.count - (c.loop-index._index + 1)) in
     let more = offsets_more width c.loop-index.at c.args.count c.loop-index._index c.loop-index-test.true in
     let refused : e ≢ OutOfMemory → array_at item width c.args.at c.args.count c.args.room.now.left ≡ Err e =
-        λ n. c.loop-index.invariant.all ∙ (ap (λ os. after items (in_turn read room os)) more ∙ turn_refused read items room c.loop-index.at next e (any_refused (item room c.loop-index.at) e (c.in_err-item.ensures.refused n))) in
+    λ n. c.loop-index.invariant.all ∙ (ap (λ os. after items (in_turn read room os)) more ∙ turn_refused read items room c.loop-index.at next e (any_refused (item room c.loop-index.at) e (c.in_err-item.ensures.refused n))) in
     search (rules, refused)

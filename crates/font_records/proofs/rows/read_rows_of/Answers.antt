@@ -52,7 +52,7 @@ returns-in_err-row-clause-refused g c =
     let left = records (λ (o : ℕ). o) width (c.loop-index.at + width) (c.args.count - (c.loop-index.index + 1)) in
     let more = rows_more row rows room c.loop-index.least width c.loop-index.at c.args.count c.loop-index.index glyph glyphs inside within refl in
     let refused : e ≢ OutOfMemory → rows_in row_at width c.args.at c.args.count glyphs c.args.room.now.left ≡ Err e =
-        λ n. c.loop-index.invariant.all ∙ more ∙ row_refused row rows room c.loop-index.least glyph c.loop-index.at (drop (c.loop-index.index + 1) glyphs) left e (sym (any_if row_at c.loop-index.least room c.loop-index.at glyph) ∙ any_refused (row_if row_at c.loop-index.least room c.loop-index.at glyph) e (c.in_err-row.ensures.refused n)) in
+    λ n. c.loop-index.invariant.all ∙ more ∙ row_refused row rows room c.loop-index.least glyph c.loop-index.at (drop (c.loop-index.index + 1) glyphs) left e (sym (any_if row_at c.loop-index.least room c.loop-index.at glyph) ∙ any_refused (row_if row_at c.loop-index.least room c.loop-index.at glyph) e (c.in_err-row.ensures.refused n)) in
     search (rules, refused)
 
 pub returns-clause-ok : goal.returns-clause-ok

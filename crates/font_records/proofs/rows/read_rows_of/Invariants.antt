@@ -11,6 +11,6 @@ abbrev pub invariant-loop-index : goal.invariant-loop-index
 invariant-loop-index g l = record {
   within : l.at + g.R.RowReader.width_of l.reader * (l.count - l.index) ≤ length l.table;
   all : rows_in (g.R.RowReader.row_at l.reader l.table) (g.R.RowReader.width_of l.reader) l.fn.at l.count l.glyphs l.fn.room.left
-    ≡ rows_from (λ r o n. if_any (g.R.RowReader.row_at l.reader l.table r o n)) l.rows.items l.room.left l.least (drop l.index l.glyphs) (records (λ o. o) (g.R.RowReader.width_of l.reader) l.at (l.count - l.index));
+      ≡ rows_from (λ r o n. if_any (g.R.RowReader.row_at l.reader l.table r o n)) l.rows.items l.room.left l.least (drop l.index l.glyphs) (records (λ o. o) (g.R.RowReader.width_of l.reader) l.at (l.count - l.index));
   rising : (rest : List g.row.R-Row.Denot) → rise_from g.R.RowReader.glyph_of l.least rest ≡ true → rise_from g.R.RowReader.glyph_of 0 (l.rows.items ++ rest) ≡ true;
 }

@@ -1,0 +1,2 @@
+pub mod KeptRows
+pub mod PairSets
