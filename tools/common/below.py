@@ -40,7 +40,8 @@ class Below:
     @contextlib.contextmanager
     def folder(self, name: str, is_made: bool = False) -> Iterator[int]:
         """A folder below it, open; a link in the way is refused."""
-        number = os.dup(self.number)
+        with faults_of(self.top):
+            number = os.dup(self.number)
         try:
             for depth, part in enumerate(parts := PurePosixPath(name).parts, 1):
                 with faults_of(way := self.path("/".join(parts[:depth]))):
@@ -78,7 +79,7 @@ class Below:
 
     def remove_folder(self, name: str) -> None:
         """Removes a folder where it is there and empty."""
-        with contextlib.suppress(OSError), self.parent(name) as (number, last):
+        with contextlib.suppress(OSError, ToolFault), self.parent(name) as (number, last):
             os.rmdir(last, dir_fd=number)
 
     def files(self, name: str) -> list[str]:
@@ -86,7 +87,12 @@ class Below:
         found, waiting = [], [name]
         while waiting:
             here = waiting.pop()
-            with contextlib.suppress(FileNotFoundError), self.folder(here) as number, os.scandir(number) as entries:
+            with (
+                contextlib.suppress(FileNotFoundError),
+                self.folder(here) as number,
+                faults_of(self.path(here)),
+                os.scandir(number) as entries,
+            ):
                 for entry in entries:
                     rest = waiting if entry.is_dir(follow_symlinks=False) else found
                     rest.append(f"{here}/{entry.name}")

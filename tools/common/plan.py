@@ -125,24 +125,35 @@ def is_same(below: Below, name: str, entry: Entry) -> bool:
     return bool(entry.link) or entry.mode is None or below.mode(name) == entry.mode
 
 
-def stranger(below: Below, listed: Listed, names: list[str]) -> str | None:
-    """The first of some paths at which something stands that the list doesn't have."""
+@dataclass(frozen=True)
+class Who:
+    """Who lays: the words for what was changed since and for what it didn't write, and how many folders above it made."""
+
+    changed: str
+    strange: str
+    above: int = 0
+
+
+def check_strangers(below: Below, listed: Listed, names: list[str], who: Who) -> None:
+    """Refuses where something stands that the list doesn't have."""
     for name in names:
         found = below.identity(name)
         if found is not None and found not in listed.files.get(name, ()):
-            return name
-    return None
+            what = who.changed if name in listed.files else who.strange
+            raise ToolFault(DATA, f"{below.path(name)} {what}, and nothing is changed")
 
 
 def lay(
-    below: Below, name: str, listed: Listed, entries: Entries, above: int = 0, last: Callable[[str], None] | None = None
+    below: Below, name: str, listed: Listed, entries: Entries, who: Who, last: Callable[[str], None] | None = None
 ) -> tuple[int, int]:
     """Lays the entries, with their list at a path, and removes what was listed alone; how many files were written, and
-    how many removed. `last` is done before the list is written for good, and is given the run's new name."""
+    how many removed. What stands in the way is refused before that. `last` is done before the list is written for good,
+    and is given the run's new name."""
     changed, gone = changed_names(below, entries), sorted(listed.files.keys() - entries.keys())
+    check_strangers(below, listed, [*changed, *gone], who)
     missing = {each for each in parents_of([name, *changed]) if not below.has_folder(each)}
     made, new = listed.folders | missing, new_name()
-    after = Listed({at: frozenset({entry.identity}) for at, entry in entries.items()}, made, listed.above + above)
+    after = Listed({at: frozenset({entry.identity}) for at, entry in entries.items()}, made, listed.above + who.above)
     clear_unfinished(below, listed)
     if not changed and last is None and after.text() == listed.text():
         return 0, 0
@@ -217,8 +228,8 @@ def clear_unfinished(below: Below, listed: Listed) -> None:
 def take_all(below: Below, name: str, listed: Listed) -> tuple[int, list[str]]:
     """Removes what the list has, the folders that were made where they are empty then, and the list after that; how many
     files were removed, and those that are others now, which are left."""
-    clear_unfinished(below, listed)
     there = [at for at in sorted(listed.files) if below.identity(at) is not None]
+    clear_unfinished(below, listed)
     left = [at for at in there if not take(below, at, listed)]
     clear_kept(below, listed)
     own = {str(each) for each in PurePosixPath(name).parents}

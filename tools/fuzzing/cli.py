@@ -30,6 +30,10 @@ memory and stack. Of each kind of answer that is not right (a signal, no end, ou
 is not documented, a refusal of what follows the format, a shape of what breaks it) the smallest case is kept. The
 status is 1 where there is one.
 
+With --laying and --traced vendor and install run instead of the program: in random trees, some of which are laid
+against them, and in runs that are ended at a call of the system. Nothing outside may change, nothing be half, and what
+was ended has to be completed by a second run.
+
 With --in-process many cases run in one process: the program shape_trials reads fonts, settings and texts, shapes each
 text in several ways, and tests what the contracts promise of the answers. A line is printed for each case whose answer
 breaks a promise; how far it is, and how many cases it takes in a second, is told each minute. With --plant the program
@@ -40,6 +44,7 @@ EXAMPLES = """examples:
   tools/fuzz --seed=7 --case=4711             one of them again: its files and its answer
   tools/fuzz --in-process --cases=1000000     a million cases in one process after another
   tools/fuzz --in-process --seed=7 --case=12  one of them again
+  tools/fuzz --laying --cases=1000            vendor and install in a thousand random trees
   tools/fuzz --plant=merge                    a bug in the sources, and the first case that finds it"""
 # So many cases run at once in each process: they wait for the system more than for a processor.
 AT_ONCE = 8
@@ -55,6 +60,8 @@ def parser() -> argparse.ArgumentParser:
     )
     words.add_argument("--in-process", action="store_true", help="many cases in one process")
     words.add_argument("--plant", choices=PLANTS, help="a bug that cases in one process have to find")
+    words.add_argument("--laying", action="store_true", help="random trees for vendor and install, instead of the program")
+    words.add_argument("--traced", action="store_true", help="their runs, ended at calls of the system by strace")
     words.add_argument("--seconds", type=float, metavar="S", help="stop after S seconds")
     words.add_argument("--cases", type=int, metavar="N", help="stop after N cases (10,000 where nothing is given)")
     words.add_argument("--jobs", type=int, default=1, metavar="N", help="processes side by side (1)")
@@ -75,6 +82,10 @@ def main(given: list[str]) -> int:
     options = parser().parse_args(given)
     if options.plant is not None:
         return run_plant(options)
+    if options.laying or options.traced:
+        from fuzzing.laying_cli import run_laying
+
+        return run_laying(options)
     if options.program is None:
         options.program = ready_trials(NAME) if options.in_process else standing(PROGRAM).file
     for program in filter(None, (options.program, options.against)):

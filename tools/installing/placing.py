@@ -4,14 +4,15 @@ import contextlib
 from pathlib import Path
 
 from common.below import Below
-from common.faults import DATA, FILES, ToolFault
+from common.faults import FILES, ToolFault
 from common.files import faults_of
-from common.plan import Entries, Listed, Tops, changed_names, lay, read_list, stranger, take_all
+from common.plan import Entries, Tops, Who, lay, read_list, take_all
 from installing.layout import OWN
 
 # What was put below the prefix, with sums, and the folders that were made for it.
 SUMS = f"{OWN}/installed.sha256"
 TOPS = Tops(("bin", "include", "lib"), 2)
+WORDS = "was changed since it was installed", "was not put there by install"
 
 
 def place_all(prefix: Path, entries: Entries) -> int:
@@ -23,8 +24,7 @@ def place_all(prefix: Path, entries: Entries) -> int:
             prefix.mkdir(parents=True, exist_ok=True)
         with Below(prefix) as below:
             listed = read_list(below, SUMS, TOPS)
-            check_strangers(below, listed, entries)
-            written, _ = lay(below, SUMS, listed, entries, len(made))
+            written, _ = lay(below, SUMS, listed, entries, Who(*WORDS, above=len(made)))
             return written
     except BaseException:
         remove_empty(made)
@@ -41,14 +41,6 @@ def remove_empty(folders: list[Path]) -> None:
     with contextlib.suppress(OSError):
         for folder in folders:
             folder.rmdir()
-
-
-def check_strangers(below: Below, listed: Listed, entries: Entries) -> None:
-    names = [*changed_names(below, entries), *sorted(listed.files.keys() - entries.keys())]
-    found = stranger(below, listed, names)
-    if found is not None:
-        what = "was changed since it was installed" if found in listed.files else "was not put there by install"
-        raise ToolFault(DATA, f"{below.path(found)} {what}, and nothing is changed")
 
 
 def remove_all(prefix: Path) -> tuple[int, list[Path]]:

@@ -11,7 +11,7 @@ from common.parsing import Words
 from common.plan import decoded, lay, read_list
 from common.version import version
 from sources.crates import ROOT
-from vendoring.copies import CRATES, SUMS, TOPS, crates_of, entries_of, find_strangers
+from vendoring.copies import CRATES, SUMS, TOPS, WHO, crates_of, entries_of, find_strangers
 from vendoring.lines import LIST, with_lines
 
 NAME = "vendor"
@@ -57,4 +57,4 @@ def vendor(below: Below) -> tuple[int, int]:
     def write_lines(new: str) -> None:
         below.write(LIST, new, text, below.mode(LIST))
 
-    return len(lines), sum(lay(below, SUMS, listed, entries, last=None if text == before else write_lines))
+    return len(lines), sum(lay(below, SUMS, listed, entries, WHO, None if text == before else write_lines))

@@ -4,7 +4,7 @@ from pathlib import Path
 
 from common.below import LINK, OTHER, Below
 from common.faults import DATA, ToolFault
-from common.plan import Entries, Entry, Listed, Tops
+from common.plan import Entries, Entry, Listed, Tops, Who
 
 # A crate without what is the gate's alone: must-fail edits, and what a program is run on.
 PARTS = ("src", "specs", "proofs")
@@ -13,6 +13,7 @@ OWN = f"{CRATES}/kuspveli"
 SUMS = f"{OWN}/vendored.sha256"
 # A list names files of crates alone.
 TOPS = Tops((CRATES,), 3)
+WHO = Who("was edited since vendor wrote it", "was not written by vendor")
 # What rt makes in a crate's folder.
 MADE = "out"
 
@@ -40,7 +41,7 @@ def find_strangers(below: Below, listed: Listed, entries: Entries) -> None:
     for crate in sorted(crates_of(entries) | vendored):
         for name in below.files(f"{CRATES}/{crate}"):
             if is_own(name, listed) and not is_known(below.identity(name), name, listed, entries):
-                what = "was edited since vendor wrote it" if crate in vendored else "was not written by vendor"
+                what = WHO.changed if crate in vendored else WHO.strange
                 raise ToolFault(DATA, f"crates/{crate} {what}, and nothing is changed: {below.path(name)}")
     for name in sorted(listed.files.keys() & entries.keys()) if not listed.new else ():
         if below.identity(name) is None:
